@@ -5,5 +5,5 @@ pub use Rattle.std.proofs.lemmas.Fn.{filter_same}
 pub use Rattle.std.proofs.lemmas.List.{map-append}
 pub use Rattle.std.specs.Prelude.{filter, option_map}
 pub use Rattle.cweb_files.specs.Files.{File, without, put_file, Beside, committed}
-pub use Rattle.cweb_bins.specs.Memory.{file_of, name_of, bytes_of, refusal_kept}
+pub use Rattle.cweb_bins.specs.Memory.{file_of, name_of, bytes_of, filed, refusal_kept}
 pub use Rattle.cweb_bins.specs.declared.bins.memory.BinFile.{BinFile}

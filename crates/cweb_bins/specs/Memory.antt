@@ -1,6 +1,7 @@
 -- What files in memory hold.
-use Rattle.std.specs.Prelude.{ℕ, Bool, true, false, List, [], map, Option, Some, None, option_map, string_bytes, vec_capacity}
+use Rattle.std.specs.Prelude.{◌≡◌, ℕ, Bool, true, false, not, List, [], ◌∷◌, ◌++◌, filter, map, Option, Some, None, option_map, string_bytes, vec_capacity}
 use Rattle.std.specs.Option.{is_some}
+use Rattle.std.specs.Str.{bytes_eq}
 use Rattle.cweb_files.specs.Files.{File, Beside, Refused, no_memory}
 use Rattle.cweb_bins.specs.declared.bins.memory.BinFile.{BinFile}
 use Rattle.cweb_bins.specs.declared.bins.memory.MemoryBins.{MemoryBins}
@@ -55,3 +56,17 @@ file_room bins = bins.room
 -- how many files the list has room for
 abbrev pub list_room : MemoryBins → ℕ
 list_room bins = vec_capacity bins.files
+
+-- the list of files, with all its room, and the room that a draft gets are as before
+pub record KeepsFiles (old new : MemoryBins) : Type 0 where
+  pub files : new.files ≡ old.files
+  pub room : file_room new ≡ file_room old
+
+-- the name of the draft, with its room, is as before
+abbrev pub KeepsName : MemoryBins → MemoryBins → Type 0
+KeepsName old new = option_map (λ (file : BinFile). file.name) new.draft ≡ option_map (λ (file : BinFile). file.name) old.draft
+
+-- a draft is put last among files, with its room, in the place of one of its name
+abbrev pub filed : List BinFile → Option BinFile → List BinFile
+filed files None = files
+filed files (Some draft) = filter (λ file. not (bytes_eq (string_bytes file.name) (string_bytes draft.name))) files ++ draft ∷ []

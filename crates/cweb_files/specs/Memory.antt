@@ -1,5 +1,5 @@
 -- What texts in memory hold.
-use Rattle.std.specs.Prelude.{ℕ, List, [], ◌∷◌, Option, Some, None, if◌then◌else◌, drop, slice_get, string_bytes, vec_capacity}
+use Rattle.std.specs.Prelude.{◌≡◌, ◌<◌, ℕ, List, [], ◌∷◌, Option, Some, None, if◌then◌else◌, drop, length, slice_get, string_bytes, vec_capacity}
 use Rattle.std.specs.Str.{bytes_eq}
 use Rattle.cweb_files.specs.declared.memory.Entry.{Entry}
 use Rattle.cweb_files.specs.declared.memory.MemoryShelf.{MemoryShelf}
@@ -39,6 +39,16 @@ name_at None = []
 -- the name of the entry that a reader reads
 abbrev pub name_of : MemoryShelf → MemoryReader → List ℕ
 name_of shelf reader = name_at (slice_get shelf.entries.items reader.entry)
+
+-- a reader is open where the entry that it reads is there
+abbrev pub IsOpen : MemoryShelf → MemoryReader → Type 0
+IsOpen shelf reader = reader.entry < length shelf.entries.items
+
+-- each open reader stays open, with its name and what it has left
+pub record KeepsReaders (old new : MemoryShelf) : Type 0 where
+  pub stays : (reader : MemoryReader) → IsOpen old reader → IsOpen new reader
+  pub left : (reader : MemoryReader) → IsOpen old reader → rest_of new reader ≡ rest_of old reader
+  pub names : (reader : MemoryReader) → IsOpen old reader → name_of new reader ≡ name_of old reader
 
 abbrev pub sink_bytes : MemorySink → List ℕ
 sink_bytes sink = sink.bytes.items

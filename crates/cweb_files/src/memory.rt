@@ -1,5 +1,5 @@
 // Texts and sinks in memory, which tell their bytes.
-ghost use Rattle.std.specs.Prelude.{◌≡◌, ◌≤◌, ◌+◌, ◌^◌, ◌<◌, ◌-◌, [], ◌++◌, length, true, Some, vec_len, vec_capacity, string_bytes, IfOk, IfSome, OnOk, OnErr, IsOk, None, if◌then◌else◌};
+ghost use Rattle.std.specs.Prelude.{◌≡◌, ◌≤◌, ◌+◌, ◌^◌, ◌<◌, ◌-◌, [], ◌++◌, length, take, true, Some, vec_len, vec_capacity, string_bytes, IfOk, IfSome, OnOk, OnErr, IsOk, None, if◌then◌else◌};
 ghost use Rattle.std.specs.Str.{bytes_eq};
 ghost use Rattle.cweb_files.specs.Device.{Counts, Finds, IsOpenedAs};
 
@@ -27,7 +27,7 @@ pub struct MemoryReader {
 }
 
 impl MemoryShelf {
-    ghost use Rattle.cweb_files.specs.Memory.{texts_of};
+    ghost use Rattle.cweb_files.specs.Memory.{KeepsReaders, texts_of};
 
     pub fn new(alloc: Global) -> Self
         ensures { texts_of result ≡ (λ _. None) }
@@ -38,13 +38,14 @@ impl MemoryShelf {
         }
     }
 
-    /// Puts a text under a name, in the place of an earlier one.
+    /// Puts a text under a name, in the place of an earlier one. An open reader still reads the earlier text.
     pub fn put(&mut self, name: &str, text: &[u8]) -> Result<(), AllocError>
         ensures ok { OnOk result
             (texts_of self.new
             ≡ (λ asked.
             if bytes_eq name.now asked then Some text.now else texts_of self.old asked)) }
         ensures err { OnErr result (texts_of self.new ≡ texts_of self.old) }
+        ensures readers { KeepsReaders self.old self.new }
     {
         let name = String::from_str(self.alloc, name)?;
         let text = Vec::from_slice(self.alloc, text)?;
@@ -54,7 +55,7 @@ impl MemoryShelf {
 }
 
 impl Shelf for MemoryShelf {
-    ghost use Rattle.cweb_files.specs.Memory.{name_of, texts_of, rest_of};
+    ghost use Rattle.cweb_files.specs.Memory.{IsOpen, name_of, texts_of, rest_of};
 
     type R = MemoryReader;
 
@@ -76,6 +77,7 @@ impl Shelf for MemoryShelf {
         ensures ok { IsOk result }
         ensures found { IfOk result (Finds (rest_of self.new) (texts_of self.old name.now)) }
         ensures opened { IfOk result (IsOpenedAs (name_of self.new) name.now) }
+        ensures is_open { IfOk result (λ found. IfSome found (IsOpen self.new)) }
         ensures same { self.new ≡ self.old }
     {
         let mut found = None;
@@ -87,7 +89,16 @@ impl Shelf for MemoryShelf {
         Ok(found)
     }
 
-    fn read(&mut self, reader: &mut MemoryReader, piece: &mut [u8]) -> Result<usize, ShelfFault> {
+    fn read(&mut self, reader: &mut MemoryReader, piece: &mut [u8]) -> Result<usize, ShelfFault>
+        ensures ok { IsOk result }
+        ensures within { IfOk result (λ n. n ≤ length piece.new) }
+        ensures bytes { IfOk result
+            (λ n. rest_of self.old reader.old ≡ take n piece.new ++ rest_of self.new reader.new) }
+        ensures some { 0 < length piece.old → result ≡ Ok 0 → rest_of self.old reader.old ≡ [] }
+        ensures opened { name_of self.new reader.new ≡ name_of self.old reader.old }
+        ensures is_open { IsOpen self.old reader.old → IsOpen self.new reader.new }
+        ensures same { self.new ≡ self.old }
+    {
         let Some(entry) = self.entries.get(reader.entry) else {
             return Ok(0);
         };

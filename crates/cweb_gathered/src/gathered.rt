@@ -9,6 +9,7 @@ pub mod putting;
 use crate::gathered::putting::put_text;
 use cweb_files::{Sink, SinkFault};
 use std::alloc::{AllocError, Global};
+use std::boxed::BoxedSlice;
 use std::marker::Model;
 
 /// So many bytes are gathered at most: where no short text fits behind them, they are more than the 65,536 that a sink may
@@ -18,24 +19,25 @@ pub const ROOM: usize = 65_792;
 /// A text of so many bytes is short, and so is one of fewer.
 pub const SHORT: usize = 256;
 
-/// What was printed and no sink has yet. Room for it is set aside when it is made, and no memory is taken after that.
+/// What was printed and no sink has yet. Its buffer is made once and cannot grow.
 #[derive(Drop)]
 pub struct Gathered {
     /// ROOM of them, of which the first ones are gathered.
-    pub bytes: Vec<u8>,
+    pub bytes: BoxedSlice<u8>,
     /// How many of them are gathered: who puts bytes behind these counts them here.
     pub used: usize,
 }
 
 impl Model for Gathered {
     ghost use Rattle.std.specs.Prelude.{◌≡◌, ◌≤◌, ℕ, List, length, take};
+    ghost use Rattle.std.specs.Box.{boxed_slice_items};
     ghost use Rattle.cweb_gathered.specs.declared.gathered.TheConstants.{ROOM};
 
     ghost Value = { List ℕ };
 
-    ghost view = { λ g. take g.used g.bytes.items };
+    ghost view = { λ g. take g.used (boxed_slice_items g.bytes) };
 
-    ghost invariant = { λ g. (length g.bytes.items ≡ ROOM) × (g.used ≤ ROOM) };
+    ghost invariant = { λ g. (length (boxed_slice_items g.bytes) ≡ ROOM) × (g.used ≤ ROOM) };
 }
 
 impl Gathered {
@@ -44,7 +46,7 @@ impl Gathered {
         ensures { IfOk result (λ gathered. gathered ≡ []) }
     {
         Ok(Gathered {
-            bytes: Vec::from_elem(alloc, 0, ROOM)?,
+            bytes: Vec::from_elem(alloc, 0, ROOM)?.into_boxed_slice(),
             used: 0,
         })
     }

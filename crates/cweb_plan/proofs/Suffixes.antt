@@ -1,5 +1,7 @@
 -- How a frame's list goes on.
-use Rattle.cweb_plan.proofs.Common.{◌≡◌, ◌≤◌, ◌<◌, ◌+◌, ◌∷◌, ◌++◌, List, Some, length, ℕ, sym, ◌∙◌, ap, arith, slice_range, false, suc, subst, All, slice_get, Part, Token, all_tokens, Stored, Frame, defs_first, suffix, IsRun, IsWithin, run_tokens, runs_tokens, append_assoc}
+use Rattle.cweb_plan.proofs.Common.{◌≡◌, ◌≢◌, [], ◌≤◌, ◌<◌, ◌+◌, ◌∷◌, ◌++◌, List, Some, length, ℕ, sym, ◌∙◌, ap, arith, slice_range, false, suc, subst, All, slice_get, Part, Token, all_tokens, Stored, Frame, defs_first, suffix, IsRun, IsWithin, run_tokens, runs_tokens, append_assoc}
+use Rattle.std.proofs.lemmas.Option.{slice_get-get_or}
+use Rattle.cweb_store.specs.Parts.{Defs}
 use Rattle.cweb_print.proofs.Ranges.{slice_get-or, slice_range-first}
 use Rattle.cweb_parts.proofs.RangeLemmas.{range-none, range-split}
 
@@ -19,6 +21,14 @@ suffix-first {w} {f} t d n k e =
     ∙ ap (λ xs. xs ++ runs_tokens w f.rest) h
     ∙ ap (λ b. t ∷ (defs_first b
     ++ (slice_range (all_tokens w.parts) (f.part.first + 1) f.part.after ++ runs_tokens w f.rest))) (sym d)
+
+-- so something of it is left
+pub suffix-left : {w : Stored} {f : Frame} → f.defs ≡ false → f.part.first < f.part.after
+    → IsWithin w f → suffix w f ≢ []
+suffix-left {w} {f} d n k none =
+    let here = suffix-first _ d n k
+    (slice_get-get_or (all_tokens w.parts) f.part.first Defs (omega (arith, n, k.part))) in
+    omega (arith, ap length here, ap length none)
 
 pub suffix-next : (w : Stored) (f : Frame) (q : Part) (more : List Part) → f.part.after ≤ f.part.first
     → f.rest ≡ q ∷ more → suffix w f ≡ suffix w (record { owner = f.owner; defs = f.defs; part = q; rest = more })

@@ -5,7 +5,7 @@ use Rattle.cweb_names.specs.declared.name.NameId.{NameId}
 use Rattle.cweb_names.specs.declared.name.NameRef.{NameRef}
 use Rattle.cweb_store.specs.Names as spec
 use Rattle.cweb_store.specs.Parts as parts
-use Rattle.cweb_store.specs.Parts.{Token, Name, is_unnamed, is_of, all_tokens}
+use Rattle.cweb_store.specs.Parts.{Token, Name, is_unnamed, is_of}
 use Rattle.cweb_store.specs.Next.{is_name}
 use Rattle.cweb_store.specs.Calls.{Stored}
 

@@ -47,7 +47,7 @@ impl<'a> Frame<'a> {
         }
     }
 
-    /// Takes the next token of the list, as it stands; none where nothing is left.
+    /// Takes the next token of the list, as it stands; none where nothing is left. Once it is none it stays so.
     pub fn take(&mut self, store: &'a Store) -> Option<Token<'a>>
         requires { IsWithin store.now self.old }
         ensures owner { self.new.owner ≡ self.old.owner }
@@ -55,6 +55,7 @@ impl<'a> Frame<'a> {
         ensures some { IfSome result
             (λ t. suffix store.now self.old ≡ seen t ∷ suffix store.now self.new) }
         ensures none { result ≡ None → suffix store.now self.old ≡ [] }
+        ensures ended { result ≡ None → suffix store.now self.new ≡ [] }
     {
         if self.defs {
             self.defs = false;
@@ -69,7 +70,7 @@ impl<'a> Frame<'a> {
         Some(token)
     }
 
-    /// Takes the tokens of the list up to its next use, and that use too.
+    /// Takes the tokens of the list up to its next use, and that use too. Where there is none, what stays has none either.
     pub(crate) fn take_use(&mut self, store: &'a Store) -> Option<NameRef>
         requires { IsWithin store.now self.old }
         ensures owner { self.new.owner ≡ self.old.owner }
@@ -77,6 +78,8 @@ impl<'a> Frame<'a> {
         ensures some { IfSome result (λ name.
             PassesNoUse (suffix store.now self.old) (Name name ∷ suffix store.now self.new)) }
         ensures none { result ≡ None → list_any is_name (suffix store.now self.old) ≡ false }
+        ensures passed { result ≡ None
+            → PassesNoUse (suffix store.now self.old) (suffix store.now self.new) }
     {
         self.defs = false;
         'parts: loop {
@@ -96,6 +99,7 @@ fn take_use_in(store: &Store, part: &mut Part) -> Option<NameRef>
     ensures some { IfSome result (λ name.
         PassesNoUse (run_tokens store.now part.old) (Name name ∷ run_tokens store.now part.new)) }
     ensures none { result ≡ None → list_any is_name (run_tokens store.now part.old) ≡ false }
+    ensures kept { result ≡ None → part.new ≡ part.old }
 {
     if part.first >= part.after {
         return None;

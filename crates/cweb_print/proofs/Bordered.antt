@@ -9,30 +9,13 @@ abbrev border_in : Option Bordered → Border
 border_in None = border.Untold
 border_in (Some l) = l.border
 
-text_where : (b : List ℕ) (d : Border) (l : Bordered) (high : Bool)
-    → cond high None (Some (record { text = b; border = d })) ≡ Some l → cond high None (Some b) ≡ Some l.text
-text_where b d l true h = cc
-text_where b d l false h = ap (option_map (λ (m : Bordered). m.text)) h
-
-text_of : (b : List ℕ) (d : Border) (l : Bordered) (high : Bool)
-    → cond high None (Some (record { text = b; border = d })) ≡ Some l → Some b ≡ Some l.text
-text_of b d l true h = cc
-text_of b d l false h = ap (option_map (λ (m : Bordered). m.text)) h
-
 border_of : (b : List ℕ) (d : Border) (l : Bordered) (high : Bool)
     → cond high None (Some (record { text = b; border = d })) ≡ Some l → l.border ≡ d
 border_of b d l true h = cc
 border_of b d l false h = ap border_in (sym h)
 
 pub text-lent : (t : Token) (l : Bordered) → lends t ≡ Some l → lent_text false t ≡ Some l.text
-text-lent (Word b) l h = text_where b border.Word l (list_any is_high b) h
-text-lent (Number b) l h = ap (option_map (λ (m : Bordered). m.text)) h
-text-lent (Literal b) l h = ap (option_map (λ (m : Bordered). m.text)) h
-text-lent (Verbatim b) l h = ap (option_map (λ (m : Bordered). m.text)) h
-text-lent (Punct b) l h = text_of b (sign_border b) l (list_any is_high b) h
-text-lent Blank l h = ap (option_map (λ (m : Bordered). m.text)) h
-text-lent Newline l h = ap (option_map (λ (m : Bordered). m.text)) h
-text-lent _ l h = cc
+text-lent t l h = ap (option_map (λ (m : Bordered). m.text)) h
 
 sign-class : (s o p q : Bool) → class_behind (sign_by s o p q) ≡ class_by p q
 sign-class true o true q = refl

@@ -23,7 +23,7 @@ pub use Rattle.cweb_print.specs.Classes.{class_is_point, class_is_wordlike, clas
 pub use Rattle.cweb_print.specs.Classes.{left_by, macro_by, punct_class, is_dropped, file_by, separator, leaves}
 pub use Rattle.cweb_print.specs.Classes.{all_added, at_start, begin_by, class_is_line_start, placed_text}
 pub use Rattle.cweb_print.specs.Gathering.{Gathers, MovesBy, PrintsBy}
-pub use Rattle.cweb_print.specs.Lent.{is_high, lent_text, AreLent, is_lent}
+pub use Rattle.cweb_print.specs.Lent.{lent_text, AreLent, is_lent}
 pub use Rattle.cweb_print.specs.Printed.{Adds, AddsBy, kept_of, setting_of, Prints}
 pub use Rattle.cweb_print.specs.Printers.{macros, replaced_in}
 pub use Rattle.cweb_print.specs.Printing.{word_text, wants_backslash, quoted, plain_text, Setting, print, stays_joined}
@@ -37,7 +37,8 @@ pub use Rattle.cweb_print.specs.declared.printer.Printer.{Printer}
 pub use Rattle.cweb_print.specs.declared.printer.class.Class.{Class}
 pub use Rattle.cweb_print.specs.declared.printer.left.Left.{Left}
 pub use Rattle.cweb_store.specs.Lends.{lends}
-pub use Rattle.cweb_texts.specs.Borders.{Bordered, first_is, is_numeric, last_is, sign_border, sign_by, lent_seen}
+pub use Rattle.cweb_texts.specs.Borders.{Bordered, first_is, is_high, is_numeric, last_is, sign_border, sign_by}
+pub use Rattle.cweb_texts.specs.Borders.{lent_seen}
 pub use Rattle.cweb_store.specs.Calls.{Stored}
 pub use Rattle.cweb_store.specs.Parts.{Token, Word, Number, Literal, Verbatim, Punct, Blank, Newline, Join, Defs, Name}
 pub use Rattle.cweb_store.specs.Parts.{Head, Tail, Mark, all_tokens, is_macro, numbers_from, numbers_where}

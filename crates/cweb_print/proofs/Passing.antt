@@ -1,18 +1,13 @@
 -- Tokens that lend their texts: printing them one after another.
-use Rattle.cweb_print.proofs.Common.{arith, ◌≡◌, ◌++◌, ◌∙◌, [], ◌∷◌, refl, sym, subst, ap, append_assoc, append-nil, ℕ, List, Bool, true, ◌&&◌, Some, is_some, list_all, Token, Word, Join, Defs, Name, Head, Tail, Mark, print, Left, Printer, is_apart, leaves, left_by, AreLent, blank_where, is_lent, lent_text, kept_of, setting_of, Gathers, MovesBy, PrintsBy, second_so}
-use Rattle.cweb_print.proofs.Lending.{leaves-lent, print-lent}
+use Rattle.cweb_print.proofs.Common.{arith, ◌≡◌, ◌++◌, ◌∙◌, [], ◌∷◌, refl, sym, subst, ap, append_assoc, append-nil, ℕ, List, true, ◌&&◌, None, Some, Option, is_some, option_map, list_all, Token, Bordered, lends, print, Left, Printer, is_apart, leaves, left_by, AreLent, blank_where, is_lent, kept_of, setting_of, Gathers, MovesBy, PrintsBy, second_so}
+use Rattle.cweb_print.proofs.Lending.{leaves-lent, lent-open, print-lent}
 use Rattle.cweb_print.proofs.Steps.{leaves-push}
 
--- what is lent in one place is lent where no join is open
-lent-open : (joined : Bool) (t : Token) (text : List ℕ) → lent_text joined t ≡ Some text → is_lent t ≡ true
-lent-open joined (Word b) text h = ap is_some h
-lent-open joined Join text h = cc
-lent-open joined Defs text h = cc
-lent-open joined (Name r) text h = cc
-lent-open joined (Head n) text h = cc
-lent-open joined (Tail n) text h = cc
-lent-open joined (Mark p) text h = cc
-lent-open joined _ text h = refl
+-- a token that is printed as the text that it lends, lends one
+some-lent : (o : Option Bordered) (text : List ℕ) → option_map (λ (l : Bordered). l.text) o ≡ Some text
+    → is_some o ≡ true
+some-lent None text h = cc
+some-lent (Some l) text h = refl
 
 lent-push : (ts : List Token) (t : Token) → AreLent ts → is_lent t ≡ true → AreLent (ts ++ t ∷ [])
 lent-push [] t h e = ap (λ b. b && true) e
@@ -44,7 +39,7 @@ passed_more p ts left after t old mid new passed g =
     let is_after : left_by left t ≡ after =
     leaves-lent left t g.text g.lent ∙ (λ i. record { class = sym g.class i; joined = sym g.closed i }) in
     record {
-      lent = lent-push ts t passed.lent (lent-open left.joined t g.text g.lent);
+      lent = lent-push ts t passed.lent (some-lent (lends t) g.text (lent-open left.joined t g.text g.lent));
       moves = λ done is. ap leaves (sym (append_assoc done ts (t ∷ []))) ∙ leaves-push (done ++ ts) t
           ∙ ap (λ (l : Left). left_by l t) (passed.moves done is) ∙ is_after;
       prints = λ done is.

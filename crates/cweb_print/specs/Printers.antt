@@ -1,4 +1,4 @@
--- What a printer reads of a store, and what its calls add to a sink.
+-- What a printer reads: the replacements and the macros of a store, and the names of the files that line marks are about.
 use Rattle.std.specs.Prelude.{ℕ, ◌<◌, ◌/◌, ◌%◌, List, [], ◌∷◌, codes, length, map, filter, slice_index, Option, Some, None}
 use Rattle.cweb_store.specs.Parts as parts
 use Rattle.cweb_store.specs.Parts.{Token, Mark, is_macro}

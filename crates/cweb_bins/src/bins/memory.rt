@@ -1,5 +1,5 @@
 // A place in memory that keeps files.
-ghost use Rattle.std.specs.Prelude.{◌≡◌, ◌≤◌, ◌<◌, ◌+◌, ◌^◌, ◌++◌, [], length, true, false, not, filter, None, vec_len, vec_capacity, string_bytes, IsTrue, IsSome, IsOk, IsErr, IfOk, IfErr, OnOk, OnErr};
+ghost use Rattle.std.specs.Prelude.{◌≡◌, ◌≤◌, ◌<◌, ◌+◌, ◌^◌, ◌++◌, [], length, true, false, not, filter, None, vec_len, vec_capacity, string_bytes, IsTrue, IsSome, IsOk, IfOk, IfErr, OnOk, OnErr};
 ghost use Rattle.std.specs.Str.{bytes_eq};
 ghost use Rattle.std.specs.Option.{is_some};
 ghost use Rattle.cweb_files.specs.Device.{Counts};
@@ -94,7 +94,7 @@ fn remove_named(files: &mut Vec<BinFile>, name: &str)
 }
 
 impl Sink for MemoryBins {
-    ghost use Rattle.cweb_bins.specs.Memory.{beside_kept, bins_failed, bytes_kept, draft_room, file_room, has_draft};
+    ghost use Rattle.cweb_bins.specs.Memory.{KeepsFiles, KeepsName, beside_kept, bins_failed, bytes_kept, draft_room, has_draft};
 
     ghost tells = { λ _. true };
 
@@ -112,12 +112,12 @@ impl Sink for MemoryBins {
         ensures err { OnErr result (bytes_kept self.new ≡ bytes_kept self.old) }
         ensures begun { OnOk result (IsSome (beside_kept self.old).draft) }
         ensures beside { beside_kept self.new ≡ beside_kept self.old }
+        ensures kept { KeepsFiles self.old self.new }
+        ensures name { KeepsName self.old self.new }
         ensures room { draft_room self.old ≤ draft_room self.new }
-        ensures set_room { file_room self.new ≡ file_room self.old }
-        // With a draft it never fails within the room, and without one it fails.
+        // With a draft it never fails within the room, and takes memory for the draft's bytes alone.
         ensures within_room { has_draft self.old ≡ true
             → length (bytes_kept self.old) + length piece.now ≤ draft_room self.old → IsOk result }
-        ensures none { has_draft self.old ≡ false → IsErr result }
     {
         let Some(mut file) = self.draft.take() else {
             self.failed += 1;
@@ -138,7 +138,7 @@ impl Sink for MemoryBins {
 }
 
 impl Bins for MemoryBins {
-    ghost use Rattle.cweb_bins.specs.Memory.{beside_kept, bins_failed, bytes_kept, draft_room, file_room, has_draft};
+    ghost use Rattle.cweb_bins.specs.Memory.{KeepsFiles, beside_kept, bins_failed, bytes_kept, draft_room, filed, file_room, files_kept, has_draft, list_room};
     ghost use Rattle.cweb_files.specs.Files.{committed, with_draft, without_draft};
     ghost use Rattle.cweb_bins.specs.Bins.{refusing};
 
@@ -177,7 +177,9 @@ impl Bins for MemoryBins {
             (beside_kept self.new ≡ committed (beside_kept self.old) (bytes_kept self.old)) }
         ensures err { OnErr result (beside_kept self.new ≡ without_draft (beside_kept self.old)) }
         ensures set_room { file_room self.new ≡ file_room self.old }
-        // With a draft it never fails.
+        // It takes no memory, and with a draft it never fails.
+        ensures list { list_room self.new ≡ list_room self.old }
+        ensures files { files_kept self.new ≡ filed (files_kept self.old) self.old.draft }
         ensures never { has_draft self.old ≡ true → IsOk result }
     {
         let Some(file) = self.draft.take() else {
@@ -192,7 +194,7 @@ impl Bins for MemoryBins {
     fn abandon_file(&mut self)
         ensures failed { bins_failed self.new ≡ bins_failed self.old }
         ensures gone { beside_kept self.new ≡ without_draft (beside_kept self.old) }
-        ensures set_room { file_room self.new ≡ file_room self.old }
+        ensures kept { KeepsFiles self.old self.new }
     {
         self.draft = None;
     }

@@ -1,5 +1,5 @@
 // Tokens that lend their texts, printed at once from the list that gives them.
-ghost use Rattle.std.specs.Prelude.{◌≡◌, ◌∷◌, [], None, IfSome, true, false};
+ghost use Rattle.std.specs.Prelude.{◌≡◌, ◌≢◌, ◌∷◌, [], None, IfSome, true, false};
 ghost use Rattle.cweb_store.specs.Parts.{Name};
 ghost use Rattle.cweb_plan.specs.Frames.{IsWithin, suffix};
 ghost use Rattle.cweb_print.specs.Gathering.{PrintsFront};
@@ -25,6 +25,7 @@ impl<'a> Frame<'a> {
         ensures prints { PrintsFront printer.old printer.new
             (suffix store.now self.old) (suffix store.now self.new) gathered.old gathered.new }
         ensures ended { result ≡ true → suffix store.now self.new ≡ [] }
+        ensures goes_on { result ≡ false → suffix store.now self.new ≢ [] }
     {
         if self.defs {
             return false;

@@ -39,6 +39,7 @@ impl<'a> Lent<'a> {
             Token::Number(text) => Some(Lent::new(left, token, text)),
             Token::Literal(text) => Some(Lent::new(left, token, text)),
             Token::Verbatim(text) => Some(Lent::new(left, token, text)),
+            Token::Punct(text) if has_high_byte(text) => None,
             Token::Punct(text) => Some(Lent::new(left, token, text)),
             Token::Blank if !left.joined => Some(Lent::new(left, token, b" ")),
             Token::Newline if !left.joined => Some(Lent::new(left, token, b"\n")),

@@ -11,12 +11,14 @@ loop-i-preserved c =
       | then-eq w ↦ rw w.found-is (record {
         found = finds_more c.deref-entry-items.result.now c.loop-i.i c.entry-item.result c.args.name.now
             c.loop-i.found c.loop-i-test.true c.entry-item.is c.loop-i.invariant.found true (sym w.if-eq.true ∙ test);
+        is_open = c.loop-i-test.true;
         opened = opened_here c.deref-entry-items.result.now c.loop-i.i c.entry-item.result c.args.name.now
             c.loop-i-test.true c.entry-item.is (sym w.if-eq.true ∙ test);
       })
       | else-eq w ↦ rw w.found-is (record {
         found = finds_more c.deref-entry-items.result.now c.loop-i.i c.entry-item.result c.args.name.now
             c.loop-i.found c.loop-i-test.true c.entry-item.is c.loop-i.invariant.found false (sym w.if-eq.false ∙ test);
+        is_open = c.loop-i.invariant.is_open;
         opened = c.loop-i.invariant.opened;
       })
     ]

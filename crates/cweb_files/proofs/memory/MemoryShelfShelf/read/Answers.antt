@@ -3,7 +3,7 @@ use Rattle.cweb_files.proofs.Entries.{rest-read}
 use Rattle.cweb_files.proofs.memory.MemoryShelfShelf.read.Goals as goal
 
 pub returns-clause-bytes : goal.returns-clause-bytes
-returns-clause-bytes c = λ _.
+returns-clause-bytes c =
     let fits : c.args.reader.now.at + c.min-n.result ≤ length c.as_slice-text.result.now =
     omega (arith, c.min-n.ensures, c.if-text-reader.false) in
     rest-read c.args.self.now.entries.items c.args.reader.now.entry c.args.reader.now.at c.min-n.result

@@ -1,11 +1,15 @@
 use Rattle.cweb_plan.proofs.Common.{◌≡◌, ◌∷◌, ◌∙◌, List, ap, sym, Part, suffix}
 use Rattle.cweb_plan.proofs.Gathers.{front_more, front_to}
-use Rattle.cweb_plan.proofs.Suffixes.{suffix-next, IsWithin-next}
+use Rattle.cweb_plan.proofs.Suffixes.{suffix-left, suffix-next, IsWithin-next}
 use Rattle.cweb_plan.proofs.frame.Frame.gather.Goals as goal
 
 pub returns-then-self-2-clause-prints : goal.returns-then-self-2-clause-prints
 returns-then-self-2-clause-prints c =
     front_more c.parts.invariant.setting c.parts.invariant.prints c.gather_part.ensures.prints
+
+pub returns-then-self-2-clause-goes_on : goal.returns-then-self-2-clause-goes_on
+returns-then-self-2-clause-goes_on c = λ _.
+    suffix-left c.gather_part.ensures.started c.if-self-2.true c.gather_part.ensures.within
 
 pub returns-in_default-clause-prints : goal.returns-in_default-clause-prints
 returns-in_default-clause-prints c =

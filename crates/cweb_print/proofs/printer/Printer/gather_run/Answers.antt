@@ -10,8 +10,8 @@ pub invariant_of-gathered : goal.invariant_of-gathered
 invariant_of-gathered c =
     let s = c.gathered.inside in
     let room = c.put_run-reached.ensures.room in (
-      ap length (whole_again s.bytes.items c.put_run-reached.new.bytes s.bytes.len
-          (omega (arith, room.0, c.gathered.invariant.0, s.bytes.ok.0)))
+      ap length (whole_again s.bytes.items.items c.put_run-reached.new.bytes s.bytes.items.len
+          (omega (arith, room.0, c.gathered.invariant.0, s.bytes.items.ok.0)))
           ∙ room.0,
       room.1,
     )
@@ -24,8 +24,8 @@ returns-clause-prints c =
     let s = c.gathered.inside in
     let run = c.put_run-reached in
     let ts = slice_range (all_tokens c.args.store.now.parts) c.args.part.first run.result.number in
-    let whole = whole_again s.bytes.items run.new.bytes s.bytes.len
-    (omega (arith, run.ensures.room.0, c.gathered.invariant.0, s.bytes.ok.0)) in
+    let whole = whole_again s.bytes.items.items run.new.bytes s.bytes.items.len
+    (omega (arith, run.ensures.room.0, c.gathered.invariant.0, s.bytes.items.ok.0)) in
     subst (λ (u : List ℕ). PrintsBy c.args.self.now ts c.args.gathered.now (take run.result.used u))
     (sym whole) (subst (λ (u : List ℕ). PrintsBy c.args.self.now ts u (take run.result.used run.new.bytes))
     (ap (take s.used) c.as_mut_slice.ensures.value ∙ c.gathered.view_is) run.ensures.prints)

@@ -12,8 +12,8 @@ returns-in-Some-clause-added c = λ yes.
     let new = c.put_macro.new.bytes in
     let line = macro_line (replaced_in c.args.store.now) (run_tokens c.args.store.now c.args.part) in
     ap (take c.in-Some.used)
-    (whole_again s.bytes.items new s.bytes.len
-    (omega (arith, c.put_macro.ensures.room, c.gathered.invariant.0, s.bytes.ok.0)))
+    (whole_again s.bytes.items.items new s.bytes.items.len
+    (omega (arith, c.put_macro.ensures.room, c.gathered.invariant.0, s.bytes.items.ok.0)))
     ∙ c.in-Some.ensures.put ∙ ap (λ (t : List ℕ). take s.used t ++ line) c.as_mut_slice.ensures.value
     ∙ ap (λ (t : List ℕ). t ++ line) c.gathered.view_is
 
@@ -22,8 +22,8 @@ returns-in-None-clause-none c = λ no.
     let s = c.gathered.inside in
     let new = c.put_macro.new.bytes in
     ap (take s.used)
-    (whole_again s.bytes.items new s.bytes.len
-    (omega (arith, c.put_macro.ensures.room, c.gathered.invariant.0, s.bytes.ok.0)))
+    (whole_again s.bytes.items.items new s.bytes.items.len
+    (omega (arith, c.put_macro.ensures.room, c.gathered.invariant.0, s.bytes.items.ok.0)))
     ∙ c.put_macro.ensures.front ∙ ap (take s.used) c.as_mut_slice.ensures.value ∙ c.gathered.view_is
 
 pub invariant_of-gathered : goal.invariant_of-gathered

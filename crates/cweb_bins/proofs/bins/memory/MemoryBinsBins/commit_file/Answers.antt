@@ -1,4 +1,4 @@
-use Rattle.cweb_bins.proofs.Common.{◌≡◌, sym, ◌∙◌, ap, Some, None, map, List, Option, option_map, ℕ, File, Beside, committed, BinFile, file_of, name_of, bytes_of, refusal_kept}
+use Rattle.cweb_bins.proofs.Common.{◌≡◌, [], ◌∷◌, ◌++◌, sym, ◌∙◌, ap, Some, None, map, List, Option, option_map, ℕ, File, Beside, committed, BinFile, file_of, name_of, bytes_of, refusal_kept, filed}
 use Rattle.cweb_bins.proofs.Commits.{commits}
 use Rattle.cweb_bins.proofs.bins.memory.MemoryBinsBins.commit_file.Goals as goal
 
@@ -14,3 +14,9 @@ returns-clause-ok c =
     ap (λ (d : Option BinFile). beside (map file_of c.push_reserved.new.self.items) (option_map name_of d)) none
     ∙ ap (λ (fs : List File). beside fs None) put
     ∙ sym (ap (λ (d : Option BinFile). committed (beside (map file_of files) (option_map name_of d)) (bytes_of d)) was)
+
+pub returns-clause-files : goal.returns-clause-files
+returns-clause-files c =
+    c.push_reserved.ensures.items
+    ∙ ap (λ (fs : List BinFile). fs ++ c.in-Some.file ∷ []) (rw c.as_str.ensures.value at c.remove_named.ensures.others)
+    ∙ sym (ap (filed c.args.self.now.files.items) (sym c.take.ensures.value ∙ c.in-Some.is))
