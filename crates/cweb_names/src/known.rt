@@ -186,14 +186,14 @@ impl KnownNames {
         Ok(all)
     }
 
-    /// Whether a name is a proper prefix of another.
+    /// Whether any name is a proper prefix of another one.
     pub fn has_prefix(&self) -> bool
         ensures { result ≡ list_any (is_prefix_of_another self.now) (texts self.now) }
     {
         has_prefix(&self.sorted)
     }
 
-    /// Whether a name is a proper prefix of another. Two names begin with one that is, itself and the other.
+    /// Whether this name is a proper prefix of another one. If it is, several names begin with its text: itself and the others.
     pub fn is_prefix(&self, id: NameId) -> Result<bool, AllocError>
         requires { id.0 < length self.now }
         ensures { IfOk result (λ is.

@@ -36,7 +36,7 @@ without_blank [] = []
 without_blank (t ∷ []) = if is_blank t then [] else t ∷ []
 without_blank (t ∷ u ∷ us) = t ∷ without_blank (u ∷ us)
 
--- the first two tokens of a macro are its name and the blank behind it, which stay
+-- The first two tokens of a macro stay: its name, and the token after it. `@d f(x)` and `@d f (x)` differ in that token alone.
 abbrev pub first_kept : PartKind → ℕ
 first_kept kind = if is_macro kind then 2 else 0
 

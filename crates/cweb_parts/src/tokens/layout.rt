@@ -20,7 +20,8 @@ pub enum Trailing {
     Newlines,
 }
 
-/// The number after the last token of an open part that isn't layout. A macro's first two tokens are never layout.
+/// The number after the last token of an open part that isn't layout. A macro's first two tokens are kept, whatever they are:
+/// the second may be the Blank after its name.
 pub fn end_before_layout(tokens: &TokenList, current: Open) -> usize
     requires { current.first ≤ length tokens.now.tokens }
     ensures part { open_in (take result tokens.now.tokens) current
