@@ -36,24 +36,17 @@ pub record Sought : Type 0 where
   pub rest : List SourceLine
 
 abbrev pub met : SourceFault → Sought → Sought
-met f sought = record { faults = f ∷ sought.faults; taken = sought.taken; entry = sought.entry; rest = sought.rest }
+met f sought = record sought { faults = f ∷ sought.faults }
 
 abbrev pub passing : SourceLine → Sought → Sought
-passing line sought = record {
-  faults = sought.faults;
-  taken = line ∷ sought.taken;
-  entry = sought.entry;
-  rest =
-      sought.rest;
-}
+passing line sought = record sought { taken = line ∷ sought.taken }
 
 -- Outside an entry, at a line with this code. What follows is a function of the @x line that waits, so that only one of
 -- the two ways is computed.
 abbrev pub outside : Option Code → Place → (Option Place → Sought) → Sought
 outside None place later = later None
 outside (Some old_side) place later = later (Some place)
-outside (Some new_side) place later = met (at_place MissingX place) (later None)
-outside (Some end_side) place later = met (at_place MissingX place) (later None)
+outside (Some code) place later = met (at_place MissingX place) (later None)
 
 -- behind an @x line: empty lines are skipped, a code line begins the search anew, any other line is the first old line
 abbrev pub behind_x : List ℕ → Option Code → Place → SourceLine → List SourceLine → (Option Place → Sought) → Sought
@@ -82,36 +75,16 @@ pub record OldSide : Type 0 where
   pub rest : List SourceLine
 
 abbrev pub old_line : SourceLine → OldSide → OldSide
-old_line line side = record {
-  faults = side.faults;
-  lines = line.line.bytes ∷ side.lines;
-  taken = line ∷ side.taken;
-  ended = side.ended;
-  rest = side.rest;
-}
+old_line line side = record side { lines = line.line.bytes ∷ side.lines; taken = line ∷ side.taken }
 
 -- an @x or @z among the old lines is a fault, and skipped
 abbrev pub old_code : SourceLine → OldSide → OldSide
-old_code line side = record {
-  faults = at_place WantsY line.line.place ∷ side.faults;
-  lines = side.lines;
-  taken = line ∷ side.taken;
-  ended = side.ended;
-  rest = side.rest;
-}
+old_code line side = record side { faults = at_place WantsY line.line.place ∷ side.faults; taken = line ∷ side.taken }
 
 abbrev pub old_at : Option Code → SourceLine → List SourceLine → OldSide → OldSide
 old_at None line lines later = old_line line later
-old_at (Some old_side) line lines later = old_code line later
-old_at (Some new_side) line lines later = record {
-  faults = [];
-  lines = [];
-  taken = line ∷ [];
-  ended = false;
-  rest =
-      lines;
-}
-old_at (Some end_side) line lines later = old_code line later
+old_at (Some new_side) line lines later = record { faults = []; lines = []; taken = line ∷ []; ended = false; rest = lines }
+old_at (Some code) line lines later = old_code line later
 
 abbrev pub old_lines : List SourceLine → OldSide
 old_lines [] = record { faults = []; lines = []; taken = []; ended = true; rest = [] }

@@ -8,7 +8,7 @@ pub use Rattle.cweb_open.specs.Things.{RawLine, Thing, seek, raw, told, passed, 
 use Rattle.cweb_lines.specs.Change.{code_of, at_place, Entry, sought, OldSide, old_lines}
 use Rattle.cweb_open.specs.declared.limits.TheConstants.{OPEN_FILES}
 use Rattle.cweb_lines.specs.declared.change.code.Code.{Code}
-use Rattle.cweb_lines.specs.declared.change.code.Code.TheVariants.{OldSide as old_side, NewSide as new_side, EndSide as end_side}
+use Rattle.cweb_lines.specs.declared.change.code.Code.TheVariants.{EndSide as end_side}
 use Rattle.cweb_open.specs.declared.fault.SourceKind.TheVariants.{NoName, TooDeep, NotThere, EndedBeforeY, WebEnded, Unequal, WantsZ, EndedBeforeZ, NoMatch}
 use Rattle.cweb_open.specs.declared.fault.SourceFault.{SourceFault}
 
@@ -35,17 +35,14 @@ pub record NewSide : Type 0 where
   pub rest : List SourceLine
 
 abbrev pub new_things : List Thing → NewSide → NewSide
-new_things things side = record { things = things ++ side.things; rest = side.rest }
+new_things things side = record side { things = things ++ side.things }
 
 -- a new line may not match; an @x or @y among them is a fault, and skipped
 abbrev pub new_at : Option Code → ℕ → SourceLine → List SourceLine → NewSide → NewSide
 new_at None depth line lines later = new_things (raw (record { source = line; depth = depth; may_match = false }) ∷ [])
     later
-new_at (Some old_side) depth line lines later = new_things (passed line ∷ told (at_place WantsZ line.line.place) ∷ [])
-    later
-new_at (Some new_side) depth line lines later = new_things (passed line ∷ told (at_place WantsZ line.line.place) ∷ [])
-    later
 new_at (Some end_side) depth line lines later = record { things = passed line ∷ []; rest = lines }
+new_at (Some code) depth line lines later = new_things (passed line ∷ told (at_place WantsZ line.line.place) ∷ []) later
 
 abbrev pub new_lines : ℕ → Place → List SourceLine → NewSide
 new_lines depth begin [] = record { things = told (at_place EndedBeforeZ begin) ∷ []; rest = [] }
@@ -60,21 +57,14 @@ pub record Compared : Type 0 where
   pub rest : List Thing
 
 abbrev pub one_more : Bool → SourceLine → Compared → Compared
-one_more equal line by = record {
-  unequal = if equal then by.unequal else by.unequal + 1;
-  taken = line ∷ by.taken;
-  ran_out = by.ran_out;
-  rest = by.rest;
-}
+one_more equal line by = record by { unequal = if equal then by.unequal else by.unequal + 1; taken = line ∷ by.taken }
 
 -- each further old line takes the next raw line, whatever that holds
 abbrev pub compared : List (List ℕ) → List Thing → Compared
 compared [] things = record { unequal = 0; taken = []; ran_out = false; rest = things }
 compared (old ∷ olds) [] = record { unequal = 0; taken = []; ran_out = true; rest = [] }
 compared (old ∷ olds) (raw r ∷ things) = one_more (bytes_eq r.source.line.bytes old) r.source (compared olds things)
-compared (old ∷ olds) (seek ∷ things) = compared (old ∷ olds) things
-compared (old ∷ olds) (told f ∷ things) = compared (old ∷ olds) things
-compared (old ∷ olds) (passed l ∷ things) = compared (old ∷ olds) things
+compared (old ∷ olds) (thing ∷ things) = compared (old ∷ olds) things
 
 -- what comes out at a step, and what is to come after it
 abbrev pub Next : Type 0
@@ -107,21 +97,15 @@ changed s entry r things =
     (change_events entry old by, after_old old.ended s.files r.depth entry old by.rest)
 
 abbrev pub past : State → List Thing → State
-past s things = record { things = things; pending = s.pending; change = s.change; files = s.files }
+past s things = record s { things = things }
 
 -- an include line whose text was sought: the lines of the text come in front, one deeper, and may match where the
 -- include line may
 abbrev pub obeyed : Option Found → State → RawLine → List Thing → Next
 obeyed None s r things = (fault (at_place NotThere r.source.line.place) ∷ [], past s things)
-obeyed (Some found) s r things = (
-  opening found.0 ∷ [],
-  record {
-    things = raws (r.depth + 1) r.may_match (lines_in s.files found.1) ++ things;
-    pending = s.pending;
-    change = s.change;
-    files = s.files + 1;
-  },
-)
+obeyed (Some found) s r things =
+    let inside = raws (r.depth + 1) r.may_match (lines_in s.files found.1) in
+    (opening found.0 ∷ [], record s { things = inside ++ things; files = s.files + 1 })
 
 abbrev pub opened : Bool → World → List ℕ → State → RawLine → List Thing → Next
 opened false world name s r things = (fault (at_place TooDeep r.source.line.place) ∷ [], past s things)
@@ -153,26 +137,14 @@ taking line next = (took line ∷ next.0, next.1)
 
 abbrev pub at_end : Option Entry → State → Option Next
 at_end None s = None
-at_end (Some entry) s = Some (
-  fault (at_place NoMatch entry.begin) ∷ [],
-  record { things = []; pending = None; change = s.change; files = s.files },
-)
+at_end (Some entry) s = Some (fault (at_place NoMatch entry.begin) ∷ [], record s { things = []; pending = None })
 
 -- the first thing to come decides; there is no step where nothing is to come
 abbrev pub step_at : List Thing → World → State → Option Next
 step_at [] world s = at_end s.pending s
 step_at (seek ∷ things) world s =
     let found = sought s.change None in
-    Some (
-      map took found.taken ++ map fault found.faults,
-      record {
-        things = things;
-        pending = found.entry;
-        change =
-            found.rest;
-        files = s.files;
-      },
-    )
+    Some (map took found.taken ++ map fault found.faults, record s { things = things; pending = found.entry; change = found.rest })
 step_at (raw r ∷ things) world s = Some (taking r.source (at_raw s.pending world s r things))
 step_at (told f ∷ things) world s = Some (fault f ∷ [], past s things)
 step_at (passed line ∷ things) world s = Some (took line ∷ [], past s things)
@@ -196,10 +168,4 @@ run (suc n) world s = then_run (step world s) (λ next. run n world next)
 -- The merge begins with the web's lines. Where there is a change file, its first entry is sought before them.
 abbrev pub started : List ℕ → Option (List ℕ) → State
 started web None = record { things = raws 1 true (lines_in 0 web); pending = None; change = []; files = 1 }
-started web (Some change) = record {
-  things = seek ∷ raws 1 true (lines_in 0 web);
-  pending = None;
-  change =
-      lines_in 1 change;
-  files = 2;
-}
+started web (Some change) = record { things = seek ∷ raws 1 true (lines_in 0 web); pending = None; change = lines_in 1 change; files = 2 }

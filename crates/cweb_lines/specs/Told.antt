@@ -9,31 +9,23 @@ use Rattle.cweb_source.specs.declared.limits.TheConstants.{LINE_LENGTH}
 
 abbrev pub given_lines : List Event → List Line
 given_lines [] = []
-given_lines (took line ∷ events) = given_lines events
 given_lines (given line ∷ events) = line ∷ given_lines events
-given_lines (fault f ∷ events) = given_lines events
-given_lines (opening name ∷ events) = given_lines events
+given_lines (event ∷ events) = given_lines events
 
 abbrev pub told_faults : List Event → List SourceFault
 told_faults [] = []
-told_faults (took line ∷ events) = told_faults events
-told_faults (given line ∷ events) = told_faults events
 told_faults (fault f ∷ events) = f ∷ told_faults events
-told_faults (opening name ∷ events) = told_faults events
+told_faults (event ∷ events) = told_faults events
 
 abbrev pub openings : List Event → List (List ℕ)
 openings [] = []
-openings (took line ∷ events) = openings events
-openings (given line ∷ events) = openings events
-openings (fault f ∷ events) = openings events
 openings (opening name ∷ events) = name ∷ openings events
+openings (event ∷ events) = openings events
 
 abbrev pub taken_lines : List Event → List SourceLine
 taken_lines [] = []
 taken_lines (took line ∷ events) = line ∷ taken_lines events
-taken_lines (given line ∷ events) = taken_lines events
-taken_lines (fault f ∷ events) = taken_lines events
-taken_lines (opening name ∷ events) = taken_lines events
+taken_lines (event ∷ events) = taken_lines events
 
 -- how many bytes lines take, with their newlines
 abbrev pub size_of : List SourceLine → ℕ

@@ -42,9 +42,7 @@ letter_at t = letter_is (letter (drop 2 t)) t
 -- only a name that ended has an opener sign
 abbrev pub sign_after : End → List ℕ → ℕ
 sign_after Closed t = opener_sign t
-sign_after Cut t = 0
-sign_after Nested t = 0
-sign_after Open t = 0
+sign_after _ t = 0
 
 -- a name; the opener sign belongs to it where it opens a part
 abbrev pub name_at : Bool → List ℕ → Front
@@ -132,9 +130,7 @@ raw_at t =
 
 abbrev pub is_closed : End → Bool
 is_closed Closed = true
-is_closed Cut = false
-is_closed Nested = false
-is_closed Open = false
+is_closed _ = false
 
 -- a `<` that has a `>` later on its line
 abbrev pub starts_include : List ℕ → Bool

@@ -34,11 +34,9 @@ line_end_token next s =
     else Newline)
 
 abbrev pub line_end_in : Context → Place → State → State
-line_end_in Limbo next s = moved next s
-line_end_in TeX next s = moved next s
-line_end_in (Definition begun) next s = moved next s
 line_end_in Macro next s = moved next (give Newline s)
 line_end_in CText next s = moved next (give (line_end_token next s) s)
+line_end_in _ next s = moved next s
 
 abbrev pub line_end : Place → State → State
 line_end next s = line_end_in s.context next s
@@ -58,7 +56,6 @@ abbrev pub punctuator : List ℕ → State → State
 punctuator bytes s = record (give (Punct bytes) s) { folded = in_directive s && s.folded }
 
 abbrev pub code : Effect → State → State
-code Nothing s = s
 code Define s = record (end_macro s) { context = Definition s.here }
 code Format s = end_macro s
 code Program s = begin_part part.Unnamed (end_macro s)
@@ -66,27 +63,20 @@ code InsertDefs s = give (Mark s.here) (give Defs s)
 code Joins s = give Join (record s { contents = with_dropped s.contents })
 code GiveAt s = give (Punct (codes "@")) s
 code (Faulty k) s = fault k s
-code Named s = s
-code effect.Letter s = s
-code effect.ControlText s = s
-code effect.Verbatim s = s
-code effect.Constant s = s
+code _ s = s
 
 abbrev pub letter : ℕ → Option (List ℕ) → State → State
 letter byte None s = fault ReplacementTooLong s
 letter byte (Some text) s = record s { contents = with_replacement (record { byte = byte; text = text }) s.contents }
 
 abbrev pub control_text : End → State → State
-control_text Closed s = s
 control_text Cut s = fault ControlTextDidNotEnd s
-control_text Nested s = s
-control_text Open s = s
+control_text _ s = s
 
 abbrev pub verbatim : List ℕ → End → State → State
 verbatim text Closed s = give (Verbatim text) s
 verbatim text Cut s = fault ControlTextDidNotEnd s
-verbatim text Nested s = s
-verbatim text Open s = s
+verbatim text _ s = s
 
 abbrev pub constant : Option ℕ → State → State
 constant None s = fault FaultyConstant s
@@ -101,16 +91,13 @@ define bytes tight s =
 -- ITEMS THAT MAY GO OVER LINE ENDS, at their end; `begun` is where they began
 
 abbrev pub comment : End → Place → State → State
-comment Closed begun s = s
 comment Cut begun s = fault_at CommentDidNotEnd begun s
-comment Nested begun s = s
-comment Open begun s = s
+comment _ begun s = s
 
 abbrev pub name_fault : End → Place → State → State
-name_fault Closed begun s = s
 name_fault Cut begun s = fault_at NameDidNotEnd begun s
 name_fault Nested begun s = fault_at NamesDoNotNest begun s
-name_fault Open begun s = s
+name_fault _ begun s = s
 
 -- in C text a name is a use, and an opener sign is a fault
 abbrev pub use_name : NameRef → Bool → Place → State → State
@@ -123,11 +110,10 @@ abbrev pub open_name : NameRef → Bool → State → State
 open_name n opens s = if opens then begin_part (part.Named n) (end_macro s) else end_macro s
 
 abbrev pub name_in : Context → NameRef → Bool → Place → State → State
-name_in Limbo n opens begun s = s
 name_in TeX n opens begun s = open_name n opens s
-name_in (Definition begins) n opens begun s = s
 name_in Macro n opens begun s = open_name n opens s
 name_in CText n opens begun s = use_name n opens begun s
+name_in _ n opens begun s = s
 
 abbrev pub occurrence : Bool → List ℕ → End → Bool → Place → State → State
 occurrence is_file text how opens begun s =
@@ -137,8 +123,7 @@ occurrence is_file text how opens begun s =
 abbrev pub literal : List ℕ → End → Place → State → State
 literal text Closed begun s = give (Literal text) s
 literal text Cut begun s = fault_at StringDidNotEnd begun (give (Literal text) s)
-literal text Nested begun s = s
-literal text Open begun s = s
+literal text _ begun s = s
 
 -- THE PIECES
 
@@ -167,11 +152,8 @@ stays_in_head k = elim k [ kind.Blanks ↦ true | kind.LineEnd ↦ true | kind.C
 
 -- what belongs to no head ends it, and text goes on there
 abbrev pub enter_in : Context → Kind → State → State
-enter_in Limbo k s = s
-enter_in TeX k s = s
 enter_in (Definition begun) k s = if stays_in_head k then s else drop_definition begun s
-enter_in Macro k s = s
-enter_in CText k s = s
+enter_in _ k s = s
 
 abbrev pub enter : Kind → State → State
 enter k s = enter_in s.context k s

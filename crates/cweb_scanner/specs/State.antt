@@ -62,11 +62,8 @@ end_part s = record s { context = TeX; contents = with_closed s.contents }
 
 -- a macro ends where a further definition or a part begins
 abbrev pub end_macro_in : Context → State → State
-end_macro_in Limbo s = s
-end_macro_in TeX s = s
-end_macro_in (Definition begun) s = s
 end_macro_in Macro s = end_part s
-end_macro_in CText s = s
+end_macro_in _ s = s
 
 abbrev pub end_macro : State → State
 end_macro s = end_macro_in s.context s
@@ -77,11 +74,10 @@ drop_definition begun s = record (fault_at DefinitionDropped begun s) { context 
 
 -- a section start and the end of the text end every context
 abbrev pub leave_in : Context → State → State
-leave_in Limbo s = s
-leave_in TeX s = s
 leave_in (Definition begun) s = drop_definition begun s
 leave_in Macro s = end_part s
 leave_in CText s = end_part (give (Tail s.sections) s)
+leave_in _ s = s
 
 abbrev pub leave : State → State
 leave s = leave_in s.context s
