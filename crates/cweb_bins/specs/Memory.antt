@@ -64,9 +64,11 @@ pub record KeepsFiles (old new : MemoryBins) : Type 0 where
 
 -- the name of the draft, with its room, is as before
 abbrev pub KeepsName : MemoryBins → MemoryBins → Type 0
-KeepsName old new = option_map (λ (file : BinFile). file.name) new.draft ≡ option_map (λ (file : BinFile). file.name) old.draft
+KeepsName old new =
+    option_map (λ (file : BinFile). file.name) new.draft ≡ option_map (λ (file : BinFile). file.name) old.draft
 
 -- a draft is put last among files, with its room, in the place of one of its name
 abbrev pub filed : List BinFile → Option BinFile → List BinFile
 filed files None = files
-filed files (Some draft) = filter (λ file. not (bytes_eq (string_bytes file.name) (string_bytes draft.name))) files ++ draft ∷ []
+filed files (Some draft) =
+    filter (λ file. not (bytes_eq (string_bytes file.name) (string_bytes draft.name))) files ++ draft ∷ []
