@@ -108,7 +108,9 @@ pub use Rattle.cweb_tools.specs.Expanders.{PrintsSoFar, StaysReady, left_in, Are
 pub use Rattle.cweb_tools.specs.Expanders.{files_due}
 pub use Rattle.cweb_tools.specs.Leaves.{put_files, LeavesFiles}
 pub use Rattle.cweb_tools.specs.Run.{about, AreOpened, CanStop, Comes, Ends, Merges, Refuses, HasMerged}
-pub use Rattle.cweb_tools.specs.Run.{Blames, Completes, FailsOnce, IsMerge, Promises, RanFreely, TellsFaults}
+pub use Rattle.cweb_tools.specs.Headline.{IsMerge, IsTangle, KeepsLimits, MergesFreely, RanFreely, TangledFreely}
+pub use Rattle.cweb_tools.specs.Headline.{TanglesFreely, TellAll}
+pub use Rattle.cweb_tools.specs.Run.{Blames, Completes, FailsOnce, Promises, TellsFaults}
 pub use Rattle.cweb_tools.specs.Script.{files_in, items_in, Numbers, closing_acts, unread, not_there, change_not_there}
 pub use Rattle.cweb_tools.specs.Script.{Planning, refused, Web, planned_acts, script, starred_acts, tangle_files}
 pub use Rattle.cweb_tools.specs.Script.{tangling, when, output_acts, outputs_acts, TangleCourse, tangle_status}
@@ -117,7 +119,7 @@ pub use Rattle.cweb_tools.specs.Spacing.{IsPlain, Spacing, is_ascii}
 pub use Rattle.cweb_tools.specs.Tangle.{fault_items, CanCome, shown_by, tangle_course, output_file, course_acts}
 pub use Rattle.cweb_tools.specs.Tangle.{course_status, tangled, web_of, web_status, plan_made, planning, planning_by}
 pub use Rattle.cweb_tools.specs.Tangle.{status_by, numbers_of}
-pub use Rattle.cweb_tools.specs.TangleRun.{RunsFreely, DoesAll, IsStopped, IsEnded, KeepLimits, FailOnce, FaultsShow}
+pub use Rattle.cweb_tools.specs.TangleRun.{DoesAll, IsStopped, IsEnded, KeepLimits, FailOnce, FaultsShow}
 pub use Rattle.cweb_tools.specs.TangleRun.{LogEnds, RisesOnce, TanglePromises, TellingRun, Tells, cut, said, ReadsNone}
 pub use Rattle.cweb_tools.specs.TangleRun.{ReadsFirst, ReadAll, LogsUpTo}
 pub use Rattle.cweb_tools.specs.Web.{refusal_in, files_of, faults_of}

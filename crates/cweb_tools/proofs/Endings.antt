@@ -1,5 +1,5 @@
 -- What the promises of a run say of its endings.
-use Rattle.cweb_tools.proofs.Common.{◌≡◌, inl, inr, ℕ, List, [], ◌∷◌, refl, ap, arith, Some, None, Stop, Usage, WebNotOpened, ChangeNotOpened, ReadFault, LineTooLong, TooMuchText, Memory, OutNotOpened, WriteFault, LogFault, Held, Act, judges, reads, after_act, ending, Breaks, Runs, TangleEnds, completes, stops, RunsFreely, DoesAll, IsStopped, IsEnded, KeepLimits}
+use Rattle.cweb_tools.proofs.Common.{◌≡◌, ◌≢◌, ◌++◌, flat_map, Item, line, stop_line, inl, inr, ℕ, List, [], ◌∷◌, refl, ap, arith, Some, None, Stop, Usage, WebNotOpened, ChangeNotOpened, ReadFault, LineTooLong, TooMuchText, Memory, OutNotOpened, WriteFault, LogFault, Held, Act, judges, reads, after_act, ending, Breaks, Runs, TangleEnds, completes, stops, DoesAll, IsStopped, IsEnded, KeepLimits}
 use Rattle.cweb_tools.proofs.AllDone.{files_all, log_all}
 use Rattle.cweb_tools.proofs.Limits.{beyond}
 use Rattle.cweb_tools.proofs.Stopping.{is_stopped}
@@ -63,6 +63,14 @@ cause_of [] stop about old new none = absurd none
 cause_of (act ∷ acts) stop about old new (inl run) = cause_more stop
     (KeepLimits acts) (KeepLimits (act ∷ acts)) (λ all. all.1) (cause_of acts stop about (after_act act old) new run.1)
 cause_of (act ∷ acts) stop about old new (inr here) = cause_at act acts stop about old new here
+
+-- no device failed, the limits were kept, and the run's text in the log doesn't end in the line on refused memory
+pub record RunsFreely (acts : List Act) (old new : Held) : Type 0 where
+  pub shelf : new.shelf_failed ≡ old.shelf_failed
+  pub bins : new.bins_failed ≡ old.bins_failed
+  pub log : new.log_failed ≡ old.log_failed
+  pub within : KeepLimits acts
+  pub memory : (items : List Item) → new.log ≢ old.log ++ (flat_map line items ++ stop_line Memory [])
 
 -- a run that something stopped did not run freely
 not_free : {acts : List Act} (stop : Stop) {about : List ℕ} {old new : Held}

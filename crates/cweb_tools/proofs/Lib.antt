@@ -15,6 +15,7 @@ pub mod Promises
 pub mod ReadAlls
 pub mod Leaving
 pub mod WebActs
+pub mod Limited
 pub mod Limits
 pub mod Logging
 pub mod Marks

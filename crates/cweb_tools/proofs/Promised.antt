@@ -1,7 +1,8 @@
 -- What a run of `ctangle` promises, by how it ends.
-use Rattle.cweb_tools.proofs.Common.{◌≡◌, ◌+◌, ◌⊎◌, inl, inr, ℕ, List, ◌++◌, refl, sym, ◌∙◌, ap, add-zero, arith, flat_map, IsTrue, Option, World, read_blame, Stop, ReadFault, OutNotOpened, WriteFault, LogFault, line, stop_line, Asked, SeenBins, SeenRun, SeenShelf, SeenStream, Shown, Act, ending, Held, TangleEnds, AsTold, Closes, ClosesLog, Follows, bins_blame, done, halted, held, log_blame, TangleCourse, items_in, script, tangle_status, CanCome, shown_by, tangle_course, FailOnce, FaultsShow, IsEnded, LogEnds, RisesOnce, TanglePromises, TellingRun, Tells, cut, said}
+use Rattle.cweb_tools.proofs.Common.{◌≡◌, ◌+◌, ◌⊎◌, inl, inr, ℕ, List, ◌++◌, refl, sym, ◌∙◌, ap, add-zero, arith, flat_map, IsTrue, Option, World, read_blame, Stop, ReadFault, OutNotOpened, WriteFault, LogFault, line, stop_line, Asked, SeenBins, SeenRun, SeenShelf, SeenStream, Shown, Act, ending, Held, TangleEnds, AsTold, Closes, ClosesLog, Follows, bins_blame, done, halted, held, log_blame, TangleCourse, items_in, script, tangle_status, CanCome, shown_by, tangle_course, FailOnce, FaultsShow, IsEnded, LogEnds, RisesOnce, TanglePromises, TanglesFreely, TellingRun, Tells, cut, said, put_files, tangle_files, tangle_log}
 use Rattle.cweb_tools.proofs.Endings.{ends_freely, ends_so, ends_within}
 use Rattle.cweb_tools.proofs.Leaving.{ends_draft, ends_files}
+use Rattle.cweb_tools.proofs.Limited.{keeps_limits}
 use Rattle.cweb_tools.proofs.ReadAlls.{ends_read}
 use Rattle.cweb_tools.proofs.PromisedEnds.{tangle_ends, log_tells, bins_tell}
 
@@ -58,7 +59,6 @@ telling_run : (shown : Shown) (course : TangleCourse) {due : ℕ} {old new : Hel
     → TangleEnds (script shown course) due old new status → TellingRun (script shown course) due old new status
 telling_run shown course {due} {old} {new} {status} ends = record {
   ends = ends;
-  freely = ends_freely ends;
   ended = ends_so ends;
   files = ends_files ends;
   draft = λ none. ends_draft none ends;
@@ -90,6 +90,30 @@ log_ends acts before told tells (inr why) =
     let text : List ℕ = flat_map line log.before ++ stop_line why.0 why.1 in
     cut why.0 why.1 log.before log.later log.whole
     (rw (← (told.log tells)) log.front) (λ same. sym (told.log tells) ∙ log.all (told.log_failed ∙ same)) why.3
+
+-- what devices that tell leave, where nothing stopped a run
+pub tangled_freely : (world : World) (asked : Option Asked) {before after : SeenRun} {status : ℕ}
+    → Follows (script (shown_by asked)) (tangle_status (shown_by asked))
+    (CanCome asked) (tangle_course world asked) before after status → TanglesFreely world asked before after status
+tangled_freely world asked {before} {after} {status} follows tell free =
+    let shown : Shown = shown_by asked in
+    let last = tangle_ends follows.closes (held before) shown_told in
+    let bins : IsTrue after.bins.tells = bins_tell follows.closes ∙ tell.1 in
+    let log : IsTrue after.log.tells = log_tells follows.closes ∙ tell.2 in
+    let is : follows.taken ≡ tangle_course world asked = follows.is tell.0 in
+    let all = ends_freely last.ends (record {
+      shelf = last.told.shelf_failed ∙ free.read;
+      bins = last.told.bins_failed ∙ free.filed;
+      log = last.told.log_failed ∙ free.told;
+      within = keeps_limits shown follows.taken (rw is free.within);
+      memory = λ items same. free.memory items (sym (last.told.log log) ∙ same);
+    }) in
+    record {
+      written = sym (last.told.files bins) ∙ all.files
+          ∙ ap (λ course. put_files before.bins.beside.files (tangle_files shown course)) is;
+      logged = sym (last.told.log log) ∙ all.log ∙ ap (λ course. before.log.bytes ++ tangle_log shown course) is;
+      answered = all.answered ∙ ap (tangle_status shown) is;
+    }
 
 -- a run whose acts are those of its script keeps all promises
 pub promised : {world : World} {asked : Option Asked} {before after : SeenRun} {status : ℕ}

@@ -1,5 +1,5 @@
 -- What the ends of a run come to, in the words of its promises.
-use Rattle.cweb_tools.proofs.Common.{◌≤◌, ◌≡◌, inl, inr, ℕ, ◌+◌, List, [], ◌∷◌, ◌++◌, refl, sym, ◌∙◌, ap, append-nil, arith, Option, Some, None, IsTrue, FileId, World, Found, web_at, change_at, read_blame, WritesFront, write_blame, SourceFault, Stop, Usage, WebNotOpened, ChangeNotOpened, ReadFault, LineTooLong, TooMuchText, Memory, WriteFault, Logs, fault_lines, stop_line, Seen, SeenStream, Tell, WebNames, Course, merging, asked_course, fault_status, found_course, merged, StaysWithin, about, Blames, CanStop, Completes, Ends, FailsOnce, HasMerged, IsMerge, Merges, Promises, RanFreely, TellsFaults}
+use Rattle.cweb_tools.proofs.Common.{◌≤◌, ◌≡◌, inl, inr, ℕ, ◌+◌, List, [], ◌∷◌, ◌++◌, refl, sym, ◌∙◌, ap, append-nil, arith, Option, Some, None, IsTrue, FileId, World, Found, web_at, change_at, read_blame, WritesFront, write_blame, SourceFault, Stop, Usage, WebNotOpened, ChangeNotOpened, ReadFault, LineTooLong, TooMuchText, Memory, WriteFault, Logs, fault_lines, stop_line, Seen, SeenStream, Tell, WebNames, Course, merging, asked_course, fault_status, found_course, merged, StaysWithin, about, Blames, CanStop, Completes, Ends, FailsOnce, HasMerged, IsMerge, MergesFreely, Merges, Promises, RanFreely, TellsFaults}
 use Rattle.cweb_tools.specs.Run.{completes, Prints, stops}
 use Rattle.cweb_tools.proofs.Limits.{beyond}
 
@@ -66,9 +66,8 @@ module _ (world : World) (names : WebNames) (before after : Seen) (status : ℕ)
       rw is (freely_stopped found changes stop.stop stop.files (rw (← is) (stop.cause tell.0)) stop.blames stop.logged
       (rw (← is) (stop.written tell.0 tell.1)) stop.answered (rw (← is) free))
 
-ran_freely : (world : World) (asked : Option WebNames) {before after : Seen} {status : ℕ}
-    → Ends world asked before after status → Tell before
-    → RanFreely (asked_course world asked) before after → IsMerge (asked_course world asked) before after status
+pub ran_freely : (world : World) (asked : Option WebNames) {before after : Seen} {status : ℕ}
+    → Ends world asked before after status → MergesFreely world asked before after status
 ran_freely world None {before} ends tell free =
     record {
       written = ends.written ∙ sym (append-nil before.out.bytes);
@@ -145,7 +144,6 @@ pub promises : {world : World} {asked : Option WebNames} {before after : Seen} {
     → Ends world asked before after status → Promises world asked before after status
 promises {world} {asked} {before} {after} {status} ends = record {
   ends = ends;
-  freely = ran_freely world asked ends;
   prints = prints world asked ends;
   limits = beyond_limits world asked before after status ends;
   once = fails_once world asked status ends;

@@ -3,6 +3,7 @@ pub mod Begun
 pub mod Course
 pub mod Does
 pub mod Expanders
+pub mod Headline
 pub mod Leaves
 pub mod Run
 pub mod Script

@@ -10,9 +10,9 @@ use Rattle.cweb_open.specs.declared.stop.Stop.{Stop}
 use Rattle.cweb_open.specs.declared.stop.Stop.TheVariants.{Usage, WebNotOpened, ChangeNotOpened, ReadFault, LineTooLong, TooMuchText, Memory, WriteFault}
 use Rattle.cweb_log.specs.Gathering.{Logs}
 use Rattle.cweb_log.specs.Log.{fault_lines, stop_line, name_at}
-use Rattle.cweb_log.specs.Seen.{Seen, Tell}
+use Rattle.cweb_log.specs.Seen.{Seen}
 use Rattle.cweb_log.specs.Words.{WebNames}
-use Rattle.cweb_tools.specs.Course.{Course, not_there, change_not_there, merging, asked_course, change_name, fault_status, merge_log, merge_status, merged, usage, StaysWithin}
+use Rattle.cweb_tools.specs.Course.{Course, not_there, change_not_there, merging, asked_course, change_name, fault_status, merged, usage, StaysWithin}
 
 -- the words can't be read: the log alone is written to
 pub record Refuses (before after : Seen) (status : ℕ) : Type 0 where
@@ -107,20 +107,6 @@ abbrev pub Ends : World → Option WebNames → Seen → Seen → ℕ → Type 0
 Ends world None before after status = Refuses before after status
 Ends world (Some names) before after status = Merges names (asked_course world (Some names)) before after status
 
--- what a run leaves in which no device failed, the limits were kept and memory sufficed
-pub record IsMerge (course : Course) (before after : Seen) (status : ℕ) : Type 0 where
-  pub written : after.out.bytes ≡ before.out.bytes ++ merged course
-  pub logged : after.log.bytes ≡ before.log.bytes ++ merge_log course
-  pub answered : status ≡ merge_status course
-
--- no device failed, the limits were kept, and the log's new text is not the line on want of memory alone
-pub record RanFreely (course : Course) (before after : Seen) : Type 0 where
-  pub read : after.shelf.failed ≡ before.shelf.failed
-  pub printed : after.out.failed ≡ before.out.failed
-  pub told : after.log.failed ≡ before.log.failed
-  pub within : StaysWithin course
-  pub memory : after.log.bytes ≢ before.log.bytes ++ stop_line Memory []
-
 -- a front of the merged lines was printed, and all of them where the status is 0
 pub record Prints (course : Course) (before after : Seen) (status : ℕ) : Type 0 where
   pub front : WritesFront before.out.bytes after.out.bytes (merged course)
@@ -137,12 +123,10 @@ pub record TellsFaults (before after : Seen) (status : ℕ) : Type 0 where
   pub printed : after.out.failed ≢ before.out.failed → status ≡ 1
   pub logged : after.log.failed ≢ before.log.failed → status ≡ 1
 
--- what is promised of a run, a sentence a line
+-- what is promised of each run, also where something stops it
 pub record Promises (world : World) (asked : Option WebNames) (before after : Seen) (status : ℕ) : Type 0 where
   -- the words can't be read, or the run goes its whole course, or one thing stops it, whose line is then the log
   pub ends : Ends world asked before after status
-  -- where no device failed, memory sufficed and the limits are kept, the output, the log and the status are the stated functions
-  pub freely : Tell before → RanFreely (asked_course world asked) before after → IsMerge (asked_course world asked) before after status
   -- the output is never anything else than a front of the merged lines, and the status is 0 only where it is all of them
   pub prints : IsTrue before.shelf.tells → IsTrue before.out.tells → Prints (asked_course world asked) before after status
   -- a web that breaks the limits is never answered by 0

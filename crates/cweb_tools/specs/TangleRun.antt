@@ -5,7 +5,7 @@ use Rattle.cweb_lines.specs.Include.{World}
 use Rattle.cweb_lines.specs.Texts.{read_blame}
 use Rattle.cweb_lines.specs.Writing.{WritesFront}
 use Rattle.cweb_open.specs.declared.stop.Stop.{Stop}
-use Rattle.cweb_open.specs.declared.stop.Stop.TheVariants.{LogFault, Memory}
+use Rattle.cweb_open.specs.declared.stop.Stop.TheVariants.{LogFault}
 use Rattle.cweb_log.specs.Items.{Item, line}
 use Rattle.cweb_log.specs.Log.{stop_line}
 use Rattle.cweb_log.specs.Options.{Asked}
@@ -20,14 +20,6 @@ use Rattle.cweb_tools.specs.Tangle.{CanCome, shown_by, tangle_course}
 abbrev pub KeepLimits : List Act → Type 0
 KeepLimits [] = Unit {0}
 KeepLimits (act ∷ acts) = Keeps act × KeepLimits acts
-
--- no device failed, the limits were kept, and the run's text in the log doesn't end in the line on want of memory
-pub record RunsFreely (acts : List Act) (old new : Held) : Type 0 where
-  pub shelf : new.shelf_failed ≡ old.shelf_failed
-  pub bins : new.bins_failed ≡ old.bins_failed
-  pub log : new.log_failed ≡ old.log_failed
-  pub within : KeepLimits acts
-  pub memory : (items : List Item) → new.log ≢ old.log ++ (flat_map line items ++ stop_line Memory [])
 
 -- all that is due was done: its files were committed one after another, its items logged, and this is its status
 pub record DoesAll (acts : List Act) (due : ℕ) (old new : Held) (status : ℕ) : Type 0 where
@@ -78,9 +70,7 @@ pub record FaultsShow (before after : SeenRun) (status : ℕ) : Type 0 where
 pub record TellingRun (acts : List Act) (due : ℕ) (old new : Held) (status : ℕ) : Type 0 where
   -- the acts were done in their order, all of them or up to one that something stopped, and that is logged last
   pub ends : TangleEnds acts due old new status
-  -- where no device failed, memory sufficed and the limits were kept, files, log and status are those that are due
-  pub freely : RunsFreely acts old new → DoesAll acts due old new status
-  -- else the log has the items up to a place and then the line of what stopped the run, and the status is 1
+  -- all that is due was done, or the log has the items up to a place and then the line of what stopped the run, and the status is 1
   pub ended : IsEnded acts due old new status
   -- the files committed are the first of those that are due, each whole; all others are as before
   pub files : LeavesFiles (files_in acts) old.files new.files
@@ -106,7 +96,7 @@ pub data LogEnds (items : List Item) (due : ℕ) (old new : SeenStream) (status 
       → (new.failed ≡ old.failed → new.bytes ≡ old.bytes ++ (flat_map line before ++ stop_line stop about))
       → status ≡ 1 → LogEnds items due old new status
 
--- what is promised of a run, a sentence a field
+-- what is promised of each run, also where something stops it
 pub record TanglePromises (world : World) (asked : Option Asked) (before after : SeenRun) (status : ℕ) : Type 0 where
   -- how the run went: over a shelf that tells its texts as they and the words say, over another in one of the ways that are left
   pub course : TangleCourse

@@ -12,6 +12,7 @@ ghost use Rattle.cweb_log.specs.Seen.{seen_bins, seen_run, seen_stream};
 ghost use Rattle.cweb_tools.specs.Acts.{ending, plans};
 ghost use Rattle.cweb_tools.specs.Course.{world_of, change_name};
 ghost use Rattle.cweb_tools.specs.Does.{ClosesInBoth, DoesInLog, Follows, LogsEnding, told};
+ghost use Rattle.cweb_tools.specs.Headline.{TanglesFreely};
 ghost use Rattle.cweb_tools.specs.Script.{planned_acts, web_acts};
 ghost use Rattle.cweb_tools.specs.Tangle.{CanCome, course_acts, course_status, numbers_of, plan_made, status_by, tangle_course, web_status};
 ghost use Rattle.cweb_tools.specs.TangleRun.{TanglePromises};
@@ -50,6 +51,11 @@ pub fn run_ctangle<S: Shelf, B: Bins, L: Sink>(
         let asked = options_by (map (λ word. word.now) words.now) in
         let world = world_of before.shelf.texts (option_copied inputs.entry) in
         TanglePromises world asked before
+        (seen_run S.Shelf B.Sink L.Sink shelf.new bins.new log.new) result }
+    ensures freely { let before = seen_run S.Shelf B.Sink L.Sink shelf.old bins.old log.old in
+        let asked = options_by (map (λ word. word.now) words.now) in
+        let world = world_of before.shelf.texts (option_copied inputs.entry) in
+        TanglesFreely world asked before
         (seen_run S.Shelf B.Sink L.Sink shelf.new bins.new log.new) result }
     ensures untouched { options_by (map (λ word. word.now) words.now) ≡ None →
         (shelf.new ≡ shelf.old) × (bins.new ≡ bins.old) }

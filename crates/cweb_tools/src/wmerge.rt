@@ -10,6 +10,7 @@ ghost use Rattle.cweb_log.specs.Seen.{seen, seen_stream};
 ghost use Rattle.cweb_log.specs.Words.{asked_by, names_of};
 ghost use Rattle.cweb_tools.specs.Begun.{MergesBegun};
 ghost use Rattle.cweb_tools.specs.Course.{asked_course, change_name, fault_status, folder_of, world_of};
+ghost use Rattle.cweb_tools.specs.Headline.{MergesFreely};
 ghost use Rattle.cweb_tools.specs.Run.{Merges, Promises};
 
 use crate::subjects::{folder, subject};
@@ -39,6 +40,11 @@ pub fn run_wmerge<S: Shelf, W: Sink, L: Sink>(
         let asked = asked_by (map (λ word. word.now) words.now) in
         let world = world_of before.shelf.texts (option_copied inputs.entry) in
         Promises world asked before (seen S.Shelf W.Sink L.Sink shelf.new out.new log.new) result }
+    ensures freely { let before = seen S.Shelf W.Sink L.Sink shelf.old out.old log.old in
+        let asked = asked_by (map (λ word. word.now) words.now) in
+        let world = world_of before.shelf.texts (option_copied inputs.entry) in
+        MergesFreely world asked before
+        (seen S.Shelf W.Sink L.Sink shelf.new out.new log.new) result }
     ensures untouched { asked_by (map (λ word. word.now) words.now) ≡ None →
         (shelf.new ≡ shelf.old) × (out.new ≡ out.old) }
 {
