@@ -9,19 +9,15 @@ use crate::drafts::{Draft, start_fault};
 use crate::files_read::FilesRead;
 use crate::files_written::FilesWritten;
 use crate::standing::{Standing, Way};
-use crate::system::{FileKey, Held, is_stream};
+use crate::system::{FileKey, Held, is_stream, stand_in};
 use crate::target::Target;
 use cweb_bins::{BinFault, Bins};
 use cweb_files::{Sink, SinkFault};
 use std::alloc::Global;
 use std::collections::BTreeSet;
-use std::fs;
 use std::fs::OpenFile;
 use std::io::Write;
 use std::rt::Files;
-
-/// A folder that can be opened for reading anywhere.
-const ROOT: &str = "/";
 
 /// The files of the system, by their paths. A draft has its file's name, followed by byte 127, which no output's name has.
 /// A commit renames the draft. It is deleted when it is given up or can't be renamed; if that fails, it stays.
@@ -208,14 +204,6 @@ fn write_to<F: Write + OpenFile + Held + Drop>(
     match output {
         Some(output) => output.write(piece),
         None => Err(SinkFault),
-    }
-}
-
-/// Takes the descriptor of a standard stream that is closed, if there is one.
-fn stand_in<R: Files<File: Held>>(files: &R) -> Option<R::File> {
-    match fs::open(files, ROOT) {
-        Ok(folder) if folder.is_stream() => Some(folder),
-        _ => None,
     }
 }
 

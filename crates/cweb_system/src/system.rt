@@ -9,6 +9,9 @@ use std::{fs, io};
 /// The descriptor of standard error, the last one of the standard streams.
 const LAST_STREAM: i32 = 2;
 
+/// A folder that can be opened for reading anywhere.
+const ROOT: &str = "/";
+
 /// Links of the system to the files that are the standard streams.
 const STREAMS: [&str; 3] = ["/proc/self/fd/0", "/proc/self/fd/1", "/proc/self/fd/2"];
 
@@ -105,5 +108,13 @@ pub(crate) fn remove<R: Files>(files: &R, path: &str) -> io::Result<()> {
             ErrorKind::NotFound => Ok(()),
             _ => Err(error),
         },
+    }
+}
+
+/// Takes the descriptor of a standard stream that is closed, if there is one.
+pub(crate) fn stand_in<R: Files<File: Held>>(files: &R) -> Option<R::File> {
+    match fs::open(files, ROOT) {
+        Ok(folder) if folder.is_stream() => Some(folder),
+        _ => None,
     }
 }
