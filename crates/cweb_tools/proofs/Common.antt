@@ -120,7 +120,7 @@ pub use Rattle.cweb_tools.specs.Tangle.{fault_items, CanCome, shown_by, tangle_c
 pub use Rattle.cweb_tools.specs.Tangle.{course_status, tangled, web_of, web_status, plan_made, planning, planning_by}
 pub use Rattle.cweb_tools.specs.Tangle.{status_by, numbers_of}
 pub use Rattle.cweb_tools.specs.TangleRun.{DoesAll, IsStopped, IsEnded, KeepLimits, FailOnce, FaultsShow}
-pub use Rattle.cweb_tools.specs.TangleRun.{LogEnds, RisesOnce, TanglePromises, TellingRun, Tells, cut, said, ReadsNone}
-pub use Rattle.cweb_tools.specs.TangleRun.{ReadsFirst, ReadAll, LogsUpTo}
+pub use Rattle.cweb_tools.specs.TangleRun.{LogEnds, RisesOnce, TanglePromises, TellingRun, Tells, cut, said}
+pub use Rattle.cweb_tools.specs.TangleRun.{ReadAll, LogsUpTo}
 pub use Rattle.cweb_tools.specs.Web.{refusal_in, files_of, faults_of}
 pub use Rattle.cweb_tools.specs.declared.outputs.Failed.{Failed}

@@ -15,7 +15,6 @@ pub mod Promises
 pub mod ReadAlls
 pub mod Leaving
 pub mod WebActs
-pub mod Limited
 pub mod Limits
 pub mod Logging
 pub mod Marks

@@ -2,8 +2,7 @@
 use Rattle.cweb_tools.proofs.Common.{◌≡◌, ◌+◌, ◌⊎◌, inl, inr, ℕ, List, ◌++◌, refl, sym, ◌∙◌, ap, add-zero, arith, flat_map, IsTrue, Option, World, read_blame, Stop, ReadFault, OutNotOpened, WriteFault, LogFault, line, stop_line, Asked, SeenBins, SeenRun, SeenShelf, SeenStream, Shown, Act, ending, Held, TangleEnds, AsTold, Closes, ClosesLog, Follows, bins_blame, done, halted, held, log_blame, TangleCourse, items_in, script, tangle_status, CanCome, shown_by, tangle_course, FailOnce, FaultsShow, IsEnded, LogEnds, RisesOnce, TanglePromises, TanglesFreely, TellingRun, Tells, cut, said, put_files, tangle_files, tangle_log}
 use Rattle.cweb_tools.proofs.Endings.{ends_freely, ends_so, ends_within}
 use Rattle.cweb_tools.proofs.Leaving.{ends_draft, ends_files}
-use Rattle.cweb_tools.proofs.Limited.{keeps_limits}
-use Rattle.cweb_tools.proofs.ReadAlls.{ends_read}
+use Rattle.cweb_tools.proofs.ReadAlls.{ends_read, keeps_limits}
 use Rattle.cweb_tools.proofs.PromisedEnds.{tangle_ends, log_tells, bins_tell}
 
 -- a count that a stop raises by one at most

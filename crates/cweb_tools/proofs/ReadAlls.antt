@@ -1,8 +1,20 @@
 -- Where a run changed the files, all was read.
-use Rattle.cweb_tools.proofs.Common.{◌≡◌, ◌≢◌, inl, inr, ℕ, ◌+◌, Bool, false, List, [], ◌∷◌, ◌++◌, ◌∙◌, ap, Some, add-zero, Stop, ReadFault, Item, banner, fault_count, Shown, Held, Act, says, opens, reads, writes, after_act, ending, Breaks, Runs, TangleEnds, completes, stops, when, TangleCourse, unread, not_there, change_not_there, tangling, script, web_acts, planned_acts, closing_acts, Planning, refused, planned, Web, KeepLimits, ReadsNone, ReadsFirst, ReadAll}
+use Rattle.cweb_tools.proofs.Common.{◌≡◌, ◌≢◌, inl, inr, ℕ, ◌+◌, Bool, false, List, [], ◌∷◌, ◌++◌, ◌∙◌, ap, Some, add-zero, Stop, ReadFault, Item, banner, fault_count, Shown, Held, Act, says, opens, reads, writes, after_act, ending, Breaks, Runs, TangleEnds, completes, stops, when, TangleCourse, unread, not_there, change_not_there, tangling, script, web_acts, planned_acts, closing_acts, Planning, refused, planned, Web, KeepLimits, KeepsLimits, ReadAll}
 use Rattle.cweb_tools.proofs.Leaving.{broken, stop_logged}
 use Rattle.cweb_tools.proofs.WebActs.{when_on, said_on, starred_on, outputs_on, closing_on}
 use Rattle.cweb_tools.proofs.Endings.{counts_all, limits_all}
+
+-- nothing is read in these acts
+abbrev ReadsNone : List Act → Type 0
+ReadsNone [] = Unit {0}
+ReadsNone (reads names events ∷ acts) = ⊥
+ReadsNone (_ ∷ acts) = ReadsNone acts
+
+-- nothing is read once a file is written
+abbrev ReadsFirst : List Act → Type 0
+ReadsFirst [] = Unit {0}
+ReadsFirst (writes name text ∷ acts) = ReadsNone acts
+ReadsFirst (_ ∷ acts) = ReadsFirst acts
 
 -- acts that read nothing read nothing once a file is written
 reads_first : (acts : List Act) → ReadsNone acts → ReadsFirst acts
@@ -63,6 +75,18 @@ script_reads_first shown (not_there web) = reads_first-banner shown (opens ∷ s
 script_reads_first shown (change_not_there change) = reads_first-banner shown (opens ∷ says _ ∷ []) tt
 script_reads_first shown (tangling files events web) = reads_first-banner shown
     (opens ∷ reads files events ∷ web_acts shown web) (reads_first (web_acts shown web) (reads_none-web shown web))
+
+-- and keeps the limits where its merge does
+keeps-banner : (shown : Shown) (acts : List Act) → KeepLimits acts → KeepLimits (when shown.banner banner ++ acts)
+keeps-banner shown acts keeps =
+    when_on Any KeepLimits (λ item acts said rest. (tt, rest)) shown.banner banner acts tt keeps
+
+pub keeps_limits : (shown : Shown) (course : TangleCourse) → KeepsLimits course → KeepLimits (script shown course)
+keeps_limits shown unread keeps = (tt, tt)
+keeps_limits shown (not_there web) keeps = (tt, keeps-banner shown (opens ∷ says _ ∷ []) (tt, (tt, tt)))
+keeps_limits shown (change_not_there change) keeps = (tt, keeps-banner shown (opens ∷ says _ ∷ []) (tt, (tt, tt)))
+keeps_limits shown (tangling files events web) keeps = (tt, keeps-banner shown (opens ∷ reads files events ∷ web_acts shown web)
+    (tt, (keeps, keeps_none (web_acts shown web) (reads_none-web shown web))))
 
 all_read : (acts : List Act) (stop : Stop) (about : List ℕ) {old new : Held} → ReadsFirst acts
     → Runs acts (Some (ending stop about)) old new → new.files ≢ old.files → ReadAll acts old new

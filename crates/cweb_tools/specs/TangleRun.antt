@@ -10,7 +10,7 @@ use Rattle.cweb_log.specs.Items.{Item, line}
 use Rattle.cweb_log.specs.Log.{stop_line}
 use Rattle.cweb_log.specs.Options.{Asked}
 use Rattle.cweb_log.specs.Seen.{SeenRun, SeenStream}
-use Rattle.cweb_tools.specs.Acts.{Act, Held, Keeps, TangleEnds, reads, writes}
+use Rattle.cweb_tools.specs.Acts.{Act, Held, Keeps, TangleEnds}
 use Rattle.cweb_tools.specs.Does.{AsTold, bins_blame}
 use Rattle.cweb_tools.specs.Leaves.{LeavesFiles, put_files}
 use Rattle.cweb_tools.specs.Script.{TangleCourse, files_in, items_in, script, tangle_status}
@@ -113,15 +113,3 @@ pub record TanglePromises (world : World) (asked : Option Asked) (before after :
   pub once : FailOnce before after
   -- no fault of a device is passed over
   pub faults : FaultsShow before after status
-
--- nothing is read in these acts
-abbrev pub ReadsNone : List Act → Type 0
-ReadsNone [] = Unit {0}
-ReadsNone (reads names events ∷ acts) = ⊥
-ReadsNone (_ ∷ acts) = ReadsNone acts
-
--- nothing is read once a file is written
-abbrev pub ReadsFirst : List Act → Type 0
-ReadsFirst [] = Unit {0}
-ReadsFirst (writes name text ∷ acts) = ReadsNone acts
-ReadsFirst (_ ∷ acts) = ReadsFirst acts
