@@ -40,5 +40,5 @@ among file keys has is = (
   (λ t. found file keys (Any-from_list_any (is_at (compare_keys file)) keys (sym is ∙ t))),
   (λ (n, within, at).
       is ∙ list_any_at (is_at (compare_keys file)) keys n file within
-          (ap (is_at (compare_keys file)) at ∙ itself file)),
+      (ap (is_at (compare_keys file)) at ∙ itself file)),
 )

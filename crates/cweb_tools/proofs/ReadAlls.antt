@@ -85,8 +85,11 @@ pub keeps_limits : (shown : Shown) (course : TangleCourse) → KeepsLimits cours
 keeps_limits shown unread keeps = (tt, tt)
 keeps_limits shown (not_there web) keeps = (tt, keeps-banner shown (opens ∷ says _ ∷ []) (tt, (tt, tt)))
 keeps_limits shown (change_not_there change) keeps = (tt, keeps-banner shown (opens ∷ says _ ∷ []) (tt, (tt, tt)))
-keeps_limits shown (tangling files events web) keeps = (tt, keeps-banner shown (opens ∷ reads files events ∷ web_acts shown web)
-    (tt, (keeps, keeps_none (web_acts shown web) (reads_none-web shown web))))
+keeps_limits shown (tangling files events web) keeps = (
+  tt,
+  keeps-banner shown (opens ∷ reads files events ∷ web_acts shown web)
+      (tt, (keeps, keeps_none (web_acts shown web) (reads_none-web shown web))),
+)
 
 all_read : (acts : List Act) (stop : Stop) (about : List ℕ) {old new : Held} → ReadsFirst acts
     → Runs acts (Some (ending stop about)) old new → new.files ≢ old.files → ReadAll acts old new

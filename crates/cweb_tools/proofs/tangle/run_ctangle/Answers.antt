@@ -16,7 +16,8 @@ returns-in-Err-clause-promises g c = promised (words_end _ _ c.in-Err.stop (seen
     (λ none. same_stop _ _ _ refl (c.in-Err.ensures.usage.1 none)) c.log_stop.ensures.logs c.log_stop.ensures.status)
 
 pub returns-in-Err-clause-freely : goal.returns-in-Err-clause-freely
-returns-in-Err-clause-freely g c = tangled_freely _ _ (words_end _ _ c.in-Err.stop (seen_shelf g.S.Shelf c.args.shelf.now)
+returns-in-Err-clause-freely g c = tangled_freely _ _ (words_end _ _ c.in-Err.stop
+    (seen_shelf g.S.Shelf c.args.shelf.now)
     (seen_bins g.B.Sink c.args.bins.now) _ c.in-Err.ensures.stops (λ is. c.in-Err.ensures.usage.0 (ap Err is))
     (λ none. same_stop _ _ _ refl (c.in-Err.ensures.usage.1 none)) c.log_stop.ensures.logs c.log_stop.ensures.status)
 
@@ -46,6 +47,7 @@ pub returns-clause-freely : goal.returns-clause-freely
 returns-clause-freely g c =
     let world : World = world_of (g.S.Shelf.texts c.args.shelf.now) (option_copied c.args.inputs) in
     let asked : Asked = options_of c.in-Ok.options in
-    rw c.in-Ok.ensures.ok (tangled_freely world (Some asked) (named_ends world asked (seen_shelf g.S.Shelf c.args.shelf.now)
+    rw c.in-Ok.ensures.ok (tangled_freely world (Some asked) (named_ends world asked
+    (seen_shelf g.S.Shelf c.args.shelf.now)
     (seen_bins g.B.Sink c.args.bins.now) (seen_run g.S.Shelf g.B.Sink g.L.Sink c.tangle_named.new.shelf
     c.tangle_named.new.bins c.tangle_named.new.log) _ c.in_default.ensures c.tangle_named.ensures))
