@@ -137,16 +137,27 @@ impl Case<TrialShelf, Fail> for Written {
     }
 }
 
+// A web with a change file whose first old line is a plain line.
+const PLAIN: &[(&str, &[u8])] = &[
+    ("a.w", b"one\ntwo\n@i b.w\nfour\n"),
+    ("b.w", b"three\n"),
+    (
+        "c.ch",
+        b"@x\ntwo\n@y\n2\n2 again\n@z\n@x\nfour\n@y\n4\n@z\n",
+    ),
+];
+
 fn gathers_as_much(
     rt: &(impl AllocGlobal + Abort),
+    files: &[(&str, &[u8])],
     fails_at: u64,
     written: &mut Written,
 ) -> Result<(), Fail> {
     let most = written.most;
     written.room = 0;
-    merge_reads(rt, CHANGED, &CHANGED_WEB, most, fails_at, written)?;
+    merge_reads(rt, files, &CHANGED_WEB, most, fails_at, written)?;
     written.room = 65536;
-    merge_reads(rt, CHANGED, &CHANGED_WEB, most, fails_at, written)
+    merge_reads(rt, files, &CHANGED_WEB, most, fails_at, written)
 }
 
 // A read that fails loses no line that could be given before it.
@@ -161,7 +172,8 @@ fn lines_gathered_before_a_read_that_fails(rt: HostRuntime) -> Result<(), Fail> 
     for most in MOST {
         written.most = *most;
         for fails_at in 1..19 {
-            gathers_as_much(&rt, fails_at, &mut written)?;
+            gathers_as_much(&rt, CHANGED, fails_at, &mut written)?;
+            gathers_as_much(&rt, PLAIN, fails_at, &mut written)?;
         }
     }
     Ok(())
