@@ -187,12 +187,14 @@ fn change_shelf(alloc: Global, front: &str) -> Result<MemoryShelf, AllocError> {
     shelf_of(alloc, &[("a.w", b"A\n"), ("c.ch", front.as_bytes())])
 }
 
-// A change file of this front and lines of so many bytes that never end, of which so many are given out.
+// A change file that begins so, and goes on with lines of so many bytes that never end. So many lines are given out, and this is
+// reported then.
 fn check_endless(
     rt: &(impl AllocGlobal + Abort),
     front: &str,
     length: usize,
     lines: u32,
+    told: &'static str,
 ) -> Result<(), Fail> {
     let mut shelf = EndlessChange {
         shelf: change_shelf(rt.alloc(), front)?,
@@ -206,26 +208,41 @@ fn check_endless(
         length,
         lines,
         stop: Stop::TooMuchText,
-        told: "0 is a.w\n1 is c.ch\n",
+        told,
     };
     merge(rt, &mut shelf, &CHANGED_WEB, &mut case)
 }
 
 #[test]
 fn change_files_that_never_end(rt: HostRuntime) -> Result<(), Fail> {
-    // what comes before the lines that never end, how long they are, and how many of them are given out
-    const ROWS: &[(&str, usize, u32)] = &[
+    const NO_FAULT: &str = "0 is a.w\n1 is c.ch\n";
+    // what comes before the lines that never end, how long they are, how many of them are given out, and what is reported
+    const ROWS: &[(&str, usize, u32, &str)] = &[
         // outside an entry
-        ("", 1_048_575, 0),
-        // empty ones behind an @x line
-        ("@x\n", 0, 0),
+        ("", 1_048_575, 0, NO_FAULT),
+        // empty ones after an @x line
+        ("@x\n", 0, 0, NO_FAULT),
         // old lines
-        ("@x\nA\n", 0, 0),
+        ("@x\nA\n", 0, 0, NO_FAULT),
         // new lines
-        ("@x\nA\n@y\n", 1_048_575, 1023),
+        ("@x\nA\n@y\n", 1_048_575, 1023, NO_FAULT),
+        // a fault of the search in which the stop comes
+        (
+            "@z\n",
+            1_048_575,
+            0,
+            "MissingX in 1 at 1\n0 is a.w\n1 is c.ch\n",
+        ),
+        // a fault of the old side in which it comes
+        (
+            "@x\nA\n@z\n",
+            1_048_575,
+            0,
+            "WantsY in 1 at 3\n0 is a.w\n1 is c.ch\n",
+        ),
     ];
-    for (front, length, lines) in ROWS {
-        check_endless(&rt, *front, *length, *lines)?;
+    for (front, length, lines, told) in ROWS {
+        check_endless(&rt, *front, *length, *lines, *told)?;
     }
     Ok(())
 }
