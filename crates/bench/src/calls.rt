@@ -1,6 +1,6 @@
 // Builders that are given so much.
 ghost use Rattle.std.specs.Prelude.{◌≡◌, ◌≤◌, length, is_some};
-ghost use Rattle.cweb_store.specs.Growing.{part_count, token_count};
+ghost use Rattle.cweb_store.specs.surface.Growing.{part_count, token_count};
 
 use cweb_store::{Builder, How, NameRef, PartKind, Store, Token};
 use std::alloc::{AllocError, Global};

@@ -11,7 +11,7 @@ mod scan;
 mod calls;
 
 // the stores of shapes
-mod given;
+mod shapes;
 
 // what a store is given and asked
 mod store;

@@ -34,8 +34,8 @@ impl Web {
     }
 }
 
-impl given::Shape for Web {
-    fn give(&self, calls: &mut Calls, count: u32) -> Result<(), Refusal> {
+impl shapes::Shape for Web {
+    fn fill(&self, calls: &mut Calls, count: u32) -> Result<(), Refusal> {
         calls.open(PartKind::Unnamed)?;
         match self {
             Web::Chain => chain(calls, count),
@@ -65,7 +65,7 @@ impl given::Shape for Web {
 /// Goes up to a step with a store, and says what came out.
 pub fn show(rt: &impl Print, alloc: Global, shape: &str, count: u32, step: &str) -> Result<()> {
     match Web::of(shape) {
-        Some(shape) => given::show(rt, alloc, &shape, count, step),
+        Some(shape) => shapes::show(rt, alloc, &shape, count, step),
         None => bail!("no such shape"),
     }
 }
@@ -85,7 +85,7 @@ fn parts(calls: &mut Calls, count: u32) -> Result<(), Refusal> {
     }
     for number in 0..count {
         open_named(calls, number % SHARED)?;
-        put_text(calls, number)?;
+        put_part_tokens(calls, number)?;
     }
     Ok(())
 }
@@ -138,7 +138,7 @@ static STATEMENTS: [Token<'static>; 17] = [
 ];
 
 // Twenty tokens of a program's text.
-fn put_text(calls: &mut Calls, section: u32) -> Result<(), AllocError> {
+fn put_part_tokens(calls: &mut Calls, section: u32) -> Result<(), AllocError> {
     calls.push(Token::Head(section))?;
     calls.push(mark(section))?;
     put_all(calls, &STATEMENTS)?;

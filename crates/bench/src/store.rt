@@ -45,16 +45,16 @@ impl Filling {
     }
 }
 
-impl given::Shape for Filling {
-    fn give(&self, calls: &mut Calls, count: u32) -> Result<(), Refusal> {
+impl shapes::Shape for Filling {
+    fn fill(&self, calls: &mut Calls, count: u32) -> Result<(), Refusal> {
         let vocabulary = vocabulary(calls.alloc)?;
         match self {
-            Filling::Words => give_words(calls, &vocabulary, count),
-            Filling::Distinct => give_numbered(calls, "", count),
-            Filling::Flood => give_numbered(calls, "wordword", count),
-            Filling::Names => give_names(calls, count),
-            Filling::NameFlood => give_name_flood(calls, count),
-            Filling::Parts => give_parts(calls, &vocabulary, count),
+            Filling::Words => push_words(calls, &vocabulary, count),
+            Filling::Distinct => push_numbered_words(calls, "", count),
+            Filling::Flood => push_numbered_words(calls, "wordword", count),
+            Filling::Names => add_names(calls, count),
+            Filling::NameFlood => add_colliding_names(calls, count),
+            Filling::Parts => add_parts(calls, &vocabulary, count),
         }
     }
 
@@ -82,8 +82,8 @@ pub fn show(rt: &impl Print, alloc: Global, shape: &str, count: u32, step: &str)
     };
     match step {
         "draw" => show_drawn(rt, alloc, count),
-        "give" => Ok(given::give(alloc, &shape, count)?),
-        _ => given::show(rt, alloc, &shape, count, step),
+        "give" => Ok(shapes::fill(alloc, &shape, count)?),
+        _ => shapes::show(rt, alloc, &shape, count, step),
     }
 }
 
@@ -132,7 +132,7 @@ fn drawn_bytes(vocabulary: &[u8], count: u32) -> u64 {
     sum
 }
 
-fn give_words(calls: &mut Calls, vocabulary: &[u8], count: u32) -> Result<(), Refusal> {
+fn push_words(calls: &mut Calls, vocabulary: &[u8], count: u32) -> Result<(), Refusal> {
     calls.open(PartKind::Unnamed)?;
     for number in 0..count {
         calls.push(Token::Word(drawn(vocabulary, number)))?;
@@ -141,7 +141,7 @@ fn give_words(calls: &mut Calls, vocabulary: &[u8], count: u32) -> Result<(), Re
 }
 
 // The Words differ in their numbers alone. Behind a front a number stands in the middle, where a store's table doesn't look.
-fn give_numbered(calls: &mut Calls, front: &str, count: u32) -> Result<(), Refusal> {
+fn push_numbered_words(calls: &mut Calls, front: &str, count: u32) -> Result<(), Refusal> {
     calls.open(PartKind::Unnamed)?;
     for number in 0..count {
         let word = format!(in calls.alloc; "{front}{number:08}wordword")?;
@@ -151,15 +151,15 @@ fn give_numbered(calls: &mut Calls, front: &str, count: u32) -> Result<(), Refus
 }
 
 // One half of the abbreviations comes before the names, so that only `finish` can say what they stand for.
-fn give_names(calls: &mut Calls, count: u32) -> Result<(), Refusal> {
+fn add_names(calls: &mut Calls, count: u32) -> Result<(), Refusal> {
     let half = count / 2;
-    give_all(calls, 0, half, How::Prefix)?;
-    give_all(calls, 0, count, How::Full)?;
-    give_all(calls, half, count, How::Prefix)
+    add_occurrences(calls, 0, half, How::Prefix)?;
+    add_occurrences(calls, 0, count, How::Full)?;
+    add_occurrences(calls, half, count, How::Prefix)
 }
 
 // The names differ in the middle alone, where neither the table of the latest ones nor the front of a sorted text looks.
-fn give_name_flood(calls: &mut Calls, count: u32) -> Result<(), Refusal> {
+fn add_colliding_names(calls: &mut Calls, count: u32) -> Result<(), Refusal> {
     for number in 0..count {
         let name = format!(in calls.alloc; "the name{number:08}the name")?;
         calls.occur(name.as_bytes(), How::Full)?;
@@ -167,14 +167,14 @@ fn give_name_flood(calls: &mut Calls, count: u32) -> Result<(), Refusal> {
     Ok(())
 }
 
-fn give_all(calls: &mut Calls, first: u32, after: u32, how: How) -> Result<(), Refusal> {
+fn add_occurrences(calls: &mut Calls, first: u32, after: u32, how: How) -> Result<(), Refusal> {
     for number in first..after {
         occur(calls, number, how)?;
     }
     Ok(())
 }
 
-fn give_parts(calls: &mut Calls, vocabulary: &[u8], count: u32) -> Result<(), Refusal> {
+fn add_parts(calls: &mut Calls, vocabulary: &[u8], count: u32) -> Result<(), Refusal> {
     let name = occur(calls, 0, How::Full)?;
     for number in 0..count {
         calls.open(PartKind::Named(name))?;

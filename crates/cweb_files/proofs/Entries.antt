@@ -8,7 +8,7 @@ use Rattle.cweb_files.specs.declared.memory.MemoryReader.{MemoryReader}
 use Rattle.std.specs.Prelude.{slice_get}
 use Rattle.std.specs.Str.{bytes_eq}
 use Rattle.cweb_files.specs.declared.memory.Entry.{Entry}
-use Rattle.cweb_files.specs.Memory.{first_of, text_at, text_in, from_place, name_at}
+use Rattle.cweb_files.specs.surface.MemoryDevices.{first_of, contents_if_named, contents_in_entries, contents_from, entry_name}
 
 first_assoc : {A : Type 0} → (x y z : Option A) → first_of (first_of x y) z ≡ first_of x (first_of y z)
 first_assoc (Some x) y z = refl
@@ -19,11 +19,12 @@ first_none (Some x) = refl
 first_none None = refl
 
 pub text_in-push : (entries : List Entry) (entry : Entry) (name : List ℕ)
-    → text_in (entries ++ entry ∷ []) name ≡ first_of (text_at entry name) (text_in entries name)
-text_in-push [] entry name = sym (first_none (text_at entry name))
+    → contents_in_entries (entries ++ entry ∷ []) name
+    ≡ first_of (contents_if_named entry name) (contents_in_entries entries name)
+text_in-push [] entry name = sym (first_none (contents_if_named entry name))
 text_in-push (e ∷ entries) entry name =
-    ap (λ t. first_of t (text_at e name)) (text_in-push entries entry name)
-    ∙ first_assoc (text_at entry name) (text_in entries name) (text_at e name)
+    ap (λ t. first_of t (contents_if_named e name)) (text_in-push entries entry name)
+    ∙ first_assoc (contents_if_named entry name) (contents_in_entries entries name) (contents_if_named e name)
 
 pub first-if : {A : Type 0} → (b : Bool) (x : A) (y : Option A) → first_of (cond b (Some x) None) y ≡ cond b (Some x) y
 first-if true x y = refl
@@ -31,14 +32,15 @@ first-if false x y = refl
 
 pub put-texts : (old new : List Entry) (entry : Entry) (name text : List ℕ)
     → new ≡ old ++ entry ∷ [] → string_bytes entry.name ≡ name → entry.text.items ≡ text
-    → text_in new ≡ (λ asked. cond (bytes_eq name asked) (Some text) (text_in old asked))
+    → contents_in_entries new ≡ (λ asked. cond (bytes_eq name asked) (Some text) (contents_in_entries old asked))
 put-texts old new entry name text is named holds = λ i asked. (at asked) i
   where
-    at : (asked : List ℕ) → text_in new asked ≡ cond (bytes_eq name asked) (Some text) (text_in old asked)
+    at : (asked : List ℕ)
+        → contents_in_entries new asked ≡ cond (bytes_eq name asked) (Some text) (contents_in_entries old asked)
     at asked =
-        ap (λ (es : List Entry). text_in es asked) is ∙ text_in-push old entry asked
-        ∙ first-if (bytes_eq (string_bytes entry.name) asked) entry.text.items (text_in old asked)
-        ∙ (λ i. cond (bytes_eq (named i) asked) (Some (holds i)) (text_in old asked))
+        ap (λ (es : List Entry). contents_in_entries es asked) is ∙ text_in-push old entry asked
+        ∙ first-if (bytes_eq (string_bytes entry.name) asked) entry.text.items (contents_in_entries old asked)
+        ∙ (λ i. cond (bytes_eq (named i) asked) (Some (holds i)) (contents_in_entries old asked))
 
 slice_get-at : (entries : List Entry) (i : ℕ) (e : Entry) → i < length entries
     → e ≡ get_or entries i e → slice_get entries i ≡ Some e
@@ -47,45 +49,51 @@ slice_get-at entries i e lt is = slice_get_read entries (length entries) i e ref
 pub rest-read : (entries : List Entry) (i at n : ℕ) (e : Entry) (text copied piece : List ℕ)
     → i < length entries → e ≡ get_or entries i e → text ≡ e.text.items
     → copied ≡ take (at + n - at) (drop at text) → at + n ≤ length text
-    → from_place (slice_get entries i) at ≡ take n (copied ++ drop n piece) ++ from_place (slice_get entries i) (at + n)
+    → contents_from (slice_get entries i) at ≡ take n (copied ++ drop n piece)
+    ++ contents_from (slice_get entries i) (at + n)
 rest-read entries i at n e text copied piece lt is holds copy fits =
     let here : slice_get entries i ≡ Some e = slice_get-at entries i e lt is in
     let copy_is : copied ≡ take n (drop at e.text.items) = copy ∙ (λ j. take (omega_n j) (drop at (holds j))) in
     let size : length copied ≡ n =
     ap length copy_is
     ∙ length-take-le n (drop at e.text.items) (omega (arith, length-drop at e.text.items, ap length holds)) in
-    ap (λ o. from_place o at) here ∙ sym (take-append-drop n (drop at e.text.items))
+    ap (λ o. contents_from o at) here ∙ sym (take-append-drop n (drop at e.text.items))
     ∙ ap (λ (l : List ℕ). l ++ drop n (drop at e.text.items)) (sym (take_at copied (drop n piece) n size ∙ copy_is))
     ∙ ap (λ (l : List ℕ). take n (copied ++ drop n piece) ++ l) (drop-drop n at e.text.items)
-    ∙ ap (λ o. take n (copied ++ drop n piece) ++ from_place o (at + n)) (sym here)
+    ∙ ap (λ o. take n (copied ++ drop n piece) ++ contents_from o (at + n)) (sym here)
   where
     omega_n : at + n - at ≡ n
     omega_n = omega arith
 
 pub finds_more : (entries : List Entry) (i : ℕ) (e : Entry) (name : List ℕ) (found : Option MemoryReader)
     → i < length entries → e ≡ get_or entries i e
-    → Finds (λ r. from_place (slice_get entries r.entry) r.at) (text_in (take i entries) name) found
+    → Finds (λ r. contents_from (slice_get entries r.entry) r.at) (contents_in_entries (take i entries) name) found
     → (b : Bool) → b ≡ bytes_eq (string_bytes e.name) name
-    → Finds (λ r. from_place (slice_get entries r.entry) r.at)
-    (text_in (take (i + 1) entries) name) (cond b (Some (record { entry = i; at = 0 })) found)
+    → Finds (λ r. contents_from (slice_get entries r.entry) r.at)
+    (contents_in_entries (take (i + 1) entries) name) (cond b (Some (record { entry = i; at = 0 })) found)
 finds_more entries i e name found lt is so_far b test =
-    let longer : text_in (take (i + 1) entries) name ≡ first_of (text_at e name) (text_in (take i entries) name) =
-    ap (λ (es : List Entry). text_in es name) (take_more entries i e lt)
-    ∙ ap (λ (d : Entry). text_in (take i entries ++ d ∷ []) name) (sym is) ∙ text_in-push (take i entries) e name in
-    let found_one : text_in (take (i + 1) entries) name ≡ cond b (Some e.text.items) (text_in (take i entries) name) =
-    longer ∙ ap (λ t. first_of (cond t (Some e.text.items) None) (text_in (take i entries) name)) (sym test)
-    ∙ first-if b e.text.items (text_in (take i entries) name) in
+    let longer : contents_in_entries (take (i + 1) entries) name
+    ≡ first_of (contents_if_named e name) (contents_in_entries (take i entries) name) =
+    ap (λ (es : List Entry). contents_in_entries es name) (take_more entries i e lt)
+    ∙ ap (λ (d : Entry). contents_in_entries (take i entries ++ d ∷ []) name) (sym is)
+    ∙ text_in-push (take i entries) e name in
+    let found_one : contents_in_entries (take (i + 1) entries) name
+    ≡ cond b (Some e.text.items) (contents_in_entries (take i entries) name) =
+    longer ∙ ap (λ t. first_of (cond t (Some e.text.items) None) (contents_in_entries (take i entries) name)) (sym test)
+    ∙ first-if b e.text.items (contents_in_entries (take i entries) name) in
     (elim b as (λ b'.
-    (text_in (take (i + 1) entries) name ≡ cond b' (Some e.text.items) (text_in (take i entries) name))
-    → Finds (λ r. from_place (slice_get entries r.entry) r.at) (text_in (take (i + 1) entries) name)
+    (contents_in_entries (take (i + 1) entries) name
+    ≡ cond b' (Some e.text.items) (contents_in_entries (take i entries) name))
+    → Finds (λ r. contents_from (slice_get entries r.entry) r.at) (contents_in_entries (take (i + 1) entries) name)
     (cond b' (Some (record { entry = i; at = 0 })) found)) [
-      | true ↦ λ one. one ∙ ap (λ o. Some (from_place o 0)) (sym (slice_get-at entries i e lt is))
-      | false ↦ λ same. subst (λ t. Finds (λ r. from_place (slice_get entries r.entry) r.at) t found) (sym same) so_far
+      | true ↦ λ one. one ∙ ap (λ o. Some (contents_from o 0)) (sym (slice_get-at entries i e lt is))
+      | false ↦ λ same. subst (λ t. Finds (λ r. contents_from (slice_get entries r.entry) r.at) t found)
+          (sym same) so_far
     ]) found_one
 
 -- the entry of the name that was asked for has that name
 pub opened_here : (entries : List Entry) (i : ℕ) (e : Entry) (name : List ℕ) → i < length entries
     → e ≡ get_or entries i e → true ≡ bytes_eq (string_bytes e.name) name
-    → name_at (slice_get entries i) ≡ name
-opened_here entries i e name lt is same = ap name_at (slice_get-at entries i e lt is)
+    → entry_name (slice_get entries i) ≡ name
+opened_here entries i e name lt is same = ap entry_name (slice_get-at entries i e lt is)
     ∙ (bytes_eq-Decides (string_bytes e.name) name).0 (sym same)

@@ -39,8 +39,8 @@ abbrev pub without_draft : Beside → Beside
 without_draft beside = record { files = beside.files; draft = None; refused = beside.refused }
 
 -- a beginning was refused, for this reason, and an earlier draft is given up
-abbrev pub not_begun : Refused → Beside → Beside
-not_begun why beside = record { files = beside.files; draft = None; refused = Some why }
+abbrev pub with_refusal : Refused → Beside → Beside
+with_refusal why beside = record { files = beside.files; draft = None; refused = Some why }
 
 abbrev pub with_bytes : List File → Option (List ℕ) → List ℕ → List File
 with_bytes files None bytes = files
@@ -48,4 +48,5 @@ with_bytes files (Some name) bytes = put_file files (record { name = name; bytes
 
 -- the draft becomes a file, with these bytes
 abbrev pub committed : Beside → List ℕ → Beside
-committed beside bytes = record { files = with_bytes beside.files beside.draft bytes; draft = None; refused = beside.refused }
+committed beside bytes =
+    record { files = with_bytes beside.files beside.draft bytes; draft = None; refused = beside.refused }

@@ -1,7 +1,9 @@
 // Texts and sinks in memory, which tell their bytes.
-ghost use Rattle.std.specs.Prelude.{◌≡◌, ◌≤◌, ◌+◌, ◌^◌, ◌<◌, ◌-◌, [], ◌++◌, length, take, true, Some, vec_len, vec_capacity, string_bytes, IfOk, IfSome, OnOk, OnErr, IsOk, None, if◌then◌else◌};
+ghost use Rattle.std.specs.Prelude.{◌≡◌, ◌≤◌, ◌+◌, ◌^◌, ◌<◌, ◌-◌, [], ◌++◌, length, take, true};
+ghost use Rattle.std.specs.Prelude.{Some, vec_len, vec_capacity, string_bytes, IfOk, IfSome, OnOk};
+ghost use Rattle.std.specs.Prelude.{OnErr, IsOk, None, if◌then◌else◌};
 ghost use Rattle.std.specs.Str.{bytes_eq};
-ghost use Rattle.cweb_files.specs.Device.{Counts, Finds, IsOpenedAs};
+ghost use Rattle.cweb_files.specs.Device.{CountsFailure, Finds, IsOpenedAs};
 
 use crate::{Shelf, ShelfFault, Sink, SinkFault};
 use std::alloc::{AllocError, Global};
@@ -27,10 +29,10 @@ pub struct MemoryReader {
 }
 
 impl MemoryShelf {
-    ghost use Rattle.cweb_files.specs.Memory.{KeepsReaders, texts_of};
+    ghost use Rattle.cweb_files.specs.surface.MemoryDevices.{KeepsOpenReaders, shelf_contents};
 
     pub fn new(alloc: Global) -> Self
-        ensures { texts_of result ≡ (λ _. None) }
+        ensures { shelf_contents result ≡ (λ _. None) }
     {
         MemoryShelf {
             alloc,
@@ -41,11 +43,11 @@ impl MemoryShelf {
     /// Puts a text under a name, in the place of an earlier one. An open reader still reads the earlier text.
     pub fn put(&mut self, name: &str, text: &[u8]) -> Result<(), AllocError>
         ensures ok { OnOk result
-            (texts_of self.new
+            (shelf_contents self.new
             ≡ (λ asked.
-            if bytes_eq name.now asked then Some text.now else texts_of self.old asked)) }
-        ensures err { OnErr result (texts_of self.new ≡ texts_of self.old) }
-        ensures readers { KeepsReaders self.old self.new }
+            if bytes_eq name.now asked then Some text.now else shelf_contents self.old asked)) }
+        ensures err { OnErr result (shelf_contents self.new ≡ shelf_contents self.old) }
+        ensures readers { KeepsOpenReaders self.old self.new }
     {
         let name = String::from_str(self.alloc, name)?;
         let text = Vec::from_slice(self.alloc, text)?;
@@ -55,19 +57,20 @@ impl MemoryShelf {
 }
 
 impl Shelf for MemoryShelf {
-    ghost use Rattle.cweb_files.specs.Memory.{IsOpen, name_of, texts_of, rest_of};
+    ghost use Rattle.cweb_files.specs.surface.MemoryDevices.{IsReaderOpen, reader_name, shelf_contents};
+    ghost use Rattle.cweb_files.specs.surface.MemoryDevices.{reader_rest};
 
     type R = MemoryReader;
 
     ghost tells = { λ _. true };
 
-    ghost texts = { texts_of };
+    ghost texts = { shelf_contents };
 
-    ghost left = { rest_of };
+    ghost left = { reader_rest };
 
     ghost failed = { λ _. 0 };
 
-    ghost opened_as = { name_of };
+    ghost opened_as = { reader_name };
 
     // No read fails.
     ghost blamed = { λ _. [] };
@@ -75,9 +78,10 @@ impl Shelf for MemoryShelf {
     fn fetch(&mut self, name: &str) -> Result<Option<MemoryReader>, AllocError>
         // It takes no memory.
         ensures ok { IsOk result }
-        ensures found { IfOk result (Finds (rest_of self.new) (texts_of self.old name.now)) }
-        ensures opened { IfOk result (IsOpenedAs (name_of self.new) name.now) }
-        ensures is_open { IfOk result (λ found. IfSome found (IsOpen self.new)) }
+        ensures found { IfOk result
+            (Finds (reader_rest self.new) (shelf_contents self.old name.now)) }
+        ensures opened { IfOk result (IsOpenedAs (reader_name self.new) name.now) }
+        ensures is_open { IfOk result (λ found. IfSome found (IsReaderOpen self.new)) }
         ensures same { self.new ≡ self.old }
     {
         let mut found = None;
@@ -93,10 +97,11 @@ impl Shelf for MemoryShelf {
         ensures ok { IsOk result }
         ensures within { IfOk result (λ n. n ≤ length piece.new) }
         ensures bytes { IfOk result
-            (λ n. rest_of self.old reader.old ≡ take n piece.new ++ rest_of self.new reader.new) }
-        ensures some { 0 < length piece.old → result ≡ Ok 0 → rest_of self.old reader.old ≡ [] }
-        ensures opened { name_of self.new reader.new ≡ name_of self.old reader.old }
-        ensures is_open { IsOpen self.old reader.old → IsOpen self.new reader.new }
+            (λ n. reader_rest self.old reader.old ≡ take n piece.new
+            ++ reader_rest self.new reader.new) }
+        ensures some { 0 < length piece.old → result ≡ Ok 0 → reader_rest self.old reader.old ≡ [] }
+        ensures opened { reader_name self.new reader.new ≡ reader_name self.old reader.old }
+        ensures is_open { IsReaderOpen self.old reader.old → IsReaderOpen self.new reader.new }
         ensures same { self.new ≡ self.old }
     {
         let Some(entry) = self.entries.get(reader.entry) else {
@@ -125,7 +130,7 @@ pub struct MemorySink {
 }
 
 impl MemorySink {
-    ghost use Rattle.cweb_files.specs.Memory.{sink_bytes, sink_room, sink_failed};
+    ghost use Rattle.cweb_files.specs.surface.MemoryDevices.{sink_bytes, sink_room, sink_failed};
 
     pub fn with_room(alloc: Global, bytes: usize) -> Result<Self, AllocError>
         ensures empty { IfOk result (λ sink. sink_bytes sink ≡ []) }
@@ -146,7 +151,7 @@ impl MemorySink {
 }
 
 impl Sink for MemorySink {
-    ghost use Rattle.cweb_files.specs.Memory.{sink_bytes, sink_room, sink_failed};
+    ghost use Rattle.cweb_files.specs.surface.MemoryDevices.{sink_bytes, sink_room, sink_failed};
     ghost use Rattle.std.specs.Prelude.{take};
 
     ghost tells = { λ _. true };
@@ -157,7 +162,7 @@ impl Sink for MemorySink {
 
     fn write(&mut self, piece: &[u8]) -> Result<usize, SinkFault>
         requires { sink_failed self.old + 1 < 2 ^ 64 }
-        ensures failed { Counts (sink_failed self.old) (sink_failed self.new) result }
+        ensures failed { CountsFailure (sink_failed self.old) (sink_failed self.new) result }
         ensures whole { IfOk result (λ n. n ≡ length piece.now) }
         ensures bytes { OnOk result (sink_bytes self.new ≡ sink_bytes self.old ++ piece.now) }
         ensures err { OnErr result (sink_bytes self.new ≡ sink_bytes self.old) }

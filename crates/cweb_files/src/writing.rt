@@ -1,7 +1,8 @@
 // Writes that go on until all is written.
 ghost use Rattle.std.specs.Prelude.{◌≡◌, ◌<◌, ◌+◌, ◌^◌, IsTrue, OnOk, OnErr, length};
-ghost use Rattle.cweb_files.specs.Device.{Counts};
-ghost use Rattle.cweb_files.specs.Frames.{KeepsPlace, Writes, WritesFront};
+ghost use Rattle.cweb_files.specs.Device.{CountsFailure};
+ghost use Rattle.cweb_files.specs.surface.Frames.{KeepsPlace, Writes};
+ghost use Rattle.cweb_files.specs.Frames.{WritesPrefix};
 
 use crate::device::{Sink, SinkFault};
 
@@ -9,10 +10,10 @@ use crate::device::{Sink, SinkFault};
 pub fn write_all<W: Sink>(out: &mut W, bytes: &[u8]) -> Result<(), SinkFault>
     requires { W.failed out.old + 1 < 2 ^ 64 }
     ensures keeps { KeepsPlace W.Sink out.old out.new }
-    ensures failed { Counts (W.failed out.old) (W.failed out.new) result }
+    ensures failed { CountsFailure (W.failed out.old) (W.failed out.new) result }
     ensures ok { OnOk result (Writes W.Sink out.old out.new bytes.now) }
     ensures err { IsTrue (W.tells out.old) → OnErr result
-        (WritesFront (W.written out.old) (W.written out.new) bytes.now) }
+        (WritesPrefix (W.written out.old) (W.written out.new) bytes.now) }
     ensures some { OnErr result (0 < length bytes.now) }
 {
     let mut at = 0;

@@ -29,7 +29,7 @@ fn read_all<S: Shelf>(
 }
 
 #[test]
-fn later_text_wins(rt: HostRuntime) -> Result<(), Fail> {
+fn later_contents_win(rt: HostRuntime) -> Result<(), Fail> {
     let alloc = rt.alloc();
     let mut shelf = MemoryShelf::new(alloc);
     shelf.put("a.w", b"old")?;

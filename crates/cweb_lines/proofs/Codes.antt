@@ -1,5 +1,5 @@
 -- What the code of a line says within a change.
-use Rattle.cweb_lines.proofs.Common.{◌≡◌, ℕ, true, false, List, [], ◌∷◌, Some, Option, refl, ◌∙◌, ap, Place, OldSide, code_of, old_at, old_code, old_lines, at_place, Line, SourceLine, sameb, the_type, Code, NewSide, new_at, new_things, passed, told, WantsZ}
+use Rattle.cweb_lines.proofs.Common.{◌≡◌, ℕ, true, false, List, [], ◌∷◌, Some, Option, refl, ◌∙◌, ap, Place, OldSide, change_code, old_at, old_code, old_lines, at_place, Line, SourceLine, sameb, the_type, Code, NewSide, new_at, new_things, passed, told, WantsZ}
 use Rattle.cweb_lines.specs.declared.change.code.Code.TheVariants.{NewSide as new_side, EndSide as end_side}
 
 -- what a comparison of codes says
@@ -20,9 +20,9 @@ taken_at _ line lines later = (later.taken, refl)
 
 -- what an old side comes to at its next line, by the code that this has
 pub old_code_at : (code : Option Code) (line : SourceLine) (lines : List SourceLine) (bytes : List ℕ) (place : Place) →
-    line.line ≡ record { bytes = bytes; place = place } → code_of bytes ≡ code
+    line.line ≡ record { bytes = bytes; place = place } → change_code bytes ≡ code
     → old_lines (line ∷ lines) ≡ old_at code line lines (old_lines lines)
-old_code_at code line lines bytes place is test = ap (λ (l : Line). old_at (code_of l.bytes) line lines
+old_code_at code line lines bytes place is test = ap (λ (l : Line). old_at (change_code l.bytes) line lines
     (old_lines lines)) is ∙ ap (λ k. old_at k line lines (old_lines lines)) test
 
 -- what a comparison of codes says

@@ -19,71 +19,117 @@ pub use Rattle.std.specs.Prelude.{slice_range, unwrap_or, IfSome, OnSome, nat_lt
 pub use Rattle.std.specs.Prelude.{codes, option_map, IfErr, is_ok}
 pub use Rattle.std.specs.Str.{bytes_eq}
 pub use denote.Enum.Bare.{sameb}
-pub use Rattle.cweb_files.specs.Frames.{KeepsPlace, Writes, KeepsTexts}
+pub use Rattle.cweb_files.specs.surface.Frames.{KeepsPlace, Writes, KeepsShelf}
 pub use Rattle.cweb_files.specs.declared.place.Place.{Place}
-pub use Rattle.cweb_source.specs.Include.{World, Found, found_at, include_name, is_include, change_at}
-pub use Rattle.cweb_source.specs.Lines.{Line, SourceLine, IsOneLine, TextLine, numbered, trimmed, lines_in}
-pub use Rattle.cweb_source.specs.Lines.{HasNoNewline, before_blanks, is_blank, lines, onto_first, text_lines, SplitsAt}
-pub use Rattle.cweb_source.specs.Source.{pending}
-pub use Rattle.cweb_source.specs.declared.limits.TheConstants.{LINE_LENGTH}
-pub use Rattle.cweb_open.specs.Counts.{count_of}
-pub use Rattle.cweb_open.specs.Finding.{text_of_name, world_in, lines_found, names_found, text_found, found_as}
-pub use Rattle.cweb_open.specs.Things.{RawLine, Thing, passed, raw, raws, seek, told}
-pub use Rattle.cweb_open.specs.Names.{names_of}
-pub use Rattle.cweb_open.specs.Naming.{AreNamed, IsNamed, blame}
-pub use Rattle.cweb_open.specs.Texts.{Count, Took, StopsFor, files_up_to, raw_at, matches_at, number_of, text_depth}
-pub use Rattle.cweb_open.specs.Texts.{Refuses, TopStops, read_blame, FirstStops, things_above, things_over, StaysBelow}
-pub use Rattle.cweb_open.specs.Texts.{lines_at, Opens, StopsAbove, TakesAbove, TakesFirst, lines_left, StopsReading}
-pub use Rattle.cweb_open.specs.Texts.{Counted, files_named, line_number}
-pub use Rattle.cweb_open.specs.declared.fault.SourceFault.{SourceFault}
-pub use Rattle.cweb_open.specs.declared.fault.SourceKind.{SourceKind}
-pub use Rattle.cweb_open.specs.declared.fault.SourceKind.TheVariants.{NoName, NotThere, TooDeep, WantsZ, EndedBeforeY}
-pub use Rattle.cweb_open.specs.declared.fault.SourceKind.TheVariants.{Unequal, WebEnded, NoMatch, EndedBeforeZ, WantsY}
-pub use Rattle.cweb_open.specs.declared.fault.SourceKind.TheVariants.{MissingX, NoOldLines}
-pub use Rattle.cweb_open.specs.declared.limits.Limits.{Limits}
-pub use Rattle.cweb_open.specs.declared.limits.TheConstants.{LINES, OPEN_FILES, BYTES}
-pub use Rattle.cweb_open.specs.declared.stop.Stop.{Stop}
-pub use Rattle.cweb_open.specs.declared.stop.Stop.TheVariants.{ReadFault, Memory, LineTooLong, TooMuchText, WriteFault}
-pub use Rattle.cweb_open.specs.declared.text.LineAt.{LineAt}
-pub use Rattle.cweb_open.specs.declared.text.OpenText.{OpenText}
-pub use Rattle.cweb_open.specs.declared.text.stack.Stack.{Stack}
-pub use Rattle.cweb_lines.specs.Ahead.{Fits, FitsAt, IsAhead, LooksAt, LooksIn}
-pub use Rattle.cweb_lines.specs.Calls.{OnlyOpens}
-pub use Rattle.cweb_lines.specs.Change.{Entry, at_place, OldSide, code_of, old_at, old_code, old_lines, Sought}
-pub use Rattle.cweb_lines.specs.Change.{behind_x, outside, sought, old_line, passing}
+pub use Rattle.cweb_input.specs.Include.{World, Found, found_at, include_name, is_include_line, change_at}
+pub use Rattle.cweb_input.specs.Lines.{Line, SourceLine, CutLine, numbered_lines, trimmed, lines_in}
+pub use Rattle.cweb_input.specs.surface.Lines.{IsOneLine}
+pub use Rattle.cweb_input.specs.surface.Lines.{HasNoNewline}
+pub use Rattle.cweb_input.specs.Lines.{before_blanks, is_blank, onto_first, cut_lines}
+pub use Rattle.cweb_input.specs.laws.Lines.{lines}
+pub use Rattle.cweb_input.specs.inner.Lines.{SplitsAt}
+pub use Rattle.cweb_input.specs.surface.Source.{buffered}
+pub use Rattle.cweb_input.specs.declared.limits.TheConstants.{LINE_LENGTH}
+pub use Rattle.cweb_input.specs.surface.Counters.{counters_of}
+pub use Rattle.cweb_input.specs.surface.Finding.{optional_string_bytes, world_in}
+pub use Rattle.cweb_input.specs.inner.Finding.{lines_found}
+pub use Rattle.cweb_input.specs.Finding.{names_found, contents_found}
+pub use Rattle.cweb_input.specs.inner.Finding.{found_as}
+pub use Rattle.cweb_input.specs.Things.{RawLine, Thing, passed, raw, raws, seek, told}
+pub use Rattle.cweb_input.specs.surface.OpenedFileNames.{opened_file_names}
+pub use Rattle.cweb_input.specs.surface.ReaderNames.{AreReadersNamed, IsReaderNamed}
+pub use Rattle.cweb_input.specs.ReaderNames.{blame}
+pub use Rattle.cweb_input.specs.OpenSources.{TakenCountersModel}
+pub use Rattle.cweb_input.specs.inner.OpenSources.{CountsLine, files_up_to, raw_thing}
+pub use Rattle.cweb_input.specs.surface.OpenSources.{StopsFor}
+pub use Rattle.cweb_input.specs.surface.OpenSources.{matches_at, number_or_zero, source_depth}
+pub use Rattle.cweb_input.specs.OpenSources.{RefusesLine, read_failures_of}
+pub use Rattle.cweb_input.specs.inner.OpenSources.{TopStops, FirstStops}
+pub use Rattle.cweb_input.specs.surface.OpenSources.{things_above}
+pub use Rattle.cweb_input.specs.surface.OpenSources.{things_over}
+pub use Rattle.cweb_input.specs.inner.OpenSources.{StaysBelow}
+pub use Rattle.cweb_input.specs.surface.OpenSources.{lines_at, lines_left}
+pub use Rattle.cweb_input.specs.inner.OpenSources.{OpensSource, StopsAbove, TakesAbove, TakesFirst}
+pub use Rattle.cweb_input.specs.surface.OpenSources.{StopsReading}
+pub use Rattle.cweb_input.specs.inner.OpenSources.{Counted, line_number}
+pub use Rattle.cweb_input.specs.OpenSources.{files_named}
+pub use Rattle.cweb_input.specs.declared.fault.SourceFault.{SourceFault}
+pub use Rattle.cweb_input.specs.declared.fault.SourceKind.{SourceKind}
+pub use Rattle.cweb_input.specs.declared.fault.SourceKind.TheVariants.{NoName, NotThere, TooDeep, WantsZ, EndedBeforeY}
+pub use Rattle.cweb_input.specs.declared.fault.SourceKind.TheVariants.{Unequal, WebEnded, NoMatch, EndedBeforeZ, WantsY}
+pub use Rattle.cweb_input.specs.declared.fault.SourceKind.TheVariants.{MissingX, NoOldLines}
+pub use Rattle.cweb_input.specs.declared.counters.TakenCounters.{TakenCounters}
+pub use Rattle.cweb_input.specs.declared.limits.TheConstants.{LINES, OPEN_FILES, BYTES}
+pub use Rattle.cweb_input.specs.declared.stop.Stop.{Stop}
+pub use Rattle.cweb_input.specs.declared.stop.Stop.TheVariants.{ReadFault, Memory, LineTooLong, TooMuchText, WriteFault}
+pub use Rattle.cweb_input.specs.declared.open_source.LineAt.{LineAt}
+pub use Rattle.cweb_input.specs.declared.open_source.OpenSource.{OpenSource}
+pub use Rattle.cweb_input.specs.declared.open_source.stack.Stack.{Stack}
+pub use Rattle.cweb_lines.specs.inner.Ahead.{FitsLimits, FitsLimitsAt, IsAhead, LooksAhead, LooksAheadIn}
+pub use Rattle.cweb_lines.specs.inner.StepCalls.{OnlyOpens}
+pub use Rattle.cweb_lines.specs.Change.{WaitingEntry, at_place, OldSide, change_code, old_at, old_code, old_lines}
+pub use Rattle.cweb_lines.specs.Change.{Sought}
+pub use Rattle.cweb_lines.specs.Change.{after_x, outside, sought, old_line, passing}
 pub use Rattle.cweb_lines.specs.Halting.{halts}
-pub use Rattle.cweb_lines.specs.Laws.{file_behind, ChangeFilesWithoutEntriesChangeNothing, is_code}
-pub use Rattle.cweb_lines.specs.Laws.{IncludeLinesAreReplaced, Includes, LinesComeApart, IncludedTextsMergeAsWebs}
-pub use Rattle.cweb_lines.specs.Laws.{is_too_deep, IsPlainSplice, Splice, spliced, web_lines}
-pub use Rattle.cweb_lines.specs.Laws.{EntriesWithoutMatchAreTold, PrintedMergesComeAgain, ChangesSplice}
-pub use Rattle.cweb_lines.specs.Laws.{WebsWithoutIncludesAreTheirOwnLines}
-pub use Rattle.cweb_lines.specs.Lending.{LendsLines, lent_at, LendsLine, bytes_in}
-pub use Rattle.cweb_lines.specs.Merge.{Event, took, fault, Next, State, at_raw, given, included, obeyed, onto, opened}
-pub use Rattle.cweb_lines.specs.Merge.{opening, past, plain, run, taking, NewSide, new_at, new_things, compared}
-pub use Rattle.cweb_lines.specs.Merge.{Compared, after_old, at_entry, change_events, fault_if, new_lines, started}
-pub use Rattle.cweb_lines.specs.Merging.{SoFar, Gives, TellsFront, Adds, TellsSome, HasBegun, Stopped, pending_of}
-pub use Rattle.cweb_lines.specs.Merging.{told_by, IsFront, KeepsTold, change_lines, coming, coming_after, things_of}
-pub use Rattle.cweb_lines.specs.Merging.{NothingLeft, GivesBehind, StopsBehind, turns_left, lines_given}
-pub use Rattle.cweb_lines.specs.Merging.{StopsIn, EndsStep, ReadsBehind, TakesNext, step_events, ComesFirst}
-pub use Rattle.cweb_lines.specs.Naming.{AreReadersKnown, KeepsReaders}
-pub use Rattle.cweb_lines.specs.Passing.{ComesNext, GivesLines, HasRoomFor, IsStretch, Reaches, StandsAt, StandsIn}
-pub use Rattle.cweb_lines.specs.Passing.{ended, lines_next, top_of, PassesLines, Held, ArePassing, printed}
-pub use Rattle.cweb_lines.specs.Passing.{sources_next, standing, text_at, Passes, piece_of, PassesTop, KeepsLevel}
-pub use Rattle.cweb_lines.specs.Passing.{PassesSlot}
-pub use Rattle.cweb_lines.specs.Replacing.{Compares, IsReplaced, Replaces, lines_replaced, taken_away, closing_faults}
-pub use Rattle.cweb_lines.specs.Replacing.{faults_replaced, IsChanged, list_if}
-pub use Rattle.cweb_lines.specs.Seeking.{ToldFront, Searched, SeeksTo, behind, BegunKnown}
-pub use Rattle.cweb_lines.specs.Seen.{fault_renumbered, line_renumbered, renumbered, seen, followed_by, only_lines}
-pub use Rattle.cweb_lines.specs.Seen.{Seen, seen_in, placed, placed_line, only_fault}
-pub use Rattle.cweb_lines.specs.Stages.{IsSettled, floor_of, begun_by, change_in, pending_in, things_below, things_in}
-pub use Rattle.cweb_lines.specs.Stages.{begun_stage, files_begun, stage_for, IsOutside}
-pub use Rattle.cweb_lines.specs.Steps.{OnlyTakes, OnlyTells}
-pub use Rattle.cweb_lines.specs.Told.{given_lines, told_faults, openings, taken_lines, size_of, AreShort}
-pub use Rattle.cweb_lines.specs.Total.{merge, merge_next, merge-run, merge_end}
-pub use Rattle.cweb_lines.specs.Whole.{Grows, to_come, so_far, stop_in}
-pub use Rattle.cweb_lines.specs.Writing.{text_of, WritesFront, HasWritten, FailsAmong, LosesLine, StopsWriting}
-pub use Rattle.cweb_lines.specs.Writing.{WritingStops, Failed, Blames, KeepsStop, write_blame, WritesAll, WritesSome}
-pub use Rattle.cweb_lines.specs.Writing.{WritesRead, WritesUpTo, EndsEarly}
+pub use Rattle.cweb_lines.specs.laws.Laws.{file_with_change, ChangeFilesWithoutEntriesChangeNothing, is_change_code}
+pub use Rattle.cweb_lines.specs.laws.Laws.{IncludeLinesAreReplaced, Includes, LinesComeApart, IncludesMergeAsWebs}
+pub use Rattle.cweb_lines.specs.laws.Laws.{is_too_deep, IsPlainSplice, Splice, spliced, web_lines}
+pub use Rattle.cweb_lines.specs.laws.Laws.{UnmatchedEntriesAreReported, PrintedMergesComeAgain, ChangesSplice}
+pub use Rattle.cweb_lines.specs.laws.Laws.{WebsWithoutIncludesAreTheirOwnLines}
+pub use Rattle.cweb_lines.specs.inner.LineSpans.{BorrowsLines, line_span_at, BorrowsLine, span_bytes}
+pub use Rattle.cweb_lines.specs.Merge.{Event, took, fault, Next, MergeStateModel, at_raw, given, included, obeyed, onto}
+pub use Rattle.cweb_lines.specs.Merge.{open_include}
+pub use Rattle.cweb_lines.specs.Merge.{opening, past, plain, run_steps, taking, NewSide, new_at, new_things, compared}
+pub use Rattle.cweb_lines.specs.Merge.{Compared, after_old, at_entry, change_events, fault_event_if, new_lines, started}
+pub use Rattle.cweb_lines.specs.MergeProgress.{SoFar, EmitsLines, AddsFaultsAndLines}
+pub use Rattle.cweb_lines.specs.surface.MergeProgress.{ReportsPrefix}
+pub use Rattle.cweb_lines.specs.inner.MergeProgress.{ReportsSomeFaults}
+pub use Rattle.cweb_lines.specs.MergeProgress.{HasBegunStep}
+pub use Rattle.cweb_lines.specs.surface.MergeProgress.{Stopped, pending_of}
+pub use Rattle.cweb_lines.specs.surface.MergeProgress.{so_far_of, IsPrefix, KeepsReported, change_lines, events_to_come}
+pub use Rattle.cweb_lines.specs.inner.MergeProgress.{events_after_line}
+pub use Rattle.cweb_lines.specs.surface.MergeProgress.{things_of}
+pub use Rattle.cweb_lines.specs.surface.MergeProgress.{NothingLeft}
+pub use Rattle.cweb_lines.specs.inner.MergeProgress.{EmitsAfterLine, turns_left, turn_lines}
+pub use Rattle.cweb_lines.specs.MergeProgress.{StopsAfterLines}
+pub use Rattle.cweb_lines.specs.MergeProgress.{StopsIn, step_events}
+pub use Rattle.cweb_lines.specs.inner.MergeProgress.{EndsStep}
+pub use Rattle.cweb_lines.specs.surface.MergeProgress.{ReadFailsAfterLines, TakesBeforeEmitting}
+pub use Rattle.cweb_lines.specs.MergeProgress.{ComesFirst}
+pub use Rattle.cweb_lines.specs.surface.MergeReaderNames.{AreReadersKnown}
+pub use Rattle.cweb_lines.specs.inner.MergeReaderNames.{KeepsReaders}
+pub use Rattle.cweb_lines.specs.inner.Passing.{ComesNext, EmitsBufferedLines, HasRoomFor, IsStretch, Reaches}
+pub use Rattle.cweb_lines.specs.inner.Passing.{IsStretchAt}
+pub use Rattle.cweb_lines.specs.inner.Passing.{IsStretchOf}
+pub use Rattle.cweb_lines.specs.inner.Passing.{line_with_newline, lines_next, top_of, AppendsPassedLines, BuffersLines}
+pub use Rattle.cweb_lines.specs.inner.Passing.{AllPassThrough, trimmed_with_newlines}
+pub use Rattle.cweb_lines.specs.inner.Passing.{sources_next, with_newlines, stretch_bytes, PassesThrough, buffer_of}
+pub use Rattle.cweb_lines.specs.inner.Passing.{PassesTop, KeepsLevel}
+pub use Rattle.cweb_lines.specs.inner.Passing.{PassesSlot}
+pub use Rattle.cweb_lines.specs.inner.Replacing.{Compares, IsReplaced, Replaces, lines_replaced, taken_away}
+pub use Rattle.cweb_lines.specs.inner.Replacing.{closing_faults}
+pub use Rattle.cweb_lines.specs.inner.Replacing.{faults_replaced, IsChanged, fault_list_if}
+pub use Rattle.cweb_lines.specs.inner.Seeking.{ReportsFaultPrefix, Searched, SeeksTo, search_after, BegunKnown}
+pub use Rattle.cweb_lines.specs.laws.MergeOutcome.{fault_renumbered, line_renumbered, renumbered, outcome_of_events}
+pub use Rattle.cweb_lines.specs.laws.MergeOutcome.{followed_by, only_lines}
+pub use Rattle.cweb_lines.specs.laws.MergeOutcome.{MergeOutcome, outcome_of_lines, placed, placed_line, only_fault}
+pub use Rattle.cweb_lines.specs.inner.Stages.{IsSettled, floor_of, begun_by}
+pub use Rattle.cweb_lines.specs.surface.Stages.{change_in, pending_in, things_below, things_in}
+pub use Rattle.cweb_lines.specs.inner.Stages.{begun_stage, files_begun, stage_for, IsOutside}
+pub use Rattle.cweb_lines.specs.inner.Steps.{OnlyTakes, OnlyReports}
+pub use Rattle.cweb_lines.specs.EventsByKind.{emitted_lines, reported_faults, openings, taken_lines, size_of_lines}
+pub use Rattle.cweb_lines.specs.EventsByKind.{AreShort}
+pub use Rattle.cweb_lines.specs.Total.{merge}
+pub use Rattle.cweb_lines.specs.inner.Total.{merge_next, merge-run_steps, merge_end}
+pub use Rattle.cweb_lines.specs.surface.MergerCalls.{Grows, to_come, so_far, stop_in}
+pub use Rattle.cweb_lines.specs.Writing.{written_lines}
+pub use Rattle.cweb_files.specs.Frames.{WritesPrefix}
+pub use Rattle.cweb_lines.specs.inner.Writing.{HasWritten, FailsAmong}
+pub use Rattle.cweb_lines.specs.surface.Writing.{LosesLine, StopsWriting}
+pub use Rattle.cweb_lines.specs.surface.Writing.{WritingStops, FailureCounts, LeavesDevices, KeepsStop}
+pub use Rattle.cweb_lines.specs.Writing.{write_failures_of}
+pub use Rattle.cweb_lines.specs.surface.Writing.{WritesAll, WritesSome}
+pub use Rattle.cweb_lines.specs.surface.Writing.{WritesRead, WritesUpTo, StopsWritingEarly}
 pub use Rattle.cweb_lines.specs.contracts.change.code.Code.{the_type}
 pub use Rattle.cweb_lines.specs.declared.change.Change.{Change}
 pub use Rattle.cweb_lines.specs.declared.change.Stage.{Stage}
@@ -91,8 +137,8 @@ pub use Rattle.cweb_lines.specs.declared.change.Stage.TheVariants.{Changing, Don
 pub use Rattle.cweb_lines.specs.declared.change.code.Code.{Code}
 pub use Rattle.cweb_lines.specs.declared.change.old_side.Replaced.{Replaced}
 pub use Rattle.cweb_lines.specs.declared.merger.ahead.Ahead.{Ahead}
-pub use Rattle.cweb_lines.specs.declared.passing.lent.Lent.{Lent}
+pub use Rattle.cweb_lines.specs.declared.passing.line_span.LineSpan.{LineSpan}
 pub use Rattle.cweb_lines.specs.declared.passing.stretch.Stretch.{Stretch}
-pub use Rattle.cweb_lines.specs.declared.run.Run.{Run}
+pub use Rattle.cweb_lines.specs.declared.merge_state.MergeState.{MergeState}
 pub use Rattle.cweb_lines.specs.declared.step.Turn.{Turn}
-pub use Rattle.cweb_lines.specs.declared.step.Turn.TheVariants.{Given, On, Ended}
+pub use Rattle.cweb_lines.specs.declared.step.Turn.TheVariants.{Emitted, On, Ended}

@@ -1,6 +1,6 @@
 -- What a comparison of an old line with a raw line comes to.
-use Rattle.cweb_lines.proofs.Common.{◌≡◌, ◌+◌, ◌||◌, ℕ, Bool, true, false, List, [], ◌∷◌, refl, sym, ◌∙◌, ap, arith, if◌then◌else◌, bytes_eq, Line, Thing, compared, SoFar, Compares, Took, raw_at, Replaced, LineAt, or-true}
-use Rattle.cweb_lines.proofs.Adds.{adds_none, adds_one}
+use Rattle.cweb_lines.proofs.Common.{◌≡◌, ◌+◌, ◌||◌, ℕ, Bool, true, false, List, [], ◌∷◌, refl, sym, ◌∙◌, ap, arith, if◌then◌else◌, bytes_eq, Line, Thing, compared, SoFar, Compares, CountsLine, raw_thing, Replaced, LineAt, or-true}
+use Rattle.cweb_lines.proofs.AddedEvents.{adds_none, adds_one}
 
 -- where no raw line is left, old lines take none
 none_taken : (olds : List (List ℕ)) → (compared olds []).taken ≡ []
@@ -33,7 +33,7 @@ compares_none bytes before things things' old new is none same =
     rw (is, none) (compares_empty bytes before old new same)
 
 pub compares_some : (bytes raw_bytes : List ℕ) (before after : Replaced) (at : LineAt) (things things' : List Thing)
-    (old new : SoFar) (t : Took raw_bytes at.place old.count new.count) → things ≡ raw_at at t.line ∷ things'
+    (old new : SoFar) (t : CountsLine raw_bytes at.place old.count new.count) → things ≡ raw_thing at t.line ∷ things'
     → new.faults ≡ old.faults → new.names ≡ old.names → after.unequal
     ≡ (if bytes_eq raw_bytes bytes then before.unequal else before.unequal + 1) → after.ran_out ≡ before.ran_out →
     Compares bytes before after things things' old new

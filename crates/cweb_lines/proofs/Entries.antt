@@ -1,8 +1,8 @@
 -- What becomes of the lines of an entry, and of lines that begin no change.
-use Rattle.cweb_lines.proofs.Common.{◌≡◌, ◌≢◌, ◌&&◌, ℕ, Bool, true, false, List, [], ◌∷◌, ◌++◌, map, None, Some, Option, refl, sym, ◌∙◌, ap, append-nil, bytes_eq-Decides, list_any, bytes_eq, Place, Line, SourceLine, World, is_include, Entry, Sought, behind_x, code_of, old_at, old_lines, outside, passing, sought, is_code, followed_by, only_lines, seen, Event, RawLine, Thing, at_entry, compared, given, new_at, new_lines, passed, plain, raws, taking, took, merge, merge_end, merge_next, Code, or_parts}
+use Rattle.cweb_lines.proofs.Common.{◌≡◌, ◌≢◌, ◌&&◌, ℕ, Bool, true, false, List, [], ◌∷◌, ◌++◌, map, None, Some, Option, refl, sym, ◌∙◌, ap, append-nil, bytes_eq-Decides, list_any, bytes_eq, Place, Line, SourceLine, World, is_include_line, WaitingEntry, Sought, after_x, change_code, old_at, old_lines, outside, passing, sought, is_change_code, followed_by, only_lines, outcome_of_events, Event, RawLine, Thing, at_entry, compared, given, new_at, new_lines, passed, plain, raws, taking, took, merge, merge_end, merge_next, Code, or_parts}
 use Rattle.cweb_lines.specs.declared.change.code.Code.TheVariants.{EndSide as end_side, NewSide as new_side, OldSide as old_side}
 use Rattle.cweb_lines.proofs.Merges.{state}
-use Rattle.cweb_lines.proofs.Seens.{line_first, no_code}
+use Rattle.cweb_lines.proofs.OutcomeOfEvents.{line_first, no_code}
 
 abbrev pub bytes_in : List SourceLine → List (List ℕ)
 bytes_in lines = map (λ source. source.line.bytes) lines
@@ -11,44 +11,44 @@ abbrev pub lines_of : List SourceLine → List Line
 lines_of lines = map (λ source. source.line) lines
 
 -- among lines that are no codes there is no entry
-pub finds_none : (lines : List SourceLine) → list_any is_code (bytes_in lines) ≡ false
+pub finds_none : (lines : List SourceLine) → list_any is_change_code (bytes_in lines) ≡ false
     → sought lines None ≡ record { faults = []; taken = lines; entry = None; rest = [] }
 finds_none [] none = refl
 finds_none (line ∷ lines) none =
-    let parts = or_parts (is_code line.line.bytes) (list_any is_code (bytes_in lines)) none in
-    simp (no_code (code_of line.line.bytes) parts.0, finds_none lines parts.1)
+    let parts = or_parts (is_change_code line.line.bytes) (list_any is_change_code (bytes_in lines)) none in
+    simp (no_code (change_code line.line.bytes) parts.0, finds_none lines parts.1)
 
 -- the entry that begins with these two lines
-abbrev pub entry_of : SourceLine → SourceLine → Entry
+abbrev pub entry_of : SourceLine → SourceLine → WaitingEntry
 entry_of x first = record { begin = x.line.place; first = first.line.bytes }
 
 first_old : (bytes : List ℕ) (code : Option Code) (begin : Place) (first : SourceLine) (rest : List SourceLine)
-    (later : Option Place → Sought) → bytes ≢ [] → code ≡ None → behind_x bytes code begin first rest later
+    (later : Option Place → Sought) → bytes ≢ [] → code ≡ None → after_x bytes code begin first rest later
     ≡ record { faults = []; taken = first ∷ []; entry = Some (record { begin = begin; first = bytes }); rest = rest }
 first_old [] code begin first rest later some none = absurd (some refl)
-first_old (b ∷ bs) code begin first rest later some none = ap (λ c. behind_x (b ∷ bs) c begin first rest later) none
+first_old (b ∷ bs) code begin first rest later some none = ap (λ c. after_x (b ∷ bs) c begin first rest later) none
 
 -- a search passes over a comment, and finds the entry behind it
 pub finds : (comment : List SourceLine) (x first : SourceLine) (rest : List SourceLine)
-    → list_any is_code (bytes_in comment) ≡ false → code_of x.line.bytes ≡ Some old_side
-    → first.line.bytes ≢ [] → code_of first.line.bytes ≡ None → sought (comment ++ (x ∷ first ∷ rest)) None
+    → list_any is_change_code (bytes_in comment) ≡ false → change_code x.line.bytes ≡ Some old_side
+    → first.line.bytes ≢ [] → change_code first.line.bytes ≡ None → sought (comment ++ (x ∷ first ∷ rest)) None
     ≡ record { faults = []; taken = comment ++ (x ∷ first ∷ []); entry = Some (entry_of x first); rest = rest }
 finds [] x first rest no_codes begins some none =
     ap (λ code. passing x (outside code x.line.place (λ begin. sought (first ∷ rest) begin))) begins
     ∙ ap (passing x) (first_old _ _ _ _ _ (λ next. sought _ next) some none)
 finds (line ∷ comment) x first rest no_codes begins some none =
-    let parts = or_parts (is_code line.line.bytes) (list_any is_code (bytes_in comment)) no_codes in
-    simp (no_code (code_of line.line.bytes) parts.0, finds comment x first rest parts.1 begins some none)
+    let parts = or_parts (is_change_code line.line.bytes) (list_any is_change_code (bytes_in comment)) no_codes in
+    simp (no_code (change_code line.line.bytes) parts.0, finds comment x first rest parts.1 begins some none)
 
 -- the further old lines go up to the @y line
 pub old_splits : (further : List SourceLine) (y : SourceLine) (rest : List SourceLine)
-    → list_any is_code (bytes_in further) ≡ false → code_of y.line.bytes ≡ Some new_side
+    → list_any is_change_code (bytes_in further) ≡ false → change_code y.line.bytes ≡ Some new_side
     → old_lines (further ++ (y ∷ rest))
     ≡ record { faults = []; lines = bytes_in further; taken = further ++ (y ∷ []); ended = false; rest = rest }
 old_splits [] y rest no_codes turns = ap (λ code. old_at code y rest (old_lines rest)) turns
 old_splits (line ∷ further) y rest no_codes turns =
-    let parts = or_parts (is_code line.line.bytes) (list_any is_code (bytes_in further)) no_codes in
-    simp (no_code (code_of line.line.bytes) parts.0, old_splits further y rest parts.1 turns)
+    let parts = or_parts (is_change_code line.line.bytes) (list_any is_change_code (bytes_in further)) no_codes in
+    simp (no_code (change_code line.line.bytes) parts.0, old_splits further y rest parts.1 turns)
 
 -- raw lines that equal the further old lines are taken away
 pub compares : (depth : ℕ) (may_match : Bool) (lines : List SourceLine) (later : List Thing)
@@ -60,44 +60,46 @@ compares depth may_match (line ∷ lines) later =
 
 -- the new lines go up to the @z line
 pub new_splits : (depth : ℕ) (begin : Place) (new : List SourceLine) (z : SourceLine) (rest : List SourceLine)
-    → list_any is_code (bytes_in new) ≡ false → code_of z.line.bytes ≡ Some end_side
+    → list_any is_change_code (bytes_in new) ≡ false → change_code z.line.bytes ≡ Some end_side
     → new_lines depth begin (new ++ (z ∷ rest))
     ≡ record { things = raws depth false new ++ (passed z ∷ []); rest = rest }
 new_splits depth begin [] z rest no_codes ends = ap (λ code. new_at code depth z rest (new_lines depth begin rest)) ends
 new_splits depth begin (line ∷ new) z rest no_codes ends =
-    let parts = or_parts (is_code line.line.bytes) (list_any is_code (bytes_in new)) no_codes in
-    simp (no_code (code_of line.line.bytes) parts.0, new_splits depth begin new z rest parts.1 ends)
+    let parts = or_parts (is_change_code line.line.bytes) (list_any is_change_code (bytes_in new)) no_codes in
+    simp (no_code (change_code line.line.bytes) parts.0, new_splits depth begin new z rest parts.1 ends)
 
 -- lines that begin no include and no change are given out
 pub gives_out : (world : World) (depth : ℕ) (may_match : Bool) (lines : List SourceLine) (later : List Thing)
-    (change : List SourceLine) (files : ℕ) → list_any is_include (bytes_in lines) ≡ false
-    → seen (merge world (state (raws depth may_match lines ++ later) None change files))
-    ≡ followed_by (only_lines (lines_of lines)) (seen (merge world (state later None change files)))
+    (change : List SourceLine) (files : ℕ) → list_any is_include_line (bytes_in lines) ≡ false
+    → outcome_of_events (merge world (state (raws depth may_match lines ++ later) None change files))
+    ≡ followed_by (only_lines (lines_of lines)) (outcome_of_events (merge world (state later None change files)))
 gives_out world depth may_match [] later change files plain_lines = refl
 gives_out world depth may_match (line ∷ lines) later change files plain_lines =
     let parts = or_parts _ _ plain_lines in
     let r : RawLine = record { source = line; depth = depth; may_match = may_match } in
     let rest = raws _ _ _ ++ later in
     let s = state _ _ _ _ in
-    ap seen (merge_next _ s _ (ap (λ b. Some (taking line (plain b world s r rest))) parts.0))
+    ap outcome_of_events (merge_next _ s _ (ap (λ b. Some (taking line (plain b world s r rest))) parts.0))
     ∙ ap (line_first line.line) (gives_out world depth may_match lines later change files parts.1)
 
 pub gives_alone : (world : World) (depth : ℕ) (may_match : Bool) (lines : List SourceLine) (change : List SourceLine)
-    (files : ℕ) → list_any is_include (bytes_in lines) ≡ false
-    → seen (merge world (state (raws depth may_match lines) None change files)) ≡ only_lines (lines_of lines)
+    (files : ℕ) → list_any is_include_line (bytes_in lines) ≡ false
+    → outcome_of_events (merge world (state (raws depth may_match lines) None change files))
+    ≡ only_lines (lines_of lines)
 gives_alone world depth may_match lines change files plain_lines = ap (λ (ts : List Thing).
-    seen (merge world (state ts None change files))) (sym (append-nil (raws depth may_match lines)))
+    outcome_of_events (merge world (state ts None change files))) (sym (append-nil (raws depth may_match lines)))
     ∙ gives_out world depth may_match lines [] change files plain_lines
-    ∙ ap (λ (es : List Event). followed_by (only_lines (lines_of lines)) (seen es))
+    ∙ ap (λ (es : List Event). followed_by (only_lines (lines_of lines)) (outcome_of_events es))
     (merge_end world (state [] None change files) refl)
     ∙ ap only_lines (append-nil (lines_of lines))
 
 -- and where an entry waits that none of them equals
-pub passes_by : (world : World) (depth : ℕ) (entry : Entry) (lines : List SourceLine) (later : List Thing)
-    (change : List SourceLine) (files : ℕ) → list_any is_include (bytes_in lines) ≡ false
+pub passes_by : (world : World) (depth : ℕ) (entry : WaitingEntry) (lines : List SourceLine) (later : List Thing)
+    (change : List SourceLine) (files : ℕ) → list_any is_include_line (bytes_in lines) ≡ false
     → list_any (λ line. bytes_eq line entry.first) (bytes_in lines) ≡ false
-    → seen (merge world (state (raws depth true lines ++ later) (Some entry) change files))
-    ≡ followed_by (only_lines (lines_of lines)) (seen (merge world (state later (Some entry) change files)))
+    → outcome_of_events (merge world (state (raws depth true lines ++ later) (Some entry) change files))
+    ≡ followed_by (only_lines (lines_of lines))
+    (outcome_of_events (merge world (state later (Some entry) change files)))
 passes_by world depth entry [] later change files plain_lines others = refl
 passes_by world depth entry (line ∷ lines) later change files plain_lines others =
     let parts = or_parts _ _ plain_lines in
@@ -105,7 +107,7 @@ passes_by world depth entry (line ∷ lines) later change files plain_lines othe
     let r : RawLine = record { source = line; depth = depth; may_match = true } in
     let rest = raws _ _ _ ++ later in
     let s = state _ _ _ _ in
-    ap seen (merge_next world s (took line ∷ given line.line ∷ [], state rest (Some entry) change files)
+    ap outcome_of_events (merge_next world s (took line ∷ given line.line ∷ [], state rest (Some entry) change files)
     (ap (λ b. Some (taking line (at_entry (true && b) entry world s r rest))) differ.0
     ∙ ap (λ b. Some (taking line (plain b world s r rest))) parts.0))
     ∙ ap (line_first line.line) (passes_by world depth entry lines later change files parts.1 differ.1)

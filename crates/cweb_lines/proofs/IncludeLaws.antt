@@ -1,9 +1,9 @@
 -- An include line is replaced by the merged lines of its text.
-use Rattle.cweb_lines.proofs.Common.{◌≡◌, ◌≢◌, ◌<◌, ◌+◌, ℕ, Bool, true, false, List, [], ◌∷◌, ◌++◌, None, Some, refl, sym, ◌∙◌, ap, append-nil, subst, arith, length, nat_tests, AllByRecursion, nat_lt, SourceLine, lines_in, World, include_name, is_include, at_place, IncludeLinesAreReplaced, Includes, LinesComeApart, Seen, followed_by, seen, seen_in, Event, Next, RawLine, State, Thing, fault, given, included, obeyed, opened, opening, plain, raw, raws, taking, took, openings, merge, merge-run, merge_end, merge_next, halts, NoName, NotThere, TooDeep, OPEN_FILES}
-use Rattle.cweb_lines.proofs.Alone.{IsNoSearch, front, raws_seek_not}
+use Rattle.cweb_lines.proofs.Common.{◌≡◌, ◌≢◌, ◌<◌, ◌+◌, ℕ, Bool, true, false, List, [], ◌∷◌, ◌++◌, None, Some, refl, sym, ◌∙◌, ap, append-nil, subst, arith, length, nat_tests, AllByRecursion, nat_lt, SourceLine, lines_in, World, include_name, is_include_line, at_place, IncludeLinesAreReplaced, Includes, LinesComeApart, MergeOutcome, followed_by, outcome_of_events, outcome_of_lines, Event, Next, RawLine, MergeStateModel, Thing, fault, given, included, obeyed, open_include, opening, plain, raw, raws, taking, took, openings, merge, merge-run_steps, merge_end, merge_next, halts, NoName, NotThere, TooDeep, OPEN_FILES}
+use Rattle.cweb_lines.proofs.IndependentLines.{IsNoSearch, front, raws_seek_not}
 use Rattle.cweb_lines.proofs.Merges.{state}
-use Rattle.cweb_open.proofs.Stacks.{raws-append}
-use Rattle.cweb_lines.proofs.Seens.{name_first, seen-append}
+use Rattle.cweb_input.proofs.SourceStacks.{raws-append}
+use Rattle.cweb_lines.proofs.OutcomeOfEvents.{name_first, seen-append}
 
 pub raws_seek_none : (depth : ℕ) (may_match : Bool) (lines : List SourceLine)
     → AllByRecursion IsNoSearch (raws depth may_match lines)
@@ -21,23 +21,24 @@ in_two world things later change files none =
     let first = halts world s in
     front world later change first.steps files things first.events none first.comes
     ∙ ap (λ (es : List Event). es ++ merge world (state later None change (files + length (openings es))))
-    (sym (merge-run first.steps world s first.events first.comes))
+    (sym (merge-run_steps first.steps world s first.events first.comes))
 
 -- an include line that names something
-names_some : (world : World) (r : RawLine) (s : State) (things : List Thing) (next : Next) (b : Bool)
-    → is_include r.source.line.bytes ≡ true → include_name r.source.line.bytes ≢ [] → nat_lt r.depth OPEN_FILES ≡ b
-    → opened b world (include_name r.source.line.bytes) s r things ≡ next
-    → plain (is_include r.source.line.bytes) world s r things ≡ next
+names_some : (world : World) (r : RawLine) (s : MergeStateModel) (things : List Thing) (next : Next) (b : Bool)
+    → is_include_line r.source.line.bytes ≡ true → include_name r.source.line.bytes ≢ [] → nat_lt r.depth OPEN_FILES ≡ b
+    → open_include b world (include_name r.source.line.bytes) s r things ≡ next
+    → plain (is_include_line r.source.line.bytes) world s r things ≡ next
 names_some world r s things next b include named room is = ap (λ b. plain b world s r things) include ∙ by _ named is
   where
-    by : (name : List ℕ) → name ≢ [] → opened b world name s r things ≡ next → included name world s r things ≡ next
+    by : (name : List ℕ) → name ≢ [] → open_include b world name s r things ≡ next
+        → included name world s r things ≡ next
     by [] some is = absurd (some refl)
-    by (c ∷ cs) some is = ap (λ t. opened t world (c ∷ cs) s r things) room ∙ is
+    by (c ∷ cs) some is = ap (λ t. open_include t world (c ∷ cs) s r things) room ∙ is
 
 -- an include line that finds its text opens it
-opens_text : (world : World) (r : RawLine) (things : List Thing) (s : State) (name text : List ℕ)
+opens_text : (world : World) (r : RawLine) (things : List Thing) (s : MergeStateModel) (name text : List ℕ)
     → Includes world r.source.line.bytes name text → r.depth < OPEN_FILES
-    → plain (is_include r.source.line.bytes) world s r things ≡ obeyed (Some (name, text)) s r things
+    → plain (is_include_line r.source.line.bytes) world s r things ≡ obeyed (Some (name, text)) s r things
 opens_text world r things s name text includes shallow =
     let room : nat_lt r.depth OPEN_FILES ≡ true = grind (arith, nat_tests) in
     names_some world r s things (obeyed (Some (name, text)) s r things) true includes.include includes.named room
@@ -47,21 +48,24 @@ opens_text world r things s name text includes shallow =
 one_event : (world : World) (depth files : ℕ) (line : SourceLine) (event : Event) →
     let r : RawLine = record { source = line; depth = depth; may_match = true } in
     let s = state (raw r ∷ []) None [] files in
-    plain (is_include line.line.bytes) world s r [] ≡ (event ∷ [], state [] None [] files)
-    → seen_in world depth files (line ∷ []) ≡ seen (event ∷ [])
+    plain (is_include_line line.line.bytes) world s r [] ≡ (event ∷ [], state [] None [] files)
+    → outcome_of_lines world depth files (line ∷ []) ≡ outcome_of_events (event ∷ [])
 one_event world depth files line event is =
     let r : RawLine = record { source = line; depth = depth; may_match = true } in
-    ap seen (merge_next world (state (raw r ∷ []) None [] files) (took line ∷ event ∷ [], state [] None [] files)
+    ap outcome_of_events
+    (merge_next world (state (raw r ∷ []) None [] files) (took line ∷ event ∷ [], state [] None [] files)
     (ap (λ (next : Next). Some (taking line next)) is))
-    ∙ ap (λ (es : List Event). seen (took line ∷ event ∷ es)) (merge_end world (state [] None [] files) refl)
+    ∙ ap (λ (es : List Event). outcome_of_events (took line ∷ event ∷ es))
+    (merge_end world (state [] None [] files) refl)
 
 pub lines_apart : LinesComeApart
 lines_apart = record {
   whole = λ world web. refl;
   apart = λ world depth files before behind.
       let things = raws depth true before in
-      ap (λ (ts : List Thing). seen (merge world (state ts None [] files))) (raws-append depth true before behind)
-      ∙ ap seen (in_two world things (raws depth true behind) [] files (raws_seek_none depth true before))
+      ap (λ (ts : List Thing). outcome_of_events (merge world (state ts None [] files)))
+      (raws-append depth true before behind)
+      ∙ ap outcome_of_events (in_two world things (raws depth true behind) [] files (raws_seek_none depth true before))
       ∙ seen-append (merge world (state things None [] files)) (merge world (state (raws depth true behind) None []
       (files + length (openings (merge world (state things None [] files))))));
   plain = λ world depth files line plain_line.
@@ -97,11 +101,14 @@ include_lines world depth files before behind line name text includes shallow =
     let last = merge world (state rest None [] (file + 1 + length (openings inside))) in
     let s = state (raw r ∷ rest) None [] file in
     ap
-    (λ (ts : List Thing). seen (merge world (state ts None [] files))) (raws-append depth true before (line ∷ behind))
-    ∙ ap seen (in_two world (raws depth true before) (raw r ∷ rest) [] files (raws_seek_none depth true before))
-    ∙ ap (λ (es : List Event). seen (first ++ es)) (merge_next world s
+    (λ (ts : List Thing). outcome_of_events (merge world (state ts None [] files)))
+    (raws-append depth true before (line ∷ behind))
+    ∙ ap outcome_of_events
+    (in_two world (raws depth true before) (raw r ∷ rest) [] files (raws_seek_none depth true before))
+    ∙ ap (λ (es : List Event). outcome_of_events (first ++ es)) (merge_next world s
     (taking line (obeyed (Some (name, text)) s r rest)) (ap (λ (next : Next). Some (taking line next))
     (opens_text world r rest s name text includes shallow)) ∙ ap (λ (es : List Event). took line ∷ opening name ∷ es)
     (in_two world lines rest [] (file + 1) (raws_seek_none (depth + 1) true (lines_in file text))))
     ∙ seen-append first (took line ∷ opening name ∷ (inside ++ last))
-    ∙ ap (λ (later : Seen). followed_by (seen first) (name_first name later)) (seen-append inside last)
+    ∙ ap (λ (later : MergeOutcome). followed_by (outcome_of_events first) (name_first name later))
+    (seen-append inside last)

@@ -1,21 +1,22 @@
 -- What comes of a line that was taken, and how what came adds up.
-use Rattle.cweb_lines.proofs.Common.{Option, if◌then◌else◌, ◌&&◌, ◌≡◌, ◌≤◌, ◌<◌, ◌+◌, ◌==◌, ℕ, Bool, true, false, List, [], ◌∷◌, ◌++◌, Some, None, refl, sym, ◌∙◌, ap, arith, length, append-nil, nat_lt, nat_tests, Place, bytes_eq, Entry, at_place, World, is_include, include_name, found_at, Line, SourceLine, lines_in, State, RawLine, Thing, raw, Event, took, given, fault, opening, Next, at_entry, at_raw, included, opened, obeyed, plain, taking, raws, begun_by, OPEN_FILES, LineAt, SoFar, Gives, taken_lines, told_faults, openings, given_lines, merge, merge_next, SourceFault, NoName, TooDeep, NotThere}
+use Rattle.cweb_lines.proofs.Common.{Option, if◌then◌else◌, ◌&&◌, ◌≡◌, ◌≤◌, ◌<◌, ◌+◌, ◌==◌, ℕ, Bool, true, false, List, [], ◌∷◌, ◌++◌, Some, None, refl, sym, ◌∙◌, ap, arith, length, append-nil, nat_lt, nat_tests, Place, bytes_eq, WaitingEntry, at_place, World, is_include_line, include_name, found_at, Line, SourceLine, lines_in, MergeStateModel, RawLine, Thing, raw, Event, took, given, fault, opening, Next, at_entry, at_raw, included, open_include, obeyed, plain, taking, raws, begun_by, OPEN_FILES, LineAt, SoFar, EmitsLines, taken_lines, reported_faults, openings, emitted_lines, merge, merge_next, SourceFault, NoName, TooDeep, NotThere}
 
-abbrev pub state : List Thing → Option Entry → List SourceLine → ℕ → State
+abbrev pub state : List Thing → Option WaitingEntry → List SourceLine → ℕ → MergeStateModel
 state things pending change files = record { things = things; pending = pending; change = change; files = files }
 
 -- a line that was taken, comes first, and begins no change
 module _ (world : World) (source : SourceLine) (bytes : List ℕ) (at : LineAt)
-    (is : source.line ≡ record { bytes = bytes; place = at.place }) (things : List Thing) (pending : Option Entry)
+    (is : source.line ≡ record { bytes = bytes; place = at.place }) (things : List Thing)
+    (pending : Option WaitingEntry)
     (change : List SourceLine) (files : ℕ)
     (none : begun_by pending at.may_match bytes ≡ None) where
   abbrev r : RawLine
   r = record { source = source; depth = at.depth; may_match = at.may_match }
 
-  abbrev before : State
+  abbrev before : MergeStateModel
   before = state (raw r ∷ things) pending change files
 
-  abbrev after : State
+  abbrev after : MergeStateModel
   after = state things pending change files
 
   as_read : {A : Type 0} (f : List ℕ → A) (a : A) → f bytes ≡ a → f source.line.bytes ≡ a
@@ -25,53 +26,55 @@ module _ (world : World) (source : SourceLine) (bytes : List ℕ) (at : LineAt)
   not_begun true place unbegun = absurd (cc)
   not_begun false place unbegun = refl
 
-  passes : (p : Option Entry) → begun_by p at.may_match bytes ≡ None →
-      at_raw p world before r things ≡ plain (is_include source.line.bytes) world before r things
+  passes : (p : Option WaitingEntry) → begun_by p at.may_match bytes ≡ None →
+      at_raw p world before r things ≡ plain (is_include_line source.line.bytes) world before r things
   passes None unbegun = refl
   passes (Some entry) unbegun = ap (λ b. at_entry b entry world before r things) (as_read (λ b. at.may_match
       && bytes_eq b entry.first) false (not_begun (at.may_match && bytes_eq bytes entry.first) entry.begin unbegun))
 
-  merge_plain : (next : Next) → plain (is_include source.line.bytes) world before r things ≡ next →
+  merge_plain : (next : Next) → plain (is_include_line source.line.bytes) world before r things ≡ next →
       merge world before ≡ took source ∷ next.0 ++ merge world next.1
   merge_plain next goes = merge_next _ _ _ (ap (λ (n : Next). Some (taking source n)) (passes _ none ∙ goes))
 
-  pub merge_given : is_include bytes ≡ false → merge world before ≡ took source ∷ given
+  pub merge_given : is_include_line bytes ≡ false → merge world before ≡ took source ∷ given
       (record { bytes = bytes; place = at.place }) ∷ merge world after
-  merge_given test = merge_plain _ (ap (λ b. plain b world before r things) (as_read is_include false test))
+  merge_given test = merge_plain _ (ap (λ b. plain b world before r things) (as_read is_include_line false test))
       ∙ ap (λ (l : Line). took source ∷ given l ∷ merge world after) is
 
-  pub merge_no_name : is_include bytes ≡ true → include_name bytes ≡ [] →
+  pub merge_no_name : is_include_line bytes ≡ true → include_name bytes ≡ [] →
       merge world before ≡ took source ∷ fault (at_place NoName at.place) ∷ merge world after
-  merge_no_name test empty = merge_plain _ (ap (λ b. plain b world before r things) (as_read is_include true test)
+  merge_no_name test empty = merge_plain _ (ap (λ b. plain b world before r things) (as_read is_include_line true test)
       ∙ ap (λ n. included n world before r things) (as_read include_name [] empty))
       ∙ ap (λ (l : Line). took source ∷ fault (at_place NoName l.place) ∷ merge world after) is
 
-  merge_named : (name : List ℕ) (next : Next) → is_include bytes ≡ true → include_name bytes ≡ name → 0 < length name →
-      opened (nat_lt at.depth OPEN_FILES) world name before r things ≡ next
+  merge_named : (name : List ℕ) (next : Next) → is_include_line bytes ≡ true → include_name bytes ≡ name
+      → 0 < length name →
+      open_include (nat_lt at.depth OPEN_FILES) world name before r things ≡ next
       → merge world before ≡ took source ∷ next.0 ++ merge world next.1
   merge_named [] next test named some opens = absurd (omega arith)
   merge_named (b ∷ bs) next test named some opens =
-      merge_plain next (ap (λ b. plain b world before r things) (as_read is_include true test)
+      merge_plain next (ap (λ b. plain b world before r things) (as_read is_include_line true test)
       ∙ ap (λ n. included n world before r things) (as_read include_name (b ∷ bs) named) ∙ opens)
 
-  pub merge_too_deep : is_include bytes ≡ true → 0 < length (include_name bytes) → OPEN_FILES ≤ at.depth →
+  pub merge_too_deep : is_include_line bytes ≡ true → 0 < length (include_name bytes) → OPEN_FILES ≤ at.depth →
       merge world before ≡ took source ∷ fault (at_place TooDeep at.place) ∷ merge world after
   merge_too_deep test some deep =
       let room : nat_lt at.depth OPEN_FILES ≡ false = grind (arith, nat_tests) in
       merge_named (include_name bytes) (fault (at_place TooDeep source.line.place) ∷ [], after) test refl some
-      (ap (λ t. opened t world (include_name bytes) before r things) room)
+      (ap (λ t. open_include t world (include_name bytes) before r things) room)
       ∙ ap (λ (l : Line). took source ∷ fault (at_place TooDeep l.place) ∷ merge world after) is
 
-  pub merge_not_there : is_include bytes ≡ true → 0 < length (include_name bytes) → at.depth < OPEN_FILES →
+  pub merge_not_there : is_include_line bytes ≡ true → 0 < length (include_name bytes) → at.depth < OPEN_FILES →
       None ≡ found_at world (include_name bytes)
       → merge world before ≡ took source ∷ fault (at_place NotThere at.place) ∷ merge world after
   merge_not_there test some deep gone =
       let room : nat_lt at.depth OPEN_FILES ≡ true = grind (arith, nat_tests) in
       merge_named (include_name bytes) (fault (at_place NotThere source.line.place) ∷ [], after) test refl some (ap
-      (λ t. opened t world (include_name bytes) before r things) room ∙ ap (λ o. obeyed o before r things) (sym gone))
+      (λ t. open_include t world (include_name bytes) before r things) room
+      ∙ ap (λ o. obeyed o before r things) (sym gone))
       ∙ ap (λ (l : Line). took source ∷ fault (at_place NotThere l.place) ∷ merge world after) is
 
-  pub merge_opens : (name text : List ℕ) → is_include bytes ≡ true → 0 < length (include_name bytes) →
+  pub merge_opens : (name text : List ℕ) → is_include_line bytes ≡ true → 0 < length (include_name bytes) →
       at.depth < OPEN_FILES → Some (name, text) ≡ found_at world (include_name bytes)
       → merge world before ≡ took source ∷ opening name ∷ merge world
       (state (raws (at.depth + 1) at.may_match (lines_in files text) ++ things) pending change (files + 1))
@@ -82,11 +85,11 @@ module _ (world : World) (source : SourceLine) (bytes : List ℕ) (at : LineAt)
         state
             (raws (at.depth + 1) at.may_match (lines_in files text) ++ things) pending change (files + 1),
       ) test refl some
-      (ap (λ t. opened t world (include_name bytes) before r things) room
+      (ap (λ t. open_include t world (include_name bytes) before r things) room
       ∙ ap (λ o. obeyed o before r things) (sym there))
 
 -- whatever comes of a raw line, it is taken first
-pub merge_takes : (world : World) (r : RawLine) (things : List Thing) (pending : Option Entry)
+pub merge_takes : (world : World) (r : RawLine) (things : List Thing) (pending : Option WaitingEntry)
     (change : List SourceLine) (files : ℕ)
     → (rest : List Event) × (merge world (state (raw r ∷ things) pending change files) ≡ took r.source ∷ rest)
 merge_takes world r things pending change files =
@@ -95,7 +98,8 @@ merge_takes world r things pending change files =
 -- one event came, or none
 module _ (old new : SoFar) (all later : List Event) (count : new.count ≡ old.count) where
   gives_untaken : (events : List Event) → taken_lines events ≡ [] → all ≡ events ++ later → new.faults ≡ old.faults
-      ++ told_faults events → new.names ≡ old.names ++ openings events → Gives (given_lines events) old new all later
+      ++ reported_faults events → new.names ≡ old.names ++ openings events
+      → EmitsLines (emitted_lines events) old new all later
   gives_untaken events none whole faults names = record {
     events = events;
     whole = whole;
@@ -108,22 +112,22 @@ module _ (old new : SoFar) (all later : List Event) (count : new.count ≡ old.c
   }
 
   pub gives_fault : (f : SourceFault) → all ≡ fault f ∷ later → new.faults ≡ old.faults ++ f ∷ [] →
-      new.names ≡ old.names → Gives [] old new all later
+      new.names ≡ old.names → EmitsLines [] old new all later
   gives_fault f whole faults names = gives_untaken (fault f ∷ []) refl whole faults (simp (names, append-nil))
 
   pub gives_opening : (name : List ℕ) → all ≡ opening name ∷ later → new.faults ≡ old.faults →
-      new.names ≡ old.names ++ name ∷ [] → Gives [] old new all later
+      new.names ≡ old.names ++ name ∷ [] → EmitsLines [] old new all later
   gives_opening name whole faults names = gives_untaken (opening name ∷ []) refl whole (simp (faults, append-nil)) names
 
   pub gives_line : (line : Line) → all ≡ given line ∷ later → new.faults ≡ old.faults → new.names ≡ old.names →
-      Gives (line ∷ []) old new all later
+      EmitsLines (line ∷ []) old new all later
   gives_line line whole faults names = gives_untaken (given line ∷ []) refl whole (simp (faults, append-nil))
       (simp (names, append-nil))
 
-  pub gives_nothing : all ≡ later → new.faults ≡ old.faults → new.names ≡ old.names → Gives [] old new all later
+  pub gives_nothing : all ≡ later → new.faults ≡ old.faults → new.names ≡ old.names → EmitsLines [] old new all later
   gives_nothing whole faults names = gives_untaken [] refl whole (simp (faults, append-nil)) (simp (names, append-nil))
 
-pub include_long : (line : List ℕ) → is_include line ≡ true → 2 ≤ length line
+pub include_long : (line : List ℕ) → is_include_line line ≡ true → 2 ≤ length line
 include_long [] is = absurd (cc)
 include_long (a ∷ []) is = absurd (cc)
 include_long (a ∷ b ∷ rest) is = omega arith

@@ -1,36 +1,39 @@
 -- Lines that pass through, for the stack and the run that they are taken from.
-use Rattle.cweb_lines.proofs.Common.{◌≡◌, ◌-◌, ℕ, List, [], ◌∷◌, ◌++◌, length, Option, refl, sym, ◌∙◌, ap, subst, arith, append-nil, append_assoc, count_of, text_of_name, world_in, SourceLine, Thing, Gives, told_by, coming, change_lines, pending_of, names_of, ComesNext, GivesLines, PassesLines, PassesTop, lines_next, sources_next, text_at, top_of, change_in, floor_of, things_in, StaysBelow, lines_at, AreShort, size_of, Limits, Stretch, Run, Stack}
-use Rattle.cweb_lines.proofs.GivenLines.{events_of, events-given, events-untold, events-unopened, events-taken, merge_next_lines, next-length, next-size, next-short, next-text}
+use Rattle.cweb_lines.proofs.Common.{◌≡◌, ◌-◌, ℕ, List, [], ◌∷◌, ◌++◌, length, Option, refl, sym, ◌∙◌, ap, subst, arith, append-nil, append_assoc, counters_of, optional_string_bytes, world_in, SourceLine, Thing, EmitsLines, so_far_of, events_to_come, change_lines, pending_of, opened_file_names, ComesNext, EmitsBufferedLines, AppendsPassedLines, PassesTop, lines_next, sources_next, stretch_bytes, top_of, change_in, floor_of, things_in, StaysBelow, lines_at, AreShort, size_of_lines, TakenCounters, Stretch, MergeState, Stack}
+use Rattle.cweb_lines.proofs.EmittedLines.{events_of, events-given, events-untold, events-unopened, events-taken, merge_next_lines, next-length, next-size, next-short, next-text}
 use Rattle.cweb_lines.proofs.Merges.{gives_nothing}
-use Rattle.cweb_lines.proofs.Sums.{gives_both}
-use Rattle.cweb_lines.proofs.Runs.{coming_of, passes_in}
-use Rattle.cweb_lines.proofs.Writes.{text_of-append}
+use Rattle.cweb_lines.proofs.EmittedLinesAddUp.{gives_both}
+use Rattle.cweb_lines.proofs.MergeStateEvents.{coming_of, passes_in}
+use Rattle.cweb_lines.proofs.WrittenLinesAddUp.{text_of-append}
 
 -- what comes of a run whose next lines are taken, by its stack and its counts afterwards
-module _ {R : Type 0} (run : Run R) (stack : Stack R) (limits : Limits) (s : Stretch) (lines : List (List ℕ))
+module _ {R : Type 0} (run : MergeState R) (stack : Stack R) (limits : TakenCounters) (s : Stretch)
+    (lines : List (List ℕ))
     (next : ComesNext run s lines) (passes : PassesTop run.stack stack run.limits limits lines)
     (below : StaysBelow (run.stack.depth - 1) run.stack.texts stack.texts) where
   abbrev sources : List SourceLine
   sources = sources_next (top_of run.stack) lines
 
   pub gives_next : (t : List ℕ → Option (List ℕ)) (l : R → List ℕ) →
-      Gives (lines_next (top_of run.stack) lines) (told_by run) (record {
+      EmitsLines (lines_next (top_of run.stack) lines) (so_far_of run) (record {
         faults = run.faults.items;
-        names = names_of run.names;
+        names = opened_file_names run.names;
         count =
-            count_of limits;
-      }) (coming t l run)
-      (coming_of t (text_of_name run.inputs) l run.stage run.change run.first.items (length (names_of run.names))
+            counters_of limits;
+      }) (events_to_come t l run)
+      (coming_of t (optional_string_bytes run.inputs) l run.stage run.change run.first.items
+      (length (opened_file_names run.names))
       (things_in l run.stage (lines_at l run.change) stack))
   gives_next t l = record {
     events = events_of sources;
     whole = ap (λ (ts : List Thing).
-        coming_of t (text_of_name run.inputs) l run.stage run.change run.first.items (length (names_of run.names)) ts)
+        coming_of t (optional_string_bytes run.inputs) l run.stage run.change run.first.items
+        (length (opened_file_names run.names)) ts)
         (passes_in l run.stage (change_lines l run) run.stack stack _ next.settled (passes.takes l
         (floor_of run.stage) next.above) (λ left n le rest. below left n (omega (arith, le, next.above)) rest))
         ∙ merge_next_lines (world_in t run.inputs) (pending_of run) (top_of run.stack) s lines
         (things_in l run.stage (lines_at l run.change) stack) (change_in run.stage (lines_at l run.change))
-        (length (names_of run.names)) next.stands;
+        (length (opened_file_names run.names)) next.stands;
     given = events-given sources;
     faults = simp (events-untold, append-nil);
     names = simp (events-unopened, append-nil);
@@ -43,7 +46,7 @@ module _ {R : Type 0} (run : Run R) (stack : Stack R) (limits : Limits) (s : Str
     bytes_are = omega (
       arith,
       passes.bytes,
-      ap size_of (events-taken sources),
+      ap size_of_lines (events-taken sources),
       next-size (pending_of run) (top_of run.stack) s lines next.stands,
     );
     short = subst AreShort (sym (events-taken sources))
@@ -51,10 +54,10 @@ module _ {R : Type 0} (run : Run R) (stack : Stack R) (limits : Limits) (s : Str
   }
 
 -- lines behind those that were gathered
-pub passes_next : {R : Type 0} (old new : Run R) (s : Stretch) (lines : List (List ℕ)) (piece more : List ℕ)
-    → ComesNext old s lines → GivesLines old new (lines_next (top_of old.stack) lines)
-    → more ≡ piece ++ text_at (top_of old.stack) s ++ 10 ∷ [] → PassesLines old new piece more
-passes_next old new s lines piece more next given gathered = record {
+pub passes_next : {R : Type 0} (old new : MergeState R) (s : Stretch) (lines : List (List ℕ)) (buffer more : List ℕ)
+    → ComesNext old s lines → EmitsBufferedLines old new (lines_next (top_of old.stack) lines)
+    → more ≡ buffer ++ stretch_bytes (top_of old.stack) s ++ 10 ∷ [] → AppendsPassedLines old new buffer more
+passes_next old new s lines buffer more next given gathered = record {
   lines = lines_next (top_of old.stack) lines;
   gives = given.gives;
   gathered = simp (gathered, next-text (pending_of old) (top_of old.stack) s lines next.stands, append_assoc);
@@ -65,11 +68,11 @@ passes_next old new s lines piece more next given gathered = record {
 }
 
 -- nothing passed
-pub passes_nothing : {R : Type 0} (run : Run R) (piece : List ℕ) → PassesLines run run piece piece
-passes_nothing run piece = record {
+pub passes_nothing : {R : Type 0} (run : MergeState R) (buffer : List ℕ) → AppendsPassedLines run run buffer buffer
+passes_nothing run buffer = record {
   lines = [];
   gives = λ t l. gives_nothing _ _ _ _ refl refl refl refl;
-  gathered = sym (append-nil piece);
+  gathered = sym (append-nil buffer);
   stopped = refl;
   names = refl;
   counted = omega arith;
@@ -77,8 +80,9 @@ passes_nothing run piece = record {
 }
 
 -- lines, and then more lines
-pub passes_then : {R : Type 0} (a b c : Run R) (x y z : List ℕ) → PassesLines a b x y → PassesLines b c y z →
-    PassesLines a c x z
+pub passes_then : {R : Type 0} (a b c : MergeState R) (x y z : List ℕ) → AppendsPassedLines a b x y
+    → AppendsPassedLines b c y z →
+    AppendsPassedLines a c x z
 passes_then a b c x y z first then = record {
   lines = first.lines ++ then.lines;
   gives = λ t l. gives_both first.lines then.lines _ _ _ _ _ _ (first.gives t l) (then.gives t l);

@@ -1,16 +1,16 @@
 -- What is printed of a merge is printed again: its lines are cut and trimmed already, and none begins an include.
-use Rattle.cweb_lines.proofs.Common.{◌≡◌, ◌+◌, ℕ, zero, suc, true, false, List, [], ◌∷◌, ◌++◌, map, None, Some, Option, refl, sym, ◌∙◌, ap, subst, AllByRecursion, list_any, Line, SourceLine, lines, lines_in, World, is_include, Entry, at_place, sought, PrintedMergesComeAgain, Seen, placed, Event, Next, State, Thing, at_raw, fault, onto, passed, raw, run, seek, started, told, took, given_lines, merge, merge-run, halts, text_of, NoMatch}
-use Rattle.cweb_lines.proofs.Alone.{onto_some}
+use Rattle.cweb_lines.proofs.Common.{◌≡◌, ◌+◌, ℕ, zero, suc, true, false, List, [], ◌∷◌, ◌++◌, map, None, Some, Option, refl, sym, ◌∙◌, ap, subst, AllByRecursion, list_any, Line, SourceLine, lines, lines_in, World, is_include_line, WaitingEntry, at_place, sought, PrintedMergesComeAgain, MergeOutcome, placed, Event, Next, MergeStateModel, Thing, at_raw, fault, onto, passed, raw, run_steps, seek, started, told, took, emitted_lines, merge, merge-run_steps, halts, written_lines, NoMatch}
+use Rattle.cweb_lines.proofs.IndependentLines.{onto_some}
 use Rattle.cweb_lines.proofs.Merges.{state}
-use Rattle.cweb_lines.proofs.Adds.{given_none}
-use Rattle.cweb_lines.proofs.Sums.{given-append}
-use Rattle.cweb_source.proofs.Newlines.{text_lines-full}
+use Rattle.cweb_lines.proofs.AddedEvents.{given_none}
+use Rattle.cweb_lines.proofs.EmittedLinesAddUp.{given-append}
+use Rattle.cweb_input.proofs.Newlines.{text_lines-full}
 use Rattle.cweb_lines.proofs.WebLaws.{webs_without_includes}
-use Rattle.cweb_lines.proofs.Cuts.{IsCutLine, IsCutState, IsCutThing, IsPrinted, Keeps, all-append, lines_in-cut, raw_keeps, raws-cut, silent_keeps, sought-cut}
+use Rattle.cweb_lines.proofs.TrimmedLinesStay.{IsCutLine, IsCutState, IsCutThing, IsPrinted, Keeps, all-append, lines_in-cut, raw_keeps, raws-cut, silent_keeps, sought-cut}
 
 -- all lines that are given out may be printed
 abbrev Prints : List Event → Type 0
-Prints events = AllByRecursion IsPrinted (given_lines events)
+Prints events = AllByRecursion IsPrinted (emitted_lines events)
 
 prints_none : (events : List Event) → Some [] ≡ Some events → Prints events
 prints_none [] is = tt
@@ -18,20 +18,21 @@ prints_none (e ∷ es) is = absurd (cc)
 
 module _ (world : World) where
   abbrev PrintsIn : ℕ → Type 0
-  PrintsIn n = (s : State) (events : List Event) → IsCutState s → run n world s ≡ Some events → Prints events
+  PrintsIn n = (s : MergeStateModel) (events : List Event) → IsCutState s → run_steps n world s ≡ Some events
+      → Prints events
 
   -- a step, and then so many more
   step_prints : (n : ℕ) (next : Next) (events : List Event) → PrintsIn n → Keeps next
-      → onto next.0 (run n world next.1) ≡ Some events → Prints events
+      → onto next.0 (run_steps n world next.1) ≡ Some events → Prints events
   step_prints n next events each keeps is =
-      let x = onto_some next.0 events (run n world next.1) is in
+      let x = onto_some next.0 events (run_steps n world next.1) is in
       let later = each next.1 x.0 keeps.1 x.1 in
-      let both = all-append IsPrinted (given_lines next.0) (given_lines x.0) keeps.0 later in
+      let both = all-append IsPrinted (emitted_lines next.0) (emitted_lines x.0) keeps.0 later in
       subst Prints x.2 (subst (AllByRecursion IsPrinted) (sym (given-append next.0 x.0)) both)
 
-  thing_prints : (n : ℕ) (things : List Thing) (pending : Option Entry) (change : List SourceLine) (files : ℕ)
+  thing_prints : (n : ℕ) (things : List Thing) (pending : Option WaitingEntry) (change : List SourceLine) (files : ℕ)
       (events : List Event) → PrintsIn n → AllByRecursion IsCutThing things → AllByRecursion IsCutLine change
-      → run (suc n) world (state things pending change files) ≡ Some events → Prints events
+      → run_steps (suc n) world (state things pending change files) ≡ Some events → Prints events
   thing_prints n [] None change files events each cut cut' is = prints_none events is
   thing_prints n [] (Some entry) change files events each cut cut' is =
       let told = fault (at_place NoMatch entry.begin) in
@@ -65,38 +66,39 @@ merge_prints : (world : World) (web : List ℕ) (change : Option (List ℕ)) →
 merge_prints world web change =
     let s = started web change in
     let all = halts world s in
-    subst Prints (sym (merge-run all.steps world s all.events all.comes))
+    subst Prints (sym (merge-run_steps all.steps world s all.events all.comes))
     (run_prints world all.steps s all.events (started-cut web change) all.comes)
 
 -- what is read again of lines that were printed
-lines_again : (printed : List Line) → AllByRecursion IsPrinted printed → lines (text_of printed)
+lines_again : (printed : List Line) → AllByRecursion IsPrinted printed → lines (written_lines printed)
     ≡ map (λ line. line.bytes) printed
 lines_again [] all = refl
 lines_again (line ∷ printed) all =
-    simp (text_lines-full line.bytes (text_of printed) all.0.0.0, all.0.0.1, lines_again printed all.1)
+    simp (text_lines-full line.bytes (written_lines printed) all.0.0.0, all.0.0.1, lines_again printed all.1)
 
 none_include : (printed : List Line) → AllByRecursion IsPrinted printed
-    → list_any is_include (map (λ line. line.bytes) printed) ≡ false
+    → list_any is_include_line (map (λ line. line.bytes) printed) ≡ false
 none_include [] all = refl
 none_include (line ∷ printed) all = simp (all.0.1, none_include printed all.1)
 
-text_again : (number : ℕ) (printed : List Line) → text_of (placed 0 number (map (λ line. line.bytes) printed))
-    ≡ text_of printed
+text_again : (number : ℕ) (printed : List Line) → written_lines (placed 0 number (map (λ line. line.bytes) printed))
+    ≡ written_lines printed
 text_again number [] = refl
 text_again number (line ∷ printed) = simp (text_again (number + 1) printed)
 
 pub printed_merges : PrintedMergesComeAgain
 printed_merges world other web change =
-    let printed = given_lines (merge world (started web change)) in
+    let printed = emitted_lines (merge world (started web change)) in
     let all = merge_prints world web change in
     let same = lines_again printed all in
-    let none = ap (list_any is_include) same ∙ none_include printed all in
-    let again = webs_without_includes other (text_of printed) none in
+    let none = ap (list_any is_include_line) same ∙ none_include printed all in
+    let again = webs_without_includes other (written_lines printed) none in
     record {
       same_lines = same;
       without_includes = none;
-      same_text = ap (λ (s : Seen). text_of s.lines) again ∙ ap (λ (ls : List (List ℕ)). text_of (placed 0 1 ls)) same
+      same_text = ap (λ (s : MergeOutcome). written_lines s.lines) again
+          ∙ ap (λ (ls : List (List ℕ)). written_lines (placed 0 1 ls)) same
           ∙ text_again 1 printed;
-      faultless = ap (λ (s : Seen). s.faults) again;
-      alone = ap (λ (s : Seen). s.included) again;
+      faultless = ap (λ (s : MergeOutcome). s.faults) again;
+      alone = ap (λ (s : MergeOutcome). s.included) again;
     }

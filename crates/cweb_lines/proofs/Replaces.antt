@@ -1,7 +1,7 @@
 -- The old side of a change, line by line.
-use Rattle.cweb_lines.proofs.Common.{◌≡◌, ◌+◌, ◌||◌, ℕ, Bool, false, List, [], ◌∷◌, ◌++◌, Some, None, Option, refl, ◌∙◌, ap, arith, append-nil, append_assoc, Place, OldSide, at_place, code_of, old_at, old_code, old_line, old_lines, Line, SourceLine, Compared, RawLine, Thing, raw, compared, SoFar, Adds, HasBegun, StopsIn, EndsStep, Compares, IsReplaced, Replaces, taken_away, FirstStops, Took, TopStops, Code, WantsY, Replaced, StopsFor, inl, inr, Stop, ReadFault, LineTooLong, TooMuchText, Memory, or-false}
+use Rattle.cweb_lines.proofs.Common.{◌≡◌, ◌+◌, ◌||◌, ℕ, Bool, false, List, [], ◌∷◌, ◌++◌, Some, None, Option, refl, ◌∙◌, ap, arith, append-nil, append_assoc, Place, OldSide, at_place, change_code, old_at, old_code, old_line, old_lines, Line, SourceLine, Compared, RawLine, Thing, raw, compared, SoFar, AddsFaultsAndLines, HasBegunStep, StopsIn, EndsStep, Compares, IsReplaced, Replaces, taken_away, FirstStops, CountsLine, TopStops, Code, WantsY, Replaced, StopsFor, inl, inr, Stop, ReadFault, LineTooLong, TooMuchText, Memory, or-false}
 use Rattle.cweb_lines.specs.declared.change.code.Code.TheVariants.{NewSide as new_side}
-use Rattle.cweb_lines.proofs.Adds.{adds_none, adds_within, adds_lines, adds_faults}
+use Rattle.cweb_lines.proofs.AddedEvents.{adds_none, adds_within, adds_lines, adds_faults}
 use Rattle.cweb_lines.proofs.Codes.{old_code_at, taken_at}
 
 pub replaces_from : (change : List SourceLine) (things : List Thing) (old : SoFar) →
@@ -39,7 +39,7 @@ compares_same bytes bytes' so_far after ts ts' us old new b t r = rw (b, t) at r
 
 module _ (change : List SourceLine) (things : List Thing) (so_far : Replaced) (lines : List SourceLine)
     (raws : List Thing) (old mid : SoFar) (r : Replaces change things so_far lines raws old mid) where
-  abbrev replaces_begun : (new : SoFar) → new ≡ mid → HasBegun old new (old_lines change).taken
+  abbrev replaces_begun : (new : SoFar) → new ≡ mid → HasBegunStep old new (old_lines change).taken
       (taken_away change things).taken (old_lines change).faults
   replaces_begun new same = record {
     front = r.taken;
@@ -57,7 +57,7 @@ module _ (change : List SourceLine) (things : List Thing) (so_far : Replaced) (l
   replaces_stop : (stop : Stop) (new : SoFar) → new ≡ mid → FirstStops stop mid.count lines → StopsIn stop old new
       (old_lines change).taken (taken_away change things).taken (old_lines change).faults
   replaces_stop stop new same stops =
-      let takes = taken_at (code_of stops.line.line.bytes) stops.line stops.rest (old_lines stops.rest) in
+      let takes = taken_at (change_code stops.line.line.bytes) stops.line stops.rest (old_lines stops.rest) in
       record {
         begun = replaces_begun new same;
         line = stops.line;
@@ -77,7 +77,7 @@ module _ (change : List SourceLine) (things : List Thing) (so_far : Replaced) (l
   -- the old side ends here, behind these lines
   pub replaces_done : (new : SoFar) (last rest : List SourceLine) (ended : Bool)
       → old_lines lines ≡ record { faults = []; lines = []; taken = last; ended = ended; rest = rest }
-      → Adds r.told ((r.taken ++ last) ++ r.raw_taken) old new → IsReplaced change things
+      → AddsFaultsAndLines r.told ((r.taken ++ last) ++ r.raw_taken) old new → IsReplaced change things
       (record { unequal = so_far.unequal; ran_out = so_far.ran_out; ended = ended }) rest raws old new
   replaces_done new last rest ended is adds =
       record {
@@ -90,17 +90,17 @@ module _ (change : List SourceLine) (things : List Thing) (so_far : Replaced) (l
       }
 
   -- a line of the change file was taken
-  module _ (now : SoFar) (bytes : List ℕ) (place : Place) (t : Took bytes place mid.count now.count)
+  module _ (now : SoFar) (bytes : List ℕ) (place : Place) (t : CountsLine bytes place mid.count now.count)
       (rest : List SourceLine) (is : lines ≡ t.line ∷ rest) (told : now.faults ≡ mid.faults)
       (names : now.names ≡ mid.names) where
-    counted : Adds r.told ((r.taken ++ t.line ∷ []) ++ r.raw_taken) old now
+    counted : AddsFaultsAndLines r.told ((r.taken ++ t.line ∷ []) ++ r.raw_taken) old now
     counted = adds_within r.told r.taken r.raw_taken old mid now bytes place t r.adds told names
 
-    side : (code : Option Code) → code_of bytes ≡ code → old_lines lines ≡ old_at code t.line rest (old_lines rest)
+    side : (code : Option Code) → change_code bytes ≡ code → old_lines lines ≡ old_at code t.line rest (old_lines rest)
     side code test = ap old_lines is ∙ old_code_at code t.line rest bytes place t.is test
 
     -- it is an @x or @z line
-    pub replaces_code : (code : Code) (new : SoFar) → code_of bytes ≡ Some code → old_at (Some code) t.line rest
+    pub replaces_code : (code : Code) (new : SoFar) → change_code bytes ≡ Some code → old_at (Some code) t.line rest
         (old_lines rest) ≡ old_code t.line (old_lines rest) → new.faults ≡ now.faults ++ at_place WantsY place ∷ []
         → new.names ≡ now.names → new.count ≡ now.count → Replaces change things so_far rest raws old new
     replaces_code code new test faulty told' names' count =
@@ -123,7 +123,7 @@ module _ (change : List SourceLine) (things : List Thing) (so_far : Replaced) (l
         }
 
     -- it is an old line, which was compared
-    pub replaces_line : (after : Replaced) (raws' : List Thing) (new : SoFar) → code_of bytes ≡ None →
+    pub replaces_line : (after : Replaced) (raws' : List Thing) (new : SoFar) → change_code bytes ≡ None →
         Compares bytes so_far after raws raws' now new → Replaces change things after rest raws' old new
     replaces_line after raws' new test by =
         let s = side _ test in
@@ -146,7 +146,8 @@ module _ (change : List SourceLine) (things : List Thing) (so_far : Replaced) (l
           adds = adds_lines _ _ _ _ old now new counted by.adds;
         }
 
-    abbrev raw_begun : (new : SoFar) → new ≡ now → code_of bytes ≡ None → HasBegun old new (old_lines change).taken
+    abbrev raw_begun : (new : SoFar) → new ≡ now → change_code bytes ≡ None
+        → HasBegunStep old new (old_lines change).taken
         (taken_away change things).taken (old_lines change).faults
     raw_begun new same test = record {
       front = r.taken ++ t.line ∷ [];
@@ -165,7 +166,8 @@ module _ (change : List SourceLine) (things : List Thing) (so_far : Replaced) (l
         ∷ below → (taken_away lines raws).taken ≡ top.source ∷ (compared (old_lines rest).lines below).taken
     away s first = (λ i. (compared (s i).lines (first i)).taken)
 
-    raw_stop : (stop : Stop) (new : SoFar) → new ≡ now → code_of bytes ≡ None → TopStops stop now.count raws → StopsIn
+    raw_stop : (stop : Stop) (new : SoFar) → new ≡ now → change_code bytes ≡ None → TopStops stop now.count raws
+        → StopsIn
         stop old new (old_lines change).taken (taken_away change things).taken (old_lines change).faults
     raw_stop stop new same test stops =
         let s : old_lines lines ≡ old_line t.line (old_lines rest) = side None test in
@@ -177,7 +179,8 @@ module _ (change : List SourceLine) (things : List Thing) (so_far : Replaced) (l
         }
 
     -- it is an old line, and the raw line that it would take away can't be taken
-    pub raw_ends : (stop : Stop) (new : SoFar) → new ≡ now → code_of bytes ≡ None → StopsFor (TopStops stop now.count
+    pub raw_ends : (stop : Stop) (new : SoFar) → new ≡ now → change_code bytes ≡ None
+        → StopsFor (TopStops stop now.count
         raws) stop → EndsStep stop old new (old_lines change).taken (taken_away change things).taken
         (old_lines change).faults
     raw_ends (ReadFault file) new same test stops = raw_begun new same test
@@ -187,6 +190,6 @@ module _ (change : List SourceLine) (things : List Thing) (so_far : Replaced) (l
     raw_ends stop new same test stops = absurd stops
 
     -- it is the @y line
-    pub replaces_new : code_of bytes ≡ Some new_side → IsReplaced change things
+    pub replaces_new : change_code bytes ≡ Some new_side → IsReplaced change things
         (record { unequal = so_far.unequal; ran_out = so_far.ran_out; ended = false }) rest raws old now
     replaces_new test = replaces_done now (t.line ∷ []) rest false (side (Some new_side) test) counted

@@ -1,15 +1,15 @@
 -- A search for an entry, line by line.
-use Rattle.cweb_lines.proofs.Common.{◌≡◌, ℕ, List, [], ◌∷◌, ◌++◌, Option, Some, None, refl, sym, ◌∙◌, ap, subst, append-nil, append_assoc, Place, Sought, behind_x, code_of, sought, SourceLine, SoFar, HasBegun, StopsIn, EndsStep, TellsSome, Searched, SeeksTo, ToldFront, behind, IsOutside, FirstStops, Took, Code, Stage, Done, Waiting, StopsFor, inl, Stop, ReadFault, LineTooLong, TooMuchText, Memory}
-use Rattle.cweb_lines.specs.Seeking.{LooksAt}
+use Rattle.cweb_lines.proofs.Common.{◌≡◌, ℕ, List, [], ◌∷◌, ◌++◌, Option, Some, None, refl, sym, ◌∙◌, ap, subst, append-nil, append_assoc, Place, Sought, after_x, change_code, sought, SourceLine, SoFar, HasBegunStep, StopsIn, EndsStep, ReportsSomeFaults, Searched, SeeksTo, ReportsFaultPrefix, search_after, IsOutside, FirstStops, CountsLine, Code, Stage, Done, Waiting, StopsFor, inl, Stop, ReadFault, LineTooLong, TooMuchText, Memory}
+use Rattle.cweb_lines.specs.inner.Seeking.{LooksAt}
 use Rattle.cweb_lines.specs.declared.change.seek.Look.TheVariants.{Entry as first_line, On as goes_on}
-use Rattle.cweb_lines.proofs.Adds.{adds_none, adds_line, adds_faults}
+use Rattle.cweb_lines.proofs.AddedEvents.{adds_none, adds_line, adds_faults}
 
 pub seeks_from : (found : Sought) (old : SoFar) → SeeksTo found found old old
 seeks_from found old = record { told = []; taken = []; whole = refl; adds = adds_none old old refl }
 
 -- whatever comes of a line in a search, it is taken first
 taken_behind : (bytes : List ℕ) (code : Option Code) (begin : Place) (line : SourceLine) (lines : List SourceLine) →
-    (more : List SourceLine) × ((behind_x bytes code begin line lines (λ next. sought lines next)).taken ≡ line ∷ more)
+    (more : List SourceLine) × ((after_x bytes code begin line lines (λ next. sought lines next)).taken ≡ line ∷ more)
 taken_behind [] code begin line lines = ((sought lines (Some begin)).taken, refl)
 taken_behind (b ∷ bs) None begin line lines = ([], refl)
 taken_behind (b ∷ bs) (Some code) begin line lines = (_, refl)
@@ -17,11 +17,11 @@ taken_behind (b ∷ bs) (Some code) begin line lines = (_, refl)
 sought_takes : (line : SourceLine) (lines : List SourceLine) (begin : Option Place) →
     (more : List SourceLine) × ((sought (line ∷ lines) begin).taken ≡ line ∷ more)
 sought_takes line lines None = (_, refl)
-sought_takes line lines (Some begin) = taken_behind line.line.bytes (code_of line.line.bytes) begin line lines
+sought_takes line lines (Some begin) = taken_behind line.line.bytes (change_code line.line.bytes) begin line lines
 
 module _ (all : Sought) (lines : List SourceLine) (begin : Option Place) (old mid : SoFar)
     (seeks : SeeksTo all (sought lines begin) old mid) where
-  abbrev seeks_begun : (new : SoFar) → new ≡ mid → HasBegun old new all.taken [] all.faults
+  abbrev seeks_begun : (new : SoFar) → new ≡ mid → HasBegunStep old new all.taken [] all.faults
   seeks_begun new same = record {
     front = seeks.taken;
     rest = (sought lines begin).taken;
@@ -56,8 +56,8 @@ module _ (all : Sought) (lines : List SourceLine) (begin : Option Place) (old mi
   seeks_ends stop new same stops = absurd stops
 
   -- some faults of a line are told behind those so far
-  pub seeks_told_more : (new : SoFar) → ToldFront (sought lines begin).faults mid.faults new.faults →
-      new.names ≡ mid.names → TellsSome all.faults old new
+  pub seeks_told_more : (new : SoFar) → ReportsFaultPrefix (sought lines begin).faults mid.faults new.faults →
+      new.names ≡ mid.names → ReportsSomeFaults all.faults old new
   seeks_told_more new more names = record {
     front = seeks.told ++ more.front;
     rest = more.rest;
@@ -67,7 +67,7 @@ module _ (all : Sought) (lines : List SourceLine) (begin : Option Place) (old mi
   }
 
   -- a line was taken and looked at
-  module _ (now new : SoFar) (bytes : List ℕ) (place : Place) (t : Took bytes place mid.count now.count)
+  module _ (now new : SoFar) (bytes : List ℕ) (place : Place) (t : CountsLine bytes place mid.count now.count)
       (rest : List SourceLine) (is : lines ≡ t.line ∷ rest) (same_faults : now.faults ≡ mid.faults)
       (same_names : now.names ≡ mid.names)
       (names : new.names ≡ now.names) (count : new.count ≡ now.count) where
@@ -85,7 +85,7 @@ module _ (all : Sought) (lines : List SourceLine) (begin : Option Place) (old mi
     pub seeks_found : (entry : Place) → LooksAt (first_line entry) begin bytes place now.faults new.faults →
         Searched all old new (Waiting entry) bytes rest
     seeks_found entry looks =
-        let whole : all ≡ behind seeks.told seeks.taken (record {
+        let whole : all ≡ search_after seeks.told seeks.taken (record {
           faults = looks.told;
           taken = t.line ∷ [];
           entry =
@@ -116,7 +116,7 @@ pub seeks_ended : (all : Sought) (lines : List SourceLine) (begin : Option Place
 seeks_ended all lines begin old mid seeks none new faults names count stage done first left =
     let last = sought [] begin in
     let ends = sought_none begin in
-    let whole : all ≡ behind seeks.told seeks.taken last = simp (seeks.whole, none) in
+    let whole : all ≡ search_after seeks.told seeks.taken last = simp (seeks.whole, none) in
     let adds = adds_faults seeks.told last.faults seeks.taken old mid new seeks.adds faults names count in
     record {
       adds = simp (whole, ends.0, append-nil) adds;

@@ -1,11 +1,11 @@
 -- Changes that match, in order, splice.
-use Rattle.cweb_lines.proofs.Common.{◌≡◌, ◌+◌, ℕ, true, false, List, [], ◌∷◌, ◌++◌, None, sym, ◌∙◌, ap, subst, arith, length, AllByRecursion, list_any, bytes_eq, SourceLine, lines_in, text_lines, World, is_include, code_of, ChangesSplice, IsPlainSplice, Splice, is_code, spliced, web_lines, followed_by, only_lines, placed, seen, raws, seek, merge, or_parts}
-use Rattle.cweb_lines.specs.Laws.{change_lines}
+use Rattle.cweb_lines.proofs.Common.{◌≡◌, ◌+◌, ℕ, true, false, List, [], ◌∷◌, ◌++◌, None, sym, ◌∙◌, ap, subst, arith, length, AllByRecursion, list_any, bytes_eq, SourceLine, lines_in, cut_lines, World, is_include_line, change_code, ChangesSplice, IsPlainSplice, Splice, is_change_code, spliced, web_lines, followed_by, only_lines, placed, outcome_of_events, raws, seek, merge, or_parts}
+use Rattle.cweb_lines.specs.laws.Laws.{spliced_change_lines}
 use Rattle.cweb_lines.proofs.Merges.{state}
 use Rattle.cweb_lines.proofs.Entries.{bytes_in, finds_none, gives_alone}
-use Rattle.cweb_lines.proofs.Lies.{Lie, bytes_of, first_of, lie_in, parts}
+use Rattle.cweb_lines.proofs.LinePlaces.{Lie, bytes_of, first_of, lie_in, parts}
 use Rattle.cweb_lines.proofs.Splices.{Edit, IsPlain, splices_one}
-use Rattle.cweb_lines.proofs.Seens.{no_code, seek_unseen}
+use Rattle.cweb_lines.proofs.OutcomeOfEvents.{no_code, seek_unseen}
 
 -- the lines of a web up to the last that a change replaces, and what stands behind them
 record WebParts (number : ℕ) (s : Splice) (later : List (List ℕ)) (lines : List SourceLine) : Type 0 where
@@ -100,12 +100,12 @@ change_parts number s later lines lie =
 
 -- behind the last entry
 splices_none : (world : World) (web change : ℕ) (behind comment : List (List ℕ)) (lines changes : List SourceLine)
-    → list_any is_include behind ≡ false → list_any is_code comment ≡ false
-    → Lie 0 web behind lines → Lie 1 change comment changes → seen
+    → list_any is_include_line behind ≡ false → list_any is_change_code comment ≡ false
+    → Lie 0 web behind lines → Lie 1 change comment changes → outcome_of_events
     (merge world (state (seek ∷ raws 1 true lines) None changes 2)) ≡ only_lines (placed 0 web behind)
 splices_none world web change behind comment lines changes plain_behind no_codes lie lie' =
-    let plain_lines = ap (list_any is_include) (bytes_of 0 web behind lines lie) ∙ plain_behind in
-    let none = ap (list_any is_code) (bytes_of 1 change comment changes lie') ∙ no_codes in
+    let plain_lines = ap (list_any is_include_line) (bytes_of 0 web behind lines lie) ∙ plain_behind in
+    let none = ap (list_any is_change_code) (bytes_of 1 change comment changes lie') ∙ no_codes in
     seek_unseen world (raws 1 true lines) changes 2 changes None [] (finds_none changes none)
     ∙ gives_alone world 1 true lines [] 2 plain_lines
     ∙ ap only_lines lie
@@ -130,43 +130,43 @@ plain_edit : (web change : ℕ) (s : Splice) (later later' : List (List ℕ)) (l
     (w : WebParts web s later lines) (c : ChangeParts change s later' changes)
     → IsPlainSplice s → IsPlain (edit_of web change s later later' lines changes w c)
 plain_edit web change s later later' lines changes w c is =
-    let old = or_parts (is_code s.first) (list_any is_code s.further) is.old in
+    let old = or_parts (is_change_code s.first) (list_any is_change_code s.further) is.old in
     let stays_is = bytes_of 0 web s.stays w.stays w.stays_lie in
     let new_is = bytes_of 1 (change + length s.comment + length s.further + 3) s.new c.new c.new_lies in
     record {
-      no_comment = ap (list_any is_code) c.comment_is ∙ is.comment;
-      begins = ap code_of c.begin_is ∙ is.begins;
+      no_comment = ap (list_any is_change_code) c.comment_is ∙ is.comment;
+      begins = ap change_code c.begin_is ∙ is.begins;
       some = λ none. is.some (sym c.first_is ∙ none);
-      no_first = ap code_of c.first_is ∙ no_code (code_of s.first) old.0;
-      no_old = ap (list_any is_code) c.further_is ∙ old.1;
-      turns = ap code_of c.middle_is ∙ is.turns;
-      no_new = ap (list_any is_code) new_is ∙ is.new;
-      ends = ap code_of c.end_is ∙ is.ends;
-      new_plain = ap (list_any is_include) new_is ∙ is.new_plain;
+      no_first = ap change_code c.first_is ∙ no_code (change_code s.first) old.0;
+      no_old = ap (list_any is_change_code) c.further_is ∙ old.1;
+      turns = ap change_code c.middle_is ∙ is.turns;
+      no_new = ap (list_any is_change_code) new_is ∙ is.new;
+      ends = ap change_code c.end_is ∙ is.ends;
+      new_plain = ap (list_any is_include_line) new_is ∙ is.new_plain;
       same_first = w.first ∙ sym c.first_is;
       same_old = w.further ∙ sym c.further_is;
-      stays_plain = ap (list_any is_include) stays_is ∙ is.stays_plain;
+      stays_plain = ap (list_any is_include_line) stays_is ∙ is.stays_plain;
       others = (λ i. list_any (λ line. bytes_eq line (c.first_is i)) (stays_is i)) ∙ is.first_there;
     }
 
 splices_all : (world : World) (splices : List Splice) (web change : ℕ) (behind comment : List (List ℕ))
     (lines changes : List SourceLine) → AllByRecursion IsPlainSplice splices
-    → list_any is_include behind ≡ false → list_any is_code comment ≡ false
-    → Lie 0 web (web_lines splices behind) lines → Lie 1 change (change_lines splices comment) changes
-    → seen (merge world (state (seek ∷ raws 1 true lines) None changes 2))
+    → list_any is_include_line behind ≡ false → list_any is_change_code comment ≡ false
+    → Lie 0 web (web_lines splices behind) lines → Lie 1 change (spliced_change_lines splices comment) changes
+    → outcome_of_events (merge world (state (seek ∷ raws 1 true lines) None changes 2))
     ≡ only_lines (spliced web change splices behind)
 splices_all world [] web change behind comment lines changes all plain_behind no_codes lie lie' =
     splices_none world web change behind comment lines changes plain_behind no_codes lie lie'
 splices_all world (s ∷ splices) web change behind comment lines changes all plain_behind no_codes lie lie' =
     let rest = web_lines splices behind in
-    let rest' = change_lines splices comment in
+    let rest' = spliced_change_lines splices comment in
     let w = web_parts web s rest lines lie in
     let c = change_parts change s rest' changes lie' in
     let first_new = change + length s.comment + length s.further + 3 in
     let next_web = web + length s.stays + length s.further + 1 in
     let later = splices_all world splices next_web (first_new + length s.new + 1) behind comment w.behind c.rest
     all.1 plain_behind no_codes w.behind_lies c.rest_lies in
-    (λ i. seen (merge world (state (seek ∷ raws 1 true (w.whole i)) None (c.whole i) 2)))
+    (λ i. outcome_of_events (merge world (state (seek ∷ raws 1 true (w.whole i)) None (c.whole i) 2)))
     ∙ splices_one world 2 (edit_of web change s rest rest' lines changes w c)
     (plain_edit web change s rest rest' lines changes w c all.0) c.rest w.behind
     ∙ (λ i. followed_by (only_lines (w.stays_lie i)) (followed_by (only_lines (c.new_lies i)) (later i)))
@@ -174,4 +174,4 @@ splices_all world (s ∷ splices) web change behind comment lines changes all pl
 pub changes_splice : ChangesSplice
 changes_splice world web change splices behind comment all plain_behind no_codes web_is change_is =
     splices_all world splices 1 1 behind comment (lines_in 0 web) (lines_in 1 change) all plain_behind no_codes
-    (lie_in 0 1 (text_lines web) ∙ ap (placed 0 1) web_is) (lie_in 1 1 (text_lines change) ∙ ap (placed 1 1) change_is)
+    (lie_in 0 1 (cut_lines web) ∙ ap (placed 0 1) web_is) (lie_in 1 1 (cut_lines change) ∙ ap (placed 1 1) change_is)

@@ -1,9 +1,9 @@
 -- What one change makes of the lines that it stands between.
-use Rattle.cweb_lines.proofs.Common.{◌≡◌, ◌≢◌, ◌&&◌, ℕ, true, false, List, [], ◌∷◌, ◌++◌, map, None, Some, refl, sym, ◌∙◌, ap, append_assoc, bytes_eq-Decides, list_any, bytes_eq, SourceLine, World, is_include, Entry, OldSide, code_of, is_code, followed_by, only_lines, seen, Compared, Event, NewSide, Next, RawLine, Thing, after_old, at_entry, change_events, compared, passed, raw, raws, seek, taking, took, merge, merge_next}
+use Rattle.cweb_lines.proofs.Common.{◌≡◌, ◌≢◌, ◌&&◌, ℕ, true, false, List, [], ◌∷◌, ◌++◌, map, None, Some, refl, sym, ◌∙◌, ap, append_assoc, bytes_eq-Decides, list_any, bytes_eq, SourceLine, World, is_include_line, WaitingEntry, OldSide, change_code, is_change_code, followed_by, only_lines, outcome_of_events, Compared, Event, NewSide, Next, RawLine, Thing, after_old, at_entry, change_events, compared, passed, raw, raws, seek, taking, took, merge, merge_next}
 use Rattle.cweb_lines.specs.declared.change.code.Code.TheVariants.{EndSide as end_side, NewSide as new_side, OldSide as old_side}
-use Rattle.cweb_open.proofs.Stacks.{raws-append}
+use Rattle.cweb_input.proofs.SourceStacks.{raws-append}
 use Rattle.cweb_lines.proofs.Merges.{state}
-use Rattle.cweb_lines.proofs.Seens.{seek_unseen}
+use Rattle.cweb_lines.proofs.OutcomeOfEvents.{seek_unseen}
 use Rattle.cweb_lines.proofs.Entries.{bytes_in, compares, entry_of, finds, gives_out, lines_of, new_splits, old_splits, passes_by}
 
 -- The lines of one change. Of the change file: a comment, the @x line, the first old line, the further ones, the
@@ -30,29 +30,29 @@ web_from e behind = e.stays ++ (e.line ∷ (e.old ++ behind))
 
 -- only the codes of the entry are codes, no line includes, and the entry matches at its place and not before
 pub record IsPlain (e : Edit) : Type 0 where
-  pub no_comment : list_any is_code (bytes_in e.comment) ≡ false
-  pub begins : code_of e.x.line.bytes ≡ Some old_side
+  pub no_comment : list_any is_change_code (bytes_in e.comment) ≡ false
+  pub begins : change_code e.x.line.bytes ≡ Some old_side
   pub some : e.first.line.bytes ≢ []
-  pub no_first : code_of e.first.line.bytes ≡ None
-  pub no_old : list_any is_code (bytes_in e.further) ≡ false
-  pub turns : code_of e.y.line.bytes ≡ Some new_side
-  pub no_new : list_any is_code (bytes_in e.new) ≡ false
-  pub ends : code_of e.z.line.bytes ≡ Some end_side
-  pub new_plain : list_any is_include (bytes_in e.new) ≡ false
+  pub no_first : change_code e.first.line.bytes ≡ None
+  pub no_old : list_any is_change_code (bytes_in e.further) ≡ false
+  pub turns : change_code e.y.line.bytes ≡ Some new_side
+  pub no_new : list_any is_change_code (bytes_in e.new) ≡ false
+  pub ends : change_code e.z.line.bytes ≡ Some end_side
+  pub new_plain : list_any is_include_line (bytes_in e.new) ≡ false
   pub same_first : e.line.line.bytes ≡ e.first.line.bytes
   pub same_old : bytes_in e.old ≡ bytes_in e.further
-  pub stays_plain : list_any is_include (bytes_in e.stays) ≡ false
+  pub stays_plain : list_any is_include_line (bytes_in e.stays) ≡ false
   pub others : list_any (λ line. bytes_eq line e.first.line.bytes) (bytes_in e.stays) ≡ false
 
-lines_unseen : (a b : List SourceLine) (events : List Event) → seen
-    (map took a ++ map took b ++ [] ++ [] ++ [] ++ [] ++ events) ≡ seen events
+lines_unseen : (a b : List SourceLine) (events : List Event) → outcome_of_events
+    (map took a ++ map took b ++ [] ++ [] ++ [] ++ [] ++ events) ≡ outcome_of_events events
 lines_unseen [] [] events = refl
 lines_unseen [] (line ∷ b) events = lines_unseen [] b events
 lines_unseen (line ∷ a) b events = lines_unseen a b events
 
 -- a change whose old lines equal the web's
 module _ (world : World) (files : ℕ) (e : Edit) (plain_edit : IsPlain e) (change behind : List SourceLine) where
-  abbrev entry : Entry
+  abbrev entry : WaitingEntry
   entry = entry_of e.x e.first
 
   abbrev rest : List Thing
@@ -91,24 +91,28 @@ module _ (world : World) (files : ℕ) (e : Edit) (plain_edit : IsPlain e) (chan
       ∙ compares 1 true e.old rest
 
   -- the new lines come, and then the next entry is sought
-  new_come : seen (merge world (after_old false files 1 entry side_is rest))
-      ≡ followed_by (only_lines (lines_of e.new)) (seen (merge world (state (seek ∷ rest) None change files)))
-  new_come = ap (λ (side : NewSide). seen (merge world (state (side.things ++ (seek ∷ rest)) None side.rest files)))
+  new_come : outcome_of_events (merge world (after_old false files 1 entry side_is rest))
+      ≡ followed_by (only_lines (lines_of e.new))
+      (outcome_of_events (merge world (state (seek ∷ rest) None change files)))
+  new_come = ap (λ (side : NewSide). outcome_of_events
+      (merge world (state (side.things ++ (seek ∷ rest)) None side.rest files)))
       (new_splits 1 e.x.line.place e.new e.z change plain_edit.no_new plain_edit.ends)
-      ∙ ap (λ (ts : List Thing). seen (merge world (state ts None change files)))
+      ∙ ap (λ (ts : List Thing). outcome_of_events (merge world (state ts None change files)))
       (append_assoc (raws 1 false e.new) (passed e.z ∷ []) (seek ∷ rest))
       ∙ gives_out world 1 false e.new (passed e.z ∷ seek ∷ rest) change files plain_edit.new_plain
-      ∙ ap (λ (events : List Event). followed_by (only_lines (lines_of e.new)) (seen events)) (merge_next world
+      ∙ ap (λ (events : List Event). followed_by (only_lines (lines_of e.new)) (outcome_of_events events))
+      (merge_next world
       (state (passed e.z ∷ seek ∷ rest) None change files) (took e.z ∷ [], state (seek ∷ rest) None change files) refl)
 
-  replaces : seen (merge world (state (raws 1 true replaced_on) (Some entry) old_on files))
-      ≡ followed_by (only_lines (lines_of e.new)) (seen (merge world (state (seek ∷ rest) None change files)))
+  replaces : outcome_of_events (merge world (state (raws 1 true replaced_on) (Some entry) old_on files))
+      ≡ followed_by (only_lines (lines_of e.new))
+      (outcome_of_events (merge world (state (seek ∷ rest) None change files)))
   replaces =
       let r : RawLine = record { source = e.line; depth = 1; may_match = true } in
       let things = raws 1 true (e.old ++ behind) in
       let s = state (raw r ∷ things) (Some entry) old_on files in
       let equal = (bytes_eq-Decides e.line.line.bytes e.first.line.bytes).1 plain_edit.same_first in
-      ap seen (merge_next world s (taking e.line (next_by side_is by_is))
+      ap outcome_of_events (merge_next world s (taking e.line (next_by side_is by_is))
       (ap (λ b. Some (taking e.line (at_entry (true && b) entry world s r things))) equal
       ∙ ap (λ side. Some (taking e.line (next_by side (compared side.lines things)))) (old_splits e.further e.y
       new_on plain_edit.no_old plain_edit.turns) ∙ ap (λ by. Some (taking e.line (next_by side_is by))) compares_so))
@@ -116,14 +120,15 @@ module _ (world : World) (files : ℕ) (e : Edit) (plain_edit : IsPlain e) (chan
       ∙ new_come
 
   -- one change: the search for it, the lines before it, the new lines, and what comes behind
-  pub splices_one : seen (merge world (state (seek ∷ raws 1 true (web_from e behind)) None
+  pub splices_one : outcome_of_events (merge world (state (seek ∷ raws 1 true (web_from e behind)) None
       (change_from e change) files)) ≡ followed_by (only_lines (lines_of e.stays))
-      (followed_by (only_lines (lines_of e.new)) (seen (merge world (state (seek ∷ rest) None change files))))
+      (followed_by (only_lines (lines_of e.new))
+      (outcome_of_events (merge world (state (seek ∷ rest) None change files))))
   splices_one =
       let things = raws 1 true (web_from e behind) in
       seek_unseen world things (change_from e change) files (e.comment ++ (e.x ∷ e.first ∷ [])) (Some entry) old_on
       (finds e.comment e.x e.first old_on plain_edit.no_comment plain_edit.begins plain_edit.some plain_edit.no_first)
-      ∙ ap (λ (ts : List Thing). seen (merge world (state ts (Some entry) old_on files)))
+      ∙ ap (λ (ts : List Thing). outcome_of_events (merge world (state ts (Some entry) old_on files)))
       (raws-append 1 true e.stays replaced_on)
       ∙ passes_by world 1 entry e.stays (raws 1 true replaced_on) old_on files plain_edit.stays_plain plain_edit.others
       ∙ ap (followed_by (only_lines (lines_of e.stays))) replaces

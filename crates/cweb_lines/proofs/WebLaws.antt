@@ -1,11 +1,11 @@
 -- The law of webs without include lines and without a change file.
-use Rattle.cweb_lines.proofs.Common.{true, [], ◌∙◌, ap, list_any, lines, lines_in, text_lines, is_include, WebsWithoutIncludesAreTheirOwnLines, only_lines}
+use Rattle.cweb_lines.proofs.Common.{true, [], ◌∙◌, ap, list_any, lines, lines_in, cut_lines, is_include_line, WebsWithoutIncludesAreTheirOwnLines, only_lines}
 use Rattle.cweb_lines.proofs.Entries.{gives_alone}
-use Rattle.cweb_lines.proofs.Lies.{bytes_of, lie_in}
+use Rattle.cweb_lines.proofs.LinePlaces.{bytes_of, lie_in}
 
 pub webs_without_includes : WebsWithoutIncludesAreTheirOwnLines
 webs_without_includes world web none =
-    let lie = lie_in 0 1 (text_lines web) in
+    let lie = lie_in 0 1 (cut_lines web) in
     gives_alone world 1 true (lines_in 0 web) [] 1
-    (ap (list_any is_include) (bytes_of 0 1 (lines web) (lines_in 0 web) lie) ∙ none)
+    (ap (list_any is_include_line) (bytes_of 0 1 (lines web) (lines_in 0 web) lie) ∙ none)
     ∙ ap only_lines lie

@@ -1,11 +1,11 @@
 -- What the end of a run blames where a read or a write failed.
-use Rattle.cweb_lines.proofs.Common.{◌≡◌, ◌≤◌, ◌+◌, ℕ, List, Option, None, Some, Result, Err, refl, sym, ap, subst, arith, IfSome, Event, SoFar, StopsReading, read_blame, files_named, StopsWriting, WritingStops, WritesSome, Failed, Blames, KeepsStop, write_blame, Stop, ReadFault, LineTooLong, TooMuchText, Memory, WriteFault}
+use Rattle.cweb_lines.proofs.Common.{◌≡◌, ◌≤◌, ◌+◌, ℕ, List, Option, None, Some, Result, Err, refl, sym, ap, subst, arith, IfSome, Event, SoFar, StopsReading, read_failures_of, files_named, StopsWriting, WritingStops, WritesSome, FailureCounts, LeavesDevices, KeepsStop, write_failures_of, Stop, ReadFault, LineTooLong, TooMuchText, Memory, WriteFault}
 
 -- what holds of a stop that came before holds where none came
 pub none_before : {A : Type 0} (P : A → Type 0) {stop : Option A} → stop ≡ None → IfSome stop P
 none_before P none = subst (λ stop. IfSome stop P) (sym none) tt
 
-pub no_write_blame : (stop : Stop) → StopsReading stop → write_blame stop ≡ 0
+pub no_write_blame : (stop : Stop) → StopsReading stop → write_failures_of stop ≡ 0
 no_write_blame WriteFault reading = absurd reading
 no_write_blame stop reading = refl
 
@@ -25,9 +25,9 @@ keeps_reading Memory kept reading keeps = keeps
 keeps_reading stop kept reading keeps = absurd reading
 
 -- the merger stopped
-pub blames_own : (stop : Stop) (kept : Option Stop) (files : ℕ) (before after : Failed) → StopsReading stop
-    → kept ≡ Some stop → files_named stop ≤ files → after.shelf ≡ before.shelf + read_blame stop
-    → after.out ≡ before.out → Blames stop before after kept files
+pub blames_own : (stop : Stop) (kept : Option Stop) (files : ℕ) (before after : FailureCounts) → StopsReading stop
+    → kept ≡ Some stop → files_named stop ≤ files → after.shelf ≡ before.shelf + read_failures_of stop
+    → after.out ≡ before.out → LeavesDevices stop before after kept files
 blames_own stop kept files before after reading keeps named shelf out = record {
   kind = reads_or_writes stop reading;
   shelf = shelf;
@@ -37,13 +37,13 @@ blames_own stop kept files before after reading keeps named shelf out = record {
 }
 
 -- a write failed, and the merger goes on
-pub blames_write : (result : Stop) (kept : Option Stop) (files : ℕ) (before after : Failed) →
+pub blames_write : (result : Stop) (kept : Option Stop) (files : ℕ) (before after : FailureCounts) →
     result ≡ WriteFault → kept ≡ None
-    → after.shelf ≡ before.shelf → after.out ≡ before.out + 1 → Blames result before after kept files
+    → after.shelf ≡ before.shelf → after.out ≡ before.out + 1 → LeavesDevices result before after kept files
 blames_write result kept files before after is running shelf out = record {
   kind = subst WritingStops (sym is) tt;
-  shelf = omega (arith, shelf, ap read_blame is);
-  out = omega (arith, out, ap write_blame is);
+  shelf = omega (arith, shelf, ap read_failures_of is);
+  out = omega (arith, out, ap write_failures_of is);
   named = omega (arith, ap files_named is);
   kept = subst (λ s. KeepsStop s kept) (sym is) running;
 }

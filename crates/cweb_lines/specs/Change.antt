@@ -1,12 +1,13 @@
 -- The entries of a change file: the code lines @x, @y and @z, and the old and new lines between them.
 use Rattle.std.specs.Prelude.{ℕ, Bool, true, false, ◌||◌, ◌==◌, List, [], ◌∷◌, Option, None, Some, if◌then◌else◌}
 use Rattle.cweb_files.specs.declared.place.Place.{Place}
-use Rattle.cweb_source.specs.Lines.{SourceLine}
+use Rattle.cweb_input.specs.Lines.{SourceLine}
 use Rattle.cweb_lines.specs.declared.change.code.Code.{Code}
-use Rattle.cweb_lines.specs.declared.change.code.Code.TheVariants.{OldSide as old_side, NewSide as new_side, EndSide as end_side}
-use Rattle.cweb_open.specs.declared.fault.SourceKind.{SourceKind}
-use Rattle.cweb_open.specs.declared.fault.SourceKind.TheVariants.{MissingX, NoOldLines, WantsY}
-use Rattle.cweb_open.specs.declared.fault.SourceFault.{SourceFault}
+use Rattle.cweb_lines.specs.declared.change.code.Code.TheVariants.{OldSide as old_side, NewSide as new_side}
+use Rattle.cweb_lines.specs.declared.change.code.Code.TheVariants.{EndSide as end_side}
+use Rattle.cweb_input.specs.declared.fault.SourceKind.{SourceKind}
+use Rattle.cweb_input.specs.declared.fault.SourceKind.TheVariants.{MissingX, NoOldLines, WantsY}
+use Rattle.cweb_input.specs.declared.fault.SourceFault.{SourceFault}
 
 -- x, y and z, in either case
 abbrev pub letter_code : ℕ → Option Code
@@ -15,16 +16,16 @@ letter_code b =
     else (if b == 121 || b == 89 then Some new_side else (if b == 122 || b == 90 then Some end_side else None))
 
 -- the code of a line that begins with @ and such a letter
-abbrev pub code_of : List ℕ → Option Code
-code_of [] = None
-code_of (a ∷ []) = None
-code_of (a ∷ b ∷ rest) = if a == 64 then letter_code b else None
+abbrev pub change_code : List ℕ → Option Code
+change_code [] = None
+change_code (a ∷ []) = None
+change_code (a ∷ b ∷ rest) = if a == 64 then letter_code b else None
 
 abbrev pub at_place : SourceKind → Place → SourceFault
 at_place kind place = record { kind = kind; place = place; count = 0 }
 
 -- an entry that waits for its first old line: where its @x stands, and that line
-pub record Entry : Type 0 where
+pub record WaitingEntry : Type 0 where
   pub begin : Place
   pub first : List ℕ
 
@@ -32,7 +33,7 @@ pub record Entry : Type 0 where
 pub record Sought : Type 0 where
   pub faults : List SourceFault
   pub taken : List SourceLine
-  pub entry : Option Entry
+  pub entry : Option WaitingEntry
   pub rest : List SourceLine
 
 abbrev pub met : SourceFault → Sought → Sought
@@ -49,11 +50,11 @@ outside (Some old_side) place later = later (Some place)
 outside (Some code) place later = met (at_place MissingX place) (later None)
 
 -- behind an @x line: empty lines are skipped, a code line begins the search anew, any other line is the first old line
-abbrev pub behind_x : List ℕ → Option Code → Place → SourceLine → List SourceLine → (Option Place → Sought) → Sought
-behind_x [] code begin line lines later = passing line (later (Some begin))
-behind_x (b ∷ bs) None begin line lines later =
+abbrev pub after_x : List ℕ → Option Code → Place → SourceLine → List SourceLine → (Option Place → Sought) → Sought
+after_x [] code begin line lines later = passing line (later (Some begin))
+after_x (b ∷ bs) None begin line lines later =
     record { faults = []; taken = line ∷ []; entry = Some (record { begin = begin; first = b ∷ bs }); rest = lines }
-behind_x (b ∷ bs) (Some code) begin line lines later =
+after_x (b ∷ bs) (Some code) begin line lines later =
     met (at_place NoOldLines begin) (passing line (outside (Some code) line.line.place later))
 
 -- the next entry; behind an @x line, where that stands
@@ -61,9 +62,9 @@ abbrev pub sought : List SourceLine → Option Place → Sought
 sought [] None = record { faults = []; taken = []; entry = None; rest = [] }
 sought [] (Some begin) = record { faults = at_place NoOldLines begin ∷ []; taken = []; entry = None; rest = [] }
 sought (line ∷ lines) None =
-    passing line (outside (code_of line.line.bytes) line.line.place (λ begin. sought lines begin))
+    passing line (outside (change_code line.line.bytes) line.line.place (λ begin. sought lines begin))
 sought (line ∷ lines) (Some begin) =
-    behind_x line.line.bytes (code_of line.line.bytes) begin line lines (λ next. sought lines next)
+    after_x line.line.bytes (change_code line.line.bytes) begin line lines (λ next. sought lines next)
 
 -- the further old lines of an entry, up to its @y
 pub record OldSide : Type 0 where
@@ -83,9 +84,10 @@ old_code line side = record side { faults = at_place WantsY line.line.place ∷ 
 
 abbrev pub old_at : Option Code → SourceLine → List SourceLine → OldSide → OldSide
 old_at None line lines later = old_line line later
-old_at (Some new_side) line lines later = record { faults = []; lines = []; taken = line ∷ []; ended = false; rest = lines }
+old_at (Some new_side) line lines later =
+    record { faults = []; lines = []; taken = line ∷ []; ended = false; rest = lines }
 old_at (Some code) line lines later = old_code line later
 
 abbrev pub old_lines : List SourceLine → OldSide
 old_lines [] = record { faults = []; lines = []; taken = []; ended = true; rest = [] }
-old_lines (line ∷ lines) = old_at (code_of line.line.bytes) line lines (old_lines lines)
+old_lines (line ∷ lines) = old_at (change_code line.line.bytes) line lines (old_lines lines)

@@ -1,32 +1,40 @@
 -- The steps of the merge end, for every shelf, web and change file.
-use Rattle.std.proofs.Common.{◌≡◌, ◌≤◌, ◌<◌, ◌+◌, ℕ, zero, suc, Bool, true, false, List, [], ◌∷◌, ◌++◌, Option, Some, None, refl, ◌∙◌, ap, length, arith, ◌&&◌}
+use Rattle.std.proofs.Common.{◌≡◌, ◌≤◌, ◌<◌, ◌+◌, ℕ, zero, suc, Bool, true, false, List, [], ◌∷◌, ◌++◌, Option, Some}
+use Rattle.std.proofs.Common.{None, refl, ◌∙◌, ap, length, arith, ◌&&◌}
 use Rattle.std.specs.Prelude.{nat_lt}
 use Rattle.std.specs.Str.{bytes_eq}
 use Rattle.std.proofs.lemmas.Bool.Decides.{nat_tests}
 use Rattle.cweb_files.specs.declared.place.Place.{Place}
-use Rattle.cweb_source.specs.Lines.{SourceLine, lines_in}
-use Rattle.cweb_source.specs.Include.{World, Found, include_name, is_include, found_at}
-use Rattle.cweb_lines.specs.Change.{code_of, Entry, Sought, sought, outside, behind_x, OldSide, old_at, old_lines}
-use Rattle.cweb_open.specs.declared.limits.TheConstants.{OPEN_FILES}
+use Rattle.cweb_input.specs.Lines.{SourceLine, lines_in}
+use Rattle.cweb_input.specs.Include.{World, Found, include_name, is_include_line, found_at}
+use Rattle.cweb_lines.specs.Change.{change_code, WaitingEntry, Sought, sought, outside, after_x, OldSide, old_at}
+use Rattle.cweb_lines.specs.Change.{old_lines}
+use Rattle.cweb_input.specs.declared.limits.TheConstants.{OPEN_FILES}
 use Rattle.cweb_lines.specs.declared.change.code.Code.{Code}
-use Rattle.cweb_lines.specs.declared.change.code.Code.TheVariants.{OldSide as old_side, NewSide as new_side, EndSide as end_side}
-use Rattle.cweb_lines.specs.Merge.{RawLine, Thing, seek, raw, told, passed, Event, State, NewSide, new_at, new_lines, compared, after_old, Next, obeyed, opened, included, plain, at_entry, at_raw, step, onto, then_run, run, raws}
+use Rattle.cweb_lines.specs.declared.change.code.Code.TheVariants.{OldSide as old_side, NewSide as new_side}
+use Rattle.cweb_lines.specs.declared.change.code.Code.TheVariants.{EndSide as end_side}
+use Rattle.cweb_input.specs.Things.{RawLine, Thing, seek, raw, told, passed}
+use Rattle.cweb_lines.specs.Merge.{Event, MergeStateModel, NewSide, new_at}
+use Rattle.cweb_lines.specs.Merge.{new_lines, compared, after_old, Next, obeyed, open_include, included, plain}
+use Rattle.cweb_lines.specs.Merge.{at_entry, at_raw, step, onto, step_then_run, run_steps}
+use Rattle.cweb_input.specs.Things.{raws}
 
 -- so many steps are enough, and this is what comes out
-pub record Halts (world : World) (s : State) : Type 0 where
+pub record Halts (world : World) (s : MergeStateModel) : Type 0 where
   pub steps : ℕ
   pub events : List Event
-  pub comes : run steps world s ≡ Some events
+  pub comes : run_steps steps world s ≡ Some events
 
-unfoldable pub halts_next : (world : World) (s : State) (next : Next) → step world s ≡ Some next → Halts world next.1 →
+unfoldable pub halts_next : (world : World) (s : MergeStateModel) (next : Next) → step world s ≡ Some next
+    → Halts world next.1 →
     Halts world s
 halts_next world s next is later = record {
   steps = suc later.steps;
   events = next.0 ++ later.events;
-  comes = ap (λ o. then_run o (λ s'. run later.steps world s')) is ∙ ap (onto next.0) later.comes;
+  comes = ap (λ o. step_then_run o (λ s'. run_steps later.steps world s')) is ∙ ap (onto next.0) later.comes;
 }
 
-waiting : Option Entry → ℕ
+waiting : Option WaitingEntry → ℕ
 waiting None = 0
 waiting (Some entry) = 1
 
@@ -42,14 +50,14 @@ outside_less (Some old_side) place later n less = less (Some place)
 outside_less (Some new_side) place later n less = less None
 outside_less (Some end_side) place later n less = less None
 
-behind_less : (bytes : List ℕ) (code : Option Code) (begin : Place) (line : SourceLine) (lines : List SourceLine)
+after_x_less : (bytes : List ℕ) (code : Option Code) (begin : Place) (line : SourceLine) (lines : List SourceLine)
     (later : Option Place → Sought)
     → ((p : Option Place) → left_by (later p) ≤ length lines) →
-    left_by (behind_x bytes code begin line lines later) ≤ suc (length lines)
+    left_by (after_x bytes code begin line lines later) ≤ suc (length lines)
 unfolding left_by waiting
-behind_less [] code begin line lines later less = omega (arith, less (Some begin))
-behind_less (b ∷ bs) None begin line lines later less = omega arith
-behind_less (b ∷ bs) (Some code) begin line lines later less =
+after_x_less [] code begin line lines later less = omega (arith, less (Some begin))
+after_x_less (b ∷ bs) None begin line lines later less = omega arith
+after_x_less (b ∷ bs) (Some code) begin line lines later less =
     omega (arith, outside_less (Some code) line.line.place later (length lines) less)
 
 -- a search takes no fewer lines than it finds entries
@@ -59,10 +67,10 @@ sought_less [] None = omega arith
 sought_less [] (Some begin) = omega arith
 sought_less (line ∷ lines) None = omega (
   arith,
-  outside_less (code_of line.line.bytes) line.line.place
+  outside_less (change_code line.line.bytes) line.line.place
       (λ begin. sought lines begin) (length lines) (sought_less lines),
 )
-sought_less (line ∷ lines) (Some begin) = behind_less line.line.bytes (code_of line.line.bytes) begin line lines
+sought_less (line ∷ lines) (Some begin) = after_x_less line.line.bytes (change_code line.line.bytes) begin line lines
     (λ next. sought lines next) (sought_less lines)
 
 old_at_less : (code : Option Code) (line : SourceLine) (lines : List SourceLine) (later : OldSide) →
@@ -74,7 +82,7 @@ old_at_less (Some end_side) line lines later less = omega arith
 
 old_less : (lines : List SourceLine) → length (old_lines lines).rest ≤ length lines
 old_less [] = omega arith
-old_less (line ∷ lines) = old_at_less (code_of line.line.bytes) line lines (old_lines lines) (old_less lines)
+old_less (line ∷ lines) = old_at_less (change_code line.line.bytes) line lines (old_lines lines) (old_less lines)
 
 new_at_less : (code : Option Code) (depth : ℕ) (line : SourceLine) (lines : List SourceLine) (later : NewSide) →
     length later.rest ≤ length lines
@@ -87,7 +95,7 @@ new_at_less (Some end_side) depth line lines later less = omega arith
 new_less : (depth : ℕ) (begin : Place) (lines : List SourceLine) →
     length (new_lines depth begin lines).rest ≤ length lines
 new_less depth begin [] = omega arith
-new_less depth begin (line ∷ lines) = new_at_less (code_of line.line.bytes) depth line lines
+new_less depth begin (line ∷ lines) = new_at_less (change_code line.line.bytes) depth line lines
     (new_lines depth begin lines) (new_less depth begin lines)
 
 -- The steps end for every state whose change lines and pending entry are no more than so many, where they end for those
@@ -96,7 +104,8 @@ module _ (world : World) (most : ℕ) (fewer : (things : List Thing) (change : L
     length change < most → Halts world (record { things = things; pending = None; change = change; files = files }))
   where
     abbrev Good : List Thing → Type 0
-    Good things = (pending : Option Entry) (change : List SourceLine) (files : ℕ) → length change + waiting pending ≤ most
+    Good things = (pending : Option WaitingEntry) (change : List SourceLine) (files : ℕ)
+        → length change + waiting pending ≤ most
         → Halts world (record { things = things; pending = pending; change = change; files = files })
 
     good_none : Good []
@@ -104,7 +113,7 @@ module _ (world : World) (most : ℕ) (fewer : (things : List Thing) (change : L
     good_none None change files within = record { steps = 1; events = []; comes = refl }
     good_none (Some entry) change files within = record { steps = 2; events = _; comes = refl }
 
-    after_old_good : (ended : Bool) (files depth : ℕ) (entry : Entry) (old : OldSide) (rest : List Thing) →
+    after_old_good : (ended : Bool) (files depth : ℕ) (entry : WaitingEntry) (old : OldSide) (rest : List Thing) →
         length old.rest < most → Halts world (after_old ended files depth entry old rest)
     after_old_good true files depth entry old rest less = fewer rest [] files (omega arith)
     after_old_good false files depth entry old rest less =
@@ -115,51 +124,54 @@ module _ (world : World) (most : ℕ) (fewer : (things : List Thing) (change : L
     module _ (r : RawLine) (rest : List Thing) (good : Good rest)
         (opens : r.depth < OPEN_FILES → (lines : List SourceLine) → Good (raws (r.depth + 1) r.may_match lines ++ rest))
       where
-        abbrev before : Option Entry → List SourceLine → ℕ → State
-        before pending change files = record { things = raw r ∷ rest; pending = pending; change = change; files = files }
+        abbrev before : Option WaitingEntry → List SourceLine → ℕ → MergeStateModel
+        before pending change files =
+            record { things = raw r ∷ rest; pending = pending; change = change; files = files }
 
-        obeyed_good : (found : Option Found) (pending : Option Entry) (change : List SourceLine) (files : ℕ) →
+        obeyed_good : (found : Option Found) (pending : Option WaitingEntry) (change : List SourceLine) (files : ℕ) →
             length change + waiting pending ≤ most → r.depth < OPEN_FILES
             → Halts world (obeyed found (before pending change files) r rest).1
         obeyed_good None pending change files within shallow = good pending change files within
         obeyed_good (Some found) pending change files within shallow =
             opens shallow (lines_in files found.1) pending change (files + 1) within
 
-        opened_good : (b : Bool) (name : List ℕ) (pending : Option Entry) (change : List SourceLine) (files : ℕ) →
+        opened_good : (b : Bool) (name : List ℕ) (pending : Option WaitingEntry) (change : List SourceLine)
+            (files : ℕ) →
             length change + waiting pending ≤ most → b ≡ nat_lt r.depth OPEN_FILES
-            → Halts world (opened b world name (before pending change files) r rest).1
+            → Halts world (open_include b world name (before pending change files) r rest).1
         opened_good false name pending change files within test = good pending change files within
         opened_good true name pending change files within test =
             obeyed_good (found_at world name) pending change files within (grind (arith, nat_tests))
 
-        included_good : (name : List ℕ) (pending : Option Entry) (change : List SourceLine) (files : ℕ) →
+        included_good : (name : List ℕ) (pending : Option WaitingEntry) (change : List SourceLine) (files : ℕ) →
             length change + waiting pending ≤ most
             → Halts world (included name world (before pending change files) r rest).1
         included_good [] pending change files within = good pending change files within
         included_good (b ∷ bs) pending change files within = opened_good (nat_lt r.depth OPEN_FILES)
             (b ∷ bs) pending change files within refl
 
-        plain_good : (b : Bool) (pending : Option Entry) (change : List SourceLine) (files : ℕ) →
+        plain_good : (b : Bool) (pending : Option WaitingEntry) (change : List SourceLine) (files : ℕ) →
             length change + waiting pending ≤ most
             → Halts world (plain b world (before pending change files) r rest).1
         plain_good true pending change files within = included_good
             (include_name r.source.line.bytes) pending change files within
         plain_good false pending change files within = good pending change files within
 
-        at_entry_good : (b : Bool) (entry : Entry) (change : List SourceLine) (files : ℕ) → length change + 1 ≤ most →
+        at_entry_good : (b : Bool) (entry : WaitingEntry) (change : List SourceLine) (files : ℕ)
+            → length change + 1 ≤ most →
             Halts world (at_entry b entry world (before (Some entry) change files) r rest).1
         unfolding waiting
         at_entry_good true entry change files within =
             after_old_good (old_lines change).ended files r.depth entry (old_lines change)
             (compared (old_lines change).lines rest).rest (omega (arith, old_less change))
-        at_entry_good false entry change files within = plain_good (is_include r.source.line.bytes)
+        at_entry_good false entry change files within = plain_good (is_include_line r.source.line.bytes)
             (Some entry) change files within
 
-        at_raw_good : (pending : Option Entry) (change : List SourceLine) (files : ℕ) →
+        at_raw_good : (pending : Option WaitingEntry) (change : List SourceLine) (files : ℕ) →
             length change + waiting pending ≤ most → Halts world
             (at_raw pending world (before pending change files) r rest).1
         unfolding waiting
-        at_raw_good None change files within = plain_good (is_include r.source.line.bytes) None change files within
+        at_raw_good None change files within = plain_good (is_include_line r.source.line.bytes) None change files within
         at_raw_good (Some entry) change files within = at_entry_good
             (r.may_match && bytes_eq r.source.line.bytes entry.first) entry change files within
 
@@ -210,7 +222,7 @@ halts_below world zero things change files less = absurd (omega arith)
 halts_below world (suc most) things change files less =
     all_good world most (λ t c f l. halts_below world most t c f l) things None change files (omega arith)
 
-pub halts : (world : World) (s : State) → Halts world s
+pub halts : (world : World) (s : MergeStateModel) → Halts world s
 unfolding waiting
 halts world s =
     let most = length s.change + waiting s.pending in

@@ -1,16 +1,18 @@
 -- The merged lines of a web: one list of things still to come, of which the first decides what happens.
-use Rattle.std.specs.Prelude.{ℕ, zero, suc, ◌+◌, Bool, true, false, ◌&&◌, nat_lt, List, [], ◌∷◌, ◌++◌, map, Option, None, Some, if◌then◌else◌}
+use Rattle.std.specs.Prelude.{ℕ, zero, suc, ◌+◌, Bool, true, false, ◌&&◌, nat_lt, List, [], ◌∷◌, ◌++◌, map, Option}
+use Rattle.std.specs.Prelude.{None, Some, if◌then◌else◌}
 use Rattle.std.specs.Str.{bytes_eq}
 use Rattle.cweb_files.specs.declared.place.Place.{Place}
-use Rattle.cweb_source.specs.Lines.{Line, SourceLine, lines_in}
-use Rattle.cweb_source.specs.Include.{World, Found, is_include, include_name, found_at}
-pub use Rattle.cweb_open.specs.Things.{RawLine, Thing, seek, raw, told, passed, raws}
-use Rattle.cweb_lines.specs.Change.{code_of, at_place, Entry, sought, OldSide, old_lines}
-use Rattle.cweb_open.specs.declared.limits.TheConstants.{OPEN_FILES}
+use Rattle.cweb_input.specs.Lines.{Line, SourceLine, lines_in}
+use Rattle.cweb_input.specs.Include.{World, Found, is_include_line, include_name, found_at}
+use Rattle.cweb_input.specs.Things.{RawLine, Thing, seek, raw, told, passed, raws}
+use Rattle.cweb_lines.specs.Change.{change_code, at_place, WaitingEntry, sought, OldSide, old_lines}
+use Rattle.cweb_input.specs.declared.limits.TheConstants.{OPEN_FILES}
 use Rattle.cweb_lines.specs.declared.change.code.Code.{Code}
 use Rattle.cweb_lines.specs.declared.change.code.Code.TheVariants.{EndSide as end_side}
-use Rattle.cweb_open.specs.declared.fault.SourceKind.TheVariants.{NoName, TooDeep, NotThere, EndedBeforeY, WebEnded, Unequal, WantsZ, EndedBeforeZ, NoMatch}
-use Rattle.cweb_open.specs.declared.fault.SourceFault.{SourceFault}
+use Rattle.cweb_input.specs.declared.fault.SourceKind.TheVariants.{NoName, TooDeep, NotThere, EndedBeforeY, WebEnded}
+use Rattle.cweb_input.specs.declared.fault.SourceKind.TheVariants.{Unequal, WantsZ, EndedBeforeZ, NoMatch}
+use Rattle.cweb_input.specs.declared.fault.SourceFault.{SourceFault}
 
 -- what comes out: a line is taken from its file, a merged line is given out, a fault is told, a file is opened under a
 -- name
@@ -20,10 +22,10 @@ pub data Event : Type 0 where
   fault : SourceFault → Event
   opening : List ℕ → Event
 
-pub record State : Type 0 where
+pub record MergeStateModel : Type 0 where
   pub things : List Thing
   -- the entry that waits for its first old line
-  pub pending : Option Entry
+  pub pending : Option WaitingEntry
   -- what the change file has left
   pub change : List SourceLine
   -- how many files have been opened
@@ -46,7 +48,8 @@ new_at (Some code) depth line lines later = new_things (passed line ∷ told (at
 
 abbrev pub new_lines : ℕ → Place → List SourceLine → NewSide
 new_lines depth begin [] = record { things = told (at_place EndedBeforeZ begin) ∷ []; rest = [] }
-new_lines depth begin (line ∷ lines) = new_at (code_of line.line.bytes) depth line lines (new_lines depth begin lines)
+new_lines depth begin (line ∷ lines) =
+    new_at (change_code line.line.bytes) depth line lines (new_lines depth begin lines)
 
 -- how the raw lines that a change takes away compare with its further old lines
 pub record Compared : Type 0 where
@@ -68,104 +71,113 @@ compared (old ∷ olds) (thing ∷ things) = compared (old ∷ olds) things
 
 -- what comes out at a step, and what is to come after it
 abbrev pub Next : Type 0
-Next = List Event × State
+Next = List Event × MergeStateModel
 
-abbrev pub fault_if : Bool → SourceFault → List Event
-fault_if b f = if b then fault f ∷ [] else []
+abbrev pub fault_event_if : Bool → SourceFault → List Event
+fault_event_if b f = if b then fault f ∷ [] else []
 
 -- the old side of a change: its lines and the raw lines that it takes away, then its faults
-abbrev pub change_events : Entry → OldSide → Compared → List Event
+abbrev pub change_events : WaitingEntry → OldSide → Compared → List Event
 change_events entry old by =
     map took old.taken ++ map took by.taken
-    ++ map fault old.faults ++ fault_if old.ended (at_place EndedBeforeY entry.begin)
-    ++ fault_if by.ran_out (at_place WebEnded entry.begin)
-    ++ fault_if (nat_lt 0 by.unequal) (record { kind = Unequal; place = entry.begin; count = by.unequal })
+    ++ map fault old.faults ++ fault_event_if old.ended (at_place EndedBeforeY entry.begin)
+    ++ fault_event_if by.ran_out (at_place WebEnded entry.begin)
+    ++ fault_event_if (nat_lt 0 by.unequal) (record { kind = Unequal; place = entry.begin; count = by.unequal })
 
 -- behind the old side: the new lines come in front of the rest, then the next entry is sought; where the change file
 -- has ended, neither
-abbrev pub after_old : Bool → ℕ → ℕ → Entry → OldSide → List Thing → State
+abbrev pub after_old : Bool → ℕ → ℕ → WaitingEntry → OldSide → List Thing → MergeStateModel
 after_old true files depth entry old rest = record { things = rest; pending = None; change = []; files = files }
 after_old false files depth entry old rest =
     let new = new_lines depth entry.begin old.rest in
     record { things = new.things ++ seek ∷ rest; pending = None; change = new.rest; files = files }
 
 -- a change at its first old line, which a raw line equals
-abbrev pub changed : State → Entry → RawLine → List Thing → Next
+abbrev pub changed : MergeStateModel → WaitingEntry → RawLine → List Thing → Next
 changed s entry r things =
     let old = old_lines s.change in
     let by = compared old.lines things in
     (change_events entry old by, after_old old.ended s.files r.depth entry old by.rest)
 
-abbrev pub past : State → List Thing → State
+abbrev pub past : MergeStateModel → List Thing → MergeStateModel
 past s things = record s { things = things }
 
 -- an include line whose text was sought: the lines of the text come in front, one deeper, and may match where the
 -- include line may
-abbrev pub obeyed : Option Found → State → RawLine → List Thing → Next
+abbrev pub obeyed : Option Found → MergeStateModel → RawLine → List Thing → Next
 obeyed None s r things = (fault (at_place NotThere r.source.line.place) ∷ [], past s things)
 obeyed (Some found) s r things =
     let inside = raws (r.depth + 1) r.may_match (lines_in s.files found.1) in
     (opening found.0 ∷ [], record s { things = inside ++ things; files = s.files + 1 })
 
-abbrev pub opened : Bool → World → List ℕ → State → RawLine → List Thing → Next
-opened false world name s r things = (fault (at_place TooDeep r.source.line.place) ∷ [], past s things)
-opened true world name s r things = obeyed (found_at world name) s r things
+abbrev pub open_include : Bool → World → List ℕ → MergeStateModel → RawLine → List Thing → Next
+open_include false world name s r things = (fault (at_place TooDeep r.source.line.place) ∷ [], past s things)
+open_include true world name s r things = obeyed (found_at world name) s r things
 
 -- an include line is dropped with a fault where it gives no name, where no more files may be open, or where no text is
 -- there
-abbrev pub included : List ℕ → World → State → RawLine → List Thing → Next
+abbrev pub included : List ℕ → World → MergeStateModel → RawLine → List Thing → Next
 included [] world s r things = (fault (at_place NoName r.source.line.place) ∷ [], past s things)
-included (b ∷ bs) world s r things = opened (nat_lt r.depth OPEN_FILES) world (b ∷ bs) s r things
+included (b ∷ bs) world s r things = open_include (nat_lt r.depth OPEN_FILES) world (b ∷ bs) s r things
 
 -- a line that begins no change is obeyed or given out
-abbrev pub plain : Bool → World → State → RawLine → List Thing → Next
+abbrev pub plain : Bool → World → MergeStateModel → RawLine → List Thing → Next
 plain true world s r things = included (include_name r.source.line.bytes) world s r things
 plain false world s r things = (given r.source.line ∷ [], past s things)
 
-abbrev pub at_entry : Bool → Entry → World → State → RawLine → List Thing → Next
+abbrev pub at_entry : Bool → WaitingEntry → World → MergeStateModel → RawLine → List Thing → Next
 at_entry true entry world s r things = changed s entry r things
-at_entry false entry world s r things = plain (is_include r.source.line.bytes) world s r things
+at_entry false entry world s r things = plain (is_include_line r.source.line.bytes) world s r things
 
 -- the first old line is compared before an include line is obeyed
-abbrev pub at_raw : Option Entry → World → State → RawLine → List Thing → Next
-at_raw None world s r things = plain (is_include r.source.line.bytes) world s r things
+abbrev pub at_raw : Option WaitingEntry → World → MergeStateModel → RawLine → List Thing → Next
+at_raw None world s r things = plain (is_include_line r.source.line.bytes) world s r things
 at_raw (Some entry) world s r things = at_entry (r.may_match && bytes_eq r.source.line.bytes entry.first) entry world s
     r things
 
 abbrev pub taking : SourceLine → Next → Next
 taking line next = (took line ∷ next.0, next.1)
 
-abbrev pub at_end : Option Entry → State → Option Next
+abbrev pub at_end : Option WaitingEntry → MergeStateModel → Option Next
 at_end None s = None
 at_end (Some entry) s = Some (fault (at_place NoMatch entry.begin) ∷ [], record s { things = []; pending = None })
 
 -- the first thing to come decides; there is no step where nothing is to come
-abbrev pub step_at : List Thing → World → State → Option Next
+abbrev pub step_at : List Thing → World → MergeStateModel → Option Next
 step_at [] world s = at_end s.pending s
 step_at (seek ∷ things) world s =
     let found = sought s.change None in
-    Some (map took found.taken ++ map fault found.faults, record s { things = things; pending = found.entry; change = found.rest })
+    Some (
+      map took found.taken ++ map fault found.faults,
+      record s {
+        things = things;
+        pending = found.entry;
+        change =
+            found.rest;
+      },
+    )
 step_at (raw r ∷ things) world s = Some (taking r.source (at_raw s.pending world s r things))
 step_at (told f ∷ things) world s = Some (fault f ∷ [], past s things)
 step_at (passed line ∷ things) world s = Some (took line ∷ [], past s things)
 
-abbrev pub step : World → State → Option Next
+abbrev pub step : World → MergeStateModel → Option Next
 step world s = step_at s.things world s
 
 abbrev pub onto : List Event → Option (List Event) → Option (List Event)
 onto events None = None
 onto events (Some later) = Some (events ++ later)
 
-abbrev pub then_run : Option Next → (State → Option (List Event)) → Option (List Event)
-then_run None later = Some []
-then_run (Some next) later = onto next.0 (later next.1)
+abbrev pub step_then_run : Option Next → (MergeStateModel → Option (List Event)) → Option (List Event)
+step_then_run None later = Some []
+step_then_run (Some next) later = onto next.0 (later next.1)
 
 -- all that comes, where so many steps are enough
-abbrev pub run : ℕ → World → State → Option (List Event)
-run zero world s = None
-run (suc n) world s = then_run (step world s) (λ next. run n world next)
+abbrev pub run_steps : ℕ → World → MergeStateModel → Option (List Event)
+run_steps zero world s = None
+run_steps (suc n) world s = step_then_run (step world s) (λ next. run_steps n world next)
 
 -- The merge begins with the web's lines. Where there is a change file, its first entry is sought before them.
-abbrev pub started : List ℕ → Option (List ℕ) → State
+abbrev pub started : List ℕ → Option (List ℕ) → MergeStateModel
 started web None = record { things = raws 1 true (lines_in 0 web); pending = None; change = []; files = 1 }
-started web (Some change) = record { things = seek ∷ raws 1 true (lines_in 0 web); pending = None; change = lines_in 1 change; files = 2 }
+started web (Some change) =
+    record { things = seek ∷ raws 1 true (lines_in 0 web); pending = None; change = lines_in 1 change; files = 2 }

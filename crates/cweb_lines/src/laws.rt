@@ -1,7 +1,11 @@
 //! What holds of merged lines whatever the texts are. These functions do nothing: each is there for its contract.
 
-ghost use Rattle.cweb_lines.specs.Laws.{ChangeFilesWithoutEntriesChangeNothing, ChangesSplice, EntriesWithoutMatchAreTold, IncludeLinesAreReplaced, IncludedTextsMergeAsWebs, LinesComeApart, PrintedMergesComeAgain, WebsWithoutIncludesAreTheirOwnLines};
-ghost use Rattle.cweb_lines.specs.Total.{HasOneAnswer};
+ghost use Rattle.cweb_lines.specs.laws.Laws.{ChangeFilesWithoutEntriesChangeNothing, ChangesSplice};
+ghost use Rattle.cweb_lines.specs.laws.Laws.{UnmatchedEntriesAreReported, IncludeLinesAreReplaced};
+ghost use Rattle.cweb_lines.specs.laws.Laws.{IncludesMergeAsWebs, LinesComeApart};
+ghost use Rattle.cweb_lines.specs.laws.Laws.{PrintedMergesComeAgain};
+ghost use Rattle.cweb_lines.specs.laws.Laws.{WebsWithoutIncludesAreTheirOwnLines};
+ghost use Rattle.cweb_lines.specs.laws.Total.{HasOneAnswer};
 
 /// Every shelf, web and change file have their merged lines, and have them once: the steps of the merge end, and
 /// however many steps are allowed, those that are enough give the same.
@@ -52,12 +56,12 @@ pub fn changes_splice()
 
 /// An entry that begins a change file and matches no line of the web is told once, at its `@x` line, and changes nothing.
 /// The web has no include lines here, and no empty line stands between the `@x` and the first old line.
-pub fn entry_without_match_is_told()
-    ensures { EntriesWithoutMatchAreTold }
+pub fn unmatched_entry_is_reported()
+    ensures { UnmatchedEntriesAreReported }
 {}
 
 /// The merged lines of an included text are those that it has as a web of its own, unless an include line in it lies too
 /// deep only for that it is included: places, faults and included files are the same, with files numbered from its own on.
-pub fn included_text_merges_as_a_web()
-    ensures { IncludedTextsMergeAsWebs }
+pub fn include_merges_as_web()
+    ensures { IncludesMergeAsWebs }
 {}

@@ -8,7 +8,7 @@ mod open;
 mod change;
 
 // what a merge holds
-mod run;
+mod merge_state;
 
 // one step of a merge
 mod step;
@@ -29,9 +29,8 @@ pub use cweb_files::{
     FileId, MemoryReader, MemoryShelf, MemorySink, Place, Shelf, ShelfFault, Sink, SinkFault,
     write_all,
 };
-pub use cweb_open::{BYTES, FileNames, LINES, SourceFault, SourceKind, Stop};
-pub use cweb_source::LINE_LENGTH;
+pub use cweb_input::{BYTES, FileNames, LINE_LENGTH, LINES, SourceFault, SourceKind, Stop};
 pub use merger::Merger;
 pub use merger::ahead::Ahead;
-pub use passing::lent::Lent;
-pub use writing::{write_merged, write_merged_in_pieces};
+pub use passing::line_span::LineSpan;
+pub use writing::{write_merged, write_merged_in_chunks};

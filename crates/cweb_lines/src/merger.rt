@@ -1,30 +1,33 @@
 // The merged lines of a web, one after another.
-ghost use Rattle.std.specs.Prelude.{◌≡◌, ◌≤◌, ◌<◌, ◌+◌, ◌^◌, ℕ, List, [], length, IsTrue, true, string_bytes, ◌∷◌, ◌++◌, IfOk, Ok, Err, IfErr, IfSome, OnOk, OnErr, OnSome, None, Some, All};
+ghost use Rattle.std.specs.Prelude.{◌≡◌, ◌≤◌, ◌<◌, ◌+◌, ◌^◌, ℕ, List, [], length, IsTrue, true};
+ghost use Rattle.std.specs.Prelude.{string_bytes, ◌∷◌, ◌++◌, IfOk, Ok, Err, IfErr, IfSome, OnOk};
+ghost use Rattle.std.specs.Prelude.{OnErr, OnSome, None, Some, All};
 ghost use Rattle.std.specs.Option.{option_copied};
-ghost use Rattle.cweb_files.specs.Frames.{KeepsTexts};
-ghost use Rattle.cweb_source.specs.Include.{web_at, change_at};
-ghost use Rattle.cweb_lines.specs.Lending.{LendsLine, LiesIn, bytes_in};
-ghost use Rattle.cweb_open.specs.Names.{names_of};
-ghost use Rattle.cweb_lines.specs.Passing.{PassesLines};
-ghost use Rattle.cweb_open.specs.Texts.{StartStops, files_named};
-ghost use Rattle.cweb_lines.specs.Naming.{AreReadersKnown};
+ghost use Rattle.cweb_files.specs.surface.Frames.{KeepsShelf};
+ghost use Rattle.cweb_input.specs.Include.{web_at, change_at};
+ghost use Rattle.cweb_lines.specs.inner.LineSpans.{BorrowsLine, IsSpanIn, span_bytes};
+ghost use Rattle.cweb_input.specs.surface.OpenedFileNames.{opened_file_names};
+ghost use Rattle.cweb_lines.specs.inner.Passing.{AppendsPassedLines};
+ghost use Rattle.cweb_input.specs.surface.OpenSources.{StartStops};
+ghost use Rattle.cweb_input.specs.OpenSources.{files_named};
+ghost use Rattle.cweb_lines.specs.surface.MergeReaderNames.{AreReadersKnown};
 
 pub mod ahead;
 
+use crate::merge_state::MergeState;
 use crate::open::{first_stage, open_change, open_web, owned};
-use crate::passing::lent::Lent;
-use crate::run::Run;
+use crate::passing::line_span::LineSpan;
 use crate::step::Turn;
 use crate::step::turning::take_turn;
 use crate::writing::pass::pass_lines;
 use cweb_files::{Place, Shelf};
-use cweb_open::{FileNames, Limits, SourceFault, Stack, Stop, find_change, find_web};
+use cweb_input::{FileNames, SourceFault, Stack, Stop, TakenCounters, find_change, find_web};
 use std::alloc::{AllocError, Global};
 
 /// A web whose lines are being merged with those of the files that it includes. The shelf is handed to each call, as the
 /// call before left it.
 pub struct Merger<S: Shelf> {
-    run: Run<S::R>,
+    run: MergeState<S::R>,
 }
 
 // It is let go by one call wherever it is held, not part by part.
@@ -35,7 +38,10 @@ impl<S: Shelf> Drop for Merger<S> {
 }
 
 impl<S: Shelf> Merger<S> {
-    ghost use Rattle.cweb_lines.specs.Whole.{to_come, so_far, stop_in, HasEnded, NextLine, GivesOut, Grows, Leaves, BlamesReads, StopsThere, Begins, StopsAtStart, KnowsReaders, StaysKnown};
+    ghost use Rattle.cweb_lines.specs.surface.MergerCalls.{to_come, so_far, stop_in, HasEnded, NextLine};
+    ghost use Rattle.cweb_lines.specs.surface.MergerCalls.{EmitsLine, Grows, LeavesMerger};
+    ghost use Rattle.cweb_lines.specs.surface.MergerCalls.{ReportsReadFailures, StopsThere, BeginsMerge};
+    ghost use Rattle.cweb_lines.specs.surface.MergerCalls.{StopsAtStart, KnowsReaders, StaysKnown};
 
     /// Opens the web under its name, or under the second where the first isn't there, then the change file if one is
     /// named, and reads nothing. Included files are sought as they are named and then in the folder `inputs`.
@@ -47,10 +53,10 @@ impl<S: Shelf> Merger<S> {
         change: Option<&str>,
         inputs: Option<&str>,
     ) -> Result<Self, Stop>
-        ensures keeps { KeepsTexts S.Shelf shelf.old shelf.new }
+        ensures keeps { KeepsShelf S.Shelf shelf.old shelf.new }
         ensures failed { S.failed shelf.new ≡ S.failed shelf.old }
         ensures running { IfOk result (λ merger. stop_in merger ≡ None) }
-        ensures begins { IsTrue (S.tells shelf.old) → IfOk result (λ merger. Begins
+        ensures begins { IsTrue (S.tells shelf.old) → IfOk result (λ merger. BeginsMerge
             (record { texts = S.texts shelf.old; inputs = option_copied inputs.entry })
             (web_at (S.texts shelf.old) web.now (option_copied second.entry))
             (change_at (S.texts shelf.old) (option_copied change.entry))
@@ -80,14 +86,14 @@ impl<S: Shelf> Merger<S> {
             Err(stop) => return Err(stop),
         };
         Ok(Merger {
-            run: Run {
+            run: MergeState {
                 alloc,
                 inputs,
                 stack: Stack::new(alloc, web),
                 stage: first_stage(&change),
                 change,
                 first: Vec::new(alloc),
-                limits: Limits::new(),
+                limits: TakenCounters::new(),
                 faults: Vec::new(alloc),
                 names,
                 stopped: None,
@@ -99,22 +105,22 @@ impl<S: Shelf> Merger<S> {
     /// After a stop the merger answers the same one to each further call, and `line` is empty.
     pub fn next_line(&mut self, shelf: &mut S, line: &mut Vec<u8>) -> Result<Option<Place>, Stop>
         requires { S.failed shelf.old + 1 < 2 ^ 64 }
-        ensures keeps { KeepsTexts S.Shelf shelf.old shelf.new }
+        ensures keeps { KeepsShelf S.Shelf shelf.old shelf.new }
         ensures grows { Grows (so_far self.old) (so_far self.new) }
-        ensures leaves { Leaves result line.new.items self.new }
+        ensures leaves { LeavesMerger result line.new.items self.new }
 
         // the next line that is to come, or none
         ensures next { IsTrue (S.tells shelf.old) →
             IfOk result (λ place. NextLine place line.new.items (so_far self.old) (so_far self.new)
             (to_come S.Shelf shelf.old self.old) (to_come S.Shelf shelf.new self.new)) }
-        ensures given { IfOk result (λ place. IfSome place (λ p. GivesOut p line.new.items
+        ensures given { IfOk result (λ place. IfSome place (λ p. EmitsLine p line.new.items
             (so_far self.old) (so_far self.new))) }
         ensures ended { stop_in self.old ≡ None → HasEnded self.old →
             (result ≡ Ok None) × (self.new ≡ self.old) × (shelf.new ≡ shelf.old) }
 
         // why there is no answer
         ensures blames { stop_in self.old ≡ None →
-            BlamesReads (S.failed shelf.old) (S.failed shelf.new) result }
+            ReportsReadFailures (S.failed shelf.old) (S.failed shelf.new) result }
         ensures stops { IsTrue (S.tells shelf.old) → stop_in self.old ≡ None →
             IfErr result (λ stop. StopsThere stop (so_far self.old) (so_far self.new)
             (to_come S.Shelf shelf.old self.old)) }
@@ -137,7 +143,7 @@ impl<S: Shelf> Merger<S> {
                 }
             };
             match turn {
-                Turn::Given(place) => return Ok(Some(place)),
+                Turn::Emitted(place) => return Ok(Some(place)),
                 Turn::On => {}
                 Turn::Ended => {
                     line.clear();
@@ -150,22 +156,22 @@ impl<S: Shelf> Merger<S> {
     /// The next line, where it was read already and passes through: it is counted, and lies in what was read (`bytes_of`) until
     /// the next call that changes the merger. None where there is more to do for it, or a stop is kept, and nothing is changed.
     #[inline(always)]
-    pub fn lend_line(&mut self) -> Option<Lent>
-        ensures lent { IfSome result (λ line. LendsLine line self.old.run self.new.run) }
+    pub fn borrow_line(&mut self) -> Option<LineSpan>
+        ensures lent { IfSome result (λ line. BorrowsLine line self.old.run self.new.run) }
         ensures running { OnSome result (stop_in self.new ≡ None) }
         ensures none { result ≡ None → self.new ≡ self.old }
     {
         if let Some(_) = self.run.stopped {
             return None;
         }
-        self.run.lend_line()
+        self.run.borrow_line()
     }
 
     /// The bytes of a line that was lent last.
     #[inline(always)]
-    pub fn bytes_of(&self, line: Lent) -> &[u8]
-        requires { LiesIn self.now.run line }
-        ensures { result.now ≡ bytes_in self.now.run line }
+    pub fn bytes_of(&self, line: LineSpan) -> &[u8]
+        requires { IsSpanIn self.now.run line }
+        ensures { result.now ≡ span_bytes self.now.run line }
     {
         self.run.bytes_of(line)
     }
@@ -181,7 +187,7 @@ impl<S: Shelf> Merger<S> {
 
     /// The files opened so far.
     pub fn names(&self) -> &FileNames
-        ensures { names_of result.now ≡ (so_far self.now).names }
+        ensures { opened_file_names result.now ≡ (so_far self.now).names }
     {
         &self.run.names
     }
@@ -199,11 +205,12 @@ impl<S: Shelf> Merger<S> {
     }
 
     /// Appends lines that were read and pass through to a caller's buffer, while that has fewer than `room` bytes.
-    pub(crate) fn pass_lines(&mut self, piece: &mut Vec<u8>, room: usize) -> Result<(), AllocError>
-        ensures passes { PassesLines self.old.run self.new.run piece.old.items piece.new.items }
-        ensures alone { room ≡ 0 → piece.new.items ≡ piece.old.items }
+    pub(crate) fn pass_lines(&mut self, buffer: &mut Vec<u8>, room: usize) -> Result<(), AllocError>
+        ensures passes { AppendsPassedLines self.old.run self.new.run buffer.old.items
+            buffer.new.items }
+        ensures alone { room ≡ 0 → buffer.new.items ≡ buffer.old.items }
     {
-        pass_lines(&mut self.run, piece, room)
+        pass_lines(&mut self.run, buffer, room)
     }
 
     /// Memory was refused to a caller that has taken a line: the merger answers that stop from then on, unless it has

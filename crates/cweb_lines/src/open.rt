@@ -1,22 +1,27 @@
 // How a merger begins: its web and its change file, opened and not yet read.
-ghost use Rattle.std.specs.Prelude.{◌≡◌, ◌≤◌, ◌++◌, ◌∷◌, ℕ, List, [], length, string_bytes, IfOk, IfErr, OnOk, true};
+ghost use Rattle.std.specs.Prelude.{◌≡◌, ◌≤◌, ◌++◌, ◌∷◌, ℕ, List, [], length, string_bytes, IfOk};
+ghost use Rattle.std.specs.Prelude.{IfErr, OnOk, true};
 ghost use Rattle.std.specs.Option.{option_copied};
-ghost use Rattle.cweb_open.specs.Finding.{text_of_name, found_as, names_found, lines_found, IsOpened};
-ghost use Rattle.cweb_source.specs.Lines.{lines_in};
-ghost use Rattle.cweb_open.specs.Names.{names_of};
-ghost use Rattle.cweb_lines.specs.Stages.{stage_for, begun_stage};
-ghost use Rattle.cweb_open.specs.Texts.{lines_left, lines_at, number_of, line_number, files_up_to};
-ghost use Rattle.cweb_lines.specs.Naming.{IsNamed};
+ghost use Rattle.cweb_input.specs.surface.Finding.{optional_string_bytes};
+ghost use Rattle.cweb_input.specs.inner.Finding.{found_as};
+ghost use Rattle.cweb_input.specs.Finding.{names_found};
+ghost use Rattle.cweb_input.specs.inner.Finding.{lines_found, IsOpened};
+ghost use Rattle.cweb_input.specs.Lines.{lines_in};
+ghost use Rattle.cweb_input.specs.surface.OpenedFileNames.{opened_file_names};
+ghost use Rattle.cweb_lines.specs.inner.Stages.{stage_for, begun_stage};
+ghost use Rattle.cweb_input.specs.surface.OpenSources.{lines_left, lines_at, number_or_zero};
+ghost use Rattle.cweb_input.specs.inner.OpenSources.{line_number};
+ghost use Rattle.cweb_input.specs.inner.OpenSources.{files_up_to};
+ghost use Rattle.cweb_input.specs.surface.ReaderNames.{IsReaderNamed};
 
 use crate::change::Stage;
 use cweb_files::FileId;
-use cweb_open::{FileNames, OpenText, Opening, Stop};
-use cweb_source::Source;
+use cweb_input::{FileNames, OpenSource, Opening, Source, Stop};
 use std::alloc::{AllocError, Global};
 
 /// A copy of a name, where there is one.
 pub fn owned(alloc: Global, name: Option<&str>) -> Result<Option<String>, AllocError>
-    ensures { IfOk result (λ owned. text_of_name owned ≡ option_copied name.entry) }
+    ensures { IfOk result (λ owned. optional_string_bytes owned ≡ option_copied name.entry) }
 {
     match name {
         Some(name) => Ok(Some(String::from_str(alloc, name)?)),
@@ -29,9 +34,9 @@ pub fn open_web<R: Drop>(
     alloc: Global,
     names: &mut FileNames,
     opening: Opening<R>,
-) -> Result<OpenText<R>, Stop>
-    requires { names_of names.old ≡ [] }
-    ensures names { OnOk result (names_of names.new ≡ string_bytes opening.name ∷ []) }
+) -> Result<OpenSource<R>, Stop>
+    requires { opened_file_names names.old ≡ [] }
+    ensures names { OnOk result (opened_file_names names.new ≡ string_bytes opening.name ∷ []) }
     ensures lines { IfOk result (λ text. (left : R → List ℕ) →
         lines_left left text ≡ lines_in 0 (left opening.reader)) }
     ensures reader { IfOk result (λ text. text.source.reader.value ≡ opening.reader) }
@@ -44,7 +49,7 @@ pub fn open_web<R: Drop>(
     if let Err(stop) = names.push(name) {
         return Err(stop);
     }
-    Ok(OpenText {
+    Ok(OpenSource {
         source,
         file: FileId(0),
         line: 0,
@@ -58,17 +63,18 @@ pub fn open_change<R: Drop>(
     alloc: Global,
     names: &mut FileNames,
     change: Option<Opening<R>>,
-) -> Result<Option<OpenText<R>>, Stop>
-    requires { length (names_of names.old) ≡ 1 }
+) -> Result<Option<OpenSource<R>>, Stop>
+    requires { length (opened_file_names names.old) ≡ 1 }
     ensures names { OnOk result ((left : R → List ℕ) →
-        names_of names.new ≡ names_of names.old ++ names_found (found_as left change)) }
+        opened_file_names names.new ≡ opened_file_names names.old ++ names_found (found_as left change)) }
     ensures lines { IfOk result (λ text. (left : R → List ℕ) →
         lines_at left text ≡ lines_found (found_as left change)) }
     ensures named { IfOk result (λ text. (opened_as : R → List ℕ) → IsOpened opened_as change →
-        IsNamed opened_as (names_of names.new) text) }
-    ensures number { IfOk result (λ text. number_of line_number text ≡ 0) }
-    ensures file { IfOk result (λ text. number_of files_up_to text ≤ length (names_of names.new)) }
-    ensures few { length (names_of names.new) ≤ 2 }
+        IsReaderNamed opened_as (opened_file_names names.new) text) }
+    ensures number { IfOk result (λ text. number_or_zero line_number text ≡ 0) }
+    ensures file { IfOk result
+        (λ text. number_or_zero files_up_to text ≤ length (opened_file_names names.new)) }
+    ensures few { length (opened_file_names names.new) ≤ 2 }
     ensures stage { IfOk result (λ text. (left : R → List ℕ) →
         stage_for text ≡ begun_stage (found_as left change)) }
     ensures memory { IfErr result (λ stop. stop ≡ Stop.Memory) }
@@ -81,7 +87,7 @@ pub fn open_change<R: Drop>(
     if let Err(stop) = names.push(name) {
         return Err(stop);
     }
-    Ok(Some(OpenText {
+    Ok(Some(OpenSource {
         source,
         file: FileId(1),
         line: 0,
@@ -91,7 +97,7 @@ pub fn open_change<R: Drop>(
 }
 
 /// The first entry is sought before the first line of the web.
-pub fn first_stage<R: Drop>(change: &Option<OpenText<R>>) -> Stage
+pub fn first_stage<R: Drop>(change: &Option<OpenSource<R>>) -> Stage
     ensures { result ≡ stage_for change.now }
 {
     match change {

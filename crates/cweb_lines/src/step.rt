@@ -8,7 +8,7 @@ use cweb_files::Place;
 #[derive(Clone, Copy)]
 pub enum Turn {
     /// The line at this place is given out.
-    Given(Place),
+    Emitted(Place),
     /// A line was obeyed, an entry was sought, or a change went on.
     On,
     /// Nothing is left.

@@ -1,15 +1,15 @@
 // What no clause says: worked webs and changes, the limits, and devices that fail, that take little at once or that never end.
 mod ahead;
-mod borders;
 mod changed_files;
 mod changed_lines;
 mod changes;
+mod chunk_edges;
+mod chunks;
 mod devices;
 mod failing;
 mod failing_writes;
 mod limits;
 mod mergers;
-mod pieces;
 mod wanted;
 mod webs;
 
@@ -24,7 +24,7 @@ use trial::{TrialSink, shelf_of};
 use wanted::*;
 
 /// The count of a fault, where it has one, and the end of its line.
-fn tell_count(told: &mut String, count: u32) -> Result<(), Fail> {
+fn describe_count(told: &mut String, count: u32) -> Result<(), Fail> {
     if count > 0 {
         write!(told, ": {count}")?;
     }
@@ -33,26 +33,26 @@ fn tell_count(told: &mut String, count: u32) -> Result<(), Fail> {
 }
 
 /// A fault in a line, with its count where it has one.
-fn tell_fault(told: &mut String, fault: &SourceFault) -> Result<(), Fail> {
+fn describe_fault(told: &mut String, fault: &SourceFault) -> Result<(), Fail> {
     let place = fault.place;
     write!(
         told,
         "{:?} in {} at {}",
         fault.kind, place.file.0, place.line
     )?;
-    tell_count(told, fault.count)
+    describe_count(told, fault.count)
 }
 
 /// The faults so far, a line each.
-fn tell_faults<S: Shelf>(told: &mut String, merger: &Merger<S>) -> Result<(), Fail> {
+fn describe_faults<S: Shelf>(told: &mut String, merger: &Merger<S>) -> Result<(), Fail> {
     for fault in merger.faults() {
-        tell_fault(told, fault)?;
+        describe_fault(told, fault)?;
     }
     Ok(())
 }
 
 /// The names of the files so far from this number on, a line each.
-fn tell_names<S: Shelf>(told: &mut String, merger: &Merger<S>, from: u32) -> Result<(), Fail> {
+fn describe_names<S: Shelf>(told: &mut String, merger: &Merger<S>, from: u32) -> Result<(), Fail> {
     let names = merger.names();
     for i in from..names.count() {
         writeln!(told, "{} is {}", i, names.get(FileId(i)))?;
@@ -61,16 +61,16 @@ fn tell_names<S: Shelf>(told: &mut String, merger: &Merger<S>, from: u32) -> Res
 }
 
 /// A merger tells these faults and the names of these files, a line each.
-fn tells<S: Shelf>(
+fn reports<S: Shelf>(
     rt: &impl Abort,
     merger: &Merger<S>,
     told: &mut String,
     want: &str,
 ) -> Result<(), Fail> {
     told.clear();
-    tell_faults(told, merger)?;
-    tell_names(told, merger, 0)?;
-    same_text(rt, told.as_str(), want);
+    describe_faults(told, merger)?;
+    describe_names(told, merger, 0)?;
+    same_string(rt, told.as_str(), want);
     Ok(())
 }
 
@@ -88,7 +88,7 @@ fn write_all<S: Shelf>(
 }
 
 /// The same, where lines are gathered up to so many bytes.
-fn write_gathered<S: Shelf>(
+fn write_buffered<S: Shelf>(
     rt: &impl Abort,
     merger: &mut Merger<S>,
     shelf: &mut S,
@@ -98,7 +98,7 @@ fn write_gathered<S: Shelf>(
     requires { S.failed shelf.old + 1 < 2 ^ 64 }
 {
     holds(rt, sink.failed < 2);
-    write_merged_in_pieces(merger, shelf, sink, room)
+    write_merged_in_chunks(merger, shelf, sink, room)
 }
 
 /// A merger still has this to write.

@@ -14,29 +14,33 @@ pub use Rattle.std.specs.List.{flat_map, after_last, before_last, list_any, suff
 pub use Rattle.std.specs.Option.{option_copied}
 pub use Rattle.std.specs.Prelude.{IfOk, IsErrOf, is_some, option_and_then, option_map, slice_get, IsTrue, OnOk, OnErr}
 pub use Rattle.std.specs.Prelude.{IsErr, ◌==◌, if◌then◌else◌, codes, slice_range}
-pub use Rattle.cweb_files.specs.Device.{Counts}
+pub use Rattle.cweb_files.specs.Device.{CountsFailure}
 pub use Rattle.cweb_files.specs.declared.device.SinkFault.{SinkFault}
-pub use Rattle.cweb_lines.specs.Names.{names_of}
-pub use Rattle.cweb_lines.specs.Writing.{WritesFront}
-pub use Rattle.cweb_open.specs.declared.fault.SourceFault.{SourceFault}
-pub use Rattle.cweb_open.specs.declared.stop.Stop.{Stop}
-pub use Rattle.cweb_open.specs.declared.stop.Stop.TheVariants.{Usage}
-pub use Rattle.cweb_log.specs.Gathered.{pending}
-pub use Rattle.cweb_log.specs.Gathering.{Logs, Writes, Gathers, GathersMore, joined}
-pub use Rattle.cweb_log.specs.Items.{Item, line, star}
+pub use Rattle.cweb_input.specs.surface.OpenedFileNames.{opened_file_names}
+pub use Rattle.cweb_files.specs.Frames.{WritesPrefix}
+pub use Rattle.cweb_input.specs.declared.fault.SourceFault.{SourceFault}
+pub use Rattle.cweb_input.specs.declared.stop.Stop.{Stop}
+pub use Rattle.cweb_input.specs.declared.stop.Stop.TheVariants.{Usage}
+pub use Rattle.cweb_log.specs.inner.LogBuffer.{unwritten_bytes}
+pub use Rattle.cweb_log.specs.LogWriting.{Logs}
+pub use Rattle.cweb_log.specs.inner.LogWriting.{WritesToStream, IsWrittenOrBuffered, AppendsToLog, joined_line}
+pub use Rattle.cweb_log.specs.Items.{LogItem, line, star}
 pub use Rattle.cweb_log.specs.Log.{fault_line, fault_lines}
-pub use Rattle.cweb_log.specs.Options.{Asked, TangleNames, named_by, names_by, options_by, options_of, others}
+pub use Rattle.cweb_log.specs.Options.{OptionsModel, TangleNames, named_by, names_by, options_by}
+pub use Rattle.cweb_log.specs.surface.Options.{options_of}
+pub use Rattle.cweb_log.specs.Options.{other_words}
 pub use Rattle.cweb_log.specs.Options.{shown_by_default, words_shown, stem, letters_shown}
-pub use Rattle.cweb_log.specs.Seen.{SeenStream, seen_stream}
-pub use Rattle.cweb_log.specs.WebItems.{name_items, refusal_text, scan_items, cycle_step, scan_item, text_given}
+pub use Rattle.cweb_log.specs.DeviceModels.{StreamModel, stream_model}
+pub use Rattle.cweb_log.specs.WebItems.{name_items, refusal_message, scan_items, cycle_step, scan_item}
+pub use Rattle.cweb_log.specs.WebItems.{occurrence_spelling}
 pub use Rattle.cweb_log.specs.WebItems.{name_item}
-pub use Rattle.cweb_log.specs.Words.{asked_by, is_dot, is_slash, has_extension}
+pub use Rattle.cweb_log.specs.Words.{web_names_by, is_dot, is_slash, has_extension}
 pub use Rattle.cweb_log.specs.declared.options.Options.{Options}
 pub use Rattle.cweb_log.specs.declared.shown.Shown.{Shown}
-pub use Rattle.cweb_plan.specs.Cycles.{cycle_from}
-pub use Rattle.cweb_plan.specs.Outputs.{bad_name, same_name, cycle}
-pub use Rattle.cweb_plan.specs.Ranks.{first_endless}
-pub use Rattle.cweb_plan.specs.Uses.{program}
+pub use Rattle.cweb_out.specs.Cycles.{cycle_from}
+pub use Rattle.cweb_out.specs.Outputs.{bad_name, same_name, cycle}
+pub use Rattle.cweb_out.specs.Ranks.{first_endless}
+pub use Rattle.cweb_out.specs.Uses.{program}
 pub use Rattle.cweb_rules.specs.declared.fault.ScanFault.{ScanFault}
 pub use Rattle.cweb_rules.specs.declared.fault.ScanKind.{ScanKind}
 pub use Rattle.cweb_rules.specs.declared.fault.ScanKind.TheVariants.{DoubleAtInLimbo, ImproperHexNumber}
@@ -47,10 +51,10 @@ pub use Rattle.cweb_rules.specs.declared.fault.ScanKind.TheVariants.{ControlText
 pub use Rattle.cweb_rules.specs.declared.fault.ScanKind.TheVariants.{IgnoredInCText, MissingAt, DefsInMacro}
 pub use Rattle.cweb_rules.specs.declared.fault.ScanKind.TheVariants.{DefinitionDropped}
 pub use Rattle.cweb_store.specs.Calls.{Stored}
-pub use Rattle.cweb_store.specs.Names.{Occurrence, id}
+pub use Rattle.cweb_names.specs.Names.{Occurrence, id}
 pub use Rattle.cweb_store.specs.Parts.{Part, Name}
 pub use Rattle.cweb_names.specs.declared.name.How.TheVariants.{Full, Prefix}
 pub use Rattle.cweb_names.specs.declared.name.NameFault.{NameFault}
 pub use Rattle.cweb_names.specs.declared.name.NameRef.{NameRef}
-pub use Rattle.cweb_parts.specs.declared.parts.PartKind.{PartKind}
-pub use Rattle.cweb_parts.specs.declared.parts.PartKind.TheVariants.{Unnamed, Named}
+pub use Rattle.cweb_store.specs.declared.parts.PartKind.{PartKind}
+pub use Rattle.cweb_store.specs.declared.parts.PartKind.TheVariants.{Unnamed, Named}

@@ -1,7 +1,7 @@
 pub mod Common
-pub mod Asking
-pub mod Counted
-pub mod Gathering
+pub mod RequestedOptions
+pub mod WordCounts
+pub mod BufferedLog
 pub mod Stems
-mod TangleRows
-mod WebRows
+mod TangleWordExamples
+mod WebItemExamples

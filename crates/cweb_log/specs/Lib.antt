@@ -1,8 +1,9 @@
-pub mod Gathered
-pub mod Gathering
+pub mod LogWriting
 pub mod Items
 pub mod Log
 pub mod Options
-pub mod Seen
+pub mod DeviceModels
 pub mod WebItems
 pub mod Words
+pub mod surface
+pub mod inner

@@ -1,8 +1,9 @@
 -- The words of a command line of `ctangle`, and what they ask for.
-use Rattle.std.specs.Prelude.{ℕ, Bool, true, false, not, ◌&&◌, ◌||◌, ◌==◌, nat_le, List, [], ◌∷◌, ◌++◌, codes, Option, None, Some, option_and_then, option_map, filter, string_bytes, if◌then◌else◌}
+use Rattle.std.specs.Prelude.{ℕ, Bool, true, false, not, ◌&&◌, ◌||◌, ◌==◌, nat_le, List, [], ◌∷◌, ◌++◌, codes, Option}
+use Rattle.std.specs.Prelude.{None, Some, option_and_then, option_map, filter, if◌then◌else◌}
 use Rattle.std.specs.List.{list_any, after_last, before_last}
-use Rattle.cweb_log.specs.Words.{WebNames, asked_for, asked_with, can_name_file, extended, is_dot, is_option, is_slash}
-use Rattle.cweb_log.specs.declared.options.Options.{Options}
+use Rattle.cweb_log.specs.Words.{WebNames, web_names_for, web_names_with, can_name_file, extended, is_dot, is_option}
+use Rattle.cweb_log.specs.Words.{is_slash}
 use Rattle.cweb_log.specs.declared.shown.Shown.{Shown}
 
 abbrev pub is_letter : ℕ → Bool
@@ -32,11 +33,12 @@ word_shown (sign ∷ letters) shown = letters_shown (sign == 43) letters shown
 -- the option words among words, in their order: later letters win
 abbrev pub words_shown : List (List ℕ) → Shown → Option Shown
 words_shown [] shown = Some shown
-words_shown (word ∷ words) shown = if is_option word then option_and_then (words_shown words) (word_shown word shown) else words_shown words shown
+words_shown (word ∷ words) shown =
+    if is_option word then option_and_then (words_shown words) (word_shown word shown) else words_shown words shown
 
 -- the words that are no option words
-abbrev pub others : List (List ℕ) → List (List ℕ)
-others words = filter (λ word. not (is_option word)) words
+abbrev pub other_words : List (List ℕ) → List (List ℕ)
+other_words words = filter (λ word. not (is_option word)) words
 
 -- a path's last part, before its last dot where it has one
 abbrev pub stem : List ℕ → List ℕ
@@ -49,8 +51,8 @@ pub record TangleNames : Type 0 where
 
 -- the merge's names, by the words for the web and the change file
 abbrev pub merge_by : List ℕ → Option (List ℕ) → Option WebNames
-merge_by web None = asked_for web None
-merge_by web (Some change) = asked_with web change
+merge_by web None = web_names_for web None
+merge_by web (Some change) = web_names_with web change
 
 -- the main file's name: its own word gives it, or else the web's; none where its word can't name a file
 abbrev pub main_by : List ℕ → Option (List ℕ) → Option (List ℕ)
@@ -60,7 +62,8 @@ main_by web (Some out) = if can_name_file out then Some (extended out (codes ".c
 -- what the words for the web, the change file and the main file ask for
 abbrev pub named_by : List ℕ → Option (List ℕ) → Option (List ℕ) → Option TangleNames
 named_by web change out =
-    option_and_then (λ (main : List ℕ). option_map (λ (merge : WebNames). record { merge = merge; main = main }) (merge_by web change)) (main_by web out)
+    option_and_then (λ (main : List ℕ). option_map (λ (merge : WebNames). record { merge = merge; main = main })
+    (merge_by web change)) (main_by web out)
 
 -- one to three words name the web, the change file and the main file
 abbrev pub names_by : List (List ℕ) → Option TangleNames
@@ -71,25 +74,12 @@ names_by (web ∷ change ∷ out ∷ []) = named_by web (Some change) (Some out)
 names_by (web ∷ change ∷ out ∷ more ∷ rest) = None
 
 -- what a command line asks for
-pub record Asked : Type 0 where
+pub record OptionsModel : Type 0 where
   pub shown : Shown
   pub names : TangleNames
 
 -- none where the words are not of that form
-abbrev pub options_by : List (List ℕ) → Option Asked
+abbrev pub options_by : List (List ℕ) → Option OptionsModel
 options_by words =
-    option_and_then (λ (shown : Shown). option_map (λ (names : TangleNames). record { shown = shown; names = names }) (names_by (others words))) (words_shown words shown_by_default)
-
--- what options that were read hold
-abbrev pub options_of : Options → Asked
-options_of options = record {
-  shown = record { banner = options.banner; progress = options.progress; closing = options.closing; statistics = options.statistics };
-  names = record {
-    merge = record {
-      web = string_bytes options.web;
-      second = option_map (λ name. string_bytes name) options.second;
-      change = option_map (λ name. string_bytes name) options.change;
-    };
-    main = string_bytes options.main;
-  };
-}
+    option_and_then (λ (shown : Shown). option_map (λ (names : TangleNames). record { shown = shown; names = names })
+    (names_by (other_words words))) (words_shown words shown_by_default)

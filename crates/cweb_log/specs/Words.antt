@@ -1,7 +1,7 @@
 -- The words of a command line of `wmerge`, and the names that they stand for.
-use Rattle.std.specs.Prelude.{ℕ, Bool, false, not, ◌&&◌, ◌||◌, ◌==◌, nat_lt, length, List, [], ◌∷◌, ◌++◌, codes, Option, None, Some, option_map, string_bytes, if◌then◌else◌}
+use Rattle.std.specs.Prelude.{ℕ, Bool, false, not, ◌&&◌, ◌||◌, ◌==◌, nat_lt, length, List, [], ◌∷◌, ◌++◌, codes, Option}
+use Rattle.std.specs.Prelude.{None, Some, option_map, if◌then◌else◌}
 use Rattle.std.specs.List.{list_any, after_last}
-use Rattle.cweb_log.specs.declared.words.MergeWords.{MergeWords}
 
 -- a byte that stands in no word: one below 32, or 127
 abbrev pub is_control : ℕ → Bool
@@ -11,8 +11,8 @@ abbrev pub has_control : List ℕ → Bool
 has_control word = list_any is_control word
 
 -- `-` or `+`
-abbrev pub is_sign : ℕ → Bool
-is_sign b = b == 45 || b == 43
+abbrev pub is_option_prefix : ℕ → Bool
+is_option_prefix b = b == 45 || b == 43
 
 -- a lone `-`
 abbrev pub is_dash : List ℕ → Bool
@@ -24,7 +24,7 @@ is_dash (a ∷ b ∷ rest) = false
 abbrev pub is_option : List ℕ → Bool
 is_option [] = false
 is_option (a ∷ []) = false
-is_option (a ∷ b ∷ rest) = is_sign a
+is_option (a ∷ b ∷ rest) = is_option_prefix a
 
 -- whether a word can name a file
 abbrev pub can_name_file : List ℕ → Bool
@@ -54,8 +54,8 @@ abbrev pub second_try : List ℕ → Option (List ℕ)
 second_try word = if has_extension word then None else Some (word ++ codes ".web")
 
 -- what the web's word and the change file's ask for; none where the web's can't name it
-abbrev pub asked_for : List ℕ → Option (List ℕ) → Option WebNames
-asked_for web change =
+abbrev pub web_names_for : List ℕ → Option (List ℕ) → Option WebNames
+web_names_for web change =
     if can_name_file web then Some (record {
       web = extended web (codes ".w");
       second = second_try web;
@@ -64,21 +64,14 @@ asked_for web change =
     else None
 
 -- what two words ask for; a lone `-` in the second place stands for no change file
-abbrev pub asked_with : List ℕ → List ℕ → Option WebNames
-asked_with web change =
-    if is_dash change then asked_for web None
-    else (if can_name_file change then asked_for web (Some change) else None)
+abbrev pub web_names_with : List ℕ → List ℕ → Option WebNames
+web_names_with web change =
+    if is_dash change then web_names_for web None
+    else (if can_name_file change then web_names_for web (Some change) else None)
 
 -- what a list of words asks for; none where it is not one word, or two, that can be read so
-abbrev pub asked_by : List (List ℕ) → Option WebNames
-asked_by [] = None
-asked_by (web ∷ []) = asked_for web None
-asked_by (web ∷ change ∷ []) = asked_with web change
-asked_by (web ∷ change ∷ other ∷ rest) = None
-
-abbrev pub names_of : MergeWords → WebNames
-names_of words = record {
-  web = string_bytes words.web;
-  second = option_map (λ name. string_bytes name) words.second;
-  change = option_map (λ name. string_bytes name) words.change;
-}
+abbrev pub web_names_by : List (List ℕ) → Option WebNames
+web_names_by [] = None
+web_names_by (web ∷ []) = web_names_for web None
+web_names_by (web ∷ change ∷ []) = web_names_with web change
+web_names_by (web ∷ change ∷ other ∷ rest) = None

@@ -1,12 +1,12 @@
 // The lines of the log for the faults of webs and change files.
 ghost use Rattle.std.specs.Prelude.{◌≡◌, ◌<◌, ◌+◌, ◌^◌, ◌++◌, codes, length, All};
-ghost use Rattle.cweb_lines.specs.Names.{names_of};
-ghost use Rattle.cweb_log.specs.Gathered.{pending};
-ghost use Rattle.cweb_log.specs.Gathering.{Writes, GathersMore};
-ghost use Rattle.cweb_log.specs.Log.{fault_line, fault_lines, kind_text, located_line};
-ghost use Rattle.cweb_log.specs.Seen.{seen_stream};
+ghost use Rattle.cweb_input.specs.surface.OpenedFileNames.{opened_file_names};
+ghost use Rattle.cweb_log.specs.inner.LogBuffer.{unwritten_bytes};
+ghost use Rattle.cweb_log.specs.inner.LogWriting.{WritesToStream, AppendsToLog};
+ghost use Rattle.cweb_log.specs.Log.{fault_line, fault_lines, kind_message, located_line};
+ghost use Rattle.cweb_log.specs.DeviceModels.{stream_model};
 
-use crate::gathered::Gathered;
+use crate::log_buffer::LogBuffer;
 use cweb_lines::{FileNames, Sink, SinkFault, SourceFault, SourceKind};
 use itoa::Buffer;
 
@@ -19,37 +19,38 @@ pub fn write_faults<L: Sink>(
     faults: &[SourceFault],
 ) -> Result<(), SinkFault>
     requires count { L.failed log.old + 1 < 2 ^ 64 }
-    requires known { All (λ fault. fault.place.file.0 < length (names_of names.now)) faults.now }
-    ensures { Writes (fault_lines (names_of names.now) faults.now)
-        (seen_stream L.Sink log.old) (seen_stream L.Sink log.new) result }
+    requires known { All
+        (λ fault. fault.place.file.0 < length (opened_file_names names.now)) faults.now }
+    ensures { WritesToStream (fault_lines (opened_file_names names.now) faults.now)
+        (stream_model L.Sink log.old) (stream_model L.Sink log.new) result }
 {
-    let mut gathered = Gathered::new();
+    let mut log_buffer = LogBuffer::new();
     'faults: for fault in faults {
-        add_fault(&mut gathered, log, names, fault)?;
+        add_fault(&mut log_buffer, log, names, fault)?;
     }
-    gathered.pass_on(log)
+    log_buffer.pass_on(log)
 }
 
 fn add_fault<L: Sink>(
-    gathered: &mut Gathered,
+    log_buffer: &mut LogBuffer,
     log: &mut L,
     names: &FileNames,
     fault: &SourceFault,
 ) -> Result<(), SinkFault>
     requires count { L.failed log.old + 1 < 2 ^ 64 }
-    requires known { fault.now.place.file.0 < length (names_of names.now) }
-    ensures { GathersMore (fault_line (names_of names.now) fault.now)
-        (seen_stream L.Sink log.old) (seen_stream L.Sink log.new)
-        (pending gathered.old) (pending gathered.new) result }
+    requires known { fault.now.place.file.0 < length (opened_file_names names.now) }
+    ensures { AppendsToLog (fault_line (opened_file_names names.now) fault.now)
+        (stream_model L.Sink log.old) (stream_model L.Sink log.new)
+        (unwritten_bytes log_buffer.old) (unwritten_bytes log_buffer.new) result }
 {
     let file = names.get(fault.place.file);
-    let text = kind_text(fault.kind);
+    let text = kind_message(fault.kind);
     let mut line = Buffer::new();
     let line = line.format(fault.place.line);
     if let SourceKind::Unequal = fault.kind {
         let mut count = Buffer::new();
         return add_located(
-            gathered,
+            log_buffer,
             log,
             file,
             line,
@@ -58,12 +59,12 @@ fn add_fault<L: Sink>(
             count.format(fault.count),
         );
     }
-    add_located(gathered, log, file, line, text, "", "")
+    add_located(log_buffer, log, file, line, text, "", "")
 }
 
 /// Adds a line on a place, which ends in a number where the fault has one.
 pub(crate) fn add_located<L: Sink>(
-    gathered: &mut Gathered,
+    log_buffer: &mut LogBuffer,
     log: &mut L,
     file: &str,
     line: &str,
@@ -72,12 +73,12 @@ pub(crate) fn add_located<L: Sink>(
     count: &str,
 ) -> Result<(), SinkFault>
     requires { L.failed log.old + 1 < 2 ^ 64 }
-    ensures { GathersMore
+    ensures { AppendsToLog
         (located_line file.now line.now (text.now ++ (sign.now ++ (count.now ++ codes "\n"))))
-        (seen_stream L.Sink log.old) (seen_stream L.Sink log.new)
-        (pending gathered.old) (pending gathered.new) result }
+        (stream_model L.Sink log.old) (stream_model L.Sink log.new)
+        (unwritten_bytes log_buffer.old) (unwritten_bytes log_buffer.new) result }
 {
-    gathered.add_line(
+    log_buffer.add_line(
         log,
         &[
             file.as_bytes(),
@@ -92,8 +93,8 @@ pub(crate) fn add_located<L: Sink>(
     )
 }
 
-fn kind_text(kind: SourceKind) -> &'static str
-    ensures { result.now ≡ kind_text kind }
+fn kind_message(kind: SourceKind) -> &'static str
+    ensures { result.now ≡ kind_message kind }
 {
     match kind {
         SourceKind::NoName => "Include file name not given",

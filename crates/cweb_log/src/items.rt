@@ -1,20 +1,21 @@
 // The lines of the log of `ctangle` beside those of faults and stops. None of them takes memory.
 ghost use Rattle.std.specs.Prelude.{◌≡◌, ◌<◌, ◌+◌, ◌^◌, ◌++◌, codes, decimal};
 ghost use Rattle.std.specs.List.{flat_map};
-ghost use Rattle.cweb_log.specs.Gathered.{pending};
-ghost use Rattle.cweb_log.specs.Gathering.{GathersMore, Writes};
-ghost use Rattle.cweb_log.specs.Items.{banner, closing, counts, line, no_text, star, starred, writing};
-ghost use Rattle.cweb_log.specs.Seen.{seen_stream};
+ghost use Rattle.cweb_log.specs.inner.LogBuffer.{unwritten_bytes};
+ghost use Rattle.cweb_log.specs.inner.LogWriting.{AppendsToLog, WritesToStream};
+ghost use Rattle.cweb_log.specs.Items.{banner, closing, counts, line, no_text, star, starred};
+ghost use Rattle.cweb_log.specs.Items.{writing};
+ghost use Rattle.cweb_log.specs.DeviceModels.{stream_model};
 
-use crate::gathered::{Gathered, say};
+use crate::log_buffer::{LogBuffer, say};
 use cweb_lines::{Sink, SinkFault};
 use itoa::Buffer;
 
 /// Writes the banner.
 pub fn write_banner<L: Sink>(log: &mut L) -> Result<(), SinkFault>
     requires { L.failed log.old + 1 < 2 ^ 64 }
-    ensures { Writes (line banner)
-        (seen_stream L.Sink log.old) (seen_stream L.Sink log.new) result }
+    ensures { WritesToStream (line banner)
+        (stream_model L.Sink log.old) (stream_model L.Sink log.new) result }
 {
     say(log, &[b"This is CTANGLE, profile of CWEB 3\n"])
 }
@@ -23,47 +24,47 @@ pub fn write_banner<L: Sink>(log: &mut L) -> Result<(), SinkFault>
 #[inline(never)]
 pub fn write_starred<L: Sink>(log: &mut L, numbers: &[u32]) -> Result<(), SinkFault>
     requires { L.failed log.old + 1 < 2 ^ 64 }
-    ensures { Writes (line (starred numbers.now))
-        (seen_stream L.Sink log.old) (seen_stream L.Sink log.new) result }
+    ensures { WritesToStream (line (starred numbers.now))
+        (stream_model L.Sink log.old) (stream_model L.Sink log.new) result }
 {
-    let mut gathered = Gathered::new();
-    add_stars(&mut gathered, log, numbers)?;
-    gathered.add(log, b"\n")?;
-    gathered.pass_on(log)
+    let mut log_buffer = LogBuffer::new();
+    add_stars(&mut log_buffer, log, numbers)?;
+    log_buffer.add(log, b"\n")?;
+    log_buffer.pass_on(log)
 }
 
 fn add_stars<L: Sink>(
-    gathered: &mut Gathered,
+    log_buffer: &mut LogBuffer,
     log: &mut L,
     numbers: &[u32],
 ) -> Result<(), SinkFault>
     requires { L.failed log.old + 1 < 2 ^ 64 }
-    ensures { GathersMore (flat_map star numbers.now)
-        (seen_stream L.Sink log.old) (seen_stream L.Sink log.new)
-        (pending gathered.old) (pending gathered.new) result }
+    ensures { AppendsToLog (flat_map star numbers.now)
+        (stream_model L.Sink log.old) (stream_model L.Sink log.new)
+        (unwritten_bytes log_buffer.old) (unwritten_bytes log_buffer.new) result }
 {
     'numbers: for number in numbers {
-        add_star(gathered, log, *number)?;
+        add_star(log_buffer, log, *number)?;
     }
     Ok(())
 }
 
-fn add_star<L: Sink>(gathered: &mut Gathered, log: &mut L, number: u32) -> Result<(), SinkFault>
+fn add_star<L: Sink>(log_buffer: &mut LogBuffer, log: &mut L, number: u32) -> Result<(), SinkFault>
     requires { L.failed log.old + 1 < 2 ^ 64 }
-    ensures { GathersMore (star number)
-        (seen_stream L.Sink log.old) (seen_stream L.Sink log.new)
-        (pending gathered.old) (pending gathered.new) result }
+    ensures { AppendsToLog (star number)
+        (stream_model L.Sink log.old) (stream_model L.Sink log.new)
+        (unwritten_bytes log_buffer.old) (unwritten_bytes log_buffer.new) result }
 {
-    gathered.add(log, b"*")?;
+    log_buffer.add(log, b"*")?;
     let mut digits = Buffer::new();
-    gathered.add(log, digits.format(number).as_bytes())
+    log_buffer.add(log, digits.format(number).as_bytes())
 }
 
 /// Writes that the web has no program text.
-pub fn write_no_text<L: Sink>(log: &mut L) -> Result<(), SinkFault>
+pub fn write_no_program<L: Sink>(log: &mut L) -> Result<(), SinkFault>
     requires { L.failed log.old + 1 < 2 ^ 64 }
-    ensures { Writes (line no_text)
-        (seen_stream L.Sink log.old) (seen_stream L.Sink log.new) result }
+    ensures { WritesToStream (line no_text)
+        (stream_model L.Sink log.old) (stream_model L.Sink log.new) result }
 {
     say(log, &[b"! No program text\n"])
 }
@@ -71,8 +72,8 @@ pub fn write_no_text<L: Sink>(log: &mut L) -> Result<(), SinkFault>
 /// Writes that an output of this name is begun.
 pub fn write_writing<L: Sink>(log: &mut L, name: &str) -> Result<(), SinkFault>
     requires { L.failed log.old + 1 < 2 ^ 64 }
-    ensures { Writes (line (writing name.now))
-        (seen_stream L.Sink log.old) (seen_stream L.Sink log.new) result }
+    ensures { WritesToStream (line (writing name.now))
+        (stream_model L.Sink log.old) (stream_model L.Sink log.new) result }
 {
     say(log, &[b"Writing ", name.as_bytes(), b"\n"])
 }
@@ -85,8 +86,8 @@ pub fn write_counts<L: Sink>(
     macros: u32,
 ) -> Result<(), SinkFault>
     requires { L.failed log.old + 1 < 2 ^ 64 }
-    ensures { Writes (line (counts sections names macros))
-        (seen_stream L.Sink log.old) (seen_stream L.Sink log.new) result }
+    ensures { WritesToStream (line (counts sections names macros))
+        (stream_model L.Sink log.old) (stream_model L.Sink log.new) result }
 {
     let mut of_sections = Buffer::new();
     let mut of_names = Buffer::new();
@@ -108,8 +109,8 @@ pub fn write_counts<L: Sink>(
 /// Writes the closing line, by the number of faults and whether there is no program text, which is a warning.
 pub fn write_closing<L: Sink>(log: &mut L, count: u128, missing: bool) -> Result<(), SinkFault>
     requires { L.failed log.old + 1 < 2 ^ 64 }
-    ensures { Writes (line (closing count missing))
-        (seen_stream L.Sink log.old) (seen_stream L.Sink log.new) result }
+    ensures { WritesToStream (line (closing count missing))
+        (stream_model L.Sink log.old) (stream_model L.Sink log.new) result }
 {
     if count == 0 {
         if missing {

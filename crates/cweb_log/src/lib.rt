@@ -7,7 +7,7 @@ mod shown;
 mod words;
 
 // lines of the log, gathered without memory
-mod gathered;
+mod log_buffer;
 
 // the lines of a run, of faults, and of what stopped it
 mod faults;
@@ -17,7 +17,7 @@ mod web_faults;
 
 pub use faults::write_faults;
 pub use items::{
-    write_banner, write_closing, write_counts, write_no_text, write_starred, write_writing,
+    write_banner, write_closing, write_counts, write_no_program, write_starred, write_writing,
 };
 pub use options::Options;
 pub use shown::Shown;

@@ -1,8 +1,9 @@
 // The command line of `ctangle`.
-ghost use Rattle.std.specs.Prelude.{◌≡◌, ◌≢◌, ◌↔◌, ◌⊎◌, Some, None, map, string_bytes, slice_get, IfOk, IfErr, IsErrOf};
+ghost use Rattle.std.specs.Prelude.{◌≡◌, ◌≢◌, ◌↔◌, ◌⊎◌, Some, None, map, string_bytes, slice_get};
+ghost use Rattle.std.specs.Prelude.{IfOk, IfErr, IsErrOf};
 ghost use Rattle.std.specs.List.{after_last};
 ghost use Rattle.std.specs.Option.{option_copied};
-ghost use Rattle.cweb_log.specs.Options.{main_by, named_by, options_by, others, stem};
+ghost use Rattle.cweb_log.specs.Options.{main_by, named_by, options_by, other_words, stem};
 ghost use Rattle.cweb_log.specs.Words.{is_slash};
 
 use crate::shown::Shown;
@@ -41,7 +42,7 @@ impl Drop for Options {
 }
 
 impl Options {
-    ghost use Rattle.cweb_log.specs.Options.{options_of};
+    ghost use Rattle.cweb_log.specs.surface.Options.{options_of};
 
     /// Reads the words, without the program's own name. They are judged before memory is taken.
     pub fn read(alloc: Global, words: &[&str]) -> Result<Options, Stop>
@@ -131,7 +132,8 @@ impl Options {
 
 /// The word of this number, counted from 0, among those that are no option words.
 fn other_word<'a>(words: &[&'a str], number: usize) -> Option<&'a str>
-    ensures { option_copied result ≡ slice_get (others (map (λ word. word.now) words.now)) number }
+    ensures { option_copied result
+        ≡ slice_get (other_words (map (λ word. word.now) words.now)) number }
 {
     let mut left = number;
     'words: for word in words {

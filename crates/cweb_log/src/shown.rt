@@ -15,7 +15,8 @@ pub struct Shown {
 }
 
 impl Shown {
-    ghost use Rattle.cweb_log.specs.Options.{letter_shown, letters_shown, shown_by_default, word_shown, words_shown};
+    ghost use Rattle.cweb_log.specs.Options.{letter_shown, letters_shown, shown_by_default};
+    ghost use Rattle.cweb_log.specs.Options.{word_shown, words_shown};
 
     /// What the option words among these words ask for: words of two bytes or more that begin with `-` or `+`, wherever
     /// they stand. None where one of them has a byte that is no letter.

@@ -1,17 +1,18 @@
 // The line of the log for what stopped a run.
 ghost use Rattle.std.specs.Prelude.{◌≡◌, ◌<◌, ◌+◌, ◌^◌};
-ghost use Rattle.cweb_log.specs.Gathering.{Logs, Writes};
+ghost use Rattle.cweb_log.specs.LogWriting.{Logs};
+ghost use Rattle.cweb_log.specs.inner.LogWriting.{WritesToStream};
 ghost use Rattle.cweb_log.specs.Log.{message_line, stop_line};
-ghost use Rattle.cweb_log.specs.Seen.{seen_stream};
+ghost use Rattle.cweb_log.specs.DeviceModels.{stream_model};
 
-use crate::gathered::say;
+use crate::log_buffer::say;
 use cweb_lines::{Sink, SinkFault, Stop};
 
 /// Writes the line of a stop, which ends in a name, to the log. It takes no memory.
 pub fn write_stop<L: Sink>(log: &mut L, stop: Stop, name: &str) -> Result<(), SinkFault>
     requires { L.failed log.old + 1 < 2 ^ 64 }
-    ensures { Writes (stop_line stop name.now)
-        (seen_stream L.Sink log.old) (seen_stream L.Sink log.new) result }
+    ensures { WritesToStream (stop_line stop name.now)
+        (stream_model L.Sink log.old) (stream_model L.Sink log.new) result }
 {
     match stop {
         Stop::Usage => write_message(log, "Usage: ", name),
@@ -32,7 +33,7 @@ pub fn log_stop<L: Sink>(log: &mut L, stop: Stop, name: &str) -> u8
     requires { L.failed log.old + 1 < 2 ^ 64 }
     ensures status { result ≡ 1 }
     ensures logs { Logs (stop_line stop name.now)
-        (seen_stream L.Sink log.old) (seen_stream L.Sink log.new) }
+        (stream_model L.Sink log.old) (stream_model L.Sink log.new) }
 {
     let _ = write_stop(log, stop, name);
     1
@@ -40,8 +41,8 @@ pub fn log_stop<L: Sink>(log: &mut L, stop: Stop, name: &str) -> u8
 
 fn write_message<L: Sink>(log: &mut L, text: &str, name: &str) -> Result<(), SinkFault>
     requires { L.failed log.old + 1 < 2 ^ 64 }
-    ensures { Writes (message_line text.now name.now)
-        (seen_stream L.Sink log.old) (seen_stream L.Sink log.new) result }
+    ensures { WritesToStream (message_line text.now name.now)
+        (stream_model L.Sink log.old) (stream_model L.Sink log.new) result }
 {
     say(log, &[b"! ", text.as_bytes(), name.as_bytes(), b"\n"])
 }

@@ -2,18 +2,20 @@
 // memory.
 ghost use Rattle.std.specs.Prelude.{◌≡◌, ◌<◌, ◌+◌, ◌^◌, ◌++◌, codes, length, map, All};
 ghost use Rattle.std.specs.List.{flat_map};
-ghost use Rattle.cweb_lines.specs.Names.{names_of};
-ghost use Rattle.cweb_plan.specs.Outputs.{name_at, output_name};
-ghost use Rattle.cweb_log.specs.Gathered.{pending};
-ghost use Rattle.cweb_log.specs.Gathering.{Writes, GathersMore};
+ghost use Rattle.cweb_input.specs.surface.OpenedFileNames.{opened_file_names};
+ghost use Rattle.cweb_out.specs.Outputs.{name_spelling, output_name};
+ghost use Rattle.cweb_log.specs.inner.LogBuffer.{unwritten_bytes};
+ghost use Rattle.cweb_log.specs.inner.LogWriting.{WritesToStream, AppendsToLog};
 ghost use Rattle.cweb_log.specs.Items.{line, fault};
-ghost use Rattle.cweb_log.specs.Seen.{seen_stream};
-ghost use Rattle.cweb_log.specs.WebItems.{cycle_step, name_item, name_items, plan_item, scan_item, scan_items, scan_text};
+ghost use Rattle.cweb_log.specs.DeviceModels.{stream_model};
+ghost use Rattle.cweb_log.specs.WebItems.{cycle_step, name_item, name_items, scan_item};
+ghost use Rattle.cweb_log.specs.inner.WebItems.{plan_item};
+ghost use Rattle.cweb_log.specs.WebItems.{scan_items, scan_message};
 
 use crate::faults::add_located;
-use crate::gathered::{Gathered, say};
+use crate::log_buffer::{LogBuffer, say};
 use cweb_lines::{FileNames, Sink, SinkFault};
-use cweb_plan::PlanFault;
+use cweb_out::PlanFault;
 use cweb_rules::{ScanFault, ScanKind};
 use cweb_store::{NameFault, NameId, NameKind, Store};
 use itoa::Buffer;
@@ -26,37 +28,46 @@ pub fn write_scan_faults<L: Sink>(
     faults: &[ScanFault],
 ) -> Result<(), SinkFault>
     requires count { L.failed log.old + 1 < 2 ^ 64 }
-    requires known { All (λ fault. fault.place.file.0 < length (names_of names.now)) faults.now }
-    ensures { Writes (flat_map line (scan_items (names_of names.now) faults.now))
-        (seen_stream L.Sink log.old) (seen_stream L.Sink log.new) result }
+    requires known { All
+        (λ fault. fault.place.file.0 < length (opened_file_names names.now)) faults.now }
+    ensures { WritesToStream (flat_map line (scan_items (opened_file_names names.now) faults.now))
+        (stream_model L.Sink log.old) (stream_model L.Sink log.new) result }
 {
-    let mut gathered = Gathered::new();
+    let mut log_buffer = LogBuffer::new();
     'faults: for fault in faults {
-        add_scan_fault(&mut gathered, log, names, fault)?;
+        add_scan_fault(&mut log_buffer, log, names, fault)?;
     }
-    gathered.pass_on(log)
+    log_buffer.pass_on(log)
 }
 
 fn add_scan_fault<L: Sink>(
-    gathered: &mut Gathered,
+    log_buffer: &mut LogBuffer,
     log: &mut L,
     names: &FileNames,
     fault: &ScanFault,
 ) -> Result<(), SinkFault>
     requires count { L.failed log.old + 1 < 2 ^ 64 }
-    requires known { fault.now.place.file.0 < length (names_of names.now) }
-    ensures { GathersMore (line (scan_item (names_of names.now) fault.now))
-        (seen_stream L.Sink log.old) (seen_stream L.Sink log.new)
-        (pending gathered.old) (pending gathered.new) result }
+    requires known { fault.now.place.file.0 < length (opened_file_names names.now) }
+    ensures { AppendsToLog (line (scan_item (opened_file_names names.now) fault.now))
+        (stream_model L.Sink log.old) (stream_model L.Sink log.new)
+        (unwritten_bytes log_buffer.old) (unwritten_bytes log_buffer.new) result }
 {
     let file = names.get(fault.place.file);
     let mut line = Buffer::new();
     let line = line.format(fault.place.line);
-    add_located(gathered, log, file, line, scan_text(fault.kind), "", "")
+    add_located(
+        log_buffer,
+        log,
+        file,
+        line,
+        scan_message(fault.kind),
+        "",
+        "",
+    )
 }
 
-fn scan_text(kind: ScanKind) -> &'static str
-    ensures { result.now ≡ scan_text kind }
+fn scan_message(kind: ScanKind) -> &'static str
+    ensures { result.now ≡ scan_message kind }
 {
     match kind {
         ScanKind::DoubleAtInLimbo => "Double @ in limbo",
@@ -81,58 +92,58 @@ fn scan_text(kind: ScanKind) -> &'static str
 #[inline(never)]
 pub fn write_name_faults<L: Sink>(log: &mut L, store: &Store) -> Result<(), SinkFault>
     requires { L.failed log.old + 1 < 2 ^ 64 }
-    ensures { Writes (flat_map line (name_items store.now))
-        (seen_stream L.Sink log.old) (seen_stream L.Sink log.new) result }
+    ensures { WritesToStream (flat_map line (name_items store.now))
+        (stream_model L.Sink log.old) (stream_model L.Sink log.new) result }
 {
-    let mut gathered = Gathered::new();
+    let mut log_buffer = LogBuffer::new();
     let faults = store.name_faults();
     'faults: for fault in faults {
-        add_name_fault(&mut gathered, log, store, fault)?;
+        add_name_fault(&mut log_buffer, log, store, fault)?;
     }
-    gathered.pass_on(log)
+    log_buffer.pass_on(log)
 }
 
 fn add_name_fault<L: Sink>(
-    gathered: &mut Gathered,
+    log_buffer: &mut LogBuffer,
     log: &mut L,
     store: &Store,
     fault: &NameFault,
 ) -> Result<(), SinkFault>
     requires count { L.failed log.old + 1 < 2 ^ 64 }
     requires known { fault.now.occurrence.0 < length store.now.occurrences }
-    ensures { GathersMore (line (name_item store.now.occurrences fault.now))
-        (seen_stream L.Sink log.old) (seen_stream L.Sink log.new)
-        (pending gathered.old) (pending gathered.new) result }
+    ensures { AppendsToLog (line (name_item store.now.occurrences fault.now))
+        (stream_model L.Sink log.old) (stream_model L.Sink log.new)
+        (unwritten_bytes log_buffer.old) (unwritten_bytes log_buffer.new) result }
 {
     let name = store.occurrence_text(fault.occurrence);
     match fault.kind {
-        NameKind::Ambiguous => add_named(gathered, log, "Ambiguous prefix: <", name, "...>"),
-        NameKind::NeverFull => add_named(gathered, log, "Never given in full: <", name, "...>"),
+        NameKind::Ambiguous => add_named(log_buffer, log, "Ambiguous prefix: <", name, "...>"),
+        NameKind::NeverFull => add_named(log_buffer, log, "Never given in full: <", name, "...>"),
         NameKind::PrefixOfAnother => add_named(
-            gathered,
+            log_buffer,
             log,
             "Name is a prefix of another: <",
             name,
             ">",
         ),
-        NameKind::NotPresent => add_named(gathered, log, "Not present: <", name, ">"),
+        NameKind::NotPresent => add_named(log_buffer, log, "Not present: <", name, ">"),
     }
 }
 
 /// Adds the line of a fault that ends in a name.
 fn add_named<L: Sink>(
-    gathered: &mut Gathered,
+    log_buffer: &mut LogBuffer,
     log: &mut L,
     text: &str,
     name: &[u8],
     end: &str,
 ) -> Result<(), SinkFault>
     requires { L.failed log.old + 1 < 2 ^ 64 }
-    ensures { GathersMore (line (fault (text.now ++ (name.now ++ end.now))))
-        (seen_stream L.Sink log.old) (seen_stream L.Sink log.new)
-        (pending gathered.old) (pending gathered.new) result }
+    ensures { AppendsToLog (line (fault (text.now ++ (name.now ++ end.now))))
+        (stream_model L.Sink log.old) (stream_model L.Sink log.new)
+        (unwritten_bytes log_buffer.old) (unwritten_bytes log_buffer.new) result }
 {
-    gathered.add_line(log, &[b"! ", text.as_bytes(), name, end.as_bytes(), b"\n"])
+    log_buffer.add_line(log, &[b"! ", text.as_bytes(), name, end.as_bytes(), b"\n"])
 }
 
 /// Writes the line of the fault for which there is no plan of a web's outputs; want of memory has a line too, that of the
@@ -144,20 +155,20 @@ pub fn write_plan_fault<L: Sink>(
     main: &str,
 ) -> Result<(), SinkFault>
     requires { L.failed log.old + 1 < 2 ^ 64 }
-    ensures { Writes (line (plan_item store.now main.now fault.now))
-        (seen_stream L.Sink log.old) (seen_stream L.Sink log.new) result }
+    ensures { WritesToStream (line (plan_item store.now main.now fault.now))
+        (stream_model L.Sink log.old) (stream_model L.Sink log.new) result }
 {
     match fault {
         PlanFault::Cycle(names) => write_cycle(log, store, names.as_slice()),
         PlanFault::SameName(name) => write_named(
             log,
             "Two outputs with one name: <",
-            text_of(store, *name),
+            name_bytes(store, *name),
         ),
         PlanFault::BadName(output) => write_named(
             log,
             "Bad output name: <",
-            output_text(store, main, *output),
+            output_name_bytes(store, main, *output),
         ),
         PlanFault::Memory => say(log, &[b"! Out of memory\n"]),
     }
@@ -165,8 +176,8 @@ pub fn write_plan_fault<L: Sink>(
 
 fn write_named<L: Sink>(log: &mut L, text: &str, name: &[u8]) -> Result<(), SinkFault>
     requires { L.failed log.old + 1 < 2 ^ 64 }
-    ensures { Writes (line (fault (text.now ++ (name.now ++ codes ">"))))
-        (seen_stream L.Sink log.old) (seen_stream L.Sink log.new) result }
+    ensures { WritesToStream (line (fault (text.now ++ (name.now ++ codes ">"))))
+        (stream_model L.Sink log.old) (stream_model L.Sink log.new) result }
 {
     say(log, &[b"! ", text.as_bytes(), name, b">\n"])
 }
@@ -174,50 +185,51 @@ fn write_named<L: Sink>(log: &mut L, text: &str, name: &[u8]) -> Result<(), Sink
 #[inline(never)]
 fn write_cycle<L: Sink>(log: &mut L, store: &Store, names: &[NameId]) -> Result<(), SinkFault>
     requires { L.failed log.old + 1 < 2 ^ 64 }
-    ensures { Writes (line (fault (codes "Cycle:" ++ flat_map (cycle_step store.now) names.now)))
-        (seen_stream L.Sink log.old) (seen_stream L.Sink log.new) result }
+    ensures { WritesToStream
+        (line (fault (codes "Cycle:" ++ flat_map (cycle_step store.now) names.now)))
+        (stream_model L.Sink log.old) (stream_model L.Sink log.new) result }
 {
-    let mut gathered = Gathered::new();
-    gathered.add(log, b"! Cycle:")?;
-    add_steps(&mut gathered, log, store, names)?;
-    gathered.add(log, b"\n")?;
-    gathered.pass_on(log)
+    let mut log_buffer = LogBuffer::new();
+    log_buffer.add(log, b"! Cycle:")?;
+    add_steps(&mut log_buffer, log, store, names)?;
+    log_buffer.add(log, b"\n")?;
+    log_buffer.pass_on(log)
 }
 
 fn add_steps<L: Sink>(
-    gathered: &mut Gathered,
+    log_buffer: &mut LogBuffer,
     log: &mut L,
     store: &Store,
     names: &[NameId],
 ) -> Result<(), SinkFault>
     requires { L.failed log.old + 1 < 2 ^ 64 }
-    ensures { GathersMore (flat_map (cycle_step store.now) names.now)
-        (seen_stream L.Sink log.old) (seen_stream L.Sink log.new)
-        (pending gathered.old) (pending gathered.new) result }
+    ensures { AppendsToLog (flat_map (cycle_step store.now) names.now)
+        (stream_model L.Sink log.old) (stream_model L.Sink log.new)
+        (unwritten_bytes log_buffer.old) (unwritten_bytes log_buffer.new) result }
 {
     'names: for name in names {
-        add_step(gathered, log, store, *name)?;
+        add_step(log_buffer, log, store, *name)?;
     }
     Ok(())
 }
 
 fn add_step<L: Sink>(
-    gathered: &mut Gathered,
+    log_buffer: &mut LogBuffer,
     log: &mut L,
     store: &Store,
     name: NameId,
 ) -> Result<(), SinkFault>
     requires { L.failed log.old + 1 < 2 ^ 64 }
-    ensures { GathersMore (cycle_step store.now name)
-        (seen_stream L.Sink log.old) (seen_stream L.Sink log.new)
-        (pending gathered.old) (pending gathered.new) result }
+    ensures { AppendsToLog (cycle_step store.now name)
+        (stream_model L.Sink log.old) (stream_model L.Sink log.new)
+        (unwritten_bytes log_buffer.old) (unwritten_bytes log_buffer.new) result }
 {
-    gathered.add_line(log, &[b" <", text_of(store, name), b">"])
+    log_buffer.add_line(log, &[b" <", name_bytes(store, name), b">"])
 }
 
 /// The text of a name; none where the store has no such name.
-fn text_of(store: &Store, name: NameId) -> &[u8]
-    ensures { result.now ≡ name_at store.now name }
+fn name_bytes(store: &Store, name: NameId) -> &[u8]
+    ensures { result.now ≡ name_spelling store.now name }
 {
     if name.0 < store.names() {
         return store.name_text(name);
@@ -226,11 +238,11 @@ fn text_of(store: &Store, name: NameId) -> &[u8]
 }
 
 /// The name of an output.
-fn output_text<'a>(store: &'a Store, main: &'a str, output: Option<NameId>) -> &'a [u8]
+fn output_name_bytes<'a>(store: &'a Store, main: &'a str, output: Option<NameId>) -> &'a [u8]
     ensures { result.now ≡ output_name store.now main.now output }
 {
     match output {
         None => main.as_bytes(),
-        Some(name) => text_of(store, name),
+        Some(name) => name_bytes(store, name),
     }
 }

@@ -1,7 +1,10 @@
 // The words of a command line of `wmerge`.
-ghost use Rattle.std.specs.Prelude.{◌≡◌, ◌↔◌, ◌⊎◌, ◌++◌, Some, None, map, codes, string_bytes, option_map, IfOk, IfErr, IsErrOf};
+ghost use Rattle.std.specs.Prelude.{◌≡◌, ◌↔◌, ◌⊎◌, ◌++◌, Some, None, map, codes, string_bytes};
+ghost use Rattle.std.specs.Prelude.{option_map, IfOk, IfErr, IsErrOf};
 ghost use Rattle.std.specs.Option.{option_copied};
-ghost use Rattle.cweb_log.specs.Words.{asked_by, asked_with, asked_for, is_control, is_dash, is_option, has_control, can_name_file, has_extension, extended, second_try};
+ghost use Rattle.cweb_log.specs.Words.{web_names_by, web_names_with, web_names_for, is_control};
+ghost use Rattle.cweb_log.specs.Words.{is_dash, is_option, has_control, can_name_file};
+ghost use Rattle.cweb_log.specs.Words.{has_extension, extended, second_try};
 
 use cweb_lines::Stop;
 use std::alloc::{AllocError, Global};
@@ -17,14 +20,14 @@ pub struct MergeWords {
 
 impl MergeWords {
     ghost use Rattle.cweb_log.specs.Options.{merge_by};
-    ghost use Rattle.cweb_log.specs.Words.{names_of};
+    ghost use Rattle.cweb_log.specs.inner.Words.{merge_word_names};
 
     /// Reads the words, without the program's own name. They are judged before memory is taken.
     pub fn read(alloc: Global, words: &[&str]) -> Result<MergeWords, Stop>
-        ensures ok { IfOk result (λ read. asked_by (map (λ word. word.now) words.now) ≡
-            Some (names_of read)) }
+        ensures ok { IfOk result (λ read. web_names_by (map (λ word. word.now) words.now) ≡
+            Some (merge_word_names read)) }
         ensures usage { IsErrOf result Stop.Usage ↔
-            (asked_by (map (λ word. word.now) words.now) ≡ None) }
+            (web_names_by (map (λ word. word.now) words.now) ≡ None) }
         ensures stops { IfErr result (λ stop. (stop ≡ Stop.Usage) ⊎ (stop ≡ Stop.Memory)) }
     {
         match words {
@@ -37,7 +40,7 @@ impl MergeWords {
     /// The names by the web's word and the change file's, which are judged here.
     pub(crate) fn by(alloc: Global, web: &str, change: Option<&str>) -> Result<MergeWords, Stop>
         ensures ok { IfOk result (λ read. merge_by web.now (option_copied change.entry) ≡
-            Some (names_of read)) }
+            Some (merge_word_names read)) }
         ensures usage { IsErrOf result Stop.Usage ↔
             (merge_by web.now (option_copied change.entry) ≡ None) }
         ensures stops { IfErr result (λ stop. (stop ≡ Stop.Usage) ⊎ (stop ≡ Stop.Memory)) }
@@ -50,8 +53,9 @@ impl MergeWords {
 
     /// The names by two words. A lone `-` in the second place stands for no change file.
     fn with_change(alloc: Global, web: &str, change: &str) -> Result<MergeWords, Stop>
-        ensures ok { IfOk result (λ read. asked_with web.now change.now ≡ Some (names_of read)) }
-        ensures usage { IsErrOf result Stop.Usage ↔ (asked_with web.now change.now ≡ None) }
+        ensures ok { IfOk result (λ read. web_names_with web.now change.now
+            ≡ Some (merge_word_names read)) }
+        ensures usage { IsErrOf result Stop.Usage ↔ (web_names_with web.now change.now ≡ None) }
         ensures stops { IfErr result (λ stop. (stop ≡ Stop.Usage) ⊎ (stop ≡ Stop.Memory)) }
     {
         if is_dash(change.as_bytes()) {
@@ -65,10 +69,10 @@ impl MergeWords {
 
     /// The names by the web's word, which is judged here, and the change file's.
     fn named(alloc: Global, web: &str, change: Option<&str>) -> Result<MergeWords, Stop>
-        ensures ok { IfOk result (λ read. asked_for web.now (option_copied change.entry) ≡
-            Some (names_of read)) }
+        ensures ok { IfOk result (λ read. web_names_for web.now (option_copied change.entry) ≡
+            Some (merge_word_names read)) }
         ensures usage { IsErrOf result Stop.Usage ↔
-            (asked_for web.now (option_copied change.entry) ≡ None) }
+            (web_names_for web.now (option_copied change.entry) ≡ None) }
         ensures stops { IfErr result (λ stop. (stop ≡ Stop.Usage) ⊎ (stop ≡ Stop.Memory)) }
     {
         if !can_name_file(web) {
@@ -86,14 +90,14 @@ impl MergeWords {
 
     /// The second name of the web, where there is one.
     pub fn second(&self) -> Option<&str>
-        ensures { option_copied result ≡ (names_of self.now).second }
+        ensures { option_copied result ≡ (merge_word_names self.now).second }
     {
         self.second.as_ref().map(|name| name.as_str())
     }
 
     /// The name of the change file, where one is named.
     pub fn change(&self) -> Option<&str>
-        ensures { option_copied result ≡ (names_of self.now).change }
+        ensures { option_copied result ≡ (merge_word_names self.now).change }
     {
         self.change.as_ref().map(|name| name.as_str())
     }

@@ -1,5 +1,5 @@
 -- How the one name of a prefix changes with one more name in the sorted map.
-use Rattle.cweb_names.proofs.Common.{arith, ◌≡◌, ℕ, Bool, true, false, cond, List, [], ◌∷◌, map, filter, None, refl, nat_eq, starts_with, lookup, insert_entry, is_at, NameId, Found, Nothing, One, Several, Entry, order, begins, found_of}
+use Rattle.cweb_names.proofs.Common.{arith, ◌≡◌, ℕ, Bool, true, false, cond, List, [], ◌∷◌, map, filter, None, refl, nat_eq, starts_with, lookup, insert_entry, is_at, NameId, Found, Nothing, One, Several, NameEntry, compare_bytes, entry_has_prefix, found_of}
 
 -- the one that there is, with one more number that counts or not
 abbrev pub grown : Bool → NameId → Found → Found
@@ -13,10 +13,10 @@ found-first n [] = refl
 found-first n (m ∷ []) = refl
 found-first n (m ∷ k ∷ ns) = refl
 
-abbrev found : List Entry → Found
+abbrev found : List NameEntry → Found
 found es = found_of (map (λ e. e.1) es)
 
-found-cons : (e : Entry) (es : List Entry) → found (e ∷ es) ≡ grown true e.1 (found es)
+found-cons : (e : NameEntry) (es : List NameEntry) → found (e ∷ es) ≡ grown true e.1 (found es)
 found-cons e [] = refl
 found-cons e (f ∷ []) = refl
 found-cons e (f ∷ g ∷ es) = refl
@@ -27,12 +27,13 @@ grown-swap a v true Nothing = refl
 grown-swap a v true (One n) = refl
 grown-swap a v true Several = refl
 
-found-one : (b : Bool) (e : Entry) (es : List Entry) → found (cond b (e ∷ es) es) ≡ grown b e.1 (found es)
+found-one : (b : Bool) (e : NameEntry) (es : List NameEntry) → found (cond b (e ∷ es) es) ≡ grown b e.1 (found es)
 found-one true e es = found-cons e es
 found-one false e es = refl
 
-pub found-insert : (p : List ℕ) (es : List Entry) (k : List ℕ) (v : NameId) → lookup (is_at (order k)) es ≡ None →
-    found (filter (begins p) (insert_entry order es k v))
-    ≡ grown (starts_with nat_eq k p) v (found (filter (begins p) es))
+pub found-insert : (p : List ℕ) (es : List NameEntry) (k : List ℕ) (v : NameId)
+    → lookup (is_at (compare_bytes k)) es ≡ None →
+    found (filter (entry_has_prefix p) (insert_entry compare_bytes es k v))
+    ≡ grown (starts_with nat_eq k p) v (found (filter (entry_has_prefix p) es))
 found-insert p [] k v absent = found-one (starts_with nat_eq k p) (k, v) []
-found-insert p (e ∷ es) k v absent = grind (arith, found-insert p es k v, found-cons e (filter (begins p) es))
+found-insert p (e ∷ es) k v absent = grind (arith, found-insert p es k v, found-cons e (filter (entry_has_prefix p) es))

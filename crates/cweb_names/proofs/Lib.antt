@@ -1,10 +1,11 @@
 pub mod Common
-mod FrontLemmas
+pub mod Squeezing
+mod SortPrefixLemmas
 mod PrefixLemmas
 mod InsertLemmas
 pub mod NameLemmas
 mod LongerLemmas
 pub mod OccurrenceLemmas
-pub mod GivenLemmas
+pub mod OccurrenceTableLemmas
 mod NeighbourLemmas
 mod KnownLemmas

@@ -1,5 +1,5 @@
 -- The names that are longer than a text and begin with it.
-use Rattle.cweb_names.proofs.Common.{◌≡◌, ℕ, zero, suc, ◌+◌, ◌<◌, Bool, true, false, not, ◌||◌, ◌&&◌, List, [], ◌∷◌, Some, length, refl, sym, ◌∙◌, ap, arith, bytes_eq, if◌then◌else◌, nat_eq, slice_get, option_map, list_any, starts_with, take-length, bytes_eq-Decides, NameId, Found, Nothing, Name, id, texts, beginning_from, beginning, found_of, is_several, Distinct, is_prefix_of_another, not-not}
+use Rattle.cweb_names.proofs.Common.{◌≡◌, ℕ, zero, suc, ◌+◌, ◌<◌, Bool, true, false, not, ◌||◌, ◌&&◌, List, [], ◌∷◌, Some, length, refl, sym, ◌∙◌, ap, arith, bytes_eq, if◌then◌else◌, nat_eq, slice_get, option_map, list_any, starts_with, take-length, bytes_eq-Decides, NameId, Found, Nothing, Name, id, spellings, beginning_from, beginning, found_of, is_several, Distinct, is_prefix_of_another, not-not}
 use Rattle.cweb_names.proofs.InsertLemmas.{grown, found-first}
 use Rattle.cweb_names.proofs.NameLemmas.{bytes_eq-same, bytes_eq-sym, front_at}
 
@@ -22,7 +22,7 @@ abbrev longer : List Name → List ℕ → Bool
 longer ns text = is_prefix_of_another ns text
 
 -- of a text that is no name, what begins with it is longer
-none-begins : (i : ℕ) (q : List ℕ) (ns : List Name) → list_any (bytes_eq q) (texts ns) ≡ false
+none-begins : (i : ℕ) (q : List ℕ) (ns : List Name) → list_any (bytes_eq q) (spellings ns) ≡ false
     → is_nothing (found_of (beginning_from i q ns)) ≡ not (longer ns q)
 unfolding is_nothing
 none-begins i q [] h = refl
@@ -32,7 +32,7 @@ pub starts-same : (q : List ℕ) → starts_with nat_eq q q ≡ true
 starts-same q = ap (bytes_eq q) (take-length q) ∙ bytes_eq-same q
 
 -- of a name something begins with it
-some-begins : (i : ℕ) (q : List ℕ) (ns : List Name) → list_any (bytes_eq q) (texts ns) ≡ true
+some-begins : (i : ℕ) (q : List ℕ) (ns : List Name) → list_any (bytes_eq q) (spellings ns) ≡ true
     → is_nothing (found_of (beginning_from i q ns)) ≡ false
 unfolding is_nothing
 some-begins i q [] h = cc
@@ -50,12 +50,12 @@ some-begins i q (n ∷ ns) h =
     )
 
 -- several names begin with a name where one is longer
-pub several-longer : (i : ℕ) (q : List ℕ) (ns : List Name) → Distinct (texts ns)
-    → list_any (bytes_eq q) (texts ns) ≡ true → is_several (found_of (beginning_from i q ns)) ≡ longer ns q
+pub several-longer : (i : ℕ) (q : List ℕ) (ns : List Name) → Distinct (spellings ns)
+    → list_any (bytes_eq q) (spellings ns) ≡ true → is_several (found_of (beginning_from i q ns)) ≡ longer ns q
 several-longer i q [] d h = cc
 several-longer i q (n ∷ ns) d h =
     let rest = found_of (beginning_from (i + 1) q ns) in
-    (elim (bytes_eq q n.text) as (λ e. bytes_eq q n.text ≡ e → (e || list_any (bytes_eq q) (texts ns)) ≡ true →
+    (elim (bytes_eq q n.text) as (λ e. bytes_eq q n.text ≡ e → (e || list_any (bytes_eq q) (spellings ns)) ≡ true →
     is_several (found_of
     (if starts_with nat_eq n.text q then id i ∷ beginning_from (i + 1) q ns else beginning_from (i + 1) q ns))
     ≡ ((starts_with nat_eq n.text q && not (bytes_eq n.text q)) || longer ns q)) [
@@ -63,8 +63,8 @@ several-longer i q (n ∷ ns) d h =
           let same : q ≡ n.text = (bytes_eq-Decides q n.text).0 e in
           let begins : starts_with nat_eq n.text q ≡ true =
           ap (λ t. starts_with nat_eq t q) (sym same) ∙ starts-same q in
-          let alone : list_any (bytes_eq q) (texts ns) ≡ false =
-          ap (λ t. list_any (bytes_eq t) (texts ns)) same ∙ d.0 in
+          let alone : list_any (bytes_eq q) (spellings ns) ≡ false =
+          ap (λ t. list_any (bytes_eq t) (spellings ns)) same ∙ d.0 in
           ap (λ b.
           is_several (found_of (if b then id i ∷ beginning_from (i + 1) q ns else beginning_from (i + 1) q ns)))
           begins
@@ -84,13 +84,14 @@ several-longer i q (n ∷ ns) d h =
     ]) refl h
 
 pub any-there : (ns : List Name) (i : ℕ) (n : Name) → slice_get ns i ≡ Some n
-    → list_any (bytes_eq n.text) (texts ns) ≡ true
+    → list_any (bytes_eq n.text) (spellings ns) ≡ true
 any-there [] i n h = cc
 any-there (m ∷ ns) zero n h = cc (bytes_eq-same n.text)
 any-there (m ∷ ns) (suc i) n h = grind (arith, any-there ns i n h)
 
 -- a name is a proper prefix of another where several names begin with it
 pub prefix-several : (ns : List Name) (i : ℕ) (text : List ℕ)
-    → Distinct (texts ns) → i < length ns → option_map (λ (n : Name). n.text) (slice_get ns i) ≡ Some text → option_map
+    → Distinct (spellings ns) → i < length ns → option_map (λ (n : Name). n.text) (slice_get ns i) ≡ Some text
+    → option_map
     (λ (n : Name). is_prefix_of_another ns n.text) (slice_get ns i) ≡ Some (is_several (found_of (beginning text ns)))
 prefix-several ns i text d h is = grind (arith, front_at ns i h, several-longer 0, any-there ns i)

@@ -1,5 +1,5 @@
 -- How names stand in lists and maps.
-use Rattle.cweb_names.proofs.Common.{◌≡◌, ℕ, zero, suc, ◌+◌, Bool, true, false, cond, ◌||◌, List, [], ◌∷◌, ◌++◌, Some, None, length, refl, sym, ◌∙◌, ap, subst, arith, bytes_eq, if◌then◌else◌, nat_eq, list_any, starts_with, position_or_len, lookup, is_eq, nat_cmp, slice_cmp, is_eq-slice_cmp, bytes_eq-Decides, map-append, list_any-append, NameId, has_text_at, Name, id, texts, beginning_from, beginning, with_text, Entry, order, found_of, number_of, Distinct, AreKnown, option_map, take, map, slice_get, drop, ◌<◌}
+use Rattle.cweb_names.proofs.Common.{◌≡◌, ℕ, zero, suc, ◌+◌, Bool, true, false, cond, ◌||◌, List, [], ◌∷◌, ◌++◌, Some, None, length, refl, sym, ◌∙◌, ap, subst, arith, bytes_eq, if◌then◌else◌, nat_eq, list_any, starts_with, position_or_len, lookup, is_eq, nat_cmp, slice_cmp, is_eq-slice_cmp, bytes_eq-Decides, map-append, list_any-append, NameId, has_spelling_at, Name, id, spellings, beginning_from, beginning, with_full_name, NameEntry, compare_bytes, found_of, id_of_spelling, Distinct, IsNameMap, option_map, take, map, slice_get, drop, ◌<◌}
 use Rattle.std.specs.BTreeMap as tree
 use Rattle.cweb_names.proofs.InsertLemmas.{grown, found-insert}
 
@@ -34,27 +34,27 @@ or-false true b h = cc
 or-false false b h = record { left = refl; right = h }
 
 -- the number of a text among names, by its place
-pub number-some : (i : ℕ) (q : List ℕ) (ns : List Name) (n : NameId) → number_of i q ns ≡ Some n
-    → (list_any (bytes_eq q) (texts ns) ≡ true) × (n.0 ≡ i + position_or_len (bytes_eq q) (texts ns))
+pub number-some : (i : ℕ) (q : List ℕ) (ns : List Name) (n : NameId) → id_of_spelling i q ns ≡ Some n
+    → (list_any (bytes_eq q) (spellings ns) ≡ true) × (n.0 ≡ i + position_or_len (bytes_eq q) (spellings ns))
 number-some i q [] n h = cc
 number-some i q (m ∷ ns) n h = grind (arith, number-some (i + 1) q ns n)
 
-pub number-none : (i : ℕ) (q : List ℕ) (ns : List Name) → number_of i q ns ≡ None
-    → list_any (bytes_eq q) (texts ns) ≡ false
+pub number-none : (i : ℕ) (q : List ℕ) (ns : List Name) → id_of_spelling i q ns ≡ None
+    → list_any (bytes_eq q) (spellings ns) ≡ false
 number-none i q [] h = refl
 number-none i q (m ∷ ns) h =
-    (elim (bytes_eq q m.text) as (λ b. (if b then Some (id i) else number_of (i + 1) q ns) ≡ None →
-    (b || list_any (bytes_eq q) (texts ns)) ≡ false) [ true ↦ λ g. cc | false ↦ λ g. number-none (i + 1) q ns g ]) h
+    (elim (bytes_eq q m.text) as (λ b. (if b then Some (id i) else id_of_spelling (i + 1) q ns) ≡ None →
+    (b || list_any (bytes_eq q) (spellings ns)) ≡ false) [ true ↦ λ g. cc | false ↦ λ g. number-none (i + 1) q ns g ]) h
 
-pub number-new : (i : ℕ) (q : List ℕ) (ns : List Name) → list_any (bytes_eq q) (texts ns) ≡ false
-    → number_of i q ns ≡ None
+pub number-new : (i : ℕ) (q : List ℕ) (ns : List Name) → list_any (bytes_eq q) (spellings ns) ≡ false
+    → id_of_spelling i q ns ≡ None
 number-new i q [] h = refl
 number-new i q (m ∷ ns) h = grind (arith, number-new (i + 1) q ns)
 
 -- one more name, where no other has its text
 number-push : (i : ℕ) (q : List ℕ) (ns : List Name) (n : Name) (j : ℕ) → j ≡ i + length ns
-    → list_any (bytes_eq n.text) (texts ns) ≡ false
-    → number_of i q (ns ++ n ∷ []) ≡ cond (bytes_eq q n.text) (Some (id j)) (number_of i q ns)
+    → list_any (bytes_eq n.text) (spellings ns) ≡ false
+    → id_of_spelling i q (ns ++ n ∷ []) ≡ cond (bytes_eq q n.text) (Some (id j)) (id_of_spelling i q ns)
 number-push i q [] n j e new = grind arith
 number-push i q (m ∷ ns) n j e new =
     grind (arith, number-push (i + 1) q ns n j (omega arith), bytes_eq-Decides q m.text, bytes_eq-sym m.text n.text)
@@ -68,16 +68,16 @@ position-below p [] h = cc
 position-below p (x ∷ xs) h = grind (arith, p x, position-below p xs)
 
 pub with_text-there : (i : ℕ) (ns : List Name) (text : List ℕ)
-    → list_any (bytes_eq text) (texts ns) ≡ true → with_text i ns text ≡ ns
+    → list_any (bytes_eq text) (spellings ns) ≡ true → with_full_name i ns text ≡ ns
 with_text-there i ns text h = ap (λ b. if b then ns else ns ++ (record { text = text; first = i }) ∷ []) h
 
-pub with_text-new : (i : ℕ) (ns : List Name) (text : List ℕ) → list_any (bytes_eq text) (texts ns) ≡ false
-    → with_text i ns text ≡ ns ++ (record { text = text; first = i }) ∷ []
+pub with_text-new : (i : ℕ) (ns : List Name) (text : List ℕ) → list_any (bytes_eq text) (spellings ns) ≡ false
+    → with_full_name i ns text ≡ ns ++ (record { text = text; first = i }) ∷ []
 with_text-new i ns text h = ap (λ b. if b then ns else ns ++ (record { text = text; first = i }) ∷ []) h
 
 -- the name that has a text is the only one
-pub known-at : (ns : List Name) (i : ℕ) (q : List ℕ) → Distinct (texts ns) → has_text_at ns i q ≡ true
-    → (list_any (bytes_eq q) (texts ns) ≡ true) × (i ≡ position_or_len (bytes_eq q) (texts ns))
+pub known-at : (ns : List Name) (i : ℕ) (q : List ℕ) → Distinct (spellings ns) → has_spelling_at ns i q ≡ true
+    → (list_any (bytes_eq q) (spellings ns) ≡ true) × (i ≡ position_or_len (bytes_eq q) (spellings ns))
 known-at [] i q d h = cc
 known-at (n ∷ ns) zero q d h = grind (arith, bytes_eq-sym q n.text)
 known-at (n ∷ ns) (suc i) q d h = grind (arith, known-at ns i q d.1 h, suc i, bytes_eq-Decides q n.text)
@@ -93,8 +93,8 @@ abbrev at : List ℕ → List ℕ → Bool
 at q k = is_eq (slice_cmp nat_cmp q k)
 
 -- a map gives what was put into it, and else what it gave
-lookup-inserted : (es : List Entry) (key : List ℕ) (v : NameId) (q : List ℕ)
-    → lookup (at q) (tree.insert_entry order es key v) ≡ cond (bytes_eq q key) (Some v) (lookup (at q) es)
+lookup-inserted : (es : List NameEntry) (key : List ℕ) (v : NameId) (q : List ℕ)
+    → lookup (at q) (tree.insert_entry compare_bytes es key v) ≡ cond (bytes_eq q key) (Some v) (lookup (at q) es)
 lookup-inserted [] key v q = ap (λ b. cond b (Some v) None) (is_eq-slice_cmp q key)
 lookup-inserted (e ∷ es) key v q =
     grind (
@@ -114,13 +114,13 @@ Distinct-push [] y d h = (refl, tt)
 Distinct-push (x ∷ xs) y d h =
     grind (arith, list_any-append (bytes_eq x) xs (y ∷ []), bytes_eq-sym x y, Distinct-push xs y d.1)
 
-pub texts-push : (ns : List Name) (n : Name) → texts (ns ++ n ∷ []) ≡ texts ns ++ n.text ∷ []
-texts-push ns n = map-append (λ (m : Name). m.text) ns (n ∷ [])
+pub strings-push : (ns : List Name) (n : Name) → spellings (ns ++ n ∷ []) ≡ spellings ns ++ n.text ∷ []
+strings-push ns n = map-append (λ (m : Name). m.text) ns (n ∷ [])
 
 -- a new name in the list and in the map
-pub known-push : (es : List Entry) (ns : List Name) (key : List ℕ) (first : ℕ) (v : NameId)
-    → AreKnown es ns → list_any (bytes_eq key) (texts ns) ≡ false → v ≡ id (length ns) →
-    AreKnown (tree.insert_entry order es key v) (ns ++ (record { text = key; first = first }) ∷ [])
+pub known-push : (es : List NameEntry) (ns : List Name) (key : List ℕ) (first : ℕ) (v : NameId)
+    → IsNameMap es ns → list_any (bytes_eq key) (spellings ns) ≡ false → v ≡ id (length ns) →
+    IsNameMap (tree.insert_entry compare_bytes es key v) (ns ++ (record { text = key; first = first }) ∷ [])
 known-push es ns key first v known new last =
     let n : Name = record { text = key; first = first } in
     record {
@@ -130,9 +130,9 @@ known-push es ns key first v known new last =
           ∙ sym (beginning-push 0 p ns n (length ns) (omega arith));
       gives = λ q.
           lookup-inserted es key v q ∙ ap (λ r. cond (bytes_eq q key) (Some v) r) (known.gives q)
-          ∙ ap (λ w. cond (bytes_eq q key) (Some w) (number_of 0 q ns)) last
+          ∙ ap (λ w. cond (bytes_eq q key) (Some w) (id_of_spelling 0 q ns)) last
           ∙ sym (number-push 0 q ns n (length ns) (omega arith) new);
-      distinct = subst Distinct (sym (texts-push ns n)) (Distinct-push (texts ns) key known.distinct new);
+      distinct = subst Distinct (sym (strings-push ns n)) (Distinct-push (spellings ns) key known.distinct new);
     }
 
 -- the first occurrences of names, one more

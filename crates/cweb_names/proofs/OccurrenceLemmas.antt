@@ -1,58 +1,60 @@
 -- What the occurrences give: names, what is found of each, and what each stands for.
-use Rattle.cweb_names.proofs.Common.{◌≡◌, ℕ, ◌+◌, ◌≤◌, Bool, true, false, cond, not, ◌||◌, List, [], ◌∷◌, ◌++◌, length, refl, sym, ◌∙◌, ap, arith, length-append, append_assoc, append-nil, Err, bytes_eq, if◌then◌else◌, list_any, position_or_len, map-append, How, Full, Prefix, NameId, NeverFull, Occurrence, Name, Standing, texts, with_text, with_name, names_from, names, beginning, the_one, standing_among, found_of, early, earlies_from, by_found}
+use Rattle.cweb_names.proofs.Common.{◌≡◌, ℕ, ◌+◌, ◌≤◌, Bool, true, false, cond, not, ◌||◌, List, [], ◌∷◌, ◌++◌, length, refl, sym, ◌∙◌, ap, arith, length-append, append_assoc, append-nil, Err, bytes_eq, if◌then◌else◌, list_any, position_or_len, map-append, How, Full, Prefix, NameId, NeverFull, Occurrence, Name, Resolution, spellings, with_full_name, with_occurrence_name, names_from, names, beginning, the_one, resolved_among, found_of, early, earlies_from, by_found}
 use Rattle.cweb_names.proofs.NameLemmas.{bytes_eq-same}
 
-with_text-few : (i : ℕ) (ns : List Name) (text : List ℕ) → length (with_text i ns text) ≤ length ns + 1
+with_text-few : (i : ℕ) (ns : List Name) (text : List ℕ) → length (with_full_name i ns text) ≤ length ns + 1
 with_text-few i ns text = grind (arith, length-append ns)
 
-with_name-few : (i : ℕ) (ns : List Name) (o : Occurrence) → length (with_name i ns o) ≤ length ns + 1
+with_name-few : (i : ℕ) (ns : List Name) (o : Occurrence) → length (with_occurrence_name i ns o) ≤ length ns + 1
 with_name-few i ns o = grind (arith, with_text-few i ns o.text)
 
 names_from-few : (i : ℕ) (ns : List Name) (os : List Occurrence) → length (names_from i ns os) ≤ length ns + length os
 names_from-few i ns [] = omega arith
-names_from-few i ns (o ∷ os) = omega (arith, names_from-few (i + 1) (with_name i ns o) os, with_name-few i ns o)
+names_from-few i ns (o ∷ os) =
+    omega (arith, names_from-few (i + 1) (with_occurrence_name i ns o) os, with_name-few i ns o)
 
 -- there are no more names than occurrences
 pub names-few : (os : List Occurrence) → length (names os) ≤ length os
 names-few os = omega (arith, names_from-few 0 [] os)
 
 pub names_from-push : (i j : ℕ) (ns : List Name) (os : List Occurrence) (o : Occurrence)
-    → j ≡ i + length os → names_from i ns (os ++ o ∷ []) ≡ with_name j (names_from i ns os) o
-names_from-push i j ns [] o e = ap (λ k. with_name k ns o) (let same : i ≡ j = omega arith in same)
-names_from-push i j ns (p ∷ os) o e = names_from-push (i + 1) j (with_name i ns p) os o (omega arith)
+    → j ≡ i + length os → names_from i ns (os ++ o ∷ []) ≡ with_occurrence_name j (names_from i ns os) o
+names_from-push i j ns [] o e = ap (λ k. with_occurrence_name k ns o) (let same : i ≡ j = omega arith in same)
+names_from-push i j ns (p ∷ os) o e = names_from-push (i + 1) j (with_occurrence_name i ns p) os o (omega arith)
 
 pub earlies_from-push : (i : ℕ) (ns : List Name) (os : List Occurrence) (o : Occurrence)
     → earlies_from i ns (os ++ o ∷ []) ≡ earlies_from i ns os ++ early (names_from i ns os) o ∷ []
 earlies_from-push i ns [] o = refl
-earlies_from-push i ns (p ∷ os) o = ap (λ fs. early ns p ∷ fs) (earlies_from-push (i + 1) (with_name i ns p) os o)
+earlies_from-push i ns (p ∷ os) o =
+    ap (λ fs. early ns p ∷ fs) (earlies_from-push (i + 1) (with_occurrence_name i ns p) os o)
 
 -- names that come later stand behind those that there are
 pub record Grows (old new : List Name) : Type 0 where
   pub more : List Name
   pub grows : new ≡ old ++ more
 
-with_text-grows : (i : ℕ) (ns : List Name) (text : List ℕ) → Grows ns (with_text i ns text)
+with_text-grows : (i : ℕ) (ns : List Name) (text : List ℕ) → Grows ns (with_full_name i ns text)
 with_text-grows i ns text =
     let n : Name = record { text = text; first = i } in
-    elim (list_any (bytes_eq text) (texts ns)) as (λ b. Grows ns (if b then ns else ns ++ n ∷ []))
+    elim (list_any (bytes_eq text) (spellings ns)) as (λ b. Grows ns (if b then ns else ns ++ n ∷ []))
     [ true ↦ record { more = []; grows = sym (append-nil ns) } | false ↦ record { more = n ∷ []; grows = refl } ]
 
-pub with_name-grows : (i : ℕ) (ns : List Name) (o : Occurrence) → Grows ns (with_name i ns o)
-with_name-grows i ns o = elim o.how as (λ how. Grows ns (elim how [ Full ↦ with_text i ns o.text | Prefix ↦ ns ]))
+pub with_name-grows : (i : ℕ) (ns : List Name) (o : Occurrence) → Grows ns (with_occurrence_name i ns o)
+with_name-grows i ns o = elim o.how as (λ how. Grows ns (elim how [ Full ↦ with_full_name i ns o.text | Prefix ↦ ns ]))
     [ Full ↦ with_text-grows i ns o.text | Prefix ↦ record { more = []; grows = sym (append-nil ns) } ]
 
 pub names_from-grows : (i : ℕ) (ns : List Name) (os : List Occurrence) → Grows ns (names_from i ns os)
 names_from-grows i ns [] = record { more = []; grows = sym (append-nil ns) }
 names_from-grows i ns (o ∷ os) =
     let one = with_name-grows i ns o in
-    let rest = names_from-grows (i + 1) (with_name i ns o) os in
+    let rest = names_from-grows (i + 1) (with_occurrence_name i ns o) os in
     record {
       more = one.more ++ rest.more;
       grows = rest.grows ∙ ap (λ ms. ms ++ rest.more) one.grows ∙ append_assoc ns one.more rest.more;
     }
 
-texts-append : (ns ms : List Name) → texts (ns ++ ms) ≡ texts ns ++ texts ms
-texts-append ns ms = map-append (λ (m : Name). m.text) ns ms
+strings-append : (ns ms : List Name) → spellings (ns ++ ms) ≡ spellings ns ++ spellings ms
+strings-append ns ms = map-append (λ (m : Name). m.text) ns ms
 
 position-append : (p : List ℕ → Bool) (xs ys : List (List ℕ))
     → list_any p xs ≡ true → position_or_len p (xs ++ ys) ≡ position_or_len p xs
@@ -70,39 +72,42 @@ position-last p (x ∷ xs) y h none = grind (arith, p x, position-last p xs y h)
 
 -- a text is among the names once it is given in full
 pub with_text-has : (i : ℕ) (ns : List Name) (text : List ℕ)
-    → list_any (bytes_eq text) (texts (with_text i ns text)) ≡ true
-with_text-has i ns text = grind (arith, texts-append ns, any-last (bytes_eq text) (texts ns) text (bytes_eq-same text))
+    → list_any (bytes_eq text) (spellings (with_full_name i ns text)) ≡ true
+with_text-has i ns text =
+    grind (arith, strings-append ns, any-last (bytes_eq text) (spellings ns) text (bytes_eq-same text))
 
 -- and its number is the one that it had, or that of the first new name
 with_text-position : (i : ℕ) (ns : List Name) (text : List ℕ)
-    → position_or_len (bytes_eq text) (texts (with_text i ns text)) ≡ position_or_len (bytes_eq text) (texts ns)
+    → position_or_len (bytes_eq text) (spellings (with_full_name i ns text))
+    ≡ position_or_len (bytes_eq text) (spellings ns)
 with_text-position i ns text =
-    grind (arith, texts-append ns, position-last (bytes_eq text) (texts ns) text (bytes_eq-same text))
+    grind (arith, strings-append ns, position-last (bytes_eq text) (spellings ns) text (bytes_eq-same text))
 
 -- a name keeps its number
-pub position-grows : (text : List ℕ) (old new : List Name) → Grows old new → list_any (bytes_eq text) (texts old) ≡ true
-    → position_or_len (bytes_eq text) (texts new) ≡ position_or_len (bytes_eq text) (texts old)
+pub position-grows : (text : List ℕ) (old new : List Name) → Grows old new
+    → list_any (bytes_eq text) (spellings old) ≡ true
+    → position_or_len (bytes_eq text) (spellings new) ≡ position_or_len (bytes_eq text) (spellings old)
 position-grows text old new g there =
-    cc (texts-append old g.more, position-append (bytes_eq text) (texts old) (texts g.more) there)
+    cc (strings-append old g.more, position-append (bytes_eq text) (spellings old) (spellings g.more) there)
 
-by_found-the_one : (ns : List NameId) (otherwise : Standing) → by_found (found_of ns) otherwise ≡ the_one ns otherwise
+by_found-the_one : (ns : List NameId) (otherwise : Resolution) → by_found (found_of ns) otherwise ≡ the_one ns otherwise
 by_found-the_one [] otherwise = refl
 by_found-the_one (n ∷ []) otherwise = refl
 by_found-the_one (n ∷ m ∷ ns) otherwise = refl
 
-abbrev pub late : List Name → List ℕ → Standing
+abbrev pub late : List Name → List ℕ → Resolution
 late all text = by_found (found_of (beginning text all)) (Err NeverFull)
 
-pub settled-one : (i : ℕ) (before : List Name) (os : List Occurrence) (text : List ℕ) (how : How) (is_file : Bool) →
+pub resolve-one : (i : ℕ) (before : List Name) (os : List Occurrence) (text : List ℕ) (how : How) (is_file : Bool) →
     let o : Occurrence = record { text = text; how = how; is_file = is_file } in
     let all = names_from i before (o ∷ os) in
-    by_found (early before o) (late all text) ≡ standing_among before all o
-settled-one i before os text Full is_file =
+    by_found (early before o) (late all text) ≡ resolved_among before all o
+resolve-one i before os text Full is_file =
     grind (
       arith,
-      names_from-grows (i + 1) (with_text i before text) os,
-      position-grows text (with_text i before text) (names_from (i + 1) (with_text i before text) os),
+      names_from-grows (i + 1) (with_full_name i before text) os,
+      position-grows text (with_full_name i before text) (names_from (i + 1) (with_full_name i before text) os),
       with_text-has i before text,
       with_text-position i before text,
     )
-settled-one i before os text Prefix is_file = grind (arith, by_found-the_one (beginning text before), late)
+resolve-one i before os text Prefix is_file = grind (arith, by_found-the_one (beginning text before), late)

@@ -1,5 +1,5 @@
 -- Texts with a prefix stand together in a sorted list.
-use Rattle.cweb_names.proofs.Common.{◌≡◌, ℕ, ◌<◌, Bool, true, false, cond, ◌&&◌, List, [], ◌∷◌, map, filter, refl, sym, ◌∙◌, ap, subst, arith, eq-eqb, nat_eq, starts_with, AllByRecursion, keys_of, nat_cmp, ordering_then, is_le, slice_cmp, Ordering, Less, Equal, eqb-true, nat_tests, Nothing, One, Several, Entry, order, begins, numbers, found_of}
+use Rattle.cweb_names.proofs.Common.{◌≡◌, ℕ, ◌<◌, Bool, true, false, cond, ◌&&◌, List, [], ◌∷◌, map, filter, refl, sym, ◌∙◌, ap, subst, arith, eq-eqb, nat_eq, starts_with, AllByRecursion, keys_of, nat_cmp, ordering_then, is_le, slice_cmp, Ordering, Less, Equal, eqb-true, nat_tests, Nothing, One, Several, NameEntry, compare_bytes, entry_has_prefix, ids_with_prefix, found_of}
 use Rattle.std.specs.List.Sorted.{IsStrictlySortedBy}
 
 nat_less : (x y : ℕ) → nat_cmp x y ≡ Less → x < y
@@ -37,18 +37,21 @@ begins-le (x ∷ p) [] s = cc
 begins-le (x ∷ p) (z ∷ b) s = grind (arith, both x z (starts_with nat_eq b p) s, nat_same x, begins-le p b)
 
 -- past a text that isn't below the prefix and doesn't begin with it none does
-pub none-begins : (p : List ℕ) (k : List ℕ) (es : List Entry) → is_le (slice_cmp nat_cmp p k) ≡ true
-    → starts_with nat_eq k p ≡ false → AllByRecursion (λ j. order k j ≡ Less) (keys_of es) → filter (begins p) es ≡ []
+pub none-begins : (p : List ℕ) (k : List ℕ) (es : List NameEntry) → is_le (slice_cmp nat_cmp p k) ≡ true
+    → starts_with nat_eq k p ≡ false → AllByRecursion (λ j. compare_bytes k j ≡ Less) (keys_of es)
+    → filter (entry_has_prefix p) es ≡ []
 none-begins p k [] low other above = refl
 none-begins p k (e ∷ es) low other above = (elim (starts_with nat_eq e.0 p)
-    as (λ v. starts_with nat_eq e.0 p ≡ v → cond v (e ∷ filter (begins p) es) (filter (begins p) es) ≡ []) [
+    as (λ v. starts_with nat_eq e.0 p ≡ v
+    → cond v (e ∷ filter (entry_has_prefix p) es) (filter (entry_has_prefix p) es) ≡ []) [
       | true ↦ λ s. let t : starts_with nat_eq k p ≡ true = squeeze p k e.0 low above.0 s in cc
       | false ↦ λ s. none-begins p k es low other above.1
     ]) refl
 
 -- the names that begin with a prefix are among those from the prefix on
-pub from-begins : (p : List ℕ) (es : List Entry)
-    → filter (begins p) (filter (λ (e : Entry). is_le (slice_cmp nat_cmp p e.0) && true) es) ≡ filter (begins p) es
+pub from-begins : (p : List ℕ) (es : List NameEntry)
+    → filter (entry_has_prefix p) (filter (λ (e : NameEntry). is_le (slice_cmp nat_cmp p e.0) && true) es)
+    ≡ filter (entry_has_prefix p) es
 from-begins p [] = refl
 from-begins p (e ∷ es) = grind (arith, from-begins p es, no_begin, begins-le p)
   where
@@ -56,56 +59,60 @@ from-begins p (e ∷ es) = grind (arith, from-begins p es, no_begin, begins-le p
     no_begin true f = f refl
     no_begin false f = refl
 
-abbrev from : List ℕ → List Entry → List Entry
-from p es = filter (λ (e : Entry). is_le (slice_cmp nat_cmp p e.0) && true) es
+abbrev from : List ℕ → List NameEntry → List NameEntry
+from p es = filter (λ (e : NameEntry). is_le (slice_cmp nat_cmp p e.0) && true) es
 
-all-from : (p : List ℕ) (k : List ℕ) (es : List Entry) → AllByRecursion (λ j. order k j ≡ Less) (keys_of es)
-    → AllByRecursion (λ j. order k j ≡ Less) (keys_of (from p es))
+all-from : (p : List ℕ) (k : List ℕ) (es : List NameEntry) → AllByRecursion (λ j. compare_bytes k j ≡ Less) (keys_of es)
+    → AllByRecursion (λ j. compare_bytes k j ≡ Less) (keys_of (from p es))
 all-from p k [] h = tt
 all-from p k (e ∷ es) h = grind (arith, from p es, all-from p k es h.1)
 
-sorted-from : (p : List ℕ) (es : List Entry) → IsStrictlySortedBy order (keys_of es)
-    → IsStrictlySortedBy order (keys_of (from p es))
+sorted-from : (p : List ℕ) (es : List NameEntry) → IsStrictlySortedBy compare_bytes (keys_of es)
+    → IsStrictlySortedBy compare_bytes (keys_of (from p es))
 unfolding IsStrictlySortedBy
 sorted-from p [] h = tt
 sorted-from p (e ∷ es) h = grind (arith, from p es, all-from p e.0 es h.0, sorted-from p es h.1)
 
-low-from : (p : List ℕ) (es : List Entry)
-    → AllByRecursion (λ (e : Entry). is_le (slice_cmp nat_cmp p e.0) ≡ true) (from p es)
+low-from : (p : List ℕ) (es : List NameEntry)
+    → AllByRecursion (λ (e : NameEntry). is_le (slice_cmp nat_cmp p e.0) ≡ true) (from p es)
 low-from p [] = tt
 low-from p (e ∷ es) = grind (arith, from p es, low-from p es)
 
 -- what the first two entries from the prefix on say of all
-pub record Names (p : List ℕ) (es rest : List Entry) : Type 0 where
-  pub is : filter (begins p) es ≡ filter (begins p) rest
-  pub sorted : IsStrictlySortedBy order (keys_of rest)
-  pub low : AllByRecursion (λ (e : Entry). is_le (slice_cmp nat_cmp p e.0) ≡ true) rest
+pub record Names (p : List ℕ) (es rest : List NameEntry) : Type 0 where
+  pub is : filter (entry_has_prefix p) es ≡ filter (entry_has_prefix p) rest
+  pub sorted : IsStrictlySortedBy compare_bytes (keys_of rest)
+  pub low : AllByRecursion (λ (e : NameEntry). is_le (slice_cmp nat_cmp p e.0) ≡ true) rest
 
-pub names-from : (p : List ℕ) (es : List Entry) → IsStrictlySortedBy order (keys_of es) → Names p es (from p es)
+pub names-from : (p : List ℕ) (es : List NameEntry) → IsStrictlySortedBy compare_bytes (keys_of es)
+    → Names p es (from p es)
 names-from p es h = record { is = sym (from-begins p es); sorted = sorted-from p es h; low = low-from p es }
 
-pub names-none : (p : List ℕ) (es rest : List Entry) → Names p es rest → rest ≡ [] → found_of (numbers p es) ≡ Nothing
-names-none p es rest h empty = ap (λ xs. found_of (map (λ (e : Entry). e.1) xs)) (h.is ∙ ap (filter (begins p)) empty)
+pub names-none : (p : List ℕ) (es rest : List NameEntry) → Names p es rest → rest ≡ []
+    → found_of (ids_with_prefix p es) ≡ Nothing
+names-none p es rest h empty =
+    ap (λ xs. found_of (map (λ (e : NameEntry). e.1) xs)) (h.is ∙ ap (filter (entry_has_prefix p)) empty)
 
-pub names-other : (p : List ℕ) (es : List Entry) (e : Entry) (rest : List Entry) → Names p es (e ∷ rest)
-    → starts_with nat_eq e.0 p ≡ false → found_of (numbers p es) ≡ Nothing
+pub names-other : (p : List ℕ) (es : List NameEntry) (e : NameEntry) (rest : List NameEntry) → Names p es (e ∷ rest)
+    → starts_with nat_eq e.0 p ≡ false → found_of (ids_with_prefix p es) ≡ Nothing
 unfolding IsStrictlySortedBy
 names-other p es e rest h other = grind (arith, none-begins p)
 
-pub names-last : (p : List ℕ) (es : List Entry) (e : Entry) → Names p es (e ∷ [])
-    → starts_with nat_eq e.0 p ≡ true → found_of (numbers p es) ≡ One e.1
-names-last p es e h same = ap (λ xs. found_of (map (λ (e : Entry). e.1) xs)) (h.is ∙ ap (λ v. cond v (e ∷ []) []) same)
+pub names-last : (p : List ℕ) (es : List NameEntry) (e : NameEntry) → Names p es (e ∷ [])
+    → starts_with nat_eq e.0 p ≡ true → found_of (ids_with_prefix p es) ≡ One e.1
+names-last p es e h same =
+    ap (λ xs. found_of (map (λ (e : NameEntry). e.1) xs)) (h.is ∙ ap (λ v. cond v (e ∷ []) []) same)
 
-pub names-two : (p : List ℕ) (es : List Entry) (e f : Entry) (rest : List Entry) → Names p es (e ∷ f ∷ rest)
-    → starts_with nat_eq e.0 p ≡ true → starts_with nat_eq f.0 p ≡ true → found_of (numbers p es) ≡ Several
+pub names-two : (p : List ℕ) (es : List NameEntry) (e f : NameEntry) (rest : List NameEntry) → Names p es (e ∷ f ∷ rest)
+    → starts_with nat_eq e.0 p ≡ true → starts_with nat_eq f.0 p ≡ true → found_of (ids_with_prefix p es) ≡ Several
 names-two p es e f rest h one two = cc
 
-pub names-one : (p : List ℕ) (es : List Entry) (e f : Entry) (rest : List Entry) → Names p es (e ∷ f ∷ rest)
-    → starts_with nat_eq e.0 p ≡ true → starts_with nat_eq f.0 p ≡ false → found_of (numbers p es) ≡ One e.1
+pub names-one : (p : List ℕ) (es : List NameEntry) (e f : NameEntry) (rest : List NameEntry) → Names p es (e ∷ f ∷ rest)
+    → starts_with nat_eq e.0 p ≡ true → starts_with nat_eq f.0 p ≡ false → found_of (ids_with_prefix p es) ≡ One e.1
 unfolding IsStrictlySortedBy
 names-one p es e f rest h one other = cc (none-begins p f.0 rest h.low.1.0 other h.sorted.1.0)
 
-pub names-range : (p q : List ℕ) (es rest : List Entry)
-    → rest ≡ filter (λ (e : Entry). is_le (slice_cmp nat_cmp q e.0) && true) es
-    → q ≡ p → IsStrictlySortedBy order (keys_of es) → Names p es rest
+pub names-range : (p q : List ℕ) (es rest : List NameEntry)
+    → rest ≡ filter (λ (e : NameEntry). is_le (slice_cmp nat_cmp q e.0) && true) es
+    → q ≡ p → IsStrictlySortedBy compare_bytes (keys_of es) → Names p es rest
 names-range p q es rest is same h = subst (Names p es) (sym (is ∙ ap (λ r. from r es) same)) (names-from p es h)

@@ -1,5 +1,5 @@
+pub mod Squeezing
 pub mod Names
-pub mod Found
-pub mod Known
-pub mod Given
-pub mod Fronts
+pub mod surface
+pub mod laws
+pub mod inner

@@ -1,5 +1,6 @@
 -- Names: their occurrences, what each occurrence stands for, and which names are files.
-use Rattle.std.specs.Prelude.{ℕ, ◌+◌, Bool, not, ◌&&◌, nat_eq, List, [], ◌∷◌, ◌++◌, Option, Some, None, Result, Ok, Err, map, slice_get, bytes_eq, if◌then◌else◌}
+use Rattle.std.specs.Prelude.{ℕ, ◌+◌, Bool, not, ◌&&◌, nat_eq, List, [], ◌∷◌, ◌++◌, Option, Some, None, Result, Ok, Err}
+use Rattle.std.specs.Prelude.{map, slice_get, bytes_eq, if◌then◌else◌}
 use Rattle.std.specs.List.{starts_with, list_any, position_or_len}
 use Rattle.cweb_names.specs.declared.name.How.{How}
 use Rattle.cweb_names.specs.declared.name.How.TheVariants.{Full, Prefix}
@@ -13,39 +14,31 @@ pub record Occurrence : Type 0 where
   pub how : How
   pub is_file : Bool
 
-abbrev pub occurrence_of : List ℕ → How → Bool → Occurrence
-occurrence_of text how is_file = record { text = text; how = how; is_file = is_file }
-
-abbrev pub occurrence_text : Occurrence → List ℕ
-occurrence_text o = o.text
-
--- fewer occurrences than this are taken
-abbrev pub too_many : ℕ
-too_many = 4294967295
-
 -- a name, and the number of the occurrence that first gave it in full
 pub record Name : Type 0 where
   pub text : List ℕ
   pub first : ℕ
 
-abbrev pub texts : List Name → List (List ℕ)
-texts names = map (λ n. n.text) names
+abbrev pub spellings : List Name → List (List ℕ)
+spellings names = map (λ n. n.text) names
 
 -- a text is a proper prefix of a name
 abbrev pub is_prefix_of_another : List Name → List ℕ → Bool
-is_prefix_of_another all text = list_any (λ other. starts_with nat_eq other text && not (bytes_eq other text)) (texts all)
+is_prefix_of_another all text =
+    list_any (λ other. starts_with nat_eq other text && not (bytes_eq other text)) (spellings all)
 
 -- the names with one more text, given in full by occurrence i
-abbrev pub with_text : ℕ → List Name → List ℕ → List Name
-with_text i names text = if list_any (bytes_eq text) (texts names) then names else names ++ (record { text = text; first = i }) ∷ []
+abbrev pub with_full_name : ℕ → List Name → List ℕ → List Name
+with_full_name i names text =
+    if list_any (bytes_eq text) (spellings names) then names else names ++ (record { text = text; first = i }) ∷ []
 
 -- the names after occurrence i: only a text given in full is a name
-abbrev pub with_name : ℕ → List Name → Occurrence → List Name
-with_name i names o = elim o.how [ Full ↦ with_text i names o.text | Prefix ↦ names ]
+abbrev pub with_occurrence_name : ℕ → List Name → Occurrence → List Name
+with_occurrence_name i names o = elim o.how [ Full ↦ with_full_name i names o.text | Prefix ↦ names ]
 
 abbrev pub names_from : ℕ → List Name → List Occurrence → List Name
 names_from i names [] = names
-names_from i names (o ∷ os) = names_from (i + 1) (with_name i names o) os
+names_from i names (o ∷ os) = names_from (i + 1) (with_occurrence_name i names o) os
 
 -- the distinct texts that are given in full, in order of their first occurrence in full
 abbrev pub names : List Occurrence → List Name
@@ -65,33 +58,34 @@ abbrev pub beginning : List ℕ → List Name → List NameId
 beginning prefix names = beginning_from 0 prefix names
 
 -- what an occurrence stands for: a name, or none for a fault
-abbrev pub Standing : Type 0
-Standing = Result NameId NameKind
+abbrev pub Resolution : Type 0
+Resolution = Result NameId NameKind
 
 -- the only name of a list; several are ambiguous, and of none something else decides
-abbrev pub the_one : List NameId → Standing → Standing
+abbrev pub the_one : List NameId → Resolution → Resolution
 the_one [] otherwise = otherwise
 the_one (n ∷ []) otherwise = Ok n
 the_one (n ∷ m ∷ ns) otherwise = Err Ambiguous
 
 -- what an occurrence stands for, by the names given before it and all names: an abbreviation looks at the earlier ones first
-abbrev pub standing_among : List Name → List Name → Occurrence → Standing
-standing_among before all o = elim o.how [
-  | Full ↦ Ok (id (position_or_len (bytes_eq o.text) (texts all)))
+abbrev pub resolved_among : List Name → List Name → Occurrence → Resolution
+resolved_among before all o = elim o.how [
+  | Full ↦ Ok (id (position_or_len (bytes_eq o.text) (spellings all)))
   | Prefix ↦ the_one (beginning o.text before) (the_one (beginning o.text all) (Err NeverFull))
 ]
 
-abbrev pub standings_from : ℕ → List Name → List Name → List Occurrence → List Standing
-standings_from i before all [] = []
-standings_from i before all (o ∷ os) = standing_among before all o ∷ standings_from (i + 1) (with_name i before o) all os
+abbrev pub resolutions_from : ℕ → List Name → List Name → List Occurrence → List Resolution
+resolutions_from i before all [] = []
+resolutions_from i before all (o ∷ os) =
+    resolved_among before all o ∷ resolutions_from (i + 1) (with_occurrence_name i before o) all os
 
 -- what each occurrence stands for
-abbrev pub standings : List Occurrence → List Standing
-standings os = standings_from 0 [] (names os) os
+abbrev pub resolutions : List Occurrence → List Resolution
+resolutions os = resolutions_from 0 [] (names os) os
 
 -- the name that occurrence i stands for, if any
-abbrev pub stands : List Standing → ℕ → Option NameId
-stands rs i = elim (slice_get rs i) [ Some r ↦ elim r [ Ok n ↦ Some n | Err kind ↦ None ] | None ↦ None ]
+abbrev pub resolved_at : List Resolution → ℕ → Option NameId
+resolved_at rs i = elim (slice_get rs i) [ Some r ↦ elim r [ Ok n ↦ Some n | Err kind ↦ None ] | None ↦ None ]
 
 abbrev pub is_id : NameId → NameId → Bool
 is_id n m = nat_eq n.0 m.0
@@ -105,13 +99,13 @@ with_some ns None = ns
 with_some ns (Some n) = with_id ns n
 
 -- the file names after occurrence i
-abbrev pub with_file : List Standing → List NameId → ℕ → Occurrence → List NameId
-with_file rs files i o = if o.is_file then with_some files (stands rs i) else files
+abbrev pub with_file : List Resolution → List NameId → ℕ → Occurrence → List NameId
+with_file rs files i o = if o.is_file then with_some files (resolved_at rs i) else files
 
-abbrev pub files_from : List Standing → List NameId → ℕ → List Occurrence → List NameId
+abbrev pub files_from : List Resolution → List NameId → ℕ → List Occurrence → List NameId
 files_from rs files i [] = files
 files_from rs files i (o ∷ os) = files_from rs (with_file rs files i o) (i + 1) os
 
 -- the file names, in order of the first occurrence as a file's
 abbrev pub files : List Occurrence → List NameId
-files os = files_from (standings os) [] 0 os
+files os = files_from (resolutions os) [] 0 os

@@ -1,21 +1,24 @@
 // The names so far.
 
-ghost use Rattle.std.specs.Prelude.{false, ◌≡◌, ◌<◌, ◌^◌, [], map, length, slice_get, bytes_eq, option_map, Some, IfOk, IfSome, true, OnOk, OnErr};
+ghost use Rattle.std.specs.Prelude.{false, ◌≡◌, ◌<◌, ◌^◌, [], map, length, slice_get, bytes_eq};
+ghost use Rattle.std.specs.Prelude.{option_map, Some, IfOk, IfSome, true, OnOk, OnErr};
 ghost use Rattle.std.specs.List.{list_any, position_or_len};
-ghost use Rattle.cweb_names.specs.Names.{beginning, is_prefix_of_another, occurrence_of, texts, with_name, with_text};
-ghost use Rattle.cweb_names.specs.Found.{found_of};
-ghost use Rattle.cweb_names.specs.Known.{early, has_text_at};
+ghost use Rattle.cweb_names.specs.Names.{beginning, is_prefix_of_another, spellings};
+ghost use Rattle.cweb_names.specs.surface.Names.{occurrence_of};
+ghost use Rattle.cweb_names.specs.Names.{with_occurrence_name, with_full_name};
+ghost use Rattle.cweb_names.specs.inner.Found.{found_of};
+ghost use Rattle.cweb_names.specs.inner.Known.{early, has_spelling_at};
 
 use crate::found::{Found, find_one, has_prefix, number_in};
 use crate::name::{How, NameId};
-use crate::sorted::SortedText;
-use cweb_texts::{Key, home};
+use crate::sorted::SortKey;
+use cweb_texts::{Key, home_bucket};
 use std::alloc::{AllocError, Global};
 use std::collections::BTreeMap;
 use std::marker::Model;
 
 // How many homes there are for texts.
-const HOMES: usize = 1024;
+const BUCKETS: usize = 1024;
 
 /// A name, and the number of its first occurrence in full.
 #[derive(Drop)]
@@ -30,7 +33,7 @@ pub struct KnownName {
 pub struct KnownNames {
     alloc: Global,
     names: Vec<KnownName>,
-    sorted: BTreeMap<SortedText, NameId>,
+    sorted: BTreeMap<SortKey, NameId>,
     // for each home the name that was given last, of those whose texts share it; empty before the first name. It is on the heap,
     // since a builder is moved several times.
     latest: Vec<NameId>,
@@ -42,12 +45,12 @@ impl Model for KnownNames {
 
     ghost Value = { List Name };
 
-    ghost use Rattle.cweb_names.specs.Known.{names_in};
-    ghost use Rattle.cweb_names.specs.Found.{AreKnown};
+    ghost use Rattle.cweb_names.specs.inner.Known.{known_names_model};
+    ghost use Rattle.cweb_names.specs.inner.Found.{IsNameMap};
 
-    ghost view = { λ s. names_in s.names.items };
+    ghost view = { λ s. known_names_model s.names.items };
 
-    ghost invariant = { λ s. AreKnown s.sorted.entries (names_in s.names.items) };
+    ghost invariant = { λ s. IsNameMap s.sorted.entries (known_names_model s.names.items) };
 }
 
 impl KnownNames {
@@ -75,38 +78,38 @@ impl KnownNames {
     pub fn know(&mut self, text: &[u8], first: u32) -> Result<NameId, AllocError>
         requires { length self.old < 2 ^ 32 }
         ensures number { IfOk result
-            (λ id. id.0 ≡ position_or_len (bytes_eq text.now) (texts self.old)) }
-        ensures added { OnOk result (self.new ≡ with_text first self.old text.now) }
+            (λ id. id.0 ≡ position_or_len (bytes_eq text.now) (spellings self.old)) }
+        ensures added { OnOk result (self.new ≡ with_full_name first self.old text.now) }
         ensures err { OnErr result (self.new ≡ self.old) }
     {
-        let home = home_of(text);
-        if let Some(known) = self.latest_at(home, text) {
+        let home_bucket = bucket_of(text);
+        if let Some(known) = self.latest_at(home_bucket, text) {
             return Ok(known);
         }
         // a name is found without the table too, so no call fails for it
         if self.latest.is_empty() {
-            if let Ok(latest) = vec![in self.alloc; NameId(0); HOMES] {
+            if let Ok(latest) = vec![in self.alloc; NameId(0); BUCKETS] {
                 self.latest = latest;
             }
         }
         let id = self.add(text, first)?;
-        if let Some(latest) = self.latest.get_mut(home) {
+        if let Some(latest) = self.latest.get_mut(home_bucket) {
             *latest = id;
         }
         Ok(id)
     }
 
     // The name that was given last at a home, where it has this text.
-    fn latest_at(&self, home: usize, text: &[u8]) -> Option<NameId>
-        ensures { IfSome result (λ id. has_text_at self.now id.0 text.now ≡ true) }
+    fn latest_at(&self, home_bucket: usize, text: &[u8]) -> Option<NameId>
+        ensures { IfSome result (λ id. has_spelling_at self.now id.0 text.now ≡ true) }
     {
-        let id = *self.latest.get(home)?;
+        let id = *self.latest.get(home_bucket)?;
         if self.has(id, text) { Some(id) } else { None }
     }
 
     // Whether the name with a number has a text.
     fn has(&self, id: NameId, text: &[u8]) -> bool
-        ensures { result ≡ has_text_at self.now id.0 text.now }
+        ensures { result ≡ has_spelling_at self.now id.0 text.now }
     {
         match self.names.get(id.0 as usize) {
             Some(name) => name.text.as_slice() == text,
@@ -118,12 +121,12 @@ impl KnownNames {
     fn add(&mut self, text: &[u8], first: u32) -> Result<NameId, AllocError>
         requires { length self.old < 2 ^ 32 }
         ensures number { IfOk result
-            (λ id. id.0 ≡ position_or_len (bytes_eq text.now) (texts self.old)) }
-        ensures added { OnOk result (self.new ≡ with_text first self.old text.now) }
+            (λ id. id.0 ≡ position_or_len (bytes_eq text.now) (spellings self.old)) }
+        ensures added { OnOk result (self.new ≡ with_full_name first self.old text.now) }
         ensures err { OnErr result (self.new ≡ self.old) }
     {
         let next = NameId(self.names.len() as u32);
-        let key = SortedText::new(self.alloc, text)?;
+        let key = SortKey::new(self.alloc, text)?;
         let text = Vec::from_slice(self.alloc, text)?;
         self.names.reserve(1)?;
         let id = number_in(&mut self.sorted, key, next)?;
@@ -138,7 +141,7 @@ impl KnownNames {
     pub fn find(&self, prefix: &[u8]) -> Result<Found, AllocError>
         ensures { IfOk result (λ found. found ≡ found_of (beginning prefix.now self.now)) }
     {
-        let from = SortedText::new(self.alloc, prefix)?;
+        let from = SortKey::new(self.alloc, prefix)?;
         Ok(find_one(&self.sorted, from, prefix))
     }
 
@@ -149,7 +152,7 @@ impl KnownNames {
         ensures found { IfOk result
             (λ found. found ≡ early self.old (occurrence_of text.now how false)) }
         ensures names { OnOk result
-            (self.new ≡ with_name number self.old (occurrence_of text.now how false)) }
+            (self.new ≡ with_occurrence_name number self.old (occurrence_of text.now how false)) }
         ensures err { OnErr result (self.new ≡ self.old) }
     {
         match how {
@@ -188,7 +191,7 @@ impl KnownNames {
 
     /// Whether any name is a proper prefix of another one.
     pub fn has_prefix(&self) -> bool
-        ensures { result ≡ list_any (is_prefix_of_another self.now) (texts self.now) }
+        ensures { result ≡ list_any (is_prefix_of_another self.now) (spellings self.now) }
     {
         has_prefix(&self.sorted)
     }
@@ -201,15 +204,15 @@ impl KnownNames {
             ≡ Some is) }
     {
         let text = self.text(id);
-        let from = SortedText::new(self.alloc, text)?;
+        let from = SortKey::new(self.alloc, text)?;
         let found = find_one(&self.sorted, from, text);
         Ok(found.is_several())
     }
 }
 
 // The home of a text, by its ends and its length. Texts that share one are told apart by their bytes.
-fn home_of(text: &[u8]) -> usize
+fn bucket_of(text: &[u8]) -> usize
     ensures { result < 1024 }
 {
-    (home(Key::of(text), HOMES) + text.len()) % HOMES
+    (home_bucket(Key::of(text), BUCKETS) + text.len()) % BUCKETS
 }

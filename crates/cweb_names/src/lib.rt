@@ -1,10 +1,14 @@
-//! The names of a web: their occurrences, and what each stands for.
+//! The names of a web: their spelling, their occurrences, and the name that each occurrence resolves to. The CWEB manual,
+//! "Section names".
 #![tactic(auto)]
 
-// names as numbers, and what can be wrong with them
+// section names with single blanks
+mod spelling;
+
+// names as numbers, and faults of names
 mod name;
 
-// texts in their order
+// sorted byte strings
 mod sorted;
 
 // the names that begin with a prefix
@@ -13,8 +17,8 @@ mod found;
 // the names so far
 mod known;
 
-// what an occurrence stands for
-mod standing;
+// the name that an occurrence resolves to
+mod resolution;
 
 // the occurrences
 mod table;
@@ -22,5 +26,6 @@ mod table;
 pub use found::Found;
 pub use known::KnownNames;
 pub use name::{How, NameFault, NameId, NameKind, NameRef};
-pub use standing::{add_name_at, name_at};
-pub use table::{GivenAs, NameTable};
+pub use resolution::{add_resolved, resolved_at};
+pub use spelling::{is_prefix, is_squeezed, squeezed};
+pub use table::{NameTable, OccurrenceForm};

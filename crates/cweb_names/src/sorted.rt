@@ -5,9 +5,9 @@ ghost use Rattle.std.specs.Ordering.{nat_cmp};
 ghost use Rattle.std.specs.Cmp.{partial_equiv_from_equiv};
 ghost use Rattle.std.specs.Cmp.Lexicographic.{slice_cmp, nat_list_eq_equiv, nat_list_cmp_total};
 ghost use Rattle.std.specs.Cmp.Lexicographic.{texts_ties, texts_po};
-ghost use Rattle.cweb_names.specs.Fronts.{front_of};
+ghost use Rattle.cweb_names.specs.inner.SortPrefixes.{sort_prefix_of};
 
-use cweb_texts::{byte_at, know_bytes};
+use cweb_texts::{byte_at, establish_byte_range};
 use std::alloc::{AllocError, Global};
 use std::cmp::Ordering;
 use std::marker::Model;
@@ -15,65 +15,68 @@ use std::marker::Model;
 /// A text to sort by. Two are told apart by their fronts, the numbers that their first eight bytes make, before the bytes behind
 /// those are looked at.
 #[derive(Drop)]
-pub struct SortedText {
-    front: u64,
-    text: Vec<u8>,
+pub struct SortKey {
+    sort_prefix: u64,
+    spelling: Vec<u8>,
 }
 
-impl Model for SortedText {
+impl Model for SortKey {
     ghost use Rattle.std.specs.Prelude.{◌≡◌, List, ℕ};
-    ghost use Rattle.cweb_names.specs.Fronts.{front_of};
-    ghost use Rattle.cweb_texts.specs.Keys.{AreBytes};
+    ghost use Rattle.cweb_names.specs.inner.SortPrefixes.{sort_prefix_of};
+    ghost use Rattle.cweb_texts.specs.inner.Keys.{AreBytes};
 
     ghost Value = { List ℕ };
 
-    ghost view = { λ s. s.text.items };
+    ghost view = { λ s. s.spelling.items };
 
-    ghost invariant = { λ s. (s.front ≡ front_of s.text.items) × AreBytes s.text.items };
+    ghost invariant = { λ s. (s.sort_prefix ≡ sort_prefix_of s.spelling.items) × AreBytes s.spelling.items };
 }
 
-impl SortedText {
-    pub fn new(alloc: Global, text: &[u8]) -> Result<SortedText, AllocError>
-        ensures { IfOk result (λ sorted. sorted ≡ text.now) }
+impl SortKey {
+    pub fn new(alloc: Global, spelling: &[u8]) -> Result<SortKey, AllocError>
+        ensures { IfOk result (λ sorted. sorted ≡ spelling.now) }
     {
-        know_bytes(text);
-        let front = front(text);
-        let text = Vec::from_slice(alloc, text)?;
-        Ok(SortedText { front, text })
+        establish_byte_range(spelling);
+        let sort_prefix = sort_prefix(spelling);
+        let spelling = Vec::from_slice(alloc, spelling)?;
+        Ok(SortKey {
+            sort_prefix,
+            spelling,
+        })
     }
 
-    pub fn text(&self) -> &[u8]
+    pub fn spelling(&self) -> &[u8]
         ensures { result.now ≡ self.now }
     {
-        self.text.as_slice()
+        self.spelling.as_slice()
     }
 }
 
-impl PartialEq for SortedText {
+impl PartialEq for SortKey {
     ghost eq = { bytes_eq };
 
     ghost laws = { partial_equiv_from_equiv nat_list_eq_equiv };
 
-    fn eq(&self, other: &SortedText) -> bool {
-        self.text == other.text
+    fn eq(&self, other: &SortKey) -> bool {
+        self.spelling == other.spelling
     }
 }
 
-impl Eq for SortedText {
+impl Eq for SortKey {
     ghost laws = { nat_list_eq_equiv };
 }
 
-impl PartialOrd for SortedText {
+impl PartialOrd for SortKey {
     ghost partial_cmp = { λ a b. Some (slice_cmp nat_cmp a b) };
 
     ghost laws = { texts_po };
 
-    fn partial_cmp(&self, other: &SortedText) -> Option<Ordering> {
+    fn partial_cmp(&self, other: &SortKey) -> Option<Ordering> {
         Some(self.cmp(other))
     }
 }
 
-impl Ord for SortedText {
+impl Ord for SortKey {
     ghost cmp = { slice_cmp nat_cmp };
 
     ghost total = { nat_list_cmp_total };
@@ -83,26 +86,26 @@ impl Ord for SortedText {
     ghost matches_eq = { texts_ties };
 
     #[inline]
-    fn cmp(&self, other: &SortedText) -> Ordering {
-        if self.front == other.front {
-            return self.text.cmp(&other.text);
+    fn cmp(&self, other: &SortKey) -> Ordering {
+        if self.sort_prefix == other.sort_prefix {
+            return self.spelling.cmp(&other.spelling);
         }
-        self.front.cmp(&other.front)
+        self.sort_prefix.cmp(&other.sort_prefix)
     }
 }
 
 // The number that the first eight bytes of a text make, the first of them highest. Where there are fewer, zeros stand for them.
-fn front(text: &[u8]) -> u64
-    ensures { result ≡ front_of text.now }
+fn sort_prefix(spelling: &[u8]) -> u64
+    ensures { result ≡ sort_prefix_of spelling.now }
 {
     u64::from_be_bytes([
-        byte_at(text, 0),
-        byte_at(text, 1),
-        byte_at(text, 2),
-        byte_at(text, 3),
-        byte_at(text, 4),
-        byte_at(text, 5),
-        byte_at(text, 6),
-        byte_at(text, 7),
+        byte_at(spelling, 0),
+        byte_at(spelling, 1),
+        byte_at(spelling, 2),
+        byte_at(spelling, 3),
+        byte_at(spelling, 4),
+        byte_at(spelling, 5),
+        byte_at(spelling, 6),
+        byte_at(spelling, 7),
     ])
 }

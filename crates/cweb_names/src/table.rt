@@ -1,21 +1,25 @@
 // The occurrences of names.
 
-ghost use Rattle.std.specs.Prelude.{◌≡◌, ◌<◌, ◌+◌, ◌^◌, ◌++◌, ◌∷◌, [], map, length, IfOk, OnOk, OnErr};
-ghost use Rattle.cweb_names.specs.Names.{files_from, names, occurrence_of, occurrence_text, standings, too_many};
-ghost use Rattle.cweb_names.specs.Given.{given_as};
+ghost use Rattle.std.specs.Prelude.{◌≡◌, ◌<◌, ◌+◌, ◌^◌, ◌++◌, ◌∷◌, [], map, length, IfOk, OnOk};
+ghost use Rattle.std.specs.Prelude.{OnErr};
+ghost use Rattle.cweb_names.specs.Names.{files_from, names};
+ghost use Rattle.cweb_names.specs.surface.Names.{occurrence_of, occurrence_text};
+ghost use Rattle.cweb_names.specs.Names.{resolutions};
+ghost use Rattle.cweb_names.specs.surface.Names.{too_many};
+ghost use Rattle.cweb_names.specs.inner.OccurrenceTables.{occurrence_form};
 
 use crate::found::Found;
 use crate::known::KnownNames;
 use crate::name::{How, NameId, NameKind, NameRef};
-use crate::standing::{add_name_at, settled};
-use cweb_texts::PackedTexts;
+use crate::resolution::{add_resolved, resolve};
+use cweb_texts::StringList;
 use indexmap::IndexSet;
 use std::alloc::{AllocError, Global};
 use std::marker::Model;
 
 /// How an occurrence is given, where its text stands elsewhere.
 #[derive(Clone, Copy)]
-pub struct GivenAs {
+pub struct OccurrenceForm {
     pub how: How,
     pub is_file: bool,
 }
@@ -25,8 +29,8 @@ pub struct NameTable {
     alloc: Global,
     known: KnownNames,
     // of each occurrence its text, how it is given, and what was found of it among the names given up to it
-    texts: PackedTexts,
-    given: Vec<GivenAs>,
+    strings: StringList,
+    given: Vec<OccurrenceForm>,
     found: Vec<Found>,
 }
 
@@ -36,7 +40,7 @@ impl Drop for NameTable {
         let NameTable {
             alloc: _,
             known: _,
-            texts: _,
+            strings: _,
             given: _,
             found: _,
         } = self;
@@ -49,11 +53,11 @@ impl Model for NameTable {
 
     ghost Value = { List Occurrence };
 
-    ghost use Rattle.cweb_names.specs.Given.{AreGiven, occurrences_at};
+    ghost use Rattle.cweb_names.specs.inner.OccurrenceTables.{IsOccurrenceTable, occurrences_at};
 
-    ghost view = { λ s. occurrences_at s.texts s.given.items };
+    ghost view = { λ s. occurrences_at s.strings s.given.items };
 
-    ghost invariant = { λ s. AreGiven s.known s.texts s.given.items s.found.items };
+    ghost invariant = { λ s. IsOccurrenceTable s.known s.strings s.given.items s.found.items };
 }
 
 impl NameTable {
@@ -64,7 +68,7 @@ impl NameTable {
         NameTable {
             alloc,
             known: KnownNames::new(alloc),
-            texts: PackedTexts::new(alloc),
+            strings: StringList::new(alloc),
             given: Vec::new(alloc),
             found: Vec::new(alloc),
         }
@@ -80,15 +84,15 @@ impl NameTable {
     {
         self.given.reserve(1)?;
         self.found.reserve(1)?;
-        let number = self.texts.add(name)?;
+        let number = self.strings.add(name)?;
         let found = match self.known.take(name, how, number as u32) {
             Ok(found) => found,
             Err(refusal) => {
-                self.texts.truncate(number);
+                self.strings.truncate(number);
                 return Err(refusal);
             }
         };
-        self.given.push_reserved(GivenAs { how, is_file });
+        self.given.push_reserved(OccurrenceForm { how, is_file });
         self.found.push_reserved(found);
         Ok(NameRef(number as u32))
     }
@@ -102,43 +106,43 @@ impl NameTable {
     }
 
     /// What each occurrence stands for.
-    pub fn standings(&self) -> Result<Vec<Result<NameId, NameKind>>, AllocError>
-        ensures standings { IfOk result (λ all. all.items ≡ standings self.now) }
+    pub fn resolutions(&self) -> Result<Vec<Result<NameId, NameKind>>, AllocError>
+        ensures resolutions { IfOk result (λ all. all.items ≡ resolutions self.now) }
         ensures few { IfOk result (λ all. length all.items < 2 ^ 32) }
     {
         let mut all = Vec::with_capacity(self.alloc, self.found.len())?;
         for (i, found) in self.found.iter().enumerate() {
-            all.push(settled(&self.known, self.texts.text(i), *found)?)?;
+            all.push(resolve(&self.known, self.strings.string(i), *found)?)?;
         }
         Ok(all)
     }
 
     /// The texts of the occurrences, and how each is given.
-    pub fn close(self) -> (PackedTexts, Vec<GivenAs>)
-        ensures texts { result.0 ≡ map occurrence_text self }
-        ensures given { result.1.items ≡ map given_as self }
+    pub fn close(self) -> (StringList, Vec<OccurrenceForm>)
+        ensures strings { result.0 ≡ map occurrence_text self }
+        ensures given { result.1.items ≡ map occurrence_form self }
     {
         let NameTable {
             alloc: _,
             known: _,
-            texts,
+            strings,
             given,
             found: _,
         } = self;
-        (texts, given)
+        (strings, given)
     }
 
     /// The file names, in order of their first occurrence as a file's.
     pub fn files(
         &self,
-        standings: &[Result<NameId, NameKind>],
+        resolutions: &[Result<NameId, NameKind>],
     ) -> Result<IndexSet<NameId>, AllocError>
-        ensures { IfOk result (λ files. files.keys ≡ files_from standings.now [] 0 self.now) }
+        ensures { IfOk result (λ files. files.keys ≡ files_from resolutions.now [] 0 self.now) }
     {
         let mut files = IndexSet::new(self.alloc);
         for (i, given) in self.given.iter().enumerate() {
             if given.is_file {
-                add_name_at(&mut files, standings, i)?;
+                add_resolved(&mut files, resolutions, i)?;
             }
         }
         Ok(files)

@@ -1,9 +1,9 @@
 -- The cycle that is reported is one: the walk goes on until a name comes twice, and each name uses the next one.
-use Rattle.cweb_out.proofs.Common.{◌≡◌, ◌<◌, ◌+◌, ℕ, zero, suc, Bool, true, false, not, cond, List, [], ◌∷◌, ◌++◌, refl, sym, ◌∙◌, ap, arith, length, length-append, inl, inr, drop, map, subst, Option, Some, None, All, Result, Ok, Err, find, filter, bytes_eq, list_any, position_or_len, NameId, is_id, has_part, has_defs_code, Stored, names, joined, program, uses, first_endless, has_rank, list_ends, cycle_from, walk, IsRoot, Planned, Refusal, bad_name, same_name, cycle, defs_first, file_outputs, has_no_text, is_good_name, name_at, output_name, output_of, outputs, planned, planned_apart, planned_ending, root_list, start_of, AreNew, EachUsesNext, IsCycle, not-true}
-use Rattle.cweb_store.specs.Names as spec
+use Rattle.cweb_out.proofs.Common.{◌≡◌, ◌<◌, ◌+◌, ℕ, zero, suc, Bool, true, false, not, cond, List, [], ◌∷◌, ◌++◌, refl, sym, ◌∙◌, ap, arith, length, length-append, inl, inr, drop, map, subst, Option, Some, None, All, Result, Ok, Err, find, filter, bytes_eq, list_any, position_or_len, NameId, is_id, has_part, has_defs_code, Stored, names, joined, program, uses, first_endless, has_rank, list_ends, cycle_from, walk, IsRoot, Planned, Refusal, bad_name, same_name, cycle, defs_first, file_outputs, has_no_program, is_good_name, name_spelling, output_name, output_of, outputs, planned, planned_apart, planned_ending, root_list, start_of, AreNew, EachUsesNext, IsCycle, not-true}
+use Rattle.cweb_names.specs.Names as spec
 use Rattle.cweb_store.proofs.BoundLemmas.{files-within}
-use Rattle.cweb_plan.proofs.Paths.{is-same, new-push, on-pushed, split-or}
-use Rattle.cweb_plan.proofs.Ranks.{few}
+use Rattle.cweb_out.proofs.Paths.{is-same, new-push, on-pushed, split-or}
+use Rattle.cweb_out.proofs.Ranks.{few}
 use Rattle.cweb_out.proofs.CycleUses.{uses-on, failing, Endless, text-endless, name-endless, each-drop, each-push, comes}
 
 -- WALKS
@@ -92,7 +92,7 @@ stuck-first {w} p (n ∷ ns) {o} a h = by (p n) h (λ e. stuck-first p ns (λ k 
 
 stuck-output : {w : Stored} {o : Option NameId} → find (stuck w) (outputs w) ≡ Some o → Stuck w o
 stuck-output {w} {o} h = by (stuck w None) refl h (stuck-first
-    (has_part (spec.standings w.occurrences) w.parts) (spec.files w.occurrences) (files-within w.occurrences))
+    (has_part (spec.resolutions w.occurrences) w.parts) (spec.files w.occurrences) (files-within w.occurrences))
   where
     by : (b : Bool) → stuck w None ≡ b → cond b (Some None) (find (stuck w) (map Some (file_outputs w))) ≡ Some o
         → (find (stuck w) (map Some (file_outputs w)) ≡ Some o → Stuck w o) → Stuck w o
@@ -131,8 +131,8 @@ pub refused_cycles_are_cycles : {w : Stored} (main : List ℕ) {ns : List NameId
 refused_cycles_are_cycles {w} main {ns} h =
     let apart = passed (find (λ o. not (is_good_name (output_name w main o))) (outputs w))
     (λ o. bad_name o) (planned_apart w main) ns (λ o e. cc) h in
-    let ending = passed (find (λ n. bytes_eq (name_at w n) main) (spec.files w.occurrences))
+    let ending = passed (find (λ n. bytes_eq (name_spelling w n) main) (spec.files w.occurrences))
     (λ n. same_name n) (planned_ending w main) ns (λ n e. cc) apart in
-    let end = ended w (record { outputs = map (output_of w main) (outputs w); no_text = has_no_text w }) ns
+    let end = ended w (record { outputs = map (output_of w main) (outputs w); no_text = has_no_program w }) ns
     (find (stuck w) (outputs w)) ending in
     subst (IsCycle w) end.2 (stuck-cycle end.0 (stuck-output end.1))

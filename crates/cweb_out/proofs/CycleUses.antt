@@ -1,8 +1,8 @@
 -- A name without a rank uses one without a rank, and each name of a way uses the next one.
-use Rattle.cweb_out.proofs.Common.{◌≡◌, ◌<◌, ◌+◌, ℕ, zero, suc, Bool, true, false, not, cond, ◌&&◌, ◌||◌, List, [], ◌∷◌, ◌++◌, refl, sym, ◌∙◌, ap, arith, inl, inr, drop, Option, Some, None, find, IfSome, option_to_list, list_all, list_any, position_or_len, list_any-append, NameId, is_id, Token, Name, Stored, names, joined, stands, use_of, uses, has_rank, list_ends, EachUsesNext, false_from_ne_true, or_cases, or_left, or_right}
+use Rattle.cweb_out.proofs.Common.{◌≡◌, ◌<◌, ◌+◌, ℕ, zero, suc, Bool, true, false, not, cond, ◌&&◌, ◌||◌, List, [], ◌∷◌, ◌++◌, refl, sym, ◌∙◌, ap, arith, inl, inr, drop, Option, Some, None, find, IfSome, option_to_list, list_all, list_any, position_or_len, list_any-append, NameId, is_id, Token, Name, Stored, names, joined, resolved_use, use_of, uses, has_rank, list_ends, EachUsesNext, false_from_ne_true, or_cases, or_left, or_right}
 use Rattle.cweb_store.proofs.BoundLemmas.{standing-within}
-use Rattle.cweb_plan.proofs.Paths.{is-same}
-use Rattle.cweb_plan.proofs.Ranks.{id-same, rank-grows, rank_by_uses}
+use Rattle.cweb_out.proofs.Paths.{is-same}
+use Rattle.cweb_out.proofs.Ranks.{id-same, rank-grows, rank_by_uses}
 
 -- USES
 
@@ -12,7 +12,7 @@ option-on count None m b h = cc
 option-on count (Some k) m b h = elim (or_cases (is_id m k) false h) [ inl e ↦ rw (is-same m k e) b | inr e ↦ cc ]
 
 use-on : (w : Stored) (t : Token) (m : NameId) → list_any (is_id m) (use_of w t) ≡ true → m.0 < names w
-use-on w (Name r) m h = option-on (names w) (stands w r) m (standing-within w.occurrences r.0) h
+use-on w (Name r) m h = option-on (names w) (resolved_use w r) m (standing-within w.occurrences r.0) h
 use-on w t m h = cc
 
 -- a name that is used is one of the names

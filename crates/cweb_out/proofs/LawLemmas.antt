@@ -1,44 +1,45 @@
 -- What holds of expansion and of print whatever the web is.
-use Rattle.cweb_out.proofs.Common.{◌≡◌, ◌≤◌, ◌+◌, ◌-◌, ◌==◌, ◌&&◌, ℕ, zero, suc, Bool, true, false, cond, List, [], ◌∷◌, ◌++◌, refl, sym, ◌∙◌, ap, arith, append_assoc, append-nil, Option, None, Some, codes, decimal, fold, flat_map, option_to_list, list_all, flat_map-append, NameId, Token, Newline, Defs, Name, Stored, joined, stands, uses, use_of, ends_below, expand, name_text, put, text_for, last_is, sep, Setting, begin_line, file, file_text, kept, last_of, left_after, macro_line, macro_lines, mark_line, file_name, macro_text, is_layout, print, print_after, printed, quoted, starts_line, stays_joined, Class, class_of, separator, ReplacesUses, is_text, is_joined, print_behind, is_whole_lines, and_parts}
+use Rattle.cweb_out.proofs.Common.{◌≡◌, ◌≤◌, ◌+◌, ◌-◌, ◌==◌, ◌&&◌, ℕ, zero, suc, Bool, true, false, cond, List, [], ◌∷◌, ◌++◌, refl, sym, ◌∙◌, ap, arith, append_assoc, append-nil, Option, None, Some, codes, decimal, fold, flat_map, option_to_list, list_all, flat_map-append, NameId, Token, Newline, Defs, Name, Stored, joined, resolved_use, uses, use_of, ends_below, expand, expanded_name, put, tokens_for, last_is, sep, Setting, begin_line, file, file_token_bytes, without_joined_layout, last_token, left_after, macro_line, macro_lines, mark_line, file_name, macro_token_bytes, is_layout, print, print_after, printed_tokens, quoted, starts_line, stays_joined, Class, class_of, separator, ReplacesUses, is_no_use, is_joined, print_following, is_whole_lines, and_parts}
 use Rattle.cweb_store.specs.Parts.{Mark}
 use Rattle.cweb_print.specs.declared.printer.class.Class.TheVariants as class
-use Rattle.cweb_plan.proofs.Ranks.{all-append, all-parts, rank-grows, uses-weaker}
+use Rattle.cweb_out.proofs.Ranks.{all-append, all-parts, rank-grows, uses-weaker}
 use Rattle.cweb_print.proofs.Steps.{sep_by_class}
 
 -- EXPANSION
 
 text_for-text : (f : NameId → List Token) (o : Option NameId)
-    → ((n : NameId) → list_all is_text (f n) ≡ true) → list_all is_text (text_for f o) ≡ true
+    → ((n : NameId) → list_all is_no_use (f n) ≡ true) → list_all is_no_use (tokens_for f o) ≡ true
 text_for-text f None h = refl
 text_for-text f (Some n) h = h n
 
 put-text : (w : Stored) (f : NameId → List Token) (t : Token)
-    → ((n : NameId) → list_all is_text (f n) ≡ true) → list_all is_text (put w f t) ≡ true
-put-text w f (Name r) h = text_for-text f (stands w r) h
+    → ((n : NameId) → list_all is_no_use (f n) ≡ true) → list_all is_no_use (put w f t) ≡ true
+put-text w f (Name r) h = text_for-text f (resolved_use w r) h
 put-text w f t h = refl
 
 puts-text : (w : Stored) (f : NameId → List Token) (ts : List Token)
-    → ((n : NameId) → list_all is_text (f n) ≡ true) → list_all is_text (flat_map (put w f) ts) ≡ true
+    → ((n : NameId) → list_all is_no_use (f n) ≡ true) → list_all is_no_use (flat_map (put w f) ts) ≡ true
 puts-text w f [] h = refl
 puts-text w f (t ∷ ts) h =
-    all-append is_text (put w f t) (flat_map (put w f) ts) (put-text w f t h) (puts-text w f ts h)
+    all-append is_no_use (put w f t) (flat_map (put w f) ts) (put-text w f t h) (puts-text w f ts h)
 
-name-text : (w : Stored) (k : ℕ) (n : NameId) → list_all is_text (name_text w k n) ≡ true
+name-text : (w : Stored) (k : ℕ) (n : NameId) → list_all is_no_use (expanded_name w k n) ≡ true
 name-text w zero n = refl
-name-text w (suc k) n = puts-text w (name_text w k) (joined w n) (λ m. name-text w k m)
+name-text w (suc k) n = puts-text w (expanded_name w k) (joined w n) (λ m. name-text w k m)
 
-put-same : (w : Stored) (f : NameId → List Token) (t : Token) → is_text t ≡ true → put w f t ≡ t ∷ []
+put-same : (w : Stored) (f : NameId → List Token) (t : Token) → is_no_use t ≡ true → put w f t ≡ t ∷ []
 put-same w f (Name r) h = cc
 put-same w f t h = refl
 
 pub replaces_uses : {w : Stored} {k : ℕ} → ReplacesUses w k
 replaces_uses {w} {k} = record {
-  no_use = λ ts. puts-text w (name_text w k) ts (name-text w k);
-  kept = λ before behind t h. flat_map-append (put w (name_text w k)) before (t ∷ behind)
-      ∙ ap (λ (u : List Token). expand w k before ++ (u ++ expand w k behind)) (put-same w (name_text w k) t h);
-  replaced = λ before behind r n e. flat_map-append (put w (name_text w (suc k))) before (Name r ∷ behind)
+  no_use = λ ts. puts-text w (expanded_name w k) ts (name-text w k);
+  kept = λ before behind t h. flat_map-append (put w (expanded_name w k)) before (t ∷ behind)
+      ∙ ap (λ (u : List Token). expand w k before ++ (u ++ expand w k behind)) (put-same w (expanded_name w k) t h);
+  replaced = λ before behind r n e. flat_map-append (put w (expanded_name w (suc k))) before (Name r ∷ behind)
       ∙ ap
-      (λ (o : Option NameId). expand w (suc k) before ++ (text_for (name_text w (suc k)) o ++ expand w (suc k) behind))
+      (λ (o : Option NameId). expand w (suc k) before
+      ++ (tokens_for (expanded_name w (suc k)) o ++ expand w (suc k) behind))
       e;
 }
 
@@ -47,13 +48,13 @@ abbrev AreSame : (NameId → Bool) → (NameId → List Token) → (NameId → L
 AreSame p f g = (n : NameId) → p n ≡ true → f n ≡ g n
 
 text_for-same : (p : NameId → Bool) (f g : NameId → List Token) → AreSame p f g
-    → (o : Option NameId) → list_all p (option_to_list o) ≡ true → text_for f o ≡ text_for g o
+    → (o : Option NameId) → list_all p (option_to_list o) ≡ true → tokens_for f o ≡ tokens_for g o
 text_for-same p f g same None h = refl
 text_for-same p f g same (Some n) h = same n (and_parts (p n) true h).0
 
 puts-use : (w : Stored) (p : NameId → Bool) (f g : NameId → List Token) (t : Token)
     → AreSame p f g → list_all p (use_of w t) ≡ true → put w f t ≡ put w g t
-puts-use w p f g (Name r) same h = text_for-same p f g same (stands w r) h
+puts-use w p f g (Name r) same h = text_for-same p f g same (resolved_use w r) h
 puts-use w p f g t same h = refl
 
 puts-same : (w : Stored) (p : NameId → Bool) (f g : NameId → List Token) (ts : List Token)
@@ -63,14 +64,15 @@ puts-same w p f g (t ∷ ts) same h = ap (λ (u : List Token). u ++ flat_map (pu
     (puts-use w p f g t same (all-parts p (use_of w t) (uses w ts) h).0)
     ∙ ap (λ (u : List Token). put w g t ++ u) (puts-same w p f g ts same (all-parts p (use_of w t) (uses w ts) h).1)
 
-name-same : (w : Stored) (k : ℕ) (n : NameId) → ends_below w k n ≡ true → name_text w (suc k) n ≡ name_text w k n
+name-same : (w : Stored) (k : ℕ) (n : NameId) → ends_below w k n ≡ true
+    → expanded_name w (suc k) n ≡ expanded_name w k n
 name-same w zero n h = cc
 name-same w (suc k) n h =
-    puts-same w (ends_below w k) (name_text w (suc k)) (name_text w k) (joined w n) (λ m e. name-same w k m e) h
+    puts-same w (ends_below w k) (expanded_name w (suc k)) (expanded_name w k) (joined w n) (λ m e. name-same w k m e) h
 
 expand-next : (w : Stored) (k : ℕ) (ts : List Token)
     → list_all (ends_below w k) (uses w ts) ≡ true → expand w (suc k) ts ≡ expand w k ts
-expand-next w k ts h = puts-same w (ends_below w k) (name_text w (suc k)) (name_text w k) ts (name-same w k) h
+expand-next w k ts h = puts-same w (ends_below w k) (expanded_name w (suc k)) (expanded_name w k) ts (name-same w k) h
 
 uses-grow : (w : Stored) (k : ℕ) (ts : List Token) → list_all (ends_below w k) (uses w ts) ≡ true
     → list_all (ends_below w (suc k)) (uses w ts) ≡ true
@@ -92,29 +94,35 @@ depth_changes_nothing w k depth ts le h =
 -- PRINT
 
 kept-append : (joined : Bool) (xs ys : List Token)
-    → kept joined (xs ++ ys) ≡ kept joined xs ++ kept (fold stays_joined joined xs) ys
+    → without_joined_layout joined (xs ++ ys) ≡ without_joined_layout joined xs
+    ++ without_joined_layout (fold stays_joined joined xs) ys
 kept-append joined [] ys = refl
 kept-append joined (x ∷ xs) ys = cases (joined && is_layout x) (kept-append (stays_joined joined x) xs ys)
   where
-    cases : (b : Bool) → kept (stays_joined joined x) (xs ++ ys) ≡ kept (stays_joined joined x) xs
-        ++ kept (fold stays_joined (stays_joined joined x) xs) ys → cond b (kept (stays_joined joined x) (xs ++ ys))
-        (x ∷ kept (stays_joined joined x) (xs ++ ys)) ≡ cond b (kept (stays_joined joined x) xs)
-        (x ∷ kept (stays_joined joined x) xs) ++ kept (fold stays_joined (stays_joined joined x) xs) ys
+    cases : (b : Bool) → without_joined_layout (stays_joined joined x) (xs ++ ys)
+        ≡ without_joined_layout (stays_joined joined x) xs
+        ++ without_joined_layout (fold stays_joined (stays_joined joined x) xs) ys
+        → cond b (without_joined_layout (stays_joined joined x) (xs ++ ys))
+        (x ∷ without_joined_layout (stays_joined joined x) (xs ++ ys))
+        ≡ cond b (without_joined_layout (stays_joined joined x) xs)
+        (x ∷ without_joined_layout (stays_joined joined x) xs)
+        ++ without_joined_layout (fold stays_joined (stays_joined joined x) xs) ys
     cases true later = later
     cases false later = ap (λ (ts : List Token). x ∷ ts) later
 
 print_after-append : (text : Option Token → Token → List ℕ) (l : Option Token) (xs ys : List Token)
-    → print_after text l (xs ++ ys) ≡ print_after text l xs ++ print_after text (last_of l xs) ys
+    → print_after text l (xs ++ ys) ≡ print_after text l xs ++ print_after text (last_token l xs) ys
 print_after-append text l [] ys = refl
 print_after-append text l (x ∷ xs) ys =
     ap (λ (u : List ℕ). (sep l x ++ text l x) ++ u) (print_after-append text (Some x) xs ys)
     ∙ sym
-    (append_assoc (sep l x ++ text l x) (print_after text (Some x) xs) (print_after text (last_of (Some x) xs) ys))
+    (append_assoc (sep l x ++ text l x) (print_after text (Some x) xs) (print_after text (last_token (Some x) xs) ys))
 
 pub print_goes_on : (s : Setting) (before ts : List Token)
-    → print s (before ++ ts) ≡ print s before ++ print_behind s before ts
-print_goes_on s before ts = ap (print_after (file_text s) None) (kept-append false before ts)
-    ∙ print_after-append (file_text s) None (kept false before) (kept (is_joined before) ts)
+    → print s (before ++ ts) ≡ print s before ++ print_following s before ts
+print_goes_on s before ts = ap (print_after (file_token_bytes s) None) (kept-append false before ts)
+    ∙ print_after-append (file_token_bytes s) None (without_joined_layout false before)
+    (without_joined_layout (is_joined before) ts)
 
 -- LINES
 
@@ -140,7 +148,7 @@ newline = codes "\n"
 
 macro-ended : (replaced : ℕ → List ℕ) (ts : List Token) → is_ended (macro_line replaced ts) ≡ true
 macro-ended replaced ts =
-    let text = printed (λ left. macro_text replaced) ts in
+    let text = printed_tokens (λ left. macro_token_bytes replaced) ts in
     ended-behind (codes "#define ") (text ++ newline) (ended-behind text newline refl)
 
 macros-whole : (replaced : ℕ → List ℕ) (macros : List (List Token))
@@ -170,7 +178,7 @@ defs-whole s bytes false h = ap is_whole_lines (sym (append_assoc bytes newline 
 -- what is printed up to a token that begins a line has whole lines
 token-whole : (s : Setting) (l : Option Token) (bytes : List ℕ) (t : Token)
     → (starts_line l ≡ true → is_whole_lines bytes ≡ true) → starts_line (Some t) ≡ true
-    → is_whole_lines (bytes ++ (sep l t ++ file_text s l t)) ≡ true
+    → is_whole_lines (bytes ++ (sep l t ++ file_token_bytes s l t)) ≡ true
 token-whole s l bytes Newline h k = whole-ended (bytes ++ (sep l Newline ++ newline))
     (ended-behind bytes (sep l Newline ++ newline) (ended-behind (sep l Newline) newline refl))
 token-whole s l bytes (Mark p) h k =
@@ -184,16 +192,18 @@ token-whole s l bytes Defs h k = ap (λ (u : List ℕ). is_whole_lines (bytes ++
 token-whole s l bytes t h k = cc
 
 list-whole : (s : Setting) (l : Option Token) (bytes : List ℕ) (ts : List Token)
-    → (starts_line l ≡ true → is_whole_lines bytes ≡ true) → starts_line (last_of l ts) ≡ true
-    → is_whole_lines (bytes ++ print_after (file_text s) l ts) ≡ true
+    → (starts_line l ≡ true → is_whole_lines bytes ≡ true) → starts_line (last_token l ts) ≡ true
+    → is_whole_lines (bytes ++ print_after (file_token_bytes s) l ts) ≡ true
 list-whole s l bytes [] h k = ap is_whole_lines (append-nil bytes) ∙ h k
 list-whole s l bytes (t ∷ ts) h k =
-    ap is_whole_lines (sym (append_assoc bytes (sep l t ++ file_text s l t) (print_after (file_text s) (Some t) ts)))
-    ∙ list-whole s (Some t) (bytes ++ (sep l t ++ file_text s l t)) ts (token-whole s l bytes t h) k
+    ap is_whole_lines (sym
+    (append_assoc bytes (sep l t ++ file_token_bytes s l t) (print_after (file_token_bytes s) (Some t) ts)))
+    ∙ list-whole s (Some t) (bytes ++ (sep l t ++ file_token_bytes s l t)) ts (token-whole s l bytes t h) k
 
 pub files_have_whole_lines : (s : Setting) (ts : List Token) → is_whole_lines (file s ts) ≡ true
 files_have_whole_lines s ts = cases (starts_line (left_after ts)) refl
   where
     cases : (v : Bool) → starts_line (left_after ts) ≡ v → is_whole_lines (print s ts ++ cond v [] newline) ≡ true
-    cases true e = ap is_whole_lines (append-nil (print s ts)) ∙ list-whole s None [] (kept false ts) (λ h. refl) e
+    cases true e = ap is_whole_lines (append-nil (print s ts))
+        ∙ list-whole s None [] (without_joined_layout false ts) (λ h. refl) e
     cases false e = whole-ended (print s ts ++ newline) (ended-behind (print s ts) newline refl)

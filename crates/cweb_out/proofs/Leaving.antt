@@ -1,6 +1,6 @@
 -- The top frame of a stack passes tokens that lend their texts, and then takes a use, or comes to its end.
-use Rattle.cweb_out.proofs.Common.{◌≡◌, ◌≤◌, ◌<◌, ◌+◌, ◌-◌, ◌++◌, ◌∷◌, [], ℕ, List, length, refl, sym, ◌∙◌, ap, arith, subst, sum_by, set, length-set, get_or-set_same, set-set, take-set, sum_by-append, Token, Stored, names, use_of, name_text, put, Frame, suffix, left, level, work_of, list_work, name_work, token_work, AreBelow, IsWithin, Stands, UsesLower, AreLent}
-use Rattle.cweb_out.proofs.Passes.{top_passed}
+use Rattle.cweb_out.proofs.Common.{◌≡◌, ◌≤◌, ◌<◌, ◌+◌, ◌-◌, ◌++◌, ◌∷◌, [], ℕ, List, length, refl, sym, ◌∙◌, ap, arith, subst, sum_by, set, length-set, get_or-set_same, set-set, take-set, sum_by-append, Token, Stored, names, use_of, expanded_name, put, Frame, suffix, left, level, work_of, list_work, name_work, token_work, RanksAreBelow, FrameIsWithin, IsFrameStack, UsesLower, AreDirect}
+use Rattle.cweb_out.proofs.TopAfterDirect.{top_passed}
 use Rattle.cweb_out.proofs.Stack.{work_of-push}
 use Rattle.cweb_out.proofs.Tops.{HasTop, lower, top_ended, TopMoved, top_moved, top_read, top_written}
 
@@ -30,19 +30,20 @@ work-passed w {n} {fs} {f} g ts h s =
 
 -- the top passed tokens and took a use
 pub record TopUsed (w : Stored) (fs new : List Frame) (ts : List Token) (t : Token) (room : ℕ) : Type 0 where
-  pub stands : Stands w new room
-  pub left : left w fs ≡ ts ++ (put w (name_text w (level w new)) t ++ left w new)
-  pub below : AreBelow w (level w new) (use_of w t)
+  pub stands : IsFrameStack w new room
+  pub left : left w fs ≡ ts ++ (put w (expanded_name w (level w new)) t ++ left w new)
+  pub below : RanksAreBelow w (level w new) (use_of w t)
   pub lower : UsesLower w new t
   pub work : token_work w (name_work w (level w new)) t + work_of w (names w) new ≤ work_of w (names w) fs
   pub some : 0 < length new
 
 pub top_used : {w : Stored} {n : ℕ} {fs : List Frame} {f g h : Frame} {ts : List Token} {t : Token} {room : ℕ}
-    → Stands w fs room → HasTop n fs f → suffix w f ≡ ts ++ suffix w g → AreLent ts → IsWithin w g → g.owner ≡ f.owner
-    → suffix w g ≡ t ∷ suffix w h → IsWithin w h → h.owner ≡ g.owner → TopUsed w fs (set fs (n - 1) h) ts t room
-top_used {w} {n} {fs} {f} {g} {h} {ts} {t} {room} stands top s lent within owner goes within' owner' =
+    → IsFrameStack w fs room → HasTop n fs f → suffix w f ≡ ts ++ suffix w g → AreDirect ts → FrameIsWithin w g
+    → g.owner ≡ f.owner
+    → suffix w g ≡ t ∷ suffix w h → FrameIsWithin w h → h.owner ≡ g.owner → TopUsed w fs (set fs (n - 1) h) ts t room
+top_used {w} {n} {fs} {f} {g} {h} {ts} {t} {room} stands top s direct within owner goes within' owner' =
     let mid = set fs (n - 1) g in
-    let passed = top_passed stands top s lent within owner in
+    let passed = top_passed stands top s direct within owner in
     let same : set mid (n - 1) h ≡ set fs (n - 1) h = set-set fs (n - 1) g h in
     let moved : TopMoved w mid (set fs (n - 1) h) t room = subst (λ (new : List Frame). TopMoved w mid new t room) same
     (top_moved passed.stands refl (omega arith) (top_again top) goes within' owner') in
@@ -59,16 +60,16 @@ top_used {w} {n} {fs} {f} {g} {h} {ts} {t} {room} stands top s lent within owner
 
 -- the top passed tokens and came to its end
 pub record TopGone (w : Stored) (fs new : List Frame) (ts : List Token) (room : ℕ) : Type 0 where
-  pub stands : Stands w new room
+  pub stands : IsFrameStack w new room
   pub left : left w fs ≡ ts ++ left w new
   pub work : work_of w (names w) new < work_of w (names w) fs
 
 pub top_gone : {w : Stored} {n : ℕ} {fs new : List Frame} {f g : Frame} {ts : List Token} {room : ℕ}
-    → Stands w fs room → HasTop n fs f → suffix w f ≡ ts ++ suffix w g → AreLent ts → IsWithin w g
+    → IsFrameStack w fs room → HasTop n fs f → suffix w f ≡ ts ++ suffix w g → AreDirect ts → FrameIsWithin w g
     → g.owner ≡ f.owner → suffix w g ≡ [] → new ≡ lower n fs → TopGone w fs new ts room
-top_gone {w} {n} {fs} {new} {f} {g} {ts} {room} stands top s lent within owner none is =
+top_gone {w} {n} {fs} {new} {f} {g} {ts} {room} stands top s direct within owner none is =
     let mid = set fs (n - 1) g in
-    let passed = top_passed stands top s lent within owner in
+    let passed = top_passed stands top s direct within owner in
     let same : lower n mid ≡ lower n fs = take-set fs (n - 1) g in
     let ended = top_ended passed.stands (top_again top) none (is ∙ sym same) in
     let below = lower n fs in

@@ -1,6 +1,6 @@
 -- The owners of frames: the ranks of their lists, and what of them was given.
-use Rattle.cweb_out.proofs.Common.{◌≡◌, ◌≤◌, ◌<◌, ◌+◌, ◌-◌, ℕ, zero, suc, Bool, true, false, List, [], ◌∷◌, ◌++◌, refl, sym, ◌∙◌, ap, arith, append_assoc, subst, Option, Some, None, option_to_list, list_all, NameId, NameRef, Token, Name, Stored, names, use_of, uses, stands, joined, ends_below, least, list_ends, name_rank, root_list, Frame, suffix, rank, top_rank, AreBelow, AreOwned, IsOwned, UsesLower, and_parts}
-use Rattle.cweb_plan.proofs.Ranks.{all-parts, grows-more}
+use Rattle.cweb_out.proofs.Common.{◌≡◌, ◌≤◌, ◌<◌, ◌+◌, ◌-◌, ℕ, zero, suc, Bool, true, false, List, [], ◌∷◌, ◌++◌, refl, sym, ◌∙◌, ap, arith, append_assoc, subst, Option, Some, None, option_to_list, list_all, NameId, NameRef, Token, Name, Stored, names, use_of, uses, resolved_use, joined, ends_below, least, list_ends, name_rank, root_list, Frame, suffix, rank, top_rank, RanksAreBelow, AreOwned, IsOwned, UsesLower, and_parts}
+use Rattle.cweb_out.proofs.Ranks.{all-parts, grows-more}
 
 least-le : (test : ℕ → Bool) (n k : ℕ) → test k ≡ true → least test n ≤ k
 least-le test zero k h = omega arith
@@ -28,7 +28,7 @@ rank-below w (suc k) n h = let le = least-le (λ j. ends_below w (suc j) n) (nam
 
 -- the names that a list uses have ranks below that of its owner
 owner-below : (w : Stored) (o : Option NameId) → list_ends w (root_list w o) ≡ true
-    → AreBelow w (rank w o) (uses w (root_list w o))
+    → RanksAreBelow w (rank w o) (uses w (root_list w o))
 owner-below w None h = h
 owner-below w (Some n) h = least-holds (λ k. ends_below w (suc k) n) (names w) h
 
@@ -66,7 +66,7 @@ uses-append w (x ∷ xs) ys = ap (λ (ns : List NameId). use_of w x ++ ns) (uses
 
 -- a token of the list was given
 pub OnTop-next : {w : Stored} {above : ℕ} {fs : List Frame} {f g : Frame} (t : Token) → suffix w f ≡ t ∷ suffix w g
-    → g.owner ≡ f.owner → OnTop w above fs f → OnTop w above fs g × AreBelow w (rank w g.owner) (use_of w t)
+    → g.owner ≡ f.owner → OnTop w above fs f → OnTop w above fs g × RanksAreBelow w (rank w g.owner) (use_of w t)
 OnTop-next {w} {above} {fs} {g} t s o h =
     let list : root_list w g.owner ≡ h.owned.given ++ (t ∷ suffix w g) =
     ap (root_list w) o ∙ h.owned.list ∙ ap (λ (ts : List Token). h.owned.given ++ ts) s in
@@ -91,18 +91,18 @@ OnTop-next {w} {above} {fs} {g} t s o h =
 
 -- the first frame
 pub OnTop-first : {w : Stored} {f : Frame} → root_list w f.owner ≡ suffix w f
-    → AreBelow w (names w) (uses w (root_list w f.owner)) → OnTop w (names w + 1) [] f
+    → RanksAreBelow w (names w) (uses w (root_list w f.owner)) → OnTop w (names w + 1) [] f
 OnTop-first {w} {f} l b =
     record { below = tt; owned = record { given = []; list = l; ends = b }; lower = within f.owner b }
   where
-    within : (o : Option NameId) → AreBelow w (names w) (uses w (root_list w o)) → rank w o < names w + 1
+    within : (o : Option NameId) → RanksAreBelow w (names w) (uses w (root_list w o)) → rank w o < names w + 1
     within None h = omega arith
     within (Some n) h = let le = least-le (λ k. ends_below w (suc k) n) (names w) (names w) h in omega (arith, le)
 
 -- the frame of a name that the top frame's list uses
 pub OnTop-entered : {w : Stored} {fs : List Frame} {g : Frame} (r : NameRef) (m : NameId) (k : ℕ)
     → AreOwned w (names w + 1) fs → k ≤ names w + 1 → ends_below w k m ≡ true → UsesLower w fs (Name r)
-    → stands w r ≡ Some m → g.owner ≡ Some m → joined w m ≡ suffix w g → OnTop w (names w + 1) fs g
+    → resolved_use w r ≡ Some m → g.owner ≡ Some m → joined w m ≡ suffix w g → OnTop w (names w + 1) fs g
 OnTop-entered {w} {fs} r m k below le ends lower e o text =
     let top : ℕ = top_rank w (names w + 1) fs in
     let used : list_all (ends_below w top) (m ∷ []) ≡ true =

@@ -1,6 +1,6 @@
 -- In a plan that was made, the names that an output's list uses have ranks.
-use Rattle.cweb_out.proofs.Common.{◌≡◌, ◌<◌, ℕ, zero, suc, Bool, true, false, not, List, [], ◌∷◌, refl, sym, ◌∙◌, ap, Option, Some, None, map, length, arith, cond, slice_index_or, Result, Ok, Err, find, bytes_eq, get_or-map, length-map, Stored, names, uses, list_ends, AreBelow, Output, Planned, Refusal, bad_name, same_name, cycle, outputs, root_list, output_of, output_name, name_at, is_good_name, planned_apart, planned_ending, has_no_text, start_of, root_at, IsPlanOf, cycle_from}
-use Rattle.cweb_store.specs.Names as spec
+use Rattle.cweb_out.proofs.Common.{◌≡◌, ◌<◌, ℕ, zero, suc, Bool, true, false, not, List, [], ◌∷◌, refl, sym, ◌∙◌, ap, Option, Some, None, map, length, arith, cond, slice_index_or, Result, Ok, Err, find, bytes_eq, get_or-map, length-map, Stored, names, uses, list_ends, RanksAreBelow, Output, Planned, Refusal, bad_name, same_name, cycle, outputs, root_list, output_of, output_name, name_spelling, is_good_name, planned_apart, planned_ending, has_no_program, start_of, root_at, IsPlanOf, cycle_from}
+use Rattle.cweb_names.specs.Names as spec
 
 abbrev outcome : {A : Type 0} → Option A → (A → Refusal) → Result Planned Refusal → Result Planned Refusal
 outcome found why r = elim found [ Some x ↦ Err (why x) | None ↦ r ]
@@ -25,16 +25,16 @@ found_none test (x ∷ xs) i d h lt = by i lt (test x) refl h (λ j l e. found_n
     by (suc j) lt true e h later = later j (omega arith) h
 
 pub root_below : (w : Stored) (p : Planned) (number : ℕ) → IsPlanOf w p → number < length p.outputs
-    → AreBelow w (names w) (uses w (root_list w (root_at p.outputs number)))
+    → RanksAreBelow w (names w) (uses w (root_list w (root_at p.outputs number)))
 root_below w p number made lt =
     let main = made.0 in
     let apart = unrefused (find (λ o. not (is_good_name (output_name w main o))) (outputs w))
     (λ o. bad_name o) (planned_apart w main) p made.1 in
-    let ending = unrefused (find (λ n. bytes_eq (name_at w n) main) (spec.files w.occurrences))
+    let ending = unrefused (find (λ n. bytes_eq (name_spelling w n) main) (spec.files w.occurrences))
     (λ n. same_name n) (planned_ending w main) p apart.1 in
     let ends =
     unrefused (find (λ o. not (list_ends w (root_list w o))) (outputs w)) (λ o. cycle (cycle_from w (start_of w o)))
-    (Ok (record { outputs = map (output_of w main) (outputs w); no_text = has_no_text w })) p ending.1 in
+    (Ok (record { outputs = map (output_of w main) (outputs w); no_text = has_no_program w })) p ending.1 in
     let are : map (output_of w main) (outputs w) ≡ p.outputs = cc (ends.1) in
     let within : number < length (outputs w) =
     omega (arith, lt, ap length are, length-map (outputs w) (output_of w main)) in

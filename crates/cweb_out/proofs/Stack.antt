@@ -1,10 +1,10 @@
 -- What a stack gives, and its bounds, as a frame is put on top and taken away.
-use Rattle.cweb_out.proofs.Common.{◌≡◌, ◌≤◌, ◌<◌, ◌+◌, ◌-◌, ℕ, zero, suc, [], ◌∷◌, ◌++◌, List, length, refl, sym, ◌∙◌, ap, arith, append_assoc, append-nil, length-append, true, subst, sum_by, list_all, sum_by-cons, NameId, Token, Stored, names, use_of, uses, joined, ends_below, expand, name_text, put, Frame, suffix, left_of, work_of, list_work, AreOwned, AreRanked, AreBelow, IsWithin, Stands, UsesLower, Advances, left, level, name_work, token_work}
-use Rattle.cweb_plan.proofs.Ranks.{all-parts}
+use Rattle.cweb_out.proofs.Common.{◌≡◌, ◌≤◌, ◌<◌, ◌+◌, ◌-◌, ℕ, zero, suc, [], ◌∷◌, ◌++◌, List, length, refl, sym, ◌∙◌, ap, arith, append_assoc, append-nil, length-append, true, subst, sum_by, list_all, sum_by-cons, NameId, Token, Stored, names, use_of, uses, joined, ends_below, expand, expanded_name, put, Frame, suffix, left_at_depth, work_of, list_work, AreOwned, AreRanked, RanksAreBelow, FrameIsWithin, IsFrameStack, UsesLower, Advances, left, level, name_work, token_work}
+use Rattle.cweb_out.proofs.Ranks.{all-parts}
 use Rattle.cweb_out.proofs.Owners.{OnTop, AreOwned-pop, AreOwned-push}
 
 pub left_of-push : (w : Stored) (k : ℕ) (fs : List Frame) (f : Frame)
-    → left_of w k (fs ++ f ∷ []) ≡ expand w (k - length fs) (suffix w f) ++ left_of w k fs
+    → left_at_depth w k (fs ++ f ∷ []) ≡ expand w (k - length fs) (suffix w f) ++ left_at_depth w k fs
 left_of-push w zero [] f = sym (append-nil _)
 left_of-push w (suc k) [] f = let n : suc k - 0 ≡ suc k = omega arith in rw n (sym (append-nil _))
 left_of-push w zero (g ∷ fs) f =
@@ -25,10 +25,10 @@ work_of-push w (suc k) (g ∷ fs) f =
 -- the top frame of a stack, and those below it
 pub record Top (w : Stored) (k : ℕ) (fs : List Frame) (f : Frame) : Type 0 where
   pub ranked : AreRanked w k fs
-  pub within : IsWithin w f
-  pub below : AreBelow w (k - length fs) (uses w (suffix w f))
+  pub within : FrameIsWithin w f
+  pub below : RanksAreBelow w (k - length fs) (uses w (suffix w f))
 
-pub AreBelow-at : (w : Stored) (j k : ℕ) (ns : List NameId) → j ≡ k → AreBelow w j ns → AreBelow w k ns
+pub AreBelow-at : (w : Stored) (j k : ℕ) (ns : List NameId) → j ≡ k → RanksAreBelow w j ns → RanksAreBelow w k ns
 AreBelow-at w j k ns e h = ap (λ k. list_all (ends_below w k) ns) (sym e) ∙ h
 
 pub AreRanked-push : {w : Stored} (k : ℕ) (fs : List Frame) {f : Frame} → Top w k fs f → AreRanked w k (fs ++ f ∷ [])
@@ -64,8 +64,8 @@ AreRanked-pop {w} (suc k) (g ∷ fs) {f} r =
     record { ranked = (r.0, r.1, t.ranked); within = t.within; below = below }
 
 pub Stands-pop : {w : Stored} {all fs : List Frame} {f : Frame} {room more : ℕ}
-    → all ≡ fs ++ f ∷ [] → more ≡ room → Stands w all room
-    → Stands w fs more × Top w (names w) fs f × (length fs < names w + 1) × OnTop w (names w + 1) fs f
+    → all ≡ fs ++ f ∷ [] → more ≡ room → IsFrameStack w all room
+    → IsFrameStack w fs more × Top w (names w) fs f × (length fs < names w + 1) × OnTop w (names w + 1) fs f
 Stands-pop {w} {fs} {f} {room} e r s =
     let t = AreRanked-pop (names w) fs (subst (AreRanked w (names w)) e s.ranked) in
     let o = AreOwned-pop (names w + 1) fs (subst (AreOwned w (names w + 1)) e s.owned) in
@@ -74,7 +74,8 @@ Stands-pop {w} {fs} {f} {room} e r s =
     (record { owned = o.below; ranked = t.ranked; depth = omega arith; room = r ∙ s.room }, t, omega arith, o)
 
 pub Stands-push : {w : Stored} {all fs : List Frame} {f : Frame} {room more : ℕ} → all ≡ fs ++ f ∷ [] → more ≡ room
-    → Stands w fs room → Top w (names w) fs f → length fs < names w + 1 → OnTop w (names w + 1) fs f → Stands w all more
+    → IsFrameStack w fs room → Top w (names w) fs f → length fs < names w + 1 → OnTop w (names w + 1) fs f
+    → IsFrameStack w all more
 Stands-push {w} {fs} {f} {room} e r s t n o =
     let l = ap length e ∙ length-append fs (f ∷ []) in
     record {
@@ -85,9 +86,9 @@ Stands-push {w} {fs} {f} {room} e r s t n o =
     }
 
 pub Top-next : {w : Stored} {k : ℕ} {fs : List Frame} {f g : Frame} (t : Token) → suffix w f ≡ t ∷ suffix w g
-    → IsWithin w g → Top w k fs f → Top w k fs g × AreBelow w (k - length fs) (use_of w t)
+    → FrameIsWithin w g → Top w k fs f → Top w k fs g × RanksAreBelow w (k - length fs) (use_of w t)
 Top-next {w} {k} {fs} {g} t s i h =
-    let b : AreBelow w (k - length fs) (use_of w t ++ uses w (suffix w g)) =
+    let b : RanksAreBelow w (k - length fs) (use_of w t ++ uses w (suffix w g)) =
     ap (λ ts. list_all (ends_below w (k - length fs)) (uses w ts)) (sym s) ∙ h.below in (
       record {
         ranked = h.ranked;
@@ -109,7 +110,7 @@ list_work-first w k t ts =
 pub advances : {w : Stored} {old : List Frame} (fs : List Frame) {new : List Frame} (f g : Frame) {t : Token}
     → left w old ≡ left w (fs ++ f ∷ [])
     → work_of w (names w) (fs ++ f ∷ []) ≤ work_of w (names w) old → suffix w f ≡ t ∷ suffix w g
-    → AreBelow w (names w - length fs) (use_of w t) → UsesLower w new t → new ≡ fs ++ g ∷ [] → Advances w old new t
+    → RanksAreBelow w (names w - length fs) (use_of w t) → UsesLower w new t → new ≡ fs ++ g ∷ [] → Advances w old new t
 advances {w} fs {new} f g {t} e m s b u is =
     let k = names w - length fs in
     let l : names w - length fs ≡ level w new = sym (ap (level w) is ∙ level-push w fs g) in
@@ -123,10 +124,10 @@ advances {w} fs {new} f g {t} e m s b u is =
     record {
       left =
           e ∙ left_of-push w (names w) fs f ∙ ap (λ ts. expand w k ts ++ left w fs) s
-          ∙ append_assoc (put w (name_text w k) t) (expand w k (suffix w g)) (left w fs)
-          ∙ ap (λ ts. put w (name_text w k) t ++ ts) (sym (left_of-push w (names w) fs g))
-          ∙ ap (λ fs. put w (name_text w k) t ++ left w fs) (sym is)
-          ∙ ap (λ n. put w (name_text w n) t ++ left w new) l;
+          ∙ append_assoc (put w (expanded_name w k) t) (expand w k (suffix w g)) (left w fs)
+          ∙ ap (λ ts. put w (expanded_name w k) t ++ ts) (sym (left_of-push w (names w) fs g))
+          ∙ ap (λ fs. put w (expanded_name w k) t ++ left w fs) (sym is)
+          ∙ ap (λ n. put w (expanded_name w n) t ++ left w new) l;
       below = AreBelow-at w (names w - length fs) (level w new) (use_of w t) l b;
       lower = u;
       work = omega (arith, p, q, v, x, m);
@@ -142,6 +143,6 @@ pub work-ended : (w : Stored) (fs : List Frame) (f : Frame)
 work-ended w fs f = let p = work_of-push w (names w) fs f in omega arith
 
 pub rank-step : (w : Stored) (k : ℕ) (m : NameId) → ends_below w k m ≡ true
-    → (j : ℕ) × (k ≡ suc j) × AreBelow w j (uses w (joined w m))
+    → (j : ℕ) × (k ≡ suc j) × RanksAreBelow w j (uses w (joined w m))
 rank-step w zero m h = cc
 rank-step w (suc j) m h = (j, refl, h)

@@ -1,5 +1,5 @@
 -- The top frame of a stack, read and written in place. It is the last of the list.
-use Rattle.cweb_out.proofs.Common.{◌≡◌, ◌<◌, ◌≤◌, ◌+◌, ◌-◌, ◌++◌, ◌∷◌, [], ℕ, List, length, take, get_or, refl, sym, ◌∙◌, ap, arith, set, take-length, length-set, take_more, take_more_set, Token, Stored, names, Frame, suffix, left, work_of, IsWithin, Stands, Advances, rank, top_rank}
+use Rattle.cweb_out.proofs.Common.{◌≡◌, ◌<◌, ◌≤◌, ◌+◌, ◌-◌, ◌++◌, ◌∷◌, [], ℕ, List, length, take, get_or, refl, sym, ◌∙◌, ap, arith, set, take-length, length-set, take_more, take_more_set, Token, Stored, names, Frame, suffix, left, work_of, FrameIsWithin, IsFrameStack, Advances, rank, top_rank}
 use Rattle.cweb_out.proofs.Owners.{OnTop, OnTop-next, top_rank-push}
 use Rattle.cweb_out.proofs.Stack.{Top, Stands-pop, Stands-push, Top-next, advances, left-ended, work-ended}
 
@@ -32,19 +32,20 @@ top_written {n} {fs} g h =
     sym (take-length (set fs (n - 1) g)) ∙ ap (λ k. take k (set fs (n - 1) g)) all ∙ take_more_set fs (n - 1) g lt
 
 -- a stack without its top, and what is known of the top
-pub stands_lower : {w : Stored} {n : ℕ} {fs : List Frame} {f : Frame} {room : ℕ} → Stands w fs room → HasTop n fs f
-    → Stands w (lower n fs) room × Top w (names w) (lower n fs) f
+pub stands_lower : {w : Stored} {n : ℕ} {fs : List Frame} {f : Frame} {room : ℕ} → IsFrameStack w fs room
+    → HasTop n fs f
+    → IsFrameStack w (lower n fs) room × Top w (names w) (lower n fs) f
     × (length (lower n fs) < names w + 1) × OnTop w (names w + 1) (lower n fs) f
 stands_lower s h = Stands-pop (top_read h) refl s
 
 -- the top went on by a token
 pub record TopMoved (w : Stored) (old new : List Frame) (t : Token) (room : ℕ) : Type 0 where
-  pub stands : Stands w new room
+  pub stands : IsFrameStack w new room
   pub advances : Advances w old new t
 
 pub top_moved : {w : Stored} {n : ℕ} {old fs : List Frame} {f g : Frame} {t : Token} {room : ℕ}
-    → Stands w fs room → left w old ≡ left w fs → work_of w (names w) fs ≤ work_of w (names w) old → HasTop n fs f
-    → suffix w f ≡ t ∷ suffix w g → IsWithin w g → g.owner ≡ f.owner → TopMoved w old (set fs (n - 1) g) t room
+    → IsFrameStack w fs room → left w old ≡ left w fs → work_of w (names w) fs ≤ work_of w (names w) old → HasTop n fs f
+    → suffix w f ≡ t ∷ suffix w g → FrameIsWithin w g → g.owner ≡ f.owner → TopMoved w old (set fs (n - 1) g) t room
 top_moved {w} {n} {old} {fs} {f} {g} {t} s e m h goes i o =
     let both : fs ≡ lower n fs ++ f ∷ [] = top_read h in
     let after : set fs (n - 1) g ≡ lower n fs ++ g ∷ [] = top_written g h in
@@ -61,11 +62,11 @@ top_moved {w} {n} {old} {fs} {f} {g} {t} s e m h goes i o =
 
 -- the top had come to its end
 pub record TopEnded (w : Stored) (fs new : List Frame) (room : ℕ) : Type 0 where
-  pub stands : Stands w new room
+  pub stands : IsFrameStack w new room
   pub left : left w fs ≡ left w new
   pub work : work_of w (names w) new ≤ work_of w (names w) fs
 
-pub top_ended : {w : Stored} {n : ℕ} {fs new : List Frame} {f : Frame} {room : ℕ} → Stands w fs room
+pub top_ended : {w : Stored} {n : ℕ} {fs new : List Frame} {f : Frame} {room : ℕ} → IsFrameStack w fs room
     → HasTop n fs f → suffix w f ≡ [] → new ≡ lower n fs → TopEnded w fs new room
 top_ended {w} {fs} {new} {f} {room} s h none is =
     let both : fs ≡ new ++ f ∷ [] = top_read h ∙ ap (λ (x : List Frame). x ++ f ∷ []) (sym is) in

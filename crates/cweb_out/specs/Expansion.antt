@@ -3,22 +3,22 @@ use Rattle.std.specs.Prelude.{ℕ, suc, zero, List, [], ◌∷◌, Option, None,
 use Rattle.cweb_names.specs.declared.name.NameId.{NameId}
 use Rattle.cweb_store.specs.Parts.{Token, Name}
 use Rattle.cweb_store.specs.Calls.{Stored}
-use Rattle.cweb_plan.specs.Uses.{joined, stands}
+use Rattle.cweb_out.specs.Uses.{joined, resolved_use}
 
-abbrev pub text_for : (NameId → List Token) → Option NameId → List Token
-text_for text None = []
-text_for text (Some n) = text n
+abbrev pub tokens_for : (NameId → List Token) → Option NameId → List Token
+tokens_for text None = []
+tokens_for text (Some n) = text n
 
 -- a use becomes the text of the name that it stands for, or nothing where it stands for none; any other token stays
 abbrev pub put : Stored → (NameId → List Token) → Token → List Token
-put w text (Name name) = text_for text (stands w name)
+put w text (Name name) = tokens_for text (resolved_use w name)
 put w text token = token ∷ []
 
 -- the text of a name, expanded to a depth: at depth 0 it is dropped
-abbrev pub name_text : Stored → ℕ → NameId → List Token
-name_text w zero n = []
-name_text w (suc k) n = flat_map (put w (name_text w k)) (joined w n)
+abbrev pub expanded_name : Stored → ℕ → NameId → List Token
+expanded_name w zero n = []
+expanded_name w (suc k) n = flat_map (put w (expanded_name w k)) (joined w n)
 
 -- a list of tokens, expanded to a depth: at depth 0 its uses are dropped
 abbrev pub expand : Stored → ℕ → List Token → List Token
-expand w k tokens = flat_map (put w (name_text w k)) tokens
+expand w k tokens = flat_map (put w (expanded_name w k)) tokens

@@ -1,8 +1,8 @@
-pub use Rattle.cweb_plan.specs.Uses
-pub use Rattle.cweb_plan.specs.Ranks
+pub mod Uses
+pub mod Ranks
+pub mod Cycles
+pub mod Outputs
 pub mod Expansion
-pub use Rattle.cweb_plan.specs.Cycles
-pub use Rattle.cweb_plan.specs.Outputs
-pub mod Frames
-pub use Rattle.cweb_plan.specs.Planning
-pub mod Laws
+pub mod surface
+pub mod laws
+pub mod inner

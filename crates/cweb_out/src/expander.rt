@@ -1,15 +1,21 @@
 // The stack machine that gives an output's tokens, with each name replaced by its text.
-ghost use Rattle.std.specs.Prelude.{◌≡◌, ◌≤◌, ◌<◌, ◌+◌, ◌++◌, ◌∷◌, [], None, Some, length, IfOk, IfSome, option_map, vec_capacity};
-ghost use Rattle.cweb_store.specs.Seen.{seen};
+ghost use Rattle.std.specs.Prelude.{◌≡◌, ◌≤◌, ◌<◌, ◌+◌, ◌++◌, ◌∷◌, [], None, Some, length, IfOk};
+ghost use Rattle.std.specs.Prelude.{IfSome, option_map, vec_capacity};
+ghost use Rattle.cweb_store.specs.surface.TokenModels.{token_model};
 ghost use Rattle.cweb_store.specs.Parts.{Name};
-ghost use Rattle.cweb_plan.specs.Uses.{names, use_of};
+ghost use Rattle.cweb_out.specs.Uses.{names, use_of};
 ghost use Rattle.cweb_out.specs.Expansion.{expand};
-ghost use Rattle.cweb_plan.specs.Outputs.{IsPlanOf, root_at, root_list};
-ghost use Rattle.cweb_out.specs.Frames.{Advances, AreBelow, Enters, Gives, Stands, UsesLower, left, level};
+ghost use Rattle.cweb_out.specs.surface.Outputs.{IsPlanOf, root_at};
+ghost use Rattle.cweb_out.specs.Outputs.{root_list};
+ghost use Rattle.cweb_out.specs.inner.FrameStacks.{Advances, Enters};
+ghost use Rattle.cweb_out.specs.surface.FrameStacks.{RanksAreBelow, YieldsNext};
+ghost use Rattle.cweb_out.specs.surface.FrameStacks.{IsFrameStack, left};
+ghost use Rattle.cweb_out.specs.inner.FrameStacks.{UsesLower, level};
 
-pub mod gathering;
+pub mod appending;
 
-use cweb_plan::{Frame, Plan};
+use crate::frame::Frame;
+use crate::outputs::planned::Plan;
 use cweb_store::{NameRef, Store, Token};
 use std::alloc::{AllocError, Global};
 
@@ -34,11 +40,12 @@ impl<'a> Expander<'a> {
         requires root { root < length plan.now.outputs }
         requires made { IsPlanOf store.now plan.now }
         ensures stands { IfOk result
-            (λ e. Stands store.now e.frames.items (vec_capacity e.frames)) }
+            (λ e. IsFrameStack store.now e.frames.items (vec_capacity e.frames)) }
         ensures store { IfOk result (λ e. e.store ≡ store.entry) }
         ensures plan { IfOk result (λ e. e.plan ≡ plan.entry) }
         ensures left { IfOk result (λ e. left store.now e.frames.items
-            ≡ expand store.now (names store.now) (root_list store.now (root_at plan.now.outputs root))) }
+            ≡ expand store.now (names store.now)
+            (root_list store.now (root_at plan.now.outputs root))) }
     {
         let count = store.names();
         let mut frames = Vec::with_capacity(alloc, count as usize + 1)?;
@@ -54,14 +61,15 @@ impl<'a> Expander<'a> {
     pub fn restart(&mut self, root: u32)
         requires root { root < length self.old.plan.now.outputs }
         requires made { IsPlanOf self.old.store.now self.old.plan.now }
-        requires stands { Stands self.old.store.now
+        requires stands { IsFrameStack self.old.store.now
             self.old.frames.items (vec_capacity self.old.frames) }
-        ensures stands { Stands self.new.store.now
+        ensures stands { IsFrameStack self.new.store.now
             self.new.frames.items (vec_capacity self.new.frames) }
         ensures store { self.new.store ≡ self.old.store }
         ensures plan { self.new.plan ≡ self.old.plan }
         ensures left { left self.old.store.now self.new.frames.items
-            ≡ expand self.old.store.now (names self.old.store.now) (root_list self.old.store.now (root_at self.old.plan.now.outputs root)) }
+            ≡ expand self.old.store.now (names self.old.store.now)
+            (root_list self.old.store.now (root_at self.old.plan.now.outputs root)) }
     {
         self.frames.clear();
         let frame = Frame::of_root(self.store, self.plan.root(root));
@@ -70,7 +78,8 @@ impl<'a> Expander<'a> {
 
     /// How many frames there are: one more than names at most.
     pub fn depth(&self) -> u32
-        requires { Stands self.now.store.now self.now.frames.items (vec_capacity self.now.frames) }
+        requires { IsFrameStack self.now.store.now self.now.frames.items
+            (vec_capacity self.now.frames) }
         ensures count { result ≡ length self.now.frames.items }
         ensures bound { result ≤ names self.now.store.now + 1 }
     {
@@ -81,13 +90,14 @@ impl<'a> Expander<'a> {
     /// The next token: never a use of a name. Once it is none it stays so. It takes no memory.
     #[inline(always)]
     pub fn next(&mut self) -> Option<Token<'a>>
-        requires { Stands self.old.store.now self.old.frames.items (vec_capacity self.old.frames) }
-        ensures stands { Stands self.new.store.now
+        requires { IsFrameStack self.old.store.now self.old.frames.items
+            (vec_capacity self.old.frames) }
+        ensures stands { IsFrameStack self.new.store.now
             self.new.frames.items (vec_capacity self.new.frames) }
         ensures store { self.new.store ≡ self.old.store }
         ensures plan { self.new.plan ≡ self.old.plan }
-        ensures gives { Gives (left self.old.store.now self.old.frames.items)
-            (option_map seen result) (left self.old.store.now self.new.frames.items) }
+        ensures gives { YieldsNext (left self.old.store.now self.old.frames.items)
+            (option_map token_model result) (left self.old.store.now self.new.frames.items) }
     {
         'tokens: while let Some(token) = self.advance() {
             let Token::Name(name) = token else {
@@ -100,13 +110,14 @@ impl<'a> Expander<'a> {
 
     // Takes the next token of the lists as they stand, and frames that have ended away.
     fn advance(&mut self) -> Option<Token<'a>>
-        requires { Stands self.old.store.now self.old.frames.items (vec_capacity self.old.frames) }
-        ensures stands { Stands self.new.store.now
+        requires { IsFrameStack self.old.store.now self.old.frames.items
+            (vec_capacity self.old.frames) }
+        ensures stands { IsFrameStack self.new.store.now
             self.new.frames.items (vec_capacity self.new.frames) }
         ensures store { self.new.store ≡ self.old.store }
         ensures plan { self.new.plan ≡ self.old.plan }
         ensures some { IfSome result (λ t.
-            Advances self.old.store.now self.old.frames.items self.new.frames.items (seen t)) }
+            Advances self.old.store.now self.old.frames.items self.new.frames.items (token_model t)) }
         ensures none { result ≡ None
             → (left self.old.store.now self.old.frames.items ≡ []) × (self.new.frames.items ≡ []) }
     {
@@ -122,14 +133,14 @@ impl<'a> Expander<'a> {
 
     // Puts the text of a name on top, where the occurrence stands for one that has a part.
     fn enter(&mut self, name: NameRef)
-        requires stands { Stands self.old.store.now
+        requires stands { IsFrameStack self.old.store.now
             self.old.frames.items (vec_capacity self.old.frames) }
         requires some { 0 < length self.old.frames.items }
-        requires below { AreBelow self.old.store.now
+        requires below { RanksAreBelow self.old.store.now
             (level self.old.store.now self.old.frames.items)
             (use_of self.old.store.now (Name name)) }
         requires lower { UsesLower self.old.store.now self.old.frames.items (Name name) }
-        ensures stands { Stands self.new.store.now
+        ensures stands { IsFrameStack self.new.store.now
             self.new.frames.items (vec_capacity self.new.frames) }
         ensures store { self.new.store ≡ self.old.store }
         ensures plan { self.new.plan ≡ self.old.plan }

@@ -1,6 +1,7 @@
 //! What holds of expansion, of print and of cycles whatever the web is. These functions do nothing: each is there for its contract.
 
-ghost use Rattle.cweb_out.specs.Laws.{DepthAboveTheRankChangesNothing, ExpansionReplacesUsesAlone, FilesHaveWholeLines, PrintGoesOn, RefusedCyclesAreCycles};
+ghost use Rattle.cweb_out.specs.laws.Laws.{DepthAboveTheRankChangesNothing, ExpansionReplacesUsesAlone};
+ghost use Rattle.cweb_out.specs.laws.Laws.{FilesHaveWholeLines, PrintGoesOn, RefusedCyclesAreCycles};
 
 /// An expansion has no use of a name. Each other token of a list stays, in order; each use becomes the expanded text of its
 /// name.

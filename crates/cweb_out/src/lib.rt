@@ -1,13 +1,21 @@
-//! The outputs of a web: the text of each, all its names replaced.
+//! The outputs of a web: which there are, and the tokens of each, with all names expanded.
 #![tactic(auto)]
 
-// the tokens of an output, its names replaced
+// which outputs there are, or why there are none
+mod outputs;
+
+// the suffix of a token list that is still to come
+mod frame;
+
+// the tokens of one output
 mod expander;
 
-// what holds whatever the web is
+// what holds for any web
 pub mod laws;
 
-pub use cweb_bins::{BinFault, BinFile, Bins, MemoryBins};
-pub use cweb_plan::{Frame, Plan, PlanFault, plan};
-pub use cweb_print::{Gathered, Printer};
+pub use cweb_files::{BinFault, BinFile, Bins, MemoryBins};
+pub use cweb_print::{OutBuffer, Printer};
 pub use expander::Expander;
+pub use outputs::fault::PlanFault;
+pub use outputs::planned::Plan;
+pub use outputs::planning::plan;

@@ -1,12 +1,12 @@
 // Webs written as text, and what becomes of them: their outputs, large webs, sinks that fail, memory that is refused. And places
 // that keep files.
 mod bins;
+mod buffering;
 mod cases;
 mod failing;
-mod gathering;
 mod large;
 mod long_webs;
 mod outputs;
-mod told;
+mod reports;
 mod wanted;
 mod webs;

@@ -1,5 +1,5 @@
 -- Bytes that are written as they are.
-use Rattle.cweb_print.proofs.Common.{arith, ◌≡◌, ℕ, Bool, true, false, ◌||◌, cond, List, [], ◌∷◌, ◌++◌, refl, ◌∙◌, ap, nat_le, list_any, word_text, wants_backslash, quoted}
+use Rattle.cweb_print.proofs.Common.{arith, ◌≡◌, ℕ, Bool, true, false, ◌||◌, cond, List, [], ◌∷◌, ◌++◌, refl, ◌∙◌, ap, nat_le, list_any, word_bytes, wants_backslash, quoted}
 
 first_false : (a b : Bool) → (a || b) ≡ false → a ≡ false
 first_false true b h = h
@@ -10,7 +10,7 @@ rest_false true b h = cc
 rest_false false b h = h
 
 pub ascii_word : (replaced : ℕ → List ℕ) (bytes : List ℕ)
-    → list_any (λ b. nat_le 128 b) bytes ≡ false → word_text replaced bytes ≡ bytes
+    → list_any (λ b. nat_le 128 b) bytes ≡ false → word_bytes replaced bytes ≡ bytes
 ascii_word replaced [] h = refl
 ascii_word replaced (b ∷ bytes) h =
     grind (arith, replaced b, first_false (nat_le 128 b), ascii_word replaced bytes, rest_false (nat_le 128 b))

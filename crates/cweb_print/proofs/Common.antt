@@ -14,36 +14,50 @@ pub use Rattle.std.specs.List.{list_any, list_all}
 pub use Rattle.std.specs.Prelude.{option_map, nat_le, IfSome, Result, Ok, Err, IsErr, flat_map, slice_get, filter, All}
 pub use Rattle.std.specs.Prelude.{IsOk, is_some, fold, IsTrue}
 pub use denote.Enum.Declared.{tag_of}
-pub use Rattle.cweb_gathered.specs.Gathering.{blank_where}
-pub use Rattle.cweb_gathered.specs.Writing.{Wrote}
-pub use Rattle.cweb_gathered.specs.declared.gathered.TheConstants.{ROOM}
-pub use Rattle.cweb_print.specs.Borders.{class_behind, stands_apart, left_behind, continued_by, is_line_end}
-pub use Rattle.cweb_print.specs.Classes.{class_by, class_is_glue, class_is_literal, class_is_number, class_is_operator}
-pub use Rattle.cweb_print.specs.Classes.{class_is_point, class_is_wordlike, class_of, is_apart, added, continued_text}
-pub use Rattle.cweb_print.specs.Classes.{left_by, macro_by, punct_class, is_dropped, file_by, separator, leaves}
-pub use Rattle.cweb_print.specs.Classes.{all_added, at_start, begin_by, class_is_line_start, placed_text}
-pub use Rattle.cweb_print.specs.Gathering.{Gathers, MovesBy, PrintsBy}
-pub use Rattle.cweb_print.specs.Lent.{lent_text, AreLent, is_lent}
-pub use Rattle.cweb_print.specs.Printed.{Adds, AddsBy, kept_of, setting_of, Prints}
+pub use Rattle.cweb_print.specs.inner.Flushing.{blank_where}
+pub use Rattle.cweb_print.specs.inner.Writing.{Wrote}
+pub use Rattle.cweb_print.specs.declared.buffer.TheConstants.{ROOM}
+pub use Rattle.cweb_print.specs.inner.EdgeSpacing.{class_after_edge, edge_is_apart, left_after_edge, continued_by}
+pub use Rattle.cweb_print.specs.inner.EdgeSpacing.{edge_ends_line}
+pub use Rattle.cweb_print.specs.surface.Classes.{class_by}
+pub use Rattle.cweb_print.specs.inner.Classes.{class_is_glue, class_is_literal, class_is_number, class_is_operator}
+pub use Rattle.cweb_print.specs.inner.Classes.{class_is_point, class_is_wordlike, is_apart, added}
+pub use Rattle.cweb_print.specs.surface.Classes.{class_of}
+pub use Rattle.cweb_print.specs.inner.Classes.{continuation_bytes}
+pub use Rattle.cweb_print.specs.surface.Classes.{left_after_token, punct_class, is_dropped}
+pub use Rattle.cweb_print.specs.inner.Classes.{macro_by, file_by, separator}
+pub use Rattle.cweb_print.specs.surface.Classes.{left_after_tokens}
+pub use Rattle.cweb_print.specs.inner.Classes.{all_added, begin_by, class_is_line_start, own_line_bytes}
+pub use Rattle.cweb_print.specs.surface.Classes.{at_start}
+pub use Rattle.cweb_print.specs.inner.BufferedPrinting.{AppendsToken, MovesBy, PrintsBy}
+pub use Rattle.cweb_print.specs.inner.DirectTokens.{direct_unless_dropped, AreDirect, is_direct}
+pub use Rattle.cweb_print.specs.surface.Printed.{AddsBytes, AddsBy, left_in_printer, setting_of, PrintsToken}
 pub use Rattle.cweb_print.specs.Printers.{macros, replaced_in}
-pub use Rattle.cweb_print.specs.Printing.{word_text, wants_backslash, quoted, plain_text, Setting, print, stays_joined}
-pub use Rattle.cweb_print.specs.Printing.{macro_line, macro_lines, macro_text, printed, is_layout, kept, print_after}
-pub use Rattle.cweb_print.specs.Printing.{file, file_text, last_of, left_after, starts_line, begin_line, mark_line}
+pub use Rattle.cweb_print.specs.Printing.{word_bytes, wants_backslash, quoted, plain_bytes, Setting, print}
+pub use Rattle.cweb_print.specs.Printing.{stays_joined}
+pub use Rattle.cweb_print.specs.Printing.{macro_line, macro_lines, macro_token_bytes, printed_tokens, is_layout}
+pub use Rattle.cweb_print.specs.Printing.{without_joined_layout, print_after}
+pub use Rattle.cweb_print.specs.Printing.{file, file_token_bytes, last_token, left_after, starts_line, begin_line}
+pub use Rattle.cweb_print.specs.Printing.{mark_line}
 pub use Rattle.cweb_print.specs.Printing.{file_name, quoted_byte, word_byte}
-pub use Rattle.cweb_print.specs.Runs.{run_tokens}
-pub use Rattle.cweb_print.specs.Spacing.{is_operator, is_one_of, is_wordlike, is_literal, is_number, is_comment}
+pub use Rattle.cweb_print.specs.surface.TokenRanges.{tokens_of_part}
+pub use Rattle.cweb_texts.specs.Edges.{is_operator, is_one_of}
+pub use Rattle.cweb_print.specs.Spacing.{is_wordlike, is_literal, is_number, is_comment}
 pub use Rattle.cweb_print.specs.Spacing.{begins_with, are_apart, sep}
 pub use Rattle.cweb_print.specs.declared.printer.Printer.{Printer}
 pub use Rattle.cweb_print.specs.declared.printer.class.Class.{Class}
 pub use Rattle.cweb_print.specs.declared.printer.left.Left.{Left}
-pub use Rattle.cweb_store.specs.Lends.{lends}
-pub use Rattle.cweb_texts.specs.Borders.{Bordered, first_is, is_high, is_numeric, last_is, sign_border, sign_by}
-pub use Rattle.cweb_texts.specs.Borders.{lent_seen}
+pub use Rattle.cweb_store.specs.inner.DirectBytes.{direct_bytes}
+pub use Rattle.cweb_texts.specs.inner.Edges.{TokenBytesModel, is_high, is_numeric, punctuator_edge}
+pub use Rattle.cweb_texts.specs.Edges.{first_is, last_is}
+pub use Rattle.cweb_texts.specs.inner.Edges.{punctuator_edge_by}
+pub use Rattle.cweb_texts.specs.inner.Edges.{token_bytes_model}
 pub use Rattle.cweb_store.specs.Calls.{Stored}
 pub use Rattle.cweb_store.specs.Parts.{Token, Word, Number, Literal, Verbatim, Punct, Blank, Newline, Join, Defs, Name}
-pub use Rattle.cweb_store.specs.Parts.{Head, Tail, Mark, all_tokens, is_macro, numbers_from, numbers_where}
-pub use Rattle.cweb_store.specs.Seen.{seen}
-pub use Rattle.cweb_texts.specs.contracts.borders.Border.{the_type}
-pub use Rattle.cweb_parts.specs.declared.parts.Part.{Part}
-pub use Rattle.cweb_parts.specs.declared.parts.PartKind.{PartKind}
-pub use Rattle.cweb_texts.specs.declared.borders.Border.{Border}
+pub use Rattle.cweb_store.specs.Parts.{Head, Tail, Mark, all_tokens, is_macro}
+pub use Rattle.cweb_store.specs.surface.Parts.{numbers_from, numbers_where}
+pub use Rattle.cweb_store.specs.surface.TokenModels.{token_model}
+pub use Rattle.cweb_texts.specs.contracts.edges.Edge.{the_type}
+pub use Rattle.cweb_store.specs.declared.parts.Part.{Part}
+pub use Rattle.cweb_store.specs.declared.parts.PartKind.{PartKind}
+pub use Rattle.cweb_texts.specs.declared.edges.Edge.{Edge}

@@ -1,4 +1,7 @@
 pub mod Common
+pub mod WrittenPrefixes
+pub mod OverlappingEnds
+pub mod FlushedBytes
 pub mod Lasts
 pub mod Steps
 pub mod Bytes
@@ -6,10 +9,10 @@ pub mod OperatorTable
 pub mod Ranges
 pub mod MacroLines
 pub mod Prints
-pub mod Lending
-pub mod Moving
+pub mod DirectPrinting
+pub mod BufferedAdds
 pub mod ApartTable
-pub mod Bordered
-pub mod Lenders
+pub mod DirectEdges
+pub mod TokenReaderSteps
 pub mod Continued
-pub mod Passing
+pub mod DirectPrefixes

@@ -1,9 +1,9 @@
 -- Macros as runs of token numbers.
-use Rattle.cweb_print.proofs.Common.{◌≡◌, ◌≤◌, ◌<◌, ◌+◌, ◌-◌, ℕ, suc, Bool, true, false, cond, List, [], ◌∷◌, ◌++◌, refl, sym, ◌∙◌, ap, map, take, drop, length, slice_range, arith, get_or, subst, append_assoc, append-nil, flat_map, filter, All, slice_get, Some, drop-drop, take_at, drop_at, take_more, get_or-drop, length-drop, take-add, Class, Left, added, all_added, at_start, begin_by, file_by, is_apart, leaves, left_by, PartKind, Token, Defs, all_tokens, is_macro, numbers_from, numbers_where, Stored, Setting, macro_line, macro_lines, macros, replaced_in, run_tokens, and-false, slice_get_within}
+use Rattle.cweb_print.proofs.Common.{◌≡◌, ◌≤◌, ◌<◌, ◌+◌, ◌-◌, ℕ, suc, Bool, true, false, cond, List, [], ◌∷◌, ◌++◌, refl, sym, ◌∙◌, ap, map, take, drop, length, slice_range, arith, get_or, subst, append_assoc, append-nil, flat_map, filter, All, slice_get, Some, drop-drop, take_at, drop_at, take_more, get_or-drop, length-drop, take-add, Class, Left, added, all_added, at_start, begin_by, file_by, is_apart, left_after_tokens, left_after_token, PartKind, Token, Defs, all_tokens, is_macro, numbers_from, numbers_where, Stored, Setting, macro_line, macro_lines, macros, replaced_in, tokens_of_part, and-false, slice_get_within}
 use Rattle.cweb_print.specs.declared.printer.class.Class.TheVariants as class
 use Rattle.cweb_print.proofs.Steps.{added-append, added-push, leaves-push}
 use Rattle.cweb_print.proofs.Ranges.{slice_get-or, slice_range-first}
-use Rattle.cweb_parts.specs.declared.parts.Part as declared
+use Rattle.cweb_store.specs.declared.parts.Part as declared
 use Rattle.cweb_store.specs.Parts.{Part}
 
 no_blank : (c : Class) → is_apart c Defs ≡ false
@@ -16,7 +16,7 @@ defs-added s left = cc (and-false left.joined, no_blank left.class, append-nil (
 
 -- the lines of runs
 abbrev pub lines : Stored → List declared.Part → List ℕ
-lines w runs = flat_map (λ run. macro_line (replaced_in w) (run_tokens w run)) runs
+lines w runs = flat_map (λ run. macro_line (replaced_in w) (tokens_of_part w run)) runs
 
 abbrev pub all_lines : Stored → List ℕ
 all_lines w = flat_map (macro_line (replaced_in w)) (macros w)
@@ -79,8 +79,9 @@ range_split ts a n b t le lt within is =
 -- the tokens of a macro: those that were printed, the next one, and the rest
 pub tokens_at : (by : Class → Token → List ℕ) (ts : List Token) (a n b : ℕ) (t : Token) (left : Left)
     → a ≤ n → n < b → b ≤ length ts → slice_get ts n ≡ Some t
-    → left ≡ leaves (slice_range ts a n) → all_added by at_start (slice_range ts a b) ≡ all_added
-    by at_start (slice_range ts a n) ++ (added by left t ++ all_added by (left_by left t) (slice_range ts (n + 1) b))
+    → left ≡ left_after_tokens (slice_range ts a n) → all_added by at_start (slice_range ts a b) ≡ all_added
+    by at_start (slice_range ts a n)
+    ++ (added by left t ++ all_added by (left_after_token left t) (slice_range ts (n + 1) b))
 tokens_at by ts a n b t left le lt within is now =
     cc (
       range_split ts a n b t le lt within is,
@@ -90,7 +91,7 @@ tokens_at by ts a n b t left le lt within is now =
 
 pub tokens_more : (by : Class → Token → List ℕ)
     (ts : List Token) (a n : ℕ) (t : Token) (left : Left) (old mid new : List ℕ) → a ≤ n → slice_get ts n ≡ Some t
-    → left ≡ leaves (slice_range ts a n) → mid ≡ old ++ all_added by at_start (slice_range ts a n)
+    → left ≡ left_after_tokens (slice_range ts a n) → mid ≡ old ++ all_added by at_start (slice_range ts a n)
     → new ≡ mid ++ added by left t → new ≡ old ++ all_added by at_start (slice_range ts a (n + 1))
 tokens_more by ts a n t left old mid new le is now before wrote =
     cc (
@@ -101,5 +102,6 @@ tokens_more by ts a n t left old mid new le is now before wrote =
     )
 
 pub left_more : (ts : List Token) (a n : ℕ) (t : Token) (left next : Left) → a ≤ n → slice_get ts n ≡ Some t
-    → left ≡ leaves (slice_range ts a n) → next ≡ left_by left t → next ≡ leaves (slice_range ts a (n + 1))
+    → left ≡ left_after_tokens (slice_range ts a n) → next ≡ left_after_token left t
+    → next ≡ left_after_tokens (slice_range ts a (n + 1))
 left_more ts a n t left next le is now after = cc (leaves-push (slice_range ts a n) t, range_more ts a n t le is)

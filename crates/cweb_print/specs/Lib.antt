@@ -1,9 +1,5 @@
-pub mod Runs
 pub mod Spacing
 pub mod Printing
-pub mod Classes
-pub mod Borders
-pub mod Lent
 pub mod Printers
-pub mod Printed
-pub mod Gathering
+pub mod surface
+pub mod inner

@@ -1,8 +1,11 @@
 -- How a list of tokens is printed.
-use Rattle.std.specs.Prelude.{slice_index_or, ℕ, Bool, true, false, ◌&&◌, nat_le, List, [], ◌∷◌, ◌++◌, codes, decimal, if◌then◌else◌, Option, Some, None, flat_map}
+use Rattle.std.specs.Prelude.{slice_index_or, ℕ, Bool, true, false, ◌&&◌, nat_le, List, [], ◌∷◌, ◌++◌, codes, decimal}
+use Rattle.std.specs.Prelude.{if◌then◌else◌, Option, Some, None, flat_map}
 use Rattle.cweb_files.specs.declared.place.Place.{Place}
-use Rattle.cweb_store.specs.Parts.{Token, Word, Number, Literal, Verbatim, Punct, Blank, Newline, Join, Defs, Head, Tail, Mark}
-use Rattle.cweb_print.specs.Spacing.{is_one_of, sep}
+use Rattle.cweb_store.specs.Parts.{Token, Word, Number, Literal, Verbatim, Punct, Blank, Newline, Join, Defs, Head}
+use Rattle.cweb_store.specs.Parts.{Tail, Mark}
+use Rattle.cweb_texts.specs.Edges.{is_one_of}
+use Rattle.cweb_print.specs.Spacing.{sep}
 
 -- whether only layout and section comments stand between the last join and what comes after a token: `joined` says so before it
 abbrev pub stays_joined : Bool → Token → Bool
@@ -21,49 +24,50 @@ is_layout (Mark p) = true
 is_layout t = false
 
 -- the tokens without the layout after a join
-abbrev pub kept : Bool → List Token → List Token
-kept joined [] = []
-kept joined (t ∷ ts) = let rest = kept (stays_joined joined t) ts in if joined && is_layout t then rest else t ∷ rest
+abbrev pub without_joined_layout : Bool → List Token → List Token
+without_joined_layout joined [] = []
+without_joined_layout joined (t ∷ ts) = let rest = without_joined_layout (stays_joined joined t) ts in
+    if joined && is_layout t then rest else t ∷ rest
 
 -- the separators and texts of tokens, after a token: `text` says what a token is after the one to its left
 abbrev pub print_after : (Option Token → Token → List ℕ) → Option Token → List Token → List ℕ
 print_after text left [] = []
 print_after text left (t ∷ ts) = (sep left t ++ text left t) ++ print_after text (Some t) ts
 
-abbrev pub printed : (Option Token → Token → List ℕ) → List Token → List ℕ
-printed text ts = print_after text None (kept false ts)
+abbrev pub printed_tokens : (Option Token → Token → List ℕ) → List Token → List ℕ
+printed_tokens text ts = print_after text None (without_joined_layout false ts)
 
 -- a byte of a word: `replaced` says what stands for a byte from 128
 abbrev pub word_byte : (ℕ → List ℕ) → ℕ → List ℕ
 word_byte replaced b = if nat_le 128 b then replaced b else b ∷ []
 
-abbrev pub word_text : (ℕ → List ℕ) → List ℕ → List ℕ
-word_text replaced bytes = flat_map (word_byte replaced) bytes
+abbrev pub word_bytes : (ℕ → List ℕ) → List ℕ → List ℕ
+word_bytes replaced bytes = flat_map (word_byte replaced) bytes
 
 -- a section's number between two pieces of a comment
-abbrev pub numbered : List ℕ → ℕ → List ℕ → List ℕ
-numbered before n behind = before ++ (decimal n ++ behind)
+abbrev pub numbered_comment : List ℕ → ℕ → List ℕ → List ℕ
+numbered_comment before n behind = before ++ (decimal n ++ behind)
 
 -- the text of a token that looks the same whatever is to its left
-abbrev pub plain_text : (ℕ → List ℕ) → Token → List ℕ
-plain_text replaced (Word b) = word_text replaced b
-plain_text replaced (Number b) = b
-plain_text replaced (Literal b) = b
-plain_text replaced (Verbatim b) = b
-plain_text replaced (Punct b) = b
-plain_text replaced Blank = codes " "
-plain_text replaced Newline = codes "\n"
-plain_text replaced (Head n) = numbered (codes "/*") n (codes ":*/")
-plain_text replaced (Tail n) = numbered (codes "/*:") n (codes "*/")
-plain_text replaced t = []
+abbrev pub plain_bytes : (ℕ → List ℕ) → Token → List ℕ
+plain_bytes replaced (Word b) = word_bytes replaced b
+plain_bytes replaced (Number b) = b
+plain_bytes replaced (Literal b) = b
+plain_bytes replaced (Verbatim b) = b
+plain_bytes replaced (Punct b) = b
+plain_bytes replaced Blank = codes " "
+plain_bytes replaced Newline = codes "\n"
+plain_bytes replaced (Head n) = numbered_comment (codes "/*") n (codes ":*/")
+plain_bytes replaced (Tail n) = numbered_comment (codes "/*:") n (codes "*/")
+plain_bytes replaced t = []
 
 -- in a macro a line goes on after a backslash
-abbrev pub macro_text : (ℕ → List ℕ) → Token → List ℕ
-macro_text replaced Newline = codes " \\\n"
-macro_text replaced t = plain_text replaced t
+abbrev pub macro_token_bytes : (ℕ → List ℕ) → Token → List ℕ
+macro_token_bytes replaced Newline = codes " \\\n"
+macro_token_bytes replaced t = plain_bytes replaced t
 
 abbrev pub macro_line : (ℕ → List ℕ) → List Token → List ℕ
-macro_line replaced ts = codes "#define " ++ (printed (λ left. macro_text replaced) ts ++ codes "\n")
+macro_line replaced ts = codes "#define " ++ (printed_tokens (λ left. macro_token_bytes replaced) ts ++ codes "\n")
 
 -- what printing reads beside the tokens: what stands for a byte from 128 in a word, the names of the files, the macros
 pub record Setting : Type 0 where
@@ -104,21 +108,21 @@ mark_line name line = codes "#line " ++ (decimal line ++ (codes " \"" ++ (quoted
 abbrev pub file_name : Setting → Place → List ℕ
 file_name s p = slice_index_or s.files p.file.0 []
 
-abbrev pub file_text : Setting → Option Token → Token → List ℕ
-file_text s left (Mark p) = begin_line left ++ mark_line (file_name s p) p.line
-file_text s left Defs = begin_line left ++ macro_lines s
-file_text s left t = plain_text s.replaced t
+abbrev pub file_token_bytes : Setting → Option Token → Token → List ℕ
+file_token_bytes s left (Mark p) = begin_line left ++ mark_line (file_name s p) p.line
+file_token_bytes s left Defs = begin_line left ++ macro_lines s
+file_token_bytes s left t = plain_bytes s.replaced t
 
 abbrev pub print : Setting → List Token → List ℕ
-print s ts = printed (file_text s) ts
+print s ts = printed_tokens (file_token_bytes s) ts
 
-abbrev pub last_of : Option Token → List Token → Option Token
-last_of left [] = left
-last_of left (t ∷ ts) = last_of (Some t) ts
+abbrev pub last_token : Option Token → List Token → Option Token
+last_token left [] = left
+last_token left (t ∷ ts) = last_token (Some t) ts
 
 -- the token to the left of what comes after a list
 abbrev pub left_after : List Token → Option Token
-left_after ts = last_of None (kept false ts)
+left_after ts = last_token None (without_joined_layout false ts)
 
 -- all bytes of a file: its last line is ended
 abbrev pub file : Setting → List Token → List ℕ

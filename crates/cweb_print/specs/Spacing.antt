@@ -1,6 +1,7 @@
 -- Whether a blank comes between two tokens that are printed one after the other.
-use Rattle.std.specs.Prelude.{ℕ, Bool, true, false, ◌||◌, ◌&&◌, ◌==◌, not, List, [], codes, if◌then◌else◌, Option, Some, None}
-pub use Rattle.cweb_texts.specs.Borders.{first_is, is_one_of, is_operator, last_is}
+use Rattle.std.specs.Prelude.{ℕ, Bool, true, false, ◌||◌, ◌&&◌, ◌==◌, not, List, [], codes, if◌then◌else◌, Option, Some}
+use Rattle.std.specs.Prelude.{None}
+use Rattle.cweb_texts.specs.Edges.{first_is, is_one_of, is_operator, last_is}
 use Rattle.cweb_store.specs.Parts.{Token, Word, Number, Literal, Verbatim, Punct, Join, Head, Tail}
 
 abbrev pub is_wordlike : Token → Bool

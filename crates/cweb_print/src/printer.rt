@@ -1,35 +1,39 @@
 // The printer.
 ghost use Rattle.std.specs.Prelude.{◌≡◌, ◌<◌, ◌+◌, ◌^◌, [], IsTrue, OnOk, OnErr};
-ghost use Rattle.cweb_files.specs.Device.{Counts};
-ghost use Rattle.cweb_open.specs.Names.{names_of};
-ghost use Rattle.cweb_store.specs.Seen.{seen};
-ghost use Rattle.cweb_gathered.specs.Writing.{Wrote};
-ghost use Rattle.cweb_print.specs.Classes.{added, begin_by, file_by, leaves, placed_text};
-ghost use Rattle.cweb_print.specs.Printers.{IsNamed, setting};
-ghost use Rattle.cweb_print.specs.Printed.{Ends, Moves, Prints, kept_of, setting_of};
+ghost use Rattle.cweb_files.specs.Device.{CountsFailure};
+ghost use Rattle.cweb_input.specs.surface.OpenedFileNames.{opened_file_names};
+ghost use Rattle.cweb_store.specs.surface.TokenModels.{token_model};
+ghost use Rattle.cweb_print.specs.inner.Writing.{Wrote};
+ghost use Rattle.cweb_print.specs.inner.Classes.{added, begin_by, file_by};
+ghost use Rattle.cweb_print.specs.surface.Classes.{left_after_tokens};
+ghost use Rattle.cweb_print.specs.inner.Classes.{own_line_bytes};
+ghost use Rattle.cweb_print.specs.surface.Printers.{MarkFileIsNamed};
+ghost use Rattle.cweb_print.specs.Printers.{setting};
+ghost use Rattle.cweb_print.specs.surface.Printed.{EndsFile, Moves, PrintsToken, left_in_printer};
+ghost use Rattle.cweb_print.specs.surface.Printed.{setting_of};
 
-pub mod borders;
+pub mod buffered;
 pub mod class;
 pub mod defines;
+pub mod direct;
+pub mod direct_range;
+pub mod edges;
 pub mod finishing;
-pub mod gathering;
 pub mod left;
-pub mod lent;
 pub mod macros;
 pub mod mark;
+pub mod plain;
 pub mod rare;
-pub mod run;
-pub mod text;
 
+use crate::chunks::write_chunk;
 use crate::printer::class::Class;
+use crate::printer::direct::DirectToken;
 use crate::printer::left::Left;
-use crate::printer::lent::Lent;
 use crate::printer::macros::write_macros;
 use crate::printer::mark::write_mark;
-use crate::printer::text::write_plain;
+use crate::printer::plain::write_plain;
 use cweb_files::{Sink, SinkFault};
-use cweb_gathered::write_piece;
-use cweb_open::FileNames;
+use cweb_input::FileNames;
 use cweb_store::{Store, Token};
 
 /// Prints tokens one after another. It keeps no text: only the class of the last token that it printed, and whether a join
@@ -45,8 +49,9 @@ impl<'a> Printer<'a> {
     /// A printer that has printed nothing. It reads the macros and replacements of the store, and the names of the files
     /// that line marks are about.
     pub fn new(store: &'a Store, names: &'a FileNames) -> Printer<'a>
-        ensures setting { setting_of result ≡ setting store.entry.now (names_of names.entry.now) }
-        ensures left { leaves [] ≡ kept_of result }
+        ensures setting { setting_of result
+            ≡ setting store.entry.now (opened_file_names names.entry.now) }
+        ensures left { left_after_tokens [] ≡ left_in_printer result }
     {
         Printer {
             store,
@@ -60,16 +65,17 @@ impl<'a> Printer<'a> {
     #[inline]
     pub fn write<W: Sink>(&mut self, token: Token<'_>, out: &mut W) -> Result<(), SinkFault>
         requires count { W.failed out.old + 1 < 2 ^ 64 }
-        requires named { IsNamed (setting_of self.old) (seen token) }
+        requires named { MarkFileIsNamed (setting_of self.old) (token_model token) }
         ensures tells { W.tells out.new ≡ W.tells out.old }
-        ensures failed { Counts (W.failed out.old) (W.failed out.new) result }
+        ensures failed { CountsFailure (W.failed out.old) (W.failed out.new) result }
         ensures beside { IsTrue (W.tells out.old) → W.beside out.new ≡ W.beside out.old }
         ensures setting { setting_of self.new ≡ setting_of self.old }
         ensures moves { OnOk result
-            (Moves (kept_of self.old) (seen token.entry) (kept_of self.new)) }
+            (Moves (left_in_printer self.old) (token_model token.entry) (left_in_printer self.new)) }
         ensures err { OnErr result (self.new ≡ self.old) }
         ensures prints { IsTrue (W.tells out.old)
-            → Prints self.old (seen token.entry) (W.written out.old) (W.written out.new) result }
+            → PrintsToken self.old (token_model token.entry) (W.written out.old)
+            (W.written out.new) result }
     {
         self.print(&token, out)
     }
@@ -78,37 +84,39 @@ impl<'a> Printer<'a> {
     pub fn end<W: Sink>(&mut self, out: &mut W) -> Result<(), SinkFault>
         requires { W.failed out.old + 1 < 2 ^ 64 }
         ensures tells { W.tells out.new ≡ W.tells out.old }
-        ensures failed { Counts (W.failed out.old) (W.failed out.new) result }
+        ensures failed { CountsFailure (W.failed out.old) (W.failed out.new) result }
         ensures beside { IsTrue (W.tells out.old) → W.beside out.new ≡ W.beside out.old }
         ensures setting { setting_of self.new ≡ setting_of self.old }
-        ensures left { OnOk result (leaves [] ≡ kept_of self.new) }
+        ensures left { OnOk result (left_after_tokens [] ≡ left_in_printer self.new) }
         ensures err { OnErr result (self.new ≡ self.old) }
         ensures ends { IsTrue (W.tells out.old)
-            → Ends self.old (W.written out.old) (W.written out.new) result }
+            → EndsFile self.old (W.written out.old) (W.written out.new) result }
     {
-        write_piece(out, self.begin_line())?;
+        write_chunk(out, self.begin_line())?;
         self.left = Left::start();
         Ok(())
     }
 
     fn print<W: Sink>(&mut self, token: &Token<'_>, out: &mut W) -> Result<(), SinkFault>
         requires count { W.failed out.old + 1 < 2 ^ 64 }
-        requires named { IsNamed (setting_of self.old) (seen token.now) }
+        requires named { MarkFileIsNamed (setting_of self.old) (token_model token.now) }
         ensures tells { W.tells out.new ≡ W.tells out.old }
-        ensures failed { Counts (W.failed out.old) (W.failed out.new) result }
+        ensures failed { CountsFailure (W.failed out.old) (W.failed out.new) result }
         ensures beside { IsTrue (W.tells out.old) → W.beside out.new ≡ W.beside out.old }
         ensures setting { setting_of self.new ≡ setting_of self.old }
-        ensures moves { OnOk result (Moves (kept_of self.old) (seen token.now) (kept_of self.new)) }
+        ensures moves { OnOk result
+            (Moves (left_in_printer self.old) (token_model token.now) (left_in_printer self.new)) }
         ensures err { OnErr result (self.new ≡ self.old) }
         ensures prints { IsTrue (W.tells out.old)
-            → Prints self.old (seen token.now) (W.written out.old) (W.written out.new) result }
+            → PrintsToken self.old (token_model token.now) (W.written out.old)
+            (W.written out.new) result }
     {
-        let Some(lent) = Lent::of(self.left, token) else {
+        let Some(direct) = DirectToken::of(self.left, token) else {
             return self.print_other(token, out);
         };
-        lent.write(out)?;
+        direct.write(out)?;
         self.left = Left {
-            class: lent.class,
+            class: direct.class,
             joined: false,
         };
         Ok(())
@@ -118,15 +126,17 @@ impl<'a> Printer<'a> {
     #[inline(never)]
     fn print_other<W: Sink>(&mut self, token: &Token<'_>, out: &mut W) -> Result<(), SinkFault>
         requires count { W.failed out.old + 1 < 2 ^ 64 }
-        requires named { IsNamed (setting_of self.old) (seen token.now) }
+        requires named { MarkFileIsNamed (setting_of self.old) (token_model token.now) }
         ensures tells { W.tells out.new ≡ W.tells out.old }
-        ensures failed { Counts (W.failed out.old) (W.failed out.new) result }
+        ensures failed { CountsFailure (W.failed out.old) (W.failed out.new) result }
         ensures beside { IsTrue (W.tells out.old) → W.beside out.new ≡ W.beside out.old }
         ensures setting { setting_of self.new ≡ setting_of self.old }
-        ensures moves { OnOk result (Moves (kept_of self.old) (seen token.now) (kept_of self.new)) }
+        ensures moves { OnOk result
+            (Moves (left_in_printer self.old) (token_model token.now) (left_in_printer self.new)) }
         ensures err { OnErr result (self.new ≡ self.old) }
         ensures prints { IsTrue (W.tells out.old)
-            → Prints self.old (seen token.now) (W.written out.old) (W.written out.new) result }
+            → PrintsToken self.old (token_model token.now) (W.written out.old)
+            (W.written out.new) result }
     {
         self.write_token(token, out)?;
         self.left = self.left.after(token);
@@ -135,18 +145,19 @@ impl<'a> Printer<'a> {
 
     fn write_token<W: Sink>(&self, token: &Token<'_>, out: &mut W) -> Result<(), SinkFault>
         requires count { W.failed out.old + 1 < 2 ^ 64 }
-        requires named { IsNamed (setting_of self.now) (seen token.now) }
+        requires named { MarkFileIsNamed (setting_of self.now) (token_model token.now) }
         ensures tells { W.tells out.new ≡ W.tells out.old }
-        ensures failed { Counts (W.failed out.old) (W.failed out.new) result }
+        ensures failed { CountsFailure (W.failed out.old) (W.failed out.new) result }
         ensures beside { IsTrue (W.tells out.old) → W.beside out.new ≡ W.beside out.old }
         ensures wrote { IsTrue (W.tells out.old)
             → Wrote (W.written out.old) (W.written out.new)
-            (added (file_by (setting_of self.now)) (kept_of self.now) (seen token.now)) result }
+            (added (file_by (setting_of self.now)) (left_in_printer self.now)
+            (token_model token.now)) result }
     {
         if self.left.drops(token) {
             return Ok(());
         }
-        write_piece(out, self.left.separator(token))?;
+        write_chunk(out, self.left.separator(token))?;
         self.write_placed(token, out)?;
         write_plain(self.store, token, out)
     }
@@ -155,13 +166,14 @@ impl<'a> Printer<'a> {
     #[inline(always)]
     fn write_placed<W: Sink>(&self, token: &Token<'_>, out: &mut W) -> Result<(), SinkFault>
         requires count { W.failed out.old + 1 < 2 ^ 64 }
-        requires named { IsNamed (setting_of self.now) (seen token.now) }
+        requires named { MarkFileIsNamed (setting_of self.now) (token_model token.now) }
         ensures tells { W.tells out.new ≡ W.tells out.old }
-        ensures failed { Counts (W.failed out.old) (W.failed out.new) result }
+        ensures failed { CountsFailure (W.failed out.old) (W.failed out.new) result }
         ensures beside { IsTrue (W.tells out.old) → W.beside out.new ≡ W.beside out.old }
         ensures wrote { IsTrue (W.tells out.old)
             → Wrote (W.written out.old) (W.written out.new)
-            (placed_text (setting_of self.now) (kept_of self.now).class (seen token.now))
+            (own_line_bytes (setting_of self.now) (left_in_printer self.now).class
+            (token_model token.now))
             result }
     {
         match token {
@@ -170,7 +182,7 @@ impl<'a> Printer<'a> {
                 write_mark(self.begin_line(), name, place.line, out)
             }
             Token::Defs => {
-                write_piece(out, self.begin_line())?;
+                write_chunk(out, self.begin_line())?;
                 write_macros(self.store, out)
             }
             _ => Ok(()),
@@ -179,7 +191,7 @@ impl<'a> Printer<'a> {
 
     // A newline, unless at the start of a line.
     fn begin_line(&self) -> &'static [u8]
-        ensures { result.now ≡ begin_by (kept_of self.now).class }
+        ensures { result.now ≡ begin_by (left_in_printer self.now).class }
     {
         match self.left.class {
             Class::LineStart => b"",

@@ -1,5 +1,5 @@
 -- What stands at the front of a text is what the first rule that fits names.
-use Rattle.cweb_rules.proofs.Common.{◌≡◌, ℕ, Bool, true, false, ◌&&◌, List, refl, codes, if◌then◌else◌, is_blank, is_line_end, is_word_byte, begins, first_is, starts_section, c_front, starts_raw, starts_literal, starts_include, Front, c_rule, c_front_by, starts_number, Effect, Rule}
+use Rattle.cweb_rules.proofs.Common.{◌≡◌, ℕ, Bool, true, false, ◌&&◌, List, refl, codes, if◌then◌else◌, is_blank, is_line_end, is_word_byte, begins, first_is, starts_section, c_match, starts_raw, starts_literal, starts_include, RuleMatch, c_rule, c_match_by, starts_number, Effect, Rule}
 
 -- one test more
 pub by_test : {R S : Type 0} (f : R → S) (v : Bool) (x : R) (y : S) (z : R)
@@ -8,9 +8,9 @@ by_test f true x y z h = refl
 by_test f false x y z h = h
 
 pub c_front-by : (effect : ℕ → Effect) (takes_sign includes : Bool) (t : List ℕ)
-    → c_front effect takes_sign includes t ≡ c_front_by effect takes_sign t (c_rule includes t)
+    → c_match effect takes_sign includes t ≡ c_match_by effect takes_sign t (c_rule includes t)
 c_front-by effect takes_sign includes t =
-    let f : Rule → Front = c_front_by effect takes_sign t in
+    let f : Rule → RuleMatch = c_match_by effect takes_sign t in
     by_test f (first_is is_blank t) _ _ _ (by_test f (first_is is_line_end t) _ _ _ (by_test f (begins (codes "/*") t)
     _ _ _ (by_test f (begins (codes "//") t) _ _ _ (by_test f (starts_section t) _ _ _ (by_test f (begins (codes "@") t)
     _ _ _ (by_test f (starts_raw t) _ _ _ (by_test f (starts_literal t) _ _ _ (by_test f (includes && starts_include t)

@@ -1,13 +1,13 @@
 -- Where nothing is seen that opens an item, none stays open.
-use Rattle.cweb_rules.proofs.Common.{◌≡◌, ◌<◌, ℕ, ◌+◌, Bool, true, false, ◌&&◌, ◌||◌, ◌==◌, List, [], ◌∷◌, refl, ap, sym, ◌∙◌, arith, nat_le, list_any, eqb-true, leb-true, is_one_of, lower, Effect, Nothing, Named, Row, table, row_of, in_text, in_macro, in_c, opens_effect, or_right, and_parts}
+use Rattle.cweb_rules.proofs.Common.{◌≡◌, ◌<◌, ℕ, ◌+◌, Bool, true, false, ◌&&◌, ◌||◌, ◌==◌, List, [], ◌∷◌, refl, ap, sym, ◌∙◌, arith, nat_le, list_any, eqb-true, leb-true, is_one_of, lower, Effect, Nothing, Named, CodeEntry, code_table, entry_for, in_tex, in_macro, in_c, opens_effect, or_right, and_parts}
 
 abbrev pub is_named : Effect → Bool
 is_named Named = true
 is_named e = false
 
 -- a code that has an effect stands in a row that has it
-row-named : (col : Row → Effect) (rs : List Row) (l : ℕ) → col (row_of [] l) ≡ Nothing
-    → is_named (col (row_of rs l)) ≡ true → list_any (λ r. is_named (col r) && is_one_of r.letters l) rs ≡ true
+row-named : (col : CodeEntry → Effect) (rs : List CodeEntry) (l : ℕ) → col (entry_for [] l) ≡ Nothing
+    → is_named (col (entry_for rs l)) ≡ true → list_any (λ r. is_named (col r) && is_one_of r.letters l) rs ≡ true
 row-named col [] l none h = sym (ap is_named none) ∙ h
 row-named col (r ∷ rs) l none h = grind (arith, is_named, row-named col rs l none)
 
@@ -25,13 +25,13 @@ two b h = or_elim
     or_elim (40 == lower b) false _ g (λ k. or_right (60 == b) (40 == b) (lowered 40 b (omega arith) k)) (λ k. cc))
 
 pub c_named : (b : ℕ) → is_named (in_c b) ≡ true → ((60 == b) || (40 == b)) ≡ true
-c_named b h = two b (or_elim _ _ _ (row-named (λ r. r.in_c) table (lower b) refl h) (λ g. g) (λ g. cc))
+c_named b h = two b (or_elim _ _ _ (row-named (λ r. r.in_c) code_table (lower b) refl h) (λ g. g) (λ g. cc))
 
 pub macro_named : (b : ℕ) → is_named (in_macro b) ≡ true → ((60 == b) || (40 == b)) ≡ true
-macro_named b h = two b (or_elim _ _ _ (row-named (λ r. r.in_macro) table (lower b) refl h) (λ g. g) (λ g. cc))
+macro_named b h = two b (or_elim _ _ _ (row-named (λ r. r.in_macro) code_table (lower b) refl h) (λ g. g) (λ g. cc))
 
-pub text_named : (b : ℕ) → is_named (in_text b) ≡ true → ((60 == b) || (40 == b)) ≡ true
-text_named b h = two b (or_elim _ _ _ (row-named (λ r. r.in_text) table (lower b) refl h) (λ g. g) (λ g. cc))
+pub text_named : (b : ℕ) → is_named (in_tex b) ≡ true → ((60 == b) || (40 == b)) ≡ true
+text_named b h = two b (or_elim _ _ _ (row-named (λ r. r.in_tex) code_table (lower b) refl h) (λ g. g) (λ g. cc))
 
 pub unnamed : (e : Effect) (t : List ℕ) → is_named e ≡ false → opens_effect e t ≡ false
 unnamed Named t h = cc

@@ -1,5 +1,5 @@
 -- A literal ends by itself.
-use Rattle.cweb_rules.proofs.Common.{◌≡◌, ℕ, ◌+◌, ◌-◌, ◌<◌, ◌≤◌, suc, zero, Bool, true, false, cond, ◌&&◌, ◌||◌, ◌==◌, List, [], ◌∷◌, ◌++◌, length, take, drop, refl, ap, sym, ◌∙◌, subst, arith, codes, eqb-true, begins, at_line_end, in_c, Reach, reach_in, with_unit, size_of, Look, Goes, Ends, literal, look_in_literal, Closed, Cut, c_front, literal_at, quoted, is_quoted, literal_prefix, starts_literal, quote_of, starts_raw, raw_at, and_parts, and-false, drop-append-le}
+use Rattle.cweb_rules.proofs.Common.{◌≡◌, ℕ, ◌+◌, ◌-◌, ◌<◌, ◌≤◌, suc, zero, Bool, true, false, cond, ◌&&◌, ◌||◌, ◌==◌, List, [], ◌∷◌, ◌++◌, length, take, drop, refl, ap, sym, ◌∙◌, subst, arith, codes, eqb-true, begins, at_line_end, in_c, Reach, reach_in, with_unit, reach_size, Look, Goes, Ends, reach_of_literal, look_in_literal, Closed, Cut, c_match, literal_match, quoted_match, has_quote_at, literal_prefix, starts_literal, quote_of, starts_raw, raw_match, and_parts, and-false, drop-append-le}
 use Rattle.cweb_rules.proofs.Chosen.{Passed, passed_front}
 use Rattle.cweb_rules.proofs.Raws.{quoted_stays, raw_stays, ends_raw}
 use Rattle.cweb_rules.proofs.Stays.{opening, opens, is_letter_first}
@@ -55,14 +55,14 @@ either : (a b : Bool) (P : Type 0) → (a || b) ≡ true → (a ≡ true → P) 
 either true b P h f g = f refl
 either false b P h f g = g h
 
-pub is_a_quote : (b : ℕ) (P : ℕ → Type 0) → is_quoted 0 (b ∷ []) ≡ true → P 34 → P 39 → P b
+pub is_a_quote : (b : ℕ) (P : ℕ → Type 0) → has_quote_at 0 (b ∷ []) ≡ true → P 34 → P 39 → P b
 is_a_quote b P h x y = either ((34 == b) && true) ((39 == b) && true) (P b) h (λ e. subst P
     (eqb-true 34 b (and_parts (34 == b) true e).0) x) (λ e. subst P (eqb-true 39 b (and_parts (39 == b) true e).0) y)
 
-quote_first : (b : ℕ) (t u : List ℕ) → is_quoted 0 (b ∷ []) ≡ true → literal_prefix (b ∷ t) ≡ literal_prefix (b ∷ u)
+quote_first : (b : ℕ) (t u : List ℕ) → has_quote_at 0 (b ∷ []) ≡ true → literal_prefix (b ∷ t) ≡ literal_prefix (b ∷ u)
 quote_first b t u h = is_a_quote b (λ n. literal_prefix (n ∷ t) ≡ literal_prefix (n ∷ u)) h refl refl
 
-prefix_one : (b : ℕ) (more : List ℕ) (c : ℕ) → is_quoted 0 (c ∷ []) ≡ true
+prefix_one : (b : ℕ) (more : List ℕ) (c : ℕ) → has_quote_at 0 (c ∷ []) ≡ true
     → literal_prefix (b ∷ c ∷ more) ≡ literal_prefix (b ∷ c ∷ [])
 prefix_one b more c h = grind (arith, is_a_quote c, is_letter_first (b ∷ []), and-false (117 == b))
 
@@ -77,30 +77,30 @@ prefix_stays : (b : ℕ) (t more : List ℕ) → starts_literal (b ∷ t) ≡ tr
 prefix_stays b [] more h = grind (arith, is_letter_first, and-false (117 == b), opening, quote_first b more)
 prefix_stays b (c ∷ []) more h =
     let t = b ∷ c ∷ [] in
-    let e : cond (is_letter_first t && is_quoted 1 t) (is_quoted 1 t) (is_quoted 0 t) ≡ true =
-    sym (ap (λ v. cond v false (cond (is_letter_first t && is_quoted 1 t) (is_quoted 1 t) (is_quoted 0 t)))
+    let e : cond (is_letter_first t && has_quote_at 1 t) (has_quote_at 1 t) (has_quote_at 0 t) ≡ true =
+    sym (ap (λ v. cond v false (cond (is_letter_first t && has_quote_at 1 t) (has_quote_at 1 t) (has_quote_at 0 t)))
     (and-false (begins (codes "u8") t)))
     ∙ sym (opening t)
     ∙ h in
-    by_second (is_letter_first t) (is_quoted 1 t) (is_quoted 0 t) (literal_prefix (b ∷ c ∷ more)
+    by_second (is_letter_first t) (has_quote_at 1 t) (has_quote_at 0 t) (literal_prefix (b ∷ c ∷ more)
     ≡ literal_prefix (b ∷ c ∷ [])) e (λ q. prefix_one b more c q) (λ q. quote_first b (c ∷ more) (c ∷ []) q)
 prefix_stays b (c ∷ e ∷ t) more h = refl
 
 -- THE WHOLE LITERAL
 
-quote_within : (n : ℕ) (t more : List ℕ) → is_quoted n t ≡ true
-    → (n < length t) × (is_quoted n (t ++ more) ≡ true) × (quote_of (drop n (t ++ more)) ≡ quote_of (drop n t))
+quote_within : (n : ℕ) (t more : List ℕ) → has_quote_at n t ≡ true
+    → (n < length t) × (has_quote_at n (t ++ more) ≡ true) × (quote_of (drop n (t ++ more)) ≡ quote_of (drop n t))
 quote_within zero [] more h = cc
 quote_within (suc n) [] more h = cc
 quote_within zero (b ∷ t) more h = (omega arith, h, refl)
 quote_within (suc n) (b ∷ t) more h = let i = quote_within n t more h in (omega (arith, i.0), i.1, i.2)
 
 abbrev pub inside : ℕ → List ℕ → Reach
-inside n t = literal (quote_of (drop n t)) (drop (n + 1) t)
+inside n t = reach_of_literal (quote_of (drop n t)) (drop (n + 1) t)
 
-literal_with : (n : ℕ) (t more : List ℕ) → is_quoted n t ≡ true
-    → (inside n t).how ≡ Closed → (n + 1) + size_of (inside n t) ≤ length t
-    → quoted (n + 1) (inside n (t ++ more)) (t ++ more) ≡ quoted (n + 1) (inside n t) t
+literal_with : (n : ℕ) (t more : List ℕ) → has_quote_at n t ≡ true
+    → (inside n t).how ≡ Closed → (n + 1) + reach_size (inside n t) ≤ length t
+    → quoted_match (n + 1) (inside n (t ++ more)) (t ++ more) ≡ quoted_match (n + 1) (inside n t) t
 literal_with n t more q closed within =
     grind (
       arith,
@@ -114,17 +114,17 @@ not_slash : (b : ℕ) (t : List ℕ) → starts_literal (b ∷ t) ≡ true → (
 not_slash b t h = grind (arith, eqb-true 47 b)
 
 pub literal_front : (t : List ℕ) → Passed t → starts_raw t ≡ false
-    → starts_literal t ≡ true → c_front in_c false false t ≡ literal_at t
+    → starts_literal t ≡ true → c_match in_c false false t ≡ literal_match t
 literal_front t p r q = cc (passed_front t p)
 
-pub raw_front : (t : List ℕ) → Passed t → starts_raw t ≡ true → c_front in_c false false t ≡ raw_at t
+pub raw_front : (t : List ℕ) → Passed t → starts_raw t ≡ true → c_match in_c false false t ≡ raw_match t
 raw_front t p r = cc (passed_front t p)
 
 abbrev pub ends_closed : List ℕ → Type 0
-ends_closed t = let n = literal_prefix t in ((inside n t).how ≡ Closed) × ((n + 1) + size_of (inside n t) ≤ length t)
+ends_closed t = let n = literal_prefix t in ((inside n t).how ≡ Closed) × ((n + 1) + reach_size (inside n t) ≤ length t)
 
 -- the literal's quote stands where a raw literal has its `R`, or right after its prefix
-quote_no_raw : (b : ℕ) (t : List ℕ) → is_quoted 0 (b ∷ []) ≡ true → starts_raw (b ∷ t) ≡ false
+quote_no_raw : (b : ℕ) (t : List ℕ) → has_quote_at 0 (b ∷ []) ≡ true → starts_raw (b ∷ t) ≡ false
 quote_no_raw b t h = is_a_quote b (λ n. starts_raw (n ∷ t) ≡ false) h refl refl
 
 by_prefix : (u8 letter q2 q1 q0 : Bool) (P : Type 0) → opens u8 letter q2 q1 q0 ≡ true
@@ -137,37 +137,37 @@ by_prefix false true q2 true q0 P h f g k = g refl refl
 by_prefix false true q2 false q0 P h f g k = k h
 by_prefix false false q2 q1 q0 P h f g k = k h
 
-after_u8 : (t : List ℕ) → begins (codes "u8") t ≡ true → is_quoted 2 t ≡ true → starts_raw t ≡ false
+after_u8 : (t : List ℕ) → begins (codes "u8") t ≡ true → has_quote_at 2 t ≡ true → starts_raw t ≡ false
 after_u8 [] u q = cc
 after_u8 (b ∷ []) u q = cc
 after_u8 (b ∷ c ∷ []) u q = cc
 after_u8 (b ∷ c ∷ e ∷ t) u q = grind (arith, eqb-true 117 b, eqb-true 56 c, and_parts (56 == c) true, is_a_quote e)
 
-after_letter : (t : List ℕ) → is_letter_first t ≡ true → is_quoted 1 t ≡ true → starts_raw t ≡ false
+after_letter : (t : List ℕ) → is_letter_first t ≡ true → has_quote_at 1 t ≡ true → starts_raw t ≡ false
 after_letter [] l q = cc
 after_letter (b ∷ []) l q = cc
 after_letter (b ∷ c ∷ t) l q = grind (arith, eqb-true 76 b, eqb-true 117 b, eqb-true 85 b, is_a_quote c)
 
-after_quote : (t : List ℕ) → is_quoted 0 t ≡ true → starts_raw t ≡ false
+after_quote : (t : List ℕ) → has_quote_at 0 t ≡ true → starts_raw t ≡ false
 after_quote [] q = cc
 after_quote (b ∷ t) q = quote_no_raw b t q
 
 literal_not_raw : (t : List ℕ) → starts_literal t ≡ true → starts_raw t ≡ false
-literal_not_raw t h = by_prefix (begins (codes "u8") t) (is_letter_first t) (is_quoted 2 t) (is_quoted 1 t)
-    (is_quoted 0 t) (starts_raw t ≡ false) (sym (opening t) ∙ h) (after_u8 t) (after_letter t) (after_quote t)
+literal_not_raw t h = by_prefix (begins (codes "u8") t) (is_letter_first t) (has_quote_at 2 t) (has_quote_at 1 t)
+    (has_quote_at 0 t) (starts_raw t ≡ false) (sym (opening t) ∙ h) (after_u8 t) (after_letter t) (after_quote t)
 
 -- a literal that isn't raw doesn't become raw: its prefix ends in a quote
 pub literal_stays_whole : (b : ℕ) (t more : List ℕ) → Passed (b ∷ t)
     → starts_raw (b ∷ t) ≡ false → starts_literal (b ∷ t) ≡ true → ends_closed (b ∷ t)
-    → c_front in_c false false (b ∷ t ++ more) ≡ c_front in_c false false (b ∷ t)
+    → c_match in_c false false (b ∷ t ++ more) ≡ c_match in_c false false (b ∷ t)
 literal_stays_whole b t more p r q ends =
     let d = b ∷ t in
     let n = literal_prefix d in
     let same = prefix_stays b t more q in
     let starts : starts_literal (d ++ more) ≡ true =
-    ap (λ k. is_quoted k (d ++ more)) same ∙ (quote_within n d more q).1 in
+    ap (λ k. has_quote_at k (d ++ more)) same ∙ (quote_within n d more q).1 in
     literal_front (d ++ more) (passes b t more (not_slash b t q) p) (literal_not_raw (d ++ more) starts) starts
-    ∙ ap (λ k. quoted (k + 1) (inside k (d ++ more)) (d ++ more)) same
+    ∙ ap (λ k. quoted_match (k + 1) (inside k (d ++ more)) (d ++ more)) same
     ∙ literal_with n d more q ends.0 ends.1
     ∙ sym (literal_front d p r q)
 
@@ -175,7 +175,7 @@ no_raw_slash : (b : ℕ) (t : List ℕ) → starts_raw (b ∷ t) ≡ true → (4
 no_raw_slash b t h = grind (arith, eqb-true 47 b)
 
 pub raw_stays_whole : (b : ℕ) (t more : List ℕ) → Passed (b ∷ t) → starts_raw (b ∷ t) ≡ true
-    → ends_raw (b ∷ t) → c_front in_c false false (b ∷ t ++ more) ≡ c_front in_c false false (b ∷ t)
+    → ends_raw (b ∷ t) → c_match in_c false false (b ∷ t ++ more) ≡ c_match in_c false false (b ∷ t)
 raw_stays_whole b t more p r ends =
     let d = b ∷ t in
     let s = raw_stays d more r ends in

@@ -1,5 +1,5 @@
 -- A first byte that leaves but one rule of C text tells it.
-use Rattle.cweb_rules.proofs.Common.{◌≡◌, ℕ, Bool, true, false, ◌||◌, ◌&&◌, ◌==◌, not, ◌≤◌, List, [], ◌∷◌, length, slice_index_or, refl, ap, sym, ◌∙◌, subst, arith, if◌then◌else◌, codes, list_all, eqb-true, begins, is_blank, is_digit, is_one_of, is_word_byte, starts_section, is_quoted, literal_prefix, raw_prefix, starts_include, starts_literal, starts_raw, behind_dot, behind_slash, lead, c_rule, is_settled, starts_number, Lead, and-false, and_parts}
+use Rattle.cweb_rules.proofs.Common.{◌≡◌, ℕ, Bool, true, false, ◌||◌, ◌&&◌, ◌==◌, not, ◌≤◌, List, [], ◌∷◌, length, slice_index_or, refl, ap, sym, ◌∙◌, subst, arith, if◌then◌else◌, codes, list_all, eqb-true, begins, is_blank, is_digit, is_one_of, is_word_byte, starts_section, has_quote_at, literal_prefix, raw_prefix, starts_include, starts_literal, starts_raw, rule_after_dot, rule_after_slash, lead, c_rule, is_settled, starts_number, Lead, and-false, and_parts}
 use Rattle.cweb_rules.specs.declared.rule.Lead.TheVariants as first
 use Rattle.cweb_rules.specs.declared.rule.Rule.TheVariants as rule
 use Rattle.cweb_rules.proofs.Seams.{differs}
@@ -44,7 +44,8 @@ module _ (b : ℕ) (settled : is_settled b ≡ true) where
   no_prefix t = grind (arith, no_sign 76, no_sign 117, no_sign 85)
 
   no_literal : (t : List ℕ) → starts_literal (b ∷ t) ≡ false
-  no_literal t = ap (λ n. is_quoted n (b ∷ t)) (no_prefix t) ∙ (λ i. no_sign 34 [] t refl i || no_sign 39 [] t refl i)
+  no_literal t = ap (λ n. has_quote_at n (b ∷ t)) (no_prefix t)
+      ∙ (λ i. no_sign 34 [] t refl i || no_sign 39 [] t refl i)
 
   no_include : (includes : Bool) (t : List ℕ) → (includes && starts_include (b ∷ t)) ≡ false
   no_include includes t = grind (arith, no_sign 60, and-false includes)
@@ -70,24 +71,25 @@ if_true false x y h = cc
 abbrev pub IsTold : Bool → List ℕ → Lead → Type 0
 IsTold includes t first.Blank = rule.Blanks ≡ c_rule includes t
 IsTold includes t first.Word = rule.Identifier ≡ c_rule includes t
-IsTold includes t first.Sign = rule.Punctuator ≡ c_rule includes t
+IsTold includes t first.Operator = rule.Punctuator ≡ c_rule includes t
 IsTold includes t first.Open = Unit {0}
 
 told-settled : (includes : Bool) (b : ℕ) (t : List ℕ) → is_settled b ≡ true
-    → IsTold includes (b ∷ t) (if is_word_byte b then first.Word else first.Sign)
+    → IsTold includes (b ∷ t) (if is_word_byte b then first.Word else first.Operator)
 told-settled includes b t settled = grind (arith, IsTold includes (b ∷ t), settled-rule b settled includes t)
 
 told-unblank : (includes : Bool) (b : ℕ) (t : List ℕ)
-    → IsTold includes (b ∷ t) (if is_settled b then (if is_word_byte b then first.Word else first.Sign) else first.Open)
+    → IsTold includes (b ∷ t)
+    (if is_settled b then (if is_word_byte b then first.Word else first.Operator) else first.Open)
 told-unblank includes b t = (elim (is_settled b) as (λ v. is_settled b ≡ v
-    → IsTold includes (b ∷ t) (if v then (if is_word_byte b then first.Word else first.Sign) else first.Open)) [
+    → IsTold includes (b ∷ t) (if v then (if is_word_byte b then first.Word else first.Operator) else first.Open)) [
       | true ↦ λ e. told-settled includes b t e
       | false ↦ λ e. tt
     ]) refl
 
 pub lead-told : (includes : Bool) (b : ℕ) (t : List ℕ) → IsTold includes (b ∷ t) (lead b)
 lead-told includes b t = (elim (is_blank b) as (λ v. is_blank b ≡ v → IsTold includes (b ∷ t) (if v then first.Blank
-    else (if is_settled b then (if is_word_byte b then first.Word else first.Sign) else first.Open))) [
+    else (if is_settled b then (if is_word_byte b then first.Word else first.Operator) else first.Open))) [
       | true ↦ λ e. sym (if_true (is_blank b) rule.Blanks _ e)
       | false ↦ λ e. told-unblank includes b t
     ]) refl
@@ -111,20 +113,20 @@ dot_left : (a includes : Bool) → (if a then rule.Number else rule.Punctuator)
 dot_left a true = refl
 dot_left a false = refl
 
-slash_rule : (includes : Bool) (d : ℕ) (t : List ℕ) → behind_slash d ≡ c_rule includes (47 ∷ d ∷ t)
+slash_rule : (includes : Bool) (d : ℕ) (t : List ℕ) → rule_after_slash d ≡ c_rule includes (47 ∷ d ∷ t)
 slash_rule includes d t = slash_left (42 == d) (47 == d) includes
 
-dot_rule : (includes : Bool) (d : ℕ) (t : List ℕ) → behind_dot d ≡ c_rule includes (46 ∷ d ∷ t)
+dot_rule : (includes : Bool) (d : ℕ) (t : List ℕ) → rule_after_dot d ≡ c_rule includes (46 ∷ d ∷ t)
 dot_rule includes d t = dot_left (is_digit d) includes
 
 pub slash-told : (includes : Bool) (t : List ℕ) → 2 ≤ length t → slice_index_or t 0 0 ≡ 47
-    → behind_slash (slice_index_or t 1 0) ≡ c_rule includes t
+    → rule_after_slash (slice_index_or t 1 0) ≡ c_rule includes t
 slash-told includes [] h e = absurd (omega (arith, h))
 slash-told includes (b ∷ []) h e = absurd (omega (arith, h))
 slash-told includes (b ∷ d ∷ t) h e = cc (slash_rule includes d t)
 
 pub dot-told : (includes : Bool) (t : List ℕ) → 2 ≤ length t → slice_index_or t 0 0 ≡ 46
-    → behind_dot (slice_index_or t 1 0) ≡ c_rule includes t
+    → rule_after_dot (slice_index_or t 1 0) ≡ c_rule includes t
 dot-told includes [] h e = absurd (omega (arith, h))
 dot-told includes (b ∷ []) h e = absurd (omega (arith, h))
 dot-told includes (b ∷ d ∷ t) h e = cc (dot_rule includes d t)

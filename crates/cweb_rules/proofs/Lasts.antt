@@ -1,5 +1,5 @@
 -- An item with its end sign stands in its text.
-use Rattle.cweb_rules.proofs.Common.{◌≤◌, ℕ, List, length, codes, begins, at_line_end, reach, size_of, Open, Item, Name, LineComment, Literal, IncludedName, RawLiteral, look_of, arith}
+use Rattle.cweb_rules.proofs.Common.{◌≤◌, ℕ, List, length, codes, begins, at_line_end, reach, reach_size, Open, Item, Name, LineComment, Literal, IncludedName, RawLiteral, look_of, arith}
 use Rattle.cweb_rules.specs.declared.items.Item.TheVariants.{ControlText, Comment}
 use Rattle.cweb_rules.proofs.Sizes.{IsWithin, reach-size, begins-size, control-within, name-within, comment-within, literal-within, include-within, raw-within}
 
@@ -12,5 +12,5 @@ item-within (Literal quote) = literal-within quote
 item-within IncludedName = include-within
 item-within (RawLiteral sign) = raw-within sign.now
 
-pub reach-fits : (item : Item) (t : List ℕ) → size_of (reach (look_of item) Open t) ≤ length t
+pub reach-fits : (item : Item) (t : List ℕ) → reach_size (reach (look_of item) Open t) ≤ length t
 reach-fits item t = reach-size (look_of item) Open (item-within item) t

@@ -1,3 +1,6 @@
+pub mod Walks
+mod FirstTable
+mod WholeLiterals
 pub mod Common
 pub mod Longest
 mod Seconds
@@ -8,18 +11,18 @@ pub mod ByRules
 pub mod Reaches
 pub mod Looks
 pub mod Ranges
-pub mod PlainRuns
-pub mod FairItems
-pub mod Fairs
+pub mod PlainSpans
+pub mod ItemMatchesPay
+pub mod MatchesPay
 pub mod LineComments
 pub mod LineConstants
 pub mod LineCodes
 pub mod LineLiterals
 pub mod LineDelimiters
-pub mod LineFronts
+pub mod LineMatches
 pub mod InLines
 pub mod Closed
-mod Rows
+mod MatchExamples
 pub mod Lasts
 pub mod Chosen
 pub mod Joins
@@ -29,9 +32,9 @@ pub mod TokensStay
 pub mod ClosedLiterals
 pub mod Comments
 pub mod Tokens
-mod FollowRows
+mod FollowExamples
 pub mod UnitNewlines
 pub mod Newlines
 pub mod FirstBytes
 pub mod WordTable
-pub mod WordRuns
+pub mod WordSpans

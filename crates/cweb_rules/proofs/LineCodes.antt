@@ -1,5 +1,5 @@
 -- What the rules of codes name in a line doesn't depend on what comes after it.
-use Rattle.cweb_rules.proofs.Common.{◌≡◌, ◌≤◌, ℕ, ◌+◌, Bool, false, ◌||◌, ◌==◌, List, [], ◌∷◌, ◌++◌, Option, Some, None, length, take, drop, refl, ap, ◌∙◌, arith, if◌then◌else◌, codes, nat_le, nat_lt, take-append-le, drop-append-le, length-drop, prefix_len-le-length, begins, is_gap, Effect, Named, letter, Transliteration, Reach, size_of, End, Closed, Cut, name, opener_sign, look_in_name, Letter, Occurrence, Front, front, letter_is, sign_after, name_at, code_front, code_at, AtLineEnd, opens_name, opens_effect, opens_code}
+use Rattle.cweb_rules.proofs.Common.{◌≡◌, ◌≤◌, ℕ, ◌+◌, Bool, false, ◌||◌, ◌==◌, List, [], ◌∷◌, ◌++◌, Option, Some, None, length, take, drop, refl, ap, ◌∙◌, arith, if◌then◌else◌, codes, nat_le, nat_lt, take-append-le, drop-append-le, length-drop, prefix_len-le-length, begins, is_gap, Effect, Named, letter, Transliteration, Reach, reach_size, End, Closed, Cut, reach_of_name, opener_len, look_in_name, Letter, Occurrence, RuleMatch, rule_match, found_letter_match, opener_after, name_match, effect_match, code_match, AtLineEnd, opens_name, opens_effect, opens_code}
 use Rattle.cweb_rules.specs.declared.effect.Effect.TheVariants as effect
 use Rattle.cweb_rules.proofs.Seams.{run_line}
 use Rattle.cweb_rules.proofs.Looks.{reach_ends, whole, name-local, name-units}
@@ -8,7 +8,7 @@ use Rattle.cweb_rules.proofs.TokenSizes.{letter-size, IsLetter}
 use Rattle.cweb_rules.proofs.LineConstants.{control_text-line, constant-line, letter-line}
 
 letter_is-line : (o : Option Transliteration) (a b : ℕ) (t more : List ℕ)
-    → IsLetter o (length t) → letter_is o (a ∷ b ∷ t ++ more) ≡ letter_is o (a ∷ b ∷ t)
+    → IsLetter o (length t) → found_letter_match o (a ∷ b ∷ t ++ more) ≡ found_letter_match o (a ∷ b ∷ t)
 letter_is-line None a b t more h = refl
 letter_is-line (Some l) a b t more h =
     let m = 2 + l.start in
@@ -16,39 +16,42 @@ letter_is-line (Some l) a b t more h =
     let same : take l.size (drop m (u ++ more)) ≡ take l.size (drop m u) =
     ap (take l.size) (drop-append-le m u more (omega (arith, h)))
     ∙ take-append-le l.size (drop m u) more (omega (arith, h, length-drop m u)) in
-    λ i. front (Letter l.byte (if nat_le l.size 31 then Some (same i) else None)) (2 + (l.start + l.size))
+    λ i. rule_match (Letter l.byte (if nat_le l.size 31 then Some (same i) else None)) (2 + (l.start + l.size))
 
 abbrev sign_of : ℕ → ℕ → List ℕ → ℕ
 sign_of gap size u = if (size == 0) || begins (codes "=") (drop size u) then 0 else gap + size
 
-sign-line : (t more : List ℕ) → AtLineEnd more → opener_sign (t ++ more) ≡ opener_sign t
+sign-line : (t more : List ℕ) → AtLineEnd more → opener_len (t ++ more) ≡ opener_len t
 sign-line t more e = grind (arith, run_line is_gap t more refl e, drop-append-le, prefix_len-le-length is_gap t)
 
-pub sign_after-line : (how : End) (t more : List ℕ) → AtLineEnd more → sign_after how (t ++ more) ≡ sign_after how t
-sign_after-line Closed t more e = sign-line t more e
-sign_after-line _ t more e = refl
+pub opener_after-line : (how : End) (t more : List ℕ) → AtLineEnd more
+    → opener_after how (t ++ more) ≡ opener_after how t
+opener_after-line Closed t more e = sign-line t more e
+opener_after-line _ t more e = refl
 
-abbrev named : Bool → Bool → Reach → ℕ → Front
-named is_file takes_sign r sign = front
-    (Occurrence is_file r.units r.how (nat_lt 0 sign)) (if takes_sign then (2 + size_of r) + sign else 2 + size_of r)
+abbrev named : Bool → Bool → Reach → ℕ → RuleMatch
+named is_file takes_sign r sign = rule_match
+    (Occurrence is_file r.units r.how (nat_lt 0 sign))
+    (if takes_sign then (2 + reach_size r) + sign else 2 + reach_size r)
 
 name_at-line : (takes_sign : Bool) (a b : ℕ) (t more : List ℕ) → AtLineEnd more
-    → opens_name (a ∷ b ∷ t) ≡ false → name_at takes_sign (a ∷ b ∷ t ++ more) ≡ name_at takes_sign (a ∷ b ∷ t)
+    → opens_name (a ∷ b ∷ t) ≡ false → name_match takes_sign (a ∷ b ∷ t ++ more) ≡ name_match takes_sign (a ∷ b ∷ t)
 name_at-line takes_sign a b t more e ends =
-    let r = name t in
+    let r = reach_of_name t in
     let u = a ∷ b ∷ t in
-    let same : name (t ++ more) ≡ r =
+    let same : reach_of_name (t ++ more) ≡ r =
     reach_ends look_in_name Cut t more (name-local more e) (name-local [] tt) (whole look_in_name name-units t) ends in
     let fits = reach-size look_in_name Cut name-within t in
     ap (λ (r : Reach).
-    named (begins (codes "@(") u) takes_sign r (sign_after r.how (drop (2 + size_of r) (u ++ more)))) same
-    ∙ ap (λ w. named (begins (codes "@(") u) takes_sign r (sign_after r.how w))
-    (drop-append-le (2 + size_of r) u more (omega (arith, fits)))
-    ∙ ap (λ n. named (begins (codes "@(") u) takes_sign r n) (sign_after-line r.how (drop (2 + size_of r) u) more e)
+    named (begins (codes "@(") u) takes_sign r (opener_after r.how (drop (2 + reach_size r) (u ++ more)))) same
+    ∙ ap (λ w. named (begins (codes "@(") u) takes_sign r (opener_after r.how w))
+    (drop-append-le (2 + reach_size r) u more (omega (arith, fits)))
+    ∙ ap (λ n. named (begins (codes "@(") u) takes_sign r n)
+    (opener_after-line r.how (drop (2 + reach_size r) u) more e)
 
 code_front-line : (c : Effect) (takes_sign : Bool) (a b : ℕ) (t more : List ℕ)
     → AtLineEnd more → opens_effect c (a ∷ b ∷ t) ≡ false
-    → code_front c takes_sign (a ∷ b ∷ t ++ more) ≡ code_front c takes_sign (a ∷ b ∷ t)
+    → effect_match c takes_sign (a ∷ b ∷ t ++ more) ≡ effect_match c takes_sign (a ∷ b ∷ t)
 code_front-line Named takes_sign a b t more e h = name_at-line takes_sign a b t more e h
 code_front-line effect.Letter takes_sign a b t more e h =
     grind (arith, letter-line t more e, letter_is-line (letter t) a b t more (letter-size t))
@@ -60,6 +63,6 @@ code_front-line _ takes_sign a b t more e h = refl
 -- an `@` that begins no section has a byte after it in its line
 pub code_at_line : (effect : ℕ → Effect) (takes_sign : Bool) (b : ℕ) (t more : List ℕ)
     → AtLineEnd more → 2 ≤ length (b ∷ t) → opens_code effect (b ∷ t) ≡ false
-    → code_at effect takes_sign (b ∷ t ++ more) ≡ code_at effect takes_sign (b ∷ t)
+    → code_match effect takes_sign (b ∷ t ++ more) ≡ code_match effect takes_sign (b ∷ t)
 code_at_line effect takes_sign a [] more e two h = absurd (omega (arith, two))
 code_at_line effect takes_sign a (b ∷ t) more e two h = code_front-line (effect b) takes_sign a b t more e h

@@ -1,5 +1,5 @@
 -- What the rules of comments name in a line doesn't depend on what comes after it.
-use Rattle.cweb_rules.proofs.Common.{arith, ◌≡◌, ◌≤◌, ℕ, Bool, true, false, ◌&&◌, List, [], ◌∷◌, ◌++◌, length, refl, ap, ◌∙◌, codes, begins, Closed, line_comment, comment_at, line_comment_at, AtLineEnd, opens_comment}
+use Rattle.cweb_rules.proofs.Common.{arith, ◌≡◌, ◌≤◌, ℕ, Bool, true, false, ◌&&◌, List, [], ◌∷◌, ◌++◌, length, refl, ap, ◌∙◌, codes, begins, Closed, reach_of_line_comment, comment_match, line_comment_match, AtLineEnd, opens_comment}
 use Rattle.cweb_rules.proofs.Reaches.{IsLocal, reach-line}
 use Rattle.cweb_rules.proofs.Looks.{reach_ends, whole, comment-units}
 
@@ -10,14 +10,14 @@ and_same a' false b' b e f = ap (λ v. v && b') e
 -- COMMENTS
 
 pub comment_at_line : (t more : List ℕ) → AtLineEnd more → 2 ≤ length t
-    → opens_comment t ≡ false → comment_at (t ++ more) ≡ comment_at t
+    → opens_comment t ≡ false → comment_match (t ++ more) ≡ comment_match t
 comment_at_line t more e two ends = grind (arith, IsLocal, reach_ends, whole, comment-units (begins (codes "*/")) 2)
 
 line_comment-stops : (more : List ℕ) → AtLineEnd more
-    → line_comment more ≡ record { units = []; close = 0; how = Closed }
+    → reach_of_line_comment more ≡ record { units = []; close = 0; how = Closed }
 line_comment-stops [] e = refl
-line_comment-stops (b ∷ more) e = ap (λ n. line_comment (n ∷ more)) e
+line_comment-stops (b ∷ more) e = ap (λ n. reach_of_line_comment (n ∷ more)) e
 
 pub line_comment_at_line : (t more : List ℕ) → AtLineEnd more
-    → 2 ≤ length t → line_comment_at (t ++ more) ≡ line_comment_at t
+    → 2 ≤ length t → line_comment_match (t ++ more) ≡ line_comment_match t
 line_comment_at_line t more e two = grind (arith, IsLocal, reach-line, whole, line_comment-stops more e)

@@ -1,5 +1,5 @@
 -- What constants, letters and control texts are in a line doesn't depend on what comes after it.
-use Rattle.cweb_rules.proofs.Common.{◌≡◌, ◌≤◌, ℕ, ◌+◌, true, false, List, [], ◌∷◌, ◌++◌, Option, Some, None, length, take, drop, refl, ap, ◌∙◌, subst, arith, if◌then◌else◌, codes, prefix_len, take-append-le, drop-append-le, length-take-le, prefix_len-le-length, begins, is_gap, is_octal, is_hex, is_replacing, character, escapes, escaped, octal, after_backslash, stands_alone, character_at, faulty_size, constant_of, constant, hex_at, letter_with, letter_after, letter, Transliteration, Character, Cut, control_text, look_in_control, AtLineEnd, and-false}
+use Rattle.cweb_rules.proofs.Common.{◌≡◌, ◌≤◌, ℕ, ◌+◌, true, false, List, [], ◌∷◌, ◌++◌, Option, Some, None, length, take, drop, refl, ap, ◌∙◌, subst, arith, if◌then◌else◌, codes, prefix_len, take-append-le, drop-append-le, length-take-le, prefix_len-le-length, begins, is_gap, is_octal, is_hex, is_replacing, character, escapes, escaped, octal, after_backslash, is_plain_character, character_at, faulty_size, constant_of, constant, hex_at, letter_with, letter_after, letter, Transliteration, Character, Cut, reach_of_control_text, look_in_control, AtLineEnd, and-false}
 use Rattle.cweb_rules.proofs.Seams.{begins_line, drop_line, run_line}
 use Rattle.cweb_rules.proofs.Reaches.{reach-line}
 use Rattle.cweb_rules.proofs.Looks.{whole, control-local, control-units}
@@ -7,11 +7,12 @@ use Rattle.cweb_rules.proofs.Sizes.{begins-size}
 
 -- CODES
 
-control-stops : (more : List ℕ) → AtLineEnd more → control_text more ≡ record { units = []; close = 0; how = Cut }
+control-stops : (more : List ℕ) → AtLineEnd more
+    → reach_of_control_text more ≡ record { units = []; close = 0; how = Cut }
 control-stops [] e = refl
-control-stops (b ∷ more) e = ap (λ n. control_text (n ∷ more)) e
+control-stops (b ∷ more) e = ap (λ n. reach_of_control_text (n ∷ more)) e
 
-pub control_text-line : (t more : List ℕ) → AtLineEnd more → control_text (t ++ more) ≡ control_text t
+pub control_text-line : (t more : List ℕ) → AtLineEnd more → reach_of_control_text (t ++ more) ≡ reach_of_control_text t
 control_text-line t more e = reach-line look_in_control Cut t more
     (control-local more e) (control-local [] tt) (whole look_in_control control-units t) (control-stops more e)
 
@@ -24,7 +25,8 @@ character_at-line [] [] e = refl
 character_at-line [] (b ∷ more) e = ap (λ n. character_at (n ∷ more)) e
 character_at-line (b ∷ t) more e =
     λ i. if begins_line (codes "@@") (b ∷ t) more refl e i then character 64 2 else (if begins_line (codes "\\")
-    (b ∷ t) more refl e i then after_backslash-line t more e i else (if stands_alone b then character b 1 else None))
+    (b ∷ t) more refl e i then after_backslash-line t more e i else
+    (if is_plain_character b then character b 1 else None))
 
 abbrev IsFit : Option Character → ℕ → Type 0
 IsFit None n = Unit {0}
@@ -48,16 +50,16 @@ character_at-fits : (t : List ℕ) → IsFit (character_at t) (length t)
 character_at-fits [] = tt
 character_at-fits (b ∷ t) =
     (elim (begins (codes "@@") (b ∷ t)) as (λ v. begins (codes "@@") (b ∷ t) ≡ v → IsFit (if v then character 64 2 else
-    (if begins (codes "\\") (b ∷ t) then after_backslash t else (if stands_alone b then character b 1 else None)))
+    (if begins (codes "\\") (b ∷ t) then after_backslash t else (if is_plain_character b then character b 1 else None)))
     (length (b ∷ t))) [
       | true ↦ λ h. begins-size (codes "@@") (b ∷ t) h
       | false ↦ λ h. elim (begins (codes "\\") (b ∷ t)) as
-          (λ v. IsFit (if v then after_backslash t else (if stands_alone b then character b 1 else None))
+          (λ v. IsFit (if v then after_backslash t else (if is_plain_character b then character b 1 else None))
           (length (b ∷ t))) [
             | true ↦
                 let e : 1 + length t ≡ length (b ∷ t) = omega arith in
                 subst (IsFit (after_backslash t)) e (after_backslash-fits t)
-            | false ↦ elim (stands_alone b) as
+            | false ↦ elim (is_plain_character b) as
                 (λ v. IsFit (if v then character b 1 else None) (length (b ∷ t))) [ true ↦ omega arith | false ↦ tt ]
           ]
     ]) refl

@@ -1,5 +1,5 @@
 -- What the rules of raw literals and included names name in a line doesn't depend on what comes after it.
-use Rattle.cweb_rules.proofs.Common.{◌≡◌, ◌≤◌, ℕ, suc, ◌+◌, true, false, cond, ◌&&◌, List, [], ◌∷◌, ◌++◌, length, take, drop, refl, ap, ◌∙◌, arith, codes, list_all, prefix_len, take-append-le, drop-append-le, length-drop, length-take-le, prefix_len-le-length, begins, is_blank, is_delimiter, Cut, included_name, raw_literal, look_in_include, look_in_raw, Front, quoted, raw_prefix, has_delimiter, starts_raw, delimiter, closing_sign, raw_at, starts_include, include_at, AtLineEnd, opens_raw, or-true, and_parts}
+use Rattle.cweb_rules.proofs.Common.{◌≡◌, ◌≤◌, ℕ, suc, ◌+◌, true, false, cond, ◌&&◌, List, [], ◌∷◌, ◌++◌, length, take, drop, refl, ap, ◌∙◌, arith, codes, list_all, prefix_len, take-append-le, drop-append-le, length-drop, length-take-le, prefix_len-le-length, begins, is_blank, is_delimiter, Cut, reach_of_included_name, reach_of_raw_literal, look_in_include, look_in_raw, RuleMatch, quoted_match, raw_prefix, has_delimiter, starts_raw, delimiter, raw_closer, raw_match, starts_include, include_match, AtLineEnd, opens_raw, or-true, and_parts}
 use Rattle.cweb_rules.proofs.Seams.{in_line, begins_line, drop_line, run_line}
 use Rattle.cweb_rules.proofs.Reaches.{reach-line}
 use Rattle.cweb_rules.proofs.Looks.{whole, include-local, include-units, raw-local, raw-units}
@@ -47,23 +47,24 @@ with_end : (d : List ℕ) → list_all in_line d ≡ true → list_all in_line (
 with_end [] h = refl
 with_end (b ∷ d) h = grind (arith, and_parts (in_line b) (list_all in_line d) h, in_line b, with_end d)
 
-pub closing_sign-in_line : (t : List ℕ) → list_all in_line (closing_sign t) ≡ true
+pub closing_sign-in_line : (t : List ℕ) → list_all in_line (raw_closer t) ≡ true
 closing_sign-in_line t = with_end (delimiter t) (delimiter-in_line t)
 
-abbrev pub raw_from : ℕ → List ℕ → List ℕ → Front
-raw_from m d t = let n = m + length d + 1 in quoted n (raw_literal (codes ")" ++ d ++ codes "\"") (drop n t)) t
+abbrev pub raw_from : ℕ → List ℕ → List ℕ → RuleMatch
+raw_from m d t = let n = m + length d + 1 in
+    quoted_match n (reach_of_raw_literal (codes ")" ++ d ++ codes "\"") (drop n t)) t
 
 pub has_delimiter-size : (t : List ℕ) → has_delimiter t ≡ true → length (delimiter t) + 1 ≤ length t
 has_delimiter-size t h =
     grind (arith, begins-size (codes "("), and_parts, length-drop, length-take-le, prefix_len-le-length is_delimiter t)
 
 pub raw_at_line : (t more : List ℕ) → AtLineEnd more → starts_raw t ≡ true
-    → opens_raw t ≡ false → raw_at (t ++ more) ≡ raw_at t
+    → opens_raw t ≡ false → raw_match (t ++ more) ≡ raw_match t
 raw_at_line t more e starts ends =
     let m = raw_prefix t + 2 in
     let d = delimiter (drop m t) in
     let n = m + length d + 1 in
-    let sign = closing_sign (drop m t) in
+    let sign = raw_closer (drop m t) in
     let start = and_parts (begins (codes "R\"") (drop (raw_prefix t) t)) (has_delimiter (drop m t)) starts in
     let two = sign-fits t start.0 in
     let some = has_delimiter-size (drop m t) start.1 in
@@ -76,11 +77,12 @@ raw_at_line t more e starts ends =
 
 -- INCLUDED NAMES
 
-include-stops : (more : List ℕ) → AtLineEnd more → included_name more ≡ record { units = []; close = 0; how = Cut }
+include-stops : (more : List ℕ) → AtLineEnd more
+    → reach_of_included_name more ≡ record { units = []; close = 0; how = Cut }
 include-stops [] e = refl
-include-stops (b ∷ more) e = ap (λ n. included_name (n ∷ more)) e
+include-stops (b ∷ more) e = ap (λ n. reach_of_included_name (n ∷ more)) e
 
-included-line : (t more : List ℕ) → AtLineEnd more → included_name (t ++ more) ≡ included_name t
+included-line : (t more : List ℕ) → AtLineEnd more → reach_of_included_name (t ++ more) ≡ reach_of_included_name t
 included-line t more e = reach-line look_in_include Cut t more
     (include-local more e) (include-local [] tt) (whole look_in_include include-units t) (include-stops more e)
 
@@ -88,6 +90,7 @@ pub starts_include_line : (b : ℕ) (t more : List ℕ) → AtLineEnd more
     → starts_include (b ∷ t ++ more) ≡ starts_include (b ∷ t)
 starts_include_line b t more e = cc (included-line t more e)
 
-pub include_at_line : (b : ℕ) (t more : List ℕ) → AtLineEnd more → include_at (b ∷ t ++ more) ≡ include_at (b ∷ t)
-include_at_line b t more e = ap (λ r. quoted 1 r (b ∷ t ++ more)) (included-line t more e)
-    ∙ quoted-line 1 (included_name t) (b ∷ t) more (omega arith) (reach-size look_in_include Cut include-within t)
+pub include_at_line : (b : ℕ) (t more : List ℕ) → AtLineEnd more → include_match (b ∷ t ++ more) ≡ include_match (b ∷ t)
+include_at_line b t more e = ap (λ r. quoted_match 1 r (b ∷ t ++ more)) (included-line t more e)
+    ∙ quoted-line 1 (reach_of_included_name t) (b ∷ t) more (omega arith)
+    (reach-size look_in_include Cut include-within t)

@@ -1,5 +1,5 @@
 -- What the rules of literals name in a line doesn't depend on what comes after it.
-use Rattle.cweb_rules.proofs.Common.{◌≡◌, ◌≤◌, ℕ, ◌+◌, Bool, true, false, ◌||◌, ◌==◌, List, [], ◌∷◌, ◌++◌, length, take, drop, refl, ap, ◌∙◌, arith, if◌then◌else◌, codes, take-append-le, drop-append-le, length-drop, begins, Look, Reach, reach, body, size_of, Cut, Open, literal, look_in_literal, Quoted, Front, front, is_quoted, literal_prefix, starts_literal, quoted, quote_of, literal_at, AtLineEnd, is_open, opens_literal, and_parts}
+use Rattle.cweb_rules.proofs.Common.{◌≡◌, ◌≤◌, ℕ, ◌+◌, Bool, true, false, ◌||◌, ◌==◌, List, [], ◌∷◌, ◌++◌, length, take, drop, refl, ap, ◌∙◌, arith, if◌then◌else◌, codes, take-append-le, drop-append-le, length-drop, begins, Look, Reach, reach, body, reach_size, Cut, Open, reach_of_literal, look_in_literal, Quoted, RuleMatch, rule_match, has_quote_at, literal_prefix, starts_literal, quoted_match, quote_of, literal_match, AtLineEnd, is_unclosed, opens_literal, and_parts}
 use Rattle.cweb_rules.proofs.Seams.{stops, begins_line, drop_line}
 use Rattle.cweb_rules.proofs.Reaches.{IsLocal, IsWhole}
 use Rattle.cweb_rules.proofs.Looks.{reach_ends, ended_whole, literal-local, literal-some}
@@ -9,7 +9,7 @@ use Rattle.cweb_rules.proofs.LineComments.{and_same}
 -- LITERALS
 
 pub quoted-line : (n : ℕ) (r : Reach) (t more : List ℕ) → n ≤ length t
-    → size_of r ≤ length (drop n t) → quoted n r (t ++ more) ≡ quoted n r t
+    → reach_size r ≤ length (drop n t) → quoted_match n r (t ++ more) ≡ quoted_match n r t
 quoted-line n r t more fits within =
     let m = n + length (body r) in
     let d = length-drop n t in
@@ -17,18 +17,19 @@ quoted-line n r t more fits within =
     let last : take r.close (drop m (t ++ more)) ≡ take r.close (drop m t) =
     ap (take r.close) (drop-append-le m t more (omega (arith, fits, within, d)))
     ∙ take-append-le r.close (drop m t) more (omega (arith, fits, within, d, length-drop m t)) in
-    λ i. front (Quoted (first i ∷ r.units ++ last i ∷ []) r.how) (n + size_of r)
+    λ i. rule_match (Quoted (first i ∷ r.units ++ last i ∷ []) r.how) (n + reach_size r)
 
 -- a literal that ends in the line
 pub quoted_ends : (look : List ℕ → Look) (n : ℕ) (t more : List ℕ) → n ≤ length t → IsWithin look → IsLocal look more
-    → IsLocal look [] → IsWhole look 0 (drop n t) → is_open (reach look Open (drop n t)).how ≡ false
-    → quoted n (reach look Cut (drop n (t ++ more))) (t ++ more) ≡ quoted n (reach look Cut (drop n t)) t
+    → IsLocal look [] → IsWhole look 0 (drop n t) → is_unclosed (reach look Open (drop n t)).how ≡ false
+    → quoted_match n (reach look Cut (drop n (t ++ more))) (t ++ more) ≡ quoted_match n (reach look Cut (drop n t)) t
 quoted_ends look n t more fits within local local0 h ends =
-    ap (λ u. quoted n (reach look Cut u) (t ++ more)) (drop-append-le n t more fits)
-    ∙ ap (λ r. quoted n r (t ++ more)) (reach_ends look Cut (drop n t) more local local0 h ends)
+    ap (λ u. quoted_match n (reach look Cut u) (t ++ more)) (drop-append-le n t more fits)
+    ∙ ap (λ r. quoted_match n r (t ++ more)) (reach_ends look Cut (drop n t) more local local0 h ends)
     ∙ quoted-line n (reach look Cut (drop n t)) t more fits (reach-size look Cut within (drop n t))
 
-is_quoted-line : (n : ℕ) (t more : List ℕ) → AtLineEnd more → n ≤ length t → is_quoted n (t ++ more) ≡ is_quoted n t
+is_quoted-line : (n : ℕ) (t more : List ℕ) → AtLineEnd more → n ≤ length t
+    → has_quote_at n (t ++ more) ≡ has_quote_at n t
 is_quoted-line n t more e h = λ i.
     drop_line (codes "\"") n t more refl e h i || drop_line (codes "'") n t more refl e h i
 
@@ -45,37 +46,37 @@ pub literal_prefix-line : (t more : List ℕ) → AtLineEnd more → literal_pre
 literal_prefix-line t more e =
     grind (
       arith,
-      and_same (begins (codes "u8") (t ++ more)) (begins (codes "u8") t) (is_quoted 2 (t ++ more))
-          (is_quoted 2 t) (begins_line (codes "u8") t more refl e),
+      and_same (begins (codes "u8") (t ++ more)) (begins (codes "u8") t) (has_quote_at 2 (t ++ more))
+          (has_quote_at 2 t) (begins_line (codes "u8") t more refl e),
       begins_line (codes "u8") t more refl e,
       begins-size
           (codes "u8") t,
       and_same (begins (codes "L") (t ++ more) || begins (codes "u") (t ++ more) || begins (codes "U") (t
-          ++ more)) (begins (codes "L") t || begins (codes "u") t || begins (codes "U") t) (is_quoted 1 (t ++ more))
-          (is_quoted 1 t),
+          ++ more)) (begins (codes "L") t || begins (codes "u") t || begins (codes "U") t) (has_quote_at 1 (t ++ more))
+          (has_quote_at 1 t),
       begins_line (codes "u") t more refl e,
       begins_line (codes "U") t more refl e,
       one_letter t,
     )
 
 literal_prefix-fits : (t : List ℕ) → literal_prefix t ≤ length t
-literal_prefix-fits t = grind (arith, and_parts (begins (codes "u8") t) (is_quoted 2 t))
+literal_prefix-fits t = grind (arith, and_parts (begins (codes "u8") t) (has_quote_at 2 t))
 
 pub starts_literal_line : (t more : List ℕ) → AtLineEnd more → starts_literal (t ++ more) ≡ starts_literal t
-starts_literal_line t more e = ap (λ n. is_quoted n (t ++ more)) (literal_prefix-line t more e)
+starts_literal_line t more e = ap (λ n. has_quote_at n (t ++ more)) (literal_prefix-line t more e)
     ∙ is_quoted-line (literal_prefix t) t more e (literal_prefix-fits t)
 
-pub is_quoted-size : (n : ℕ) (t : List ℕ) → is_quoted n t ≡ true → n + 1 ≤ length t
+pub is_quoted-size : (n : ℕ) (t : List ℕ) → has_quote_at n t ≡ true → n + 1 ≤ length t
 is_quoted-size n t h =
     let some = or_size (begins (codes "\"") (drop n t)) (begins (codes "'") (drop n t))
     (length (drop n t)) h (begins-size (codes "\"") (drop n t)) (begins-size (codes "'") (drop n t)) in
     omega (arith, some, length-drop n t)
 
-abbrev pub literal_with : ℕ → ℕ → List ℕ → Front
-literal_with n quote t = quoted (n + 1) (literal quote (drop (n + 1) t)) t
+abbrev pub literal_with : ℕ → ℕ → List ℕ → RuleMatch
+literal_with n quote t = quoted_match (n + 1) (reach_of_literal quote (drop (n + 1) t)) t
 
 pub literal_at_line : (t more : List ℕ) → AtLineEnd more → starts_literal t ≡ true
-    → opens_literal t ≡ false → literal_at (t ++ more) ≡ literal_at t
+    → opens_literal t ≡ false → literal_match (t ++ more) ≡ literal_match t
 literal_at_line t more e starts ends =
     let n = literal_prefix t in
     let quote = quote_of (drop n t) in

@@ -1,5 +1,5 @@
 -- What the looks of items see in a line, and that their units stand in it.
-use Rattle.cweb_rules.proofs.Common.{◌≡◌, ◌≤◌, ◌<◌, ℕ, zero, suc, ◌-◌, Bool, true, false, ◌||◌, ◌==◌, List, [], ◌∷◌, ◌++◌, length, refl, ap, sym, ◌∙◌, subst, arith, if◌then◌else◌, codes, list_all, eqb-true, append-nil, begins, first_is, is_line_end, starts_section, Look, Goes, Ends, reach, reach_in, End, Closed, Cut, Open, look_in_control, look_in_name, look_in_comment, look_in_literal, look_in_include, look_in_raw, AtLineEnd, is_open, and_parts}
+use Rattle.cweb_rules.proofs.Common.{◌≡◌, ◌≤◌, ◌<◌, ℕ, zero, suc, ◌-◌, Bool, true, false, ◌||◌, ◌==◌, List, [], ◌∷◌, ◌++◌, length, refl, ap, sym, ◌∙◌, subst, arith, if◌then◌else◌, codes, list_all, eqb-true, append-nil, begins, first_is, is_line_end, starts_section, Look, Goes, Ends, reach, reach_in, End, Closed, Cut, Open, look_in_control, look_in_name, look_in_comment, look_in_literal, look_in_include, look_in_raw, AtLineEnd, is_unclosed, and_parts}
 use Rattle.cweb_rules.proofs.Seams.{in_line, begins_stop, begins_line, starts_section_line}
 use Rattle.cweb_rules.proofs.Sizes.{begins-size}
 use Rattle.cweb_rules.proofs.Reaches.{IsLocal, IsEnd, IsWhole, ended, at_front, WholeAt, reach-ended}
@@ -120,19 +120,19 @@ abbrev pub AllSome : (List ℕ → Look) → Type 0
 AllSome look = (b : ℕ) (t : List ℕ) → IsSome (look (b ∷ t))
 
 ended_at : (look : List ℕ → Look) (b : ℕ) (t : List ℕ) (v : Look) → IsSome v
-    → ((k : ℕ) → is_open (reach_in look Open k t).how ≡ false → IsWhole look k t)
-    → is_open (at_front look v (b ∷ t) Open t).how ≡ false → WholeAt look v t
+    → ((k : ℕ) → is_unclosed (reach_in look Open k t).how ≡ false → IsWhole look k t)
+    → is_unclosed (at_front look v (b ∷ t) Open t).how ≡ false → WholeAt look v t
 ended_at look b t (Goes n) h f g = (h, f (n - 1) g)
 ended_at look b t (Ends n how) h f g = h
 
 ended_in : (look : List ℕ → Look) → AllSome look → (k : ℕ) (t : List ℕ)
-    → is_open (reach_in look Open k t).how ≡ false → IsWhole look k t
+    → is_unclosed (reach_in look Open k t).how ≡ false → IsWhole look k t
 ended_in look some k [] h = cc
 ended_in look some (suc k) (b ∷ t) h = ended_in look some k t h
 ended_in look some zero (b ∷ t) h = ended_at look b t (look (b ∷ t)) (some b t) (λ k f. ended_in look some k t f) h
 
 pub ended_whole : (look : List ℕ → Look) → AllSome look → (t : List ℕ)
-    → is_open (reach look Open t).how ≡ false → IsWhole look 0 t
+    → is_unclosed (reach look Open t).how ≡ false → IsWhole look 0 t
 ended_whole look some t h = ended_in look some 0 t h
 
 some_if : (v : Bool) (x y : Look) → IsSome x → IsSome y → IsSome (if v then x else y)
@@ -146,10 +146,10 @@ literal-some quote b t = some_if (begins (quote ∷ []) (b ∷ t)) _ _ tt
 
 -- what ends in a text ends so, however the text ends
 pub ended_same : (look : List ℕ → Look) (e : End) (t : List ℕ) → IsLocal look [] → IsWhole look 0 t
-    → is_open (reach look Open t).how ≡ false → reach look e t ≡ reach look Open t
+    → is_unclosed (reach look Open t).how ≡ false → reach look e t ≡ reach look Open t
 ended_same look e t local h ended = ap (reach look e) (sym (append-nil t)) ∙ reach-ended look e t [] local h ended
 
 pub reach_ends : (look : List ℕ → Look) (e : End) (t more : List ℕ) → IsLocal look more → IsLocal look []
-    → IsWhole look 0 t → is_open (reach look Open t).how ≡ false → reach look e (t ++ more) ≡ reach look e t
+    → IsWhole look 0 t → is_unclosed (reach look Open t).how ≡ false → reach look e (t ++ more) ≡ reach look e t
 reach_ends look e t more local local0 h ended =
     reach-ended look e t more local h ended ∙ sym (ended_same look e t local0 h ended)

@@ -1,9 +1,9 @@
 -- The line ends in the bytes that a rule names, as far as the kind of the piece tells them.
-use Rattle.cweb_rules.proofs.Common.{◌≡◌, ◌≢◌, ℕ, ◌+◌, Bool, true, false, ◌&&◌, List, [], ◌∷◌, ◌++◌, length, take, drop, refl, ap, sym, ◌∙◌, subst, arith, if◌then◌else◌, codes, eqb-true, begins, is_blank, is_line_end, at_line_end, starts_section, in_limbo, in_text, in_macro, in_c, code_front, code_at, text_front, quote_of, literal_prefix, raw_prefix, delimiter, closing_sign, starts_raw, starts_literal, c_front, head_as, front_in, look_in_literal, look_in_raw, Kind, Skipped, Blanks, LineEnd, Comment, Identifier, Front, front, IsLine, AtLineEnd, opens_comment, opens_literal, opens_raw, opens_effect, opens_code, text_opens, c_opens, Context, Limbo, TeX, Definition, Macro, CText, Effect, Named}
-use Rattle.cweb_rules.proofs.FairItems.{text_front-fair}
-use Rattle.cweb_rules.proofs.Fairs.{c_front-fair}
+use Rattle.cweb_rules.proofs.Common.{◌≡◌, ◌≢◌, ℕ, ◌+◌, Bool, true, false, ◌&&◌, List, [], ◌∷◌, ◌++◌, length, take, drop, refl, ap, sym, ◌∙◌, subst, arith, if◌then◌else◌, codes, eqb-true, begins, is_blank, is_line_end, at_line_end, starts_section, in_limbo, in_tex, in_macro, in_c, effect_match, code_match, tex_match, quote_of, literal_prefix, raw_prefix, delimiter, raw_closer, starts_raw, starts_literal, c_match, head_match_of, match_in, look_in_literal, look_in_raw, Kind, Skipped, Blanks, LineEnd, Comment, Identifier, RuleMatch, rule_match, IsLine, AtLineEnd, opens_comment, opens_literal, opens_raw, opens_effect, opens_code, tex_opens, c_opens, Context, Limbo, TeX, Definition, Macro, CText, Effect, Named}
+use Rattle.cweb_rules.proofs.ItemMatchesPay.{text_front-fair}
+use Rattle.cweb_rules.proofs.MatchesPay.{c_front-fair}
 use Rattle.cweb_rules.proofs.InLines.{c-stands, text-stands}
-use Rattle.cweb_rules.proofs.LineFronts.{c_front_line, text_front_line}
+use Rattle.cweb_rules.proofs.LineMatches.{c_front_line, text_front_line}
 use Rattle.cweb_rules.proofs.LineLiterals.{starts_literal_line}
 use Rattle.cweb_rules.proofs.LineDelimiters.{starts_raw_line}
 use Rattle.cweb_rules.proofs.Looks.{literal-some}
@@ -15,27 +15,27 @@ use Rattle.cweb_rules.proofs.UnitNewlines.{Tells, Told, in_line-told, quoted-tol
 no : {P : Type 0} → false ≡ true → P
 no h = cc
 
-pick : (t : List ℕ) (v' v : Bool) (x y : Front) (p q : Bool) → v' ≡ v → (v ≡ true → p ≡ true → Told t x)
+pick : (t : List ℕ) (v' v : Bool) (x y : RuleMatch) (p q : Bool) → v' ≡ v → (v ≡ true → p ≡ true → Told t x)
     → (v ≡ false → q ≡ true → Told t y) → (if v then p else q) ≡ true → Told t (if v' then x else y)
 pick t v' true x y p q e f g h = subst (λ w. Told t (if w then x else y)) (sym e) (f refl h)
 pick t v' false x y p q e f g h = subst (λ w. Told t (if w then x else y)) (sym e) (g refl h)
 
 code-opened : (e : Effect) (takes_sign : Bool) (t u : List ℕ)
-    → opens_effect e u ≡ true → Told t (code_front e takes_sign t)
+    → opens_effect e u ≡ true → Told t (effect_match e takes_sign t)
 code-opened Named takes_sign t u h = tt
 code-opened _ takes_sign t u h = no h
 
 code_at-opened : (effect : ℕ → Effect) (takes_sign : Bool) (b : ℕ) (u more : List ℕ)
-    → opens_code effect (b ∷ u) ≡ true → Told (b ∷ u ++ more) (code_at effect takes_sign (b ∷ u ++ more))
+    → opens_code effect (b ∷ u) ≡ true → Told (b ∷ u ++ more) (code_match effect takes_sign (b ∷ u ++ more))
 code_at-opened effect takes_sign b [] more h = no h
 code_at-opened effect takes_sign b (d ∷ u) more h = code-opened (effect d) takes_sign (b ∷ d ∷ u ++ more) (b ∷ d ∷ u) h
 
 text-opened : (effect : ℕ → Effect) (b : ℕ) (u more : List ℕ) → AtLineEnd more
-    → text_opens effect (b ∷ u) ≡ true → Told (b ∷ u ++ more) (text_front effect (b ∷ u ++ more))
+    → tex_opens effect (b ∷ u) ≡ true → Told (b ∷ u ++ more) (tex_match effect (b ∷ u ++ more))
 text-opened effect b u more e h = grind (arith, pick, starts_section_line b u more e)
 
 c-opened : (effect : ℕ → Effect) (takes_sign includes : Bool) (b : ℕ) (u more : List ℕ) → AtLineEnd more
-    → c_opens effect (b ∷ u) ≡ true → Told (b ∷ u ++ more) (c_front effect takes_sign includes (b ∷ u ++ more))
+    → c_opens effect (b ∷ u) ≡ true → Told (b ∷ u ++ more) (c_match effect takes_sign includes (b ∷ u ++ more))
 c-opened effect takes_sign includes b u more e h =
     let w = b ∷ u in
     let t = w ++ more in
@@ -48,7 +48,7 @@ c-opened effect takes_sign includes b u more e h =
     (opens_code effect w) _ (begins_line (codes "@") w more refl e) (λ v k. code_at-opened effect takes_sign b u more k)
     (λ v5 h5. pick t (starts_raw t) (starts_raw w) _ _ (opens_raw w) _ (starts_raw_line w more e) (λ v k.
     let m = raw_prefix t + 2 in
-    let sign = closing_sign (drop m t) in
+    let sign = raw_closer (drop m t) in
     quoted-told (look_in_raw sign) (raw-some sign) (m + length (delimiter (drop m t)) + 1) t) (λ v6 h6.
     pick t (starts_literal t) (starts_literal w) _ _ (opens_literal w) false (starts_literal_line w more e) (λ v k.
     let n = literal_prefix t in
@@ -58,26 +58,26 @@ c-opened effect takes_sign includes b u more e h =
 -- WHAT A RULE NAMES
 
 text-told : (effect : ℕ → Effect) (b : ℕ) (u more : List ℕ) → AtLineEnd more
-    → IsLine (b ∷ u) → Told (b ∷ u ++ more) (text_front effect (b ∷ u ++ more))
-text-told effect b u more e l = (elim (text_opens effect (b ∷ u))
-    as (λ v. text_opens effect (b ∷ u) ≡ v → Told (b ∷ u ++ more) (text_front effect (b ∷ u ++ more))) [
+    → IsLine (b ∷ u) → Told (b ∷ u ++ more) (tex_match effect (b ∷ u ++ more))
+text-told effect b u more e l = (elim (tex_opens effect (b ∷ u))
+    as (λ v. tex_opens effect (b ∷ u) ≡ v → Told (b ∷ u ++ more) (tex_match effect (b ∷ u ++ more))) [
       | true ↦ λ h. text-opened effect b u more e h
-      | false ↦ λ h. subst (Told (b ∷ u ++ more)) (sym (text_front_line effect b u more e h)) (in_line-told (text_front
+      | false ↦ λ h. subst (Told (b ∷ u ++ more)) (sym (text_front_line effect b u more e h)) (in_line-told (tex_match
           effect (b ∷ u)) (b ∷ u) more l (text-stands effect (b ∷ u) l) (text_front-fair TeX effect b u).within)
     ]) refl
 
 c-told : (effect : ℕ → Effect) (takes_sign includes : Bool) (b : ℕ) (u more : List ℕ) → AtLineEnd more
-    → IsLine (b ∷ u) → Told (b ∷ u ++ more) (c_front effect takes_sign includes (b ∷ u ++ more))
+    → IsLine (b ∷ u) → Told (b ∷ u ++ more) (c_match effect takes_sign includes (b ∷ u ++ more))
 c-told effect takes_sign includes b u more e l = (elim (c_opens effect (b ∷ u)) as (λ v.
-    c_opens effect (b ∷ u) ≡ v → Told (b ∷ u ++ more) (c_front effect takes_sign includes (b ∷ u ++ more))) [
+    c_opens effect (b ∷ u) ≡ v → Told (b ∷ u ++ more) (c_match effect takes_sign includes (b ∷ u ++ more))) [
       | true ↦ λ h. c-opened effect takes_sign includes b u more e h
       | false ↦ λ h. subst (Told (b ∷ u ++ more)) (sym (c_front_line effect takes_sign includes b u more e h))
-          (in_line-told (c_front effect takes_sign includes (b ∷ u)) (b ∷ u) more l
+          (in_line-told (c_match effect takes_sign includes (b ∷ u)) (b ∷ u) more l
           (c-stands effect takes_sign includes b u l) (c_front-fair TeX effect takes_sign includes b u).within)
     ]) refl
 
-head-told : (k : Kind) (f : Front) (t : List ℕ) → f.kind ≡ k → Told t f
-    → Told t (text_front in_text t) → Told t (head_as k f t)
+head-told : (k : Kind) (f : RuleMatch) (t : List ℕ) → f.kind ≡ k → Told t f
+    → Told t (tex_match in_tex t) → Told t (head_match_of k f t)
 head-told Blanks f t e h text = h
 head-told LineEnd f t e h text = h
 head-told (Comment how) f t e h text = h
@@ -85,22 +85,22 @@ head-told Identifier f t e h text = subst (λ k. Tells k (take f.size t)) e h
 head-told _ f t e h text = text
 
 in-told : (c : Context) (includes : Bool) (b : ℕ) (u more : List ℕ) → AtLineEnd more
-    → IsLine (b ∷ u) → Told (b ∷ u ++ more) (front_in c includes (b ∷ u ++ more))
+    → IsLine (b ∷ u) → Told (b ∷ u ++ more) (match_in c includes (b ∷ u ++ more))
 in-told Limbo includes b u more e l = text-told in_limbo b u more e l
-in-told TeX includes b u more e l = text-told in_text b u more e l
+in-told TeX includes b u more e l = text-told in_tex b u more e l
 in-told (Definition begun) includes b u more e l =
-    grind (arith, head-told, c-told in_macro true false b u more e l, text-told in_text b u more e l)
+    grind (arith, head-told, c-told in_macro true false b u more e l, text-told in_tex b u more e l)
 in-told Macro includes b u more e l =
     let t = b ∷ u ++ more in
     elim (begins (codes "\\") t && at_line_end (u ++ more))
-    as (λ v. Told t (if v then front Skipped 1 else c_front in_macro true false t)) [
+    as (λ v. Told t (if v then rule_match Skipped 1 else c_match in_macro true false t)) [
       | true ↦ tt
       | false ↦ c-told in_macro true false b u more e l
     ]
 in-told CText includes b u more e l = c-told in_c false includes b u more e l
 
 -- at a line end
-end-told : (c : Context) (includes : Bool) (t : List ℕ) → Told (10 ∷ t) (front_in c includes (10 ∷ t))
+end-told : (c : Context) (includes : Bool) (t : List ℕ) → Told (10 ∷ t) (match_in c includes (10 ∷ t))
 end-told Limbo includes [] = tt
 end-told Limbo includes (d ∷ t) = tt
 end-told TeX includes [] = tt
@@ -122,11 +122,11 @@ cut (b ∷ t) = (elim (is_line_end b) as (λ v. is_line_end b ≡ v → (c : Lis
 ]) refl
 
 at_cut : (c : Context) (includes : Bool) (b : ℕ) (t u more : List ℕ) → b ∷ t ≡ u ++ more
-    → IsLine u → AtLineEnd more → Told (b ∷ t) (front_in c includes (b ∷ t))
+    → IsLine u → AtLineEnd more → Told (b ∷ t) (match_in c includes (b ∷ t))
 at_cut c includes b t [] [] e l h = let wrong : length (b ∷ t) ≡ 0 = ap length e in absurd (omega (arith, wrong))
 at_cut c includes b t [] (d ∷ more) e l h = grind (arith, end-told c includes more)
 at_cut c includes b t (d ∷ u) more e l h = grind (arith, in-told c includes d u more h l)
 
 -- the line ends of what a rule names, in every context and text
-pub told : (c : Context) (includes : Bool) (b : ℕ) (t : List ℕ) → Told (b ∷ t) (front_in c includes (b ∷ t))
+pub told : (c : Context) (includes : Bool) (b : ℕ) (t : List ℕ) → Told (b ∷ t) (match_in c includes (b ∷ t))
 told c includes b t = let r = cut (b ∷ t) in at_cut c includes b t r.0.0 r.0.1 r.1.0 r.1.1 r.1.2

@@ -1,16 +1,17 @@
 -- A raw literal ends by itself, and no other token begins one.
-use Rattle.cweb_rules.proofs.Common.{◌≡◌, ℕ, ◌+◌, ◌-◌, ◌<◌, ◌≤◌, suc, zero, Bool, true, false, cond, ◌&&◌, ◌||◌, ◌==◌, not, List, [], ◌∷◌, ◌++◌, length, take, drop, refl, ap, ◌∙◌, arith, length-append, codes, if◌then◌else◌, nat_le, list_all, prefix_len, take-append-le, length-drop, begins, is_delimiter, first_is, starts_section, is_word_byte, is_one_of, Reach, reach_in, with_unit, body, size_of, Look, Goes, Ends, raw_literal, look_in_raw, Closed, Cut, after_word, quoted, raw_prefix, has_delimiter, starts_raw, delimiter, closing_sign, raw_at, Front, front, Quoted, and_parts, and-false, or_parts, drop-append-le}
+use Rattle.cweb_rules.proofs.Common.{◌≡◌, ℕ, ◌+◌, ◌-◌, ◌<◌, ◌≤◌, suc, zero, Bool, true, false, cond, ◌&&◌, ◌||◌, ◌==◌, not, List, [], ◌∷◌, ◌++◌, length, take, drop, refl, ap, ◌∙◌, arith, length-append, codes, if◌then◌else◌, nat_le, list_all, prefix_len, take-append-le, length-drop, begins, is_delimiter, first_is, starts_section, is_word_byte, is_one_of, Reach, reach_in, with_unit, body, reach_size, Look, Goes, Ends, reach_of_raw_literal, look_in_raw, Closed, Cut, after_word, quoted_match, raw_prefix, has_delimiter, starts_raw, delimiter, raw_closer, raw_match, RuleMatch, rule_match, Quoted, and_parts, and-false, or_parts, drop-append-le}
 use Rattle.cweb_rules.proofs.Sizes.{begins-size}
 use Rattle.cweb_rules.proofs.Joins.{unlike, begins-append}
 
 pub quoted_stays : (n : ℕ) (r : Reach) (t more : List ℕ)
-    → n + size_of r ≤ length t → quoted n r (t ++ more) ≡ quoted n r t
+    → n + reach_size r ≤ length t → quoted_match n r (t ++ more) ≡ quoted_match n r t
 quoted_stays n r t more h =
     let k = n + length (body r) in
     let within : r.close ≤ length (drop k t) = omega (arith, length-drop k t, h) in
     let close : take r.close (drop k (t ++ more)) ≡ take r.close (drop k t) =
     ap (take r.close) (drop-append-le k t more (omega (arith, h))) ∙ take-append-le r.close (drop k t) more within in
-    (λ i. front (Quoted (take-append-le n t more (omega (arith, h)) i ∷ r.units ++ close i ∷ []) r.how) (n + size_of r))
+    (λ i. rule_match (Quoted (take-append-le n t more (omega (arith, h)) i ∷ r.units ++ close i ∷ []) r.how)
+    (n + reach_size r))
 
 -- NONE BEGINS
 
@@ -154,16 +155,16 @@ abbrev start_of : ℕ → List ℕ → ℕ
 start_of n t = n + 2 + length (delimiter (drop (n + 2) t)) + 1
 
 abbrev inside_of : ℕ → List ℕ → Reach
-inside_of n t = raw_literal (closing_sign (drop (n + 2) t)) (drop (start_of n t) t)
+inside_of n t = reach_of_raw_literal (raw_closer (drop (n + 2) t)) (drop (start_of n t) t)
 
-abbrev raw_from : ℕ → List ℕ → Front
-raw_from n t = quoted (start_of n t) (inside_of n t) t
+abbrev raw_from : ℕ → List ℕ → RuleMatch
+raw_from n t = quoted_match (start_of n t) (inside_of n t) t
 
-two : (y : List ℕ) → 2 ≤ length (closing_sign y)
+two : (y : List ℕ) → 2 ≤ length (raw_closer y)
 two y = omega (arith, length-append (delimiter y) (codes "\""))
 
 raw_with : (n : ℕ) (t more : List ℕ) → opens_at n t ≡ true
-    → (inside_of n t).how ≡ Closed → start_of n t + size_of (inside_of n t) ≤ length t
+    → (inside_of n t).how ≡ Closed → start_of n t + reach_size (inside_of n t) ≤ length t
     → (raw_from n (t ++ more) ≡ raw_from n t) × (opens_at n (t ++ more) ≡ true)
 raw_with n t more o closed within =
     let x = drop n t in
@@ -175,28 +176,28 @@ raw_with n t more o closed within =
     let s = same y more e.1 in
     let delimited : delimiter (drop (n + 2) (t ++ more)) ≡ delimiter y = ap delimiter over2 ∙ s.delimited in
     let start : start_of n (t ++ more) ≡ start_of n t = ap (λ d. n + 2 + length d + 1) delimited in
-    let close : closing_sign (drop (n + 2) (t ++ more)) ≡ closing_sign y =
+    let close : raw_closer (drop (n + 2) (t ++ more)) ≡ raw_closer y =
     ap (λ d. codes ")" ++ d ++ codes "\"") delimited in
     let rest = drop-append-le (start_of n t) t more (omega (arith, within)) in
     let is : inside_of n (t ++ more) ≡ inside_of n t =
-    (λ i. raw_literal (close i) (drop (start i) (t ++ more))) ∙ ap (raw_literal (closing_sign y)) rest
-    ∙ closed_stays (closing_sign y) (two y) 0 (drop (start_of n t) t) more closed in
+    (λ i. reach_of_raw_literal (close i) (drop (start i) (t ++ more))) ∙ ap (reach_of_raw_literal (raw_closer y)) rest
+    ∙ closed_stays (raw_closer y) (two y) 0 (drop (start_of n t) t) more closed in
     let begun : is_raw n (t ++ more) ≡ true = ap (begins (codes "R\"")) over ∙ begins-append (codes "R\"") x more e.0 in
     let has : has_delimiter (drop (n + 2) (t ++ more)) ≡ true = ap has_delimiter over2 ∙ s.has in (
-      (λ i. quoted (start i) (is i) (t ++ more)) ∙ quoted_stays (start_of n t) (inside_of n t) t more within,
+      (λ i. quoted_match (start i) (is i) (t ++ more)) ∙ quoted_stays (start_of n t) (inside_of n t) t more within,
       (λ i. begun i && has i),
     )
 
 abbrev pub ends_raw : List ℕ → Type 0
 ends_raw t =
-    let n = raw_prefix t in ((inside_of n t).how ≡ Closed) × (start_of n t + size_of (inside_of n t) ≤ length t)
+    let n = raw_prefix t in ((inside_of n t).how ≡ Closed) × (start_of n t + reach_size (inside_of n t) ≤ length t)
 
 -- an item that its closing sign ended has the bytes of that sign
 enough : (n : ℕ) (t : List ℕ) → (inside_of n t).how ≡ Closed → 5 ≤ length t
 enough n t closed = grind (arith, long, start_of n t, two, length-drop (start_of n t) t)
 
 pub raw_stays : (t more : List ℕ) → starts_raw t ≡ true → ends_raw t
-    → (raw_at (t ++ more) ≡ raw_at t) × (starts_raw (t ++ more) ≡ true)
+    → (raw_match (t ++ more) ≡ raw_match t) × (starts_raw (t ++ more) ≡ true)
 raw_stays [] more o ends = absurd (omega (arith, enough (raw_prefix []) [] ends.0))
 raw_stays (a ∷ []) more o ends = absurd (omega (arith, enough (raw_prefix (a ∷ [])) (a ∷ []) ends.0))
 raw_stays (a ∷ b ∷ []) more o ends = absurd (omega (arith, enough (raw_prefix (a ∷ b ∷ [])) (a ∷ b ∷ []) ends.0))

@@ -1,5 +1,5 @@
 -- An item that lasts to an end sign is what stands before a seam of it, and what stands after.
-use Rattle.cweb_rules.proofs.Common.{◌≡◌, ◌≤◌, ◌<◌, ℕ, zero, suc, ◌-◌, false, List, [], ◌∷◌, ◌++◌, length, take, refl, ap, sym, ◌∙◌, arith, take-append-le, append-nil, Look, Goes, Ends, Reach, reach, reach_in, with_unit, End, Open, is_open}
+use Rattle.cweb_rules.proofs.Common.{◌≡◌, ◌≤◌, ◌<◌, ℕ, zero, suc, ◌-◌, false, List, [], ◌∷◌, ◌++◌, length, take, refl, ap, sym, ◌∙◌, arith, take-append-le, append-nil, Look, Goes, Ends, Reach, reach, reach_in, with_unit, End, Open, is_unclosed}
 
 -- what is seen before a seam doesn't depend on what comes after it
 abbrev pub IsLocal : (List ℕ → Look) → List ℕ → Type 0
@@ -58,14 +58,14 @@ pub reach-append : (look : List ℕ → Look) (e : End) (t more : List ℕ) → 
     → IsWhole look 0 t → reach look e (t ++ more) ≡ join (reach look Open t) (reach look e more)
 reach-append look e t more local h = seam_in look e more local 0 t h
 
-join-ended : (us : List (List ℕ)) (n : ℕ) (how : End) (m : Reach) → is_open how ≡ false
+join-ended : (us : List (List ℕ)) (n : ℕ) (how : End) (m : Reach) → is_unclosed how ≡ false
     → join (record { units = us; close = n; how = how }) m ≡ record { units = us; close = n; how = how }
 join-ended us n Open m h = cc
 join-ended us n _ m h = refl
 
 -- an item that ends before the seam
 pub reach-ended : (look : List ℕ → Look) (e : End) (t more : List ℕ) → IsLocal look more → IsWhole look 0 t
-    → is_open (reach look Open t).how ≡ false → reach look e (t ++ more) ≡ reach look Open t
+    → is_unclosed (reach look Open t).how ≡ false → reach look e (t ++ more) ≡ reach look Open t
 reach-ended look e t more local h ended = grind (arith, reach-append look e t more local h, join-ended)
 
 -- an item that a line end ends

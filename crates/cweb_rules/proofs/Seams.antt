@@ -1,5 +1,5 @@
 -- What stands at the front stays, where the byte after the seam can't go on with it.
-use Rattle.cweb_rules.proofs.Common.{arith, ◌≡◌, ◌≤◌, ℕ, ◌+◌, Bool, true, false, cond, ◌&&◌, ◌==◌, not, List, [], ◌∷◌, ◌++◌, length, drop, refl, ap, ◌∙◌, list_all, prefix_len, eqb-true, drop-append-le, begins, first_is, is_line_end, is_digit, at_line_end, starts_section, AtLineEnd, longest, number_len, goes_on_number, starts_number, and_parts, and-false, or-false, and-true}
+use Rattle.cweb_rules.proofs.Common.{arith, ◌≡◌, ◌≤◌, ℕ, ◌+◌, Bool, true, false, cond, ◌&&◌, ◌==◌, not, List, [], ◌∷◌, ◌++◌, length, drop, refl, ap, ◌∙◌, list_all, prefix_len, eqb-true, drop-append-le, begins, first_is, is_line_end, is_digit, at_line_end, starts_section, AtLineEnd, longest, number_len, continues_number, starts_number, and_parts, and-false, or-false, and-true}
 
 -- the bytes that stand in a line
 abbrev pub in_line : ℕ → Bool
@@ -34,7 +34,7 @@ run_stop p [] (b ∷ more) h = ap (λ v. cond v (1 + prefix_len p more) 0) h
 run_stop p (b ∷ t) more h = ap (λ n. cond (p b) (1 + n) 0) (run_stop p t more h)
 
 -- a number
-pub number_stop : (last : ℕ) (t more : List ℕ) → ((last : ℕ) → first_is (goes_on_number last) more ≡ false)
+pub number_stop : (last : ℕ) (t more : List ℕ) → ((last : ℕ) → first_is (continues_number last) more ≡ false)
     → number_len last (t ++ more) ≡ number_len last t
 number_stop last [] [] h = refl
 number_stop last [] (b ∷ more) h = cc (h last)

@@ -1,5 +1,5 @@
 -- No rule of an item with an end sign names more than there is.
-use Rattle.cweb_rules.proofs.Common.{◌≡◌, ◌≤◌, ℕ, zero, suc, ◌-◌, Bool, true, false, ◌||◌, ◌==◌, List, [], ◌∷◌, length, take, refl, arith, length-append, if◌then◌else◌, codes, flat_map, length-drop, prefix_len-le-length, begins, starts_section, at_line_end, is_gap, Look, Goes, Ends, Reach, reach, reach_in, with_unit, size_of, sign_after, End, Closed, unit_bytes, text_in, look_in_control, look_in_name, opener_sign, look_in_comment, look_in_literal, look_in_include, look_in_raw, and_parts}
+use Rattle.cweb_rules.proofs.Common.{◌≡◌, ◌≤◌, ℕ, zero, suc, ◌-◌, Bool, true, false, ◌||◌, ◌==◌, List, [], ◌∷◌, length, take, refl, arith, length-append, if◌then◌else◌, codes, flat_map, length-drop, prefix_len-le-length, begins, starts_section, at_line_end, is_gap, Look, Goes, Ends, Reach, reach, reach_in, with_unit, reach_size, opener_after, End, Closed, unit_bytes, unescaped, look_in_control, look_in_name, opener_len, look_in_comment, look_in_literal, look_in_include, look_in_raw, and_parts}
 
 pub take-at_most : (n : ℕ) (t : List ℕ) → length (take n t) ≤ n
 take-at_most zero t = omega arith
@@ -18,14 +18,14 @@ begins-size (x ∷ p) (b ∷ t) h = omega (arith, begins-size p t (and_parts (x 
 
 -- UNITS
 
-pub units-text : (us : List (List ℕ)) → length (text_in us) ≤ length (flat_map (λ u. u) us)
+pub units-text : (us : List (List ℕ)) → length (unescaped us) ≤ length (flat_map (λ u. u) us)
 units-text [] = omega arith
 units-text (u ∷ us) =
     omega (
       arith,
       unit u,
       units-text us,
-      length-append (unit_bytes u) (text_in us),
+      length-append (unit_bytes u) (unescaped us),
       length-append u (flat_map (λ v. v) us),
     )
   where
@@ -51,20 +51,21 @@ at_front look v how b t =
     ]
 
 at_front-size : (look : List ℕ → Look) (how : End) (b : ℕ) (t : List ℕ) (v : Look) → end_size v ≤ length (b ∷ t)
-    → ((k : ℕ) → size_of (reach_in look how k t) ≤ length t - k) → size_of (at_front look v how b t) ≤ length (b ∷ t)
+    → ((k : ℕ) → reach_size (reach_in look how k t) ≤ length t - k)
+    → reach_size (at_front look v how b t) ≤ length (b ∷ t)
 at_front-size look how b t (Ends n e) h rest = omega (arith, h)
 at_front-size look how b t (Goes n) h rest =
     grind (arith, length-append (take n (b ∷ t)), take-at_most n (b ∷ t), take-within n (b ∷ t))
 
 reach_in-size : (look : List ℕ → Look) (how : End) → IsWithin look
-    → (k : ℕ) (t : List ℕ) → size_of (reach_in look how k t) ≤ length t - k
+    → (k : ℕ) (t : List ℕ) → reach_size (reach_in look how k t) ≤ length t - k
 reach_in-size look how within k [] = omega arith
 reach_in-size look how within (suc k) (b ∷ t) = omega (arith, reach_in-size look how within k t)
 reach_in-size look how within zero (b ∷ t) =
     omega (arith, at_front-size look how b t (look (b ∷ t)) (within (b ∷ t)) (λ k. reach_in-size look how within k t))
 
 pub reach-size : (look : List ℕ → Look) (how : End) → IsWithin look
-    → (t : List ℕ) → size_of (reach look how t) ≤ length t
+    → (t : List ℕ) → reach_size (reach look how t) ≤ length t
 reach-size look how within t = omega (arith, reach_in-size look how within 0 t)
 
 -- a choice between two looks
@@ -110,9 +111,9 @@ raw-within sign t = either (begins sign t) _ _ (length t) (begins-size sign t) (
 sign_size : (u : List ℕ) → (if begins (codes "=") u then 1 else (if begins (codes "+=") u then 2 else 0)) ≤ length u
 sign_size u = grind arith
 
-pub opener_sign-size : (t : List ℕ) → opener_sign t ≤ length t
-opener_sign-size t = grind (arith, sign_size, length-drop, prefix_len-le-length is_gap t)
+pub opener_len-size : (t : List ℕ) → opener_len t ≤ length t
+opener_len-size t = grind (arith, sign_size, length-drop, prefix_len-le-length is_gap t)
 
-pub sign_after-size : (how : End) (t : List ℕ) → sign_after how t ≤ length t
-sign_after-size Closed t = opener_sign-size t
-sign_after-size _ t = omega arith
+pub opener_after-size : (how : End) (t : List ℕ) → opener_after how t ≤ length t
+opener_after-size Closed t = opener_len-size t
+opener_after-size _ t = omega arith

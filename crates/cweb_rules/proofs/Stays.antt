@@ -1,5 +1,5 @@
 -- Where literals and numbers begin, whatever follows that can't go on with them.
-use Rattle.cweb_rules.proofs.Common.{arith, ◌≡◌, ℕ, Bool, true, false, cond, ◌&&◌, ◌||◌, ◌==◌, not, List, [], ◌∷◌, ◌++◌, refl, ap, sym, ◌∙◌, codes, if◌then◌else◌, eqb-true, begins, first_is, is_one_of, is_digit, is_word_byte, is_quoted, starts_literal, number_len, starts_number, JoinsAll, after_word, after_number, or_parts, or-false}
+use Rattle.cweb_rules.proofs.Common.{arith, ◌≡◌, ℕ, Bool, true, false, cond, ◌&&◌, ◌||◌, ◌==◌, not, List, [], ◌∷◌, ◌++◌, refl, ap, sym, ◌∙◌, codes, if◌then◌else◌, eqb-true, begins, first_is, is_one_of, is_digit, is_word_byte, has_quote_at, starts_literal, number_len, starts_number, JoinsAll, after_word, after_number, or_parts, or-false}
 use Rattle.cweb_rules.proofs.Joins.{unlike, seam_joins}
 
 -- LITERALS BEGIN
@@ -16,10 +16,12 @@ abbrev pub is_letter_first : List ℕ → Bool
 is_letter_first t = begins (codes "L") t || begins (codes "u") t || begins (codes "U") t
 
 abbrev pub literal_opens : List ℕ → Bool
-literal_opens t = opens (begins (codes "u8") t) (is_letter_first t) (is_quoted 2 t) (is_quoted 1 t) (is_quoted 0 t)
+literal_opens t = opens (begins (codes "u8") t) (is_letter_first t) (has_quote_at 2 t) (has_quote_at 1 t)
+    (has_quote_at 0 t)
 
 pub opening : (t : List ℕ) → starts_literal t ≡ literal_opens t
-opening t = at_prefix (begins (codes "u8") t && is_quoted 2 t) (is_letter_first t && is_quoted 1 t) (λ n. is_quoted n t)
+opening t = at_prefix (begins (codes "u8") t && has_quote_at 2 t) (is_letter_first t && has_quote_at 1 t)
+    (λ n. has_quote_at n t)
 
 no_quote : (c : ℕ) → is_one_of (codes "\"'") c ≡ false → ((34 == c) ≡ false) × ((39 == c) ≡ false)
 no_quote c h = let e = or_parts (34 == c) ((39 == c) || false) h in (e.0, (or_parts (39 == c) false e.1).0)
@@ -34,11 +36,11 @@ literal_stays b (c ∷ e ∷ t) more h = opening (b ∷ c ∷ e ∷ t ++ more) �
 
 -- where a byte is told apart from the letters of the prefixes, only a quote begins a literal
 pub plain_with : (p : ℕ → Bool) (v : Bool) (b : ℕ) (t : List ℕ) → p b ≡ v → p 76 ≡ not v
-    → p 117 ≡ not v → p 85 ≡ not v → starts_literal (b ∷ t) ≡ is_quoted 0 (b ∷ [])
+    → p 117 ≡ not v → p 85 ≡ not v → starts_literal (b ∷ t) ≡ has_quote_at 0 (b ∷ [])
 plain_with p v b t w hL hu hU = grind (arith, unlike p 76 b v w hL, unlike p 85 b v w hU, opening)
 
 -- where no Word begins, only a quote begins a literal
-pub plain_literal : (b : ℕ) (t : List ℕ) → is_word_byte b ≡ false → starts_literal (b ∷ t) ≡ is_quoted 0 (b ∷ [])
+pub plain_literal : (b : ℕ) (t : List ℕ) → is_word_byte b ≡ false → starts_literal (b ∷ t) ≡ has_quote_at 0 (b ∷ [])
 plain_literal b t w = plain_with is_word_byte false b t w refl refl refl
 
 -- NUMBERS BEGIN

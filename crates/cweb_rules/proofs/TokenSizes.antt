@@ -1,5 +1,5 @@
 -- No rule of constants, letters, numbers and punctuators names more than there is.
-use Rattle.cweb_rules.proofs.Common.{◌≡◌, ◌≤◌, ◌<◌, ℕ, ◌+◌, Bool, true, false, ◌&&◌, not, List, [], ◌∷◌, Option, Some, None, length, drop, refl, subst, arith, if◌then◌else◌, nat_lt, codes, prefix_len, position_or_len, decimal, ltb-true, leb-true, length-decimal-le, length-drop, prefix_len-le-length, begins, is_gap, is_replacing, ends_faulty, character, escapes, escaped, octal_value, octal, after_backslash, stands_alone, character_at, faulty_size, constant_of, constant, hex_at, letter_with, letter_after, letter, Transliteration, Valued, Character, longest, number_len, and_parts}
+use Rattle.cweb_rules.proofs.Common.{◌≡◌, ◌≤◌, ◌<◌, ℕ, ◌+◌, Bool, true, false, ◌&&◌, not, List, [], ◌∷◌, Option, Some, None, length, drop, refl, subst, arith, if◌then◌else◌, nat_lt, codes, prefix_len, position_or_len, decimal, ltb-true, leb-true, length-decimal-le, length-drop, prefix_len-le-length, begins, is_gap, is_replacing, ends_faulty, character, escapes, escaped, octal_value, octal, after_backslash, is_plain_character, character_at, faulty_size, constant_of, constant, hex_at, letter_with, letter_after, letter, Transliteration, Valued, Character, longest, number_len, and_parts}
 use Rattle.cweb_rules.proofs.Sizes.{begins-size}
 
 -- CONSTANTS
@@ -30,7 +30,7 @@ octal-is digits = grind (arith, IsCharacter, leb-true (octal_value digits) 255)
 after_backslash-is : (t : List ℕ) → IsCharacter (after_backslash t)
 after_backslash-is t = grind (arith, escaped-is escapes t refl, octal-is)
 
-alone-is : (b : ℕ) → stands_alone b ≡ true → b < 128
+alone-is : (b : ℕ) → is_plain_character b ≡ true → b < 128
 alone-is b h = ltb-true b 128 (and_parts (nat_lt b 128) _ h).0
 
 character_at-is : (t : List ℕ) → IsCharacter (character_at t)

@@ -1,5 +1,5 @@
 -- A text that is one token of C text ends by itself, and what it begins with.
-use Rattle.cweb_rules.proofs.Common.{◌≡◌, ℕ, Bool, true, false, ◌&&◌, ◌==◌, not, List, [], ◌∷◌, ◌++◌, Option, Some, None, length, drop, refl, ap, sym, ◌∙◌, subst, arith, codes, eqb-true, is_one_of, is_digit, is_word_byte, first_is, starts_section, in_c, letter, Transliteration, Effect, GiveAt, End, Closed, JoinsAll, IsToken, joins_last, goes_on, gives_at, is_token, begins_as, c_front, code_front, letter_is, is_closed, is_quoted, starts_raw, Kind, front, starts_number, and_parts, or_parts, and-true, not-false}
+use Rattle.cweb_rules.proofs.Common.{◌≡◌, ℕ, Bool, true, false, ◌&&◌, ◌==◌, not, List, [], ◌∷◌, ◌++◌, Option, Some, None, length, drop, refl, ap, sym, ◌∙◌, subst, arith, codes, eqb-true, is_one_of, is_digit, is_word_byte, first_is, starts_section, in_c, letter, Transliteration, Effect, EmitAt, End, Closed, JoinsAll, IsToken, joins_last, continues_lexeme, emits_at, is_token, begins_as, c_match, effect_match, found_letter_match, is_closed, has_quote_at, starts_raw, Kind, rule_match, starts_number, and_parts, or_parts, and-true, not-false}
 use Rattle.cweb_rules.specs.declared.effect.Effect.TheVariants as effect
 use Rattle.cweb_rules.specs.Kinds as kind
 use Rattle.cweb_rules.proofs.Chosen.{Passed, Coded, Opens, Facts, rule_of, chosen}
@@ -18,7 +18,7 @@ seam_of joins b (d ∷ t) more = seam_of joins d t more
 
 -- what the rules of C text name at the front of a text, outside of an included name's directive
 abbrev pub Names : Kind → List ℕ → ℕ → Type 0
-Names k t n = c_front in_c false false t ≡ front k n
+Names k t n = c_match in_c false false t ≡ rule_match k n
 
 pub facts_of : (d : List ℕ) (k : Kind) (n : ℕ) → Names k d n → Facts d (rule_of k)
 facts_of d k n e = subst (Facts d) (ap (λ f. rule_of f.kind) e) (chosen d)
@@ -29,36 +29,36 @@ no_empty k P e = let n : 1 ≡ 0 = ap (λ f. f.size) e in absurd (omega (arith, 
 -- `@@`
 
 abbrev is_at : Kind → Bool
-is_at k = elim k [ kind.Code e ↦ gives_at e | _ ↦ false ]
+is_at k = elim k [ kind.Code e ↦ emits_at e | _ ↦ false ]
 
-no_letter : (o : Option Transliteration) (t : List ℕ) → is_at (letter_is o t).kind ≡ false
+no_letter : (o : Option Transliteration) (t : List ℕ) → is_at (found_letter_match o t).kind ≡ false
 no_letter None t = refl
 no_letter (Some l) t = refl
 
 abbrev IsAt : Effect → List ℕ → List ℕ → Type 0
-IsAt e t u = (code_front e false u ≡ front (kind.Code GiveAt) 2) × ((code_front e false t).size ≡ 2)
+IsAt e t u = (effect_match e false u ≡ rule_match (kind.Code EmitAt) 2) × ((effect_match e false t).size ≡ 2)
 
-at_of : (e : Effect) (t u : List ℕ) → is_at (code_front e false t).kind ≡ true → IsAt e t u
-at_of GiveAt t u h = (refl, refl)
+at_of : (e : Effect) (t u : List ℕ) → is_at (effect_match e false t).kind ≡ true → IsAt e t u
+at_of EmitAt t u h = (refl, refl)
 at_of effect.Letter t u h = let wrong : true ≡ false = sym h ∙ no_letter (letter (drop 2 t)) t in cc
 at_of _ t u h = cc
 
 code_is : (a b : ℕ) (t : List ℕ) → (64 == a) ≡ true → starts_section (a ∷ b ∷ t) ≡ false
-    → c_front in_c false false (a ∷ b ∷ t) ≡ code_front (in_c b) false (a ∷ b ∷ t)
+    → c_match in_c false false (a ∷ b ∷ t) ≡ effect_match (in_c b) false (a ∷ b ∷ t)
 code_is a b t at section = cc (eqb-true 64 a at)
 
-at_from : (a : ℕ) (d more : List ℕ) → Coded (a ∷ d) → Names (kind.Code GiveAt) (a ∷ d) (length (a ∷ d))
-    → Names (kind.Code GiveAt) (a ∷ d ++ more) (length (a ∷ d))
+at_from : (a : ℕ) (d more : List ℕ) → Coded (a ∷ d) → Names (kind.Code EmitAt) (a ∷ d) (length (a ∷ d))
+    → Names (kind.Code EmitAt) (a ∷ d ++ more) (length (a ∷ d))
 at_from a [] more f e = absurd (omega (arith, at_fits a [] f.0 f.1))
 at_from a (b ∷ t) more f e = grind (arith, code_is a b t, at_of (in_c b), code_is a b (t ++ more))
 
-at_stays : (d more : List ℕ) → Names (kind.Code GiveAt) d (length d) → Names (kind.Code GiveAt) (d ++ more) (length d)
-at_stays [] more e = no_empty (kind.Code GiveAt) (Names (kind.Code GiveAt) more 0) e
-at_stays (a ∷ d) more e = at_from a d more (facts_of (a ∷ d) (kind.Code GiveAt) (length (a ∷ d)) e) e
+at_stays : (d more : List ℕ) → Names (kind.Code EmitAt) d (length d) → Names (kind.Code EmitAt) (d ++ more) (length d)
+at_stays [] more e = no_empty (kind.Code EmitAt) (Names (kind.Code EmitAt) more 0) e
+at_stays (a ∷ d) more e = at_from a d more (facts_of (a ∷ d) (kind.Code EmitAt) (length (a ∷ d)) e) e
 
 code_stays : (c : Effect) (d more : List ℕ) → Names (kind.Code c) d (length d)
-    → gives_at c ≡ true → Names (kind.Code c) (d ++ more) (length d)
-code_stays GiveAt d more e h = at_stays d more e
+    → emits_at c ≡ true → Names (kind.Code c) (d ++ more) (length d)
+code_stays EmitAt d more e h = at_stays d more e
 code_stays _ d more e h = cc
 
 -- LITERALS
@@ -76,7 +76,7 @@ literal_case false units how b d more p o e h = grind (arith, ended how h, liter
 -- EACH TOKEN
 
 pub stays : (joins : ℕ → ℕ → Bool) → JoinsAll joins → (k : Kind) (d more : List ℕ) → Names k d (length d)
-    → is_token k ≡ true → first_is (goes_on joins k d) more ≡ false → Names k (d ++ more) (length d)
+    → is_token k ≡ true → first_is (continues_lexeme joins k d) more ≡ false → Names k (d ++ more) (length d)
 stays joins all k [] more e h seam = no_empty k (Names k more 0) e
 stays joins all kind.Identifier (b ∷ d) more e h seam =
     grind (
@@ -102,7 +102,7 @@ no_digit : (b : ℕ) (t : List ℕ) → starts_number (b ∷ t) ≡ false → is
 no_digit b [] h = h
 no_digit b (c ∷ t) h = (or_parts (is_digit b) ((b == 46) && is_digit c) h).0
 
-no_quote : (b : ℕ) → is_quoted 0 (b ∷ []) ≡ false → is_one_of (codes "\"'") b ≡ false
+no_quote : (b : ℕ) → has_quote_at 0 (b ∷ []) ≡ false → is_one_of (codes "\"'") b ≡ false
 no_quote b h = grind (arith, or_parts ((34 == b) && true) ((39 == b) && true) h, and-true (34 == b), and-true (39 == b))
 
 abbrev no_opener : ℕ → Bool
@@ -131,7 +131,7 @@ first_of _ (b ∷ d) e h = cc
 -- THE LAWS
 
 pub tokens_stay : (joins : ℕ → ℕ → Bool) (k : Kind) (d more : List ℕ) → JoinsAll joins
-    → IsToken k d → first_is (goes_on joins k d) more ≡ false → Names k (d ++ more) (length d)
+    → IsToken k d → first_is (continues_lexeme joins k d) more ≡ false → Names k (d ++ more) (length d)
 tokens_stay joins k d more all h seam = stays joins all k d more h.whole h.token seam
 
 pub tokens_begin : (k : Kind) (d : List ℕ) → IsToken k d → first_is (begins_as k) d ≡ true

@@ -1,5 +1,5 @@
 -- The line ends in the bytes of lines and of units, as far as the kind of the piece tells them.
-use Rattle.cweb_rules.proofs.Common.{◌≡◌, ◌≤◌, ◌<◌, ℕ, zero, suc, ◌+◌, ◌-◌, Bool, true, false, List, [], ◌∷◌, ◌++◌, length, take, drop, refl, ap, sym, ◌∙◌, subst, arith, take-append-drop, append_assoc, append-nil, if◌then◌else◌, codes, flat_map, take-add, drop-nil, take-append_seam, ne_eqb, flat_map-append, take-append-le, begins, starts_section, Reach, reach, reach_in, with_unit, body, size_of, quoted, look_in_raw, Kind, Skipped, Occurrence, LineEnd, Comment, Quoted, Front, IsLine, at_line_ends, End, Cut, Look, Goes, Ends}
+use Rattle.cweb_rules.proofs.Common.{◌≡◌, ◌≤◌, ◌<◌, ℕ, zero, suc, ◌+◌, ◌-◌, Bool, true, false, List, [], ◌∷◌, ◌++◌, length, take, drop, refl, ap, sym, ◌∙◌, subst, arith, take-append-drop, append_assoc, append-nil, if◌then◌else◌, codes, flat_map, take-add, drop-nil, take-append_seam, ne_eqb, flat_map-append, take-append-le, begins, starts_section, Reach, reach, reach_in, with_unit, body, reach_size, quoted_match, look_in_raw, Kind, Skipped, Occurrence, LineEnd, Comment, Quoted, RuleMatch, IsLine, at_line_ends, End, Cut, Look, Goes, Ends}
 use Rattle.cweb_rules.proofs.InLines.{InLine, AreLines, IsLine-take}
 use Rattle.cweb_rules.proofs.Looks.{IsSome, AllSome}
 
@@ -14,7 +14,7 @@ Tells LineEnd bytes = bytes ≡ 10 ∷ []
 Tells (Quoted us how) bytes = at_line_ends 1 (flat_map (λ u. u) us) ≡ at_line_ends 1 bytes
 Tells k bytes = at_line_ends 1 bytes ≡ 0
 
-abbrev pub Told : List ℕ → Front → Type 0
+abbrev pub Told : List ℕ → RuleMatch → Type 0
 Told t f = Tells f.kind (take f.size t)
 
 -- LINES
@@ -40,7 +40,7 @@ line-told (Quoted us how) bytes h l = units-none us h ∙ sym (none-ends bytes l
 line-told _ bytes h l = none-ends bytes l
 
 -- what a line's front names is told, whatever follows the line
-pub in_line-told : (f : Front) (u more : List ℕ) → IsLine u
+pub in_line-told : (f : RuleMatch) (u more : List ℕ) → IsLine u
     → InLine f.kind (take f.size u) → f.size ≤ length u → Told (u ++ more) f
 in_line-told f u more l h fits = subst (Tells f.kind)
     (sym (take-append-le f.size u more fits)) (line-told f.kind (take f.size u) h (IsLine-take f.size u l))
@@ -87,7 +87,7 @@ drop-sum (suc n) m (b ∷ t) =
 -- the units of a literal are its bytes
 pub quoted-bytes : (look : List ℕ → Look) → AllSome look → (n : ℕ) (t : List ℕ) → (let r = reach look Cut (drop n t) in
     flat_map (λ u. u) (take n t ∷ r.units ++ take r.close (drop (n + length (body r)) t) ∷ []))
-    ≡ take (n + size_of (reach look Cut (drop n t))) t
+    ≡ take (n + reach_size (reach look Cut (drop n t))) t
 quoted-bytes look some n t =
     let r = reach look Cut (drop n t) in
     let m = length (body r) in
@@ -100,7 +100,7 @@ quoted-bytes look some n t =
     ap (λ u. take n t ++ u) units ∙ sym (take-add n (m + r.close) t)
 
 pub quoted-told : (look : List ℕ → Look) → AllSome look → (n : ℕ) (t : List ℕ)
-    → Told t (quoted n (reach look Cut (drop n t)) t)
+    → Told t (quoted_match n (reach look Cut (drop n t)) t)
 quoted-told look some n t = ap (at_line_ends 1) (quoted-bytes look some n t)
 
 some_if : (v : Bool) (x y : Look) → IsSome x → IsSome y → IsSome (if v then x else y)

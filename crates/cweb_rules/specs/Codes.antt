@@ -1,49 +1,53 @@
 -- What the control codes do, in each context.
 use Rattle.std.specs.Prelude.{ℕ, List, [], ◌∷◌, codes, if◌then◌else◌}
 use Rattle.cweb_rules.specs.declared.effect.Effect.{Effect}
-use Rattle.cweb_rules.specs.declared.effect.Effect.TheVariants.{Nothing, Define, Format, Program, Named, Letter, ControlText, Verbatim, Constant, InsertDefs, Joins, GiveAt, Faulty}
-use Rattle.cweb_rules.specs.declared.fault.ScanKind.TheVariants.{DoubleAtInLimbo, LetterOutsideLimbo, IgnoredInCText, DefsInMacro}
+use Rattle.cweb_rules.specs.declared.effect.Effect.TheVariants.{Nothing, Define, Format, Program, Named, Letter}
+use Rattle.cweb_rules.specs.declared.effect.Effect.TheVariants.{ControlText, Verbatim, Constant, InsertDefs, Joins}
+use Rattle.cweb_rules.specs.declared.effect.Effect.TheVariants.{EmitAt, Faulty}
+use Rattle.cweb_rules.specs.declared.fault.ScanKind.TheVariants.{DoubleAtInLimbo, LetterOutsideLimbo, IgnoredInCText}
+use Rattle.cweb_rules.specs.declared.fault.ScanKind.TheVariants.{DefsInMacro}
 use Rattle.cweb_rules.specs.Bytes.{is_one_of, lower}
 
 -- a line of the table of codes: their letters in lower case, and what they do in text, in a macro and in C
-pub record Row : Type 0 where
+pub record CodeEntry : Type 0 where
   pub letters : List ℕ
-  pub in_text : Effect
+  pub in_tex : Effect
   pub in_macro : Effect
   pub in_c : Effect
 
-abbrev row : List ℕ → Effect → Effect → Effect → Row
-row letters in_text in_macro in_c = record { letters = letters; in_text = in_text; in_macro = in_macro; in_c = in_c }
+abbrev code_entry : List ℕ → Effect → Effect → Effect → CodeEntry
+code_entry letters in_tex in_macro in_c =
+    record { letters = letters; in_tex = in_tex; in_macro = in_macro; in_c = in_c }
 
 --                      text      macro                        C
-abbrev pub table : List Row
-table =
-    row (codes "d") Define Define (Faulty IgnoredInCText)
-    ∷ row (codes "fs") Nothing Format (Faulty IgnoredInCText)
-    ∷ row (codes "cp") Program Program (Faulty IgnoredInCText)
-    ∷ row (codes "<(") Named Named Named
-    ∷ row (codes "h") Nothing (Faulty DefsInMacro) InsertDefs
-    ∷ row (codes "&") Nothing Joins Joins
-    ∷ row (codes "=") Nothing Verbatim Verbatim
-    ∷ row (codes "'") Nothing Constant Constant
-    ∷ row (codes "^.:tq") Nothing ControlText ControlText
-    ∷ row (codes "l") Nothing (Faulty LetterOutsideLimbo) (Faulty LetterOutsideLimbo)
-    ∷ row (codes "@") Nothing GiveAt GiveAt
+abbrev pub code_table : List CodeEntry
+code_table =
+    code_entry (codes "d") Define Define (Faulty IgnoredInCText)
+    ∷ code_entry (codes "fs") Nothing Format (Faulty IgnoredInCText)
+    ∷ code_entry (codes "cp") Program Program (Faulty IgnoredInCText)
+    ∷ code_entry (codes "<(") Named Named Named
+    ∷ code_entry (codes "h") Nothing (Faulty DefsInMacro) InsertDefs
+    ∷ code_entry (codes "&") Nothing Joins Joins
+    ∷ code_entry (codes "=") Nothing Verbatim Verbatim
+    ∷ code_entry (codes "'") Nothing Constant Constant
+    ∷ code_entry (codes "^.:tq") Nothing ControlText ControlText
+    ∷ code_entry (codes "l") Nothing (Faulty LetterOutsideLimbo) (Faulty LetterOutsideLimbo)
+    ∷ code_entry (codes "@") Nothing EmitAt EmitAt
     ∷ []
 
 -- a code of no row gives nothing
-abbrev pub row_of : List Row → ℕ → Row
-row_of [] letter = row [] Nothing Nothing Nothing
-row_of (r ∷ rs) letter = if is_one_of r.letters letter then r else row_of rs letter
+abbrev pub entry_for : List CodeEntry → ℕ → CodeEntry
+entry_for [] letter = code_entry [] Nothing Nothing Nothing
+entry_for (r ∷ rs) letter = if is_one_of r.letters letter then r else entry_for rs letter
 
-abbrev pub in_text : ℕ → Effect
-in_text letter = (row_of table (lower letter)).in_text
+abbrev pub in_tex : ℕ → Effect
+in_tex letter = (entry_for code_table (lower letter)).in_tex
 
 abbrev pub in_macro : ℕ → Effect
-in_macro letter = (row_of table (lower letter)).in_macro
+in_macro letter = (entry_for code_table (lower letter)).in_macro
 
 abbrev pub in_c : ℕ → Effect
-in_c letter = (row_of table (lower letter)).in_c
+in_c letter = (entry_for code_table (lower letter)).in_c
 
 abbrev pub in_limbo : ℕ → Effect
 in_limbo letter =

@@ -1,17 +1,20 @@
 -- `@'` and `@l`: a character's code, and a letter with its replacement.
-use Rattle.std.specs.Prelude.{ℕ, ◌+◌, ◌*◌, ◌-◌, Bool, ◌||◌, ◌&&◌, ◌==◌, nat_le, nat_lt, min, List, [], ◌∷◌, length, take, drop, codes, if◌then◌else◌, Option, Some, None, not}
+use Rattle.std.specs.Prelude.{ℕ, ◌+◌, ◌*◌, ◌-◌, Bool, ◌||◌, ◌&&◌, ◌==◌, nat_le, nat_lt, min, List, [], ◌∷◌, length}
+use Rattle.std.specs.Prelude.{take, drop, codes, if◌then◌else◌, Option, Some, None, not}
 use Rattle.std.specs.List.{fold, prefix_len, position_or_len}
 use Rattle.cweb_rules.specs.declared.constants.Character.{Character}
 use Rattle.cweb_rules.specs.declared.constants.Valued.{Valued}
 use Rattle.cweb_rules.specs.declared.constants.Transliteration.{Transliteration}
-use Rattle.cweb_rules.specs.Bytes.{begins, is_one_of, is_octal, is_hex, is_digit, is_gap, is_replacing, is_line_end, lower}
+use Rattle.cweb_rules.specs.Bytes.{begins, is_one_of, is_octal, is_hex, is_digit, is_gap, is_replacing, is_line_end}
+use Rattle.cweb_rules.specs.Bytes.{lower}
 
 abbrev pub character : ℕ → ℕ → Option Character
 character code size = Some (record { code = code; size = size })
 
 -- the letters after `\` and the codes that they stand for
 abbrev pub escapes : List (ℕ × ℕ)
-escapes = (97, 7) ∷ (98, 8) ∷ (102, 12) ∷ (110, 10) ∷ (114, 13) ∷ (116, 9) ∷ (118, 11) ∷ (92, 92) ∷ (39, 39) ∷ (34, 34) ∷ (63, 63) ∷ []
+escapes = (97, 7) ∷ (98, 8) ∷ (102, 12) ∷ (110, 10) ∷ (114, 13) ∷ (116, 9) ∷ (118, 11) ∷ (92, 92) ∷ (39, 39) ∷ (34, 34)
+    ∷ (63, 63) ∷ []
 
 abbrev pub escaped : List (ℕ × ℕ) → List ℕ → Option Character
 escaped [] t = None
@@ -31,8 +34,8 @@ after_backslash t =
     let n = min 3 (prefix_len is_octal t) in
     if n == 0 then escaped escapes t else octal (take n t)
 
-abbrev pub stands_alone : ℕ → Bool
-stands_alone b = nat_lt b 128 && not (is_one_of (39 ∷ 92 ∷ 64 ∷ 10 ∷ []) b)
+abbrev pub is_plain_character : ℕ → Bool
+is_plain_character b = nat_lt b 128 && not (is_one_of (39 ∷ 92 ∷ 64 ∷ 10 ∷ []) b)
 
 -- a byte below 128 that stands for itself, `@@`, or `\` with what it escapes
 abbrev pub character_at : List ℕ → Option Character
@@ -40,7 +43,7 @@ character_at [] = None
 character_at (b ∷ t) =
     if begins (codes "@@") (b ∷ t) then character 64 2
     else (if begins (codes "\\") (b ∷ t) then after_backslash t
-    else (if stands_alone b then character b 1 else None))
+    else (if is_plain_character b then character b 1 else None))
 
 abbrev pub ends_faulty : ℕ → Bool
 ends_faulty b = (b == 39) || is_line_end b

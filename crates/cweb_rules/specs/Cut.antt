@@ -30,5 +30,5 @@ reach look at_end t = reach_in look at_end 0 t
 abbrev pub body : Reach → List ℕ
 body r = flat_map (λ u. u) r.units
 
-abbrev pub size_of : Reach → ℕ
-size_of r = length (body r) + r.close
+abbrev pub reach_size : Reach → ℕ
+reach_size r = length (body r) + r.close

@@ -23,13 +23,13 @@ pub data Kind : Type 0 where
   Identifier Numeral Punctuator : Kind
 
 -- what a rule names at the front of a text
-pub record Front : Type 0 where
+pub record RuleMatch : Type 0 where
   pub kind : Kind
   pub size : ℕ
 
-abbrev pub front : Kind → ℕ → Front
-front k n = record { kind = k; size = n }
+abbrev pub rule_match : Kind → ℕ → RuleMatch
+rule_match k n = record { kind = k; size = n }
 
-pub record Piece : Type 0 where
+pub record Lexeme : Type 0 where
   pub kind : Kind
   pub bytes : List ℕ

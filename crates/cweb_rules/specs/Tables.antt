@@ -1,16 +1,14 @@
 -- Numbers and punctuators.
-use Rattle.std.specs.Prelude.{ℕ, ◌+◌, Bool, true, false, ◌||◌, ◌&&◌, ◌==◌, max, List, [], ◌∷◌, length, codes, if◌then◌else◌}
+use Rattle.std.specs.Prelude.{ℕ, ◌+◌, Bool, true, false, ◌||◌, ◌&&◌, ◌==◌, max, List, [], ◌∷◌, length, codes}
+use Rattle.std.specs.Prelude.{if◌then◌else◌}
 use Rattle.cweb_rules.specs.Bytes.{begins, is_one_of, is_digit, is_word_byte}
 
 -- the punctuators of more than one byte
 abbrev pub listed : List (List ℕ)
-listed = codes "..." ∷ codes "<<=" ∷ codes ">>=" ∷ codes "->*" ∷ codes "->" ∷ codes "++" ∷ codes "--" ∷ codes "<<" ∷ codes ">>"
+listed = codes "..." ∷ codes "<<=" ∷ codes ">>=" ∷ codes "->*" ∷ codes "->" ∷ codes "++" ∷ codes "--" ∷ codes "<<"
+    ∷ codes ">>"
     ∷ codes "<=" ∷ codes ">=" ∷ codes "==" ∷ codes "!=" ∷ codes "&&" ∷ codes "||" ∷ codes "*=" ∷ codes "/=" ∷ codes "%="
     ∷ codes "+=" ∷ codes "-=" ∷ codes "&=" ∷ codes "^=" ∷ codes "|=" ∷ codes "##" ∷ codes "::" ∷ codes ".*" ∷ []
-
--- the bytes that stand in their second places
-abbrev pub seconds : List ℕ
-seconds = codes ".<>=-+&|*#:"
 
 -- the length of the longest entry that a text begins with, and else 1
 abbrev pub longest : List (List ℕ) → List ℕ → ℕ
@@ -18,12 +16,12 @@ longest [] t = 1
 longest (p ∷ ps) t = max (if begins p t then length p else 1) (longest ps t)
 
 -- identifier bytes, `.`, and `+` or `-` right after one of `e E p P`
-abbrev pub goes_on_number : ℕ → ℕ → Bool
-goes_on_number last b = is_word_byte b || (b == 46) || (is_one_of (codes "+-") b && is_one_of (codes "eEpP") last)
+abbrev pub continues_number : ℕ → ℕ → Bool
+continues_number last b = is_word_byte b || (b == 46) || (is_one_of (codes "+-") b && is_one_of (codes "eEpP") last)
 
 abbrev pub number_len : ℕ → List ℕ → ℕ
 number_len last [] = 0
-number_len last (b ∷ t) = elim (goes_on_number last b) [ true ↦ 1 + number_len b t | false ↦ 0 ]
+number_len last (b ∷ t) = elim (continues_number last b) [ true ↦ 1 + number_len b t | false ↦ 0 ]
 
 -- a digit, or `.` and a digit
 abbrev pub starts_number : List ℕ → Bool

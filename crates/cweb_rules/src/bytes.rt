@@ -2,7 +2,7 @@
 ghost use Rattle.std.specs.Prelude.{◌≡◌, ◌≤◌, IsTrue, length, take, true};
 ghost use Rattle.std.specs.List.{prefix_len};
 ghost use Rattle.cweb_rules.specs.Bytes as spec;
-ghost use Rattle.cweb_rules.specs.Classes.{in_class};
+ghost use Rattle.cweb_rules.specs.inner.ByteClasses.{in_class};
 
 /// A class of bytes.
 #[derive(Clone, Copy)]
@@ -160,23 +160,23 @@ fn word_len(text: &[u8]) -> usize
         }
         rest = rest.split_at(4).1;
     }
-    text.len() - rest.len() + short_run_len(Class::Word, rest)
+    text.len() - rest.len() + span_len_bytewise(Class::Word, rest)
 }
 
 /// How many bytes at a text's front are of a class.
 #[inline(always)]
-pub fn run_len(class: Class, text: &[u8]) -> usize
+pub fn span_len(class: Class, text: &[u8]) -> usize
     ensures value { result ≡ prefix_len (in_class class) text.now }
     ensures within { result ≤ length text.now }
 {
     match class {
         Class::Word => word_len(text),
-        _ => short_run_len(class, text),
+        _ => span_len_bytewise(class, text),
     }
 }
 
 // The same, one byte at a time.
-fn short_run_len(class: Class, text: &[u8]) -> usize
+fn span_len_bytewise(class: Class, text: &[u8]) -> usize
     ensures value { result ≡ prefix_len (in_class class) text.now }
     ensures within { result ≤ length text.now }
 {
@@ -190,14 +190,14 @@ fn short_run_len(class: Class, text: &[u8]) -> usize
 
 /// The same, where the first byte is known to be of the class: it isn't looked at again.
 #[inline(always)]
-pub fn begun_run_len(class: Class, text: &[u8]) -> usize
+pub fn nonempty_span_len(class: Class, text: &[u8]) -> usize
     requires first { spec.first_is (in_class class) text.now ≡ true }
     ensures value { result ≡ prefix_len (in_class class) text.now }
     ensures within { result ≤ length text.now }
     ensures some { 1 ≤ result }
 {
     let (_, rest) = text.split_at(1);
-    1 + run_len(class, rest)
+    1 + span_len(class, rest)
 }
 
 /// Whether a text begins with a sign.

@@ -18,8 +18,8 @@ pub fn in_limbo(letter: u8) -> Effect
 }
 
 /// What a code does in the TeX and middle parts of a section.
-pub fn in_text(letter: u8) -> Effect
-    ensures { result ≡ spec.in_text letter }
+pub fn in_tex(letter: u8) -> Effect
+    ensures { result ≡ spec.in_tex letter }
 {
     match letter {
         b'd' | b'D' => Effect::Define,
@@ -44,7 +44,7 @@ pub fn in_macro(letter: u8) -> Effect
         b'\'' => Effect::Constant,
         b'^' | b'.' | b':' | b't' | b'T' | b'q' | b'Q' => Effect::ControlText,
         b'l' | b'L' => Effect::Faulty(ScanKind::LetterOutsideLimbo),
-        b'@' => Effect::GiveAt,
+        b'@' => Effect::EmitAt,
         _ => Effect::Nothing,
     }
 }
@@ -64,7 +64,7 @@ pub fn in_c(letter: u8) -> Effect
         b'\'' => Effect::Constant,
         b'^' | b'.' | b':' | b't' | b'T' | b'q' | b'Q' => Effect::ControlText,
         b'l' | b'L' => Effect::Faulty(ScanKind::LetterOutsideLimbo),
-        b'@' => Effect::GiveAt,
+        b'@' => Effect::EmitAt,
         _ => Effect::Nothing,
     }
 }

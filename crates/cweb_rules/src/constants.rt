@@ -4,7 +4,7 @@ ghost use Rattle.std.specs.List.{position_or_len};
 ghost use Rattle.cweb_rules.specs.Bytes as bytes;
 ghost use Rattle.cweb_rules.specs.Constants as spec;
 
-use crate::bytes::{Class, begins, is_digit, is_hex, run_len};
+use crate::bytes::{Class, begins, is_digit, is_hex, span_len};
 
 /// A character as it is written: its code, and how many bytes it takes.
 #[derive(Clone, Copy)]
@@ -83,7 +83,7 @@ fn octal(digits: &[u8]) -> Option<Character>
 fn after_backslash(text: &[u8]) -> Option<Character>
     ensures { result ≡ spec.after_backslash text.now }
 {
-    let size = run_len(Class::Octal, text).min(3);
+    let size = span_len(Class::Octal, text).min(3);
     if size == 0 {
         return escaped(text);
     }
@@ -91,8 +91,8 @@ fn after_backslash(text: &[u8]) -> Option<Character>
     octal(digits)
 }
 
-fn stands_alone(byte: u8) -> bool
-    ensures { result ≡ spec.stands_alone byte }
+fn is_plain_character(byte: u8) -> bool
+    ensures { result ≡ spec.is_plain_character byte }
 {
     byte < 128 && !matches!(byte, b'\'' | b'\\' | b'@' | b'\n')
 }
@@ -113,7 +113,7 @@ fn character_at(text: &[u8]) -> Option<Character>
     if begins(b"\\", text) {
         return after_backslash(rest);
     }
-    if stands_alone(*first) {
+    if is_plain_character(*first) {
         return Some(Character {
             code: *first,
             size: 1,
@@ -205,11 +205,11 @@ pub fn letter(text: &[u8]) -> Option<Transliteration>
     ensures within { IfSome result (λ found. found.start + found.size ≤ length text.now) }
     ensures high { IfSome result (λ found. 128 ≤ found.byte) }
 {
-    let gap = run_len(Class::Gap, text);
+    let gap = span_len(Class::Gap, text);
     let (_, digits) = text.split_at(gap);
     let byte = hex_at(digits)?;
     let (_, rest) = digits.split_at(2);
-    let more = run_len(Class::Gap, rest);
+    let more = span_len(Class::Gap, rest);
     if more == 0 {
         return None;
     }
@@ -217,6 +217,6 @@ pub fn letter(text: &[u8]) -> Option<Transliteration>
     Some(Transliteration {
         byte,
         start: gap + 2 + more,
-        size: run_len(Class::Replacing, replacement),
+        size: span_len(Class::Replacing, replacement),
     })
 }

@@ -28,7 +28,7 @@ pub enum Effect {
     /// The tokens beside the code are joined.
     Joins,
     /// `@@`: the punctuator `@`.
-    GiveAt,
+    EmitAt,
     /// The code has no place here.
     Faulty(ScanKind),
 }

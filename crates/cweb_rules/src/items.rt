@@ -1,11 +1,11 @@
 // The items that last to an end sign: control texts, names, comments, literals and included names.
 ghost use Rattle.std.specs.Prelude.{◌≡◌, ◌≤◌, ◌<◌, ◌+◌, length};
 ghost use Rattle.cweb_rules.specs.Items as spec;
-ghost use Rattle.cweb_rules.specs.Looks.{look_of, reached, MovesOn};
+ghost use Rattle.cweb_rules.specs.inner.Looks.{look_of, reached, MovesOn};
 ghost use Rattle.cweb_rules.specs.declared.end.End.TheVariants as how;
 ghost use Rattle.cweb_rules.specs.Cut as cut;
 
-use crate::bytes::{Class, at_line_end, begins, run_len, starts_section};
+use crate::bytes::{Class, at_line_end, begins, span_len, starts_section};
 use crate::end::End;
 use crate::look::Look;
 
@@ -190,11 +190,11 @@ pub fn reach(item: Item<'_>, text: &[u8]) -> Reached
 }
 
 /// How many bytes the opener sign at a text's front has: blanks and tabs, then `=` or `+=` with no further `=`; else none.
-pub fn opener_sign(text: &[u8]) -> usize
-    ensures value { result ≡ spec.opener_sign text.now }
+pub fn opener_len(text: &[u8]) -> usize
+    ensures value { result ≡ spec.opener_len text.now }
     ensures within { result ≤ length text.now }
 {
-    let gap = run_len(Class::Gap, text);
+    let gap = span_len(Class::Gap, text);
     let (_, sign) = text.split_at(gap);
     let size = if begins(b"=", sign) {
         1

@@ -3,19 +3,20 @@
 ghost use Rattle.std.specs.Prelude.{◌≡◌, ◌+◌, ℕ, Bool, true, false, List, ◌∷◌, ◌++◌, codes, length};
 ghost use Rattle.std.specs.List.{list_all};
 ghost use Rattle.cweb_rules.specs.Bytes.{first_is};
-ghost use Rattle.cweb_rules.specs.Follows.{JoinsAll, IsToken, goes_on, begins_as, is_quiet};
-ghost use Rattle.cweb_rules.specs.Fronts.{front_in};
-ghost use Rattle.cweb_rules.specs.Kinds.{Kind, Comment, front};
-ghost use Rattle.cweb_rules.specs.Pays.{Fair};
+ghost use Rattle.cweb_rules.specs.laws.Follows.{JoinsAll, IsToken, continues_lexeme, begins_as};
+ghost use Rattle.cweb_rules.specs.laws.Follows.{is_quiet};
+ghost use Rattle.cweb_rules.specs.Matches.{match_in};
+ghost use Rattle.cweb_rules.specs.Kinds.{Kind, Comment, rule_match};
+ghost use Rattle.cweb_rules.specs.laws.Pays.{FitsAndPays};
 ghost use Rattle.cweb_rules.specs.declared.context.Context.{Context};
 ghost use Rattle.cweb_rules.specs.declared.context.Context.TheVariants.{CText};
 ghost use Rattle.cweb_rules.specs.declared.end.End.TheVariants.{Closed};
 
 /// Of a text that has a byte, the first piece has a byte in every context, stands in the text, and is no shorter than `Pays` asks
 /// of its kind.
-pub fn fronts_are_fair()
+pub fn matches_fit_and_pay()
     ensures { (c : Context) (includes : Bool) (b : ℕ) (t : List ℕ)
-        → Fair c (b ∷ t) (front_in c includes (b ∷ t)) }
+        → FitsAndPays c (b ∷ t) (match_in c includes (b ∷ t)) }
 {}
 
 /// A text that is one token of C text is the first piece of each longer C text whose next byte may not go on with it, where no
@@ -24,7 +25,8 @@ pub fn fronts_are_fair()
 pub fn tokens_end_by_themselves()
     ensures { (joins : ℕ → ℕ → Bool) (kind : Kind) (token more : List ℕ)
         → JoinsAll joins → IsToken kind token
-        → first_is (goes_on joins kind token) more ≡ false → front_in CText false (token ++ more) ≡ front kind (length token) }
+        → first_is (continues_lexeme joins kind token) more ≡ false
+        → match_in CText false (token ++ more) ≡ rule_match kind (length token) }
 {}
 
 /// A token's first byte is one that its kind begins with: no digit begins an identifier, no word byte, quote or white byte a
@@ -37,5 +39,6 @@ pub fn tokens_begin_by_kind()
 /// A comment with neither `*` nor `@` in it ends by itself, whatever follows it in C text, where no included name may stand.
 pub fn comments_end_by_themselves()
     ensures { (text more : List ℕ) → list_all is_quiet text ≡ true
-        → front_in CText false (codes "/*" ++ (text ++ (codes "*/" ++ more))) ≡ front (Comment Closed) (2 + (length text + 2)) }
+        → match_in CText false (codes "/*" ++ (text ++ (codes "*/" ++ more)))
+        ≡ rule_match (Comment Closed) (2 + (length text + 2)) }
 {}

@@ -1,42 +1,56 @@
-//! The rules by which a web's text is cut into pieces: classes of bytes, control codes, items, and what stands at the front of
-//! the rest of a text in each context. The CWEB manual, "Control codes"; its C text is that of the C standard.
+//! The lexical rules of a web: classes of bytes, control codes, items, and the lexeme at the start of the rest of a text in each
+//! context. The CWEB manual, "Control codes"; the lexemes of C text are those of the C standard.
 #![tactic(auto)]
 
 // the contexts of a text
 mod context;
 
-// classes of bytes, and signs
+// classes of bytes
 pub mod bytes;
 
-// control codes, and what each does where it stands
+// control codes, and the effect of each in each context
 pub mod codes;
 mod effect;
 
-// the pieces of C text
+// lexemes of C text
 pub mod constants;
 pub mod literals;
 pub mod numbers;
 pub mod punctuators;
 
-// what lasts to an end sign, by its units, and how it ends
+// first bytes of C lexemes
+mod firsts;
+
+// the quotes of literals
+mod quote;
+
+// items that end at a closing delimiter, unit by unit
 mod end;
 pub mod items;
 mod look;
+mod units;
 
-// runs of bytes that are no end of anything
+// literals that end in their line
+mod whole_literals;
+
+// bytes before the next special byte
 pub mod plains;
 
-// which of all these stands at the front
+// the rule that applies at the start of a text
 pub mod rule;
 
-// what is wrong in a text
+// faults of a text
 mod fault;
 
-// what holds of every text
+// what holds for any text
 pub mod laws;
 
 pub use context::Context;
 pub use effect::Effect;
 pub use end::End;
 pub use fault::{ScanFault, ScanKind};
+pub use firsts::{Plain, first_byte_class, past_blank};
 pub use look::Look;
+pub use quote::Quote;
+pub use units::{push_unit, push_units};
+pub use whole_literals::quoted_len;

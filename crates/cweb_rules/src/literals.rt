@@ -1,13 +1,13 @@
 // How literals of C text begin.
 ghost use Rattle.std.specs.Prelude.{◌≡◌, ◌≤◌, ◌<◌, ◌+◌, length, drop, IsTrue};
-ghost use Rattle.cweb_rules.specs.Fronts as spec;
+ghost use Rattle.cweb_rules.specs.Matches as spec;
 
-use crate::bytes::{Class, begins, run_len};
+use crate::bytes::{Class, begins, span_len};
 
 // Whether a quote stands behind the first n bytes.
-fn is_quoted(n: usize, text: &[u8]) -> bool
+fn has_quote_at(n: usize, text: &[u8]) -> bool
     requires { n ≤ length text.now }
-    ensures value { result ≡ spec.is_quoted n text.now }
+    ensures value { result ≡ spec.has_quote_at n text.now }
     ensures within { IsTrue result → n < length text.now }
 {
     let (_, rest) = text.split_at(n);
@@ -19,11 +19,11 @@ pub fn literal_prefix(text: &[u8]) -> usize
     ensures value { result ≡ spec.literal_prefix text.now }
     ensures within { result ≤ length text.now }
 {
-    if begins(b"u8", text) && is_quoted(2, text) {
+    if begins(b"u8", text) && has_quote_at(2, text) {
         return 2;
     }
     let has_prefix = begins(b"L", text) || begins(b"u", text) || begins(b"U", text);
-    if has_prefix && is_quoted(1, text) {
+    if has_prefix && has_quote_at(1, text) {
         return 1;
     }
     0
@@ -34,7 +34,7 @@ pub fn starts_literal(text: &[u8]) -> bool
     ensures value { result ≡ spec.starts_literal text.now }
     ensures within { IsTrue result → spec.literal_prefix text.now < length text.now }
 {
-    is_quoted(literal_prefix(text), text)
+    has_quote_at(literal_prefix(text), text)
 }
 
 /// The quote at a text's front.
@@ -62,7 +62,7 @@ pub fn raw_prefix(text: &[u8]) -> usize
 fn has_delimiter(text: &[u8]) -> bool
     ensures { result ≡ spec.has_delimiter text.now }
 {
-    let size = run_len(Class::Delimiter, text);
+    let size = span_len(Class::Delimiter, text);
     let (_, rest) = text.split_at(size);
     size <= 16 && begins(b"(", rest)
 }
@@ -84,6 +84,6 @@ pub fn starts_raw(text: &[u8]) -> bool
 pub fn delimiter(text: &[u8]) -> &[u8]
     ensures { result.now ≡ spec.delimiter text.now }
 {
-    let (delimiter, _) = text.split_at(run_len(Class::Delimiter, text));
+    let (delimiter, _) = text.split_at(span_len(Class::Delimiter, text));
     delimiter
 }

@@ -16,8 +16,8 @@ pub fn starts_number(text: &[u8]) -> bool
 }
 
 // Whether a byte goes on with a number whose last byte so far is `last`.
-fn goes_on(last: u8, byte: u8) -> bool
-    ensures { result ≡ spec.goes_on_number last byte }
+fn continues_number(last: u8, byte: u8) -> bool
+    ensures { result ≡ spec.continues_number last byte }
 {
     is_word_byte(byte)
         || byte == b'.'
@@ -31,7 +31,7 @@ pub fn number_len(text: &[u8]) -> usize
 {
     let mut last = 0;
     for (i, byte) in text.iter().enumerate() {
-        if !goes_on(last, *byte) {
+        if !continues_number(last, *byte) {
             return i;
         }
         last = *byte;

@@ -1,7 +1,7 @@
 // The bytes of an item that are no part of a sign, many at a time.
 ghost use Rattle.std.specs.Prelude.{◌≡◌, ◌≤◌, ◌==◌, ◌||◌, length, not};
 ghost use Rattle.std.specs.List.{prefix_len};
-ghost use Rattle.cweb_rules.specs.Plains.{is_plain, is_raw_sign};
+ghost use Rattle.cweb_rules.specs.inner.PlainBytes.{is_plain, is_raw_special};
 ghost use Rattle.memchr.specs.Find.{is_byte, is_byte2, is_byte3};
 
 use crate::items::Item;
@@ -46,7 +46,7 @@ fn plain_in_literal(quote: u8, text: &[u8]) -> usize
 }
 
 fn plain_in_raw(sign: &[u8], text: &[u8]) -> usize
-    ensures value { result ≡ prefix_len (λ b. not (is_raw_sign sign.now b)) text.now }
+    ensures value { result ≡ prefix_len (λ b. not (is_raw_special sign.now b)) text.now }
     ensures within { result ≤ length text.now }
 {
     match sign {

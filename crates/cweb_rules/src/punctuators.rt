@@ -2,8 +2,9 @@
 ghost use Rattle.std.specs.Prelude.{◌≡◌, false, map};
 ghost use Rattle.cweb_rules.specs.Bytes.{is_one_of};
 ghost use Rattle.cweb_rules.specs.Bytes as spec;
-ghost use Rattle.cweb_rules.specs.Tables.{listed, longest, seconds};
-ghost use Rattle.cweb_rules.specs.Signs.{first_len, second_is};
+ghost use Rattle.cweb_rules.specs.Tables.{listed, longest};
+ghost use Rattle.cweb_rules.specs.inner.Tables.{seconds};
+ghost use Rattle.cweb_rules.specs.inner.PrefixTables.{first_len, second_is};
 
 use crate::bytes::begins;
 
@@ -57,7 +58,7 @@ fn first_len(table: &[&[u8]], text: &[u8]) -> usize
 }
 
 // Whether a listed punctuator has this byte in its second place. Most punctuators of a program stand before another one.
-fn goes_on(byte: u8) -> bool
+fn may_be_second(byte: u8) -> bool
     ensures { result ≡ is_one_of seconds byte }
 {
     matches!(
@@ -71,7 +72,7 @@ fn may_be_listed(text: &[u8]) -> bool
     ensures { result ≡ second_is (is_one_of seconds) text.now }
 {
     match text {
-        [_, second, ..] => goes_on(*second),
+        [_, second, ..] => may_be_second(*second),
         _ => false,
     }
 }

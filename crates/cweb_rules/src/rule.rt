@@ -1,8 +1,8 @@
 // Which rule of C text fits first.
 ghost use Rattle.std.specs.Prelude.{◌≡◌, ◌<◌, length};
-ghost use Rattle.cweb_rules.specs.Fronts as spec;
-ghost use Rattle.cweb_rules.specs.Rules as rules;
-ghost use Rattle.cweb_rules.specs.Leads.{behind_dot, behind_slash, lead};
+ghost use Rattle.cweb_rules.specs.Matches as spec;
+ghost use Rattle.cweb_rules.specs.inner.Rules as rules;
+ghost use Rattle.cweb_rules.specs.inner.Leads.{rule_after_dot, rule_after_slash, lead};
 
 use crate::bytes::{Class, begins, is_digit, is_word_byte, starts, starts_section};
 use crate::end::End;
@@ -29,7 +29,7 @@ pub enum Rule {
 
 /// The rules of limbo and of text.
 #[derive(Clone, Copy, Debug, PartialEq, Eq)]
-pub enum TextRule {
+pub enum TexRule {
     Section,
     Code,
     Skipped,
@@ -57,7 +57,7 @@ fn starts_include(text: &[u8]) -> bool
 enum Lead {
     Blank,
     Word,
-    Sign,
+    Operator,
     Open,
 }
 
@@ -73,7 +73,7 @@ fn lead_of(byte: u8) -> Lead
             if is_word_byte(byte) {
                 Lead::Word
             } else {
-                Lead::Sign
+                Lead::Operator
             }
         }
     }
@@ -91,7 +91,7 @@ pub fn c_rule(includes: bool, text: &[u8]) -> Rule
     match lead_of(*first) {
         Lead::Blank => Rule::Blanks,
         Lead::Word => Rule::Identifier,
-        Lead::Sign => Rule::Punctuator,
+        Lead::Operator => Rule::Punctuator,
         Lead::Open => tried_rule(includes, text),
     }
 }
@@ -102,8 +102,8 @@ fn tried_rule(includes: bool, text: &[u8]) -> Rule
     ensures { result ≡ rules.c_rule includes text.now }
 {
     match text {
-        [b'/', second, ..] => rule_behind_slash(*second),
-        [b'.', second, ..] => rule_behind_dot(*second),
+        [b'/', second, ..] => rule_after_slash(*second),
+        [b'.', second, ..] => rule_after_dot(*second),
         [b'@', ..] => {
             if starts_section(text) {
                 return Rule::Section;
@@ -115,8 +115,8 @@ fn tried_rule(includes: bool, text: &[u8]) -> Rule
 }
 
 // The rule of a text that begins with a `/` and this byte.
-fn rule_behind_slash(byte: u8) -> Rule
-    ensures { result ≡ behind_slash byte }
+fn rule_after_slash(byte: u8) -> Rule
+    ensures { result ≡ rule_after_slash byte }
 {
     match byte {
         b'*' => Rule::Comment,
@@ -126,8 +126,8 @@ fn rule_behind_slash(byte: u8) -> Rule
 }
 
 // The rule of a text that begins with a `.` and this byte.
-fn rule_behind_dot(byte: u8) -> Rule
-    ensures { result ≡ behind_dot byte }
+fn rule_after_dot(byte: u8) -> Rule
+    ensures { result ≡ rule_after_dot byte }
 {
     if is_digit(byte) {
         return Rule::Number;
@@ -167,14 +167,14 @@ fn first_rule(includes: bool, text: &[u8]) -> Rule
 }
 
 /// The rule of limbo and text that fits at a text's front.
-pub fn text_rule(text: &[u8]) -> TextRule
-    ensures { result ≡ rules.text_rule text.now }
+pub fn tex_rule(text: &[u8]) -> TexRule
+    ensures { result ≡ rules.tex_rule text.now }
 {
     if starts_section(text) {
-        TextRule::Section
+        TexRule::Section
     } else if begins(b"@", text) {
-        TextRule::Code
+        TexRule::Code
     } else {
-        TextRule::Skipped
+        TexRule::Skipped
     }
 }

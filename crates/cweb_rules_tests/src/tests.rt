@@ -2,14 +2,14 @@
 
 mod wanted;
 
-use cweb_rules::bytes::{Class, run_len, starts_section};
-use cweb_rules::codes::{in_c, in_limbo, in_macro, in_text};
+use cweb_rules::bytes::{Class, span_len, starts_section};
+use cweb_rules::codes::{in_c, in_limbo, in_macro, in_tex};
 use cweb_rules::constants::{Transliteration, constant, letter};
-use cweb_rules::items::{Item, opener_sign, reach};
+use cweb_rules::items::{Item, opener_len, reach};
 use cweb_rules::literals::{delimiter, literal_prefix, quote_of, raw_prefix};
 use cweb_rules::numbers::number_len;
 use cweb_rules::punctuators::punctuator_len;
-use cweb_rules::rule::{Rule, TextRule, c_rule, text_rule};
+use cweb_rules::rule::{Rule, TexRule, c_rule, tex_rule};
 use cweb_rules::{Effect, End, ScanKind};
 use wanted::*;
 
@@ -36,16 +36,16 @@ fn first_rule_that_fits(rt: HostRuntime) {
         (true, b"<a>", Rule::IncludedName),
         (true, b"<a\n>", Rule::Punctuator),
     ];
-    const TEXT_RULES: &[(&[u8], TextRule)] = &[
-        (b"@*", TextRule::Section),
-        (b"@<", TextRule::Code),
-        (b"x@", TextRule::Skipped),
+    const TEX_RULES: &[(&[u8], TexRule)] = &[
+        (b"@*", TexRule::Section),
+        (b"@<", TexRule::Code),
+        (b"x@", TexRule::Skipped),
     ];
     for (includes, text, want) in C_RULES {
         holds_at(&rt, c_rule(*includes, *text) == *want, *text);
     }
-    for (text, want) in TEXT_RULES {
-        holds_at(&rt, text_rule(*text) == *want, *text);
+    for (text, want) in TEX_RULES {
+        holds_at(&rt, tex_rule(*text) == *want, *text);
     }
 }
 
@@ -59,7 +59,7 @@ fn codes_by_context(rt: HostRuntime) {
             (Effect::Letter, Effect::Faulty(ScanKind::DoubleAtInLimbo))
         ),
     );
-    let text = (in_text(b'P'), in_text(b'h'));
+    let text = (in_tex(b'P'), in_tex(b'h'));
     holds(&rt, matches!(text, (Effect::Program, Effect::Nothing)));
     let middle = (in_macro(b'F'), in_macro(b'h'));
     holds(
@@ -90,10 +90,10 @@ fn sizes(rt: HostRuntime) {
     has_size(&rt, punctuator_len(b"->*x"), 3);
     has_size(&rt, punctuator_len(b"<=>"), 2);
     has_size(&rt, punctuator_len(b";;"), 1);
-    has_size(&rt, run_len(Class::Word, b"a_$\xff-"), 4);
-    has_size(&rt, opener_sign(b" \t+=x"), 4);
-    has_size(&rt, opener_sign(b"=="), 0);
-    has_size(&rt, opener_sign(b"\r="), 0);
+    has_size(&rt, span_len(Class::Word, b"a_$\xff-"), 4);
+    has_size(&rt, opener_len(b" \t+=x"), 4);
+    has_size(&rt, opener_len(b"=="), 0);
+    has_size(&rt, opener_len(b"\r="), 0);
     has_size(&rt, literal_prefix(b"u8\""), 2);
     has_size(&rt, raw_prefix(b"LR\""), 1);
     has_size(&rt, delimiter(b"d(x").len(), 1);
@@ -103,7 +103,7 @@ fn sizes(rt: HostRuntime) {
 
 #[test]
 fn ends_of_items(rt: HostRuntime) {
-    const ROWS: &[(Item<'static>, &[u8], usize, End)] = &[
+    const EXAMPLES: &[(Item<'static>, &[u8], usize, End)] = &[
         (Item::Comment, b"a*/b", 1, End::Closed),
         (Item::Comment, b"/", 1, End::Open),
         (Item::Comment, b"a@ b*/", 1, End::Cut),
@@ -119,7 +119,7 @@ fn ends_of_items(rt: HostRuntime) {
         (Item::RawLiteral(b")d\""), b"a)\")d\"", 3, End::Closed),
         (Item::RawLiteral(b")\""), b"a@*b)\"", 1, End::Cut),
     ];
-    for (item, text, size, how) in ROWS {
+    for (item, text, size, how) in EXAMPLES {
         let reached = reach(*item, *text);
         holds_at(&rt, reached.size == *size, *text);
         holds_at(&rt, reached.how == *how, *text);

@@ -1,22 +1,22 @@
 -- How much the moves of a scan add to what is kept.
-use Rattle.cweb_scan.proofs.Common.{◌≡◌, ◌≤◌, ℕ, List, [], ◌∷◌, refl, arith, Place, Token, Context, Limbo, Blank, Reading, State, next_line, moved, one, text_size, occurrence_size, replacement_size, due, Adds}
+use Rattle.cweb_scan.proofs.Common.{◌≡◌, ◌≤◌, ℕ, List, [], ◌∷◌, refl, arith, Place, Token, Context, Limbo, Blank, Reading, ScanState, next_line, move_to, one, spelling_size, occurrence_size, replacement_size, owed_tokens, AddsAtMost}
 use Rattle.cweb_scan.proofs.Measures.{pushed-size, opened-size, closed-size, dropped-size}
 use Rattle.cweb_texts.proofs.WordLemmas.{total-append}
-use Rattle.cweb_scanner.proofs.Moves.{Moves, Any, holds_any, size}
-use Rattle.cweb_scanner.proofs.TakenItems.{reading}
+use Rattle.cweb_scan.proofs.Moves.{Moves, Any, holds_any, size}
+use Rattle.cweb_scan.proofs.TakenItems.{reading}
 
-pub due_some : (c : Context) → 1 ≤ due c
+pub due_some : (c : Context) → 1 ≤ owed_tokens c
 due_some Limbo = omega arith
 due_some _ = omega arith
 
-same_size : (t : Token) → size t ≡ text_size t
+same_size : (t : Token) → size t ≡ spelling_size t
 same_size Blank = refl
 same_size _ = refl
 
 abbrev pub MoveAdds : ℕ → ℕ → ℕ → ℕ → Reading → Reading → Type 0
-MoveAdds n w t b r m = Adds t b r.state m.state
+MoveAdds n w t b r m = AddsAtMost t b r.state m.state
 
-moved-adds : (s : State) (later : List Place) → Adds 0 0 s (next_line moved (reading s later)).state
+moved-adds : (s : ScanState) (later : List Place) → AddsAtMost 0 0 s (next_line move_to (reading s later)).state
 moved-adds s [] = omega arith
 moved-adds s (p ∷ later) = omega arith
 
@@ -30,7 +30,7 @@ adds = record {
   gives = λ t r h. omega (
     arith,
     pushed-size one t r.state.contents.parts,
-    pushed-size text_size t r.state.contents.parts,
+    pushed-size spelling_size t r.state.contents.parts,
     same_size t,
   );
   faults = λ k p r h. omega arith;
@@ -39,12 +39,12 @@ adds = record {
   opens = λ kind r. omega (
     arith,
     opened-size one kind r.state.contents.parts,
-    opened-size text_size kind r.state.contents.parts,
+    opened-size spelling_size kind r.state.contents.parts,
   );
   closes = λ r.
-      omega (arith, closed-size one r.state.contents.parts, closed-size text_size r.state.contents.parts);
+      omega (arith, closed-size one r.state.contents.parts, closed-size spelling_size r.state.contents.parts);
   drops = λ r.
-      omega (arith, dropped-size one r.state.contents.parts, dropped-size text_size r.state.contents.parts);
+      omega (arith, dropped-size one r.state.contents.parts, dropped-size spelling_size r.state.contents.parts);
   occurs = λ o r. omega (arith, total-append occurrence_size r.state.contents.occurrences (o ∷ []));
   replaces = λ x r. omega (arith, total-append replacement_size r.state.contents.replacements (x ∷ []));
   folds = λ v r. omega arith;

@@ -1,29 +1,29 @@
 -- What is kept of a web has no more tokens, and no more bytes, than the web has bytes and lines.
-use Rattle.cweb_scan.proofs.Common.{◌≡◌, ◌≤◌, ℕ, List, [], ◌∷◌, ◌++◌, Option, Some, None, length, map, refl, arith, length-append, option_to_list, Line, Occurrence, Token, Word, Number, Literal, Verbatim, Punct, Part, all_tokens, Replacement, PartsSoFar, all_parts, finished, State, leave, before_text, Reading, run, further, read, scanned, total, one, text_size, occurrence_size, replacement_size, part_size, open_size, parts_size, token_number, text_bytes, Adds, web_size, IsBounded}
-use Rattle.cweb_names.specs.Names.{occurrence_text}
-use Rattle.cweb_parts.specs.Texts.{token_bytes}
-use Rattle.cweb_store.specs.Texts as kept
-use Rattle.cweb_texts.specs.Words as words
+use Rattle.cweb_scan.proofs.Common.{◌≡◌, ◌≤◌, ℕ, List, [], ◌∷◌, ◌++◌, Option, Some, None, length, map, refl, arith, length-append, option_to_list, Line, Occurrence, Token, Word, Number, Literal, Verbatim, Punct, Part, all_tokens, Replacement, PartsSoFar, all_parts, finished, ScanState, leave, start_state, Reading, lex, newline_prefixed, read_lines, scanned, sum_over, one, spelling_size, occurrence_size, replacement_size, part_size, open_size, parts_size, token_number, stored_bytes, AddsAtMost, web_size, IsBounded}
+use Rattle.cweb_names.specs.surface.Names.{occurrence_text}
+use Rattle.cweb_store.specs.surface.TokenStrings.{token_size}
+use Rattle.cweb_store.specs.surface.StoredStrings as kept
+use Rattle.cweb_texts.specs.surface.StringTables as words
 use Rattle.cweb_scan.proofs.Adding.{adds, due_some}
 use Rattle.cweb_scan.proofs.Walked.{run-walks}
-use Rattle.cweb_scanner.proofs.Moves.{leave-walks}
+use Rattle.cweb_scan.proofs.Moves.{leave-walks}
 use Rattle.cweb_texts.proofs.WordLemmas.{total-append}
 
-further-size : (lines : List Line) → length (further lines) ≡ web_size lines
+further-size : (lines : List Line) → length (newline_prefixed lines) ≡ web_size lines
 further-size [] = refl
-further-size (line ∷ lines) = omega (arith, further-size lines, length-append line.bytes (further lines))
+further-size (line ∷ lines) = omega (arith, further-size lines, length-append line.bytes (newline_prefixed lines))
 
 -- the measures, over all parts at once
 
-total-tokens : (f : Token → ℕ) (ps : List Part) → total f (all_tokens ps) ≡ total (part_size f) ps
+total-tokens : (f : Token → ℕ) (ps : List Part) → sum_over f (all_tokens ps) ≡ sum_over (part_size f) ps
 total-tokens f [] = refl
 total-tokens f (p ∷ ps) = omega (arith, total-append f p.tokens (all_tokens ps), total-tokens f ps)
 
-open-list : (f : Token → ℕ) (o : Option Part) → total (part_size f) (option_to_list o) ≡ open_size f o
+open-list : (f : Token → ℕ) (o : Option Part) → sum_over (part_size f) (option_to_list o) ≡ open_size f o
 open-list f None = refl
 open-list f (Some p) = omega arith
 
-pub all-size : (f : Token → ℕ) (v : PartsSoFar) → total f (all_tokens (all_parts v)) ≡ parts_size f v
+pub all-size : (f : Token → ℕ) (v : PartsSoFar) → sum_over f (all_tokens (all_parts v)) ≡ parts_size f v
 all-size f v =
     omega (
       arith,
@@ -32,13 +32,13 @@ all-size f v =
       open-list f v.current,
     )
 
-length-total : (ts : List Token) → length ts ≡ total one ts
+length-total : (ts : List Token) → length ts ≡ sum_over one ts
 length-total [] = refl
 length-total (t ∷ ts) = omega (arith, length-total ts)
 
 -- the bytes of texts, as the store counts them
 
-token-bytes : (t : Token) → token_bytes t ≡ text_size t
+token-bytes : (t : Token) → token_size t ≡ spelling_size t
 token-bytes (Word b) = omega arith
 token-bytes (Number b) = omega arith
 token-bytes (Literal b) = omega arith
@@ -46,28 +46,28 @@ token-bytes (Verbatim b) = omega arith
 token-bytes (Punct b) = omega arith
 token-bytes _ = refl
 
-tokens-bytes : (ts : List Token) → words.total token_bytes ts ≡ total text_size ts
+tokens-bytes : (ts : List Token) → words.total token_size ts ≡ sum_over spelling_size ts
 tokens-bytes [] = refl
 tokens-bytes (t ∷ ts) = omega (arith, token-bytes t, tokens-bytes ts)
 
-occurrences-bytes : (os : List Occurrence) → words.total length (map occurrence_text os) ≡ total occurrence_size os
+occurrences-bytes : (os : List Occurrence) → words.total length (map occurrence_text os) ≡ sum_over occurrence_size os
 occurrences-bytes [] = refl
 occurrences-bytes (o ∷ os) = omega (arith, occurrences-bytes os)
 
 replacements-bytes : (rs : List Replacement)
-    → words.total length (map kept.replacement_text rs) ≡ total replacement_size rs
+    → words.total length (map kept.replacement_bytes rs) ≡ sum_over replacement_size rs
 replacements-bytes [] = refl
 replacements-bytes (r ∷ rs) = omega (arith, replacements-bytes rs)
 
-of_state : (s : State) (n : ℕ) → token_number s.contents ≤ n
-    → text_bytes s.contents ≤ n → IsBounded (finished s.contents) n
+of_state : (s : ScanState) (n : ℕ) → token_number s.contents ≤ n
+    → stored_bytes s.contents ≤ n → IsBounded (finished s.contents) n
 of_state s n h k = record {
   tokens = omega (arith, h, length-total (all_tokens (all_parts s.contents.parts)), all-size one s.contents.parts);
   bytes =
       omega (
         arith,
         k,
-        all-size text_size s.contents.parts,
+        all-size spelling_size s.contents.parts,
         tokens-bytes (all_tokens (all_parts s.contents.parts)),
         occurrences-bytes s.contents.occurrences,
         replacements-bytes s.contents.replacements,
@@ -75,14 +75,14 @@ of_state s n h k = record {
 }
 
 pub bounded : (lines : List Line) → IsBounded (scanned lines).store (web_size lines)
-bounded [] = of_state (leave (read []).state) 0 (omega arith) (omega arith)
+bounded [] = of_state (leave (read_lines []).state) 0 (omega arith) (omega arith)
 bounded (line ∷ lines) =
-    let start : Reading = record { state = before_text line.place; later = map (λ l. l.place) lines } in
-    let t = line.bytes ++ further lines in
-    let s = (run start t).state in
-    let read : Adds (length t) (length t) start.state s = run-walks adds start t in
-    let left : Adds 1 0 s (leave s) = leave-walks adds (run start t) in
-    let size = length-append line.bytes (further lines) in
+    let start : Reading = record { state = start_state line.place; later = map (λ l. l.place) lines } in
+    let t = line.bytes ++ newline_prefixed lines in
+    let s = (lex start t).state in
+    let read_lines : AddsAtMost (length t) (length t) start.state s = run-walks adds start t in
+    let left : AddsAtMost 1 0 s (leave s) = leave-walks adds (lex start t) in
+    let size = length-append line.bytes (newline_prefixed lines) in
     of_state (leave s) (web_size (line ∷ lines))
-    (omega (arith, read.tokens_are, left.tokens_are, due_some (leave s).context, size, further-size lines))
-    (omega (arith, read.bytes_are, left.bytes_are, size, further-size lines))
+    (omega (arith, read_lines.tokens_are, left.tokens_are, due_some (leave s).context, size, further-size lines))
+    (omega (arith, read_lines.bytes_are, left.bytes_are, size, further-size lines))

@@ -1,38 +1,39 @@
 -- Blanks between two pieces of C text.
-use Rattle.cweb_scan.proofs.Common.{◌≡◌, ℕ, suc, Bool, true, false, ◌&&◌, List, [], ◌∷◌, drop, take, refl, ap, sym, ◌∙◌, arith, if◌then◌else◌, not, prefix_len, is_blank, front_in, Blanks, front, Context, CText, Blank, Reading, after, blank, enter_in, directive, in_directive, names_include, run, State, give}
-use Rattle.cweb_scanner.specs.Directives as spec
-use Rattle.cweb_scan.proofs.Openers.{run_as}
+use Rattle.cweb_scan.proofs.Common.{◌≡◌, ℕ, suc, Bool, true, false, ◌&&◌, List, [], ◌∷◌, drop, take, refl, ap, sym, ◌∙◌, arith, if◌then◌else◌, not, prefix_len, is_blank, match_in, Blanks, rule_match, Context, CText, Blank, Reading, after_lexeme, blank, enter_in, directive, in_directive, names_include, lex, ScanState, emit}
+use Rattle.cweb_scan.specs.DirectiveTokens as spec
+use Rattle.cweb_scan.proofs.CommentAndNameOpeners.{run_as}
 use Rattle.cweb_rules.proofs.FirstBytes.{if_true}
 
 blank_front : (c : Context) (includes : Bool) (b : ℕ) (t : List ℕ) → c ≡ CText → is_blank b ≡ true
-    → front_in c includes (b ∷ t) ≡ front Blanks (prefix_len is_blank (b ∷ t))
-blank_front c includes b t h e = ap (λ c. front_in c includes (b ∷ t)) h ∙ if_true (is_blank b) _ _ e
+    → match_in c includes (b ∷ t) ≡ rule_match Blanks (prefix_len is_blank (b ∷ t))
+blank_front c includes b t h e = ap (λ c. match_in c includes (b ∷ t)) h ∙ if_true (is_blank b) _ _ e
 
 longer_prefix : (b : ℕ) (t : List ℕ) → is_blank b ≡ true → prefix_len is_blank (b ∷ t) ≡ suc (prefix_len is_blank t)
 longer_prefix b t e = grind (arith, e)
 
-no_blank : (s : State) → in_directive s ≡ false → blank s ≡ s
-no_blank s h = ap (λ v. if v && not (spec.is_blank (directive s).last) then give Blank s else s) h
+no_blank : (s : ScanState) → in_directive s ≡ false → blank s ≡ s
+no_blank s h = ap (λ v. if v && not (spec.is_last_blank (directive s).last) then emit Blank s else s) h
 
 -- blanks at the front of a text give nothing
 passed : (r : Reading) (b : ℕ) (t : List ℕ) → r.state.context ≡ CText → in_directive r.state ≡ false
-    → is_blank b ≡ true → run r (b ∷ t) ≡ run r (drop (prefix_len is_blank t) t)
+    → is_blank b ≡ true → lex r (b ∷ t) ≡ lex r (drop (prefix_len is_blank t) t)
 passed r b t h d e =
     let n = prefix_len is_blank t in
-    run_as r b t (front Blanks (prefix_len is_blank (b ∷ t)))
+    run_as r b t (rule_match Blanks (prefix_len is_blank (b ∷ t)))
     (blank_front r.state.context (names_include r.state) b t h e)
-    ∙ ap (λ k. run (after r (record { kind = Blanks; bytes = take k (b ∷ t) })) (drop k (b ∷ t))) (longer_prefix b t e)
-    ∙ ap (λ c. run (record { state = blank (enter_in c Blanks r.state); later = r.later }) (drop n t)) h
-    ∙ ap (λ s. run (record { state = s; later = r.later }) (drop n t)) (no_blank r.state d)
+    ∙ ap (λ k. lex (after_lexeme r (record { kind = Blanks; bytes = take k (b ∷ t) })) (drop k (b ∷ t)))
+    (longer_prefix b t e)
+    ∙ ap (λ c. lex (record { state = blank (enter_in c Blanks r.state); later = r.later }) (drop n t)) h
+    ∙ ap (λ s. lex (record { state = s; later = r.later }) (drop n t)) (no_blank r.state d)
 
 -- one blank more gives the same
 pub one_more : (r : Reading) (b : ℕ) (t : List ℕ) → r.state.context ≡ CText
-    → in_directive r.state ≡ false → is_blank b ≡ true → run r (b ∷ t) ≡ run r t
+    → in_directive r.state ≡ false → is_blank b ≡ true → lex r (b ∷ t) ≡ lex r t
 one_more r b [] h d e = passed r b [] h d e
 one_more r b (c ∷ t) h d e = passed r b (c ∷ t) h d e
-    ∙ (elim (is_blank c) as (λ v. is_blank c ≡ v → run r (drop (prefix_len is_blank (c ∷ t)) (c ∷ t)) ≡ run r (c ∷ t)) [
-      | true ↦ λ f. ap (λ k. run r (drop k (c ∷ t))) (longer_prefix c t f) ∙ sym (passed r c t h d f)
-      | false ↦ λ f. ap (λ k. run r (drop k (c ∷ t))) (none_there c t f)
+    ∙ (elim (is_blank c) as (λ v. is_blank c ≡ v → lex r (drop (prefix_len is_blank (c ∷ t)) (c ∷ t)) ≡ lex r (c ∷ t)) [
+      | true ↦ λ f. ap (λ k. lex r (drop k (c ∷ t))) (longer_prefix c t f) ∙ sym (passed r c t h d f)
+      | false ↦ λ f. ap (λ k. lex r (drop k (c ∷ t))) (none_there c t f)
     ]) refl
   where
     none_there : (b : ℕ) (t : List ℕ) → is_blank b ≡ false → prefix_len is_blank (b ∷ t) ≡ 0

@@ -1,11 +1,36 @@
+pub mod Steps
 pub mod Common
+pub mod TiedSteps
+pub mod Rooms
+pub mod NextMatchPays
+pub mod FirstLexeme
+pub mod LineHasNoNewline
+pub mod LineUnits
+pub mod TakenItems
+pub mod NameSizes
+pub mod Moves
+pub mod LexemeMoves
+pub mod Weights
+pub mod FirstMatchTaken
+pub mod Ends
+pub mod RestByLexemes
+pub mod VerbatimAndIncludes
+pub mod InLineItemSteps
+pub mod InLineRules
+pub mod PlainFirsts
+pub mod Plains
+pub mod PlainLexemes
+pub mod Blanks
+pub mod Furthers
+pub mod FurtherLiterals
+pub mod DirectiveBodies
 pub mod Measures
-pub mod Pieces
+pub mod LexemesAreUnique
 pub mod Bounds
-pub mod OpenItems
-pub mod OpenNames
-pub mod OpenLiterals
-pub mod Openers
+pub mod PendingItemsInLine
+pub mod PendingNames
+pub mod PendingLiterals
+pub mod CommentAndNameOpeners
 pub mod LiteralOpeners
 pub mod Gaps
 pub mod LineEnds
@@ -14,33 +39,33 @@ pub mod LineBegins
 pub mod Scans
 pub mod Aheads
 pub mod Places
-mod RowWords
-mod RowsWorked
-mod RowsFaulty
-mod RowsNames
-mod RowsDirectives
-mod RowsMacros
-mod RowsItems
-mod RowsCodes
-mod RowsRawLiterals
-mod RowsThousand
-pub mod Turns
-pub mod Opens
+mod ExampleWords
+mod WorkedExamples
+mod FaultExamples
+mod NameExamples
+mod DirectiveExamples
+mod MacroExamples
+mod ItemExamples
+mod CodeExamples
+mod RawLiteralExamples
+mod ThousandNames
+pub mod ClosedItemSteps
+pub mod OpeningSteps
 pub mod UnitsTaken
-pub mod Rests
-pub mod CodeTurns
-pub mod TextLines
-pub mod RuleTurns
-pub mod HeadTurns
+pub mod SkippedRest
+pub mod CodeSteps
+pub mod SkippedLines
+pub mod RuleSteps
+pub mod HeadSteps
 pub mod HeadStays
-pub mod OpenRests
-pub mod OpenReaders
-pub mod Runs
-pub mod LineTurns
+pub mod PendingRests
+pub mod PendingReaders
+pub mod PendingSpans
+pub mod LineSteps
 pub mod PlainStates
-pub mod PlainPieces
+pub mod PlainReadings
 pub mod PlainTokens
-pub mod Standing
-pub mod PlainTurns
+pub mod LexemesKeepTheirLines
+pub mod StepAfterPlain
 pub mod Walked
 pub mod Adding

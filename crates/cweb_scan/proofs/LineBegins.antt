@@ -1,13 +1,13 @@
 -- How a line begins behind what is held, and how the text ends there.
-use Rattle.cweb_scan.proofs.Common.{◌≡◌, ◌≤◌, ℕ, ◌+◌, Bool, true, false, List, [], ◌∷◌, ◌++◌, take, drop, refl, ap, sym, ◌∙◌, subst, arith, ◌==◌, if◌then◌else◌, append-nil, Place, Line, Cut, size_of, sign_after, Reading, on, each_line_end, literal, occurrence, Held, held, after_line_end, goes_on, read_after, text_ended, BeginsLine, TakesLineEnd, TakesBytes, cost, owed, awaits_line_end, item_of, quote_byte, Item, takes_sign, weight, run, State, moved, AfterBackslash, Raw, Quote, Single, Double}
+use Rattle.cweb_scan.proofs.Common.{◌≡◌, ◌≤◌, ℕ, ◌+◌, Bool, true, false, List, [], ◌∷◌, ◌++◌, take, drop, refl, ap, sym, ◌∙◌, subst, arith, ◌==◌, if◌then◌else◌, append-nil, Place, Line, Cut, reach_size, opener_after, Reading, on, each_line_end, emit_literal, occurrence, ReaderModel, begun_reader, after_line_end, read_on, read_after, source_ended, BeginsLine, TakesLineEnd, TakesBytes, cost, pending_cost, awaits_line_end, item_of, quote_byte, PendingItem, takes_opener, weight, lex, ScanState, move_to, AfterBackslash, Raw, Quote, Single, Double}
 use Rattle.cweb_rules.specs.Items as items
-use Rattle.cweb_scanner.specs.Resume as item
+use Rattle.cweb_scan.specs.inner.Resume as item
 use Rattle.cweb_scan.specs.declared.reader.open.Open.{Open}
 use Rattle.cweb_scan.specs.declared.reader.open.Open.TheVariants.{Between, Comment, Name, Literal}
 use Rattle.cweb_scan.proofs.LineEnds.{run-newline, resume-comment, resume-name, resume-literal}
-use Rattle.cweb_scan.proofs.OpenLiterals.{literal_cut, raw_line_end}
+use Rattle.cweb_scan.proofs.PendingLiterals.{literal_cut, raw_line_end}
 use Rattle.cweb_scan.proofs.Taken.{first_taken, next_taken}
-use Rattle.cweb_scanner.proofs.Weights.{line_end-weight, comment_line_end-weight, comment-weight, occurrence-weight, literal-weight}
+use Rattle.cweb_scan.proofs.Weights.{line_end-weight, comment_line_end-weight, comment-weight, occurrence-weight, literal-weight}
 
 no_backslash : (quote : Quote) → (quote_byte quote == 92) ≡ false
 no_backslash Single = refl
@@ -18,15 +18,15 @@ no_newline Single = refl
 no_newline Double = refl
 
 -- a line end, whatever is open
-pub line_ends : (kind : Open) (d us : List ℕ) (q : Place) (s : State)
-    → TakesLineEnd q (held s (item_of kind d us)) (after_line_end q (item_of kind d us) s)
+pub line_ends : (kind : Open) (d us : List ℕ) (q : Place) (s : ScanState)
+    → TakesLineEnd q (begun_reader s (item_of kind d us)) (after_line_end q (item_of kind d us) s)
 line_ends Between d us q s = record { begun = refl; same = λ later t. sym (run-newline q s later t) }
 line_ends (Comment begun) d us q s = record { begun = refl; same = λ later t. sym (resume-comment begun q s later t) }
 line_ends (Name begun is_file) d us q s =
     record { begun = refl; same = λ later t. sym (resume-name begun is_file us q s later t) }
 line_ends (Literal begun quote) d us q s = record {
   begun = refl;
-  same = λ later t. sym (run-newline q (literal us Cut begun s) later t)
+  same = λ later t. sym (run-newline q (emit_literal us Cut begun s) later t)
       ∙ sym (literal_cut begun (quote_byte quote) us (10 ∷ t)
       (record { state = s; later = q ∷ later }) (no_newline quote) refl);
 }
@@ -37,32 +37,34 @@ line_ends (AfterBackslash begun quote) d us q s =
     }
 line_ends (Raw begun) d us q s = record { begun = refl; same = λ later t. sym (raw_line_end begun d us q s later t) }
 
-after_line_end-cost : (i : Item) (q : Place) (s : State) → cost (after_line_end q i s) ≤ weight s + owed i + 3
+after_line_end-cost : (i : PendingItem) (q : Place) (s : ScanState)
+    → cost (after_line_end q i s) ≤ weight s + pending_cost i + 3
 after_line_end-cost item.Between q s = omega (arith, line_end-weight q s)
 after_line_end-cost (item.InComment begun) q s = omega (arith, comment_line_end-weight q s)
 after_line_end-cost (item.InLiteral begun quote text) q s =
-    omega (arith, line_end-weight q (literal text Cut begun s), literal-weight text Cut begun s)
+    omega (arith, line_end-weight q (emit_literal text Cut begun s), literal-weight text Cut begun s)
 after_line_end-cost _ q s = omega arith
 
 -- behind a line end no literal waits for one
-pub never_awaits : (i : Item) (q : Place) (s : State) → awaits_line_end (after_line_end q i s).item ≡ false
+pub never_awaits : (i : PendingItem) (q : Place) (s : ScanState) → awaits_line_end (after_line_end q i s).item ≡ false
 never_awaits item.Between q s = refl
 never_awaits _ q s = refl
 
 -- a line begins behind a line end
-pub begins_next : (kind : Open) (d us : List ℕ) (s : State) (begun : Bool) (place : Place) (new : Held)
+pub begins_next : (kind : Open) (d us : List ℕ) (s : ScanState) (begun : Bool) (place : Place) (new : ReaderModel)
     → begun ≡ true → new ≡ after_line_end place (item_of kind d us) s
     → BeginsLine place (record { state = s; item = item_of kind d us; begun = begun }) new
 begins_next kind d us s true place new h is = record {
   first = λ none. absurd (cc none);
   next = λ begun.
-      subst (λ (h : Held). TakesLineEnd place (held s (item_of kind d us)) h) (sym is) (line_ends kind d us place s);
+      subst (λ (h : ReaderModel). TakesLineEnd place (begun_reader s (item_of kind d us)) h) (sym is)
+      (line_ends kind d us place s);
   adds = omega (arith, ap cost is, after_line_end-cost (item_of kind d us) place s);
 }
 begins_next kind d us s false place new h is = absurd (cc h)
 
 -- a line that has begun is taken once its bytes are
-pub line_taken : (old mid new : Held) (line : Line) (lines : List Line) → BeginsLine line.place old mid
+pub line_taken : (old mid new : ReaderModel) (line : Line) (lines : List Line) → BeginsLine line.place old mid
     → TakesBytes line.bytes mid new → read_after new lines ≡ read_after old (line ∷ lines)
 line_taken old mid new line lines begins took = by old.begun refl
   where
@@ -73,27 +75,29 @@ line_taken old mid new line lines begins took = by old.begun refl
 -- THE END OF THE TEXT
 
 abbrev sign_size : Bool → ℕ
-sign_size takes = let r = items.name [] in size_of r + (if takes then sign_after r.how (drop (size_of r) []) else 0)
+sign_size takes = let r = items.reach_of_name [] in
+    reach_size r + (if takes then opener_after r.how (drop (reach_size r) []) else 0)
 
 no_sign : (takes : Bool) → sign_size takes ≡ 0
 no_sign true = refl
 no_sign false = refl
 
-abbrev named_end : Place → Bool → List ℕ → ℕ → State → Reading
-named_end begun is_file us n s = run (on (occurrence is_file (us ++ []) Cut false begun)
-    (each_line_end moved (take n []) (record { state = s; later = [] }))) (drop n [])
+abbrev named_end : Place → Bool → List ℕ → ℕ → ScanState → Reading
+named_end begun is_file us n s = lex (on (occurrence is_file (us ++ []) Cut false begun)
+    (each_line_end move_to (take n []) (record { state = s; later = [] }))) (drop n [])
 
-text_ends : (kind : Open) (d us : List ℕ) (s : State)
-    → (goes_on (held s (item_of kind d us)) [] []).state ≡ text_ended (item_of kind d us) s
-text_ends (Name begun is_file) d us s = ap (λ (n : ℕ). (named_end begun is_file us n s).state) (no_sign (takes_sign s))
+text_ends : (kind : Open) (d us : List ℕ) (s : ScanState)
+    → (read_on (begun_reader s (item_of kind d us)) [] []).state ≡ source_ended (item_of kind d us) s
+text_ends (Name begun is_file) d us s =
+    ap (λ (n : ℕ). (named_end begun is_file us n s).state) (no_sign (takes_opener s))
     ∙ ap (λ (t : List ℕ). occurrence is_file t Cut false begun s) (append-nil us)
-text_ends (Literal begun quote) d us s = ap (λ (t : List ℕ). literal t Cut begun s) (append-nil us)
-text_ends (Raw begun) d us s = ap (λ (t : List ℕ). literal t Cut begun s) (append-nil us)
+text_ends (Literal begun quote) d us s = ap (λ (t : List ℕ). emit_literal t Cut begun s) (append-nil us)
+text_ends (Raw begun) d us s = ap (λ (t : List ℕ). emit_literal t Cut begun s) (append-nil us)
 text_ends (AfterBackslash begun Single) d us s = refl
 text_ends (AfterBackslash begun Double) d us s = refl
 text_ends _ d us s = refl
 
-pub text_ended-weight : (i : Item) (s : State) → weight (text_ended i s) ≤ weight s + owed i
+pub text_ended-weight : (i : PendingItem) (s : ScanState) → weight (source_ended i s) ≤ weight s + pending_cost i
 text_ended-weight item.Between s = omega arith
 text_ended-weight (item.InComment begun) s = omega (arith, comment-weight Cut begun s)
 text_ended-weight (item.InName begun is_file text) s = occurrence-weight is_file text Cut false begun s
@@ -102,8 +106,8 @@ text_ended-weight (item.AfterBackslash begun quote text) s = literal-weight (tex
 text_ended-weight (item.InRaw begun delimiter text) s = literal-weight text Cut begun s
 
 -- all was read once an item that is open has ended
-pub text_read : (kind : Open) (d us : List ℕ) (s : State) (begun : Bool) → begun ≡ true
+pub text_read : (kind : Open) (d us : List ℕ) (s : ScanState) (begun : Bool) → begun ≡ true
     → (read_after (record { state = s; item = item_of kind d us; begun = begun }) []).state
-    ≡ text_ended (item_of kind d us) s
+    ≡ source_ended (item_of kind d us) s
 text_read kind d us s true h = text_ends kind d us s
 text_read kind d us s false h = absurd (cc h)

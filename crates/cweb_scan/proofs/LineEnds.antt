@@ -1,86 +1,90 @@
 -- What a line end does to what is held, whatever item is open.
-use Rattle.cweb_scan.proofs.Common.{◌≡◌, ℕ, suc, ◌+◌, ◌-◌, Bool, true, false, List, [], ◌∷◌, ◌++◌, take, drop, refl, ap, ◌∙◌, arith, append_assoc, ◌&&◌, ◌==◌, if◌then◌else◌, fold, Place, Context, Limbo, TeX, End, Closed, Cut, Goes, Ends, Reach, size_of, with_unit, reach_in, front_in, sign_after, Kind, Skipped, LineEnd, Front, front, Piece, State, moved, names_include, Reading, on, line_end_in, line_end, comment_line_end, each_line_end, comment, enter_in, item, after, pieces_in, run, InComment, InName, InLiteral, takes_sign, end_literal, resume, end_comment}
+use Rattle.cweb_scan.proofs.Common.{◌≡◌, ℕ, suc, ◌+◌, ◌-◌, Bool, true, false, List, [], ◌∷◌, ◌++◌, take, drop, refl, ap, ◌∙◌, arith, append_assoc, ◌&&◌, ◌==◌, if◌then◌else◌, fold, Place, Context, Limbo, TeX, End, Closed, Cut, Goes, Ends, Reach, reach_size, with_unit, reach_in, match_in, opener_after, Kind, Skipped, LineEnd, RuleMatch, rule_match, Lexeme, ScanState, move_to, names_include, Reading, on, line_end_in, line_end, comment_line_end, each_line_end, pass_comment, enter_in, item, after_lexeme, lexemes_in, lex, InComment, InName, InLiteral, takes_opener, resume_literal, resume, resume_comment}
 use Rattle.cweb_rules.specs.Items as items
-use Rattle.cweb_scanner.specs.Resume.{AfterBackslash}
-use Rattle.cweb_scanner.proofs.TakenItems.{reading}
-use Rattle.cweb_scan.proofs.OpenLiterals.{unit_first}
+use Rattle.cweb_scan.specs.inner.Resume.{AfterBackslash}
+use Rattle.cweb_scan.proofs.TakenItems.{reading}
+use Rattle.cweb_scan.proofs.PendingLiterals.{unit_first}
 
 abbrev newline_kind : Context → Kind
 newline_kind Limbo = Skipped
 newline_kind TeX = Skipped
 newline_kind _ = LineEnd
 
-front-newline : (c : Context) (includes : Bool) (t : List ℕ) → front_in c includes (10 ∷ t) ≡ front (newline_kind c) 1
+front-newline : (c : Context) (includes : Bool) (t : List ℕ)
+    → match_in c includes (10 ∷ t) ≡ rule_match (newline_kind c) 1
 front-newline Limbo includes [] = refl
 front-newline Limbo includes (b ∷ t) = refl
 front-newline TeX includes [] = refl
 front-newline TeX includes (b ∷ t) = refl
 front-newline _ includes t = refl
 
-item-newline : (c : Context) (q : Place) (s : State) (later : List Place) → s.context ≡ c
+item-newline : (c : Context) (q : Place) (s : ScanState) (later : List Place) → s.context ≡ c
     → item (newline_kind c) (10 ∷ []) (reading (enter_in c (newline_kind c) s) (q ∷ later))
     ≡ reading (line_end_in c q s) later
 item-newline Limbo q s later h = refl
 item-newline TeX q s later h = refl
 item-newline _ q s later h = ap (λ c. reading (line_end_in c q s) later) h
 
-abbrev from_front : Reading → List ℕ → Front → Reading
+abbrev from_front : Reading → List ℕ → RuleMatch → Reading
 from_front r t f =
-    let p : Piece = record { kind = f.kind; bytes = take f.size (10 ∷ t) } in
-    fold after (after r p) (pieces_in (f.size - 1) (after r p) t)
+    let p : Lexeme = record { kind = f.kind; bytes = take f.size (10 ∷ t) } in
+    fold after_lexeme (after_lexeme r p) (lexemes_in (f.size - 1) (after_lexeme r p) t)
 
 -- between two items
-pub run-newline : (q : Place) (s : State) (later : List Place) (t : List ℕ)
-    → run (reading s (q ∷ later)) (10 ∷ t) ≡ run (reading (line_end q s) later) t
+pub run-newline : (q : Place) (s : ScanState) (later : List Place) (t : List ℕ)
+    → lex (reading s (q ∷ later)) (10 ∷ t) ≡ lex (reading (line_end q s) later) t
 run-newline q s later t = ap (from_front (reading s (q ∷ later)) t) (front-newline s.context (names_include s) t)
-    ∙ ap (λ (r : Reading). run r t) (item-newline s.context q s later refl)
+    ∙ ap (λ (r : Reading). lex r t) (item-newline s.context q s later refl)
 
-comment-newline : (t : List ℕ) → items.comment (10 ∷ t) ≡ with_unit (10 ∷ []) (items.comment t)
+comment-newline : (t : List ℕ) → items.reach_of_comment (10 ∷ t) ≡ with_unit (10 ∷ []) (items.reach_of_comment t)
 comment-newline [] = refl
 comment-newline (b ∷ t) = refl
 
-name-newline : (t : List ℕ) → items.name (10 ∷ t) ≡ with_unit (10 ∷ []) (items.name t)
+name-newline : (t : List ℕ) → items.reach_of_name (10 ∷ t) ≡ with_unit (10 ∷ []) (items.reach_of_name t)
 name-newline [] = refl
 name-newline (b ∷ t) = refl
 
 abbrev sized_comment : Place → End → List ℕ → ℕ → Reading → Reading
-sized_comment begun how t n m = run (on (comment how begun) (each_line_end comment_line_end (take n t) m)) (drop n t)
+sized_comment begun how t n m =
+    lex (on (pass_comment how begun) (each_line_end comment_line_end (take n t) m)) (drop n t)
 
 -- in a comment
-pub resume-comment : (begun q : Place) (s : State) (later : List Place) (t : List ℕ)
+pub resume-comment : (begun q : Place) (s : ScanState) (later : List Place) (t : List ℕ)
     → resume (InComment begun) (10 ∷ t) (reading s (q ∷ later))
     ≡ resume (InComment begun) t (reading (comment_line_end q s) later)
 resume-comment begun q s later t =
-    let r = items.comment t in
-    let e : size_of (with_unit (10 ∷ []) r) ≡ suc (size_of r) = omega arith in
-    ap (λ (v : Reach). end_comment begun v (10 ∷ t) (reading s (q ∷ later))) (comment-newline t)
+    let r = items.reach_of_comment t in
+    let e : reach_size (with_unit (10 ∷ []) r) ≡ suc (reach_size r) = omega arith in
+    ap (λ (v : Reach). resume_comment begun v (10 ∷ t) (reading s (q ∷ later))) (comment-newline t)
     ∙ ap (λ n. sized_comment begun r.how (10 ∷ t) n (reading s (q ∷ later))) e
 
 -- in a name
-abbrev sign_size : State → ℕ → ℕ
-sign_size s sign = if takes_sign s then sign else 0
+abbrev sign_size : ScanState → ℕ → ℕ
+sign_size s sign = if takes_opener s then sign else 0
 
 pub resume-name : (begun : Place) (is_file : Bool) (us : List ℕ) (q : Place)
-    (s : State) (later : List Place) (t : List ℕ) → resume (InName begun is_file us) (10 ∷ t) (reading s (q ∷ later))
-    ≡ resume (InName begun is_file (us ++ 10 ∷ [])) t (reading (moved q s) later)
+    (s : ScanState) (later : List Place) (t : List ℕ)
+    → resume (InName begun is_file us) (10 ∷ t) (reading s (q ∷ later))
+    ≡ resume (InName begun is_file (us ++ 10 ∷ [])) t (reading (move_to q s) later)
 resume-name begun is_file us q s later t =
-    let r = items.name t in
-    let sign = sign_after r.how (drop (size_of r) t) in
-    let e : size_of (with_unit (10 ∷ []) r) ≡ suc (size_of r) = omega arith in
-    let f : suc (size_of r) + sign_size s sign ≡ suc (size_of r + sign_size s sign) = omega arith in
-    rw (name-newline t, e, f, append_assoc us (10 ∷ []) (items.text_in r.units)) refl
+    let r = items.reach_of_name t in
+    let sign = opener_after r.how (drop (reach_size r) t) in
+    let e : reach_size (with_unit (10 ∷ []) r) ≡ suc (reach_size r) = omega arith in
+    let f : suc (reach_size r) + sign_size s sign ≡ suc (reach_size r + sign_size s sign) = omega arith in
+    rw (name-newline t, e, f, append_assoc us (10 ∷ []) (items.unescaped r.units)) refl
 
 -- in a literal, behind its `\`
 literal-newline : (quote : ℕ) (t : List ℕ) → (quote == 92) ≡ false
-    → items.literal quote (92 ∷ 10 ∷ t) ≡ with_unit (92 ∷ 10 ∷ []) (items.literal quote t)
+    → items.reach_of_literal quote (92 ∷ 10 ∷ t) ≡ with_unit (92 ∷ 10 ∷ []) (items.reach_of_literal quote t)
 literal-newline quote t h = ap (λ v. elim (if v && true then Ends 1 Closed else Goes 2) as (λ w. Reach) [
   | Goes n ↦ with_unit (take n (92 ∷ 10 ∷ t)) (reach_in (items.look_in_literal quote) Cut (n - 1) (10 ∷ t))
   | Ends n e ↦ record { units = []; close = n; how = e }
 ]) h
 
-pub resume-literal : (begun : Place) (quote : ℕ) (us : List ℕ) (q : Place) (s : State) (later : List Place) (t : List ℕ)
+pub resume-literal : (begun : Place) (quote : ℕ) (us : List ℕ) (q : Place) (s : ScanState) (later : List Place)
+    (t : List ℕ)
     → (quote == 92) ≡ false → resume (AfterBackslash begun quote us) (10 ∷ t) (reading s (q ∷ later))
-    ≡ resume (InLiteral begun quote (us ++ 92 ∷ 10 ∷ [])) t (reading (moved q s) later)
-resume-literal begun quote us q s later t h = ap (λ (v : Reach). end_literal begun us v (92 ∷ 10 ∷ t)
+    ≡ resume (InLiteral begun quote (us ++ 92 ∷ 10 ∷ [])) t (reading (move_to q s) later)
+resume-literal begun quote us q s later t h = ap (λ (v : Reach). resume_literal begun us v (92 ∷ 10 ∷ t)
     (reading s (q ∷ later))) (literal-newline quote t h)
-    ∙ unit_first begun us (92 ∷ 10 ∷ []) t (items.literal quote t) (reading s (q ∷ later))
+    ∙ unit_first begun us (92 ∷ 10 ∷ []) t (items.reach_of_literal quote t) (reading s (q ∷ later))

@@ -1,30 +1,31 @@
 -- How the calls of a builder change how much it keeps.
-use Rattle.cweb_scan.proofs.Common.{◌≤◌, ℕ, ◌+◌, Bool, true, false, List, [], ◌∷◌, ◌++◌, Option, Some, None, take, drop, ap, arith, take-append-drop, option_map, option_to_list, if◌then◌else◌, PartKind, Token, Blank, Part, is_macro, PartsSoFar, opened, pushed, longer, dropped, all_closed, before_last, without_last, without_blank, without_layout, first_kept, is_newline, is_layout, at_close, total, part_size, open_size, parts_size}
+use Rattle.cweb_scan.proofs.Common.{◌≤◌, ℕ, ◌+◌, Bool, true, false, List, [], ◌∷◌, ◌++◌, Option, Some, None, take, drop, ap, arith, take-append-drop, option_map, option_to_list, if◌then◌else◌, PartKind, Token, Blank, Part, is_macro, PartsSoFar, with_opened_part, with_pushed_token, part_with_token, with_dropped_layout, with_closed_part, before_last, without_last, without_blank, without_layout, protected_count, is_newline, is_layout, at_close, sum_over, part_size, open_size, parts_size}
 use Rattle.cweb_texts.proofs.WordLemmas.{total-append}
 
 module _ (f : Token → ℕ) where
-  open_pushed : (t : Token) (o : Option Part) → open_size f (option_map (longer t) o) ≤ open_size f o + f t
+  open_pushed : (t : Token) (o : Option Part) → open_size f (option_map (part_with_token t) o) ≤ open_size f o + f t
   open_pushed t None = omega arith
   open_pushed t (Some p) = omega (arith, total-append f p.tokens (t ∷ []))
 
-  pub pushed-size : (t : Token) (v : PartsSoFar) → parts_size f (pushed t v) ≤ parts_size f v + f t
+  pub pushed-size : (t : Token) (v : PartsSoFar) → parts_size f (with_pushed_token t v) ≤ parts_size f v + f t
   pushed-size t v = omega (arith, open_pushed t v.current)
 
-  pub opened-size : (kind : PartKind) (v : PartsSoFar) → parts_size f (opened kind v) ≤ parts_size f v
+  pub opened-size : (kind : PartKind) (v : PartsSoFar) → parts_size f (with_opened_part kind v) ≤ parts_size f v
   opened-size kind v = omega arith
 
   before_last-size : (test : Token → Bool) (t : Token) (us : List Token)
-      → total f (before_last test t us) ≤ f t + total f us
+      → sum_over f (before_last test t us) ≤ f t + sum_over f us
   before_last-size test t [] =
-      elim (test t) as (λ v. total f (if v then [] else t ∷ []) ≤ f t + 0) [ true ↦ omega arith | false ↦ omega arith ]
+      elim (test t) as (λ v. sum_over f (if v then [] else t ∷ []) ≤ f t + 0)
+      [ true ↦ omega arith | false ↦ omega arith ]
   before_last-size test t (u ∷ us) = omega arith
 
-  without_last-size : (test : Token → Bool) (ts : List Token) → total f (without_last test ts) ≤ total f ts
+  without_last-size : (test : Token → Bool) (ts : List Token) → sum_over f (without_last test ts) ≤ sum_over f ts
   without_last-size test [] = omega arith
   without_last-size test (t ∷ ts) =
       omega (arith, before_last-size test t (without_last test ts), without_last-size test ts)
 
-  without_blank-size : (ts : List Token) → total f (without_blank ts) ≤ total f ts
+  without_blank-size : (ts : List Token) → sum_over f (without_blank ts) ≤ sum_over f ts
   without_blank-size [] = omega arith
   without_blank-size (t ∷ u ∷ us) = omega (arith, without_blank-size (u ∷ us))
   without_blank-size (Blank ∷ []) = omega arith
@@ -39,11 +40,11 @@ module _ (f : Token → ℕ) where
         | false ↦ omega arith
       ]
 
-  open_closed : (o : Option Part) → total (part_size f) (option_to_list (option_map at_close o)) ≤ open_size f o
+  open_closed : (o : Option Part) → sum_over (part_size f) (option_to_list (option_map at_close o)) ≤ open_size f o
   open_closed None = omega arith
   open_closed (Some p) = omega (arith, at_close-size p)
 
-  pub closed-size : (v : PartsSoFar) → parts_size f (all_closed v) ≤ parts_size f v
+  pub closed-size : (v : PartsSoFar) → parts_size f (with_closed_part v) ≤ parts_size f v
   closed-size v =
       omega (
         arith,
@@ -51,18 +52,18 @@ module _ (f : Token → ℕ) where
         open_closed v.current,
       )
 
-  layout-size : (n : ℕ) (ts : List Token) → total f (take n ts ++ without_last is_layout (drop n ts)) ≤ total f ts
+  layout-size : (n : ℕ) (ts : List Token) → sum_over f (take n ts ++ without_last is_layout (drop n ts)) ≤ sum_over f ts
   layout-size n ts = omega (
     arith,
     total-append f (take n ts) (without_last is_layout (drop n ts)),
     without_last-size is_layout (drop n ts),
     total-append f (take n ts) (drop n ts),
-    ap (λ us. total f us) (take-append-drop n ts),
+    ap (λ us. sum_over f us) (take-append-drop n ts),
   )
 
   open_dropped : (o : Option Part) → open_size f (option_map without_layout o) ≤ open_size f o
   open_dropped None = omega arith
-  open_dropped (Some p) = layout-size (first_kept p.kind) p.tokens
+  open_dropped (Some p) = layout-size (protected_count p.kind) p.tokens
 
-  pub dropped-size : (v : PartsSoFar) → parts_size f (dropped v) ≤ parts_size f v
+  pub dropped-size : (v : PartsSoFar) → parts_size f (with_dropped_layout v) ≤ parts_size f v
   dropped-size v = omega (arith, open_dropped v.current)

@@ -1,10 +1,10 @@
 -- Marks and faults stand where lines of the web stand.
-use Rattle.cweb_scan.proofs.Common.{◌≡◌, ◌≤◌, ℕ, Bool, true, false, List, [], ◌∷◌, ◌++◌, map, refl, ap, arith, if◌then◌else◌, All, All-nil, All-cons, All-head, All-tail, All-push, Place, Line, Token, Mark, all_tokens, all_parts, parts_size, total, ScanFault, State, before_text, leave, Reading, next_line, moved, run, further, scanned, MarkPasses, PlacesPass}
+use Rattle.cweb_scan.proofs.Common.{◌≡◌, ◌≤◌, ℕ, Bool, true, false, List, [], ◌∷◌, ◌++◌, map, refl, ap, arith, if◌then◌else◌, All, All-nil, All-cons, All-head, All-tail, All-push, Place, Line, Token, Mark, all_tokens, all_parts, parts_size, sum_over, ScanFault, ScanState, start_state, leave, Reading, next_line, move_to, lex, newline_prefixed, scanned, MarkPasses, PlacesPass}
 use Rattle.cweb_scan.proofs.Bounds.{all-size}
 use Rattle.cweb_scan.proofs.Measures.{pushed-size, opened-size, closed-size, dropped-size}
 use Rattle.cweb_scan.proofs.Walked.{run-walks}
-use Rattle.cweb_scanner.proofs.Moves.{Moves, Holds, Each, OfMark, leave-walks}
-use Rattle.cweb_scanner.proofs.TakenItems.{reading}
+use Rattle.cweb_scan.proofs.Moves.{Moves, Holds, Each, OfMark, leave-walks}
+use Rattle.cweb_scan.proofs.TakenItems.{reading}
 
 -- counts the Marks that stand elsewhere
 abbrev strange : (Place → Bool) → Token → ℕ
@@ -24,8 +24,8 @@ module _ (known : Place → Bool) where
   not_strange (Mark p) h = ap (λ v. if v then 0 else 1) h
   not_strange t h = refl
 
-  moved-known : (s : State) (later : List Place) → AreKnown (reading s later)
-      → AreKnown (next_line moved (reading s later))
+  moved-known : (s : ScanState) (later : List Place) → AreKnown (reading s later)
+      → AreKnown (next_line move_to (reading s later))
   moved-known s [] k = k
   moved-known s (p ∷ later) k = (
     k.0,
@@ -66,7 +66,7 @@ module _ (known : Place → Bool) where
   mark-passes (Mark p) h = not_strange_is (known p) h
   mark-passes t h = tt
 
-  marks-pass : (ts : List Token) → total (strange known) ts ≤ 0 → All (MarkPasses known) ts
+  marks-pass : (ts : List Token) → sum_over (strange known) ts ≤ 0 → All (MarkPasses known) ts
   marks-pass [] h = All-nil (MarkPasses known)
   marks-pass (t ∷ ts) h =
       All-cons (MarkPasses known) t ts (mark-passes t (omega (arith, h))) (marks-pass ts (omega (arith, h)))
@@ -86,15 +86,15 @@ module _ (known : Place → Bool) where
       record { marks = All-nil (MarkPasses known); faults = All-nil (λ (f : ScanFault). known f.place ≡ true) }
   scanned-pass (line ∷ lines) h =
       let places = places-known (line ∷ lines) h in
-      let start : Reading = record { state = before_text line.place; later = map (λ l. l.place) lines } in
-      let t = line.bytes ++ further lines in
-      let s = (run start t).state in
+      let start : Reading = record { state = start_state line.place; later = map (λ l. l.place) lines } in
+      let t = line.bytes ++ newline_prefixed lines in
+      let s = (lex start t).state in
       let begins : AreKnown start = (
         omega arith,
         All-nil (λ (f : ScanFault). known f.place ≡ true),
         record { here_is = places.0; begun_is = tt; later_are = places.1 },
       ) in
-      let ends = leave-walks stays_known (run start t) (run-walks stays_known start t begins) in
+      let ends = leave-walks stays_known (lex start t) (run-walks stays_known start t begins) in
       let v = (leave s).contents.parts in
       record {
         marks = marks-pass (all_tokens (all_parts v)) (omega (arith, all-size (strange known) v, ends.0));

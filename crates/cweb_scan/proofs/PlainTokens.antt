@@ -1,44 +1,45 @@
 -- What a run makes of a token's bytes and what follows.
-use Rattle.cweb_scan.proofs.Common.{◌≡◌, ℕ, ◌+◌, ◌<◌, ◌/◌, ◌%◌, suc, zero, Bool, true, false, cond, ◌==◌, List, [], ◌∷◌, ◌++◌, Some, length, take, drop, refl, ap, ◌∙◌, arith, append_assoc, length-append, codes, decimal, digit_glyph, digits_onto, list_all, fold, take-append_seam, drop-append_seam, Token, Word, Number, Punct, first_is, JoinsAll, IsToken, is_token, is_quiet, begins_as, front_in, Kind, front, CText, Effect, GiveAt, End, Closed, Reading, after, some_include, names_include, front_of, run, InPlainC, IsRead, ReadsAlone, doubled, solid, token_of, literal_of, bytes_of, is_hash, same_Some, and_from, nat_tests}
+use Rattle.cweb_scan.proofs.Common.{◌≡◌, ℕ, ◌+◌, ◌<◌, ◌/◌, ◌%◌, suc, zero, Bool, true, false, cond, ◌==◌, List, [], ◌∷◌, ◌++◌, Some, length, take, drop, refl, ap, ◌∙◌, arith, append_assoc, length-append, codes, decimal, digit_glyph, digits_onto, list_all, fold, take-append_seam, drop-append_seam, Token, Word, Number, Punct, first_is, JoinsAll, IsToken, is_token, is_quiet, begins_as, match_in, Kind, rule_match, CText, Effect, EmitAt, End, Closed, Reading, after_lexeme, some_include, names_include, next_match, lex, InPlainC, IsReadAs, ReadsAlone, doubled, significant, token_of, literal_token, spelling_of, is_hash, same_Some, and_from, nat_tests}
 use Rattle.std.specs.Fmt.{digits}
-use Rattle.cweb_rules.specs.Follows as rules
+use Rattle.cweb_rules.specs.laws.Follows as rules
 use Rattle.cweb_rules.specs.Kinds as kind
 use Rattle.cweb_rules.proofs.Comments.{comment_front}
 use Rattle.cweb_rules.proofs.Tokens.{tokens_stay, tokens_begin}
-use Rattle.cweb_scanner.proofs.Pieces.{pieces_first}
-use Rattle.cweb_scan.specs.Alone.{goes_on}
-use Rattle.cweb_scan.proofs.PlainPieces.{token_gives, line_end_gives, comment_gives}
+use Rattle.cweb_scan.proofs.FirstLexeme.{pieces_first}
+use Rattle.cweb_scan.specs.laws.Alone.{continues_token}
+use Rattle.cweb_scan.proofs.PlainReadings.{token_gives, line_end_gives, comment_gives}
 
 -- ONE PIECE
 
-in_plain_c : (r : Reading) (t : List ℕ) → InPlainC r.state → front_of r.state t ≡ front_in CText false t
+in_plain_c : (r : Reading) (t : List ℕ) → InPlainC r.state → next_match r.state t ≡ match_in CText false t
 in_plain_c r t h =
-    ap (λ c. front_in c (names_include r.state) t) h.in_c ∙ ap (λ o. front_in CText (some_include o) t) h.no_directive
+    ap (λ c. match_in c (names_include r.state) t) h.in_c ∙ ap (λ o. match_in CText (some_include o) t) h.no_directive
 
-run_step : (r : Reading) (b : ℕ) (x : List ℕ) (k : Kind) (n : ℕ) → InPlainC r.state → front_in CText false (b ∷ x)
-    ≡ front k n → 0 < n → run r (b ∷ x) ≡ run (after r (record { kind = k; bytes = take n (b ∷ x) })) (drop n (b ∷ x))
+run_step : (r : Reading) (b : ℕ) (x : List ℕ) (k : Kind) (n : ℕ) → InPlainC r.state → match_in CText false (b ∷ x)
+    ≡ rule_match k n → 0 < n
+    → lex r (b ∷ x) ≡ lex (after_lexeme r (record { kind = k; bytes = take n (b ∷ x) })) (drop n (b ∷ x))
 run_step r b x k n h is some =
     let t = b ∷ x in
     let e = in_plain_c r t h ∙ is in
-    let size : (front_of r.state t).size ≡ n = ap (λ f. f.size) e in
-    ap (fold after r) (pieces_first r b x (omega (arith, some, size)))
-    ∙ ap (λ f. run (after r (record { kind = f.kind; bytes = take f.size t })) (drop f.size t)) e
+    let size : (next_match r.state t).size ≡ n = ap (λ f. f.size) e in
+    ap (fold after_lexeme r) (pieces_first r b x (omega (arith, some, size)))
+    ∙ ap (λ f. lex (after_lexeme r (record { kind = f.kind; bytes = take f.size t })) (drop f.size t)) e
 
 -- a piece that has these bytes, whatever follows
 run_over : (r : Reading) (d more : List ℕ) (k : Kind) → InPlainC r.state
-    → 0 < length d → front_in CText false (d ++ more) ≡ front k (length d)
-    → run r (d ++ more) ≡ run (after r (record { kind = k; bytes = d })) more
+    → 0 < length d → match_in CText false (d ++ more) ≡ rule_match k (length d)
+    → lex r (d ++ more) ≡ lex (after_lexeme r (record { kind = k; bytes = d })) more
 run_over r [] more k h some is = absurd (omega (arith, some))
 run_over r (b ∷ t) more k h some is =
     let d = b ∷ t in
     run_step r b (t ++ more) k (length d) h is some
-    ∙ ap (λ bytes. run (after r (record { kind = k; bytes = bytes })) (drop (length d) (d ++ more)))
+    ∙ ap (λ bytes. lex (after_lexeme r (record { kind = k; bytes = bytes })) (drop (length d) (d ++ more)))
     (take-append_seam d more)
-    ∙ ap (run (after r (record { kind = k; bytes = d }))) (drop-append_seam d more)
+    ∙ ap (lex (after_lexeme r (record { kind = k; bytes = d }))) (drop-append_seam d more)
 
-pub newline_read : (r : Reading) (rest : List ℕ) → InPlainC r.state → IsRead r (10 ∷ []) rest []
+pub newline_read : (r : Reading) (rest : List ℕ) → InPlainC r.state → IsReadAs r (10 ∷ []) rest []
 newline_read r rest h = record {
-  next = after r (record { kind = kind.LineEnd; bytes = 10 ∷ [] });
+  next = after_lexeme r (record { kind = kind.LineEnd; bytes = 10 ∷ [] });
   goes_on = run_step r 10 rest kind.LineEnd 1 h refl (omega arith);
   read = line_end_gives r (10 ∷ []) h;
 }
@@ -47,15 +48,15 @@ abbrev pub comment_of : List ℕ → List ℕ
 comment_of x = codes "/*" ++ (x ++ codes "*/")
 
 pub comment_read : (r : Reading) (x rest : List ℕ) → list_all is_quiet x ≡ true
-    → InPlainC r.state → IsRead r (comment_of x) rest []
+    → InPlainC r.state → IsReadAs r (comment_of x) rest []
 comment_read r x rest quiet h =
     let d = comment_of x in
     let is : d ++ rest ≡ 47 ∷ 42 ∷ x ++ 42 ∷ 47 ∷ rest = ap (λ t. 47 ∷ 42 ∷ t) (append_assoc x (42 ∷ 47 ∷ []) rest) in
     let size : 2 + (length x + 2) ≡ length d = omega (arith, length-append x (42 ∷ 47 ∷ [])) in
     record {
-      next = after r (record { kind = kind.Comment Closed; bytes = d });
+      next = after_lexeme r (record { kind = kind.Comment Closed; bytes = d });
       goes_on = run_over r d rest (kind.Comment Closed) h (omega arith)
-          (ap (front_in CText false) is ∙ comment_front x rest quiet ∙ ap (front (kind.Comment Closed)) size);
+          (ap (match_in CText false) is ∙ comment_front x rest quiet ∙ ap (rule_match (kind.Comment Closed)) size);
       read = comment_gives r d h;
     }
 
@@ -85,38 +86,38 @@ quiet_decimal n = quiet_onto 64 n [] refl
 -- the kind of a token, and what is known of it by its kind
 pub record Kinded (k : Kind) (d : List ℕ) (u : Token) : Type 0 where
   pub token : is_token k ≡ true
-  pub goes : (joins : ℕ → ℕ → Bool) (more : List ℕ) → first_is (goes_on joins u) more ≡ false
-      → first_is (rules.goes_on joins k d) more ≡ false
+  pub goes : (joins : ℕ → ℕ → Bool) (more : List ℕ) → first_is (continues_token joins u) more ≡ false
+      → first_is (rules.continues_lexeme joins k d) more ≡ false
 
 none_goes : (more : List ℕ) → first_is (λ b. false) more ≡ false
 none_goes [] = refl
 none_goes (b ∷ more) = refl
 
 code_kinded : (c : Effect) (d : List ℕ) (u : Token) → token_of (kind.Code c) d ≡ Some u → Kinded (kind.Code c) d u
-code_kinded GiveAt d u t = record { token = refl; goes = λ joins more h. none_goes more }
+code_kinded EmitAt d u t = record { token = refl; goes = λ joins more h. none_goes more }
 code_kinded _ d u t = cc
 
 literal_kinded : (units : List (List ℕ)) (how : End) (d : List ℕ) (u : Token)
-    → literal_of units how ≡ Some u → Kinded (kind.Quoted units how) d u
+    → literal_token units how ≡ Some u → Kinded (kind.Quoted units how) d u
 literal_kinded units Closed d u t = record { token = refl; goes = λ joins more h. none_goes more }
 literal_kinded units _ d u t = cc
 
 pub kinded : (k : Kind) (d : List ℕ) (u : Token) → token_of k d ≡ Some u → Kinded k d u
 kinded kind.Identifier d u t =
     let same = same_Some (Word d) u t in
-    record { token = refl; goes = λ joins more h. ap (λ v. first_is (goes_on joins v) more) same ∙ h }
+    record { token = refl; goes = λ joins more h. ap (λ v. first_is (continues_token joins v) more) same ∙ h }
 kinded kind.Numeral d u t =
     let same = same_Some (Number d) u t in
-    record { token = refl; goes = λ joins more h. ap (λ v. first_is (goes_on joins v) more) same ∙ h }
+    record { token = refl; goes = λ joins more h. ap (λ v. first_is (continues_token joins v) more) same ∙ h }
 kinded kind.Punctuator d u t =
     let same = same_Some (Punct d) u t in
-    record { token = refl; goes = λ joins more h. ap (λ v. first_is (goes_on joins v) more) same ∙ h }
+    record { token = refl; goes = λ joins more h. ap (λ v. first_is (continues_token joins v) more) same ∙ h }
 kinded (kind.Quoted units how) d u t = literal_kinded units how d u t
 kinded (kind.Code c) d u t = code_kinded c d u t
 kinded _ d u t = cc
 
 abbrev pub text_of : Token → List ℕ
-text_of u = doubled (bytes_of u)
+text_of u = doubled (spelling_of u)
 
 pub alone : (u : Token) (h : ReadsAlone u) → IsToken h.kind (text_of u)
 alone u h = record { whole = h.whole; token = (kinded h.kind (text_of u) u h.token).token }
@@ -130,12 +131,12 @@ some_byte p (b ∷ d) h = omega arith
 
 pub token_read : (joins : ℕ → ℕ → Bool) (r : Reading) (u : Token) (rest : List ℕ)
     → JoinsAll joins → InPlainC r.state → ReadsAlone u → is_hash u ≡ false
-    → first_is (goes_on joins u) rest ≡ false → IsRead r (text_of u) rest (solid (u ∷ []))
+    → first_is (continues_token joins u) rest ≡ false → IsReadAs r (text_of u) rest (significant (u ∷ []))
 token_read joins r u rest all plain h hash seam =
     let d = text_of u in
     let k = kinded h.kind d u h.token in
     record {
-      next = after r (record { kind = h.kind; bytes = d });
+      next = after_lexeme r (record { kind = h.kind; bytes = d });
       goes_on = run_over r d rest h.kind plain (some_byte (begins_as h.kind) d (begins u h))
           (tokens_stay joins h.kind d rest all (alone u h) (k.goes joins rest seam));
       read = token_gives r (record { kind = h.kind; bytes = d }) u plain hash h.token;

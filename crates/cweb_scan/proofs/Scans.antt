@@ -1,10 +1,10 @@
 -- How the lines that a merger gives out are scanned.
-use Rattle.cweb_scan.proofs.Common.{◌≡◌, ◌≤◌, ◌<◌, ℕ, ◌+◌, Bool, true, List, [], ◌∷◌, ◌++◌, length, refl, ap, sym, ◌∙◌, subst, arith, IsTrue, nat_lt, ltb-true, lt-ltb, append-nil, append_assoc, All-nil, All-push, All-weaker, Place, Line, HasNoNewline, Event, KeepsTold, SoFar, Stopped, StopsFor, blame, given_lines, GivesOut, Grows, StopsThere, LINES, BYTES, Stop, ReadFault, LineTooLong, TooMuchText, Memory, Token, Mark, all_tokens, IsLine, ScanFault, Reading, Held, read_after, unread, IsBounded, MarkPasses, web_size, Scanned, read, scanned, scanned_of, AreBelow, IsBelow, IsMarkBelow, HasTaken, IsWithin, Scans, StopsAfter, EndsEarly}
-use Rattle.cweb_lines.specs.Merging.{Gives}
-use Rattle.cweb_lines.proofs.Fronts.{told_then}
+use Rattle.cweb_scan.proofs.Common.{◌≡◌, ◌≤◌, ◌<◌, ℕ, ◌+◌, Bool, true, List, [], ◌∷◌, ◌++◌, length, refl, ap, sym, ◌∙◌, subst, arith, IsTrue, nat_lt, ltb-true, lt-ltb, append-nil, append_assoc, All-nil, All-push, All-weaker, Place, Line, HasNoNewline, Event, KeepsReported, SoFar, Stopped, StopsFor, blame, emitted_lines, EmitsLine, Grows, StopsThere, LINES, BYTES, Stop, ReadFault, LineTooLong, TooMuchText, Memory, Token, Mark, all_tokens, IsLine, ScanFault, Reading, ReaderModel, read_after, new_reader, IsBounded, MarkPasses, web_size, Scanned, read_lines, scanned, scanned_of, AreLinesBelow, IsScanBelow, IsMarkBelow, HasTaken, ScansWithinLimits, Scans, StopsAfter, ScanEndsEarly}
+use Rattle.cweb_lines.specs.MergeProgress.{EmitsLines}
+use Rattle.cweb_lines.proofs.ReportsOnlyGrow.{told_then}
 use Rattle.cweb_lines.proofs.Merges.{gives_nothing}
-use Rattle.cweb_lines.proofs.Sums.{gives_both, behind_both}
-use Rattle.cweb_lines.proofs.Writes.{given_front, gives_all, tells_some, tells_more, tells_same}
+use Rattle.cweb_lines.proofs.EmittedLinesAddUp.{gives_both, behind_both}
+use Rattle.cweb_lines.proofs.WrittenLinesAddUp.{given_front, gives_all, tells_some, tells_more, tells_same}
 use Rattle.cweb_scan.proofs.Bounds.{bounded}
 use Rattle.cweb_scan.proofs.Places.{scanned-pass}
 
@@ -12,7 +12,7 @@ pub is_line : (t : List ℕ) → HasNoNewline t → IsLine t
 is_line [] h = tt
 is_line (b ∷ t) h = (h.0, is_line t h.1)
 
-pub nothing_taken : (tells : Bool) (so : SoFar) (all : List Event) → HasTaken tells so so all all unread
+pub nothing_taken : (tells : Bool) (so : SoFar) (all : List Event) → HasTaken tells so so all all new_reader
 nothing_taken tells so all = record {
   lines = [];
   read_is = λ more. refl;
@@ -25,19 +25,20 @@ pub web_size-append : (a b : List Line) → web_size (a ++ b) ≡ web_size a + w
 web_size-append [] b = omega arith
 web_size-append (line ∷ a) b = omega (arith, web_size-append a b)
 
-pub wider : (files more : ℕ) (lines : List Line) → files ≤ more → AreBelow files lines → AreBelow more lines
+pub wider : (files more : ℕ) (lines : List Line) → files ≤ more → AreLinesBelow files lines → AreLinesBelow more lines
 wider files more lines h below = All-weaker (λ (line : Line). line.place.file.0 < files)
     (λ line. line.place.file.0 < more) (λ line k. omega (arith, h, k)) lines below
 
 -- one more line
-pub given_line_taken : (tells : Bool) (old so new : SoFar) (all now later : List Event) (held next : Held) (line : Line)
-    → HasTaken tells old so all now held → GivesOut line.place line.bytes so new
+pub given_line_taken : (tells : Bool) (old so new : SoFar) (all now later : List Event) (held next : ReaderModel)
+    (line : Line)
+    → HasTaken tells old so all now held → EmitsLine line.place line.bytes so new
     → length so.names ≤ length new.names → ((more : List Line) → read_after next more ≡ read_after held (line ∷ more))
-    → (IsTrue tells → Gives (line ∷ []) so new now later) → HasTaken tells old new all later next
+    → (IsTrue tells → EmitsLines (line ∷ []) so new now later) → HasTaken tells old new all later next
 given_line_taken tells old so new all now later held next line taken given names reads gives = record {
   lines = taken.lines ++ line ∷ [];
   read_is = λ more.
-      reads more ∙ taken.read_is (line ∷ more) ∙ ap read (sym (append_assoc taken.lines (line ∷ []) more));
+      reads more ∙ taken.read_is (line ∷ more) ∙ ap read_lines (sym (append_assoc taken.lines (line ∷ []) more));
   below = All-push (λ (line : Line). line.place.file.0 < length new.names) taken.lines line
       (wider (length so.names) (length new.names) taken.lines names taken.below) given.known;
   few = omega (arith, web_size-append taken.lines (line ∷ []), taken.few, given.lines, given.bytes_are);
@@ -52,7 +53,7 @@ mark_below : (files : ℕ) (t : Token) → MarkPasses (among files) t → IsMark
 mark_below files (Mark p) h = ltb-true p.file.0 files h
 mark_below files t h = tt
 
-scanned-below : (files : ℕ) (lines : List Line) → AreBelow files lines → IsBelow files (scanned lines)
+scanned-below : (files : ℕ) (lines : List Line) → AreLinesBelow files lines → IsScanBelow files (scanned lines)
 scanned-below files lines below =
     let known = All-weaker (λ (l : Line). l.place.file.0 < files)
     (λ l. among files l.place ≡ true) (λ l h. lt-ltb l.place.file.0 files h) lines below in
@@ -65,13 +66,14 @@ scanned-below files lines below =
     }
 
 -- what all lines that were taken give
-of_taken : (held : Held) (lines : List Line) → ((more : List Line) → read_after held more ≡ read (lines ++ more))
+of_taken : (held : ReaderModel) (lines : List Line)
+    → ((more : List Line) → read_after held more ≡ read_lines (lines ++ more))
     → scanned_of (read_after held []).state ≡ scanned lines
-of_taken held lines reads = ap (λ (r : Reading). scanned_of r.state) (reads [] ∙ ap read (append-nil lines))
+of_taken held lines reads = ap (λ (r : Reading). scanned_of r.state) (reads [] ∙ ap read_lines (append-nil lines))
 
-pub all_within : (tells : Bool) (old so new : SoFar) (all now : List Event) (held : Held) (s : Scanned)
+pub all_within : (tells : Bool) (old so new : SoFar) (all now : List Event) (held : ReaderModel) (s : Scanned)
     → HasTaken tells old so all now held → s ≡ scanned_of (read_after held []).state
-    → length so.names ≤ length new.names → so.count.bytes ≤ BYTES → so.count.lines ≤ LINES → IsWithin new s
+    → length so.names ≤ length new.names → so.count.bytes ≤ BYTES → so.count.lines ≤ LINES → ScansWithinLimits new s
 all_within tells old so new all now held s taken is names few_bytes few_lines =
     let same : s ≡ scanned taken.lines = is ∙ of_taken held taken.lines taken.read_is in
     let opened = wider (length so.names) (length new.names) taken.lines names taken.below in
@@ -80,20 +82,21 @@ all_within tells old so new all now held s taken is names few_bytes few_lines =
       made = same;
       opened = opened;
       few = omega (arith, taken.few, few_bytes, few_lines);
-      below = subst (IsBelow (length new.names)) (sym same) (scanned-below (length new.names) taken.lines opened);
+      below = subst (IsScanBelow (length new.names)) (sym same) (scanned-below (length new.names) taken.lines opened);
       bounded = subst (λ (s : Scanned). IsBounded s.store (web_size taken.lines)) (sym same) (bounded taken.lines);
     }
 
 -- no line is left
-pub all_scanned : (old so new : SoFar) (all now later : List Event) (lines : List Line) (held : Held) (s : Scanned)
-    → ((more : List Line) → read_after held more ≡ read (lines ++ more))
-    → web_size lines ≤ so.count.bytes + so.count.lines → Gives lines old so all now
-    → s ≡ scanned_of (read_after held []).state → Gives [] so new now later → later ≡ [] → Scans s old new all
+pub all_scanned : (old so new : SoFar) (all now later : List Event) (lines : List Line) (held : ReaderModel)
+    (s : Scanned)
+    → ((more : List Line) → read_after held more ≡ read_lines (lines ++ more))
+    → web_size lines ≤ so.count.bytes + so.count.lines → EmitsLines lines old so all now
+    → s ≡ scanned_of (read_after held []).state → EmitsLines [] so new now later → later ≡ [] → Scans s old new all
 all_scanned old so new all now later lines held s reads few gives is last none =
     let whole = gives_both lines [] old so new all now later gives last in
-    let here : given_lines all ≡ lines =
+    let here : emitted_lines all ≡ lines =
     given_front (lines ++ []) old new all later whole
-    ∙ ap (λ (es : List Event). (lines ++ []) ++ given_lines es) none ∙ append-nil (lines ++ []) ∙ append-nil lines in
+    ∙ ap (λ (es : List Event). (lines ++ []) ++ emitted_lines es) none ∙ append-nil (lines ++ []) ∙ append-nil lines in
     let same : s ≡ scanned lines = is ∙ of_taken held lines reads in
     let size = bounded lines in
     record {
@@ -107,7 +110,7 @@ all_scanned old so new all now later lines held s reads few gives is last none =
 
 -- the merger stopped
 pub ends_early : (stop : Stop) (old so new : SoFar) (all now : List Event) (lines : List Line)
-    → Gives lines old so all now → StopsThere stop so new now → EndsEarly stop old new all
+    → EmitsLines lines old so all now → StopsThere stop so new now → ScanEndsEarly stop old new all
 ends_early stop old so new all now lines gives there = record {
   why = by stop there.why;
   told = tells_more lines old so new all now gives there.told;
@@ -126,12 +129,12 @@ ends_early stop old so new all now lines gives there = record {
 
 -- memory was refused
 pub refused : (old so halted : SoFar) (all now : List Event) (lines : List Line)
-    → halted ≡ so → Gives lines old so all now → EndsEarly Memory old halted all
+    → halted ≡ so → EmitsLines lines old so all now → ScanEndsEarly Memory old halted all
 refused old so halted all now lines is gives =
     record { why = tt; told = tells_same old so halted all is (tells_some lines old so all now gives) }
 
 -- what was told grows, also where a merger is halted behind it
-pub grows_then : (a b c : SoFar) → KeepsTold a b → Grows b c → Grows a c
+pub grows_then : (a b c : SoFar) → KeepsReported a b → Grows b c → Grows a c
 grows_then a b c told grows =
     record { told = told_then a b c told grows.told; lines = grows.lines; bytes = grows.bytes }
 

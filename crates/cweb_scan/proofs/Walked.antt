@@ -1,22 +1,22 @@
 -- What all pieces of a text keep, where the moves of a scan keep it.
-use Rattle.cweb_scan.proofs.Common.{◌≡◌, ◌<◌, ℕ, List, [], ◌∷◌, ◌++◌, length, take, ap, sym, ◌∙◌, subst, arith, length-append, append-nil, take-append_seam, flat_map, fold, Place, Kind, Piece, Pays, Reading, after, ArePieces, front_of, names_include, pieces, run}
+use Rattle.cweb_scan.proofs.Common.{◌≡◌, ◌<◌, ℕ, List, [], ◌∷◌, ◌++◌, length, take, ap, sym, ◌∙◌, subst, arith, length-append, append-nil, take-append_seam, flat_map, fold, Place, Kind, Lexeme, Pays, Reading, after_lexeme, AreLexemes, next_match, names_include, lexemes, lex}
 use Rattle.cweb_rules.proofs.Newlines.{told}
 use Rattle.cweb_rules.proofs.UnitNewlines.{Tells, ends-append}
-use Rattle.cweb_scanner.proofs.Fairs.{fair}
-use Rattle.cweb_scanner.proofs.Moves.{Moves}
-use Rattle.cweb_scanner.proofs.PieceMoves.{Costs, after-walks}
-use Rattle.cweb_scan.proofs.Pieces.{are_pieces}
+use Rattle.cweb_scan.proofs.NextMatchPays.{fair}
+use Rattle.cweb_scan.proofs.Moves.{Moves}
+use Rattle.cweb_scan.proofs.LexemeMoves.{Costs, after-walks}
+use Rattle.cweb_scan.proofs.LexemesAreUnique.{are_pieces}
 
-abbrev pub bytes_in : List Piece → List ℕ
+abbrev pub bytes_in : List Lexeme → List ℕ
 bytes_in ps = flat_map (λ p. p.bytes) ps
 
 -- what the rules name at the front of a text pays, and tells its line ends
 fits : (r : Reading) (t bytes rest : List ℕ) (k : Kind) → t ≡ bytes ++ rest → 0 < length bytes
-    → k ≡ (front_of r.state t).kind → length bytes ≡ (front_of r.state t).size
+    → k ≡ (next_match r.state t).kind → length bytes ≡ (next_match r.state t).size
     → Pays r.state.context k bytes × Tells k bytes
 fits r [] bytes rest k e some same size = absurd (omega (arith, ap length e, length-append bytes rest, some))
 fits r (b ∷ t) bytes rest k e some same size =
-    let f = front_of r.state (b ∷ t) in
+    let f = next_match r.state (b ∷ t) in
     let is : bytes ≡ take f.size (b ∷ t) =
     sym (take-append_seam bytes rest) ∙ ap (λ n. take n (bytes ++ rest)) size ∙ ap (take f.size) (sym e) in
     subst (λ u. Pays r.state.context k u × Tells k u) (sym is) (subst (λ (j : Kind).
@@ -24,22 +24,22 @@ fits r (b ∷ t) bytes rest k e some same size =
     ((fair r.state b t).pays, told r.state.context (names_include r.state) b t))
 
 -- the bytes of the pieces are the text
-pub joined : (r : Reading) (t : List ℕ) (ps : List Piece) → ArePieces r t ps → bytes_in ps ≡ t
+pub joined : (r : Reading) (t : List ℕ) (ps : List Lexeme) → AreLexemes r t ps → bytes_in ps ≡ t
 joined r t [] h = sym h
-joined r t (p ∷ ps) h = ap (λ u. p.bytes ++ u) (joined (after r p) h.0 ps h.4) ∙ sym h.1
+joined r t (p ∷ ps) h = ap (λ u. p.bytes ++ u) (joined (after_lexeme r p) h.0 ps h.4) ∙ sym h.1
 
 module _ {Ok : Place → Type 0} {R : ℕ → ℕ → ℕ → ℕ → Reading → Reading → Type 0} (w : Moves Ok R) where
   -- the first pieces of a text
-  pub pieces-walk : (before more : List Piece) (r : Reading) (t : List ℕ) → ArePieces r t (before ++ more)
-      → Costs R (bytes_in before) r (fold after r before)
+  pub pieces-walk : (before more : List Lexeme) (r : Reading) (t : List ℕ) → AreLexemes r t (before ++ more)
+      → Costs R (bytes_in before) r (fold after_lexeme r before)
   pieces-walk [] more r t h = w.nothing r
   pieces-walk (p ∷ ps) more r t h =
       let fit = fits r t p.bytes h.0 p.kind h.1 h.2 h.3.kind h.3.size in
-      w.within _ _ _ _ (w.both (after-walks w r p h.2 fit.0 fit.1) (pieces-walk ps more (after r p) h.0 h.4))
+      w.within _ _ _ _ (w.both (after-walks w r p h.2 fit.0 fit.1) (pieces-walk ps more (after_lexeme r p) h.0 h.4))
       (omega (arith, ends-append p.bytes (bytes_in ps), length-append p.bytes (bytes_in ps)))
 
-  pub run-walks : (r : Reading) (t : List ℕ) → Costs R t r (run r t)
+  pub run-walks : (r : Reading) (t : List ℕ) → Costs R t r (lex r t)
   run-walks r t =
       let all = are_pieces r t in
-      subst (λ u. Costs R u r (run r t)) (joined r t (pieces r t) all)
-      (pieces-walk (pieces r t) [] r t (subst (ArePieces r t) (sym (append-nil (pieces r t))) all))
+      subst (λ u. Costs R u r (lex r t)) (joined r t (lexemes r t) all)
+      (pieces-walk (lexemes r t) [] r t (subst (AreLexemes r t) (sym (append-nil (lexemes r t))) all))

@@ -1,7 +1,11 @@
-pub mod Ahead
-pub mod Law
-pub mod Bound
-pub mod Opened
-pub mod Scan
+pub mod DirectiveTokens
+pub mod Lines
+pub mod NameOccurrences
+pub mod State
+pub mod CurrentDirective
+pub mod After
+pub mod Lexemes
 pub mod Alone
-pub mod Standing
+pub mod surface
+pub mod laws
+pub mod inner

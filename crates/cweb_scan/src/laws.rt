@@ -3,24 +3,29 @@
 ghost use Rattle.std.specs.List.{list_all};
 ghost use Rattle.std.specs.Prelude.{◌≡◌, ◌∷◌, ◌++◌, [], All, Bool, List, ℕ, codes, true, false};
 ghost use Rattle.cweb_files.specs.declared.place.Place.{Place};
-ghost use Rattle.cweb_lines.specs.Lines.{HasNoNewline, Line};
+ghost use Rattle.cweb_input.specs.surface.Lines.{HasNoNewline};
+ghost use Rattle.cweb_input.specs.Lines.{Line};
 ghost use Rattle.cweb_rules.specs.Bytes.{first_is, is_blank};
-ghost use Rattle.cweb_rules.specs.Follows.{JoinsAll, is_quiet};
-ghost use Rattle.cweb_rules.specs.Kinds.{Piece};
+ghost use Rattle.cweb_rules.specs.laws.Follows.{JoinsAll, is_quiet};
+ghost use Rattle.cweb_rules.specs.Kinds.{Lexeme};
 ghost use Rattle.cweb_rules.specs.declared.context.Context.TheVariants.{CText};
-ghost use Rattle.cweb_scanner.specs.After.{Reading};
-ghost use Rattle.cweb_scan.specs.Alone.{InPlainC, IsRead, ReadsAlone, bytes_of, doubled, goes_on, is_hash, solid};
-ghost use Rattle.cweb_scanner.specs.Directives.{in_directive};
-ghost use Rattle.cweb_scan.specs.Law.{ArePieces, IsBounded, PlacesPass, web_size};
-ghost use Rattle.cweb_scanner.specs.Run.{pieces, run, scanned};
-ghost use Rattle.cweb_scan.specs.Standing.{StandOnTheirLines};
+ghost use Rattle.cweb_scan.specs.After.{Reading};
+ghost use Rattle.cweb_scan.specs.Alone.{InPlainC, ReadsAlone, spelling_of, doubled};
+ghost use Rattle.cweb_scan.specs.laws.Alone.{IsReadAs};
+ghost use Rattle.cweb_scan.specs.laws.Alone.{continues_token};
+ghost use Rattle.cweb_scan.specs.Alone.{is_hash, significant};
+ghost use Rattle.cweb_scan.specs.CurrentDirective.{in_directive};
+ghost use Rattle.cweb_scan.specs.laws.Law.{AreLexemes, PlacesPass};
+ghost use Rattle.cweb_scan.specs.surface.Law.{IsBounded, web_size};
+ghost use Rattle.cweb_scan.specs.Lexemes.{lexemes, lex, scanned};
+ghost use Rattle.cweb_scan.specs.laws.LexemePlaces.{LexemesKeepLines};
 ghost use Rattle.cweb_store.specs.Parts.{Token};
 
 /// The pieces of a text are the one list of what the rules name at the front of the rest, again and again.
-pub fn pieces_are_one()
-    ensures only { (r : Reading) (t : List ℕ) (ps : List Piece)
-        → ArePieces r t ps → ps ≡ pieces r t }
-    ensures are { (r : Reading) (t : List ℕ) → ArePieces r t (pieces r t) }
+pub fn lexemes_are_unique()
+    ensures only { (r : Reading) (t : List ℕ) (ps : List Lexeme)
+        → AreLexemes r t ps → ps ≡ lexemes r t }
+    ensures are { (r : Reading) (t : List ℕ) → AreLexemes r t (lexemes r t) }
 {}
 
 /// What is kept of a web has no more tokens, and no more bytes, than the web has bytes and lines.
@@ -32,7 +37,7 @@ pub fn store_is_bounded()
 /// is read after the text.
 pub fn blanks_change_nothing()
     ensures { (r : Reading) (b : ℕ) (t : List ℕ) → r.state.context ≡ CText
-        → in_directive r.state ≡ false → is_blank b ≡ true → run r (b ∷ t) ≡ run r t }
+        → in_directive r.state ≡ false → is_blank b ≡ true → lex r (b ∷ t) ≡ lex r t }
 {}
 
 /// Marks and faults stand where lines of the web stand: what holds of the places of all lines holds of theirs.
@@ -42,9 +47,9 @@ pub fn places_are_those_of_lines()
 {}
 
 /// A piece's place is that of its first byte's line, wherever the piece ends and whatever the pieces before it are.
-pub fn pieces_stand_on_their_lines()
+pub fn lexemes_keep_their_lines()
     ensures { (line : Line) (lines : List Line)
-        → All (λ l. HasNoNewline l.bytes) (line ∷ lines) → StandOnTheirLines line lines }
+        → All (λ l. HasNoNewline l.bytes) (line ∷ lines) → LexemesKeepLines line lines }
 {}
 
 /// A token that reads alone, but for the sign that begins a directive, is read as itself wherever a C part is open and no
@@ -52,16 +57,17 @@ pub fn pieces_stand_on_their_lines()
 pub fn tokens_are_read_again()
     ensures { (joins : ℕ → ℕ → Bool) (r : Reading) (token : Token) (rest : List ℕ)
         → JoinsAll joins → InPlainC r.state
-        → ReadsAlone token → is_hash token ≡ false → first_is (goes_on joins token) rest ≡ false
-        → IsRead r (doubled (bytes_of token)) rest (solid (token ∷ [])) }
+        → ReadsAlone token → is_hash token ≡ false
+        → first_is (continues_token joins token) rest ≡ false
+        → IsReadAs r (doubled (spelling_of token)) rest (significant (token ∷ [])) }
 {}
 
 /// There a comment with neither `*` nor `@` in it, and a line end, give no tokens but layout, section comments and marks, and no
 /// fault.
-pub fn what_stands_between_is_passed()
+pub fn comments_and_newlines_are_skipped()
     ensures comments { (r : Reading) (text rest : List ℕ)
         → list_all is_quiet text ≡ true → InPlainC r.state
-        → IsRead r (codes "/*" ++ (text ++ codes "*/")) rest [] }
+        → IsReadAs r (codes "/*" ++ (text ++ codes "*/")) rest [] }
     ensures line_ends { (r : Reading) (rest : List ℕ)
-        → InPlainC r.state → IsRead r (codes "\n") rest [] }
+        → InPlainC r.state → IsReadAs r (codes "\n") rest [] }
 {}

@@ -1,16 +1,28 @@
-//! What a scan makes of the merged lines of a web: the parts and names that a store keeps, the faults of the text, its sections.
-//! The CWEB manual, "Control codes".
+//! What a scan makes of the merged lines of a web: names and parts for the store, the faults, the sections. The CWEB manual,
+//! "Control codes".
 #![tactic(auto)]
 
-// the lines, and the item that is open
+// the effect of each lexeme on the state
+mod scanner;
+
+// the directive that is open in a part
+mod directive;
+
+// whether a line is the next one of its file
+mod lines;
+
+// the bytes before an `@`
+mod skipped;
+
+// the lines, and the item that is open at the end of a line
 mod reader;
 
 // the scan of all lines
 mod scanning;
 
-// what holds of every text
+// what holds for any web
 pub mod laws;
 
 pub use cweb_rules::{ScanFault, ScanKind};
-pub use cweb_scanner::Scanned;
+pub use scanner::scanned::Scanned;
 pub use scanning::scan;

@@ -2,17 +2,17 @@
 ghost use Rattle.std.specs.Prelude.{◌≡◌, ◌<◌, ◌≤◌, ◌+◌, ◌*◌, ◌∷◌, List, IfOk, OnOk, length};
 
 pub mod codes;
-pub mod front;
 pub mod line;
 pub mod lines;
+pub mod next_lexeme;
 pub mod open;
 pub mod opened;
 pub mod opening;
 pub mod rest;
 
 use crate::reader::open::Open;
+use crate::scanner::Scanner;
 use cweb_files::{FileId, Place};
-use cweb_scanner::Scanner;
 use std::alloc::{AllocError, Global};
 use std::marker::Model;
 
@@ -43,10 +43,10 @@ impl Drop for Reader {
 }
 
 impl Model for Reader {
-    ghost use Rattle.cweb_scanner.specs.Held.{Held};
-    ghost use Rattle.cweb_scan.specs.Opened.{item_of, IsSigned};
+    ghost use Rattle.cweb_scan.specs.inner.ReaderModel.{ReaderModel};
+    ghost use Rattle.cweb_scan.specs.inner.PendingItems.{item_of, HasRawCloser};
 
-    ghost Value = { Held };
+    ghost Value = { ReaderModel };
 
     ghost view = { λ r.
         record {
@@ -55,15 +55,15 @@ impl Model for Reader {
           begun = r.begun;
         } };
 
-    ghost invariant = { λ r. IsSigned r.item r.scanner.context r.delimiter.items r.sign.items };
+    ghost invariant = { λ r. HasRawCloser r.item r.scanner.context r.delimiter.items r.sign.items };
 }
 
 impl Reader {
-    ghost use Rattle.cweb_scanner.specs.Held.{unread};
+    ghost use Rattle.cweb_scan.specs.inner.ReaderModel.{new_reader};
 
     /// Before the first line.
     pub fn new(alloc: Global) -> Reader
-        ensures { result ≡ unread }
+        ensures { result ≡ new_reader }
     {
         Reader {
             alloc,

@@ -1,28 +1,33 @@
 // The lines of a merger, scanned.
-ghost use Rattle.std.specs.Prelude.{◌≡◌, ℕ, List, Bool, Option, [], ◌<◌, ◌+◌, ◌*◌, ◌^◌, ◌≤◌, length, IsTrue, Err, IfErr, IfOk, IfSome, OnOk, None, Some};
-ghost use Rattle.cweb_files.specs.Frames.{KeepsTexts};
-ghost use Rattle.cweb_lines.specs.Ahead.{IsAhead, LooksAt};
-ghost use Rattle.cweb_lines.specs.Lending.{LendsLines};
+ghost use Rattle.std.specs.Prelude.{◌≡◌, ℕ, List, Bool, Option, [], ◌<◌, ◌+◌, ◌*◌, ◌^◌, ◌≤◌};
+ghost use Rattle.std.specs.Prelude.{length, IsTrue, Err, IfErr, IfOk, IfSome, OnOk, None, Some};
+ghost use Rattle.cweb_files.specs.surface.Frames.{KeepsShelf};
+ghost use Rattle.cweb_lines.specs.inner.Ahead.{IsAhead, LooksAhead};
+ghost use Rattle.cweb_lines.specs.inner.LineSpans.{BorrowsLines};
 ghost use Rattle.cweb_lines.specs.Merge.{Event};
-ghost use Rattle.cweb_lines.specs.Merging.{SoFar, coming};
-ghost use Rattle.cweb_lines.specs.Texts.{files_named};
-ghost use Rattle.cweb_lines.specs.Naming.{BlamesFile};
-ghost use Rattle.cweb_lines.specs.Whole.{to_come, so_far, stop_in, HasEnded, Grows, KnowsReaders};
-ghost use Rattle.cweb_store.specs.Calls.{too_many};
-ghost use Rattle.cweb_scan.specs.Ahead.{ReadsAhead};
-ghost use Rattle.cweb_scanner.specs.Held.{cost, unread};
-ghost use Rattle.cweb_scanner.specs.Seen.{seen};
-ghost use Rattle.cweb_scan.specs.Scan.{made_of, Blames, EndsEarly, HasTaken, IsWithin, Scans};
+ghost use Rattle.cweb_lines.specs.MergeProgress.{SoFar};
+ghost use Rattle.cweb_lines.specs.surface.MergeProgress.{events_to_come};
+ghost use Rattle.cweb_input.specs.OpenSources.{files_named};
+ghost use Rattle.cweb_input.specs.surface.ReaderNames.{BlamesFile};
+ghost use Rattle.cweb_lines.specs.surface.MergerCalls.{to_come, so_far, stop_in, HasEnded, Grows};
+ghost use Rattle.cweb_lines.specs.surface.MergerCalls.{KnowsReaders};
+ghost use Rattle.cweb_names.specs.surface.Names.{too_many};
+ghost use Rattle.cweb_scan.specs.inner.Ahead.{ReadsAhead};
+ghost use Rattle.cweb_scan.specs.inner.ReaderModel.{cost, new_reader};
+ghost use Rattle.cweb_scan.specs.surface.ScannedModel.{scanned_model};
+ghost use Rattle.cweb_scan.specs.inner.Scan.{scanned_after, HasTaken};
+ghost use Rattle.cweb_scan.specs.surface.Scan.{LeavesStop, ScanEndsEarly};
+ghost use Rattle.cweb_scan.specs.surface.Scan.{ScansWithinLimits, Scans};
 
 use crate::reader::Reader;
+use crate::scanner::scanned::Scanned;
 use cweb_lines::{Ahead, Merger, Shelf, Stop};
-use cweb_scanner::Scanned;
 use std::alloc::{AllocError, Global};
 
 // No line follows.
 fn finished(reader: Reader) -> Result<Scanned, AllocError>
     requires { cost reader + 8 < too_many }
-    ensures { IfOk result (λ made. seen made ≡ made_of reader) }
+    ensures { IfOk result (λ made. scanned_model made ≡ scanned_after reader) }
 {
     let scanner = reader.finish()?;
     scanner.scanned()
@@ -35,7 +40,7 @@ fn read_ahead<S: Shelf>(
     first: Ahead,
     reader: &mut Reader,
 ) -> Result<Ahead, AllocError>
-    requires looks { LooksAt merger.now.run [] first }
+    requires looks { LooksAhead merger.now.run [] first }
     requires ahead { IsAhead merger.now.run first }
     requires cost { let so = (so_far merger.now).count in
         cost reader.old ≤ 3 * (so.bytes + so.lines) }
@@ -52,13 +57,13 @@ fn read_ahead<S: Shelf>(
 }
 
 // Takes lines where they lie in what was read, as long as the merger lends them.
-fn take_lent<S: Shelf>(merger: &mut Merger<S>, reader: &mut Reader) -> Result<(), AllocError>
+fn take_borrowed<S: Shelf>(merger: &mut Merger<S>, reader: &mut Reader) -> Result<(), AllocError>
     requires { let so = (so_far merger.old).count in cost reader.old ≤ 3 * (so.bytes + so.lines) }
-    ensures lent { LendsLines merger.old.run merger.new.run }
+    ensures lent { BorrowsLines merger.old.run merger.new.run }
     ensures taken { OnOk result ((tells : Bool) → (first : SoFar) → (all : List Event) →
         (texts : List ℕ → Option (List ℕ)) → (left : S.R → List ℕ) →
-        HasTaken tells first (so_far merger.old) all (coming texts left merger.old.run) reader.old →
-        HasTaken tells first (so_far merger.new) all (coming texts left merger.new.run) reader.new) }
+        HasTaken tells first (so_far merger.old) all (events_to_come texts left merger.old.run) reader.old →
+        HasTaken tells first (so_far merger.new) all (events_to_come texts left merger.new.run) reader.new) }
     ensures cost { let so = (so_far merger.new).count in
         OnOk result (cost reader.new ≤ 3 * (so.bytes + so.lines)) }
 {
@@ -78,18 +83,19 @@ fn take_lines<S: Shelf>(
 ) -> Result<(), Stop>
     requires count { S.failed shelf.old + 1 < 2 ^ 64 }
     requires running { stop_in merger.old ≡ None }
-    requires fresh { reader.old ≡ unread }
-    ensures keeps { KeepsTexts S.Shelf shelf.old shelf.new }
+    requires fresh { reader.old ≡ new_reader }
+    ensures keeps { KeepsShelf S.Shelf shelf.old shelf.new }
     ensures grows { Grows (so_far merger.old) (so_far merger.new) }
-    ensures scans { IsTrue (S.tells shelf.old) → OnOk result (Scans (made_of reader.new)
+    ensures scans { IsTrue (S.tells shelf.old) → OnOk result (Scans (scanned_after reader.new)
         (so_far merger.old) (so_far merger.new) (to_come S.Shelf shelf.old merger.old)) }
-    ensures within { OnOk result (IsWithin (so_far merger.new) (made_of reader.new)) }
+    ensures within { OnOk result
+        (ScansWithinLimits (so_far merger.new) (scanned_after reader.new)) }
     ensures ended { OnOk result ((stop_in merger.new ≡ None) × HasEnded merger.new
         × (S.failed shelf.new ≡ S.failed shelf.old) × (cost reader.new + 8 < too_many)) }
-    ensures stops { IsTrue (S.tells shelf.old) → IfErr result (λ stop. EndsEarly stop
+    ensures stops { IsTrue (S.tells shelf.old) → IfErr result (λ stop. ScanEndsEarly stop
         (so_far merger.old) (so_far merger.new) (to_come S.Shelf shelf.old merger.old)) }
     ensures blames { IfErr result (λ stop.
-        Blames stop (S.failed shelf.old) (S.failed shelf.new) (stop_in merger.new)) }
+        LeavesStop stop (S.failed shelf.old) (S.failed shelf.new) (stop_in merger.new)) }
     ensures blamed { IsTrue (S.tells shelf.old) → KnowsReaders S.Shelf shelf.old merger.old →
         BlamesFile (so_far merger.new).names (S.blamed shelf.old) (S.blamed shelf.new) result }
     ensures named { IfErr result (λ stop. files_named stop ≤ length (so_far merger.new).names) }
@@ -105,7 +111,7 @@ fn take_lines<S: Shelf>(
         if let Err(_) = reader.take_line(place, line) {
             return Err(merger.halt());
         }
-        if let Err(_) = take_lent(merger, reader) {
+        if let Err(_) = take_borrowed(merger, reader) {
             return Err(merger.halt());
         }
     }
@@ -115,22 +121,23 @@ fn take_lines<S: Shelf>(
 /// lines, joined by newlines. Where memory is refused the merger stops.
 pub fn scan<S: Shelf>(alloc: Global, merger: &mut Merger<S>, shelf: &mut S) -> Result<Scanned, Stop>
     requires { S.failed shelf.old + 1 < 2 ^ 64 }
-    ensures keeps { KeepsTexts S.Shelf shelf.old shelf.new }
+    ensures keeps { KeepsShelf S.Shelf shelf.old shelf.new }
     ensures grows { Grows (so_far merger.old) (so_far merger.new) }
 
     // all lines were scanned
-    ensures scans { IsTrue (S.tells shelf.old) → IfOk result (λ made. Scans (seen made)
+    ensures scans { IsTrue (S.tells shelf.old) → IfOk result (λ made. Scans (scanned_model made)
         (so_far merger.old) (so_far merger.new) (to_come S.Shelf shelf.old merger.old)) }
-    ensures within { IfOk result (λ made. IsWithin (so_far merger.new) (seen made)) }
+    ensures within { IfOk result
+        (λ made. ScansWithinLimits (so_far merger.new) (scanned_model made)) }
     ensures ended { OnOk result
         ((stop_in merger.new ≡ None) × HasEnded merger.new
         × (S.failed shelf.new ≡ S.failed shelf.old)) }
 
     // why not all lines were scanned
     ensures stops { IsTrue (S.tells shelf.old) → stop_in merger.old ≡ None →
-        IfErr result (λ stop. EndsEarly stop (so_far merger.old) (so_far merger.new) (to_come S.Shelf shelf.old merger.old)) }
+        IfErr result (λ stop. ScanEndsEarly stop (so_far merger.old) (so_far merger.new) (to_come S.Shelf shelf.old merger.old)) }
     ensures blames { stop_in merger.old ≡ None →
-        IfErr result (λ stop. Blames stop (S.failed shelf.old) (S.failed shelf.new) (stop_in merger.new)) }
+        IfErr result (λ stop. LeavesStop stop (S.failed shelf.old) (S.failed shelf.new) (stop_in merger.new)) }
     ensures blamed { IsTrue (S.tells shelf.old) → KnowsReaders S.Shelf shelf.old merger.old →
         stop_in merger.old ≡ None → BlamesFile (so_far merger.new).names
         (S.blamed shelf.old) (S.blamed shelf.new) result }

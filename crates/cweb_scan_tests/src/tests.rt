@@ -13,40 +13,40 @@ mod literals;
 mod macros;
 mod names;
 mod plain;
+mod rendered;
 mod sections;
-mod told;
 mod wanted;
 mod worked;
 
 use cases::{Case, check};
 use cweb_lines::Merger;
 use cweb_scan::{Scanned, scan};
+use rendered::render;
 use std::alloc::{AllocError, Global};
 use std::process::Abort;
 use std::test::Fail;
-use told::tell;
 use trial::shelf_of;
 use wanted::*;
 
 /// This is told of what a scan made.
 #[derive(Clone, Copy)]
-struct Telling<'a> {
+struct Rendering<'a> {
     text: &'a str,
 }
 
-impl Case<Fail> for Telling<'_> {
+impl Case<Fail> for Rendering<'_> {
     fn look<A: AllocGlobal + Abort>(&self, rt: &A, made: &Scanned) -> Result<(), Fail> {
         let mut told = String::new(rt.alloc());
-        tell(&mut told, made)?;
-        same_text(rt, told.as_str(), self.text);
+        render(&mut told, made)?;
+        same_string(rt, told.as_str(), self.text);
         Ok(())
     }
 }
 
 /// Of each web of one file is told what stands beside it.
-fn tell_each(rt: &(impl AllocGlobal + Abort), rows: &[(&[u8], &str)]) -> Result<(), Fail> {
+fn check_each(rt: &(impl AllocGlobal + Abort), rows: &[(&[u8], &str)]) -> Result<(), Fail> {
     for (web, text) in rows {
-        check(rt, &[("a.w", *web)], None, &Telling { text: *text })?;
+        check(rt, &[("a.w", *web)], None, &Rendering { text: *text })?;
     }
     Ok(())
 }

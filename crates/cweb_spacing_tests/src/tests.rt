@@ -1,8 +1,8 @@
 // Tokens that are printed, and what is read of them again.
 ghost use Rattle.std.specs.Prelude.{◌≡◌, true};
-ghost use Rattle.cweb_lines.specs.Names.{names_of};
-ghost use Rattle.cweb_store.specs.Seen.{seen};
-ghost use Rattle.cweb_print.specs.Printers.{IsNamed};
+ghost use Rattle.cweb_input.specs.surface.OpenedFileNames.{opened_file_names};
+ghost use Rattle.cweb_store.specs.surface.TokenModels.{token_model};
+ghost use Rattle.cweb_print.specs.surface.Printers.{MarkFileIsNamed};
 ghost use Rattle.cweb_print.specs.Printing.{Setting};
 
 use cweb_files::{MemoryShelf, MemorySink, Sink};
@@ -24,7 +24,8 @@ fn holds(rt: &impl Abort, is_so: bool)
 }
 
 fn is_named(names: &FileNames, token: &Token<'_>) -> bool
-    ensures { result ≡ true → (s : Setting) → s.files ≡ names_of names.now → IsNamed s (seen token.now) }
+    ensures { result ≡ true → (s : Setting) → s.files ≡ opened_file_names names.now
+        → MarkFileIsNamed s (token_model token.now) }
 {
     match token {
         Token::Mark(place) => place.file.0 < names.count(),
@@ -62,7 +63,7 @@ fn web_of(alloc: Global, text: &[u8]) -> Result<Vec<u8>, AllocError> {
 }
 
 // A token by its sign and its bytes; nothing of what may stand between tokens.
-fn told(token: Token<'_>) -> Option<(u8, &[u8])> {
+fn kind_and_spelling(token: Token<'_>) -> Option<(u8, &[u8])> {
     match token {
         Token::Word(bytes) => Some((b'w', bytes)),
         Token::Number(bytes) => Some((b'n', bytes)),
@@ -74,9 +75,9 @@ fn told(token: Token<'_>) -> Option<(u8, &[u8])> {
 }
 
 // The first token of a store, from one on, of which something is told, or the end.
-fn next_told(store: &Store, first: u32) -> u32 {
+fn next_significant(store: &Store, first: u32) -> u32 {
     for number in first..store.tokens() {
-        if told(store.token(number)).is_some() {
+        if kind_and_spelling(store.token(number)).is_some() {
             return number;
         }
     }
@@ -87,15 +88,17 @@ fn next_told(store: &Store, first: u32) -> u32 {
 fn has_tokens(store: &Store, tokens: &[Token<'_>]) -> bool {
     let mut first = 0;
     for token in tokens {
-        if told(*token).is_some() {
-            let number = next_told(store, first);
-            if number >= store.tokens() || told(store.token(number)) != told(*token) {
+        if kind_and_spelling(*token).is_some() {
+            let number = next_significant(store, first);
+            if number >= store.tokens()
+                || kind_and_spelling(store.token(number)) != kind_and_spelling(*token)
+            {
                 return false;
             }
             first = number + 1;
         }
     }
-    next_told(store, first) >= store.tokens()
+    next_significant(store, first) >= store.tokens()
 }
 
 // A merger of a web, and the shelf in which it stands.
@@ -147,8 +150,8 @@ fn comes_back(rt: &impl Abort, alloc: Global, tokens: &[Token<'_>], text: Option
 }
 
 #[test]
-fn rows_come_back(rt: HostRuntime) {
-    const ROWS: &[(&[Token<'static>], &[u8])] = &[
+fn examples_come_back(rt: HostRuntime) {
+    const EXAMPLES: &[(&[Token<'static>], &[u8])] = &[
         (
             &[
                 Token::Number(b"0xe"),
@@ -172,7 +175,7 @@ fn rows_come_back(rt: HostRuntime) {
             b"/ /*1:*/*",
         ),
     ];
-    for (tokens, text) in ROWS {
+    for (tokens, text) in EXAMPLES {
         comes_back(&rt, rt.alloc(), *tokens, Some(*text));
     }
 }
@@ -187,8 +190,8 @@ fn literals_of_more_lines_come_back(rt: HostRuntime) {
         Token::Word(b"u8"),
         Token::Literal(b"u8\"c\""),
     ];
-    const TEXT: &[u8] = b"R\"x(a\n@b)x\"\n\"@\\\n\" u8 u8\"c\"";
-    comes_back(&rt, rt.alloc(), TOKENS, Some(TEXT));
+    const PRINTED: &[u8] = b"R\"x(a\n@b)x\"\n\"@\\\n\" u8 u8\"c\"";
+    comes_back(&rt, rt.alloc(), TOKENS, Some(PRINTED));
 }
 
 static TOKENS: [Token<'static>; 44] = [

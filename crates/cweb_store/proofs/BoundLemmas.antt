@@ -1,5 +1,5 @@
 -- Names, files and faults are in range.
-use Rattle.cweb_store.proofs.Common.{◌≡◌, ℕ, zero, suc, ◌+◌, ◌≤◌, ◌<◌, Bool, List, [], ◌∷◌, ◌++◌, Some, None, Option, length, refl, ap, arith, length-append, Ok, Err, IfSome, All, bytes_eq, AllByRecursion, length-map, All-from_recursion, How, Full, Prefix, NameId, NameFault, NameKind, NeverFull, Occurrence, Name, Standing, texts, with_text, with_name, names_from, names, beginning_from, the_one, standing_among, standings_from, standings, stands, with_some, with_file, files_from, files, Part, standing_faults_from, faults_from, faults}
+use Rattle.cweb_store.proofs.Common.{◌≡◌, ℕ, zero, suc, ◌+◌, ◌≤◌, ◌<◌, Bool, List, [], ◌∷◌, ◌++◌, Some, None, Option, length, refl, ap, arith, length-append, Ok, Err, IfSome, All, bytes_eq, AllByRecursion, length-map, All-from_recursion, How, Full, Prefix, NameId, NameFault, NameKind, NeverFull, Occurrence, Name, Resolution, spellings, with_full_name, with_occurrence_name, names_from, names, beginning_from, the_one, resolved_among, resolutions_from, resolutions, resolved_at, with_some, with_file, files_from, files, Part, unresolved_faults_from, faults_from, faults}
 use Rattle.cweb_names.proofs.NameLemmas.{position-below}
 use Rattle.cweb_names.proofs.OccurrenceLemmas.{Grows, names_from-grows, with_text-has}
 use Rattle.cweb_store.proofs.LawLemmas.{any-grows}
@@ -7,7 +7,7 @@ use Rattle.cweb_store.proofs.LawLemmas.{any-grows}
 abbrev Below : ℕ → NameId → Type 0
 Below n m = m.0 < n
 
-abbrev StandsBelow : ℕ → Standing → Type 0
+abbrev StandsBelow : ℕ → Resolution → Type 0
 StandsBelow n (Ok m) = m.0 < n
 StandsBelow n (Err kind) = Unit {0}
 
@@ -24,7 +24,7 @@ beginning-below : (i n : ℕ) (p : List ℕ) (ns : List Name)
 beginning-below i n p [] h = tt
 beginning-below i n p (m ∷ ns) h = grind (arith, beginning-below (i + 1) n p ns (omega arith), Below n)
 
-the_one-below : (n : ℕ) (ns : List NameId) (otherwise : Standing) → AllByRecursion (Below n) ns
+the_one-below : (n : ℕ) (ns : List NameId) (otherwise : Resolution) → AllByRecursion (Below n) ns
     → StandsBelow n otherwise → StandsBelow n (the_one ns otherwise)
 the_one-below n [] otherwise h o = o
 the_one-below n (m ∷ []) otherwise h o = h.0
@@ -32,33 +32,34 @@ the_one-below n (m ∷ k ∷ ns) otherwise h o = tt
 
 among-below : (i : ℕ) (before : List Name) (text : List ℕ) (how : How) (is_file : Bool) (all : List Name) →
     let o : Occurrence = record { text = text; how = how; is_file = is_file } in
-    Grows (with_name i before o) all → StandsBelow (length all) (standing_among before all o)
+    Grows (with_occurrence_name i before o) all → StandsBelow (length all) (resolved_among before all o)
 among-below i before text Full is_file all g =
-    let size : length (texts all) ≡ length all = length-map all (λ (n : Name). n.text) in
+    let size : length (spellings all) ≡ length all = length-map all (λ (n : Name). n.text) in
     omega (
       arith,
       size,
-      position-below (bytes_eq text) (texts all)
-          (any-grows (bytes_eq text) (with_text i before text) all g (with_text-has i before text)),
+      position-below (bytes_eq text) (spellings all)
+          (any-grows (bytes_eq text) (with_full_name i before text) all g (with_text-has i before text)),
     )
 among-below i before text Prefix is_file all g =
     the_one-below (length all) (beginning_from 0 text before) (the_one (beginning_from 0 text all) (Err NeverFull))
     (beginning-below 0 (length all) text before (omega (arith, grows-length before all g))) (the_one-below (length all)
     (beginning_from 0 text all) (Err NeverFull) (beginning-below 0 (length all) text all (omega arith)) tt)
 
-standings-below : (i : ℕ) (before : List Name) (os : List Occurrence)
-    → let all = names_from i before os in AllByRecursion (StandsBelow (length all)) (standings_from i before all os)
-standings-below i before [] = tt
-standings-below i before (o ∷ os) =
+resolutions-below : (i : ℕ) (before : List Name) (os : List Occurrence)
+    → let all = names_from i before os in AllByRecursion (StandsBelow (length all)) (resolutions_from i before all os)
+resolutions-below i before [] = tt
+resolutions-below i before (o ∷ os) =
     grind (
       arith,
-      among-below i before o.text o.how o.is_file (names_from (i + 1) (with_name i before o) os)
-          (names_from-grows (i + 1) (with_name i before o) os),
-      names_from-grows (i + 1) (with_name i before o) os,
-      standings-below (i + 1) (with_name i before o) os,
+      among-below i before o.text o.how o.is_file (names_from (i + 1) (with_occurrence_name i before o) os)
+          (names_from-grows (i + 1) (with_occurrence_name i before o) os),
+      names_from-grows (i + 1) (with_occurrence_name i before o) os,
+      resolutions-below (i + 1) (with_occurrence_name i before o) os,
     )
 
-stands-below : (n : ℕ) (rs : List Standing) (i : ℕ) → AllByRecursion (StandsBelow n) rs → IfSome (stands rs i) (Below n)
+stands-below : (n : ℕ) (rs : List Resolution) (i : ℕ) → AllByRecursion (StandsBelow n) rs
+    → IfSome (resolved_at rs i) (Below n)
 stands-below n [] i h = tt
 stands-below n (Ok m ∷ rs) zero h = h.0
 stands-below n (Err kind ∷ rs) zero h = tt
@@ -69,21 +70,21 @@ with_some-below : (n : ℕ) (ns : List NameId) (o : Option NameId) → AllByRecu
 with_some-below n ns None h o = h
 with_some-below n ns (Some m) h o = grind (arith, Below n, all-both (Below n) ns (m ∷ []) h (o, tt))
 
-files-below : (n : ℕ) (rs : List Standing) (fs : List NameId) (i : ℕ) (os : List Occurrence)
+files-below : (n : ℕ) (rs : List Resolution) (fs : List NameId) (i : ℕ) (os : List Occurrence)
     → AllByRecursion (StandsBelow n) rs → AllByRecursion (Below n) fs → AllByRecursion (Below n) (files_from rs fs i os)
 files-below n rs fs i [] h g = g
 files-below n rs fs i (o ∷ os) h g =
     grind (
       arith,
       files-below n rs (with_file rs fs i o) (i + 1) os h,
-      with_some-below n fs (stands rs i) g (stands-below n rs i h),
+      with_some-below n fs (resolved_at rs i) g (stands-below n rs i h),
     )
 
 abbrev At : ℕ → NameFault → Type 0
 At n f = f.occurrence.0 < n
 
-standing_faults-below : (n i : ℕ) (rs : List Standing) → i + length rs ≤ n
-    → AllByRecursion (At n) (standing_faults_from i rs)
+standing_faults-below : (n i : ℕ) (rs : List Resolution) → i + length rs ≤ n
+    → AllByRecursion (At n) (unresolved_faults_from i rs)
 standing_faults-below n i [] h = tt
 standing_faults-below n i (Ok m ∷ rs) h = standing_faults-below n (i + 1) rs (omega arith)
 standing_faults-below n i (Err kind ∷ rs) h = (omega arith, standing_faults-below n (i + 1) rs (omega arith))
@@ -97,12 +98,12 @@ name_faults-below n i kind fails [] h = tt
 name_faults-below n i kind fails (m ∷ ns) h = grind (arith, name_faults-below n (i + 1) kind fails ns h.1, At n)
 
 with_text-first : (n i : ℕ) (ns : List Name) (text : List ℕ) → i < n
-    → AllByRecursion (First n) ns → AllByRecursion (First n) (with_text i ns text)
+    → AllByRecursion (First n) ns → AllByRecursion (First n) (with_full_name i ns text)
 with_text-first n i ns text less h = grind (arith, First n, all-both (First n) ns)
 
 with_name-first : (n i : ℕ) (ns : List Name) (text : List ℕ) (how : How) (is_file : Bool)
     → i < n → AllByRecursion (First n) ns →
-    AllByRecursion (First n) (with_name i ns (record { text = text; how = how; is_file = is_file }))
+    AllByRecursion (First n) (with_occurrence_name i ns (record { text = text; how = how; is_file = is_file }))
 with_name-first n i ns text Full is_file less h = with_text-first n i ns text less h
 with_name-first n i ns text Prefix is_file less h = h
 
@@ -110,22 +111,24 @@ names-first : (n i : ℕ) (ns : List Name) (os : List Occurrence) → AllByRecur
     → i + length os ≤ n → AllByRecursion (First n) (names_from i ns os)
 names-first n i ns [] h le = h
 names-first n i ns (o ∷ os) h le = names-first n
-    (i + 1) (with_name i ns o) os (with_name-first n i ns o.text o.how o.is_file (omega arith) h) (omega arith)
+    (i + 1) (with_occurrence_name i ns o) os (with_name-first n i ns o.text o.how o.is_file (omega arith) h)
+    (omega arith)
 
-standings-length : (i : ℕ) (before all : List Name) (os : List Occurrence)
-    → length (standings_from i before all os) ≡ length os
-standings-length i before all [] = refl
-standings-length i before all (o ∷ os) = omega (arith, standings-length (i + 1) (with_name i before o) all os)
+resolutions-length : (i : ℕ) (before all : List Name) (os : List Occurrence)
+    → length (resolutions_from i before all os) ≡ length os
+resolutions-length i before all [] = refl
+resolutions-length i before all (o ∷ os) =
+    omega (arith, resolutions-length (i + 1) (with_occurrence_name i before o) all os)
 
 -- an occurrence stands for one of the names
 pub standing-within : (os : List Occurrence) (i : ℕ)
-    → IfSome (stands (standings os) i) (λ (n : NameId). n.0 < length (names os))
-standing-within os i = stands-below (length (names os)) (standings os) i (standings-below 0 [] os)
+    → IfSome (resolved_at (resolutions os) i) (λ (n : NameId). n.0 < length (names os))
+standing-within os i = stands-below (length (names os)) (resolutions os) i (resolutions-below 0 [] os)
 
 -- files are names
 pub files-within : (os : List Occurrence) → All (λ (n : NameId). n.0 < length (names os)) (files os)
 files-within os = All-from_recursion (Below (length (names os)))
-    (files os) (files-below (length (names os)) (standings os) [] 0 os (standings-below 0 [] os) tt)
+    (files os) (files-below (length (names os)) (resolutions os) [] 0 os (resolutions-below 0 [] os) tt)
 
 -- a fault is told at one of the occurrences
 pub faults-within : (os : List Occurrence) (ps : List Part)
@@ -135,7 +138,7 @@ faults-within os ps =
       arith,
       names-first,
       standing_faults-below,
-      standings-length 0,
+      resolutions-length 0,
       name_faults-below,
       All-from_recursion,
       At,

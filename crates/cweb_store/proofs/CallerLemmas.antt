@@ -1,12 +1,12 @@
 -- How many tokens and parts a builder holds after a call: what its callers need for its conditions.
-use Rattle.cweb_store.proofs.Common.{◌≡◌, ◌≤◌, Bool, true, false, ◌+◌, List, [], ◌∷◌, ◌++◌, Some, None, length, ◌∙◌, ap, arith, append-nil, length-append, IsSome, IsNone, option_map, option_to_list, if◌then◌else◌, take-append-drop, flat_map-append, PartKind, Token, Part, all_tokens, is_macro, before_last, without_last, without_blank, without_layout, at_close, is_layout, is_newline, PartsSoFar, all_closed, dropped, opened, pushed, part_count, token_count}
+use Rattle.cweb_store.proofs.Common.{◌≡◌, ◌≤◌, Bool, true, false, ◌+◌, List, [], ◌∷◌, ◌++◌, Some, None, length, ◌∙◌, ap, arith, append-nil, length-append, IsSome, IsNone, option_map, option_to_list, if◌then◌else◌, take-append-drop, flat_map-append, PartKind, Token, Part, all_tokens, is_macro, before_last, without_last, without_blank, without_layout, at_close, is_layout, is_newline, PartsSoFar, with_closed_part, with_dropped_layout, with_opened_part, with_pushed_token, part_count, token_count}
 
 pub tokens-last : (ps : List Part) (p : Part)
     → length (all_tokens (ps ++ p ∷ [])) ≡ length (all_tokens ps) + length p.tokens
 tokens-last ps p = simp (flat_map-append {X = Part} {A = Token}, append-nil, length-append)
 
 pub token_count_opened : (kind : PartKind) (v : PartsSoFar)
-    → IsNone v.current → token_count (opened kind v) ≡ token_count v
+    → IsNone v.current → token_count (with_opened_part kind v) ≡ token_count v
 token_count_opened kind v none =
     (elim v.current as (λ o. IsNone o → length (all_tokens (v.closed ++ (record { kind = kind; tokens = [] }) ∷ []))
     ≡ length (all_tokens (v.closed ++ option_to_list o))) [
@@ -15,7 +15,8 @@ token_count_opened kind v none =
       | Some p ↦ λ h. cc
     ]) none
 
-pub token_count_pushed : (t : Token) (v : PartsSoFar) → IsSome v.current → token_count (pushed t v) ≡ token_count v + 1
+pub token_count_pushed : (t : Token) (v : PartsSoFar) → IsSome v.current
+    → token_count (with_pushed_token t v) ≡ token_count v + 1
 token_count_pushed t v some = grind (arith, tokens-last v.closed, length-append)
 
 before_last-length : (test : Token → Bool) (t : Token) (ts : List Token)
@@ -49,10 +50,10 @@ at_close-length p = elim (is_macro p.kind) as (λ b.
       | false ↦ omega arith
     ]
 
-pub token_count_dropped : (v : PartsSoFar) → token_count (dropped v) ≤ token_count v
+pub token_count_dropped : (v : PartsSoFar) → token_count (with_dropped_layout v) ≤ token_count v
 token_count_dropped v = grind (arith, tokens-last v.closed, without_layout-length)
 
-pub token_count_closed : (v : PartsSoFar) → token_count (all_closed v) ≤ token_count v
+pub token_count_closed : (v : PartsSoFar) → token_count (with_closed_part v) ≤ token_count v
 token_count_closed v =
     elim v.current as (λ o. length (all_tokens ((v.closed ++ option_to_list (option_map at_close o)) ++ []))
     ≤ length (all_tokens (v.closed ++ option_to_list o))) [
@@ -68,16 +69,16 @@ token_count_closed v =
     ]
 
 pub part_count_opened : (kind : PartKind) (v : PartsSoFar)
-    → IsNone v.current → part_count (opened kind v) ≡ part_count v + 1
+    → IsNone v.current → part_count (with_opened_part kind v) ≡ part_count v + 1
 part_count_opened kind v none = grind (arith, length-append v.closed)
 
-pub part_count_pushed : (t : Token) (v : PartsSoFar) → part_count (pushed t v) ≡ part_count v
+pub part_count_pushed : (t : Token) (v : PartsSoFar) → part_count (with_pushed_token t v) ≡ part_count v
 part_count_pushed t v = grind (arith, length-append v.closed)
 
-pub part_count_dropped : (v : PartsSoFar) → part_count (dropped v) ≡ part_count v
+pub part_count_dropped : (v : PartsSoFar) → part_count (with_dropped_layout v) ≡ part_count v
 part_count_dropped v = grind (arith, length-append v.closed)
 
-pub part_count_closed : (v : PartsSoFar) → part_count (all_closed v) ≡ part_count v
+pub part_count_closed : (v : PartsSoFar) → part_count (with_closed_part v) ≡ part_count v
 part_count_closed v = elim v.current as (λ o. length ((v.closed ++ option_to_list (option_map at_close o)) ++ [])
     ≡ length (v.closed ++ option_to_list o)) [
       | None ↦ ap length (append-nil (v.closed ++ []))

@@ -1,14 +1,15 @@
 -- The laws of names and parts.
-use Rattle.cweb_store.proofs.Common.{◌≡◌, ℕ, zero, suc, ◌+◌, Bool, true, false, List, [], ◌∷◌, ◌++◌, Some, None, Option, length, take, refl, sym, ◌∙◌, ap, arith, append_assoc, append-nil, Ok, Err, bytes_eq, if◌then◌else◌, nat_eq, slice_get, option_map, option_and_then, fold, filter_map, list_any, starts_with, position_or_len, map-append, bytes_eq-Decides, list_any-append, How, Full, Prefix, NameId, NeverFull, PartKind, Occurrence, Name, Standing, id, texts, with_text, with_name, names_from, names, beginning_from, beginning, the_one, standing_among, standings_from, standings, stands, Part, joined, Call, Occurs, Opens, Pushes, Drops, Closes, Transliterates, Contents, after, empty, gives_beginning, AbbreviationsStay, EarlierNamesDecide, FullNamesStandForThemselves, JoiningConcatenates, OccurrencesAreThoseOfCalls, occurrence_in, take-append_seam}
+use Rattle.cweb_store.proofs.Common.{◌≡◌, ℕ, zero, suc, ◌+◌, Bool, true, false, List, [], ◌∷◌, ◌++◌, Some, None, Option, length, take, refl, sym, ◌∙◌, ap, arith, append_assoc, append-nil, Ok, Err, bytes_eq, if◌then◌else◌, nat_eq, slice_get, option_map, option_and_then, fold, filter_map, list_any, starts_with, position_or_len, map-append, bytes_eq-Decides, list_any-append, How, Full, Prefix, NameId, NeverFull, PartKind, Occurrence, Name, Resolution, id, spellings, with_full_name, with_occurrence_name, names_from, names, beginning_from, beginning, the_one, resolved_among, resolutions_from, resolutions, resolved_at, Part, joined_where, Call, Occurs, Opens, Pushes, Drops, Closes, Transliterates, Contents, after_call, empty, defines_with_prefix, AbbreviationsStay, EarlierNamesDecide, FullNamesResolveToThemselves, JoiningConcatenates, OccurrencesAreThoseOfCalls, occurrence_of_call, take-append_seam}
 use Rattle.cweb_names.proofs.OccurrenceLemmas.{Grows, names_from-grows, with_text-has}
 
 -- what occurrence k stands for, by the names before it and all names
-pub standings-at : (i : ℕ) (before all : List Name) (os : List Occurrence) (k : ℕ) (o : Occurrence)
+pub resolutions-at : (i : ℕ) (before all : List Name) (os : List Occurrence) (k : ℕ) (o : Occurrence)
     → slice_get os k ≡ Some o
-    → slice_get (standings_from i before all os) k ≡ Some (standing_among (names_from i before (take k os)) all o)
-standings-at i before all [] k o h = cc
-standings-at i before all (x ∷ os) zero o h = let same : x ≡ o = cc in ap (λ y. Some (standing_among before all y)) same
-standings-at i before all (x ∷ os) (suc k) o h = standings-at (i + 1) (with_name i before x) all os k o h
+    → slice_get (resolutions_from i before all os) k ≡ Some (resolved_among (names_from i before (take k os)) all o)
+resolutions-at i before all [] k o h = cc
+resolutions-at i before all (x ∷ os) zero o h = let same : x ≡ o = cc in
+    ap (λ y. Some (resolved_among before all y)) same
+resolutions-at i before all (x ∷ os) (suc k) o h = resolutions-at (i + 1) (with_occurrence_name i before x) all os k o h
 
 get-append : (os later : List Occurrence) (k : ℕ) (o : Occurrence)
     → slice_get os k ≡ Some o → slice_get (os ++ later) k ≡ Some o
@@ -25,7 +26,8 @@ take-before (x ∷ os) later (suc k) o h = ap (λ xs. x ∷ xs) (take-before os 
 pub names_from-append : (i j : ℕ) (ns : List Name) (os later : List Occurrence)
     → j ≡ i + length os → names_from i ns (os ++ later) ≡ names_from j (names_from i ns os) later
 names_from-append i j ns [] later e = ap (λ k. names_from k ns later) (let same : i ≡ j = omega arith in same)
-names_from-append i j ns (o ∷ os) later e = names_from-append (i + 1) j (with_name i ns o) os later (omega arith)
+names_from-append i j ns (o ∷ os) later e =
+    names_from-append (i + 1) j (with_occurrence_name i ns o) os later (omega arith)
 
 beginning-other : (i : ℕ) (p : List ℕ) (ns : List Name) (n : Name)
     → starts_with nat_eq n.text p ≡ false → beginning_from i p (ns ++ n ∷ []) ≡ beginning_from i p ns
@@ -33,31 +35,35 @@ beginning-other i p [] n h = ap (λ b. if b then id i ∷ [] else []) h
 beginning-other i p (m ∷ ns) n h = cc (beginning-other (i + 1) p ns n h)
 
 beginning-with_text : (j : ℕ) (p : List ℕ) (ns : List Name) (text : List ℕ)
-    → starts_with nat_eq text p ≡ false → beginning p (with_text j ns text) ≡ beginning p ns
+    → starts_with nat_eq text p ≡ false → beginning p (with_full_name j ns text) ≡ beginning p ns
 beginning-with_text j p ns text h = grind (arith, beginning-other 0 p ns)
 
 beginning-with_name : (j : ℕ) (p : List ℕ) (ns : List Name) (text : List ℕ) (how : How) (is_file : Bool) →
     let o : Occurrence = record { text = text; how = how; is_file = is_file } in
-    gives_beginning p o ≡ false → beginning p (with_name j ns o) ≡ beginning p ns
+    defines_with_prefix p o ≡ false → beginning p (with_occurrence_name j ns o) ≡ beginning p ns
 beginning-with_name j p ns text Full is_file h = beginning-with_text j p ns text h
 beginning-with_name j p ns text Prefix is_file h = refl
 
 -- names that don't begin with a prefix change nothing for it
 beginning-later : (j : ℕ) (p : List ℕ) (ns : List Name) (later : List Occurrence)
-    → list_any (gives_beginning p) later ≡ false → beginning p (names_from j ns later) ≡ beginning p ns
+    → list_any (defines_with_prefix p) later ≡ false → beginning p (names_from j ns later) ≡ beginning p ns
 beginning-later j p ns [] h = refl
 beginning-later j p ns (o ∷ later) h =
-    grind (arith, beginning-later (j + 1) p (with_name j ns o) later, beginning-with_name j p ns o.text o.how o.is_file)
+    grind (
+      arith,
+      beginning-later (j + 1) p (with_occurrence_name j ns o) later,
+      beginning-with_name j p ns o.text o.how o.is_file,
+    )
 
 pub among-prefix : (before all : List Name) (text : List ℕ) (how : How) (is_file : Bool) → how ≡ Prefix →
     let o : Occurrence = record { text = text; how = how; is_file = is_file } in
-    standing_among before all o ≡ the_one (beginning text before) (the_one (beginning text all) (Err NeverFull))
+    resolved_among before all o ≡ the_one (beginning text before) (the_one (beginning text all) (Err NeverFull))
 among-prefix before all text Full is_file h = cc
 among-prefix before all text Prefix is_file h = refl
 
 among-full : (before all : List Name) (text : List ℕ) (how : How) (is_file : Bool) → how ≡ Full →
     let o : Occurrence = record { text = text; how = how; is_file = is_file } in
-    standing_among before all o ≡ Ok (id (position_or_len (bytes_eq text) (texts all)))
+    resolved_among before all o ≡ Ok (id (position_or_len (bytes_eq text) (spellings all)))
 among-full before all text Full is_file h = refl
 among-full before all text Prefix is_file h = cc
 
@@ -67,12 +73,12 @@ abbreviations_stay os later i o there prefix none =
     let all : beginning o.text (names (os ++ later)) ≡ beginning o.text (names os) =
     ap (beginning o.text) (names_from-append 0 (length os) [] os later (omega arith))
     ∙ beginning-later (length os) o.text (names os) later none in
-    standings-at 0 [] (names (os ++ later)) (os ++ later) i o (get-append os later i o there)
-    ∙ ap (λ xs. Some (standing_among (names_from 0 [] xs) (names (os ++ later)) o)) (take-before os later i o there)
+    resolutions-at 0 [] (names (os ++ later)) (os ++ later) i o (get-append os later i o there)
+    ∙ ap (λ xs. Some (resolved_among (names_from 0 [] xs) (names (os ++ later)) o)) (take-before os later i o there)
     ∙ ap Some (among-prefix before (names (os ++ later)) o.text o.how o.is_file prefix
     ∙ ap (λ ns. the_one (beginning o.text before) (the_one ns (Err NeverFull))) all
     ∙ sym (among-prefix before (names os) o.text o.how o.is_file prefix))
-    ∙ sym (standings-at 0 [] (names os) os i o there)
+    ∙ sym (resolutions-at 0 [] (names os) os i o there)
 
 get-middle : (earlier later : List Occurrence) (o : Occurrence)
     → slice_get (earlier ++ o ∷ later) (length earlier) ≡ Some o
@@ -82,70 +88,73 @@ get-middle (x ∷ earlier) later o = get-middle earlier later o
 pub earlier_names_decide : EarlierNamesDecide
 earlier_names_decide earlier later o n prefix only =
     let os = earlier ++ o ∷ later in
-    standings-at 0 [] (names os) os (length earlier) o (get-middle earlier later o)
-    ∙ ap (λ xs. Some (standing_among (names_from 0 [] xs) (names os) o)) (take-append_seam earlier (o ∷ later))
+    resolutions-at 0 [] (names os) os (length earlier) o (get-middle earlier later o)
+    ∙ ap (λ xs. Some (resolved_among (names_from 0 [] xs) (names os) o)) (take-append_seam earlier (o ∷ later))
     ∙ ap Some (among-prefix (names earlier) (names os) o.text o.how o.is_file prefix
     ∙ ap (λ ns. the_one ns (the_one (beginning o.text (names os)) (Err NeverFull))) only)
 
 pub any-grows : (p : List ℕ → Bool) (old new : List Name) → Grows old new
-    → list_any p (texts old) ≡ true → list_any p (texts new) ≡ true
-any-grows p old new g h = grind (arith, map-append, list_any-append p (texts old) (texts g.more))
+    → list_any p (spellings old) ≡ true → list_any p (spellings new) ≡ true
+any-grows p old new g h = grind (arith, map-append, list_any-append p (spellings old) (spellings g.more))
 
 with_name-has : (i : ℕ) (ns : List Name) (text : List ℕ) (how : How) (is_file : Bool) → how ≡ Full →
     let o : Occurrence = record { text = text; how = how; is_file = is_file } in
-    list_any (bytes_eq text) (texts (with_name i ns o)) ≡ true
+    list_any (bytes_eq text) (spellings (with_occurrence_name i ns o)) ≡ true
 with_name-has i ns text Full is_file h = with_text-has i ns text
 with_name-has i ns text Prefix is_file h = cc
 
 -- a text that is given in full is a name
 names-has : (i : ℕ) (ns : List Name) (os : List Occurrence) (k : ℕ) (o : Occurrence)
-    → slice_get os k ≡ Some o → o.how ≡ Full → list_any (bytes_eq o.text) (texts (names_from i ns os)) ≡ true
+    → slice_get os k ≡ Some o → o.how ≡ Full → list_any (bytes_eq o.text) (spellings (names_from i ns os)) ≡ true
 names-has i ns [] k o h full = cc
 names-has i ns (x ∷ os) zero o h full =
     grind (
       arith,
       with_name-has i ns o.text o.how o.is_file full,
-      any-grows (bytes_eq o.text) (with_name i ns x)
-          (names_from (i + 1) (with_name i ns x) os) (names_from-grows (i + 1) (with_name i ns x) os),
+      any-grows (bytes_eq o.text) (with_occurrence_name i ns x)
+          (names_from (i + 1) (with_occurrence_name i ns x) os)
+          (names_from-grows (i + 1) (with_occurrence_name i ns x) os),
       names_from-grows (i +
-          1) (with_name i ns x) os,
+          1) (with_occurrence_name i ns x) os,
     )
-names-has i ns (x ∷ os) (suc k) o h full = names-has (i + 1) (with_name i ns x) os k o h full
+names-has i ns (x ∷ os) (suc k) o h full = names-has (i + 1) (with_occurrence_name i ns x) os k o h full
 
-text_at-position : (text : List ℕ) (ns : List Name) → list_any (bytes_eq text) (texts ns) ≡ true
-    → option_map (λ (n : Name). n.text) (slice_get ns (position_or_len (bytes_eq text) (texts ns))) ≡ Some text
+text_at-position : (text : List ℕ) (ns : List Name) → list_any (bytes_eq text) (spellings ns) ≡ true
+    → option_map (λ (n : Name). n.text) (slice_get ns (position_or_len (bytes_eq text) (spellings ns))) ≡ Some text
 text_at-position text [] h = cc
 text_at-position text (n ∷ ns) h = grind (arith, bytes_eq-Decides text n.text, text_at-position text ns)
 
-pub full_names_stand_for_themselves : FullNamesStandForThemselves
-full_names_stand_for_themselves os i o there full =
-    let n = id (position_or_len (bytes_eq o.text) (texts (names os))) in
-    let at : slice_get (standings os) i ≡ Some (Ok n) = standings-at 0 [] (names os) os i o there
+pub full_names_resolve_to_themselves : FullNamesResolveToThemselves
+full_names_resolve_to_themselves os i o there full =
+    let n = id (position_or_len (bytes_eq o.text) (spellings (names os))) in
+    let at : slice_get (resolutions os) i ≡ Some (Ok n) = resolutions-at 0 [] (names os) os i o there
     ∙ ap Some (among-full (names_from 0 [] (take i os)) (names os) o.text o.how o.is_file full) in
-    let here : stands (standings os) i ≡ Some n = ap (λ (r : Option Standing).
+    let here : resolved_at (resolutions os) i ≡ Some n = ap (λ (r : Option Resolution).
     let found : Option NameId = elim r [ Some v ↦ elim v [ Ok m ↦ Some m | Err kind ↦ None ] | None ↦ None ] in
     found) at in
     ap (option_and_then (λ (m : NameId). option_map (λ (k : Name). k.text) (slice_get (names os) m.0))) here
     ∙ text_at-position o.text (names os) (names-has 0 [] os i o there full)
 
-joined-append : (test : PartKind → Bool) (ps qs : List Part) → joined test (ps ++ qs) ≡ joined test ps ++ joined test qs
+joined-append : (test : PartKind → Bool) (ps qs : List Part)
+    → joined_where test (ps ++ qs) ≡ joined_where test ps ++ joined_where test qs
 joined-append test [] qs = refl
 joined-append test (p ∷ ps) qs =
-    grind (arith, joined-append test ps qs, append_assoc p.tokens (joined test ps) (joined test qs))
+    grind (arith, joined-append test ps qs, append_assoc p.tokens (joined_where test ps) (joined_where test qs))
 
 pub joining_concatenates : JoiningConcatenates
 joining_concatenates = grind (arith, append-nil, joined-append)
 
 occurrences-from : (c : Contents) (calls : List Call)
-    → (fold after c calls).occurrences ≡ c.occurrences ++ filter_map occurrence_in calls
+    → (fold after_call c calls).occurrences ≡ c.occurrences ++ filter_map occurrence_of_call calls
 occurrences-from c [] = sym (append-nil c.occurrences)
 occurrences-from c (Occurs o ∷ calls) =
-    occurrences-from (after c (Occurs o)) calls ∙ append_assoc c.occurrences (o ∷ []) (filter_map occurrence_in calls)
-occurrences-from c (Opens kind ∷ calls) = occurrences-from (after c (Opens kind)) calls
-occurrences-from c (Pushes token ∷ calls) = occurrences-from (after c (Pushes token)) calls
-occurrences-from c (Drops ∷ calls) = occurrences-from (after c Drops) calls
-occurrences-from c (Closes ∷ calls) = occurrences-from (after c Closes) calls
-occurrences-from c (Transliterates r ∷ calls) = occurrences-from (after c (Transliterates r)) calls
+    occurrences-from (after_call c (Occurs o)) calls
+    ∙ append_assoc c.occurrences (o ∷ []) (filter_map occurrence_of_call calls)
+occurrences-from c (Opens kind ∷ calls) = occurrences-from (after_call c (Opens kind)) calls
+occurrences-from c (Pushes token ∷ calls) = occurrences-from (after_call c (Pushes token)) calls
+occurrences-from c (Drops ∷ calls) = occurrences-from (after_call c Drops) calls
+occurrences-from c (Closes ∷ calls) = occurrences-from (after_call c Closes) calls
+occurrences-from c (Transliterates r ∷ calls) = occurrences-from (after_call c (Transliterates r)) calls
 
 pub occurrences_are_those_of_calls : OccurrencesAreThoseOfCalls
 occurrences_are_those_of_calls calls = occurrences-from empty calls

@@ -1,23 +1,23 @@
 -- Laws of names, abbreviations and their faults.
-use Rattle.cweb_store.proofs.Common.{◌≡◌, ℕ, zero, suc, ◌+◌, ◌<◌, true, false, cond, List, [], ◌∷◌, ◌++◌, Some, None, Option, length, take, drop, refl, sym, ◌∙◌, ap, subst, arith, eq-eqb, Ok, Err, if◌then◌else◌, nat_eq, slice_get, option_map, option_and_then, filter, option_to_list, starts_with, eqb-true, take-append-drop, NameId, NeverFull, Occurrence, Name, Standing, id, texts, with_text, with_name, names_from, names, beginning_from, beginning, the_one, standing_among, standings, fault, standing_fault, standing_faults_from, Distinct, NamesAreDistinct, AbbreviationsBeginTheirNames, OneFaultForNoName}
-use Rattle.cweb_store.specs.MoreLaws.{is_at}
-use Rattle.cweb_parts.proofs.RangeLemmas.{drop-here}
-use Rattle.cweb_names.proofs.NameLemmas.{Distinct-push, texts-push}
+use Rattle.cweb_store.proofs.Common.{◌≡◌, ℕ, zero, suc, ◌+◌, ◌<◌, true, false, cond, List, [], ◌∷◌, ◌++◌, Some, None, Option, length, take, drop, refl, sym, ◌∙◌, ap, subst, arith, eq-eqb, Ok, Err, if◌then◌else◌, nat_eq, slice_get, option_map, option_and_then, filter, option_to_list, starts_with, eqb-true, take-append-drop, NameId, NeverFull, Occurrence, Name, Resolution, id, spellings, with_full_name, with_occurrence_name, names_from, names, beginning_from, beginning, the_one, resolved_among, resolutions, fault_of_name, unresolved_fault, unresolved_faults_from, Distinct, NamesAreDistinct, AbbreviationsBeginTheirNames, OneFaultForNoName}
+use Rattle.cweb_store.specs.laws.MoreLaws.{is_at}
+use Rattle.cweb_store.proofs.RangeLemmas.{drop-here}
+use Rattle.cweb_names.proofs.NameLemmas.{Distinct-push, strings-push}
 use Rattle.cweb_names.proofs.OccurrenceLemmas.{Grows, names_from-grows}
-use Rattle.cweb_store.proofs.LawLemmas.{standings-at, among-prefix, names_from-append}
+use Rattle.cweb_store.proofs.LawLemmas.{resolutions-at, among-prefix, names_from-append}
 
 with_text-distinct : (i : ℕ) (ns : List Name) (text : List ℕ)
-    → Distinct (texts ns) → Distinct (texts (with_text i ns text))
-with_text-distinct i ns text d = grind (arith, texts-push ns, Distinct-push (texts ns) text d)
+    → Distinct (spellings ns) → Distinct (spellings (with_full_name i ns text))
+with_text-distinct i ns text d = grind (arith, strings-push ns, Distinct-push (spellings ns) text d)
 
 with_name-distinct : (i : ℕ) (ns : List Name) (o : Occurrence)
-    → Distinct (texts ns) → Distinct (texts (with_name i ns o))
+    → Distinct (spellings ns) → Distinct (spellings (with_occurrence_name i ns o))
 with_name-distinct i ns o d = grind (arith, with_text-distinct i ns o.text d)
 
 distinct-from : (i : ℕ) (ns : List Name) (os : List Occurrence)
-    → Distinct (texts ns) → Distinct (texts (names_from i ns os))
+    → Distinct (spellings ns) → Distinct (spellings (names_from i ns os))
 distinct-from i ns [] d = d
-distinct-from i ns (o ∷ os) d = distinct-from (i + 1) (with_name i ns o) os (with_name-distinct i ns o d)
+distinct-from i ns (o ∷ os) d = distinct-from (i + 1) (with_occurrence_name i ns o) os (with_name-distinct i ns o d)
 
 pub names_are_distinct : NamesAreDistinct
 names_are_distinct os = distinct-from 0 [] os tt
@@ -63,7 +63,7 @@ text-begins : (p : List ℕ) (found : Option Name) (text : List ℕ)
 text-begins p None text h g = cc
 text-begins p (Some m) text h g = cc
 
-standing-begins : (p : List ℕ) (all : List Name) (r : Standing) (text : List ℕ)
+standing-begins : (p : List ℕ) (all : List Name) (r : Resolution) (text : List ℕ)
     → ((n : NameId) → r ≡ Ok n → Begins p all n) →
     option_and_then (λ (n : NameId). option_map (λ (m : Name). m.text) (slice_get all n.0))
     (elim r [ Ok n ↦ Some n | Err kind ↦ None ]) ≡ Some text → starts_with nat_eq text p ≡ true
@@ -81,11 +81,11 @@ pub abbreviations_begin_their_names : AbbreviationsBeginTheirNames
 abbreviations_begin_their_names os i o text there prefix is =
     let all = names os in
     let before = names_from 0 [] (take i os) in
-    let r = standing_among before all o in
-    let at : slice_get (standings os) i ≡ Some r = standings-at 0 [] all os i o there in
+    let r = resolved_among before all o in
+    let at : slice_get (resolutions os) i ≡ Some r = resolutions-at 0 [] all os i o there in
     let found : option_and_then (λ (n : NameId). option_map (λ (m : Name). m.text) (slice_get all n.0))
     (elim r [ Ok n ↦ Some n | Err kind ↦ None ]) ≡ Some text =
-    sym (ap (λ (x : Option Standing). option_and_then (λ (n : NameId). option_map (λ (m : Name). m.text)
+    sym (ap (λ (x : Option Resolution). option_and_then (λ (n : NameId). option_map (λ (m : Name). m.text)
     (slice_get all n.0)) (elim x [ Some v ↦ elim v [ Ok m ↦ Some m | Err kind ↦ None ] | None ↦ None ])) at)
     ∙ is in
     standing-begins o.text all r text (λ n e. stands-begins o.text before all n
@@ -94,24 +94,24 @@ abbreviations_begin_their_names os i o text there prefix is =
 differs : (j k : ℕ) → (j ≡ k → ⊥) → nat_eq j k ≡ false
 differs j k apart = grind (arith, eqb-true j k)
 
-no-faults : (k j : ℕ) (rs : List Standing) → k < j → filter (is_at k) (standing_faults_from j rs) ≡ []
+no-faults : (k j : ℕ) (rs : List Resolution) → k < j → filter (is_at k) (unresolved_faults_from j rs) ≡ []
 no-faults k j [] h = refl
 no-faults k j (Ok m ∷ rs) h = no-faults k (j + 1) rs (omega arith)
 no-faults k j (Err kind ∷ rs) h = grind (arith, differs j k, no-faults k (j + 1) rs (omega arith))
 
-own-fault : (j k : ℕ) (rs : List Standing) (i : ℕ) (r : Standing) → slice_get rs i ≡ Some r
-    → k ≡ j + i → filter (is_at k) (standing_faults_from j rs) ≡ option_to_list (standing_fault k r)
+own-fault : (j k : ℕ) (rs : List Resolution) (i : ℕ) (r : Resolution) → slice_get rs i ≡ Some r
+    → k ≡ j + i → filter (is_at k) (unresolved_faults_from j rs) ≡ option_to_list (unresolved_fault k r)
 own-fault j k [] i r h e = cc
 own-fault j k (Ok m ∷ rs) zero r h e =
     let same : Ok m ≡ r = cc in
-    no-faults k (j + 1) rs (omega arith) ∙ ap (λ x. option_to_list (standing_fault k x)) same
+    no-faults k (j + 1) rs (omega arith) ∙ ap (λ x. option_to_list (unresolved_fault k x)) same
 own-fault j k (Err kind ∷ rs) zero r h e =
     let same : Err kind ≡ r = cc in
-    let rest = filter (is_at k) (standing_faults_from (j + 1) rs) in
+    let rest = filter (is_at k) (unresolved_faults_from (j + 1) rs) in
     let place : j ≡ k = omega arith in
-    ap (λ b. cond b (fault kind j ∷ rest) rest) (eq-eqb j k place)
-    ∙ (λ t. fault kind (place t) ∷ no-faults k (j + 1) rs (omega arith) t)
-    ∙ ap (λ x. option_to_list (standing_fault k x)) same
+    ap (λ b. cond b (fault_of_name kind j ∷ rest) rest) (eq-eqb j k place)
+    ∙ (λ t. fault_of_name kind (place t) ∷ no-faults k (j + 1) rs (omega arith) t)
+    ∙ ap (λ x. option_to_list (unresolved_fault k x)) same
 own-fault j k (Ok m ∷ rs) (suc i) r h e = own-fault (j + 1) k rs i r h (omega arith)
 own-fault j k (Err kind ∷ rs) (suc i) r h e = grind (arith, differs j k, own-fault (j + 1) k rs i r h (omega arith))
 

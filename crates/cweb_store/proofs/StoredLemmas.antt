@@ -1,84 +1,87 @@
 -- What a store stands for, by what it keeps: tokens, occurrences and names.
-use Rattle.cweb_store.proofs.Common.{◌≡◌, ℕ, zero, suc, ◌+◌, ◌<◌, Bool, List, [], ◌∷◌, ◌++◌, Option, Some, map, length, drop, refl, sym, ◌∙◌, ap, subst, arith, length-append, append_assoc, append-nil, get_or, slice_get, option_map, length-map, drop-append_seam, NameId, NameFault, GivenAs, Run, Links, Occurrence, Name, Standing, with_text, with_name, names_from, names, Token, Replacement, IsWhole, closed_in, stored, too_many, AreAnswers, AreLinked, occurrence_text, replacement_text, TokensAndTexts, tokens_alone, with_texts, given_as, occurrences_at, replacements_at, stored_in, AreLast, AreStored}
-use Rattle.cweb_parts.proofs.RangeLemmas.{drop-here}
+use Rattle.cweb_store.proofs.Common.{◌≡◌, ℕ, zero, suc, ◌+◌, ◌<◌, Bool, List, [], ◌∷◌, ◌++◌, Option, Some, map, length, drop, refl, sym, ◌∙◌, ap, subst, arith, length-append, append_assoc, append-nil, get_or, slice_get, option_map, length-map, drop-append_seam, NameId, NameFault, OccurrenceForm, PartRange, Links, Occurrence, Name, Resolution, with_full_name, with_occurrence_name, names_from, names, Token, Replacement, IsWhole, closed_in, stored, too_many, AreAnswers, AreLinked, occurrence_text, replacement_bytes, ClosedTokensModel, tokens_alone, with_strings, occurrence_form, occurrences_at, replacements_at, stored_in, AreLast, AreStored}
+use Rattle.cweb_store.proofs.RangeLemmas.{drop-here}
 
-with_texts-is : (ts : List (List ℕ)) (c : TokensAndTexts)
-    → with_texts ts c ≡ record { tokens = c.tokens; others = c.others ++ ts }
+with_texts-is : (ts : List (List ℕ)) (c : ClosedTokensModel)
+    → with_strings ts c ≡ record { tokens = c.tokens; others = c.others ++ ts }
 with_texts-is [] c = λ i. record { tokens = c.tokens; others = sym (append-nil c.others) i }
 with_texts-is (t ∷ ts) c = with_texts-is ts (record c { others = c.others ++ t ∷ [] })
     ∙ (λ i. record { tokens = c.tokens; others = append_assoc c.others (t ∷ []) ts i })
 
 occurrences-back : (os : List Occurrence) (more : List (List ℕ))
-    → occurrences_at (map occurrence_text os ++ more) (map given_as os) ≡ os
+    → occurrences_at (map occurrence_text os ++ more) (map occurrence_form os) ≡ os
 occurrences-back [] more = refl
 occurrences-back (o ∷ os) more = ap (λ rest. o ∷ rest) (occurrences-back os more)
 
-replacements-back : (rs : List Replacement) → replacements_at (map replacement_text rs) (map (λ r. r.byte) rs) ≡ rs
+replacements-back : (rs : List Replacement) → replacements_at (map replacement_bytes rs) (map (λ r. r.byte) rs) ≡ rs
 replacements-back [] = refl
 replacements-back (r ∷ rs) = ap (λ rest. r ∷ rest) (replacements-back rs)
 
 replacements-behind : (os : List Occurrence) (rs : List Replacement) → replacements_at
-    (drop (length (map given_as os)) (map occurrence_text os ++ map replacement_text rs)) (map (λ r. r.byte) rs) ≡ rs
+    (drop (length (map occurrence_form os)) (map occurrence_text os ++ map replacement_bytes rs)) (map (λ r. r.byte) rs)
+    ≡ rs
 replacements-behind os rs =
     cc (
-      length-map os given_as,
+      length-map os occurrence_form,
       length-map os occurrence_text,
-      drop-append_seam (map occurrence_text os) (map replacement_text rs),
+      drop-append_seam (map occurrence_text os) (map replacement_bytes rs),
       replacements-back rs,
     )
 
-abbrev pub all_texts : List Token → List Occurrence → List Replacement → TokensAndTexts
-all_texts ts os rs = with_texts (map replacement_text rs) (with_texts (map occurrence_text os) (tokens_alone ts))
+abbrev pub all_texts : List Token → List Occurrence → List Replacement → ClosedTokensModel
+all_texts ts os rs = with_strings (map replacement_bytes rs) (with_strings (map occurrence_text os) (tokens_alone ts))
 
 all_texts-are : (ts : List Token) (os : List Occurrence) (rs : List Replacement)
-    → all_texts ts os rs ≡ record { tokens = ts; others = map occurrence_text os ++ map replacement_text rs }
+    → all_texts ts os rs ≡ record { tokens = ts; others = map occurrence_text os ++ map replacement_bytes rs }
 all_texts-are ts os rs =
-    grind (arith, with_texts-is (map occurrence_text os) (tokens_alone ts), with_texts-is (map replacement_text rs))
+    grind (arith, with_texts-is (map occurrence_text os) (tokens_alone ts), with_texts-is (map replacement_bytes rs))
 
 -- what is packed stands for what was given
-pub stored-is : (ts : List Token) (runs : List Run) (os : List Occurrence) (rs : List Replacement)
-    → stored_in (all_texts ts os rs) runs (map given_as os) (map (λ r. r.byte) rs)
-    ≡ stored os (map (closed_in ts) runs) rs
-stored-is ts runs os rs =
-    cc (all_texts-are ts os rs, occurrences-back os (map replacement_text rs), replacements-behind os rs)
+pub stored-is : (ts : List Token) (ranges : List PartRange) (os : List Occurrence) (rs : List Replacement)
+    → stored_in (all_texts ts os rs) ranges (map occurrence_form os) (map (λ r. r.byte) rs)
+    ≡ stored os (map (closed_in ts) ranges) rs
+stored-is ts ranges os rs =
+    cc (all_texts-are ts os rs, occurrences-back os (map replacement_bytes rs), replacements-behind os rs)
 
 pub stored-are : (ts : List Token)
-    (runs : List Run) (links : Links) (os : List Occurrence) (rs : List Replacement) (last_places : List (Option ℕ))
-    (firsts : List ℕ) (standings : List Standing) (files : List NameId) (faults : List NameFault) (has_defs : Bool)
-    → IsWhole ts runs → AreLinked standings runs links.skips.items links.heads
+    (ranges : List PartRange) (links : Links) (os : List Occurrence) (rs : List Replacement)
+    (last_places : List (Option ℕ))
+    (firsts : List ℕ) (resolutions : List Resolution) (files : List NameId) (faults : List NameFault) (has_defs : Bool)
+    → IsWhole ts ranges → AreLinked resolutions ranges links.skips.items links.heads
     → AreLast last_places (map (λ r. r.byte) rs) → firsts ≡ map (λ n. n.first) (names os) → length (names os) < too_many
-    → AreAnswers os (map (closed_in ts) runs) standings files faults has_defs → AreStored (all_texts ts os rs)
-    runs links (map given_as os) (map (λ r. r.byte) rs) last_places firsts standings files faults has_defs
-stored-are ts runs links os rs last_places firsts standings files faults has_defs whole linked last places few answers =
-    let back = occurrences-back os (map replacement_text rs) in
-    let flat : AreStored (record { tokens = ts; others = map occurrence_text os ++ map replacement_text rs })
-    runs links (map given_as os) (map (λ r. r.byte) rs) last_places firsts standings files faults has_defs =
+    → AreAnswers os (map (closed_in ts) ranges) resolutions files faults has_defs → AreStored (all_texts ts os rs)
+    ranges links (map occurrence_form os) (map (λ r. r.byte) rs) last_places firsts resolutions files faults has_defs
+stored-are ts ranges links os rs last_places firsts resolutions files faults has_defs whole linked last places few
+    answers =
+    let back = occurrences-back os (map replacement_bytes rs) in
+    let flat : AreStored (record { tokens = ts; others = map occurrence_text os ++ map replacement_bytes rs })
+    ranges links (map occurrence_form os) (map (λ r. r.byte) rs) last_places firsts resolutions files faults has_defs =
     record {
       whole = whole;
       linked = linked;
-      texts =
+      strings =
           omega (
             arith,
-            length-append (map occurrence_text os) (map replacement_text rs),
+            length-append (map occurrence_text os) (map replacement_bytes rs),
             length-map os occurrence_text,
-            length-map os given_as,
-            length-map rs replacement_text,
+            length-map os occurrence_form,
+            length-map rs replacement_bytes,
             length-map rs (λ (r : Replacement). r.byte),
           );
       last = last;
       few = omega (arith, ap length places, length-map (names os) (λ (n : Name). n.first), few);
       first_places = places ∙ ap (λ xs. map (λ (n : Name). n.first) (names xs)) (sym back);
       answers =
-          subst (λ (xs : List Occurrence). AreAnswers xs (map (closed_in ts) runs) standings files faults has_defs)
+          subst (λ (xs : List Occurrence). AreAnswers xs (map (closed_in ts) ranges) resolutions files faults has_defs)
           (sym back) answers;
     } in
-    subst (λ (c : TokensAndTexts).
-    AreStored c runs links (map given_as os) (map (λ r. r.byte) rs)
-    last_places firsts standings files faults has_defs)
+    subst (λ (c : ClosedTokensModel).
+    AreStored c ranges links (map occurrence_form os) (map (λ r. r.byte) rs)
+    last_places firsts resolutions files faults has_defs)
     (sym (all_texts-are ts os rs)) flat
 
 -- the texts of occurrences
-pub occurrence-text : (ts : List (List ℕ)) (gs : List GivenAs) (k : ℕ) → k < length (occurrences_at ts gs)
+pub occurrence-text : (ts : List (List ℕ)) (gs : List OccurrenceForm) (k : ℕ) → k < length (occurrences_at ts gs)
     → option_map (λ (o : Occurrence). o.text) (slice_get (occurrences_at ts gs) k) ≡ slice_get ts k
 occurrence-text ts [] k h = absurd (let none : ⊥ = omega arith in none)
 occurrence-text [] (g ∷ gs) k h = absurd (let none : ⊥ = omega arith in none)
@@ -99,11 +102,12 @@ firsts-push os [] n h here = (here, tt)
 firsts-push os (m ∷ ns) n h here = (h.0, firsts-push os ns n h.1 here)
 
 text-gives : (os : List Occurrence) (i : ℕ) (ns : List Name) (text : List ℕ) → FirstsGive os ns
-    → option_map (λ (o : Occurrence). o.text) (slice_get os i) ≡ Some text → FirstsGive os (with_text i ns text)
+    → option_map (λ (o : Occurrence). o.text) (slice_get os i) ≡ Some text → FirstsGive os (with_full_name i ns text)
 text-gives os i ns text h here = grind (arith, firsts-push os ns)
 
 name-gives : (os : List Occurrence) (i : ℕ) (ns : List Name) (o : Occurrence) → FirstsGive os ns
-    → option_map (λ (o : Occurrence). o.text) (slice_get os i) ≡ Some o.text → FirstsGive os (with_name i ns o)
+    → option_map (λ (o : Occurrence). o.text) (slice_get os i) ≡ Some o.text
+    → FirstsGive os (with_occurrence_name i ns o)
 name-gives os i ns o h here = grind (arith, text-gives os i ns o.text h here)
 
 firsts-from : (all os : List Occurrence) (i : ℕ) (ns : List Name)

@@ -1,28 +1,29 @@
 -- The tokens of a builder's parts are those that were pushed, but for layout that was dropped.
-use Rattle.cweb_store.proofs.Common.{arith, ◌≡◌, inl, inr, Bool, true, false, List, [], ◌∷◌, ◌++◌, Some, None, refl, sym, ◌∙◌, ap, subst, append_assoc, append-nil, IsSome, IsNone, if◌then◌else◌, fold, filter_map, option_map, option_to_list, flat_map-append, PartKind, Token, Blank, Newline, Mark, Part, all_tokens, is_macro, without_last, without_blank, without_layout, at_close, is_layout, is_newline, is_blank, PartsSoFar, all_parts, opened, pushed, dropped, all_closed, longer, Call, Occurs, Opens, Pushes, Drops, Closes, Transliterates, Contents, after, empty, AllPass, IsFront, AreInPlace, IsLeft, TokensAreThosePushed}
-use Rattle.cweb_store.specs.TokenLaws.{token_in}
-use Rattle.cweb_store.proofs.LayoutLawLemmas.{without_last-front, dropping_keeps_the_front}
+use Rattle.cweb_store.proofs.Common.{arith, ◌≡◌, inl, inr, Bool, true, false, List, [], ◌∷◌, ◌++◌, Some, None, refl, sym, ◌∙◌, ap, subst, append_assoc, append-nil, IsSome, IsNone, if◌then◌else◌, fold, filter_map, option_map, option_to_list, flat_map-append, PartKind, Token, Blank, Newline, Mark, Part, all_tokens, is_macro, without_last, without_blank, without_layout, at_close, is_layout, is_newline, is_blank, PartsSoFar, all_parts, with_opened_part, with_pushed_token, with_dropped_layout, with_closed_part, part_with_token, Call, Occurs, Opens, Pushes, Drops, Closes, Transliterates, Contents, after_call, empty, AllPass, IsTokenPrefix, AreInPlace, IsLeftOfTokens, TokensAreThosePushed}
+use Rattle.cweb_store.specs.laws.TokenLaws.{token_of_call}
+use Rattle.cweb_store.proofs.LayoutLawLemmas.{without_last-front, dropping_keeps_the_prefix}
 
-left-same : (us : List Token) → IsLeft us us
+left-same : (us : List Token) → IsLeftOfTokens us us
 left-same [] = refl
 left-same (u ∷ us) = inr (us, refl, left-same us)
 
-left-equal : (us ts : List Token) → us ≡ ts → IsLeft us ts
-left-equal us ts h = subst (λ (xs : List Token). IsLeft us xs) h (left-same us)
+left-equal : (us ts : List Token) → us ≡ ts → IsLeftOfTokens us ts
+left-equal us ts h = subst (λ (xs : List Token). IsLeftOfTokens us xs) h (left-same us)
 
-left-more : (us ts vs ws : List Token) → IsLeft us ts → IsLeft vs ws → IsLeft (us ++ vs) (ts ++ ws)
-left-more [] ts vs ws h g = subst (λ (xs : List Token). IsLeft vs (xs ++ ws)) (sym h) g
+left-more : (us ts vs ws : List Token) → IsLeftOfTokens us ts → IsLeftOfTokens vs ws
+    → IsLeftOfTokens (us ++ vs) (ts ++ ws)
+left-more [] ts vs ws h g = subst (λ (xs : List Token). IsLeftOfTokens vs (xs ++ ws)) (sym h) g
 left-more (u ∷ us) ts vs ws h g = elim h [
   | inl l ↦ inl (l.0, left-more us ts vs ws l.1 g)
   | inr r ↦ inr (r.0 ++ ws, ap (λ xs. xs ++ ws) r.1, left-more us r.0 vs ws r.2 g)
 ]
 
-left-then : (us ts ws : List Token) → IsLeft us ts → IsLeft ts ws → IsLeft us ws
-left-then [] ts ws h g = subst (λ (xs : List Token). IsLeft xs ws) h g
+left-then : (us ts ws : List Token) → IsLeftOfTokens us ts → IsLeftOfTokens ts ws → IsLeftOfTokens us ws
+left-then [] ts ws h g = subst (λ (xs : List Token). IsLeftOfTokens xs ws) h g
 left-then (u ∷ us) ts ws h g = elim h [
   | inl l ↦ inl (l.0, left-then us ts ws l.1 g)
   | inr r ↦
-      let next : IsLeft (u ∷ r.0) ws = subst (λ (xs : List Token). IsLeft xs ws) r.1 g in
+      let next : IsLeftOfTokens (u ∷ r.0) ws = subst (λ (xs : List Token). IsLeftOfTokens xs ws) r.1 g in
       elim next [
         | inl m ↦ inl (m.0, left-then us r.0 ws r.2 m.1)
         | inr m ↦ inr (m.0, m.1, left-then us r.0 m.0 r.2 m.2)
@@ -30,12 +31,12 @@ left-then (u ∷ us) ts ws h g = elim h [
 ]
 
 left-none : (test : Token → Bool) (us : List Token)
-    → ((t : Token) → test t ≡ true → is_layout t ≡ true) → AllPass test us → IsLeft us []
+    → ((t : Token) → test t ≡ true → is_layout t ≡ true) → AllPass test us → IsLeftOfTokens us []
 left-none test [] layout h = refl
 left-none test (u ∷ us) layout h = inl (layout u h.0, left-none test us layout h.1)
 
 left-front : (test : Token → Bool) (ts us : List Token)
-    → ((t : Token) → test t ≡ true → is_layout t ≡ true) → IsFront test ts us → IsLeft ts us
+    → ((t : Token) → test t ≡ true → is_layout t ≡ true) → IsTokenPrefix test ts us → IsLeftOfTokens ts us
 left-front test ts us layout f =
     grind (arith, left-more us us f.rest, left-same us, left-none test f.rest layout f.passes, append-nil us)
 
@@ -51,16 +52,16 @@ blank-layout Blank h = refl
 blank-layout (Mark place) h = refl
 blank-layout t h = cc
 
-left-blank : (ts : List Token) → IsLeft ts (without_blank ts)
+left-blank : (ts : List Token) → IsLeftOfTokens ts (without_blank ts)
 left-blank [] = refl
 left-blank (t ∷ []) = grind (arith, blank-layout t)
 left-blank (t ∷ u ∷ us) = inr (without_blank (u ∷ us), refl, left-blank (u ∷ us))
 
-left-dropped : (p : Part) → IsLeft p.tokens (without_layout p).tokens
-left-dropped p = left-front is_layout p.tokens (without_layout p).tokens (λ t h. h) (dropping_keeps_the_front p).front
+left-dropped : (p : Part) → IsLeftOfTokens p.tokens (without_layout p).tokens
+left-dropped p = left-front is_layout p.tokens (without_layout p).tokens (λ t h. h) (dropping_keeps_the_prefix p).front
 
-left-closed : (p : Part) → IsLeft p.tokens (at_close p).tokens
-left-closed p = elim (is_macro p.kind) as (λ b. IsLeft p.tokens
+left-closed : (p : Part) → IsLeftOfTokens p.tokens (at_close p).tokens
+left-closed p = elim (is_macro p.kind) as (λ b. IsLeftOfTokens p.tokens
     (let q : Part = if b then record p { tokens = without_blank (without_last is_newline p.tokens) } else p in
     q).tokens) [
       | true ↦ left-then p.tokens (without_last is_newline p.tokens) (without_blank (without_last is_newline p.tokens))
@@ -73,8 +74,8 @@ tokens-last : (ps : List Part) (p : Part) → all_tokens (ps ++ p ∷ []) ≡ al
 tokens-last ps p = simp (flat_map-append {X = Part} {A = Token}, append-nil)
 
 -- the last part is changed
-left-last : (ps : List Part) (p q : Part) → IsLeft p.tokens q.tokens
-    → IsLeft (all_tokens (ps ++ p ∷ []) ++ []) (all_tokens (ps ++ q ∷ []))
+left-last : (ps : List Part) (p q : Part) → IsLeftOfTokens p.tokens q.tokens
+    → IsLeftOfTokens (all_tokens (ps ++ p ∷ []) ++ []) (all_tokens (ps ++ q ∷ []))
 left-last ps p q h =
     grind (
       arith,
@@ -84,12 +85,13 @@ left-last ps p q h =
       tokens-last ps q,
     )
 
-left-nothing : (ts : List Token) → IsLeft (ts ++ []) ts
+left-nothing : (ts : List Token) → IsLeftOfTokens (ts ++ []) ts
 left-nothing ts = left-equal (ts ++ []) ts (append-nil ts)
 
 left-opens : (kind : PartKind) (v : PartsSoFar) → IsNone v.current
-    → IsLeft (all_tokens (all_parts v) ++ []) (all_tokens (all_parts (opened kind v)))
-left-opens kind v none = (elim v.current as (λ o. IsNone o → IsLeft (all_tokens (v.closed ++ option_to_list o) ++ [])
+    → IsLeftOfTokens (all_tokens (all_parts v) ++ []) (all_tokens (all_parts (with_opened_part kind v)))
+left-opens kind v none =
+    (elim v.current as (λ o. IsNone o → IsLeftOfTokens (all_tokens (v.closed ++ option_to_list o) ++ [])
     (all_tokens (v.closed ++ (record { kind = kind; tokens = [] }) ∷ []))) [
       | None ↦ λ h. left-equal
           (all_tokens (v.closed ++ []) ++ []) (all_tokens (v.closed ++ (record { kind = kind; tokens = [] }) ∷ []))
@@ -99,28 +101,33 @@ left-opens kind v none = (elim v.current as (λ o. IsNone o → IsLeft (all_toke
     ]) none
 
 left-pushes : (t : Token) (v : PartsSoFar) → IsSome v.current
-    → IsLeft (all_tokens (all_parts v) ++ t ∷ []) (all_tokens (all_parts (pushed t v)))
-left-pushes t v some = (elim v.current as (λ o. IsSome o → IsLeft (all_tokens (v.closed ++ option_to_list o) ++ t ∷ [])
-    (all_tokens (v.closed ++ option_to_list (option_map (longer t) o)))) [
+    → IsLeftOfTokens (all_tokens (all_parts v) ++ t ∷ []) (all_tokens (all_parts (with_pushed_token t v)))
+left-pushes t v some =
+    (elim v.current as (λ o. IsSome o → IsLeftOfTokens (all_tokens (v.closed ++ option_to_list o) ++ t ∷ [])
+    (all_tokens (v.closed ++ option_to_list (option_map (part_with_token t) o)))) [
       | None ↦ λ h. cc
-      | Some p ↦ λ h. left-equal (all_tokens (v.closed ++ p ∷ []) ++ t ∷ []) (all_tokens (v.closed ++ longer t p ∷ []))
+      | Some p ↦ λ h. left-equal (all_tokens (v.closed ++ p ∷ []) ++ t ∷ [])
+          (all_tokens (v.closed ++ part_with_token t p ∷ []))
           (ap (λ xs. xs ++ t ∷ []) (tokens-last v.closed p)
-          ∙ append_assoc (all_tokens v.closed) p.tokens (t ∷ []) ∙ sym (tokens-last v.closed (longer t p)))
+          ∙ append_assoc (all_tokens v.closed) p.tokens (t ∷ []) ∙ sym (tokens-last v.closed (part_with_token t p)))
     ]) some
 
-left-drops : (v : PartsSoFar) → IsLeft (all_tokens (all_parts v) ++ []) (all_tokens (all_parts (dropped v)))
+left-drops : (v : PartsSoFar)
+    → IsLeftOfTokens (all_tokens (all_parts v) ++ []) (all_tokens (all_parts (with_dropped_layout v)))
 left-drops v = grind (arith, left-nothing (all_tokens (v.closed ++ [])), left-last v.closed, left-dropped)
 
-left-closes : (v : PartsSoFar) → IsLeft (all_tokens (all_parts v) ++ []) (all_tokens (all_parts (all_closed v)))
-left-closes v = elim v.current as (λ o. IsLeft (all_tokens (v.closed ++ option_to_list o) ++ [])
+left-closes : (v : PartsSoFar)
+    → IsLeftOfTokens (all_tokens (all_parts v) ++ []) (all_tokens (all_parts (with_closed_part v)))
+left-closes v = elim v.current as (λ o. IsLeftOfTokens (all_tokens (v.closed ++ option_to_list o) ++ [])
     (all_tokens ((v.closed ++ option_to_list (option_map at_close o)) ++ []))) [
-      | None ↦ subst (λ (ps : List Part). IsLeft (all_tokens (v.closed ++ []) ++ []) (all_tokens ps))
+      | None ↦ subst (λ (ps : List Part). IsLeftOfTokens (all_tokens (v.closed ++ []) ++ []) (all_tokens ps))
           (sym (append-nil (v.closed ++ []))) (left-nothing (all_tokens (v.closed ++ [])))
-      | Some p ↦ subst (λ (ps : List Part). IsLeft (all_tokens (v.closed ++ p ∷ []) ++ []) (all_tokens ps))
+      | Some p ↦ subst (λ (ps : List Part). IsLeftOfTokens (all_tokens (v.closed ++ p ∷ []) ++ []) (all_tokens ps))
           (sym (append-nil (v.closed ++ at_close p ∷ []))) (left-last v.closed p (at_close p) (left-closed p))
     ]
 
-left-step : (ts os fs us rs : List Token) → IsLeft (ts ++ os) us → IsLeft (us ++ fs) rs → IsLeft (ts ++ (os ++ fs)) rs
+left-step : (ts os fs us rs : List Token) → IsLeftOfTokens (ts ++ os) us → IsLeftOfTokens (us ++ fs) rs
+    → IsLeftOfTokens (ts ++ (os ++ fs)) rs
 left-step ts os fs us rs h g =
     grind (
       arith,
@@ -133,23 +140,30 @@ abbrev tokens_of : Contents → List Token
 tokens_of c = all_tokens (all_parts c.parts)
 
 left-calls : (c : Contents) (calls : List Call) → AreInPlace c calls
-    → IsLeft (tokens_of c ++ filter_map token_in calls) (tokens_of (fold after c calls))
+    → IsLeftOfTokens (tokens_of c ++ filter_map token_of_call calls) (tokens_of (fold after_call c calls))
 left-calls c [] h = left-nothing (tokens_of c)
-left-calls c (Occurs o ∷ calls) h = left-step (tokens_of c) [] (filter_map token_in calls) (tokens_of c) (tokens_of
-    (fold after (after c (Occurs o)) calls)) (left-nothing (tokens_of c)) (left-calls (after c (Occurs o)) calls h.1)
+left-calls c (Occurs o ∷ calls) h = left-step (tokens_of c) [] (filter_map token_of_call calls) (tokens_of c) (tokens_of
+    (fold after_call (after_call c (Occurs o)) calls)) (left-nothing (tokens_of c))
+    (left-calls (after_call c (Occurs o)) calls h.1)
 left-calls c (Opens kind ∷ calls) h =
-    left-step (tokens_of c) [] (filter_map token_in calls) (tokens_of (after c (Opens kind))) (tokens_of (fold after
-    (after c (Opens kind)) calls)) (left-opens kind c.parts h.0) (left-calls (after c (Opens kind)) calls h.1)
+    left-step (tokens_of c) [] (filter_map token_of_call calls) (tokens_of (after_call c (Opens kind)))
+    (tokens_of (fold after_call
+    (after_call c (Opens kind)) calls)) (left-opens kind c.parts h.0) (left-calls (after_call c (Opens kind)) calls h.1)
 left-calls c (Pushes t ∷ calls) h =
-    left-step (tokens_of c) (t ∷ []) (filter_map token_in calls) (tokens_of (after c (Pushes t))) (tokens_of (fold after
-    (after c (Pushes t)) calls)) (left-pushes t c.parts h.0) (left-calls (after c (Pushes t)) calls h.1)
-left-calls c (Drops ∷ calls) h = left-step (tokens_of c) [] (filter_map token_in calls) (tokens_of (after c Drops))
-    (tokens_of (fold after (after c Drops) calls)) (left-drops c.parts) (left-calls (after c Drops) calls h.1)
-left-calls c (Closes ∷ calls) h = left-step (tokens_of c) [] (filter_map token_in calls) (tokens_of (after c Closes))
-    (tokens_of (fold after (after c Closes) calls)) (left-closes c.parts) (left-calls (after c Closes) calls h.1)
+    left-step (tokens_of c) (t ∷ []) (filter_map token_of_call calls) (tokens_of (after_call c (Pushes t)))
+    (tokens_of (fold after_call
+    (after_call c (Pushes t)) calls)) (left-pushes t c.parts h.0) (left-calls (after_call c (Pushes t)) calls h.1)
+left-calls c (Drops ∷ calls) h =
+    left-step (tokens_of c) [] (filter_map token_of_call calls) (tokens_of (after_call c Drops))
+    (tokens_of (fold after_call (after_call c Drops) calls)) (left-drops c.parts)
+    (left-calls (after_call c Drops) calls h.1)
+left-calls c (Closes ∷ calls) h =
+    left-step (tokens_of c) [] (filter_map token_of_call calls) (tokens_of (after_call c Closes))
+    (tokens_of (fold after_call (after_call c Closes) calls)) (left-closes c.parts)
+    (left-calls (after_call c Closes) calls h.1)
 left-calls c (Transliterates r ∷ calls) h =
-    left-step (tokens_of c) [] (filter_map token_in calls) (tokens_of c) (tokens_of (fold after (after c
-    (Transliterates r)) calls)) (left-nothing (tokens_of c)) (left-calls (after c (Transliterates r)) calls h.1)
+    left-step (tokens_of c) [] (filter_map token_of_call calls) (tokens_of c) (tokens_of (fold after_call (after_call c
+    (Transliterates r)) calls)) (left-nothing (tokens_of c)) (left-calls (after_call c (Transliterates r)) calls h.1)
 
 pub tokens_are_those_pushed : TokensAreThosePushed
 tokens_are_those_pushed calls h = left-calls empty calls h

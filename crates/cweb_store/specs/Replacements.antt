@@ -6,9 +6,6 @@ pub record Replacement : Type 0 where
   pub byte : ℕ
   pub text : List ℕ
 
-abbrev pub replacement_of : ℕ → List ℕ → Replacement
-replacement_of byte text = record { byte = byte; text = text }
-
 -- the text for a byte after more replacements: a later one of the byte wins
 abbrev pub replaced_by : ℕ → Option (List ℕ) → List Replacement → Option (List ℕ)
 replaced_by byte text [] = text

@@ -1,14 +1,20 @@
 // The builder.
 
-ghost use Rattle.std.specs.Prelude.{◌≡◌, ◌<◌, ◌≤◌, ◌+◌, length, IsSome, IsNone, is_some, IfOk, OnOk, OnErr};
-ghost use Rattle.cweb_parts.specs.Growing.{part_count, token_count};
-ghost use Rattle.cweb_store.specs.Replacements.{replacement_of};
-ghost use Rattle.cweb_store.specs.Calls.{empty, finished, occurrence_of, too_many, with_closed, with_dropped, with_occurrence, with_open, with_replacement, with_token};
+ghost use Rattle.std.specs.Prelude.{◌≡◌, ◌<◌, ◌≤◌, ◌+◌, length, IsSome, IsNone, is_some, IfOk};
+ghost use Rattle.std.specs.Prelude.{OnOk, OnErr};
+ghost use Rattle.cweb_store.specs.surface.Growing.{part_count, token_count};
+ghost use Rattle.cweb_store.specs.surface.Replacements.{replacement_of};
+ghost use Rattle.cweb_store.specs.Calls.{empty, finished, with_closed};
+ghost use Rattle.cweb_names.specs.surface.Names.{occurrence_of, too_many};
+ghost use Rattle.cweb_store.specs.Calls.{with_dropped, with_occurrence, with_open};
+ghost use Rattle.cweb_store.specs.Calls.{with_replacement, with_token};
 
+use crate::parts::PartKind;
+use crate::parts::list::PartList;
 use crate::replacements::Replacements;
 use crate::store::Store;
+use crate::tokens::Token;
 use cweb_names::{How, NameRef, NameTable};
-use cweb_parts::{PartKind, PartList, Token};
 use std::alloc::{AllocError, Global};
 use std::marker::Model;
 
@@ -43,7 +49,7 @@ impl Model for Builder {
 }
 
 impl Builder {
-    ghost use Rattle.cweb_parts.specs.Seen.{seen};
+    ghost use Rattle.cweb_store.specs.surface.TokenModels.{token_model};
 
     /// A builder that was given nothing.
     pub fn new(alloc: Global) -> Builder
@@ -97,7 +103,7 @@ impl Builder {
     pub fn push(&mut self, token: Token<'_>) -> Result<(), AllocError>
         requires open { IsSome self.old.parts.current }
         requires few { token_count self.old.parts + 1 < too_many }
-        ensures ok { OnOk result (self.new ≡ with_token (seen token.entry) self.old) }
+        ensures ok { OnOk result (self.new ≡ with_token (token_model token.entry) self.old) }
         ensures err { OnErr result (self.new ≡ self.old) }
     {
         self.parts.push(token)?;

@@ -1,12 +1,15 @@
 // Calls of a builder, as values.
 
 ghost use Rattle.std.specs.Prelude.{◌≡◌, ◌-◌, ◌↔◌, if◌then◌else◌, IsTrue, OnOk, OnErr};
-ghost use Rattle.cweb_store.specs.Calls.{after, too_many};
-ghost use Rattle.cweb_store.specs.Made.{given, HoldsAtMost, Takes};
+ghost use Rattle.cweb_store.specs.laws.Calls.{after_call};
+ghost use Rattle.cweb_names.specs.surface.Names.{too_many};
+ghost use Rattle.cweb_store.specs.laws.BuilderCalls.{call_model, AcceptsCall};
+ghost use Rattle.cweb_store.specs.inner.BuilderCalls.{HoldsAtMost};
 
 use crate::builder::Builder;
+use crate::parts::PartKind;
+use crate::tokens::Token;
 use cweb_names::How;
-use cweb_parts::{PartKind, Token};
 use std::alloc::AllocError;
 
 /// A call of a builder. It lends its bytes.
@@ -37,9 +40,9 @@ impl Call<'_> {
     /// Makes the call if it is in its place, and answers whether it answered Ok. If not, nothing is changed.
     pub(crate) fn make_in_place(self, builder: &mut Builder) -> bool
         requires { HoldsAtMost (too_many - 2) builder.old }
-        ensures taken { IsTrue result → Takes builder.old (given self.entry) }
+        ensures taken { IsTrue result → AcceptsCall builder.old (call_model self.entry) }
         ensures made { builder.new
-            ≡ (if result then after builder.old (given self.entry) else builder.old) }
+            ≡ (if result then after_call builder.old (call_model self.entry) else builder.old) }
     {
         self.is_in_place(builder) && self.make(builder).is_ok()
     }
@@ -47,7 +50,7 @@ impl Call<'_> {
     // Whether a builder takes the call.
     fn is_in_place(self, builder: &Builder) -> bool
         requires { HoldsAtMost (too_many - 2) builder.now }
-        ensures { IsTrue result ↔ Takes builder.now (given self.entry) }
+        ensures { IsTrue result ↔ AcceptsCall builder.now (call_model self.entry) }
     {
         match self {
             Call::Occurs(..) => true,
@@ -59,8 +62,8 @@ impl Call<'_> {
 
     /// Makes the call. A refused one changes nothing.
     pub fn make(self, builder: &mut Builder) -> Result<(), AllocError>
-        requires { Takes builder.old (given self) }
-        ensures ok { OnOk result (builder.new ≡ after builder.old (given self.entry)) }
+        requires { AcceptsCall builder.old (call_model self) }
+        ensures ok { OnOk result (builder.new ≡ after_call builder.old (call_model self.entry)) }
         ensures err { OnErr result (builder.new ≡ builder.old) }
     {
         match self {

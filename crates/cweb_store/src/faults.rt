@@ -1,16 +1,19 @@
 // The faults of names.
 
-ghost use Rattle.std.specs.Prelude.{◌≡◌, ◌<◌, ◌^◌, ◌++◌, ◌&&◌, ◌||◌, not, [], length, slice_get, option_map, Some, IfOk, OnOk};
+ghost use Rattle.std.specs.Prelude.{◌≡◌, ◌<◌, ◌^◌, ◌++◌, ◌&&◌, ◌||◌, not, [], length, slice_get};
+ghost use Rattle.std.specs.Prelude.{option_map, Some, IfOk, OnOk};
 ghost use Rattle.std.specs.List.{list_any};
 ghost use Rattle.cweb_names.specs.declared.name.NameKind.TheVariants.{PrefixOfAnother, NotPresent};
 ghost use Rattle.cweb_names.specs.Names.{is_id, is_prefix_of_another};
 ghost use Rattle.cweb_names.specs.Names as spec;
-ghost use Rattle.cweb_store.specs.Faults.{fault_if, faults_where, standing_faults};
+ghost use Rattle.cweb_store.specs.inner.Faults.{fault_of_name_if};
+ghost use Rattle.cweb_store.specs.Faults.{faults_where, unresolved_faults};
 ghost use Rattle.cweb_store.specs.Faults as told;
-ghost use Rattle.cweb_store.specs.Gathered.{present_from};
+ghost use Rattle.cweb_store.specs.inner.NamesWithParts.{present_from};
 
-use cweb_names::{KnownNames, NameFault, NameId, NameKind, NameRef, NameTable, add_name_at};
-use cweb_parts::{ClosedParts, PartKind, Run};
+use crate::parts::closed::ClosedParts;
+use crate::parts::{PartKind, PartRange};
+use cweb_names::{KnownNames, NameFault, NameId, NameKind, NameRef, NameTable, add_resolved};
 use indexmap::IndexSet;
 use std::alloc::{AllocError, Global};
 
@@ -19,18 +22,18 @@ pub fn name_faults(
     alloc: Global,
     table: &NameTable,
     parts: &ClosedParts,
-    standings: &[Result<NameId, NameKind>],
+    resolutions: &[Result<NameId, NameKind>],
     files: &IndexSet<NameId>,
 ) -> Result<Vec<NameFault>, AllocError>
-    requires settled { standings.now ≡ spec.standings table.now }
+    requires settled { resolutions.now ≡ spec.resolutions table.now }
     requires given { files.now.keys ≡ spec.files table.now }
-    requires few { length standings.now < 2 ^ 32 }
+    requires few { length resolutions.now < 2 ^ 32 }
     ensures { IfOk result (λ all. all.items ≡ told.faults table.now parts.now) }
 {
     let mut faults = Vec::new(alloc);
-    add_standing_faults(&mut faults, standings)?;
+    add_unresolved_faults(&mut faults, resolutions)?;
     add_prefix_faults(&mut faults, table.names())?;
-    add_faults_of_parts(alloc, &mut faults, table, parts, standings, files)?;
+    add_faults_of_parts(alloc, &mut faults, table, parts, resolutions, files)?;
     Ok(faults)
 }
 
@@ -40,12 +43,12 @@ fn add_faults_of_parts(
     faults: &mut Vec<NameFault>,
     table: &NameTable,
     parts: &ClosedParts,
-    standings: &[Result<NameId, NameKind>],
+    resolutions: &[Result<NameId, NameKind>],
     files: &IndexSet<NameId>,
 ) -> Result<(), AllocError>
-    requires settled { standings.now ≡ spec.standings table.now }
+    requires settled { resolutions.now ≡ spec.resolutions table.now }
     requires given { files.now.keys ≡ spec.files table.now }
-    requires few { length standings.now < 2 ^ 32 }
+    requires few { length resolutions.now < 2 ^ 32 }
     ensures { OnOk result
         (faults.new.items
         ≡ faults.old.items
@@ -53,37 +56,38 @@ fn add_faults_of_parts(
         (λ n text. told.is_missing table.now parts.now n)
         (spec.names table.now)) }
 {
-    let used = parts.uses(alloc, standings)?;
-    let present = names_with_part(alloc, parts.runs(), standings)?;
+    let used = parts.uses(alloc, resolutions)?;
+    let present = names_with_part(alloc, parts.ranges(), resolutions)?;
     add_missing_faults(faults, table.names(), &used, files, &present)
 }
 
 // The names that have a part.
 fn names_with_part(
     alloc: Global,
-    runs: &[Run],
-    standings: &[Result<NameId, NameKind>],
+    ranges: &[PartRange],
+    resolutions: &[Result<NameId, NameKind>],
 ) -> Result<IndexSet<NameId>, AllocError>
-    ensures { IfOk result (λ present. present.keys ≡ present_from standings.now [] runs.now) }
+    ensures { IfOk result (λ present. present.keys ≡ present_from resolutions.now [] ranges.now) }
 {
     let mut present = IndexSet::new(alloc);
-    for run in runs {
-        if let PartKind::Named(name) = run.kind {
-            add_name_at(&mut present, standings, name.0 as usize)?;
+    for range in ranges {
+        if let PartKind::Named(name) = range.kind {
+            add_resolved(&mut present, resolutions, name.0 as usize)?;
         }
     }
     Ok(present)
 }
 
 // Adds a fault for each occurrence that stands for no name.
-fn add_standing_faults(
+fn add_unresolved_faults(
     faults: &mut Vec<NameFault>,
-    standings: &[Result<NameId, NameKind>],
+    resolutions: &[Result<NameId, NameKind>],
 ) -> Result<(), AllocError>
-    requires { length standings.now < 2 ^ 32 }
-    ensures { OnOk result (faults.new.items ≡ faults.old.items ++ standing_faults standings.now) }
+    requires { length resolutions.now < 2 ^ 32 }
+    ensures { OnOk result (faults.new.items ≡ faults.old.items
+        ++ unresolved_faults resolutions.now) }
 {
-    for (i, standing) in standings.iter().enumerate() {
+    for (i, standing) in resolutions.iter().enumerate() {
         if let Err(kind) = standing {
             faults.push(NameFault {
                 kind: *kind,
@@ -168,7 +172,8 @@ fn add_fault_if(
 ) -> Result<(), AllocError>
     requires { id.0 < length names.now }
     ensures { OnOk result
-        (option_map (λ n. faults.old.items ++ fault_if fails kind n.first) (slice_get names.now id.0)
+        (option_map (λ n. faults.old.items ++ fault_of_name_if fails kind n.first)
+        (slice_get names.now id.0)
         ≡ Some faults.new.items) }
 {
     if fails {

@@ -2,11 +2,17 @@
 //! first do nothing.
 
 ghost use Rattle.std.specs.Prelude.{◌≡◌, ◌<◌, length, map, IfOk};
-ghost use Rattle.cweb_store.specs.Calls.{contents, empty, finished, too_many};
-ghost use Rattle.cweb_store.specs.Laws.{AbbreviationsStay, EarlierNamesDecide, FullNamesStandForThemselves, JoiningConcatenates, OccurrencesAreThoseOfCalls};
-ghost use Rattle.cweb_store.specs.MoreLaws.{AbbreviationsBeginTheirNames, DroppingKeepsTheFront, MacrosKeepTwoTokens, NamesAreDistinct, OneFaultForNoName};
-ghost use Rattle.cweb_store.specs.TokenLaws.{TokensAreThosePushed};
-ghost use Rattle.cweb_store.specs.Made.{given_ok, TakesAll};
+ghost use Rattle.cweb_store.specs.laws.Calls.{contents};
+ghost use Rattle.cweb_store.specs.Calls.{empty, finished};
+ghost use Rattle.cweb_names.specs.surface.Names.{too_many};
+ghost use Rattle.cweb_store.specs.laws.Laws.{AbbreviationsStay, EarlierNamesDecide};
+ghost use Rattle.cweb_store.specs.laws.Laws.{FullNamesResolveToThemselves, JoiningConcatenates};
+ghost use Rattle.cweb_store.specs.laws.Laws.{OccurrencesAreThoseOfCalls};
+ghost use Rattle.cweb_store.specs.laws.MoreLaws.{AbbreviationsBeginTheirNames, DroppingKeepsThePrefix};
+ghost use Rattle.cweb_store.specs.laws.MoreLaws.{MacrosKeepTwoTokens, NamesAreDistinct};
+ghost use Rattle.cweb_store.specs.laws.MoreLaws.{OneFaultForNoName};
+ghost use Rattle.cweb_store.specs.laws.TokenLaws.{TokensAreThosePushed};
+ghost use Rattle.cweb_store.specs.laws.BuilderCalls.{accepted_calls, AcceptsCalls};
 
 use crate::builder::Builder;
 use crate::call::{Answered, Call};
@@ -21,8 +27,9 @@ pub fn store_holds_calls_answered_ok<'a>(
 ) -> Result<(Vec<Answered<'a>>, Store), AllocError>
     requires few { length calls.now < too_many }
     ensures answers { IfOk result (λ made. map (λ a. a.call) made.0.items ≡ calls.now) }
-    ensures taken { IfOk result (λ made. TakesAll empty (given_ok made.0.items)) }
-    ensures store { IfOk result (λ made. made.1 ≡ finished (contents (given_ok made.0.items))) }
+    ensures taken { IfOk result (λ made. AcceptsCalls empty (accepted_calls made.0.items)) }
+    ensures store { IfOk result
+        (λ made. made.1 ≡ finished (contents (accepted_calls made.0.items))) }
 {
     let mut builder = Builder::new(alloc);
     let mut answers = Vec::new(alloc);
@@ -45,8 +52,8 @@ pub fn earlier_names_decide()
 {}
 
 /// A name given in full stands for itself.
-pub fn full_names_stand_for_themselves()
-    ensures { FullNamesStandForThemselves }
+pub fn full_names_resolve_to_themselves()
+    ensures { FullNamesResolveToThemselves }
 {}
 
 /// Joining is concatenation in order.
@@ -75,8 +82,8 @@ pub fn one_fault_for_no_name()
 {}
 
 /// Dropping layout changes nothing before it, and a macro keeps its first two tokens.
-pub fn dropping_keeps_the_front()
-    ensures { DroppingKeepsTheFront }
+pub fn dropping_keeps_the_prefix()
+    ensures { DroppingKeepsThePrefix }
 {}
 
 /// A macro keeps its first two tokens, whatever follows. What is dropped of it is layout at its end, and all of that behind the two.

@@ -1,27 +1,36 @@
-//! The names, parts and tokens of a web: a builder that is given them one after another, and the store that it makes of them.
+//! The names, parts and tokens of a web: a builder that is called as a web is scanned, and the store that it makes.
 #![tactic(auto)]
+
+// the tokens of parts, and the bytes that they show
+mod tokens;
+
+// parts as ranges of tokens, and the parts of each name
+mod parts;
 
 // the faults of names
 mod faults;
 
-// what bytes are replaced by
+// transliterations of `@l`
 mod replacements;
 
-// what a web gives, call by call
+// what a scan adds, call by call
 mod builder;
 
 // these calls as values
 mod call;
 
-// what came of them
+// what the builder made
 mod store;
 
-// what holds whatever the calls are
+// what holds for any calls
 pub mod laws;
 
 pub use builder::Builder;
 pub use call::{Answered, Call};
 pub use cweb_names::{How, NameFault, NameId, NameKind, NameRef};
-pub use cweb_parts::{Lender, Part, PartKind, Parts, Token};
-pub use cweb_texts::{Border, LentText};
+pub use cweb_texts::{Edge, TokenBytes};
+pub use parts::iter::Parts;
+pub use parts::{Part, PartKind};
 pub use store::Store;
+pub use tokens::Token;
+pub use tokens::token_reader::TokenReader;

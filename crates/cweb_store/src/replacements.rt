@@ -1,12 +1,12 @@
 // What bytes are replaced by in Words that are printed.
 
 ghost use Rattle.std.specs.Prelude.{◌≡◌, ◌++◌, ◌∷◌, [], map, IfOk, OnOk, OnErr};
-ghost use Rattle.cweb_store.specs.Replacements.{replacement_of};
-ghost use Rattle.cweb_store.specs.Stored.{AreLast};
-ghost use Rattle.cweb_store.specs.Texts.{replacement_text};
-ghost use Rattle.cweb_parts.specs.ClosedTokens.{with_texts};
+ghost use Rattle.cweb_store.specs.surface.Replacements.{replacement_of};
+ghost use Rattle.cweb_store.specs.inner.Stored.{AreLast};
+ghost use Rattle.cweb_store.specs.surface.StoredStrings.{replacement_bytes};
+ghost use Rattle.cweb_store.specs.inner.ClosedTokens.{with_strings};
 
-use cweb_parts::ClosedTokens;
+use crate::tokens::closed::ClosedTokens;
 use std::alloc::{AllocError, Global};
 use std::marker::Model;
 
@@ -27,7 +27,7 @@ pub struct Replacements {
 impl Model for Replacements {
     ghost use Rattle.std.specs.Prelude.{List, map};
     ghost use Rattle.cweb_store.specs.Replacements.{Replacement};
-    ghost use Rattle.cweb_store.specs.Replaced.{replacement_in};
+    ghost use Rattle.cweb_store.specs.inner.Replaced.{replacement_in};
 
     ghost Value = { List Replacement };
 
@@ -57,8 +57,8 @@ impl Replacements {
     /// Puts the replacements behind the texts of tokens, and answers their bytes.
     pub fn close(self, tokens: &mut ClosedTokens) -> Result<Vec<u8>, AllocError>
         ensures bytes { IfOk result (λ bytes. bytes.items ≡ map (λ r. r.byte) self) }
-        ensures texts { OnOk result
-            (tokens.new ≡ with_texts (map replacement_text self) tokens.old) }
+        ensures strings { OnOk result
+            (tokens.new ≡ with_strings (map replacement_bytes self) tokens.old) }
     {
         let mut bytes = Vec::with_capacity(self.alloc, self.given.len())?;
         for replaced in &self.given {

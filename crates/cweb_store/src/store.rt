@@ -1,25 +1,32 @@
 // The store.
 
-mod all_texts;
 pub(crate) mod answers;
-pub mod lending;
 mod parts_wanted;
+mod stored_strings;
+pub mod token_access;
 
-ghost use Rattle.std.specs.Prelude.{◌≡◌, ◌<◌, ◌≤◌, length, slice_get, option_map, Some, None, IfOk, IfSome, All};
+ghost use Rattle.std.specs.Prelude.{◌≡◌, ◌<◌, ◌≤◌, length, slice_get, option_map, Some, None, IfOk};
+ghost use Rattle.std.specs.Prelude.{IfSome, All};
 ghost use Rattle.cweb_names.specs.Names as spec;
-ghost use Rattle.cweb_parts.specs.Parts.{all_tokens, has_defs_code};
+ghost use Rattle.cweb_store.specs.Parts.{all_tokens, has_defs_code};
 ghost use Rattle.cweb_store.specs.Faults.{faults};
 ghost use Rattle.cweb_store.specs.Replacements.{replacement};
-ghost use Rattle.cweb_store.specs.Calls.{stored, too_many};
-ghost use Rattle.cweb_parts.specs.Texts.{AreInOneList};
-ghost use Rattle.cweb_store.specs.Texts.{bytes_given, bytes_kept, texts_of};
-ghost use Rattle.cweb_parts.specs.Next.{IsNext, is_name};
+ghost use Rattle.cweb_store.specs.Calls.{stored};
+ghost use Rattle.cweb_names.specs.surface.Names.{too_many};
+ghost use Rattle.cweb_store.specs.surface.TokenStrings.{AreInOneList};
+ghost use Rattle.cweb_store.specs.surface.StoredStrings.{uninterned_store_bytes, interned_store_bytes};
+ghost use Rattle.cweb_store.specs.surface.StoredStrings.{stored_strings};
+ghost use Rattle.cweb_store.specs.inner.Next.{IsNextNumber, is_name_use};
 
+use crate::parts::closed::ClosedParts;
+use crate::parts::links::Links;
+use crate::parts::{Part, PartRange};
 use crate::replacements::{Replacements, last_places};
-use crate::store::all_texts::AllTexts;
 use crate::store::answers::Answers;
-use cweb_names::{GivenAs, NameFault, NameId, NameKind, NameRef, NameTable, name_at};
-use cweb_parts::{ClosedParts, ClosedTokens, Links, Part, Run, Token};
+use crate::store::stored_strings::StoredStrings;
+use crate::tokens::Token;
+use crate::tokens::closed::ClosedTokens;
+use cweb_names::{NameFault, NameId, NameKind, NameRef, NameTable, OccurrenceForm, resolved_at};
 use indexmap::IndexSet;
 use std::alloc::{AllocError, Global};
 use std::marker::Model;
@@ -27,13 +34,13 @@ use std::marker::Model;
 /// What a web has given, for good: what each occurrence of a name stands for, the parts of each name, and the faults.
 pub struct Store {
     tokens: ClosedTokens,
-    runs: Vec<Run>,
+    ranges: Vec<PartRange>,
     links: Links,
-    given: Vec<GivenAs>,
+    given: Vec<OccurrenceForm>,
     replaced: Vec<u8>,
     last_places: Vec<Option<usize>>,
     firsts: Vec<u32>,
-    standings: Vec<Result<NameId, NameKind>>,
+    resolutions: Vec<Result<NameId, NameKind>>,
     files: IndexSet<NameId>,
     faults: Vec<NameFault>,
     has_defs_code: bool,
@@ -44,13 +51,13 @@ impl Drop for Store {
     fn drop(self) {
         let Store {
             tokens: _,
-            runs: _,
+            ranges: _,
             links: _,
             given: _,
             replaced: _,
             last_places: _,
             firsts: _,
-            standings: _,
+            resolutions: _,
             files: _,
             faults: _,
             has_defs_code: _,
@@ -63,17 +70,17 @@ impl Model for Store {
 
     ghost Value = { Stored };
 
-    ghost use Rattle.cweb_store.specs.Stored.{stored_in, AreStored};
+    ghost use Rattle.cweb_store.specs.inner.Stored.{stored_in, AreStored};
 
-    ghost view = { λ s. stored_in s.tokens s.runs.items s.given.items s.replaced.items };
+    ghost view = { λ s. stored_in s.tokens s.ranges.items s.given.items s.replaced.items };
 
     ghost invariant = { λ s.
-        AreStored s.tokens s.runs.items s.links s.given.items s.replaced.items s.last_places.items
-        s.firsts.items s.standings.items s.files.keys s.faults.items s.has_defs_code };
+        AreStored s.tokens s.ranges.items s.links s.given.items s.replaced.items s.last_places.items
+        s.firsts.items s.resolutions.items s.files.keys s.faults.items s.has_defs_code };
 }
 
 impl Store {
-    ghost use Rattle.cweb_parts.specs.Seen.{seen};
+    ghost use Rattle.cweb_store.specs.surface.TokenModels.{token_model};
 
     /// The store of occurrences, parts and replacements.
     pub(crate) fn new(
@@ -85,15 +92,15 @@ impl Store {
         ensures { IfOk result (λ store. store ≡ stored table parts replacements) }
     {
         let answers = Answers::of(alloc, &table, &parts)?;
-        let (tokens, runs) = parts.take_apart();
-        let texts = AllTexts::of(tokens, table, replacements)?;
-        let AllTexts {
+        let (tokens, ranges) = parts.take_apart();
+        let strings = StoredStrings::of(tokens, table, replacements)?;
+        let StoredStrings {
             tokens,
             given,
             replaced,
-        } = texts;
+        } = strings;
         let Answers {
-            standings,
+            resolutions,
             files,
             faults,
             firsts,
@@ -103,13 +110,13 @@ impl Store {
         let last_places = last_places(alloc, replaced.as_slice())?;
         let store = Store {
             tokens,
-            runs,
+            ranges,
             links,
             given,
             replaced,
             last_places,
             firsts,
-            standings,
+            resolutions,
             files,
             faults,
             has_defs_code,
@@ -121,7 +128,7 @@ impl Store {
     #[inline(always)]
     pub fn token(&self, number: u32) -> Token<'_>
         requires { number < length (all_tokens self.now.parts) }
-        ensures { slice_get (all_tokens self.now.parts) number ≡ Some (seen result) }
+        ensures { slice_get (all_tokens self.now.parts) number ≡ Some (token_model result) }
     {
         self.tokens.token(number as usize)
     }
@@ -130,17 +137,17 @@ impl Store {
     /// number after the last one.
     pub fn next_use(&self, part: Part) -> u32
         requires { part.first ≤ part.after }
-        ensures { IsNext is_name (all_tokens self.now.parts) part result }
+        ensures { IsNextNumber is_name_use (all_tokens self.now.parts) part result }
     {
         self.tokens.next_use(part)
     }
 
     /// The name that an occurrence stands for, if any.
     pub fn standing(&self, name: NameRef) -> Option<NameId>
-        ensures name { result ≡ spec.stands (spec.standings self.now.occurrences) name.0 }
+        ensures name { result ≡ spec.resolved_at (spec.resolutions self.now.occurrences) name.0 }
         ensures within { IfSome result (λ id. id.0 < length (spec.names self.now.occurrences)) }
     {
-        name_at(self.standings.as_slice(), name.0 as usize)
+        resolved_at(self.resolutions.as_slice(), name.0 as usize)
     }
 
     /// How many names there are.
@@ -206,9 +213,9 @@ impl Store {
     /// How many bytes the texts have, of tokens, names and replacements. They stand in one list of that many bytes, in
     /// which equal texts of Words and punctuators are kept once.
     pub fn text_bytes(&self) -> u64
-        ensures texts { AreInOneList result (texts_of self.now) }
-        ensures once { result ≡ bytes_kept self.now }
-        ensures few { result ≤ bytes_given self.now }
+        ensures strings { AreInOneList result (stored_strings self.now) }
+        ensures once { result ≡ interned_store_bytes self.now }
+        ensures few { result ≤ uninterned_store_bytes self.now }
     {
         self.tokens.text_bytes() as u64
     }

@@ -1,25 +1,25 @@
 // What stores answer, of rows of builder calls that are written as text.
 
 mod calls;
+mod direct_bytes;
+mod examples;
+mod expected;
 mod growth;
-mod lending;
 mod lists;
 mod long;
 mod names;
 mod parts;
-mod rows;
-mod signs;
-mod told;
+mod punctuators;
 mod words;
 
 ghost use Rattle.std.specs.Prelude.{◌≡◌, true};
 
 use cweb_store::*;
-use rows::{Case, Row, check};
+use examples::{Case, ExampleBuilder, check};
+use expected::Expected;
 use std::alloc::{AllocError, Global};
 use std::process::Abort;
 use std::test::Fail;
-use told::Expected;
 
 // What a test asks stands in functions of its own, which hold little: they are proved soon, and what calls them is too.
 fn holds(rt: &impl Abort, is_so: bool)
@@ -44,22 +44,22 @@ fn next_is(rt: &impl Abort, store: &Store, number: u32, token: Token<'_>) -> u32
 }
 
 // A store tells its names and parts like this.
-fn tells_store(rt: &impl Abort, store: &Store, text: &str) {
+fn shows_names_and_parts(rt: &impl Abort, store: &Store, text: &str) {
     let mut expected = Expected::new(text);
-    expected.tell_store(store);
+    expected.compare_store(store);
     is_met(rt, &expected, text);
 }
 
 // A store tells its counts, its Defs and its replacements like this.
-fn counts_store(rt: &impl Abort, store: &Store, text: &str) {
+fn shows_counts(rt: &impl Abort, store: &Store, text: &str) {
     let mut expected = Expected::new(text);
-    expected.tell_counts(store);
+    expected.compare_counts(store);
     is_met(rt, &expected, text);
 }
 
 // What is asked of the store of a row of calls.
 #[derive(Clone, Copy)]
-enum Asked {
+enum Aspect {
     // its names and parts
     Names,
     // its counts, its Defs and its replacements
@@ -72,35 +72,51 @@ enum Asked {
 
 // A row of calls, and what its store tells.
 #[derive(Clone, Copy)]
-struct Telling<'a> {
-    row: &'a str,
-    asked: Asked,
+struct ShownStore<'a> {
+    example: &'a str,
+    aspect: Aspect,
     text: &'a str,
 }
 
-impl Case for Telling<'_> {
-    fn fill<A: Abort>(&self, rt: &A, row: &mut Row) -> Result<(), AllocError> {
-        row.make_all(rt, self.row)
+impl Case for ShownStore<'_> {
+    fn fill<A: Abort>(&self, rt: &A, example: &mut ExampleBuilder) -> Result<(), AllocError> {
+        example.make_all(rt, self.example)
     }
 
     fn look<A: Abort>(&self, rt: &A, store: &Store) {
-        match self.asked {
-            Asked::Names => tells_store(rt, store, self.text),
-            Asked::Counts => counts_store(rt, store, self.text),
-            Asked::Standings => names::stand_for(rt, store, self.text),
-            Asked::Uses => parts::has_uses(rt, store, self.text),
+        match self.aspect {
+            Aspect::Names => shows_names_and_parts(rt, store, self.text),
+            Aspect::Counts => shows_counts(rt, store, self.text),
+            Aspect::Standings => names::shows_resolutions(rt, store, self.text),
+            Aspect::Uses => parts::has_uses(rt, store, self.text),
         }
     }
 }
 
 // The store of a row of calls tells its names and parts like this.
-fn tells(rt: &impl Abort, alloc: Global, row: &str, text: &str) -> Result<(), Fail> {
-    let asked = Asked::Names;
-    check(rt, alloc, &Telling { row, asked, text })
+fn example_shows(rt: &impl Abort, alloc: Global, example: &str, text: &str) -> Result<(), Fail> {
+    let aspect = Aspect::Names;
+    check(
+        rt,
+        alloc,
+        &ShownStore {
+            example,
+            aspect,
+            text,
+        },
+    )
 }
 
 // The store of a row of calls tells its counts, its Defs and its replacements like this.
-fn counts(rt: &impl Abort, alloc: Global, row: &str, text: &str) -> Result<(), Fail> {
-    let asked = Asked::Counts;
-    check(rt, alloc, &Telling { row, asked, text })
+fn counts(rt: &impl Abort, alloc: Global, example: &str, text: &str) -> Result<(), Fail> {
+    let aspect = Aspect::Counts;
+    check(
+        rt,
+        alloc,
+        &ShownStore {
+            example,
+            aspect,
+            text,
+        },
+    )
 }

@@ -1,3 +1,1 @@
-pub mod Devices
-pub mod Ways
-pub mod Written
+pub mod inner

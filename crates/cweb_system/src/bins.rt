@@ -1,18 +1,18 @@
 // The files of the system's folders, as bins. No contract sees their bytes.
-ghost use Rattle.std.specs.Prelude.{◌≡◌, ◌≤◌, ◌<◌, ◌+◌, ◌^◌, [], false, length, option_and_then, take, IfOk, IfErr, OnOk, OnErr, IfSome, IsSome};
+ghost use Rattle.std.specs.Prelude.{◌≡◌, ◌≤◌, ◌<◌, ◌+◌, ◌^◌, [], false, length, option_and_then};
+ghost use Rattle.std.specs.Prelude.{take, IfOk, IfErr, OnOk, OnErr, IfSome, IsSome};
 ghost use Rattle.std.specs.Io.KnownBytes.{Appends};
-ghost use Rattle.cweb_files.specs.Device.{Counts};
-ghost use Rattle.cweb_bins.specs.Bins.{CountsDevice};
-ghost use Rattle.cweb_system.specs.Devices.{target_bytes};
+ghost use Rattle.cweb_files.specs.Device.{CountsFailure};
+ghost use Rattle.cweb_files.specs.Bins.{CountsDeviceFailure};
+ghost use Rattle.cweb_system.specs.inner.Devices.{target_bytes};
 
 use crate::drafts::{Draft, start_fault};
 use crate::files_read::FilesRead;
 use crate::files_written::FilesWritten;
-use crate::standing::{Standing, Way};
-use crate::system::{FileKey, Held, is_stream, stand_in};
+use crate::path_entry::{PathEntry, Way};
+use crate::system::{FileKey, LockableFile, fill_closed_stream, is_stream};
 use crate::target::Target;
-use cweb_bins::{BinFault, Bins};
-use cweb_files::{Sink, SinkFault};
+use cweb_files::{BinFault, Bins, Sink, SinkFault};
 use std::alloc::Global;
 use std::collections::BTreeSet;
 use std::fs::OpenFile;
@@ -28,7 +28,7 @@ use std::rt::Files;
 /// Bytes are gathered and written in large pieces, so a write may fail for bytes that were taken earlier. The output is given
 /// up then: one that lost bytes is never committed.
 #[derive(Drop)]
-pub struct FolderBins<'a, R: Files<File: Held> + Drop> {
+pub struct FolderBins<'a, R: Files<File: LockableFile> + Drop> {
     alloc: Global,
     files: R,
     /// Files that fill the descriptors of closed standard streams, so that no draft gets one. They are open for reading
@@ -42,14 +42,18 @@ pub struct FolderBins<'a, R: Files<File: Held> + Drop> {
     failed: u64,
 }
 
-impl<'a, R: Files<File: Held> + Drop> FolderBins<'a, R> {
-    ghost use Rattle.cweb_system.specs.Devices.{bins_failures, output_bytes, Begins, IsBegun};
+impl<'a, R: Files<File: LockableFile> + Drop> FolderBins<'a, R> {
+    ghost use Rattle.cweb_system.specs.inner.Devices.{bins_failures, output_bytes, BeginsOutput, IsBegun};
 
     /// Call it before any other file is opened. No output replaces a file that is noted as read.
     pub fn new(alloc: Global, files: R, read: &'a FilesRead) -> Self
         ensures { bins_failures result ≡ 0 }
     {
-        let streams = [stand_in(&files), stand_in(&files), stand_in(&files)];
+        let streams = [
+            fill_closed_stream(&files),
+            fill_closed_stream(&files),
+            fill_closed_stream(&files),
+        ];
         FolderBins {
             alloc,
             files,
@@ -64,12 +68,13 @@ impl<'a, R: Files<File: Held> + Drop> FolderBins<'a, R> {
     /// Gives up the output that is open, and begins one.
     fn start(&mut self, name: &str) -> Result<(), BinFault>
         requires { bins_failures self.old + 1 < 2 ^ 64 }
-        ensures failed { CountsDevice (bins_failures self.old) (bins_failures self.new) result }
+        ensures failed { CountsDeviceFailure (bins_failures self.old)
+            (bins_failures self.new) result }
         ensures begun { OnOk result (IsBegun self.new) }
-        ensures begins { OnOk result (IfSome self.new.output (Begins name.now self.new)) }
+        ensures begins { OnOk result (IfSome self.new.output (BeginsOutput name.now self.new)) }
         ensures gone { OnErr result (IsBegun self.new → ⊥) }
     {
-        self.give_up();
+        self.abandon();
         match self.begin(name) {
             Ok(output) => {
                 self.output = Some(output);
@@ -87,7 +92,7 @@ impl<'a, R: Files<File: Held> + Drop> FolderBins<'a, R> {
     fn begin(&mut self, name: &str) -> Result<Target<R::File>, BinFault>
         ensures failed { bins_failures self.new ≡ bins_failures self.old }
         ensures output { self.new.output ≡ self.old.output }
-        ensures begins { IfOk result (Begins name.now self.new) }
+        ensures begins { IfOk result (BeginsOutput name.now self.new) }
     {
         let read = self.read.take();
         let begun = self.begin_beside(name, &read);
@@ -103,14 +108,14 @@ impl<'a, R: Files<File: Held> + Drop> FolderBins<'a, R> {
     ) -> Result<Target<R::File>, BinFault>
         ensures failed { bins_failures self.new ≡ bins_failures self.old }
         ensures output { self.new.output ≡ self.old.output }
-        ensures begins { IfOk result (Begins name.now self.new) }
+        ensures begins { IfOk result (BeginsOutput name.now self.new) }
     {
-        let standing = match Standing::of(&self.files, name) {
-            Ok(standing) => standing,
+        let path_entry = match PathEntry::of(&self.files, name) {
+            Ok(path_entry) => path_entry,
             Err(error) => return Err(start_fault(&error)),
         };
-        let is_own = self.is_own(name, standing);
-        match standing.way(read, is_own) {
+        let is_own = self.is_own(name, path_entry);
+        match path_entry.way(read, is_own) {
             Way::Draft(replaced) => self.begin_draft(name, replaced, read),
             Way::Device(device) => Target::open_device(self.alloc, &self.files, name, device),
             Way::Refused => Err(BinFault::Device),
@@ -118,10 +123,10 @@ impl<'a, R: Files<File: Held> + Drop> FolderBins<'a, R> {
     }
 
     /// Whether this file was written under another name, or a standard stream is the target of this link.
-    fn is_own(&self, name: &str, standing: Standing) -> bool {
-        match standing {
-            Standing::File(file, _) => self.written.has_other_name(&self.files, name, file),
-            Standing::Link(Some(target)) => is_stream(&self.files, target),
+    fn is_own(&self, name: &str, path_entry: PathEntry) -> bool {
+        match path_entry {
+            PathEntry::File(file, _) => self.written.has_other_name(&self.files, name, file),
+            PathEntry::Link(Some(target)) => is_stream(&self.files, target),
             _ => false,
         }
     }
@@ -135,7 +140,7 @@ impl<'a, R: Files<File: Held> + Drop> FolderBins<'a, R> {
     ) -> Result<Target<R::File>, BinFault>
         ensures failed { bins_failures self.new ≡ bins_failures self.old }
         ensures output { self.new.output ≡ self.old.output }
-        ensures begins { IfOk result (Begins name.now self.new) }
+        ensures begins { IfOk result (BeginsOutput name.now self.new) }
     {
         let draft = Draft::begin(self.alloc, &self.files, name, replaced, read)?;
         if self.written.note(draft.file, name).is_err() {
@@ -148,7 +153,7 @@ impl<'a, R: Files<File: Held> + Drop> FolderBins<'a, R> {
     /// Adds bytes to the output, in their order: none is lost and none is added. After a fault the output is given up.
     fn add(&mut self, piece: &[u8]) -> Result<usize, SinkFault>
         requires { bins_failures self.old + 1 < 2 ^ 64 }
-        ensures failed { Counts (bins_failures self.old) (bins_failures self.new) result }
+        ensures failed { CountsFailure (bins_failures self.old) (bins_failures self.new) result }
         ensures within { IfOk result (λ n. n ≤ length piece.now) }
         ensures some { 0 < length piece.now → IfOk result (λ n. 0 < n) }
         ensures begun { IfOk result (λ _. IsBegun self.old) }
@@ -158,19 +163,19 @@ impl<'a, R: Files<File: Held> + Drop> FolderBins<'a, R> {
     {
         let taken = write_to(&mut self.output, piece);
         if taken.is_err() {
-            self.give_up();
+            self.abandon();
             self.failed += 1;
         }
         taken
     }
 
     /// Gives up the output that is open.
-    fn give_up(&mut self)
+    fn abandon(&mut self)
         ensures failed { bins_failures self.new ≡ bins_failures self.old }
         ensures gone { IsBegun self.new → ⊥ }
     {
         if let Some(output) = self.output.take() {
-            output.give_up(&self.files);
+            output.abandon(&self.files);
         }
     }
 
@@ -190,7 +195,7 @@ impl<'a, R: Files<File: Held> + Drop> FolderBins<'a, R> {
 }
 
 /// Adds bytes to an output, where one is open.
-fn write_to<F: Write + OpenFile + Held + Drop>(
+fn write_to<F: Write + OpenFile + LockableFile + Drop>(
     output: &mut Option<Target<F>>,
     piece: &[u8],
 ) -> Result<usize, SinkFault>
@@ -207,8 +212,8 @@ fn write_to<F: Write + OpenFile + Held + Drop>(
     }
 }
 
-impl<R: Files<File: Held> + Drop> Sink for FolderBins<'_, R> {
-    ghost use Rattle.cweb_system.specs.Devices.{bins_failures};
+impl<R: Files<File: LockableFile> + Drop> Sink for FolderBins<'_, R> {
+    ghost use Rattle.cweb_system.specs.inner.Devices.{bins_failures};
 
     ghost tells = { λ _. false };
 
@@ -225,8 +230,8 @@ impl<R: Files<File: Held> + Drop> Sink for FolderBins<'_, R> {
     }
 }
 
-impl<R: Files<File: Held> + Drop> Bins for FolderBins<'_, R> {
-    ghost use Rattle.cweb_system.specs.Devices.{bins_failures};
+impl<R: Files<File: LockableFile> + Drop> Bins for FolderBins<'_, R> {
+    ghost use Rattle.cweb_system.specs.inner.Devices.{bins_failures};
 
     fn start_file(&mut self, name: &str) -> Result<(), BinFault> {
         self.start(name)
@@ -241,6 +246,6 @@ impl<R: Files<File: Held> + Drop> Bins for FolderBins<'_, R> {
     }
 
     fn abandon_file(&mut self) {
-        self.give_up();
+        self.abandon();
     }
 }

@@ -1,7 +1,7 @@
 // The files of the system's folders and its standard streams, as a shelf and as sinks. They tell no bytes.
 ghost use Rattle.std.specs.Prelude.{◌≡◌, ◌≤◌, ◌<◌, ◌+◌, ◌^◌, [], None, false, length, IfOk};
 ghost use Rattle.std.specs.Io.KnownBytes.{WriteAppends, ReadConsumes};
-ghost use Rattle.cweb_files.specs.Device.{Counts};
+ghost use Rattle.cweb_files.specs.Device.{CountsFailure};
 
 use crate::files_read::FilesRead;
 use crate::system::FileKey;
@@ -21,7 +21,7 @@ pub struct FolderShelf<'a, R: Files + Drop> {
 }
 
 impl<'a, R: Files + Drop> FolderShelf<'a, R> {
-    ghost use Rattle.cweb_system.specs.Devices.{shelf_failures};
+    ghost use Rattle.cweb_system.specs.inner.Devices.{shelf_failures};
 
     pub fn new(files: R) -> Self
         ensures { shelf_failures result ≡ 0 }
@@ -56,7 +56,7 @@ impl<'a, R: Files + Drop> FolderShelf<'a, R> {
     /// The bytes that it answers are the next ones of the file, as the system gives them: it loses and adds none.
     fn next_bytes(&mut self, reader: &mut R::File, piece: &mut [u8]) -> Result<usize, ShelfFault>
         requires { shelf_failures self.old + 1 < 2 ^ 64 }
-        ensures failed { Counts (shelf_failures self.old) (shelf_failures self.new) result }
+        ensures failed { CountsFailure (shelf_failures self.old) (shelf_failures self.new) result }
         ensures within { IfOk result (λ n. n ≤ length piece.new) }
         ensures passes { ReadConsumes (R.File.remaining reader.old)
             (R.File.remaining reader.new) result piece.new }
@@ -70,7 +70,7 @@ impl<'a, R: Files + Drop> FolderShelf<'a, R> {
 }
 
 impl<R: Files + Drop> Shelf for FolderShelf<'_, R> {
-    ghost use Rattle.cweb_system.specs.Devices.{shelf_failures};
+    ghost use Rattle.cweb_system.specs.inner.Devices.{shelf_failures};
 
     type R = R::File;
 
@@ -127,7 +127,7 @@ pub struct StdSink<W: Write + Drop> {
 }
 
 impl<W: Write + Drop> StdSink<W> {
-    ghost use Rattle.cweb_system.specs.Devices.{sink_failures};
+    ghost use Rattle.cweb_system.specs.inner.Devices.{sink_failures};
 
     pub fn new(stream: W) -> Self
         ensures { sink_failures result ≡ 0 }
@@ -137,7 +137,7 @@ impl<W: Write + Drop> StdSink<W> {
 }
 
 impl<W: Write + Drop> Sink for StdSink<W> {
-    ghost use Rattle.cweb_system.specs.Devices.{sink_failures, stream_of};
+    ghost use Rattle.cweb_system.specs.inner.Devices.{sink_failures, stream_of};
 
     ghost tells = { λ _. false };
 
@@ -148,7 +148,7 @@ impl<W: Write + Drop> Sink for StdSink<W> {
     /// The bytes that it takes go to the stream, in their order: it loses and adds none.
     fn write(&mut self, piece: &[u8]) -> Result<usize, SinkFault>
         requires { sink_failures self.old + 1 < 2 ^ 64 }
-        ensures failed { Counts (sink_failures self.old) (sink_failures self.new) result }
+        ensures failed { CountsFailure (sink_failures self.old) (sink_failures self.new) result }
         ensures within { IfOk result (λ n. n ≤ length piece.now) }
         ensures some { 0 < length piece.now → IfOk result (λ n. 0 < n) }
         ensures passes { WriteAppends (W.contents (stream_of self.old))

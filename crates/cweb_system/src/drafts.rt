@@ -2,11 +2,11 @@
 ghost use Rattle.std.specs.Prelude.{◌≡◌, ◌++◌, [], ◌∷◌, string_bytes, IfOk, IfErr, IsErr, OnOk};
 ghost use Rattle.std.specs.Io.Buffered.{writer_buffer};
 ghost use Rattle.std.specs.IoError.{error_kind};
-ghost use Rattle.cweb_system.specs.Ways.{IsRead};
+ghost use Rattle.cweb_system.specs.inner.WaysToWrite.{IsReadByRun};
 
-use crate::standing::{Standing, permissions};
-use crate::system::{FileKey, Held, may_be_at, remove, seen, seen_as};
-use cweb_bins::BinFault;
+use crate::path_entry::{PathEntry, permissions};
+use crate::system::{FileKey, LockableFile, may_be_at, metadata_at, metadata_if_same_file, remove};
+use cweb_files::BinFault;
 use std::alloc::{AllocError, Global};
 use std::collections::BTreeSet;
 use std::fs::{Metadata, OpenFile, OpenOptions, Permissions};
@@ -16,10 +16,10 @@ use std::rt::Files;
 use std::{fs, io};
 
 /// What a draft's name has after its file's: byte 127.
-const DRAFT_SIGN: &str = "\u{7f}";
+const DRAFT_SUFFIX: &str = "\u{7f}";
 
 /// The bytes that are gathered before they are written.
-pub(crate) const PIECE: usize = 65536;
+pub(crate) const BUFFER_SIZE: usize = 65536;
 
 /// How often a run tries to create a draft while others interfere.
 const TURNS: u32 = 100_000;
@@ -42,7 +42,7 @@ pub(crate) struct Draft<F: Write + Drop> {
 /// A draft that was just created: the file, and by what it is known.
 type Created<F> = (F, FileKey);
 
-impl<F: Write + OpenFile + Held + Drop> Draft<F> {
+impl<F: Write + OpenFile + LockableFile + Drop> Draft<F> {
     /// Begins an empty draft of a name. It is no more open to others than the file that it replaces, if there is one.
     pub(crate) fn begin<R: Files<File = F>>(
         alloc: Global,
@@ -70,7 +70,7 @@ impl<F: Write + OpenFile + Held + Drop> Draft<F> {
             Ok(created) => created,
             Err(error) => return Err(start_fault(&error)),
         };
-        let Ok(out) = BufWriter::with_capacity(alloc, PIECE, out) else {
+        let Ok(out) = BufWriter::with_capacity(alloc, BUFFER_SIZE, out) else {
             let _ = fs::remove_file(files, path.as_str());
             return Err(BinFault::Memory);
         };
@@ -88,10 +88,10 @@ impl<F: Write + OpenFile + Held + Drop> Draft<F> {
         ensures flushed { OnOk result (writer_buffer self.new.out ≡ []) }
     {
         self.out.flush()?;
-        let Some(draft) = seen_as(files, self.path.as_str(), self.file)? else {
+        let Some(draft) = metadata_if_same_file(files, self.path.as_str(), self.file)? else {
             return Err(Error::from(ErrorKind::NotFound));
         };
-        if let Some(replaced) = seen(files, self.name.as_str())? {
+        if let Some(replaced) = metadata_at(files, self.name.as_str())? {
             self.keep_permissions(&draft, &replaced)?;
         }
         fs::rename(files, self.path.as_str(), self.name.as_str())
@@ -124,7 +124,7 @@ impl<F: Write + OpenFile + Held + Drop> Draft<F> {
 }
 
 /// Clears a draft's path, and creates the draft.
-fn created<R: Files<File: Held>>(
+fn created<R: Files<File: LockableFile>>(
     files: &R,
     path: &str,
     how: &OpenOptions,
@@ -139,7 +139,7 @@ fn created<R: Files<File: Held>>(
 }
 
 /// Tries once to create a draft. None: its path was taken and is cleared now, or another run removed the new draft.
-fn created_now<R: Files<File: Held>>(
+fn created_now<R: Files<File: LockableFile>>(
     files: &R,
     path: &str,
     how: &OpenOptions,
@@ -149,7 +149,7 @@ fn created_now<R: Files<File: Held>>(
         Ok(file) => taken(files, path, file),
         Err(error) => match error.kind() {
             ErrorKind::AlreadyExists => {
-                clear(files, path, Standing::of(files, path)?, read)?;
+                clear(files, path, PathEntry::of(files, path)?, read)?;
                 Ok(None)
             }
             _ => Err(error),
@@ -158,7 +158,7 @@ fn created_now<R: Files<File: Held>>(
 }
 
 /// Locks a draft that was just created. Another run may have locked and removed it first, as one that was left.
-fn taken<R: Files<File: Held>>(
+fn taken<R: Files<File: LockableFile>>(
     files: &R,
     path: &str,
     file: R::File,
@@ -178,33 +178,37 @@ fn taken<R: Files<File: Held>>(
 /// The key of an open file, if a path names that file.
 fn key_at<R: Files>(files: &R, path: &str, file: &R::File) -> io::Result<Option<FileKey>> {
     let file = FileKey::of_open(file)?;
-    Ok(seen_as(files, path, file)?.map(|_| file))
+    Ok(metadata_if_same_file(files, path, file)?.map(|_| file))
 }
 
 /// Removes what was left at a draft's path. A folder stays, and so does what the run has read: either is an error.
-fn clear<R: Files<File: Held>>(
+fn clear<R: Files<File: LockableFile>>(
     files: &R,
     path: &str,
-    left: Standing,
+    left: PathEntry,
     read: &BTreeSet<FileKey>,
 ) -> io::Result<()>
-    ensures read { IsRead read.now.keys left → IsErr result }
-    ensures folder { left ≡ Standing.Folder → IsErr result }
+    ensures read { IsReadByRun read.now.keys left → IsErr result }
+    ensures folder { left ≡ PathEntry.Folder → IsErr result }
 {
     if left.is_read(read) {
         return Err(Error::from(ErrorKind::AlreadyExists));
     }
     match left {
-        Standing::Nothing => Ok(()),
-        Standing::Folder => Err(Error::from(ErrorKind::IsADirectory)),
-        Standing::File(file, _) => clear_file(files, path, file),
-        Standing::Link(_) | Standing::Device(_) => remove(files, path),
+        PathEntry::Nothing => Ok(()),
+        PathEntry::Folder => Err(Error::from(ErrorKind::IsADirectory)),
+        PathEntry::File(file, _) => clear_file(files, path, file),
+        PathEntry::Link(_) | PathEntry::Device(_) => remove(files, path),
     }
 }
 
 /// Waits until no run holds a draft, and removes it if it is still there: a run that was killed left it. One that may not be
 /// opened can't be waited for.
-fn clear_file<R: Files<File: Held>>(files: &R, path: &str, left: FileKey) -> io::Result<()> {
+fn clear_file<R: Files<File: LockableFile>>(
+    files: &R,
+    path: &str,
+    left: FileKey,
+) -> io::Result<()> {
     match fs::open(files, path) {
         Ok(file) => {
             let _ = file.lock();
@@ -226,7 +230,7 @@ fn draft_path(alloc: Global, name: &str) -> Result<String, AllocError>
     ensures { IfOk result (λ path. string_bytes path ≡ name.now ++ 127 ∷ []) }
 {
     let mut path = String::from_str(alloc, name)?;
-    path.push_str(DRAFT_SIGN)?;
+    path.push_str(DRAFT_SUFFIX)?;
     Ok(path)
 }
 

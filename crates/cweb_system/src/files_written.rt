@@ -14,7 +14,7 @@ pub(crate) struct FilesWritten {
 }
 
 impl FilesWritten {
-    ghost use Rattle.cweb_system.specs.Written.{written_name};
+    ghost use Rattle.cweb_system.specs.inner.Written.{written_name};
 
     pub(crate) fn new(alloc: Global) -> Self {
         FilesWritten {

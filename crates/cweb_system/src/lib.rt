@@ -11,7 +11,7 @@ mod files_written;
 
 // what is under an output's name, and what the output is then written to
 mod drafts;
-mod standing;
+mod path_entry;
 mod target;
 
 // what is asked of the system
@@ -20,4 +20,4 @@ mod system;
 pub use bins::FolderBins;
 pub use devices::{FolderShelf, StdSink, read_once};
 pub use files_read::FilesRead;
-pub use system::Held;
+pub use system::LockableFile;

@@ -37,7 +37,7 @@ impl FileKey {
 }
 
 /// An open file that can be locked, and whose descriptor is known.
-pub trait Held {
+pub trait LockableFile {
     /// Waits until no other opening of the file holds its lock, and takes it until this one is closed. An error where the
     /// system has no locks for the file.
     fn lock(&self) -> io::Result<()>;
@@ -46,7 +46,7 @@ pub trait Held {
     fn is_stream(&self) -> bool;
 }
 
-impl Held for File {
+impl LockableFile for File {
     /// Over a network the lock of one alone may take a file that is open for writing; to wait, a shared one serves.
     fn lock(&self) -> io::Result<()> {
         match File::lock(self) {
@@ -73,7 +73,7 @@ pub(crate) fn is_stream<R: Files>(files: &R, file: FileKey) -> bool {
 }
 
 /// What is under a path, if anything. A link isn't followed.
-pub(crate) fn seen<R: Files>(files: &R, path: &str) -> io::Result<Option<Metadata>> {
+pub(crate) fn metadata_at<R: Files>(files: &R, path: &str) -> io::Result<Option<Metadata>> {
     match fs::symlink_metadata(files, path) {
         Ok(found) => Ok(Some(found)),
         Err(error) => match error.kind() {
@@ -84,12 +84,12 @@ pub(crate) fn seen<R: Files>(files: &R, path: &str) -> io::Result<Option<Metadat
 }
 
 /// What is under a path, if it is this very file.
-pub(crate) fn seen_as<R: Files>(
+pub(crate) fn metadata_if_same_file<R: Files>(
     files: &R,
     path: &str,
     file: FileKey,
 ) -> io::Result<Option<Metadata>> {
-    match seen(files, path)? {
+    match metadata_at(files, path)? {
         Some(found) if FileKey::of(&found) == file => Ok(Some(found)),
         _ => Ok(None),
     }
@@ -97,7 +97,7 @@ pub(crate) fn seen_as<R: Files>(
 
 /// Whether a path names this very file, or can't be looked up.
 pub(crate) fn may_be_at<R: Files>(files: &R, path: &str, file: FileKey) -> bool {
-    !matches!(seen_as(files, path, file), Ok(None))
+    !matches!(metadata_if_same_file(files, path, file), Ok(None))
 }
 
 /// Removes what is under a path, if anything.
@@ -112,7 +112,7 @@ pub(crate) fn remove<R: Files>(files: &R, path: &str) -> io::Result<()> {
 }
 
 /// Takes the descriptor of a standard stream that is closed, if there is one.
-pub(crate) fn stand_in<R: Files<File: Held>>(files: &R) -> Option<R::File> {
+pub(crate) fn fill_closed_stream<R: Files<File: LockableFile>>(files: &R) -> Option<R::File> {
     match fs::open(files, ROOT) {
         Ok(folder) if folder.is_stream() => Some(folder),
         _ => None,

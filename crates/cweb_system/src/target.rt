@@ -3,10 +3,9 @@ ghost use Rattle.std.specs.Prelude.{◌≡◌, ◌≤◌, ◌<◌, [], length, t
 ghost use Rattle.std.specs.Io.KnownBytes.{Appends};
 
 use crate::devices::write_once;
-use crate::drafts::{Draft, PIECE, start_fault};
-use crate::system::{FileKey, Held};
-use cweb_bins::BinFault;
-use cweb_files::SinkFault;
+use crate::drafts::{BUFFER_SIZE, Draft, start_fault};
+use crate::system::{FileKey, LockableFile};
+use cweb_files::{BinFault, SinkFault};
 use std::alloc::Global;
 use std::fs::{OpenFile, OpenOptions};
 use std::io;
@@ -22,8 +21,8 @@ pub(crate) enum Target<F: Write + Drop> {
     Device(BufWriter<F>),
 }
 
-impl<F: Write + OpenFile + Held + Drop> Target<F> {
-    ghost use Rattle.cweb_system.specs.Devices.{target_bytes, gathered, IsDeviceOpen};
+impl<F: Write + OpenFile + LockableFile + Drop> Target<F> {
+    ghost use Rattle.cweb_system.specs.inner.Devices.{target_bytes, buffered_output_bytes, IsDeviceOpen};
 
     /// Opens a device for writing, if it still is the one that was seen.
     pub(crate) fn open_device<R: Files<File = F>>(
@@ -32,14 +31,14 @@ impl<F: Write + OpenFile + Held + Drop> Target<F> {
         name: &str,
         device: FileKey,
     ) -> Result<Target<F>, BinFault>
-        ensures empty { IfOk result (λ target. gathered target ≡ []) }
+        ensures empty { IfOk result (λ target. buffered_output_bytes target ≡ []) }
         ensures device { IfOk result IsDeviceOpen }
     {
         let file = match opened(files, name, device) {
             Ok(file) => file,
             Err(error) => return Err(start_fault(&error)),
         };
-        match BufWriter::with_capacity(alloc, PIECE, file) {
+        match BufWriter::with_capacity(alloc, BUFFER_SIZE, file) {
             Ok(out) => Ok(Target::Device(out)),
             Err(_) => Err(BinFault::Memory),
         }
@@ -63,14 +62,14 @@ impl<F: Write + OpenFile + Held + Drop> Target<F> {
         ensures { IfErr result (λ fault. fault ≡ BinFault.Device) }
     {
         if self.finish(files).is_err() {
-            self.give_up(files);
+            self.abandon(files);
             return Err(BinFault::Device);
         }
         Ok(())
     }
 
     fn finish<R: Files<File = F>>(&mut self, files: &R) -> io::Result<()>
-        ensures flushed { OnOk result (gathered self.new ≡ []) }
+        ensures flushed { OnOk result (buffered_output_bytes self.new ≡ []) }
     {
         match self {
             Target::Draft(draft) => draft.put_in_place(files),
@@ -79,7 +78,7 @@ impl<F: Write + OpenFile + Held + Drop> Target<F> {
     }
 
     /// Deletes a draft, and closes a device. What was gathered isn't written.
-    pub(crate) fn give_up<R: Files<File = F>>(self, files: &R) {
+    pub(crate) fn abandon<R: Files<File = F>>(self, files: &R) {
         match self {
             Target::Draft(draft) => draft.delete(files),
             Target::Device(out) => {

@@ -25,15 +25,25 @@ pub use Rattle.std.specs.Prelude.{slice_get, slice_index_or, slice_range, bytes_
 pub use Rattle.std.specs.Prelude.{Ok, Err, IfOk, OnErr, nat_eq, filter, fold}
 pub use Rattle.std.specs.declared.alloc.Global.{Global}
 pub use Rattle.std.specs.declared.cmp.Ordering.TheVariants.{Less, Equal, Greater}
-pub use Rattle.cweb_texts.specs.Borders.{AreTold, Bordered, IsTold, first_is, is_high, is_numeric, is_operator, is_told}
-pub use Rattle.cweb_texts.specs.Borders.{last_is, sign_border, sign_by}
-pub use Rattle.cweb_texts.specs.Keys.{AreBytes, short_key, middle_key, long_key}
-pub use Rattle.cweb_texts.specs.PackedTexts.{texts_from, AreEnds, begin_of, IsFromStart, text_bytes, text_at}
-pub use Rattle.cweb_texts.specs.Signs.{IsSign, AreSigns}
-pub use Rattle.cweb_texts.specs.Slots.{Entries, Holds, IsFound, IsWordPlaced, IsInserted, IsTable, slot_is, slot_text}
-pub use Rattle.cweb_texts.specs.Slots.{window_of, word_in, order, AreMapped, AllHold, AreSlots, IsPlaced, free_slot}
-pub use Rattle.cweb_texts.specs.Slots.{is_used, is_alike, slot_words, stands_in}
-pub use Rattle.cweb_texts.specs.Words.{total, with_word, TextsAndWords, KeepsWord, has, texts_and_words, Keeps}
-pub use Rattle.cweb_texts.specs.declared.borders.Border.{Border}
+pub use Rattle.cweb_texts.specs.inner.Edges.{AreStoredEdges, TokenBytesModel, IsStoredEdge, is_high, is_numeric}
+pub use Rattle.cweb_texts.specs.Edges.{first_is}
+pub use Rattle.cweb_texts.specs.Edges.{is_operator}
+pub use Rattle.cweb_texts.specs.inner.Edges.{is_known_edge}
+pub use Rattle.cweb_texts.specs.Edges.{last_is}
+pub use Rattle.cweb_texts.specs.inner.Edges.{punctuator_edge, punctuator_edge_by}
+pub use Rattle.cweb_texts.specs.inner.Keys.{AreBytes, short_key, middle_key, long_key}
+pub use Rattle.cweb_texts.specs.inner.StringLists.{strings_from, AreEnds, string_start, IsFromStart, text_bytes}
+pub use Rattle.cweb_texts.specs.inner.StringLists.{string_at}
+pub use Rattle.cweb_texts.specs.inner.ByteIds.{IsByteId, AreByteIds}
+pub use Rattle.cweb_texts.specs.inner.Slots.{Entries, DescribesString, FindsWordString, FillsWordSlot, IsInserted}
+pub use Rattle.cweb_texts.specs.inner.Slots.{IsTable}
+pub use Rattle.cweb_texts.specs.inner.Slots.{slot_has_word, slot_string}
+pub use Rattle.cweb_texts.specs.inner.Slots.{probe_window, entry_word, compare_vecs, AreMapped, SlotsDescribeStrings}
+pub use Rattle.cweb_texts.specs.inner.Slots.{AreSlots, FillsSlot, free_slot}
+pub use Rattle.cweb_texts.specs.inner.Slots.{is_occupied, slot_matches_key, slot_words, table_has_word}
+pub use Rattle.cweb_texts.specs.surface.StringTables.{total, with_word}
+pub use Rattle.cweb_texts.specs.inner.StringTables.{StringTableModel, InternsWord, has_word, table_model}
+pub use Rattle.cweb_texts.specs.inner.StringTables.{AddsString}
+pub use Rattle.cweb_texts.specs.declared.edges.Edge.{Edge}
 pub use Rattle.cweb_texts.specs.declared.words.key.Key.{Key}
 pub use Rattle.cweb_texts.specs.declared.words.slot.Slot.{Slot}

@@ -1,71 +1,73 @@
 -- Words in the sorted map behind a table.
-use Rattle.cweb_texts.proofs.Common.{arith, ◌≡◌, ℕ, true, false, cond, ◌||◌, List, [], ◌∷◌, ◌++◌, map, Some, None, refl, sym, subst, ◌∙◌, ap, slice_get, bytes_eq, Vec, list_any, lookup, insert_entry, is_eq, nat_cmp, slice_cmp, bytes_decides, Equal, Global, is_eq-slice_cmp, order, Entries, AreMapped, IsInserted, word_in, or_comm}
+use Rattle.cweb_texts.proofs.Common.{arith, ◌≡◌, ℕ, true, false, cond, ◌||◌, List, [], ◌∷◌, ◌++◌, map, Some, None, refl, sym, subst, ◌∙◌, ap, slice_get, bytes_eq, Vec, list_any, lookup, insert_entry, is_eq, nat_cmp, slice_cmp, bytes_decides, Equal, Global, is_eq-slice_cmp, compare_vecs, Entries, AreMapped, IsInserted, entry_word, or_comm}
 use Rattle.cweb_texts.proofs.ListLemmas.{or-assoc}
-use Rattle.cweb_texts.proofs.PackedTextLemmas.{get-grow}
+use Rattle.cweb_texts.proofs.StringListLemmas.{get-grow}
 
-pub mapped-grow : (texts more : List (List ℕ)) (es : Entries) → AreMapped texts es → AreMapped (texts ++ more) es
-mapped-grow texts more [] h = tt
-mapped-grow texts more (e ∷ es) h = (get-grow texts more e.1 e.0.items h.0, mapped-grow texts more es h.1)
+pub mapped-grow : (strings more : List (List ℕ)) (es : Entries) → AreMapped strings es → AreMapped (strings ++ more) es
+mapped-grow strings more [] h = tt
+mapped-grow strings more (e ∷ es) h = (get-grow strings more e.1 e.0.items h.0, mapped-grow strings more es h.1)
 
 same-bytes : (q k : List ℕ) → is_eq (slice_cmp nat_cmp q k) ≡ true → q ≡ k
 same-bytes q k h = (bytes_decides q k).0 (sym (is_eq-slice_cmp q k) ∙ h)
 
 -- a word that a map has is the text that it says
-pub record FoundWord (texts : List (List ℕ)) (q : List ℕ) (es : Entries) (number : ℕ) : Type 0 where
-  pub stands : slice_get texts number ≡ Some q
-  pub among : list_any (bytes_eq q) (map word_in es) ≡ true
+pub record FoundWord (strings : List (List ℕ)) (q : List ℕ) (es : Entries) (number : ℕ) : Type 0 where
+  pub stands : slice_get strings number ≡ Some q
+  pub among : list_any (bytes_eq q) (map entry_word es) ≡ true
 
-pub find-word : (texts : List (List ℕ)) (q : List ℕ) (es : Entries) (number : ℕ)
-    → lookup (λ (k : Vec ℕ Global). is_eq (slice_cmp nat_cmp q k.items)) es ≡ Some number → AreMapped texts es
-    → FoundWord texts q es number
-find-word texts q [] number h m = cc
-find-word texts q (e ∷ es) number h m =
+pub find-word : (strings : List (List ℕ)) (q : List ℕ) (es : Entries) (number : ℕ)
+    → lookup (λ (k : Vec ℕ Global). is_eq (slice_cmp nat_cmp q k.items)) es ≡ Some number → AreMapped strings es
+    → FoundWord strings q es number
+find-word strings q [] number h m = cc
+find-word strings q (e ∷ es) number h m =
     (elim (is_eq (slice_cmp nat_cmp q e.0.items)) as (λ b. is_eq (slice_cmp nat_cmp q e.0.items) ≡ b →
     cond b (Some e.1) (lookup (λ (k : Vec ℕ Global). is_eq (slice_cmp nat_cmp q k.items)) es) ≡ Some number
-    → FoundWord texts q (e ∷ es) number) [
+    → FoundWord strings q (e ∷ es) number) [
       | true ↦ λ is g.
           let place : e.1 ≡ number = cc in
           let same : e.0.items ≡ q = sym (same-bytes q e.0.items is) in
           record {
-            stands = ap (slice_get texts) (sym place) ∙ m.0 ∙ ap Some same;
+            stands = ap (slice_get strings) (sym place) ∙ m.0 ∙ ap Some same;
             among =
-                ap (λ b. b || list_any (bytes_eq q) (map word_in es)) (sym (is_eq-slice_cmp q e.0.items) ∙ is);
+                ap (λ b. b || list_any (bytes_eq q) (map entry_word es)) (sym (is_eq-slice_cmp q e.0.items) ∙ is);
           }
       | false ↦ λ is g.
-          let r = find-word texts q es number g m.1 in
+          let r = find-word strings q es number g m.1 in
           record {
             stands = r.stands;
-            among = ap (λ b. b || list_any (bytes_eq q) (map word_in es)) (sym (is_eq-slice_cmp q e.0.items) ∙ is)
+            among = ap (λ b. b || list_any (bytes_eq q) (map entry_word es)) (sym (is_eq-slice_cmp q e.0.items) ∙ is)
                 ∙ r.among;
           }
     ]) refl h
 
 pub no-word : (q : List ℕ) (es : Entries) → lookup (λ (k : Vec ℕ Global). is_eq (slice_cmp nat_cmp q k.items)) es ≡ None
-    → list_any (bytes_eq q) (map word_in es) ≡ false
+    → list_any (bytes_eq q) (map entry_word es) ≡ false
 no-word q [] h = refl
 no-word q (e ∷ es) h = grind (arith, is_eq-slice_cmp q e.0.items, no-word q es)
 
-equal-key : (key : Vec ℕ Global) (e : Vec ℕ Global × ℕ) → order key e.0 ≡ Equal → key.items ≡ e.0.items
+equal-key : (key : Vec ℕ Global) (e : Vec ℕ Global × ℕ) → compare_vecs key e.0 ≡ Equal → key.items ≡ e.0.items
 equal-key key e is = same-bytes key.items e.0.items (ap is_eq is)
 
 entry-any : (q : List ℕ) (es : Entries) (key : Vec ℕ Global) (number : ℕ)
-    → list_any (bytes_eq q) (map word_in (insert_entry order es key number))
-    ≡ (list_any (bytes_eq q) (map word_in es) || bytes_eq q key.items)
+    → list_any (bytes_eq q) (map entry_word (insert_entry compare_vecs es key number))
+    ≡ (list_any (bytes_eq q) (map entry_word es) || bytes_eq q key.items)
 entry-any q [] key number = or_comm (bytes_eq q key.items) false
 entry-any q (e ∷ es) key number = grind (arith, equal-key key e, entry-any q es key number, or-assoc)
 
-entry-mapped : (texts : List (List ℕ)) (es : Entries) (key : Vec ℕ Global) (number : ℕ)
-    → slice_get texts number ≡ Some key.items → AreMapped texts es → AreMapped texts (insert_entry order es key number)
-entry-mapped texts [] key number stands m = (stands, tt)
-entry-mapped texts (e ∷ es) key number stands m =
-    grind (arith, equal-key key e, entry-mapped texts es key number stands m.1)
+entry-mapped : (strings : List (List ℕ)) (es : Entries) (key : Vec ℕ Global) (number : ℕ)
+    → slice_get strings number ≡ Some key.items → AreMapped strings es
+    → AreMapped strings (insert_entry compare_vecs es key number)
+entry-mapped strings [] key number stands m = (stands, tt)
+entry-mapped strings (e ∷ es) key number stands m =
+    grind (arith, equal-key key e, entry-mapped strings es key number stands m.1)
 
 -- a word that was put into a map
 pub insert-any : (q word : List ℕ) (es new : Entries) (number : ℕ) → IsInserted es word number new
-    → list_any (bytes_eq q) (map word_in new) ≡ (list_any (bytes_eq q) (map word_in es) || bytes_eq q word)
+    → list_any (bytes_eq q) (map entry_word new) ≡ (list_any (bytes_eq q) (map entry_word es) || bytes_eq q word)
 insert-any q word es new number put = cc (entry-any q es put.key number)
 
-pub insert-mapped : (texts : List (List ℕ)) (word : List ℕ) (es new : Entries) (number : ℕ)
-    → slice_get texts number ≡ Some word → AreMapped texts es → IsInserted es word number new → AreMapped texts new
-insert-mapped texts word es new number stands m put =
-    subst (AreMapped texts) (sym put.now) (entry-mapped texts es put.key number (stands ∙ ap Some (sym put.is)) m)
+pub insert-mapped : (strings : List (List ℕ)) (word : List ℕ) (es new : Entries) (number : ℕ)
+    → slice_get strings number ≡ Some word → AreMapped strings es → IsInserted es word number new
+    → AreMapped strings new
+insert-mapped strings word es new number stands m put =
+    subst (AreMapped strings) (sym put.now) (entry-mapped strings es put.key number (stands ∙ ap Some (sym put.is)) m)

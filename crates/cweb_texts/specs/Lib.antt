@@ -1,6 +1,3 @@
-pub mod Borders
-pub mod PackedTexts
-pub mod Keys
-pub mod Slots
-pub mod Words
-pub mod Signs
+pub mod Edges
+pub mod surface
+pub mod inner

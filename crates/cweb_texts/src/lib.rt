@@ -2,10 +2,10 @@
 #![tactic(auto)]
 
 // what a text is to those beside it
-mod borders;
+mod edges;
 
 // texts in one list of bytes
-mod texts;
+mod strings;
 
 // that list, as slices
 mod slices;
@@ -14,11 +14,11 @@ mod slices;
 mod words;
 
 // texts, words and signs
-mod kept;
+mod string_table;
 
-pub use borders::{Border, LentText, has_high_byte, sign_border};
-pub use kept::KeptTexts;
-pub use slices::TextSlices;
-pub use texts::PackedTexts;
-pub use words::key::{Key, byte_at, home};
-pub use words::slot::know_bytes;
+pub use edges::{Edge, TokenBytes, has_high_byte, punctuator_edge};
+pub use slices::StringSlices;
+pub use string_table::StringTable;
+pub use strings::StringList;
+pub use words::key::{Key, byte_at, home_bucket};
+pub use words::slot::establish_byte_range;

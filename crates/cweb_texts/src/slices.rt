@@ -1,51 +1,52 @@
 // The lists that texts stand in, as slices.
 
 ghost use Rattle.std.specs.Prelude.{◌≡◌, ◌<◌, ◌+◌, List, ℕ, length, slice_get, Some};
-ghost use Rattle.cweb_texts.specs.Borders.{IsTold};
+ghost use Rattle.cweb_texts.specs.inner.Edges.{IsStoredEdge};
 
-use crate::borders::Border;
+use crate::edges::Edge;
 use std::marker::Model;
 
 /// Texts, numbered from 0, as slices of what is kept of them.
 #[derive(Drop)]
-pub struct TextSlices<'a> {
+pub struct StringSlices<'a> {
     pub(crate) bytes: &'a [u8],
-    pub(crate) limits: &'a [usize],
-    pub(crate) borders: &'a [Border],
+    pub(crate) offsets: &'a [usize],
+    pub(crate) edges: &'a [Edge],
 }
 
-impl<'a> Model for TextSlices<'a> {
+impl<'a> Model for StringSlices<'a> {
     ghost use Rattle.std.specs.Prelude.{List, ℕ, drop};
 
     ghost Value = { List (List ℕ) };
 
-    ghost use Rattle.cweb_texts.specs.PackedTexts.{texts_from, AreKeptTexts};
+    ghost use Rattle.cweb_texts.specs.inner.StringLists.{strings_from, IsStringList};
 
-    ghost view = { λ s. texts_from s.bytes.now 0 (drop 1 s.limits.now) };
+    ghost view = { λ s. strings_from s.bytes.now 0 (drop 1 s.offsets.now) };
 
-    ghost invariant = { λ s. AreKeptTexts s.bytes.now s.limits.now s.borders.now };
+    ghost invariant = { λ s. IsStringList s.bytes.now s.offsets.now s.edges.now };
 }
 
-impl<'a> TextSlices<'a> {
+impl<'a> StringSlices<'a> {
     /// The text with a number.
     #[inline(always)]
-    pub fn text(&self, number: usize) -> &'a [u8]
+    pub fn string(&self, number: usize) -> &'a [u8]
         requires { number < length self.now }
         ensures { slice_get self.now number ≡ Some result.now }
     {
         // the next number is at most this, so that it fits
-        let _limits = self.limits.len();
-        let begin = self.limits[number];
-        let end = self.limits[number + 1];
+        let _offsets = self.offsets.len();
+        let begin = self.offsets[number];
+        let end = self.offsets[number + 1];
         &self.bytes[begin..end]
     }
 
     /// What is kept of the border of the text with a number.
     #[inline(always)]
-    pub fn border(&self, number: usize) -> Border
+    pub fn edge(&self, number: usize) -> Edge
         requires { number < length self.now }
-        ensures { (text : List ℕ) → slice_get self.now number ≡ Some text → IsTold text result }
+        ensures { (string : List ℕ) → slice_get self.now number ≡ Some string
+            → IsStoredEdge string result }
     {
-        self.borders[number]
+        self.edges[number]
     }
 }

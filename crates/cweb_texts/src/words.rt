@@ -5,13 +5,13 @@ pub mod key;
 pub mod slot;
 
 ghost use Rattle.std.specs.Prelude.{◌≡◌, false, List, ℕ, IfOk, OnErr};
-ghost use Rattle.cweb_texts.specs.Keys.{key_of};
-ghost use Rattle.cweb_texts.specs.Words.{Keeps, KeepsWord, has, none_kept};
+ghost use Rattle.cweb_texts.specs.inner.Keys.{key_of};
+ghost use Rattle.cweb_texts.specs.inner.StringTables.{AddsString, InternsWord, has_word, empty_table};
 
-use crate::texts::PackedTexts;
-use crate::words::growth::{insert_word, spread_wider};
+use crate::strings::StringList;
+use crate::words::growth::{insert_word, rehash_larger};
 use crate::words::key::Key;
-use crate::words::slot::{Slot, find_slot, first_slot, free_slots, place_word, window_of};
+use crate::words::slot::{Slot, find_slot, first_slot, free_slots, place_word, probe_window};
 use std::alloc::{AllocError, Global};
 use std::collections::BTreeMap;
 use std::marker::Model;
@@ -22,33 +22,33 @@ const FIRST_SLOTS: usize = 64;
 /// Texts, and the numbers of the words among them. A word stands in a slot, or in a sorted map where the slots of its
 /// window have other words: so no choice of words makes this slow.
 #[derive(Drop)]
-pub struct WordTexts {
+pub struct WordInterner {
     alloc: Global,
-    texts: PackedTexts,
+    strings: StringList,
     slots: Vec<Slot>,
     // how many more words slots take before there are more of them
     room: usize,
     words: BTreeMap<Vec<u8>, usize>,
 }
 
-impl Model for WordTexts {
-    ghost use Rattle.cweb_texts.specs.Slots.{IsTable};
-    ghost use Rattle.cweb_texts.specs.Words.{TextsAndWords, texts_and_words};
+impl Model for WordInterner {
+    ghost use Rattle.cweb_texts.specs.inner.Slots.{IsTable};
+    ghost use Rattle.cweb_texts.specs.inner.StringTables.{StringTableModel, table_model};
 
-    ghost Value = { TextsAndWords };
+    ghost Value = { StringTableModel };
 
-    ghost view = { λ s. texts_and_words s.texts s.slots.items s.words.entries };
+    ghost view = { λ s. table_model s.strings s.slots.items s.words.entries };
 
-    ghost invariant = { λ s. IsTable s.texts s.slots.items s.words.entries };
+    ghost invariant = { λ s. IsTable s.strings s.slots.items s.words.entries };
 }
 
-impl WordTexts {
-    pub fn new(alloc: Global) -> WordTexts
-        ensures { result ≡ none_kept }
+impl WordInterner {
+    pub fn new(alloc: Global) -> WordInterner
+        ensures { result ≡ empty_table }
     {
-        WordTexts {
+        WordInterner {
             alloc,
-            texts: PackedTexts::new(alloc),
+            strings: StringList::new(alloc),
             slots: Vec::new(alloc),
             room: 0,
             words: BTreeMap::new(alloc),
@@ -56,51 +56,51 @@ impl WordTexts {
     }
 
     /// Keeps a text, and answers its number. A refused call changes nothing.
-    pub fn keep(&mut self, text: &[u8]) -> Result<usize, AllocError>
-        ensures ok { IfOk result (λ number. Keeps self.old text.now number self.new) }
+    pub fn add_string(&mut self, string: &[u8]) -> Result<usize, AllocError>
+        ensures ok { IfOk result (λ number. AddsString self.old string.now number self.new) }
         ensures err { OnErr result (self.new ≡ self.old) }
     {
-        let number = self.texts.add(text)?;
+        let number = self.strings.add(string)?;
         Ok(number)
     }
 
     /// Keeps a word, unless it was kept as a word before. A refused call changes nothing.
-    pub fn keep_word(&mut self, word: &[u8]) -> Result<usize, AllocError>
-        ensures ok { IfOk result (λ number. KeepsWord self.old word.now number self.new) }
+    pub fn intern_word(&mut self, word: &[u8]) -> Result<usize, AllocError>
+        ensures ok { IfOk result (λ number. InternsWord self.old word.now number self.new) }
         ensures err { OnErr result (self.new ≡ self.old) }
     {
-        if let Some(number) = first_slot(&self.texts, self.slots.as_slice(), word) {
+        if let Some(number) = first_slot(&self.strings, self.slots.as_slice(), word) {
             return Ok(number);
         }
-        self.look_up(word)
+        self.intern_uncached(word)
     }
 
     // Keeps a word that the first slot of its window may not have.
     #[inline(never)]
-    fn look_up(&mut self, word: &[u8]) -> Result<usize, AllocError>
-        ensures ok { IfOk result (λ number. KeepsWord self.old word.now number self.new) }
+    fn intern_uncached(&mut self, word: &[u8]) -> Result<usize, AllocError>
+        ensures ok { IfOk result (λ number. InternsWord self.old word.now number self.new) }
         ensures err { OnErr result (self.new ≡ self.old) }
     {
         let key = Key::of(word);
-        let window = window_of(self.slots.as_slice(), key);
-        if let Some(number) = find_slot(&self.texts, window, key, word) {
+        let window = probe_window(self.slots.as_slice(), key);
+        if let Some(number) = find_slot(&self.strings, window, key, word) {
             return Ok(number);
         }
         if let Some(number) = self.words.get(word).copied() {
             return Ok(number);
         }
-        self.keep_new(key, word)
+        self.add_new_word(key, word)
     }
 
     // Keeps a word that wasn't kept before.
-    fn keep_new(&mut self, key: Key, word: &[u8]) -> Result<usize, AllocError>
+    fn add_new_word(&mut self, key: Key, word: &[u8]) -> Result<usize, AllocError>
         requires key { key ≡ key_of word.now }
-        requires absent { has self.old word.now ≡ false }
-        ensures ok { IfOk result (λ number. KeepsWord self.old word.now number self.new) }
+        requires absent { has_word self.old word.now ≡ false }
+        ensures ok { IfOk result (λ number. InternsWord self.old word.now number self.new) }
         ensures err { OnErr result (self.new ≡ self.old) }
     {
         self.begin();
-        let number = self.put_new(key, word)?;
+        let number = self.place_new_word(key, word)?;
         if self.room == 0 {
             self.grow();
         }
@@ -108,19 +108,19 @@ impl WordTexts {
     }
 
     // Puts a word that wasn't kept before into a slot, or into the map.
-    fn put_new(&mut self, key: Key, word: &[u8]) -> Result<usize, AllocError>
+    fn place_new_word(&mut self, key: Key, word: &[u8]) -> Result<usize, AllocError>
         requires key { key ≡ key_of word.now }
-        requires absent { has self.old word.now ≡ false }
-        ensures ok { IfOk result (λ number. KeepsWord self.old word.now number self.new) }
+        requires absent { has_word self.old word.now ≡ false }
+        ensures ok { IfOk result (λ number. InternsWord self.old word.now number self.new) }
         ensures err { OnErr result (self.new ≡ self.old) }
     {
-        let number = self.texts.add_word(word)?;
+        let number = self.strings.add_word(word)?;
         if place_word(&mut self.slots, key, number, word.len()) {
             self.room = self.room.saturating_sub(1);
             return Ok(number);
         }
         if let Err(refusal) = insert_word(self.alloc, &mut self.words, word, number) {
-            self.texts.truncate(number);
+            self.strings.truncate(number);
             return Err(refusal);
         }
         Ok(number)
@@ -141,35 +141,35 @@ impl WordTexts {
 
     // Makes twice as many slots, if memory is there: a third of them may have words before they grow again.
     fn grow(&mut self)
-        ensures texts { self.new.texts ≡ self.old.texts }
-        ensures words { (q : List ℕ) → has self.new q ≡ has self.old q }
+        ensures strings { self.new.strings ≡ self.old.strings }
+        ensures words { (q : List ℕ) → has_word self.new q ≡ has_word self.old q }
     {
         let more = self.slots.len() / 3;
         let old = self.slots.as_slice();
-        if let Ok(slots) = spread_wider(self.alloc, &self.texts, old, &mut self.words) {
+        if let Ok(slots) = rehash_larger(self.alloc, &self.strings, old, &mut self.words) {
             self.slots = slots;
             self.room = more;
         }
     }
 
     /// The texts.
-    pub fn texts(&self) -> &PackedTexts
-        ensures { result.now ≡ self.now.texts }
+    pub fn strings(&self) -> &StringList
+        ensures { result.now ≡ self.now.strings }
     {
-        &self.texts
+        &self.strings
     }
 
     /// The texts, whose words are no longer looked for.
-    pub fn close(self) -> PackedTexts
-        ensures { result ≡ self.texts }
+    pub fn close(self) -> StringList
+        ensures { result ≡ self.strings }
     {
-        let WordTexts {
+        let WordInterner {
             alloc: _,
-            texts,
+            strings,
             slots: _,
             room: _,
             words: _,
         } = self;
-        texts
+        strings
     }
 }

@@ -24,103 +24,144 @@ pub use Rattle.cweb_files.specs.Files.{without_draft}
 pub use Rattle.cweb_files.specs.declared.device.SinkFault.{SinkFault}
 pub use Rattle.cweb_files.specs.declared.place.FileId.{FileId}
 pub use Rattle.cweb_files.specs.declared.place.Place.{Place}
-pub use Rattle.cweb_lines.specs.Finding.{names_found, text_found}
-pub use Rattle.cweb_lines.specs.Include.{World, Found, web_at, change_at}
-pub use Rattle.cweb_lines.specs.Lines.{Line, SourceLine}
-pub use Rattle.cweb_lines.specs.Merge.{Event, took, given, opening, State, run, started}
-pub use Rattle.cweb_lines.specs.Merging.{SoFar, Gives, StopsBehind, TellsFront}
-pub use Rattle.cweb_lines.specs.Names.{names_of}
-pub use Rattle.cweb_lines.specs.Naming.{blame}
-pub use Rattle.cweb_lines.specs.Texts.{read_blame, Count, StartStops, files_named, StopsReading, StopsFor}
-pub use Rattle.cweb_lines.specs.Told.{given_lines, told_faults, openings, taken_lines, IsWithinLimits, AreShort}
-pub use Rattle.cweb_lines.specs.Total.{merge, merge-run}
-pub use Rattle.cweb_lines.specs.Whole.{Begins, StopsAtStart, so_far}
-pub use Rattle.cweb_lines.specs.Writing.{StopsWriting, WritingStops, WritesFront, write_blame, BreaksLimit}
-pub use Rattle.cweb_lines.specs.Writing.{begun_with, text_of}
-pub use Rattle.cweb_open.specs.declared.fault.SourceFault.{SourceFault}
-pub use Rattle.cweb_open.specs.declared.fault.SourceKind.{SourceKind}
-pub use Rattle.cweb_open.specs.declared.fault.SourceKind.TheVariants.{Unequal, NotThere}
-pub use Rattle.cweb_open.specs.declared.files.FileNames.{FileNames}
-pub use Rattle.cweb_open.specs.declared.limits.TheConstants.{LINES, BYTES}
-pub use Rattle.cweb_source.specs.declared.limits.TheConstants.{LINE_LENGTH}
-pub use Rattle.cweb_open.specs.declared.stop.Stop.{Stop}
-pub use Rattle.cweb_open.specs.declared.stop.Stop.TheVariants.{LogFault, Memory, Usage, WebNotOpened, ChangeNotOpened}
-pub use Rattle.cweb_open.specs.declared.stop.Stop.TheVariants.{ReadFault, LineTooLong, TooMuchText, OutNotOpened}
-pub use Rattle.cweb_open.specs.declared.stop.Stop.TheVariants.{WriteFault}
-pub use Rattle.cweb_log.specs.Gathering.{Logs, Writes}
-pub use Rattle.cweb_log.specs.Items.{line, Item, counted_text, fault_count, is_fault, source_item, fault, starred}
+pub use Rattle.cweb_input.specs.Finding.{names_found, contents_found}
+pub use Rattle.cweb_input.specs.Include.{World, Found, web_at, change_at}
+pub use Rattle.cweb_input.specs.Lines.{Line, SourceLine}
+pub use Rattle.cweb_lines.specs.Merge.{Event, took, given, opening, MergeStateModel, run_steps, started}
+pub use Rattle.cweb_lines.specs.MergeProgress.{SoFar, EmitsLines, StopsAfterLines}
+pub use Rattle.cweb_lines.specs.surface.MergeProgress.{ReportsPrefix}
+pub use Rattle.cweb_input.specs.surface.OpenedFileNames.{opened_file_names}
+pub use Rattle.cweb_input.specs.ReaderNames.{blame}
+pub use Rattle.cweb_input.specs.OpenSources.{read_failures_of, TakenCountersModel, files_named}
+pub use Rattle.cweb_input.specs.surface.OpenSources.{StartStops}
+pub use Rattle.cweb_input.specs.surface.OpenSources.{StopsReading}
+pub use Rattle.cweb_input.specs.surface.OpenSources.{StopsFor}
+pub use Rattle.cweb_lines.specs.EventsByKind.{emitted_lines, reported_faults, openings, taken_lines, IsWithinLimits}
+pub use Rattle.cweb_lines.specs.EventsByKind.{AreShort}
+pub use Rattle.cweb_lines.specs.Total.{merge}
+pub use Rattle.cweb_lines.specs.inner.Total.{merge-run_steps}
+pub use Rattle.cweb_lines.specs.surface.MergerCalls.{BeginsMerge, StopsAtStart, so_far}
+pub use Rattle.cweb_lines.specs.surface.Writing.{StopsWriting, WritingStops}
+pub use Rattle.cweb_files.specs.Frames.{WritesPrefix}
+pub use Rattle.cweb_lines.specs.Writing.{write_failures_of, BreaksLimit}
+pub use Rattle.cweb_lines.specs.Writing.{begun_with, written_lines}
+pub use Rattle.cweb_input.specs.declared.fault.SourceFault.{SourceFault}
+pub use Rattle.cweb_input.specs.declared.fault.SourceKind.{SourceKind}
+pub use Rattle.cweb_input.specs.declared.fault.SourceKind.TheVariants.{Unequal, NotThere}
+pub use Rattle.cweb_input.specs.declared.files.FileNames.{FileNames}
+pub use Rattle.cweb_input.specs.declared.limits.TheConstants.{LINES, BYTES}
+pub use Rattle.cweb_input.specs.declared.limits.TheConstants.{LINE_LENGTH}
+pub use Rattle.cweb_input.specs.declared.stop.Stop.{Stop}
+pub use Rattle.cweb_input.specs.declared.stop.Stop.TheVariants.{LogFault, Memory, Usage, WebNotOpened, ChangeNotOpened}
+pub use Rattle.cweb_input.specs.declared.stop.Stop.TheVariants.{ReadFault, LineTooLong, TooMuchText, OutNotOpened}
+pub use Rattle.cweb_input.specs.declared.stop.Stop.TheVariants.{WriteFault}
+pub use Rattle.cweb_log.specs.LogWriting.{Logs}
+pub use Rattle.cweb_log.specs.inner.LogWriting.{WritesToStream}
+pub use Rattle.cweb_log.specs.Items.{line, LogItem, message_with_count, fault_count, is_fault, source_item, fault}
+pub use Rattle.cweb_log.specs.Items.{starred}
 pub use Rattle.cweb_log.specs.Items.{located, banner, closing, faults, no_errors, no_text, see_warning, stopped}
-pub use Rattle.cweb_log.specs.Log.{stop_line, start_subject, subject, count_end, fault_line, fault_lines, kind_text}
-pub use Rattle.cweb_log.specs.Log.{located_line, name_at}
-pub use Rattle.cweb_log.specs.Options.{Asked, options_by, shown_by_default, options_of}
-pub use Rattle.cweb_log.specs.Seen.{SeenBins, SeenRun, SeenShelf, SeenStream, Seen, Tell, seen_bins, seen_stream}
-pub use Rattle.cweb_log.specs.Seen.{seen_shelf, seen_run}
-pub use Rattle.cweb_log.specs.WebItems.{name_item, name_items, scan_item, scan_items, plan_item, refusal_text}
-pub use Rattle.cweb_log.specs.Words.{WebNames, asked_by}
+pub use Rattle.cweb_log.specs.Log.{stop_line, count_suffix, fault_line, fault_lines}
+pub use Rattle.cweb_log.specs.inner.Log.{start_subject, subject}
+pub use Rattle.cweb_log.specs.Log.{kind_message}
+pub use Rattle.cweb_log.specs.Log.{located_line, file_name_at}
+pub use Rattle.cweb_log.specs.Options.{OptionsModel, options_by, shown_by_default}
+pub use Rattle.cweb_log.specs.surface.Options.{options_of}
+pub use Rattle.cweb_log.specs.DeviceModels.{BinsModel, TangleDevices, ShelfModel, StreamModel, MergeDevices}
+pub use Rattle.cweb_log.specs.DeviceModels.{AreObservable, bins_model, stream_model}
+pub use Rattle.cweb_log.specs.DeviceModels.{shelf_model, tangle_devices}
+pub use Rattle.cweb_log.specs.WebItems.{name_item, name_items, scan_item, scan_items, refusal_message}
+pub use Rattle.cweb_log.specs.inner.WebItems.{plan_item}
+pub use Rattle.cweb_log.specs.Words.{WebNames, web_names_by}
 pub use Rattle.cweb_log.specs.declared.shown.Shown.{Shown}
-pub use Rattle.cweb_out.specs.Expansion.{expand, name_text, put, text_for}
-pub use Rattle.cweb_out.specs.Frames.{left}
-pub use Rattle.cweb_print.specs.Gathering.{PrintsFront}
-pub use Rattle.cweb_out.specs.Outputs.{defs_first, root_list, IsPlanOf, Planned, name_of, output_at, root_at, Refusal}
+pub use Rattle.cweb_out.specs.Expansion.{expand, expanded_name, put, tokens_for}
+pub use Rattle.cweb_out.specs.surface.FrameStacks.{left}
+pub use Rattle.cweb_print.specs.inner.BufferedPrinting.{PrintsPrefix}
+pub use Rattle.cweb_out.specs.Outputs.{defs_first, root_list, Planned}
+pub use Rattle.cweb_out.specs.surface.Outputs.{IsPlanOf, output_name_at, output_at, root_at}
+pub use Rattle.cweb_out.specs.Outputs.{Refusal}
 pub use Rattle.cweb_out.specs.Outputs.{bad_name, same_name, cycle, Output}
-pub use Rattle.cweb_out.specs.Planning.{IsDue}
-pub use Rattle.cweb_print.specs.Printed.{Adds, Moves, Prints, kept_of, setting_of}
-pub use Rattle.cweb_print.specs.Printers.{IsNamed, setting}
-pub use Rattle.cweb_print.specs.Printing.{Setting, file, print, print_after, file_text, word_text, kept}
-pub use Rattle.cweb_print.specs.Spacing.{sep, are_apart, is_operator, last_is}
-pub use Rattle.cweb_out.specs.Uses.{joined, names, program, stands}
+pub use Rattle.cweb_out.specs.surface.Planning.{IsExpectedFault}
+pub use Rattle.cweb_print.specs.surface.Printed.{AddsBytes, Moves, PrintsToken, left_in_printer, setting_of}
+pub use Rattle.cweb_print.specs.surface.Printers.{MarkFileIsNamed}
+pub use Rattle.cweb_print.specs.Printers.{setting}
+pub use Rattle.cweb_print.specs.Printing.{Setting, file, print, print_after, file_token_bytes, word_bytes}
+pub use Rattle.cweb_print.specs.Printing.{without_joined_layout}
+pub use Rattle.cweb_print.specs.Spacing.{sep, are_apart}
+pub use Rattle.cweb_texts.specs.Edges.{is_operator, last_is}
+pub use Rattle.cweb_out.specs.Uses.{joined, names, program, resolved_use}
 pub use Rattle.cweb_out.specs.declared.expander.Expander.{Expander}
-pub use Rattle.cweb_plan.specs.declared.fault.PlanFault.{PlanFault}
-pub use Rattle.cweb_plan.specs.declared.fault.PlanFault.TheVariants.{Cycle, SameName, BadName}
+pub use Rattle.cweb_out.specs.declared.outputs.fault.PlanFault.{PlanFault}
+pub use Rattle.cweb_out.specs.declared.outputs.fault.PlanFault.TheVariants.{Cycle, SameName, BadName}
 pub use Rattle.cweb_print.specs.declared.printer.Printer.{Printer}
 pub use Rattle.cweb_rules.specs.Bytes.{first_is, is_one_of, is_digit, is_letter, is_word_byte, is_white}
-pub use Rattle.cweb_rules.specs.Follows.{is_quiet, after_word, after_number, joins_last, JoinsAll, begins_as}
-pub use Rattle.cweb_rules.specs.Items.{text_in}
+pub use Rattle.cweb_rules.specs.laws.Follows.{is_quiet, after_word, after_number, joins_last, JoinsAll, begins_as}
+pub use Rattle.cweb_rules.specs.Items.{unescaped}
 pub use Rattle.cweb_rules.specs.Kinds.{Quoted, Numeral, Punctuator, Code, Kind}
 pub use Rattle.cweb_rules.specs.declared.context.Context.TheVariants.{CText}
 pub use Rattle.cweb_rules.specs.declared.effect.Effect.{Effect}
-pub use Rattle.cweb_rules.specs.declared.effect.Effect.TheVariants.{GiveAt, Nothing, Define, Format, Program, Named}
+pub use Rattle.cweb_rules.specs.declared.effect.Effect.TheVariants.{EmitAt, Nothing, Define, Format, Program, Named}
 pub use Rattle.cweb_rules.specs.declared.effect.Effect.TheVariants.{InsertDefs, Joins, Faulty}
 pub use Rattle.cweb_rules.specs.declared.end.End.{End}
 pub use Rattle.cweb_rules.specs.declared.end.End.TheVariants.{Closed, Cut, Nested, Open}
-pub use Rattle.cweb_scanner.specs.After.{Reading}
-pub use Rattle.cweb_scan.specs.Alone.{InPlainC, HasRead, IsRead, ReadsAlone, solid, is_between, doubled, at_doubled}
-pub use Rattle.cweb_scan.specs.Alone.{is_hash, bytes_of, goes_on, token_of, literal_of, is_clean}
-pub use Rattle.cweb_scanner.specs.Run.{Scanned, scanned}
-pub use Rattle.cweb_scanner.specs.Seen.{seen}
-pub use Rattle.cweb_scan.specs.Scan.{IsMarkBelow, EndsEarly, Scans, StopsAfter}
-pub use Rattle.cweb_scanner.specs.State.{before_text, part_tokens}
+pub use Rattle.cweb_scan.specs.After.{Reading}
+pub use Rattle.cweb_scan.specs.Alone.{InPlainC, HasReadTokens, ReadsAlone, significant, is_insignificant}
+pub use Rattle.cweb_scan.specs.laws.Alone.{IsReadAs}
+pub use Rattle.cweb_scan.specs.Alone.{doubled, at_doubled}
+pub use Rattle.cweb_scan.specs.Alone.{is_hash, spelling_of, token_of, literal_token, is_clean}
+pub use Rattle.cweb_scan.specs.laws.Alone.{continues_token}
+pub use Rattle.cweb_scan.specs.Lexemes.{Scanned, scanned}
+pub use Rattle.cweb_scan.specs.surface.ScannedModel.{scanned_model}
+pub use Rattle.cweb_scan.specs.surface.Scan.{IsMarkBelow, ScanEndsEarly, Scans, StopsAfter}
+pub use Rattle.cweb_scan.specs.State.{start_state, open_part_tokens}
 pub use Rattle.cweb_store.specs.Calls.{Stored, empty, with_open}
-pub use Rattle.cweb_store.specs.Parts.{Part, is_macro, numbers_from, numbers_where, Token, Mark, Name, Defs, all_tokens}
+pub use Rattle.cweb_store.specs.Parts.{Part, is_macro, Token, Mark, Name, Defs, all_tokens}
+pub use Rattle.cweb_store.specs.surface.Parts.{numbers_from, numbers_where}
 pub use Rattle.cweb_store.specs.Parts.{is_of, is_unnamed, Word, Number, Literal, Verbatim, Punct, Blank, Newline, Join}
 pub use Rattle.cweb_store.specs.Parts.{Head, Tail}
 pub use Rattle.cweb_names.specs.declared.name.NameId.{NameId}
-pub use Rattle.cweb_parts.specs.declared.parts.PartKind.{PartKind}
-pub use Rattle.cweb_tools.specs.Acts.{Held, Act, judges, says, opens, reads, plans, reserves, writes, after_act, Runs}
-pub use Rattle.cweb_tools.specs.Acts.{Breaks, Ending, ending, TangleEnds, completes, stops, LogsLine, LogsStop, ended}
-pub use Rattle.cweb_tools.specs.Acts.{IsOfFile, read_fails, FailsLog, bins_fail, given_up, not_begun}
-pub use Rattle.cweb_tools.specs.Course.{Course, merging, asked_course, change_name, found_course, merged, usage}
-pub use Rattle.cweb_tools.specs.Course.{fault_status, StaysWithin, course_of, merge_log, merge_status, world_of}
-pub use Rattle.cweb_tools.specs.Does.{AsTold, Closes, ClosesLog, Does, DoesInBins, DoesInBoth, DoesInLog, bins_blame}
-pub use Rattle.cweb_tools.specs.Does.{done, halted, log_blame, rise, told, ClosesInBoth, ClosesInLog, LogsEnding}
-pub use Rattle.cweb_tools.specs.Does.{Follows, held}
-pub use Rattle.cweb_tools.specs.Expanders.{PrintsSoFar, StaysReady, left_in, AreMarksBelow, IsReady, ended_at, file_at}
-pub use Rattle.cweb_tools.specs.Expanders.{files_due}
+pub use Rattle.cweb_store.specs.declared.parts.PartKind.{PartKind}
+pub use Rattle.cweb_tools.specs.Acts.{DeviceState, Act, judges, says, opens, reads, plans, reserves, writes, after_act}
+pub use Rattle.cweb_tools.specs.Acts.{PerformsActs}
+pub use Rattle.cweb_tools.specs.Acts.{Breaks, Ending, ending, TangleEnds, completes, stops, LogsLine, LogsStop}
+pub use Rattle.cweb_tools.specs.inner.Acts.{ending_of}
+pub use Rattle.cweb_tools.specs.Acts.{IsOfFile, read_fails, FailsLog, bins_fail, abandon_draft, begin_fails}
+pub use Rattle.cweb_tools.specs.Course.{Course, merging, merge_course, change_name, found_course, merged, usage}
+pub use Rattle.cweb_tools.specs.Course.{fault_status, MergeKeepsLimits, merge_log, merge_status, world_of}
+pub use Rattle.cweb_tools.specs.inner.Course.{course_of}
+pub use Rattle.cweb_tools.specs.Does.{AgreesWith}
+pub use Rattle.cweb_tools.specs.inner.Does.{Closes, ClosesLog, Does, DoesInBins, DoesInBoth, DoesInLog}
+pub use Rattle.cweb_tools.specs.Does.{bins_blame}
+pub use Rattle.cweb_tools.specs.inner.Does.{done, halted, log_blame, rise, log_ending, ClosesInBoth, ClosesInLog}
+pub use Rattle.cweb_tools.specs.inner.Does.{LogsEnding}
+pub use Rattle.cweb_tools.specs.inner.Does.{FollowsCourse, observed_state}
+pub use Rattle.cweb_tools.specs.inner.Expanders.{PrintsSoFar, StaysReady, left_in, AreMarksBelow, IsReady}
+pub use Rattle.cweb_tools.specs.inner.Expanders.{output_ending}
+pub use Rattle.cweb_tools.specs.inner.Expanders.{file_at}
+pub use Rattle.cweb_tools.specs.inner.Expanders.{planned_files}
 pub use Rattle.cweb_tools.specs.Leaves.{put_files, LeavesFiles}
-pub use Rattle.cweb_tools.specs.Run.{about, AreOpened, CanStop, Comes, Ends, Merges, Refuses, HasMerged}
-pub use Rattle.cweb_tools.specs.Headline.{IsMerge, IsTangle, KeepsLimits, MergesFreely, RanFreely, TangledFreely}
-pub use Rattle.cweb_tools.specs.Headline.{TanglesFreely, TellAll}
-pub use Rattle.cweb_tools.specs.Run.{Blames, Completes, FailsOnce, Promises, TellsFaults}
-pub use Rattle.cweb_tools.specs.Script.{files_in, items_in, Numbers, closing_acts, unread, not_there, change_not_there}
+pub use Rattle.cweb_tools.specs.MergePromises.{about, AreOpened, CanStop, Comes, MergeEnds, Merges, RefusesArgs}
+pub use Rattle.cweb_tools.specs.MergePromises.{HasMerged}
+pub use Rattle.cweb_tools.specs.Headline.{IsMerge, IsTangle, TangleKeepsLimits, MergesFreely, MergeRanFreely}
+pub use Rattle.cweb_tools.specs.Headline.{TangleRanFreely}
+pub use Rattle.cweb_tools.specs.Headline.{TanglesFreely, AllObservable}
+pub use Rattle.cweb_tools.specs.MergePromises.{BlamesDevice, Completes, MergeFailsOnce, MergePromises}
+pub use Rattle.cweb_tools.specs.MergePromises.{MergeReportsFaults}
+pub use Rattle.cweb_tools.specs.Script.{written_files, logged_items, Numbers, closing_acts, unread, not_there}
+pub use Rattle.cweb_tools.specs.Script.{change_not_there}
 pub use Rattle.cweb_tools.specs.Script.{Planning, refused, Web, planned_acts, script, starred_acts, tangle_files}
 pub use Rattle.cweb_tools.specs.Script.{tangling, when, output_acts, outputs_acts, TangleCourse, tangle_status}
 pub use Rattle.cweb_tools.specs.Script.{web_acts, planned, tangle_log, tangle_usage}
 pub use Rattle.cweb_tools.specs.Spacing.{IsPlain, Spacing, is_ascii}
-pub use Rattle.cweb_tools.specs.Tangle.{fault_items, CanCome, shown_by, tangle_course, output_file, course_acts}
-pub use Rattle.cweb_tools.specs.Tangle.{course_status, tangled, web_of, web_status, plan_made, planning, planning_by}
-pub use Rattle.cweb_tools.specs.Tangle.{status_by, numbers_of}
-pub use Rattle.cweb_tools.specs.TangleRun.{DoesAll, IsStopped, IsEnded, KeepLimits, FailOnce, FaultsShow}
-pub use Rattle.cweb_tools.specs.TangleRun.{LogEnds, RisesOnce, TanglePromises, TellingRun, Tells, cut, said}
-pub use Rattle.cweb_tools.specs.TangleRun.{ReadAll, LogsUpTo}
-pub use Rattle.cweb_tools.specs.Web.{refusal_in, files_of, faults_of}
+pub use Rattle.cweb_tools.specs.Tangle.{fault_items, CanCome, shown_by, tangle_course, output_file}
+pub use Rattle.cweb_tools.specs.inner.Tangle.{course_acts}
+pub use Rattle.cweb_tools.specs.inner.Tangle.{course_status, web_status}
+pub use Rattle.cweb_tools.specs.Tangle.{tangled, web_of, plan_made, planning, planning_by}
+pub use Rattle.cweb_tools.specs.inner.Tangle.{status_by}
+pub use Rattle.cweb_tools.specs.Tangle.{numbers_of}
+pub use Rattle.cweb_tools.specs.TanglePromises.{DoesAll, IsStopped, IsEnded, ActsKeepLimits, TangleFailsOnce}
+pub use Rattle.cweb_tools.specs.TanglePromises.{TangleReportsFaults}
+pub use Rattle.cweb_tools.specs.TanglePromises.{LogEnds, RisesOnce, TanglePromises, DevicePromises, ObservedPromises}
+pub use Rattle.cweb_tools.specs.TanglePromises.{cut, said}
+pub use Rattle.cweb_tools.specs.TanglePromises.{ReadAll, LogsUpTo}
+pub use Rattle.cweb_tools.specs.inner.Web.{refusal_in, files_of, faults_of}
 pub use Rattle.cweb_tools.specs.declared.outputs.Failed.{Failed}

@@ -1,28 +1,32 @@
 -- What the promises of a run say of its endings.
-use Rattle.cweb_tools.proofs.Common.{◌≡◌, ◌≢◌, ◌++◌, flat_map, Item, line, stop_line, inl, inr, ℕ, List, [], ◌∷◌, refl, ap, arith, Some, None, Stop, Usage, WebNotOpened, ChangeNotOpened, ReadFault, LineTooLong, TooMuchText, Memory, OutNotOpened, WriteFault, LogFault, Held, Act, judges, reads, after_act, ending, Breaks, Runs, TangleEnds, completes, stops, DoesAll, IsStopped, IsEnded, KeepLimits}
+use Rattle.cweb_tools.proofs.Common.{◌≡◌, ◌≢◌, ◌++◌, flat_map, LogItem, line, stop_line, inl, inr, ℕ, List, [], ◌∷◌, refl, ap, arith, Some, None, Stop, Usage, WebNotOpened, ChangeNotOpened, ReadFault, LineTooLong, TooMuchText, Memory, OutNotOpened, WriteFault, LogFault, DeviceState, Act, judges, reads, after_act, ending, Breaks, PerformsActs, TangleEnds, completes, stops, DoesAll, IsStopped, IsEnded, ActsKeepLimits}
 use Rattle.cweb_tools.proofs.AllDone.{files_all, log_all}
 use Rattle.cweb_tools.proofs.Limits.{beyond}
 use Rattle.cweb_tools.proofs.Stopping.{is_stopped}
 
-pub counts_all : (acts : List Act) (old new : Held) → Runs acts None old new
+pub counts_all : (acts : List Act) (old new : DeviceState) → PerformsActs acts None old new
     → (new.shelf_failed ≡ old.shelf_failed) × (new.bins_failed ≡ old.bins_failed) × (new.log_failed ≡ old.log_failed)
-counts_all [] old new is =
-    (ap (λ (d : Held). d.shelf_failed) is, ap (λ (d : Held). d.bins_failed) is, ap (λ (d : Held). d.log_failed) is)
+counts_all [] old new is = (
+  ap (λ (d : DeviceState). d.shelf_failed) is,
+  ap (λ (d : DeviceState). d.bins_failed) is,
+  ap
+      (λ (d : DeviceState). d.log_failed) is,
+)
 counts_all (judges ∷ acts) old new (inl run) = counts_all acts old new run.1
 counts_all (act ∷ acts) old new (inl run) = counts_all acts (after_act act old) new run.1
 counts_all (act ∷ acts) old new (inr stop) = absurd stop
 
-pub limits_all : (acts : List Act) (old new : Held) → Runs acts None old new → KeepLimits acts
+pub limits_all : (acts : List Act) (old new : DeviceState) → PerformsActs acts None old new → ActsKeepLimits acts
 limits_all [] old new is = tt
 limits_all (act ∷ acts) old new (inl run) = (run.0, limits_all acts (after_act act old) new run.1)
 limits_all (act ∷ acts) old new (inr stop) = absurd stop
 
-does_all : {acts : List Act} {due : ℕ} {old new : Held} {status : ℕ}
-    → Runs acts None old new → status ≡ due → DoesAll acts due old new status
+does_all : {acts : List Act} {due : ℕ} {old new : DeviceState} {status : ℕ}
+    → PerformsActs acts None old new → status ≡ due → DoesAll acts due old new status
 does_all {acts} {old} {new} run answered =
     record { files = files_all acts old new run; log = log_all acts old new run; answered = answered }
 
-pub ends_so : {acts : List Act} {due : ℕ} {old new : Held} {status : ℕ}
+pub ends_so : {acts : List Act} {due : ℕ} {old new : DeviceState} {status : ℕ}
     → TangleEnds acts due old new status → IsEnded acts due old new status
 ends_so (completes run answered) = inl (does_all run answered)
 ends_so {acts} {old} {new} (stops (ending stop about) then run logs answered) =
@@ -46,8 +50,8 @@ cause_more WebNotOpened within more part cause = cause
 cause_more ChangeNotOpened within more part cause = cause
 cause_more stop within more part cause = tt
 
-cause_at : (act : Act) (acts : List Act) (stop : Stop) (about : List ℕ) (old new : Held)
-    → Breaks act (ending stop about) old new → Cause stop (KeepLimits (act ∷ acts))
+cause_at : (act : Act) (acts : List Act) (stop : Stop) (about : List ℕ) (old new : DeviceState)
+    → Breaks act (ending stop about) old new → Cause stop (ActsKeepLimits (act ∷ acts))
 cause_at (reads names events) acts (LineTooLong file) about old new broke =
     λ within. beyond (LineTooLong file) events broke.1 within.0
 cause_at (reads names events) acts TooMuchText about old new broke =
@@ -59,24 +63,25 @@ cause_at act acts WriteFault about old new broke = tt
 cause_at act acts LogFault about old new broke = tt
 cause_at act acts stop about old new broke = absurd broke
 
-cause_of : (acts : List Act) (stop : Stop) (about : List ℕ) (old new : Held)
-    → Runs acts (Some (ending stop about)) old new → Cause stop (KeepLimits acts)
+cause_of : (acts : List Act) (stop : Stop) (about : List ℕ) (old new : DeviceState)
+    → PerformsActs acts (Some (ending stop about)) old new → Cause stop (ActsKeepLimits acts)
 cause_of [] stop about old new none = absurd none
 cause_of (act ∷ acts) stop about old new (inl run) = cause_more stop
-    (KeepLimits acts) (KeepLimits (act ∷ acts)) (λ all. all.1) (cause_of acts stop about (after_act act old) new run.1)
+    (ActsKeepLimits acts) (ActsKeepLimits (act ∷ acts)) (λ all. all.1)
+    (cause_of acts stop about (after_act act old) new run.1)
 cause_of (act ∷ acts) stop about old new (inr here) = cause_at act acts stop about old new here
 
 -- no device failed, the limits were kept, and the run's text in the log doesn't end in the line on refused memory
-pub record RunsFreely (acts : List Act) (old new : Held) : Type 0 where
+pub record RunsFreely (acts : List Act) (old new : DeviceState) : Type 0 where
   pub shelf : new.shelf_failed ≡ old.shelf_failed
   pub bins : new.bins_failed ≡ old.bins_failed
   pub log : new.log_failed ≡ old.log_failed
-  pub within : KeepLimits acts
-  pub memory : (items : List Item) → new.log ≢ old.log ++ (flat_map line items ++ stop_line Memory [])
+  pub within : ActsKeepLimits acts
+  pub memory : (items : List LogItem) → new.log ≢ old.log ++ (flat_map line items ++ stop_line Memory [])
 
 -- a run that something stopped did not run freely
-not_free : {acts : List Act} (stop : Stop) {about : List ℕ} {old new : Held}
-    → Cause stop (KeepLimits acts) → IsStopped acts stop about old new → RunsFreely acts old new → ⊥
+not_free : {acts : List Act} (stop : Stop) {about : List ℕ} {old new : DeviceState}
+    → Cause stop (ActsKeepLimits acts) → IsStopped acts stop about old new → RunsFreely acts old new → ⊥
 not_free (ReadFault file) cause is free = absurd (omega (arith, is.shelf, free.shelf))
 not_free OutNotOpened cause is free = absurd (omega (arith, is.bins, free.bins))
 not_free WriteFault cause is free = absurd (omega (arith, is.bins, free.bins))
@@ -86,13 +91,13 @@ not_free (LineTooLong file) cause is free = cause free.within
 not_free TooMuchText cause is free = cause free.within
 not_free stop cause is free = absurd cause
 
-pub ends_freely : {acts : List Act} {due : ℕ} {old new : Held} {status : ℕ}
+pub ends_freely : {acts : List Act} {due : ℕ} {old new : DeviceState} {status : ℕ}
     → TangleEnds acts due old new status → RunsFreely acts old new → DoesAll acts due old new status
 ends_freely (completes run answered) free = does_all run answered
 ends_freely {acts} {old} {new} (stops (ending stop about) then run logs answered) free = absurd (not_free
     stop (cause_of acts stop about old then run) (is_stopped acts then run logs) free)
 
-pub ends_within : {acts : List Act} {due : ℕ} {old new : Held} {status : ℕ}
-    → TangleEnds acts due old new status → ¬ KeepLimits acts → status ≡ 1
+pub ends_within : {acts : List Act} {due : ℕ} {old new : DeviceState} {status : ℕ}
+    → TangleEnds acts due old new status → ¬ ActsKeepLimits acts → status ≡ 1
 ends_within {acts} {old} {new} (completes run answered) beyond = absurd (beyond (limits_all acts old new run))
 ends_within (stops why then run logs answered) beyond = answered

@@ -1,10 +1,10 @@
 -- How the exits of a run that come before it writes are its ends.
-use Rattle.cweb_tools.proofs.Common.{◌≤◌, ◌≡◌, ◌⊎◌, inl, inr, ℕ, List, [], ◌∷◌, ◌++◌, refl, sym, ◌∙◌, ap, subst, append-nil, append_assoc, arith, Option, Some, None, IsTrue, names_found, World, Found, Line, Event, SoFar, Gives, StopsBehind, BreaksLimit, begun_with, TellsFront, blame, StartStops, files_named, read_blame, given_lines, told_faults, openings, taken_lines, IsWithinLimits, Begins, StopsAtStart, StopsWriting, WritingStops, WritesFront, write_blame, LINES, BYTES, Stop, Usage, WebNotOpened, ChangeNotOpened, ReadFault, LineTooLong, TooMuchText, Memory, WriteFault, Logs, stop_line, start_subject, subject, Seen, SeenStream, WebNames, Course, merging, asked_course, change_name, found_course, usage, about, AreOpened, CanStop, Comes, Ends, Merges, Refuses}
-use Rattle.cweb_lines.proofs.Sums.{openings-append}
+use Rattle.cweb_tools.proofs.Common.{◌≤◌, ◌≡◌, ◌⊎◌, inl, inr, ℕ, List, [], ◌∷◌, ◌++◌, refl, sym, ◌∙◌, ap, subst, append-nil, append_assoc, arith, Option, Some, None, IsTrue, names_found, World, Found, Line, Event, SoFar, EmitsLines, StopsAfterLines, BreaksLimit, begun_with, ReportsPrefix, blame, StartStops, files_named, read_failures_of, emitted_lines, reported_faults, openings, taken_lines, IsWithinLimits, BeginsMerge, StopsAtStart, StopsWriting, WritingStops, WritesPrefix, write_failures_of, LINES, BYTES, Stop, Usage, WebNotOpened, ChangeNotOpened, ReadFault, LineTooLong, TooMuchText, Memory, WriteFault, Logs, stop_line, start_subject, subject, MergeDevices, StreamModel, WebNames, Course, merging, merge_course, change_name, found_course, usage, about, AreOpened, CanStop, Comes, MergeEnds, Merges, RefusesArgs}
+use Rattle.cweb_lines.proofs.EmittedLinesAddUp.{openings-append}
 use Rattle.cweb_tools.specs.Course.{unread, not_there, change_not_there}
-use Rattle.cweb_tools.specs.Run.{stops}
+use Rattle.cweb_tools.specs.MergePromises.{stops}
 
-none_written : {bytes text : List ℕ} → WritesFront bytes bytes text
+none_written : {bytes text : List ℕ} → WritesPrefix bytes bytes text
 none_written {bytes} {text} = record { front = []; rest = text; written = sym (append-nil bytes); whole = refl }
 
 none_opened : (course : Course) → AreOpened [] course
@@ -29,28 +29,29 @@ start_cause world names found changes stop why = absurd why
 
 -- the course of a run that begins a merge
 pub begins_course : (world : World) (names : WebNames) (found : Option Found) (changes : Option (Option Found))
-    {first : SoFar} {all : List Event} (begins : Begins world found changes first all)
+    {first : SoFar} {all : List Event} (begins : BeginsMerge world found changes first all)
     → found_course world names found changes ≡ merging (begins.name ∷ names_found begins.change) all
 begins_course world names found changes begins = rw (begins.there, begins.changes_there, begins.whole) refl
 
 -- a run that stops before it writes
-module _ (before after : Seen) (status : ℕ) (read : after.shelf.failed ≡ before.shelf.failed)
+module _ (before after : MergeDevices) (status : ℕ) (read : after.shelf.failed ≡ before.shelf.failed)
     (blamed : IsTrue before.shelf.tells → after.shelf.blamed ≡ before.shelf.blamed)
     (same : after.out ≡ before.out) (answered : status ≡ 1) where
   out_count : after.out.failed ≡ before.out.failed
-  out_count = ap (λ (stream : SeenStream). stream.failed) same
+  out_count = ap (λ (stream : StreamModel). stream.failed) same
 
   out_bytes : after.out.bytes ≡ before.out.bytes
-  out_bytes = ap (λ (stream : SeenStream). stream.bytes) same
+  out_bytes = ap (λ (stream : StreamModel). stream.bytes) same
 
   refused : (stop : Stop) → stop ≡ Usage
-      → Logs (stop_line stop usage) before.log after.log → Refuses before after status
+      → Logs (stop_line stop usage) before.log after.log → RefusesArgs before after status
   refused Usage is logs =
       record { read = read; printed = out_count; written = out_bytes; logged = logs; answered = answered }
   refused stop is logs = absurd (cc)
 
-  not_begun : (names : WebNames) (course : Course) (stop : Stop) → Comes stop → files_named stop ≤ 0 → read_blame stop
-      ≡ 0 → write_blame stop ≡ 0 → blame [] stop ≡ [] → (IsTrue before.shelf.tells → CanStop stop course)
+  not_begun : (names : WebNames) (course : Course) (stop : Stop) → Comes stop → files_named stop ≤ 0
+      → read_failures_of stop
+      ≡ 0 → write_failures_of stop ≡ 0 → blame [] stop ≡ [] → (IsTrue before.shelf.tells → CanStop stop course)
       → Logs (stop_line stop (about names [] stop)) before.log after.log → Merges names course before after status
   not_begun names course stop comes named no_read no_write none cause logs = stops (record {
     stop = stop;
@@ -75,9 +76,9 @@ module _ (before after : Seen) (status : ℕ) (read : after.shelf.failed ≡ bef
   -- the words can't be read, or memory was wanting for their names
   pub words_stopped : (world : World) (asked : Option WebNames) (stop : Stop) → (stop ≡ Usage) ⊎ (stop ≡ Memory)
       → (stop ≡ Usage → asked ≡ None) → (asked ≡ None → stop ≡ Usage) → Logs (stop_line stop usage) before.log after.log
-      → Ends world asked before after status
+      → MergeEnds world asked before after status
   words_stopped world None stop why none_by is_usage logs = refused stop (is_usage refl) logs
-  words_stopped world (Some names) stop why none_by is_usage logs = out_of_memory names (asked_course world
+  words_stopped world (Some names) stop why none_by is_usage logs = out_of_memory names (merge_course world
       (Some names)) stop (elim why [ inl is ↦ absurd (some_none names (none_by is)) | inr is ↦ is ]) logs
 
   -- a merge could not begin
@@ -95,7 +96,7 @@ module _ (before after : Seen) (status : ℕ) (read : after.shelf.failed ≡ bef
 
 -- the names that a merge has told when it stops are among those that it opens in all
 pub opened_by : (first : List (List ℕ)) {old new : SoFar} {events : List Event}
-    → old ≡ begun_with first → TellsFront old new events
+    → old ≡ begun_with first → ReportsPrefix old new events
     → (files : List (List ℕ)) → files ≡ new.names → (rest : List (List ℕ)) × (first ++ openings events ≡ files ++ rest)
 opened_by first {events} began front files is = (
   openings front.later,
@@ -108,15 +109,15 @@ opened_by first {events} began front files is = (
 
 -- what a merge told, where it began with these files and all of it came
 module _ (first : List (List ℕ)) (all : List Event) (old new : SoFar)
-    (began : old ≡ begun_with first) (gives : Gives (given_lines all) old new all []) where
+    (began : old ≡ begun_with first) (gives : EmitsLines (emitted_lines all) old new all []) where
   came : gives.events ≡ all
   came = sym (append-nil gives.events) ∙ sym gives.whole
 
   pub names_told : new.names ≡ first ++ openings all
   names_told = gives.names ∙ (λ i. (began i).names ++ openings (came i))
 
-  pub faults_told : new.faults ≡ told_faults all
-  faults_told = gives.faults ∙ (λ i. (began i).faults ++ told_faults (came i))
+  pub faults_told : new.faults ≡ reported_faults all
+  faults_told = gives.faults ∙ (λ i. (began i).faults ++ reported_faults (came i))
 
   pub limits_kept : new.count.lines ≤ LINES → new.count.bytes ≤ BYTES → IsWithinLimits (taken_lines all)
   limits_kept few small =
@@ -129,12 +130,12 @@ module _ (first : List (List ℕ)) (all : List Event) (old new : SoFar)
 -- a merge that began with these files breaks a limit
 pub breaks_limit : (stop : Stop) (first : List (List ℕ)) (lines : List Line) (old new : SoFar) (events : List Event)
     → old ≡ begun_with first → new.count.lines ≤ LINES → new.count.bytes ≤ BYTES
-    → StopsBehind lines stop old new events → BreaksLimit stop events
+    → StopsAfterLines lines stop old new events → BreaksLimit stop events
 breaks_limit stop first lines old new events began few small behind = record {
   first = first;
   lines = lines;
   new = new;
-  stops = subst (λ (so : SoFar). StopsBehind lines stop so new events) began behind;
+  stops = subst (λ (so : SoFar). StopsAfterLines lines stop so new events) began behind;
   few = few;
   small = small;
 }

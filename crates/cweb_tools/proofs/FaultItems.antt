@@ -1,15 +1,15 @@
 -- The faults of a web as items: how many there are, and that they are written.
-use Rattle.cweb_tools.proofs.Common.{◌≡◌, ◌<◌, ◌+◌, ℕ, zero, suc, Bool, true, false, cond, List, [], ◌∷◌, ◌++◌, length, map, refl, sym, ◌∙◌, ap, subst, append_assoc, arith, length-append, flat_map-append, length-map, sum_by-append, sum_by-cons, flat_map, IsTrue, IsErr, None, Result, Ok, Err, count_by, decimal, codes, SourceFault, SourceKind, Unequal, Part, is_macro, numbers_from, numbers_where, PartKind, Scanned, Writes, Item, counted_text, fault_count, is_fault, line, source_item, count_end, fault_line, fault_lines, kind_text, located_line, name_at, SeenStream, name_item, name_items, scan_item, scan_items, says, DoesInLog, told, fault_items}
+use Rattle.cweb_tools.proofs.Common.{◌≡◌, ◌<◌, ◌+◌, ℕ, zero, suc, Bool, true, false, cond, List, [], ◌∷◌, ◌++◌, length, map, refl, sym, ◌∙◌, ap, subst, append_assoc, arith, length-append, flat_map-append, length-map, sum_by-append, sum_by-cons, flat_map, IsTrue, IsErr, None, Result, Ok, Err, count_by, decimal, codes, SourceFault, SourceKind, Unequal, Part, is_macro, numbers_from, numbers_where, PartKind, Scanned, WritesToStream, LogItem, message_with_count, fault_count, is_fault, line, source_item, count_suffix, fault_line, fault_lines, kind_message, located_line, file_name_at, StreamModel, name_item, name_items, scan_item, scan_items, says, DoesInLog, log_ending, fault_items}
 use Rattle.cweb_store.specs.Faults as store
 use Rattle.cweb_tools.proofs.Logging.{said_all, said_none}
 
 -- items that are all faults
-all_count : {X : Type 0} (f : X → Item) (xs : List X)
+all_count : {X : Type 0} (f : X → LogItem) (xs : List X)
     → ((x : X) → is_fault (f x) ≡ true) → fault_count (map f xs) ≡ length xs
 all_count f [] is = refl
 all_count f (x ∷ xs) is =
     let one : ◌≡◌ {A = ℕ} (cond (is_fault (f x)) 1 0) 1 = ap (λ (b : Bool). cond b 1 0) (is x) in
-    omega (arith, sum_by-cons (λ (item : Item). cond (is_fault item) 1 0) (f x) (map f xs), one, all_count f xs is)
+    omega (arith, sum_by-cons (λ (item : LogItem). cond (is_fault item) 1 0) (f x) (map f xs), one, all_count f xs is)
 
 pub all_counted : (files : List (List ℕ)) (faults : List SourceFault) (made : Scanned)
     → fault_count (fault_items files faults made)
@@ -22,9 +22,9 @@ all_counted files faults made =
     all_count (scan_item files) made.faults (λ x. refl) in
     let last : fault_count (name_items made.store) ≡ length names =
     all_count (name_item made.store.occurrences) names (λ x. refl) in
-    sum_by-append (λ (item : Item). cond (is_fault item) 1 0)
+    sum_by-append (λ (item : LogItem). cond (is_fault item) 1 0)
     (map (source_item files) faults) (scan_items files made.faults ++ name_items made.store)
-    ∙ (λ i. first i + (sum_by-append (λ (item : Item). cond (is_fault item) 1 0)
+    ∙ (λ i. first i + (sum_by-append (λ (item : LogItem). cond (is_fault item) 1 0)
     (scan_items files made.faults) (name_items made.store) ∙ (λ j. next j + last j)) i)
 
 -- all of them count
@@ -47,19 +47,19 @@ some_from zero never = absurd (never refl)
 some_from (suc n) never = omega arith
 
 -- where no fault is counted there is nothing to log
-pub none_said : (items : List Item) {stream : SeenStream}
+pub none_said : (items : List LogItem) {stream : StreamModel}
     → length items ≡ 0 → DoesInLog (map says items) None stream stream
 none_said [] {stream} none = said_none
 none_said (item ∷ items) none = absurd (omega (arith, none))
 
-pub some_said : {A E : Type 0} {r : Result A E} (items : List Item) {old new : SeenStream} → 0 < length items
-    → Writes (flat_map line items) old new r → DoesInLog (map says items) (told r) old new
+pub some_said : {A E : Type 0} {r : Result A E} (items : List LogItem) {old new : StreamModel} → 0 < length items
+    → WritesToStream (flat_map line items) old new r → DoesInLog (map says items) (log_ending r) old new
 some_said [] some writes = absurd (omega (arith, some))
 some_said {r} (item ∷ items) {old} {new} some writes = said_all r item items writes
 
 -- one text was written behind another
-pub writes_on : {A E B F : Type 0} (x : A) (r : Result B F) {a b : List ℕ} {old mid new : SeenStream}
-    → Writes {E = E} a old mid (Ok x) → Writes b mid new r → Writes (a ++ b) old new r
+pub writes_on : {A E B F : Type 0} (x : A) (r : Result B F) {a b : List ℕ} {old mid new : StreamModel}
+    → WritesToStream {E = E} a old mid (Ok x) → WritesToStream b mid new r → WritesToStream (a ++ b) old new r
 writes_on x (Ok y) {a} {b} {old} first then = record {
   tells = then.tells ∙ first.tells;
   counts = then.counts ∙ first.counts;
@@ -80,8 +80,8 @@ writes_on x (Err e) {a} {old} first then = record {
   };
 }
 
-pub writes_in : {A E B F : Type 0} (e : E) (r : Result B F) {a : List ℕ} (b : List ℕ) {old new : SeenStream}
-    → Writes {A = A} a old new (Err e) → IsErr r → Writes (a ++ b) old new r
+pub writes_in : {A E B F : Type 0} (e : E) (r : Result B F) {a : List ℕ} (b : List ℕ) {old new : StreamModel}
+    → WritesToStream {A = A} a old new (Err e) → IsErr r → WritesToStream (a ++ b) old new r
 writes_in e (Ok x) b fails is = absurd (cc)
 writes_in e (Err f) b fails is = record {
   tells = fails.tells;
@@ -97,14 +97,14 @@ writes_in e (Err f) b fails is = record {
 
 -- the line of a fault of a file is that of its item
 end_text : (kind : SourceKind) (count : ℕ)
-    → kind_text kind ++ count_end kind count ≡ counted_text kind count ++ codes "\n"
-end_text Unequal count = sym (append_assoc (kind_text Unequal) (codes ": " ++ decimal count) (codes "\n")
-    ∙ ap (λ (t : List ℕ). kind_text Unequal ++ t) (append_assoc (codes ": ") (decimal count) (codes "\n")))
+    → kind_message kind ++ count_suffix kind count ≡ message_with_count kind count ++ codes "\n"
+end_text Unequal count = sym (append_assoc (kind_message Unequal) (codes ": " ++ decimal count) (codes "\n")
+    ∙ ap (λ (t : List ℕ). kind_message Unequal ++ t) (append_assoc (codes ": ") (decimal count) (codes "\n")))
 end_text kind count = refl
 
 same_line : (files : List (List ℕ)) (met : SourceFault) → fault_line files met ≡ line (source_item files met)
 same_line files met =
-    ap (located_line (name_at files met.place.file.0) (decimal met.place.line)) (end_text met.kind met.count)
+    ap (located_line (file_name_at files met.place.file.0) (decimal met.place.line)) (end_text met.kind met.count)
 
 same_lines : (files : List (List ℕ)) (faults : List SourceFault)
     → fault_lines files faults ≡ flat_map line (map (source_item files) faults)

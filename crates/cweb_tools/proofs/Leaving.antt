@@ -1,19 +1,20 @@
 -- Files and drafts behind a run, act by act.
-use Rattle.cweb_tools.proofs.Common.{◌≡◌, inl, inr, ℕ, ◌+◌, false, List, [], ◌∷◌, ◌++◌, refl, sym, ◌∙◌, ap, subst, add-zero, arith, Option, Some, None, read_blame, bins_blame, File, Event, Stop, ReadFault, LineTooLong, TooMuchText, Memory, OutNotOpened, WriteFault, LogFault, Item, fault_count, Shown, Held, Act, says, reads, writes, after_act, Ending, ending, Breaks, Runs, LogsStop, TangleEnds, completes, stops, LeavesFiles, put_files, refused, Web, files_in, script, tangling}
+use Rattle.cweb_tools.proofs.Common.{◌≡◌, inl, inr, ℕ, ◌+◌, false, List, [], ◌∷◌, ◌++◌, refl, sym, ◌∙◌, ap, subst, add-zero, arith, Option, Some, None, read_failures_of, bins_blame, File, Event, Stop, ReadFault, LineTooLong, TooMuchText, Memory, OutNotOpened, WriteFault, LogFault, LogItem, fault_count, Shown, DeviceState, Act, says, reads, writes, after_act, Ending, ending, Breaks, PerformsActs, LogsStop, TangleEnds, completes, stops, LeavesFiles, put_files, refused, Web, written_files, script, tangling}
 use Rattle.cweb_tools.proofs.WebActs.{when_on, said_on, starred_on, closing_on}
 
 -- what stops an act changes no file and leaves no draft; the count of the device rises whose stop it is, and only
 -- the log's stop
 -- changes the log
-pub record Broken (stop : Stop) (old new : Held) : Type 0 where
+pub record Broken (stop : Stop) (old new : DeviceState) : Type 0 where
   pub files : new.files ≡ old.files
   pub draft : old.draft ≡ None → new.draft ≡ None
-  pub shelf : new.shelf_failed ≡ old.shelf_failed + read_blame stop
+  pub shelf : new.shelf_failed ≡ old.shelf_failed + read_failures_of stop
   pub bins : new.bins_failed ≡ old.bins_failed + bins_blame stop
   pub log : (stop ≡ LogFault → ⊥) → (new.log ≡ old.log) × (new.log_failed ≡ old.log_failed)
 
 -- nothing changed
-quiet : {stop : Stop} {old new : Held} → read_blame stop ≡ 0 → bins_blame stop ≡ 0 → new ≡ old → Broken stop old new
+quiet : {stop : Stop} {old new : DeviceState} → read_failures_of stop ≡ 0 → bins_blame stop ≡ 0 → new ≡ old
+    → Broken stop old new
 quiet {stop} {old} no_read no_bins is = subst (Broken stop old) (sym is) (record {
   files = refl;
   draft = λ none. none;
@@ -23,13 +24,15 @@ quiet {stop} {old} no_read no_bins is = subst (Broken stop old) (sym is) (record
 })
 
 -- a file is not written
-unwritten : {stop : Stop} {old new : Held} (left : Held) → new ≡ left → left.files ≡ old.files → left.draft ≡ None
-    → left.shelf_failed ≡ old.shelf_failed + read_blame stop → left.bins_failed ≡ old.bins_failed + bins_blame stop
+unwritten : {stop : Stop} {old new : DeviceState} (left : DeviceState) → new ≡ left → left.files ≡ old.files
+    → left.draft ≡ None
+    → left.shelf_failed ≡ old.shelf_failed + read_failures_of stop
+    → left.bins_failed ≡ old.bins_failed + bins_blame stop
     → left.log ≡ old.log → left.log_failed ≡ old.log_failed → Broken stop old new
 unwritten {stop} {old} left is files draft shelf bins log failed = subst (Broken stop old) (sym is)
     (record { files = files; draft = λ none. draft; shelf = shelf; bins = bins; log = λ never. (log, failed) })
 
-pub broken : (act : Act) (stop : Stop) (about : List ℕ) (old new : Held)
+pub broken : (act : Act) (stop : Stop) (about : List ℕ) (old new : DeviceState)
     → Breaks act (ending stop about) old new → Broken stop old new
 broken (says item) LogFault about old new broke = subst (Broken LogFault old) (sym broke.is) (record {
   files = refl;
@@ -63,12 +66,13 @@ none_done : {due old new : List File} → new ≡ old → LeavesFiles due old ne
 none_done {due} same = record { done = []; undone = due; whole = refl; is = same }
 
 -- the files and the draft behind acts
-abbrev Leaves : List Act → Held → Held → Type 0
-Leaves acts old new = LeavesFiles (files_in acts) old.files new.files × (old.draft ≡ None → new.draft ≡ None)
+abbrev Leaves : List Act → DeviceState → DeviceState → Type 0
+Leaves acts old new = LeavesFiles (written_files acts) old.files new.files × (old.draft ≡ None → new.draft ≡ None)
 
-runs_left : (acts : List Act) (why : Option Ending) (old new : Held) → Runs acts why old new → Leaves acts old new
+runs_left : (acts : List Act) (why : Option Ending) (old new : DeviceState) → PerformsActs acts why old new
+    → Leaves acts old new
 runs_left [] None old new run =
-    (none_done (ap (λ (d : Held). d.files) run), λ none. ap (λ (d : Held). d.draft) run ∙ none)
+    (none_done (ap (λ (d : DeviceState). d.files) run), λ none. ap (λ (d : DeviceState). d.draft) run ∙ none)
 runs_left [] (Some why) old new run = absurd run
 runs_left (writes name text ∷ acts) why old new (inl run) =
     let file : File = record { name = name; bytes = text } in
@@ -88,38 +92,38 @@ runs_left (act ∷ acts) (Some (ending stop about)) old new (inr broke) =
     (none_done left.files, left.draft)
 
 -- the line of a stop changes the log alone
-abbrev LogAlone : Held → Held → Type 0
+abbrev LogAlone : DeviceState → DeviceState → Type 0
 LogAlone old new = new ≡ record old { log_failed = new.log_failed; log = new.log }
 
-pub stop_logged : (stop : Stop) (about : List ℕ) (old new : Held)
+pub stop_logged : (stop : Stop) (about : List ℕ) (old new : DeviceState)
     → LogsStop (ending stop about) old new → new ≡ record old { log_failed = new.log_failed; log = new.log }
 stop_logged LogFault about old new is = subst (LogAlone old) (sym is) refl
 stop_logged _ about old new (inl is) = subst (LogAlone old) (sym is) refl
 stop_logged _ about old new (inr fails) = subst (LogAlone old) (sym fails.is) refl
 
-ends_left : {acts : List Act} {due : ℕ} {old new : Held} {status : ℕ}
+ends_left : {acts : List Act} {due : ℕ} {old new : DeviceState} {status : ℕ}
     → TangleEnds acts due old new status → Leaves acts old new
 ends_left {acts} {old} {new} (completes run answered) = runs_left acts None old new run
 ends_left {acts} {old} {new} (stops (ending stop about) then run logs answered) =
     let rest = runs_left acts (Some (ending stop about)) old then run in
     rw (stop_logged stop about then new logs) rest
 
-pub ends_files : {acts : List Act} {due : ℕ} {old new : Held} {status : ℕ}
-    → TangleEnds acts due old new status → LeavesFiles (files_in acts) old.files new.files
+pub ends_files : {acts : List Act} {due : ℕ} {old new : DeviceState} {status : ℕ}
+    → TangleEnds acts due old new status → LeavesFiles (written_files acts) old.files new.files
 ends_files ends = (ends_left ends).0
 
-pub ends_draft : {acts : List Act} {due : ℕ} {old new : Held} {status : ℕ}
+pub ends_draft : {acts : List Act} {due : ℕ} {old new : DeviceState} {status : ℕ}
     → old.draft ≡ None → TangleEnds acts due old new status → new.draft ≡ None
 ends_draft none ends = (ends_left ends).1 none
 
 -- acts that only log write no file
 refused_files : (shown : Shown) (names : List (List ℕ)) (events : List Event) (web : Web) (text : List ℕ)
-    → web.plan ≡ refused text → files_in (script shown (tangling names events web)) ≡ []
+    → web.plan ≡ refused text → written_files (script shown (tangling names events web)) ≡ []
 refused_files shown names events web text is =
-    let None-in : List Act → Type 0 = λ acts. files_in acts ≡ [] in
-    let said : (item : Item) (acts : List Act)
+    let None-in : List Act → Type 0 = λ acts. written_files acts ≡ [] in
+    let said : (item : LogItem) (acts : List Act)
     → Unit {0} → None-in acts → None-in (says item ∷ acts) = λ item acts said none. none in
-    let Any : Item → Type 0 = λ item. Unit {0} in
+    let Any : LogItem → Type 0 = λ item. Unit {0} in
     when_on Any None-in said shown.banner _ _ tt
     (starred_on Any None-in said shown.progress web.starred _ (λ ns. tt) (said_on Any None-in said web.faults _
     (λ item. tt) (rw is (closing_on Any None-in said shown web.numbers (fault_count web.faults + 1) false tt tt refl))))
@@ -133,7 +137,7 @@ none_due {old} {new} none leaves = nothing leaves.done leaves.undone (sym none �
     nothing (file ∷ done) undone whole is = cc
 
 pub refused_stays : (shown : Shown) (names : List (List ℕ)) (events : List Event) (web : Web) (text : List ℕ)
-    → web.plan ≡ refused text → (due : ℕ) (old new : Held) (status : ℕ)
+    → web.plan ≡ refused text → (due : ℕ) (old new : DeviceState) (status : ℕ)
     → TangleEnds (script shown (tangling names events web)) due old new status → new.files ≡ old.files
 refused_stays shown names events web text is due old new status ends =
     none_due (refused_files shown names events web text is) (ends_files ends)

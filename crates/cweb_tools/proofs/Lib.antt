@@ -7,22 +7,22 @@ pub mod Exits
 pub mod MergeExits
 pub mod FaultItems
 pub mod Prints
-pub mod Readies
+pub mod ReadyExpanders
 pub mod Refusals
-pub mod PromisedEnds
-pub mod Promised
-pub mod Promises
-pub mod ReadAlls
+pub mod ObservedTangleEnds
+pub mod TanglePromisesProved
+pub mod MergePromisesProved
+pub mod ChangedFilesWereRead
 pub mod Leaving
 pub mod WebActs
 pub mod Limits
 pub mod Logging
 pub mod Marks
 pub mod OutputActs
-mod Rows
-mod RunRows
+mod WorkedExamples
+mod TangleExamples
 pub mod Running
-mod ScriptRows
+mod ScriptExamples
 pub mod Statuses
 pub mod Stopping
 pub mod TangleExits
@@ -32,4 +32,4 @@ pub mod TangleEnds
 mod SpacingStarts
 mod SpacingSeam
 mod SpacingLaw
-mod SpacingRows
+mod SpacingExamples

@@ -1,10 +1,10 @@
 -- A merge that breaks a limit is not within the limits.
-use Rattle.cweb_tools.proofs.Common.{◌≡◌, ◌≤◌, ◌<◌, ◌+◌, ◌⊎◌, inl, inr, List, [], ◌∷◌, ◌++◌, refl, ◌∙◌, ap, subst, arith, length, length-append, append_assoc, map, SourceLine, Event, BreaksLimit, StopsBehind, begun_with, AreShort, IsWithinLimits, taken_lines, LINE_LENGTH, LINES, BYTES, SourceFault, Stop, LineTooLong, TooMuchText}
+use Rattle.cweb_tools.proofs.Common.{◌≡◌, ◌≤◌, ◌<◌, ◌+◌, ◌⊎◌, inl, inr, List, [], ◌∷◌, ◌++◌, refl, ◌∙◌, ap, subst, arith, length, length-append, append_assoc, map, SourceLine, Event, BreaksLimit, StopsAfterLines, begun_with, AreShort, IsWithinLimits, taken_lines, LINE_LENGTH, LINES, BYTES, SourceFault, Stop, LineTooLong, TooMuchText}
 use Rattle.cweb_lines.specs.Merge.{fault}
-use Rattle.cweb_lines.specs.Merging.{ComesFirst, HasBegun, step_events}
-use Rattle.cweb_lines.specs.Told.{size_of}
-use Rattle.cweb_lines.proofs.Adds.{taken-took}
-use Rattle.cweb_lines.proofs.Sums.{size-append, taken-append}
+use Rattle.cweb_lines.specs.MergeProgress.{ComesFirst, HasBegunStep, step_events}
+use Rattle.cweb_lines.specs.EventsByKind.{size_of_lines}
+use Rattle.cweb_lines.proofs.AddedEvents.{taken-took}
+use Rattle.cweb_lines.proofs.EmittedLinesAddUp.{size-append, taken-append}
 
 -- a line that is taken among others has no more bytes than it may
 short_at : (before after : List SourceLine) (line : SourceLine) → AreShort (before ++ line ∷ after) →
@@ -21,10 +21,10 @@ taken-step : (lines raws : List SourceLine) (faults : List SourceFault) (later :
 taken-step lines raws faults later = simp (taken-append, taken-took, taken-faults)
 
 module _ {stop : Stop} {events : List Event} (why : BreaksLimit stop events) where
-  abbrev b : StopsBehind why.lines stop (begun_with why.first) why.new events
+  abbrev b : StopsAfterLines why.lines stop (begun_with why.first) why.new events
   b = why.stops
 
-  abbrev begun : HasBegun b.mid why.new b.lines b.raws b.faults
+  abbrev begun : HasBegunStep b.mid why.new b.lines b.raws b.faults
   begun = b.stops.begun
 
   abbrev line : SourceLine
@@ -56,19 +56,21 @@ module _ {stop : Stop} {events : List Event} (why : BreaksLimit stop events) whe
       + length begun.rest) + ((length begun.raw_front + length begun.raw_rest) + length (taken_lines b.later)))
   lines_all = ap (λ (ls : List SourceLine). length ls) all ∙ simp length-append
 
-  bytes_all : size_of (taken_lines events) ≡ size_of (taken_lines b.gives.events) + ((size_of begun.front
-      + size_of begun.rest) + ((size_of begun.raw_front + size_of begun.raw_rest) + size_of (taken_lines b.later)))
-  bytes_all = ap size_of all ∙ simp size-append
+  bytes_all : size_of_lines (taken_lines events)
+      ≡ size_of_lines (taken_lines b.gives.events) + ((size_of_lines begun.front
+      + size_of_lines begun.rest) +
+      ((size_of_lines begun.raw_front + size_of_lines begun.raw_rest) + size_of_lines (taken_lines b.later)))
+  bytes_all = ap size_of_lines all ∙ simp size-append
 
   next_lines : ComesFirst line begun.rest ⊎ ComesFirst line begun.raw_rest → 1 ≤ length begun.rest
       + length begun.raw_rest
   next_lines (inl next) = omega (arith, ap (λ (ls : List SourceLine). length ls) next.1)
   next_lines (inr next) = omega (arith, ap (λ (ls : List SourceLine). length ls) next.1)
 
-  next_bytes : ComesFirst line begun.rest ⊎ ComesFirst line begun.raw_rest → line.size ≤ size_of begun.rest
-      + size_of begun.raw_rest
-  next_bytes (inl next) = omega (arith, ap size_of next.1)
-  next_bytes (inr next) = omega (arith, ap size_of next.1)
+  next_bytes : ComesFirst line begun.rest ⊎ ComesFirst line begun.raw_rest → line.size ≤ size_of_lines begun.rest
+      + size_of_lines begun.raw_rest
+  next_bytes (inl next) = omega (arith, ap size_of_lines next.1)
+  next_bytes (inr next) = omega (arith, ap size_of_lines next.1)
 
   much : (why.new.count.lines ≡ LINES) ⊎ (BYTES < why.new.count.bytes + line.size)
       → IsWithinLimits (taken_lines events) → ⊥

@@ -1,5 +1,5 @@
 -- Items that are logged are acts that are done.
-use Rattle.cweb_tools.proofs.Common.{◌≡◌, ◌<◌, ◌+◌, ◌⊎◌, inl, inr, ℕ, zero, suc, List, [], ◌∷◌, ◌++◌, map, refl, sym, ◌∙◌, ap, append_assoc, append-nil, add-zero, length, arith, flat_map, ◌==◌, Bool, true, false, IsTrue, Option, None, Some, Logs, Ending, read_blame, bins_blame, log_blame, rise, Act, Result, Ok, Err, WritesFront, LogFault, Writes, Item, line, starred, SeenBins, SeenRun, SeenShelf, SeenStream, ending, Held, Runs, after_act, says, AsTold, DoesInLog, told, starred_acts, when}
+use Rattle.cweb_tools.proofs.Common.{◌≡◌, ◌<◌, ◌+◌, ◌⊎◌, inl, inr, ℕ, zero, suc, List, [], ◌∷◌, ◌++◌, map, refl, sym, ◌∙◌, ap, append_assoc, append-nil, add-zero, length, arith, flat_map, ◌==◌, Bool, true, false, IsTrue, Option, None, Some, Logs, Ending, read_failures_of, bins_blame, log_blame, rise, Act, Result, Ok, Err, WritesPrefix, LogFault, WritesToStream, LogItem, line, starred, BinsModel, TangleDevices, ShelfModel, StreamModel, ending, DeviceState, PerformsActs, after_act, says, AgreesWith, DoesInLog, log_ending, starred_acts, when}
 use Rattle.cweb_tools.proofs.Doing.{does_none}
 
 -- two ways to cut a text in two: the first front ends within the second's, or the second's within it
@@ -18,8 +18,8 @@ cuts (x ∷ a) b (y ∷ front) rest is =
     ]
 
 -- a front of the lines of items was logged, and the log failed: at one of the items, with those before it logged
-front_stops : (item : Item) (items : List Item) (front rest : List ℕ) (old : Held)
-    → flat_map line (item ∷ items) ≡ front ++ rest → Runs (map says (item ∷ items))
+front_stops : (item : LogItem) (items : List LogItem) (front rest : List ℕ) (old : DeviceState)
+    → flat_map line (item ∷ items) ≡ front ++ rest → PerformsActs (map says (item ∷ items))
     (Some (ending LogFault [])) old (record old { log_failed = old.log_failed + 1; log = old.log ++ front })
 front_stops item [] front rest old is =
     inr (record { front = front; rest = rest; whole = sym (append-nil (line item)) ∙ is; is = refl })
@@ -34,15 +34,15 @@ front_stops item (next ∷ items) front rest old is =
     ]
 
 -- all lines were logged
-all_said : (items : List Item) (old : Held)
-    → Runs (map says items) None old (record old { log = old.log ++ flat_map line items })
+all_said : (items : List LogItem) (old : DeviceState)
+    → PerformsActs (map says items) None old (record old { log = old.log ++ flat_map line items })
 all_said [] old = λ i. record old { log = append-nil old.log i }
 all_said (item ∷ items) old = inl (
   tt,
   rw (← (append_assoc old.log (line item) (flat_map line items))) (all_said items (after_act (says item) old)),
 )
 
-abbrev pub at : SeenShelf → SeenBins → SeenStream → SeenRun
+abbrev pub at : ShelfModel → BinsModel → StreamModel → TangleDevices
 at shelf bins log = record { shelf = shelf; bins = bins; log = log }
 
 -- a front of a text was written, and where it is told this is the one
@@ -53,32 +53,34 @@ record FrontTold (tells : Bool) (old new text : List ℕ) : Type 0 where
   pub written : IsTrue tells → new ≡ old ++ front
 
 front_told : (tells : Bool) {old new text : List ℕ}
-    → (IsTrue tells → WritesFront old new text) → FrontTold tells old new text
+    → (IsTrue tells → WritesPrefix old new text) → FrontTold tells old new text
 front_told true {old} {new} {text} writes =
-    let front : WritesFront old new text = writes refl in
+    let front : WritesPrefix old new text = writes refl in
     record { front = front.front; rest = front.rest; whole = front.whole; written = λ tell. front.written }
 front_told false {text} writes = record { front = []; rest = text; whole = refl; written = λ tell. absurd (cc) }
 
 -- what the devices hold where the log alone has changed
-log_told : {now : Held} (count : ℕ) (text : List ℕ) (shelf : SeenShelf) (bins : SeenBins) (old new : SeenStream)
-    → AsTold now (at shelf bins old) → count ≡ new.failed → (IsTrue new.tells → text ≡ new.bytes)
-    → AsTold (record now { log_failed = count; log = text }) (at shelf bins new)
-log_told count text shelf bins old new told counted bytes = record {
-  shelf_failed = told.shelf_failed;
-  bins_failed = told.bins_failed;
+log_told : {now : DeviceState} (count : ℕ) (text : List ℕ) (shelf : ShelfModel) (bins : BinsModel)
+    (old new : StreamModel)
+    → AgreesWith now (at shelf bins old) → count ≡ new.failed → (IsTrue new.tells → text ≡ new.bytes)
+    → AgreesWith (record now { log_failed = count; log = text }) (at shelf bins new)
+log_told count text shelf bins old new log_ending counted bytes = record {
+  shelf_failed = log_ending.shelf_failed;
+  bins_failed = log_ending.bins_failed;
   log_failed = counted;
-  blamed = told.blamed;
-  files = told.files;
-  draft = told.draft;
-  refused = told.refused;
+  blamed = log_ending.blamed;
+  files = log_ending.files;
+  draft = log_ending.draft;
+  refused = log_ending.refused;
   log = bytes;
 }
 
 -- acts that log a text
-does_logged : {acts : List Act} {why : Option Ending} (more : ℕ → ℕ) (text : List ℕ) {old new : SeenStream}
-    → rise read_blame why ≡ 0 → rise bins_blame why ≡ 0 → ((n : ℕ) → more n ≡ n + rise log_blame why)
+does_logged : {acts : List Act} {why : Option Ending} (more : ℕ → ℕ) (text : List ℕ) {old new : StreamModel}
+    → rise read_failures_of why ≡ 0 → rise bins_blame why ≡ 0 → ((n : ℕ) → more n ≡ n + rise log_blame why)
     → new.tells ≡ old.tells → new.failed ≡ more old.failed → (IsTrue old.tells → new.bytes ≡ old.bytes ++ text)
-    → ((now : Held) → Runs acts why now (record now { log_failed = more now.log_failed; log = now.log ++ text }))
+    → ((now : DeviceState)
+    → PerformsActs acts why now (record now { log_failed = more now.log_failed; log = now.log ++ text }))
     → DoesInLog acts why old new
 does_logged more text {old} {new} no_read no_bins rises tells count bytes runs = λ shelf bins. record {
   shelf_tells = refl;
@@ -87,18 +89,19 @@ does_logged more text {old} {new} no_read no_bins rises tells count bytes runs =
   shelf = omega (arith, no_read);
   bins = omega (arith, no_bins);
   log = count ∙ rises old.failed;
-  runs = λ now told. record {
+  runs = λ now log_ending. record {
     left = record now { log_failed = more now.log_failed; log = now.log ++ text };
-    told = log_told _ _ shelf bins old new told (ap more told.log_failed ∙ sym count) (λ tell.
+    told = log_told _ _ shelf bins old new log_ending (ap more log_ending.log_failed ∙ sym count) (λ tell.
         let first : IsTrue old.tells = sym tells ∙ tell in
-        ap (λ (t : List ℕ). t ++ text) (told.log first) ∙ sym (bytes first));
+        ap (λ (t : List ℕ). t ++ text) (log_ending.log first) ∙ sym (bytes first));
     runs = runs now;
   };
 }
 
 -- writing the lines of items, of which there are some, is logging them
-pub said_all : {A E : Type 0} (r : Result A E) (item : Item) (items : List Item) {old new : SeenStream}
-    → Writes (flat_map line (item ∷ items)) old new r → DoesInLog (map says (item ∷ items)) (told r) old new
+pub said_all : {A E : Type 0} (r : Result A E) (item : LogItem) (items : List LogItem) {old new : StreamModel}
+    → WritesToStream (flat_map line (item ∷ items)) old new r
+    → DoesInLog (map says (item ∷ items)) (log_ending r) old new
 said_all (Ok x) item items writes = does_logged (λ n. n) (flat_map line (item ∷ items))
     refl refl (λ n. sym (add-zero n)) writes.tells writes.counts writes.whole (all_said (item ∷ items))
 said_all (Err e) item items {old} writes =
@@ -107,13 +110,13 @@ said_all (Err e) item items {old} writes =
     writes.counts front.written (λ now. front_stops item items front.front front.rest now front.whole)
 
 -- a line
-pub said : {A E : Type 0} {r : Result A E} (item : Item) {old new : SeenStream}
-    → Writes (line item) old new r → DoesInLog (says item ∷ []) (told r) old new
+pub said : {A E : Type 0} {r : Result A E} (item : LogItem) {old new : StreamModel}
+    → WritesToStream (line item) old new r → DoesInLog (says item ∷ []) (log_ending r) old new
 said {r} item {old} {new} writes = said_all r item [] (rw (append-nil (line item)) writes)
 
 -- what was logged, or a front of it, was written
-pub logs_write : {text : List ℕ} {old new : SeenStream}
-    → Logs text old new → (r : Result (Unit {0}) (Unit {0})) × Writes text old new r
+pub logs_write : {text : List ℕ} {old new : StreamModel}
+    → Logs text old new → (r : Result (Unit {0}) (Unit {0})) × WritesToStream text old new r
 logs_write logs = elim logs.once [
   | inl kept ↦ (
     Ok tt,
@@ -123,17 +126,17 @@ logs_write logs = elim logs.once [
 ]
 
 -- nothing was to be logged
-pub said_none : {stream : SeenStream} → DoesInLog [] None stream stream
+pub said_none : {stream : StreamModel} → DoesInLog [] None stream stream
 said_none = λ shelf bins. does_none
 
 -- a line that is asked for
-pub said_when : {A E : Type 0} {r : Result A E} (asked : Bool) (item : Item) {old new : SeenStream}
-    → asked ≡ true → Writes (line item) old new r → DoesInLog (when asked item) (told r) old new
+pub said_when : {A E : Type 0} {r : Result A E} (asked : Bool) (item : LogItem) {old new : StreamModel}
+    → asked ≡ true → WritesToStream (line item) old new r → DoesInLog (when asked item) (log_ending r) old new
 said_when true item is writes = said item writes
 said_when false item is writes = absurd (cc)
 
 -- and one that isn't
-pub said_not : (asked : Bool) (item : Item) {stream : SeenStream} → asked ≡ false
+pub said_not : (asked : Bool) (item : LogItem) {stream : StreamModel} → asked ≡ false
     → DoesInLog (when asked item) None stream stream
 said_not true item is = absurd (cc)
 said_not false item is = said_none
@@ -144,8 +147,9 @@ some_by zero is = absurd (cc)
 some_by (suc n) is = omega arith
 
 -- the numbers of starred sections, of which there are some
-pub said_starred : {A E : Type 0} {r : Result A E} (progress : Bool) (numbers : List ℕ) {old new : SeenStream}
+pub said_starred : {A E : Type 0} {r : Result A E} (progress : Bool) (numbers : List ℕ) {old new : StreamModel}
     → progress ≡ true → 0 < length numbers
-    → Writes (line (starred numbers)) old new r → DoesInLog (starred_acts progress numbers) (told r) old new
+    → WritesToStream (line (starred numbers)) old new r
+    → DoesInLog (starred_acts progress numbers) (log_ending r) old new
 said_starred progress [] is some writes = absurd (omega (arith, some))
 said_starred progress (n ∷ numbers) is some writes = said_when progress (starred (n ∷ numbers)) is writes

@@ -1,15 +1,15 @@
 -- Tokens of an expander that are printed, one after another.
-use Rattle.cweb_tools.proofs.Common.{◌≡◌, ℕ, List, [], ◌∷◌, ◌++◌, length, sym, ◌∙◌, ap, subst, append_assoc, append-nil, All-head, Bor, All, IsTrue, OnOk, Result, Ok, Err, Stored, Token, IsMarkBelow, left, PrintsFront, Adds, Moves, Prints, kept_of, setting_of, IsNamed, setting, Setting, file, print, Expander, Printer, PrintsSoFar, StaysReady, left_in}
+use Rattle.cweb_tools.proofs.Common.{◌≡◌, ℕ, List, [], ◌∷◌, ◌++◌, length, sym, ◌∙◌, ap, subst, append_assoc, append-nil, All-head, Bor, All, IsTrue, OnOk, Result, Ok, Err, Stored, Token, IsMarkBelow, left, PrintsPrefix, AddsBytes, Moves, PrintsToken, left_in_printer, setting_of, MarkFileIsNamed, setting, Setting, file, print, Expander, Printer, PrintsSoFar, StaysReady, left_in}
 use Rattle.cweb_files.specs.declared.device.Sink.{Ghosts as Sink}
-use Rattle.cweb_print.specs.Printed.{Ends}
+use Rattle.cweb_print.specs.surface.Printed.{EndsFile}
 use Rattle.cweb_tools.proofs.Marks.{all_back, mark_named}
-use Rattle.cweb_tools.proofs.Readies.{stays_on}
+use Rattle.cweb_tools.proofs.ReadyExpanders.{stays_on}
 
 -- the marks of what is left are named where those of all were
 pub next_named : {W : Type 0}
-    {sink : Sink W} {files : List (List ℕ)} {first now : Expander} {printer : Printer} {old new : W} {gathered : List ℕ}
-    (so_far : PrintsSoFar sink files first now printer old new gathered) (t : Token) (rest : List Token)
-    → All (IsMarkBelow (length files)) (left_in first) → left_in now ≡ t ∷ rest → IsNamed (setting_of printer) t
+    {sink : Sink W} {files : List (List ℕ)} {first now : Expander} {printer : Printer} {old new : W} {buffer : List ℕ}
+    (so_far : PrintsSoFar sink files first now printer old new buffer) (t : Token) (rest : List Token)
+    → All (IsMarkBelow (length files)) (left_in first) → left_in now ≡ t ∷ rest → MarkFileIsNamed (setting_of printer) t
 next_named {files = files} {first = first} {now = now} so_far t rest all gives =
     let behind : All (IsMarkBelow (length files)) (left_in now) = all_back (IsMarkBelow (length files)) so_far.done
     (left_in now) (subst (All (IsMarkBelow (length files))) so_far.whole all) in
@@ -20,7 +20,7 @@ next_named {files = files} {first = first} {now = now} so_far t rest all gives =
 -- what is written and gathered, with what was added to it
 more_written : (old : List ℕ) {new new' : List ℕ} (s s' : Setting) (done more : List Token)
     → s ≡ s' → new ≡ old ++ print s' done
-    → Adds (print s done) (print s (done ++ more)) new new' → new' ≡ old ++ print s' (done ++ more)
+    → AddsBytes (print s done) (print s (done ++ more)) new new' → new' ≡ old ++ print s' (done ++ more)
 more_written old s s' done more same written adds =
     adds.written
     ∙ ap (λ (b : List ℕ). b ++ adds.bytes) (written ∙ ap (λ (s : Setting). old ++ print s done) (sym same))
@@ -29,13 +29,13 @@ more_written old s s' done more same written adds =
 
 -- some more were printed to where bytes are gathered
 pub prints_front : {W : Type 0} {sink : Sink W} {files : List (List ℕ)}
-    {first mid : Expander} {printer printer' : Printer} {old new : W} {gathered gathered' : List ℕ} {now : Expander}
-    → PrintsSoFar sink files first mid printer old new gathered
+    {first mid : Expander} {printer printer' : Printer} {old new : W} {buffer buffer' : List ℕ} {now : Expander}
+    → PrintsSoFar sink files first mid printer old new buffer
     → StaysReady mid now → setting_of printer' ≡ setting_of printer
-    → PrintsFront printer printer' (left_in mid) (left mid.store.now now.frames.items) gathered gathered'
-    → PrintsSoFar sink files first now printer' old new gathered'
+    → PrintsPrefix printer printer' (left_in mid) (left mid.store.now now.frames.items) buffer buffer'
+    → PrintsSoFar sink files first now printer' old new buffer'
 prints_front {sink = sink} {files = files} {first = first} {mid = mid} {printer = printer}
-    {old = old} {new = new} {gathered = gathered} {gathered' = gathered'} {now} so_far ready same front =
+    {old = old} {new = new} {buffer = buffer} {buffer' = buffer'} {now} so_far ready same front =
     record {
       ready = stays_on so_far.ready ready;
       setting_is = same ∙ so_far.setting_is;
@@ -50,11 +50,11 @@ prints_front {sink = sink} {files = files} {first = first} {mid = mid} {printer 
       kept = front.moves so_far.done so_far.kept;
       written = λ told. more_written (sink.written old) (setting_of printer)
           (setting first.store.now files) so_far.done front.done so_far.setting_is (so_far.written told)
-          (adds_behind (sink.written new) gathered gathered' (front.prints so_far.done so_far.kept));
+          (adds_behind (sink.written new) buffer buffer' (front.prints so_far.done so_far.kept));
     }
   where
     adds_behind : {before after : List ℕ} (mid old new : List ℕ)
-        → Adds before after old new → Adds before after (mid ++ old) (mid ++ new)
+        → AddsBytes before after old new → AddsBytes before after (mid ++ old) (mid ++ new)
     adds_behind mid old new adds = record {
       bytes = adds.bytes;
       due = adds.due;
@@ -63,13 +63,13 @@ prints_front {sink = sink} {files = files} {first = first} {mid = mid} {printer 
 
 -- one more was printed
 pub prints_more : {W : Type 0} {sink : Sink W} {files : List (List ℕ)} {first : Expander}
-    {mid now : Expander} {printer printer' : Printer} {old new new' : W} {gathered gathered' : List ℕ} (t : Token)
-    → PrintsSoFar sink files first mid printer old new gathered → StaysReady mid now
+    {mid now : Expander} {printer printer' : Printer} {old new new' : W} {buffer buffer' : List ℕ} (t : Token)
+    → PrintsSoFar sink files first mid printer old new buffer → StaysReady mid now
     → left_in mid ≡ t ∷ left mid.store.now now.frames.items → setting_of printer' ≡ setting_of printer
-    → Moves (kept_of printer) t (kept_of printer') → sink.tells new' ≡ sink.tells new
+    → Moves (left_in_printer printer) t (left_in_printer printer') → sink.tells new' ≡ sink.tells new
     → sink.failed new' ≡ sink.failed new → (IsTrue (sink.tells new) → sink.beside new' ≡ sink.beside new)
-    → (IsTrue (sink.tells new) → Prints {A = Unit {0}} {E = Unit {0}} printer t (sink.written new ++ gathered)
-    (sink.written new' ++ gathered') (Ok tt)) → PrintsSoFar sink files first now printer' old new' gathered'
+    → (IsTrue (sink.tells new) → PrintsToken {A = Unit {0}} {E = Unit {0}} printer t (sink.written new ++ buffer)
+    (sink.written new' ++ buffer') (Ok tt)) → PrintsSoFar sink files first now printer' old new' buffer'
 prints_more {sink} {files} {first} {mid} {now} {printer} {old} {new}
     t so_far ready gives same moves tells failed beside prints =
     let tell : IsTrue (sink.tells old) → IsTrue (sink.tells new) = λ told. subst IsTrue (sym so_far.tells) told in
@@ -92,13 +92,13 @@ prints_more {sink} {files} {first} {mid} {now} {printer} {old} {new}
 
 -- nothing is left, and the last line was ended
 pub prints_all : {A E W : Type 0} {sink : Sink W} {files : List (List ℕ)} {first now : Expander} {printer : Printer}
-    {old new : W} {gathered : List ℕ} (new' : W) (gathered' : List ℕ) (r : Result A E)
-    → PrintsSoFar sink files first now printer old new gathered → left_in now ≡ []
-    → (IsTrue (sink.tells new) → Ends printer (sink.written new ++ gathered) (sink.written new' ++ gathered') r)
-    → OnOk r (gathered' ≡ []) → IsTrue (sink.tells old)
+    {old new : W} {buffer : List ℕ} (new' : W) (buffer' : List ℕ) (r : Result A E)
+    → PrintsSoFar sink files first now printer old new buffer → left_in now ≡ []
+    → (IsTrue (sink.tells new) → EndsFile printer (sink.written new ++ buffer) (sink.written new' ++ buffer') r)
+    → OnOk r (buffer' ≡ []) → IsTrue (sink.tells old)
     → OnOk r (sink.written new' ≡ sink.written old ++ file (setting first.store.now files) (left_in first))
 prints_all {sink = sink} {files = files} {first = first} {printer = printer}
-    {old = old} new' gathered' (Ok x) so_far none ends empty told =
+    {old = old} new' buffer' (Ok x) so_far none ends empty told =
     let done : List Token = so_far.done in
     let text : Setting → List ℕ = λ s. sink.written old ++ print s done in
     let adds = ends (subst IsTrue (sym so_far.tells) told) done so_far.kept in
@@ -109,4 +109,4 @@ prints_all {sink = sink} {files = files} {first = first} {printer = printer}
     ∙ ap (λ (s : Setting). sink.written old ++ file s done) so_far.setting_is
     ∙ ap (λ (ts : List Token). sink.written old ++ file (setting first.store.now files) ts)
     (sym (so_far.whole ∙ ap (λ (ts : List Token). done ++ ts) none ∙ append-nil done))
-prints_all new' gathered' (Err e) so_far none ends empty told = tt
+prints_all new' buffer' (Err e) so_far none ends empty told = tt

@@ -1,5 +1,5 @@
 -- How the exits of a run of `ctangle` that has begun its merge are its ends.
-use Rattle.cweb_tools.proofs.Common.{◌≤◌, ◌≡◌, ◌+◌, inl, inr, ℕ, List, [], ◌∷◌, ◌++◌, length, refl, sym, ◌∙◌, ap, IsTrue, Option, Some, None, names_found, World, Found, Event, SoFar, blame, StopsReading, files_named, read_blame, given_lines, told_faults, openings, taken_lines, IsWithinLimits, Begins, SourceFault, LINES, BYTES, Stop, Scanned, scanned, EndsEarly, Scans, stop_line, subject, Asked, Logs, SeenBins, SeenRun, SeenShelf, SeenStream, Act, Breaks, ending, Held, opens, reads, Course, found_course, merging, Closes, Does, halted, TangleCourse, tangling, web_acts, course_acts, course_status, tangled, web_of, web_status}
+use Rattle.cweb_tools.proofs.Common.{◌≤◌, ◌≡◌, ◌+◌, inl, inr, ℕ, List, [], ◌∷◌, ◌++◌, length, refl, sym, ◌∙◌, ap, IsTrue, Option, Some, None, names_found, World, Found, Event, SoFar, blame, StopsReading, files_named, read_failures_of, emitted_lines, reported_faults, openings, taken_lines, IsWithinLimits, BeginsMerge, SourceFault, LINES, BYTES, Stop, Scanned, scanned, ScanEndsEarly, Scans, stop_line, subject, OptionsModel, Logs, BinsModel, TangleDevices, ShelfModel, StreamModel, Act, Breaks, ending, DeviceState, opens, reads, Course, found_course, merging, Closes, Does, halted, TangleCourse, tangling, web_acts, course_acts, course_status, tangled, web_of, web_status}
 use Rattle.cweb_tools.proofs.Doing.{closes_on}
 use Rattle.cweb_tools.proofs.Exits.{begins_course, faults_told, limits_kept, names_told, opened_by}
 use Rattle.cweb_tools.proofs.Logging.{at}
@@ -7,10 +7,10 @@ use Rattle.cweb_tools.proofs.TangleExits.{either, can_come, EndsAs, looks, cours
 use Rattle.cweb_tools.proofs.ReadingStops.{left_by, left_told, reads_broke, read_by, silent_broke, reading_ends, reading_only, nothing_passes}
 
 -- a run that begins a merge, of which all this comes
-module _ (asked : Asked) (world : World) (found : Option Found) (changes : Option (Option Found))
-    (shelf shelf' : SeenShelf) (tells : shelf'.tells ≡ shelf.tells)
-    (bins : SeenBins) (l : SeenStream) (status : ℕ) (old new : SoFar) (all : List Event)
-    (begins : IsTrue shelf.tells → Begins world found changes old all) where
+module _ (asked : OptionsModel) (world : World) (found : Option Found) (changes : Option (Option Found))
+    (shelf shelf' : ShelfModel) (tells : shelf'.tells ≡ shelf.tells)
+    (bins : BinsModel) (l : StreamModel) (status : ℕ) (old new : SoFar) (all : List Event)
+    (begins : IsTrue shelf.tells → BeginsMerge world found changes old all) where
   abbrev merged : Course
   merged = found_course world asked.names.merge found changes
 
@@ -19,8 +19,8 @@ module _ (asked : Asked) (world : World) (found : Option Found) (changes : Optio
 
   -- files were opened, and reading them broke: those that were opened by then are named
   breaks_so : (stop : Stop) (opened files : List (List ℕ)) (events : List Event) (acts : List Act) → StopsReading stop
-      → shelf'.failed ≡ shelf.failed + read_blame stop → (IsTrue shelf.tells → shelf'.blamed ≡ shelf.blamed
-      ++ blame opened stop) → ((now : Held) → Breaks (reads files events) (ending stop (subject opened stop)) now
+      → shelf'.failed ≡ shelf.failed + read_failures_of stop → (IsTrue shelf.tells → shelf'.blamed ≡ shelf.blamed
+      ++ blame opened stop) → ((now : DeviceState) → Breaks (reads files events) (ending stop (subject opened stop)) now
       (left_by stop (subject opened stop) now)) → Does (opens ∷ reads files events ∷ acts)
       (Some (ending stop (subject opened stop))) (at shelf bins l) (at shelf' bins l)
   breaks_so stop opened files events acts kind failed blamed breaks = record {
@@ -37,7 +37,7 @@ module _ (asked : Asked) (world : World) (found : Option Found) (changes : Optio
     };
   }
 
-  halts : (stop : Stop) (about : List ℕ) (l' : SeenStream) (course : TangleCourse)
+  halts : (stop : Stop) (about : List ℕ) (l' : StreamModel) (course : TangleCourse)
       → StopsReading stop → Logs (stop_line stop about) l l' → status ≡ 1
       → Does (course_acts asked.shown course) (Some (ending stop about)) (at shelf bins l) (at shelf' bins l)
       → Closes (course_acts asked.shown course) (course_status course) (at shelf bins l) (at shelf' bins l') status
@@ -45,11 +45,12 @@ module _ (asked : Asked) (world : World) (found : Option Found) (changes : Optio
       (record { shelf = refl; bins = refl; log = reading_ends stop about kind logs }) answered
 
   -- reading ended before its end
-  pub read_stops : (stop : Stop) (opened : List (List ℕ)) (l' : SeenStream) → opened ≡ new.names → StopsReading stop
-      → (IsTrue shelf.tells → EndsEarly stop old new all) → shelf'.failed ≡ shelf.failed + read_blame stop
+  pub read_stops : (stop : Stop) (opened : List (List ℕ)) (l' : StreamModel) → opened ≡ new.names → StopsReading stop
+      → (IsTrue shelf.tells → ScanEndsEarly stop old new all) → shelf'.failed ≡ shelf.failed + read_failures_of stop
       → (IsTrue shelf.tells → shelf'.blamed ≡ shelf.blamed ++ blame new.names stop)
       → files_named stop ≤ length new.names → new.count.lines ≤ LINES → new.count.bytes ≤ BYTES
-      → Logs (stop_line stop (subject opened stop)) l l' → status ≡ 1 → EndsAs asked (tangled asked.names.main merged) (at shelf bins l) (at shelf' bins l') status
+      → Logs (stop_line stop (subject opened stop)) l l' → status ≡ 1
+      → EndsAs asked (tangled asked.names.main merged) (at shelf bins l) (at shelf' bins l') status
   read_stops stop opened l' opened_are kind why failed blamed named few small logs answered =
       let whose : IsTrue shelf.tells → shelf'.blamed ≡ shelf.blamed ++ blame opened stop = λ tell. blamed tell
       ∙ ap (λ (ns : List (List ℕ)). shelf.blamed ++ blame ns stop) (sym opened_are) in
@@ -84,7 +85,7 @@ module _ (asked : Asked) (world : World) (found : Option Found) (changes : Optio
       (opens ∷ reads files events ∷ []) None refl refl refl (λ now. inl (tt, inl (within, refl)))
 
   -- and the run went on with what it holds
-  pub read_whole : (files : List (List ℕ)) (faults : List SourceFault) (made : Scanned) (after : SeenRun) → files
+  pub read_whole : (files : List (List ℕ)) (faults : List SourceFault) (made : Scanned) (after : TangleDevices) → files
       ≡ new.names → faults ≡ new.faults → (IsTrue shelf.tells → Scans made old new all) → new.count.lines ≤ LINES
       → new.count.bytes ≤ BYTES → shelf'.failed ≡ shelf.failed → (IsTrue shelf.tells → shelf'.blamed ≡ shelf.blamed)
       → Closes (web_acts asked.shown (web_of files faults made asked.names.main))
@@ -102,9 +103,9 @@ module _ (asked : Asked) (world : World) (found : Option Found) (changes : Optio
             let gives = (scans told).gives in
             let of_files : files ≡ first ++ openings all =
             files_are ∙ names_told first all old new (begins told).so_far_is gives in
-            let of_faults : faults ≡ told_faults all =
+            let of_faults : faults ≡ reported_faults all =
             faults_are ∙ faults_told first all old new (begins told).so_far_is gives in
-            let of_text : made ≡ scanned (given_lines all) = (scans told).made in record {
+            let of_text : made ≡ scanned (emitted_lines all) = (scans told).made in record {
               taken = tangling files all web;
               can = record { faults = faults; made = made; is = refl };
               is = λ tell. (λ i. tangling (of_files i) all (web_of (of_files i) (of_faults i) (of_text i) main))

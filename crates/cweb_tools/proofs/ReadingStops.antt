@@ -1,41 +1,43 @@
 -- What a stop of reading leaves, and why reading ended before its end.
-use Rattle.cweb_tools.proofs.Common.{◌≤◌, ◌≡◌, ◌+◌, inl, inr, ℕ, List, [], ◌∷◌, ◌++◌, length, length-append, refl, sym, ◌∙◌, ap, add-zero, append-nil, arith, get_or-append, IsTrue, FileId, SourceLine, Event, took, SoFar, BreaksLimit, begun_with, blame, StopsFor, StopsReading, files_named, read_blame, openings, IsWithinLimits, LINE_LENGTH, LINES, BYTES, Stop, ReadFault, LineTooLong, TooMuchText, Memory, OutNotOpened, WriteFault, LogFault, StopsAfter, name_at, stop_line, subject, Logs, SeenBins, SeenShelf, SeenStream, Breaks, ending, Held, IsOfFile, reads, read_fails, AsTold, LogsEnding, bins_blame, log_blame}
-use Rattle.cweb_lines.proofs.Adds.{begun_none}
+use Rattle.cweb_tools.proofs.Common.{◌≤◌, ◌≡◌, ◌+◌, inl, inr, ℕ, List, [], ◌∷◌, ◌++◌, length, length-append, refl, sym, ◌∙◌, ap, add-zero, append-nil, arith, get_or-append, IsTrue, FileId, SourceLine, Event, took, SoFar, BreaksLimit, begun_with, blame, StopsFor, StopsReading, files_named, read_failures_of, openings, IsWithinLimits, LINE_LENGTH, LINES, BYTES, Stop, ReadFault, LineTooLong, TooMuchText, Memory, OutNotOpened, WriteFault, LogFault, StopsAfter, file_name_at, stop_line, subject, Logs, BinsModel, ShelfModel, StreamModel, Breaks, ending, DeviceState, IsOfFile, reads, read_fails, AgreesWith, LogsEnding, bins_blame, log_blame}
+use Rattle.cweb_lines.proofs.AddedEvents.{begun_none}
 use Rattle.cweb_lines.proofs.Stops.{stops_first}
-use Rattle.cweb_lines.specs.Texts.{Refuses}
+use Rattle.cweb_input.specs.OpenSources.{RefusesLine}
 use Rattle.cweb_tools.proofs.Exits.{breaks_limit}
 use Rattle.cweb_tools.proofs.Logging.{at}
 use Rattle.cweb_tools.proofs.TangleExits.{looked, shelf_told}
 
 -- the file that a stop names is among those that are opened in all
 of_file : (files opened rest : List (List ℕ)) (file : ℕ) → files ≡ opened ++ rest
-    → file + 1 ≤ length opened → IsOfFile files file (name_at opened file)
+    → file + 1 ≤ length opened → IsOfFile files file (file_name_at opened file)
 of_file files opened rest file are known = record {
   known = rw are (omega (arith, known, length-append opened rest));
   named = sym (get_or-append opened rest [] file (omega (arith, known)))
-      ∙ ap (λ (ns : List (List ℕ)). name_at ns file) (sym are);
+      ∙ ap (λ (ns : List (List ℕ)). file_name_at ns file) (sym are);
 }
 
 -- what a stop of reading leaves that is about this
-abbrev pub left_by : Stop → List ℕ → Held → Held
+abbrev pub left_by : Stop → List ℕ → DeviceState → DeviceState
 left_by (ReadFault file) about now = read_fails about now
 left_by stop about now = now
 
-pub left_told : (stop : Stop) (files : List (List ℕ)) {now : Held} (shelf shelf' : SeenShelf) (bins : SeenBins)
-    (l : SeenStream) → StopsReading stop → AsTold now (at shelf bins l) → shelf'.tells ≡ shelf.tells → shelf'.failed
-    ≡ shelf.failed + read_blame stop → (IsTrue shelf.tells → shelf'.blamed ≡ shelf.blamed ++ blame files stop)
-    → AsTold (left_by stop (subject files stop) now) (at shelf' bins l)
+pub left_told : (stop : Stop) (files : List (List ℕ)) {now : DeviceState} (shelf shelf' : ShelfModel) (bins : BinsModel)
+    (l : StreamModel) → StopsReading stop → AgreesWith now (at shelf bins l) → shelf'.tells ≡ shelf.tells
+    → shelf'.failed
+    ≡ shelf.failed + read_failures_of stop → (IsTrue shelf.tells → shelf'.blamed ≡ shelf.blamed ++ blame files stop)
+    → AgreesWith (left_by stop (subject files stop) now) (at shelf' bins l)
 left_told (ReadFault file) files {now} shelf shelf' bins l kind told tells blames blamed =
     shelf_told _ _ shelf shelf' bins l told (ap (λ (n : ℕ). n + 1) told.shelf_failed ∙ sym blames) (λ tell.
     let first : IsTrue shelf.tells = sym tells ∙ tell in
-    ap (λ (names : List (List ℕ)). names ++ name_at files file.0 ∷ []) (told.blamed first) ∙ sym (blamed first))
+    ap (λ (names : List (List ℕ)). names ++ file_name_at files file.0 ∷ []) (told.blamed first) ∙ sym (blamed first))
 left_told stop files {now} shelf shelf' bins l kind told tells blames blamed = looked shelf shelf' tells
     (blames ∙ add-zero shelf.failed) (λ tell. blamed tell ∙ append-nil shelf.blamed) bins l l now told
 
 -- why reading ended before its end
 pub reads_broke : (stop : Stop) (first opened rest : List (List ℕ)) (old new : SoFar) (all : List Event)
-    (now : Held) → old ≡ begun_with first → new.count.lines ≤ LINES → new.count.bytes ≤ BYTES → StopsReading stop
-    → StopsFor (StopsAfter stop old new all) stop → first ++ openings all ≡ opened ++ rest → files_named stop ≤ length opened → Breaks
+    (now : DeviceState) → old ≡ begun_with first → new.count.lines ≤ LINES → new.count.bytes ≤ BYTES → StopsReading stop
+    → StopsFor (StopsAfter stop old new all) stop → first ++ openings all ≡ opened ++ rest
+    → files_named stop ≤ length opened → Breaks
     (reads (first ++ openings all) all) (ending stop (subject opened stop)) now (left_by stop (subject opened stop) now)
 reads_broke (ReadFault file) first opened rest old new all now began few small kind why names known =
     (of_file _ opened rest file.0 names known, refl)
@@ -61,7 +63,7 @@ read_by TooMuchText = took (line_of (record { 0 = 0 }) 0 (BYTES + 1)) ∷ []
 read_by stop = []
 
 -- a merge whose first line breaks a limit
-breaks_first : (stop : Stop) (line : SourceLine) → Refuses stop (record { lines = 0; bytes = 0 }) line →
+breaks_first : (stop : Stop) (line : SourceLine) → RefusesLine stop (record { lines = 0; bytes = 0 }) line →
     BreaksLimit stop (took line ∷ [])
 breaks_first stop line why = record {
   first = [];
@@ -77,7 +79,7 @@ breaks_first stop line why = record {
   small = omega arith;
 }
 
-pub silent_broke : (stop : Stop) (files : List (List ℕ)) (now : Held) → StopsReading stop
+pub silent_broke : (stop : Stop) (files : List (List ℕ)) (now : DeviceState) → StopsReading stop
     → files_named stop ≤ length files
     → Breaks (reads files (read_by stop)) (ending stop (subject files stop)) now (left_by stop (subject files stop) now)
 silent_broke (ReadFault file) files now kind known = (record { known = omega (arith, known); named = refl }, refl)
@@ -94,7 +96,7 @@ silent_broke TooMuchText files now kind known = (
 silent_broke Memory files now kind known = refl
 silent_broke stop files now kind known = absurd kind
 
-pub reading_ends : (stop : Stop) (about : List ℕ) {l l' : SeenStream} → StopsReading stop
+pub reading_ends : (stop : Stop) (about : List ℕ) {l l' : StreamModel} → StopsReading stop
     → Logs (stop_line stop about) l l' → LogsEnding (ending stop about) l l'
 reading_ends LogFault about kind logs = absurd kind
 reading_ends stop about kind logs = logs

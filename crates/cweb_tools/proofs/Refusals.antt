@@ -1,7 +1,7 @@
 -- Plans that are refused, and those that are made.
-use Rattle.cweb_tools.proofs.Common.{◌≡◌, ℕ, List, refl, ap, subst, IfSome, Option, None, Some, Ok, Err, Stored, Planned, Refusal, bad_name, same_name, cycle, IsDue, PlanFault, Cycle, SameName, BadName, fault, line, plan_item, refusal_text, refused, plan_made, planning, planning_by, refusal_in}
+use Rattle.cweb_tools.proofs.Common.{◌≡◌, ℕ, List, refl, ap, subst, IfSome, Option, None, Some, Ok, Err, Stored, Planned, Refusal, bad_name, same_name, cycle, IsExpectedFault, PlanFault, Cycle, SameName, BadName, fault, line, plan_item, refusal_message, refused, plan_made, planning, planning_by, refusal_in}
 use Rattle.cweb_out.specs.Outputs as out
-use Rattle.cweb_plan.specs.declared.fault.PlanFault.TheVariants.{Memory}
+use Rattle.cweb_out.specs.declared.outputs.fault.PlanFault.TheVariants.{Memory}
 
 pub each_some : {A : Type 0} (o : Option A) (P : A → Type 0) → ((x : A) → o ≡ Some x → P x) → IfSome o P
 each_some None P each = tt
@@ -12,13 +12,13 @@ of_some {A = A} o x P is holds = let whole : IfSome (Some x) P = subst (λ (o : 
 
 -- the line of a fault that tells of a refusal
 pub refusal_line : (w : Stored) (main : List ℕ) (f : PlanFault) (r : Refusal)
-    → refusal_in f ≡ Some r → line (plan_item w main f) ≡ line (fault (refusal_text w main r))
+    → refusal_in f ≡ Some r → line (plan_item w main f) ≡ line (fault (refusal_message w main r))
 refusal_line w main (Cycle names) r is =
-    let same : cycle names.items ≡ r = cc in ap (λ (r : Refusal). line (fault (refusal_text w main r))) same
+    let same : cycle names.items ≡ r = cc in ap (λ (r : Refusal). line (fault (refusal_message w main r))) same
 refusal_line w main (SameName name) r is =
-    let same : same_name name ≡ r = cc in ap (λ (r : Refusal). line (fault (refusal_text w main r))) same
+    let same : same_name name ≡ r = cc in ap (λ (r : Refusal). line (fault (refusal_message w main r))) same
 refusal_line w main (BadName output) r is =
-    let same : bad_name output ≡ r = cc in ap (λ (r : Refusal). line (fault (refusal_text w main r))) same
+    let same : bad_name output ≡ r = cc in ap (λ (r : Refusal). line (fault (refusal_message w main r))) same
 refusal_line w main Memory r is = absurd (cc)
 
 -- the refusal of a fault that isn't want of memory is the one that is due
@@ -28,7 +28,7 @@ pub record IsRefused (w : Stored) (main : List ℕ) (f : PlanFault) : Type 0 whe
   pub due : out.planned w main ≡ Err refusal
 
 pub refused_by : {w : Stored} {main : List ℕ} (f : PlanFault)
-    → IsDue (out.planned w main) f → (f ≡ Memory → ⊥) → IsRefused w main f
+    → IsExpectedFault (out.planned w main) f → (f ≡ Memory → ⊥) → IsRefused w main f
 refused_by (Cycle names) due never = record { refusal = cycle names.items; told = refl; due = due }
 refused_by (SameName name) due never = record { refusal = same_name name; told = refl; due = due }
 refused_by (BadName output) due never = record { refusal = bad_name output; told = refl; due = due }
@@ -39,5 +39,5 @@ pub planning_made : (w : Stored) (files : List (List ℕ)) (main : List ℕ) (p 
 planning_made w files main p is = ap (planning_by w files main) is
 
 pub planning_refused : (w : Stored) (files : List (List ℕ)) (main : List ℕ) (r : Refusal)
-    → out.planned w main ≡ Err r → planning w files main ≡ refused (refusal_text w main r)
+    → out.planned w main ≡ Err r → planning w files main ≡ refused (refusal_message w main r)
 planning_refused w files main r is = ap (planning_by w files main) is

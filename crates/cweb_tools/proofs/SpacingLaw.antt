@@ -1,7 +1,7 @@
 -- The spacing law, by induction on the list.
-use Rattle.cweb_tools.proofs.Common.{◌≡◌, ℕ, Bool, true, false, cond, ◌==◌, not, List, [], ◌∷◌, ◌++◌, Option, Some, None, All, refl, ap, sym, ◌∙◌, append_assoc, codes, if◌then◌else◌, nat_le, decimal, list_all, flat_map-append, All-head, All-tail, list_all-append, Token, Word, Number, Literal, Punct, Blank, Newline, Join, Head, Tail, first_is, is_quiet, Reading, InPlainC, HasRead, IsRead, ReadsAlone, solid, is_between, doubled, at_doubled, is_hash, bytes_of, goes_on, Setting, print_after, file_text, word_text, kept, sep, are_apart, IsPlain, Spacing, is_ascii, and_parts, and_from, not-true}
+use Rattle.cweb_tools.proofs.Common.{◌≡◌, ℕ, Bool, true, false, cond, ◌==◌, not, List, [], ◌∷◌, ◌++◌, Option, Some, None, All, refl, ap, sym, ◌∙◌, append_assoc, codes, if◌then◌else◌, nat_le, decimal, list_all, flat_map-append, All-head, All-tail, list_all-append, Token, Word, Number, Literal, Punct, Blank, Newline, Join, Head, Tail, first_is, is_quiet, Reading, InPlainC, HasReadTokens, IsReadAs, ReadsAlone, significant, is_insignificant, doubled, at_doubled, is_hash, spelling_of, continues_token, Setting, print_after, file_token_bytes, word_bytes, without_joined_layout, sep, are_apart, IsPlain, Spacing, is_ascii, and_parts, and_from, not-true}
 use Rattle.cweb_rules.proofs.Joins.{unlike}
-use Rattle.cweb_scanner.specs.Run.{run}
+use Rattle.cweb_scan.specs.Lexemes.{lex}
 use Rattle.cweb_scan.proofs.Gaps.{one_more}
 use Rattle.cweb_scan.proofs.PlainStates.{nothing, and_then, no_directive}
 use Rattle.cweb_scan.proofs.PlainTokens.{newline_read, comment_read, comment_of, token_read, quiet_decimal}
@@ -10,11 +10,11 @@ use Rattle.cweb_tools.proofs.SpacingSeam.{seam, blank_after}
 
 -- THE TEXT OF A TOKEN
 
-ascii_text : (s : Setting) (b : List ℕ) → is_ascii b ≡ true → word_text s.replaced b ≡ b
+ascii_text : (s : Setting) (b : List ℕ) → is_ascii b ≡ true → word_bytes s.replaced b ≡ b
 ascii_text s [] h = refl
 ascii_text s (c ∷ b) h =
     let e = and_parts (not (nat_le 128 c)) (is_ascii b) h in
-    ap (λ v. (if v then s.replaced c else c ∷ []) ++ word_text s.replaced b) (not-true (nat_le 128 c) e.0)
+    ap (λ v. (if v then s.replaced c else c ∷ []) ++ word_bytes s.replaced b) (not-true (nat_le 128 c) e.0)
     ∙ ap (λ t. c ∷ t) (ascii_text s b e.1)
 
 quiet_doubled : (x : List ℕ) → list_all is_quiet x ≡ true → doubled x ≡ x
@@ -42,7 +42,7 @@ quiet_head n = list_all-append is_quiet (decimal n) (58 ∷ [])
     ∙ and_from (list_all is_quiet (decimal n)) true (quiet_decimal n) refl
 
 -- the first byte of a token's text
-text_first : (s : Setting) (left : Option Token) (u : Token) → IsPlain u → First u (doubled (file_text s left u))
+text_first : (s : Setting) (left : Option Token) (u : Token) → IsPlain u → First u (doubled (file_token_bytes s left u))
 text_first s left Blank h = record { byte = 32; rest = []; is = refl; starts = refl }
 text_first s left Newline h = record { byte = 10; rest = []; is = refl; starts = refl }
 text_first s left (Head n) h =
@@ -57,16 +57,17 @@ text_first s left _ h = absurd h
 
 -- ONE TOKEN
 
-pub run_blank : (r : Reading) (x : List ℕ) → InPlainC r.state → run r (32 ∷ x) ≡ run r x
+pub run_blank : (r : Reading) (x : List ℕ) → InPlainC r.state → lex r (32 ∷ x) ≡ lex r x
 run_blank r x h = one_more r 32 x h.in_c (no_directive r.state h) refl
 
 solid_read : {r : Reading} {u : Token} {rest : List ℕ} → ReadsAlone u → is_hash u ≡ false → InPlainC r.state
-    → first_is (goes_on joins u) rest ≡ false → IsRead r (doubled (bytes_of u)) rest (solid (u ∷ []))
+    → first_is (continues_token joins u) rest ≡ false → IsReadAs r (doubled (spelling_of u)) rest (significant (u ∷ []))
 solid_read {r} {u} {rest} h plain in_plain goes = token_read joins r u rest operators_join in_plain h plain goes
 
 -- what is read of a token's text, whatever follows that can't go on with it
 step : (s : Setting) (left : Option Token) {r : Reading} (u : Token) {rest : List ℕ} → IsPlain u → InPlainC r.state
-    → first_is (goes_on joins u) rest ≡ false → IsRead r (doubled (file_text s left u)) rest (solid (u ∷ []))
+    → first_is (continues_token joins u) rest ≡ false
+    → IsReadAs r (doubled (file_token_bytes s left u)) rest (significant (u ∷ []))
 step s left {r} Blank {rest} h plain goes =
     record { next = r; goes_on = run_blank r rest plain; read = nothing r.state plain }
 step s left {r} Newline {rest} h plain goes = newline_read r rest plain
@@ -87,34 +88,34 @@ Plains [] = Unit {0}
 Plains (t ∷ ts) = IsPlain t × Plains ts
 
 abbrev printed : Setting → Option Token → List Token → List ℕ
-printed s left ts = doubled (print_after (file_text s) left ts)
+printed s left ts = doubled (print_after (file_token_bytes s) left ts)
 
 abbrev blank_if : Bool → List ℕ
 blank_if v = if v then codes " " else []
 
 seam_after : (s : Setting) (u : Token) (ts : List Token) → Plains ts
-    → first_is (goes_on joins u) (printed s (Some u) ts) ≡ false
+    → first_is (continues_token joins u) (printed s (Some u) ts) ≡ false
 seam_after s u [] h = refl
 seam_after s u (v ∷ ts) h =
-    let text = file_text s (Some u) v in
-    let more = print_after (file_text s) (Some v) ts in
+    let text = file_token_bytes s (Some u) v in
+    let more = print_after (file_token_bytes s) (Some v) ts in
     let f = text_first s (Some u) v h.0 in
     elim (are_apart u v)
-    as (λ w. are_apart u v ≡ w → first_is (goes_on joins u) (doubled ((blank_if w ++ text) ++ more)) ≡ false) [
+    as (λ w. are_apart u v ≡ w → first_is (continues_token joins u) (doubled ((blank_if w ++ text) ++ more)) ≡ false) [
       | true ↦ λ e. blank_after u
       | false ↦ λ e.
-          ap (first_is (goes_on joins u)) (flat_map-append at_doubled text more)
-          ∙ ap (λ d. first_is (goes_on joins u) (d ++ doubled more)) f.is ∙ seam u v f.byte e f.starts
+          ap (first_is (continues_token joins u)) (flat_map-append at_doubled text more)
+          ∙ ap (λ d. first_is (continues_token joins u) (d ++ doubled more)) f.is ∙ seam u v f.byte e f.starts
     ] refl
 
 blank_before : (r : Reading) (v : Bool) (text more : List ℕ) → InPlainC r.state
-    → run r (doubled ((blank_if v ++ text) ++ more)) ≡ run r (doubled text ++ doubled more)
+    → lex r (doubled ((blank_if v ++ text) ++ more)) ≡ lex r (doubled text ++ doubled more)
 blank_before r true text more h =
-    run_blank r (doubled (text ++ more)) h ∙ ap (run r) (flat_map-append at_doubled text more)
-blank_before r false text more h = ap (run r) (flat_map-append at_doubled text more)
+    run_blank r (doubled (text ++ more)) h ∙ ap (lex r) (flat_map-append at_doubled text more)
+blank_before r false text more h = ap (lex r) (flat_map-append at_doubled text more)
 
 after_sep : (r : Reading) (left : Option Token) (t : Token) (text more : List ℕ) → InPlainC r.state
-    → run r (doubled ((sep left t ++ text) ++ more)) ≡ run r (doubled text ++ doubled more)
+    → lex r (doubled ((sep left t ++ text) ++ more)) ≡ lex r (doubled text ++ doubled more)
 after_sep r None t text more h = blank_before r false text more h
 after_sep r (Some l) t text more h = blank_before r (are_apart l t) text more h
 
@@ -122,25 +123,26 @@ one_first : (v : Bool) (t : Token) (us : List Token) → cond v (t ∷ []) [] ++
 one_first true t us = refl
 one_first false t us = refl
 
-solid_first : (t : Token) (ts : List Token) → solid (t ∷ []) ++ solid ts ≡ solid (t ∷ ts)
-solid_first t ts = one_first (not (is_between t)) t (solid ts)
+solid_first : (t : Token) (ts : List Token) → significant (t ∷ []) ++ significant ts ≡ significant (t ∷ ts)
+solid_first t ts = one_first (not (is_insignificant t)) t (significant ts)
 
 law_from : (s : Setting) (left : Option Token) (ts : List Token) → Plains ts → (r : Reading)
-    → InPlainC r.state → HasRead r.state (run r (printed s left ts)).state (solid ts)
+    → InPlainC r.state → HasReadTokens r.state (lex r (printed s left ts)).state (significant ts)
 law_from s left [] h r plain = nothing r.state plain
 law_from s left (t ∷ ts) h r plain =
-    let text = file_text s left t in
-    let more = print_after (file_text s) (Some t) ts in
+    let text = file_token_bytes s left t in
+    let more = print_after (file_token_bytes s) (Some t) ts in
     let one = step s left t h.0 plain (seam_after s t ts h.1) in
     let rest = law_from s (Some t) ts h.1 one.next one.read.plain in
     let whole =
-    and_then r.state one.next.state (run one.next (doubled more)).state (solid (t ∷ [])) (solid ts) one.read rest in
-    let is : run r (printed s left (t ∷ ts)) ≡ run one.next (doubled more) =
+    and_then r.state one.next.state (lex one.next (doubled more)).state (significant (t ∷ []))
+    (significant ts) one.read rest in
+    let is : lex r (printed s left (t ∷ ts)) ≡ lex one.next (doubled more) =
     after_sep r left t text more plain ∙ one.goes_on in
     rw is (rw (← (solid_first t ts)) whole)
 
 -- without a Join no layout is deleted
-all_kept : (ts : List Token) → Plains ts → kept false ts ≡ ts
+all_kept : (ts : List Token) → Plains ts → without_joined_layout false ts ≡ ts
 all_kept [] h = refl
 all_kept (Join ∷ ts) h = absurd h.0
 all_kept (t ∷ ts) h = ap (λ us. t ∷ us) (all_kept ts h.1)

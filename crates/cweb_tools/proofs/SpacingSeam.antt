@@ -1,7 +1,7 @@
 -- The first byte of what is printed can't go on with the token before.
-use Rattle.cweb_tools.proofs.Common.{◌≡◌, ℕ, Bool, true, false, ◌&&◌, ◌||◌, ◌==◌, not, List, [], ◌∷◌, refl, ap, sym, ◌∙◌, codes, nat_le, Token, Word, Number, Literal, Verbatim, Punct, Blank, Newline, Join, Defs, Name, Mark, is_one_of, is_digit, is_letter, is_word_byte, after_word, after_number, joins_last, goes_on, is_operator, last_is, are_apart, and-false, or_parts, and-true, or-false}
+use Rattle.cweb_tools.proofs.Common.{◌≡◌, ℕ, Bool, true, false, ◌&&◌, ◌||◌, ◌==◌, not, List, [], ◌∷◌, refl, ap, sym, ◌∙◌, codes, nat_le, Token, Word, Number, Literal, Verbatim, Punct, Blank, Newline, Join, Defs, Name, Mark, is_one_of, is_digit, is_letter, is_word_byte, after_word, after_number, joins_last, continues_token, is_operator, last_is, are_apart, and-false, or_parts, and-true, or-false}
 use Rattle.cweb_rules.proofs.Stays.{begins_number}
-use Rattle.cweb_print.specs.Spacing as print
+use Rattle.cweb_texts.specs.Edges as print
 use Rattle.cweb_tools.proofs.SpacingStarts.{joins, Starts, none_of}
 
 -- THE SEAM
@@ -51,7 +51,8 @@ before_comment b c apart h =
     ap (joins_last joins b) h ∙ not_both b 47 refl f.1
 
 -- where the rules put no blank, the byte that follows doesn't go on with the token
-pub seam : (left right : Token) (c : ℕ) → are_apart left right ≡ false → Starts right c → goes_on joins left c ≡ false
+pub seam : (left right : Token) (c : ℕ) → are_apart left right ≡ false → Starts right c
+    → continues_token joins left c ≡ false
 seam (Word b) (Word d) c apart h = cc
 seam (Word b) (Number d) c apart h = cc
 seam (Word b) (Literal d) c apart h = cc
@@ -96,6 +97,6 @@ seam (Punct b) _ c apart h = before_comment b c apart h
 seam _ right c apart h = refl
 
 -- a blank goes on with no token
-pub blank_after : (left : Token) → goes_on joins left 32 ≡ false
+pub blank_after : (left : Token) → continues_token joins left 32 ≡ false
 blank_after (Punct b) = never b 32 refl refl
 blank_after _ = refl

@@ -1,5 +1,5 @@
 -- The first byte of what is printed of a token.
-use Rattle.cweb_tools.proofs.Common.{◌≡◌, ℕ, Bool, true, false, cond, ◌&&◌, ◌||◌, ◌==◌, not, List, [], ◌∷◌, Some, None, refl, ap, sym, ◌∙◌, codes, list_all, Token, Word, Number, Literal, Punct, Blank, Newline, Head, Tail, is_one_of, is_digit, is_word_byte, is_white, first_is, JoinsAll, after_word, begins_as, text_in, Kind, Effect, GiveAt, End, Closed, ReadsAlone, doubled, token_of, bytes_of, literal_of, is_clean, is_operator, and_parts, or_parts, same_Some, not-true}
+use Rattle.cweb_tools.proofs.Common.{◌≡◌, ℕ, Bool, true, false, cond, ◌&&◌, ◌||◌, ◌==◌, not, List, [], ◌∷◌, Some, None, refl, ap, sym, ◌∙◌, codes, list_all, Token, Word, Number, Literal, Punct, Blank, Newline, Head, Tail, is_one_of, is_digit, is_word_byte, is_white, first_is, JoinsAll, after_word, begins_as, unescaped, Kind, Effect, EmitAt, End, Closed, ReadsAlone, doubled, token_of, spelling_of, literal_token, is_clean, is_operator, and_parts, or_parts, same_Some, not-true}
 use Rattle.cweb_rules.specs.Kinds as kind
 use Rattle.cweb_rules.proofs.Joins.{unlike}
 use Rattle.cweb_rules.proofs.Stays.{begins_number}
@@ -52,10 +52,10 @@ passes_none p set c h e =
     ]) refl
 
 code_first : (e : Effect) {d : List ℕ} {u : Token}
-    → token_of (kind.Code e) d ≡ Some u → d ≡ doubled (bytes_of u) → First u d
-code_first GiveAt {d} {u} t is =
+    → token_of (kind.Code e) d ≡ Some u → d ≡ doubled (spelling_of u) → First u d
+code_first EmitAt {d} {u} t is =
     let same = same_Some (Punct (64 ∷ [])) u t in
-    let at : d ≡ 64 ∷ 64 ∷ [] = is ∙ sym (ap (λ v. doubled (bytes_of v)) same) in
+    let at : d ≡ 64 ∷ 64 ∷ [] = is ∙ sym (ap (λ v. doubled (spelling_of v)) same) in
     rw (← same) (record { byte = 64; rest = 64 ∷ []; is = at; starts = (refl, [], refl) })
 code_first _ t is = cc
 
@@ -65,12 +65,12 @@ clean_is true b u t = (b, same_Some (Literal b) u t)
 clean_is false b u t = cc
 
 literal_is : (units : List (List ℕ)) (how : End) (u : Token)
-    → literal_of units how ≡ Some u → (b : List ℕ) × (Literal b ≡ u)
-literal_is units Closed u t = clean_is (is_clean units) (text_in units) u t
+    → literal_token units how ≡ Some u → (b : List ℕ) × (Literal b ≡ u)
+literal_is units Closed u t = clean_is (is_clean units) (unescaped units) u t
 literal_is units _ u t = cc
 
 first_by : (k : Kind) (b : ℕ) (d : List ℕ) {u : Token} → begins_as k b ≡ true
-    → token_of k (b ∷ d) ≡ Some u → b ∷ d ≡ doubled (bytes_of u) → First u (b ∷ d)
+    → token_of k (b ∷ d) ≡ Some u → b ∷ d ≡ doubled (spelling_of u) → First u (b ∷ d)
 first_by kind.Identifier b d {u} h t is =
     let e = and_parts (is_word_byte b) (not (is_digit b)) h in
     rw (← (same_Some (Word (b ∷ d)) u t))
@@ -92,7 +92,7 @@ first_by (kind.Code c) b d h t is = code_first c t is
 first_by _ b d h t is = cc
 
 first_in : (k : Kind) (d : List ℕ) {u : Token} → first_is (begins_as k) d ≡ true
-    → token_of k d ≡ Some u → d ≡ doubled (bytes_of u) → First u d
+    → token_of k d ≡ Some u → d ≡ doubled (spelling_of u) → First u d
 first_in k [] h t is = cc
 first_in k (b ∷ d) h t is = first_by k b d h t is
 

@@ -1,31 +1,32 @@
 -- The status of a run that nothing stops.
-use Rattle.cweb_tools.proofs.Common.{◌≡◌, ◌<◌, ◌+◌, ℕ, Bool, true, false, cond, ◌||◌, List, [], ◌∷◌, ◌++◌, map, refl, sym, ◌∙◌, ap, arith, nat_tests, sum_by-cons, or-true, or-false, list_any-append, ◌==◌, count_by, if◌then◌else◌, list_any, WebNotOpened, ChangeNotOpened, Item, banner, fault_count, faults, is_fault, no_errors, no_text, see_warning, stopped, Shown, Act, opens, reads, says, Numbers, Planning, TangleCourse, items_in, planned, planned_acts, refused, tangle_status, tangling, unread, not_there, change_not_there, web_acts, when, course_status, status_by}
+use Rattle.cweb_tools.proofs.Common.{◌≡◌, ◌<◌, ◌+◌, ℕ, Bool, true, false, cond, ◌||◌, List, [], ◌∷◌, ◌++◌, map, refl, sym, ◌∙◌, ap, arith, nat_tests, sum_by-cons, or-true, or-false, list_any-append, ◌==◌, count_by, if◌then◌else◌, list_any, WebNotOpened, ChangeNotOpened, LogItem, banner, fault_count, faults, is_fault, no_errors, no_text, see_warning, stopped, Shown, Act, opens, reads, says, Numbers, Planning, TangleCourse, logged_items, planned, planned_acts, refused, tangle_status, tangling, unread, not_there, change_not_there, web_acts, when, course_status, status_by}
 use Rattle.cweb_tools.proofs.WebActs.{when_on, starred_on, outputs_on, closing_on}
 
 -- whether acts log a fault
 abbrev has_fault : List Act → Bool
-has_fault acts = list_any is_fault (items_in acts)
+has_fault acts = list_any is_fault (logged_items acts)
 
 abbrev status_for : Bool → ℕ
 status_for fails = if fails then 1 else 0
 
-items_in-said : (items : List Item) (acts : List Act) → items_in (map says items ++ acts) ≡ items ++ items_in acts
+items_in-said : (items : List LogItem) (acts : List Act)
+    → logged_items (map says items ++ acts) ≡ items ++ logged_items acts
 items_in-said [] acts = refl
-items_in-said (item ∷ items) acts = ap (λ (all : List Item). item ∷ all) (items_in-said items acts)
+items_in-said (item ∷ items) acts = ap (λ (all : List LogItem). item ∷ all) (items_in-said items acts)
 
-fault-said : (items : List Item) (acts : List Act)
+fault-said : (items : List LogItem) (acts : List Act)
     → has_fault (map says items ++ acts) ≡ (list_any is_fault items || has_fault acts)
 fault-said items acts =
-    ap (list_any is_fault) (items_in-said items acts) ∙ list_any-append is_fault items (items_in acts)
+    ap (list_any is_fault) (items_in-said items acts) ∙ list_any-append is_fault items (logged_items acts)
 
 -- an item that is no fault
-abbrev IsQuiet : Item → Type 0
+abbrev IsQuiet : LogItem → Type 0
 IsQuiet item = is_fault item ≡ false
 
 abbrev Shows : Bool → List Act → Type 0
 Shows b acts = has_fault acts ≡ b
 
-quiet_on : (b : Bool) (item : Item) (acts : List Act) → IsQuiet item → Shows b acts → Shows b (says item ∷ acts)
+quiet_on : (b : Bool) (item : LogItem) (acts : List Act) → IsQuiet item → Shows b acts → Shows b (says item ∷ acts)
 quiet_on b item acts is rest = ap (λ (f : Bool). f || has_fault acts) is ∙ rest
 
 shuts : (none missing : Bool) (count : ℕ)
@@ -63,7 +64,7 @@ by_count : (b : Bool) (n : ℕ) → (b ≡ true → 0 < n) → (b ≡ false → 
 by_count true n some none = let more : 0 < n = some refl in grind (arith, nat_tests)
 by_count false n some none = ap (λ (m : ℕ). if m == 0 then 0 else 1) (sym (none refl))
 
-status_planned : (items : List Item) (plan : Planning)
+status_planned : (items : List LogItem) (plan : Planning)
     → status_for (list_any is_fault items || is_refused plan) ≡ status_by (fault_count items) plan
 status_planned items (refused text) = ap status_for (or-true (list_any is_fault items))
 status_planned items (planned files missing) = ap status_for (or-false (list_any is_fault items))

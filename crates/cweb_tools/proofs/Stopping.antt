@@ -1,39 +1,45 @@
 -- What is logged where something stops a run, and which counts rise.
-use Rattle.cweb_tools.proofs.Common.{◌≡◌, inl, inr, ℕ, List, [], ◌∷◌, ◌++◌, refl, sym, ◌∙◌, ap, append-nil, append_assoc, WritesFront, arith, add-zero, Some, flat_map, Stop, LogFault, stop_line, Item, line, Held, Act, says, after_act, ending, Breaks, Runs, LogsLine, LogsStop, items_in, IsStopped}
+use Rattle.cweb_tools.proofs.Common.{◌≡◌, inl, inr, ℕ, List, [], ◌∷◌, ◌++◌, refl, sym, ◌∙◌, ap, append-nil, append_assoc, WritesPrefix, arith, add-zero, Some, flat_map, Stop, LogFault, stop_line, LogItem, line, DeviceState, Act, says, after_act, ending, Breaks, PerformsActs, LogsLine, LogsStop, logged_items, IsStopped}
 use Rattle.cweb_tools.proofs.Leaving.{broken, stop_logged}
 
 -- a line was logged, or the log failed at it
-line_front : {text : List ℕ} (old new : Held) → LogsLine text old new
-    → WritesFront old.log new.log text × (new.log_failed ≡ old.log_failed → new.log ≡ old.log ++ text)
+line_front : {text : List ℕ} (old new : DeviceState) → LogsLine text old new
+    → WritesPrefix old.log new.log text × (new.log_failed ≡ old.log_failed → new.log ≡ old.log ++ text)
 line_front {text} old new (inl is) =
-    let log = ap (λ (d : Held). d.log) is in
+    let log = ap (λ (d : DeviceState). d.log) is in
     (record { front = text; rest = []; written = log; whole = sym (append-nil text) }, λ same. log)
 line_front old new (inr fails) = (
-  record { front = fails.front; rest = fails.rest; written = ap (λ (d : Held). d.log) fails.is; whole = fails.whole },
-  λ same. absurd (omega (arith, ap (λ (d : Held). d.log_failed) fails.is, same)),
+  record {
+    front = fails.front;
+    rest = fails.rest;
+    written = ap (λ (d : DeviceState). d.log) fails.is;
+    whole =
+        fails.whole;
+  },
+  λ same. absurd (omega (arith, ap (λ (d : DeviceState). d.log_failed) fails.is, same)),
 )
 
 -- a run that was stopped at its first act: the stop's line was logged, or the log failed at it, or at the act's own
 -- line
-stopped_at : (act : Act) (stop : Stop) {about : List ℕ} {old : Held} (mid : Held) {new : Held}
+stopped_at : (act : Act) (stop : Stop) {about : List ℕ} {old : DeviceState} (mid : DeviceState) {new : DeviceState}
     → Breaks act (ending stop about) old mid
     → LogsStop (ending stop about) mid new → (acts : List Act) → IsStopped (act ∷ acts) stop about old new
 stopped_at (says item) LogFault {old} mid fails is acts = record {
   log = record {
     before = item ∷ [];
-    later = items_in acts;
+    later = logged_items acts;
     whole = refl;
     front = record {
       front = fails.front;
       rest = fails.rest;
-      written = ap (λ (d : Held). d.log) (is ∙ fails.is);
+      written = ap (λ (d : DeviceState). d.log) (is ∙ fails.is);
       whole = append-nil (line item ++ []) ∙ append-nil (line item) ∙ fails.whole;
     };
-    all = λ same. absurd (omega (arith, ap (λ (d : Held). d.log_failed) (is ∙ fails.is), same));
+    all = λ same. absurd (omega (arith, ap (λ (d : DeviceState). d.log_failed) (is ∙ fails.is), same));
   };
-  shelf = ap (λ (d : Held). d.shelf_failed) (is ∙ fails.is) ∙ sym (add-zero old.shelf_failed);
-  bins = ap (λ (d : Held). d.bins_failed) (is ∙ fails.is) ∙ sym (add-zero old.bins_failed);
-  log_fails = λ _. ap (λ (d : Held). d.log_failed) (is ∙ fails.is);
+  shelf = ap (λ (d : DeviceState). d.shelf_failed) (is ∙ fails.is) ∙ sym (add-zero old.shelf_failed);
+  bins = ap (λ (d : DeviceState). d.bins_failed) (is ∙ fails.is) ∙ sym (add-zero old.bins_failed);
+  log_fails = λ _. ap (λ (d : DeviceState). d.log_failed) (is ∙ fails.is);
 }
 stopped_at act LogFault mid broke logs acts = absurd broke
 stopped_at act stop {about} {old} mid {new} broke logs acts =
@@ -44,25 +50,25 @@ stopped_at act stop {about} {old} mid {new} broke logs acts =
     record {
       log = record {
         before = [];
-        later = items_in (act ∷ acts);
+        later = logged_items (act ∷ acts);
         whole = refl;
         front = rw (← (left.log never).0) line.0;
         all = λ same. line.1 (same ∙ sym (left.log never).1)
             ∙ ap (λ (t : List ℕ). t ++ stop_line stop about) (left.log never).0;
       };
-      shelf = ap (λ (d : Held). d.shelf_failed) alone ∙ left.shelf;
-      bins = ap (λ (d : Held). d.bins_failed) alone ∙ left.bins;
+      shelf = ap (λ (d : DeviceState). d.shelf_failed) alone ∙ left.shelf;
+      bins = ap (λ (d : DeviceState). d.bins_failed) alone ∙ left.bins;
       log_fails = λ fault. absurd (never fault);
     }
 
 -- one more line was logged before that
-said_before : (item : Item) {acts : List Act} {stop : Stop} {about : List ℕ} {old new : Held}
+said_before : (item : LogItem) {acts : List Act} {stop : Stop} {about : List ℕ} {old new : DeviceState}
     → IsStopped acts stop about (after_act (says item) old) new → IsStopped (says item ∷ acts) stop about old new
 said_before item {stop} {about} {old} rest = record {
   log = record {
     before = item ∷ rest.log.before;
     later = rest.log.later;
-    whole = ap (λ (items : List Item). item ∷ items) rest.log.whole;
+    whole = ap (λ (items : List LogItem). item ∷ items) rest.log.whole;
     front = record {
       front = line item ++ rest.log.front.front;
       rest = rest.log.front.rest;
@@ -81,8 +87,9 @@ said_before item {stop} {about} {old} rest = record {
   log_fails = rest.log_fails;
 }
 
-pub is_stopped : (acts : List Act) {stop : Stop} {about : List ℕ} {old : Held} (mid : Held) {new : Held}
-    → Runs acts (Some (ending stop about)) old mid
+pub is_stopped : (acts : List Act) {stop : Stop} {about : List ℕ} {old : DeviceState} (mid : DeviceState)
+    {new : DeviceState}
+    → PerformsActs acts (Some (ending stop about)) old mid
     → LogsStop (ending stop about) mid new → IsStopped acts stop about old new
 is_stopped [] mid none logs = absurd none
 is_stopped (says item ∷ acts) {stop} {about} {old} mid {new} (inl run) logs =

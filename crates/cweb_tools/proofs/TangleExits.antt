@@ -1,5 +1,5 @@
 -- How the exits of a run of `ctangle` that come before its web is read are its ends.
-use Rattle.cweb_tools.proofs.Common.{◌≡◌, ◌⊎◌, inl, inr, ℕ, List, [], ◌∷◌, refl, sym, ◌∙◌, Bool, true, false, IsTrue, Option, Some, None, text_found, World, Found, Event, started, StartStops, given_lines, told_faults, merge, StopsAtStart, Stop, WebNotOpened, ChangeNotOpened, Memory, scanned, Item, line, stopped, start_subject, stop_line, Asked, Logs, SeenBins, SeenRun, SeenShelf, SeenStream, Act, Ending, Runs, rise, read_blame, bins_blame, log_blame, arith, ending, Held, opens, says, change_name, found_course, AsTold, Closes, Does, Follows, halted, TangleCourse, change_not_there, not_there, CanCome, course_acts, course_status, tangled}
+use Rattle.cweb_tools.proofs.Common.{◌≡◌, ◌⊎◌, inl, inr, ℕ, List, [], ◌∷◌, refl, sym, ◌∙◌, Bool, true, false, IsTrue, Option, Some, None, contents_found, World, Found, Event, started, StartStops, emitted_lines, reported_faults, merge, StopsAtStart, Stop, WebNotOpened, ChangeNotOpened, Memory, scanned, LogItem, line, stopped, start_subject, stop_line, OptionsModel, Logs, BinsModel, TangleDevices, ShelfModel, StreamModel, Act, Ending, PerformsActs, rise, read_failures_of, bins_blame, log_blame, arith, ending, DeviceState, opens, says, change_name, found_course, AgreesWith, Closes, Does, FollowsCourse, halted, TangleCourse, change_not_there, not_there, CanCome, course_acts, course_status, tangled}
 use Rattle.cweb_tools.proofs.Doing.{closes_on}
 use Rattle.cweb_tools.proofs.DoingFiles.{closes_told}
 use Rattle.cweb_tools.proofs.Logging.{at, logs_write, said}
@@ -10,17 +10,17 @@ either true = inl refl
 either false = inr (λ is. cc)
 
 -- a line that says what ended the run was logged, or the log failed at it
-pub told_last : (item : Item) (shelf : SeenShelf) (bins : SeenBins) {l l' : SeenStream} → Logs (line item) l l'
+pub told_last : (item : LogItem) (shelf : ShelfModel) (bins : BinsModel) {l l' : StreamModel} → Logs (line item) l l'
     → Closes (says item ∷ []) 1 (at shelf bins l) (at shelf bins l') 1
 told_last item shelf bins logs =
     let writes = logs_write logs in
     closes_told writes.0 (said item writes.1) refl refl shelf bins
 
 -- what the devices hold where the shelf alone was read
-pub shelf_told : {now : Held}
-    (count : ℕ) (blames : List (List ℕ)) (shelf shelf' : SeenShelf) (bins : SeenBins) (l : SeenStream)
-    → AsTold now (at shelf bins l) → count ≡ shelf'.failed → (IsTrue shelf'.tells → blames ≡ shelf'.blamed)
-    → AsTold (record now { shelf_failed = count; blamed = blames }) (at shelf' bins l)
+pub shelf_told : {now : DeviceState}
+    (count : ℕ) (blames : List (List ℕ)) (shelf shelf' : ShelfModel) (bins : BinsModel) (l : StreamModel)
+    → AgreesWith now (at shelf bins l) → count ≡ shelf'.failed → (IsTrue shelf'.tells → blames ≡ shelf'.blamed)
+    → AgreesWith (record now { shelf_failed = count; blamed = blames }) (at shelf' bins l)
 shelf_told count blames shelf shelf' bins l told counted blamed = record {
   shelf_failed = counted;
   blamed = blamed;
@@ -33,29 +33,30 @@ shelf_told count blames shelf shelf' bins l told counted blamed = record {
 }
 
 -- a run whose words ask for this can come to the course that its shelf's texts give
-pub can_come : (asked : Asked) (world : World) (found : Option Found) (changes : Option (Option Found))
+pub can_come : (asked : OptionsModel) (world : World) (found : Option Found) (changes : Option (Option Found))
     → CanCome (Some asked) (tangled asked.names.main (found_course world asked.names.merge found changes))
 can_come asked world None changes = refl
 can_come asked world (Some web) None = refl
 can_come asked world (Some web) (Some change) =
-    let events : List Event = merge world (started web.1 (text_found change)) in
-    record { faults = told_faults events; made = scanned (given_lines events); is = refl }
+    let events : List Event = merge world (started web.1 (contents_found change)) in
+    record { faults = reported_faults events; made = scanned (emitted_lines events); is = refl }
 
 -- how the last part of a run ends, behind its words
-abbrev pub EndsAs : Asked → TangleCourse → SeenRun → SeenRun → ℕ → Type 0
+abbrev pub EndsAs : OptionsModel → TangleCourse → TangleDevices → TangleDevices → ℕ → Type 0
 EndsAs asked course before after status =
-    Follows (course_acts asked.shown) course_status (CanCome (Some asked)) course before after status
+    FollowsCourse (course_acts asked.shown) course_status (CanCome (Some asked)) course before after status
 
 -- the shelf was looked at, and nothing else was done
-module _ (shelf shelf' : SeenShelf) (tells : shelf'.tells ≡ shelf.tells)
+module _ (shelf shelf' : ShelfModel) (tells : shelf'.tells ≡ shelf.tells)
     (failed : shelf'.failed ≡ shelf.failed) (blamed : IsTrue shelf.tells → shelf'.blamed ≡ shelf.blamed)
-    (bins : SeenBins) (l l' : SeenStream) where
-  pub looked : (now : Held) → AsTold now (at shelf bins l) → AsTold now (at shelf' bins l)
+    (bins : BinsModel) (l l' : StreamModel) where
+  pub looked : (now : DeviceState) → AgreesWith now (at shelf bins l) → AgreesWith now (at shelf' bins l)
   looked now told = shelf_told _ _ shelf shelf' bins l told (told.shelf_failed ∙ sym failed)
       (λ tell. let first : IsTrue shelf.tells = sym tells ∙ tell in told.blamed first ∙ sym (blamed first))
 
-  pub looks : (acts : List Act) (why : Option Ending) → rise read_blame why ≡ 0 → rise bins_blame why ≡ 0 → rise
-      log_blame why ≡ 0 → ((now : Held) → Runs acts why now now) → Does acts why (at shelf bins l) (at shelf' bins l)
+  pub looks : (acts : List Act) (why : Option Ending) → rise read_failures_of why ≡ 0 → rise bins_blame why ≡ 0 → rise
+      log_blame why ≡ 0 → ((now : DeviceState) → PerformsActs acts why now now)
+      → Does acts why (at shelf bins l) (at shelf' bins l)
   looks acts why no_read no_bins no_log runs = record {
     shelf_tells = tells;
     bins_tells = refl;
@@ -70,7 +71,7 @@ module _ (shelf shelf' : SeenShelf) (tells : shelf'.tells ≡ shelf.tells)
   not_opened : (acts : List Act) → Does (opens ∷ acts) (Some (ending Memory [])) (at shelf bins l) (at shelf' bins l)
   not_opened acts = looks (opens ∷ acts) (Some (ending Memory [])) refl refl refl (λ now. inr refl)
 
-  module _ (asked : Asked) (world : World) (status : ℕ) (answered : status ≡ 1) where
+  module _ (asked : OptionsModel) (world : World) (status : ℕ) (answered : status ≡ 1) where
     abbrev pub course : Option Found → Option (Option Found) → TangleCourse
     course found changes = tangled asked.names.main (found_course world asked.names.merge found changes)
 
@@ -88,7 +89,7 @@ module _ (shelf shelf' : SeenShelf) (tells : shelf'.tells ≡ shelf.tells)
     no_change (Some found) None web is = refl
     no_change (Some found) (Some change) web is = absurd (cc)
 
-    ends_said : (item : Item) → Logs (line item) l l'
+    ends_said : (item : LogItem) → Logs (line item) l l'
         → Closes (opens ∷ says item ∷ []) 1 (at shelf bins l) (at shelf' bins l') status
     ends_said item logs = closes_on
         (looks (opens ∷ []) None refl refl refl (λ now. inl (tt, refl))) (rw answered (told_last item shelf' bins logs))

@@ -1,15 +1,15 @@
 -- What holds of no acts, and goes on holding where an item is logged or a file is written, holds of what is done
 -- with a web.
-use Rattle.cweb_tools.proofs.Common.{ℕ, Bool, true, false, List, [], ◌∷◌, ◌++◌, map, subst, append-nil, File, Item, closing, starred, Shown, Act, says, writes, Numbers, closing_acts, outputs_acts, starred_acts, when}
+use Rattle.cweb_tools.proofs.Common.{ℕ, Bool, true, false, List, [], ◌∷◌, ◌++◌, map, subst, append-nil, File, LogItem, closing, starred, Shown, Act, says, writes, Numbers, closing_acts, outputs_acts, starred_acts, when}
 use Rattle.cweb_log.specs.Items.{counts, writing}
 
-module _ (Says : Item → Type 0) (P : List Act → Type 0)
-    (says_on : (item : Item) (acts : List Act) → Says item → P acts → P (says item ∷ acts)) where
-  pub when_on : (b : Bool) (item : Item) (acts : List Act) → Says item → P acts → P (when b item ++ acts)
+module _ (Says : LogItem → Type 0) (P : List Act → Type 0)
+    (says_on : (item : LogItem) (acts : List Act) → Says item → P acts → P (says item ∷ acts)) where
+  pub when_on : (b : Bool) (item : LogItem) (acts : List Act) → Says item → P acts → P (when b item ++ acts)
   when_on true item acts said rest = says_on item acts said rest
   when_on false item acts said rest = rest
 
-  pub said_on : (items : List Item) (acts : List Act) → ((item : Item) → Says item) → P acts
+  pub said_on : (items : List LogItem) (acts : List Act) → ((item : LogItem) → Says item) → P acts
       → P (map says items ++ acts)
   said_on [] acts said rest = rest
   said_on (item ∷ items) acts said rest = says_on item _ (said item) (said_on items acts said rest)

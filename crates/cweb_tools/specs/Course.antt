@@ -1,15 +1,15 @@
 -- What a run of `wmerge` writes and answers, as functions of the texts, the words and the folder of included files.
 use Rattle.std.specs.Prelude.{ℕ, List, [], ◌∷◌, ◌++◌, codes, Option, None, Some}
-use Rattle.cweb_lines.specs.Finding.{names_found, text_found}
-use Rattle.cweb_lines.specs.Include.{World, Found, web_at, change_at}
+use Rattle.cweb_input.specs.Finding.{names_found, contents_found}
+use Rattle.cweb_input.specs.Include.{World, Found, web_at, change_at}
 use Rattle.cweb_lines.specs.Merge.{Event, started}
-use Rattle.cweb_lines.specs.Told.{given_lines, told_faults, openings, taken_lines, IsWithinLimits}
+use Rattle.cweb_lines.specs.EventsByKind.{emitted_lines, reported_faults, openings, taken_lines, IsWithinLimits}
 use Rattle.cweb_lines.specs.Total.{merge}
-use Rattle.cweb_lines.specs.Writing.{text_of}
-use Rattle.cweb_open.specs.declared.fault.SourceFault.{SourceFault}
-use Rattle.cweb_open.specs.declared.stop.Stop.TheVariants.{Usage, WebNotOpened, ChangeNotOpened}
+use Rattle.cweb_lines.specs.Writing.{written_lines}
+use Rattle.cweb_input.specs.declared.fault.SourceFault.{SourceFault}
+use Rattle.cweb_input.specs.declared.stop.Stop.TheVariants.{Usage, WebNotOpened, ChangeNotOpened}
 use Rattle.cweb_log.specs.Log.{fault_lines, stop_line}
-use Rattle.cweb_log.specs.Words.{WebNames, asked_by}
+use Rattle.cweb_log.specs.Words.{WebNames}
 
 abbrev pub usage : List ℕ
 usage = codes "wmerge webfile[.w] [{changefile[.ch]|-}]"
@@ -37,32 +37,31 @@ change_name (Some name) = name
 abbrev pub found_course : World → WebNames → Option Found → Option (Option Found) → Course
 found_course world names None changes = not_there names.web
 found_course world names (Some web) None = change_not_there (change_name names.change)
-found_course world names (Some web) (Some change) = merging (web.0 ∷ names_found change) (merge world (started web.1 (text_found change)))
+found_course world names (Some web) (Some change) =
+    merging (web.0 ∷ names_found change) (merge world (started web.1 (contents_found change)))
 
-abbrev pub asked_course : World → Option WebNames → Course
-asked_course world None = unread
-asked_course world (Some names) = found_course world names (web_at world.texts names.web names.second) (change_at world.texts names.change)
+abbrev pub merge_course : World → Option WebNames → Course
+merge_course world None = unread
+merge_course world (Some names) =
+    found_course world names (web_at world.texts names.web names.second) (change_at world.texts names.change)
 
 -- the texts of a shelf, with the folder in which included files are sought too
 abbrev pub world_of : (List ℕ → Option (List ℕ)) → Option (List ℕ) → World
 world_of texts inputs = record { texts = texts; inputs = folder_of inputs }
-
-abbrev pub course_of : (List ℕ → Option (List ℕ)) → List (List ℕ) → Option (List ℕ) → Course
-course_of texts words inputs = asked_course (world_of texts inputs) (asked_by words)
 
 -- the merged lines, each with a newline
 abbrev pub merged : Course → List ℕ
 merged unread = []
 merged (not_there web) = []
 merged (change_not_there change) = []
-merged (merging names events) = text_of (given_lines events)
+merged (merging names events) = written_lines (emitted_lines events)
 
 -- the faults in their order, or the line of what stopped the run
 abbrev pub merge_log : Course → List ℕ
 merge_log unread = stop_line Usage usage
 merge_log (not_there web) = stop_line WebNotOpened web
 merge_log (change_not_there change) = stop_line ChangeNotOpened change
-merge_log (merging names events) = fault_lines (names ++ openings events) (told_faults events)
+merge_log (merging names events) = fault_lines (names ++ openings events) (reported_faults events)
 
 -- 0 where there is no fault
 abbrev pub fault_status : List SourceFault → ℕ
@@ -73,11 +72,11 @@ abbrev pub merge_status : Course → ℕ
 merge_status unread = 1
 merge_status (not_there web) = 1
 merge_status (change_not_there change) = 1
-merge_status (merging names events) = fault_status (told_faults events)
+merge_status (merging names events) = fault_status (reported_faults events)
 
 -- no line that the merge takes breaks the limits
-abbrev pub StaysWithin : Course → Type 0
-StaysWithin unread = Unit {0}
-StaysWithin (not_there web) = Unit {0}
-StaysWithin (change_not_there change) = Unit {0}
-StaysWithin (merging names events) = IsWithinLimits (taken_lines events)
+abbrev pub MergeKeepsLimits : Course → Type 0
+MergeKeepsLimits unread = Unit {0}
+MergeKeepsLimits (not_there web) = Unit {0}
+MergeKeepsLimits (change_not_there change) = Unit {0}
+MergeKeepsLimits (merging names events) = IsWithinLimits (taken_lines events)

@@ -1,13 +1,11 @@
 pub mod Acts
-pub mod Begun
 pub mod Course
 pub mod Does
-pub mod Expanders
 pub mod Headline
 pub mod Leaves
-pub mod Run
+pub mod MergePromises
 pub mod Script
 pub mod Tangle
-pub mod TangleRun
-pub mod Web
+pub mod TanglePromises
 pub mod Spacing
+pub mod inner

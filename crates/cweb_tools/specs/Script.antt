@@ -3,8 +3,9 @@ use Rattle.std.specs.Prelude.{ℕ, ◌+◌, Bool, true, false, List, [], ◌∷�
 use Rattle.std.specs.List.{flat_map, list_any}
 use Rattle.cweb_files.specs.Files.{File}
 use Rattle.cweb_lines.specs.Merge.{Event}
-use Rattle.cweb_open.specs.declared.stop.Stop.TheVariants.{Usage, WebNotOpened, ChangeNotOpened}
-use Rattle.cweb_log.specs.Items.{Item, line, banner, starred, fault, fault_count, no_text, writing, counts, closing, stopped, is_fault}
+use Rattle.cweb_input.specs.declared.stop.Stop.TheVariants.{Usage, WebNotOpened, ChangeNotOpened}
+use Rattle.cweb_log.specs.Items.{LogItem, line, banner, starred, fault, fault_count, no_text, writing, counts, closing}
+use Rattle.cweb_log.specs.Items.{stopped, is_fault}
 use Rattle.cweb_log.specs.declared.shown.Shown.{Shown}
 use Rattle.cweb_tools.specs.Acts.{Act, judges, says, opens, reads, plans, reserves, writes}
 
@@ -23,7 +24,7 @@ pub data Planning : Type 0 where
 -- its plan
 pub record Web : Type 0 where
   pub starred : List ℕ
-  pub faults : List Item
+  pub faults : List LogItem
   pub numbers : Numbers
   pub plan : Planning
 
@@ -36,14 +37,15 @@ pub data TangleCourse : Type 0 where
   tangling : List (List ℕ) → List Event → Web → TangleCourse
 
 -- a line that is logged only where it is asked for
-abbrev pub when : Bool → Item → List Act
+abbrev pub when : Bool → LogItem → List Act
 when true item = says item ∷ []
 when false item = []
 
 -- what comes after the outputs
 abbrev pub closing_acts : Shown → Numbers → ℕ → Bool → List Act
 closing_acts shown numbers count missing =
-    when shown.statistics (counts numbers.sections numbers.names numbers.macros) ++ when shown.closing (closing count missing)
+    when shown.statistics (counts numbers.sections numbers.names numbers.macros)
+    ++ when shown.closing (closing count missing)
 
 abbrev pub output_acts : Bool → File → List Act
 output_acts progress file = when progress (writing file.name) ++ writes file.name file.bytes ∷ []
@@ -66,7 +68,8 @@ starred_acts progress (n ∷ numbers) = when progress (starred (n ∷ numbers))
 -- what is done with a web that was read
 abbrev pub web_acts : Shown → Web → List Act
 web_acts shown web =
-    starred_acts shown.progress web.starred ++ (map says web.faults ++ (plans ∷ planned_acts shown web.numbers (fault_count web.faults) web.plan))
+    starred_acts shown.progress web.starred
+    ++ (map says web.faults ++ (plans ∷ planned_acts shown web.numbers (fault_count web.faults) web.plan))
 
 abbrev pub tangle_usage : List ℕ
 tangle_usage = codes "ctangle [options] webfile[.w] [{changefile[.ch]|-} [outfile[.c]]]"
@@ -75,27 +78,29 @@ tangle_usage = codes "ctangle [options] webfile[.w] [{changefile[.ch]|-} [outfil
 abbrev pub script : Shown → TangleCourse → List Act
 script shown unread = says (stopped Usage tangle_usage) ∷ []
 script shown (not_there web) = judges ∷ (when shown.banner banner ++ (opens ∷ says (stopped WebNotOpened web) ∷ []))
-script shown (change_not_there change) = judges ∷ (when shown.banner banner ++ (opens ∷ says (stopped ChangeNotOpened change) ∷ []))
-script shown (tangling names events web) = judges ∷ (when shown.banner banner ++ (opens ∷ reads names events ∷ web_acts shown web))
+script shown (change_not_there change) =
+    judges ∷ (when shown.banner banner ++ (opens ∷ says (stopped ChangeNotOpened change) ∷ []))
+script shown (tangling names events web) =
+    judges ∷ (when shown.banner banner ++ (opens ∷ reads names events ∷ web_acts shown web))
 
 -- the items that acts log
-abbrev pub items_in : List Act → List Item
-items_in [] = []
-items_in (says item ∷ acts) = item ∷ items_in acts
-items_in (_ ∷ acts) = items_in acts
+abbrev pub logged_items : List Act → List LogItem
+logged_items [] = []
+logged_items (says item ∷ acts) = item ∷ logged_items acts
+logged_items (_ ∷ acts) = logged_items acts
 
 -- the files that acts write
-abbrev pub files_in : List Act → List File
-files_in [] = []
-files_in (writes name text ∷ acts) = record { name = name; bytes = text } ∷ files_in acts
-files_in (_ ∷ acts) = files_in acts
+abbrev pub written_files : List Act → List File
+written_files [] = []
+written_files (writes name text ∷ acts) = record { name = name; bytes = text } ∷ written_files acts
+written_files (_ ∷ acts) = written_files acts
 
 -- the log, the files and the status of a whole run
 abbrev pub tangle_log : Shown → TangleCourse → List ℕ
-tangle_log shown course = flat_map line (items_in (script shown course))
+tangle_log shown course = flat_map line (logged_items (script shown course))
 
 abbrev pub tangle_files : Shown → TangleCourse → List File
-tangle_files shown course = files_in (script shown course)
+tangle_files shown course = written_files (script shown course)
 
 abbrev pub tangle_status : Shown → TangleCourse → ℕ
-tangle_status shown course = if list_any is_fault (items_in (script shown course)) then 1 else 0
+tangle_status shown course = if list_any is_fault (logged_items (script shown course)) then 1 else 0

@@ -3,10 +3,10 @@ use Rattle.std.specs.Prelude.{◌≡◌, Bool, true, false, nat_le, not, List, c
 use Rattle.std.specs.Prelude.{ℕ}
 use Rattle.std.specs.List.{list_all}
 use Rattle.cweb_store.specs.Parts.{Token, Word, Number, Literal, Punct, Blank, Newline, Head, Tail}
-use Rattle.cweb_scanner.specs.After.{Reading}
-use Rattle.cweb_scanner.specs.Directives.{is_punct}
-use Rattle.cweb_scanner.specs.Run.{run}
-use Rattle.cweb_scan.specs.Alone.{ReadsAlone, InPlainC, HasRead, doubled, solid, is_hash}
+use Rattle.cweb_scan.specs.After.{Reading}
+use Rattle.cweb_scan.specs.DirectiveTokens.{is_punct}
+use Rattle.cweb_scan.specs.Lexemes.{lex}
+use Rattle.cweb_scan.specs.Alone.{ReadsAlone, InPlainC, HasReadTokens, doubled, significant, is_hash}
 use Rattle.cweb_print.specs.Printing.{Setting, print}
 
 abbrev pub is_ascii : List ℕ → Bool
@@ -25,10 +25,11 @@ IsPlain (Tail section) = Unit {0}
 IsPlain (Word bytes) = (is_ascii bytes ≡ true) × ReadsAlone (Word bytes)
 IsPlain (Number bytes) = ReadsAlone (Number bytes)
 IsPlain (Literal bytes) = ReadsAlone (Literal bytes)
-IsPlain (Punct bytes) = (is_hash (Punct bytes) ≡ false) × (is_double_hash (Punct bytes) ≡ false) × ReadsAlone (Punct bytes)
+IsPlain (Punct bytes) = (is_hash (Punct bytes) ≡ false) × (is_double_hash (Punct bytes) ≡ false)
+    × ReadsAlone (Punct bytes)
 IsPlain token = ⊥
 
 -- printed, with each `@` doubled, they are read as these tokens again, wherever a C part is open and no directive in it
 abbrev pub Spacing : Type 0
 Spacing = (setting : Setting) (tokens : List Token) → All IsPlain tokens → (r : Reading) → InPlainC r.state →
-    HasRead r.state (run r (doubled (print setting tokens))).state (solid tokens)
+    HasReadTokens r.state (lex r (doubled (print setting tokens))).state (significant tokens)

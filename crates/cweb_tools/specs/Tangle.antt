@@ -1,31 +1,31 @@
 -- What a web holds by its lines and its faults, and how a run of `ctangle` goes by texts, words and folder.
-use Rattle.std.specs.Prelude.{◌≡◌, ℕ, ◌==◌, List, [], ◌∷◌, ◌++◌, map, count_by, Option, None, Some, Result, Ok, Err, if◌then◌else◌}
+use Rattle.std.specs.Prelude.{◌≡◌, ℕ, List, ◌++◌, map, count_by, Option, None, Some, Result, Ok, Err}
 use Rattle.cweb_files.specs.Files.{File}
-use Rattle.cweb_lines.specs.Include.{World}
-use Rattle.cweb_lines.specs.Told.{given_lines, told_faults, openings}
-use Rattle.cweb_open.specs.declared.fault.SourceFault.{SourceFault}
-use Rattle.cweb_open.specs.declared.stop.Stop.TheVariants.{WebNotOpened, ChangeNotOpened}
+use Rattle.cweb_input.specs.Include.{World}
+use Rattle.cweb_lines.specs.EventsByKind.{emitted_lines, reported_faults, openings}
+use Rattle.cweb_input.specs.declared.fault.SourceFault.{SourceFault}
 use Rattle.cweb_store.specs.Calls.{Stored}
 use Rattle.cweb_store.specs.Parts.{Part, is_macro}
-use Rattle.cweb_scanner.specs.Run.{Scanned, scanned}
+use Rattle.cweb_scan.specs.Lexemes.{Scanned, scanned}
 use Rattle.cweb_out.specs.Expansion.{expand}
 use Rattle.cweb_out.specs.Outputs as out
 use Rattle.cweb_out.specs.Outputs.{Output, Planned, Refusal, root_list}
 use Rattle.cweb_print.specs.Printers.{setting}
 use Rattle.cweb_print.specs.Printing.{file}
 use Rattle.cweb_out.specs.Uses.{names}
-use Rattle.cweb_log.specs.Items.{Item, fault_count, source_item, stopped}
-use Rattle.cweb_log.specs.Options.{Asked, shown_by_default}
-use Rattle.cweb_log.specs.WebItems.{name_items, refusal_text, scan_items}
+use Rattle.cweb_log.specs.Items.{LogItem, source_item}
+use Rattle.cweb_log.specs.Options.{OptionsModel, shown_by_default}
+use Rattle.cweb_log.specs.WebItems.{name_items, refusal_message, scan_items}
 use Rattle.cweb_log.specs.declared.shown.Shown.{Shown}
-use Rattle.cweb_tools.specs.Acts.{Act, opens, reads, says}
 use Rattle.cweb_tools.specs.Course as course
-use Rattle.cweb_tools.specs.Course.{Course, asked_course, change_name}
-use Rattle.cweb_tools.specs.Script.{Numbers, Planning, TangleCourse, Web, unread, not_there, change_not_there, tangling, refused, planned, web_acts}
+use Rattle.cweb_tools.specs.Course.{Course, merge_course, change_name}
+use Rattle.cweb_tools.specs.Script.{Numbers, Planning, TangleCourse, Web, unread, not_there, change_not_there, tangling}
+use Rattle.cweb_tools.specs.Script.{refused, planned}
 
 -- an output with all names replaced by their texts, as it is printed; marks name these files
 abbrev pub output_file : Stored → List (List ℕ) → Output → File
-output_file web files output = record { name = output.name; bytes = file (setting web files) (expand web (names web) (root_list web output.root)) }
+output_file web files output =
+    record { name = output.name; bytes = file (setting web files) (expand web (names web) (root_list web output.root)) }
 
 -- the outputs of a plan
 abbrev pub plan_made : Stored → List (List ℕ) → Planned → Planning
@@ -33,7 +33,7 @@ plan_made web files plan = planned (map (output_file web files) plan.outputs) pl
 
 abbrev pub planning_by : Stored → List (List ℕ) → List ℕ → Result Planned Refusal → Planning
 planning_by web files main (Ok plan) = plan_made web files plan
-planning_by web files main (Err refusal) = refused (refusal_text web main refusal)
+planning_by web files main (Err refusal) = refused (refusal_message web main refusal)
 
 -- the plan of a web whose main file has this name
 abbrev pub planning : Stored → List (List ℕ) → List ℕ → Planning
@@ -46,8 +46,9 @@ abbrev pub numbers_of : Scanned → Numbers
 numbers_of made = record { sections = made.sections; names = names made.store; macros = macro_count made.store }
 
 -- the faults of the files, of the text and of the names
-abbrev pub fault_items : List (List ℕ) → List SourceFault → Scanned → List Item
-fault_items files faults made = map (source_item files) faults ++ (scan_items files made.faults ++ name_items made.store)
+abbrev pub fault_items : List (List ℕ) → List SourceFault → Scanned → List LogItem
+fault_items files faults made =
+    map (source_item files) faults ++ (scan_items files made.faults ++ name_items made.store)
 
 -- a web that was read: the names of its files, the faults of web and change file, what the scan made of its lines, and the
 -- name of its main file
@@ -66,12 +67,12 @@ tangled main (course.not_there web) = not_there web
 tangled main (course.change_not_there change) = change_not_there change
 tangled main (course.merging first events) =
     let files = first ++ openings events in
-    tangling files events (web_of files (told_faults events) (scanned (given_lines events)) main)
+    tangling files events (web_of files (reported_faults events) (scanned (emitted_lines events)) main)
 
 -- how a run goes, by what its words ask for
-abbrev pub tangle_course : World → Option Asked → TangleCourse
+abbrev pub tangle_course : World → Option OptionsModel → TangleCourse
 tangle_course world None = unread
-tangle_course world (Some asked) = tangled asked.names.main (asked_course world (Some asked.names.merge))
+tangle_course world (Some asked) = tangled asked.names.main (merge_course world (Some asked.names.merge))
 
 -- what some web holds that was read, with files of these names and a main file of this one
 pub record IsWebOf (files : List (List ℕ)) (main : List ℕ) (web : Web) : Type 0 where
@@ -80,7 +81,7 @@ pub record IsWebOf (files : List (List ℕ)) (main : List ℕ) (web : Web) : Typ
   pub is : web ≡ web_of files faults made main
 
 -- a course to which a run can come whose words ask for this, whatever its shelf gives
-abbrev pub CanCome : Option Asked → TangleCourse → Type 0
+abbrev pub CanCome : Option OptionsModel → TangleCourse → Type 0
 CanCome None unread = Unit {0}
 CanCome (Some asked) (not_there web) = web ≡ asked.names.merge.web
 CanCome (Some asked) (change_not_there change) = change ≡ change_name asked.names.merge.change
@@ -88,27 +89,6 @@ CanCome (Some asked) (tangling files events web) = IsWebOf files asked.names.mai
 CanCome asked course = ⊥
 
 -- what its log shows
-abbrev pub shown_by : Option Asked → Shown
+abbrev pub shown_by : Option OptionsModel → Shown
 shown_by None = shown_by_default
 shown_by (Some asked) = asked.shown
-
--- the status of a run with so many faults that nothing stopped: a plan that is refused is a fault
-abbrev pub status_by : ℕ → Planning → ℕ
-status_by count (refused text) = 1
-status_by count (planned files missing) = if count == 0 then 0 else 1
-
-abbrev pub web_status : Web → ℕ
-web_status web = status_by (fault_count web.faults) web.plan
-
--- what is done once the words are read and the banner is logged
-abbrev pub course_acts : Shown → TangleCourse → List Act
-course_acts shown unread = []
-course_acts shown (not_there web) = opens ∷ says (stopped WebNotOpened web) ∷ []
-course_acts shown (change_not_there change) = opens ∷ says (stopped ChangeNotOpened change) ∷ []
-course_acts shown (tangling names events web) = opens ∷ reads names events ∷ web_acts shown web
-
-abbrev pub course_status : TangleCourse → ℕ
-course_status unread = 1
-course_status (not_there web) = 1
-course_status (change_not_there change) = 1
-course_status (tangling names events web) = web_status web

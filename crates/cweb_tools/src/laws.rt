@@ -3,14 +3,16 @@
 ghost use Rattle.std.specs.Prelude.{◌≡◌, ℕ, List, None};
 ghost use Rattle.cweb_lines.specs.Merge.{Event};
 ghost use Rattle.cweb_log.specs.declared.shown.Shown.{Shown};
-ghost use Rattle.cweb_tools.specs.Acts.{Held, TangleEnds};
+ghost use Rattle.cweb_tools.specs.Acts.{DeviceState, TangleEnds};
 ghost use Rattle.cweb_tools.specs.Leaves.{LeavesFiles};
-ghost use Rattle.cweb_tools.specs.Script.{TangleCourse, Web, refused, script, tangle_files, tangling};
+ghost use Rattle.cweb_tools.specs.Script.{TangleCourse, Web, refused, script, tangle_files};
+ghost use Rattle.cweb_tools.specs.Script.{tangling};
 ghost use Rattle.cweb_tools.specs.Spacing.{Spacing};
 
 /// The files that were committed are the first of those that are due, in their order, each whole; all others are as before.
-pub fn committed_files_are_the_first_of_those_due()
-    ensures { (shown : Shown) (course : TangleCourse) (due : ℕ) (old new : Held) (status : ℕ) →
+pub fn committed_files_are_a_prefix()
+    ensures { (shown : Shown) (course : TangleCourse) (due : ℕ) (old new : DeviceState)
+        (status : ℕ) →
         TangleEnds (script shown course) due old new status →
         LeavesFiles (tangle_files shown course) old.files new.files }
 {}
@@ -19,14 +21,15 @@ pub fn committed_files_are_the_first_of_those_due()
 pub fn refused_plans_write_no_file()
     ensures { (shown : Shown) (names : List (List ℕ)) (events : List Event) (web : Web)
         (text : List ℕ) → web.plan ≡ refused text →
-        (due : ℕ) (old new : Held) (status : ℕ) →
+        (due : ℕ) (old new : DeviceState) (status : ℕ) →
         TangleEnds (script shown (tangling names events web)) due old new status →
         new.files ≡ old.files }
 {}
 
 /// Where there was no draft before a run, there is none behind it.
 pub fn no_draft_remains()
-    ensures { (shown : Shown) (course : TangleCourse) (due : ℕ) (old new : Held) (status : ℕ) →
+    ensures { (shown : Shown) (course : TangleCourse) (due : ℕ) (old new : DeviceState)
+        (status : ℕ) →
         old.draft ≡ None →
         TangleEnds (script shown course) due old new status → new.draft ≡ None }
 {}

@@ -1,21 +1,24 @@
 // The outputs of a run, one after another.
-ghost use Rattle.std.specs.Prelude.{◌≡◌, ◌<◌, ◌+◌, ◌^◌, ◌++◌, ◌∷◌, [], length, All, IsTrue, IfErr, OnOk};
-ghost use Rattle.cweb_files.specs.Device.{Counts};
-ghost use Rattle.cweb_lines.specs.Names.{names_of};
+ghost use Rattle.std.specs.Prelude.{◌≡◌, ◌<◌, ◌+◌, ◌^◌, ◌++◌, ◌∷◌, [], length, All, IsTrue, IfErr};
+ghost use Rattle.std.specs.Prelude.{OnOk};
+ghost use Rattle.cweb_files.specs.Device.{CountsFailure};
+ghost use Rattle.cweb_input.specs.surface.OpenedFileNames.{opened_file_names};
 ghost use Rattle.cweb_store.specs.Parts.{all_tokens};
-ghost use Rattle.cweb_scan.specs.Scan.{IsMarkBelow};
-ghost use Rattle.cweb_out.specs.Outputs.{name_of};
+ghost use Rattle.cweb_scan.specs.surface.Scan.{IsMarkBelow};
+ghost use Rattle.cweb_out.specs.surface.Outputs.{output_name_at};
 ghost use Rattle.cweb_print.specs.Printers.{setting};
 ghost use Rattle.cweb_print.specs.Printing.{file};
-ghost use Rattle.cweb_log.specs.Seen.{seen_bins, seen_stream};
-ghost use Rattle.cweb_tools.specs.Acts.{ended, writes};
-ghost use Rattle.cweb_tools.specs.Does.{DoesInBins, DoesInBoth};
-ghost use Rattle.cweb_tools.specs.Expanders.{IsReady, StaysReady, ended_at, file_at, files_due, left_in, AreMarksBelow};
+ghost use Rattle.cweb_log.specs.DeviceModels.{bins_model, stream_model};
+ghost use Rattle.cweb_tools.specs.inner.Acts.{ending_of};
+ghost use Rattle.cweb_tools.specs.Acts.{writes};
+ghost use Rattle.cweb_tools.specs.inner.Does.{DoesInBins, DoesInBoth};
+ghost use Rattle.cweb_tools.specs.inner.Expanders.{IsReady, StaysReady, output_ending, file_at};
+ghost use Rattle.cweb_tools.specs.inner.Expanders.{planned_files, left_in, AreMarksBelow};
 ghost use Rattle.cweb_tools.specs.Script.{output_acts, outputs_acts};
 
 use crate::saying::say_writing;
 use cweb_lines::{FileNames, Sink, SinkFault, Stop};
-use cweb_out::{BinFault, Bins, Expander, Gathered, Printer};
+use cweb_out::{BinFault, Bins, Expander, OutBuffer, Printer};
 
 /// What stopped the writing of the outputs, and at which.
 #[derive(Clone, Copy)]
@@ -29,7 +32,7 @@ pub(crate) fn write_outputs<B: Bins, L: Sink>(
     progress: bool,
     names: &FileNames,
     expander: &mut Expander<'_>,
-    gathered: &mut Gathered,
+    buffer: &mut OutBuffer,
     bins: &mut B,
     log: &mut L,
 ) -> Result<(), Failed>
@@ -38,14 +41,14 @@ pub(crate) fn write_outputs<B: Bins, L: Sink>(
     requires bins_count { B.failed bins.old + 1 < 2 ^ 64 }
     requires log_count { L.failed log.old + 1 < 2 ^ 64 }
     ensures known { IfErr result (λ failed. failed.output < length expander.old.plan.now.outputs) }
-    ensures does { DoesInBoth (outputs_acts progress (files_due names.now expander.old))
-        (ended_at expander.old.plan.now.outputs result)
-        (seen_bins B.Sink bins.old) (seen_bins B.Sink bins.new)
-        (seen_stream L.Sink log.old) (seen_stream L.Sink log.new) }
+    ensures does { DoesInBoth (outputs_acts progress (planned_files names.now expander.old))
+        (output_ending expander.old.plan.now.outputs result)
+        (bins_model B.Sink bins.old) (bins_model B.Sink bins.new)
+        (stream_model L.Sink log.old) (stream_model L.Sink log.new) }
 {
     let plan = expander.plan;
     'outputs: for output in 0..plan.outputs() {
-        if let Err(stop) = write_output(progress, names, expander, gathered, output, bins, log) {
+        if let Err(stop) = write_output(progress, names, expander, buffer, output, bins, log) {
             return Err(Failed { stop, output });
         }
     }
@@ -57,7 +60,7 @@ fn write_output<B: Bins, L: Sink>(
     progress: bool,
     names: &FileNames,
     expander: &mut Expander<'_>,
-    gathered: &mut Gathered,
+    buffer: &mut OutBuffer,
     output: u32,
     bins: &mut B,
     log: &mut L,
@@ -69,22 +72,22 @@ fn write_output<B: Bins, L: Sink>(
     requires log_count { L.failed log.old + 1 < 2 ^ 64 }
     ensures stays { StaysReady expander.old expander.new }
     ensures does { DoesInBoth (output_acts progress (file_at names.now expander.old output))
-        (ended (name_of expander.old.plan.now.outputs output) result)
-        (seen_bins B.Sink bins.old) (seen_bins B.Sink bins.new)
-        (seen_stream L.Sink log.old) (seen_stream L.Sink log.new) }
+        (ending_of (output_name_at expander.old.plan.now.outputs output) result)
+        (bins_model B.Sink bins.old) (bins_model B.Sink bins.new)
+        (stream_model L.Sink log.old) (stream_model L.Sink log.new) }
 {
     let name = expander.plan.output_name(output);
     if let Err(_) = say_writing(progress, name, log) {
         return Err(Stop::LogFault);
     }
-    write_file(names, expander, gathered, output, bins)
+    write_file(names, expander, buffer, output, bins)
 }
 
 /// Begins an output, prints it and commits it.
 fn write_file<B: Bins>(
     names: &FileNames,
     expander: &mut Expander<'_>,
-    gathered: &mut Gathered,
+    buffer: &mut OutBuffer,
     output: u32,
     bins: &mut B,
 ) -> Result<(), Stop>
@@ -94,10 +97,10 @@ fn write_file<B: Bins>(
     requires count { B.failed bins.old + 1 < 2 ^ 64 }
     ensures stays { StaysReady expander.old expander.new }
     ensures does { DoesInBins
-        (writes (name_of expander.old.plan.now.outputs output)
+        (writes (output_name_at expander.old.plan.now.outputs output)
         (file_at names.now expander.old output).bytes ∷ [])
-        (ended (name_of expander.old.plan.now.outputs output) result)
-        (seen_bins B.Sink bins.old) (seen_bins B.Sink bins.new) }
+        (ending_of (output_name_at expander.old.plan.now.outputs output) result)
+        (bins_model B.Sink bins.old) (bins_model B.Sink bins.new) }
 {
     match bins.start_file(expander.plan.output_name(output)) {
         Ok(()) => {}
@@ -105,7 +108,7 @@ fn write_file<B: Bins>(
         Err(BinFault::Device) => return Err(Stop::OutNotOpened),
     }
     expander.restart(output);
-    if let Err(_) = print_all(names, expander, gathered, bins) {
+    if let Err(_) = print_all(names, expander, buffer, bins) {
         bins.abandon_file();
         return Err(Stop::WriteFault);
     }
@@ -119,29 +122,30 @@ fn write_file<B: Bins>(
 fn print_all<W: Sink>(
     names: &FileNames,
     expander: &mut Expander<'_>,
-    gathered: &mut Gathered,
+    buffer: &mut OutBuffer,
     out: &mut W,
 ) -> Result<(), SinkFault>
     requires ready { IsReady expander.old }
     requires known { AreMarksBelow names.now expander.old }
-    requires left { All (IsMarkBelow (length (names_of names.now))) (left_in expander.old) }
+    requires left { All (IsMarkBelow (length (opened_file_names names.now)))
+        (left_in expander.old) }
     requires count { W.failed out.old + 1 < 2 ^ 64 }
     ensures stays { StaysReady expander.old expander.new }
     ensures tells { W.tells out.new ≡ W.tells out.old }
-    ensures failed { Counts (W.failed out.old) (W.failed out.new) result }
+    ensures failed { CountsFailure (W.failed out.old) (W.failed out.new) result }
     ensures beside { IsTrue (W.tells out.old) → W.beside out.new ≡ W.beside out.old }
     ensures prints { IsTrue (W.tells out.old) → OnOk result (W.written out.new
-        ≡ W.written out.old ++ file (setting expander.old.store.now (names_of names.now))
+        ≡ W.written out.old ++ file (setting expander.old.store.now (opened_file_names names.now))
         (left_in expander.old)) }
 {
     let mut printer = Printer::new(expander.store, names);
-    gathered.clear();
+    buffer.clear();
     'tokens: loop {
-        expander.gather(&mut printer, gathered);
+        expander.append(&mut printer, buffer);
         let Some(token) = expander.next() else {
             break;
         };
-        printer.gather(token, gathered, out)?;
+        printer.append(token, buffer, out)?;
     }
-    printer.finish(gathered, out)
+    printer.finish(buffer, out)
 }

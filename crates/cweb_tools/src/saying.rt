@@ -1,21 +1,22 @@
 // The items of the log of `ctangle`, each where it is asked for.
 ghost use Rattle.std.specs.Prelude.{◌<◌, ◌+◌, ◌^◌};
 ghost use Rattle.cweb_log.specs.Items.{banner, closing, counts, no_text, starred, writing};
-ghost use Rattle.cweb_log.specs.Seen.{seen_stream};
-ghost use Rattle.cweb_tools.specs.Does.{DoesInLog, told};
+ghost use Rattle.cweb_log.specs.DeviceModels.{stream_model};
+ghost use Rattle.cweb_tools.specs.inner.Does.{DoesInLog, log_ending};
 ghost use Rattle.cweb_tools.specs.Script.{closing_acts, starred_acts, when};
-ghost use Rattle.cweb_tools.specs.Web.{counted};
+ghost use Rattle.cweb_tools.specs.inner.Web.{counted};
 
 use crate::web::Numbers;
 use cweb_lines::{Sink, SinkFault};
 use cweb_log::{
-    Shown, write_banner, write_closing, write_counts, write_no_text, write_starred, write_writing,
+    Shown, write_banner, write_closing, write_counts, write_no_program, write_starred,
+    write_writing,
 };
 
 pub(crate) fn say_banner<L: Sink>(shown: bool, log: &mut L) -> Result<(), SinkFault>
     requires { L.failed log.old + 1 < 2 ^ 64 }
-    ensures { DoesInLog (when shown banner) (told result)
-        (seen_stream L.Sink log.old) (seen_stream L.Sink log.new) }
+    ensures { DoesInLog (when shown banner) (log_ending result)
+        (stream_model L.Sink log.old) (stream_model L.Sink log.new) }
 {
     if !shown {
         return Ok(());
@@ -30,8 +31,8 @@ pub(crate) fn say_starred<L: Sink>(
     log: &mut L,
 ) -> Result<(), SinkFault>
     requires { L.failed log.old + 1 < 2 ^ 64 }
-    ensures { DoesInLog (starred_acts progress numbers.now) (told result)
-        (seen_stream L.Sink log.old) (seen_stream L.Sink log.new) }
+    ensures { DoesInLog (starred_acts progress numbers.now) (log_ending result)
+        (stream_model L.Sink log.old) (stream_model L.Sink log.new) }
 {
     if !progress || numbers.is_empty() {
         return Ok(());
@@ -39,22 +40,22 @@ pub(crate) fn say_starred<L: Sink>(
     write_starred(log, numbers)
 }
 
-pub(crate) fn say_no_text<L: Sink>(missing: bool, log: &mut L) -> Result<(), SinkFault>
+pub(crate) fn say_no_program_text<L: Sink>(missing: bool, log: &mut L) -> Result<(), SinkFault>
     requires { L.failed log.old + 1 < 2 ^ 64 }
-    ensures { DoesInLog (when missing no_text) (told result)
-        (seen_stream L.Sink log.old) (seen_stream L.Sink log.new) }
+    ensures { DoesInLog (when missing no_text) (log_ending result)
+        (stream_model L.Sink log.old) (stream_model L.Sink log.new) }
 {
     if !missing {
         return Ok(());
     }
-    write_no_text(log)
+    write_no_program(log)
 }
 
 /// That an output is begun, where progress is shown.
 pub(crate) fn say_writing<L: Sink>(progress: bool, name: &str, log: &mut L) -> Result<(), SinkFault>
     requires { L.failed log.old + 1 < 2 ^ 64 }
-    ensures { DoesInLog (when progress (writing name.now)) (told result)
-        (seen_stream L.Sink log.old) (seen_stream L.Sink log.new) }
+    ensures { DoesInLog (when progress (writing name.now)) (log_ending result)
+        (stream_model L.Sink log.old) (stream_model L.Sink log.new) }
 {
     if !progress {
         return Ok(());
@@ -71,8 +72,8 @@ pub(crate) fn say_end<L: Sink>(
     log: &mut L,
 ) -> Result<(), SinkFault>
     requires { L.failed log.old + 1 < 2 ^ 64 }
-    ensures { DoesInLog (closing_acts shown (counted numbers) count missing) (told result)
-        (seen_stream L.Sink log.old) (seen_stream L.Sink log.new) }
+    ensures { DoesInLog (closing_acts shown (counted numbers) count missing) (log_ending result)
+        (stream_model L.Sink log.old) (stream_model L.Sink log.new) }
 {
     say_counts(shown.statistics, numbers, log)?;
     say_closing(shown.closing, count, missing, log)
@@ -81,7 +82,7 @@ pub(crate) fn say_end<L: Sink>(
 fn say_counts<L: Sink>(shown: bool, numbers: Numbers, log: &mut L) -> Result<(), SinkFault>
     requires { L.failed log.old + 1 < 2 ^ 64 }
     ensures { DoesInLog (when shown (counts numbers.sections numbers.names numbers.macros))
-        (told result) (seen_stream L.Sink log.old) (seen_stream L.Sink log.new) }
+        (log_ending result) (stream_model L.Sink log.old) (stream_model L.Sink log.new) }
 {
     if !shown {
         return Ok(());
@@ -96,8 +97,8 @@ fn say_closing<L: Sink>(
     log: &mut L,
 ) -> Result<(), SinkFault>
     requires { L.failed log.old + 1 < 2 ^ 64 }
-    ensures { DoesInLog (when shown (closing count missing)) (told result)
-        (seen_stream L.Sink log.old) (seen_stream L.Sink log.new) }
+    ensures { DoesInLog (when shown (closing count missing)) (log_ending result)
+        (stream_model L.Sink log.old) (stream_model L.Sink log.new) }
 {
     if !shown {
         return Ok(());

@@ -1,9 +1,9 @@
 // What the runs share: the folder of included files, and what a stop is about.
 ghost use Rattle.std.specs.Prelude.{◌≡◌, ◌≤◌, length};
 ghost use Rattle.std.specs.Option.{option_copied};
-ghost use Rattle.cweb_lines.specs.Names as spec;
-ghost use Rattle.cweb_lines.specs.Texts.{files_named};
-ghost use Rattle.cweb_log.specs.Log.{subject};
+ghost use Rattle.cweb_input.specs.surface.OpenedFileNames as spec;
+ghost use Rattle.cweb_input.specs.OpenSources.{files_named};
+ghost use Rattle.cweb_log.specs.inner.Log.{subject};
 ghost use Rattle.cweb_tools.specs.Course.{folder_of};
 
 use cweb_lines::{FileNames, Stop};
@@ -20,8 +20,8 @@ pub(crate) fn folder(inputs: Option<&str>) -> Option<&str>
 
 /// What a stop within a merge is about.
 pub(crate) fn subject(names: &FileNames, stop: Stop) -> &str
-    requires { files_named stop ≤ length (spec.names_of names.now) }
-    ensures { result.now ≡ subject (spec.names_of names.now) stop }
+    requires { files_named stop ≤ length (spec.opened_file_names names.now) }
+    ensures { result.now ≡ subject (spec.opened_file_names names.now) stop }
 {
     match stop {
         Stop::ReadFault(file) | Stop::LineTooLong(file) => names.get(file),

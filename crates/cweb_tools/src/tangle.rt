@@ -1,35 +1,41 @@
 // A run of `ctangle`.
-ghost use Rattle.std.specs.Prelude.{◌≡◌, ◌≢◌, ◌<◌, ◌+◌, ◌^◌, ◌∷◌, ◌==◌, if◌then◌else◌, None, Some, map};
+ghost use Rattle.std.specs.Prelude.{◌≡◌, ◌≢◌, ◌<◌, ◌+◌, ◌^◌, ◌∷◌, ◌==◌, if◌then◌else◌, None, Some};
+ghost use Rattle.std.specs.Prelude.{map};
 ghost use Rattle.std.specs.List.{flat_map};
 ghost use Rattle.std.specs.Option.{option_copied};
-ghost use Rattle.cweb_scanner.specs.Seen.{seen};
-ghost use Rattle.cweb_out.specs.Outputs.{IsPlanOf};
-ghost use Rattle.cweb_log.specs.Gathering.{Writes};
+ghost use Rattle.cweb_scan.specs.surface.ScannedModel.{scanned_model};
+ghost use Rattle.cweb_out.specs.surface.Outputs.{IsPlanOf};
+ghost use Rattle.cweb_log.specs.inner.LogWriting.{WritesToStream};
 ghost use Rattle.cweb_log.specs.Items.{fault_count, line};
-ghost use Rattle.cweb_log.specs.Log.{start_subject};
-ghost use Rattle.cweb_log.specs.Options.{options_by, options_of};
-ghost use Rattle.cweb_log.specs.Seen.{seen_bins, seen_run, seen_stream};
+ghost use Rattle.cweb_log.specs.inner.Log.{start_subject};
+ghost use Rattle.cweb_log.specs.Options.{options_by};
+ghost use Rattle.cweb_log.specs.surface.Options.{options_of};
+ghost use Rattle.cweb_log.specs.DeviceModels.{bins_model, tangle_devices, stream_model};
 ghost use Rattle.cweb_tools.specs.Acts.{ending, plans};
 ghost use Rattle.cweb_tools.specs.Course.{world_of, change_name};
-ghost use Rattle.cweb_tools.specs.Does.{ClosesInBoth, DoesInLog, Follows, LogsEnding, told};
+ghost use Rattle.cweb_tools.specs.inner.Does.{ClosesInBoth, DoesInLog, FollowsCourse, LogsEnding};
+ghost use Rattle.cweb_tools.specs.inner.Does.{log_ending};
 ghost use Rattle.cweb_tools.specs.Headline.{TanglesFreely};
 ghost use Rattle.cweb_tools.specs.Script.{planned_acts, web_acts};
-ghost use Rattle.cweb_tools.specs.Tangle.{CanCome, course_acts, course_status, numbers_of, plan_made, status_by, tangle_course, web_status};
-ghost use Rattle.cweb_tools.specs.TangleRun.{TanglePromises};
-ghost use Rattle.cweb_tools.specs.Web.{IsKnown, faults_of, files_of, said_faults, web_in};
+ghost use Rattle.cweb_tools.specs.Tangle.{CanCome, numbers_of};
+ghost use Rattle.cweb_tools.specs.inner.Tangle.{course_acts, course_status};
+ghost use Rattle.cweb_tools.specs.Tangle.{plan_made, tangle_course};
+ghost use Rattle.cweb_tools.specs.inner.Tangle.{status_by, web_status};
+ghost use Rattle.cweb_tools.specs.TanglePromises.{TanglePromises};
+ghost use Rattle.cweb_tools.specs.inner.Web.{IsKnown, faults_of, files_of, said_faults, web_in};
 
 mod begun;
 mod unplanned;
 
 use crate::outputs::write_outputs;
-use crate::saying::{say_banner, say_end, say_no_text, say_starred};
+use crate::saying::{say_banner, say_end, say_no_program_text, say_starred};
 use crate::subjects::folder;
 use crate::tangle::begun::tangle_begun;
 use crate::tangle::unplanned::tangle_unplanned;
 use crate::web::{Numbers, Web};
 use cweb_lines::{Merger, Shelf, Sink, SinkFault, Stop};
 use cweb_log::{Options, Shown, log_stop, write_faults, write_name_faults, write_scan_faults};
-use cweb_out::{Bins, Expander, Gathered, Plan, plan};
+use cweb_out::{Bins, Expander, OutBuffer, Plan, plan};
 use std::alloc::Global;
 
 const USAGE: &str = "ctangle [options] webfile[.w] [{changefile[.ch]|-} [outfile[.c]]]";
@@ -47,16 +53,17 @@ pub fn run_ctangle<S: Shelf, B: Bins, L: Sink>(
     requires shelf_count { S.failed shelf.old + 1 < 2 ^ 64 }
     requires bins_count { B.failed bins.old + 1 < 2 ^ 64 }
     requires log_count { L.failed log.old + 1 < 2 ^ 64 }
-    ensures promises { let before = seen_run S.Shelf B.Sink L.Sink shelf.old bins.old log.old in
+    ensures promises { let before =
+        tangle_devices S.Shelf B.Sink L.Sink shelf.old bins.old log.old in
         let asked = options_by (map (λ word. word.now) words.now) in
         let world = world_of before.shelf.texts (option_copied inputs.entry) in
         TanglePromises world asked before
-        (seen_run S.Shelf B.Sink L.Sink shelf.new bins.new log.new) result }
-    ensures freely { let before = seen_run S.Shelf B.Sink L.Sink shelf.old bins.old log.old in
+        (tangle_devices S.Shelf B.Sink L.Sink shelf.new bins.new log.new) result }
+    ensures freely { let before = tangle_devices S.Shelf B.Sink L.Sink shelf.old bins.old log.old in
         let asked = options_by (map (λ word. word.now) words.now) in
         let world = world_of before.shelf.texts (option_copied inputs.entry) in
         TanglesFreely world asked before
-        (seen_run S.Shelf B.Sink L.Sink shelf.new bins.new log.new) result }
+        (tangle_devices S.Shelf B.Sink L.Sink shelf.new bins.new log.new) result }
     ensures untouched { options_by (map (λ word. word.now) words.now) ≡ None →
         (shelf.new ≡ shelf.old) × (bins.new ≡ bins.old) }
 {
@@ -82,12 +89,12 @@ fn tangle_named<S: Shelf, B: Bins, L: Sink>(
     requires shelf_count { S.failed shelf.old + 1 < 2 ^ 64 }
     requires bins_count { B.failed bins.old + 1 < 2 ^ 64 }
     requires log_count { L.failed log.old + 1 < 2 ^ 64 }
-    ensures { let before = seen_run S.Shelf B.Sink L.Sink shelf.old bins.old log.old in
+    ensures { let before = tangle_devices S.Shelf B.Sink L.Sink shelf.old bins.old log.old in
         let world = world_of before.shelf.texts (option_copied inputs.entry) in
         let course = tangle_course world (Some (options_of options.now)) in
-        Follows (course_acts (options_of options.now).shown) course_status
+        FollowsCourse (course_acts (options_of options.now).shown) course_status
         (CanCome (Some (options_of options.now))) course before
-        (seen_run S.Shelf B.Sink L.Sink shelf.new bins.new log.new) result }
+        (tangle_devices S.Shelf B.Sink L.Sink shelf.new bins.new log.new) result }
 {
     let started = Merger::start(
         alloc,
@@ -117,8 +124,8 @@ fn tangle_web<B: Bins, L: Sink>(
     requires log_count { L.failed log.old + 1 < 2 ^ 64 }
     ensures { ClosesInBoth (web_acts shown (web_in web.entry main.now))
         (web_status (web_in web.entry main.now))
-        (seen_bins B.Sink bins.old) (seen_bins B.Sink bins.new)
-        (seen_stream L.Sink log.old) (seen_stream L.Sink log.new) result }
+        (bins_model B.Sink bins.old) (bins_model B.Sink bins.new)
+        (stream_model L.Sink log.old) (stream_model L.Sink log.new) result }
 {
     if let Err(_) = say_starred(shown.progress, web.scanned.starred.as_slice(), log) {
         return 1;
@@ -136,8 +143,8 @@ fn tangle_web<B: Bins, L: Sink>(
 fn say_faults<L: Sink>(web: Web<'_>, log: &mut L) -> Result<(), SinkFault>
     requires known { IsKnown web }
     requires count { L.failed log.old + 1 < 2 ^ 64 }
-    ensures { DoesInLog (said_faults web.entry) (told result)
-        (seen_stream L.Sink log.old) (seen_stream L.Sink log.new) }
+    ensures { DoesInLog (said_faults web.entry) (log_ending result)
+        (stream_model L.Sink log.old) (stream_model L.Sink log.new) }
 {
     if web.fault_count() == 0 {
         return Ok(());
@@ -148,8 +155,8 @@ fn say_faults<L: Sink>(web: Web<'_>, log: &mut L) -> Result<(), SinkFault>
 fn write_web_faults<L: Sink>(web: Web<'_>, log: &mut L) -> Result<(), SinkFault>
     requires known { IsKnown web }
     requires count { L.failed log.old + 1 < 2 ^ 64 }
-    ensures { Writes (flat_map line (faults_of web.entry))
-        (seen_stream L.Sink log.old) (seen_stream L.Sink log.new) result }
+    ensures { WritesToStream (flat_map line (faults_of web.entry))
+        (stream_model L.Sink log.old) (stream_model L.Sink log.new) result }
 {
     write_faults(log, web.names, web.faults)?;
     write_scan_faults(log, web.names, web.scanned.faults.as_slice())?;
@@ -172,27 +179,27 @@ fn tangle_planned<B: Bins, L: Sink>(
     requires log_count { L.failed log.old + 1 < 2 ^ 64 }
     ensures { ClosesInBoth
         (planned_acts shown
-        (numbers_of (seen web.entry.scanned.now)) (fault_count (faults_of web.entry))
+        (numbers_of (scanned_model web.entry.scanned.now)) (fault_count (faults_of web.entry))
         (plan_made web.entry.scanned.now.store (files_of web.entry) plan.now))
         (status_by (fault_count (faults_of web.entry))
         (plan_made web.entry.scanned.now.store (files_of web.entry) plan.now))
-        (seen_bins B.Sink bins.old) (seen_bins B.Sink bins.new)
-        (seen_stream L.Sink log.old) (seen_stream L.Sink log.new) result }
+        (bins_model B.Sink bins.old) (bins_model B.Sink bins.new)
+        (stream_model L.Sink log.old) (stream_model L.Sink log.new) result }
 {
-    if let Err(_) = say_no_text(plan.no_text(), log) {
+    if let Err(_) = say_no_program_text(plan.no_text(), log) {
         return 1;
     }
     let Ok(mut expander) = Expander::new(alloc, web.store(), plan, 0) else {
         return log_stop(log, Stop::Memory, "");
     };
-    let Ok(mut gathered) = Gathered::new(alloc) else {
+    let Ok(mut buffer) = OutBuffer::new(alloc) else {
         return log_stop(log, Stop::Memory, "");
     };
     if let Err(failed) = write_outputs(
         shown.progress,
         web.names,
         &mut expander,
-        &mut gathered,
+        &mut buffer,
         bins,
         log,
     ) {
@@ -217,7 +224,7 @@ fn log_failed<L: Sink>(log: &mut L, stop: Stop, name: &str) -> u8
     requires { stop ≢ Stop.LogFault → L.failed log.old + 1 < 2 ^ 64 }
     ensures status { result ≡ 1 }
     ensures logs { LogsEnding (ending stop name.now)
-        (seen_stream L.Sink log.old) (seen_stream L.Sink log.new) }
+        (stream_model L.Sink log.old) (stream_model L.Sink log.new) }
 {
     if let Stop::LogFault = stop {
         return 1;

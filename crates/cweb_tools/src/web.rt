@@ -1,9 +1,9 @@
 // A web that was read, and how much it holds.
 ghost use Rattle.std.specs.Prelude.{◌≡◌, ◌<◌, ◌^◌, length};
-ghost use Rattle.cweb_scanner.specs.Seen.{seen};
+ghost use Rattle.cweb_scan.specs.surface.ScannedModel.{scanned_model};
 ghost use Rattle.cweb_log.specs.Items.{fault_count};
 ghost use Rattle.cweb_tools.specs.Tangle.{numbers_of};
-ghost use Rattle.cweb_tools.specs.Web.{counted, faults_of};
+ghost use Rattle.cweb_tools.specs.inner.Web.{counted, faults_of};
 
 use cweb_lines::{FileNames, SourceFault};
 use cweb_scan::Scanned;
@@ -19,7 +19,7 @@ pub(crate) struct Numbers {
 
 impl Numbers {
     pub(crate) fn of(scanned: &Scanned) -> Numbers
-        ensures { counted result ≡ numbers_of (seen scanned.now) }
+        ensures { counted result ≡ numbers_of (scanned_model scanned.now) }
     {
         Numbers {
             sections: scanned.sections,

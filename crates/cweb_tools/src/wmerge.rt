@@ -1,25 +1,28 @@
 // A run of `wmerge`.
 ghost use Rattle.std.specs.Prelude.{◌≡◌, ◌≢◌, ◌<◌, ◌≤◌, ◌+◌, ◌^◌, length, map, All, None, Some};
 ghost use Rattle.std.specs.Option.{option_copied};
-ghost use Rattle.cweb_lines.specs.Names as spec;
-ghost use Rattle.cweb_lines.specs.Texts.{files_named};
-ghost use Rattle.cweb_lines.specs.Whole.{stop_in};
-ghost use Rattle.cweb_log.specs.Gathering.{Logs};
-ghost use Rattle.cweb_log.specs.Log.{fault_lines, start_subject, stop_line, subject};
-ghost use Rattle.cweb_log.specs.Seen.{seen, seen_stream};
-ghost use Rattle.cweb_log.specs.Words.{asked_by, names_of};
-ghost use Rattle.cweb_tools.specs.Begun.{MergesBegun};
-ghost use Rattle.cweb_tools.specs.Course.{asked_course, change_name, fault_status, folder_of, world_of};
+ghost use Rattle.cweb_input.specs.surface.OpenedFileNames as spec;
+ghost use Rattle.cweb_input.specs.OpenSources.{files_named};
+ghost use Rattle.cweb_lines.specs.surface.MergerCalls.{stop_in};
+ghost use Rattle.cweb_log.specs.LogWriting.{Logs};
+ghost use Rattle.cweb_log.specs.Log.{fault_lines, stop_line};
+ghost use Rattle.cweb_log.specs.inner.Log.{start_subject, subject};
+ghost use Rattle.cweb_log.specs.DeviceModels.{merge_devices, stream_model};
+ghost use Rattle.cweb_log.specs.Words.{web_names_by};
+ghost use Rattle.cweb_log.specs.inner.Words.{merge_word_names};
+ghost use Rattle.cweb_tools.specs.inner.Begun.{MergesBegun};
+ghost use Rattle.cweb_tools.specs.Course.{merge_course, change_name, fault_status, folder_of};
+ghost use Rattle.cweb_tools.specs.Course.{world_of};
 ghost use Rattle.cweb_tools.specs.Headline.{MergesFreely};
-ghost use Rattle.cweb_tools.specs.Run.{Merges, Promises};
+ghost use Rattle.cweb_tools.specs.MergePromises.{Merges, MergePromises};
 
 use crate::subjects::{folder, subject};
-use cweb_lines::{FileNames, Merger, Shelf, Sink, SourceFault, Stop, write_merged_in_pieces};
+use cweb_lines::{FileNames, Merger, Shelf, Sink, SourceFault, Stop, write_merged_in_chunks};
 use cweb_log::{MergeWords, log_stop, write_faults};
 use std::alloc::Global;
 
 /// The bytes that are gathered before they are written.
-const PIECE: usize = 65536;
+const CHUNK_SIZE: usize = 65536;
 
 const USAGE: &str = "wmerge webfile[.w] [{changefile[.ch]|-}]";
 
@@ -36,16 +39,16 @@ pub fn run_wmerge<S: Shelf, W: Sink, L: Sink>(
     requires shelf_count { S.failed shelf.old + 1 < 2 ^ 64 }
     requires out_count { W.failed out.old + 1 < 2 ^ 64 }
     requires log_count { L.failed log.old + 1 < 2 ^ 64 }
-    ensures promises { let before = seen S.Shelf W.Sink L.Sink shelf.old out.old log.old in
-        let asked = asked_by (map (λ word. word.now) words.now) in
+    ensures promises { let before = merge_devices S.Shelf W.Sink L.Sink shelf.old out.old log.old in
+        let asked = web_names_by (map (λ word. word.now) words.now) in
         let world = world_of before.shelf.texts (option_copied inputs.entry) in
-        Promises world asked before (seen S.Shelf W.Sink L.Sink shelf.new out.new log.new) result }
-    ensures freely { let before = seen S.Shelf W.Sink L.Sink shelf.old out.old log.old in
-        let asked = asked_by (map (λ word. word.now) words.now) in
+        MergePromises world asked before (merge_devices S.Shelf W.Sink L.Sink shelf.new out.new log.new) result }
+    ensures freely { let before = merge_devices S.Shelf W.Sink L.Sink shelf.old out.old log.old in
+        let asked = web_names_by (map (λ word. word.now) words.now) in
         let world = world_of before.shelf.texts (option_copied inputs.entry) in
         MergesFreely world asked before
-        (seen S.Shelf W.Sink L.Sink shelf.new out.new log.new) result }
-    ensures untouched { asked_by (map (λ word. word.now) words.now) ≡ None →
+        (merge_devices S.Shelf W.Sink L.Sink shelf.new out.new log.new) result }
+    ensures untouched { web_names_by (map (λ word. word.now) words.now) ≡ None →
         (shelf.new ≡ shelf.old) × (out.new ≡ out.old) }
 {
     let asked = match MergeWords::read(alloc, words) {
@@ -66,10 +69,10 @@ fn merge_web<S: Shelf, W: Sink, L: Sink>(
     requires shelf_count { S.failed shelf.old + 1 < 2 ^ 64 }
     requires out_count { W.failed out.old + 1 < 2 ^ 64 }
     requires log_count { L.failed log.old + 1 < 2 ^ 64 }
-    ensures { let before = seen S.Shelf W.Sink L.Sink shelf.old out.old log.old in
+    ensures { let before = merge_devices S.Shelf W.Sink L.Sink shelf.old out.old log.old in
         let world = world_of before.shelf.texts (option_copied inputs.entry) in
-        Merges (names_of asked.now) (asked_course world (Some (names_of asked.now))) before
-        (seen S.Shelf W.Sink L.Sink shelf.new out.new log.new) result }
+        Merges (merge_word_names asked.now) (merge_course world (Some (merge_word_names asked.now))) before
+        (merge_devices S.Shelf W.Sink L.Sink shelf.new out.new log.new) result }
 {
     let started = Merger::start(
         alloc,
@@ -97,10 +100,10 @@ fn merge_begun<S: Shelf, W: Sink, L: Sink>(
     requires out_count { W.failed out.old + 1 < 2 ^ 64 }
     requires log_count { L.failed log.old + 1 < 2 ^ 64 }
     ensures { MergesBegun S.Shelf shelf.old merger.old
-        (seen_stream W.Sink out.old) (seen_stream L.Sink log.old)
-        (seen S.Shelf W.Sink L.Sink shelf.new out.new log.new) result }
+        (stream_model W.Sink out.old) (stream_model L.Sink log.old)
+        (merge_devices S.Shelf W.Sink L.Sink shelf.new out.new log.new) result }
 {
-    match write_merged_in_pieces(merger, shelf, out, PIECE) {
+    match write_merged_in_chunks(merger, shelf, out, CHUNK_SIZE) {
         Ok(()) => log_faults(log, merger.names(), merger.faults()),
         Err(stop) => log_stop(log, stop, subject(merger.names(), stop)),
     }
@@ -109,7 +112,7 @@ fn merge_begun<S: Shelf, W: Sink, L: Sink>(
 /// What a stop at the start of a merge is about.
 fn start_subject(asked: &MergeWords, stop: Stop) -> &str
     ensures { result.now ≡
-        start_subject (names_of asked.now).web (change_name (names_of asked.now).change) stop }
+        start_subject (merge_word_names asked.now).web (change_name (merge_word_names asked.now).change) stop }
 {
     match stop {
         Stop::WebNotOpened => asked.web.as_str(),
@@ -122,9 +125,9 @@ fn start_subject(asked: &MergeWords, stop: Stop) -> &str
 fn log_faults<L: Sink>(log: &mut L, names: &FileNames, faults: &[SourceFault]) -> u8
     requires count { L.failed log.old + 1 < 2 ^ 64 }
     requires known { All
-        (λ fault. fault.place.file.0 < length (spec.names_of names.now)) faults.now }
-    ensures logs { Logs (fault_lines (spec.names_of names.now) faults.now)
-        (seen_stream L.Sink log.old) (seen_stream L.Sink log.new) }
+        (λ fault. fault.place.file.0 < length (spec.opened_file_names names.now)) faults.now }
+    ensures logs { Logs (fault_lines (spec.opened_file_names names.now) faults.now)
+        (stream_model L.Sink log.old) (stream_model L.Sink log.new) }
     ensures answered { L.failed log.new ≡ L.failed log.old → result ≡ fault_status faults.now }
     ensures failed { L.failed log.new ≢ L.failed log.old → result ≡ 1 }
 {

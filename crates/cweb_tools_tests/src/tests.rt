@@ -3,14 +3,14 @@
 mod changes;
 mod command_line;
 mod devices;
+mod expected;
 mod failing;
-mod gathering;
 mod items;
+mod many_faults;
 mod merges;
 mod merging;
 mod options;
 mod tangling;
-mod told;
 mod wanted;
 mod web_faults;
 mod webs;

@@ -45,7 +45,7 @@ impl TrialShelf {
     }
 
     /// A shelf that gives at most three bytes a read, and fails once, behind so many good reads.
-    pub fn failing_behind(shelf: MemoryShelf, good: u64) -> Self
+    pub fn failing_after(shelf: MemoryShelf, good: u64) -> Self
         ensures { result.failed ≡ 0 }
     {
         let mut failing = TrialShelf::new(shelf);

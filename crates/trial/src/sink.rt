@@ -39,7 +39,7 @@ impl TrialSink {
     }
 
     /// A sink with room for so many bytes that takes at most two bytes a write, and fails once, behind so many good writes.
-    pub fn failing_behind(alloc: Global, bytes: usize, good: u64) -> Result<Self, AllocError>
+    pub fn failing_after(alloc: Global, bytes: usize, good: u64) -> Result<Self, AllocError>
         ensures { IfOk result (λ sink. sink.failed ≡ 0) }
     {
         let mut sink = TrialSink::with_room(alloc, bytes)?;

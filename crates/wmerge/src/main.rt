@@ -23,13 +23,13 @@ fn merge<R: Env + Files + AllocGlobal, W: Write + Drop, L: Write + Drop>(
     out: W,
     log: L,
 ) -> u8 {
-    let Ok(words) = given_words(rt) else {
+    let Ok(words) = read_args(rt) else {
         return out_of_memory(log);
     };
-    let Ok(inputs) = given_inputs(rt) else {
+    let Ok(inputs) = read_inputs(rt) else {
         return out_of_memory(log);
     };
-    let Ok(words) = texts_of(rt.alloc(), &words) else {
+    let Ok(words) = as_slices(rt.alloc(), &words) else {
         return out_of_memory(log);
     };
     let inputs = inputs.as_ref().map(|folder| folder.as_str());
@@ -47,7 +47,7 @@ fn out_of_memory<L: Write + Drop>(log: L) -> u8 {
 }
 
 /// The arguments behind the program's name. Where one isn't UTF-8 there are none, which is refused as no words are.
-fn given_words<R: Env + AllocGlobal>(rt: &R) -> Result<Vec<String>, AllocError> {
+fn read_args<R: Env + AllocGlobal>(rt: &R) -> Result<Vec<String>, AllocError> {
     let mut words = Vec::new(rt.alloc());
     match env::args(rt) {
         Ok(args) => {
@@ -64,16 +64,16 @@ fn given_words<R: Env + AllocGlobal>(rt: &R) -> Result<Vec<String>, AllocError> 
     Ok(words)
 }
 
-fn texts_of<'a>(alloc: Global, words: &'a [String]) -> Result<Vec<&'a str>, AllocError> {
-    let mut texts = Vec::new(alloc);
+fn as_slices<'a>(alloc: Global, words: &'a [String]) -> Result<Vec<&'a str>, AllocError> {
+    let mut slices = Vec::new(alloc);
     for word in words {
-        texts.push(word.as_str())?;
+        slices.push(word.as_str())?;
     }
-    Ok(texts)
+    Ok(slices)
 }
 
 /// The folder of included files. A value that isn't UTF-8 counts as none.
-fn given_inputs<R: Env + AllocGlobal>(rt: &R) -> Result<Option<String>, AllocError> {
+fn read_inputs<R: Env + AllocGlobal>(rt: &R) -> Result<Option<String>, AllocError> {
     match env::var(rt, INPUTS) {
         Ok(folder) => Ok(Some(folder)),
         Err(VarError::OutOfMemory) => Err(AllocError),

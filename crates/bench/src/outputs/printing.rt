@@ -1,16 +1,16 @@
 // What is expanded and printed of a store.
 ghost use Rattle.std.specs.Prelude.{◌≡◌, ◌<◌, length, vec_capacity, true};
-ghost use Rattle.cweb_lines.specs.Names.{names_of};
-ghost use Rattle.cweb_store.specs.Seen.{seen};
-ghost use Rattle.cweb_out.specs.Frames.{Stands};
-ghost use Rattle.cweb_out.specs.Outputs.{IsPlanOf};
-ghost use Rattle.cweb_print.specs.Printers.{IsNamed};
+ghost use Rattle.cweb_input.specs.surface.OpenedFileNames.{opened_file_names};
+ghost use Rattle.cweb_store.specs.surface.TokenModels.{token_model};
+ghost use Rattle.cweb_out.specs.surface.FrameStacks.{IsFrameStack};
+ghost use Rattle.cweb_out.specs.surface.Outputs.{IsPlanOf};
+ghost use Rattle.cweb_print.specs.surface.Printers.{MarkFileIsNamed};
 ghost use Rattle.cweb_print.specs.Printing.{Setting};
 
 use anyhow::{Result, bail, ensure};
 use cweb_files::{MemoryShelf, MemorySink, Sink};
 use cweb_lines::{FileNames, Merger, Stop};
-use cweb_out::{Expander, Gathered, Plan, Printer, plan};
+use cweb_out::{Expander, OutBuffer, Plan, Printer, plan};
 use cweb_store::{Store, Token};
 use std::alloc::Global;
 
@@ -46,7 +46,7 @@ fn show_planned(
 }
 
 fn show_expanded(rt: &impl Print, expander: &mut Expander<'_>) -> Result<()>
-    requires { Stands expander.old.store.now
+    requires { IsFrameStack expander.old.store.now
         expander.old.frames.items (vec_capacity expander.old.frames) }
 {
     let tokens = expand(expander);
@@ -56,7 +56,7 @@ fn show_expanded(rt: &impl Print, expander: &mut Expander<'_>) -> Result<()>
 
 // Prints what an expander gives, and says how much that is.
 fn show_printed(rt: &impl Print, alloc: Global, expander: &mut Expander<'_>) -> Result<()>
-    requires { Stands expander.old.store.now
+    requires { IsFrameStack expander.old.store.now
         expander.old.frames.items (vec_capacity expander.old.frames) }
 {
     let bytes = printed(alloc, expander)?;
@@ -66,7 +66,7 @@ fn show_printed(rt: &impl Print, alloc: Global, expander: &mut Expander<'_>) -> 
 
 // How many bytes are printed of what an expander gives.
 fn printed(alloc: Global, expander: &mut Expander<'_>) -> Result<usize>
-    requires { Stands expander.old.store.now
+    requires { IsFrameStack expander.old.store.now
         expander.old.frames.items (vec_capacity expander.old.frames) }
 {
     match begun(alloc) {
@@ -82,12 +82,12 @@ fn begun(alloc: Global) -> Result<Merger<MemoryShelf>, Stop> {
 }
 
 fn printed_under(alloc: Global, expander: &mut Expander<'_>, names: &FileNames) -> Result<usize>
-    requires { Stands expander.old.store.now
+    requires { IsFrameStack expander.old.store.now
         expander.old.frames.items (vec_capacity expander.old.frames) }
 {
     let mut out = MemorySink::with_room(alloc, room(expander.store))?;
-    let mut gathered = Gathered::new(alloc)?;
-    match print(expander, names, &mut gathered, &mut out) {
+    let mut buffer = OutBuffer::new(alloc)?;
+    match print(expander, names, &mut buffer, &mut out) {
         Ok(()) => Ok(out.bytes().len()),
         Err(why) => bail!("{why}"),
     }
@@ -99,7 +99,7 @@ fn room(store: &Store) -> usize {
 
 // How many tokens an expander gives.
 fn expand(expander: &mut Expander<'_>) -> u32
-    requires { Stands expander.old.store.now
+    requires { IsFrameStack expander.old.store.now
         expander.old.frames.items (vec_capacity expander.old.frames) }
 {
     let mut count: u32 = 0;
@@ -113,8 +113,8 @@ fn expand(expander: &mut Expander<'_>) -> u32
 }
 
 fn is_named(names: &FileNames, token: &Token<'_>) -> bool
-    ensures { result ≡ true → (s : Setting) → s.files ≡ names_of names.now
-        → IsNamed s (seen token.now) }
+    ensures { result ≡ true → (s : Setting) → s.files ≡ opened_file_names names.now
+        → MarkFileIsNamed s (token_model token.now) }
 {
     match token {
         Token::Mark(place) => place.file.0 < names.count(),
@@ -126,15 +126,15 @@ fn is_named(names: &FileNames, token: &Token<'_>) -> bool
 fn print(
     expander: &mut Expander<'_>,
     names: &FileNames,
-    gathered: &mut Gathered,
+    buffer: &mut OutBuffer,
     out: &mut MemorySink,
 ) -> Result<(), &'static str>
-    requires { Stands expander.old.store.now
+    requires { IsFrameStack expander.old.store.now
         expander.old.frames.items (vec_capacity expander.old.frames) }
 {
     let mut printer = Printer::new(expander.store, names);
     'tokens: for _ in 0..u32::MAX {
-        expander.gather(&mut printer, gathered);
+        expander.append(&mut printer, buffer);
         let Some(token) = expander.next() else {
             break;
         };
@@ -144,14 +144,14 @@ fn print(
         if out.failures() > 0 {
             return Err("no room");
         }
-        let Ok(()) = printer.gather(token, gathered, out) else {
+        let Ok(()) = printer.append(token, buffer, out) else {
             return Err("no room");
         };
     }
     if out.failures() > 0 {
         return Err("no room");
     }
-    let Ok(()) = printer.finish(gathered, out) else {
+    let Ok(()) = printer.finish(buffer, out) else {
         return Err("no room");
     };
     Ok(())

@@ -8,8 +8,8 @@ use cweb_store::{NameId, NameRef, Store, Token};
 pub fn of(store: &Store, shape: Filling, count: u32) -> u64 {
     match shape {
         Filling::Words | Filling::Distinct | Filling::Flood => bytes_of_words(store),
-        Filling::Names => standing_abbreviations(store, count),
-        Filling::NameFlood => standing_from(store, 0, count),
+        Filling::Names => resolved_abbreviations(store, count),
+        Filling::NameFlood => resolved_from(store, 0, count),
         Filling::Parts => parts_of_first(store),
     }
 }
@@ -25,17 +25,17 @@ fn bytes_of_words(store: &Store) -> u64 {
 }
 
 // One half of the abbreviations comes before the names, the other half behind them.
-fn standing_abbreviations(store: &Store, count: u32) -> u64 {
+fn resolved_abbreviations(store: &Store, count: u32) -> u64 {
     let half = count / 2;
     let late = half.saturating_add(count);
-    standing_from(store, 0, half).saturating_add(standing_from(
+    resolved_from(store, 0, half).saturating_add(resolved_from(
         store,
         late,
         late.saturating_add(half),
     ))
 }
 
-fn standing_from(store: &Store, first: u32, after: u32) -> u64 {
+fn resolved_from(store: &Store, first: u32, after: u32) -> u64 {
     let mut standing: u64 = 0;
     for number in first..after {
         if store.standing(NameRef(number)).is_some() {

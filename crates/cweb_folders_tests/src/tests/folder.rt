@@ -4,7 +4,7 @@ use super::puts::*;
 use super::runs::tangle_twice;
 use super::wanted::holds;
 use cweb_out::Bins;
-use cweb_tools::{FilesRead, FolderBins, Held};
+use cweb_tools::{FilesRead, FolderBins, LockableFile};
 use std::process::Abort;
 use std::rt::{Env, Files};
 use std::{env, fs};
@@ -28,12 +28,12 @@ fn new_folder_in(rt: &(impl Abort + Files + AllocGlobal), top: &str) -> Option<S
 /// What is done with the bins of a folder.
 #[derive(Drop)]
 enum Step {
-    PutTexts,
-    GiveUp,
-    PutWhereNoneCanStand,
+    PutFiles,
+    AbandonDraft,
+    PutOnImpossiblePaths,
     PutOnAFullDevice,
-    PutWhereADraftStands,
-    PutWhereALinkStands,
+    PutOverLeftDraft,
+    PutOverLinkedDraft,
     PutAgain,
     PutWhatWasRead,
     OpenWhatIsClosed,
@@ -45,18 +45,18 @@ enum Step {
 impl Step {
     fn take<B: Bins>(
         &self,
-        rt: &(impl Abort + Env + Files<File: Held> + AllocGlobal),
+        rt: &(impl Abort + Env + Files<File: LockableFile> + AllocGlobal),
         read: &FilesRead,
         bins: &mut B,
         folder: &str,
     ) {
         match self {
-            Step::PutTexts => put_texts(rt, bins, folder),
-            Step::GiveUp => give_up(rt, bins, folder),
-            Step::PutWhereNoneCanStand => put_where_none_can_stand(rt, bins, folder),
+            Step::PutFiles => put_files(rt, bins, folder),
+            Step::AbandonDraft => abandon_draft(rt, bins, folder),
+            Step::PutOnImpossiblePaths => put_on_impossible_paths(rt, bins, folder),
             Step::PutOnAFullDevice => put_on_a_full_device(rt, bins),
-            Step::PutWhereADraftStands => put_where_a_draft_stands(rt, bins, folder),
-            Step::PutWhereALinkStands => put_where_a_link_stands(rt, bins, folder),
+            Step::PutOverLeftDraft => put_over_left_draft(rt, bins, folder),
+            Step::PutOverLinkedDraft => put_over_linked_draft(rt, bins, folder),
             Step::PutAgain => put_again(rt, bins, folder),
             Step::PutWhatWasRead => put_what_was_read(rt, read, bins, folder),
             Step::OpenWhatIsClosed => open_what_is_closed(rt, folder),
@@ -67,9 +67,9 @@ impl Step {
 }
 
 /// Steps with bins of their own, while those that took the steps before still stand.
-fn run_behind(
+fn run_after(
     host: &HostRuntime,
-    rt: &(impl Abort + Env + Files<File: Held> + AllocGlobal),
+    rt: &(impl Abort + Env + Files<File: LockableFile> + AllocGlobal),
     folder: &str,
     before: &[Step],
     steps: &[Step],
@@ -82,7 +82,7 @@ fn run_behind(
 
 fn run_once(
     host: &HostRuntime,
-    rt: &(impl Abort + Env + Files<File: Held> + AllocGlobal),
+    rt: &(impl Abort + Env + Files<File: LockableFile> + AllocGlobal),
     read: &FilesRead,
     folder: &str,
     steps: &[Step],
@@ -92,7 +92,7 @@ fn run_once(
 }
 
 fn run<B: Bins>(
-    rt: &(impl Abort + Env + Files<File: Held> + AllocGlobal),
+    rt: &(impl Abort + Env + Files<File: LockableFile> + AllocGlobal),
     read: &FilesRead,
     bins: &mut B,
     folder: &str,
@@ -106,21 +106,21 @@ fn run<B: Bins>(
 /// Runs in a new folder.
 fn check(
     host: &HostRuntime,
-    rt: &(impl Abort + Env + Files<File: Held> + AllocGlobal),
+    rt: &(impl Abort + Env + Files<File: LockableFile> + AllocGlobal),
     before: &[Step],
     steps: &[Step],
 ) {
     let folder = new_folder(rt);
-    run_behind(host, rt, folder.as_str(), before, steps);
+    run_after(host, rt, folder.as_str(), before, steps);
     fs::remove_dir_all(rt, folder.as_str()).expect(rt, "the folder");
 }
 
 #[test]
 fn files_of_a_folder_are_replaced_whole(rt: HostRuntime) {
     const STEPS: &[Step] = &[
-        Step::PutTexts,
-        Step::GiveUp,
-        Step::PutWhereNoneCanStand,
+        Step::PutFiles,
+        Step::AbandonDraft,
+        Step::PutOnImpossiblePaths,
         Step::PutOnAFullDevice,
         Step::HasFailed(4),
     ];
@@ -130,17 +130,17 @@ fn files_of_a_folder_are_replaced_whole(rt: HostRuntime) {
 #[test]
 fn drafts_of_others_are_never_written(rt: HostRuntime) {
     const STEPS: &[Step] = &[
-        Step::PutWhereADraftStands,
-        Step::PutWhereALinkStands,
+        Step::PutOverLeftDraft,
+        Step::PutOverLinkedDraft,
         Step::HasFailed(0),
         Step::PutAgain,
         Step::HasFailed(2),
     ];
-    check(&rt, &rt, &[Step::PutTexts], STEPS);
+    check(&rt, &rt, &[Step::PutFiles], STEPS);
 }
 
 #[test]
-fn files_that_were_read_are_kept(rt: HostRuntime) {
+fn files_that_were_read_stay(rt: HostRuntime) {
     check(&rt, &rt, &[], &[Step::PutWhatWasRead, Step::HasFailed(1)]);
 }
 

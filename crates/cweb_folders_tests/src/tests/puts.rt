@@ -2,7 +2,7 @@
 use super::wanted::*;
 use cweb_lines::{Shelf, write_all};
 use cweb_out::{BinFault, Bins};
-use cweb_tools::{FilesRead, FolderShelf, Held};
+use cweb_tools::{FilesRead, FolderShelf, LockableFile};
 use std::fs;
 use std::os::unix::fs::PermissionsExt;
 use std::process::Abort;
@@ -73,12 +73,12 @@ fn check_put_at<B: Bins>(
 }
 
 /// A text that is longer than what is gathered at one time.
-fn large_text(rt: &(impl Abort + AllocGlobal)) -> String {
+fn large_contents(rt: &(impl Abort + AllocGlobal)) -> String {
     "x".repeat(rt.alloc(), 200_000).expect(rt, "memory")
 }
 
-pub fn put_texts<B: Bins>(rt: &(impl Abort + Files + AllocGlobal), bins: &mut B, folder: &str) {
-    let large = large_text(rt);
+pub fn put_files<B: Bins>(rt: &(impl Abort + Files + AllocGlobal), bins: &mut B, folder: &str) {
+    let large = large_contents(rt);
     check_put(rt, bins, folder, "a.c", b"old", Some(b"old"));
     check_put(
         rt,
@@ -91,7 +91,7 @@ pub fn put_texts<B: Bins>(rt: &(impl Abort + Files + AllocGlobal), bins: &mut B,
 }
 
 /// The file's folder isn't there; a folder stands in the file's place.
-pub fn put_where_none_can_stand<B: Bins>(
+pub fn put_on_impossible_paths<B: Bins>(
     rt: &(impl Abort + Files + AllocGlobal),
     bins: &mut B,
     folder: &str,
@@ -103,7 +103,7 @@ pub fn put_where_none_can_stand<B: Bins>(
 }
 
 /// A draft that is given up is deleted, and its file stays as it was.
-pub fn give_up<B: Bins>(rt: &(impl Abort + Files + AllocGlobal), bins: &mut B, folder: &str) {
+pub fn abandon_draft<B: Bins>(rt: &(impl Abort + Files + AllocGlobal), bins: &mut B, folder: &str) {
     let path = joined(rt, &[folder, "/a.c"]);
     holds(rt, write_draft(bins, path.as_str(), b"lost").is_ok());
     bins.abandon_file();
@@ -113,7 +113,7 @@ pub fn give_up<B: Bins>(rt: &(impl Abort + Files + AllocGlobal), bins: &mut B, f
 
 /// A device is written as it is. A full one says so at the end of a small text and within a large one.
 pub fn put_on_a_full_device<B: Bins>(rt: &(impl Abort + AllocGlobal), bins: &mut B) {
-    let large = large_text(rt);
+    let large = large_contents(rt);
     put_on_devices(rt, bins, large.as_bytes());
 }
 
@@ -124,7 +124,7 @@ fn put_on_devices<B: Bins>(rt: &impl Abort, bins: &mut B, large: &[u8]) {
 }
 
 /// A killed run left its draft.
-pub fn put_where_a_draft_stands<B: Bins>(
+pub fn put_over_left_draft<B: Bins>(
     rt: &(impl Abort + Files + AllocGlobal),
     bins: &mut B,
     folder: &str,
@@ -143,7 +143,7 @@ fn link_draft(rt: &(impl Abort + Files + AllocGlobal), folder: &str) {
 }
 
 /// What such a link leads to is not written.
-pub fn put_where_a_link_stands<B: Bins>(
+pub fn put_over_linked_draft<B: Bins>(
     rt: &(impl Abort + Files + AllocGlobal),
     bins: &mut B,
     folder: &str,
@@ -151,7 +151,7 @@ pub fn put_where_a_link_stands<B: Bins>(
     link_draft(rt, folder);
     check_put(rt, bins, folder, "c.c", b"c", Some(b"c"));
     let kept = joined(rt, &[folder, "/b.c"]);
-    let large = large_text(rt);
+    let large = large_contents(rt);
     check_left(rt, kept.as_str(), Some(large.as_bytes()));
 }
 
@@ -180,7 +180,7 @@ fn written(rt: &(impl Abort + Files + AllocGlobal), folder: &str, name: &str) ->
 
 /// A file that was read is kept.
 pub fn put_what_was_read<B: Bins>(
-    rt: &(impl Abort + Files<File: Held> + AllocGlobal),
+    rt: &(impl Abort + Files<File: LockableFile> + AllocGlobal),
     read: &FilesRead,
     bins: &mut B,
     folder: &str,
@@ -195,7 +195,10 @@ pub fn put_what_was_read<B: Bins>(
 }
 
 /// An opening that the system refuses, for whatever cause, is a file that isn't there.
-pub fn open_what_is_closed(rt: &(impl Abort + Files<File: Held> + AllocGlobal), folder: &str) {
+pub fn open_what_is_closed(
+    rt: &(impl Abort + Files<File: LockableFile> + AllocGlobal),
+    folder: &str,
+) {
     let path = written(rt, folder, "closed.w");
     fs::set_permissions(rt, path.as_str(), fs::Permissions::from_mode(0)).expect(rt, "a mode");
     // the superuser may read it all the same

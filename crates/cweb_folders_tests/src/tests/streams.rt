@@ -72,13 +72,13 @@ impl Read for Trickling<'_> {
 }
 
 /// So many bytes are given, and then the piece holds these.
-fn gives_part<F: Read>(rt: &impl Abort, file: &mut F, piece: &mut [u8], count: usize, held: &[u8]) {
+fn reads_part<F: Read>(rt: &impl Abort, file: &mut F, piece: &mut [u8], count: usize, held: &[u8]) {
     holds(rt, read_once(file, piece) == Ok(count));
     same_bytes(rt, piece, held);
 }
 
 #[test]
-fn a_file_that_gives_parts_loses_nothing(rt: HostRuntime) {
+fn a_file_read_in_parts_loses_nothing(rt: HostRuntime) {
     const PARTS: &[(usize, &[u8])] = &[(3, b"abc--"), (3, b"def--"), (2, b"ghf--"), (0, b"ghf--")];
     let mut file = Trickling {
         left: b"abcdefgh",
@@ -86,7 +86,7 @@ fn a_file_that_gives_parts_loses_nothing(rt: HostRuntime) {
     };
     let mut piece = [b'-'; 5];
     for (count, held) in PARTS {
-        gives_part(&rt, &mut file, &mut piece, *count, *held);
+        reads_part(&rt, &mut file, &mut piece, *count, *held);
     }
 }
 
@@ -119,7 +119,7 @@ fn a_stream_that_takes_nothing_has_failed(rt: HostRuntime) {
 }
 
 /// A file can be opened, and its first read gives so many bytes or fails.
-fn gives_at_first<S: Shelf>(
+fn first_read_answers<S: Shelf>(
     rt: &impl Abort,
     shelf: &mut S,
     name: &str,
@@ -136,10 +136,10 @@ fn reads_the_system<S: Shelf>(rt: &impl Abort, shelf: &mut S) {
     holds(rt, !opens(rt, shelf, "/no/such/file"));
     holds(rt, !opens(rt, shelf, ""));
     // a folder can be opened, and its first read fails
-    gives_at_first(rt, shelf, "/", Err(ShelfFault));
+    first_read_answers(rt, shelf, "/", Err(ShelfFault));
     holds(rt, shelf.failures() == 1);
-    gives_at_first(rt, shelf, "/dev/zero", Ok(8));
-    gives_at_first(rt, shelf, "/dev/null", Ok(0));
+    first_read_answers(rt, shelf, "/dev/zero", Ok(8));
+    first_read_answers(rt, shelf, "/dev/null", Ok(0));
 }
 
 #[test]

@@ -14,8 +14,8 @@ pub enum Code {
 }
 
 /// The code of a line that begins with `@` and the letter x, y or z in either case. The rest of the line is ignored.
-pub fn code_of(line: &[u8]) -> Option<Code>
-    ensures { result ≡ spec.code_of line.now }
+pub fn change_code(line: &[u8]) -> Option<Code>
+    ensures { result ≡ spec.change_code line.now }
 {
     if line.len() < 2 || line[0] != b'@' {
         return None;

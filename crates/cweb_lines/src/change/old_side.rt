@@ -1,24 +1,31 @@
 // The old side of a change: its further old lines, and the raw lines that they take away.
-ghost use Rattle.std.specs.Prelude.{◌≡◌, ◌≤◌, ◌<◌, ◌+◌, ◌^◌, ◌++◌, ◌∷◌, [], length, IsTrue, IfOk, IfErr, OnOk, OnErr, false};
-ghost use Rattle.cweb_files.specs.Frames.{KeepsTexts};
-ghost use Rattle.cweb_lines.specs.Calls.{GoesOn, TakesAway};
+ghost use Rattle.std.specs.Prelude.{◌≡◌, ◌≤◌, ◌<◌, ◌+◌, ◌^◌, ◌++◌, ◌∷◌, [], length, IsTrue, IfOk};
+ghost use Rattle.std.specs.Prelude.{IfErr, OnOk, OnErr, false};
+ghost use Rattle.cweb_files.specs.surface.Frames.{KeepsShelf};
+ghost use Rattle.cweb_lines.specs.inner.StepCalls.{GoesOn, TakesAway};
 ghost use Rattle.cweb_lines.specs.Change.{old_lines};
-ghost use Rattle.cweb_open.specs.Counts.{count_of};
-ghost use Rattle.cweb_lines.specs.Merging.{EndsStep, KeepsTold, TellsSome, change_lines, things_of, told_by};
-ghost use Rattle.cweb_open.specs.Names.{names_of};
-ghost use Rattle.cweb_lines.specs.Replacing.{Compares, IsChanged, IsReplaced, closing_faults, faults_replaced, list_if, taken_away};
-ghost use Rattle.cweb_lines.specs.Seeking.{ToldFront};
-ghost use Rattle.cweb_lines.specs.Stages.{floor_of};
-ghost use Rattle.cweb_open.specs.Texts.{ReadBlames, StopsFor, StopsReading, TopStops, files_named, things_above};
-ghost use Rattle.cweb_lines.specs.Steps.{OnlyTakes, OnlyTells};
-ghost use Rattle.cweb_lines.specs.Naming.{BlamesReaders, KeepsReaders};
+ghost use Rattle.cweb_input.specs.surface.Counters.{counters_of};
+ghost use Rattle.cweb_lines.specs.inner.MergeProgress.{EndsStep, ReportsSomeFaults};
+ghost use Rattle.cweb_lines.specs.surface.MergeProgress.{KeepsReported};
+ghost use Rattle.cweb_lines.specs.surface.MergeProgress.{change_lines, things_of, so_far_of};
+ghost use Rattle.cweb_input.specs.surface.OpenedFileNames.{opened_file_names};
+ghost use Rattle.cweb_lines.specs.inner.Replacing.{Compares, IsChanged, IsReplaced, closing_faults};
+ghost use Rattle.cweb_lines.specs.inner.Replacing.{faults_replaced, fault_list_if, taken_away};
+ghost use Rattle.cweb_lines.specs.inner.Seeking.{ReportsFaultPrefix};
+ghost use Rattle.cweb_lines.specs.inner.Stages.{floor_of};
+ghost use Rattle.cweb_input.specs.surface.OpenSources.{CountsReadStop, StopsFor, StopsReading};
+ghost use Rattle.cweb_input.specs.inner.OpenSources.{TopStops};
+ghost use Rattle.cweb_input.specs.OpenSources.{files_named};
+ghost use Rattle.cweb_input.specs.surface.OpenSources.{things_above};
+ghost use Rattle.cweb_lines.specs.inner.Steps.{OnlyTakes, OnlyReports};
+ghost use Rattle.cweb_lines.specs.inner.MergeReaderNames.{BlamesReaders, KeepsReaders};
 
-use crate::change::code::{Code, code_of};
+use crate::change::code::{Code, change_code};
 use crate::change::{Change, Stage};
-use crate::run::Run;
+use crate::merge_state::MergeState;
 use crate::step::progress::{take_change, take_raw};
 use cweb_files::{Place, Shelf};
-use cweb_open::{SourceKind, Stop};
+use cweb_input::{SourceKind, Stop};
 use std::mem::swap;
 
 /// What came of the old lines behind the first.
@@ -35,21 +42,22 @@ pub struct Replaced {
 // An old line, which the run keeps in place of the first, takes the next raw line away.
 fn compare<S: Shelf>(
     shelf: &mut S,
-    run: &mut Run<S::R>,
+    run: &mut MergeState<S::R>,
     line: &mut Vec<u8>,
     so_far: Replaced,
 ) -> Result<Replaced, Stop>
     requires count { S.failed shelf.old + 1 < 2 ^ 64 }
     requires floor { floor_of run.old.stage ≡ 0 }
     requires few { so_far.unequal ≤ run.old.limits.lines }
-    ensures keeps { KeepsTexts S.Shelf shelf.old shelf.new }
-    ensures failed { ReadBlames (S.failed shelf.old) (S.failed shelf.new) result }
+    ensures keeps { KeepsShelf S.Shelf shelf.old shelf.new }
+    ensures failed { CountsReadStop (S.failed shelf.old) (S.failed shelf.new) result }
     ensures compares { IsTrue (S.tells shelf.old) →
         IfOk result (λ replaced. Compares run.old.first.items so_far replaced
         (things_above (S.left shelf.old) 0 run.old.stack [])
-        (things_above (S.left shelf.new) 0 run.new.stack []) (told_by run.old) (told_by run.new)) }
+        (things_above (S.left shelf.new) 0 run.new.stack []) (so_far_of run.old)
+        (so_far_of run.new)) }
     ensures stops { IsTrue (S.tells shelf.old) →
-        IfErr result (λ stop. StopsFor (TopStops stop (count_of run.old.limits)
+        IfErr result (λ stop. StopsFor (TopStops stop (counters_of run.old.limits)
         (things_above (S.left shelf.old) 0 run.old.stack [])) stop) }
     ensures readers { KeepsReaders S.Shelf shelf.old shelf.new run.old run.new }
     ensures blamed { BlamesReaders S.Shelf shelf.old shelf.new run.old run.new result }
@@ -79,30 +87,31 @@ fn compare<S: Shelf>(
 // Takes the further old lines, and for each the next raw line, over the ends of included files too.
 fn replace<S: Shelf>(
     shelf: &mut S,
-    run: &mut Run<S::R>,
+    run: &mut MergeState<S::R>,
     line: &mut Vec<u8>,
 ) -> Result<Replaced, Stop>
     requires count { S.failed shelf.old + 1 < 2 ^ 64 }
     requires floor { floor_of run.old.stage ≡ 0 }
-    ensures keeps { KeepsTexts S.Shelf shelf.old shelf.new }
-    ensures failed { ReadBlames (S.failed shelf.old) (S.failed shelf.new) result }
+    ensures keeps { KeepsShelf S.Shelf shelf.old shelf.new }
+    ensures failed { CountsReadStop (S.failed shelf.old) (S.failed shelf.new) result }
     ensures readers { KeepsReaders S.Shelf shelf.old shelf.new run.old run.new }
     ensures blamed { BlamesReaders S.Shelf shelf.old shelf.new run.old run.new result }
     ensures replaced { IsTrue (S.tells shelf.old) →
         IfOk result (λ replaced. IsReplaced (change_lines (S.left shelf.old) run.old)
         (things_above (S.left shelf.old) 0 run.old.stack []) replaced
         (change_lines (S.left shelf.new) run.new)
-        (things_above (S.left shelf.new) 0 run.new.stack []) (told_by run.old) (told_by run.new)) }
+        (things_above (S.left shelf.new) 0 run.new.stack []) (so_far_of run.old)
+        (so_far_of run.new)) }
     ensures stops { IsTrue (S.tells shelf.old) →
-        IfErr result (λ stop. EndsStep stop (told_by run.old) (told_by run.new)
+        IfErr result (λ stop. EndsStep stop (so_far_of run.old) (so_far_of run.new)
         (old_lines (change_lines (S.left shelf.old) run.old)).taken
         (taken_away (change_lines (S.left shelf.old) run.old)
         (things_above (S.left shelf.old) 0 run.old.stack [])).taken
         (old_lines (change_lines (S.left shelf.old) run.old)).faults) }
     ensures told { IsTrue (S.tells shelf.old) →
-        OnErr result (TellsSome (old_lines (change_lines (S.left shelf.old) run.old)).faults
-        (told_by run.old) (told_by run.new)) }
-    ensures still { KeepsTold (told_by run.old) (told_by run.new) }
+        OnErr result (ReportsSomeFaults (old_lines (change_lines (S.left shelf.old) run.old)).faults
+        (so_far_of run.old) (so_far_of run.new)) }
+    ensures still { KeepsReported (so_far_of run.old) (so_far_of run.new) }
     ensures goes { GoesOn run.old run.new result }
     ensures stage { run.new.stage ≡ run.old.stage }
 {
@@ -122,7 +131,7 @@ fn replace<S: Shelf>(
                 ..so_far
             });
         };
-        match code_of(line) {
+        match change_code(line) {
             None => {
                 swap(&mut run.first, line);
                 so_far = match compare(shelf, run, line, so_far) {
@@ -134,7 +143,7 @@ fn replace<S: Shelf>(
                 if code == Code::NewSide {
                     return Ok(so_far);
                 }
-                if let Err(stop) = run.tell(SourceKind::WantsY, at.place, 0) {
+                if let Err(stop) = run.report(SourceKind::WantsY, at.place, 0) {
                     return Err(stop);
                 }
             }
@@ -142,79 +151,81 @@ fn replace<S: Shelf>(
     }
 }
 
-fn tell_if<R: Drop>(
-    run: &mut Run<R>,
+fn report_if<R: Drop>(
+    run: &mut MergeState<R>,
     told: bool,
     kind: SourceKind,
     place: Place,
     count: u32,
 ) -> Result<(), Stop>
-    requires known { place.file.0 < length (names_of run.old.names) }
+    requires known { place.file.0 < length (opened_file_names run.old.names) }
     ensures told { OnOk result (run.new.faults.items ≡ run.old.faults.items
-        ++ list_if told (record { kind = kind; place = place; count = count })) }
+        ++ fault_list_if told (record { kind = kind; place = place; count = count })) }
     ensures err { OnErr result (run.new.faults.items ≡ run.old.faults.items) }
     ensures memory { IfErr result (λ stop. stop ≡ Stop.Memory) }
-    ensures only { OnlyTells run.old run.new }
+    ensures only { OnlyReports run.old run.new }
 {
     if !told {
         return Ok(());
     }
-    run.tell(kind, place, count)
+    run.report(kind, place, count)
 }
 
 // The faults of an old side that come behind those of its lines.
-fn close<R: Drop>(run: &mut Run<R>, begin: Place, replaced: Replaced) -> Result<(), Stop>
-    requires known { begin.file.0 < length (names_of run.old.names) }
+fn close<R: Drop>(run: &mut MergeState<R>, begin: Place, replaced: Replaced) -> Result<(), Stop>
+    requires known { begin.file.0 < length (opened_file_names run.old.names) }
     ensures told { OnOk result (run.new.faults.items ≡ run.old.faults.items
         ++ closing_faults begin replaced.ended replaced.ran_out replaced.unequal) }
-    ensures err { OnErr result (ToldFront (closing_faults begin replaced.ended replaced.ran_out
+    ensures err { OnErr result
+        (ReportsFaultPrefix (closing_faults begin replaced.ended replaced.ran_out
         replaced.unequal) run.old.faults.items run.new.faults.items) }
     ensures memory { IfErr result (λ stop. stop ≡ Stop.Memory) }
-    ensures only { OnlyTells run.old run.new }
+    ensures only { OnlyReports run.old run.new }
 {
-    if let Err(stop) = tell_if(run, replaced.ended, SourceKind::EndedBeforeY, begin, 0) {
+    if let Err(stop) = report_if(run, replaced.ended, SourceKind::EndedBeforeY, begin, 0) {
         return Err(stop);
     }
-    if let Err(stop) = tell_if(run, replaced.ran_out, SourceKind::WebEnded, begin, 0) {
+    if let Err(stop) = report_if(run, replaced.ran_out, SourceKind::WebEnded, begin, 0) {
         return Err(stop);
     }
     let differ = replaced.unequal > 0;
-    tell_if(run, differ, SourceKind::Unequal, begin, replaced.unequal)
+    report_if(run, differ, SourceKind::Unequal, begin, replaced.unequal)
 }
 
 /// Makes a change behind its first old line, which was taken. Its old side is taken away, and then its new lines come; where
 /// the change file has ended, neither they nor a further entry.
 pub fn begin_change<S: Shelf>(
     shelf: &mut S,
-    run: &mut Run<S::R>,
+    run: &mut MergeState<S::R>,
     line: &mut Vec<u8>,
     begin: Place,
     depth: usize,
 ) -> Result<(), Stop>
     requires count { S.failed shelf.old + 1 < 2 ^ 64 }
     requires floor { floor_of run.old.stage ≡ 0 }
-    requires known { begin.file.0 < length (names_of run.old.names) }
+    requires known { begin.file.0 < length (opened_file_names run.old.names) }
     requires deep { run.old.stack.depth ≤ depth }
-    ensures keeps { KeepsTexts S.Shelf shelf.old shelf.new }
-    ensures failed { ReadBlames (S.failed shelf.old) (S.failed shelf.new) result }
+    ensures keeps { KeepsShelf S.Shelf shelf.old shelf.new }
+    ensures failed { CountsReadStop (S.failed shelf.old) (S.failed shelf.new) result }
     ensures readers { KeepsReaders S.Shelf shelf.old shelf.new run.old run.new }
     ensures blamed { BlamesReaders S.Shelf shelf.old shelf.new run.old run.new result }
     ensures changed { IsTrue (S.tells shelf.old) →
         OnOk result (IsChanged begin depth (change_lines (S.left shelf.old) run.old)
         (things_above (S.left shelf.old) 0 run.old.stack []) run.new.stage
         (change_lines (S.left shelf.new) run.new) (things_of (S.left shelf.new) run.new)
-        (told_by run.old) (told_by run.new)) }
+        (so_far_of run.old) (so_far_of run.new)) }
     ensures stops { IsTrue (S.tells shelf.old) →
-        IfErr result (λ stop. EndsStep stop (told_by run.old) (told_by run.new)
+        IfErr result (λ stop. EndsStep stop (so_far_of run.old) (so_far_of run.new)
         (old_lines (change_lines (S.left shelf.old) run.old)).taken
         (taken_away (change_lines (S.left shelf.old) run.old)
         (things_above (S.left shelf.old) 0 run.old.stack [])).taken
         (faults_replaced begin (change_lines (S.left shelf.old) run.old)
         (things_above (S.left shelf.old) 0 run.old.stack []))) }
     ensures told { IsTrue (S.tells shelf.old) →
-        OnErr result (TellsSome (faults_replaced begin (change_lines (S.left shelf.old) run.old)
-        (things_above (S.left shelf.old) 0 run.old.stack [])) (told_by run.old) (told_by run.new)) }
-    ensures still { KeepsTold (told_by run.old) (told_by run.new) }
+        OnErr result (ReportsSomeFaults (faults_replaced begin (change_lines (S.left shelf.old) run.old)
+        (things_above (S.left shelf.old) 0 run.old.stack [])) (so_far_of run.old)
+        (so_far_of run.new)) }
+    ensures still { KeepsReported (so_far_of run.old) (so_far_of run.new) }
     ensures goes { GoesOn run.old run.new result }
 {
     let replaced = match replace(shelf, run, line) {

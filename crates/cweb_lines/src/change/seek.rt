@@ -1,22 +1,28 @@
 // The search for the next entry of a change file.
-ghost use Rattle.std.specs.Prelude.{◌≡◌, ◌≤◌, ◌<◌, ◌+◌, ◌^◌, ◌++◌, ◌∷◌, [], List, length, IsTrue, IfOk, IfErr, OnOk, OnErr, None, Some};
-ghost use Rattle.cweb_files.specs.Frames.{KeepsTexts};
-ghost use Rattle.cweb_lines.specs.Calls.{OnlySeeks};
+ghost use Rattle.std.specs.Prelude.{◌≡◌, ◌≤◌, ◌<◌, ◌+◌, ◌^◌, ◌++◌, ◌∷◌, [], List, length, IsTrue};
+ghost use Rattle.std.specs.Prelude.{IfOk, IfErr, OnOk, OnErr, None, Some};
+ghost use Rattle.cweb_files.specs.surface.Frames.{KeepsShelf};
+ghost use Rattle.cweb_lines.specs.inner.StepCalls.{OnlySeeks};
 ghost use Rattle.cweb_lines.specs.Change.{sought};
-ghost use Rattle.cweb_source.specs.Lines.{SourceLine};
-ghost use Rattle.cweb_lines.specs.Merging.{EndsStep, KeepsTold, TellsSome, change_lines, told_by, turns_left};
-ghost use Rattle.cweb_open.specs.Names.{names_of};
-ghost use Rattle.cweb_lines.specs.Seeking.{BegunKnown, LooksAt, LooksKnown, Searched, ToldFront, begun_outside, told_outside};
-ghost use Rattle.cweb_open.specs.Texts.{ReadBlames, StopsReading, files_named};
-ghost use Rattle.cweb_lines.specs.Steps.{OnlyTells};
-ghost use Rattle.cweb_lines.specs.Naming.{BlamesReaders, KeepsReaders};
+ghost use Rattle.cweb_input.specs.Lines.{SourceLine};
+ghost use Rattle.cweb_lines.specs.inner.MergeProgress.{EndsStep, ReportsSomeFaults};
+ghost use Rattle.cweb_lines.specs.surface.MergeProgress.{KeepsReported};
+ghost use Rattle.cweb_lines.specs.surface.MergeProgress.{change_lines, so_far_of};
+ghost use Rattle.cweb_lines.specs.inner.MergeProgress.{turns_left};
+ghost use Rattle.cweb_input.specs.surface.OpenedFileNames.{opened_file_names};
+ghost use Rattle.cweb_lines.specs.inner.Seeking.{BegunKnown, LooksAt, LooksKnown, Searched};
+ghost use Rattle.cweb_lines.specs.inner.Seeking.{ReportsFaultPrefix, begun_outside, faults_outside};
+ghost use Rattle.cweb_input.specs.surface.OpenSources.{CountsReadStop, StopsReading};
+ghost use Rattle.cweb_input.specs.OpenSources.{files_named};
+ghost use Rattle.cweb_lines.specs.inner.Steps.{OnlyReports};
+ghost use Rattle.cweb_lines.specs.inner.MergeReaderNames.{BlamesReaders, KeepsReaders};
 
 use crate::change::Stage;
-use crate::change::code::{Code, code_of};
-use crate::run::Run;
+use crate::change::code::{Code, change_code};
+use crate::merge_state::MergeState;
 use crate::step::progress::take_change;
 use cweb_files::{Place, Shelf};
-use cweb_open::{SourceKind, Stop};
+use cweb_input::{SourceKind, Stop};
 use std::mem::swap;
 
 /// What one line of the change file comes to in a search.
@@ -29,20 +35,24 @@ pub enum Look {
 }
 
 // A line outside an entry: where it is an @x line, an entry may begin there.
-fn pass<R: Drop>(run: &mut Run<R>, code: Option<Code>, place: Place) -> Result<Option<Place>, Stop>
-    requires known { place.file.0 < length (names_of run.old.names) }
+fn pass<R: Drop>(
+    run: &mut MergeState<R>,
+    code: Option<Code>,
+    place: Place,
+) -> Result<Option<Place>, Stop>
+    requires known { place.file.0 < length (opened_file_names run.old.names) }
     ensures next { IfOk result (λ next. next ≡ begun_outside code place) }
     ensures told { OnOk result (run.new.faults.items ≡ run.old.faults.items
-        ++ told_outside code place) }
+        ++ faults_outside code place) }
     ensures err { OnErr result (run.new.faults.items ≡ run.old.faults.items) }
     ensures memory { IfErr result (λ stop. stop ≡ Stop.Memory) }
-    ensures only { OnlyTells run.old run.new }
+    ensures only { OnlyReports run.old run.new }
 {
     match code {
         None => Ok(None),
         Some(Code::OldSide) => Ok(Some(place)),
         Some(Code::NewSide) | Some(Code::EndSide) => {
-            if let Err(stop) = run.tell(SourceKind::MissingX, place, 0) {
+            if let Err(stop) = run.report(SourceKind::MissingX, place, 0) {
                 return Err(stop);
             }
             Ok(None)
@@ -51,32 +61,33 @@ fn pass<R: Drop>(run: &mut Run<R>, code: Option<Code>, place: Place) -> Result<O
 }
 
 // A line behind an @x line: empty lines are skipped, and a code line begins the search anew.
-fn look_behind<R: Drop>(
-    run: &mut Run<R>,
+fn look_after_x<R: Drop>(
+    run: &mut MergeState<R>,
     line: &[u8],
     place: Place,
     begin: Place,
 ) -> Result<Look, Stop>
-    requires known { place.file.0 < length (names_of run.old.names) }
-    requires begun { begin.file.0 < length (names_of run.old.names) }
+    requires known { place.file.0 < length (opened_file_names run.old.names) }
+    requires begun { begin.file.0 < length (opened_file_names run.old.names) }
     ensures looks { IfOk result (λ look. LooksAt look
         (Some begin) line.now place run.old.faults.items run.new.faults.items) }
     ensures err { OnErr result ((source : SourceLine) →
         source.line ≡ record { bytes = line.now; place = place } → (lines : List SourceLine) →
-        ToldFront (sought (source ∷ lines) (Some begin)).faults run.old.faults.items
+        ReportsFaultPrefix (sought (source ∷ lines) (Some begin)).faults run.old.faults.items
         run.new.faults.items) }
-    ensures known { IfOk result (λ look. LooksKnown (length (names_of run.old.names)) look) }
+    ensures known { IfOk result
+        (λ look. LooksKnown (length (opened_file_names run.old.names)) look) }
     ensures memory { IfErr result (λ stop. stop ≡ Stop.Memory) }
-    ensures only { OnlyTells run.old run.new }
+    ensures only { OnlyReports run.old run.new }
 {
     if line.is_empty() {
         return Ok(Look::On(Some(begin)));
     }
-    let code = code_of(line);
+    let code = change_code(line);
     if code.is_none() {
         return Ok(Look::Entry(begin));
     }
-    if let Err(stop) = run.tell(SourceKind::NoOldLines, begin, 0) {
+    if let Err(stop) = run.report(SourceKind::NoOldLines, begin, 0) {
         return Err(stop);
     }
     match pass(run, code, place) {
@@ -87,35 +98,36 @@ fn look_behind<R: Drop>(
 
 // One line of the change file, behind an @x line or outside an entry.
 fn look_at<R: Drop>(
-    run: &mut Run<R>,
+    run: &mut MergeState<R>,
     line: &[u8],
     place: Place,
     begin: Option<Place>,
 ) -> Result<Look, Stop>
-    requires known { place.file.0 < length (names_of run.old.names) }
-    requires begun { BegunKnown (length (names_of run.old.names)) begin }
+    requires known { place.file.0 < length (opened_file_names run.old.names) }
+    requires begun { BegunKnown (length (opened_file_names run.old.names)) begin }
     ensures looks { IfOk result (λ look. LooksAt look begin line.now place run.old.faults.items
         run.new.faults.items) }
     ensures err { OnErr result ((source : SourceLine) →
         source.line ≡ record { bytes = line.now; place = place } → (lines : List SourceLine) →
-        ToldFront (sought (source ∷ lines) begin).faults run.old.faults.items
+        ReportsFaultPrefix (sought (source ∷ lines) begin).faults run.old.faults.items
         run.new.faults.items) }
-    ensures known { IfOk result (λ look. LooksKnown (length (names_of run.old.names)) look) }
+    ensures known { IfOk result
+        (λ look. LooksKnown (length (opened_file_names run.old.names)) look) }
     ensures memory { IfErr result (λ stop. stop ≡ Stop.Memory) }
-    ensures only { OnlyTells run.old run.new }
+    ensures only { OnlyReports run.old run.new }
 {
     if let Some(begin) = begin {
-        return look_behind(run, line, place, begin);
+        return look_after_x(run, line, place, begin);
     }
-    match pass(run, code_of(line), place) {
+    match pass(run, change_code(line), place) {
         Ok(next) => Ok(Look::On(next)),
         Err(stop) => Err(stop),
     }
 }
 
 // The change file has ended: no entry is left.
-fn end<R: Drop>(run: &mut Run<R>, begin: Option<Place>) -> Result<(), Stop>
-    requires begun { BegunKnown (length (names_of run.old.names)) begin }
+fn end<R: Drop>(run: &mut MergeState<R>, begin: Option<Place>) -> Result<(), Stop>
+    requires begun { BegunKnown (length (opened_file_names run.old.names)) begin }
     ensures told { OnOk result (run.new.faults.items ≡ run.old.faults.items
         ++ (sought [] begin).faults) }
     ensures err { OnErr result (run.new.faults.items ≡ run.old.faults.items) }
@@ -129,7 +141,7 @@ fn end<R: Drop>(run: &mut Run<R>, begin: Option<Place>) -> Result<(), Stop>
     ensures stopped { run.new.stopped ≡ run.old.stopped }
 {
     if let Some(place) = begin {
-        if let Err(stop) = run.tell(SourceKind::NoOldLines, place, 0) {
+        if let Err(stop) = run.report(SourceKind::NoOldLines, place, 0) {
             return Err(stop);
         }
     }
@@ -138,25 +150,29 @@ fn end<R: Drop>(run: &mut Run<R>, begin: Option<Place>) -> Result<(), Stop>
 }
 
 /// Seeks the next entry, whose first old line then waits.
-pub fn seek<S: Shelf>(shelf: &mut S, run: &mut Run<S::R>, line: &mut Vec<u8>) -> Result<(), Stop>
+pub fn seek<S: Shelf>(
+    shelf: &mut S,
+    run: &mut MergeState<S::R>,
+    line: &mut Vec<u8>,
+) -> Result<(), Stop>
     requires count { S.failed shelf.old + 1 < 2 ^ 64 }
     requires seeking { run.old.stage ≡ Stage.Seeking }
-    ensures keeps { KeepsTexts S.Shelf shelf.old shelf.new }
-    ensures failed { ReadBlames (S.failed shelf.old) (S.failed shelf.new) result }
+    ensures keeps { KeepsShelf S.Shelf shelf.old shelf.new }
+    ensures failed { CountsReadStop (S.failed shelf.old) (S.failed shelf.new) result }
     ensures readers { KeepsReaders S.Shelf shelf.old shelf.new run.old run.new }
     ensures blamed { BlamesReaders S.Shelf shelf.old shelf.new run.old run.new result }
     ensures searched { IsTrue (S.tells shelf.old) →
         OnOk result (Searched (sought (change_lines (S.left shelf.old) run.old) None)
-        (told_by run.old) (told_by run.new) run.new.stage run.new.first.items
+        (so_far_of run.old) (so_far_of run.new) run.new.stage run.new.first.items
         (change_lines (S.left shelf.new) run.new)) }
     ensures stops { IsTrue (S.tells shelf.old) →
-        IfErr result (λ stop. EndsStep stop (told_by run.old) (told_by run.new)
+        IfErr result (λ stop. EndsStep stop (so_far_of run.old) (so_far_of run.new)
         (sought (change_lines (S.left shelf.old) run.old) None).taken []
         (sought (change_lines (S.left shelf.old) run.old) None).faults) }
     ensures told { IsTrue (S.tells shelf.old) →
-        OnErr result (TellsSome (sought (change_lines (S.left shelf.old) run.old) None).faults
-        (told_by run.old) (told_by run.new)) }
-    ensures still { KeepsTold (told_by run.old) (told_by run.new) }
+        OnErr result (ReportsSomeFaults (sought (change_lines (S.left shelf.old) run.old) None).faults
+        (so_far_of run.old) (so_far_of run.new)) }
+    ensures still { KeepsReported (so_far_of run.old) (so_far_of run.new) }
     ensures only { OnlySeeks run.old run.new result }
 {
     let mut begin: Option<Place> = None;

@@ -1,31 +1,31 @@
 // Lines that come next are looked at where they lie in what was read, one behind another, before they are taken all at once.
 ghost use Rattle.std.specs.Prelude.{◌≡◌, ◌≤◌, ◌+◌, ℕ, List, [], IfSome, OnSome, None, Some};
-ghost use Rattle.cweb_lines.specs.Ahead.{Fits, IsAhead, LooksAt, LooksIn, TakesLines};
-ghost use Rattle.cweb_lines.specs.Passing.{ComesNext, StandsIn};
-ghost use Rattle.cweb_lines.specs.Stages.{pending_in};
-ghost use Rattle.cweb_open.specs.declared.limits.Limits.{Limits};
+ghost use Rattle.cweb_lines.specs.inner.Ahead.{FitsLimits, IsAhead, LooksAhead, LooksAheadIn, TakesLines};
+ghost use Rattle.cweb_lines.specs.inner.Passing.{ComesNext, IsStretchOf};
+ghost use Rattle.cweb_lines.specs.surface.Stages.{pending_in};
+ghost use Rattle.cweb_input.specs.declared.counters.TakenCounters.{TakenCounters};
 
 use crate::change::Stage;
 use crate::merger::Merger;
-use crate::passing::lent::Lent;
+use crate::passing::line_span::LineSpan;
 use crate::passing::stretch::{Stretch, line_from};
 use cweb_files::{Place, Shelf};
-use cweb_open::OpenText;
+use cweb_input::OpenSource;
 
 /// Lines that come next and were not yet taken: where the last of them stands and lies, and all of them.
 #[derive(Clone, Copy)]
 pub struct Ahead {
-    pub line: Lent,
+    pub line: LineSpan,
     pub(crate) stretch: Stretch,
 }
 
 impl<S: Shelf> Merger<S> {
-    ghost use Rattle.cweb_lines.specs.Whole.{stop_in};
+    ghost use Rattle.cweb_lines.specs.surface.MergerCalls.{stop_in};
 
-    /// The next line as `lend_line` lends it, but not yet taken. None where it lends none.
+    /// The next line as `borrow_line` lends it, but not yet taken. None where it lends none.
     #[inline(always)]
     pub fn first_ahead(&self) -> Option<Ahead>
-        ensures looks { IfSome result (λ ahead. LooksAt self.now.run [] ahead) }
+        ensures looks { IfSome result (λ ahead. LooksAhead self.now.run [] ahead) }
         ensures ahead { IfSome result (λ ahead. IsAhead self.now.run ahead) }
         ensures running { OnSome result (stop_in self.now ≡ None) }
     {
@@ -47,7 +47,7 @@ impl<S: Shelf> Merger<S> {
     pub fn next_ahead(&self, before: Ahead) -> Option<Ahead>
         requires { IsAhead self.now.run before }
         ensures looks { IfSome result (λ ahead. (lines : List (List ℕ)) →
-            ComesNext self.now.run before.stretch lines → LooksAt self.now.run lines ahead) }
+            ComesNext self.now.run before.stretch lines → LooksAhead self.now.run lines ahead) }
         ensures ahead { IfSome result (λ ahead. IsAhead self.now.run ahead) }
     {
         let stretch = before.stretch;
@@ -56,7 +56,7 @@ impl<S: Shelf> Merger<S> {
         }
         let run = &self.run;
         match &run.stack.texts[run.stack.depth - 1] {
-            Some(text) => line_behind(text, run.stage, &run.first, stretch),
+            Some(text) => line_after(text, run.stage, &run.first, stretch),
             None => None,
         }
     }
@@ -74,19 +74,20 @@ impl<S: Shelf> Merger<S> {
 
 // The line of an open text behind others.
 #[inline(always)]
-fn line_behind<R: Drop>(
-    text: &OpenText<R>,
+fn line_after<R: Drop>(
+    text: &OpenSource<R>,
     stage: Stage,
     first: &[u8],
     before: Stretch,
 ) -> Option<Ahead>
     requires before { (lines : List (List ℕ))
-        × StandsIn (pending_in stage first.now) text.now before lines }
-    requires fits { (limits : Limits) × Fits limits text.now × (text.now.line ≤ limits.lines) }
+        × IsStretchOf (pending_in stage first.now) text.now before lines }
+    requires fits { (limits : TakenCounters) × FitsLimits limits text.now
+        × (text.now.line ≤ limits.lines) }
     requires joins { before.text + 1 ≡ before.end }
     ensures { IfSome result (λ ahead. (lines : List (List ℕ)) →
-        StandsIn (pending_in stage first.now) text.now before lines →
-        LooksIn (pending_in stage first.now) (Some text.now) lines ahead) }
+        IsStretchOf (pending_in stage first.now) text.now before lines →
+        LooksAheadIn (pending_in stage first.now) (Some text.now) lines ahead) }
 {
     if before.end >= text.source.lines_end {
         return None;
@@ -95,7 +96,7 @@ fn line_behind<R: Drop>(
         return None;
     };
     Some(Ahead {
-        line: Lent {
+        line: LineSpan {
             place: Place {
                 file: text.file,
                 line: text.line + before.lines + 1,

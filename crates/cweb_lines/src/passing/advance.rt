@@ -1,21 +1,25 @@
 // Lines that pass through are taken and counted.
 ghost use Rattle.std.specs.Prelude.{◌≡◌, ◌≤◌, ◌<◌, ◌+◌, ℕ, List, Option, length};
-ghost use Rattle.cweb_lines.specs.Change.{Entry};
-ghost use Rattle.cweb_lines.specs.Passing.{ComesNext, GivesLines, HasRoomFor, KeepsLevel, KeepsTop, PassesSlot, PassesTop, StandsAt, StandsIn, lines_next, piece_of, standing, top_of};
-ghost use Rattle.cweb_open.specs.Texts.{line_number, most, number_of};
-ghost use Rattle.cweb_open.specs.declared.limits.TheConstants.{OPEN_FILES};
+ghost use Rattle.cweb_lines.specs.Change.{WaitingEntry};
+ghost use Rattle.cweb_lines.specs.inner.Passing.{ComesNext, EmitsBufferedLines, HasRoomFor, KeepsLevel};
+ghost use Rattle.cweb_lines.specs.inner.Passing.{KeepsTop, PassesSlot, PassesTop, IsStretchAt};
+ghost use Rattle.cweb_lines.specs.inner.Passing.{IsStretchOf, lines_next, buffer_of, with_newlines};
+ghost use Rattle.cweb_lines.specs.inner.Passing.{top_of};
+ghost use Rattle.cweb_input.specs.inner.OpenSources.{line_number, maximum_of};
+ghost use Rattle.cweb_input.specs.surface.OpenSources.{number_or_zero};
+ghost use Rattle.cweb_input.specs.declared.limits.TheConstants.{OPEN_FILES};
 
+use crate::merge_state::MergeState;
 use crate::passing::stretch::Stretch;
-use crate::run::Run;
-use cweb_open::{Limits, OPEN_FILES, OpenText, Stack};
+use cweb_input::{OPEN_FILES, OpenSource, Stack, TakenCounters};
 
 #[inline(always)]
-fn advance_text<R: Drop>(text: &mut OpenText<R>, limits: &mut Limits, stretch: Stretch)
-    requires next { (entry : Option Entry) × (lines : List (List ℕ))
-        × StandsIn entry text.old stretch lines × HasRoomFor limits.old lines }
+fn advance_source<R: Drop>(text: &mut OpenSource<R>, limits: &mut TakenCounters, stretch: Stretch)
+    requires next { (entry : Option WaitingEntry) × (lines : List (List ℕ))
+        × IsStretchOf entry text.old stretch lines × HasRoomFor limits.old lines }
     requires number { text.old.line ≤ limits.old.lines }
-    ensures passes { (entry : Option Entry) → (lines : List (List ℕ)) →
-        StandsIn entry text.old stretch lines →
+    ensures passes { (entry : Option WaitingEntry) → (lines : List (List ℕ)) →
+        IsStretchOf entry text.old stretch lines →
         PassesSlot (Some text.old) (Some text.new) limits.old limits.new lines }
     ensures level { KeepsLevel (Some text.old) (Some text.new) }
     ensures more { limits.old.lines ≤ limits.new.lines }
@@ -27,52 +31,56 @@ fn advance_text<R: Drop>(text: &mut OpenText<R>, limits: &mut Limits, stretch: S
 }
 
 #[inline(always)]
-fn advance_slot<R: Drop>(slot: &mut Option<OpenText<R>>, limits: &mut Limits, stretch: Stretch)
-    requires next { (entry : Option Entry) × (lines : List (List ℕ))
-        × StandsAt entry slot.old stretch lines × HasRoomFor limits.old lines }
-    requires number { number_of line_number slot.old ≤ limits.old.lines }
-    ensures passes { (entry : Option Entry) → (lines : List (List ℕ)) →
-        StandsAt entry slot.old stretch lines →
+fn advance_slot<R: Drop>(
+    slot: &mut Option<OpenSource<R>>,
+    limits: &mut TakenCounters,
+    stretch: Stretch,
+)
+    requires next { (entry : Option WaitingEntry) × (lines : List (List ℕ))
+        × IsStretchAt entry slot.old stretch lines × HasRoomFor limits.old lines }
+    requires number { number_or_zero line_number slot.old ≤ limits.old.lines }
+    ensures passes { (entry : Option WaitingEntry) → (lines : List (List ℕ)) →
+        IsStretchAt entry slot.old stretch lines →
         PassesSlot slot.old slot.new limits.old limits.new lines }
     ensures level { KeepsLevel slot.old slot.new }
     ensures more { limits.old.lines ≤ limits.new.lines }
-    ensures number { number_of line_number slot.new ≤ limits.new.lines }
+    ensures number { number_or_zero line_number slot.new ≤ limits.new.lines }
 {
     match slot {
-        Some(text) => advance_text(text, limits, stretch),
+        Some(text) => advance_source(text, limits, stretch),
         None => {}
     }
 }
 
 #[inline(always)]
-fn advance_top<R: Drop>(stack: &mut Stack<R>, limits: &mut Limits, stretch: Stretch)
+fn advance_top<R: Drop>(stack: &mut Stack<R>, limits: &mut TakenCounters, stretch: Stretch)
     requires some { 0 < stack.old.depth }
     requires shallow { stack.old.depth ≤ OPEN_FILES }
-    requires next { (entry : Option Entry) × (lines : List (List ℕ))
-        × StandsAt entry (top_of stack.old) stretch lines × HasRoomFor limits.old lines }
-    requires numbers { most line_number stack.old.texts ≤ limits.old.lines }
-    ensures passes { (entry : Option Entry) → (lines : List (List ℕ)) →
-        StandsAt entry (top_of stack.old) stretch lines →
+    requires next { (entry : Option WaitingEntry) × (lines : List (List ℕ))
+        × IsStretchAt entry (top_of stack.old) stretch lines × HasRoomFor limits.old lines }
+    requires numbers { maximum_of line_number stack.old.texts ≤ limits.old.lines }
+    ensures passes { (entry : Option WaitingEntry) → (lines : List (List ℕ)) →
+        IsStretchAt entry (top_of stack.old) stretch lines →
         PassesTop stack.old stack.new limits.old limits.new lines }
     ensures keeps { KeepsTop stack.old stack.new }
     ensures more { limits.old.lines ≤ limits.new.lines }
-    ensures numbers { most line_number stack.new.texts ≤ limits.new.lines }
+    ensures numbers { maximum_of line_number stack.new.texts ≤ limits.new.lines }
 {
     let top = stack.depth - 1;
     advance_slot(&mut stack.texts[top], limits, stretch);
 }
 
-impl<R: Drop> Run<R> {
+impl<R: Drop> MergeState<R> {
     /// Takes lines that come next.
     #[inline(always)]
     pub fn advance(&mut self, stretch: Stretch)
         requires { (lines : List (List ℕ)) × ComesNext self.old stretch lines }
         ensures given { (lines : List (List ℕ)) → ComesNext self.old stretch lines →
-            GivesLines self.old self.new (lines_next (top_of self.old.stack) lines) }
+            EmitsBufferedLines self.old self.new (lines_next (top_of self.old.stack) lines) }
         ensures bytes { (lines : List (List ℕ)) → ComesNext self.old stretch lines →
-            self.new.limits.bytes ≡ self.old.limits.bytes + length (standing lines) }
+            self.new.limits.bytes ≡ self.old.limits.bytes + length (with_newlines lines) }
         ensures depth { self.new.stack.depth ≡ self.old.stack.depth }
-        ensures piece { piece_of (top_of self.new.stack) ≡ piece_of (top_of self.old.stack) }
+        ensures buffer { buffer_of (top_of self.new.stack) ≡ buffer_of (top_of self.old.stack) }
         ensures more { self.old.limits.lines < self.new.limits.lines }
     {
         advance_top(&mut self.stack, &mut self.limits, stretch);

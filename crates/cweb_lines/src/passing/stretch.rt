@@ -1,15 +1,17 @@
 // How many lines of what was read pass through at once.
 ghost use Rattle.std.specs.Prelude.{◌≡◌, ◌≤◌, ◌+◌, ◌-◌, ℕ, List, IfSome, OnSome};
-ghost use Rattle.cweb_lines.specs.Ahead.{Fits, FitsAt};
-ghost use Rattle.cweb_lines.specs.Passing.{Reaches, StandsIn, ComesNext, HasRoomFor, text_at, top_of};
-ghost use Rattle.cweb_lines.specs.Stages.{pending_in};
-ghost use Rattle.cweb_open.specs.declared.limits.TheConstants.{LINES};
+ghost use Rattle.cweb_lines.specs.inner.Ahead.{FitsLimits, FitsLimitsAt};
+ghost use Rattle.cweb_lines.specs.inner.Passing.{Reaches, IsStretchOf, ComesNext, HasRoomFor};
+ghost use Rattle.cweb_lines.specs.inner.Passing.{stretch_bytes, top_of};
+ghost use Rattle.cweb_lines.specs.surface.Stages.{pending_in};
+ghost use Rattle.cweb_input.specs.declared.limits.TheConstants.{LINES};
 
 use crate::change::Stage;
-use crate::run::Run;
+use crate::merge_state::MergeState;
 use crate::step::turning::begun_at;
-use cweb_open::{Limits, OpenText, trimmed_length};
-use cweb_source::{LINE_LENGTH, Source, is_include, newline_at};
+use cweb_input::{
+    LINE_LENGTH, OpenSource, Source, TakenCounters, is_include_line, newline_at, trimmed_length,
+};
 
 /// Lines that stand one behind another in what was read, and pass through. All but the last have no blanks at their ends, so
 /// that they are printed as they stand.
@@ -50,10 +52,10 @@ pub(crate) fn line_from<R: Drop>(
 ) -> Option<Stretch>
     requires { start ≤ source.now.end }
     ensures line { IfSome result (λ s. Reaches (pending_in stage first.now) may_match
-        source.now.piece.items start source.now.end s) }
+        source.now.buffer.items start source.now.end s) }
     ensures one { IfSome result (λ s. s.lines ≡ 1) }
 {
-    let pending = &source.piece[start..source.end];
+    let pending = &source.buffer[start..source.end];
     let Some(at) = newline_at(pending) else {
         return None;
     };
@@ -63,7 +65,7 @@ pub(crate) fn line_from<R: Drop>(
     let raw = &pending[..at];
     let length = trimmed_length(raw);
     let line = &raw[..length];
-    if is_include(line) {
+    if is_include_line(line) {
         return None;
     }
     if let Some(_) = begun_at(stage, first, may_match, line) {
@@ -87,7 +89,7 @@ fn stretch_from<R: Drop>(
 ) -> Option<Stretch>
     requires { source.now.end - source.now.start ≤ LINES }
     ensures lines { IfSome result (λ s. Reaches (pending_in stage first.now) may_match
-        source.now.piece.items source.now.start source.now.end s) }
+        source.now.buffer.items source.now.start source.now.end s) }
     ensures one { room ≡ 0 → IfSome result (λ s. s.lines ≡ 1) }
 {
     if source.start >= source.lines_end {
@@ -112,15 +114,15 @@ fn stretch_from<R: Drop>(
 // The next lines of an open text. None where what was read might pass a limit.
 #[inline(always)]
 fn stretch_of<R: Drop>(
-    text: &OpenText<R>,
+    text: &OpenSource<R>,
     stage: Stage,
     first: &[u8],
-    limits: &Limits,
+    limits: &TakenCounters,
     room: usize,
 ) -> Option<Stretch>
     ensures lines { IfSome result (λ s. (lines : List (List ℕ))
-        × StandsIn (pending_in stage first.now) text.now s lines × HasRoomFor limits.now lines) }
-    ensures fits { OnSome result (Fits limits.now text.now) }
+        × IsStretchOf (pending_in stage first.now) text.now s lines × HasRoomFor limits.now lines) }
+    ensures fits { OnSome result (FitsLimits limits.now text.now) }
     ensures one { room ≡ 0 → IfSome result (λ s. s.lines ≡ 1) }
 {
     let source = &text.source;
@@ -130,13 +132,13 @@ fn stretch_of<R: Drop>(
     stretch_from(source, stage, first, text.may_match, room)
 }
 
-impl<R: Drop> Run<R> {
+impl<R: Drop> MergeState<R> {
     /// The next lines that pass through, until they have so many bytes, where no entry is sought and they are lines of an
     /// open text. One line where there is no room.
     #[inline(always)]
     pub fn stretch(&self, room: usize) -> Option<Stretch>
         ensures lines { IfSome result (λ s. (lines : List (List ℕ)) × ComesNext self.now s lines) }
-        ensures fits { OnSome result (FitsAt self.now.limits (top_of self.now.stack)) }
+        ensures fits { OnSome result (FitsLimitsAt self.now.limits (top_of self.now.stack)) }
         ensures one { room ≡ 0 → IfSome result (λ s. s.lines ≡ 1) }
     {
         if let Stage::Seeking = self.stage {
@@ -155,10 +157,10 @@ impl<R: Drop> Run<R> {
     #[inline(always)]
     pub fn printed(&self, stretch: Stretch) -> &[u8]
         requires { (lines : List (List ℕ)) × ComesNext self.now stretch lines }
-        ensures { result.now ≡ text_at (top_of self.now.stack) stretch }
+        ensures { result.now ≡ stretch_bytes (top_of self.now.stack) stretch }
     {
         match &self.stack.texts[self.stack.depth - 1] {
-            Some(text) => &text.source.piece[text.source.start..stretch.text],
+            Some(text) => &text.source.buffer[text.source.start..stretch.text],
             None => &[],
         }
     }

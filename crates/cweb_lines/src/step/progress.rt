@@ -1,23 +1,28 @@
 // What a merger does at once: it takes a line, or tells a fault.
-ghost use Rattle.std.specs.Prelude.{◌≡◌, ◌≤◌, ◌<◌, ◌+◌, ◌^◌, ◌++◌, ◌∷◌, [], length, IsTrue, IfOk, IfErr, IfSome, OnSome, Ok, OnOk, OnErr, None};
-ghost use Rattle.cweb_files.specs.Frames.{KeepsTexts};
-ghost use Rattle.cweb_lines.specs.Calls.{AnswersLine, ClosesAbove};
-ghost use Rattle.cweb_open.specs.Counts.{count_of};
-ghost use Rattle.cweb_source.specs.Lines.{IsOneLine};
-ghost use Rattle.cweb_lines.specs.Merging.{NothingLeft, change_lines};
-ghost use Rattle.cweb_open.specs.Names.{names_of};
-ghost use Rattle.cweb_lines.specs.Stages.{floor_of};
-ghost use Rattle.cweb_open.specs.Texts.{ReadBlames, Counted, NamesFiles, TakesLine, TakesAbove, StopsFor, StopsReading, FirstStops, StopsAbove, StaysBelow};
-ghost use Rattle.cweb_lines.specs.Steps.{OnlyTakes, OnlyTells};
-ghost use Rattle.cweb_lines.specs.Naming.{BlamesReaders, KeepsReaders};
+ghost use Rattle.std.specs.Prelude.{◌≡◌, ◌≤◌, ◌<◌, ◌+◌, ◌^◌, ◌++◌, ◌∷◌, [], length, IsTrue, IfOk};
+ghost use Rattle.std.specs.Prelude.{IfErr, IfSome, OnSome, Ok, OnOk, OnErr, None};
+ghost use Rattle.cweb_files.specs.surface.Frames.{KeepsShelf};
+ghost use Rattle.cweb_input.specs.inner.LineCalls.{AnswersLine, ClosesAbove};
+ghost use Rattle.cweb_input.specs.surface.Counters.{counters_of};
+ghost use Rattle.cweb_input.specs.surface.Lines.{IsOneLine};
+ghost use Rattle.cweb_lines.specs.surface.MergeProgress.{NothingLeft, change_lines};
+ghost use Rattle.cweb_input.specs.surface.OpenedFileNames.{opened_file_names};
+ghost use Rattle.cweb_lines.specs.inner.Stages.{floor_of};
+ghost use Rattle.cweb_input.specs.surface.OpenSources.{CountsReadStop};
+ghost use Rattle.cweb_input.specs.inner.OpenSources.{Counted, NamesFiles, TakesNextLine};
+ghost use Rattle.cweb_input.specs.inner.OpenSources.{TakesAbove, FirstStops};
+ghost use Rattle.cweb_input.specs.surface.OpenSources.{StopsFor, StopsReading};
+ghost use Rattle.cweb_input.specs.inner.OpenSources.{StopsAbove, StaysBelow};
+ghost use Rattle.cweb_lines.specs.inner.Steps.{OnlyTakes, OnlyReports};
+ghost use Rattle.cweb_lines.specs.inner.MergeReaderNames.{BlamesReaders, KeepsReaders};
 
 use crate::change::Stage;
-use crate::run::Run;
+use crate::merge_state::MergeState;
 use cweb_files::{Place, Shelf};
-use cweb_open::{LineAt, SourceFault, SourceKind, Stop, take_above, take_from};
+use cweb_input::{LineAt, SourceFault, SourceKind, Stop, take_above, take_from};
 use std::alloc::AllocError;
 
-impl<R: Drop> Run<R> {
+impl<R: Drop> MergeState<R> {
     /// How many texts stay open while lines are taken.
     pub fn floor(&self) -> usize
         ensures { result ≡ floor_of self.now.stage }
@@ -37,13 +42,13 @@ impl<R: Drop> Run<R> {
     }
 
     /// Tells a fault.
-    pub fn tell(&mut self, kind: SourceKind, place: Place, count: u32) -> Result<(), Stop>
-        requires known { place.file.0 < length (names_of self.old.names) }
+    pub fn report(&mut self, kind: SourceKind, place: Place, count: u32) -> Result<(), Stop>
+        requires known { place.file.0 < length (opened_file_names self.old.names) }
         ensures told { OnOk result (self.new.faults.items ≡ self.old.faults.items
             ++ record { kind = kind; place = place; count = count } ∷ []) }
         ensures err { OnErr result (self.new.faults.items ≡ self.old.faults.items) }
         ensures memory { IfErr result (λ stop. stop ≡ Stop.Memory) }
-        ensures only { OnlyTells self.old self.new }
+        ensures only { OnlyReports self.old self.new }
     {
         let fault = SourceFault { kind, place, count };
         match self.faults.push(fault) {
@@ -56,23 +61,24 @@ impl<R: Drop> Run<R> {
 /// Takes the next line of the change file.
 pub fn take_change<S: Shelf>(
     shelf: &mut S,
-    run: &mut Run<S::R>,
+    run: &mut MergeState<S::R>,
     line: &mut Vec<u8>,
 ) -> Result<Option<LineAt>, Stop>
     requires { S.failed shelf.old + 1 < 2 ^ 64 }
-    ensures keeps { KeepsTexts S.Shelf shelf.old shelf.new }
-    ensures failed { ReadBlames (S.failed shelf.old) (S.failed shelf.new) result }
+    ensures keeps { KeepsShelf S.Shelf shelf.old shelf.new }
+    ensures failed { CountsReadStop (S.failed shelf.old) (S.failed shelf.new) result }
     ensures taken { IsTrue (S.tells shelf.old) →
-        IfOk result (λ at. TakesLine (change_lines (S.left shelf.old) run.old) at line.new.items
-        (change_lines (S.left shelf.new) run.new) (count_of run.old.limits)
-        (count_of run.new.limits)) }
+        IfOk result (λ at. TakesNextLine (change_lines (S.left shelf.old) run.old) at line.new.items
+        (change_lines (S.left shelf.new) run.new) (counters_of run.old.limits)
+        (counters_of run.new.limits)) }
     ensures stops { IsTrue (S.tells shelf.old) →
-        IfErr result (λ stop. StopsFor (FirstStops stop (count_of run.old.limits)
+        IfErr result (λ stop. StopsFor (FirstStops stop (counters_of run.old.limits)
         (change_lines (S.left shelf.old) run.old)) stop) }
     ensures readers { KeepsReaders S.Shelf shelf.old shelf.new run.old run.new }
     ensures blamed { BlamesReaders S.Shelf shelf.old shelf.new run.old run.new result }
-    ensures answers { AnswersLine (length (names_of run.old.names)) (count_of run.old.limits)
-        (count_of run.new.limits) line.new.items result }
+    ensures answers { AnswersLine (length (opened_file_names run.old.names))
+        (counters_of run.old.limits)
+        (counters_of run.new.limits) line.new.items result }
     ensures only { OnlyTakes run.old run.new }
     ensures stack { run.new.stack ≡ run.old.stack }
 {
@@ -83,24 +89,25 @@ pub fn take_change<S: Shelf>(
 #[inline(always)]
 pub fn take_raw<S: Shelf>(
     shelf: &mut S,
-    run: &mut Run<S::R>,
+    run: &mut MergeState<S::R>,
     line: &mut Vec<u8>,
 ) -> Result<Option<LineAt>, Stop>
     requires { S.failed shelf.old + 1 < 2 ^ 64 }
-    ensures keeps { KeepsTexts S.Shelf shelf.old shelf.new }
-    ensures failed { ReadBlames (S.failed shelf.old) (S.failed shelf.new) result }
+    ensures keeps { KeepsShelf S.Shelf shelf.old shelf.new }
+    ensures failed { CountsReadStop (S.failed shelf.old) (S.failed shelf.new) result }
     ensures taken { IsTrue (S.tells shelf.old) →
         IfOk result (λ at. TakesAbove (S.left shelf.old) (S.left shelf.new)
         (floor_of run.old.stage) run.old.stack run.new.stack at line.new.items
-        (count_of run.old.limits) (count_of run.new.limits)) }
+        (counters_of run.old.limits) (counters_of run.new.limits)) }
     ensures stops { IsTrue (S.tells shelf.old) →
         IfErr result (λ stop. StopsFor (StopsAbove (S.left shelf.old)
-        (floor_of run.old.stage) run.old.stack stop (count_of run.old.limits)) stop) }
+        (floor_of run.old.stage) run.old.stack stop (counters_of run.old.limits)) stop) }
     ensures readers { KeepsReaders S.Shelf shelf.old shelf.new run.old run.new }
     ensures blamed { BlamesReaders S.Shelf shelf.old shelf.new run.old run.new result }
     ensures closes { ClosesAbove (floor_of run.old.stage) run.old.stack run.new.stack result }
-    ensures answers { AnswersLine (length (names_of run.old.names)) (count_of run.old.limits)
-        (count_of run.new.limits) line.new.items result }
+    ensures answers { AnswersLine (length (opened_file_names run.old.names))
+        (counters_of run.old.limits)
+        (counters_of run.new.limits) line.new.items result }
     ensures only { OnlyTakes run.old run.new }
     ensures change { run.new.change ≡ run.old.change }
 {

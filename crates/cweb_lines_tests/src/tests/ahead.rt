@@ -36,14 +36,14 @@ const TAKEN_AT_ONCE: &[(u32, &[u8], Option<u32>)] = &[
 ];
 
 // The next line is of this place, and lent or not.
-fn comes_lent(
+fn comes_borrowed(
     rt: &impl Abort,
     merger: &mut Merger<MemoryShelf>,
     shelf: &mut MemoryShelf,
     line: &mut Vec<u8>,
     wanted: &(u32, u32, bool),
 ) -> Result<(), Stop> {
-    let lent = merger.lend_line();
+    let lent = merger.borrow_line();
     holds(rt, lent.is_some() == wanted.2);
     let place = match lent {
         Some(lent) => Some(lent.place),
@@ -70,9 +70,9 @@ impl Case<MemoryShelf, Fail> for Placing {
         filled: &mut Filled,
     ) -> Result<(), Fail> {
         for wanted in PLACES {
-            comes_lent(rt, merger, shelf, &mut filled.line, wanted)?;
+            comes_borrowed(rt, merger, shelf, &mut filled.line, wanted)?;
         }
-        holds(rt, merger.lend_line().is_none());
+        holds(rt, merger.borrow_line().is_none());
         holds(rt, merger.next_line(shelf, &mut filled.line)?.is_none());
         Ok(())
     }
@@ -81,7 +81,7 @@ impl Case<MemoryShelf, Fail> for Placing {
 // The places of lines that are lent are those of lines that are asked for; none is lent before something was read, or where
 // an include line or the old line of a change comes next.
 #[test]
-fn places_of_lent_lines(rt: HostRuntime) -> Result<(), Fail> {
+fn places_of_borrowed_lines(rt: HostRuntime) -> Result<(), Fail> {
     merge_files(&rt, PLACED, &CHANGED_WEB, &mut Placing)
 }
 

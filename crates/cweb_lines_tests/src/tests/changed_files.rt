@@ -5,7 +5,7 @@ use changes::{NAMES, compare, compare_all};
 #[test]
 fn included_lines(rt: HostRuntime) -> Result<(), Fail> {
     const OTHERS: &[(&str, &[u8])] = &[("b", b"B1\n@i c\nB3\n"), ("c", b"C1\nC2\n"), ("none", b"")];
-    const ROWS: &[(&str, &str, &str)] = &[
+    const EXAMPLES: &[(&str, &str, &str)] = &[
         // matched at each depth, and once for each time that a file is opened
         (
             "@i c\nM2\n@i b\n",
@@ -29,13 +29,13 @@ fn included_lines(rt: HostRuntime) -> Result<(), Fail> {
             "WebEnded in 1 at 1\n2 is none\n",
         ),
     ];
-    compare_all(&rt, OTHERS, ROWS)
+    compare_all(&rt, OTHERS, EXAMPLES)
 }
 
 #[test]
 fn include_lines_taken_away(rt: HostRuntime) -> Result<(), Fail> {
     const OTHERS: &[(&str, &[u8])] = &[("b", b"B1\n@i c\nB3\n"), ("c", b"C1\nC2\n")];
-    const ROWS: &[(&str, &str, &str)] = &[
+    const EXAMPLES: &[(&str, &str, &str)] = &[
         // an include line that is an old line is not obeyed, be it the first, a further one or an unequal one
         (
             "@i b\nM2\n",
@@ -55,7 +55,7 @@ fn include_lines_taken_away(rt: HostRuntime) -> Result<(), Fail> {
             "2:1 C1\n2:2 C2\nNoMatch in 1 at 1\n2 is c\n",
         ),
     ];
-    compare_all(&rt, OTHERS, ROWS)
+    compare_all(&rt, OTHERS, EXAMPLES)
 }
 
 // The web includes itself until twenty files are open, and each gives a line `A`.
@@ -75,7 +75,7 @@ fn compare_at_the_full_depth(
 
 #[test]
 fn changes_at_the_full_depth(rt: HostRuntime) -> Result<(), Fail> {
-    const ROWS: &[(&str, &str)] = &[
+    const EXAMPLES: &[(&str, &str)] = &[
         (
             "@x\nA\n@y\n@i c.ch\nN\n@z\n",
             "1:5 N\n19:2 A\n18:2 A\n17:2 A\n16:2 A\n15:2 A\n14:2 A\n13:2 A\n12:2 A\n11:2 A\n10:2 A\n9:2 A\n8:2 A\n7:2 A\n6:2 A\n5:2 A\n4:2 A\n3:2 A\n2:2 A\n0:2 A\nTooDeep in 20 at 1\nTooDeep in 1 at 4\n",
@@ -90,7 +90,7 @@ fn changes_at_the_full_depth(rt: HostRuntime) -> Result<(), Fail> {
             "TooDeep in 20 at 1\nWebEnded in 1 at 1\nTooDeep in 1 at 24\nNoName in 1 at 25\n",
         ),
     ];
-    for (change, want) in ROWS {
+    for (change, want) in EXAMPLES {
         compare_at_the_full_depth(&rt, *change, *want)?;
     }
     Ok(())
@@ -100,7 +100,7 @@ fn changes_at_the_full_depth(rt: HostRuntime) -> Result<(), Fail> {
 #[test]
 fn files_within_a_change(rt: HostRuntime) -> Result<(), Fail> {
     const OTHERS: &[(&str, &[u8])] = &[("b", b"P\n@i b\n"), ("c", b"A\n")];
-    const ROWS: &[(&str, &str, &str)] = &[
+    const EXAMPLES: &[(&str, &str, &str)] = &[
         (
             "A\n",
             "@x\nA\n@y\n@i b\n@z\n",
@@ -118,7 +118,7 @@ fn files_within_a_change(rt: HostRuntime) -> Result<(), Fail> {
             "2:1 @x\n1:4 N\n2:3 @y\n2:4 N\n2:5 @z\n2 is c.ch\n",
         ),
     ];
-    compare_all(&rt, OTHERS, ROWS)
+    compare_all(&rt, OTHERS, EXAMPLES)
 }
 
 const NAMED: &[(&str, &[u8])] = &[
@@ -140,10 +140,10 @@ impl Case<MemoryShelf, Fail> for Naming {
         shelf: &mut MemoryShelf,
         filled: &mut Filled,
     ) -> Result<(), Fail> {
-        tells(rt, merger, &mut filled.told, "0 is m.web\n1 is c.ch\n")?;
+        reports(rt, merger, &mut filled.told, "0 is m.web\n1 is c.ch\n")?;
         writes(rt, merger, shelf, &mut filled.sink, b"B\nB\n")?;
         let want = "0 is m.web\n1 is c.ch\n2 is lib/b\n3 is lib/b\n";
-        tells(rt, merger, &mut filled.told, want)
+        reports(rt, merger, &mut filled.told, want)
     }
 }
 

@@ -4,7 +4,7 @@ use changes::compare_all;
 
 #[test]
 fn old_lines(rt: HostRuntime) -> Result<(), Fail> {
-    const ROWS: &[(&str, &str, &str)] = &[
+    const EXAMPLES: &[(&str, &str, &str)] = &[
         // blanks at their ends don't count, and others do
         ("A \nB\x0c\n", "@x\nA\r\nB\t\n@y \nN  \n@z\n", "1:5 N\n"),
         (" A\n", "@x\nA\n@y\n@z\n", "0:1  A\nNoMatch in 1 at 1\n"),
@@ -27,12 +27,12 @@ fn old_lines(rt: HostRuntime) -> Result<(), Fail> {
             "1:5 N\n0:3 A\nNoMatch in 1 at 7\n",
         ),
     ];
-    compare_all(&rt, &[], ROWS)
+    compare_all(&rt, &[], EXAMPLES)
 }
 
 #[test]
 fn old_lines_that_end_early(rt: HostRuntime) -> Result<(), Fail> {
-    const ROWS: &[(&str, &str, &str)] = &[
+    const EXAMPLES: &[(&str, &str, &str)] = &[
         // the order of the faults of one old side, of which two lines are compared
         (
             "A\nB\nC\n",
@@ -53,13 +53,13 @@ fn old_lines_that_end_early(rt: HostRuntime) -> Result<(), Fail> {
         ),
         ("A\nA\n", "@x\nA", "0:2 A\nEndedBeforeY in 1 at 1\n"),
     ];
-    compare_all(&rt, &[], ROWS)
+    compare_all(&rt, &[], EXAMPLES)
 }
 
 #[test]
 fn new_lines(rt: HostRuntime) -> Result<(), Fail> {
     const OTHERS: &[(&str, &[u8])] = &[("b", b"B\nA\n@i c\n"), ("c", b"A\nC")];
-    const ROWS: &[(&str, &str, &str)] = &[
+    const EXAMPLES: &[(&str, &str, &str)] = &[
         // code lines among them
         (
             "A\nB\n",
@@ -86,5 +86,5 @@ fn new_lines(rt: HostRuntime) -> Result<(), Fail> {
             "2:1 B\n2:2 A\n3:1 A\n3:2 C\n1:5 N\n4:1 A\n4:2 C\n2 is b\n3 is c\n4 is c\n",
         ),
     ];
-    compare_all(&rt, OTHERS, ROWS)
+    compare_all(&rt, OTHERS, EXAMPLES)
 }

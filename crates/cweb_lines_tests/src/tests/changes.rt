@@ -16,14 +16,14 @@ fn shelf_with(
 }
 
 // A line behind its place.
-fn tell_line(text: &mut String, place: Place, line: &[u8]) -> Result<(), Fail> {
+fn describe_line(text: &mut String, place: Place, line: &[u8]) -> Result<(), Fail> {
     let given = str::from_utf8(line)?;
     writeln!(text, "{}:{} {}", place.file.0, place.line, given)?;
     Ok(())
 }
 
 // The lines that a merger still has to give, each behind its place.
-fn tell_lines(
+fn describe_lines(
     text: &mut String,
     line: &mut Vec<u8>,
     merger: &mut Merger<MemoryShelf>,
@@ -33,7 +33,7 @@ fn tell_lines(
         let Some(place) = merger.next_line(shelf, line)? else {
             break;
         };
-        tell_line(text, place, line)?;
+        describe_line(text, place, line)?;
     }
     Ok(())
 }
@@ -59,10 +59,10 @@ impl Case<MemoryShelf, Fail> for Merging<'_> {
         shelf: &mut MemoryShelf,
         filled: &mut Filled,
     ) -> Result<(), Fail> {
-        tell_lines(&mut filled.told, &mut filled.line, merger, shelf)?;
-        tell_faults(&mut filled.told, merger)?;
-        tell_names(&mut filled.told, merger, 2)?;
-        same_text(rt, filled.told.as_str(), self.text);
+        describe_lines(&mut filled.told, &mut filled.line, merger, shelf)?;
+        describe_faults(&mut filled.told, merger)?;
+        describe_names(&mut filled.told, merger, 2)?;
+        same_string(rt, filled.told.as_str(), self.text);
         Ok(())
     }
 }
@@ -95,7 +95,7 @@ pub fn compare_all(
 #[test]
 fn worked_changes(rt: HostRuntime) -> Result<(), Fail> {
     const OTHERS: &[(&str, &[u8])] = &[("inc.w", b"I1\nI2\n"), ("b.w", b"B\n")];
-    const ROWS: &[(&str, &str, &str)] = &[
+    const EXAMPLES: &[(&str, &str, &str)] = &[
         (
             "A\n@i gone.w\nB\n",
             "@x\n@i gone.w\n@y\nnew\n@z\n",
@@ -125,12 +125,12 @@ fn worked_changes(rt: HostRuntime) -> Result<(), Fail> {
             "2:1 B\n1:9 C\n2 is b.w\n",
         ),
     ];
-    compare_all(&rt, OTHERS, ROWS)
+    compare_all(&rt, OTHERS, EXAMPLES)
 }
 
 #[test]
 fn code_lines(rt: HostRuntime) -> Result<(), Fail> {
-    const ROWS: &[(&str, &str, &str)] = &[
+    const EXAMPLES: &[(&str, &str, &str)] = &[
         // letters in either case; what follows them is ignored
         (
             "A\nB\n",
@@ -146,12 +146,12 @@ fn code_lines(rt: HostRuntime) -> Result<(), Fail> {
         // in the web they are lines as others are
         ("@x\nA\n@y\n@z\n", "", "0:1 @x\n0:2 A\n0:3 @y\n0:4 @z\n"),
     ];
-    compare_all(&rt, &[], ROWS)
+    compare_all(&rt, &[], EXAMPLES)
 }
 
 #[test]
 fn seeking_an_entry(rt: HostRuntime) -> Result<(), Fail> {
-    const ROWS: &[(&str, &str, &str)] = &[
+    const EXAMPLES: &[(&str, &str, &str)] = &[
         // lines outside entries
         ("A\n", "", "0:1 A\n"),
         ("A\n", "A\n\nB", "0:1 A\n"),
@@ -169,12 +169,12 @@ fn seeking_an_entry(rt: HostRuntime) -> Result<(), Fail> {
         ("\nA\n", "@x\n\n \t\nA\n@y\nN\n@z\n", "0:1 \n1:6 N\n"),
         ("A\n", "@x\n\n  \n", "0:1 A\nNoOldLines in 1 at 1\n"),
     ];
-    compare_all(&rt, &[], ROWS)
+    compare_all(&rt, &[], EXAMPLES)
 }
 
 #[test]
 fn entries_that_are_passed_over(rt: HostRuntime) -> Result<(), Fail> {
-    const ROWS: &[(&str, &str, &str)] = &[
+    const EXAMPLES: &[(&str, &str, &str)] = &[
         // an entry without old lines, and the next entry right there or later
         (
             "A\n",
@@ -198,12 +198,12 @@ fn entries_that_are_passed_over(rt: HostRuntime) -> Result<(), Fail> {
             "0:1 A\nNoMatch in 1 at 1\n",
         ),
     ];
-    compare_all(&rt, &[], ROWS)
+    compare_all(&rt, &[], EXAMPLES)
 }
 
 #[test]
 fn entries_in_turn(rt: HostRuntime) -> Result<(), Fail> {
-    const ROWS: &[(&str, &str, &str)] = &[
+    const EXAMPLES: &[(&str, &str, &str)] = &[
         // the first line that equals an entry's, behind the change before
         (
             "A\nB\nA\nC\n",
@@ -238,5 +238,5 @@ fn entries_in_turn(rt: HostRuntime) -> Result<(), Fail> {
             "MissingX in 1 at 5\nNoMatch in 1 at 6\n",
         ),
     ];
-    compare_all(&rt, &[], ROWS)
+    compare_all(&rt, &[], EXAMPLES)
 }

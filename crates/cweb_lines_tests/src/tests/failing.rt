@@ -62,7 +62,7 @@ fn failed_in(
     same_number(rt, shelf.reads, shelf.fails_at);
     same_number(rt, u64::from(shelf.failed_in), u64::from(file));
     holds(rt, file < merger.names().count());
-    same_text(rt, merger.names().get(FileId(file)), name);
+    same_string(rt, merger.names().get(FileId(file)), name);
 }
 
 // A merger of which a read has failed writes nothing.
@@ -106,13 +106,13 @@ impl Case<TrialShelf, Fail> for Failing {
 // Each text is read twice: its bytes, and then none.
 #[test]
 fn a_read_that_fails(rt: HostRuntime) -> Result<(), Fail> {
-    const ROWS: &[(u64, u32, &str, u32)] = &[
+    const EXAMPLES: &[(u64, u32, &str, u32)] = &[
         (1, 0, "a.w", 0),
         (2, 1, "b.w", 1),
         (3, 1, "b.w", 2),
         (4, 0, "a.w", 3),
     ];
-    for (fails_at, file, name, lines) in ROWS {
+    for (fails_at, file, name, lines) in EXAMPLES {
         let mut case = Failing {
             file: *file,
             name: *name,
@@ -144,22 +144,22 @@ fn stays_stopped(
 // All the merged lines and faults.
 fn is_all(rt: &impl Abort, written: &[u8], faults: &str) {
     same_bytes(rt, written, MERGED_CHANGED);
-    same_text(rt, faults, FAULTS_CHANGED);
+    same_string(rt, faults, FAULTS_CHANGED);
 }
 
 // A front of them.
-fn is_front(rt: &impl Abort, written: &[u8], faults: &str) {
+fn is_prefix(rt: &impl Abort, written: &[u8], faults: &str) {
     holds(rt, MERGED_CHANGED.starts_with(written));
     holds(rt, FAULTS_CHANGED.starts_with(faults));
 }
 
 // Runs of which each fails at a later read, but none at the 88th. So many bytes at least are written.
 #[derive(Clone, Copy)]
-struct Runs {
+struct FailingReads {
     least: usize,
 }
 
-impl Case<TrialShelf, Fail> for Runs {
+impl Case<TrialShelf, Fail> for FailingReads {
     fn ask<A: Abort>(
         &mut self,
         rt: &A,
@@ -169,7 +169,7 @@ impl Case<TrialShelf, Fail> for Runs {
     ) -> Result<(), Fail> {
         holds(rt, shelf.failed == 0);
         let ended = write_all(rt, merger, shelf, &mut filled.sink);
-        tell_faults(&mut filled.told, merger)?;
+        describe_faults(&mut filled.told, merger)?;
         let written = filled.sink.bytes();
         holds(rt, self.least <= written.len());
         self.least = written.len();
@@ -178,7 +178,7 @@ impl Case<TrialShelf, Fail> for Runs {
             ends(rt, ended, Ok(()));
             return Ok(());
         }
-        is_front(rt, written, filled.told.as_str());
+        is_prefix(rt, written, filled.told.as_str());
         stays_stopped(rt, merger, shelf, &mut filled.line, ended)
     }
 }
@@ -187,7 +187,7 @@ impl Case<TrialShelf, Fail> for Runs {
 // change file up to the first old line of the entry that waits.
 #[test]
 fn each_read_that_fails(rt: HostRuntime) -> Result<(), Fail> {
-    let mut runs = Runs { least: 0 };
+    let mut runs = FailingReads { least: 0 };
     for fails_at in 1..89 {
         merge_reads(&rt, CHANGED, &CHANGED_WEB, 1, fails_at, &mut runs)?;
     }

@@ -7,7 +7,7 @@ use trial::TrialSink;
 const MERGED: &[u8] = b"one\ntwo\nthree\n";
 
 // A write fails behind these bytes.
-fn fails_behind(
+fn fails_after(
     rt: &impl Abort,
     merger: &mut Merger<MemoryShelf>,
     shelf: &mut MemoryShelf,
@@ -40,20 +40,20 @@ impl Case<MemoryShelf, Fail> for Failing {
     ) -> Result<(), Fail> {
         filled.sink.most = self.most;
         filled.sink.fails_at = self.fails_at;
-        fails_behind(rt, merger, shelf, &mut filled.sink, self.written);
+        fails_after(rt, merger, shelf, &mut filled.sink, self.written);
         writes(rt, merger, shelf, &mut filled.sink, self.rest.as_bytes())
     }
 }
 
 #[test]
 fn a_write_that_fails(rt: HostRuntime) -> Result<(), Fail> {
-    const ROWS: &[(u64, usize, &str, &str)] = &[
+    const EXAMPLES: &[(u64, usize, &str, &str)] = &[
         (1, usize::MAX, "", "two\nthree\n"),
         (2, usize::MAX, "one\n", "three\n"),
         (3, usize::MAX, "one\ntwo\n", ""),
         (6, 1, "one\nt", "three\n"),
     ];
-    for (fails_at, most, written, rest) in ROWS {
+    for (fails_at, most, written, rest) in EXAMPLES {
         let mut case = Failing {
             fails_at: *fails_at,
             most: *most,
@@ -96,7 +96,7 @@ impl Case<MemoryShelf, Stop> for Refusing {
         filled: &mut Filled,
     ) -> Result<(), Stop> {
         filled.sink.bytes.reserve(100)?;
-        let ended = write_gathered(rt, merger, shelf, &mut filled.sink, 6);
+        let ended = write_buffered(rt, merger, shelf, &mut filled.sink, 6);
         holds(rt, self.merged.starts_with(filled.sink.bytes()));
         if ended.is_ok() {
             same_bytes(rt, filled.sink.bytes(), self.merged);

@@ -75,7 +75,7 @@ impl Case<MemoryShelf, Fail> for Longest {
         for _ in 0..2 {
             stops_at_the_longer(rt, merger, shelf, &mut filled.line)?;
             let want = "NoName in 0 at 2\n0 is a.w\n1 is longest\n2 is longer\n";
-            tells(rt, merger, &mut filled.told, want)?;
+            reports(rt, merger, &mut filled.told, want)?;
         }
         Ok(())
     }
@@ -143,7 +143,7 @@ impl<S: Shelf> Case<S, Fail> for Lines {
     ) -> Result<(), Fail> {
         self.come(rt, merger, shelf, &mut filled.line)?;
         self.stop(rt, merger, shelf, &mut filled.line);
-        tells(rt, merger, &mut filled.told, self.told)
+        reports(rt, merger, &mut filled.told, self.told)
     }
 }
 
@@ -217,7 +217,7 @@ fn check_endless(
 fn change_files_that_never_end(rt: HostRuntime) -> Result<(), Fail> {
     const NO_FAULT: &str = "0 is a.w\n1 is c.ch\n";
     // what comes before the lines that never end, how long they are, how many of them are given out, and what is reported
-    const ROWS: &[(&str, usize, u32, &str)] = &[
+    const EXAMPLES: &[(&str, usize, u32, &str)] = &[
         // outside an entry
         ("", 1_048_575, 0, NO_FAULT),
         // empty ones after an @x line
@@ -241,7 +241,7 @@ fn change_files_that_never_end(rt: HostRuntime) -> Result<(), Fail> {
             "WantsY in 1 at 3\n0 is a.w\n1 is c.ch\n",
         ),
     ];
-    for (front, length, lines, told) in ROWS {
+    for (front, length, lines, told) in EXAMPLES {
         check_endless(&rt, *front, *length, *lines, *told)?;
     }
     Ok(())

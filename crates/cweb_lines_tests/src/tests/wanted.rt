@@ -15,7 +15,7 @@ pub fn same_number(rt: &impl Abort, got: u64, want: u64) {
     assert_eq!(rt; got, want);
 }
 
-pub fn same_text(rt: &impl Abort, got: &str, want: &str) {
+pub fn same_string(rt: &impl Abort, got: &str, want: &str) {
     assert_eq!(rt; got, want);
 }
 

@@ -17,15 +17,15 @@ impl Case<MemoryShelf, Fail> for Telling<'_> {
         filled: &mut Filled,
     ) -> Result<(), Fail> {
         write_all(rt, merger, shelf, &mut filled.sink)?;
-        tell_bytes(&mut filled.told, filled.sink.bytes())?;
-        tell_faults(&mut filled.told, merger)?;
-        tell_names(&mut filled.told, merger, 0)?;
-        same_text(rt, filled.told.as_str(), self.text);
+        describe_bytes(&mut filled.told, filled.sink.bytes())?;
+        describe_faults(&mut filled.told, merger)?;
+        describe_names(&mut filled.told, merger, 0)?;
+        same_string(rt, filled.told.as_str(), self.text);
         Ok(())
     }
 }
 
-fn tell_bytes(told: &mut String, bytes: &[u8]) -> Result<(), Fail> {
+fn describe_bytes(told: &mut String, bytes: &[u8]) -> Result<(), Fail> {
     told.push_str(str::from_utf8(bytes)?)?;
     Ok(())
 }
@@ -61,7 +61,7 @@ fn compare_including(rt: &(impl AllocGlobal + Abort), rows: &[(&[u8], &str)]) ->
 
 #[test]
 fn lines(rt: HostRuntime) -> Result<(), Fail> {
-    const ROWS: &[(&[u8], &str)] = &[
+    const EXAMPLES: &[(&[u8], &str)] = &[
         // blanks at the end of a line are dropped, and a tab is one
         (b"x \r\n\ny\t", "x\n\ny\n0 is a.w\n"),
         // vertical tabs and form feeds too; those in front and within stay
@@ -75,12 +75,12 @@ fn lines(rt: HostRuntime) -> Result<(), Fail> {
         // a carriage return alone ends no line
         (b"x\ry\n", "x\ry\n0 is a.w\n"),
     ];
-    compare_including(&rt, ROWS)
+    compare_including(&rt, EXAMPLES)
 }
 
 #[test]
 fn include_lines(rt: HostRuntime) -> Result<(), Fail> {
-    const ROWS: &[(&[u8], &str)] = &[
+    const EXAMPLES: &[(&[u8], &str)] = &[
         (b"@i\n", "NoName in 0 at 1\n0 is a.w\n"),
         (b"1\n@i \t \n2\n", "1\n2\nNoName in 0 at 2\n0 is a.w\n"),
         (b"@i \"\"b\n", "NoName in 0 at 1\n0 is a.w\n"),
@@ -96,16 +96,16 @@ fn include_lines(rt: HostRuntime) -> Result<(), Fail> {
         // no include lines
         (b" @i b\n@@i b\n@j b\n", " @i b\n@@i b\n@j b\n0 is a.w\n"),
     ];
-    compare_including(&rt, ROWS)
+    compare_including(&rt, EXAMPLES)
 }
 
 #[test]
 fn a_file_that_includes_itself(rt: HostRuntime) -> Result<(), Fail> {
-    const ROW: (&[u8], &str) = (
+    const EXAMPLE: (&[u8], &str) = (
         b"P\n@i a.w\nQ\n",
         "P\nP\nP\nP\nP\nP\nP\nP\nP\nP\nP\nP\nP\nP\nP\nP\nP\nP\nP\nP\nQ\nQ\nQ\nQ\nQ\nQ\nQ\nQ\nQ\nQ\nQ\nQ\nQ\nQ\nQ\nQ\nQ\nQ\nQ\nQ\nTooDeep in 19 at 2\n0 is a.w\n1 is a.w\n2 is a.w\n3 is a.w\n4 is a.w\n5 is a.w\n6 is a.w\n7 is a.w\n8 is a.w\n9 is a.w\n10 is a.w\n11 is a.w\n12 is a.w\n13 is a.w\n14 is a.w\n15 is a.w\n16 is a.w\n17 is a.w\n18 is a.w\n19 is a.w\n",
     );
-    compare_including(&rt, &[ROW])
+    compare_including(&rt, &[EXAMPLE])
 }
 
 // The faults in the deepest file are of these kinds.

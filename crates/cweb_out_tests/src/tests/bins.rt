@@ -5,11 +5,11 @@ use cweb_out::{BinFault, BinFile, Bins, MemoryBins};
 use std::process::Abort;
 
 // A file is begun, written in pieces and committed or given up; false where a call failed.
-fn put<B: Bins>(bins: &mut B, name: &str, pieces: &[&[u8]], commits: bool) -> bool {
+fn put<B: Bins>(bins: &mut B, name: &str, chunks: &[&[u8]], commits: bool) -> bool {
     if bins.failures() >= 1000 || bins.start_file(name).is_err() {
         return false;
     }
-    for piece in pieces {
+    for piece in chunks {
         if bins.failures() >= 1000 || bins.write(piece).is_err() {
             return false;
         }
@@ -52,7 +52,7 @@ fn a_committed_draft_takes_the_place_of_the_file_of_its_name(rt: HostRuntime) {
     replaces(&rt, &mut bins);
 }
 
-fn gives_up(rt: &impl Abort, bins: &mut MemoryBins) {
+fn abandons(rt: &impl Abort, bins: &mut MemoryBins) {
     holds(rt, put(bins, "a.c", &[b"old"], true));
     holds(rt, put(bins, "a.c", &[b"new"], false));
     holds(rt, has_files(bins, &[("a.c", b"old")]));
@@ -68,9 +68,9 @@ fn leaves_open(rt: &impl Abort, bins: &mut MemoryBins) {
 }
 
 #[test]
-fn a_draft_that_is_given_up_leaves_the_files(rt: HostRuntime) {
+fn an_abandoned_draft_leaves_the_files(rt: HostRuntime) {
     let mut bins = MemoryBins::with_room(rt.alloc(), 1, 8).expect(&rt, "memory");
-    gives_up(&rt, &mut bins);
+    abandons(&rt, &mut bins);
     leaves_open(&rt, &mut bins);
 }
 

@@ -1,9 +1,9 @@
 // Sinks that fail, and memory that is refused.
-ghost use Rattle.cweb_out.specs.Outputs.{IsPlanOf};
+ghost use Rattle.cweb_out.specs.surface.Outputs.{IsPlanOf};
 
+use super::buffering::print_all_buffered;
 use super::cases::{Case, check_files};
-use super::gathering::gather_all;
-use super::told::print_file;
+use super::reports::print_file;
 use super::wanted::{holds, same_bytes, same_number};
 use cweb_files::{Sink, SinkFault};
 use cweb_lines::FileNames;
@@ -28,11 +28,11 @@ fn print(
     alloc: Global,
     store: &Store,
     names: &FileNames,
-    gathers: bool,
+    buffers: bool,
     good: u64,
 ) -> Result<bool, AllocError> {
     match plan(alloc, store, "s.c") {
-        Ok(plan) => print_plan(rt, alloc, store, &plan, names, gathers, good),
+        Ok(plan) => print_plan(rt, alloc, store, &plan, names, buffers, good),
         Err(_) => Err(AllocError),
     }
 }
@@ -43,16 +43,16 @@ fn print_plan(
     store: &Store,
     plan: &Plan,
     names: &FileNames,
-    gathers: bool,
+    buffers: bool,
     good: u64,
 ) -> Result<bool, AllocError>
     requires { IsPlanOf store.now plan.now }
 {
     holds(rt, plan.outputs() > 0);
     let mut expander = Expander::new(alloc, store, plan, 0)?;
-    let mut out = TrialSink::failing_behind(alloc, 1000, good)?;
-    let printed = if gathers {
-        gather_all(rt, alloc, &mut expander, names, &mut out)?
+    let mut out = TrialSink::failing_after(alloc, 1000, good)?;
+    let printed = if buffers {
+        print_all_buffered(rt, alloc, &mut expander, names, &mut out)?
     } else {
         print_file(rt, &mut expander, names, &mut out)
     };
@@ -78,11 +78,11 @@ fn prints_all(
     alloc: Global,
     store: &Store,
     names: &FileNames,
-    gathers: bool,
+    buffers: bool,
     good: u64,
 ) -> bool {
-    let printed = match print(rt, alloc, store, names, gathers, good) {
-        Err(_) => print(rt, alloc, store, names, gathers, good),
+    let printed = match print(rt, alloc, store, names, buffers, good) {
+        Err(_) => print(rt, alloc, store, names, buffers, good),
         printed => printed,
     };
     printed.expect(rt, "memory, or a plan")
@@ -94,11 +94,11 @@ fn faults_of(
     alloc: Global,
     store: &Store,
     names: &FileNames,
-    gathers: bool,
+    buffers: bool,
 ) -> usize {
     let mut faults: usize = 0;
     for good in 0..1000 {
-        if prints_all(rt, alloc, store, names, gathers, good) {
+        if prints_all(rt, alloc, store, names, buffers, good) {
             break;
         }
         faults = faults.saturating_add(1);
@@ -120,15 +120,15 @@ impl Case for TokenByToken {
 
 // Run by `rt try --test --fail-alloc N` too, which refuses the Nth growth: then no token changes.
 #[test]
-fn a_front_is_written_up_to_a_fault(rt: HostRuntime) {
+fn a_prefix_is_written_up_to_a_fault(rt: HostRuntime) {
     check_files(&rt, rt.alloc(), (NAME, None), FILE, &TokenByToken);
 }
 
 // Gathered, all is one piece, of which the sink takes two bytes a write.
 #[derive(Drop)]
-struct InOnePiece;
+struct InOneFlush;
 
-impl Case for InOnePiece {
+impl Case for InOneFlush {
     fn look<A: Abort>(&self, rt: &A, alloc: Global, store: &Store, names: &FileNames) {
         let faults = faults_of(rt, alloc, store, names, true);
         holds(rt, faults == PRINTED.len() / 2 + PRINTED.len() % 2);
@@ -136,8 +136,8 @@ impl Case for InOnePiece {
 }
 
 #[test]
-fn a_front_is_written_of_what_was_gathered(rt: HostRuntime) {
-    check_files(&rt, rt.alloc(), (NAME, None), FILE, &InOnePiece);
+fn a_prefix_of_the_buffer_is_written(rt: HostRuntime) {
+    check_files(&rt, rt.alloc(), (NAME, None), FILE, &InOneFlush);
 }
 
 // A file is begun, where memory is refused once more, and the bins are as they were.

@@ -1,11 +1,11 @@
 // Webs with many names.
 ghost use Rattle.std.specs.Prelude.{◌<◌, length, vec_capacity};
-ghost use Rattle.cweb_out.specs.Frames.{Stands};
-ghost use Rattle.cweb_out.specs.Outputs.{IsPlanOf};
+ghost use Rattle.cweb_out.specs.surface.FrameStacks.{IsFrameStack};
+ghost use Rattle.cweb_out.specs.surface.Outputs.{IsPlanOf};
 
 use super::cases::{Case, check};
 use super::long_webs::chain;
-use super::outputs::tells_web;
+use super::outputs::web_outputs_are;
 use super::wanted::holds;
 use cweb_lines::FileNames;
 use cweb_out::{Expander, Plan, PlanFault, plan};
@@ -16,7 +16,8 @@ use std::process::Abort;
 // How many times an expander gives the word x in so many calls behind the first, which gives Defs, and its greatest depth.
 // Other tokens are not given.
 fn counted(rt: &impl Abort, expander: &mut Expander<'_>, calls: u32) -> (u32, u32)
-    requires { Stands expander.old.store.now expander.old.frames.items (vec_capacity expander.old.frames) }
+    requires { IsFrameStack expander.old.store.now expander.old.frames.items
+        (vec_capacity expander.old.frames) }
 {
     holds(rt, expander.next() == Some(Token::Defs));
     let mut count = 0;
@@ -93,7 +94,7 @@ fn a_chain_of_ten_thousand_names(rt: HostRuntime) {
     };
     let web = chain(rt.alloc(), 9_999, 1, "", " wx").expect(&rt, "memory");
     check(&rt, rt.alloc(), web.as_bytes(), &COUNTS);
-    tells_web(&rt, rt.alloc(), web.as_bytes(), b"s.c: x\n");
+    web_outputs_are(&rt, rt.alloc(), web.as_bytes(), b"s.c: x\n");
 }
 
 // A cycle of so many names, in their order, with the first once more at the end.

@@ -1,6 +1,6 @@
 // Webs and what is written of them. The main file is s.c, unless a row says another name.
 use super::cases::{Case, check};
-use super::told::tell_outputs;
+use super::reports::report_outputs;
 use super::wanted::same_bytes;
 use cweb_lines::FileNames;
 use cweb_store::Store;
@@ -18,25 +18,25 @@ pub struct Outputs<'a> {
 impl Case for Outputs<'_> {
     fn look<A: Abort>(&self, rt: &A, alloc: Global, store: &Store, names: &FileNames) {
         let mut out = TrialSink::new(alloc);
-        tell_outputs(rt, alloc, store, names, self.main, &mut out);
+        report_outputs(rt, alloc, store, names, self.main, &mut out);
         same_bytes(rt, out.bytes(), self.text);
     }
 }
 
-fn tells(rt: &impl Abort, alloc: Global, rows: &[(&str, &str)]) {
-    for (web, text) in rows {
-        tells_web(rt, alloc, web.as_bytes(), text.as_bytes());
+fn outputs_are(rt: &impl Abort, alloc: Global, examples: &[(&str, &str)]) {
+    for (web, text) in examples {
+        web_outputs_are(rt, alloc, web.as_bytes(), text.as_bytes());
     }
 }
 
 /// This is told of a web whose main file is s.c.
-pub fn tells_web(rt: &impl Abort, alloc: Global, web: &[u8], text: &[u8]) {
+pub fn web_outputs_are(rt: &impl Abort, alloc: Global, web: &[u8], text: &[u8]) {
     check(rt, alloc, web, &Outputs { main: "s.c", text });
 }
 
 #[test]
 fn blanks_between_tokens(rt: HostRuntime) {
-    const ROWS: &[(&str, &str)] = &[
+    const EXAMPLES: &[(&str, &str)] = &[
         (": wa wb n1 l'c' l\"d\" we", "s.c: a b 1 'c'\"d\" e\n"),
         (": n1 p. n2 p.. n3 p+= n4 p* n5", "s.c: 1 . 2 .. 3 +=4*5\n"),
         (": p( p- p- p) p<< p= wa p, p-", "s.c: (- -)<< =a,-\n"),
@@ -51,22 +51,22 @@ fn blanks_between_tokens(rt: HostRuntime) {
             "s.c: /*1:*/\n#line 1 \"s.w\"\n\nx= -1;a* -b;y=0xe +1;q=a/ /*2:*/\n#line 3 \"s.w\"\nb/*:2*/\n#line 2 \"s.w\"\n;\n/*:1*/\n",
         ),
     ];
-    tells(&rt, rt.alloc(), ROWS);
+    outputs_are(&rt, rt.alloc(), EXAMPLES);
 }
 
 #[test]
-fn layout_behind_a_join(rt: HostRuntime) {
-    const ROWS: &[(&str, &str)] = &[
+fn layout_after_a_join(rt: HostRuntime) {
+    const EXAMPLES: &[(&str, &str)] = &[
         (": p/ & [2 m1 wb", "s.c: / /*2:*/b\n"),
         (": wa & _ $ m2 [2 ]2 $ wb $ wc", "s.c: a /*2:*//*:2*/b\nc\n"),
         (": wa & & _ vb _ wc &", "s.c: ab c\n"),
     ];
-    tells(&rt, rt.alloc(), ROWS);
+    outputs_are(&rt, rt.alloc(), EXAMPLES);
 }
 
 #[test]
 fn macro_lines(rt: HostRuntime) {
-    const ROWS: &[(&str, &str)] = &[
+    const EXAMPLES: &[(&str, &str)] = &[
         (
             "# wf p( wx p) wx p+ n1 # wg _ p( wx p) # wN # wtwo _ n1 p+ $ n2 : [1 m7 $ wf p( n3 p) ]1",
             "s.c: #define f(x)x+1\n#define g (x)\n#define N\n#define two 1 + \\\n2\n/*1:*/\n#line 7 \"s.w\"\n\nf(3)/*:1*/\n",
@@ -83,35 +83,35 @@ fn macro_lines(rt: HostRuntime) {
             "s.c: #define M 1\na.h: /*1:*/\n#line 2 \"s.w\"\n\nint m=\"x/*:1*/\n",
         ),
     ];
-    tells(&rt, rt.alloc(), ROWS);
+    outputs_are(&rt, rt.alloc(), EXAMPLES);
 }
 
 // A byte from 128 on is replaced in words, and nowhere else.
 #[test]
 fn replaced_bytes(rt: HostRuntime) {
-    const ROWS: &[(&str, &str)] = &[
+    const EXAMPLES: &[(&str, &str)] = &[
         (": wfür n\u{fc}", "s.c: fXC3XBCr \u{fc}\n"),
         ("%Cu %<e : wfür vü", "s.c: fuerü\n"),
         ("%Cq %< %Cu # wü wö : wü", "s.c: #define u uXB6\nu\n"),
     ];
-    tells(&rt, rt.alloc(), ROWS);
+    outputs_are(&rt, rt.alloc(), EXAMPLES);
 }
 
 #[test]
 fn line_marks(rt: HostRuntime) {
-    const ROWS: &[(&str, &str)] = &[
+    const EXAMPLES: &[(&str, &str)] = &[
         (
             ": M4 wa m10 M4294",
             "s.c: #line 4 \"a\\\\b\\\".ch\"\na\n#line 10 \"s.w\"\n#line 4294 \"a\\\\b\\\".ch\"\n",
         ),
         (": wa $ m1 wb", "s.c: a\n#line 1 \"s.w\"\nb\n"),
     ];
-    tells(&rt, rt.alloc(), ROWS);
+    outputs_are(&rt, rt.alloc(), EXAMPLES);
 }
 
 #[test]
 fn names_are_replaced_by_their_parts(rt: HostRuntime) {
-    const ROWS: &[(&str, &str)] = &[
+    const EXAMPLES: &[(&str, &str)] = &[
         (
             ": [1 m1 <A m1 $ ]1 =A [2 m2 wa p; $ ]2 =A [3 m3 wb p; ]3",
             "s.c: /*1:*/\n#line 1 \"s.w\"\n/*2:*/\n#line 2 \"s.w\"\na;\n/*:2*//*3:*/\n#line 3 \"s.w\"\nb;/*:3*/\n#line 1 \"s.w\"\n\n/*:1*/\n",
@@ -125,12 +125,12 @@ fn names_are_replaced_by_their_parts(rt: HostRuntime) {
         (": wa ?zz wb <Q wc", "s.c: a b c\n"),
         (": wa <A wb =A <Q wx <Q", "s.c: a x b\n"),
     ];
-    tells(&rt, rt.alloc(), ROWS);
+    outputs_are(&rt, rt.alloc(), EXAMPLES);
 }
 
 #[test]
 fn outputs_and_their_order(rt: HostRuntime) {
-    const ROWS: &[(&str, &str)] = &[
+    const EXAMPLES: &[(&str, &str)] = &[
         ("", "s.c: no text"),
         ("# wM", "s.c: #define M\nno text"),
         (":", "s.c: "),
@@ -141,13 +141,13 @@ fn outputs_and_their_order(rt: HostRuntime) {
         ),
         ("@a.h @d/b.h : wx (d/b.h wy", "s.c: x\nd/b.h: y\n"),
     ];
-    tells(&rt, rt.alloc(), ROWS);
+    outputs_are(&rt, rt.alloc(), EXAMPLES);
 }
 
 // A cycle is a fault where an output reaches it. A file's walk begins with its own name.
 #[test]
 fn cycles(rt: HostRuntime) {
-    const ROWS: &[(&str, &str)] = &[
+    const EXAMPLES: &[(&str, &str)] = &[
         (": <A =A <B =B <A", "cycle <A> <B> <A>"),
         (": wx =A <B =B <A", "s.c: x\n"),
         (": <A <A =A <B <B =B wx", "s.c: x x x x\n"),
@@ -157,13 +157,13 @@ fn cycles(rt: HostRuntime) {
         ("(f <A =A <f : wx", "cycle <f> <A> <f>"),
         ("(g <g (f <A =A <f : <f", "cycle <f> <A> <f>"),
     ];
-    tells(&rt, rt.alloc(), ROWS);
+    outputs_are(&rt, rt.alloc(), EXAMPLES);
 }
 
 // Names that no file can have come first, in the order of the outputs, then the main file's name, then cycles.
 #[test]
-fn the_first_fault_is_told(rt: HostRuntime) {
-    const ROWS: &[(&str, &str)] = &[
+fn the_first_fault_is_reported(rt: HostRuntime) {
+    const EXAMPLES: &[(&str, &str)] = &[
         (": <A =A <A (a/ wx", "bad name <a/>"),
         ("@c/ (b/ wx (a/ wx", "bad name <b/>"),
         ("(s.c wx (a/ wx", "bad name <a/>"),
@@ -171,7 +171,7 @@ fn the_first_fault_is_told(rt: HostRuntime) {
         ("@s.c : wx", "same name <s.c>"),
         ("(d/s.c wx : wy", "s.c: y\nd/s.c: x\n"),
     ];
-    tells(&rt, rt.alloc(), ROWS);
+    outputs_are(&rt, rt.alloc(), EXAMPLES);
 }
 
 // The main file has none of these names.
@@ -190,7 +190,7 @@ fn no_file_has_these_names(rt: HostRuntime) {
     const REFUSED: &[&str] = &[
         "", ".", "..", "a/", "a/.", "/..", "a\n", "\u{1f}", "\u{7f}/b",
     ];
-    const ROWS: &[(&str, &str)] = &[
+    const EXAMPLES: &[(&str, &str)] = &[
         ("( wx", "bad name <>"),
         ("(. wx", "bad name <.>"),
         ("(.. wx", "bad name <..>"),
@@ -208,7 +208,7 @@ fn no_file_has_these_names(rt: HostRuntime) {
         ("(\u{80} wx", "s.c: \u{80}: x\n"),
     ];
     refuses_main(&rt, rt.alloc(), REFUSED);
-    tells(&rt, rt.alloc(), ROWS);
+    outputs_are(&rt, rt.alloc(), EXAMPLES);
     // a name that isn't UTF-8
-    tells_web(&rt, rt.alloc(), b"(a\xff wx", b"bad name <a\xff>");
+    web_outputs_are(&rt, rt.alloc(), b"(a\xff wx", b"bad name <a\xff>");
 }

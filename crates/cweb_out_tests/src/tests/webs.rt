@@ -6,7 +6,7 @@
 // `h` Defs, `[1` and `]1` a Head and a Tail, `m7` and `M7` a Mark of line 7 of file 0 and 1, `<NAME` a use, `?NAME` a use
 // by an abbreviation.
 ghost use Rattle.std.specs.Prelude.{◌≡◌, ◌≤◌, ◌+◌, length, is_some, IfOk, IsOk, OnOk};
-ghost use Rattle.cweb_store.specs.Growing.{part_count, token_count};
+ghost use Rattle.cweb_store.specs.surface.Growing.{part_count, token_count};
 
 use super::wanted::holds;
 use cweb_files::{FileId, Place};
@@ -16,7 +16,7 @@ use std::process::Abort;
 
 // A builder that knows how many calls it had, and whether a part is open.
 #[derive(Drop)]
-struct Row {
+struct ExampleBuilder {
     builder: Builder,
     calls: u32,
     is_open: bool,
@@ -26,9 +26,9 @@ struct Row {
     ghost open_part: { is_open ≡ is_some builder.parts.current },
 }
 
-impl Row {
-    fn new(alloc: Global) -> Row {
-        Row {
+impl ExampleBuilder {
+    fn new(alloc: Global) -> ExampleBuilder {
+        ExampleBuilder {
             builder: Builder::new(alloc),
             calls: 0,
             is_open: false,
@@ -123,7 +123,7 @@ impl Row {
     }
 
     fn finish(self) -> Result<Store, AllocError> {
-        let Row {
+        let ExampleBuilder {
             builder,
             calls: _,
             is_open: _,
@@ -168,7 +168,7 @@ fn token(sign: u8, rest: &[u8]) -> Token<'_> {
 
 /// The store of a web.
 pub fn store_of(rt: &impl Abort, alloc: Global, web: &[u8]) -> Result<Store, AllocError> {
-    let mut row = Row::new(alloc);
-    row.read_all(rt, web)?;
-    row.finish()
+    let mut example = ExampleBuilder::new(alloc);
+    example.read_all(rt, web)?;
+    example.finish()
 }

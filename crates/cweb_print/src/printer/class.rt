@@ -1,8 +1,9 @@
 // Classes of tokens: what decides whether a blank comes between two of them.
 ghost use Rattle.std.specs.Prelude.{◌≡◌, ◌==◌, Some};
-ghost use Rattle.cweb_store.specs.Seen.{seen};
-ghost use Rattle.cweb_print.specs.Spacing.{is_operator, is_one_of, first_is};
-ghost use Rattle.cweb_print.specs.Classes.{class_by, class_of, is_apart, punct_class};
+ghost use Rattle.cweb_store.specs.surface.TokenModels.{token_model};
+ghost use Rattle.cweb_texts.specs.Edges.{is_operator, is_one_of, first_is};
+ghost use Rattle.cweb_print.specs.surface.Classes.{class_by, class_of, punct_class};
+ghost use Rattle.cweb_print.specs.inner.Classes.{is_apart};
 ghost use Rattle.std.specs.Prelude.{codes};
 
 use cweb_store::Token;
@@ -28,7 +29,7 @@ impl Class {
     /// The class of a token.
     #[inline(always)]
     pub fn of(token: &Token<'_>) -> Class
-        ensures { result ≡ class_of (Some (seen token.now)) }
+        ensures { result ≡ class_of (Some (token_model token.now)) }
     {
         match token {
             Token::Word(_) => Class::Word,
@@ -44,7 +45,7 @@ impl Class {
     /// Whether a blank comes between a token of this class and the one that follows it.
     #[inline(always)]
     pub fn is_apart(self, token: &Token<'_>) -> bool
-        ensures { result ≡ is_apart self (seen token.now) }
+        ensures { result ≡ is_apart self (token_model token.now) }
     {
         match token {
             Token::Word(_) => matches!(self, Class::Word | Class::Number | Class::Literal),

@@ -1,79 +1,82 @@
 // Macro lines, printed to where bytes are gathered for a sink.
-ghost use Rattle.std.specs.Prelude.{◌≡◌, ◌≤◌, ◌<◌, ◌+◌, ◌^◌, ◌++◌, flat_map, length, take, true, false, IfSome, IsTrue};
-ghost use Rattle.cweb_files.specs.Device.{Counts};
-ghost use Rattle.cweb_texts.specs.Borders.{lent_seen};
+ghost use Rattle.std.specs.Prelude.{◌≡◌, ◌≤◌, ◌<◌, ◌+◌, ◌^◌, ◌++◌, flat_map, length, take, true};
+ghost use Rattle.std.specs.Prelude.{false, IfSome, IsTrue};
+ghost use Rattle.cweb_files.specs.Device.{CountsFailure};
+ghost use Rattle.cweb_texts.specs.inner.Edges.{token_bytes_model};
 ghost use Rattle.cweb_store.specs.Parts.{all_tokens};
-ghost use Rattle.cweb_gathered.specs.Writing.{Wrote};
-ghost use Rattle.cweb_gathered.specs.declared.gathered.TheConstants.{ROOM};
-ghost use Rattle.cweb_print.specs.Borders.{continued_by};
-ghost use Rattle.cweb_print.specs.Classes.{all_added, at_start, macro_by};
-ghost use Rattle.cweb_print.specs.Runs.{run_tokens};
+ghost use Rattle.cweb_print.specs.inner.Writing.{Wrote};
+ghost use Rattle.cweb_print.specs.declared.buffer.TheConstants.{ROOM};
+ghost use Rattle.cweb_print.specs.inner.EdgeSpacing.{continued_by};
+ghost use Rattle.cweb_print.specs.inner.Classes.{all_added, macro_by};
+ghost use Rattle.cweb_print.specs.surface.Classes.{at_start};
+ghost use Rattle.cweb_print.specs.surface.TokenRanges.{tokens_of_part};
 ghost use Rattle.cweb_print.specs.Printers.{macros, replaced_in};
 ghost use Rattle.cweb_print.specs.Printing.{macro_line};
 
-use crate::printer::borders::stands_apart;
+use crate::buffer::OutBuffer;
+use crate::buffer::copying::put_if_fits;
+use crate::printer::edges::edge_is_apart;
 use crate::printer::macros::write_macro;
 use cweb_files::{Sink, SinkFault};
-use cweb_gathered::{Gathered, keep};
-use cweb_store::{Border, LentText, Part, Store};
+use cweb_store::{Edge, Part, Store, TokenBytes};
 
 /// Prints the lines of all macros, in their order, behind what is gathered.
 #[inline(never)]
-pub(crate) fn gather_macros<W: Sink>(
+pub(crate) fn append_macros<W: Sink>(
     store: &Store,
-    gathered: &mut Gathered,
+    buffer: &mut OutBuffer,
     out: &mut W,
 ) -> Result<(), SinkFault>
     requires { W.failed out.old + 1 < 2 ^ 64 }
     ensures tells { W.tells out.new ≡ W.tells out.old }
-    ensures failed { Counts (W.failed out.old) (W.failed out.new) result }
+    ensures failed { CountsFailure (W.failed out.old) (W.failed out.new) result }
     ensures beside { IsTrue (W.tells out.old) → W.beside out.new ≡ W.beside out.old }
     ensures wrote { IsTrue (W.tells out.old)
-        → Wrote (W.written out.old ++ gathered.old) (W.written out.new ++ gathered.new)
+        → Wrote (W.written out.old ++ buffer.old) (W.written out.new ++ buffer.new)
         (flat_map (macro_line (replaced_in store.now)) (macros store.now)) result }
 {
     let mut parts = store.macros();
     'macros: while let Some(part) = parts.next() {
-        gather_macro(store, part, gathered, out)?;
+        append_macro(store, part, buffer, out)?;
     }
     Ok(())
 }
 
 // Prints the line of a macro. One that does not fit, or has a token that lends no text, goes to the sink at once.
-fn gather_macro<W: Sink>(
+fn append_macro<W: Sink>(
     store: &Store,
     part: Part,
-    gathered: &mut Gathered,
+    buffer: &mut OutBuffer,
     out: &mut W,
 ) -> Result<(), SinkFault>
     requires count { W.failed out.old + 1 < 2 ^ 64 }
     requires ordered { part.first ≤ part.after }
     requires within { part.after ≤ length (all_tokens store.now.parts) }
     ensures tells { W.tells out.new ≡ W.tells out.old }
-    ensures failed { Counts (W.failed out.old) (W.failed out.new) result }
+    ensures failed { CountsFailure (W.failed out.old) (W.failed out.new) result }
     ensures beside { IsTrue (W.tells out.old) → W.beside out.new ≡ W.beside out.old }
     ensures wrote { IsTrue (W.tells out.old)
-        → Wrote (W.written out.old ++ gathered.old) (W.written out.new ++ gathered.new)
-        (macro_line (replaced_in store.now) (run_tokens store.now part)) result }
+        → Wrote (W.written out.old ++ buffer.old) (W.written out.new ++ buffer.new)
+        (macro_line (replaced_in store.now) (tokens_of_part store.now part)) result }
 {
-    if add_macro(store, part, gathered) {
+    if add_macro(store, part, buffer) {
         return Ok(());
     }
-    gathered.flush(out)?;
+    buffer.flush(out)?;
     write_macro(store, part, out)
 }
 
 // Adds the line of a macro, where there is room for it and each of its tokens lends its text, and answers whether it has.
-fn add_macro(store: &Store, part: Part, gathered: &mut Gathered) -> bool
+fn add_macro(store: &Store, part: Part, buffer: &mut OutBuffer) -> bool
     requires ordered { part.first ≤ part.after }
     requires within { part.after ≤ length (all_tokens store.now.parts) }
-    ensures added { result ≡ true → gathered.new ≡ gathered.old
-        ++ macro_line (replaced_in store.now) (run_tokens store.now part) }
-    ensures none { result ≡ false → gathered.new ≡ gathered.old }
+    ensures added { result ≡ true → buffer.new ≡ buffer.old
+        ++ macro_line (replaced_in store.now) (tokens_of_part store.now part) }
+    ensures none { result ≡ false → buffer.new ≡ buffer.old }
 {
-    match put_macro(store, part, gathered.bytes.as_mut_slice(), gathered.used) {
+    match put_macro(store, part, buffer.bytes.as_mut_slice(), buffer.used) {
         Some(used) => {
-            gathered.used = used;
+            buffer.used = used;
             true
         }
         None => false,
@@ -89,11 +92,11 @@ fn put_macro(store: &Store, part: Part, bytes: &mut [u8], used: usize) -> Option
     ensures within { IfSome result (λ end. end ≤ ROOM) }
     ensures front { take used bytes.new ≡ take used bytes.old }
     ensures put { IfSome result (λ end. take end bytes.new ≡ take used bytes.old
-        ++ macro_line (replaced_in store.now) (run_tokens store.now part)) }
+        ++ macro_line (replaced_in store.now) (tokens_of_part store.now part)) }
 {
-    let begun = keep(bytes, used, false, b"#define ")?;
+    let begun = put_if_fits(bytes, used, false, b"#define ")?;
     let end = put_macro_tokens(store, part, bytes, begun)?;
-    keep(bytes, end, false, b"\n")
+    put_if_fits(bytes, end, false, b"\n")
 }
 
 #[inline(always)]
@@ -105,28 +108,28 @@ fn put_macro_tokens(store: &Store, part: Part, bytes: &mut [u8], used: usize) ->
     ensures within { IfSome result (λ end. (used ≤ end) × (end ≤ ROOM)) }
     ensures front { take used bytes.new ≡ take used bytes.old }
     ensures put { IfSome result (λ end. take end bytes.new ≡ take used bytes.old
-        ++ all_added (macro_by (replaced_in store.now)) at_start (run_tokens store.now part)) }
+        ++ all_added (macro_by (replaced_in store.now)) at_start (tokens_of_part store.now part)) }
 {
-    let lender = store.lender();
-    let mut last = Border::LineEnd;
+    let token_reader = store.token_reader();
+    let mut last = Edge::LineEnd;
     let mut reached = used;
     'tokens: for number in part.first..part.after {
-        let lent = lender.lent(number)?;
-        let is_apart = stands_apart(last, lent.border);
-        let end = keep(bytes, reached, is_apart, text_in_macro(lent))?;
+        let direct = token_reader.direct(number)?;
+        let is_apart = edge_is_apart(last, direct.edge);
+        let end = put_if_fits(bytes, reached, is_apart, bytes_in_macro(direct))?;
         reached = end;
-        last = lent.border;
+        last = direct.edge;
     }
     Some(reached)
 }
 
 // In a macro a line goes on after a backslash.
 #[inline(always)]
-fn text_in_macro(lent: LentText<'_>) -> &[u8]
-    ensures { result.now ≡ continued_by (lent_seen lent.entry) }
+fn bytes_in_macro(direct: TokenBytes<'_>) -> &[u8]
+    ensures { result.now ≡ continued_by (token_bytes_model direct.entry) }
 {
-    match lent.border {
-        Border::LineEnd => b" \\\n",
-        _ => lent.text,
+    match direct.edge {
+        Edge::LineEnd => b" \\\n",
+        _ => direct.string,
     }
 }

@@ -1,31 +1,31 @@
 // The end of a file whose bytes are gathered.
 ghost use Rattle.std.specs.Prelude.{◌≡◌, ◌<◌, ◌+◌, ◌^◌, ◌++◌, [], IsTrue, OnOk, OnErr};
-ghost use Rattle.cweb_files.specs.Device.{Counts};
-ghost use Rattle.cweb_print.specs.Classes.{leaves};
-ghost use Rattle.cweb_print.specs.Printed.{Ends, kept_of, setting_of};
+ghost use Rattle.cweb_files.specs.Device.{CountsFailure};
+ghost use Rattle.cweb_print.specs.surface.Classes.{left_after_tokens};
+ghost use Rattle.cweb_print.specs.surface.Printed.{EndsFile, left_in_printer, setting_of};
 
+use crate::buffer::OutBuffer;
 use crate::printer::Printer;
 use crate::printer::left::Left;
 use cweb_files::{Sink, SinkFault};
-use cweb_gathered::Gathered;
 
 impl<'a> Printer<'a> {
     /// Ends the last line of a file, lets the sink have all of it, and is then at the start of the next file.
-    pub fn finish<W: Sink>(&mut self, gathered: &mut Gathered, out: &mut W) -> Result<(), SinkFault>
+    pub fn finish<W: Sink>(&mut self, buffer: &mut OutBuffer, out: &mut W) -> Result<(), SinkFault>
         requires { W.failed out.old + 1 < 2 ^ 64 }
         ensures tells { W.tells out.new ≡ W.tells out.old }
-        ensures failed { Counts (W.failed out.old) (W.failed out.new) result }
+        ensures failed { CountsFailure (W.failed out.old) (W.failed out.new) result }
         ensures beside { IsTrue (W.tells out.old) → W.beside out.new ≡ W.beside out.old }
         ensures setting { setting_of self.new ≡ setting_of self.old }
-        ensures left { OnOk result (leaves [] ≡ kept_of self.new) }
+        ensures left { OnOk result (left_after_tokens [] ≡ left_in_printer self.new) }
         ensures err { OnErr result (self.new ≡ self.old) }
-        ensures ends { IsTrue (W.tells out.old) → Ends self.old
-            (W.written out.old ++ gathered.old) (W.written out.new ++ gathered.new) result }
-        ensures empty { OnOk result (gathered.new ≡ []) }
+        ensures ends { IsTrue (W.tells out.old) → EndsFile self.old
+            (W.written out.old ++ buffer.old) (W.written out.new ++ buffer.new) result }
+        ensures empty { OnOk result (buffer.new ≡ []) }
     {
-        gathered.make_room(out)?;
-        gathered.add(self.begin_line());
-        gathered.flush(out)?;
+        buffer.make_room(out)?;
+        buffer.add(self.begin_line());
+        buffer.flush(out)?;
         self.left = Left::start();
         Ok(())
     }

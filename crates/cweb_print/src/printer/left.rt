@@ -1,8 +1,9 @@
 // What a printer keeps of the tokens that it has printed.
 ghost use Rattle.std.specs.Prelude.{◌≡◌, ◌&&◌};
-ghost use Rattle.cweb_store.specs.Seen.{seen};
+ghost use Rattle.cweb_store.specs.surface.TokenModels.{token_model};
 ghost use Rattle.cweb_print.specs.Printing.{is_layout, stays_joined};
-ghost use Rattle.cweb_print.specs.Classes.{at_start, is_dropped, left_by, separator};
+ghost use Rattle.cweb_print.specs.surface.Classes.{at_start, is_dropped, left_after_token};
+ghost use Rattle.cweb_print.specs.inner.Classes.{separator};
 
 use crate::printer::class::Class;
 use cweb_store::Token;
@@ -28,14 +29,14 @@ impl Left {
 
     /// Layout after a join is not printed.
     pub fn drops(self, token: &Token<'_>) -> bool
-        ensures { result ≡ is_dropped self (seen token.now) }
+        ensures { result ≡ is_dropped self (token_model token.now) }
     {
         self.joined && is_layout(token)
     }
 
     /// What is printed before a token.
     pub fn separator(self, token: &Token<'_>) -> &'static [u8]
-        ensures { result.now ≡ separator self.class (seen token.now) }
+        ensures { result.now ≡ separator self.class (token_model token.now) }
     {
         if self.class.is_apart(token) {
             b" "
@@ -46,7 +47,7 @@ impl Left {
 
     /// What is kept after a token.
     pub fn after(self, token: &Token<'_>) -> Left
-        ensures { result ≡ left_by self (seen token.now) }
+        ensures { result ≡ left_after_token self (token_model token.now) }
     {
         if self.drops(token) {
             return self;
@@ -59,7 +60,7 @@ impl Left {
 }
 
 fn is_layout(token: &Token<'_>) -> bool
-    ensures { result ≡ is_layout (seen token.now) }
+    ensures { result ≡ is_layout (token_model token.now) }
 {
     match token {
         Token::Blank | Token::Newline | Token::Mark(_) => true,
@@ -68,7 +69,7 @@ fn is_layout(token: &Token<'_>) -> bool
 }
 
 fn stays_joined(joined: bool, token: &Token<'_>) -> bool
-    ensures { result ≡ stays_joined joined (seen token.now) }
+    ensures { result ≡ stays_joined joined (token_model token.now) }
 {
     match token {
         Token::Join => true,

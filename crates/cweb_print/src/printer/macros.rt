@@ -1,19 +1,21 @@
 // Macro lines.
 ghost use Rattle.std.specs.Prelude.{◌≡◌, ◌≤◌, ◌<◌, ◌+◌, ◌^◌, ◌++◌, IsTrue, length, slice_range};
-ghost use Rattle.cweb_files.specs.Device.{Counts};
-ghost use Rattle.cweb_store.specs.Seen.{seen};
+ghost use Rattle.cweb_files.specs.Device.{CountsFailure};
+ghost use Rattle.cweb_store.specs.surface.TokenModels.{token_model};
 ghost use Rattle.cweb_store.specs.Parts.{all_tokens};
-ghost use Rattle.cweb_gathered.specs.Writing.{Wrote};
+ghost use Rattle.cweb_print.specs.inner.Writing.{Wrote};
 ghost use Rattle.cweb_print.specs.Printing.{macro_line};
-ghost use Rattle.cweb_print.specs.Classes.{added, all_added, at_start, continued_text, macro_by};
+ghost use Rattle.cweb_print.specs.inner.Classes.{added, all_added, continuation_bytes};
+ghost use Rattle.cweb_print.specs.surface.Classes.{at_start};
+ghost use Rattle.cweb_print.specs.inner.Classes.{macro_by};
 ghost use Rattle.cweb_print.specs.Printers.{macros, replaced_in};
-ghost use Rattle.cweb_print.specs.Runs.{run_tokens};
+ghost use Rattle.cweb_print.specs.surface.TokenRanges.{tokens_of_part};
 ghost use Rattle.std.specs.Prelude.{flat_map};
 
+use crate::chunks::write_chunk;
 use crate::printer::left::Left;
-use crate::printer::text::write_plain;
+use crate::printer::plain::write_plain;
 use cweb_files::{Sink, SinkFault};
-use cweb_gathered::write_piece;
 use cweb_store::{Part, Store, Token};
 
 /// Writes the lines of all macros, in their order.
@@ -21,7 +23,7 @@ use cweb_store::{Part, Store, Token};
 pub(crate) fn write_macros<W: Sink>(store: &Store, out: &mut W) -> Result<(), SinkFault>
     requires { W.failed out.old + 1 < 2 ^ 64 }
     ensures tells { W.tells out.new ≡ W.tells out.old }
-    ensures failed { Counts (W.failed out.old) (W.failed out.new) result }
+    ensures failed { CountsFailure (W.failed out.old) (W.failed out.new) result }
     ensures beside { IsTrue (W.tells out.old) → W.beside out.new ≡ W.beside out.old }
     ensures wrote { IsTrue (W.tells out.old)
         → Wrote (W.written out.old) (W.written out.new)
@@ -40,15 +42,15 @@ pub(crate) fn write_macro<W: Sink>(store: &Store, part: Part, out: &mut W) -> Re
     requires ordered { part.first ≤ part.after }
     requires within { part.after ≤ length (all_tokens store.now.parts) }
     ensures tells { W.tells out.new ≡ W.tells out.old }
-    ensures failed { Counts (W.failed out.old) (W.failed out.new) result }
+    ensures failed { CountsFailure (W.failed out.old) (W.failed out.new) result }
     ensures beside { IsTrue (W.tells out.old) → W.beside out.new ≡ W.beside out.old }
     ensures wrote { IsTrue (W.tells out.old)
         → Wrote (W.written out.old) (W.written out.new)
-        (macro_line (replaced_in store.now) (run_tokens store.now part)) result }
+        (macro_line (replaced_in store.now) (tokens_of_part store.now part)) result }
 {
-    write_piece(out, b"#define ")?;
+    write_chunk(out, b"#define ")?;
     write_macro_tokens(store, part, out)?;
-    write_piece(out, b"\n")
+    write_chunk(out, b"\n")
 }
 
 fn write_macro_tokens<W: Sink>(store: &Store, part: Part, out: &mut W) -> Result<(), SinkFault>
@@ -56,11 +58,11 @@ fn write_macro_tokens<W: Sink>(store: &Store, part: Part, out: &mut W) -> Result
     requires ordered { part.first ≤ part.after }
     requires within { part.after ≤ length (all_tokens store.now.parts) }
     ensures tells { W.tells out.new ≡ W.tells out.old }
-    ensures failed { Counts (W.failed out.old) (W.failed out.new) result }
+    ensures failed { CountsFailure (W.failed out.old) (W.failed out.new) result }
     ensures beside { IsTrue (W.tells out.old) → W.beside out.new ≡ W.beside out.old }
     ensures wrote { IsTrue (W.tells out.old)
         → Wrote (W.written out.old) (W.written out.new)
-        (all_added (macro_by (replaced_in store.now)) at_start (run_tokens store.now part))
+        (all_added (macro_by (replaced_in store.now)) at_start (tokens_of_part store.now part))
         result }
 {
     let mut left = Left::start();
@@ -80,23 +82,23 @@ fn write_macro_token<W: Sink>(
 ) -> Result<(), SinkFault>
     requires { W.failed out.old + 1 < 2 ^ 64 }
     ensures tells { W.tells out.new ≡ W.tells out.old }
-    ensures failed { Counts (W.failed out.old) (W.failed out.new) result }
+    ensures failed { CountsFailure (W.failed out.old) (W.failed out.new) result }
     ensures beside { IsTrue (W.tells out.old) → W.beside out.new ≡ W.beside out.old }
     ensures wrote { IsTrue (W.tells out.old)
         → Wrote (W.written out.old) (W.written out.new)
-        (added (macro_by (replaced_in store.now)) left (seen token.now)) result }
+        (added (macro_by (replaced_in store.now)) left (token_model token.now)) result }
 {
     if left.drops(token) {
         return Ok(());
     }
-    write_piece(out, left.separator(token))?;
-    write_piece(out, continued(token))?;
+    write_chunk(out, left.separator(token))?;
+    write_chunk(out, continued(token))?;
     write_plain(store, token, out)
 }
 
 // In a macro a line goes on after a backslash.
 fn continued(token: &Token<'_>) -> &'static [u8]
-    ensures { result.now ≡ continued_text (seen token.now) }
+    ensures { result.now ≡ continuation_bytes (token_model token.now) }
 {
     match token {
         Token::Newline => b" \\",

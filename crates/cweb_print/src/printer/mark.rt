@@ -1,12 +1,12 @@
 // Line marks.
 ghost use Rattle.std.specs.Prelude.{◌≡◌, ◌<◌, ◌+◌, ◌^◌, ◌++◌, IsTrue};
 ghost use Rattle.std.specs.List.{list_any};
-ghost use Rattle.cweb_files.specs.Device.{Counts};
-ghost use Rattle.cweb_gathered.specs.Writing.{Wrote};
+ghost use Rattle.cweb_files.specs.Device.{CountsFailure};
+ghost use Rattle.cweb_print.specs.inner.Writing.{Wrote};
 ghost use Rattle.cweb_print.specs.Printing.{mark_line, quoted, quoted_byte, wants_backslash};
 
+use crate::chunks::{write_chunk, write_chunks};
 use cweb_files::{Sink, SinkFault};
-use cweb_gathered::{write_piece, write_pieces};
 use itoa::Buffer;
 
 /// Writes what begins the line, and the mark of a line of a file.
@@ -19,7 +19,7 @@ pub(crate) fn write_mark<W: Sink>(
 ) -> Result<(), SinkFault>
     requires { W.failed out.old + 1 < 2 ^ 64 }
     ensures tells { W.tells out.new ≡ W.tells out.old }
-    ensures failed { Counts (W.failed out.old) (W.failed out.new) result }
+    ensures failed { CountsFailure (W.failed out.old) (W.failed out.new) result }
     ensures beside { IsTrue (W.tells out.old) → W.beside out.new ≡ W.beside out.old }
     ensures wrote { IsTrue (W.tells out.old)
         → Wrote (W.written out.old) (W.written out.new)
@@ -29,7 +29,7 @@ pub(crate) fn write_mark<W: Sink>(
         return write_quoted_mark(begin, name, line, out);
     }
     let mut digits = Buffer::new();
-    write_pieces(
+    write_chunks(
         out,
         &[
             begin,
@@ -52,25 +52,25 @@ fn write_quoted_mark<W: Sink>(
 ) -> Result<(), SinkFault>
     requires { W.failed out.old + 1 < 2 ^ 64 }
     ensures tells { W.tells out.new ≡ W.tells out.old }
-    ensures failed { Counts (W.failed out.old) (W.failed out.new) result }
+    ensures failed { CountsFailure (W.failed out.old) (W.failed out.new) result }
     ensures beside { IsTrue (W.tells out.old) → W.beside out.new ≡ W.beside out.old }
     ensures wrote { IsTrue (W.tells out.old)
         → Wrote (W.written out.old) (W.written out.new)
         (begin.now ++ mark_line name.now line) result }
 {
     let mut digits = Buffer::new();
-    write_pieces(
+    write_chunks(
         out,
         &[begin, b"#line ", digits.format(line).as_bytes(), b" \""],
     )?;
     write_quoted(name, out)?;
-    write_piece(out, b"\"\n")
+    write_chunk(out, b"\"\n")
 }
 
 fn write_quoted<W: Sink>(name: &[u8], out: &mut W) -> Result<(), SinkFault>
     requires { W.failed out.old + 1 < 2 ^ 64 }
     ensures tells { W.tells out.new ≡ W.tells out.old }
-    ensures failed { Counts (W.failed out.old) (W.failed out.new) result }
+    ensures failed { CountsFailure (W.failed out.old) (W.failed out.new) result }
     ensures beside { IsTrue (W.tells out.old) → W.beside out.new ≡ W.beside out.old }
     ensures wrote { IsTrue (W.tells out.old)
         → Wrote (W.written out.old) (W.written out.new) (quoted name.now) result }
@@ -84,15 +84,15 @@ fn write_quoted<W: Sink>(name: &[u8], out: &mut W) -> Result<(), SinkFault>
 fn write_quoted_byte<W: Sink>(byte: u8, out: &mut W) -> Result<(), SinkFault>
     requires { W.failed out.old + 1 < 2 ^ 64 }
     ensures tells { W.tells out.new ≡ W.tells out.old }
-    ensures failed { Counts (W.failed out.old) (W.failed out.new) result }
+    ensures failed { CountsFailure (W.failed out.old) (W.failed out.new) result }
     ensures beside { IsTrue (W.tells out.old) → W.beside out.new ≡ W.beside out.old }
     ensures wrote { IsTrue (W.tells out.old)
         → Wrote (W.written out.old) (W.written out.new) (quoted_byte byte) result }
 {
     if wants_backslash(byte) {
-        write_piece(out, &[b'\\', byte])
+        write_chunk(out, &[b'\\', byte])
     } else {
-        write_piece(out, &[byte])
+        write_chunk(out, &[byte])
     }
 }
 

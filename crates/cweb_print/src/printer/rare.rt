@@ -1,15 +1,16 @@
 // Section comments and line marks, printed straight to where bytes are gathered.
 ghost use Rattle.std.specs.Prelude.{◌≡◌, ◌≤◌, ◌+◌, ◌++◌, length, true, false};
-ghost use Rattle.cweb_store.specs.Seen.{seen};
-ghost use Rattle.cweb_gathered.specs.declared.gathered.TheConstants.{ROOM, SHORT};
-ghost use Rattle.cweb_print.specs.Classes.{added, file_by, left_by, separator};
-ghost use Rattle.cweb_print.specs.Printed.{kept_of, setting_of};
-ghost use Rattle.cweb_print.specs.Printers.{IsNamed};
-ghost use Rattle.cweb_print.specs.Printing.{mark_line, numbered, quoted};
+ghost use Rattle.cweb_store.specs.surface.TokenModels.{token_model};
+ghost use Rattle.cweb_print.specs.declared.buffer.TheConstants.{ROOM, SHORT};
+ghost use Rattle.cweb_print.specs.inner.Classes.{added, file_by, separator};
+ghost use Rattle.cweb_print.specs.surface.Classes.{left_after_token};
+ghost use Rattle.cweb_print.specs.surface.Printed.{left_in_printer, setting_of};
+ghost use Rattle.cweb_print.specs.surface.Printers.{MarkFileIsNamed};
+ghost use Rattle.cweb_print.specs.Printing.{mark_line, numbered_comment, quoted};
 
+use crate::buffer::OutBuffer;
 use crate::printer::Printer;
 use crate::printer::mark::has_quotable;
-use cweb_gathered::Gathered;
 use cweb_store::Token;
 use itoa::Buffer;
 
@@ -19,18 +20,19 @@ const LONG: usize = 128;
 impl<'a> Printer<'a> {
     /// Prints a section comment, or a line mark whose file has a short name that needs no quoting, where there is room for a
     /// short text, and answers whether it has.
-    pub(crate) fn gather_rare(&mut self, token: &Token<'_>, gathered: &mut Gathered) -> bool
-        requires room { length gathered.old + SHORT ≤ ROOM }
-        requires named { IsNamed (setting_of self.old) (seen token.now) }
+    pub(crate) fn append_rare(&mut self, token: &Token<'_>, buffer: &mut OutBuffer) -> bool
+        requires room { length buffer.old + SHORT ≤ ROOM }
+        requires named { MarkFileIsNamed (setting_of self.old) (token_model token.now) }
         ensures setting { setting_of self.new ≡ setting_of self.old }
         ensures left { result ≡ true
-            → kept_of self.new ≡ left_by (kept_of self.old) (seen token.now) }
-        ensures added { result ≡ true → gathered.new ≡ gathered.old
-            ++ added (file_by (setting_of self.old)) (kept_of self.old) (seen token.now) }
+            → left_in_printer self.new
+            ≡ left_after_token (left_in_printer self.old) (token_model token.now) }
+        ensures added { result ≡ true → buffer.new ≡ buffer.old
+            ++ added (file_by (setting_of self.old)) (left_in_printer self.old) (token_model token.now) }
         ensures same { result ≡ false → self.new ≡ self.old }
-        ensures none { result ≡ false → gathered.new ≡ gathered.old }
+        ensures none { result ≡ false → buffer.new ≡ buffer.old }
     {
-        if self.left.drops(token) || !self.add_rare(token, gathered) {
+        if self.left.drops(token) || !self.add_rare(token, buffer) {
             return false;
         }
         self.left = self.left.after(token);
@@ -38,23 +40,23 @@ impl<'a> Printer<'a> {
     }
 
     // Adds the text of one that is not dropped.
-    fn add_rare(&self, token: &Token<'_>, gathered: &mut Gathered) -> bool
-        requires room { length gathered.old + SHORT ≤ ROOM }
-        requires named { IsNamed (setting_of self.now) (seen token.now) }
-        ensures added { result ≡ true → gathered.new ≡ gathered.old
-            ++ (separator (kept_of self.now).class (seen token.now)
-            ++ file_by (setting_of self.now) (kept_of self.now).class (seen token.now)) }
-        ensures none { result ≡ false → gathered.new ≡ gathered.old }
+    fn add_rare(&self, token: &Token<'_>, buffer: &mut OutBuffer) -> bool
+        requires room { length buffer.old + SHORT ≤ ROOM }
+        requires named { MarkFileIsNamed (setting_of self.now) (token_model token.now) }
+        ensures added { result ≡ true → buffer.new ≡ buffer.old
+            ++ (separator (left_in_printer self.now).class (token_model token.now)
+            ++ file_by (setting_of self.now) (left_in_printer self.now).class (token_model token.now)) }
+        ensures none { result ≡ false → buffer.new ≡ buffer.old }
     {
         match token {
             Token::Head(section) => {
-                gathered.add(self.left.separator(token));
-                add_numbered(b"/*", *section, b":*/", gathered);
+                buffer.add(self.left.separator(token));
+                add_numbered(b"/*", *section, b":*/", buffer);
                 true
             }
             Token::Tail(section) => {
-                gathered.add(self.left.separator(token));
-                add_numbered(b"/*:", *section, b"*/", gathered);
+                buffer.add(self.left.separator(token));
+                add_numbered(b"/*:", *section, b"*/", buffer);
                 true
             }
             Token::Mark(place) => {
@@ -62,7 +64,7 @@ impl<'a> Printer<'a> {
                 if name.len() >= LONG || has_quotable(name) {
                     return false;
                 }
-                add_mark(self.begin_line(), name, place.line, gathered);
+                add_mark(self.begin_line(), name, place.line, buffer);
                 true
             }
             _ => false,
@@ -71,27 +73,27 @@ impl<'a> Printer<'a> {
 }
 
 // Adds a section's number between two pieces of a comment.
-fn add_numbered(before: &[u8], section: u32, behind: &[u8], gathered: &mut Gathered)
-    requires room { length gathered.old + (length before.now + (length behind.now + 40)) ≤ ROOM }
-    ensures { gathered.new ≡ gathered.old ++ numbered before.now section behind.now }
+fn add_numbered(before: &[u8], section: u32, behind: &[u8], buffer: &mut OutBuffer)
+    requires room { length buffer.old + (length before.now + (length behind.now + 40)) ≤ ROOM }
+    ensures { buffer.new ≡ buffer.old ++ numbered_comment before.now section behind.now }
 {
     let mut digits = Buffer::new();
-    gathered.add(before);
-    gathered.add(digits.format(section).as_bytes());
-    gathered.add(behind);
+    buffer.add(before);
+    buffer.add(digits.format(section).as_bytes());
+    buffer.add(behind);
 }
 
 // Adds what begins the line, and the mark of a line of a file whose name needs no quoting.
-fn add_mark(begin: &[u8], name: &[u8], line: u32, gathered: &mut Gathered)
-    requires room { length gathered.old + (length begin.now + (length name.now + 60)) ≤ ROOM }
+fn add_mark(begin: &[u8], name: &[u8], line: u32, buffer: &mut OutBuffer)
+    requires room { length buffer.old + (length begin.now + (length name.now + 60)) ≤ ROOM }
     requires plain { quoted name.now ≡ name.now }
-    ensures { gathered.new ≡ gathered.old ++ (begin.now ++ mark_line name.now line) }
+    ensures { buffer.new ≡ buffer.old ++ (begin.now ++ mark_line name.now line) }
 {
     let mut digits = Buffer::new();
-    gathered.add(begin);
-    gathered.add(b"#line ");
-    gathered.add(digits.format(line).as_bytes());
-    gathered.add(b" \"");
-    gathered.add(name);
-    gathered.add(b"\"\n");
+    buffer.add(begin);
+    buffer.add(b"#line ");
+    buffer.add(digits.format(line).as_bytes());
+    buffer.add(b" \"");
+    buffer.add(name);
+    buffer.add(b"\"\n");
 }

@@ -1,9 +1,9 @@
 // Control codes: what each does in a context, and which are those of names.
 ghost use Rattle.std.specs.Prelude.{◌≡◌, true};
-ghost use Rattle.cweb_scanner.specs.Fronted.{effect_in, may_do};
-ghost use Rattle.cweb_scanner.specs.Fronted as fronted;
+ghost use Rattle.cweb_scan.specs.inner.MatchSteps.{effect_in, may_do};
+ghost use Rattle.cweb_scan.specs.inner.MatchSteps as fronted;
 
-use cweb_rules::codes::{in_c, in_limbo, in_macro, in_text};
+use cweb_rules::codes::{in_c, in_limbo, in_macro, in_tex};
 use cweb_rules::{Context, Effect};
 
 /// What a code does in a context.
@@ -13,15 +13,15 @@ pub fn effect_of(context: Context, letter: u8) -> Effect
 {
     match context {
         Context::Limbo => in_limbo(letter),
-        Context::TeX | Context::Definition(_) => in_text(letter),
+        Context::TeX | Context::Definition(_) => in_tex(letter),
         Context::Macro => in_macro(letter),
         Context::CText => in_c(letter),
     }
 }
 
 /// Whether a code is that of a name.
-pub fn is_name(effect: Effect) -> bool
-    ensures { result ≡ fronted.is_name effect }
+pub fn is_name_effect(effect: Effect) -> bool
+    ensures { result ≡ fronted.is_name_effect effect }
 {
     matches!(effect, Effect::Named)
 }

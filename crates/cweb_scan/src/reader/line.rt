@@ -1,24 +1,24 @@
 // The bytes of a line are taken turn by turn.
 ghost use Rattle.std.specs.Prelude.{◌≡◌, ◌≤◌, ◌<◌, ◌+◌, ◌*◌, IfOk, OnOk, length, false};
-ghost use Rattle.cweb_store.specs.Calls.{too_many};
+ghost use Rattle.cweb_names.specs.surface.Names.{too_many};
 
 use crate::reader::Reader;
 use crate::reader::open::Open;
 use std::alloc::AllocError;
 
 impl Reader {
-    ghost use Rattle.cweb_rules.specs.Lines.{IsLine};
-    ghost use Rattle.cweb_scanner.specs.Held.{cost, TakesBytes};
-    ghost use Rattle.cweb_scanner.specs.OpenRest.{awaits_line_end};
-    ghost use Rattle.cweb_scanner.specs.Turned.{TakesTurn};
+    ghost use Rattle.cweb_rules.specs.inner.LineItems.{IsLine};
+    ghost use Rattle.cweb_scan.specs.inner.ReaderModel.{cost, TakesBytes};
+    ghost use Rattle.cweb_scan.specs.inner.PendingRest.{awaits_line_end};
+    ghost use Rattle.cweb_scan.specs.inner.ReaderSteps.{TakesStep};
 
     // One turn: the plain C text at the front of the rest of a line and the piece behind it, or a part of the item that is open.
-    fn take_turn(&mut self, rest: &[u8]) -> Result<usize, AllocError>
+    fn take_step(&mut self, rest: &[u8]) -> Result<usize, AllocError>
         requires within { awaits_line_end self.old.item ≡ false }
         requires line { IsLine rest.now }
         requires some { 1 ≤ length rest.now }
         requires room { cost self.old + 3 * length rest.now + 8 < too_many }
-        ensures { IfOk result (λ n. TakesTurn n rest.now self.old self.new) }
+        ensures { IfOk result (λ n. TakesStep n rest.now self.old self.new) }
     {
         match self.item {
             Open::Between => {
@@ -47,7 +47,7 @@ impl Reader {
     {
         let mut rest = line;
         'turns: while !rest.is_empty() {
-            let size = self.take_turn(rest)?;
+            let size = self.take_step(rest)?;
             let (_, after) = rest.split_at(size);
             rest = after;
         }

@@ -1,24 +1,27 @@
 // How lines are read, one after another.
 ghost use Rattle.std.specs.Prelude.{◌≡◌, ◌≤◌, ◌<◌, ◌+◌, ◌*◌, ◌∷◌, List, [], IfOk, OnOk, length};
-ghost use Rattle.cweb_store.specs.Calls.{too_many};
+ghost use Rattle.cweb_names.specs.surface.Names.{too_many};
 
 use crate::reader::Reader;
 use crate::reader::open::Open;
+use crate::scanner::Scanner;
+use crate::skipped::skipped_len;
 use cweb_files::{FileId, Place};
 use cweb_rules::{Context, End};
-use cweb_scanner::{Scanner, skipped_len};
 use std::alloc::AllocError;
 
 impl Reader {
     ghost use Rattle.std.specs.List.{prefix_len};
     ghost use Rattle.std.specs.Prelude.{true, false, IsTrue};
-    ghost use Rattle.cweb_lines.specs.Lines.{Line};
-    ghost use Rattle.cweb_rules.specs.Lines.{IsLine};
-    ghost use Rattle.cweb_scanner.specs.Fronted.{is_skipped, reads_c};
-    ghost use Rattle.cweb_scanner.specs.Held.{after_line_end, cost, gone_to, read_after, text_ended, BeginsLine};
-    ghost use Rattle.cweb_scanner.specs.OpenRest.{awaits_line_end};
-    ghost use Rattle.cweb_scanner.specs.Resume.{Between};
-    ghost use Rattle.cweb_scanner.specs.Room.{weight};
+    ghost use Rattle.cweb_input.specs.Lines.{Line};
+    ghost use Rattle.cweb_rules.specs.inner.LineItems.{IsLine};
+    ghost use Rattle.cweb_scan.specs.inner.Skipped.{is_skipped};
+    ghost use Rattle.cweb_scan.specs.inner.MatchSteps.{reads_c};
+    ghost use Rattle.cweb_scan.specs.inner.ReaderModel.{after_line_end, cost, gone_to, read_after};
+    ghost use Rattle.cweb_scan.specs.inner.ReaderModel.{source_ended, BeginsLine};
+    ghost use Rattle.cweb_scan.specs.inner.PendingRest.{awaits_line_end};
+    ghost use Rattle.cweb_scan.specs.inner.Resume.{Between};
+    ghost use Rattle.cweb_scan.specs.inner.Room.{weight};
 
     // The line end before a line that stands at a place: it is passed once that place is known.
     fn end_line(&mut self, next: Place) -> Result<(), AllocError>
@@ -36,7 +39,7 @@ impl Reader {
             }
             Open::Literal { begun, .. } => {
                 self.item = Open::Between;
-                self.scanner.give_literal(&self.text, End::Cut, begun)?;
+                self.scanner.emit_literal(&self.text, End::Cut, begun)?;
                 self.scanner.end_line(next)
             }
             Open::AfterBackslash { begun, quote } => {
@@ -119,9 +122,9 @@ impl Reader {
     }
 
     // The text ends, and with it the item that is open.
-    fn end_text(&mut self) -> Result<(), AllocError>
+    fn end_source(&mut self) -> Result<(), AllocError>
         requires { cost self.old + 8 < too_many }
-        ensures { OnOk result (self.new.state ≡ text_ended self.old.item self.old.state) }
+        ensures { OnOk result (self.new.state ≡ source_ended self.old.item self.old.state) }
     {
         let item = self.item;
         self.item = Open::Between;
@@ -132,11 +135,11 @@ impl Reader {
                 self.scanner
                     .end_name(is_file, &self.text, End::Cut, false, begun)
             }
-            Open::Literal { begun, .. } => self.scanner.give_literal(&self.text, End::Cut, begun),
-            Open::Raw(begun) => self.scanner.give_literal(&self.text, End::Cut, begun),
+            Open::Literal { begun, .. } => self.scanner.emit_literal(&self.text, End::Cut, begun),
+            Open::Raw(begun) => self.scanner.emit_literal(&self.text, End::Cut, begun),
             Open::AfterBackslash { begun, .. } => {
                 self.text.push(b'\\')?;
-                self.scanner.give_literal(&self.text, End::Cut, begun)
+                self.scanner.emit_literal(&self.text, End::Cut, begun)
             }
         }
     }
@@ -154,7 +157,7 @@ impl Reader {
             };
             return Ok(Scanner::new(self.alloc, place));
         }
-        self.end_text()?;
+        self.end_source()?;
         let Reader {
             alloc: _,
             scanner,

@@ -1,6 +1,6 @@
 // The item that is open at the end of a line.
 use cweb_files::Place;
-use cweb_scanner::Quote;
+use cweb_rules::Quote;
 
 /// What is open where a line ended, with the place where it began.
 #[derive(Clone, Copy)]

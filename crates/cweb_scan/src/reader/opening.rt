@@ -3,19 +3,20 @@ ghost use Rattle.std.specs.Prelude.{◌≡◌, IfOk, codes, true, false};
 
 use crate::reader::Reader;
 use crate::reader::open::Open;
+use cweb_rules::Quote;
 use cweb_rules::bytes::begins;
 use cweb_rules::literals::{delimiter, literal_prefix, raw_prefix};
-use cweb_scanner::Quote;
 use std::alloc::AllocError;
 
 impl Reader {
     ghost use Rattle.cweb_rules.specs.Bytes as spec;
-    ghost use Rattle.cweb_rules.specs.Fronts.{starts_raw, starts_literal};
-    ghost use Rattle.cweb_rules.specs.Lines.{IsLine};
-    ghost use Rattle.cweb_scanner.specs.Fronted.{is_head, reads_c, reads_names, reads_literals, IsPast};
-    ghost use Rattle.cweb_scanner.specs.Turned.{Passes};
-    ghost use Rattle.cweb_scanner.specs.Resume.{Between};
-    ghost use Rattle.cweb_scanner.specs.Room.{HasRoom};
+    ghost use Rattle.cweb_rules.specs.Matches.{starts_raw, starts_literal};
+    ghost use Rattle.cweb_rules.specs.inner.LineItems.{IsLine};
+    ghost use Rattle.cweb_scan.specs.inner.MatchSteps.{is_head, reads_c, reads_names, reads_literals};
+    ghost use Rattle.cweb_scan.specs.inner.MatchSteps.{IsPast};
+    ghost use Rattle.cweb_scan.specs.inner.ReaderSteps.{MakesProgress};
+    ghost use Rattle.cweb_scan.specs.inner.Resume.{Between};
+    ghost use Rattle.cweb_scan.specs.inner.Room.{HasItemRoom};
 
     /// `/*`
     #[inline(never)]
@@ -23,8 +24,8 @@ impl Reader {
         requires between { self.old.item ≡ Between }
         requires reads { reads_c self.old.state.context ≡ true }
         requires sign { spec.begins (codes "/*") rest.now ≡ true }
-        requires room { HasRoom 1 self.old.state }
-        ensures { IfOk result (λ n. Passes n rest.now self.old self.new) }
+        requires room { HasItemRoom 1 self.old.state }
+        ensures { IfOk result (λ n. MakesProgress n rest.now self.old self.new) }
     {
         let begun = self.scanner.here();
         self.scanner.blank()?;
@@ -38,7 +39,7 @@ impl Reader {
         requires head { is_head self.old.state.context ≡ false }
         requires reads { reads_names self.old.state.context ≡ true }
         requires sign { spec.begins (codes "@<") rest.now ≡ true }
-        ensures { Passes result rest.now self.old self.new }
+        ensures { MakesProgress result rest.now self.old self.new }
     {
         self.text.clear();
         self.item = Open::Name {
@@ -54,7 +55,7 @@ impl Reader {
         requires head { is_head self.old.state.context ≡ false }
         requires reads { reads_names self.old.state.context ≡ true }
         requires sign { spec.begins (codes "@(") rest.now ≡ true }
-        ensures { Passes result rest.now self.old self.new }
+        ensures { MakesProgress result rest.now self.old self.new }
     {
         self.text.clear();
         self.item = Open::Name {
@@ -73,7 +74,7 @@ impl Reader {
         requires past { IsPast rest.now }
         requires plain { starts_raw rest.now ≡ false }
         requires sign { starts_literal rest.now ≡ true }
-        ensures { IfOk result (λ n. Passes n rest.now self.old self.new) }
+        ensures { IfOk result (λ n. MakesProgress n rest.now self.old self.new) }
     {
         let prefix = literal_prefix(rest);
         let (opener, _) = rest.split_at(prefix + 1);
@@ -96,7 +97,7 @@ impl Reader {
         requires line { IsLine rest.now }
         requires past { IsPast rest.now }
         requires sign { starts_raw rest.now ≡ true }
-        ensures { IfOk result (λ n. Passes n rest.now self.old self.new) }
+        ensures { IfOk result (λ n. MakesProgress n rest.now self.old self.new) }
     {
         let start = raw_prefix(rest) + 2;
         let (_, named) = rest.split_at(start);

@@ -1,31 +1,33 @@
 // The rest of an item that is open, a unit a turn; of a comment all that stands in the line.
 ghost use Rattle.std.specs.Prelude.{◌≡◌, ◌≤◌, ◌<◌, ◌+◌, IfOk, OnOk, length, true, false};
-ghost use Rattle.cweb_store.specs.Calls.{too_many};
+ghost use Rattle.cweb_names.specs.surface.Names.{too_many};
 
 use crate::reader::Reader;
 use crate::reader::open::Open;
-use crate::reader::opened::{goes_on, sign_after};
+use crate::reader::opened::{is_unclosed, opener_after};
 use cweb_files::Place;
-use cweb_rules::Look;
 use cweb_rules::items::{Item, reach};
-use cweb_scanner::{Quote, push_unit};
+use cweb_rules::{Look, Quote, push_unit};
 use std::alloc::AllocError;
 
 impl Reader {
-    ghost use Rattle.cweb_rules.specs.Lines.{IsLine};
-    ghost use Rattle.cweb_scanner.specs.Held.{cost};
-    ghost use Rattle.cweb_scanner.specs.OpenRest.{awaits_line_end, is_literal, is_open, literal_of, literal_turn, look_size, raw_of, text_of, with_run, TakesOpen};
-    ghost use Rattle.cweb_scanner.specs.Resume.{InComment, InName};
+    ghost use Rattle.cweb_rules.specs.inner.LineItems.{IsLine};
+    ghost use Rattle.cweb_scan.specs.inner.ReaderModel.{cost};
+    ghost use Rattle.cweb_scan.specs.inner.PendingRest.{awaits_line_end, is_pending_literal};
+    ghost use Rattle.cweb_scan.specs.inner.PendingRest.{is_pending, literal_item, literal_step};
+    ghost use Rattle.cweb_scan.specs.inner.PendingRest.{look_size, raw_item, pending_bytes, with_span};
+    ghost use Rattle.cweb_scan.specs.inner.PendingRest.{TakesPending};
+    ghost use Rattle.cweb_scan.specs.inner.Resume.{InComment, InName};
 
     // A comment, up to its end or that of the line.
     fn take_comment(&mut self, begun: Place, rest: &[u8]) -> Result<usize, AllocError>
         requires open { self.old.item ≡ InComment begun }
         requires line { IsLine rest.now }
         requires some { 1 ≤ length rest.now }
-        ensures { IfOk result (λ n. TakesOpen n rest.now self.old self.new) }
+        ensures { IfOk result (λ n. TakesPending n rest.now self.old self.new) }
     {
         let reached = reach(Item::Comment, rest);
-        if goes_on(reached.how) {
+        if is_unclosed(reached.how) {
             return Ok(rest.len());
         }
         self.item = Open::Between;
@@ -34,9 +36,9 @@ impl Reader {
     }
 
     // Bytes of an item's text, each of which stands for itself.
-    fn take_run(&mut self, size: usize, rest: &[u8]) -> Result<(), AllocError>
+    fn take_span(&mut self, size: usize, rest: &[u8]) -> Result<(), AllocError>
         requires { size ≤ length rest.now }
-        ensures { OnOk result (self.new ≡ with_run size rest.now self.old) }
+        ensures { OnOk result (self.new ≡ with_span size rest.now self.old) }
     {
         self.text.extend_from_slice(rest.split_at(size).0)?;
         Ok(())
@@ -44,15 +46,15 @@ impl Reader {
 
     // A run or a unit of a name, or its end with the opener sign behind it: in C text that sign is C text.
     fn take_name(&mut self, begun: Place, is_file: bool, rest: &[u8]) -> Result<usize, AllocError>
-        requires open { self.old.item ≡ InName begun is_file (text_of self.old.item) }
+        requires open { self.old.item ≡ InName begun is_file (pending_bytes self.old.item) }
         requires line { IsLine rest.now }
         requires some { 1 ≤ length rest.now }
         requires room { cost self.old + 8 < too_many }
-        ensures { IfOk result (λ n. TakesOpen n rest.now self.old self.new) }
+        ensures { IfOk result (λ n. TakesPending n rest.now self.old self.new) }
     {
         let plain = Item::Name.plain_len(rest);
         if plain > 0 {
-            self.take_run(plain, rest)?;
+            self.take_span(plain, rest)?;
             return Ok(plain);
         }
         match Item::Name.look(rest) {
@@ -63,8 +65,8 @@ impl Reader {
             }
             Look::Ends(size, how) => {
                 let (_, after) = rest.split_at(size);
-                let sign = sign_after(how, after);
-                let taken = size + self.scanner.sign_taken(sign);
+                let sign = opener_after(how, after);
+                let taken = size + self.scanner.opener_taken(sign);
                 self.item = Open::Between;
                 self.scanner
                     .end_name(is_file, &self.text, how, 0 < sign, begun)?;
@@ -74,27 +76,32 @@ impl Reader {
     }
 
     // A unit of a literal of either kind, or its end.
-    fn turn_literal(&mut self, look: Look, begun: Place, rest: &[u8]) -> Result<usize, AllocError>
-        requires open { is_literal self.old.item ≡ true }
+    fn take_literal_unit(
+        &mut self,
+        look: Look,
+        begun: Place,
+        rest: &[u8],
+    ) -> Result<usize, AllocError>
+        requires open { is_pending_literal self.old.item ≡ true }
         requires fits { look_size look ≤ length rest.now }
         requires room { cost self.old + 8 < too_many }
         ensures size { IfOk result (λ n. n ≡ look_size look) }
         ensures within { IfOk result (λ n. n ≤ length rest.now) }
-        ensures turn { OnOk result (self.new ≡ literal_turn look begun rest.now self.old) }
+        ensures turn { OnOk result (self.new ≡ literal_step look begun rest.now self.old) }
     {
         match look {
             Look::Goes(size) => {
                 let (unit, _) = rest.split_at(size);
                 push_unit(&mut self.text, unit)?;
-                self.scanner.tell_unit(unit)?;
+                self.scanner.check_unit(unit)?;
                 Ok(size)
             }
             Look::Ends(size, how) => {
                 let (sign, _) = rest.split_at(size);
                 push_unit(&mut self.text, sign)?;
-                self.scanner.tell_unit(sign)?;
+                self.scanner.check_unit(sign)?;
                 self.item = Open::Between;
-                self.scanner.give_literal(&self.text, how, begun)?;
+                self.scanner.emit_literal(&self.text, how, begun)?;
                 Ok(size)
             }
         }
@@ -102,11 +109,11 @@ impl Reader {
 
     // A literal: a `\` that is last in its line takes the line end with it.
     fn take_literal(&mut self, begun: Place, quote: Quote, rest: &[u8]) -> Result<usize, AllocError>
-        requires open { self.old.item ≡ literal_of begun quote self.old.item }
+        requires open { self.old.item ≡ literal_item begun quote self.old.item }
         requires line { IsLine rest.now }
         requires some { 1 ≤ length rest.now }
         requires room { cost self.old + 8 < too_many }
-        ensures { IfOk result (λ n. TakesOpen n rest.now self.old self.new) }
+        ensures { IfOk result (λ n. TakesPending n rest.now self.old self.new) }
     {
         if rest == b"\\".as_slice() {
             self.item = Open::AfterBackslash { begun, quote };
@@ -115,41 +122,41 @@ impl Reader {
         let item = Item::Literal(quote.byte());
         let plain = item.plain_len(rest);
         if plain > 0 {
-            self.take_run(plain, rest)?;
+            self.take_span(plain, rest)?;
             return Ok(plain);
         }
         let look = item.look(rest);
-        let size = self.turn_literal(look, begun, rest)?;
+        let size = self.take_literal_unit(look, begun, rest)?;
         Ok(size)
     }
 
     // A raw literal.
     fn take_raw(&mut self, begun: Place, rest: &[u8]) -> Result<usize, AllocError>
-        requires open { self.old.item ≡ raw_of begun self.old.item }
+        requires open { self.old.item ≡ raw_item begun self.old.item }
         requires line { IsLine rest.now }
         requires some { 1 ≤ length rest.now }
         requires room { cost self.old + 8 < too_many }
-        ensures { IfOk result (λ n. TakesOpen n rest.now self.old self.new) }
+        ensures { IfOk result (λ n. TakesPending n rest.now self.old self.new) }
     {
         let plain = Item::RawLiteral(&self.sign).plain_len(rest);
         if plain > 0 {
-            self.take_run(plain, rest)?;
+            self.take_span(plain, rest)?;
             return Ok(plain);
         }
         let look = Item::RawLiteral(&self.sign).look(rest);
-        let size = self.turn_literal(look, begun, rest)?;
+        let size = self.take_literal_unit(look, begun, rest)?;
         Ok(size)
     }
 
     /// A part of the item that is open, which ends with it or goes on. Answers how many bytes it has.
     #[inline(never)]
     pub(crate) fn take_open(&mut self, rest: &[u8]) -> Result<usize, AllocError>
-        requires open { is_open self.old.item ≡ true }
+        requires open { is_pending self.old.item ≡ true }
         requires within { awaits_line_end self.old.item ≡ false }
         requires line { IsLine rest.now }
         requires some { 1 ≤ length rest.now }
         requires room { cost self.old + 8 < too_many }
-        ensures { IfOk result (λ n. TakesOpen n rest.now self.old self.new) }
+        ensures { IfOk result (λ n. TakesPending n rest.now self.old self.new) }
     {
         match self.item {
             Open::Comment(begun) => self.take_comment(begun, rest),

@@ -40,7 +40,7 @@ const COMMENTS: &[(&[u8], &str)] = &[
 
 #[test]
 fn comments(rt: HostRuntime) -> Result<(), Fail> {
-    tell_each(&rt, COMMENTS)
+    check_each(&rt, COMMENTS)
 }
 
 const IDENTIFIERS_AND_NUMBERS: &[(&[u8], &str)] = &[
@@ -56,7 +56,7 @@ const IDENTIFIERS_AND_NUMBERS: &[(&[u8], &str)] = &[
 
 #[test]
 fn identifiers_and_numbers(rt: HostRuntime) -> Result<(), Fail> {
-    tell_each(&rt, IDENTIFIERS_AND_NUMBERS)
+    check_each(&rt, IDENTIFIERS_AND_NUMBERS)
 }
 
 const PUNCTUATORS: &[(&[u8], &str)] = &[
@@ -72,5 +72,5 @@ const PUNCTUATORS: &[(&[u8], &str)] = &[
 
 #[test]
 fn punctuators(rt: HostRuntime) -> Result<(), Fail> {
-    tell_each(&rt, PUNCTUATORS)
+    check_each(&rt, PUNCTUATORS)
 }

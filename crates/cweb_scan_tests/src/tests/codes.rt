@@ -28,7 +28,7 @@ const CODES_OF_C_TEXT: &[(&[u8], &str)] = &[
 
 #[test]
 fn codes_of_c_text(rt: HostRuntime) -> Result<(), Fail> {
-    tell_each(&rt, CODES_OF_C_TEXT)
+    check_each(&rt, CODES_OF_C_TEXT)
 }
 
 const CONTROL_TEXTS: &[(&[u8], &str)] = &[
@@ -62,7 +62,7 @@ const CONTROL_TEXTS: &[(&[u8], &str)] = &[
 
 #[test]
 fn control_texts(rt: HostRuntime) -> Result<(), Fail> {
-    tell_each(&rt, CONTROL_TEXTS)
+    check_each(&rt, CONTROL_TEXTS)
 }
 
 const CHARACTER_CONSTANTS: &[(&[u8], &str)] = &[
@@ -112,5 +112,5 @@ const CHARACTER_CONSTANTS: &[(&[u8], &str)] = &[
 
 #[test]
 fn character_constants(rt: HostRuntime) -> Result<(), Fail> {
-    tell_each(&rt, CHARACTER_CONSTANTS)
+    check_each(&rt, CHARACTER_CONSTANTS)
 }

@@ -51,7 +51,7 @@ const WHERE_DIRECTIVES_BEGIN_AND_END: &[(&[u8], &str)] = &[
 
 #[test]
 fn where_directives_begin_and_end(rt: HostRuntime) -> Result<(), Fail> {
-    tell_each(&rt, WHERE_DIRECTIVES_BEGIN_AND_END)
+    check_each(&rt, WHERE_DIRECTIVES_BEGIN_AND_END)
 }
 
 const INCLUDED_NAMES: &[(&[u8], &str)] = &[
@@ -76,5 +76,5 @@ const INCLUDED_NAMES: &[(&[u8], &str)] = &[
 
 #[test]
 fn included_names(rt: HostRuntime) -> Result<(), Fail> {
-    tell_each(&rt, INCLUDED_NAMES)
+    check_each(&rt, INCLUDED_NAMES)
 }

@@ -1,7 +1,7 @@
 // Texts that end in each item, and an `@` that is last.
 use super::*;
 
-const TEXTS_THAT_END_IN_AN_ITEM: &[(&[u8], &str)] = &[
+const WEBS_THAT_END_IN_AN_ITEM: &[(&[u8], &str)] = &[
     (
         b"@ @c @<A",
         "[program] head:1 at:1 <A> at:1 tail:1 NameDidNotEnd 1 NotPresent <A> ",
@@ -35,12 +35,12 @@ const TEXTS_THAT_END_IN_AN_ITEM: &[(&[u8], &str)] = &[
 ];
 
 #[test]
-fn texts_that_end_in_an_item(rt: HostRuntime) -> Result<(), Fail> {
-    tell_each(&rt, TEXTS_THAT_END_IN_AN_ITEM)
+fn webs_that_end_in_an_item(rt: HostRuntime) -> Result<(), Fail> {
+    check_each(&rt, WEBS_THAT_END_IN_AN_ITEM)
 }
 
 // An `@` that is last in its line begins a section, but in literals.
-const SIGNS_AT_A_LINES_END: &[(&[u8], &str)] = &[
+const LAST_AT_OF_A_LINE: &[(&[u8], &str)] = &[
     (b"x@\n@c y", "[program] head:1 at:2 w:y tail:1 "),
     (
         b"@ @c x@\n@c y",
@@ -76,6 +76,6 @@ const SIGNS_AT_A_LINES_END: &[(&[u8], &str)] = &[
 ];
 
 #[test]
-fn signs_at_a_lines_end(rt: HostRuntime) -> Result<(), Fail> {
-    tell_each(&rt, SIGNS_AT_A_LINES_END)
+fn last_at_of_a_line(rt: HostRuntime) -> Result<(), Fail> {
+    check_each(&rt, LAST_AT_OF_A_LINE)
 }

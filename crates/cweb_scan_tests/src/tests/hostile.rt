@@ -155,7 +155,7 @@ fn many_empty_lines(rt: HostRuntime) -> Result<(), Fail> {
 }
 
 // Bytes 0 and from 128 in each item.
-const BYTES_OF_NO_TEXT: &[(&[u8], &str)] = &[
+const NUL_AND_HIGH_BYTES: &[(&[u8], &str)] = &[
     (b"\x00\xff@q\x00\xff@>@ \x00\xff@\x00@\xff", ""),
     (b"@\x00@\xff", "DoubleAtInLimbo 1 DoubleAtInLimbo 1 "),
     (b"@l\x00fc a", "ImproperHexNumber 1 "),
@@ -175,6 +175,6 @@ const BYTES_OF_NO_TEXT: &[(&[u8], &str)] = &[
 ];
 
 #[test]
-fn bytes_of_no_text(rt: HostRuntime) -> Result<(), Fail> {
-    tell_each(&rt, BYTES_OF_NO_TEXT)
+fn nul_and_high_bytes(rt: HostRuntime) -> Result<(), Fail> {
+    check_each(&rt, NUL_AND_HIGH_BYTES)
 }

@@ -14,7 +14,7 @@ const CODES_BEFORE_THE_FIRST_SECTION: &[(&[u8], &str)] = &[
 
 #[test]
 fn codes_before_the_first_section(rt: HostRuntime) -> Result<(), Fail> {
-    tell_each(&rt, CODES_BEFORE_THE_FIRST_SECTION)
+    check_each(&rt, CODES_BEFORE_THE_FIRST_SECTION)
 }
 
 const LETTERS: &[(&[u8], &str)] = &[
@@ -49,10 +49,10 @@ const LETTERS: &[(&[u8], &str)] = &[
 
 #[test]
 fn letters(rt: HostRuntime) -> Result<(), Fail> {
-    tell_each(&rt, LETTERS)
+    check_each(&rt, LETTERS)
 }
 
-const CODES_OF_TEXT: &[(&[u8], &str)] = &[
+const CODES_OF_TEX_PARTS: &[(&[u8], &str)] = &[
     (
         b"@ @h @& @= a @' @^ @. @: @t @q @l @@ @f @s @z @> @L @H",
         "",
@@ -67,6 +67,6 @@ const CODES_OF_TEXT: &[(&[u8], &str)] = &[
 ];
 
 #[test]
-fn codes_of_text(rt: HostRuntime) -> Result<(), Fail> {
-    tell_each(&rt, CODES_OF_TEXT)
+fn codes_of_tex_parts(rt: HostRuntime) -> Result<(), Fail> {
+    check_each(&rt, CODES_OF_TEX_PARTS)
 }

@@ -16,7 +16,7 @@ const LINE_ENDS_OF_MACROS: &[(&[u8], &str)] = &[
 
 #[test]
 fn line_ends_of_macros(rt: HostRuntime) -> Result<(), Fail> {
-    tell_each(&rt, LINE_ENDS_OF_MACROS)
+    check_each(&rt, LINE_ENDS_OF_MACROS)
 }
 
 // A line that isn't the next one of the same file has a Mark before it.
@@ -68,7 +68,7 @@ fn lines_of_files(rt: HostRuntime) -> Result<(), Fail> {
             ("d", b"x\ny\n"),
             ("c.ch", b"@x\nb;\n@y\nB;\n@z\n"),
         ];
-        check(&rt, &files, Some("c.ch"), &Telling { text: *text })?;
+        check(&rt, &files, Some("c.ch"), &Rendering { text: *text })?;
     }
     Ok(())
 }

@@ -49,7 +49,7 @@ const LITERALS: &[(&[u8], &str)] = &[
 
 #[test]
 fn literals(rt: HostRuntime) -> Result<(), Fail> {
-    tell_each(&rt, LITERALS)
+    check_each(&rt, LITERALS)
 }
 
 const RAW_LITERALS: &[(&[u8], &str)] = &[
@@ -100,5 +100,5 @@ const RAW_LITERALS: &[(&[u8], &str)] = &[
 
 #[test]
 fn raw_literals(rt: HostRuntime) -> Result<(), Fail> {
-    tell_each(&rt, RAW_LITERALS)
+    check_each(&rt, RAW_LITERALS)
 }

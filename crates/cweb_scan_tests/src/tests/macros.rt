@@ -26,7 +26,7 @@ const DEFINITIONS_AND_MACROS: &[(&[u8], &str)] = &[
 
 #[test]
 fn definitions_and_macros(rt: HostRuntime) -> Result<(), Fail> {
-    tell_each(&rt, DEFINITIONS_AND_MACROS)
+    check_each(&rt, DEFINITIONS_AND_MACROS)
 }
 
 const CODES_OF_MACROS: &[(&[u8], &str)] = &[
@@ -59,5 +59,5 @@ const CODES_OF_MACROS: &[(&[u8], &str)] = &[
 
 #[test]
 fn codes_of_macros(rt: HostRuntime) -> Result<(), Fail> {
-    tell_each(&rt, CODES_OF_MACROS)
+    check_each(&rt, CODES_OF_MACROS)
 }

@@ -1,7 +1,7 @@
 // Names of sections, and the signs behind them.
 use super::*;
 
-const OPENER_SIGNS: &[(&[u8], &str)] = &[
+const OPENERS_AFTER_NAMES: &[(&[u8], &str)] = &[
     (b"@ @<A@>=x", "[<A>] head:1 at:1 w:x tail:1 "),
     (b"@ @<A@> \t +=x", "[<A>] head:1 at:1 w:x tail:1 "),
     (b"@ @<A@>= =x", "[<A>] head:1 at:1 p:= w:x tail:1 "),
@@ -31,8 +31,8 @@ const OPENER_SIGNS: &[(&[u8], &str)] = &[
 ];
 
 #[test]
-fn opener_signs(rt: HostRuntime) -> Result<(), Fail> {
-    tell_each(&rt, OPENER_SIGNS)
+fn openers_after_names(rt: HostRuntime) -> Result<(), Fail> {
+    check_each(&rt, OPENERS_AFTER_NAMES)
 }
 
 const SPELLING: &[(&[u8], &str)] = &[
@@ -68,7 +68,7 @@ const SPELLING: &[(&[u8], &str)] = &[
 
 #[test]
 fn spelling(rt: HostRuntime) -> Result<(), Fail> {
-    tell_each(&rt, SPELLING)
+    check_each(&rt, SPELLING)
 }
 
 const NAMES_THAT_DID_NOT_END: &[(&[u8], &str)] = &[
@@ -105,5 +105,5 @@ const NAMES_THAT_DID_NOT_END: &[(&[u8], &str)] = &[
 
 #[test]
 fn names_that_did_not_end(rt: HostRuntime) -> Result<(), Fail> {
-    tell_each(&rt, NAMES_THAT_DID_NOT_END)
+    check_each(&rt, NAMES_THAT_DID_NOT_END)
 }

@@ -1,7 +1,7 @@
 // The pieces of plain C text and their edges, by the first bytes of each.
 use super::*;
 
-const PIECES_BY_THEIR_FIRST_BYTES: &[(&[u8], &str)] = &[
+const LEXEMES_BY_FIRST_BYTE: &[(&[u8], &str)] = &[
     // words and literals with a prefix
     (
         b"@ @c L\"x\" L x u8'a' u8 uR\"(a\"b)\" uR LR U8\"x\" R\"x",
@@ -39,11 +39,11 @@ const PIECES_BY_THEIR_FIRST_BYTES: &[(&[u8], &str)] = &[
 ];
 
 #[test]
-fn pieces_by_their_first_bytes(rt: HostRuntime) -> Result<(), Fail> {
-    tell_each(&rt, PIECES_BY_THEIR_FIRST_BYTES)
+fn lexemes_by_first_byte(rt: HostRuntime) -> Result<(), Fail> {
+    check_each(&rt, LEXEMES_BY_FIRST_BYTE)
 }
 
-const TEXT_OF_DIRECTIVES: &[(&[u8], &str)] = &[
+const DIRECTIVE_BODIES: &[(&[u8], &str)] = &[
     // blanks give one Blank, words, numbers and signs what they are
     (
         b"@ @c\n#define a(x) \t  ((x)+0x1f)*2->y\nb c",
@@ -67,6 +67,6 @@ const TEXT_OF_DIRECTIVES: &[(&[u8], &str)] = &[
 ];
 
 #[test]
-fn text_of_directives(rt: HostRuntime) -> Result<(), Fail> {
-    tell_each(&rt, TEXT_OF_DIRECTIVES)
+fn directive_bodies(rt: HostRuntime) -> Result<(), Fail> {
+    check_each(&rt, DIRECTIVE_BODIES)
 }

@@ -2,7 +2,7 @@
 use super::*;
 
 // How many sections there are, and the numbers of the starred ones.
-fn tell_sections(told: &mut String, sections: u32, starred: &[u32]) -> Result<(), AllocError> {
+fn render_sections(told: &mut String, sections: u32, starred: &[u32]) -> Result<(), AllocError> {
     write!(told, "{sections}")?;
     for number in starred {
         write!(told, " *{number}")?;
@@ -20,8 +20,8 @@ struct Sections<'a> {
 impl Case<Fail> for Sections<'_> {
     fn look<A: AllocGlobal + Abort>(&self, rt: &A, made: &Scanned) -> Result<(), Fail> {
         let mut told = String::new(rt.alloc());
-        tell_sections(&mut told, made.sections, made.starred.as_slice())?;
-        same_text_of(rt, told.as_str(), self.sections, self.web);
+        render_sections(&mut told, made.sections, made.starred.as_slice())?;
+        same_string_of(rt, told.as_str(), self.sections, self.web);
         Ok(())
     }
 }
@@ -72,8 +72,8 @@ const OTHER_FILES: &[(&str, &[u8])] = &[
 // Sections of a change file and of an included file count too.
 #[test]
 fn sections_of_other_files(rt: HostRuntime) -> Result<(), Fail> {
-    const ROWS: &[(Option<&str>, &str)] = &[(Some("c.ch"), "5 *2 *4"), (None, "4 *3")];
-    for (change, sections) in ROWS {
+    const EXAMPLES: &[(Option<&str>, &str)] = &[(Some("c.ch"), "5 *2 *4"), (None, "4 *3")];
+    for (change, sections) in EXAMPLES {
         let case = Sections {
             web: b"a.w",
             sections: *sections,

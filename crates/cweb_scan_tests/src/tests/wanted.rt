@@ -6,12 +6,12 @@ pub fn holds(rt: &impl Abort, is_so: bool) {
     assert!(rt; is_so);
 }
 
-pub fn same_text(rt: &impl Abort, got: &str, want: &str) {
+pub fn same_string(rt: &impl Abort, got: &str, want: &str) {
     assert_eq!(rt; got, want);
 }
 
 /// The same of a web.
-pub fn same_text_of(rt: &impl Abort, got: &str, want: &str, web: &[u8]) {
+pub fn same_string_of(rt: &impl Abort, got: &str, want: &str, web: &[u8]) {
     assert_eq!(rt; got, want, "of {web:?}");
 }
 

@@ -32,7 +32,7 @@ const PARTS_AND_NAMES: &[(&[u8], &str)] = &[
 
 #[test]
 fn parts_and_names(rt: HostRuntime) -> Result<(), Fail> {
-    tell_each(&rt, PARTS_AND_NAMES)
+    check_each(&rt, PARTS_AND_NAMES)
 }
 
 const OPERATORS_MACROS_AND_DIRECTIVES: &[(&[u8], &str)] = &[
@@ -76,7 +76,7 @@ const OPERATORS_MACROS_AND_DIRECTIVES: &[(&[u8], &str)] = &[
 
 #[test]
 fn operators_macros_and_directives(rt: HostRuntime) -> Result<(), Fail> {
-    tell_each(&rt, OPERATORS_MACROS_AND_DIRECTIVES)
+    check_each(&rt, OPERATORS_MACROS_AND_DIRECTIVES)
 }
 
 // Each kind of fault, in the order of the items that have them.
@@ -98,5 +98,5 @@ const FAULTS_IN_THE_ORDER_OF_THEIR_ITEMS: &[(&[u8], &str)] = &[
 
 #[test]
 fn faults_in_the_order_of_their_items(rt: HostRuntime) -> Result<(), Fail> {
-    tell_each(&rt, FAULTS_IN_THE_ORDER_OF_THEIR_ITEMS)
+    check_each(&rt, FAULTS_IN_THE_ORDER_OF_THEIR_ITEMS)
 }

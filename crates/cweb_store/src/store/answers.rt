@@ -1,15 +1,16 @@
 // What comes of the names and the parts once all of them are given.
 
 ghost use Rattle.std.specs.Prelude.{◌≡◌, ◌<◌, length, map, IfOk, OnOk};
-ghost use Rattle.cweb_store.specs.Answers.{AreAnswers};
-ghost use Rattle.cweb_store.specs.Calls.{too_many};
-ghost use Rattle.cweb_parts.specs.Links.{AreLinked};
+ghost use Rattle.cweb_store.specs.inner.Answers.{AreAnswers};
+ghost use Rattle.cweb_names.specs.surface.Names.{too_many};
+ghost use Rattle.cweb_store.specs.inner.Links.{AreLinked};
 ghost use Rattle.cweb_names.specs.Names.{names};
-ghost use Rattle.cweb_parts.specs.Runs.{runs_from};
+ghost use Rattle.cweb_store.specs.inner.PartRanges.{ranges_from};
 
 use crate::faults::name_faults;
+use crate::parts::closed::ClosedParts;
+use crate::parts::links::Links;
 use cweb_names::{NameFault, NameId, NameKind, NameTable};
-use cweb_parts::{ClosedParts, Links};
 use indexmap::IndexSet;
 use std::alloc::{AllocError, Global};
 
@@ -17,7 +18,7 @@ use std::alloc::{AllocError, Global};
 /// parts of each.
 #[derive(Drop)]
 pub(crate) struct Answers {
-    pub standings: Vec<Result<NameId, NameKind>>,
+    pub resolutions: Vec<Result<NameId, NameKind>>,
     pub files: IndexSet<NameId>,
     pub faults: Vec<NameFault>,
     pub firsts: Vec<u32>,
@@ -29,20 +30,20 @@ impl Answers {
     /// The answers of a web's names and parts.
     pub fn of(alloc: Global, table: &NameTable, parts: &ClosedParts) -> Result<Answers, AllocError>
         ensures answers { IfOk result (λ all. AreAnswers table.now parts.now
-            all.standings.items all.files.keys all.faults.items all.has_defs_code) }
-        ensures linked { IfOk result (λ all. AreLinked all.standings.items
-            (runs_from 0 parts.now) all.links.skips.items all.links.heads) }
+            all.resolutions.items all.files.keys all.faults.items all.has_defs_code) }
+        ensures linked { IfOk result (λ all. AreLinked all.resolutions.items
+            (ranges_from 0 parts.now) all.links.skips.items all.links.heads) }
         ensures firsts { IfOk result
             (λ all. all.firsts.items ≡ map (λ n. n.first) (names table.now)) }
         ensures few { OnOk result (length (names table.now) < too_many) }
     {
-        let standings = table.standings()?;
-        let files = table.files(standings.as_slice())?;
-        let faults = name_faults(alloc, table, parts, standings.as_slice(), &files)?;
+        let resolutions = table.resolutions()?;
+        let files = table.files(resolutions.as_slice())?;
+        let faults = name_faults(alloc, table, parts, resolutions.as_slice(), &files)?;
         let firsts = table.names().firsts()?;
-        let links = Links::new(alloc, parts.runs(), standings.as_slice(), firsts.len())?;
+        let links = Links::new(alloc, parts.ranges(), resolutions.as_slice(), firsts.len())?;
         Ok(Answers {
-            standings,
+            resolutions,
             files,
             faults,
             firsts,

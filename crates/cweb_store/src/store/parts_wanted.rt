@@ -2,22 +2,23 @@
 
 ghost use Rattle.std.specs.Prelude.{◌≡◌, ◌<◌, ◌≤◌, ◌↔◌, length, IsTrue, All};
 ghost use Rattle.cweb_names.specs.Names as spec;
-ghost use Rattle.cweb_parts.specs.Parts.{all_tokens, is_macro, is_of, is_unnamed, joined, numbers_where, tokens_at};
+ghost use Rattle.cweb_store.specs.Parts.{all_tokens, is_macro, is_of, is_unnamed, joined_where};
+ghost use Rattle.cweb_store.specs.surface.Parts.{numbers_where, tokens_at};
 ghost use Rattle.cweb_store.specs.Faults.{has_part};
-ghost use Rattle.cweb_store.specs.Calls.{too_many};
-ghost use Rattle.cweb_parts.specs.Runs.{runs_from};
-ghost use Rattle.cweb_parts.specs.Wanted.{wanted_in};
+ghost use Rattle.cweb_names.specs.surface.Names.{too_many};
+ghost use Rattle.cweb_store.specs.inner.PartRanges.{ranges_from};
+ghost use Rattle.cweb_store.specs.inner.Wanted.{wanted_in};
 
+use crate::parts::iter::{Parts, Wanted};
 use crate::store::Store;
 use cweb_names::NameId;
-use cweb_parts::{Parts, Wanted};
 
 impl Store {
     /// The unnamed parts, which are the program.
     pub fn unnamed(&self) -> Parts<'_>
         ensures numbers { result ≡ numbers_where is_unnamed self.now.parts }
         ensures text { tokens_at (all_tokens self.now.parts) result
-            ≡ joined is_unnamed self.now.parts }
+            ≡ joined_where is_unnamed self.now.parts }
         ensures ordered { All (λ p. p.first ≤ p.after) result }
         ensures within { All (λ p. p.after ≤ length (all_tokens self.now.parts)) result }
     {
@@ -27,10 +28,10 @@ impl Store {
     /// The parts of a name. There is one exactly where the name has a part.
     pub fn parts(&self, name: NameId) -> Parts<'_>
         ensures numbers { result
-            ≡ numbers_where (is_of (spec.standings self.now.occurrences) name) self.now.parts }
+            ≡ numbers_where (is_of (spec.resolutions self.now.occurrences) name) self.now.parts }
         ensures text { tokens_at (all_tokens self.now.parts) result
-            ≡ joined (is_of (spec.standings self.now.occurrences) name) self.now.parts }
-        ensures some { IsTrue (has_part (spec.standings self.now.occurrences) self.now.parts name)
+            ≡ joined_where (is_of (spec.resolutions self.now.occurrences) name) self.now.parts }
+        ensures some { IsTrue (has_part (spec.resolutions self.now.occurrences) self.now.parts name)
             ↔ 0 < length result }
         ensures ordered { All (λ p. p.first ≤ p.after) result }
         ensures within { All (λ p. p.after ≤ length (all_tokens self.now.parts)) result }
@@ -42,7 +43,7 @@ impl Store {
     pub fn macros(&self) -> Parts<'_>
         ensures numbers { result ≡ numbers_where is_macro self.now.parts }
         ensures text { tokens_at (all_tokens self.now.parts) result
-            ≡ joined is_macro self.now.parts }
+            ≡ joined_where is_macro self.now.parts }
         ensures ordered { All (λ p. p.first ≤ p.after) result }
         ensures within { All (λ p. p.after ≤ length (all_tokens self.now.parts)) result }
         ensures few { length result < too_many }
@@ -53,10 +54,11 @@ impl Store {
     // The parts that are wanted.
     fn wanted(&self, wanted: Wanted) -> Parts<'_>
         ensures value { result
-            ≡ wanted_in (spec.standings self.now.occurrences) wanted (runs_from 0 self.now.parts) }
+            ≡ wanted_in (spec.resolutions self.now.occurrences) wanted
+            (ranges_from 0 self.now.parts) }
         ensures few { length result < too_many }
     {
-        let skip = self.runs.len() as u32 - self.links.heads.get(wanted);
-        Parts::new(self.runs.as_slice(), self.links.skips.as_slice(), skip)
+        let skip = self.ranges.len() as u32 - self.links.heads.get(wanted);
+        Parts::new(self.ranges.as_slice(), self.links.skips.as_slice(), skip)
     }
 }

@@ -2,20 +2,20 @@
 use super::*;
 
 // The store of each row tells what stands beside it.
-fn count_each(rt: &impl Abort, alloc: Global, rows: &[(&str, &str)]) -> Result<(), Fail> {
-    for (row, text) in rows {
-        counts(rt, alloc, *row, *text)?;
+fn count_each(rt: &impl Abort, alloc: Global, examples: &[(&str, &str)]) -> Result<(), Fail> {
+    for (example, text) in examples {
+        counts(rt, alloc, *example, *text)?;
     }
     Ok(())
 }
 
 #[test]
 fn defs_in_a_part_of_the_program(rt: HostRuntime) -> Result<(), Fail> {
-    const ROWS: &[(&str, &str)] = &[
+    const EXAMPLES: &[(&str, &str)] = &[
         ("macro; defs", "tokens 1; bytes 0"),
         ("program; defs", "tokens 1; bytes 0; defs"),
     ];
-    count_each(&rt, rt.alloc(), ROWS)
+    count_each(&rt, rt.alloc(), EXAMPLES)
 }
 
 #[test]
@@ -33,16 +33,16 @@ fn later_replacements_win(rt: HostRuntime) -> Result<(), Fail> {
 struct ReplacedOften;
 
 impl Case for ReplacedOften {
-    fn fill<A: Abort>(&self, rt: &A, row: &mut Row) -> Result<(), AllocError> {
+    fn fill<A: Abort>(&self, rt: &A, example: &mut ExampleBuilder) -> Result<(), AllocError> {
         for _ in 0..39 {
-            row.make_all(rt, "byte 128 a; byte 254 b; byte 255 c")?;
+            example.make_all(rt, "byte 128 a; byte 254 b; byte 255 c")?;
         }
-        row.make_all(rt, "byte 255 g; byte 254 f; byte 128 de")
+        example.make_all(rt, "byte 255 g; byte 254 f; byte 128 de")
     }
 
     fn look<A: Abort>(&self, rt: &A, store: &Store) {
         let text = "tokens 0; bytes 121; byte 128 de; byte 254 f; byte 255 g";
-        counts_store(rt, store, text);
+        shows_counts(rt, store, text);
     }
 }
 
@@ -53,8 +53,8 @@ fn many_replacements_of_a_byte(rt: HostRuntime) -> Result<(), Fail> {
 
 // An equal Word or Punct is kept once; each other text as often as it is given.
 #[test]
-fn bytes_of_texts(rt: HostRuntime) -> Result<(), Fail> {
-    const ROWS: &[(&str, &str)] = &[
+fn bytes_of_strings(rt: HostRuntime) -> Result<(), Fail> {
+    const EXAMPLES: &[(&str, &str)] = &[
         ("program; word foo; word foo; word foo", "tokens 3; bytes 3"),
         (
             "program; word foo; word bar; sign +; word foo; close; macro; word bar; word ba; word foo",
@@ -86,7 +86,7 @@ fn bytes_of_texts(rt: HostRuntime) -> Result<(), Fail> {
             "tokens 1; bytes 5; byte 200 cd",
         ),
     ];
-    count_each(&rt, rt.alloc(), ROWS)
+    count_each(&rt, rt.alloc(), EXAMPLES)
 }
 
 // A part of its own for each of 200 uses of a name.
@@ -94,16 +94,16 @@ fn bytes_of_texts(rt: HostRuntime) -> Result<(), Fail> {
 struct ManyParts;
 
 impl Case for ManyParts {
-    fn fill<A: Abort>(&self, rt: &A, row: &mut Row) -> Result<(), AllocError> {
-        row.make_all(rt, "full A")?;
+    fn fill<A: Abort>(&self, rt: &A, example: &mut ExampleBuilder) -> Result<(), AllocError> {
+        example.make_all(rt, "full A")?;
         for _ in 0..200 {
-            row.make_all(rt, "part 0; word foo; close")?;
+            example.make_all(rt, "part 0; word foo; close")?;
         }
         Ok(())
     }
 
     fn look<A: Abort>(&self, rt: &A, store: &Store) {
-        counts_store(rt, store, "tokens 200; bytes 4");
+        shows_counts(rt, store, "tokens 200; bytes 4");
         has_parts(rt, store, 200);
     }
 }

@@ -36,7 +36,7 @@ fn listed_again(alloc: Global) -> Result<Store, AllocError> {
 #[test]
 fn a_list_of_calls(rt: HostRuntime) -> Result<(), Fail> {
     let store = listed_again(rt.alloc())?;
-    tells_store(&rt, &store, "A: foo; program; macros; files 0; faults");
-    counts_store(&rt, &store, "tokens 1; bytes 6; byte 200 cd");
+    shows_names_and_parts(&rt, &store, "A: foo; program; macros; files 0; faults");
+    shows_counts(&rt, &store, "tokens 1; bytes 6; byte 200 cd");
     Ok(())
 }

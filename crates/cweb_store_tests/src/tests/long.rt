@@ -5,11 +5,15 @@ use super::*;
 const LONGEST: usize = 65_537;
 
 // A word and a literal of each of four lengths.
-fn push_long(rt: &impl Abort, row: &mut Row, letters: &[u8]) -> Result<(), AllocError> {
+fn push_long(
+    rt: &impl Abort,
+    example: &mut ExampleBuilder,
+    letters: &[u8],
+) -> Result<(), AllocError> {
     for less in 0..4 {
         if let Some(text) = letters.get(less..) {
-            row.push(rt, Token::Word(text))?;
-            row.push(rt, Token::Literal(text))?;
+            example.push(rt, Token::Word(text))?;
+            example.push(rt, Token::Literal(text))?;
         }
     }
     Ok(())
@@ -20,16 +24,16 @@ fn push_long(rt: &impl Abort, row: &mut Row, letters: &[u8]) -> Result<(), Alloc
 struct Long<'a>(&'a [u8]);
 
 impl Case for Long<'_> {
-    fn fill<A: Abort>(&self, rt: &A, row: &mut Row) -> Result<(), AllocError> {
-        row.make_all(rt, "program")?;
+    fn fill<A: Abort>(&self, rt: &A, example: &mut ExampleBuilder) -> Result<(), AllocError> {
+        example.make_all(rt, "program")?;
         for _ in 0..2 {
-            push_long(rt, row, self.0)?;
+            push_long(rt, example, self.0)?;
         }
         Ok(())
     }
 
     fn look<A: Abort>(&self, rt: &A, store: &Store) {
-        has_long_texts(rt, store, self.0);
+        has_long_strings(rt, store, self.0);
     }
 }
 
@@ -52,7 +56,7 @@ fn longest(alloc: Global) -> Result<Vec<u8>, AllocError> {
 }
 
 // The store has each text as often as it is kept, and the tokens in their order.
-fn has_long_texts(rt: &impl Abort, store: &Store, letters: &[u8]) {
+fn has_long_strings(rt: &impl Abort, store: &Store, letters: &[u8]) {
     holds(
         rt,
         store.text_bytes() == 3 * (65_534 + 65_535 + 65_536 + 65_537),
@@ -64,7 +68,7 @@ fn has_long_texts(rt: &impl Abort, store: &Store, letters: &[u8]) {
 }
 
 #[test]
-fn texts_of_about_65536_bytes(rt: HostRuntime) -> Result<(), Fail> {
+fn strings_of_about_65536_bytes(rt: HostRuntime) -> Result<(), Fail> {
     let letters = longest(rt.alloc())?;
     check(&rt, rt.alloc(), &Long(letters.as_slice()))
 }

@@ -2,20 +2,28 @@
 use super::*;
 
 // What three occurrences stand for.
-pub fn stand_for(rt: &impl Abort, store: &Store, text: &str) {
+pub fn shows_resolutions(rt: &impl Abort, store: &Store, text: &str) {
     let mut expected = Expected::new(text);
-    expected.tell_standings(store);
+    expected.compare_resolutions(store);
     is_met(rt, &expected, text);
 }
 
-fn stands(rt: &impl Abort, alloc: Global, row: &str, text: &str) -> Result<(), Fail> {
-    let asked = Asked::Standings;
-    check(rt, alloc, &Telling { row, asked, text })
+fn example_resolves(rt: &impl Abort, alloc: Global, example: &str, text: &str) -> Result<(), Fail> {
+    let aspect = Aspect::Standings;
+    check(
+        rt,
+        alloc,
+        &ShownStore {
+            example,
+            aspect,
+            text,
+        },
+    )
 }
 
 #[test]
 fn abbreviations(rt: HostRuntime) -> Result<(), Fail> {
-    const ROWS: &[(&str, &str)] = &[
+    const EXAMPLES: &[(&str, &str)] = &[
         (
             "prefix Glob; full Global variables; full Global variables",
             "000",
@@ -30,15 +38,15 @@ fn abbreviations(rt: HostRuntime) -> Result<(), Fail> {
         ),
         ("prefix Glob; prefix Glob; prefix Glob", "---"),
     ];
-    for (row, text) in ROWS {
-        stands(&rt, rt.alloc(), *row, *text)?;
+    for (example, text) in EXAMPLES {
+        example_resolves(&rt, rt.alloc(), *example, *text)?;
     }
     Ok(())
 }
 
 #[test]
 fn an_abbreviation_of_two_names(rt: HostRuntime) -> Result<(), Fail> {
-    tells(
+    example_shows(
         &rt,
         rt.alloc(),
         "prefix Glob; full Global variables; full Global types",
@@ -49,7 +57,7 @@ fn an_abbreviation_of_two_names(rt: HostRuntime) -> Result<(), Fail> {
 // The part belongs to no name, and still its tokens use one.
 #[test]
 fn an_abbreviation_of_no_name(rt: HostRuntime) -> Result<(), Fail> {
-    tells(
+    example_shows(
         &rt,
         rt.alloc(),
         "prefix Zz; part 0; full B; name 1; close",
@@ -59,7 +67,7 @@ fn an_abbreviation_of_no_name(rt: HostRuntime) -> Result<(), Fail> {
 
 #[test]
 fn a_prefix_of_another_name(rt: HostRuntime) -> Result<(), Fail> {
-    tells(
+    example_shows(
         &rt,
         rt.alloc(),
         "full ab; part 0; word x; close; full abc; part 1; word y; close",
@@ -69,7 +77,7 @@ fn a_prefix_of_another_name(rt: HostRuntime) -> Result<(), Fail> {
 
 #[test]
 fn an_empty_name_and_an_empty_prefix(rt: HostRuntime) -> Result<(), Fail> {
-    tells(
+    example_shows(
         &rt,
         rt.alloc(),
         "full ; part 0; word ; close; prefix ; part 1; word y; close",
@@ -79,7 +87,7 @@ fn an_empty_name_and_an_empty_prefix(rt: HostRuntime) -> Result<(), Fail> {
 
 #[test]
 fn files_and_what_they_lack(rt: HostRuntime) -> Result<(), Fail> {
-    tells(
+    example_shows(
         &rt,
         rt.alloc(),
         "full a.h; file b.h; file-prefix a; file b.h; part 2; word a; close",

@@ -4,7 +4,7 @@ use super::*;
 // Two parts of a name with one of the program between them. The last part is still open.
 #[test]
 fn parts_join_in_order(rt: HostRuntime) -> Result<(), Fail> {
-    tells(
+    example_shows(
         &rt,
         rt.alloc(),
         "full A; part 0; word one; word two; close; program; word program; close; full A; part 1; word three",
@@ -14,7 +14,7 @@ fn parts_join_in_order(rt: HostRuntime) -> Result<(), Fail> {
 
 #[test]
 fn every_kind_of_token(rt: HostRuntime) -> Result<(), Fail> {
-    tells(
+    example_shows(
         &rt,
         rt.alloc(),
         "full A; program; word word; number 1; literal c; verbatim v; sign +; blank; newline; join; name 0; head 3; tail 4; mark 17; defs; close",
@@ -24,7 +24,7 @@ fn every_kind_of_token(rt: HostRuntime) -> Result<(), Fail> {
 
 #[test]
 fn dropped_layout_of_a_part(rt: HostRuntime) -> Result<(), Fail> {
-    tells(
+    example_shows(
         &rt,
         rt.alloc(),
         "program; blank; word x; blank; newline; mark 7; drop; word y; newline; close; program; newline; blank; drop; close",
@@ -34,8 +34,8 @@ fn dropped_layout_of_a_part(rt: HostRuntime) -> Result<(), Fail> {
 
 // A Mark has its own place, also behind some that were dropped and in the next part.
 #[test]
-fn places_behind_dropped_marks(rt: HostRuntime) -> Result<(), Fail> {
-    tells(
+fn places_after_dropped_marks(rt: HostRuntime) -> Result<(), Fail> {
+    example_shows(
         &rt,
         rt.alloc(),
         "program; mark 3; word x; mark 4; newline; mark 5; drop; mark 6; word y; mark 7; drop; word z; mark 8; close; program; mark 9; drop; mark 10; blank; mark 11; close",
@@ -46,7 +46,7 @@ fn places_behind_dropped_marks(rt: HostRuntime) -> Result<(), Fail> {
 // Of a macro the first two tokens stay.
 #[test]
 fn dropped_layout_of_macros(rt: HostRuntime) -> Result<(), Fail> {
-    tells(
+    example_shows(
         &rt,
         rt.alloc(),
         "macro; word a; drop; close; macro; word b; blank; drop; word x; close; macro; word c; blank; blank; drop; word x; close",
@@ -57,7 +57,7 @@ fn dropped_layout_of_macros(rt: HostRuntime) -> Result<(), Fail> {
 // A macro loses its last Newlines, and then one Blank.
 #[test]
 fn ends_of_macros(rt: HostRuntime) -> Result<(), Fail> {
-    tells(
+    example_shows(
         &rt,
         rt.alloc(),
         "macro; word a; blank; newline; newline; close; macro; word b; blank; blank; close; macro; word c; newline; blank; close",
@@ -68,19 +68,19 @@ fn ends_of_macros(rt: HostRuntime) -> Result<(), Fail> {
 // The first uses of these stretches.
 pub fn has_uses(rt: &impl Abort, store: &Store, text: &str) {
     let mut expected = Expected::new(text);
-    expected.tell_next_use(store, 0, 5);
-    expected.tell_next_use(store, 3, 5);
-    expected.tell_next_use(store, 0, 1);
-    expected.tell_next_use(store, 5, 6);
+    expected.compare_next_use(store, 0, 5);
+    expected.compare_next_use(store, 3, 5);
+    expected.compare_next_use(store, 0, 1);
+    expected.compare_next_use(store, 5, 6);
     is_met(rt, &expected, text);
 }
 
 // Of a part with two uses, of what stands behind the first of them and before it, and of a part without.
 #[test]
 fn first_uses(rt: HostRuntime) -> Result<(), Fail> {
-    const CASE: Telling = Telling {
-        row: "full A; program; word x; blank; name 0; blank; name 0; close; program; word y; close",
-        asked: Asked::Uses,
+    const CASE: ShownStore = ShownStore {
+        example: "full A; program; word x; blank; name 0; blank; name 0; close; program; word y; close",
+        aspect: Aspect::Uses,
         text: " 2 4 1 6",
     };
     check(&rt, rt.alloc(), &CASE)

@@ -37,12 +37,12 @@ struct PushedTwice {
 }
 
 impl Case for PushedTwice {
-    fn fill<A: Abort>(&self, rt: &A, row: &mut Row) -> Result<(), AllocError> {
-        row.make_all(rt, "program")?;
+    fn fill<A: Abort>(&self, rt: &A, example: &mut ExampleBuilder) -> Result<(), AllocError> {
+        example.make_all(rt, "program")?;
         for _ in 0..2 {
             for number in 0..self.count {
                 let word = digits(number);
-                row.push(rt, Token::Word(self.words.of(&word)))?;
+                example.push(rt, Token::Word(self.words.of(&word)))?;
             }
         }
         Ok(())
@@ -94,11 +94,11 @@ const LETTERS: &[u8; 40] = b"aaaaaaaaaaaaaaaaaaaaaaaaaaaaaaaaaaaaaaaa";
 struct EachLength;
 
 impl Case for EachLength {
-    fn fill<A: Abort>(&self, rt: &A, row: &mut Row) -> Result<(), AllocError> {
-        row.make_all(rt, "program")?;
+    fn fill<A: Abort>(&self, rt: &A, example: &mut ExampleBuilder) -> Result<(), AllocError> {
+        example.make_all(rt, "program")?;
         for _ in 0..2 {
             for len in 0..41 {
-                row.push(rt, Token::Word(&LETTERS.as_slice()[..len]))?;
+                example.push(rt, Token::Word(&LETTERS.as_slice()[..len]))?;
             }
         }
         Ok(())
@@ -139,10 +139,14 @@ fn marked(bytes: &mut [u8; LONGEST], len: usize, place: usize) -> &[u8] {
 }
 
 // The words of a length, each with another letter at each place.
-fn push_length(rt: &impl Abort, row: &mut Row, len: usize) -> Result<(), AllocError> {
+fn push_length(
+    rt: &impl Abort,
+    example: &mut ExampleBuilder,
+    len: usize,
+) -> Result<(), AllocError> {
     let mut bytes = [b'a'; LONGEST];
     for place in 0..len {
-        row.push(rt, Token::Word(marked(&mut bytes, len, place)))?;
+        example.push(rt, Token::Word(marked(&mut bytes, len, place)))?;
     }
     Ok(())
 }
@@ -152,11 +156,11 @@ fn push_length(rt: &impl Abort, row: &mut Row, len: usize) -> Result<(), AllocEr
 struct EachPlace;
 
 impl Case for EachPlace {
-    fn fill<A: Abort>(&self, rt: &A, row: &mut Row) -> Result<(), AllocError> {
-        row.make_all(rt, "program")?;
+    fn fill<A: Abort>(&self, rt: &A, example: &mut ExampleBuilder) -> Result<(), AllocError> {
+        example.make_all(rt, "program")?;
         for _ in 0..2 {
             for len in 1..=LONGEST {
-                push_length(rt, row, len)?;
+                push_length(rt, example, len)?;
             }
         }
         Ok(())

@@ -2,7 +2,7 @@
 
 ghost use Rattle.std.specs.Prelude.{◌≡◌, ◌≤◌, length, slice_index_or};
 ghost use Rattle.std.specs.Int.{w32, w64, from_le_bytes};
-ghost use Rattle.cweb_texts.specs.Keys.{key_of, home_of, mixed};
+ghost use Rattle.cweb_texts.specs.inner.Keys.{key_of, home_bucket_of, key_hash};
 
 /// The numbers that the first bytes of a word and its last ones make.
 #[derive(Clone, Copy)]
@@ -43,17 +43,17 @@ impl Key {
 }
 
 /// Where among the slots of a table the window of a key begins.
-pub fn home(key: Key, slots: usize) -> usize
-    ensures is { result ≡ home_of key slots }
+pub fn home_bucket(key: Key, slots: usize) -> usize
+    ensures is { result ≡ home_bucket_of key slots }
     ensures within { result ≤ slots }
 {
-    ((mixed(key) as u128 * slots as u128) >> 64) as usize
+    ((key_hash(key) as u128 * slots as u128) >> 64) as usize
 }
 
 // The two numbers of a key as one. All bits of it count in those that `home` looks at.
 #[inline(always)]
-fn mixed(key: Key) -> u64
-    ensures { result ≡ mixed key }
+fn key_hash(key: Key) -> u64
+    ensures { result ≡ key_hash key }
 {
     let both = key.first.wrapping_add(key.last.wrapping_mul(LAST_FACTOR));
     let product = both as u128 * BOTH_FACTOR as u128;

@@ -3,19 +3,21 @@
 ghost use Rattle.std.specs.Prelude.{◌≡◌, ◌<◌, true, false, length, replicate, slice_get, Some};
 ghost use Rattle.std.specs.Prelude.{IfOk, IfSome, MatchBool, MatchOption};
 ghost use Rattle.std.specs.List.{list_any};
-ghost use Rattle.cweb_texts.specs.Keys.{AreBytes, key_of};
-ghost use Rattle.cweb_texts.specs.Slots.{AllHold, Holds, IsFound, IsPlaced, IsWordPlaced};
-ghost use Rattle.cweb_texts.specs.Slots.{free_slot, is_alike, is_used, slot_is, window_of};
+ghost use Rattle.cweb_texts.specs.inner.Keys.{AreBytes, key_of};
+ghost use Rattle.cweb_texts.specs.inner.Slots.{SlotsDescribeStrings, DescribesString, FindsWordString};
+ghost use Rattle.cweb_texts.specs.inner.Slots.{FillsSlot, FillsWordSlot};
+ghost use Rattle.cweb_texts.specs.inner.Slots.{free_slot, slot_matches_key, is_occupied, slot_has_word};
+ghost use Rattle.cweb_texts.specs.inner.Slots.{probe_window};
 
-use crate::texts::PackedTexts;
-use crate::words::key::{Key, home};
+use crate::strings::StringList;
+use crate::words::key::{Key, home_bucket};
 use std::alloc::{AllocError, Global};
 
 // In how many slots a word may stand, from the home of its key on.
 const WINDOW: usize = 8;
 
 // A word of at most so many bytes is told by its key and its length.
-const TOLD: usize = 16;
+const KEY_BYTES: usize = 16;
 
 /// A word by the number of its text, with its key and its length. A slot whose length is 0 is free.
 #[derive(Clone, Copy)]
@@ -56,10 +58,10 @@ pub fn free_slots(alloc: Global, count: usize) -> Result<Vec<Slot>, AllocError>
 }
 
 /// The slots in which a word with a key may stand.
-pub fn window_of(slots: &[Slot], key: Key) -> &[Slot]
-    ensures { result.now ≡ window_of key slots.now }
+pub fn probe_window(slots: &[Slot], key: Key) -> &[Slot]
+    ensures { result.now ≡ probe_window key slots.now }
 {
-    let rest = &slots[home(key, slots.len())..];
+    let rest = &slots[home_bucket(key, slots.len())..];
     if rest.len() < WINDOW {
         rest
     } else {
@@ -70,30 +72,30 @@ pub fn window_of(slots: &[Slot], key: Key) -> &[Slot]
 /// The number of the text of a word, if it is told by its key and the first slot of its window has it: no text is looked at,
 /// and nothing is called.
 #[inline(always)]
-pub fn first_slot(texts: &PackedTexts, slots: &[Slot], word: &[u8]) -> Option<usize>
-    requires { AllHold texts.now slots.now }
+pub fn first_slot(strings: &StringList, slots: &[Slot], word: &[u8]) -> Option<usize>
+    requires { SlotsDescribeStrings strings.now slots.now }
     ensures { IfSome result (λ number.
-        IsFound texts.now (window_of (key_of word.now) slots.now) word.now number) }
+        FindsWordString strings.now (probe_window (key_of word.now) slots.now) word.now number) }
 {
-    if word.is_empty() || word.len() > TOLD {
+    if word.is_empty() || word.len() > KEY_BYTES {
         return None;
     }
     let key = Key::of(word);
-    match slots.get(home(key, slots.len())) {
-        Some(slot) if is_word(texts, *slot, key, word) => Some(slot.number as usize),
+    match slots.get(home_bucket(key, slots.len())) {
+        Some(slot) if slot_has_word(strings, *slot, key, word) => Some(slot.number as usize),
         _ => None,
     }
 }
 
 /// The number of the text of a word, if a slot of its window has it.
-pub fn find_slot(texts: &PackedTexts, window: &[Slot], key: Key, word: &[u8]) -> Option<usize>
-    requires hold { AllHold texts.now window.now }
+pub fn find_slot(strings: &StringList, window: &[Slot], key: Key, word: &[u8]) -> Option<usize>
+    requires hold { SlotsDescribeStrings strings.now window.now }
     requires key { key ≡ key_of word.now }
-    ensures { MatchOption result (list_any (slot_is texts.now word.now) window.now ≡ false)
-        (λ number. IsFound texts.now window.now word.now number) }
+    ensures { MatchOption result (list_any (slot_has_word strings.now word.now) window.now ≡ false)
+        (λ number. FindsWordString strings.now window.now word.now number) }
 {
     for slot in window {
-        if is_word(texts, *slot, key, word) {
+        if slot_has_word(strings, *slot, key, word) {
             return Some(slot.number as usize);
         }
     }
@@ -102,43 +104,43 @@ pub fn find_slot(texts: &PackedTexts, window: &[Slot], key: Key, word: &[u8]) ->
 
 // Whether a slot has a word.
 #[inline(always)]
-fn is_word(texts: &PackedTexts, slot: Slot, key: Key, word: &[u8]) -> bool
-    requires hold { is_used slot.len ≡ true → Holds texts.now slot }
+fn slot_has_word(strings: &StringList, slot: Slot, key: Key, word: &[u8]) -> bool
+    requires hold { is_occupied slot.len ≡ true → DescribesString strings.now slot }
     requires key { key ≡ key_of word.now }
-    ensures { result ≡ slot_is texts.now word.now slot }
+    ensures { result ≡ slot_has_word strings.now word.now slot }
 {
-    if !is_alike(slot, key, word.len()) {
+    if !slot_matches_key(slot, key, word.len()) {
         return false;
     }
-    let text = texts.text(slot.number as usize);
-    if word.len() <= TOLD {
-        know_bytes(word);
-        know_bytes(text);
+    let string = strings.string(slot.number as usize);
+    if word.len() <= KEY_BYTES {
+        establish_byte_range(word);
+        establish_byte_range(string);
         return true;
     }
-    word == text
+    word == string
 }
 
 /// Tells that a text has bytes, as a read of one does.
 #[inline(always)]
-pub fn know_bytes(text: &[u8])
-    ensures { AreBytes text.now }
+pub fn establish_byte_range(string: &[u8])
+    ensures { AreBytes string.now }
 {
-    if let [first, ..] = text {
+    if let [first, ..] = string {
         let _byte = *first;
     }
 }
 
 // Whether a slot has a word with a key and a length.
-fn is_alike(slot: Slot, key: Key, len: usize) -> bool
-    ensures { result ≡ is_alike slot key len }
+fn slot_matches_key(slot: Slot, key: Key, len: usize) -> bool
+    ensures { result ≡ slot_matches_key slot key len }
 {
     len != 0 && slot.len as usize == len && slot.key.first == key.first && slot.key.last == key.last
 }
 
 /// Puts a new word into a free slot of its window, and answers whether there was one, and its numbers fit.
 pub fn place_word(slots: &mut Vec<Slot>, key: Key, number: usize, len: usize) -> bool
-    ensures { MatchBool result (IsWordPlaced slots.old.items key number len slots.new.items)
+    ensures { MatchBool result (FillsWordSlot slots.old.items key number len slots.new.items)
         (slots.new.items ≡ slots.old.items) }
 {
     match Slot::new(key, number, len) {
@@ -149,15 +151,15 @@ pub fn place_word(slots: &mut Vec<Slot>, key: Key, number: usize, len: usize) ->
 
 /// Puts a word into a free slot of its window, and answers whether there was one.
 pub fn place(slots: &mut Vec<Slot>, slot: Slot) -> bool
-    ensures { MatchBool result (IsPlaced slots.old.items slot slots.new.items)
+    ensures { MatchBool result (FillsSlot slots.old.items slot slots.new.items)
         (slots.new.items ≡ slots.old.items) }
 {
-    let window = window_of(slots.as_slice(), slot.key);
+    let window = probe_window(slots.as_slice(), slot.key);
     let Some(i) = find_free(window) else {
         return false;
     };
-    let home = home(slot.key, slots.len());
-    slots[home + i] = slot;
+    let home_bucket = home_bucket(slot.key, slots.len());
+    slots[home_bucket + i] = slot;
     true
 }
 

@@ -1,14 +1,15 @@
 // A run of `ctangle` behind the start of its merge.
 ghost use Rattle.std.specs.Prelude.{◌≡◌, ◌<◌, ◌+◌, ◌^◌, None, length};
-ghost use Rattle.cweb_lines.specs.Whole.{so_far, stop_in};
-ghost use Rattle.cweb_scanner.specs.Seen.{seen};
-ghost use Rattle.cweb_scan.specs.Scan.{IsBelow};
-ghost use Rattle.cweb_log.specs.Options.{options_of};
-ghost use Rattle.cweb_log.specs.Seen.{seen_bins, seen_run, seen_stream};
-ghost use Rattle.cweb_tools.specs.Begun.{EndsBegun};
-ghost use Rattle.cweb_tools.specs.Does.{ClosesInBoth};
+ghost use Rattle.cweb_lines.specs.surface.MergerCalls.{so_far, stop_in};
+ghost use Rattle.cweb_scan.specs.surface.ScannedModel.{scanned_model};
+ghost use Rattle.cweb_scan.specs.surface.Scan.{IsScanBelow};
+ghost use Rattle.cweb_log.specs.surface.Options.{options_of};
+ghost use Rattle.cweb_log.specs.DeviceModels.{bins_model, tangle_devices, stream_model};
+ghost use Rattle.cweb_tools.specs.inner.Begun.{EndsBegun};
+ghost use Rattle.cweb_tools.specs.inner.Does.{ClosesInBoth};
 ghost use Rattle.cweb_tools.specs.Script.{web_acts};
-ghost use Rattle.cweb_tools.specs.Tangle.{web_of, web_status};
+ghost use Rattle.cweb_tools.specs.Tangle.{web_of};
+ghost use Rattle.cweb_tools.specs.inner.Tangle.{web_status};
 
 use crate::subjects::subject;
 use crate::tangle::tangle_web;
@@ -33,8 +34,8 @@ pub fn tangle_begun<S: Shelf, B: Bins, L: Sink>(
     requires bins_count { B.failed bins.old + 1 < 2 ^ 64 }
     requires log_count { L.failed log.old + 1 < 2 ^ 64 }
     ensures { EndsBegun S.Shelf (options_of options.now) shelf.old merger.old
-        (seen_bins B.Sink bins.old) (seen_stream L.Sink log.old)
-        (seen_run S.Shelf B.Sink L.Sink shelf.new bins.new log.new) result }
+        (bins_model B.Sink bins.old) (stream_model L.Sink log.old)
+        (tangle_devices S.Shelf B.Sink L.Sink shelf.new bins.new log.new) result }
 {
     match scan(alloc, merger, shelf) {
         Ok(scanned) => tangle_scanned(alloc, options, merger, &scanned, bins, log),
@@ -51,15 +52,15 @@ fn tangle_scanned<S: Shelf, B: Bins, L: Sink>(
     bins: &mut B,
     log: &mut L,
 ) -> u8
-    requires below { IsBelow (length (so_far merger.now).names) (seen scanned.now) }
+    requires below { IsScanBelow (length (so_far merger.now).names) (scanned_model scanned.now) }
     requires bins_count { B.failed bins.old + 1 < 2 ^ 64 }
     requires log_count { L.failed log.old + 1 < 2 ^ 64 }
     ensures { let asked = options_of options.now in
         let told = so_far merger.now in
-        let web = web_of told.names told.faults (seen scanned.now) asked.names.main in
+        let web = web_of told.names told.faults (scanned_model scanned.now) asked.names.main in
         ClosesInBoth (web_acts asked.shown web) (web_status web)
-        (seen_bins B.Sink bins.old) (seen_bins B.Sink bins.new)
-        (seen_stream L.Sink log.old) (seen_stream L.Sink log.new) result }
+        (bins_model B.Sink bins.old) (bins_model B.Sink bins.new)
+        (stream_model L.Sink log.old) (stream_model L.Sink log.new) result }
 {
     let web = Web {
         names: merger.names(),

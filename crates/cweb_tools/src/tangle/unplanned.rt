@@ -1,16 +1,17 @@
 // How a run of `ctangle` ends whose outputs can't be planned.
 ghost use Rattle.std.specs.Prelude.{◌≡◌, ◌<◌, ◌+◌, ◌^◌, ◌∷◌, IfSome};
-ghost use Rattle.cweb_scanner.specs.Seen.{seen};
+ghost use Rattle.cweb_scan.specs.surface.ScannedModel.{scanned_model};
 ghost use Rattle.cweb_out.specs.Outputs.{planned};
-ghost use Rattle.cweb_out.specs.Planning.{IsDue};
+ghost use Rattle.cweb_out.specs.surface.Planning.{IsExpectedFault};
 ghost use Rattle.cweb_log.specs.Items.{fault_count};
-ghost use Rattle.cweb_log.specs.Seen.{seen_stream};
-ghost use Rattle.cweb_log.specs.WebItems.{refusal_text};
+ghost use Rattle.cweb_log.specs.DeviceModels.{stream_model};
+ghost use Rattle.cweb_log.specs.WebItems.{refusal_message};
 ghost use Rattle.cweb_tools.specs.Acts.{plans};
-ghost use Rattle.cweb_tools.specs.Does.{ClosesInLog};
+ghost use Rattle.cweb_tools.specs.inner.Does.{ClosesInLog};
 ghost use Rattle.cweb_tools.specs.Script.{planned_acts, refused};
-ghost use Rattle.cweb_tools.specs.Tangle.{numbers_of, planning, status_by};
-ghost use Rattle.cweb_tools.specs.Web.{faults_of, files_of, refusal_in};
+ghost use Rattle.cweb_tools.specs.Tangle.{numbers_of, planning};
+ghost use Rattle.cweb_tools.specs.inner.Tangle.{status_by};
+ghost use Rattle.cweb_tools.specs.inner.Web.{faults_of, files_of, refusal_in};
 
 use crate::saying::say_end;
 use crate::web::{Numbers, Web};
@@ -26,21 +27,21 @@ pub fn tangle_unplanned<L: Sink>(
     fault: PlanFault,
     log: &mut L,
 ) -> u8
-    requires due { IsDue (planned web.scanned.now.store main.now) fault }
+    requires due { IsExpectedFault (planned web.scanned.now.store main.now) fault }
     requires count { L.failed log.old + 1 < 2 ^ 64 }
     ensures closes { ClosesInLog
         (plans ∷ planned_acts shown
-        (numbers_of (seen web.entry.scanned.now)) (fault_count (faults_of web.entry))
+        (numbers_of (scanned_model web.entry.scanned.now)) (fault_count (faults_of web.entry))
         (planning web.entry.scanned.now.store (files_of web.entry) main.now))
         (status_by (fault_count (faults_of web.entry))
         (planning web.entry.scanned.now.store (files_of web.entry) main.now))
-        (seen_stream L.Sink log.old) (seen_stream L.Sink log.new) result }
+        (stream_model L.Sink log.old) (stream_model L.Sink log.new) result }
     // What isn't want of memory is told as what it is.
     ensures told { IfSome (refusal_in fault) (λ refusal. ClosesInLog
         (planned_acts shown
-        (numbers_of (seen web.entry.scanned.now)) (fault_count (faults_of web.entry))
-        (refused (refusal_text web.entry.scanned.now.store main.now refusal)))
-        1 (seen_stream L.Sink log.old) (seen_stream L.Sink log.new) result) }
+        (numbers_of (scanned_model web.entry.scanned.now)) (fault_count (faults_of web.entry))
+        (refused (refusal_message web.entry.scanned.now.store main.now refusal)))
+        1 (stream_model L.Sink log.old) (stream_model L.Sink log.new) result) }
 {
     if let PlanFault::Memory = fault {
         return log_stop(log, Stop::Memory, "");
@@ -59,9 +60,9 @@ fn tangle_refused<L: Sink>(
     requires { L.failed log.old + 1 < 2 ^ 64 }
     ensures { IfSome (refusal_in fault) (λ refusal. ClosesInLog
         (planned_acts shown
-        (numbers_of (seen web.entry.scanned.now)) (fault_count (faults_of web.entry))
-        (refused (refusal_text web.entry.scanned.now.store main.now refusal)))
-        1 (seen_stream L.Sink log.old) (seen_stream L.Sink log.new) result) }
+        (numbers_of (scanned_model web.entry.scanned.now)) (fault_count (faults_of web.entry))
+        (refused (refusal_message web.entry.scanned.now.store main.now refusal)))
+        1 (stream_model L.Sink log.old) (stream_model L.Sink log.new) result) }
 {
     if let Err(_) = write_plan_fault(log, web.store(), &fault, main) {
         return 1;

@@ -1,6 +1,6 @@
 // Runs with a change file.
 use super::merging::{
-    Run, Texts, check_log_fails, check_read, check_refused, check_run, check_runs,
+    Run, Sources, check_log_fails, check_read, check_refused, check_run, check_runs,
 };
 use super::wanted::holds;
 use std::process::Abort;
@@ -10,7 +10,7 @@ type Change<'a> = (&'a str, &'a str, &'a str, &'a str, &'a str);
 
 /// One run over `m.w`, `c.ch` and `inc.w`, and what it has to leave.
 fn check_change(rt: &(impl Abort + AllocGlobal), change: &Change) {
-    let texts: Texts = &[
+    let texts: Sources = &[
         ("m.w", change.0.as_bytes()),
         ("c.ch", change.1.as_bytes()),
         ("inc.w", change.2.as_bytes()),
@@ -104,7 +104,7 @@ fn faults_of_change_files(rt: HostRuntime) {
 
 #[test]
 fn files_that_are_not_there(rt: HostRuntime) {
-    const HERE: Texts = &[("m.w", b"x\n"), ("n.web", b"x\n"), ("c.x.ch", b"")];
+    const HERE: Sources = &[("m.w", b"x\n"), ("n.web", b"x\n"), ("c.x.ch", b"")];
     const NO_CHANGE: &str = "! Cannot open change file gone.ch\n";
     const RUNS: &[Run] = &[
         (&["m", "gone"], None, HERE, "", NO_CHANGE, 1),
@@ -151,7 +151,7 @@ fn a_line_of_a_change_file_too_long(rt: HostRuntime) {
     check_change(&rt, &("A\n", change.as_str(), "", "", stop));
 }
 
-const TEXTS: Texts = &[
+const SOURCES: Sources = &[
     ("m.w", b"one\ntwo\nthree\n@i gone\n"),
     ("c.ch", b"@x\ntwo\n@y\n2\n@z\n@x\nfour\n@y\n@z\n"),
 ];
@@ -160,7 +160,7 @@ const TEXTS: Texts = &[
 const RUN: Run = (
     &["m", "c"],
     None,
-    TEXTS,
+    SOURCES,
     "one\n2\nthree\n",
     "m.w:4: ! Cannot open include file\nc.ch:6: ! Change entry did not match\n",
     1,
@@ -190,7 +190,7 @@ fn the_log_fails_without_a_change_file(rt: HostRuntime) {
     const GONE: Run = (
         &["m", "gone"],
         None,
-        TEXTS,
+        SOURCES,
         "",
         "! Cannot open change file gone.ch\n",
         1,

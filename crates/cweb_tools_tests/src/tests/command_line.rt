@@ -1,22 +1,22 @@
 // What the words of a command line ask for.
 use super::merging::{Run, check_run};
-use super::wanted::{same_name, same_text};
+use super::wanted::{same_name, same_string};
 use cweb_tools::MergeWords;
 use std::process::Abort;
 
 /// Words, and the names that they stand for: the web's first and second, the change file's.
-type Row<'a> = (&'a [&'a str], &'a str, Option<&'a str>, Option<&'a str>);
+type Example<'a> = (&'a [&'a str], &'a str, Option<&'a str>, Option<&'a str>);
 
-fn check_words(rt: &(impl Abort + AllocGlobal), row: &Row) {
+fn check_words(rt: &(impl Abort + AllocGlobal), row: &Example) {
     let read = MergeWords::read(rt.alloc(), row.0).expect(rt, "words");
-    same_text(rt, read.web.as_str(), row.1);
+    same_string(rt, read.web.as_str(), row.1);
     same_name(rt, read.second(), row.2);
     same_name(rt, read.change(), row.3);
 }
 
 #[test]
 fn names_of_words(rt: HostRuntime) {
-    const ROWS: &[Row] = &[
+    const EXAMPLES: &[Example] = &[
         (&["m"], "m.w", Some("m.web"), None),
         (&["m.w"], "m.w", None, None),
         (&["m", "c"], "m.w", Some("m.web"), Some("c.ch")),
@@ -30,7 +30,7 @@ fn names_of_words(rt: HostRuntime) {
         (&["+", "+"], "+.w", Some("+.web"), Some("+.ch")),
         (&["m.w", "c-+"], "m.w", None, Some("c-+.ch")),
     ];
-    for row in ROWS {
+    for row in EXAMPLES {
         check_words(&rt, row);
     }
 }
@@ -55,10 +55,10 @@ fn words_that_are_refused(rt: HostRuntime) {
         &["m", "\u{7f}"],
         &["m", "c", "x"],
     ];
-    const TEXTS: &[(&str, &[u8])] = &[("m.w", b"x\n"), ("c.ch", b""), ("-.w", b"x\n")];
+    const SOURCES: &[(&str, &[u8])] = &[("m.w", b"x\n"), ("c.ch", b""), ("-.w", b"x\n")];
     const USAGE: &str = "! Usage: wmerge webfile[.w] [{changefile[.ch]|-}]\n";
     for words in REFUSED {
-        check_run(&rt, &(*words, None, TEXTS, "", USAGE, 1));
+        check_run(&rt, &(*words, None, SOURCES, "", USAGE, 1));
     }
 }
 
@@ -66,7 +66,7 @@ fn words_that_are_refused(rt: HostRuntime) {
 #[test]
 fn a_dash_opens_nothing(rt: HostRuntime) {
     const CHANGE: &[u8] = b"@x\nA\n@y\n@z\n";
-    const TEXTS: &[(&str, &[u8])] = &[("m.w", b"A\n"), ("-", CHANGE), ("-.ch", CHANGE)];
-    const RUN: Run = (&["m", "-"], None, TEXTS, "A\n", "", 0);
+    const SOURCES: &[(&str, &[u8])] = &[("m.w", b"A\n"), ("-", CHANGE), ("-.ch", CHANGE)];
+    const RUN: Run = (&["m", "-"], None, SOURCES, "A\n", "", 0);
     check_run(&rt, &RUN);
 }

@@ -1,8 +1,8 @@
 // Runs over devices that fail, each call in turn: of the runs one after the other, those that leave what the run before left are
 // told once.
+use super::expected::Expected;
 use super::failing::FailingBins;
 use super::tangling::Tangle;
-use super::told::Expected;
 use super::wanted::holds;
 use cweb_out::Bins;
 use std::alloc::{AllocError, Global};
@@ -10,7 +10,7 @@ use std::process::Abort;
 use std::slice;
 
 /// Two outputs, and a fault; and a change file without entries.
-const TEXTS: &[(&str, &[u8])] = &[("f.w", b"@ @d M 1\n@(a.h@>=\nint m=\"x\n"), ("i.ch", b"")];
+const SOURCES: &[(&str, &[u8])] = &[("f.w", b"@ @d M 1\n@(a.h@>=\nint m=\"x\n"), ("i.ch", b"")];
 
 /// More calls than a run makes.
 const CALLS: u64 = 400;
@@ -53,7 +53,7 @@ fn put_old_file(bins: &mut FailingBins) {
 
 /// What a run leaves whose device fails behind so many good calls.
 fn left(alloc: Global, words: &[&str], device: Device, good: u64) -> Result<Tangle, AllocError> {
-    let mut run = Tangle::over(alloc, TEXTS)?;
+    let mut run = Tangle::over(alloc, SOURCES)?;
     weaken(&mut run, device, good);
     run.run(alloc, words);
     Ok(run)
@@ -63,9 +63,9 @@ fn left(alloc: Global, words: &[&str], device: Device, good: u64) -> Result<Tang
 fn has_left(run: &Tangle, device: Device, text: &str) -> bool {
     let mut told = Expected::new(text.as_bytes());
     if matches!(device, Device::Bins | Device::Shelf) {
-        told.tell(run.log.bytes());
+        told.feed(run.log.bytes());
     }
-    run.tell_files(&mut told);
+    run.feed_files(&mut told);
     told.is_met()
 }
 
@@ -109,7 +109,7 @@ fn each_call_of_the_bins_fails(rt: HostRuntime) {
 }
 
 #[test]
-fn an_old_file_stands_until_the_new_one_is_whole(rt: HostRuntime) {
+fn old_file_stays_until_commit(rt: HostRuntime) {
     const LEFT: &[&str] = &[
         "== f.c\n== 1\n",
         "== f.c\n#define M 1\n== 1\n",

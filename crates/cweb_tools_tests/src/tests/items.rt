@@ -4,7 +4,7 @@ ghost use Rattle.std.specs.Prelude.{◌≡◌};
 use super::wanted::{holds, same_bytes};
 use cweb_lines::SinkFault;
 use cweb_tools::{
-    write_banner, write_closing, write_counts, write_no_text, write_starred, write_writing,
+    write_banner, write_closing, write_counts, write_no_program, write_starred, write_writing,
 };
 use trial::TrialSink;
 
@@ -16,7 +16,7 @@ fn write_items(log: &mut TrialSink) -> Result<(), SinkFault>
 {
     write_banner(log)?;
     write_starred(log, &[1, 40])?;
-    write_no_text(log)?;
+    write_no_program(log)?;
     write_writing(log, "a.c")?;
     write_counts(log, 3, 2, 0)?;
     write_closing(log, 0, true)

@@ -1,6 +1,6 @@
 // Runs of `wmerge` over texts in memory, and over devices that fail.
 use super::merging::{
-    Run, Texts, check_log_fails, check_read, check_refused, check_run, check_runs, check_write,
+    Run, Sources, check_log_fails, check_read, check_refused, check_run, check_runs, check_write,
 };
 use super::wanted::{holds, same_bytes};
 use cweb_lines::{FileId, Stop};
@@ -80,7 +80,7 @@ fn included_files(rt: HostRuntime) {
 
 fn check_long(rt: &(impl Abort + AllocGlobal), line: &str) {
     let web = ["short\n", line].concat(rt.alloc()).expect(rt, "memory");
-    let texts: Texts = &[("long.w", web.as_bytes())];
+    let texts: Sources = &[("long.w", web.as_bytes())];
     let stop = "! Line too long in long.w\n";
     check_run(rt, &(&["long"], None, texts, "short\n", stop, 1));
 }

@@ -7,13 +7,13 @@ use std::process::Abort;
 use trial::{TrialShelf, TrialSink, shelf_of};
 
 /// Texts under their names.
-pub type Texts<'a> = &'a [(&'a str, &'a [u8])];
+pub type Sources<'a> = &'a [(&'a str, &'a [u8])];
 
 /// The words of a run, the folder of its includes and its texts, and what it has to write, to log and to answer.
 pub type Run<'a> = (
     &'a [&'a str],
     Option<&'a str>,
-    Texts<'a>,
+    Sources<'a>,
     &'a str,
     &'a str,
     u8,
@@ -38,7 +38,7 @@ pub struct Merge {
 }
 
 impl Merge {
-    fn over(alloc: Global, texts: Texts) -> Result<Merge, AllocError> {
+    fn over(alloc: Global, texts: Sources) -> Result<Merge, AllocError> {
         let shelf = shelf_of(alloc, texts)?;
         let out = TrialSink::with_room(alloc, ROOM)?;
         let log = TrialSink::with_room(alloc, ROOM)?;
@@ -87,7 +87,7 @@ impl Merge {
         self.log.bytes() == lines.as_bytes()
     }
 
-    fn writes_a_front_of(&self, text: &str) -> bool {
+    fn writes_prefix_of(&self, text: &str) -> bool {
         text.as_bytes().starts_with(self.out.bytes())
     }
 }
@@ -131,7 +131,7 @@ fn check_left_refused(rt: &impl Abort, left: &Merge, run: &Run) {
         same_bytes(rt, left.out.bytes(), run.3.as_bytes());
     } else {
         same_bytes(rt, left.log.bytes(), b"! Out of memory\n");
-        holds(rt, left.writes_a_front_of(run.3));
+        holds(rt, left.writes_prefix_of(run.3));
     }
 }
 
@@ -160,7 +160,7 @@ fn check_left_of_read(
     }
     let is_of_first = left.logs(lines.0);
     holds(rt, is_of_first || left.logs(lines.1));
-    holds(rt, left.writes_a_front_of(run.3));
+    holds(rt, left.writes_prefix_of(run.3));
     Some(is_of_first)
 }
 
@@ -177,7 +177,7 @@ fn check_left_of_write(rt: &impl Abort, left: &Merge, run: &Run) -> bool {
     }
     holds(rt, left.status == 1);
     same_bytes(rt, left.log.bytes(), b"! Write fault on standard output\n");
-    holds(rt, left.writes_a_front_of(run.3));
+    holds(rt, left.writes_prefix_of(run.3));
     true
 }
 

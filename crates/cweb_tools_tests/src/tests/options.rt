@@ -1,5 +1,5 @@
 // The words of a command line of `ctangle`.
-use super::wanted::{holds, same_name, same_text};
+use super::wanted::{holds, same_name, same_string};
 use cweb_lines::Stop;
 use cweb_tools::{Options, Shown};
 use std::alloc::Global;
@@ -17,8 +17,8 @@ fn shown(words: &[&str]) -> Option<[bool; 4]> {
 }
 
 #[test]
-fn option_words_stand_anywhere_and_later_letters_win(rt: HostRuntime) {
-    const ROWS: &[(&[&str], Option<[bool; 4]>)] = &[
+fn options_anywhere_last_letter_wins(rt: HostRuntime) {
+    const EXAMPLES: &[(&[&str], Option<[bool; 4]>)] = &[
         (&[], Some([true, true, true, false])),
         (&["a", "+s", "-bph"], Some([false, false, false, true])),
         (&["-b", "a", "+b", "-p+", "x"], None),
@@ -29,13 +29,13 @@ fn option_words_stand_anywhere_and_later_letters_win(rt: HostRuntime) {
         // words of one byte, and those that begin otherwise, are no option words
         (&["-", "+", "b-", ""], Some([true, true, true, false])),
     ];
-    for (words, want) in ROWS {
+    for (words, want) in EXAMPLES {
         holds(&rt, shown(*words) == *want);
     }
 }
 
 /// Words, and the names that they stand for: the web's first and second, the change file's, the main output's.
-type Row<'a> = (
+type Example<'a> = (
     &'a [&'a str],
     &'a str,
     Option<&'a str>,
@@ -43,17 +43,17 @@ type Row<'a> = (
     &'a str,
 );
 
-fn check_names(rt: &(impl Abort + AllocGlobal), row: &Row) {
+fn check_names(rt: &(impl Abort + AllocGlobal), row: &Example) {
     let read = Options::read(rt.alloc(), row.0).expect(rt, "options");
-    same_text(rt, read.web.as_str(), row.1);
+    same_string(rt, read.web.as_str(), row.1);
     same_name(rt, read.second(), row.2);
     same_name(rt, read.change(), row.3);
-    same_text(rt, read.main.as_str(), row.4);
+    same_string(rt, read.main.as_str(), row.4);
 }
 
 #[test]
 fn names_of_webs_and_outputs(rt: HostRuntime) {
-    const ROWS: &[Row] = &[
+    const EXAMPLES: &[Example] = &[
         // the main output is named after the last part of the web's path, before its last dot
         (
             &["x.y/web"],
@@ -73,7 +73,7 @@ fn names_of_webs_and_outputs(rt: HostRuntime) {
         ),
         (&["/.w"], "/.w", None, None, ".c"),
     ];
-    for row in ROWS {
+    for row in EXAMPLES {
         check_names(&rt, row);
     }
 }

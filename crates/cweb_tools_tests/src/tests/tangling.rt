@@ -1,6 +1,6 @@
 // Runs of `ctangle` over texts. What a run leaves is told as text: its log, each file behind its name, its status.
+use super::expected::Expected;
 use super::failing::FailingBins;
-use super::told::Expected;
 use super::wanted::{holds, same_bytes};
 use cweb_out::{BinFile, MemoryBins};
 use cweb_tools::run_ctangle;
@@ -52,11 +52,11 @@ impl Tangle {
     }
 
     /// Tells the files and the status.
-    pub fn tell_files(&self, told: &mut Expected) {
+    pub fn feed_files(&self, told: &mut Expected) {
         for file in self.bins.bins.files() {
-            tell_file(file, told);
+            feed_file(file, told);
         }
-        told.tell(if self.status == 0 {
+        told.feed(if self.status == 0 {
             b"== 0\n"
         } else {
             b"== 1\n"
@@ -64,11 +64,11 @@ impl Tangle {
     }
 }
 
-fn tell_file(file: &BinFile, told: &mut Expected) {
-    told.tell(b"== ");
-    told.tell(file.name.as_bytes());
-    told.tell(b"\n");
-    told.tell(&file.bytes);
+fn feed_file(file: &BinFile, told: &mut Expected) {
+    told.feed(b"== ");
+    told.feed(file.name.as_bytes());
+    told.feed(b"\n");
+    told.feed(&file.bytes);
 }
 
 /// What a run over texts in memory leaves.
@@ -84,8 +84,8 @@ pub type Run<'a> = (&'a [&'a str], &'a [(&'a str, &'a [u8])], &'a str);
 /// A run leaves just this: where it doesn't, what stands in this text from there on is shown.
 fn check_left(rt: &impl Abort, run: &Tangle, text: &str) {
     let mut told = Expected::new(text.as_bytes());
-    told.tell(run.log.bytes());
-    run.tell_files(&mut told);
+    told.feed(run.log.bytes());
+    run.feed_files(&mut told);
     same_bytes(rt, told.rest, b"");
     holds(rt, told.is_met());
 }

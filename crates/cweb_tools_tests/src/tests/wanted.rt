@@ -10,7 +10,7 @@ pub fn holds(rt: &impl Abort, is_so: bool)
     assert!(rt; is_so);
 }
 
-pub fn same_text(rt: &impl Abort, got: &str, want: &str) {
+pub fn same_string(rt: &impl Abort, got: &str, want: &str) {
     assert_eq!(rt; got, want);
 }
 

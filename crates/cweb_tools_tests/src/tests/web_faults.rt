@@ -55,13 +55,13 @@ fn begun(alloc: Global) -> Result<Merger<MemoryShelf>, Stop> {
 }
 
 #[test]
-fn lines_of_faults_of_a_text(rt: HostRuntime) {
+fn lines_of_scan_faults(rt: HostRuntime) {
     let merger = begun(rt.alloc()).expect(&rt, "a web");
     check_lines(&rt, merger.names());
 }
 
 #[test]
-fn lines_of_faults_of_lines(rt: HostRuntime) {
+fn lines_of_source_faults(rt: HostRuntime) {
     let merger = begun(rt.alloc()).expect(&rt, "a web");
     check_source_lines(&rt, merger.names());
 }

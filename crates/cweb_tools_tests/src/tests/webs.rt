@@ -170,7 +170,7 @@ fn outputs_that_are_refused(rt: HostRuntime) {
 }
 
 #[test]
-fn printed_text(rt: HostRuntime) {
+fn printed_output(rt: HostRuntime) {
     const RUNS: &[Run] = &[
         (
             &["-bph", "s"],
@@ -242,7 +242,7 @@ fn printed_text(rt: HostRuntime) {
 }
 
 #[test]
-fn text_that_ends_too_soon(rt: HostRuntime) {
+fn webs_that_end_too_soon(rt: HostRuntime) {
     const RUNS: &[Run] = &[
         (
             &["-bph", "u"],

@@ -2,8 +2,8 @@ use Rattle.std.proofs.Common.{rules, ◌-◌, List, ℕ, length, take, drop, ap,
 use Rattle.std.proofs.lemmas.List.{length-drop, take_all}
 use Rattle.std.proofs.lemmas.Grind.{common_steps}
 use Rattle.std.proofs.Math.Seq.{take-add}
-use Rattle.cweb_files.specs.Frames.{Writes}
-use Rattle.cweb_files.proofs.Keeps.{place_same, place_told, place_then, writes_none, writes_then}
+use Rattle.cweb_files.specs.surface.Frames.{Writes}
+use Rattle.cweb_files.proofs.FramesCompose.{place_same, place_told, place_then, writes_none, writes_then}
 use Rattle.cweb_files.proofs.writing.write_all.Goals as goal
 
 pub pieces-init : goal.pieces-init

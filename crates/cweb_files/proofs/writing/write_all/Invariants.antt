@@ -1,5 +1,5 @@
 use Rattle.std.proofs.Common.{◌≡◌, ◌≤◌, ◌-◌, length, take}
-use Rattle.cweb_files.specs.Frames.{KeepsPlace, Writes}
+use Rattle.cweb_files.specs.surface.Frames.{KeepsPlace, Writes}
 use Rattle.cweb_files.proofs.writing.write_all.Given as goal
 
 abbrev pub invariant-pieces : goal.invariant-pieces

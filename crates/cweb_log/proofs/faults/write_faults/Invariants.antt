@@ -1,6 +1,7 @@
-use Rattle.cweb_log.proofs.Common.{[], Ok, take, SinkFault, names_of, pending, GathersMore, fault_lines, seen_stream}
+use Rattle.cweb_log.proofs.Common.{[], Ok, take, SinkFault, opened_file_names, unwritten_bytes, AppendsToLog, fault_lines, stream_model}
 use Rattle.cweb_log.proofs.faults.write_faults.Given as goal
 
 abbrev pub invariant-faults : goal.invariant-faults
-invariant-faults g l = GathersMore {A = Unit {0}} {E = SinkFault} (fault_lines (names_of l.names) (take l.fault-index
-    l.faults)) (seen_stream g.L.Sink l.fn.log) (seen_stream g.L.Sink l.log) [] (pending l.gathered) (Ok tt)
+invariant-faults g l =
+    AppendsToLog {A = Unit {0}} {E = SinkFault} (fault_lines (opened_file_names l.names) (take l.fault-index
+    l.faults)) (stream_model g.L.Sink l.fn.log) (stream_model g.L.Sink l.log) [] (unwritten_bytes l.log_buffer) (Ok tt)

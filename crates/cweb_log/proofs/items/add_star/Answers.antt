@@ -1,5 +1,5 @@
 use Rattle.cweb_log.proofs.Common.{decimal}
-use Rattle.cweb_log.proofs.Gathering.{gathers_front, gathers_on}
+use Rattle.cweb_log.proofs.BufferedLog.{gathers_front, gathers_on}
 use Rattle.cweb_log.proofs.items.add_star.Goals as goal
 
 pub returns-in_err-add : goal.returns-in_err-add

@@ -1,5 +1,5 @@
 use Rattle.cweb_log.proofs.Common.{arith, star}
-use Rattle.cweb_log.proofs.Gathering.{gathers_none, gathers_next, gathers_failed, gathers_all}
+use Rattle.cweb_log.proofs.BufferedLog.{gathers_none, gathers_next, gathers_failed, gathers_all}
 use Rattle.cweb_log.proofs.items.add_stars.Goals as goal
 
 pub numbers-init : goal.numbers-init

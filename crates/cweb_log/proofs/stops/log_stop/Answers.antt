@@ -1,4 +1,4 @@
-use Rattle.cweb_log.proofs.Gathering.{logs_by}
+use Rattle.cweb_log.proofs.BufferedLog.{logs_by}
 use Rattle.cweb_log.proofs.stops.log_stop.Goals as goal
 
 pub returns-clause-logs : goal.returns-clause-logs

@@ -1,23 +1,23 @@
-use Rattle.cweb_log.proofs.Common.{◌≡◌, ◌∙◌, ℕ, List, [], map, Some, slice_get, option_map, get_or_from_slice_get, slice_get-map, Occurrence, text_given}
+use Rattle.cweb_log.proofs.Common.{◌≡◌, ◌∙◌, ℕ, List, [], map, Some, slice_get, option_map, get_or_from_slice_get, slice_get-map, Occurrence, occurrence_spelling}
 use Rattle.cweb_log.proofs.web_faults.add_name_fault.Goals as goal
 
-text_of : (os : List Occurrence) (n : ℕ) (text : List ℕ)
-    → option_map (λ (o : Occurrence). o.text) (slice_get os n) ≡ Some text → text_given os n ≡ text
-text_of os n text is = get_or_from_slice_get
+name_bytes : (os : List Occurrence) (n : ℕ) (text : List ℕ)
+    → option_map (λ (o : Occurrence). o.text) (slice_get os n) ≡ Some text → occurrence_spelling os n ≡ text
+name_bytes os n text is = get_or_from_slice_get
     (map (λ (o : Occurrence). o.text) os) n text [] (slice_get-map (λ (o : Occurrence). o.text) os n ∙ is)
 
 pub returns-in-Ambiguous : goal.returns-in-Ambiguous
-returns-in-Ambiguous g c = rw (text_of c.args.store.now.occurrences
+returns-in-Ambiguous g c = rw (name_bytes c.args.store.now.occurrences
     c.args.fault.now.occurrence.0 _ c.occurrence_text-name.ensures) (rw c.in-Ambiguous.is c.add_named.ensures)
 
 pub returns-in-NeverFull : goal.returns-in-NeverFull
-returns-in-NeverFull g c = rw (text_of c.args.store.now.occurrences c.args.fault.now.occurrence.0
+returns-in-NeverFull g c = rw (name_bytes c.args.store.now.occurrences c.args.fault.now.occurrence.0
     _ c.occurrence_text-name.ensures) (rw c.in-NeverFull.is c.add_named-in-NeverFull.ensures)
 
 pub returns-in-PrefixOfAnother : goal.returns-in-PrefixOfAnother
-returns-in-PrefixOfAnother g c = rw (text_of c.args.store.now.occurrences c.args.fault.now.occurrence.0
+returns-in-PrefixOfAnother g c = rw (name_bytes c.args.store.now.occurrences c.args.fault.now.occurrence.0
     _ c.occurrence_text-name.ensures) (rw c.in-PrefixOfAnother.is c.add_named-in-PrefixOfAnother.ensures)
 
 pub returns-in-NotPresent : goal.returns-in-NotPresent
-returns-in-NotPresent g c = rw (text_of c.args.store.now.occurrences c.args.fault.now.occurrence.0
+returns-in-NotPresent g c = rw (name_bytes c.args.store.now.occurrences c.args.fault.now.occurrence.0
     _ c.occurrence_text-name.ensures) (rw c.in-NotPresent.is c.add_named-in-NotPresent.ensures)

@@ -1,5 +1,5 @@
 use Rattle.cweb_log.proofs.Common.{arith, cycle_step}
-use Rattle.cweb_log.proofs.Gathering.{gathers_none, gathers_next, gathers_failed, gathers_all}
+use Rattle.cweb_log.proofs.BufferedLog.{gathers_none, gathers_next, gathers_failed, gathers_all}
 use Rattle.cweb_log.proofs.web_faults.add_steps.Goals as goal
 
 pub names-init : goal.names-init

@@ -1,9 +1,9 @@
 use Rattle.cweb_log.proofs.Common.{refl, sym, arith, NameFault, line, name_item}
-use Rattle.cweb_log.proofs.Gathering.{gathers_none, gathers_next, gathers_failed, gathers_all, writes_all, writes_front, writes_items}
+use Rattle.cweb_log.proofs.BufferedLog.{gathers_none, gathers_next, gathers_failed, gathers_all, writes_all, writes_front, writes_items}
 use Rattle.cweb_log.proofs.web_faults.write_name_faults.Goals as goal
 
 pub faults-init : goal.faults-init
-faults-init g c = rw c.new-gathered.ensures (gathers_none _)
+faults-init g c = rw c.new-log_buffer.ensures (gathers_none _)
 
 pub add_name_fault-requires-clause-count : goal.add_name_fault-requires-clause-count
 add_name_fault-requires-clause-count g c = omega (arith, c.faults.invariant.counts, c.requires)

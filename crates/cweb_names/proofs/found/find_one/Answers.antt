@@ -17,7 +17,8 @@ returns-then-not-starts_with c =
     let n = names-range p c.args.from es c.range-range.result
     (c.range-range.ensures.between tt) c.requires c.range-range.ensures.ordered in
     let m = subst (Names p es) c.in-Some.ensures.steps n in
-    let other : starts_with nat_eq c.in-Some.first.now p ≡ false = ap (λ a. starts_with nat_eq a p) (sym c.text.ensures)
+    let other : starts_with nat_eq c.in-Some.first.now p ≡ false =
+    ap (λ a. starts_with nat_eq a p) (sym c.spelling.ensures)
     ∙ sym c.starts_with.ensures.value
     ∙ c.if-not-starts_with.true in
     sym (names-other p es _ c.next.new.self m other)
@@ -30,7 +31,8 @@ returns-in_default-next c =
     (c.range-range.ensures.between tt) c.requires c.range-range.ensures.ordered in
     let m = subst (Names p es) (c.in-Some.ensures.steps ∙ ap
     (λ es'. (c.in-Some.first.now, c.in-Some.id.now) ∷ es') c.in_default-next.ensures.steps.0) n in
-    let same : starts_with nat_eq c.in-Some.first.now p ≡ true = ap (λ a. starts_with nat_eq a p) (sym c.text.ensures)
+    let same : starts_with nat_eq c.in-Some.first.now p ≡ true =
+    ap (λ a. starts_with nat_eq a p) (sym c.spelling.ensures)
     ∙ sym c.starts_with.ensures.value
     ∙ c.if-not-starts_with.false in
     sym (names-last p es _ m same)
@@ -43,11 +45,12 @@ returns-then-starts_with c =
     (c.range-range.ensures.between tt) c.requires c.range-range.ensures.ordered in
     let m = subst (Names p es) (c.in-Some.ensures.steps ∙ ap
     (λ es'. (c.in-Some.first.now, c.in-Some.id.now) ∷ es') c.in-Some-next.ensures.steps) n in
-    let one : starts_with nat_eq c.in-Some.first.now p ≡ true = ap (λ a. starts_with nat_eq a p) (sym c.text.ensures)
+    let one : starts_with nat_eq c.in-Some.first.now p ≡ true =
+    ap (λ a. starts_with nat_eq a p) (sym c.spelling.ensures)
     ∙ sym c.starts_with.ensures.value
     ∙ c.if-not-starts_with.false in
     let two : starts_with nat_eq c.in-Some-next.second.now p ≡ true =
-    ap (λ a. starts_with nat_eq a p) (sym c.text-2.ensures)
+    ap (λ a. starts_with nat_eq a p) (sym c.spelling-2.ensures)
     ∙ sym c.starts_with-2.ensures.value
     ∙ c.if-starts_with.true in
     sym (names-two p es _ _ c.next-2.new.self m one two)
@@ -60,11 +63,12 @@ returns-else-starts_with c =
     (c.range-range.ensures.between tt) c.requires c.range-range.ensures.ordered in
     let m = subst (Names p es) (c.in-Some.ensures.steps ∙ ap
     (λ es'. (c.in-Some.first.now, c.in-Some.id.now) ∷ es') c.in-Some-next.ensures.steps) n in
-    let one : starts_with nat_eq c.in-Some.first.now p ≡ true = ap (λ a. starts_with nat_eq a p) (sym c.text.ensures)
+    let one : starts_with nat_eq c.in-Some.first.now p ≡ true =
+    ap (λ a. starts_with nat_eq a p) (sym c.spelling.ensures)
     ∙ sym c.starts_with.ensures.value
     ∙ c.if-not-starts_with.false in
     let other : starts_with nat_eq c.in-Some-next.second.now p ≡ false =
-    ap (λ a. starts_with nat_eq a p) (sym c.text-2.ensures)
+    ap (λ a. starts_with nat_eq a p) (sym c.spelling-2.ensures)
     ∙ sym c.starts_with-2.ensures.value
     ∙ c.if-starts_with.false in
     sym (names-one p es _ _ c.next-2.new.self m one other)

@@ -1,5 +1,5 @@
 use Rattle.cweb_names.proofs.Common.{rules}
 use Rattle.cweb_names.proofs.found.has_prefix.Goals as goal
 
-pub texts-preserved : goal.texts-preserved
-texts-preserved c = search rules
+pub strings-preserved : goal.strings-preserved
+strings-preserved c = search rules

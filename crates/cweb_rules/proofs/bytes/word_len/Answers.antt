@@ -1,5 +1,5 @@
 use Rattle.cweb_rules.proofs.Common.{arith}
-use Rattle.cweb_rules.proofs.WordRuns.{goes_on}
+use Rattle.cweb_rules.proofs.WordSpans.{goes_on}
 use Rattle.cweb_rules.proofs.bytes.word_len.Goals as goal
 
 pub fours-preserved : goal.fours-preserved

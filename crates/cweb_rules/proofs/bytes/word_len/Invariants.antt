@@ -1,5 +1,5 @@
 use Rattle.cweb_rules.proofs.Common.{length}
-use Rattle.cweb_rules.proofs.WordRuns.{GoesTo}
+use Rattle.cweb_rules.proofs.WordSpans.{GoesTo}
 use Rattle.cweb_rules.proofs.bytes.word_len.Given as goal
 
 abbrev pub invariant-fours : goal.invariant-fours

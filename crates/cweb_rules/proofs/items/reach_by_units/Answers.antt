@@ -1,5 +1,5 @@
 use Rattle.cweb_rules.proofs.Common.{◌+◌, ℕ, List, length, drop, ap, sym, ◌∙◌, arith, common_steps, length-drop, reach, look_of, reached, Open, Reached}
-use Rattle.cweb_rules.proofs.PlainRuns.{reach_plain}
+use Rattle.cweb_rules.proofs.PlainSpans.{reach_plain}
 use Rattle.cweb_rules.proofs.Ranges.{later_by, later_by-add}
 use Rattle.cweb_rules.proofs.items.reach_by_units.Goals as goal
 

@@ -7,5 +7,5 @@ returns-clause-value c = grind (arith, common_steps)
 pub loop-i-preserved : goal.loop-i-preserved
 loop-i-preserved c = grind (arith, common_steps)
 
-pub returns-then-not-goes_on-clause-value : goal.returns-then-not-goes_on-clause-value
-returns-then-not-goes_on-clause-value c = grind (arith, common_steps)
+pub returns-then-not-continues_number-clause-value : goal.returns-then-not-continues_number-clause-value
+returns-then-not-continues_number-clause-value c = grind (arith, common_steps)

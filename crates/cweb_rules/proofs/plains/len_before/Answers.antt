@@ -1,5 +1,5 @@
 use Rattle.cweb_rules.proofs.Common.{◌∙◌, is_byte}
-use Rattle.cweb_rules.proofs.PlainRuns.{before_first}
+use Rattle.cweb_rules.proofs.PlainSpans.{before_first}
 use Rattle.cweb_rules.proofs.plains.len_before.Goals as goal
 
 pub returns-clause-value : goal.returns-clause-value

@@ -1,4 +1,4 @@
-use Rattle.cweb_rules.proofs.PlainRuns.{no_sign-none}
+use Rattle.cweb_rules.proofs.PlainSpans.{no_sign-none}
 use Rattle.cweb_rules.proofs.plains.plain_in_raw.Goals as goal
 
 pub returns-in-empty-clause-value : goal.returns-in-empty-clause-value

@@ -7,9 +7,10 @@ pub returns-in-Word : goal.returns-in-Word
 returns-in-Word c =
     told-at c.args.includes c.args.text.now first.Word c.in-len1-up.len_at_least (sym c.in-Word.is ∙ c.lead_of.ensures)
 
-pub returns-in-Sign : goal.returns-in-Sign
-returns-in-Sign c =
-    told-at c.args.includes c.args.text.now first.Sign c.in-len1-up.len_at_least (sym c.in-Sign.is ∙ c.lead_of.ensures)
+pub returns-in-Operator : goal.returns-in-Operator
+returns-in-Operator c =
+    told-at c.args.includes c.args.text.now first.Operator c.in-len1-up.len_at_least (sym c.in-Operator.is
+    ∙ c.lead_of.ensures)
 
 pub returns-in-Blank : goal.returns-in-Blank
 returns-in-Blank c = told-at c.args.includes c.args.text.now first.Blank c.in-len1-up.len_at_least

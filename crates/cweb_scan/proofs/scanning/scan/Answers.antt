@@ -1,4 +1,4 @@
-use Rattle.cweb_scan.proofs.Common.{sym, subst, so_far, to_come, Stop, Scanned, EndsEarly, IsWithin, Scans}
+use Rattle.cweb_scan.proofs.Common.{sym, subst, so_far, to_come, Stop, Scanned, ScanEndsEarly, ScansWithinLimits, Scans}
 use Rattle.cweb_scan.proofs.Scans.{grows_to, none_blamed, refused}
 use Rattle.cweb_scan.proofs.scanning.scan.Goals as goal
 
@@ -9,7 +9,7 @@ returns-in-Ok-clause-scans g c =
     g.S.Shelf c.args.shelf.now c.args.merger.now)) (sym c.in-Ok.ensures) (c.in_default-take_lines.ensures.scans tells)
 
 pub returns-in-Ok-clause-within : goal.returns-in-Ok-clause-within
-returns-in-Ok-clause-within g c = subst (λ (s : Scanned). IsWithin (so_far c.take_lines.new.merger) s)
+returns-in-Ok-clause-within g c = subst (λ (s : Scanned). ScansWithinLimits (so_far c.take_lines.new.merger) s)
     (sym c.in-Ok.ensures) c.in_default-take_lines.ensures.within
 
 -- memory was refused for the store
@@ -19,7 +19,7 @@ returns-clause-grows g c = grows_to _ _ _ c.halt.ensures.so_far c.in_default-tak
 pub returns-clause-stops : goal.returns-clause-stops
 returns-clause-stops g c = λ tells before.
     let taken = c.in_default-take_lines.ensures in
-    subst (λ (stop : Stop). EndsEarly stop (so_far c.args.merger.now) (so_far c.halt.new.self)
+    subst (λ (stop : Stop). ScanEndsEarly stop (so_far c.args.merger.now) (so_far c.halt.new.self)
     (to_come g.S.Shelf c.args.shelf.now c.args.merger.now)) (sym (c.halt.ensures.stop taken.ended.0))
     (refused _ _ _ _ _ _ c.halt.ensures.so_far (taken.scans tells).gives)
 

@@ -1,8 +1,8 @@
-use Rattle.cweb_scan.proofs.Common.{rules, ◌≡◌, ◌≤◌, ◌+◌, ◌*◌, ℕ, Bool, Option, None, List, [], ◌∷◌, ◌++◌, subst, refl, ap, sym, ◌∙◌, arith, LendsLines, Event, blame, read_blame, SoFar, coming, so_far, to_come, Merger, Stop, EndsEarly, HasTaken, Held, cost, read_after}
+use Rattle.cweb_scan.proofs.Common.{rules, ◌≡◌, ◌≤◌, ◌+◌, ◌*◌, ℕ, Bool, Option, None, List, [], ◌∷◌, ◌++◌, subst, refl, ap, sym, ◌∙◌, arith, BorrowsLines, Event, blame, read_failures_of, SoFar, events_to_come, so_far, to_come, Merger, Stop, ScanEndsEarly, HasTaken, ReaderModel, cost, read_after}
 use Rattle.cweb_files.specs.declared.device.Shelf.{Ghosts as Shelf}
-use Rattle.cweb_lines.proofs.Fronts.{told_files, told_same, told_then}
-use Rattle.cweb_files.proofs.Keeps.{keeps_same, keeps_told, keeps_then}
-use Rattle.cweb_lines.proofs.Sums.{gives_both}
+use Rattle.cweb_lines.proofs.ReportsOnlyGrow.{told_files, told_same, told_then}
+use Rattle.cweb_files.proofs.FramesCompose.{keeps_same, keeps_told, keeps_then}
+use Rattle.cweb_lines.proofs.EmittedLinesAddUp.{gives_both}
 use Rattle.cweb_scan.proofs.Scans.{nothing_taken, given_line_taken, grows_to, grows_then, none_blamed, all_within, all_scanned, ends_early, refused}
 use Rattle.cweb_scan.proofs.scanning.take_lines.Invariants.{HasScanned}
 use Rattle.cweb_scan.proofs.scanning.take_lines.Goals as goal
@@ -27,26 +27,27 @@ returns-in-Err-take_line-clause-grows g c =
     grows_to _ _ _ c.halt.ensures.so_far (grows_then _ _ _ c.lines.invariant.told c.in-Ok.ensures.grows)
 
 -- memory was refused for a line that was lent
-pub returns-in-Err-take_lent-clause-grows : goal.returns-in-Err-take_lent-clause-grows
-returns-in-Err-take_lent-clause-grows g c = grows_to _ _ _ c.halt-in-Err-take_lent.ensures.so_far (grows_then _ _ _
-    (told_then _ _ _ c.lines.invariant.told c.in-Ok.ensures.grows.told) c.in-Err-take_lent.ensures.lent.grows)
+pub returns-in-Err-take_borrowed-clause-grows : goal.returns-in-Err-take_borrowed-clause-grows
+returns-in-Err-take_borrowed-clause-grows g c =
+    grows_to _ _ _ c.halt-in-Err-take_borrowed.ensures.so_far (grows_then _ _ _
+    (told_then _ _ _ c.lines.invariant.told c.in-Ok.ensures.grows.told) c.in-Err-take_borrowed.ensures.lent.grows)
 
-pub returns-in-Err-take_lent-clause-stops : goal.returns-in-Err-take_lent-clause-stops
-returns-in-Err-take_lent-clause-stops g c = λ tells.
+pub returns-in-Err-take_borrowed-clause-stops : goal.returns-in-Err-take_borrowed-clause-stops
+returns-in-Err-take_borrowed-clause-stops g c = λ tells.
     let next = rw c.in-Some.is at (c.in-Ok.ensures.next (keeps_told g.S.Shelf _ _ c.lines.invariant.keeps tells)) in
-    let lent = c.in-Err-take_lent.ensures.lent in
-    let halt = c.halt-in-Err-take_lent in
-    subst (λ (stop : Stop). EndsEarly stop
+    let lent = c.in-Err-take_borrowed.ensures.lent in
+    let halt = c.halt-in-Err-take_borrowed in
+    subst (λ (stop : Stop). ScanEndsEarly stop
     (so_far c.args.merger.now) (so_far halt.new.self) (to_come g.S.Shelf c.args.shelf.now c.args.merger.now))
     (sym (halt.ensures.stop (lent.stopped ∙ c.in-Ok.ensures.leaves.running))) (refused _ _ _ _ _ _ halt.ensures.so_far
     (gives_both _ _ _ _ _ _ _ _ (gives_both _ _ _ _ _ _ _ _ (c.lines.invariant.taken.gives tells) next)
     (lent.gives (g.S.Shelf.texts c.next_line.new.shelf) (g.S.Shelf.left c.next_line.new.shelf)).1))
 
-pub returns-in-Err-take_lent-clause-blamed : goal.returns-in-Err-take_lent-clause-blamed
-returns-in-Err-take_lent-clause-blamed g c = λ tells known.
+pub returns-in-Err-take_borrowed-clause-blamed : goal.returns-in-Err-take_borrowed-clause-blamed
+returns-in-Err-take_borrowed-clause-blamed g c = λ tells known.
     let inv = c.lines.invariant in
-    none_blamed _ _ _ _ (c.halt-in-Err-take_lent.ensures.stop
-    (c.in-Err-take_lent.ensures.lent.stopped ∙ c.in-Ok.ensures.leaves.running))
+    none_blamed _ _ _ _ (c.halt-in-Err-take_borrowed.ensures.stop
+    (c.in-Err-take_borrowed.ensures.lent.stopped ∙ c.in-Ok.ensures.leaves.running))
     ((c.in-Ok.ensures.known (keeps_told g.S.Shelf _ _ inv.keeps tells) (inv.readers tells known)).blamed inv.running
     ∙ inv.blamed tells known)
 
@@ -60,7 +61,7 @@ returns-in-Err-clause-blames g c =
     let blames = c.in-Err.ensures.blames c.lines.invariant.running in
     record {
       kind = blames.reading;
-      failed = blames.failed ∙ ap (λ n. n + read_blame c.in-Err.stop) c.lines.invariant.failed;
+      failed = blames.failed ∙ ap (λ n. n + read_failures_of c.in-Err.stop) c.lines.invariant.failed;
       kept = c.in-Err.ensures.leaves.kept;
     }
 
@@ -68,15 +69,17 @@ returns-in-Err-clause-blames g c =
 pub returns-in-Err-take_line-clause-stops : goal.returns-in-Err-take_line-clause-stops
 returns-in-Err-take_line-clause-stops g c = λ tells.
     let next = rw c.in-Some.is at (c.in-Ok.ensures.next (keeps_told g.S.Shelf _ _ c.lines.invariant.keeps tells)) in
-    subst (λ (stop : Stop). EndsEarly stop (so_far c.args.merger.now) (so_far c.halt.new.self)
+    subst (λ (stop : Stop). ScanEndsEarly stop (so_far c.args.merger.now) (so_far c.halt.new.self)
     (to_come g.S.Shelf c.args.shelf.now c.args.merger.now)) (sym (c.halt.ensures.stop c.in-Ok.ensures.leaves.running))
     (refused _ _ _ _ _ _ c.halt.ensures.so_far (gives_both _ _ _ _ _ _ _ _ (c.lines.invariant.taken.gives tells) next))
 
 -- lines were lent
-after_lent : {S R : Type 0} (shelf : Shelf S R) (before now : S) (old merger new : Merger S R) (reader next : Held)
-    → HasScanned shelf before now old merger reader → LendsLines merger.run new.run → ((tells : Bool) (first : SoFar)
+after_lent : {S R : Type 0} (shelf : Shelf S R) (before now : S) (old merger new : Merger S R)
+    (reader next : ReaderModel)
+    → HasScanned shelf before now old merger reader → BorrowsLines merger.run new.run → ((tells : Bool) (first : SoFar)
     (all : List Event) (texts : List ℕ → Option (List ℕ)) (left : R → List ℕ) → HasTaken tells first (so_far merger)
-    all (coming texts left merger.run) reader → HasTaken tells first (so_far new) all (coming texts left new.run) next)
+    all (events_to_come texts left merger.run) reader
+    → HasTaken tells first (so_far new) all (events_to_come texts left new.run) next)
     → cost next ≤ 3 * ((so_far new).count.bytes + (so_far new).count.lines) → HasScanned shelf before now old new next
 after_lent shelf before now old merger new reader next scanned lent taken room = record {
   keeps = scanned.keeps;
@@ -93,9 +96,9 @@ after_lent shelf before now old merger new reader next scanned lent taken room =
 pub lines-preserved : goal.lines-preserved
 lines-preserved g c =
     let given = rw c.in-Some.is at c.in-Ok.ensures.given in
-    let lent = c.in_default-take_lent.ensures in
+    let lent = c.in_default-take_borrowed.ensures in
     after_lent g.S.Shelf c.args.shelf.now c.next_line.new.shelf c.args.merger.now c.next_line.new.self
-    c.take_lent.new.merger c.take_line.new.self c.take_lent.new.reader (record {
+    c.take_borrowed.new.merger c.take_line.new.self c.take_borrowed.new.reader (record {
       keeps = keeps_then g.S.Shelf _ _ _ c.lines.invariant.keeps c.in-Ok.ensures.keeps;
       failed = search rules;
       readers = λ tells known. (c.in-Ok.ensures.known (keeps_told g.S.Shelf _ _ c.lines.invariant.keeps tells)
@@ -142,7 +145,7 @@ returns-in-Err-take_line-clause-blamed g c = λ tells known.
 pub lines-smaller : goal.lines-smaller
 lines-smaller g c =
     let given = rw c.in-Some.is at c.in-Ok.ensures.given in
-    let lent = c.in_default-take_lent.ensures.lent in
+    let lent = c.in_default-take_borrowed.ensures.lent in
     omega (arith, given.lines, (lent.gives (λ _. None) (λ _. [])).1.lines_are, c.next_line.new.self.run.limits.few)
 
 -- no line is left

@@ -1,16 +1,16 @@
-use Rattle.cweb_scan.proofs.Common.{◌≡◌, ◌≤◌, ◌+◌, ◌*◌, ◌-◌, None, IsTrue, KeepsTexts, KeepsTold, KnowsReaders, to_come, so_far, stop_in, Merger, Held, cost, HasTaken}
+use Rattle.cweb_scan.proofs.Common.{◌≡◌, ◌≤◌, ◌+◌, ◌*◌, ◌-◌, None, IsTrue, KeepsShelf, KeepsReported, KnowsReaders, to_come, so_far, stop_in, Merger, ReaderModel, cost, HasTaken}
 use Rattle.cweb_files.specs.declared.device.Shelf.{Ghosts as Shelf}
 use Rattle.cweb_scan.proofs.scanning.take_lines.Given as goal
 
 -- lines were taken, and nothing stopped
 pub record HasScanned {S R : Type 0} (shelf : Shelf S R) (was now : S) (old merger : Merger S R)
-    (reader : Held) : Type 0 where
-  pub keeps : KeepsTexts shelf was now
+    (reader : ReaderModel) : Type 0 where
+  pub keeps : KeepsShelf shelf was now
   pub failed : shelf.failed now ≡ shelf.failed was
   pub readers : IsTrue (shelf.tells was) → KnowsReaders shelf was old → KnowsReaders shelf now merger
   pub blamed : IsTrue (shelf.tells was) → KnowsReaders shelf was old → shelf.blamed now ≡ shelf.blamed was
   pub running : stop_in merger ≡ None
-  pub told : KeepsTold (so_far old) (so_far merger)
+  pub told : KeepsReported (so_far old) (so_far merger)
   pub taken : HasTaken (shelf.tells was) (so_far old) (so_far merger)
       (to_come shelf was old) (to_come shelf now merger) reader
   pub room : cost reader ≤ 3 * ((so_far merger).count.bytes + (so_far merger).count.lines)

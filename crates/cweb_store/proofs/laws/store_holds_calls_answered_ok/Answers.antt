@@ -1,5 +1,5 @@
 use Rattle.cweb_store.proofs.Common.{arith, common_steps}
-use Rattle.cweb_store.proofs.MadeLemmas.{held-one, taken-one, at-most-one}
+use Rattle.cweb_store.proofs.BuilderCallLemmas.{held-one, taken-one, at-most-one}
 use Rattle.cweb_store.proofs.laws.store_holds_calls_answered_ok.Goals as goal
 
 pub loop-call-preserved : goal.loop-call-preserved

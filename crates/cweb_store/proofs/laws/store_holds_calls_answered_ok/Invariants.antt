@@ -1,10 +1,10 @@
-use Rattle.cweb_store.proofs.Common.{◌≡◌, take, map, contents, empty, given_ok, HoldsAtMost, TakesAll}
+use Rattle.cweb_store.proofs.Common.{◌≡◌, take, map, contents, empty, accepted_calls, HoldsAtMost, AcceptsCalls}
 use Rattle.cweb_store.proofs.laws.store_holds_calls_answered_ok.Given as goal
 
 abbrev pub invariant-loop-call : goal.invariant-loop-call
 invariant-loop-call l = record {
   calls : map (λ a. a.call) l.answers.items ≡ take l.call-index l.calls;
-  taken : TakesAll empty (given_ok l.answers.items);
-  held : l.builder ≡ contents (given_ok l.answers.items);
+  taken : AcceptsCalls empty (accepted_calls l.answers.items);
+  held : l.builder ≡ contents (accepted_calls l.answers.items);
   few : HoldsAtMost l.call-index l.builder;
 }

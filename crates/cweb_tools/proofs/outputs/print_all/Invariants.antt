@@ -1,9 +1,9 @@
-use Rattle.cweb_tools.proofs.Common.{length, names_of, PrintsSoFar, left_in}
+use Rattle.cweb_tools.proofs.Common.{length, opened_file_names, PrintsSoFar, left_in}
 use Rattle.cweb_tools.proofs.outputs.print_all.Given as goal
 
 abbrev pub invariant-tokens : goal.invariant-tokens
 invariant-tokens g l =
-    PrintsSoFar g.W.Sink (names_of l.names) l.fn.expander l.expander l.printer l.fn.out l.out l.gathered
+    PrintsSoFar g.W.Sink (opened_file_names l.names) l.fn.expander l.expander l.printer l.fn.out l.out l.buffer
 
 abbrev pub decreases-tokens : goal.decreases-tokens
 decreases-tokens g l = length (left_in l.expander)

@@ -1,7 +1,7 @@
 use Rattle.cweb_tools.proofs.Common.{refl, ◌∙◌, ap, arith, Bor, ◌==◌, if◌then◌else◌, ℕ, Ok, Err, Stored, Planned, reserves, done}
 use Rattle.cweb_tools.proofs.Doing.{closes_in, closes_on, log_counted, logs_counted}
 use Rattle.cweb_tools.proofs.DoingFiles.{closing_on, does_reserve, log_halts, log_halts_all, memory_halts, not_of_log}
-use Rattle.cweb_tools.proofs.Readies.{all_on}
+use Rattle.cweb_tools.proofs.ReadyExpanders.{all_on}
 use Rattle.cweb_tools.proofs.tangle.tangle_planned.Goals as goal
 
 pub returns-in-Err : goal.returns-in-Err

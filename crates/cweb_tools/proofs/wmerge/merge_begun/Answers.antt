@@ -1,5 +1,5 @@
-use Rattle.cweb_tools.proofs.Common.{◌+◌, ◌++◌, List, ℕ, sym, ◌∙◌, ap, subst, IsTrue, blame, read_blame, so_far}
-use Rattle.cweb_files.specs.Frames.{Writes}
+use Rattle.cweb_tools.proofs.Common.{◌+◌, ◌++◌, List, ℕ, sym, ◌∙◌, ap, subst, IsTrue, blame, read_failures_of, so_far}
+use Rattle.cweb_files.specs.surface.Frames.{Writes}
 use Rattle.cweb_tools.proofs.MergeExits.{completed, stopped}
 use Rattle.cweb_tools.proofs.wmerge.merge_begun.Goals as goal
 
@@ -23,12 +23,12 @@ returns-in-Err g c = λ names first world found changes begun.
     let running = c.requires.running in
     let blames = wrote.blames running in
     stopped world names found changes _ _ _ _ _ begun.begins stop _ _
-    (Writes g.W.Sink c.args.out.now c.write_merged_in_pieces.new.out) c.names-in-Err.ensures wrote.grows.lines
+    (Writes g.W.Sink c.args.out.now c.write_merged_in_chunks.new.out) c.names-in-Err.ensures wrote.grows.lines
     wrote.grows.bytes blames.kind
     (λ tells. (wrote.stops (tells-2 tells) running).why) blames.named (λ tells.
-    (wrote.stops (tells-2 tells) running).told) (blames.shelf ∙ ap (λ (n : ℕ). n + read_blame stop) begun.failed)
+    (wrote.stops (tells-2 tells) running).told) (blames.shelf ∙ ap (λ (n : ℕ). n + read_failures_of stop) begun.failed)
     (λ tells. (wrote.known (tells-2 tells) (begun.known tells)).blamed running ∙ ap (λ (files : List (List ℕ)). files
-    ++ blame (so_far c.write_merged_in_pieces.new.merger).names stop) (begun.blamed tells)) blames.out (λ tells told.
+    ++ blame (so_far c.write_merged_in_chunks.new.merger).names stop) (begun.blamed tells)) blames.out (λ tells told.
     wrote.front (tells-2 tells) told) (rw c.subject.ensures at c.log_stop.ensures.logs) c.log_stop.ensures.status
 
 pub log_faults-requires-clause-known : goal.log_faults-requires-clause-known

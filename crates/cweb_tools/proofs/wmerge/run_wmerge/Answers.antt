@@ -1,7 +1,7 @@
 use Rattle.cweb_tools.proofs.Common.{◌≡◌, ap, refl, Some, Result, Err, option_copied, World, Stop, world_of}
-use Rattle.cweb_log.specs.Words.{names_of}
+use Rattle.cweb_log.specs.inner.Words.{merge_word_names}
 use Rattle.cweb_tools.proofs.Exits.{words_stopped}
-use Rattle.cweb_tools.proofs.Promises.{promises, ran_freely}
+use Rattle.cweb_tools.proofs.MergePromisesProved.{promises, ran_freely}
 use Rattle.cweb_tools.proofs.wmerge.run_wmerge.Goals as goal
 
 same_stop : {A : Type 0} (r : Result A Stop) (one other : Stop) → r ≡ Err one → r ≡ Err other → one ≡ other
@@ -23,4 +23,4 @@ returns-clause-promises g c = promises (rw c.in-Ok.ensures.ok c.merge_web.ensure
 pub returns-clause-freely : goal.returns-clause-freely
 returns-clause-freely g c =
     let world : World = world_of (g.S.Shelf.texts c.args.shelf.now) (option_copied c.args.inputs) in
-    rw c.in-Ok.ensures.ok (ran_freely world (Some (names_of c.in-Ok.asked)) c.merge_web.ensures)
+    rw c.in-Ok.ensures.ok (ran_freely world (Some (merge_word_names c.in-Ok.asked)) c.merge_web.ensures)

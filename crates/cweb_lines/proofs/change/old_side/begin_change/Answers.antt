@@ -1,8 +1,8 @@
-use Rattle.cweb_lines.proofs.Common.{ap, names_of, read_blame}
-use Rattle.cweb_open.proofs.Named.{blames_none}
-use Rattle.cweb_lines.proofs.Named.{knows_only}
-use Rattle.cweb_lines.proofs.Fronts.{told_behind, told_then}
-use Rattle.cweb_lines.proofs.ReplacesTold.{tells_front, ends_more, closes_some}
+use Rattle.cweb_lines.proofs.Common.{ap, opened_file_names, read_failures_of}
+use Rattle.cweb_input.proofs.ReadersStayNamed.{blames_none}
+use Rattle.cweb_lines.proofs.MergeReadersStayNamed.{knows_only}
+use Rattle.cweb_lines.proofs.ReportsOnlyGrow.{told_behind, told_then}
+use Rattle.cweb_lines.proofs.OldSideFaults.{tells_front, ends_more, closes_some}
 use Rattle.cweb_lines.proofs.change.old_side.begin_change.Goals as goal
 
 pub returns-in-Err-clause-told : goal.returns-in-Err-clause-told
@@ -10,7 +10,7 @@ returns-in-Err-clause-told g c = λ tells. tells_front _ _ _ _ (c.in-Err.ensures
 
 pub returns-in-Err-close-clause-told : goal.returns-in-Err-close-clause-told
 returns-in-Err-close-clause-told g c = λ tells. closes_some c.args.begin _ _ _ _ _ _ _ _
-    (c.in-Ok.ensures.replaced tells) c.in-Err-close.ensures.err (ap names_of c.in-Err-close.ensures.only.names)
+    (c.in-Ok.ensures.replaced tells) c.in-Err-close.ensures.err (ap opened_file_names c.in-Err-close.ensures.only.names)
 
 pub returns-in-Err-clause-stops : goal.returns-in-Err-clause-stops
 returns-in-Err-clause-stops g c = λ tells. ends_more c.in-Err.stop _ _ _ _ _ _ (c.in-Err.ensures.stops tells)
@@ -18,11 +18,11 @@ returns-in-Err-clause-stops g c = λ tells. ends_more c.in-Err.stop _ _ _ _ _ _ 
 -- what was told stays
 pub returns-in-Err-close-clause-still : goal.returns-in-Err-close-clause-still
 returns-in-Err-close-clause-still g c = told_then _ _ _ c.in-Ok.ensures.still
-    (told_behind _ _ _ c.in-Err-close.ensures.err.told (ap names_of c.in-Err-close.ensures.only.names))
+    (told_behind _ _ _ c.in-Err-close.ensures.err.told (ap opened_file_names c.in-Err-close.ensures.only.names))
 
 pub returns-clause-still : goal.returns-clause-still
 returns-clause-still g c = told_then _ _ _ c.in-Ok.ensures.still
-    (told_behind _ _ _ c.in_default.ensures.told (ap names_of c.in_default.ensures.only.names))
+    (told_behind _ _ _ c.in_default.ensures.told (ap opened_file_names c.in_default.ensures.only.names))
 
 -- the readers
 pub returns-in-Err-close-clause-readers : goal.returns-in-Err-close-clause-readers
@@ -31,7 +31,7 @@ returns-in-Err-close-clause-readers g c = λ tells known. knows_only c.in-Err-cl
 
 pub returns-in-Err-close-clause-blamed : goal.returns-in-Err-close-clause-blamed
 returns-in-Err-close-clause-blamed g c = λ tells known. blames_none _ _ _ _
-    (ap read_blame c.in-Err-close.ensures.memory) (c.in-Ok.ensures.blamed tells known)
+    (ap read_failures_of c.in-Err-close.ensures.memory) (c.in-Ok.ensures.blamed tells known)
 
 pub returns-clause-readers : goal.returns-clause-readers
 returns-clause-readers g c = λ tells known.

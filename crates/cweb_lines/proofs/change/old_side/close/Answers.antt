@@ -7,5 +7,5 @@ returns-clause-told g c = grind (arith, common_steps)
 pub returns-clause-err : goal.returns-clause-err
 returns-clause-err g c = grind (arith, common_steps)
 
-pub returns-in-Err-tell_if-clause-err : goal.returns-in-Err-tell_if-clause-err
-returns-in-Err-tell_if-clause-err c = search rules
+pub returns-in-Err-report_if-clause-err : goal.returns-in-Err-report_if-clause-err
+returns-in-Err-report_if-clause-err c = search rules

@@ -1,6 +1,6 @@
-use Rattle.cweb_lines.proofs.Common.{Ok, ◌≡◌, ◌+◌, [], true, false, Vec, Global, ℕ, refl, ap, sym, ◌∙◌, arith, if◌then◌else◌, bytes_eq, names_of, SourceFault}
+use Rattle.cweb_lines.proofs.Common.{Ok, ◌≡◌, ◌+◌, [], true, false, Vec, Global, ℕ, refl, ap, sym, ◌∙◌, arith, if◌then◌else◌, bytes_eq, opened_file_names, SourceFault}
 use Rattle.cweb_lines.proofs.Compares.{compares_none, compares_some}
-use Rattle.cweb_open.proofs.Stacks.{over-none}
+use Rattle.cweb_input.proofs.SourceStacks.{over-none}
 use Rattle.cweb_lines.proofs.change.old_side.compare.Goals as goal
 
 pub returns-in_default-clause-compares : goal.returns-in_default-clause-compares
@@ -12,7 +12,7 @@ returns-in_default-clause-compares g c = λ tells.
     (over-none (g.S.Shelf.left c.take_raw.new.shelf) 0 _ c.take_raw.new.run.stack.texts [] (omega (arith, ended)))
     (λ i. record {
       faults = (c.in-Ok.ensures.only.faults i).items;
-      names = names_of (c.in-Ok.ensures.only.names i);
+      names = opened_file_names (c.in-Ok.ensures.only.names i);
       count = record { lines = counted.0 i; bytes = counted.1 i };
     })
 
@@ -24,7 +24,7 @@ returns-then-eq-clause-compares g c = λ tells.
     (λ i. bytes_eq (sym c.as_slice.ensures.value i) (sym first i)) ∙ sym c.eq.ensures ∙ c.if-eq.true in
     compares_some c.args.run.now.first.items c.take_raw.new.line.items c.args.so_far c.args.so_far c.in-Some.field-0 _ _
     _ _ taken.0 taken.1 (ap (λ (v : Vec SourceFault Global). v.items) c.in-Ok.ensures.only.faults)
-    (ap names_of c.in-Ok.ensures.only.names)
+    (ap opened_file_names c.in-Ok.ensures.only.names)
     (ap (λ b. if b then c.args.so_far.unequal else c.args.so_far.unequal + 1) (sym test)) refl
 
 pub returns-clause-compares : goal.returns-clause-compares
@@ -35,5 +35,5 @@ returns-clause-compares g c = λ tells.
     (λ i. bytes_eq (sym c.as_slice.ensures.value i) (sym first i)) ∙ sym c.eq.ensures ∙ c.if-eq.false in
     compares_some c.args.run.now.first.items c.take_raw.new.line.items c.args.so_far _ c.in-Some.field-0 _ _ _ _ taken.0
     taken.1 (ap (λ (v : Vec SourceFault Global). v.items) c.in-Ok.ensures.only.faults)
-    (ap names_of c.in-Ok.ensures.only.names)
+    (ap opened_file_names c.in-Ok.ensures.only.names)
     (ap (λ b. if b then c.args.so_far.unequal else c.args.so_far.unequal + 1) (sym test)) refl

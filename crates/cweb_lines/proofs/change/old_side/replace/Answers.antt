@@ -1,9 +1,9 @@
-use Rattle.cweb_lines.proofs.Common.{rules, ◌≡◌, [], ℕ, List, Vec, Global, Some, refl, ap, sym, subst, ◌∙◌, IsTrue, code_of, count_of, Thing, change_lines, told_by, names_of, lines_at, things_above, StopsFor, TopStops, read_blame}
+use Rattle.cweb_lines.proofs.Common.{rules, ◌≡◌, [], ℕ, List, Vec, Global, Some, refl, ap, sym, subst, ◌∙◌, IsTrue, change_code, counters_of, Thing, change_lines, so_far_of, opened_file_names, lines_at, things_above, StopsFor, TopStops, read_failures_of}
 use Rattle.cweb_lines.specs.declared.change.code.Code.TheVariants.{NewSide as new_side}
-use Rattle.cweb_open.proofs.Named.{blames_none}
-use Rattle.cweb_lines.proofs.Named.{knows_only}
-use Rattle.cweb_lines.proofs.Fronts.{told_same, told_then, told_took, took_faults, took_names}
-use Rattle.cweb_lines.proofs.Quiets.{Quiet, blamed_stop, quiet_same, quiet_set, quiet_tells, quiet_then, quiet_by, readers_after, still_tells}
+use Rattle.cweb_input.proofs.ReadersStayNamed.{blames_none}
+use Rattle.cweb_lines.proofs.MergeReadersStayNamed.{knows_only}
+use Rattle.cweb_lines.proofs.ReportsOnlyGrow.{told_same, told_then, told_took, took_faults, took_names}
+use Rattle.cweb_lines.proofs.NoReadFails.{Quiet, blamed_stop, quiet_same, quiet_set, quiet_tells, quiet_then, quiet_by, readers_after, still_tells}
 use Rattle.cweb_lines.proofs.Replaces.{compares_same, is_replaced_same, replaces_same, replaces_from, replaces_ends, replaces_new, replaces_code, replaces_line, raw_ends}
 use Rattle.cweb_lines.proofs.Codes.{is_new, is_faulty}
 use Rattle.cweb_lines.proofs.Stops.{told_stays, told_uncounted}
@@ -35,7 +35,7 @@ raws g c tells =
 
 pub returns-in-Err-clause-stops : goal.returns-in-Err-clause-stops
 returns-in-Err-clause-stops g c = λ tells. replaces_ends _ _ c.lines.so_far _ _ _ _
-    (c.lines.invariant.replaces tells) c.in-Err.stop (told_by c.take_change.new.run)
+    (c.lines.invariant.replaces tells) c.in-Err.stop (so_far_of c.take_change.new.run)
     (told_stays c.lines.run _ c.in-Err.ensures.only c.in-Err.ensures.answers.counted)
     (c.in-Err.ensures.stops (still_tells g.S.Shelf c.lines.invariant.quiet tells))
 
@@ -43,49 +43,51 @@ pub returns-in-Err-compare-clause-stops : goal.returns-in-Err-compare-clause-sto
 returns-in-Err-compare-clause-stops g c = λ tells.
     let still = still_tells g.S.Shelf c.lines.invariant.quiet tells in
     let taken = rw c.in-Some.is at (c.in-Ok.ensures.taken still) in
-    let test = ap code_of (sym c.deref.ensures.value) ∙ sym c.code_of.ensures ∙ c.in-None.is in
+    let test = ap change_code (sym c.deref.ensures.value) ∙ sym c.change_code.ensures ∙ c.in-None.is in
     let same = told_uncounted _ c.compare.new.run c.in-Err-compare.ensures.only c.in-Err-compare.ensures.away.same in
-    raw_ends _ _ c.lines.so_far _ _ _ _ (c.lines.invariant.replaces tells) (told_by c.take_change.new.run)
+    raw_ends _ _ c.lines.so_far _ _ _ _ (c.lines.invariant.replaces tells) (so_far_of c.take_change.new.run)
     c.take_change.new.line.items c.in-Some.at.place taken.0 _ taken.1 (took_faults c.in-Ok.ensures.only)
-    (took_names c.in-Ok.ensures.only) c.in-Err-compare.stop (told_by c.compare.new.run) same test
-    (subst (λ (ts : List Thing). StopsFor (TopStops c.in-Err-compare.stop (count_of c.take_change.new.run.limits) ts)
+    (took_names c.in-Ok.ensures.only) c.in-Err-compare.stop (so_far_of c.compare.new.run) same test
+    (subst (λ (ts : List Thing). StopsFor (TopStops c.in-Err-compare.stop (counters_of c.take_change.new.run.limits) ts)
     c.in-Err-compare.stop) (raws g (goal.at.returns-in-Err-compare-clause-stops g c).In-Ok tells)
     (c.in-Err-compare.ensures.stops (subst IsTrue (sym c.in-Ok.ensures.keeps.tells) still)))
 
 pub returns-then-eq-clause-replaced : goal.returns-then-eq-clause-replaced
 returns-then-eq-clause-replaced g c = λ tells.
     let taken = rw c.in-Some.is at (c.in-Ok.ensures.taken (still_tells g.S.Shelf c.lines.invariant.quiet tells)) in
-    let test : code_of c.take_change.new.line.items ≡ Some new_side = ap code_of (sym c.deref.ensures.value)
-    ∙ sym c.code_of.ensures ∙ c.in-Some-code_of.is
-    ∙ ap Some (is_new c.in-Some-code_of.code (sym c.eq.ensures ∙ c.if-eq.true)) in
+    let test : change_code c.take_change.new.line.items ≡ Some new_side = ap change_code (sym c.deref.ensures.value)
+    ∙ sym c.change_code.ensures ∙ c.in-Some-change_code.is
+    ∙ ap Some (is_new c.in-Some-change_code.code (sym c.eq.ensures ∙ c.if-eq.true)) in
     is_replaced_same _ _ _ _ _ _ _ _ _ (sym c.lines.invariant.goes_on)
     (sym (raws g (goal.at.returns-then-eq-clause-replaced g c).In-Ok tells)) (replaces_new _ _ c.lines.so_far _ _ _ _
-    (c.lines.invariant.replaces tells) (told_by c.take_change.new.run) c.take_change.new.line.items
+    (c.lines.invariant.replaces tells) (so_far_of c.take_change.new.run) c.take_change.new.line.items
     c.in-Some.at.place taken.0 _ taken.1 (took_faults c.in-Ok.ensures.only) (took_names c.in-Ok.ensures.only) test)
 
 pub lines-preserved : goal.lines-preserved
 lines-preserved g c = record {
-  quiet = quiet_tells g.S.Shelf (quiet g (goal.at.lines-preserved g c).In-Ok) _ c.in_default-tell.ensures.only
-      c.in_default-tell.ensures.told;
+  quiet = quiet_tells g.S.Shelf (quiet g (goal.at.lines-preserved g c).In-Ok) _ c.in_default-report.ensures.only
+      c.in_default-report.ensures.told;
   frame = search rules;
   goes_on = c.lines.invariant.goes_on;
   replaces = λ tells.
       let taken = rw c.in-Some.is at (c.in-Ok.ensures.taken (still_tells g.S.Shelf c.lines.invariant.quiet tells)) in
       let change : change_lines (g.S.Shelf.left c.take_change.new.shelf) c.take_change.new.run
-      ≡ change_lines (g.S.Shelf.left c.take_change.new.shelf) c.tell.new.self =
-      ap (λ ch. lines_at (g.S.Shelf.left c.take_change.new.shelf) ch) (sym c.in_default-tell.ensures.only.change) in
+      ≡ change_lines (g.S.Shelf.left c.take_change.new.shelf) c.report.new.self =
+      ap (λ ch. lines_at (g.S.Shelf.left c.take_change.new.shelf) ch) (sym c.in_default-report.ensures.only.change) in
       let same : things_above (g.S.Shelf.left c.lines.shelf) 0 c.lines.run.stack []
-      ≡ things_above (g.S.Shelf.left c.take_change.new.shelf) 0 c.tell.new.self.stack [] =
+      ≡ things_above (g.S.Shelf.left c.take_change.new.shelf) 0 c.report.new.self.stack [] =
       sym (raws g (goal.at.lines-preserved g c).In-Ok tells)
       ∙ ap (λ s. things_above (g.S.Shelf.left c.take_change.new.shelf) 0 s [])
-      (sym c.in_default-tell.ensures.only.stack) in
-      let test = ap code_of (sym c.deref.ensures.value) ∙ sym c.code_of.ensures ∙ c.in-Some-code_of.is in
+      (sym c.in_default-report.ensures.only.stack) in
+      let test = ap change_code (sym c.deref.ensures.value) ∙ sym c.change_code.ensures ∙ c.in-Some-change_code.is in
       replaces_same _ _ _ _ _ _ _ _ _ change same (replaces_code _ _ c.lines.so_far _ _ _ _
-      (c.lines.invariant.replaces tells) (told_by c.take_change.new.run) c.take_change.new.line.items
+      (c.lines.invariant.replaces tells) (so_far_of c.take_change.new.run) c.take_change.new.line.items
       c.in-Some.at.place taken.0 _ taken.1 (took_faults c.in-Ok.ensures.only) (took_names c.in-Ok.ensures.only)
-      c.in-Some-code_of.code (told_by c.tell.new.self) test (is_faulty c.in-Some-code_of.code taken.0.line _ _
-      (sym c.eq.ensures ∙ c.if-eq.false)) c.in_default-tell.ensures.told
-      (ap names_of c.in_default-tell.ensures.only.names) (ap count_of c.in_default-tell.ensures.only.limits));
+      c.in-Some-change_code.code (so_far_of c.report.new.self) test
+      (is_faulty c.in-Some-change_code.code taken.0.line _ _
+      (sym c.eq.ensures ∙ c.if-eq.false)) c.in_default-report.ensures.told
+      (ap opened_file_names c.in_default-report.ensures.only.names)
+      (ap counters_of c.in_default-report.ensures.only.limits));
 }
 
 pub lines-preserved-in-None : goal.lines-preserved-in-None
@@ -99,16 +101,16 @@ lines-preserved-in-None g c = record {
       let still = still_tells g.S.Shelf c.lines.invariant.quiet tells in
       let later = subst IsTrue (sym c.in-Ok.ensures.keeps.tells) still in
       let taken = rw c.in-Some.is at (c.in-Ok.ensures.taken still) in
-      let test = ap code_of (sym c.deref.ensures.value) ∙ sym c.code_of.ensures ∙ c.in-None.is in
+      let test = ap change_code (sym c.deref.ensures.value) ∙ sym c.change_code.ensures ∙ c.in-None.is in
       let change : change_lines (g.S.Shelf.left c.take_change.new.shelf) c.take_change.new.run
       ≡ change_lines (g.S.Shelf.left c.compare.new.shelf) c.compare.new.run =
       λ i. lines_at (sym (c.in-Ok-compare.ensures.keeps.left later) i) (sym c.in-Ok-compare.ensures.change i) in
       let compares = compares_same _ _ _ _ _ _ _ _ _ (ap (λ (v : Vec ℕ Global). v.items) c.swap.ensures.x_after)
       (raws g (goal.at.lines-preserved-in-None g c).In-Ok tells) (c.in-Ok-compare.ensures.compares later) in
       replaces_same _ _ _ _ _ _ _ _ _ change refl (replaces_line _ _ c.lines.so_far _ _ _ _
-      (c.lines.invariant.replaces tells) (told_by c.take_change.new.run) c.take_change.new.line.items
+      (c.lines.invariant.replaces tells) (so_far_of c.take_change.new.run) c.take_change.new.line.items
       c.in-Some.at.place taken.0 _ taken.1 (took_faults c.in-Ok.ensures.only) (took_names c.in-Ok.ensures.only)
-      c.in-Ok-compare.replaced _ (told_by c.compare.new.run) test compares);
+      c.in-Ok-compare.replaced _ (so_far_of c.compare.new.run) test compares);
 }
 
 -- what was told stays
@@ -125,10 +127,10 @@ returns-in-Err-compare-clause-still g c = told_then _ _ _
 pub returns-then-eq-clause-still : goal.returns-then-eq-clause-still
 returns-then-eq-clause-still g c = (quiet g (goal.at.returns-then-eq-clause-still g c).In-Ok).told
 
-pub returns-in-Err-tell-clause-still : goal.returns-in-Err-tell-clause-still
-returns-in-Err-tell-clause-still g c = told_then _ _ _
-    (quiet g (goal.at.returns-in-Err-tell-clause-still g c).In-Ok).told
-    (told_same _ _ c.in-Err-tell.ensures.err (ap names_of c.in-Err-tell.ensures.only.names))
+pub returns-in-Err-report-clause-still : goal.returns-in-Err-report-clause-still
+returns-in-Err-report-clause-still g c = told_then _ _ _
+    (quiet g (goal.at.returns-in-Err-report-clause-still g c).In-Ok).told
+    (told_same _ _ c.in-Err-report.ensures.err (ap opened_file_names c.in-Err-report.ensures.only.names))
 
 -- the readers
 pub returns-in-Err-clause-readers : goal.returns-in-Err-clause-readers
@@ -160,10 +162,11 @@ returns-then-eq-clause-readers g c = (quiet g (goal.at.returns-then-eq-clause-re
 pub returns-then-eq-clause-blamed : goal.returns-then-eq-clause-blamed
 returns-then-eq-clause-blamed g c = (quiet g (goal.at.returns-then-eq-clause-blamed g c).In-Ok).blamed
 
-pub returns-in-Err-tell-clause-readers : goal.returns-in-Err-tell-clause-readers
-returns-in-Err-tell-clause-readers g c = λ tells known. knows_only c.in-Err-tell.ensures.only
-    ((quiet g (goal.at.returns-in-Err-tell-clause-readers g c).In-Ok).readers tells known)
+pub returns-in-Err-report-clause-readers : goal.returns-in-Err-report-clause-readers
+returns-in-Err-report-clause-readers g c = λ tells known. knows_only c.in-Err-report.ensures.only
+    ((quiet g (goal.at.returns-in-Err-report-clause-readers g c).In-Ok).readers tells known)
 
-pub returns-in-Err-tell-clause-blamed : goal.returns-in-Err-tell-clause-blamed
-returns-in-Err-tell-clause-blamed g c = λ tells known. blames_none _ _ _ _ (ap read_blame c.in-Err-tell.ensures.memory)
-    ((quiet g (goal.at.returns-in-Err-tell-clause-blamed g c).In-Ok).blamed tells known)
+pub returns-in-Err-report-clause-blamed : goal.returns-in-Err-report-clause-blamed
+returns-in-Err-report-clause-blamed g c =
+    λ tells known. blames_none _ _ _ _ (ap read_failures_of c.in-Err-report.ensures.memory)
+    ((quiet g (goal.at.returns-in-Err-report-clause-blamed g c).In-Ok).blamed tells known)

@@ -1,5 +1,5 @@
-use Rattle.cweb_lines.proofs.Common.{◌≡◌, ◌≤◌, ◌-◌, [], false, IsTrue, change_lines, told_by, Replaces, things_above}
-use Rattle.cweb_lines.proofs.Quiets.{Quiet}
+use Rattle.cweb_lines.proofs.Common.{◌≡◌, ◌≤◌, ◌-◌, [], false, IsTrue, change_lines, so_far_of, Replaces, things_above}
+use Rattle.cweb_lines.proofs.NoReadFails.{Quiet}
 use Rattle.cweb_lines.proofs.change.old_side.replace.Given as goal
 
 abbrev pub invariant-lines : goal.invariant-lines
@@ -23,7 +23,7 @@ invariant-lines g l = record {
   replaces : IsTrue (g.S.Shelf.tells l.fn.shelf) → Replaces (change_lines (g.S.Shelf.left l.fn.shelf) l.fn.run)
       (things_above (g.S.Shelf.left l.fn.shelf) 0 l.fn.run.stack []) l.so_far
       (change_lines (g.S.Shelf.left l.shelf) l.run) (things_above (g.S.Shelf.left l.shelf) 0 l.run.stack [])
-      (told_by l.fn.run) (told_by l.run);
+      (so_far_of l.fn.run) (so_far_of l.run);
 }
 
 abbrev pub decreases-lines : goal.decreases-lines

@@ -1,9 +1,9 @@
-use Rattle.cweb_lines.proofs.Common.{rules, ℕ, [], ◌∷◌, ◌++◌, List, Vec, Global, None, refl, ap, sym, subst, ◌∙◌, sought, count_of, SourceLine, change_lines, told_by, names_of, Searched, SeeksTo, ToldFront, lines_at, read_blame, SourceFault, Waiting}
-use Rattle.cweb_open.proofs.Named.{blames_memory, blames_none}
-use Rattle.cweb_lines.proofs.Named.{knows_only, knows_same}
-use Rattle.cweb_open.proofs.Found.{OnOk-both}
-use Rattle.cweb_lines.proofs.Fronts.{told_behind, told_if, told_then, told_took, took_faults, took_names}
-use Rattle.cweb_lines.proofs.Quiets.{Quiet, blamed_stop, quiet_same, quiet_set, quiet_tells, quiet_then, quiet_by, readers_after, still_tells}
+use Rattle.cweb_lines.proofs.Common.{rules, ℕ, [], ◌∷◌, ◌++◌, List, Vec, Global, None, refl, ap, sym, subst, ◌∙◌, sought, counters_of, SourceLine, change_lines, so_far_of, opened_file_names, Searched, SeeksTo, ReportsFaultPrefix, lines_at, read_failures_of, SourceFault, Waiting}
+use Rattle.cweb_input.proofs.ReadersStayNamed.{blames_memory, blames_none}
+use Rattle.cweb_lines.proofs.MergeReadersStayNamed.{knows_only, knows_same}
+use Rattle.cweb_input.proofs.Found.{OnOk-both}
+use Rattle.cweb_lines.proofs.ReportsOnlyGrow.{told_behind, told_if, told_then, told_took, took_faults, took_names}
+use Rattle.cweb_lines.proofs.NoReadFails.{Quiet, blamed_stop, quiet_same, quiet_set, quiet_tells, quiet_then, quiet_by, readers_after, still_tells}
 use Rattle.cweb_lines.proofs.Seeks.{seeks_ended, seeks_from, seeks_ends, seeks_told_more, seeks_on, seeks_found}
 use Rattle.cweb_lines.proofs.Stops.{told_stays}
 use Rattle.cweb_lines.proofs.change.seek.seek.Given as given
@@ -33,7 +33,7 @@ looked g c = quiet_tells g.S.Shelf (quiet_then g.S.Shelf c.lines.invariant.quiet
 
 pub returns-in-Err-clause-stops : goal.returns-in-Err-clause-stops
 returns-in-Err-clause-stops g c = λ tells.
-    seeks_ends _ _ _ _ _ (c.lines.invariant.seeks tells) c.in-Err.stop (told_by c.take_change.new.run)
+    seeks_ends _ _ _ _ _ (c.lines.invariant.seeks tells) c.in-Err.stop (so_far_of c.take_change.new.run)
     (told_stays c.lines.run _ c.in-Err.ensures.only c.in-Err.ensures.answers.counted)
     (c.in-Err.ensures.stops (still_tells g.S.Shelf c.lines.invariant.quiet tells))
 
@@ -44,12 +44,13 @@ returns-in-Err-look_at-clause-told g c = λ tells.
     (taken.0.is ∙ ap (λ b. record { bytes = b; place = c.in-Some.at.place }) (sym c.deref.ensures.value))
     (lines_at (g.S.Shelf.left c.take_change.new.shelf) c.take_change.new.run.change) in
     seeks_told_more _ (change_lines (g.S.Shelf.left c.lines.shelf) c.lines.run) c.lines.begin _ _
-    (c.lines.invariant.seeks tells) (told_by c.look_at.new.run) (subst (λ (ls : List SourceLine).
-    ToldFront (sought ls c.lines.begin).faults c.lines.run.faults.items c.look_at.new.run.faults.items)
+    (c.lines.invariant.seeks tells) (so_far_of c.look_at.new.run) (subst (λ (ls : List SourceLine).
+    ReportsFaultPrefix (sought ls c.lines.begin).faults c.lines.run.faults.items c.look_at.new.run.faults.items)
     (sym taken.1) (subst (λ (v : Vec SourceFault Global).
-    ToldFront (sought (taken.0.line ∷ lines_at (g.S.Shelf.left c.take_change.new.shelf) c.take_change.new.run.change)
+    ReportsFaultPrefix (sought
+    (taken.0.line ∷ lines_at (g.S.Shelf.left c.take_change.new.shelf) c.take_change.new.run.change)
     c.lines.begin).faults v.items c.look_at.new.run.faults.items) c.in-Ok.ensures.only.faults front))
-    (ap names_of (c.in-Err-look_at.ensures.only.names ∙ c.in-Ok.ensures.only.names))
+    (ap opened_file_names (c.in-Err-look_at.ensures.only.names ∙ c.in-Ok.ensures.only.names))
 
 pub lines-preserved : goal.lines-preserved
 lines-preserved g c = record {
@@ -60,13 +61,15 @@ lines-preserved g c = record {
       let taken = rw c.in-Some.is at (c.in-Ok.ensures.taken (still_tells g.S.Shelf c.lines.invariant.quiet tells)) in
       subst (λ ch. SeeksTo (sought (change_lines (g.S.Shelf.left c.args.shelf.now) c.args.run.now) None)
       (sought (lines_at (g.S.Shelf.left c.take_change.new.shelf) ch) c.in-On.next)
-      (told_by c.args.run.now) (told_by c.look_at.new.run)) (sym c.in-Ok-look_at.ensures.only.change)
+      (so_far_of c.args.run.now) (so_far_of c.look_at.new.run)) (sym c.in-Ok-look_at.ensures.only.change)
       (seeks_on (sought (change_lines (g.S.Shelf.left c.args.shelf.now) c.args.run.now) None)
-      (change_lines (g.S.Shelf.left c.lines.shelf) c.lines.run) c.lines.begin (told_by c.args.run.now)
-      (told_by c.lines.run) (c.lines.invariant.seeks tells) (told_by c.take_change.new.run) (told_by c.look_at.new.run)
+      (change_lines (g.S.Shelf.left c.lines.shelf) c.lines.run) c.lines.begin (so_far_of c.args.run.now)
+      (so_far_of c.lines.run) (c.lines.invariant.seeks tells) (so_far_of c.take_change.new.run)
+      (so_far_of c.look_at.new.run)
       c.take_change.new.line.items c.in-Some.at.place taken.0 _ taken.1 (ap (λ (v : Vec SourceFault Global).
       v.items) c.in-Ok.ensures.only.faults) (took_names c.in-Ok.ensures.only)
-      (ap names_of c.in-Ok-look_at.ensures.only.names) (ap count_of c.in-Ok-look_at.ensures.only.limits) c.in-On.next
+      (ap opened_file_names c.in-Ok-look_at.ensures.only.names)
+      (ap counters_of c.in-Ok-look_at.ensures.only.limits) c.in-On.next
       (rw (c.deref.ensures.value, c.in-On.is) at c.in-Ok-look_at.ensures.looks));
 }
 
@@ -75,16 +78,17 @@ returns-in-Entry-clause-searched g c = λ tells.
     let taken = rw c.in-Some.is at (c.in-Ok.ensures.taken (still_tells g.S.Shelf c.lines.invariant.quiet tells)) in
     let found = seeks_found (sought (change_lines (g.S.Shelf.left c.args.shelf.now) c.args.run.now) None)
     (change_lines (g.S.Shelf.left c.lines.shelf) c.lines.run) c.lines.begin
-    (told_by c.args.run.now) (told_by c.lines.run) (c.lines.invariant.seeks tells) (told_by c.take_change.new.run)
-    (told_by c.look_at.new.run) c.take_change.new.line.items c.in-Some.at.place taken.0 _ taken.1
+    (so_far_of c.args.run.now) (so_far_of c.lines.run) (c.lines.invariant.seeks tells) (so_far_of c.take_change.new.run)
+    (so_far_of c.look_at.new.run) c.take_change.new.line.items c.in-Some.at.place taken.0 _ taken.1
     (took_faults c.in-Ok.ensures.only) (took_names c.in-Ok.ensures.only)
-    (ap names_of c.in-Ok-look_at.ensures.only.names) (ap count_of c.in-Ok-look_at.ensures.only.limits) c.in-Entry.place
+    (ap opened_file_names c.in-Ok-look_at.ensures.only.names)
+    (ap counters_of c.in-Ok-look_at.ensures.only.limits) c.in-Entry.place
     (rw (c.deref.ensures.value, c.in-Entry.is) at c.in-Ok-look_at.ensures.looks) in
     subst (λ ch. Searched (sought (change_lines (g.S.Shelf.left c.args.shelf.now) c.args.run.now) None)
-    (told_by c.args.run.now) (told_by c.look_at.new.run) (Waiting c.in-Entry.place) c.swap.new.x.items
+    (so_far_of c.args.run.now) (so_far_of c.look_at.new.run) (Waiting c.in-Entry.place) c.swap.new.x.items
     (lines_at (g.S.Shelf.left c.take_change.new.shelf) ch)) (sym c.in-Ok-look_at.ensures.only.change)
     (subst (λ (v : Vec ℕ Global). Searched (sought (change_lines (g.S.Shelf.left c.args.shelf.now) c.args.run.now) None)
-    (told_by c.args.run.now) (told_by c.look_at.new.run) (Waiting c.in-Entry.place) v.items (lines_at
+    (so_far_of c.args.run.now) (so_far_of c.look_at.new.run) (Waiting c.in-Entry.place) v.items (lines_at
     (g.S.Shelf.left c.take_change.new.shelf) c.take_change.new.run.change)) (sym c.swap.ensures.x_after) found)
 
 -- what was told stays
@@ -95,7 +99,7 @@ pub returns-in_default-clause-still : goal.returns-in_default-clause-still
 returns-in_default-clause-still g c = told_then _ _ _
     (quiet g (goal.at.returns-in_default-clause-still g c).In-Ok).told
     (told_if c.end.result _ _ (sought [] c.lines.begin).faults c.end.ensures.told c.end.ensures.err
-    (ap names_of c.end.ensures.names))
+    (ap opened_file_names c.end.ensures.names))
 
 pub returns-in-Err-look_at-clause-still : goal.returns-in-Err-look_at-clause-still
 returns-in-Err-look_at-clause-still g c =
@@ -106,7 +110,7 @@ returns-in-Err-look_at-clause-still g c =
     } in
     let front = c.in-Err-look_at.ensures.err source refl [] in
     told_then _ _ _ (quiet g (goal.at.returns-in-Err-look_at-clause-still g c).In-Ok).told
-    (told_behind _ _ front.front front.told (ap names_of c.in-Err-look_at.ensures.only.names))
+    (told_behind _ _ front.front front.told (ap opened_file_names c.in-Err-look_at.ensures.only.names))
 
 pub returns-in-Entry-clause-still : goal.returns-in-Entry-clause-still
 returns-in-Entry-clause-still g c = (looked g (goal.at.returns-in-Entry-clause-still g c).In-Ok-look_at).told
@@ -117,9 +121,9 @@ returns-in_default-clause-searched g c = λ tells.
     let taken = rw c.in_default.is at (c.in-Ok.ensures.taken (still_tells g.S.Shelf c.lines.invariant.quiet tells)) in
     let counted = rw c.in_default.is at c.in-Ok.ensures.answers.counted in
     OnOk-both c.end.result (λ told done.
-    seeks_ended _ _ c.lines.begin _ (told_by c.lines.run) (c.lines.invariant.seeks tells) taken.0 _ (told ∙ ap
+    seeks_ended _ _ c.lines.begin _ (so_far_of c.lines.run) (c.lines.invariant.seeks tells) taken.0 _ (told ∙ ap
     (λ (v : Vec SourceFault Global). v.items ++ (sought [] c.lines.begin).faults) c.in-Ok.ensures.only.faults)
-    (ap names_of (c.end.ensures.names ∙ c.in-Ok.ensures.only.names)) (ap count_of c.end.ensures.limits
+    (ap opened_file_names (c.end.ensures.names ∙ c.in-Ok.ensures.only.names)) (ap counters_of c.end.ensures.limits
     ∙ (λ i. record { lines = counted.0 i; bytes = counted.1 i })) _ done _ _) c.end.ensures.told c.end.ensures.stage
 
 -- the readers
@@ -133,7 +137,7 @@ returns-in-Err-clause-blamed g c =
 pub returns-in_default-clause-readers : goal.returns-in_default-clause-readers
 returns-in_default-clause-readers g c = λ tells known.
     knows_same _ c.take_change.new.run c.end.new.run (ap (λ s. s.texts) c.end.ensures.stack) c.end.ensures.change
-    (ap names_of c.end.ensures.names)
+    (ap opened_file_names c.end.ensures.names)
     ((quiet g (goal.at.returns-in_default-clause-readers g c).In-Ok).readers tells known)
 
 pub returns-in_default-clause-blamed : goal.returns-in_default-clause-blamed
@@ -146,7 +150,7 @@ returns-in-Err-look_at-clause-readers g c = λ tells known. knows_only c.in-Err-
 
 pub returns-in-Err-look_at-clause-blamed : goal.returns-in-Err-look_at-clause-blamed
 returns-in-Err-look_at-clause-blamed g c = λ tells known.
-    blames_none _ _ _ _ (ap read_blame c.in-Err-look_at.ensures.memory)
+    blames_none _ _ _ _ (ap read_failures_of c.in-Err-look_at.ensures.memory)
     ((quiet g (goal.at.returns-in-Err-look_at-clause-blamed g c).In-Ok).blamed tells known)
 
 pub returns-in-Entry-clause-readers : goal.returns-in-Entry-clause-readers

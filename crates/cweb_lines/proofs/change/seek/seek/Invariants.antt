@@ -1,5 +1,5 @@
-use Rattle.cweb_lines.proofs.Common.{◌≡◌, ◌≤◌, ◌-◌, length, None, IsTrue, sought, change_lines, told_by, names_of, BegunKnown, SeeksTo}
-use Rattle.cweb_lines.proofs.Quiets.{Quiet}
+use Rattle.cweb_lines.proofs.Common.{◌≡◌, ◌≤◌, ◌-◌, length, None, IsTrue, sought, change_lines, so_far_of, opened_file_names, BegunKnown, SeeksTo}
+use Rattle.cweb_lines.proofs.NoReadFails.{Quiet}
 use Rattle.cweb_lines.proofs.change.seek.seek.Given as goal
 
 abbrev pub invariant-lines : goal.invariant-lines
@@ -18,10 +18,10 @@ invariant-lines g l = record {
     more : l.fn.run.limits.lines ≤ l.run.limits.lines;
     longer : l.fn.run.limits.bytes ≤ l.run.limits.bytes;
   };
-  begun : BegunKnown (length (names_of l.run.names)) l.begin;
+  begun : BegunKnown (length (opened_file_names l.run.names)) l.begin;
   seeks : IsTrue (g.S.Shelf.tells l.fn.shelf) → SeeksTo (sought
       (change_lines (g.S.Shelf.left l.fn.shelf) l.fn.run) None) (sought
-      (change_lines (g.S.Shelf.left l.shelf) l.run) l.begin) (told_by l.fn.run) (told_by l.run);
+      (change_lines (g.S.Shelf.left l.shelf) l.run) l.begin) (so_far_of l.fn.run) (so_far_of l.run);
 }
 
 abbrev pub decreases-lines : goal.decreases-lines

@@ -1,5 +1,5 @@
 use Rattle.cweb_lines.proofs.Common.{arith}
-use Rattle.cweb_lines.proofs.Runs.{files_in-at}
+use Rattle.cweb_lines.proofs.MergeStateEvents.{files_in-at}
 use Rattle.cweb_lines.proofs.merger.Merger.faults.Goals as goal
 
 pub returns-clause-known : goal.returns-clause-known

@@ -1,5 +1,5 @@
 use Rattle.cweb_lines.proofs.Common.{[], refl, pending_of, top_of}
-use Rattle.cweb_lines.proofs.Aheads.{is_ahead, looks_at, looks_first}
+use Rattle.cweb_lines.proofs.Lookahead.{is_ahead, looks_at, looks_first}
 use Rattle.cweb_lines.proofs.merger.Merger.first_ahead.Goals as goal
 
 pub returns-clause-looks : goal.returns-clause-looks

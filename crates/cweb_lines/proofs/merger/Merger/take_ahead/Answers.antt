@@ -1,6 +1,6 @@
 use Rattle.cweb_lines.proofs.Common.{arith, length-map, pending_of, sources_next, top_of}
-use Rattle.cweb_lines.proofs.Aheads.{lends_lines}
-use Rattle.cweb_lines.proofs.GivenLines.{next-length}
+use Rattle.cweb_lines.proofs.Lookahead.{lends_lines}
+use Rattle.cweb_lines.proofs.EmittedLines.{next-length}
 use Rattle.cweb_lines.proofs.merger.Merger.take_ahead.Goals as goal
 
 pub returns : goal.returns

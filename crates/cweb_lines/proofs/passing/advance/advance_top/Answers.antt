@@ -1,7 +1,7 @@
-use Rattle.cweb_lines.proofs.Common.{[], count_of, ◌≡◌, ◌+◌, ◌<◌, ◌-◌, ◌∙◌, None, ap, length, refl, sym, subst, arith, get_or-set_same, get_or_default, KeepsLevel, PassesSlot, StandsAt, piece_of, sources_next, top_of, line_number, files_up_to}
-use Rattle.cweb_open.specs.Texts.{most}
-use Rattle.cweb_open.proofs.Named.{named_at, named_set}
-use Rattle.cweb_open.proofs.Stacks.{top_passed, most_read, most_set, stays_below, deep-at, deep-set}
+use Rattle.cweb_lines.proofs.Common.{[], counters_of, ◌≡◌, ◌+◌, ◌<◌, ◌-◌, ◌∙◌, None, ap, length, refl, sym, subst, arith, get_or-set_same, get_or_default, KeepsLevel, PassesSlot, IsStretchAt, buffer_of, sources_next, top_of, line_number, files_up_to}
+use Rattle.cweb_input.specs.inner.OpenSources.{maximum_of}
+use Rattle.cweb_input.proofs.ReadersStayNamed.{named_at, named_set}
+use Rattle.cweb_input.proofs.SourceStacks.{top_passed, most_read, most_set, stays_below, deep-at, deep-set}
 use Rattle.cweb_lines.proofs.passing.advance.advance_top.Goals as goal
 
 pub advance_slot-requires-clause-number : goal.advance_slot-requires-clause-number
@@ -20,14 +20,16 @@ returns-clause-passes g c = λ entry lines stands.
     let within : c.args.stack.now.depth - 1 < length texts = omega arith in
     let same = get_or_default texts (c.args.stack.now.depth - 1) None c.index-stack-top.result within in
     let passes =
-    c.advance_slot.ensures.passes entry lines (subst (λ slot. StandsAt entry slot c.args.stretch lines) same stands) in
+    c.advance_slot.ensures.passes entry lines
+    (subst (λ slot. IsStretchAt entry slot c.args.stretch lines) same stands) in
     let level = c.advance_slot.ensures.level in
     let takes = subst (λ slot.
     PassesSlot slot c.advance_slot.new.slot c.args.limits.now c.advance_slot.new.limits lines) (sym same) passes in
     let kept = subst (λ slot. KeepsLevel slot c.advance_slot.new.slot) (sym same) level in
     record {
       takes = λ left low above rest. top_passed left left refl texts None c.advance_slot.new.slot
-          c.args.stack.now.depth within (count_of c.args.limits.now) (count_of c.args.limits.now) [] low above rest
+          c.args.stack.now.depth within (counters_of c.args.limits.now) (counters_of c.args.limits.now)
+          [] low above rest
           (sources_next (top_of c.args.stack.now) lines) kept.depth kept.may_match (takes.takes left);
       few = passes.few;
       bytes = passes.bytes;
@@ -45,15 +47,16 @@ returns-clause-keeps g c =
       below = stays_below texts _ place place c.advance_slot.new.slot (omega arith) refl;
       named = λ opened_as names each. named_set opened_as names texts place c.advance_slot.new.slot each
           (level.named opened_as names (named_at opened_as names texts place c.index-stack-top.result within each));
-      files = most_set files_up_to texts place c.advance_slot.new.slot (most files_up_to texts) (omega arith) (omega (
-        arith,
-        level.file,
-        most_read files_up_to texts place c.index-stack-top.result within,
-      ));
+      files = most_set files_up_to texts place c.advance_slot.new.slot (maximum_of files_up_to texts) (omega arith)
+          (omega (
+            arith,
+            level.file,
+            most_read files_up_to texts place c.index-stack-top.result within,
+          ));
       deep = λ each. deep-set 0 place place texts _ top each
           (level.deep place (deep-at 0 place place texts c.index-stack-top.result top within each));
-      piece = ap piece_of (get_or-set_same texts place c.advance_slot.new.slot None within) ∙ level.piece
-          ∙ ap piece_of (sym (get_or_default texts place None c.index-stack-top.result within));
+      buffer = ap buffer_of (get_or-set_same texts place c.advance_slot.new.slot None within) ∙ level.buffer
+          ∙ ap buffer_of (sym (get_or_default texts place None c.index-stack-top.result within));
     }
 
 pub returns-clause-numbers : goal.returns-clause-numbers

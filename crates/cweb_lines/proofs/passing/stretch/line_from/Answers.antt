@@ -1,11 +1,11 @@
-use Rattle.cweb_lines.proofs.Common.{ℕ, List, [], ◌∷◌, ◌+◌, ◌-◌, ◌∙◌, drop, take, ap, sym, subst, refl, arith, length-take, slice_range, is_include, Reaches, begun_by, pending_in, Stretch}
-use Rattle.cweb_lines.proofs.Standing.{one_line}
+use Rattle.cweb_lines.proofs.Common.{ℕ, List, [], ◌∷◌, ◌+◌, ◌-◌, ◌∙◌, drop, take, ap, sym, subst, refl, arith, length-take, slice_range, is_include_line, Reaches, begun_by, pending_in, Stretch}
+use Rattle.cweb_lines.proofs.LinesInBuffer.{one_line}
 use Rattle.cweb_lines.proofs.passing.stretch.line_from.Goals as goal
 
 pub returns-clause-line : goal.returns-clause-line
 returns-clause-line g c =
-    let piece = c.deref.result.now in
-    let bytes = slice_range piece c.args.start c.args.source.now.end in
+    let buffer = c.deref.result.now in
+    let bytes = slice_range buffer c.args.start c.args.source.now.end in
     let at = c.in-Some.at in
     let size = length-take at bytes in
     let entry = pending_in c.args.stage c.args.first.now in
@@ -16,17 +16,17 @@ returns-clause-line g c =
       lines = 1;
     } in
     let near = c.in-Some.ensures.within in
-    let whole = length-take (c.args.source.now.end - c.args.start) (drop c.args.start piece) in
+    let whole = length-take (c.args.source.now.end - c.args.start) (drop c.args.start buffer) in
     subst (λ (p : List ℕ). Reaches entry c.args.may_match p c.args.start c.args.source.now.end s)
     c.deref.ensures.value (
       take at bytes ∷ [],
-      one_line entry c.args.may_match piece c.args.start c.args.source.now.end at c.trimmed_length-length.result
+      one_line entry c.args.may_match buffer c.args.start c.args.source.now.end at c.trimmed_length-length.result
           c.in-Some.ensures c.requires (omega (arith, c.trimmed_length-length.ensures.within, size, near)) trims s
           refl refl
           refl (record {
             clean = c.in-Some.ensures.before;
             short = omega (arith, size, c.if-at-gt-LINE_LENGTH.false);
-            plain = ap is_include (sym trims) ∙ sym c.is_include.ensures ∙ c.if-is_include.false;
+            plain = ap is_include_line (sym trims) ∙ sym c.is_include_line.ensures ∙ c.if-is_include_line.false;
             unbegun = ap (begun_by entry c.args.may_match) (sym trims) ∙ sym c.begun_at.ensures
                 ∙ c.in_default-begun_at.is;
           }),

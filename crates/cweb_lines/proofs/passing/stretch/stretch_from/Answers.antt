@@ -1,5 +1,5 @@
 use Rattle.cweb_lines.proofs.Common.{arith}
-use Rattle.cweb_lines.proofs.Standing.{lines_within, reaches_more}
+use Rattle.cweb_lines.proofs.LinesInBuffer.{lines_within, reaches_more}
 use Rattle.cweb_lines.proofs.passing.stretch.stretch_from.Goals as goal
 
 pub then-stretch-requires : goal.then-stretch-requires

@@ -1,6 +1,6 @@
 use Rattle.cweb_lines.proofs.Common.{refl, pending_in}
-use Rattle.cweb_lines.proofs.Aheads.{whatever}
-use Rattle.cweb_lines.proofs.Standing.{stands_in}
+use Rattle.cweb_lines.proofs.Lookahead.{whatever}
+use Rattle.cweb_lines.proofs.LinesInBuffer.{stands_in}
 use Rattle.cweb_lines.proofs.passing.stretch.stretch_of.Goals as goal
 
 pub returns-clause-lines : goal.returns-clause-lines

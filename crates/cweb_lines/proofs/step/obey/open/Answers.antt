@@ -1,14 +1,14 @@
-use Rattle.cweb_lines.proofs.Common.{◌≡◌, ◌+◌, ◌∷◌, [], ℕ, List, length, refl, sym, arith, ap, ◌∙◌, length-append, string_bytes, ◌++◌, subst, get_or, rules, append-nil, get_or_push, names_of, AreNamed, IsNamed, line_number, files_up_to}
-use Rattle.cweb_open.proofs.Named.{change_more, named_more, named_set}
-use Rattle.cweb_lines.proofs.Fronts.{told_more, told_same}
-use Rattle.cweb_open.proofs.Stacks.{most_set}
+use Rattle.cweb_lines.proofs.Common.{◌≡◌, ◌+◌, ◌∷◌, [], ℕ, List, length, refl, sym, arith, ap, ◌∙◌, length-append, string_bytes, ◌++◌, subst, get_or, rules, append-nil, get_or_push, opened_file_names, AreReadersNamed, IsReaderNamed, line_number, files_up_to}
+use Rattle.cweb_input.proofs.ReadersStayNamed.{change_more, named_more, named_set}
+use Rattle.cweb_lines.proofs.ReportsOnlyGrow.{told_more, told_same}
+use Rattle.cweb_input.proofs.SourceStacks.{most_set}
 use Rattle.cweb_lines.proofs.step.obey.open.Goals as goal
 
 pub invariant_of-run-2 : goal.invariant_of-run-2
 invariant_of-run-2 g c =
-    let count : length (names_of c.push.new.self) ≡ length (names_of c.args.run.now.names) + 1 =
+    let count : length (opened_file_names c.push.new.self) ≡ length (opened_file_names c.args.run.now.names) + 1 =
     ap (λ (ns : List (List ℕ)). length ns) c.in_default.ensures.ok
-    ∙ length-append (names_of c.args.run.now.names) (string_bytes c.args.opening.name ∷ []) in
+    ∙ length-append (opened_file_names c.args.run.now.names) (string_bytes c.args.opening.name ∷ []) in
     record {
       shallow = omega (arith, c.push-2.ensures.depth, c.requires.room, c.requires.deep);
       deep = c.push-2.ensures.deep;
@@ -19,7 +19,7 @@ invariant_of-run-2 g c =
       floor_deep = c.args.run.now.floor_deep;
       named = omega (arith, count, c.requires.names);
       open_known = rw c.push-2.ensures.texts (most_set files_up_to c.args.run.now.stack.texts c.args.run.now.stack.depth
-          _ (length (names_of c.push.new.self))
+          _ (length (opened_file_names c.push.new.self))
           (omega (arith, count, c.args.run.now.open_known)) (omega (arith, count, c.count.ensures)));
       change_known = omega (arith, count, c.args.run.now.change_known);
       begun_known = omega (arith, count, c.args.run.now.begun_known);
@@ -34,8 +34,8 @@ returns-clause-still g c = told_more _ _ [] _ (sym (append-nil c.args.run.now.fa
 pub returns-in-Err-clause-still : goal.returns-in-Err-clause-still
 returns-in-Err-clause-still g c = told_same _ _ refl c.in-Err.ensures.err
 
-pub returns-in_err-piece-clause-still : goal.returns-in_err-piece-clause-still
-returns-in_err-piece-clause-still g c = told_same _ _ refl refl
+pub returns-in_err-buffer-clause-still : goal.returns-in_err-buffer-clause-still
+returns-in_err-buffer-clause-still g c = told_same _ _ refl refl
 
 pub returns-in_err-source-clause-still : goal.returns-in_err-source-clause-still
 returns-in_err-source-clause-still g c = told_same _ _ refl refl
@@ -45,30 +45,32 @@ pub returns-clause-readers : goal.returns-clause-readers
 returns-clause-readers g c = λ opened_as opened known.
     let run = c.args.run.now in
     let more = string_bytes c.args.opening.name ∷ [] in
-    let names : names_of c.push.new.self ≡ names_of run.names ++ more = c.in_default.ensures.ok in
-    let file : get_or (names_of run.names ++ more) c.count.result [] ≡ string_bytes c.args.opening.name = get_or_push
-    (names_of run.names) (string_bytes c.args.opening.name) [] c.count.result (sym c.count.ensures) in
+    let names : opened_file_names c.push.new.self ≡ opened_file_names run.names ++ more = c.in_default.ensures.ok in
+    let file : get_or (opened_file_names run.names ++ more) c.count.result [] ≡ string_bytes c.args.opening.name =
+    get_or_push
+    (opened_file_names run.names) (string_bytes c.args.opening.name) [] c.count.result (sym c.count.ensures) in
     let top = ap opened_as c.in_ok-source.ensures.reader ∙ opened
     ∙ sym (ap (λ (ns : List (List ℕ)). get_or ns c.count.result []) names ∙ file) in
-    let others = subst (λ (ns : List (List ℕ)). AreNamed opened_as ns run.stack.texts) (sym names)
-    (named_more opened_as (names_of run.names) more run.stack.texts run.open_known known.texts) in
+    let others = subst (λ (ns : List (List ℕ)). AreReadersNamed opened_as ns run.stack.texts) (sym names)
+    (named_more opened_as (opened_file_names run.names) more run.stack.texts run.open_known known.texts) in
     record {
       texts = rw c.push-2.ensures.texts
-          (named_set opened_as (names_of c.push.new.self) run.stack.texts run.stack.depth _ others top);
-      change = subst (λ (ns : List (List ℕ)). IsNamed opened_as ns run.change) (sym names)
-          (change_more opened_as (names_of run.names) more run.change run.change_known known.change);
+          (named_set opened_as (opened_file_names c.push.new.self) run.stack.texts run.stack.depth _ others top);
+      change = subst (λ (ns : List (List ℕ)). IsReaderNamed opened_as ns run.change) (sym names)
+          (change_more opened_as (opened_file_names run.names) more run.change run.change_known known.change);
     }
 
 pub returns-in-Err-clause-readers : goal.returns-in-Err-clause-readers
 returns-in-Err-clause-readers g c = λ opened_as opened known. record {
-  texts = subst (λ (ns : List (List ℕ)). AreNamed opened_as ns c.args.run.now.stack.texts) (sym c.in-Err.ensures.err)
+  texts = subst (λ (ns : List (List ℕ)). AreReadersNamed opened_as ns c.args.run.now.stack.texts)
+      (sym c.in-Err.ensures.err)
       known.texts;
-  change = subst (λ (ns : List (List ℕ)). IsNamed opened_as ns c.args.run.now.change) (sym c.in-Err.ensures.err)
+  change = subst (λ (ns : List (List ℕ)). IsReaderNamed opened_as ns c.args.run.now.change) (sym c.in-Err.ensures.err)
       known.change;
 }
 
-pub returns-in_err-piece-clause-readers : goal.returns-in_err-piece-clause-readers
-returns-in_err-piece-clause-readers g c = λ opened_as opened known.
+pub returns-in_err-buffer-clause-readers : goal.returns-in_err-buffer-clause-readers
+returns-in_err-buffer-clause-readers g c = λ opened_as opened known.
     record { texts = known.texts; change = known.change }
 
 pub returns-in_err-source-clause-readers : goal.returns-in_err-source-clause-readers

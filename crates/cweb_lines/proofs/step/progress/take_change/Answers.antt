@@ -1,10 +1,10 @@
-use Rattle.cweb_lines.proofs.Common.{sym, subst, names_of, AreNamed}
+use Rattle.cweb_lines.proofs.Common.{sym, subst, opened_file_names, AreReadersNamed}
 use Rattle.cweb_lines.proofs.step.progress.take_change.Goals as goal
 
 pub returns-clause-readers : goal.returns-clause-readers
 returns-clause-readers g c = λ tells known. record {
   change = c.take_from.ensures.named tells _ known.change;
-  texts = subst (λ f. AreNamed f (names_of c.args.run.now.names) c.args.run.now.stack.texts)
+  texts = subst (λ f. AreReadersNamed f (opened_file_names c.args.run.now.names) c.args.run.now.stack.texts)
       (sym (c.take_from.ensures.keeps.names tells)) known.texts;
 }
 

@@ -1,10 +1,10 @@
-use Rattle.cweb_lines.proofs.Common.{sym, subst, names_of, IsNamed}
+use Rattle.cweb_lines.proofs.Common.{sym, subst, opened_file_names, IsReaderNamed}
 use Rattle.cweb_lines.proofs.step.progress.take_raw.Goals as goal
 
 pub returns-clause-readers : goal.returns-clause-readers
 returns-clause-readers g c = λ tells known. record {
   texts = c.take_above.ensures.named tells _ known.texts;
-  change = subst (λ f. IsNamed f (names_of c.args.run.now.names) c.args.run.now.change)
+  change = subst (λ f. IsReaderNamed f (opened_file_names c.args.run.now.names) c.args.run.now.change)
       (sym (c.take_above.ensures.keeps.names tells)) known.change;
 }
 

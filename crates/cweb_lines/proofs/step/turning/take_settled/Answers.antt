@@ -1,25 +1,25 @@
-use Rattle.cweb_lines.proofs.Common.{rules, List, Vec, Global, Some, ◌≡◌, ap, sym, ◌∙◌, IsTrue, IfOk, IfErr, OnErr, count_of, Event, change_lines, pending_of, things_of, told_by, Gives, Stopped, SoFar, TellsFront, Took, coming, coming_after, lines_given, names_of, begun_by, pending_in, SourceFault}
-use Rattle.cweb_open.proofs.Named.{blames_after, blames_memory, stop_after}
-use Rattle.cweb_lines.proofs.Fronts.{told_then, told_took}
-use Rattle.cweb_open.proofs.Found.{IfOk-map}
+use Rattle.cweb_lines.proofs.Common.{rules, List, Vec, Global, Some, ◌≡◌, ap, sym, ◌∙◌, IsTrue, IfOk, IfErr, OnErr, counters_of, Event, change_lines, pending_of, things_of, so_far_of, EmitsLines, Stopped, SoFar, ReportsPrefix, CountsLine, events_to_come, events_after_line, turn_lines, opened_file_names, begun_by, pending_in, SourceFault}
+use Rattle.cweb_input.proofs.ReadersStayNamed.{blames_after, blames_memory, stop_after}
+use Rattle.cweb_lines.proofs.ReportsOnlyGrow.{told_then, told_took}
+use Rattle.cweb_input.proofs.Found.{IfOk-map}
 use Rattle.cweb_lines.proofs.Stops.{stopped_by, told_stays}
-use Rattle.cweb_lines.proofs.Sums.{gives_took}
-use Rattle.cweb_lines.proofs.Runs.{stops_in}
-use Rattle.cweb_open.proofs.Stacks.{stops_map}
+use Rattle.cweb_lines.proofs.EmittedLinesAddUp.{gives_took}
+use Rattle.cweb_lines.proofs.MergeStateEvents.{stops_in}
+use Rattle.cweb_input.proofs.SourceStacks.{stops_map}
 use Rattle.cweb_lines.proofs.Turns.{began_gives, began_stops, began_tells, raw_taken, untaken}
-use Rattle.cweb_files.proofs.Keeps.{keeps_told, keeps_then}
+use Rattle.cweb_files.proofs.FramesCompose.{keeps_told, keeps_then}
 use Rattle.cweb_lines.proofs.step.turning.take_settled.Given as given
 use Rattle.cweb_lines.proofs.step.turning.take_settled.Goals as goal
 use Rattle.cweb_lines.proofs.step.turning.take_settled.Goals.{In-Some, In-Some-begun_at}
 
 pub returns-in-Err-clause-stops : goal.returns-in-Err-clause-stops
 returns-in-Err-clause-stops g c =
-    λ tells. stopped_by c.in-Err.stop (told_by c.args.run.now) (told_by c.take_raw.new.run) _
+    λ tells. stopped_by c.in-Err.stop (so_far_of c.args.run.now) (so_far_of c.take_raw.new.run) _
     (things_of (g.S.Shelf.left c.args.shelf.now) c.args.run.now) (pending_of c.args.run.now) _ _
     (told_stays c.args.run.now _ c.in-Err.ensures.only c.in-Err.ensures.answers.counted)
     (stops_map c.in-Err.stop (stops_in (g.S.Shelf.left c.args.shelf.now) c.args.run.now.stage
     (change_lines (g.S.Shelf.left c.args.shelf.now) c.args.run.now) c.args.run.now.stack c.in-Err.stop
-    (count_of c.args.run.now.limits) c.requires.settled) (c.in-Err.ensures.stops tells))
+    (counters_of c.args.run.now.limits) c.requires.settled) (c.in-Err.ensures.stops tells))
 
 -- what was told stays
 pub returns-in-Err-clause-still : goal.returns-in-Err-clause-still
@@ -42,20 +42,22 @@ returns-in_default g c =
       readers = λ tells known. c.take_end.ensures.readers (still tells) (c.in-Ok.ensures.readers tells known);
       blamed = λ tells known. blames_after c.take_end.result _ _ _ _ (c.in-Ok.ensures.blamed tells known)
           (c.take_end.ensures.blamed (still tells) (c.in-Ok.ensures.readers tells known));
-      gives = λ tells. same tells (λ told all. IfOk c.take_end.result (λ turn. Gives
-          (lines_given turn c.take_end.new.line.items) told (told_by c.take_end.new.run) all (coming
+      gives = λ tells. same tells (λ told all. IfOk c.take_end.result (λ turn. EmitsLines
+          (turn_lines turn c.take_end.new.line.items) told (so_far_of c.take_end.new.run) all (events_to_come
           (g.S.Shelf.texts c.take_end.new.shelf) (g.S.Shelf.left c.take_end.new.shelf) c.take_end.new.run)))
           (c.take_end.ensures.gives (still tells));
       told = λ tells. same tells (λ told all. OnErr c.take_end.result
-          (TellsFront told (told_by c.take_end.new.run) all)) (c.take_end.ensures.told (still tells));
+          (ReportsPrefix told (so_far_of c.take_end.new.run) all)) (c.take_end.ensures.told (still tells));
       stops = λ tells. same tells (λ told all. IfErr c.take_end.result (λ stop.
-          Stopped stop told (told_by c.take_end.new.run) all)) (c.take_end.ensures.stops (still tells));
+          Stopped stop told (so_far_of c.take_end.new.run) all)) (c.take_end.ensures.stops (still tells));
     }
 
 -- a raw line was taken
-taken : (g : given.Over) (c : In-Some g) → IsTrue (g.S.Shelf.tells c.args.shelf.now) → (t : Took
-    c.take_raw.new.line.items c.in-Some.at.place (count_of c.args.run.now.limits) (count_of c.take_raw.new.run.limits))
-    × (coming (g.S.Shelf.texts c.args.shelf.now) (g.S.Shelf.left c.args.shelf.now) c.args.run.now ≡ coming_after
+taken : (g : given.Over) (c : In-Some g) → IsTrue (g.S.Shelf.tells c.args.shelf.now) → (t : CountsLine
+    c.take_raw.new.line.items c.in-Some.at.place (counters_of c.args.run.now.limits)
+    (counters_of c.take_raw.new.run.limits))
+    × (events_to_come (g.S.Shelf.texts c.args.shelf.now) (g.S.Shelf.left c.args.shelf.now) c.args.run.now
+    ≡ events_after_line
     (g.S.Shelf.texts c.take_raw.new.shelf) (g.S.Shelf.left c.take_raw.new.shelf) c.take_raw.new.run c.in-Some.at t.line)
 taken g c tells = raw_taken _ _ _ _ c.args.run.now c.take_raw.new.run c.in-Some.at c.take_raw.new.line.items
     (c.in-Ok.ensures.keeps.texts tells) (c.in-Ok.ensures.keeps.left tells) c.requires.settled (rw c.in-Some.is at
@@ -71,19 +73,20 @@ pub returns-in_default-begun_at : goal.returns-in_default-begun_at
 returns-in_default-begun_at g c =
     let still = keeps_told g.S.Shelf _ _ c.in-Ok.ensures.keeps in
     record {
-      keeps = keeps_then g.S.Shelf _ _ _ c.in-Ok.ensures.keeps c.give.ensures.keeps;
+      keeps = keeps_then g.S.Shelf _ _ _ c.in-Ok.ensures.keeps c.emit_or_obey.ensures.keeps;
       failed = search rules;
       turns = search rules;
-      still = told_then _ _ _ (told_took c.in-Ok.ensures.only) c.give.ensures.still;
-      readers = λ tells known. c.give.ensures.readers (still tells) (c.in-Ok.ensures.readers tells known);
-      blamed = λ tells known. blames_memory c.give.result _ _ _ c.give.ensures.only.memory
-          (c.give.ensures.blamed (still tells) ∙ c.in-Ok.ensures.blamed tells known);
+      still = told_then _ _ _ (told_took c.in-Ok.ensures.only) c.emit_or_obey.ensures.still;
+      readers = λ tells known. c.emit_or_obey.ensures.readers (still tells) (c.in-Ok.ensures.readers tells known);
+      blamed = λ tells known. blames_memory c.emit_or_obey.result _ _ _ c.emit_or_obey.ensures.only.memory
+          (c.emit_or_obey.ensures.blamed (still tells) ∙ c.in-Ok.ensures.blamed tells known);
       gives = λ tells.
           let t = taken g (goal.at.returns-in_default-begun_at g c).In-Some tells in
-          IfOk-map c.give.result (λ turn gives. gives_took _ (told_by c.args.run.now) _ _ c.take_raw.new.line.items
+          IfOk-map c.emit_or_obey.result
+          (λ turn gives. gives_took _ (so_far_of c.args.run.now) _ _ c.take_raw.new.line.items
           c.in-Some.at.place t.0 _ _ _ (ap (λ (v : Vec SourceFault Global). v.items) c.in-Ok.ensures.only.faults)
-          (ap names_of c.in-Ok.ensures.only.names) t.1 (gives t.0.line t.0.is))
-          (rw c.deref-in_default-begun_at.ensures.value at (c.give.ensures.gives (still tells)));
+          (ap opened_file_names c.in-Ok.ensures.only.names) t.1 (gives t.0.line t.0.is))
+          (rw c.deref-in_default-begun_at.ensures.value at (c.emit_or_obey.ensures.gives (still tells)));
       told = search rules;
       stops = search rules;
     }

@@ -1,7 +1,7 @@
 use Rattle.cweb_lines.proofs.Common.{refl, rules}
-use Rattle.cweb_lines.proofs.Fronts.{told_same}
+use Rattle.cweb_lines.proofs.ReportsOnlyGrow.{told_same}
 use Rattle.cweb_lines.proofs.Turns.{sought_gives, sought_stops, sought_tells}
-use Rattle.cweb_lines.proofs.Differing.{true_false}
+use Rattle.cweb_lines.proofs.ExclusiveAnswers.{true_false}
 use Rattle.cweb_lines.proofs.step.turning.take_turn.Goals as goal
 
 pub returns-in-Err-clause-told : goal.returns-in-Err-clause-told

@@ -1,10 +1,10 @@
-use Rattle.cweb_lines.proofs.Common.{◌≡◌, ◌-◌, PassesLines}
+use Rattle.cweb_lines.proofs.Common.{◌≡◌, ◌-◌, AppendsPassedLines}
 use Rattle.cweb_lines.proofs.writing.pass.pass_lines.Given as goal
 
 abbrev pub invariant-lines : goal.invariant-lines
 invariant-lines g l = record {
-  passes : PassesLines l.fn.run l.run l.fn.piece.items l.piece.items;
-  alone : l.room ≡ 0 → l.piece.items ≡ l.fn.piece.items;
+  passes : AppendsPassedLines l.fn.run l.run l.fn.buffer.items l.buffer.items;
+  alone : l.room ≡ 0 → l.buffer.items ≡ l.fn.buffer.items;
 }
 
 abbrev pub decreases-lines : goal.decreases-lines

@@ -1,5 +1,5 @@
 use Rattle.cweb_names.proofs.Common.{length, ap, arith}
-use Rattle.cweb_names.proofs.GivenLemmas.{occurrences-count}
+use Rattle.cweb_names.proofs.OccurrenceTableLemmas.{occurrences-count}
 use Rattle.cweb_names.proofs.OccurrenceLemmas.{names-few}
 use Rattle.cweb_names.proofs.table.NameTable.names.Goals as goal
 
@@ -10,6 +10,6 @@ returns-clause-few c =
       arith,
       names-few c.args.self.now,
       ap length c.self.view_is,
-      occurrences-count s.texts s.given.items (omega (arith, c.self.invariant.count)),
+      occurrences-count s.strings s.given.items (omega (arith, c.self.invariant.count)),
       c.self.invariant.few,
     )

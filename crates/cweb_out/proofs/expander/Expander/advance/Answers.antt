@@ -1,4 +1,4 @@
-use Rattle.cweb_out.proofs.Common.{◌≡◌, ◌-◌, arith, ◌∙◌, vec_capacity, refl, vec_len, slice_set, take-set, Stored, seen}
+use Rattle.cweb_out.proofs.Common.{◌≡◌, ◌-◌, arith, ◌∙◌, vec_capacity, refl, vec_len, slice_set, take-set, Stored, token_model}
 use Rattle.cweb_out.proofs.Tops.{HasTop, TopMoved, lower, stands_lower, top_ended, top_moved}
 use Rattle.cweb_out.proofs.expander.Expander.advance.Goals as goal
 
@@ -11,7 +11,8 @@ take-requires c =
 
 abbrev moved : (c : goal.In-Some-take)
     → TopMoved c.args.self.now.store.now c.args.self.now.frames.items (slice_set c.frames.self.frames.items
-    (vec_len c.frames.self.frames - 1) c.take.new.self) (seen c.in-Some-take.token) (vec_capacity c.frames.self.frames)
+    (vec_len c.frames.self.frames - 1) c.take.new.self) (token_model c.in-Some-take.token)
+    (vec_capacity c.frames.self.frames)
 moved c =
     let frames = c.frames.self.frames in
     let top : HasTop (vec_len frames) frames.items c.in-Some.frame.now =

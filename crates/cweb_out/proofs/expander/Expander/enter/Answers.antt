@@ -1,4 +1,4 @@
-use Rattle.cweb_out.proofs.Common.{◌≡◌, ◌∷◌, vec_capacity, sym, ap, ◌∙◌, subst, Some, length, rules, All, all_tokens, Stored, stands, joined, IsRun, runs_tokens}
+use Rattle.cweb_out.proofs.Common.{◌≡◌, ◌∷◌, vec_capacity, sym, ap, ◌∙◌, subst, Some, length, rules, All, all_tokens, Stored, resolved_use, joined, PartIsWithin, tokens_of_parts}
 use Rattle.cweb_out.proofs.StackUses.{Entered, entered}
 use Rattle.cweb_out.proofs.expander.Expander.enter.Goals as goal
 
@@ -7,11 +7,11 @@ abbrev all : (c : goal.After-put) → Entered c.args.self.now.store.now
 all c =
     let w : Stored = c.args.self.now.store.now in
     let h : c.parts-rest.result ≡ c.in-Some-next.part ∷ c.next.new.self = c.in-Some-next.ensures.steps in
-    let e : stands w c.args.name ≡ Some c.in-Some.id = sym c.standing.ensures.name ∙ c.in-Some.is in
-    let text : runs_tokens w (c.in-Some-next.part ∷ c.next.new.self) ≡ joined w c.in-Some.id =
-    ap (runs_tokens w) (sym h) ∙ c.parts-rest.ensures.text in
-    let within : All (IsRun (length (all_tokens w.parts))) (c.in-Some-next.part ∷ c.next.new.self) =
-    subst (All (IsRun (length (all_tokens w.parts)))) h c.parts-rest.ensures.within in
+    let e : resolved_use w c.args.name ≡ Some c.in-Some.id = sym c.standing.ensures.name ∙ c.in-Some.is in
+    let text : tokens_of_parts w (c.in-Some-next.part ∷ c.next.new.self) ≡ joined w c.in-Some.id =
+    ap (tokens_of_parts w) (sym h) ∙ c.parts-rest.ensures.text in
+    let within : All (PartIsWithin (length (all_tokens w.parts))) (c.in-Some-next.part ∷ c.next.new.self) =
+    subst (All (PartIsWithin (length (all_tokens w.parts)))) h c.parts-rest.ensures.within in
     entered c.in-Some.id c.in-Some-next.part c.next.new.self
     c.requires.stands c.put.ensures.room c.requires.below c.requires.lower e text within c.put.ensures.frames
 

@@ -1,4 +1,4 @@
-use Rattle.cweb_out.proofs.Common.{◌≡◌, ◌+◌, ◌++◌, ◌∷◌, [], arith, ap, sym, ◌∙◌, vec_capacity, list_all, Stored, names, uses, ends_below, suffix, AreBelow, root_list}
+use Rattle.cweb_out.proofs.Common.{◌≡◌, ◌+◌, ◌++◌, ◌∷◌, [], arith, ap, sym, ◌∙◌, vec_capacity, list_all, Stored, names, uses, ends_below, suffix, RanksAreBelow, root_list}
 use Rattle.cweb_out.proofs.StackUses.{Stands-one}
 use Rattle.cweb_out.proofs.Roots.{root_below}
 use Rattle.cweb_out.proofs.expander.Expander.new.Goals as goal
@@ -8,7 +8,7 @@ returns-clause-stands c =
     let w : Stored = c.args.store.now in
     let e : c.push_reserved.new.self.items ≡ c.of_root.result ∷ [] = c.push_reserved.ensures.items
     ∙ ap (λ fs. fs ++ c.of_root.result ∷ []) c.in_ok-frames.ensures.items in
-    let b : AreBelow w (names w) (uses w (suffix w c.of_root.result)) =
+    let b : RanksAreBelow w (names w) (uses w (suffix w c.of_root.result)) =
     ap (λ ts. list_all (ends_below w (names w)) (uses w ts)) (c.of_root.ensures.list ∙ ap (root_list w) c.root.ensures)
     ∙ root_below w c.args.plan.now c.args.root c.requires.made c.requires.root in
     let r : vec_capacity c.push_reserved.new.self ≡ names w + 1 =

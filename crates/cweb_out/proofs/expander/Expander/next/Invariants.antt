@@ -1,9 +1,9 @@
-use Rattle.cweb_out.proofs.Common.{◌≡◌, vec_capacity, names, Stands, left, work_of}
+use Rattle.cweb_out.proofs.Common.{◌≡◌, vec_capacity, names, IsFrameStack, left, work_of}
 use Rattle.cweb_out.proofs.expander.Expander.next.Given as goal
 
 abbrev pub invariant-tokens : goal.invariant-tokens
 invariant-tokens l = record {
-  stands : Stands l.self.store.now l.self.frames.items (vec_capacity l.self.frames);
+  stands : IsFrameStack l.self.store.now l.self.frames.items (vec_capacity l.self.frames);
   store : l.self.store ≡ l.fn.self.store;
   plan : l.self.plan ≡ l.fn.self.plan;
   left : left l.fn.self.store.now l.fn.self.frames.items ≡ left l.fn.self.store.now l.self.frames.items;

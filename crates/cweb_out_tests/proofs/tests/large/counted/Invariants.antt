@@ -1,8 +1,8 @@
 use Rattle.std.proofs.Common.{vec_capacity}
-use Rattle.cweb_out.specs.Frames.{Stands}
+use Rattle.cweb_out.specs.surface.FrameStacks.{IsFrameStack}
 use Rattle.cweb_out_tests.proofs.tests.large.counted.Given as goal
 
 abbrev pub invariant-calls : goal.invariant-calls
 invariant-calls g l = record {
-  stands : Stands l.expander.store.now l.expander.frames.items (vec_capacity l.expander.frames);
+  stands : IsFrameStack l.expander.store.now l.expander.frames.items (vec_capacity l.expander.frames);
 }

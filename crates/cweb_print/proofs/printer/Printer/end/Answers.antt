@@ -1,18 +1,19 @@
-use Rattle.cweb_print.proofs.Common.{◌≡◌, ◌++◌, ◌∙◌, ap, sym, List, ℕ, rules, print, file, kept_of, setting_of}
-use Rattle.cweb_gathered.proofs.Fronts.{wrote_err}
+use Rattle.cweb_print.proofs.Common.{◌≡◌, ◌++◌, ◌∙◌, ap, sym, List, ℕ, rules, print, file, left_in_printer, setting_of}
+use Rattle.cweb_print.proofs.WrittenPrefixes.{wrote_err}
 use Rattle.cweb_print.proofs.Prints.{adds_by}
 use Rattle.cweb_print.proofs.Steps.{file-end}
 use Rattle.cweb_print.proofs.printer.Printer.end.Goals as goal
 
-pub returns-in_err-write_piece-clause-ends : goal.returns-in_err-write_piece-clause-ends
-returns-in_err-write_piece-clause-ends g c = λ tells ts is.
+pub returns-in_err-write_chunk-clause-ends : goal.returns-in_err-write_chunk-clause-ends
+returns-in_err-write_chunk-clause-ends g c = λ tells ts is.
     let s = setting_of c.args.self.now in
     let due : file s ts ≡ print s ts ++ c.begin_line.result.now =
-    file-end s (kept_of c.args.self.now) ts is ∙ ap (λ (t : List ℕ). print s ts ++ t) (sym c.begin_line.ensures) in
+    file-end s (left_in_printer c.args.self.now) ts is
+    ∙ ap (λ (t : List ℕ). print s ts ++ t) (sym c.begin_line.ensures) in
     adds_by (print s ts) (file s ts) (g.W.Sink.written c.args.out.now)
-    (g.W.Sink.written c.write_piece.new.out) c.begin_line.result.now c.from_residual.result due
-    (wrote_err (g.W.Sink.written c.args.out.now) (g.W.Sink.written c.write_piece.new.out) c.begin_line.result.now
-    c.from_residual.result c.from_residual.ensures.0 (c.in_err-write_piece.ensures.wrote tells))
+    (g.W.Sink.written c.write_chunk.new.out) c.begin_line.result.now c.from_residual.result due
+    (wrote_err (g.W.Sink.written c.args.out.now) (g.W.Sink.written c.write_chunk.new.out) c.begin_line.result.now
+    c.from_residual.result c.from_residual.ensures.0 (c.in_err-write_chunk.ensures.wrote tells))
 
 pub returns-clause-ends : goal.returns-clause-ends
 returns-clause-ends g c = λ tells ts is.
@@ -20,8 +21,9 @@ returns-clause-ends g c = λ tells ts is.
     record {
       bytes = c.begin_line.result.now;
       due =
-          file-end s (kept_of c.args.self.now) ts is ∙ ap (λ (t : List ℕ). print s ts ++ t) (sym c.begin_line.ensures);
-      written = c.in_ok-write_piece.ensures.wrote tells;
+          file-end s (left_in_printer c.args.self.now) ts is
+          ∙ ap (λ (t : List ℕ). print s ts ++ t) (sym c.begin_line.ensures);
+      written = c.in_ok-write_chunk.ensures.wrote tells;
     }
 
 pub returns-clause-left : goal.returns-clause-left

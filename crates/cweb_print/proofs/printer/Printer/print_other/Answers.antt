@@ -1,5 +1,5 @@
-use Rattle.cweb_print.proofs.Common.{◌++◌, ◌∷◌, [], seen, print, added, file_by, kept_of, setting_of}
-use Rattle.cweb_gathered.proofs.Fronts.{wrote_err}
+use Rattle.cweb_print.proofs.Common.{◌++◌, ◌∷◌, [], token_model, print, added, file_by, left_in_printer, setting_of}
+use Rattle.cweb_print.proofs.WrittenPrefixes.{wrote_err}
 use Rattle.cweb_print.proofs.Prints.{adds_by}
 use Rattle.cweb_print.proofs.Steps.{print-push}
 use Rattle.cweb_print.proofs.printer.Printer.print_other.Goals as goal
@@ -7,8 +7,8 @@ use Rattle.cweb_print.proofs.printer.Printer.print_other.Goals as goal
 pub returns-in_err-write_token-clause-prints : goal.returns-in_err-write_token-clause-prints
 returns-in_err-write_token-clause-prints g c = λ tells ts is.
     let s = setting_of c.args.self.now in
-    let left = kept_of c.args.self.now in
-    let t = seen c.args.token.now in
+    let left = left_in_printer c.args.self.now in
+    let t = token_model c.args.token.now in
     adds_by (print s ts) (print s (ts ++ t ∷ [])) (g.W.Sink.written c.args.out.now)
     (g.W.Sink.written c.write_token.new.out) (added (file_by s) left t) c.from_residual.result (print-push s left ts t
     is) (wrote_err (g.W.Sink.written c.args.out.now) (g.W.Sink.written c.write_token.new.out) (added (file_by s) left t)
@@ -17,8 +17,8 @@ returns-in_err-write_token-clause-prints g c = λ tells ts is.
 pub returns-clause-prints : goal.returns-clause-prints
 returns-clause-prints g c = λ tells ts is.
     let s = setting_of c.args.self.now in
-    let left = kept_of c.args.self.now in
-    let t = seen c.args.token.now in
+    let left = left_in_printer c.args.self.now in
+    let t = token_model c.args.token.now in
     record {
       bytes = added (file_by s) left t;
       due = print-push s left ts t is;

@@ -1,9 +1,9 @@
-use Rattle.cweb_print.proofs.Common.{◌++◌, ◌∙◌, List, ℕ, Some, ap, append-nil, arith, length, refl, sym, take, option_map, length-map, Bordered, lends, lent_seen, Token, all_tokens, class_behind, left_behind, stands_apart, all_added, at_start, leaves, macro_by, blank_where, replaced_in}
+use Rattle.cweb_print.proofs.Common.{◌++◌, ◌∙◌, List, ℕ, Some, ap, append-nil, arith, length, refl, sym, take, option_map, length-map, TokenBytesModel, direct_bytes, token_bytes_model, Token, all_tokens, class_after_edge, left_after_edge, edge_is_apart, all_added, at_start, left_after_tokens, macro_by, blank_where, replaced_in}
 use Rattle.cweb_print.proofs.Continued.{added-continued, left-continued}
-use Rattle.cweb_print.proofs.Lenders.{lent-at}
+use Rattle.cweb_print.proofs.TokenReaderSteps.{direct-at}
 use Rattle.cweb_print.proofs.MacroLines.{left_more, tokens_more}
-use Rattle.cweb_gathered.proofs.Overlaps.{front_within}
-use Rattle.cweb_parts.proofs.RangeLemmas.{range-none}
+use Rattle.cweb_print.proofs.OverlappingEnds.{front_within}
+use Rattle.cweb_store.proofs.RangeLemmas.{range-none}
 use Rattle.cweb_print.proofs.printer.defines.put_macro_tokens.Goals as goal
 
 pub tokens-init : goal.tokens-init
@@ -20,19 +20,19 @@ tokens-init c =
       least = omega arith;
       most = c.requires.room.1;
       front = refl;
-      left = ap leaves (sym none);
+      left = ap left_after_tokens (sym none);
       put = sym (append-nil old) ∙ ap (λ (us : List Token). old ++ all_added by at_start us) (sym none);
     }
 
-pub lent-requires : goal.lent-requires
-lent-requires c =
+pub direct-requires : goal.direct-requires
+direct-requires c =
     omega (
       arith,
       c.tokens-test.true,
       c.tokens.invariant.upto,
       c.requires.within,
-      ap length c.lender-lender.ensures,
-      length-map (all_tokens c.args.store.now.parts) lends,
+      ap length c.token_reader-token_reader.ensures,
+      length-map (all_tokens c.args.store.now.parts) direct_bytes,
     )
 
 pub tokens-preserved : goal.tokens-preserved
@@ -42,29 +42,30 @@ tokens-preserved c =
     let by = macro_by (replaced_in w) in
     let first = c.args.part.first in
     let n = c.tokens.number in
-    let lent = c.in_ok-lent.lent in
-    let l : Bordered = lent_seen lent in
+    let direct = c.in_ok-direct.direct in
+    let l : TokenBytesModel = token_bytes_model direct in
     let last = c.tokens.last in
     let old = take c.args.used c.args.bytes.now in
     let mid = take c.tokens.reached c.tokens.bytes in
-    let new = take c.in_ok-end.end c.keep.new.bytes in
-    let at = lent-at c.lender-lender.result ts n l c.lender-lender.ensures
-    (c.lent.ensures ∙ ap (λ o. Some (option_map lent_seen o)) c.in_ok-lent.was) in
+    let new = take c.in_ok-end.end c.put_if_fits.new.bytes in
+    let at = direct-at c.token_reader-token_reader.result ts n l c.token_reader-token_reader.ensures
+    (c.direct.ensures ∙ ap (λ o. Some (option_map token_bytes_model o)) c.in_ok-direct.was) in
     record {
       from = omega (arith, c.tokens.invariant.from);
       upto = c.tokens.invariant.upto;
-      size = c.keep.ensures.size;
+      size = c.put_if_fits.ensures.size;
       least = omega (arith, c.in_ok-end.ensures.within.0, c.tokens.invariant.least);
       most = c.in_ok-end.ensures.within.1;
-      front = front_within c.tokens.bytes c.keep.new.bytes c.args.used c.tokens.reached c.tokens.invariant.least
+      front = front_within c.tokens.bytes c.put_if_fits.new.bytes c.args.used c.tokens.reached c.tokens.invariant.least
           (omega (arith, c.tokens.invariant.size, c.tokens.invariant.most))
-          (omega (arith, c.keep.ensures.size, c.tokens.invariant.most)) c.keep.ensures.front
+          (omega (arith, c.put_if_fits.ensures.size, c.tokens.invariant.most)) c.put_if_fits.ensures.front
           ∙ c.tokens.invariant.front;
-      left = left_more ts first n at.token (left_behind last) (left_behind lent.border) c.tokens.invariant.from at.there
-          c.tokens.invariant.left (sym (left-continued last at.token l at.lent));
-      put = tokens_more by ts first n at.token (left_behind last) old mid new c.tokens.invariant.from
+      left = left_more ts first n at.token (left_after_edge last)
+          (left_after_edge direct.edge) c.tokens.invariant.from at.there
+          c.tokens.invariant.left (sym (left-continued last at.token l at.direct));
+      put = tokens_more by ts first n at.token (left_after_edge last) old mid new c.tokens.invariant.from
           at.there c.tokens.invariant.left c.tokens.invariant.put (c.in_ok-end.ensures.kept ∙ ap (λ a.
-          mid ++ (blank_where a ++ c.text_in_macro.result.now)) c.stands_apart-is_apart.ensures ∙ ap (λ (u : List ℕ).
-          mid ++ (blank_where (stands_apart (class_behind last) lent.border) ++ u)) c.text_in_macro.ensures
-          ∙ ap (λ (u : List ℕ). mid ++ u) (sym (added-continued (replaced_in w) last at.token l at.lent)));
+          mid ++ (blank_where a ++ c.bytes_in_macro.result.now)) c.edge_is_apart-is_apart.ensures ∙ ap (λ (u : List ℕ).
+          mid ++ (blank_where (edge_is_apart (class_after_edge last) direct.edge) ++ u)) c.bytes_in_macro.ensures
+          ∙ ap (λ (u : List ℕ). mid ++ u) (sym (added-continued (replaced_in w) last at.token l at.direct)));
     }

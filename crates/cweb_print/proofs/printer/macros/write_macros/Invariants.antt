@@ -1,5 +1,5 @@
 use Rattle.cweb_print.proofs.Common.{◌≡◌, ◌≤◌, length, IsTrue, All, all_tokens}
-use Rattle.cweb_gathered.proofs.Fronts.{Written}
+use Rattle.cweb_print.proofs.WrittenPrefixes.{Written}
 use Rattle.cweb_print.proofs.MacroLines.{lines, all_lines}
 use Rattle.cweb_print.proofs.printer.macros.write_macros.Given as goal
 

@@ -1,5 +1,5 @@
 use Rattle.cweb_print.proofs.Common.{take, drop, sym, subst, suc, List, ℕ, arith, common_steps, IsTrue, quoted_byte, quoted}
-use Rattle.cweb_gathered.proofs.Fronts.{flat_at, front_in, wrote_err}
+use Rattle.cweb_print.proofs.WrittenPrefixes.{flat_at, front_in, wrote_err}
 use Rattle.cweb_print.proofs.printer.mark.write_quoted.Goals as goal
 
 pub returns-in_err-write_quoted_byte-clause-wrote : goal.returns-in_err-write_quoted_byte-clause-wrote

@@ -1,12 +1,12 @@
-use Rattle.cweb_scan.proofs.Common.{refl, arith, ◌≡◌, true, sym, reads_c, State, blank, InComment}
-use Rattle.cweb_scan.proofs.Opens.{opened, comment_opens, takes_at, at_state}
+use Rattle.cweb_scan.proofs.Common.{refl, arith, ◌≡◌, true, sym, reads_c, ScanState, blank, InComment}
+use Rattle.cweb_scan.proofs.OpeningSteps.{opened, comment_opens, takes_at, at_state}
 use Rattle.cweb_scan.proofs.reader.Reader.open_comment.Goals as goal
 
 pub returns : goal.returns
 returns c =
     let s = c.self.inside.scanner in
     let g = c.self.inside.begun in
-    let reads = at_state (λ (u : State). reads_c u.context ≡ true) _ _ c.self.view_is c.requires.reads in
+    let reads = at_state (λ (u : ScanState). reads_c u.context ≡ true) _ _ c.self.view_is c.requires.reads in
     record {
       some = omega arith;
       within = refl;

@@ -1,5 +1,5 @@
-use Rattle.cweb_scan.proofs.Common.{refl, arith, ◌≡◌, true, sym, ap, ◌∙◌, ◌++◌, ◌+◌, take, drop, reads_literals, State, quote_of, InLiteral}
-use Rattle.cweb_scan.proofs.Opens.{opened, literal_opens_at, takes_at, at_state}
+use Rattle.cweb_scan.proofs.Common.{refl, arith, ◌≡◌, true, sym, ap, ◌∙◌, ◌++◌, ◌+◌, take, drop, reads_literals, ScanState, quote_of, InLiteral}
+use Rattle.cweb_scan.proofs.OpeningSteps.{opened, literal_opens_at, takes_at, at_state}
 use Rattle.cweb_scan.proofs.reader.Reader.open_literal.Goals as goal
 
 pub returns : goal.returns
@@ -7,7 +7,7 @@ returns c =
     let s = c.self.inside.scanner in
     let g = c.self.inside.begun in
     let u = c.args.rest.now in
-    let reads = at_state (λ (u : State). reads_literals u.context ≡ true) _ _ c.self.view_is c.requires.reads in
+    let reads = at_state (λ (u : ScanState). reads_literals u.context ≡ true) _ _ c.self.view_is c.requires.reads in
     let n = c.literal_prefix-prefix.result in
     let quote = c.of-quote.ensures ∙ ap quote_of c.split_at-2.ensures.back in
     let text = c.in_ok-extend_from_slice.ensures.items ∙ (λ i. c.clear.ensures.items i ++ c.split_at.ensures.front i) in

@@ -1,13 +1,13 @@
-use Rattle.cweb_scan.proofs.Common.{refl, arith, ◌≡◌, true, false, [], sym, is_head, reads_names, State, InName}
-use Rattle.cweb_scan.proofs.Opens.{opened, name_opens, takes_at, at_state}
+use Rattle.cweb_scan.proofs.Common.{refl, arith, ◌≡◌, true, false, [], sym, is_head, reads_names, ScanState, InName}
+use Rattle.cweb_scan.proofs.OpeningSteps.{opened, name_opens, takes_at, at_state}
 use Rattle.cweb_scan.proofs.reader.Reader.open_name.Goals as goal
 
 pub returns : goal.returns
 returns c =
     let s = c.self.inside.scanner in
     let g = c.self.inside.begun in
-    let head = at_state (λ (u : State). is_head u.context ≡ false) _ _ c.self.view_is c.requires.head in
-    let reads = at_state (λ (u : State). reads_names u.context ≡ true) _ _ c.self.view_is c.requires.reads in
+    let head = at_state (λ (u : ScanState). is_head u.context ≡ false) _ _ c.self.view_is c.requires.head in
+    let reads = at_state (λ (u : ScanState). reads_names u.context ≡ true) _ _ c.self.view_is c.requires.reads in
     record {
       some = omega arith;
       within = refl;

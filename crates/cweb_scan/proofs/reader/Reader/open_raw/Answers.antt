@@ -1,6 +1,6 @@
-use Rattle.cweb_scan.proofs.Common.{refl, arith, ◌≡◌, true, [], sym, ap, ◌∙◌, ◌++◌, ◌+◌, ◌∷◌, length, take, drop, reads_literals, literals_in_part, State, delimiter, InRaw}
-use Rattle.cweb_scan.proofs.OpenReaders.{raw_signed}
-use Rattle.cweb_scan.proofs.Opens.{opened, raw_opens_at, raw_fits_at, takes_at, at_state}
+use Rattle.cweb_scan.proofs.Common.{refl, arith, ◌≡◌, true, [], sym, ap, ◌∙◌, ◌++◌, ◌+◌, ◌∷◌, length, take, drop, reads_literals, literals_in_part, ScanState, delimiter, InRaw}
+use Rattle.cweb_scan.proofs.PendingReaders.{raw_signed}
+use Rattle.cweb_scan.proofs.OpeningSteps.{opened, raw_opens_at, raw_fits_at, takes_at, at_state}
 use Rattle.cweb_scan.proofs.reader.Reader.open_raw.Goals as goal
 
 pub split_at-requires-2 : goal.split_at-requires-2
@@ -13,7 +13,7 @@ pub invariant_of-self-2 : goal.invariant_of-self-2
 invariant_of-self-2 c =
     let s = c.self.inside.scanner in
     let d = c.delimiter-name.result.now in
-    let reads = at_state (λ (u : State). reads_literals u.context ≡ true) _ _ c.self.view_is c.requires.reads in
+    let reads = at_state (λ (u : ScanState). reads_literals u.context ≡ true) _ _ c.self.view_is c.requires.reads in
     let name = c.delimiter-name.ensures ∙ ap delimiter c.split_at.ensures.back in
     let kept = c.in_ok-extend_from_slice-2.ensures.items ∙ (λ i. c.clear-2.ensures.items i ++ d) in
     let sign = c.in_ok-push-2.ensures.items
@@ -28,7 +28,7 @@ returns c =
     let s = c.self.inside.scanner in
     let g = c.self.inside.begun in
     let u = c.args.rest.now in
-    let reads = at_state (λ (u : State). reads_literals u.context ≡ true) _ _ c.self.view_is c.requires.reads in
+    let reads = at_state (λ (u : ScanState). reads_literals u.context ≡ true) _ _ c.self.view_is c.requires.reads in
     let p = c.raw_prefix-start.result in
     let d = c.delimiter-name.result.now in
     let name = c.delimiter-name.ensures ∙ ap delimiter c.split_at.ensures.back in

@@ -1,9 +1,9 @@
 use Rattle.cweb_rules.specs.declared.rule.Rule.TheVariants as rule
-use Rattle.cweb_scan.proofs.Common.{◌&&◌, false, ap, sym, ◌∙◌, section_at, in_c, c_front_by, is_c, names_include}
-use Rattle.cweb_scanner.proofs.CodeTurns.{closed_at}
-use Rattle.cweb_scanner.proofs.RuleTurns.{closes, rule_closed}
-use Rattle.cweb_scan.proofs.RuleTurns.{ends_closes, is_ended, left_ends, part_head, rule_in_line, two_fit}
-use Rattle.cweb_scanner.proofs.Turns.{seen}
+use Rattle.cweb_scan.proofs.Common.{◌&&◌, false, ap, sym, ◌∙◌, section_match, in_c, c_match_by, is_c, names_include}
+use Rattle.cweb_scan.proofs.InLineItemSteps.{closed_at}
+use Rattle.cweb_scan.proofs.InLineRules.{closes, rule_closed}
+use Rattle.cweb_scan.proofs.RuleSteps.{ends_closes, is_ended, left_ends, part_head, rule_in_line, two_fit}
+use Rattle.cweb_scan.proofs.FirstMatchTaken.{seen}
 use Rattle.cweb_scan.proofs.reader.Reader.take_by.Goals as goal
 
 pub open_comment-requires-clause-sign : goal.open_comment-requires-clause-sign
@@ -51,9 +51,9 @@ returns-in_ok-size-in-Section c =
     let h = c.args.self.now in
     let f = rule_closed h.state.context (names_include h.state)
     u c.args.rule c.requires.part c.requires.plain c.requires.first (ap closes c.in-Section.is) in
-    closed_at c.in_ok-size-in-Section.size u h _ _ (section_at u) c.self.view_is c.requires.between
+    closed_at c.in_ok-size-in-Section.size u h _ _ (section_match u) c.self.view_is c.requires.between
     (part_head h.state.context c.requires.part) c.requires.line c.requires.some
-    (f.0 ∙ ap (c_front_by in_c false u) c.in-Section.is) f.1 c.in_ok-size-in-Section.ensures
+    (f.0 ∙ ap (c_match_by in_c false u) c.in-Section.is) f.1 c.in_ok-size-in-Section.ensures
 
 pub returns-in_ok-size-in_default : goal.returns-in_ok-size-in_default
 returns-in_ok-size-in_default c =
@@ -67,5 +67,5 @@ returns-in_ok-size-in_default c =
     let f = rule_closed s.context
     (names_include s) u r c.requires.part c.requires.plain c.requires.first (ends_closes r ends) in
     closed_at c.in_ok-size-in_default.size u h _ _
-    (c_front_by in_c false u r) c.self-in_default.view_is c.requires.between
+    (c_match_by in_c false u r) c.self-in_default.view_is c.requires.between
     (part_head s.context c.requires.part) c.requires.line c.requires.some f.0 f.1 c.in_ok-size-in_default.ensures

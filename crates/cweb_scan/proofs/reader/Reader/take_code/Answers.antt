@@ -1,6 +1,6 @@
-use Rattle.cweb_scan.proofs.Common.{◌≡◌, ◌≤◌, true, false, length, get_or, ap, sym, ◌∙◌, subst, arith, code_front, Effect, names_include, Gives, effect_in, is_name, Held}
-use Rattle.cweb_scanner.proofs.CodeTurns.{closed_at}
-use Rattle.cweb_scan.proofs.CodeTurns.{code_size, plain_front}
+use Rattle.cweb_scan.proofs.Common.{◌≡◌, ◌≤◌, true, false, length, get_or, ap, sym, ◌∙◌, subst, arith, effect_match, Effect, names_include, Applies, effect_in, is_name_effect, ReaderModel}
+use Rattle.cweb_scan.proofs.InLineItemSteps.{closed_at}
+use Rattle.cweb_scan.proofs.CodeSteps.{code_size, plain_front}
 use Rattle.cweb_scan.proofs.reader.Reader.take_code.Goals as goal
 
 pub returns : goal.returns
@@ -9,12 +9,13 @@ returns c =
     let h = c.args.self.now in
     let b = get_or u 1 0 in
     let e = effect_in h.state.context b in
-    let place = c.context.ensures ∙ ap (λ (k : Held). k.state.context) c.self.view_is in
+    let place = c.context.ensures ∙ ap (λ (k : ReaderModel). k.state.context) c.self.view_is in
     let same : c.effect_of-effect.result ≡ e = c.effect_of-effect.ensures.value ∙ ap (λ k. effect_in k b) place in
-    let plain : is_name e ≡ false = ap is_name (sym same) ∙ sym c.is_name.ensures ∙ c.if-is_name.false in
+    let plain : is_name_effect e ≡ false = ap is_name_effect (sym same) ∙ sym c.is_name_effect.ensures
+    ∙ c.if-is_name_effect.false in
     let f =
     plain_front h.state.context (names_include h.state) u c.requires.head c.requires.section c.requires.sign plain in
     let some : 1 ≤ length u = omega (arith, code_size u c.requires.section c.requires.sign) in
-    closed_at c.in_ok-size.size u h _ _ (code_front e true u)
-    c.self.view_is c.requires.between c.requires.head c.requires.line some f.0 f.1 (subst (λ (k : Effect). Gives
-    (code_front k true u) u c.in_ok-size.size c.self.inside.scanner c.take_item.new.self) same c.in_ok-size.ensures)
+    closed_at c.in_ok-size.size u h _ _ (effect_match e true u)
+    c.self.view_is c.requires.between c.requires.head c.requires.line some f.0 f.1 (subst (λ (k : Effect). Applies
+    (effect_match k true u) u c.in_ok-size.size c.self.inside.scanner c.take_item.new.self) same c.in_ok-size.ensures)

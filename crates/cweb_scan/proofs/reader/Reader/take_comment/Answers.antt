@@ -1,19 +1,19 @@
-use Rattle.cweb_scan.proofs.Common.{◌+◌, length, refl, sym, ◌∙◌, Held, InComment}
-use Rattle.cweb_scan.proofs.OpenReaders.{open_at}
-use Rattle.cweb_scan.proofs.OpenRests.{comment_goes, comment_over}
-use Rattle.cweb_scan.proofs.Opens.{opened}
-use Rattle.cweb_scanner.proofs.Turns.{between}
+use Rattle.cweb_scan.proofs.Common.{◌+◌, length, refl, sym, ◌∙◌, ReaderModel, InComment}
+use Rattle.cweb_scan.proofs.PendingReaders.{open_at}
+use Rattle.cweb_scan.proofs.PendingRests.{comment_goes, comment_over}
+use Rattle.cweb_scan.proofs.OpeningSteps.{opened}
+use Rattle.cweb_scan.proofs.FirstMatchTaken.{between}
 use Rattle.cweb_scan.proofs.reader.Reader.take_comment.Goals as goal
 
-pub returns-then-goes_on : goal.returns-then-goes_on
-returns-then-goes_on c =
-    let h : Held = c.args.self.now in
+pub returns-then-is_unclosed : goal.returns-then-is_unclosed
+returns-then-is_unclosed c =
+    let h : ReaderModel = c.args.self.now in
     let u = c.args.rest.now in
     let i = InComment c.args.begun in
     open_at (length u) u h h refl i c.requires.open h (opened h.state h.begun i)
     (λ j. record { state = h.state; item = c.requires.open j; begun = h.begun })
     (comment_goes h.state h.begun c.args.begun u c.reach-reached.result c.requires.line
-    c.requires.some c.reach-reached.ensures.value (sym c.goes_on.ensures ∙ c.if-goes_on.true))
+    c.requires.some c.reach-reached.ensures.value (sym c.is_unclosed.ensures ∙ c.if-is_unclosed.true))
 
 pub returns : goal.returns
 returns c =
@@ -22,4 +22,5 @@ returns c =
     let g = c.self.inside.begun in
     open_at (r.size + r.close) c.args.rest.now _ _ c.self.view_is (InComment c.args.begun) c.requires.open _ _
     (λ j. between (c.in_ok-pass_comment.ensures j) g) (comment_over s g c.args.begun
-    c.args.rest.now r c.requires.line c.reach-reached.ensures.value (sym c.goes_on.ensures ∙ c.if-goes_on.false))
+    c.args.rest.now r c.requires.line c.reach-reached.ensures.value (sym c.is_unclosed.ensures
+    ∙ c.if-is_unclosed.false))

@@ -1,9 +1,9 @@
-use Rattle.cweb_scan.proofs.Common.{ℕ, false, List, refl, ap, sym, ◌∙◌, line_comment_at}
+use Rattle.cweb_scan.proofs.Common.{ℕ, false, List, refl, ap, sym, ◌∙◌, line_comment_match}
 use Rattle.cweb_rules.specs.declared.rule.Rule.TheVariants as rule
-use Rattle.cweb_scan.proofs.HeadTurns.{dropped_at, foreign_rule}
+use Rattle.cweb_scan.proofs.HeadSteps.{dropped_at, foreign_rule}
 use Rattle.cweb_scan.proofs.HeadStays.{blanks_pass, head_passes}
-use Rattle.cweb_scan.proofs.RuleTurns.{is_ended, rule_in_line, two_fit}
-use Rattle.cweb_scanner.proofs.Turns.{seen}
+use Rattle.cweb_scan.proofs.RuleSteps.{is_ended, rule_in_line, two_fit}
+use Rattle.cweb_scan.proofs.FirstMatchTaken.{seen}
 use Rattle.cweb_scan.proofs.reader.Reader.take_head.Goals as goal
 
 pub open_comment-requires-clause-sign : goal.open_comment-requires-clause-sign
@@ -16,14 +16,14 @@ take_line_comment-requires-clause-two c =
 
 pub returns-in-Blanks : goal.returns-in-Blanks
 returns-in-Blanks c =
-    blanks_pass c.run_len.result c.args.rest.now c.args.self.now c.args.begun c.c_rule-rule.result c.in-Blanks.is
-    c.requires.between c.requires.in_head c.requires.line c.requires.some c.c_rule-rule.ensures c.run_len.ensures.value
+    blanks_pass c.span_len.result c.args.rest.now c.args.self.now c.args.begun c.c_rule-rule.result c.in-Blanks.is
+    c.requires.between c.requires.in_head c.requires.line c.requires.some c.c_rule-rule.ensures c.span_len.ensures.value
 
 pub returns-in_ok-size-in-LineComment : goal.returns-in_ok-size-in-LineComment
 returns-in_ok-size-in-LineComment c =
     let u = c.args.rest.now in
     head_passes c.in_ok-size-in-LineComment.size u c.args.self.now _ _ c.args.begun rule.LineComment
-    (line_comment_at u) c.self.view_is c.requires.between c.requires.in_head c.requires.line c.requires.some
+    (line_comment_match u) c.self.view_is c.requires.between c.requires.in_head c.requires.line c.requires.some
     (sym c.in-LineComment.is ∙ c.c_rule-rule.ensures) refl refl refl refl c.in_ok-size-in-LineComment.ensures
 
 pub returns-in_ok-size-in_default : goal.returns-in_ok-size-in_default

@@ -1,5 +1,5 @@
 use Rattle.cweb_scan.proofs.Common.{ap, arith, cost}
-use Rattle.cweb_scan.proofs.TextLines.{text_passed}
+use Rattle.cweb_scan.proofs.SkippedLines.{text_passed}
 use Rattle.cweb_scan.proofs.reader.Reader.take_line.Goals as goal
 
 pub returns-then-passes_by-clause-read : goal.returns-then-passes_by-clause-read

@@ -1,5 +1,5 @@
 use Rattle.cweb_scan.proofs.Common.{ap, sym, ◌∙◌, at_line_end}
-use Rattle.cweb_scan.proofs.RuleTurns.{backslash_passes}
+use Rattle.cweb_scan.proofs.RuleSteps.{backslash_passes}
 use Rattle.cweb_scan.proofs.reader.Reader.take_macro.Goals as goal
 
 pub returns-then-at_line_end : goal.returns-then-at_line_end

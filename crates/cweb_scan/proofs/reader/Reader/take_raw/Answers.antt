@@ -1,23 +1,23 @@
-use Rattle.cweb_scan.proofs.Common.{◌≤◌, ℕ, not, List, length, refl, sym, ap, ◌∙◌, subst, prefix_len, look_in_raw, is_raw_sign, Held, text_of, delimiter_of, InRaw}
-use Rattle.cweb_scan.proofs.OpenReaders.{turn_at, sign_kept}
-use Rattle.cweb_scan.proofs.OpenRests.{raw_fits, raw_takes}
-use Rattle.cweb_scan.proofs.Runs.{run_at, raw_run}
+use Rattle.cweb_scan.proofs.Common.{◌≤◌, ℕ, not, List, length, refl, sym, ap, ◌∙◌, subst, prefix_len, look_in_raw, is_raw_special, ReaderModel, pending_bytes, delimiter_of, InRaw}
+use Rattle.cweb_scan.proofs.PendingReaders.{turn_at, sign_kept}
+use Rattle.cweb_scan.proofs.PendingRests.{raw_fits, raw_takes}
+use Rattle.cweb_scan.proofs.PendingSpans.{run_at, raw_run}
 use Rattle.cweb_scan.proofs.reader.Reader.take_raw.Goals as goal
 
-pub turn_literal-requires-clause-fits : goal.turn_literal-requires-clause-fits
-turn_literal-requires-clause-fits c =
+pub take_literal_unit-requires-clause-fits : goal.take_literal_unit-requires-clause-fits
+take_literal_unit-requires-clause-fits c =
     raw_fits c.deref-2.result.now c.look-look.result c.args.rest.now c.look-look.ensures.value c.requires.some
 
 pub returns : goal.returns
 returns c =
-    let h : Held = c.args.self.now in
+    let h : ReaderModel = c.args.self.now in
     let r = c.self.inside in
     let u = c.args.rest.now in
     let d = delimiter_of h.item in
-    let us = text_of h.item in
+    let us = pending_bytes h.item in
     let look = c.look-look.result in
     let kept = sign_kept r.item r.scanner.context r.delimiter.items r.text.items r.sign.items h c.args.begun
-    (ap (λ (k : Held). k.item) c.self.view_is) c.requires.open c.self.invariant in
+    (ap (λ (k : ReaderModel). k.item) c.self.view_is) c.requires.open c.self.invariant in
     let seen = ap (λ (x : List ℕ). look_in_raw x u) (sym (c.deref-2.ensures.value ∙ kept.0))
     ∙ sym c.look-look.ensures.value in
     turn_at c.in_ok-size.size look c.args.begun u h _
@@ -27,14 +27,14 @@ returns c =
 
 pub returns-then-plain-gt0 : goal.returns-then-plain-gt0
 returns-then-plain-gt0 c =
-    let h : Held = c.args.self.now in
+    let h : ReaderModel = c.args.self.now in
     let r = c.self.inside in
     let u = c.args.rest.now in
     let d = delimiter_of h.item in
     let n = c.plain_len-plain.result in
     let kept = sign_kept r.item r.scanner.context r.delimiter.items r.text.items r.sign.items h c.args.begun
-    (ap (λ (k : Held). k.item) c.self.view_is) c.requires.open c.self.invariant in
+    (ap (λ (k : ReaderModel). k.item) c.self.view_is) c.requires.open c.self.invariant in
     let is = c.plain_len-plain.ensures.value
-    ∙ ap (λ (x : List ℕ). prefix_len (λ b. not (is_raw_sign x b)) u) (c.deref.ensures.value ∙ kept.0) in
-    run_at n u h _ (λ (x : List ℕ). InRaw c.args.begun d x) c.requires.open c.in_ok-take_run.ensures refl
-    (raw_run h.state h.begun c.args.begun d (text_of h.item) n u kept.1 c.requires.line c.if-plain-gt0.true is)
+    ∙ ap (λ (x : List ℕ). prefix_len (λ b. not (is_raw_special x b)) u) (c.deref.ensures.value ∙ kept.0) in
+    run_at n u h _ (λ (x : List ℕ). InRaw c.args.begun d x) c.requires.open c.in_ok-take_span.ensures refl
+    (raw_run h.state h.begun c.args.begun d (pending_bytes h.item) n u kept.1 c.requires.line c.if-plain-gt0.true is)

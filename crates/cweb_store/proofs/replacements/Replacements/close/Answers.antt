@@ -1,5 +1,5 @@
-use Rattle.cweb_store.proofs.Common.{◌≡◌, map, sym, ◌∙◌, ap, arith, common_steps, take_all, drop_all, replacement_in, Replacement, replacement_text, with_texts}
-use Rattle.cweb_store.proofs.StoredTexts.{map-both}
+use Rattle.cweb_store.proofs.Common.{◌≡◌, map, sym, ◌∙◌, ap, arith, common_steps, take_all, drop_all, replacement_in, Replacement, replacement_bytes, with_strings}
+use Rattle.cweb_store.proofs.StoredStringLemmas.{map-both}
 use Rattle.cweb_store.proofs.replacements.Replacements.close.Goals as goal
 
 pub returns-clause-bytes : goal.returns-clause-bytes
@@ -11,15 +11,15 @@ returns-clause-bytes c =
     ∙ map-both (λ (r : Replacement). r.byte) replacement_in s.given.items
     ∙ ap (map (λ (r : Replacement). r.byte)) c.self.view_is
 
-pub returns-clause-texts : goal.returns-clause-texts
-returns-clause-texts c =
+pub returns-clause-strings : goal.returns-clause-strings
+returns-clause-strings c =
     let s = c.self.inside in
     let items : c.deref-replaced-items.result.now ≡ s.given.items = c.deref-replaced-items.ensures.value in
     let none = drop_all c.loop-replaced.replaced-index c.deref-replaced-items.result.now c.loop-replaced-test.false in
-    ap (λ xs. with_texts (map (λ x. replacement_text (replacement_in x)) xs) c.loop-replaced.tokens) (sym none)
-    ∙ c.loop-replaced.invariant.texts
-    ∙ ap (λ ts. with_texts ts c.args.tokens.now) (ap (map (λ x. replacement_text (replacement_in x))) items
-    ∙ map-both replacement_text replacement_in s.given.items ∙ ap (map replacement_text) c.self.view_is)
+    ap (λ xs. with_strings (map (λ x. replacement_bytes (replacement_in x)) xs) c.loop-replaced.tokens) (sym none)
+    ∙ c.loop-replaced.invariant.strings
+    ∙ ap (λ ts. with_strings ts c.args.tokens.now) (ap (map (λ x. replacement_bytes (replacement_in x))) items
+    ∙ map-both replacement_bytes replacement_in s.given.items ∙ ap (map replacement_bytes) c.self.view_is)
 
 pub loop-replaced-preserved : goal.loop-replaced-preserved
 loop-replaced-preserved c = grind (arith, common_steps)

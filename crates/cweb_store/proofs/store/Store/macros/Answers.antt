@@ -1,10 +1,10 @@
 use Rattle.cweb_store.proofs.Common.{◌≤◌, List, length, sym, ◌∙◌, ap, subst, All, all_tokens, is_macro, tokens_at}
-use Rattle.cweb_parts.specs.declared.parts.Part.{Part}
-use Rattle.cweb_parts.proofs.PartLemmas.{part-runs, tokens_at-numbers, numbers-within, numbers-ordered}
+use Rattle.cweb_store.specs.declared.parts.Part.{Part}
+use Rattle.cweb_store.proofs.PartLemmas.{part-ranges, tokens_at-numbers, numbers-within, numbers-ordered}
 use Rattle.cweb_store.proofs.store.Store.macros.Goals as goal
 
 pub returns-clause-numbers : goal.returns-clause-numbers
-returns-clause-numbers c = c.wanted.ensures.value ∙ part-runs is_macro 0 c.args.self.now.parts
+returns-clause-numbers c = c.wanted.ensures.value ∙ part-ranges is_macro 0 c.args.self.now.parts
 
 pub returns-clause-text : goal.returns-clause-text
 returns-clause-text c =

@@ -1,6 +1,6 @@
 use Rattle.cweb_store.proofs.Common.{◌≡◌, ◌≤◌, length, get_or, sym, ◌∙◌, ap, arith, slice_get, option_map, occurrences_at}
 use Rattle.cweb_names.specs.Names as spec
-use Rattle.cweb_names.proofs.GivenLemmas.{occurrences-count}
+use Rattle.cweb_names.proofs.OccurrenceTableLemmas.{occurrences-count}
 use Rattle.cweb_store.proofs.StoredLemmas.{first-place, occurrence-text}
 use Rattle.cweb_store.proofs.store.Store.name_text.Goals as goal
 
@@ -13,7 +13,7 @@ other-requires c =
     ap (λ v. length (spec.names v.occurrences)) c.self.view_is in
     let place = c.index.ensures ∙ ap (λ xs. get_or xs c.args.name.0 c.index.result.now) c.self.invariant.first_places in
     let first = first-place os c.args.name.0 c.index.result.now (omega (arith, names, c.requires)) place in
-    let few : length gs ≤ length ts = omega (arith, c.self.invariant.texts) in
+    let few : length gs ≤ length ts = omega (arith, c.self.invariant.strings) in
     omega (arith, first.within, occurrences-count ts gs few, few)
 
 pub returns : goal.returns

@@ -1,5 +1,5 @@
 use Rattle.cweb_store.proofs.Common.{◌≡◌, ◌≤◌, length, sym, ◌∙◌, ap, arith, slice_get, option_map, Occurrence, occurrences_at}
-use Rattle.cweb_names.proofs.GivenLemmas.{occurrences-count}
+use Rattle.cweb_names.proofs.OccurrenceTableLemmas.{occurrences-count}
 use Rattle.cweb_store.proofs.StoredLemmas.{occurrence-text}
 use Rattle.cweb_store.proofs.store.Store.occurrence_text.Goals as goal
 
@@ -9,7 +9,7 @@ other-requires c =
     let gs = c.self.inside.given.items in
     let os = occurrences_at ts gs in
     let count : length os ≡ length c.args.self.now.occurrences = ap (λ v. length v.occurrences) c.self.view_is in
-    let few : length gs ≤ length ts = omega (arith, c.self.invariant.texts) in
+    let few : length gs ≤ length ts = omega (arith, c.self.invariant.strings) in
     omega (arith, c.requires, count, occurrences-count ts gs few, few)
 
 pub returns : goal.returns

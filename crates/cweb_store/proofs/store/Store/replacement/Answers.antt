@@ -1,7 +1,7 @@
 use Rattle.cweb_store.proofs.Common.{◌≡◌, ◌+◌, Some, None, length, drop, sym, ◌∙◌, ap, arith, length-drop, slice_get, get_or_from_slice_get, replacement, last_from}
 use Rattle.std.proofs.lemmas.Option.{slice_get_within}
 use Rattle.cweb_texts.proofs.ListLemmas.{get-drop}
-use Rattle.cweb_store.proofs.StoredTexts.{at_last, last-is, last-within}
+use Rattle.cweb_store.proofs.StoredStringLemmas.{at_last, last-is, last-within}
 use Rattle.cweb_store.proofs.store.Store.replacement.Goals as goal
 
 pub index-requires : goal.index-requires
@@ -37,7 +37,7 @@ other-requires c =
       last-within c.args.byte s.replaced.items c.in-Some.number last,
       c.len.ensures,
       s.given.ok.0,
-      c.self.invariant.texts,
+      c.self.invariant.strings,
     )
 
 pub returns-in_default : goal.returns-in_default
@@ -48,7 +48,7 @@ returns-in_default c =
     let others = s.tokens.others in
     let behind = drop (length s.given.items) others in
     let size : length behind ≡ length s.replaced.items =
-    omega (arith, length-drop (length s.given.items) others, c.self.invariant.texts) in
+    omega (arith, length-drop (length s.given.items) others, c.self.invariant.strings) in
     let all =
     ap (λ v. replacement v.replacements byte) (sym c.self.view_is) ∙ last-is behind s.replaced.items byte size in
     let none : last_from byte None 0 s.replaced.items ≡ None =
@@ -63,7 +63,7 @@ returns c =
     let others = s.tokens.others in
     let behind = drop (length s.given.items) others in
     let size : length behind ≡ length s.replaced.items =
-    omega (arith, length-drop (length s.given.items) others, c.self.invariant.texts) in
+    omega (arith, length-drop (length s.given.items) others, c.self.invariant.strings) in
     let all =
     ap (λ v. replacement v.replacements byte) (sym c.self.view_is) ∙ last-is behind s.replaced.items byte size in
     let k = c.in-Some.number in

@@ -6,10 +6,10 @@ use Rattle.cweb_store.proofs.store.Store.standing.Goals as goal
 pub returns-clause-within : goal.returns-clause-within
 returns-clause-within c =
     let os = c.args.self.now.occurrences in
-    let standings =
+    let resolutions =
     c.as_slice.ensures.value ∙ c.self.invariant.answers.settled
-    ∙ ap (λ v. spec.standings v.occurrences) c.self.view_is in
-    let name : c.name_at.result ≡ spec.stands (spec.standings os) c.args.name.0 =
-    c.name_at.ensures ∙ ap (λ rs. spec.stands rs c.args.name.0) standings in
+    ∙ ap (λ v. spec.resolutions v.occurrences) c.self.view_is in
+    let name : c.resolved_at.result ≡ spec.resolved_at (spec.resolutions os) c.args.name.0 =
+    c.resolved_at.ensures ∙ ap (λ rs. spec.resolved_at rs c.args.name.0) resolutions in
     subst (λ (o : Option NameId). IfSome o (λ id. id.0 < length (spec.names os)))
     (sym name) (standing-within os c.args.name.0)

@@ -1,5 +1,5 @@
-use Rattle.cweb_texts.proofs.Common.{◌≡◌, ◌+◌, ◌<◌, length, refl, sym, ◌∙◌, ap, arith, slice_get, slice_get_within, window_of}
-use Rattle.cweb_texts.specs.Keys.{home_of}
+use Rattle.cweb_texts.proofs.Common.{◌≡◌, ◌+◌, ◌<◌, length, refl, sym, ◌∙◌, ap, arith, slice_get, slice_get_within, probe_window}
+use Rattle.cweb_texts.specs.inner.Keys.{home_bucket_of}
 use Rattle.cweb_texts.proofs.SlotLemmas.{window-slot}
 use Rattle.cweb_texts.proofs.words.slot.place.Goals as goal
 
@@ -9,15 +9,16 @@ index_mut-requires c =
     let slots = c.args.slots.now.items in
     let i = c.in-Some.i in
     let free = c.in-Some.ensures in
-    let window : c.window_of-window.result.now ≡ window_of key slots = c.window_of-window.ensures
-    ∙ ap (window_of key) c.as_slice.ensures.value in
+    let window : c.probe_window-window.result.now ≡ probe_window key slots = c.probe_window-window.ensures
+    ∙ ap (probe_window key) c.as_slice.ensures.value in
     let slot = window-slot key slots i free.0 (ap (λ w. slice_get w i) (sym window) ∙ free.1) in
     let count : c.len.result ≡ length slots =
     omega (arith, c.as_slice.ensures.len, ap length c.as_slice.ensures.value) in
-    let home : c.home-home.result ≡ home_of key (length slots) = c.home-home.ensures.is ∙ ap (home_of key) count in
-    let below : home_of key (length slots) + i < length slots =
-    slice_get_within slots (home_of key (length slots) + i) free.0 slot.there in
-    omega (arith, home, below, c.as_slice.ensures.len, ap length c.as_slice.ensures.value)
+    let home_bucket : c.home_bucket-home_bucket.result ≡ home_bucket_of key (length slots) =
+    c.home_bucket-home_bucket.ensures.is ∙ ap (home_bucket_of key) count in
+    let below : home_bucket_of key (length slots) + i < length slots =
+    slice_get_within slots (home_bucket_of key (length slots) + i) free.0 slot.there in
+    omega (arith, home_bucket, below, c.as_slice.ensures.len, ap length c.as_slice.ensures.value)
 
 pub returns : goal.returns
 returns c =
@@ -25,18 +26,19 @@ returns c =
     let slots = c.args.slots.now.items in
     let i = c.in-Some.i in
     let free = c.in-Some.ensures in
-    let window : c.window_of-window.result.now ≡ window_of key slots = c.window_of-window.ensures
-    ∙ ap (window_of key) c.as_slice.ensures.value in
+    let window : c.probe_window-window.result.now ≡ probe_window key slots = c.probe_window-window.ensures
+    ∙ ap (probe_window key) c.as_slice.ensures.value in
     let slot = window-slot key slots i free.0 (ap (λ w. slice_get w i) (sym window) ∙ free.1) in
     let count : c.len.result ≡ length slots =
     omega (arith, c.as_slice.ensures.len, ap length c.as_slice.ensures.value) in
-    let home : c.home-home.result ≡ home_of key (length slots) = c.home-home.ensures.is ∙ ap (home_of key) count in
+    let home_bucket : c.home_bucket-home_bucket.result ≡ home_bucket_of key (length slots) =
+    c.home_bucket-home_bucket.ensures.is ∙ ap (home_bucket_of key) count in
     record {
-      place = c.home-home.result + i;
+      place = c.home_bucket-home_bucket.result + i;
       was = free.0;
-      there = ap (λ n. slice_get slots (n + i)) home ∙ slot.there;
+      there = ap (λ n. slice_get slots (n + i)) home_bucket ∙ slot.there;
       free = free.2;
-      low = omega (arith, home);
-      high = omega (arith, home, slot.near);
+      low = omega (arith, home_bucket);
+      high = omega (arith, home_bucket, slot.near);
       now = refl;
     }

@@ -1,23 +1,25 @@
-use Rattle.cweb_tools.proofs.Common.{List, ℕ, Act, SeenStream, SeenShelf, SeenBins, Closes, ClosesInLog, false, refl, ap, ◌+◌, SinkFault, fault, refusal_text}
+use Rattle.cweb_tools.proofs.Common.{List, ℕ, Act, StreamModel, ShelfModel, BinsModel, Closes, ClosesInLog, false, refl, ap, ◌+◌, SinkFault, fault, refusal_message}
 use Rattle.cweb_tools.proofs.Doing.{closes_on}
 use Rattle.cweb_tools.proofs.DoingFiles.{closes_told, closing_on, log_halts}
 use Rattle.cweb_tools.proofs.Logging.{said}
 use Rattle.cweb_tools.proofs.Refusals.{each_some, refusal_line}
 use Rattle.cweb_tools.proofs.tangle.unplanned.tangle_refused.Goals as goal
 
-in_log : {acts : List Act} {due status : ℕ} {old new : SeenStream} → ((shelf : SeenShelf) (bins : SeenBins)
+in_log : {acts : List Act} {due status : ℕ} {old new : StreamModel} → ((shelf : ShelfModel) (bins : BinsModel)
     → Closes acts due (record { shelf = shelf; bins = bins; log = old })
     (record { shelf = shelf; bins = bins; log = new }) status) → ClosesInLog acts due old new status
 in_log closes = closes
 
 pub returns-in-Err : goal.returns-in-Err
 returns-in-Err g c = each_some _ _ (λ r is. in_log (λ shelf bins. log_halts _ (said {A = Unit {0}}
-    (fault (refusal_text c.args.web.scanned.now.store c.args.main.now r)) (rw (refusal_line c.args.web.scanned.now.store
+    (fault (refusal_message c.args.web.scanned.now.store c.args.main.now r))
+    (rw (refusal_line c.args.web.scanned.now.store
     c.args.main.now c.args.fault r is) at (rw c.store.ensures at c.in-Err.ensures)) shelf bins) refl))
 
 pub returns : goal.returns
 returns g c = each_some _ _ (λ r is. in_log (λ shelf bins. closes_on (said {A = Unit {0}} {E = SinkFault}
-    (fault (refusal_text c.args.web.scanned.now.store c.args.main.now r)) (rw (refusal_line c.args.web.scanned.now.store
+    (fault (refusal_message c.args.web.scanned.now.store c.args.main.now r))
+    (rw (refusal_line c.args.web.scanned.now.store
     c.args.main.now c.args.fault r is) at (rw c.store.ensures at c.in_default.ensures)) shelf bins)
     (closes_told c.say_end.result (closing_on c.args.shown {missing = false} {missing' = false} c.of.ensures
     (ap (λ (n : ℕ). n + 1) c.fault_count-count.ensures.count) refl c.say_end.ensures) refl refl shelf bins)))

@@ -1,5 +1,0 @@
-use Rattle.cweb_bins.proofs.Common.{rules}
-use Rattle.cweb_bins.proofs.bins.memory.MemoryBinsBins.abandon_file.Goals as goal
-
-pub returns-clause-gone : goal.returns-clause-gone
-returns-clause-gone c = search rules

@@ -1,8 +1,0 @@
-use Rattle.cweb_bins.proofs.Common.{rules}
-use Rattle.cweb_bins.proofs.bins.memory.MemoryBinsBins.start_file.Goals as goal
-
-pub returns-in_default-clause-err : goal.returns-in_default-clause-err
-returns-in_default-clause-err c = search rules
-
-pub returns-then-is_err-clause-err : goal.returns-then-is_err-clause-err
-returns-then-is_err-clause-err c = search rules

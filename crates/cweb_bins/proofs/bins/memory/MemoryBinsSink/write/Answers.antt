@@ -1,8 +1,0 @@
-use Rattle.cweb_bins.proofs.Common.{rules}
-use Rattle.cweb_bins.proofs.bins.memory.MemoryBinsSink.write.Goals as goal
-
-pub returns-then-is_err-clause-err : goal.returns-then-is_err-clause-err
-returns-then-is_err-clause-err c = search rules
-
-pub returns-then-is_err-clause-within_room : goal.returns-then-is_err-clause-within_room
-returns-then-is_err-clause-within_room c = search rules

@@ -1,5 +1,0 @@
-use Rattle.cweb_bins.proofs.Common.{rules, filter_same}
-use Rattle.cweb_bins.proofs.bins.memory.remove_named.Goals as goal
-
-pub returns-clause-others : goal.returns-clause-others
-returns-clause-others c = filter_same _ _ _ (λ x b f' k. search rules) _ _ c.retain.ensures.filtered

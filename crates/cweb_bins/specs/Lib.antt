@@ -1,2 +1,0 @@
-pub mod Bins
-pub mod Memory

@@ -1,0 +1,79 @@
+-- What files in memory hold.
+use Rattle.std.specs.Prelude.{◌≡◌, ℕ, Bool, true, false, not, List, [], ◌∷◌, ◌++◌, filter, map, Option, Some, None}
+use Rattle.std.specs.Prelude.{option_map, string_bytes, vec_capacity}
+use Rattle.std.specs.Option.{is_some}
+use Rattle.std.specs.Str.{bytes_eq}
+use Rattle.cweb_files.specs.Files.{File, Beside, Refused, no_memory}
+use Rattle.cweb_files.specs.declared.bins.memory.BinFile.{BinFile}
+use Rattle.cweb_files.specs.declared.bins.memory.MemoryBins.{MemoryBins}
+
+abbrev pub as_file : BinFile → File
+as_file file = record { name = string_bytes file.name; bytes = file.bytes.items }
+
+abbrev pub bin_file_name : BinFile → List ℕ
+bin_file_name file = string_bytes file.name
+
+abbrev pub bin_file_bytes : Option BinFile → List ℕ
+bin_file_bytes None = []
+bin_file_bytes (Some file) = file.bytes.items
+
+abbrev pub bin_file_room : Option BinFile → ℕ
+bin_file_room None = 0
+bin_file_room (Some file) = vec_capacity file.bytes
+
+abbrev pub committed_files : MemoryBins → List BinFile
+committed_files bins = bins.files.items
+
+-- the bytes of the draft
+abbrev pub draft_bytes : MemoryBins → List ℕ
+draft_bytes bins = bin_file_bytes bins.draft
+
+-- a beginning that memory refuses is refused by want of it
+abbrev pub memory_refusal : Bool → Option Refused
+memory_refusal true = Some no_memory
+memory_refusal false = None
+
+-- why the last beginning was refused
+abbrev pub last_refusal : MemoryBins → Option Refused
+last_refusal bins = memory_refusal bins.refused
+
+abbrev pub beside_draft : MemoryBins → Beside
+beside_draft bins = record {
+  files = map as_file bins.files.items;
+  draft = option_map bin_file_name bins.draft;
+  refused = last_refusal bins;
+}
+
+abbrev pub bins_failed : MemoryBins → ℕ
+bins_failed bins = bins.failed
+
+abbrev pub has_draft : MemoryBins → Bool
+has_draft bins = is_some bins.draft
+
+-- the room of the draft
+abbrev pub draft_room : MemoryBins → ℕ
+draft_room bins = bin_file_room bins.draft
+
+-- the room that a draft gets
+abbrev pub new_draft_room : MemoryBins → ℕ
+new_draft_room bins = bins.room
+
+-- how many files the list has room for
+abbrev pub list_room : MemoryBins → ℕ
+list_room bins = vec_capacity bins.files
+
+-- the list of files, with all its room, and the room that a draft gets are as before
+pub record KeepsFiles (old new : MemoryBins) : Type 0 where
+  pub files : new.files ≡ old.files
+  pub room : new_draft_room new ≡ new_draft_room old
+
+-- the name of the draft, with its room, is as before
+abbrev pub KeepsDraftName : MemoryBins → MemoryBins → Type 0
+KeepsDraftName old new =
+    option_map (λ (file : BinFile). file.name) new.draft ≡ option_map (λ (file : BinFile). file.name) old.draft
+
+-- a draft is put last among files, with its room, in the place of one of its name
+abbrev pub files_with_draft : List BinFile → Option BinFile → List BinFile
+files_with_draft files None = files
+files_with_draft files (Some draft) =
+    filter (λ file. not (bytes_eq (string_bytes file.name) (string_bytes draft.name))) files ++ draft ∷ []

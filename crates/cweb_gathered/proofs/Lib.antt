@@ -1,4 +1,0 @@
-pub mod Common
-pub mod Fronts
-pub mod Overlaps
-pub mod Moving

@@ -1,0 +1,7 @@
+pub mod Common
+pub mod Found
+pub mod ReadersStayNamed
+pub mod SourceStacks
+pub mod TrimmedLines
+pub mod NewlineBits
+pub mod Newlines

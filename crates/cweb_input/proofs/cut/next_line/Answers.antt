@@ -1,0 +1,77 @@
+use Rattle.cweb_input.proofs.Common.{◌≡◌, ◌++◌, [], ℕ, List, sym, ◌∙◌, ap, subst, rules, refl, Err, arith, common_steps, IsTrue, append_assoc, err_from_is_err_and, bytes_left, buffered, IsLongerThan, TakesFromBuffer, TooLong, LINE_LENGTH}
+use Rattle.cweb_input.proofs.Newlines.{longer_more, taken_full, taken_more}
+use Rattle.cweb_input.proofs.cut.next_line.Given as given
+use Rattle.cweb_input.proofs.cut.next_line.Goals as goal
+use Rattle.cweb_input.proofs.cut.next_line.Goals.{In_ok-refill}
+
+-- what was left at first is the line so far, what is pending and what the reader has left
+so_far : (g : given.Over) (c : In_ok-refill g) → IsTrue (g.S.Shelf.tells c.args.shelf.now)
+    → bytes_left g.S.Shelf.left c.args.shelf.now c.args.source.now ≡ c.pieces.line.items
+    ++ bytes_left g.S.Shelf.left c.refill.new.shelf c.refill.new.source
+so_far g c tells =
+    let still = subst IsTrue (sym c.pieces.invariant.tells) tells in
+    c.pieces.invariant.bytes tells ∙ ap (λ (l : List ℕ). c.pieces.line.items ++ l)
+    (sym (c.in_ok-refill.ensures.same still))
+
+pub returns-in_err-take_buffered-clause-too_long : goal.returns-in_err-take_buffered-clause-too_long
+returns-in_err-take_buffered-clause-too_long g c = λ tells is.
+    let p =
+    err_from_is_err_and c.from_residual-in_err-take_buffered.result c.from_residual-in_err-take_buffered.ensures.1 in
+    let fault : c.in_err-take_buffered.field-0.0 ≡ TooLong = cc (p.1, p.2, is) in
+    let long = c.in_err-take_buffered.ensures.too_long c.pieces.invariant.none (ap Err fault) in
+    let rest = g.S.Shelf.left c.refill.new.shelf c.refill.new.source.reader.value in
+    subst (λ (l : List ℕ). IsLongerThan LINE_LENGTH l) (append_assoc c.pieces.line.items (buffered c.refill.new.source)
+    rest ∙ sym (so_far g (goal.at.returns-in_err-take_buffered-clause-too_long g c).In_ok-refill tells))
+    (longer_more LINE_LENGTH (c.pieces.line.items ++ buffered c.refill.new.source) rest long)
+
+pub returns-then-branch-clause-taken : goal.returns-then-branch-clause-taken
+returns-then-branch-clause-taken g c = λ tells.
+    let takes = subst (λ b. TakesFromBuffer
+    (buffered c.refill.new.source) c.pieces.line.items b c.take_buffered.new.line.items
+    (buffered c.take_buffered.new.source)) c.if-branch.true c.in_ok-take_buffered.ensures.taken in
+    rw c.in_ok-take_buffered.ensures.reader (taken_full _ c.pieces.line.items (buffered c.refill.new.source)
+    (g.S.Shelf.left c.refill.new.shelf c.refill.new.source.reader.value) c.take_buffered.new.line.items
+    (buffered c.take_buffered.new.source)
+    (so_far g (goal.at.returns-then-branch-clause-taken g c).In_ok-refill tells) c.pieces.invariant.none takes)
+
+pub pieces-preserved : goal.pieces-preserved
+pieces-preserved g c =
+    let takes = subst (λ b. TakesFromBuffer
+    (buffered c.refill.new.source) c.pieces.line.items b c.take_buffered.new.line.items
+    (buffered c.take_buffered.new.source)) c.if-branch.false c.in_ok-take_buffered.ensures.taken in
+    record {
+      tells = search rules;
+      failed = search rules;
+      texts = search rules;
+      others = search rules;
+      names = search rules;
+      opened = λ tells.
+          let still = subst IsTrue (sym c.pieces.invariant.tells) tells in
+          ap (g.S.Shelf.opened_as c.refill.new.shelf) c.in_ok-take_buffered.ensures.reader
+          ∙ c.in_ok-refill.ensures.opened still ∙ c.pieces.invariant.opened tells;
+      blamed = search rules;
+      bytes = λ tells. rw c.in_ok-take_buffered.ensures.reader
+          ((taken_more _ c.pieces.line.items (buffered c.refill.new.source) (g.S.Shelf.left c.refill.new.shelf
+          c.refill.new.source.reader.value) c.take_buffered.new.line.items (buffered c.take_buffered.new.source)
+          (so_far g (goal.at.pieces-preserved g c).In_ok-refill tells) c.pieces.invariant.none takes).0);
+      none = (taken_more _ c.pieces.line.items (buffered c.refill.new.source) [] c.take_buffered.new.line.items
+          (buffered c.take_buffered.new.source) refl c.pieces.invariant.none takes).1;
+      within = c.in_ok-take_buffered.ensures.within;
+    }
+
+pub returns-then-branch-clause-clean : goal.returns-then-branch-clause-clean
+returns-then-branch-clause-clean g c =
+    let takes = subst (λ b. TakesFromBuffer
+    (buffered c.refill.new.source) c.pieces.line.items b c.take_buffered.new.line.items
+    (buffered c.take_buffered.new.source)) c.if-branch.true c.in_ok-take_buffered.ensures.taken in
+    (taken_full _ c.pieces.line.items (buffered c.refill.new.source) [] c.take_buffered.new.line.items
+    (buffered c.take_buffered.new.source) refl c.pieces.invariant.none takes).1
+
+pub returns-then-is_empty-clause-taken : goal.returns-then-is_empty-clause-taken
+returns-then-is_empty-clause-taken g c = grind (arith, common_steps)
+
+pub pieces-smaller : goal.pieces-smaller
+pieces-smaller g c = grind (arith, common_steps)
+
+pub returns-else-is_empty-clause-taken : goal.returns-else-is_empty-clause-taken
+returns-else-is_empty-clause-taken c = search rules

@@ -1,0 +1,36 @@
+use Rattle.cweb_input.proofs.Common.{◌≡◌, ◌≤◌, List, ℕ, IsTrue}
+use Rattle.cweb_input.specs.surface.Counters.{counters_of}
+use Rattle.cweb_input.specs.Things.{Thing}
+use Rattle.cweb_input.specs.surface.ReaderNames.{AreReadersNamed}
+use Rattle.cweb_input.specs.inner.ReaderNames.{KeepsReaderNames}
+use Rattle.cweb_input.specs.inner.OpenSources.{AreDeep, StaysBelow, files_up_to, line_number, maximum_of}
+use Rattle.cweb_input.specs.surface.OpenSources.{things_above}
+use Rattle.cweb_input.specs.inner.LineCalls.{KeepsNumbers}
+use Rattle.cweb_input.proofs.open_source.stack.take_above.Given as goal
+
+abbrev pub invariant-texts : goal.invariant-texts
+invariant-texts g l = record {
+  tells : g.S.Shelf.tells l.shelf ≡ g.S.Shelf.tells l.fn.shelf;
+  failed : g.S.Shelf.failed l.shelf ≡ g.S.Shelf.failed l.fn.shelf;
+  texts : IsTrue (g.S.Shelf.tells l.fn.shelf) → g.S.Shelf.texts l.shelf ≡ g.S.Shelf.texts l.fn.shelf;
+  others : IsTrue (g.S.Shelf.tells l.fn.shelf) → g.S.Shelf.left l.shelf ≡ g.S.Shelf.left l.fn.shelf;
+  names : IsTrue (g.S.Shelf.tells l.fn.shelf) → g.S.Shelf.opened_as l.shelf ≡ g.S.Shelf.opened_as l.fn.shelf;
+  named : KeepsReaderNames g.S.Shelf l.fn.shelf l.shelf l.fn.stack.texts l.stack.texts;
+  blamed : IsTrue (g.S.Shelf.tells l.fn.shelf) → (names : List (List ℕ))
+      → AreReadersNamed (g.S.Shelf.opened_as l.fn.shelf)
+      names l.fn.stack.texts → g.S.Shelf.blamed l.shelf ≡ g.S.Shelf.blamed l.fn.shelf;
+  low : l.low ≤ l.stack.depth;
+  shallow : l.stack.depth ≤ l.fn.stack.depth;
+  numbers : maximum_of line_number l.stack.texts ≤ l.limits.lines;
+  deep : AreDeep l.stack.texts;
+  files : maximum_of files_up_to l.stack.texts ≤ maximum_of files_up_to l.fn.stack.texts;
+  below : StaysBelow l.low l.fn.stack.texts l.stack.texts;
+  kept : KeepsNumbers l.fn.stack l.stack;
+  counted : counters_of l.limits ≡ counters_of l.fn.limits;
+  things : IsTrue (g.S.Shelf.tells l.fn.shelf) → (rest : List Thing)
+      → things_above (g.S.Shelf.left l.fn.shelf) l.low l.fn.stack rest ≡ things_above
+      (g.S.Shelf.left l.shelf) l.low l.stack rest;
+}
+
+abbrev pub decreases-texts : goal.decreases-texts
+decreases-texts g l = l.stack.depth

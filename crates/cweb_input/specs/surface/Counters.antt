@@ -1,0 +1,6 @@
+-- What was taken so far.
+use Rattle.cweb_input.specs.OpenSources.{TakenCountersModel}
+use Rattle.cweb_input.specs.declared.counters.TakenCounters.{TakenCounters}
+
+abbrev pub counters_of : TakenCounters → TakenCountersModel
+counters_of limits = record { lines = limits.lines; bytes = limits.bytes }

@@ -1,0 +1,61 @@
+// The pieces that files are read into. Those of texts that ended serve the texts that are opened next.
+ghost use Rattle.std.specs.Prelude.{◌≡◌, ◌<◌, ◌++◌, ◌∷◌, [], ◌⊎◌, ◌+◌, length, IfOk, vec_len};
+ghost use Rattle.std.specs.Prelude.{vec_capacity};
+ghost use Rattle.cweb_input.specs.declared.buffer_pool.TheConstants.{BUFFER_SIZE};
+
+use std::alloc::{AllocError, Global};
+
+/// How many bytes a reader is asked for at once.
+const BUFFER_SIZE: usize = 65536;
+
+/// Pieces of texts that ended, no more than there were open texts at one time.
+#[derive(Drop)]
+pub struct BufferPool {
+    free: Vec<Vec<u8>>,
+}
+
+impl BufferPool {
+    /// No pieces, and no memory is taken for them before one is kept.
+    pub fn new(alloc: Global) -> Self
+        ensures { result.free.items ≡ [] }
+    {
+        BufferPool {
+            free: Vec::new(alloc),
+        }
+    }
+
+    /// A piece with room for bytes: one that was kept, or else a new one.
+    pub fn take(&mut self, alloc: Global) -> Result<Vec<u8>, AllocError>
+        ensures some { IfOk result (λ buffer. 0 < length buffer.items) }
+        ensures taken { IfOk result (λ buffer.
+            (self.old.free.items ≡ self.new.free.items ++ buffer ∷ [])
+            ⊎ (length buffer.items ≡ BUFFER_SIZE)) }
+        ensures fewer { 0 < length self.old.free.items →
+            length self.new.free.items + 1 ≡ length self.old.free.items }
+    {
+        if let Some(buffer) = self.free.pop() {
+            if !buffer.is_empty() {
+                return Ok(buffer);
+            }
+        }
+        new_buffer(alloc)
+    }
+
+    /// Keeps a piece. Where memory is refused, it is let go.
+    pub fn keep(&mut self, buffer: Vec<u8>)
+        ensures kept { (self.new.free.items ≡ self.old.free.items ++ buffer ∷ [])
+            ⊎ (self.new.free.items ≡ self.old.free.items) }
+        ensures room { vec_len self.old.free < vec_capacity self.old.free →
+            self.new.free.items ≡ self.old.free.items ++ buffer ∷ [] }
+    {
+        let _ = self.free.push(buffer);
+    }
+}
+
+/// A piece of 65,536 bytes, all of them 0.
+pub fn new_buffer(alloc: Global) -> Result<Vec<u8>, AllocError>
+    ensures some { IfOk result (λ buffer. 0 < length buffer.items) }
+    ensures len { IfOk result (λ buffer. length buffer.items ≡ BUFFER_SIZE) }
+{
+    Ok(vec![in alloc; 0; BUFFER_SIZE]?)
+}

@@ -1,0 +1,171 @@
+// The lines of an open text one after another, however reads cut its bytes.
+ghost use Rattle.std.specs.Prelude.{◌≡◌, ◌≤◌, ◌<◌, ◌+◌, ◌^◌, ◌++◌, ◌∷◌, [], ℕ, List, length, take};
+ghost use Rattle.std.specs.Prelude.{drop, Vec, IsTrue, IfOk, OnOk, OnErr, IsErrOf, Option, Some};
+ghost use Rattle.std.specs.Prelude.{None};
+ghost use Rattle.cweb_files.specs.surface.Frames.{KeepsShelf};
+ghost use Rattle.cweb_input.specs.surface.Lines.{HasNoNewline};
+ghost use Rattle.cweb_input.specs.inner.Lines.{IsNewlineAt, byte_before};
+ghost use Rattle.cweb_input.specs.inner.Source.{bytes_left, TakesRawLine, IsLongerThan};
+ghost use Rattle.cweb_input.specs.surface.Source.{buffered};
+ghost use Rattle.cweb_input.specs.inner.Source.{CountsReadFault, TakesFromBuffer, BlamesReader};
+
+use crate::limits::LINE_LENGTH;
+use crate::source::{LineFault, LineTermination, Source};
+use cweb_files::Shelf;
+use memchr::{memchr, memrchr};
+use std::simd::prelude::*;
+
+// Where the first newline is among the first 32 bytes.
+#[inline(always)]
+fn newline_near(bytes: &[u8]) -> Option<usize>
+    requires { 32 ≤ length bytes.now }
+    ensures { IsNewlineAt (take 32 bytes.now) result }
+{
+    let lanes = u8x32::from_slice(bytes);
+    let marked = lanes.simd_eq(u8x32::splat(b'\n')).to_bitmask();
+    if marked == 0 {
+        return None;
+    }
+    Some(marked.trailing_zeros() as usize)
+}
+
+/// Where the first newline is. Most lines have less than 32 bytes.
+pub fn newline_at(bytes: &[u8]) -> Option<usize>
+    ensures { IsNewlineAt bytes.now result }
+{
+    let mut rest = bytes;
+    'runs: while 32 <= rest.len() {
+        if let Some(at) = newline_near(rest) {
+            return Some(bytes.len() - rest.len() + at);
+        }
+        rest = rest.split_at(32).1;
+    }
+    match memchr(b'\n', rest) {
+        Some(at) => Some(bytes.len() - rest.len() + at),
+        None => None,
+    }
+}
+
+// Adds bytes to a line, where it does not get too long.
+fn extend(line: &mut Vec<u8>, front: &[u8]) -> Result<(), LineFault>
+    requires { length line.old.items ≤ LINE_LENGTH }
+    ensures ok { OnOk result (line.new.items ≡ line.old.items ++ front.now) }
+    ensures within { length line.new.items ≤ LINE_LENGTH }
+    ensures read { IsErrOf result LineFault.Read → ⊥ }
+    ensures too_long { IsErrOf result LineFault.TooLong →
+        LINE_LENGTH < length line.old.items + length front.now }
+{
+    if front.len() > LINE_LENGTH - line.len() {
+        return Err(LineFault::TooLong);
+    }
+    line.extend_from_slice(front)?;
+    Ok(())
+}
+
+// Takes what belongs to a line, and answers whether its newline came.
+fn take_buffered<R: Drop>(source: &mut Source<R>, line: &mut Vec<u8>) -> Result<bool, LineFault>
+    requires { length line.old.items ≤ LINE_LENGTH }
+    ensures reader { source.new.reader.value ≡ source.old.reader.value }
+    ensures taken { IfOk result (λ full. TakesFromBuffer
+        (buffered source.old) line.old.items full line.new.items (buffered source.new)) }
+    ensures within { length line.new.items ≤ LINE_LENGTH }
+    ensures read { IsErrOf result LineFault.Read → ⊥ }
+    ensures too_long { HasNoNewline line.old.items → IsErrOf result LineFault.TooLong →
+        IsLongerThan LINE_LENGTH (line.old.items ++ buffered source.old) }
+{
+    let pending = &source.buffer[source.start..source.end];
+    match newline_at(pending) {
+        Some(at) => {
+            extend(line, &pending[..at])?;
+            source.start += at + 1;
+            Ok(true)
+        }
+        None => {
+            extend(line, pending)?;
+            source.start = source.end;
+            Ok(false)
+        }
+    }
+}
+
+// Where the last whole line ends.
+fn lines_end(bytes: &[u8]) -> usize
+    ensures within { result ≤ length bytes.now }
+    ensures newline { byte_before bytes.now result ≡ 10 }
+{
+    match memrchr(b'\n', bytes) {
+        Some(at) => at + 1,
+        None => 0,
+    }
+}
+
+// Reads the next piece, where nothing is pending.
+fn refill<S: Shelf>(shelf: &mut S, source: &mut Source<S::R>) -> Result<(), LineFault>
+    requires count { S.failed shelf.old + 1 < 2 ^ 64 }
+    ensures keeps { KeepsShelf S.Shelf shelf.old shelf.new }
+    ensures failed { CountsReadFault (S.failed shelf.old) (S.failed shelf.new) result }
+    ensures opened { IsTrue (S.tells shelf.old) →
+        S.opened_as shelf.new source.new.reader.value
+        ≡ S.opened_as shelf.old source.old.reader.value }
+    ensures blamed { IsTrue (S.tells shelf.old) →
+        BlamesReader (S.opened_as shelf.old source.old.reader.value)
+        (S.blamed shelf.old) (S.blamed shelf.new) result }
+    ensures read { IsErrOf result LineFault.TooLong → ⊥ }
+    ensures same { IsTrue (S.tells shelf.old) →
+        OnOk result (bytes_left S.left shelf.new source.new ≡ bytes_left S.left shelf.old source.old) }
+    ensures end { IsTrue (S.tells shelf.old) →
+        OnOk result (source.new.start ≡ source.new.end → bytes_left S.left shelf.new source.new ≡ []) }
+{
+    if source.start < source.end {
+        return Ok(());
+    }
+    source.lines_end = 0;
+    match shelf.read(&mut source.reader, &mut source.buffer) {
+        Ok(n) => {
+            source.start = 0;
+            source.end = n;
+            source.lines_end = lines_end(&source.buffer[..n]);
+            Ok(())
+        }
+        Err(_) => Err(LineFault::Read),
+    }
+}
+
+/// Takes the next line, without its newline.
+pub fn next_line<S: Shelf>(
+    shelf: &mut S,
+    source: &mut Source<S::R>,
+    line: &mut Vec<u8>,
+) -> Result<LineTermination, LineFault>
+    requires { S.failed shelf.old + 1 < 2 ^ 64 }
+    ensures keeps { KeepsShelf S.Shelf shelf.old shelf.new }
+    ensures failed { CountsReadFault (S.failed shelf.old) (S.failed shelf.new) result }
+    ensures opened { IsTrue (S.tells shelf.old) →
+        S.opened_as shelf.new source.new.reader.value
+        ≡ S.opened_as shelf.old source.old.reader.value }
+    ensures blamed { IsTrue (S.tells shelf.old) →
+        BlamesReader (S.opened_as shelf.old source.old.reader.value)
+        (S.blamed shelf.old) (S.blamed shelf.new) result }
+    ensures taken { IsTrue (S.tells shelf.old) →
+        IfOk result (λ taken. TakesRawLine (bytes_left S.left shelf.old source.old) taken line.new.items
+        (bytes_left S.left shelf.new source.new)) }
+    ensures too_long { IsTrue (S.tells shelf.old) → IsErrOf result LineFault.TooLong →
+        IsLongerThan LINE_LENGTH (bytes_left S.left shelf.old source.old) }
+    ensures within { length line.new.items ≤ LINE_LENGTH }
+    ensures clean { OnOk result (HasNoNewline line.new.items) }
+{
+    line.clear();
+    'pieces: loop {
+        refill(shelf, source)?;
+        if source.start == source.end {
+            return Ok(if line.is_empty() {
+                LineTermination::Ended
+            } else {
+                LineTermination::Last
+            });
+        }
+        if take_buffered(source, line)? {
+            return Ok(LineTermination::Full);
+        }
+    }
+}

@@ -1,0 +1,117 @@
+// The texts that a web and its include lines name.
+ghost use Rattle.std.specs.Prelude.{◌≡◌, ◌∷◌, ◌++◌, ℕ, List, IsTrue, IfOk, string_bytes};
+ghost use Rattle.std.specs.Option.{option_copied};
+ghost use Rattle.cweb_files.specs.surface.Frames.{KeepsShelf};
+ghost use Rattle.cweb_input.specs.Include.{found_at, found_under, web_at, change_at};
+ghost use Rattle.cweb_input.specs.inner.Finding.{found_as, changes_found, IsChangeOpened};
+ghost use Rattle.cweb_input.specs.surface.Finding.{world_in};
+ghost use Rattle.cweb_input.specs.inner.Finding.{IsOpened};
+
+use cweb_files::Shelf;
+use std::alloc::{AllocError, Global};
+
+/// A reader at the first byte of a text, and the name under which it was found.
+#[derive(Drop)]
+pub struct Opening<R: Drop> {
+    pub name: String,
+    pub reader: R,
+}
+
+fn fetch_named<S: Shelf>(shelf: &mut S, name: String) -> Result<Option<Opening<S::R>>, AllocError>
+    ensures keeps { KeepsShelf S.Shelf shelf.old shelf.new }
+    ensures failed { S.failed shelf.new ≡ S.failed shelf.old }
+    ensures opened { IsTrue (S.tells shelf.old) → IfOk result (IsOpened (S.opened_as shelf.new)) }
+    ensures blamed { IsTrue (S.tells shelf.old) → S.blamed shelf.new ≡ S.blamed shelf.old }
+    ensures found { IsTrue (S.tells shelf.old) →
+        IfOk result (λ opening. found_as (S.left shelf.new) opening
+        ≡ found_under (string_bytes name) (S.texts shelf.old (string_bytes name))) }
+{
+    match shelf.fetch(name.as_str())? {
+        Some(reader) => Ok(Some(Opening { name, reader })),
+        None => Ok(None),
+    }
+}
+
+fn in_folder(alloc: Global, folder: &str, name: &str) -> Result<String, AllocError>
+    ensures { IfOk result (λ path. string_bytes path ≡ folder.now ++ 47 ∷ name.now) }
+{
+    let mut path = String::from_str(alloc, folder)?;
+    path.push_str("/")?;
+    path.push_str(name)?;
+    Ok(path)
+}
+
+/// The text that an include line names: as it is named, else in the folder.
+pub fn find<S: Shelf>(
+    alloc: Global,
+    shelf: &mut S,
+    inputs: &Option<String>,
+    name: &[u8],
+) -> Result<Option<Opening<S::R>>, AllocError>
+    ensures keeps { KeepsShelf S.Shelf shelf.old shelf.new }
+    ensures failed { S.failed shelf.new ≡ S.failed shelf.old }
+    ensures opened { IsTrue (S.tells shelf.old) → IfOk result (IsOpened (S.opened_as shelf.new)) }
+    ensures blamed { IsTrue (S.tells shelf.old) → S.blamed shelf.new ≡ S.blamed shelf.old }
+    ensures found { IsTrue (S.tells shelf.old) →
+        IfOk result (λ opening. found_as (S.left shelf.new) opening
+        ≡ found_at (world_in (S.texts shelf.old) inputs.now) name.now) }
+{
+    let Ok(name) = str::from_utf8(name) else {
+        return Ok(None);
+    };
+    let Some(opening) = fetch_named(shelf, String::from_str(alloc, name)?)? else {
+        let Some(folder) = inputs else {
+            return Ok(None);
+        };
+        return fetch_named(shelf, in_folder(alloc, folder.as_str(), name)?);
+    };
+    Ok(Some(opening))
+}
+
+/// The web, under its name, else under the second.
+pub fn find_web<S: Shelf>(
+    alloc: Global,
+    shelf: &mut S,
+    web: &str,
+    second: Option<&str>,
+) -> Result<Option<Opening<S::R>>, AllocError>
+    ensures keeps { KeepsShelf S.Shelf shelf.old shelf.new }
+    ensures failed { S.failed shelf.new ≡ S.failed shelf.old }
+    ensures opened { IsTrue (S.tells shelf.old) → IfOk result (IsOpened (S.opened_as shelf.new)) }
+    ensures blamed { IsTrue (S.tells shelf.old) → S.blamed shelf.new ≡ S.blamed shelf.old }
+    ensures found { IsTrue (S.tells shelf.old) →
+        IfOk result (λ opening. found_as (S.left shelf.new) opening
+        ≡ web_at (S.texts shelf.old) web.now (option_copied second.entry)) }
+{
+    let Some(opening) = fetch_named(shelf, String::from_str(alloc, web)?)? else {
+        let Some(second) = second else {
+            return Ok(None);
+        };
+        return fetch_named(shelf, String::from_str(alloc, second)?);
+    };
+    Ok(Some(opening))
+}
+
+/// The change file, where one is named, under its name; nothing where that file is not there.
+pub fn find_change<S: Shelf>(
+    alloc: Global,
+    shelf: &mut S,
+    change: Option<&str>,
+) -> Result<Option<Option<Opening<S::R>>>, AllocError>
+    ensures keeps { KeepsShelf S.Shelf shelf.old shelf.new }
+    ensures failed { S.failed shelf.new ≡ S.failed shelf.old }
+    ensures opened { IsTrue (S.tells shelf.old) →
+        IfOk result (IsChangeOpened (S.opened_as shelf.new)) }
+    ensures blamed { IsTrue (S.tells shelf.old) → S.blamed shelf.new ≡ S.blamed shelf.old }
+    ensures found { IsTrue (S.tells shelf.old) →
+        IfOk result (λ opened. changes_found (S.left shelf.new) opened
+        ≡ change_at (S.texts shelf.old) (option_copied change.entry)) }
+{
+    let Some(name) = change else {
+        return Ok(Some(None));
+    };
+    match fetch_named(shelf, String::from_str(alloc, name)?)? {
+        Some(opening) => Ok(Some(Some(opening))),
+        None => Ok(None),
+    }
+}

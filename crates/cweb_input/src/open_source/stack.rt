@@ -1,0 +1,164 @@
+// The texts that are open, the deepest last.
+ghost use Rattle.std.specs.Prelude.{◌≡◌, ◌≤◌, ◌<◌, ◌+◌, ◌-◌, ◌^◌, ℕ, List, ◌∷◌, replicate, length};
+ghost use Rattle.std.specs.Prelude.{IsTrue, IfOk, IfErr, IfSome, OnSome, Ok, None, Some, slice_set};
+ghost use Rattle.std.specs.Prelude.{slice_index_or, false};
+ghost use Rattle.cweb_files.specs.surface.Frames.{KeepsShelf};
+ghost use Rattle.cweb_input.specs.inner.LineCalls.{AnswersLine, ClosesAbove, ClosesTop, KeepsStack};
+ghost use Rattle.cweb_input.specs.surface.Counters.{counters_of};
+ghost use Rattle.cweb_input.specs.surface.Lines.{IsOneLine};
+ghost use Rattle.cweb_input.specs.declared.limits.TheConstants.{OPEN_FILES};
+ghost use Rattle.cweb_input.specs.inner.OpenSources.{maximum_of, line_number, files_up_to};
+ghost use Rattle.cweb_input.specs.surface.OpenSources.{CountsReadStop};
+ghost use Rattle.cweb_input.specs.inner.OpenSources.{Counted, NamesFiles, AreDeep, TakesTop, TakesAbove};
+ghost use Rattle.cweb_input.specs.surface.OpenSources.{StopsFor, StopsReading};
+ghost use Rattle.cweb_input.specs.inner.OpenSources.{StopsTop, StopsAbove};
+ghost use Rattle.cweb_input.specs.inner.OpenSources.{StaysBelow, DepthAfter, Pushes};
+ghost use Rattle.cweb_input.specs.inner.ReaderNames.{BlamesSources, KeepsReaderNames};
+
+use crate::buffer_pool::BufferPool;
+use crate::counters::TakenCounters;
+use crate::limits::OPEN_FILES;
+use crate::open_source::take::take_from;
+use crate::open_source::{LineAt, OpenSource};
+use crate::stop::Stop;
+use cweb_files::Shelf;
+use std::alloc::Global;
+
+/// The web and the files that are open within it, each in a place of its own: the text at place `depth - 1` is being read.
+#[derive(Drop)]
+pub struct Stack<R: Drop> {
+    pub texts: [Option<OpenSource<R>>; OPEN_FILES],
+    pub depth: usize,
+    /// Those of texts that ended.
+    pub buffers: BufferPool,
+}
+
+impl<R: Drop> Stack<R> {
+    #[rattlefmt::skip]
+    pub fn new(alloc: Global, text: OpenSource<R>) -> Self
+        ensures depth { result.depth ≡ 1 }
+        ensures numbers { maximum_of line_number result.texts ≤ text.line }
+        ensures files { maximum_of files_up_to result.texts ≤ text.file.0 + 1 }
+        ensures deep { 0 < text.depth → AreDeep result.texts }
+        ensures texts { result.texts ≡ Some text ∷ replicate (OPEN_FILES - 1) None }
+    {
+        Stack {
+            texts: [
+                Some(text), None, None, None, None, None, None, None, None, None,
+                None, None, None, None, None, None, None, None, None, None,
+            ],
+            depth: 1,
+            buffers: BufferPool::new(alloc),
+        }
+    }
+
+    pub fn push(&mut self, text: OpenSource<R>)
+        requires room { self.old.depth < OPEN_FILES }
+        requires deep { AreDeep self.old.texts }
+        requires deeper { self.old.depth < text.depth }
+        ensures depth { self.new.depth ≡ self.old.depth + 1 }
+        ensures texts { self.new.texts ≡ slice_set self.old.texts self.old.depth (Some text) }
+        ensures pushes { Pushes self.old self.new text }
+        ensures below { StaysBelow self.old.depth self.old.texts self.new.texts }
+        ensures deep { AreDeep self.new.texts }
+    {
+        self.texts[self.depth] = Some(text);
+        self.depth += 1;
+    }
+
+    // Closes the text at a place, which has no more lines, and keeps its piece.
+    fn close(&mut self, place: usize)
+        requires { place < OPEN_FILES }
+        ensures texts { self.new.texts ≡ slice_set self.old.texts place None }
+    {
+        if let Some(text) = self.texts[place].take() {
+            self.buffers.keep(text.source.into_buffer());
+        }
+    }
+}
+
+// Takes a line of the deepest text, or closes it where it has no more.
+#[inline(always)]
+fn take_top<S: Shelf>(
+    shelf: &mut S,
+    stack: &mut Stack<S::R>,
+    limits: &mut TakenCounters,
+    line: &mut Vec<u8>,
+) -> Result<Option<LineAt>, Stop>
+    requires count { S.failed shelf.old + 1 < 2 ^ 64 }
+    requires some { 0 < stack.old.depth }
+    requires shallow { stack.old.depth ≤ OPEN_FILES }
+    requires numbers { maximum_of line_number stack.old.texts ≤ limits.old.lines }
+    requires deep { AreDeep stack.old.texts }
+    ensures keeps { KeepsShelf S.Shelf shelf.old shelf.new }
+    ensures failed { CountsReadStop (S.failed shelf.old) (S.failed shelf.new) result }
+    ensures taken { IsTrue (S.tells shelf.old) →
+        IfOk result (λ at. TakesTop (S.left shelf.old)
+        (S.left shelf.new) stack.old stack.new at line.new.items (counters_of limits.old)
+        (counters_of limits.new)) }
+    ensures stops { IsTrue (S.tells shelf.old) →
+        IfErr result (λ stop. StopsFor (StopsTop (S.left shelf.old) stack.old stop
+        (counters_of limits.old)) stop) }
+    ensures closes { ClosesTop stack.old stack.new result }
+    ensures named { KeepsReaderNames S.Shelf shelf.old shelf.new stack.old.texts stack.new.texts }
+    ensures blamed { BlamesSources S.Shelf shelf.old shelf.new stack.old.texts result }
+    ensures stack { KeepsStack stack.old stack.new (counters_of limits.new) }
+    ensures answers { AnswersLine (maximum_of files_up_to stack.old.texts) (counters_of limits.old)
+        (counters_of limits.new) line.new.items result }
+{
+    let top = stack.depth - 1;
+    let taken = match take_from(shelf, &mut stack.texts[top], limits, line) {
+        Ok(taken) => taken,
+        Err(stop) => return Err(stop),
+    };
+    let Some(at) = taken else {
+        stack.close(top);
+        stack.depth = top;
+        return Ok(None);
+    };
+    Ok(Some(at))
+}
+
+/// Takes the next line of the texts above a low place, and closes those that have no more. There is none where all of
+/// them have ended.
+#[inline(always)]
+pub fn take_above<S: Shelf>(
+    shelf: &mut S,
+    stack: &mut Stack<S::R>,
+    low: usize,
+    limits: &mut TakenCounters,
+    line: &mut Vec<u8>,
+) -> Result<Option<LineAt>, Stop>
+    requires count { S.failed shelf.old + 1 < 2 ^ 64 }
+    requires low { low ≤ stack.old.depth }
+    requires shallow { stack.old.depth ≤ OPEN_FILES }
+    requires numbers { maximum_of line_number stack.old.texts ≤ limits.old.lines }
+    requires deep { AreDeep stack.old.texts }
+    ensures keeps { KeepsShelf S.Shelf shelf.old shelf.new }
+    ensures failed { CountsReadStop (S.failed shelf.old) (S.failed shelf.new) result }
+    ensures taken { IsTrue (S.tells shelf.old) →
+        IfOk result (λ at. TakesAbove (S.left shelf.old)
+        (S.left shelf.new) low stack.old stack.new at line.new.items (counters_of limits.old)
+        (counters_of limits.new)) }
+    ensures stops { IsTrue (S.tells shelf.old) →
+        IfErr result (λ stop. StopsFor (StopsAbove (S.left shelf.old) low stack.old stop
+        (counters_of limits.old)) stop) }
+    ensures closes { ClosesAbove low stack.old stack.new result }
+    ensures named { KeepsReaderNames S.Shelf shelf.old shelf.new stack.old.texts stack.new.texts }
+    ensures blamed { BlamesSources S.Shelf shelf.old shelf.new stack.old.texts result }
+    ensures stack { KeepsStack stack.old stack.new (counters_of limits.new) }
+    ensures answers { AnswersLine (maximum_of files_up_to stack.old.texts) (counters_of limits.old)
+        (counters_of limits.new) line.new.items result }
+{
+    'texts: while stack.depth > low {
+        let taken = match take_top(shelf, stack, limits, line) {
+            Ok(taken) => taken,
+            Err(stop) => return Err(stop),
+        };
+        let Some(at) = taken else {
+            continue;
+        };
+        return Ok(Some(at));
+    }
+    Ok(None)
+}

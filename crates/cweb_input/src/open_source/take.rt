@@ -1,0 +1,234 @@
+// The next line of an open text, without the blanks at its end.
+ghost use Rattle.std.specs.Prelude.{◌≡◌, ◌≤◌, ◌<◌, ◌+◌, ◌^◌, ℕ, List, length, take, IsTrue, IfOk};
+ghost use Rattle.std.specs.Prelude.{IfErr, IfSome, OnSome, OnOk, OnErr, IsErrOf, Ok, None, Some};
+ghost use Rattle.cweb_files.specs.surface.Frames.{KeepsShelf};
+ghost use Rattle.cweb_input.specs.inner.LineCalls.{AnswersLine, KeepsOpenSource};
+ghost use Rattle.cweb_input.specs.inner.Source.{bytes_left, IsLongerThan, CountsReadFault};
+ghost use Rattle.cweb_input.specs.surface.Source.{buffered};
+ghost use Rattle.cweb_input.specs.inner.Source.{BlamesReader};
+ghost use Rattle.cweb_input.specs.inner.TrimmedLines.{TakesWholeLine, TakesTrimmedOrEnds};
+ghost use Rattle.cweb_input.specs.Lines.{trimmed};
+ghost use Rattle.cweb_input.specs.surface.Lines.{IsOneLine};
+ghost use Rattle.cweb_input.specs.Lines as spec;
+ghost use Rattle.cweb_input.specs.surface.Counters.{counters_of};
+ghost use Rattle.cweb_input.specs.surface.OpenSources.{lines_left, lines_at, number_or_zero};
+ghost use Rattle.cweb_input.specs.inner.OpenSources.{line_number};
+ghost use Rattle.cweb_input.specs.surface.OpenSources.{source_depth, matches_at};
+ghost use Rattle.cweb_input.specs.inner.OpenSources.{DeepAt, files_up_to};
+ghost use Rattle.cweb_input.specs.inner.OpenSources.{TakesNextLine, FirstStops};
+ghost use Rattle.cweb_input.specs.surface.OpenSources.{StopsFor, StopsReading};
+ghost use Rattle.cweb_input.specs.surface.OpenSources.{CountsReadStop};
+ghost use Rattle.cweb_input.specs.inner.OpenSources.{Counted, NamesFile, NamesFiles};
+ghost use Rattle.cweb_input.specs.inner.OpenSources.{stop_for, newline_bytes};
+ghost use Rattle.cweb_input.specs.inner.ReaderNames.{BlamesSource, KeepsReaderName};
+
+use crate::counters::TakenCounters;
+use crate::cut::{newline_at, next_line};
+use crate::limits::LINE_LENGTH;
+use crate::open_source::{LineAt, OpenSource};
+use crate::source::{LineFault, LineTermination, Source};
+use crate::stop::Stop;
+use cweb_files::{FileId, Place, Shelf};
+use std::alloc::AllocError;
+
+fn is_blank(b: u8) -> bool
+    ensures { result ≡ spec.is_blank b }
+{
+    matches!(b, b' ' | b'\t' | b'\r' | 11 | 12)
+}
+
+/// How many bytes of a line stand in front of the blanks at its end.
+pub fn trimmed_length(line: &[u8]) -> usize
+    ensures within { result ≤ length line.now }
+    ensures trimmed { take result line.now ≡ trimmed line.now }
+{
+    let mut end = line.len();
+    'blanks: while end > 0 {
+        if !is_blank(line[end - 1]) {
+            break 'blanks;
+        }
+        end -= 1;
+    }
+    end
+}
+
+fn trim(line: &mut Vec<u8>)
+    ensures { line.new.items ≡ trimmed line.old.items }
+{
+    let length = trimmed_length(line);
+    line.truncate(length);
+}
+
+fn stop_of(fault: LineFault, file: FileId) -> Stop
+    ensures { result ≡ stop_for fault file }
+{
+    match fault {
+        LineFault::Read => Stop::ReadFault(file),
+        LineFault::TooLong => Stop::LineTooLong(file),
+        LineFault::Memory => Stop::Memory,
+    }
+}
+
+fn newline_size(taken: LineTermination) -> usize
+    ensures value { result ≡ newline_bytes taken }
+    ensures small { result ≤ 1 }
+{
+    match taken {
+        LineTermination::Full => 1,
+        LineTermination::Last | LineTermination::Ended => 0,
+    }
+}
+
+// A line in place of what stood in a buffer.
+fn set(line: &mut Vec<u8>, bytes: &[u8]) -> Result<(), AllocError>
+    ensures { OnOk result (line.new.items ≡ bytes.now) }
+{
+    line.clear();
+    line.extend_from_slice(bytes)
+}
+
+// Takes a line that was read whole, and answers how many bytes it takes with its newline. So it is copied once, without
+// the blanks at its end. None where no whole line was read, or where it may be too long.
+#[inline(always)]
+fn take_whole<R: Drop>(
+    source: &mut Source<R>,
+    line: &mut Vec<u8>,
+) -> Result<Option<usize>, AllocError>
+    ensures none { result ≡ Ok None → source.new ≡ source.old }
+    ensures reader { source.new.reader.value ≡ source.old.reader.value }
+    ensures taken { IfOk result (λ size. IfSome size
+        (λ n. TakesWholeLine (buffered source.old) line.new.items n (buffered source.new))) }
+{
+    if source.start >= source.lines_end {
+        return Ok(None);
+    }
+    let pending = &source.buffer[source.start..source.end];
+    let Some(at) = newline_at(pending) else {
+        return Ok(None);
+    };
+    if at > LINE_LENGTH {
+        return Ok(None);
+    }
+    let raw = &pending[..at];
+    set(line, &raw[..trimmed_length(raw)])?;
+    source.start += at + 1;
+    Ok(Some(at + 1))
+}
+
+// Takes the next line without the blanks at its end, and answers how many bytes it takes, with the newline that it may have.
+#[inline(always)]
+fn take_trimmed<S: Shelf>(
+    shelf: &mut S,
+    source: &mut Source<S::R>,
+    line: &mut Vec<u8>,
+) -> Result<Option<usize>, LineFault>
+    requires count { S.failed shelf.old + 1 < 2 ^ 64 }
+    ensures keeps { KeepsShelf S.Shelf shelf.old shelf.new }
+    ensures failed { CountsReadFault (S.failed shelf.old) (S.failed shelf.new) result }
+    ensures opened { IsTrue (S.tells shelf.old) →
+        S.opened_as shelf.new source.new.reader.value
+        ≡ S.opened_as shelf.old source.old.reader.value }
+    ensures blamed { IsTrue (S.tells shelf.old) →
+        BlamesReader (S.opened_as shelf.old source.old.reader.value)
+        (S.blamed shelf.old) (S.blamed shelf.new) result }
+    ensures taken { IsTrue (S.tells shelf.old) →
+        IfOk result (λ size. TakesTrimmedOrEnds (bytes_left S.left shelf.old source.old) size line.new.items
+        (bytes_left S.left shelf.new source.new)) }
+    ensures too_long { IsTrue (S.tells shelf.old) → IsErrOf result LineFault.TooLong →
+        IsLongerThan LINE_LENGTH (bytes_left S.left shelf.old source.old) }
+    ensures line { IfOk result (λ size. OnSome size (IsOneLine line.new.items)) }
+    ensures gains { IfOk result (λ size. IfSome size (λ n. length line.new.items ≤ n)) }
+{
+    if let Some(size) = take_whole(source, line)? {
+        return Ok(Some(size));
+    }
+    let taken = match next_line(shelf, source, line) {
+        Ok(taken) => taken,
+        Err(fault) => return Err(fault),
+    };
+    if let LineTermination::Ended = taken {
+        return Ok(None);
+    }
+    let size = line.len() + newline_size(taken);
+    trim(line);
+    Ok(Some(size))
+}
+
+#[inline(always)]
+fn take_line<S: Shelf>(
+    shelf: &mut S,
+    text: &mut OpenSource<S::R>,
+    limits: &mut TakenCounters,
+    line: &mut Vec<u8>,
+) -> Result<Option<LineAt>, Stop>
+    requires count { S.failed shelf.old + 1 < 2 ^ 64 }
+    requires number { text.old.line ≤ limits.old.lines }
+    ensures keeps { KeepsShelf S.Shelf shelf.old shelf.new }
+    ensures failed { CountsReadStop (S.failed shelf.old) (S.failed shelf.new) result }
+    ensures taken { IsTrue (S.tells shelf.old) →
+        IfOk result (λ at. TakesNextLine (lines_left (S.left shelf.old) text.old) at line.new.items
+        (lines_left (S.left shelf.new) text.new) (counters_of limits.old) (counters_of limits.new)) }
+    ensures stops { IsTrue (S.tells shelf.old) →
+        IfErr result (λ stop. StopsFor (FirstStops stop (counters_of limits.old)
+        (lines_left (S.left shelf.old) text.old)) stop) }
+    ensures named { KeepsReaderName S.Shelf shelf.old shelf.new (Some text.old) (Some text.new) }
+    ensures blamed { BlamesSource S.Shelf shelf.old shelf.new (Some text.old) result }
+    ensures text { KeepsOpenSource (Some text.old) (Some text.new) (counters_of limits.old)
+        (counters_of limits.new) result }
+    ensures names { IfErr result (λ stop. NamesFile text.old.file stop) }
+    ensures answers { AnswersLine (text.old.file.0 + 1) (counters_of limits.old)
+        (counters_of limits.new) line.new.items result }
+{
+    let taken = match take_trimmed(shelf, &mut text.source, line) {
+        Ok(taken) => taken,
+        Err(fault) => return Err(stop_of(fault, text.file)),
+    };
+    let Some(size) = taken else {
+        return Ok(None);
+    };
+    if let Err(stop) = limits.add(size) {
+        return Err(stop);
+    }
+    text.line += 1;
+    Ok(Some(LineAt {
+        place: Place {
+            file: text.file,
+            line: text.line,
+        },
+        depth: text.depth,
+        may_match: text.may_match,
+    }))
+}
+
+// Takes a line of a text, where one is open.
+#[inline(always)]
+pub fn take_from<S: Shelf>(
+    shelf: &mut S,
+    slot: &mut Option<OpenSource<S::R>>,
+    limits: &mut TakenCounters,
+    line: &mut Vec<u8>,
+) -> Result<Option<LineAt>, Stop>
+    requires count { S.failed shelf.old + 1 < 2 ^ 64 }
+    requires number { number_or_zero line_number slot.old ≤ limits.old.lines }
+    ensures keeps { KeepsShelf S.Shelf shelf.old shelf.new }
+    ensures failed { CountsReadStop (S.failed shelf.old) (S.failed shelf.new) result }
+    ensures taken { IsTrue (S.tells shelf.old) →
+        IfOk result (λ at. TakesNextLine (lines_at (S.left shelf.old) slot.old) at line.new.items
+        (lines_at (S.left shelf.new) slot.new) (counters_of limits.old) (counters_of limits.new)) }
+    ensures stops { IsTrue (S.tells shelf.old) →
+        IfErr result (λ stop. StopsFor (FirstStops stop (counters_of limits.old)
+        (lines_at (S.left shelf.old) slot.old)) stop) }
+    ensures named { KeepsReaderName S.Shelf shelf.old shelf.new slot.old slot.new }
+    ensures blamed { BlamesSource S.Shelf shelf.old shelf.new slot.old result }
+    ensures text { KeepsOpenSource slot.old slot.new (counters_of limits.old)
+        (counters_of limits.new) result }
+    ensures answers { AnswersLine (number_or_zero files_up_to slot.old) (counters_of limits.old)
+        (counters_of limits.new) line.new.items result }
+    ensures deep { (place : ℕ) → DeepAt place slot.old →
+        DeepAt place slot.new × IfOk result (λ at. IfSome at (λ a. place < a.depth)) }
+{
+    match slot {
+        Some(text) => take_line(shelf, text, limits, line),
+        None => Ok(None),
+    }
+}

@@ -1,0 +1,208 @@
+-- Lines that were taken and faults that were told, as events of a merge.
+use Rattle.cweb_lines.proofs.Common.{◌≡◌, ℕ, List, [], ◌∷◌, ◌++◌, refl, ◌∙◌, ap, arith, length-append, map, append-nil, append_assoc, Place, SourceLine, Event, took, fault, SoFar, EmitsLines, ReportsPrefix, AddsFaultsAndLines, ReportsSomeFaults, HasBegunStep, StopsIn, EndsStep, TakenCountersModel, CountsLine, emitted_lines, reported_faults, openings, taken_lines, AreShort, SourceFault, Stop, ReadFault, LineTooLong, TooMuchText, Memory, map-append}
+use Rattle.cweb_lines.proofs.EmittedLinesAddUp.{size-append, short-append}
+
+-- what lines that were taken, and faults behind them, say
+abbrev pub events : List SourceLine → List SourceFault → List Event
+events lines faults = map took lines ++ map fault faults
+
+pub given_none : (lines : List SourceLine) (faults : List SourceFault) → emitted_lines (events lines faults) ≡ []
+given_none [] [] = refl
+given_none [] (f ∷ faults) = given_none [] faults
+given_none (line ∷ lines) faults = given_none lines faults
+
+told_all : (lines : List SourceLine) (faults : List SourceFault) → reported_faults (events lines faults) ≡ faults
+told_all [] [] = refl
+told_all [] (f ∷ faults) = simp (told_all [] faults)
+told_all (line ∷ lines) faults = told_all lines faults
+
+opened_none : (lines : List SourceLine) (faults : List SourceFault) → openings (events lines faults) ≡ []
+opened_none [] [] = refl
+opened_none [] (f ∷ faults) = opened_none [] faults
+opened_none (line ∷ lines) faults = opened_none lines faults
+
+taken_all : (lines : List SourceLine) (faults : List SourceFault) → taken_lines (events lines faults) ≡ lines
+taken_all [] [] = refl
+taken_all [] (f ∷ faults) = taken_all [] faults
+taken_all (line ∷ lines) faults = simp (taken_all lines faults)
+
+pub given-took : (lines : List SourceLine) → emitted_lines (map took lines) ≡ []
+given-took [] = refl
+given-took (line ∷ lines) = given-took lines
+
+pub taken-took : (lines : List SourceLine) → taken_lines (map took lines) ≡ lines
+taken-took [] = refl
+taken-took (line ∷ lines) = simp (taken-took lines)
+
+pub gives_adds : (lines : List SourceLine) (faults : List SourceFault) (old new : SoFar) (all later : List Event) →
+    all ≡ map took lines ++ (map fault faults ++ later) → AddsFaultsAndLines faults lines old new
+    → EmitsLines [] old new all later
+gives_adds lines faults old new all later whole adds = record {
+  events = events lines faults;
+  whole = simp (whole, append_assoc);
+  given = given_none lines faults;
+  faults = simp (adds.told, told_all);
+  names = simp (adds.names, opened_none, append-nil);
+  lines_are = simp (adds.lines_are, taken_all);
+  bytes_are = simp (adds.bytes_are, taken_all);
+  short = rw taken_all adds.short;
+}
+
+-- some of the faults of a step were told
+pub tells_some : (lines : List SourceLine) (faults : List SourceFault) (old new : SoFar) (all later : List Event) →
+    all ≡ map took lines ++ (map fault faults ++ later) → ReportsSomeFaults faults old new → ReportsPrefix old new all
+tells_some lines faults old new all later whole some = record {
+  events = events lines some.front;
+  later = map fault some.rest ++ later;
+  whole = simp (whole, some.whole, map-append, append_assoc);
+  faults = simp (some.told, told_all);
+  names = simp (some.names, opened_none, append-nil);
+}
+
+-- nothing was told or taken
+pub adds_none : (old new : SoFar) → new ≡ old → AddsFaultsAndLines [] [] old new
+adds_none old new same = record {
+  told = simp (same, append-nil);
+  names = simp same;
+  lines_are = simp same (omega arith);
+  bytes_are = simp same (omega arith);
+  short = tt;
+}
+
+-- nothing of a step was done
+abbrev pub begun_none : (old new : SoFar) (lines raws : List SourceLine) (faults : List SourceFault) → new ≡ old →
+    HasBegunStep old new lines raws faults
+begun_none old new lines raws faults same = record {
+  front = [];
+  rest = lines;
+  raw_front = [];
+  raw_rest = raws;
+  told = [];
+  more = faults;
+  lines_are = refl;
+  raws_are = refl;
+  faults_are = refl;
+  adds = adds_none old new same;
+}
+
+-- a line was taken behind others
+pub adds_line : (faults : List SourceFault) (lines : List SourceLine) (old mid new : SoFar) (bytes : List ℕ)
+    (place : Place) (t : CountsLine bytes place mid.count new.count) → AddsFaultsAndLines faults lines old mid
+    → new.faults ≡ mid.faults → new.names ≡ mid.names → AddsFaultsAndLines faults (lines ++ t.line ∷ []) old new
+adds_line faults lines old mid new bytes place t adds told names = record {
+  told = told ∙ adds.told;
+  names = names ∙ adds.names;
+  lines_are = omega (arith, adds.lines_are, t.lines, length-append lines (t.line ∷ []));
+  bytes_are = omega (arith, adds.bytes_are, t.bytes_are, size-append lines (t.line ∷ []));
+  short = short-append lines (t.line ∷ []) adds.short (t.short, tt);
+}
+
+-- more faults were told
+pub adds_faults : (faults more : List SourceFault) (lines : List SourceLine) (old mid new : SoFar) →
+    AddsFaultsAndLines faults lines old mid → new.faults ≡ mid.faults ++ more → new.names ≡ mid.names
+    → new.count ≡ mid.count
+    → AddsFaultsAndLines (faults ++ more) lines old new
+adds_faults faults more lines old mid new adds told names count = record {
+  told = simp (told, adds.told, append_assoc);
+  names = names ∙ adds.names;
+  lines_are = ap (λ (c : TakenCountersModel). c.lines) count ∙ adds.lines_are;
+  bytes_are = ap (λ (c : TakenCountersModel). c.bytes) count ∙ adds.bytes_are;
+  short = adds.short;
+}
+
+-- both, one behind the other
+pub adds_both : (faults more : List SourceFault) (lines further : List SourceLine) (old mid new : SoFar) →
+    AddsFaultsAndLines faults lines old mid → AddsFaultsAndLines more further mid new
+    → AddsFaultsAndLines (faults ++ more) (lines ++ further) old new
+adds_both faults more lines further old mid new first second = record {
+  told = simp (second.told, first.told, append_assoc);
+  names = second.names ∙ first.names;
+  lines_are = omega (arith, first.lines_are, second.lines_are, length-append lines further);
+  bytes_are = omega (arith, first.bytes_are, second.bytes_are, size-append lines further);
+  short = short-append lines further first.short second.short;
+}
+
+-- what comes after one line that was taken
+module _ (old mid : SoFar) (bytes : List ℕ) (place : Place) (t : CountsLine bytes place old.count mid.count)
+    (told : mid.faults ≡ old.faults) (names : mid.names ≡ old.names) where
+  pub adds_one : AddsFaultsAndLines [] (t.line ∷ []) old mid
+  adds_one = record {
+    told = simp (told, append-nil);
+    names = names;
+    lines_are = omega (arith, t.lines);
+    bytes_are = omega (arith, t.bytes_are);
+    short = (t.short, tt);
+  }
+
+  pub tells_after : (faults : List SourceFault) (new : SoFar) → ReportsSomeFaults faults mid new
+      → ReportsSomeFaults faults old new
+  tells_after faults new some = record {
+    front = some.front;
+    rest = some.rest;
+    whole = some.whole;
+    told = simp (some.told, told);
+    names = some.names ∙ names;
+  }
+
+  -- the line is the first of a step
+  abbrev begun_after : (lines raws : List SourceLine) (faults : List SourceFault) (new : SoFar)
+      → HasBegunStep mid new lines raws
+      faults → HasBegunStep old new (t.line ∷ lines) raws faults
+  begun_after lines raws faults new begun = record {
+    front = t.line ∷ begun.front;
+    rest = begun.rest;
+    raw_front = begun.raw_front;
+    raw_rest = begun.raw_rest;
+    told = begun.told;
+    more = begun.more;
+    lines_are = simp begun.lines_are;
+    raws_are = begun.raws_are;
+    faults_are = begun.faults_are;
+    adds = adds_both [] begun.told (t.line ∷ []) (begun.front ++ begun.raw_front) old mid new adds_one begun.adds;
+  }
+
+  stops_after : (stop : Stop) (lines raws : List SourceLine) (faults : List SourceFault) (new : SoFar) → StopsIn stop
+      mid new lines raws faults → StopsIn stop old new (t.line ∷ lines) raws faults
+  stops_after stop lines raws faults new stops = record {
+    begun = begun_after lines raws faults new stops.begun;
+    line = stops.line;
+    next = stops.next;
+    why = stops.why;
+  }
+
+  pub ends_after : (stop : Stop) (lines raws : List SourceLine) (faults : List SourceFault) (new : SoFar)
+      → EndsStep stop
+      mid new lines raws faults → EndsStep stop old new (t.line ∷ lines) raws faults
+  ends_after (ReadFault file) lines raws faults new ends = begun_after lines raws faults new ends
+  ends_after (LineTooLong file) lines raws faults new ends = stops_after _ lines raws faults new ends
+  ends_after TooMuchText lines raws faults new ends = stops_after _ lines raws faults new ends
+  ends_after Memory lines raws faults new ends = tt
+  ends_after stop lines raws faults new ends = absurd ends
+
+short-split : (a b : List SourceLine) → AreShort (a ++ b) → AreShort a × AreShort b
+short-split [] b short = (tt, short)
+short-split (l ∷ a) b short = let rest = short-split a b short.1 in ((short.0, rest.0), rest.1)
+
+-- a line was taken, which is counted in front of some of the others
+pub adds_within : (faults : List SourceFault) (lines others : List SourceLine) (old mid new : SoFar) (bytes : List ℕ)
+    (place : Place) (t : CountsLine bytes place mid.count new.count)
+    → AddsFaultsAndLines faults (lines ++ others) old mid
+    → new.faults ≡ mid.faults → new.names ≡ mid.names
+    → AddsFaultsAndLines faults ((lines ++ t.line ∷ []) ++ others) old new
+adds_within faults lines others old mid new bytes place t adds told names =
+    let short = short-split lines others adds.short in
+    record {
+      told = told ∙ adds.told;
+      names = names ∙ adds.names;
+      lines_are = simp length-append (omega (arith, adds.lines_are, t.lines, length-append lines others));
+      bytes_are = simp size-append (omega (arith, adds.bytes_are, t.bytes_are, size-append lines others));
+      short = short-append (lines ++ t.line ∷ []) others (short-append lines (t.line ∷ []) short.0 (t.short, tt))
+          short.1;
+    }
+
+-- more lines were taken
+pub adds_lines : (faults : List SourceFault) (lines others further : List SourceLine) (old mid new : SoFar) →
+    AddsFaultsAndLines faults (lines ++ others) old mid → AddsFaultsAndLines [] further mid new
+    → AddsFaultsAndLines faults (lines ++ (others ++ further)) old new
+adds_lines faults lines others further old mid new first second =
+    rw (append_assoc lines others further, append-nil faults) at (adds_both _ [] _ _ old mid new first second)

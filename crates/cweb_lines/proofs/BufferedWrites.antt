@@ -1,0 +1,90 @@
+-- How lines that were given out are gathered, written and lost.
+use Rattle.cweb_lines.proofs.Common.{◌≡◌, ℕ, List, [], ◌∷◌, ◌++◌, length, refl, sym, ◌∙◌, ap, arith, length-append, IsTrue, append-nil, append_assoc, KeepsPlace, Writes, Line, Event, SoFar, EmitsLines, BuffersLines, emitted_lines, written_lines, WritesPrefix, HasWritten, FailsAmong, LosesLine}
+use Rattle.cweb_files.specs.declared.device.Sink.{Ghosts as Sink}
+use Rattle.cweb_files.proofs.FramesCompose.{place_told, writes_then}
+use Rattle.cweb_lines.proofs.EmittedLinesAddUp.{gives_both}
+use Rattle.cweb_lines.proofs.WrittenLinesAddUp.{front_of_all, given_front, text_of-append}
+
+-- a line was gathered, behind none
+pub held : (room : ℕ) (old so : SoFar) (all now : List Event) (Wrote : List ℕ → Type 0) →
+    HasWritten old so all now Wrote
+    → (line : Line) (so' : SoFar) (later : List Event) → EmitsLines (line ∷ []) so so' now later
+    → (buffer more : List ℕ) →
+    buffer ≡ [] → more ≡ buffer ++ line.bytes ++ 10 ∷ [] → BuffersLines room old so' all later Wrote more
+held room old so all now Wrote g line so' later next buffer more none is = record {
+  done = g.lines;
+  gathered = line ∷ [];
+  gives = gives_both g.lines (line ∷ []) old so so' all now later g.gives next;
+  wrote = g.wrote;
+  piece_is = simp (is, none);
+  some = omega arith;
+  alone = λ none. refl;
+}
+
+-- lines that add no bytes are none
+no_lines : (lines : List Line) (buffer : List ℕ) → buffer ++ written_lines lines ≡ buffer → lines ≡ []
+no_lines [] buffer same = refl
+no_lines (line ∷ lines) buffer same =
+    absurd (omega (
+      arith,
+      ap (λ (t : List ℕ). length t) same,
+      length-append buffer (written_lines (line ∷ lines)),
+      length-append line.bytes (10 ∷ written_lines lines),
+    ))
+
+-- and lines that passed through
+pub held_on : (room : ℕ) (old so : SoFar) (all now : List Event) (Wrote : List ℕ → Type 0) (buffer : List ℕ) →
+    BuffersLines room old so all now Wrote buffer
+    → (lines : List Line) (so' : SoFar) (later : List Event) → EmitsLines lines so so' now later → (more : List ℕ) →
+    more ≡ buffer ++ written_lines lines → (room ≡ 0 → more ≡ buffer) → BuffersLines room old so' all later Wrote more
+held_on room old so all now Wrote buffer h lines so' later next more is alone = record {
+  done = h.done;
+  gathered = h.gathered ++ lines;
+  gives = rw append_assoc at (gives_both (h.done ++ h.gathered) lines old so so' all now later h.gives next);
+  wrote = h.wrote;
+  piece_is = simp (is, h.piece_is, text_of-append);
+  some = omega (arith, h.some, length-append h.gathered lines);
+  alone = λ none. simp (no_lines lines buffer (sym is ∙ alone none), append-nil, h.alone none);
+}
+
+module _ {W : Type 0} (sink : Sink W) (first mid : W) (keeps : KeepsPlace sink first mid) (room : ℕ) (old so : SoFar)
+    (all now : List Event) (buffer : List ℕ) (h : BuffersLines room old so all now (Writes sink first mid) buffer) where
+  -- all of them were written
+  pub written_on : (new : W) → Writes sink mid new buffer → HasWritten old so all now (Writes sink first new)
+  written_on new wrote = record {
+    lines = h.done ++ h.gathered;
+    gives = h.gives;
+    wrote = rw (text_of-append, ← h.piece_is)
+        (writes_then sink first mid new (written_lines h.done) buffer keeps h.wrote wrote);
+  }
+
+  pub fails_front : (new : W) → (IsTrue (sink.tells mid) → WritesPrefix (sink.written mid) (sink.written new) buffer)
+      → IsTrue (sink.tells first)
+      → WritesPrefix (sink.written first) (sink.written new) (written_lines (emitted_lines all))
+  fails_front new front tells =
+      front_of_all (emitted_lines all) h.done h.gathered (emitted_lines now) (sink.written first) (sink.written mid)
+      (sink.written new) buffer (given_front (h.done ++ h.gathered) old so all now h.gives ∙ append_assoc
+      h.done h.gathered (emitted_lines now)) (h.wrote tells) h.piece_is (front (place_told sink first mid keeps tells))
+
+  pub fails_among : (new : W) → IsTrue (sink.tells first) → (IsTrue (sink.tells mid) → WritesPrefix (sink.written mid)
+      (sink.written new) buffer) → FailsAmong room old so all now (sink.written first) (sink.written new)
+  fails_among new tells front = record {
+    done = h.done;
+    gathered = h.gathered;
+    gives = h.gives;
+    front = rw (h.wrote tells, h.piece_is) at (front (place_told sink first mid keeps tells));
+    some = h.some;
+    alone = h.alone;
+  }
+
+-- where lines are not gathered one line alone is lost
+pub loses_line : (old new : SoFar) (all later : List Event) (before after : List ℕ) →
+    FailsAmong 0 old new all later before after → LosesLine old new all later before after
+loses_line old new all later before after failed = by failed.gathered (failed.alone refl) failed.gives failed.front
+  where
+    by : (gathered : List Line) → length gathered ≡ 1 → EmitsLines (failed.done ++ gathered) old new all later →
+        WritesPrefix (before ++ written_lines failed.done) after (written_lines gathered)
+        → LosesLine old new all later before after
+    by [] one gives front = absurd (omega (arith, one))
+    by (line ∷ []) one gives front = record { done = failed.done; line = line; gives = gives; front = front }
+    by (line ∷ other ∷ rest) one gives front = absurd (omega (arith, one))

@@ -1,0 +1,104 @@
+-- Lines that pass through, as a merge takes them and gives them out.
+use Rattle.cweb_lines.proofs.Common.{◌≡◌, ◌+◌, ℕ, Bool, List, [], ◌∷◌, ◌++◌, length, map, Option, Some, None, refl, sym, ◌∙◌, ap, arith, length-append, Place, WaitingEntry, World, SourceLine, numbered_lines, trimmed, Event, Thing, took, given, raws, AllPassThrough, IsStretchAt, line_with_newline, lines_next, trimmed_with_newlines, sources_next, with_newlines, stretch_bytes, matches_at, number_or_zero, source_depth, AreShort, emitted_lines, openings, size_of_lines, taken_lines, reported_faults, merge, written_lines, Stretch, OpenSource}
+use Rattle.cweb_lines.proofs.Merges.{merge_given, state}
+
+-- each is taken and given out
+abbrev pub events_of : List SourceLine → List Event
+events_of [] = []
+events_of (source ∷ sources) = took source ∷ given source.line ∷ events_of sources
+
+pub events-given : (sources : List SourceLine) → emitted_lines (events_of sources) ≡ map (λ source. source.line) sources
+events-given [] = refl
+events-given (source ∷ sources) = simp (events-given sources)
+
+pub events-untold : (sources : List SourceLine) → reported_faults (events_of sources) ≡ []
+events-untold [] = refl
+events-untold (source ∷ sources) = events-untold sources
+
+pub events-unopened : (sources : List SourceLine) → openings (events_of sources) ≡ []
+events-unopened [] = refl
+events-unopened (source ∷ sources) = events-unopened sources
+
+pub events-taken : (sources : List SourceLine) → taken_lines (events_of sources) ≡ sources
+events-taken [] = refl
+events-taken (source ∷ sources) = simp (events-taken sources)
+
+-- what a merge gives of lines that pass through
+merge_lines : (world : World) (entry : Option WaitingEntry) (may_match : Bool) (depth file number : ℕ)
+    (lines : List (List ℕ))
+    (things : List Thing) (change : List SourceLine) (files : ℕ) → AllPassThrough entry may_match lines
+    → merge world (state (raws depth may_match (numbered_lines file number (map line_with_newline lines))
+    ++ things) entry change files)
+    ≡ events_of (numbered_lines file number (map line_with_newline lines))
+    ++ merge world (state things entry change files)
+merge_lines world entry may_match depth file number [] things change files passing = refl
+merge_lines world entry may_match depth file number (line ∷ lines) things change files passing =
+    let place : Place = record { file = record { 0 = file }; line = number } in
+    let source : SourceLine = record {
+      line = record { bytes = trimmed line; place = place };
+      length = length line;
+      size = length line + 1;
+    } in
+    merge_given world source (trimmed line) (record { place = place; depth = depth; may_match = may_match }) refl
+    (raws depth may_match (numbered_lines file (number + 1) (map line_with_newline lines)) ++ things) entry change files
+    passing.0.unbegun passing.0.plain
+    ∙ ap (λ (es : List Event). took source ∷ given source.line ∷ es)
+    (merge_lines world entry may_match depth file (number + 1) lines things change files passing.1)
+
+-- what these lines are, by the text that they stand in
+pub merge_next_lines : {R : Type 0} (world : World) (entry : Option WaitingEntry) (slot : Option (OpenSource R))
+    (s : Stretch)
+    (lines : List (List ℕ)) (things : List Thing) (change : List SourceLine) (files : ℕ)
+    → IsStretchAt entry slot s lines
+    → merge world (state (raws (number_or_zero source_depth slot) (matches_at slot) (sources_next slot lines)
+    ++ things) entry
+    change files) ≡ events_of (sources_next slot lines) ++ merge world (state things entry change files)
+merge_next_lines world entry None s lines things change files stands = absurd stands
+merge_next_lines world entry (Some text) s lines things change files stands = merge_lines
+    world entry text.may_match text.depth text.file.0 (text.line + 1) lines things change files stands.is.passing
+
+numbered-length : (file number : ℕ) (lines : List (List ℕ))
+    → length (numbered_lines file number (map line_with_newline lines)) ≡ length lines
+numbered-length file number [] = refl
+numbered-length file number (line ∷ lines) = omega (arith, numbered-length file (number + 1) lines)
+
+numbered-size : (file number : ℕ) (lines : List (List ℕ))
+    → size_of_lines (numbered_lines file number (map line_with_newline lines)) ≡ length (with_newlines lines)
+numbered-size file number [] = refl
+numbered-size file number (line ∷ lines) = simp length-append (omega (arith, numbered-size file (number + 1) lines))
+
+numbered-short : (entry : Option WaitingEntry) (may_match : Bool) (file number : ℕ) (lines : List (List ℕ))
+    → AllPassThrough entry may_match lines → AreShort (numbered_lines file number (map line_with_newline lines))
+numbered-short entry may_match file number [] passing = tt
+numbered-short entry may_match file number (line ∷ lines) passing =
+    (passing.0.short, numbered-short entry may_match file (number + 1) lines passing.1)
+
+numbered-text : (file number : ℕ) (lines : List (List ℕ))
+    → written_lines (map (λ source. source.line) (numbered_lines file number (map line_with_newline lines)))
+    ≡ trimmed_with_newlines lines
+numbered-text file number [] = refl
+numbered-text file number (line ∷ lines) = simp (numbered-text file (number + 1) lines)
+
+pub next-length : {R : Type 0} (entry : Option WaitingEntry) (slot : Option (OpenSource R)) (s : Stretch)
+    (lines : List (List ℕ))
+    → IsStretchAt entry slot s lines → length (sources_next slot lines) ≡ length lines
+next-length entry None s lines stands = absurd stands
+next-length entry (Some text) s lines stands = numbered-length text.file.0 (text.line + 1) lines
+
+pub next-size : {R : Type 0} (entry : Option WaitingEntry) (slot : Option (OpenSource R)) (s : Stretch)
+    (lines : List (List ℕ))
+    → IsStretchAt entry slot s lines → size_of_lines (sources_next slot lines) ≡ length (with_newlines lines)
+next-size entry None s lines stands = absurd stands
+next-size entry (Some text) s lines stands = numbered-size text.file.0 (text.line + 1) lines
+
+pub next-short : {R : Type 0} (entry : Option WaitingEntry) (slot : Option (OpenSource R)) (s : Stretch)
+    (lines : List (List ℕ))
+    → IsStretchAt entry slot s lines → AreShort (sources_next slot lines)
+next-short entry None s lines stands = absurd stands
+next-short entry (Some text) s lines stands = numbered-short _ _ _ _ _ stands.is.passing
+
+pub next-text : {R : Type 0} (entry : Option WaitingEntry) (slot : Option (OpenSource R)) (s : Stretch)
+    (lines : List (List ℕ)) → IsStretchAt entry slot s lines
+    → written_lines (lines_next slot lines) ≡ stretch_bytes slot s ++ 10 ∷ []
+next-text entry None s lines stands = absurd stands
+next-text entry (Some text) s lines stands = numbered-text text.file.0 (text.line + 1) lines ∙ sym stands.is.text

@@ -1,0 +1,139 @@
+-- The laws' premises can be met, and what they say is computed from the definition of the merge.
+use Rattle.cweb_lines.proofs.Common.{◌≡◌, ◌+◌, true, false, List, [], ◌∷◌, ◌++◌, Option, Some, None, refl, cond, codes, option_map, bytes_eq, AllByRecursion, list_any, lines, lines_in, World, is_include_line, Includes, IsPlainSplice, Splice, file_with_change, is_change_code, spliced, web_lines, MergeOutcome, only_lines, placed, renumbered, outcome_of_events, Event, raws, run_steps, started, written_lines, NoMatch, NoName}
+use Rattle.std.specs.Str.{is_utf8, chars}
+use lib.Utf8.{encode}
+use Rattle.cweb_lines.specs.laws.Laws.{spliced_change_lines}
+
+abbrev seen_by : Option (List Event) → Option MergeOutcome
+seen_by None = None
+seen_by (Some events) = Some (outcome_of_events events)
+
+abbrev no_texts : World
+no_texts = record { texts = λ _. None; inputs = None }
+
+abbrev a_file_included : World
+a_file_included = record {
+  texts = λ asked. cond (bytes_eq asked (codes "b")) (Some (codes "B\n@i\n")) None;
+  inputs =
+      None;
+}
+
+-- a change that includes a file: what it prints, and what is printed again
+abbrev changed_web : Option MergeOutcome
+changed_web = seen_by (run_steps 30 a_file_included (started (codes "A\nC\n") (Some (codes "@x\nA\n@y\n@i b\n@z\n"))))
+
+include_line : Includes a_file_included (codes "@i b") (codes "b") (codes "B\n@i\n")
+unfolding is_utf8 chars encode
+include_line = record { include = refl; named = λ is. cc; found = refl }
+
+-- what stands before and behind the include line, and the text that it names
+abbrev before_and_behind : MergeOutcome
+before_and_behind = record {
+  lines = placed 0 1 (codes "A" ∷ []) ++ placed 1 1 (codes "B" ∷ []) ++ placed 0 3 (codes "C" ∷ []);
+  faults = record { kind = NoName; place = record { file = record { 0 = 1 }; line = 2 }; count = 0 } ∷ [];
+  included = codes "b" ∷ [];
+}
+
+-- a change of two lines, the second an include line, and one that only drops a line
+abbrev two_changes : List Splice
+two_changes =
+    record {
+      stays = codes "A" ∷ [];
+      first = codes "B";
+      further = codes "@i gone" ∷ [];
+      comment = codes "why" ∷ [];
+      begin = codes "@x that";
+      middle = codes "@y";
+      new = codes "b" ∷ codes "bb" ∷ [];
+      end = codes "@z";
+    }
+    ∷ record {
+      stays = [];
+      first = codes "C";
+      further = [];
+      comment = [];
+      begin = codes "@X";
+      middle =
+          codes "@Y";
+      new = [];
+      end = codes "@Z";
+    }
+    ∷ []
+
+they_are_plain : AllByRecursion IsPlainSplice two_changes
+they_are_plain = (
+  record {
+    begins = refl;
+    turns = refl;
+    ends = refl;
+    comment = refl;
+    old = refl;
+    new = refl;
+    some = λ is. cc;
+    first_there = refl;
+    stays_plain = refl;
+    new_plain = refl;
+  },
+  (
+    record {
+      begins = refl;
+      turns = refl;
+      ends = refl;
+      comment = refl;
+      old = refl;
+      new = refl;
+      some = λ is. cc;
+      first_there = refl;
+      stays_plain = refl;
+      new_plain = refl;
+    },
+    tt,
+  ),
+)
+
+record Computed : Type 0 where
+  web_without_includes : list_any is_include_line (lines (codes "one \n\n@ two")) ≡ false
+  its_own_lines : seen_by (run_steps 10 no_texts (started (codes "one \n\n@ two") None))
+      ≡ Some (only_lines (placed 0 1 (codes "one" ∷ [] ∷ codes "@ two" ∷ [])))
+  change_file_without_entries : list_any is_change_code (lines (codes "a comment\n@ alone\n")) ≡ false
+  -- the included file is file 2 in place of 1, with its fault too
+  it_changes_nothing : seen_by (run_steps 20 a_file_included
+      (started (codes "A\n@i b\n") (Some (codes "a comment\n@ alone\n"))))
+      ≡ option_map (renumbered file_with_change)
+      (seen_by (run_steps 20 a_file_included (started (codes "A\n@i b\n") None)))
+  it_shows : option_map (renumbered file_with_change)
+      (seen_by (run_steps 20 a_file_included (started (codes "A\n@i b\n") None)))
+      ≡ Some (record {
+        lines = placed 0 1 (codes "A" ∷ []) ++ placed 2 1 (codes "B" ∷ []);
+        faults = record { kind = NoName; place = record { file = record { 0 = 2 }; line = 2 }; count = 0 } ∷ [];
+        included = codes "b" ∷ [];
+      })
+  it_prints : option_map (λ s. written_lines s.lines) changed_web ≡ Some (codes "B\nC\n")
+  it_prints_again : option_map (λ s. written_lines s.lines)
+      (seen_by (run_steps 30 no_texts (started (codes "B\nC\n") None)))
+      ≡ Some (codes "B\nC\n")
+  it_is_replaced : seen_by (run_steps 20 a_file_included (started (codes "A\n@i b\nC\n") None)) ≡ Some before_and_behind
+  web_of_two_changes : lines (codes "A\nB\n@i gone\nC\nD\n") ≡ web_lines two_changes (codes "D" ∷ [])
+  file_of_two_changes : lines (codes "why\n@x that\nB\n@i gone\n@y\nb\nbb\n@z\n@X\nC\n@Y\n@Z\nend")
+      ≡ spliced_change_lines two_changes (codes "end" ∷ [])
+  they_splice : seen_by (run_steps 30 no_texts (started
+      (codes "A\nB\n@i gone\nC\nD\n") (Some (codes "why\n@x that\nB\n@i gone\n@y\nb\nbb\n@z\n@X\nC\n@Y\n@Z\nend"))))
+      ≡ Some (only_lines (spliced 1 1 two_changes (codes "D" ∷ [])))
+  they_show : spliced 1 1 two_changes (codes "D" ∷ []) ≡ placed 0 1 (codes "A" ∷ []) ++ placed 1 6
+      (codes "b" ∷ codes "bb" ∷ []) ++ placed 0 5 (codes "D" ∷ [])
+  -- the second entry is never looked at
+  entry_without_match : seen_by
+      (run_steps 30 no_texts (started (codes "A\n") (Some (codes "why\n@x\nZ\n@z\n@x\nA\n@y\n@z\n"))))
+      ≡ Some (record {
+        lines = placed 0 1 (codes "A" ∷ []);
+        faults = record { kind = NoMatch; place = record { file = record { 0 = 1 }; line = 2 }; count = 0 } ∷ [];
+        included = [];
+      })
+  -- the text of an include line as it comes at depth 2, as file 1, and as it comes of a web of its own
+  it_merges_as_a_web : seen_by (run_steps 20 a_file_included (record
+      { things = raws 2 true (lines_in 1 (codes "A\n@i b\n")); pending = None; change = []; files = 2 })) ≡ option_map
+      (renumbered (λ number. 1 + number)) (seen_by (run_steps 20 a_file_included (started (codes "A\n@i b\n") None)))
+
+computed : Computed
+unfolding is_utf8 chars encode
+computed = search

@@ -1,0 +1,188 @@
+-- Lines that stand one behind another in a piece, and what they are in their text.
+use Rattle.cweb_lines.proofs.Common.{◌≡◌, ◌≤◌, ◌<◌, ◌+◌, ◌-◌, ℕ, Bool, List, [], ◌∷◌, ◌++◌, length, map, take, drop, Option, Some, None, refl, sym, ◌∙◌, ap, arith, take-add, append_assoc, append_cancel_right, drop-drop, length-append, length-map, length-take, map-append, take-take, take_all, slice_range, IfSome, WaitingEntry, SplitsAt, CutLine, numbered_lines, cut_lines, trimmed, AllPassThrough, HasRoomFor, IsStretch, PassesThrough, Reaches, IsStretchOf, line_with_newline, trimmed_with_newlines, sources_next, with_newlines, buffered, lines_at, TakenCounters, LINES, BYTES, Stretch, OpenSource}
+use Rattle.cweb_input.proofs.Newlines.{behind, text_lines-full}
+
+pub standing-append : (a b : List (List ℕ)) → with_newlines (a ++ b) ≡ with_newlines a ++ with_newlines b
+standing-append [] b = refl
+standing-append (line ∷ a) b = simp (standing-append a b, append_assoc)
+
+printed-append : (a b : List (List ℕ))
+    → trimmed_with_newlines (a ++ b) ≡ trimmed_with_newlines a ++ trimmed_with_newlines b
+printed-append a b = simp (map-append, standing-append)
+
+passing-append : (entry : Option WaitingEntry) (may_match : Bool) (a b : List (List ℕ))
+    → AllPassThrough entry may_match a
+    → AllPassThrough entry may_match b → AllPassThrough entry may_match (a ++ b)
+passing-append entry may_match [] b first then = then
+passing-append entry may_match (line ∷ a) b first then = (first.0, passing-append entry may_match a b first.1 then)
+
+-- what stands from one place to another, by a place between
+pub slice_split : (buffer : List ℕ) (i j k : ℕ) → i ≤ j → j ≤ k
+    → slice_range buffer i k ≡ slice_range buffer i j ++ slice_range buffer j k
+slice_split buffer i j k low high =
+    let count : k - i ≡ (j - i) + (k - j) = omega arith in
+    let place : i + (j - i) ≡ j = omega arith in
+    ap (λ n. take n (drop i buffer)) count ∙ take-add (j - i) (k - j) (drop i buffer)
+    ∙ ap (λ (l : List ℕ). take (j - i) (drop i buffer) ++ take (k - j) l)
+    (drop-drop (j - i) i buffer ∙ ap (λ n. drop n buffer) place)
+
+-- one line
+module _ (entry : Option WaitingEntry) (may_match : Bool) (buffer : List ℕ) (start end at len : ℕ)
+    (splits : SplitsAt (slice_range buffer start end) at) (le : start ≤ end) (within : len ≤ at)
+    (trims : take len (take at (slice_range buffer start end)) ≡ trimmed (take at (slice_range buffer start end)))
+    (s : Stretch) (text : s.text ≡ start + len) (ends : s.end ≡ start + at + 1) (lines : s.lines ≡ 1) where
+  abbrev raw : List ℕ
+  raw = take at (slice_range buffer start end)
+
+  near : at < end - start
+  near = omega (arith, splits.within, length-take (end - start) (drop start buffer))
+
+  length_is : length raw ≡ at
+  length_is = omega (arith, splits.within, length-take at (slice_range buffer start end))
+
+  stands : slice_range buffer start s.end ≡ raw ++ 10 ∷ []
+  stands =
+      let place : start + (at + 1) ≡ s.end = omega (arith, ends) in
+      append_cancel_right _ _ (slice_range buffer s.end end) (sym (slice_split buffer start s.end end
+      (omega (arith, ends)) (omega (arith, ends, near, le))) ∙ behind buffer start end at splits le ∙ ap
+      (λ n. raw ++ 10 ∷ slice_range buffer n end) place
+      ∙ sym (append_assoc raw (10 ∷ []) (slice_range buffer s.end end)))
+
+  printed_is : slice_range buffer start s.text ≡ trimmed raw
+  printed_is =
+      let count : s.text - start ≡ len = omega (arith, text) in
+      ap (λ n. take n (drop start buffer)) count
+      ∙ sym (take-take len at (slice_range buffer start end) within
+      ∙ take-take len (end - start) (drop start buffer) (omega (arith, near, within))) ∙ trims
+
+  untrimmed : s.text + 1 ≡ s.end → raw ≡ trimmed raw
+  untrimmed is = sym (take_all len raw (omega (arith, length_is, is, text, ends))) ∙ trims
+
+  pub one_line : PassesThrough entry may_match raw → IsStretch entry may_match buffer start s (raw ∷ [])
+  one_line passes = record {
+    passing = (passes, tt);
+    lines = lines;
+    stands = stands;
+    size = omega (arith, length-append raw (10 ∷ []), length_is, ends);
+    text = ap (λ (l : List ℕ). l ++ 10 ∷ []) printed_is;
+    whole = λ is. stands ∙ ap (λ (l : List ℕ). l ++ 10 ∷ []) (untrimmed is);
+    forth = omega (arith, text);
+    before = omega (arith, text, ends, within);
+  }
+
+-- lines, the last without blanks at its end, and those behind them
+pub joined : (entry : Option WaitingEntry) (may_match : Bool) (buffer : List ℕ) (start : ℕ) (s t u : Stretch)
+    (a b : List (List ℕ)) → IsStretch entry may_match buffer start s a → s.text + 1 ≡ s.end
+    → IsStretch entry may_match buffer s.end t b → u.text ≡ t.text → u.end ≡ t.end → u.lines ≡ s.lines + t.lines
+    → IsStretch entry may_match buffer start u (a ++ b)
+joined entry may_match buffer start s t u a b first whole then text ends lines = record {
+  passing = passing-append entry may_match a b first.passing then.passing;
+  lines = omega (arith, lines, first.lines, then.lines, length-append a b);
+  stands =
+      simp (ends, split t.end (omega (arith, then.forth, then.before)), first.stands, then.stands, standing-append);
+  size = omega (
+    arith,
+    ends,
+    first.size,
+    then.size,
+    ap (λ (l : List ℕ). length l) (standing-append a b),
+    length-append (with_newlines a) (with_newlines b),
+  );
+  text = simp (text, split t.text then.forth, append_assoc, first.whole whole, then.text, printed-append);
+  whole = λ is. simp (
+    ends,
+    split t.end (omega (arith, then.forth, then.before)),
+    first.whole whole,
+    then.whole
+        (omega (arith, is, text, ends)),
+    printed-append,
+  );
+  forth = omega (arith, text, then.forth, first.forth, first.before);
+  before = omega (arith, text, ends, then.before);
+}
+  where
+    split : (n : ℕ) → s.end ≤ n
+        → slice_range buffer start n ≡ slice_range buffer start s.end ++ slice_range buffer s.end n
+    split n high = slice_split buffer start s.end n (omega (arith, first.forth, first.before)) high
+
+pub few_lines : (lines : List (List ℕ)) → length lines ≤ length (with_newlines lines)
+few_lines [] = omega arith
+few_lines (line ∷ lines) = omega (arith, few_lines lines, length-append line (10 ∷ with_newlines lines))
+
+-- no more lines than bytes
+pub lines_within : {entry : Option WaitingEntry} {may_match : Bool} {buffer : List ℕ} {start end : ℕ} {s : Stretch}
+    → Reaches entry may_match buffer start end s → start + s.lines ≤ s.end
+lines_within reaches = omega (arith, reaches.1.lines, reaches.1.size, few_lines reaches.0)
+
+pub reaches_more : {entry : Option WaitingEntry} {may_match : Bool} {buffer : List ℕ} {start end : ℕ} (s t u : Stretch)
+    → Reaches entry may_match buffer start end s → s.text + 1 ≡ s.end → Reaches entry may_match buffer s.end end t
+    → u.text ≡ t.text → u.end ≡ t.end → u.lines ≡ s.lines + t.lines → Reaches entry may_match buffer start end u
+reaches_more {entry = e} {may_match = m} {buffer = buffer} {start = start} s t u first whole then text ends lines = (
+  first.0 ++ then.0,
+  joined e m buffer start s t u first.0 then.0 first.1 whole then.1 text ends lines,
+  omega (arith, ends, then.2),
+)
+
+-- lines of an open text, where there is room for all that was read of it
+pub stands_in : {R : Type 0} (entry : Option WaitingEntry) (text : OpenSource R) (limits : TakenCounters)
+    (next : Option Stretch)
+    → limits.lines + (text.source.end - text.source.start) ≤ LINES
+    → limits.bytes + (text.source.end - text.source.start) ≤ BYTES
+    → IfSome next (λ s. Reaches entry text.may_match text.source.buffer.items text.source.start text.source.end s)
+    → IfSome next (λ s. (lines : List (List ℕ)) × IsStretchOf entry text s lines × HasRoomFor limits lines)
+stands_in entry text limits None few small reaches = tt
+stands_in entry text limits (Some s) few small reaches = (
+  reaches.0,
+  record { is = reaches.1; within = reaches.2 },
+  record {
+    few = omega (arith, few, few_lines reaches.0, reaches.1.size, reaches.2);
+    small = omega (arith, small, reaches.1.size, reaches.2);
+  },
+)
+
+-- the lines of a text that begins with them
+text_lines-standing : (entry : Option WaitingEntry) (may_match : Bool) (lines : List (List ℕ)) (rest : List ℕ)
+    → AllPassThrough entry may_match lines
+    → cut_lines (with_newlines lines ++ rest) ≡ map line_with_newline lines ++ cut_lines rest
+text_lines-standing entry may_match [] rest passing = refl
+text_lines-standing entry may_match (line ∷ lines) rest passing = simp (
+  append_assoc,
+  text_lines-full line
+      (with_newlines lines ++ rest) passing.0.clean,
+  text_lines-standing entry may_match lines rest passing.1,
+)
+
+pub numbered-append : (file number : ℕ) (a b : List CutLine)
+    → numbered_lines file number (a ++ b) ≡ numbered_lines file number a ++ numbered_lines file (number + length a) b
+numbered-append file number [] b =
+    let same : number ≡ number + 0 = omega arith in ap (λ n. numbered_lines file n b) same
+numbered-append file number (line ∷ a) b =
+    let next : number + 1 + length a ≡ number + length (line ∷ a) = omega arith in
+    simp (numbered-append file (number + 1) a b, next)
+
+-- the lines that an open text has left, where lines are taken that stand in what was read
+pub takes_lines : {R : Type 0} (entry : Option WaitingEntry) (text : OpenSource R) (s : Stretch) (lines : List (List ℕ))
+    → IsStretchOf entry text s lines → (left : R → List ℕ) → lines_at left (Some text) ≡ sources_next (Some text) lines
+    ++ numbered_lines text.file.0 (text.line + s.lines + 1)
+    (cut_lines (slice_range text.source.buffer.items s.end text.source.end ++ left text.source.reader.value))
+takes_lines entry text s lines stands left = simp (
+  front,
+  append_assoc,
+  text_lines-standing entry text.may_match lines
+      (behind_them ++ unread) stands.is.passing,
+  numbered-append,
+  count,
+)
+  where
+    unread : List ℕ
+    unread = left text.source.reader.value
+
+    behind_them : List ℕ
+    behind_them = slice_range text.source.buffer.items s.end text.source.end
+
+    front : buffered text.source ≡ with_newlines lines ++ behind_them
+    front = slice_split text.source.buffer.items text.source.start s.end text.source.end
+        (omega (arith, stands.is.size)) stands.within ∙ ap (λ (l : List ℕ). l ++ behind_them) stands.is.stands
+
+    count : text.line + 1 + length (map line_with_newline lines) ≡ text.line + s.lines + 1
+    count = omega (arith, length-map lines line_with_newline, stands.is.lines)

@@ -1,0 +1,18 @@
+-- Readers of a run that stay those of their files.
+use Rattle.cweb_lines.proofs.Common.{◌≡◌, ℕ, List, sym, ap, subst, opened_file_names, AreReadersNamed, AreReadersKnown, IsReaderNamed, OnlyReports, MergeState}
+
+-- the texts that are open, and their names, stay
+pub knows_same : {R : Type 0} (opened_as : R → List ℕ) (old new : MergeState R) → new.stack.texts ≡ old.stack.texts
+    → new.change ≡ old.change → opened_file_names new.names ≡ opened_file_names old.names
+    → AreReadersKnown opened_as old → AreReadersKnown opened_as new
+knows_same opened_as old new texts change names known = record {
+  texts = subst (λ (ns : List (List ℕ)). AreReadersNamed opened_as ns new.stack.texts) (sym names)
+      (subst (λ ts. AreReadersNamed opened_as (opened_file_names old.names) ts) (sym texts) known.texts);
+  change = subst (λ (ns : List (List ℕ)). IsReaderNamed opened_as ns new.change) (sym names)
+      (subst (λ t. IsReaderNamed opened_as (opened_file_names old.names) t) (sym change) known.change);
+}
+
+pub knows_only : {R : Type 0} {opened_as : R → List ℕ} {old new : MergeState R} → OnlyReports old new
+    → AreReadersKnown opened_as old → AreReadersKnown opened_as new
+knows_only {opened_as = f} {old = old} {new = new} only known = knows_same f old new (λ i. (only.stack i).texts)
+    only.change (ap opened_file_names only.names) known

@@ -1,0 +1,207 @@
+-- The new side of a change, line by line.
+use Rattle.cweb_lines.proofs.Common.{AddsFaultsAndLines, OnlyTakes, OnlyReports, lines_at, ◌≡◌, ◌-◌, ℕ, false, List, [], ◌∷◌, ◌++◌, Some, None, Option, refl, sym, ◌∙◌, ap, arith, length, sameb, Place, at_place, change_code, world_in, World, Line, SourceLine, Event, NewSide, Thing, fault, new_at, new_lines, passed, raw, seek, told, took, EmitsLines, SoFar, Stopped, change_lines, events_to_come, events_after_line, things_of, so_far_of, counters_of, opened_file_names, change_in, pending_in, things_below, things_in, FirstStops, StopsFor, CountsLine, raw_thing, things_above, things_over, merge, merge_next, the_type, Code, EndedBeforeZ, WantsZ, MergeState, Change, Changing, Stack, Stop, LineAt}
+use Rattle.cweb_lines.specs.declared.change.code.Code.TheVariants.{OldSide as old_side, NewSide as new_side, EndSide as end_side}
+use Rattle.cweb_lines.proofs.AddedEvents.{adds_faults, adds_one, gives_adds}
+use Rattle.cweb_lines.proofs.ReportsOnlyGrow.{took_faults, took_names}
+use Rattle.cweb_lines.proofs.Merges.{gives_fault, merge_takes, state}
+use Rattle.cweb_lines.proofs.Stops.{stopped_first, takes_next}
+use Rattle.cweb_input.proofs.SourceStacks.{over-none}
+use Rattle.cweb_lines.proofs.Codes.{is_faulty_new}
+
+-- what is to come of a change's new lines, in front of what the texts below have left
+abbrev pub coming_new : World → Change → List SourceLine → List Thing → ℕ → List Event
+coming_new world change lines below files = merge world (state ((new_lines change.depth change.begin lines).things
+    ++ seek ∷ below) None (new_lines change.depth change.begin lines).rest files)
+
+module _ (world : World) (change : Change) (below : List Thing) (files : ℕ) where
+  abbrev of_side : NewSide → List Event
+  of_side side = merge world (state (side.things ++ seek ∷ below) None side.rest files)
+
+  -- the change file has ended
+  pub new_none : (lines : List SourceLine) → lines ≡ [] → coming_new world change lines below files ≡ fault
+      (at_place EndedBeforeZ change.begin) ∷ merge world (state below None [] files)
+  new_none lines none = ap (λ (ls : List SourceLine). coming_new world change ls below files) none
+      ∙ merge_next world (state (told (at_place EndedBeforeZ change.begin) ∷ seek ∷ below) None [] files)
+      (fault (at_place EndedBeforeZ change.begin) ∷ [], state (seek ∷ below) None [] files) refl
+      ∙ ap (λ (es : List Event). fault (at_place EndedBeforeZ change.begin) ∷ es)
+      (merge_next world (state (seek ∷ below) None [] files) ([], state below None [] files) refl)
+
+  module _ (line : SourceLine) (lines : List SourceLine) where
+    takes_by : (code : Option Code) → (rest : List Event) × (of_side
+        (new_at code change.depth line lines (new_lines change.depth change.begin lines)) ≡ took line ∷ rest)
+    takes_by None =
+        merge_takes world (record { source = line; depth = change.depth; may_match = false }) ((new_lines change.depth
+        change.begin lines).things ++ seek ∷ below) None (new_lines change.depth change.begin lines).rest files
+    takes_by (Some old_side) = (_, merge_next world _ (took line ∷ [], _) refl)
+    takes_by (Some new_side) = (_, merge_next world _ (took line ∷ [], _) refl)
+    takes_by (Some end_side) = (_, merge_next world _ (took line ∷ [], _) refl)
+
+    -- whatever comes of a new line, it is taken first
+    pub new_takes : (rest : List Event) × (coming_new world change (line ∷ lines) below files ≡ took line ∷ rest)
+    new_takes = takes_by (change_code line.line.bytes)
+
+    module _ (bytes : List ℕ) (place : Place) (is : line.line ≡ record { bytes = bytes; place = place }) where
+      side : (code : Option Code) → change_code bytes ≡ code → coming_new world change (line ∷ lines) below files
+          ≡ of_side (new_at code change.depth line lines (new_lines change.depth change.begin lines))
+      side code test = ap (λ (l : Line).
+          of_side (new_at (change_code l.bytes) change.depth line lines (new_lines change.depth change.begin lines))) is
+          ∙ ap (λ k. of_side (new_at k change.depth line lines (new_lines change.depth change.begin lines))) test
+
+      pub new_line : change_code bytes ≡ None → coming_new world change (line ∷ lines) below files ≡ merge world
+          (state (raw (record { source = line; depth = change.depth; may_match = false }) ∷ (new_lines change.depth
+          change.begin lines).things ++ seek ∷ below) None (new_lines change.depth change.begin lines).rest files)
+      new_line test = side None test
+
+      pub new_end : change_code bytes ≡ Some end_side → coming_new world change
+          (line ∷ lines) below files ≡ took line ∷ merge world (state (seek ∷ below) None lines files)
+      new_end test = side (Some end_side) test ∙ merge_next world (state (passed line ∷ seek ∷ below) None lines files)
+          (took line ∷ [], state (seek ∷ below) None lines files) refl
+
+      pub new_fault : (code : Code) → change_code bytes ≡ Some code → sameb the_type code end_side ≡ false
+          → coming_new world change (line ∷ lines) below files ≡ took line ∷ fault
+          (at_place WantsZ place) ∷ coming_new world change lines below files
+      new_fault code test other =
+          let l = new_lines change.depth change.begin lines in
+          side (Some code) test
+          ∙ ap of_side (is_faulty_new code change.depth line lines l other)
+          ∙ merge_next world (state (passed line ∷ told (at_place WantsZ line.line.place) ∷ l.things ++ seek ∷ below)
+          None l.rest files) (
+            took line ∷ [],
+            state (told (at_place WantsZ line.line.place) ∷ l.things
+                ++ seek ∷ below) None l.rest files,
+          ) refl
+          ∙ ap (λ (es : List Event). took line ∷ es)
+          (merge_next world (state (told (at_place WantsZ line.line.place) ∷ l.things ++ seek ∷ below) None l.rest
+          files) (
+            fault (at_place WantsZ line.line.place) ∷ [],
+            state (l.things ++ seek ∷ below) None l.rest files,
+          ) refl)
+          ∙ ap (λ (at : Line). took line ∷ fault (at_place WantsZ at.place) ∷ coming_new world change lines below files)
+          is
+
+  -- the next new line can't be taken
+  pub new_stops : (stop : Stop) (lines : List SourceLine) (old new : SoFar) → new ≡ old → StopsFor
+      (FirstStops stop old.count lines) stop → Stopped stop old new (coming_new world change lines below files)
+  new_stops stop lines old new same stops = stopped_first stop (FirstStops stop old.count lines) old new _ same
+      (takes_next _ _) (λ first.
+      let taken = new_takes first.line first.rest in (
+        first.line,
+        (taken.0, ap (λ (ls : List SourceLine). coming_new world change ls below files) first.first ∙ taken.1),
+        first.why,
+      ))
+      stops
+
+-- a run whose new lines come, where no more texts are open than when they began
+module _ {R : Type 0} (t : List ℕ → Option (List ℕ)) (l : R → List ℕ) (run : MergeState R) (change : Change)
+    (stage : run.stage ≡ Changing change) (low : run.stack.depth ≡ change.below) where
+  abbrev pub texts_below : List Thing
+  texts_below = things_over l 0 change.below run.stack.texts []
+
+  things_new : things_of l run ≡ (new_lines change.depth change.begin (change_lines l run)).things ++ seek ∷ texts_below
+  things_new = (λ i. things_in l (stage i) (change_lines l run) run.stack)
+      ∙ over-none l change.below (run.stack.depth - change.below) run.stack.texts
+      (things_below l change (change_lines l run) run.stack) (omega (arith, low))
+
+  pub coming_is : events_to_come t l run ≡ coming_new (world_in t run.inputs) change (change_lines l run) texts_below
+      (length (opened_file_names run.names))
+  coming_is = λ i. merge (world_in t run.inputs) (state (things_new i) (pending_in (stage i) run.first.items)
+      (change_in (stage i) (change_lines l run)) (length (opened_file_names run.names)))
+
+  pub coming_after_is : (at : LineAt) (source : SourceLine) → events_after_line t l run at source ≡ merge (world_in t
+      run.inputs) (state (raw_thing at source ∷ (new_lines change.depth change.begin (change_lines l run)).things
+      ++ seek
+      ∷ texts_below) None (new_lines change.depth change.begin (change_lines l run)).rest
+      (length (opened_file_names run.names)))
+  coming_after_is at source = λ i. merge (world_in t run.inputs) (state (raw_thing at source ∷ things_new i)
+      (pending_in (stage i) run.first.items) (change_in (stage i) (change_lines l run))
+      (length (opened_file_names run.names)))
+
+  pub below_are : things_above l 0 run.stack [] ≡ texts_below
+  below_are = ap (λ n. things_over l 0 n run.stack.texts []) (omega (arith, low))
+
+-- what a new line gives, by what the calls say of shelf and run
+module _ {R : Type 0} (t t' : List ℕ → Option (List ℕ)) (l l' : R → List ℕ) (run mid : MergeState R) (change : Change)
+    (stage : run.stage ≡ Changing change) (low : run.stack.depth ≡ change.below) (texts : t' ≡ t) (left : l' ≡ l)
+    (only : OnlyTakes run mid) (stack : mid.stack ≡ run.stack) where
+  abbrev world : World
+  world = world_in t run.inputs
+
+  abbrev files : ℕ
+  files = length (opened_file_names run.names)
+
+  abbrev under : List Thing
+  under = things_over l 0 change.below run.stack.texts []
+
+  -- behind the new side
+  later_is : (new : MergeState R) → new.inputs ≡ run.inputs → new.stack ≡ run.stack → new.names ≡ run.names → (front :
+      List Thing → List Thing) (lines : List SourceLine) → merge world (state (front under) None lines files) ≡ merge
+      (world_in t' new.inputs)
+      (state (front (things_above l' 0 new.stack [])) None lines (length (opened_file_names new.names)))
+  later_is new inputs stack names front lines = sym (
+      (λ i. merge (world_in (texts i) (inputs i)) (state (front (things_above (left i) 0 (stack i) [])) None lines
+      (length (opened_file_names (names i)))))
+      ∙ ap (λ (things : List Thing). merge world (state (front things) None lines files))
+      (below_are t l run change stage low))
+
+  pub new_ended : (new : MergeState R) → OnlyReports mid new
+      → change_lines l run ≡ [] → counters_of new.limits ≡ counters_of run.limits → new.faults.items ≡ mid.faults.items
+      ++ at_place EndedBeforeZ change.begin ∷ []
+      → EmitsLines [] (so_far_of run) (so_far_of new) (events_to_come t l run)
+      (merge (world_in t' new.inputs)
+      (state (things_above l' 0 new.stack []) None [] (length (opened_file_names new.names))))
+  new_ended new tells none count is = gives_fault (so_far_of run) (so_far_of new) _ _ count
+      (at_place EndedBeforeZ change.begin) (coming_is t l run change stage low ∙ new_none world change under files
+      (change_lines l run) none ∙ ap (λ (es : List Event). fault (at_place EndedBeforeZ change.begin) ∷ es)
+      (later_is new (tells.inputs ∙ only.inputs) (tells.stack ∙ stack) (tells.names ∙ only.names) (λ ts. ts) []))
+      (simp (is, took_faults only)) (ap opened_file_names (tells.names ∙ only.names))
+
+  module _ (bytes : List ℕ) (place : Place)
+      (taken : CountsLine bytes place (counters_of run.limits) (counters_of mid.limits)) where
+    counted : AddsFaultsAndLines [] (taken.line ∷ []) (so_far_of run) (so_far_of mid)
+    counted = adds_one (so_far_of run) (so_far_of mid) bytes place taken (took_faults only) (took_names only)
+
+    first : (rest : List SourceLine) → change_lines l run ≡ taken.line ∷ rest
+        → events_to_come t l run ≡ coming_new world change (taken.line ∷ rest) under files
+    first rest is = coming_is t l run change stage low
+        ∙ ap (λ (ls : List SourceLine). coming_new world change ls under files) is
+
+    pub new_side_ended : (rest : List SourceLine) → change_lines l run ≡ taken.line ∷ rest → change_code bytes
+        ≡ Some end_side → EmitsLines [] (so_far_of run) (so_far_of mid) (events_to_come t l run)
+        (merge (world_in t' mid.inputs)
+        (state (seek ∷ things_above l' 0 mid.stack []) None rest (length (opened_file_names mid.names))))
+    new_side_ended rest is test = gives_adds (taken.line ∷ []) [] (so_far_of run) (so_far_of mid) _ _ (first rest is
+        ∙ new_end world change under files taken.line rest bytes place taken.is test ∙ ap (λ (es : List Event).
+        took taken.line ∷ es) (later_is mid only.inputs stack only.names (λ ts. seek ∷ ts) rest)) counted
+
+    pub new_faulty : (new : MergeState R) → OnlyReports mid new → change_lines l run ≡ taken.line ∷ change_lines l' mid
+        → (code :
+        Code) → change_code bytes ≡ Some code → sameb the_type code end_side ≡ false
+        → new.faults.items ≡ mid.faults.items
+        ++ at_place WantsZ place ∷ []
+        → EmitsLines [] (so_far_of run) (so_far_of new) (events_to_come t l run) (events_to_come t' l' new)
+    new_faulty new tells rest code test other is =
+        let more : coming_new world change (change_lines l' mid) under files ≡ events_to_come t' l' new =
+        sym (coming_is t' l' new change (tells.stage ∙ only.stage ∙ stage) (ap (λ (s : Stack R). s.depth)
+        (tells.stack ∙ stack) ∙ low) ∙ (λ i. coming_new (world_in (texts i) ((tells.inputs ∙ only.inputs) i)) change
+        (lines_at l' (tells.change i)) (things_over (left i) 0 change.below (((tells.stack ∙ stack) i).texts) [])
+        (length (opened_file_names ((tells.names ∙ only.names) i))))) in
+        gives_adds (taken.line ∷ []) (at_place WantsZ place ∷ []) (so_far_of run) (so_far_of new) _ _ (first _ rest
+        ∙ new_fault world change under files taken.line (change_lines l' mid) bytes place taken.is code test other
+        ∙ ap (λ (es : List Event). took taken.line ∷ fault (at_place WantsZ place) ∷ es) more)
+        (adds_faults [] (at_place WantsZ place ∷ []) (taken.line ∷ [])
+        (so_far_of run) (so_far_of mid) (so_far_of new) counted is (ap opened_file_names tells.names)
+        (ap counters_of tells.limits))
+
+    -- a line that is no code line comes first
+    pub new_first : change_lines l run ≡ taken.line ∷ change_lines l' mid → change_code bytes ≡ None
+        → events_to_come t l run
+        ≡ events_after_line t' l' mid (record { place = place; depth = change.depth; may_match = false }) taken.line
+    new_first rest test = first _ rest
+        ∙ new_line world change under files taken.line (change_lines l' mid) bytes place taken.is test
+        ∙ sym (coming_after_is t' l' mid change (only.stage ∙ stage) (ap (λ (s : Stack R). s.depth) stack ∙ low)
+        (record { place = place; depth = change.depth; may_match = false }) taken.line
+        ∙ (λ i. merge (world_in (texts i) (only.inputs i))
+        (state (raw (record { source = taken.line; depth = change.depth; may_match = false }) ∷ (new_lines change.depth
+        change.begin (change_lines l' mid)).things ++ seek ∷ things_over (left i) 0 change.below ((stack i).texts) [])
+        None (new_lines change.depth change.begin (change_lines l' mid)).rest
+        (length (opened_file_names (only.names i))))))

@@ -1,0 +1,74 @@
+-- Steps over a shelf at which no read fails: readers that were known stay so, none is blamed, and what was told stays.
+use Rattle.cweb_lines.proofs.Common.{◌≡◌, ◌++◌, ℕ, List, refl, sym, ◌∙◌, ap, subst, IsTrue, KeepsShelf, KeepsReported, so_far_of, opened_file_names, AreReadersKnown, KeepsReaders, blame, OnlyReports, SourceFault, MergeState, Stop}
+use Rattle.cweb_files.specs.declared.device.Shelf.{Ghosts as Shelf}
+use Rattle.cweb_lines.proofs.ReportsOnlyGrow.{told_behind, told_same, told_then}
+use Rattle.cweb_input.proofs.ReadersStayNamed.{stop_after}
+use Rattle.cweb_lines.proofs.MergeReadersStayNamed.{knows_only, knows_same}
+
+module _ {S R : Type 0} (shelf : Shelf S R) where
+  pub record Quiet (old new : S) (run run' : MergeState R) : Type 0 where
+    pub tells : shelf.tells new ≡ shelf.tells old
+    pub readers : KeepsReaders shelf old new run run'
+    pub blamed : IsTrue (shelf.tells old) → AreReadersKnown (shelf.opened_as old) run
+        → shelf.blamed new ≡ shelf.blamed old
+    pub told : KeepsReported (so_far_of run) (so_far_of run')
+
+  pub quiet_same : (s : S) (run : MergeState R) → Quiet s s run run
+  quiet_same s run = record {
+    tells = refl;
+    readers = λ tells known. known;
+    blamed = λ tells known. refl;
+    told = told_same _ _ refl refl;
+  }
+
+  -- by what a call says that no stop came of
+  pub quiet_by : (old new : S) (run run' : MergeState R) → KeepsShelf shelf old new
+      → KeepsReaders shelf old new run run'
+      → (IsTrue (shelf.tells old) → AreReadersKnown (shelf.opened_as old) run → shelf.blamed new ≡ shelf.blamed old)
+      → KeepsReported (so_far_of run) (so_far_of run') → Quiet old new run run'
+  quiet_by old new run run' keeps readers blamed told =
+      record { tells = keeps.tells; readers = readers; blamed = blamed; told = told }
+
+  -- what follows
+  module _ {a b : S} {x y : MergeState R} (first : Quiet a b x y) where
+    pub still_tells : IsTrue (shelf.tells a) → IsTrue (shelf.tells b)
+    still_tells = subst IsTrue (sym first.tells)
+
+    pub quiet_then : {c : S} {z : MergeState R} → Quiet b c y z → Quiet a c x z
+    quiet_then then = record {
+      tells = then.tells ∙ first.tells;
+      readers = λ tells known. then.readers (still_tells tells) (first.readers tells known);
+      blamed = λ tells known. then.blamed (still_tells tells) (first.readers tells known) ∙ first.blamed tells known;
+      told = told_then _ _ _ first.told then.told;
+    }
+
+    -- faults were told
+    pub quiet_tells : {z : MergeState R} (more : List SourceFault) → OnlyReports y z
+        → z.faults.items ≡ y.faults.items ++ more
+        → Quiet a b x z
+    quiet_tells more only told = record {
+      tells = first.tells;
+      readers = λ tells known. knows_only only (first.readers tells known);
+      blamed = first.blamed;
+      told = told_then _ _ _ first.told (told_behind _ _ more told (ap opened_file_names only.names));
+    }
+
+    -- a buffer or the stage changed
+    pub quiet_set : (z : MergeState R) → z.stack ≡ y.stack → z.change ≡ y.change → so_far_of z ≡ so_far_of y
+        → Quiet a b x z
+    quiet_set z stack change told = record {
+      tells = first.tells;
+      readers = λ tells known. knows_same _ y z (λ i. (stack i).texts) change (λ i. (told i).names)
+          (first.readers tells known);
+      blamed = first.blamed;
+      told = rw told first.told;
+    }
+
+    pub readers_after : (c : S) (z : MergeState R) → KeepsReaders shelf b c y z → KeepsReaders shelf a c x z
+    readers_after c z then = λ tells known. then (still_tells tells) (first.readers tells known)
+
+    pub blamed_stop : (c : S) (names : List (List ℕ)) (stop : Stop) → (IsTrue (shelf.tells b)
+        → AreReadersKnown (shelf.opened_as b) y → shelf.blamed c ≡ shelf.blamed b ++ blame names stop) → IsTrue
+        (shelf.tells a) → AreReadersKnown (shelf.opened_as a) x → shelf.blamed c ≡ shelf.blamed a ++ blame names stop
+    blamed_stop c names stop then = λ tells known. stop_after stop _ _ _ _ (first.blamed tells known)
+        (then (still_tells tells) (first.readers tells known))

@@ -1,0 +1,57 @@
+-- The faults that an old side told, where something stopped it.
+use Rattle.cweb_lines.proofs.Common.{◌≡◌, List, ◌++◌, ◌∙◌, append_assoc, Place, old_lines, SourceLine, Thing, SoFar, ReportsSomeFaults, HasBegunStep, StopsIn, EndsStep, IsReplaced, closing_faults, faults_replaced, ReportsFaultPrefix, SourceFault, Replaced, Stop, ReadFault, LineTooLong, TooMuchText, Memory}
+
+-- some of the faults of the old lines were told, and none behind them
+pub tells_front : (faults more : List SourceFault) (old new : SoFar) → ReportsSomeFaults faults old new →
+    ReportsSomeFaults (faults ++ more) old new
+tells_front faults more old new some = record {
+  front = some.front;
+  rest = some.rest ++ more;
+  whole = simp (some.whole, append_assoc);
+  told = some.told;
+  names = some.names;
+}
+
+abbrev begun_more : {old new : SoFar} {lines raws : List SourceLine} {faults : List SourceFault}
+    (more : List SourceFault) → HasBegunStep old new lines raws faults
+    → HasBegunStep old new lines raws (faults ++ more)
+begun_more more begun = record {
+  front = begun.front;
+  rest = begun.rest;
+  raw_front = begun.raw_front;
+  raw_rest = begun.raw_rest;
+  told = begun.told;
+  more = begun.more ++ more;
+  lines_are = begun.lines_are;
+  raws_are = begun.raws_are;
+  faults_are = simp (begun.faults_are, append_assoc);
+  adds = begun.adds;
+}
+
+stops_more : {stop : Stop} {old new : SoFar} {lines raws : List SourceLine} {faults : List SourceFault}
+    (more : List SourceFault) → StopsIn stop old new lines raws faults
+    → StopsIn stop old new lines raws (faults ++ more)
+stops_more more stops =
+    record { begun = begun_more more stops.begun; line = stops.line; next = stops.next; why = stops.why }
+
+-- a stop among the old lines comes before the faults behind them
+pub ends_more : (stop : Stop) (old new : SoFar) (lines raws : List SourceLine) (faults more : List SourceFault) →
+    EndsStep stop old new lines raws faults → EndsStep stop old new lines raws (faults ++ more)
+ends_more (ReadFault file) old new lines raws faults more ends = begun_more more ends
+ends_more (LineTooLong file) old new lines raws faults more ends = stops_more more ends
+ends_more TooMuchText old new lines raws faults more ends = stops_more more ends
+ends_more Memory old new lines raws faults more ends = tt
+ends_more stop old new lines raws faults more ends = absurd ends
+
+module _ (begin : Place) (change : List SourceLine) (things : List Thing) (r : Replaced) (change' : List SourceLine)
+    (things' : List Thing) (old mid new : SoFar) (by : IsReplaced change things r change' things' old mid) where
+  -- some of the faults behind the old lines were told
+  pub closes_some : ReportsFaultPrefix (closing_faults begin r.ended r.ran_out r.unequal) mid.faults new.faults →
+      new.names ≡ mid.names → ReportsSomeFaults (faults_replaced begin change things) old new
+  closes_some front names = record {
+    front = (old_lines change).faults ++ front.front;
+    rest = front.rest;
+    whole = simp (by.ended, by.ran_out, by.unequal, front.whole, append_assoc);
+    told = simp (front.told, by.adds.told, append_assoc);
+    names = names ∙ by.adds.names;
+  }

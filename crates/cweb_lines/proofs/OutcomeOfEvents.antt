@@ -1,0 +1,43 @@
+-- What is seen of events, one after another.
+use Rattle.cweb_lines.proofs.Common.{◌∙◌, WaitingEntry, Sought, Thing, World, merge, merge_next, seek, sought, ◌≡◌, false, ℕ, List, [], ◌∷◌, ◌++◌, map, None, Some, Option, refl, ap, is_some, Line, SourceLine, MergeOutcome, followed_by, outcome_of_events, Event, fault, given, opening, took, Code, SourceFault}
+use Rattle.cweb_lines.proofs.Merges.{state}
+
+pub no_code : (code : Option Code) → is_some code ≡ false → code ≡ None
+no_code None is = refl
+no_code (Some code) is = absurd (cc)
+
+-- what was seen before all others
+abbrev pub line_first : Line → MergeOutcome → MergeOutcome
+line_first line s = record { lines = line ∷ s.lines; faults = s.faults; included = s.included }
+
+abbrev pub fault_first : SourceFault → MergeOutcome → MergeOutcome
+fault_first f s = record { lines = s.lines; faults = f ∷ s.faults; included = s.included }
+
+abbrev pub name_first : List ℕ → MergeOutcome → MergeOutcome
+name_first name s = record { lines = s.lines; faults = s.faults; included = name ∷ s.included }
+
+-- lines that were taken aren't seen
+pub took_unseen : (lines : List SourceLine) (events : List Event)
+    → outcome_of_events (map took lines ++ [] ++ events) ≡ outcome_of_events events
+took_unseen [] events = refl
+took_unseen (line ∷ lines) events = took_unseen lines events
+
+-- a search that tells nothing isn't seen
+pub seek_unseen : (world : World) (things : List Thing) (change : List SourceLine) (files : ℕ) (taken : List SourceLine)
+    (entry : Option WaitingEntry) (rest : List SourceLine)
+    → sought change None ≡ record { faults = []; taken = taken; entry = entry; rest = rest }
+    → outcome_of_events (merge world (state (seek ∷ things) None change files))
+    ≡ outcome_of_events (merge world (state things entry rest files))
+seek_unseen world things change files taken entry rest is =
+    ap outcome_of_events (merge_next world (state (seek ∷ things)
+    None change files) (map took taken ++ [], state things entry rest files) (ap (λ (found : Sought).
+    Some (map took found.taken ++ map fault found.faults, state things found.entry found.rest files)) is))
+    ∙ took_unseen taken (merge world (state things entry rest files))
+
+pub seen-append : (a b : List Event)
+    → outcome_of_events (a ++ b) ≡ followed_by (outcome_of_events a) (outcome_of_events b)
+seen-append [] b = refl
+seen-append (took source ∷ a) b = seen-append a b
+seen-append (given line ∷ a) b = ap (line_first line) (seen-append a b)
+seen-append (fault f ∷ a) b = ap (fault_first f) (seen-append a b)
+seen-append (opening name ∷ a) b = ap (name_first name) (seen-append a b)

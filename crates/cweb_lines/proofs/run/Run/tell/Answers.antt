@@ -1,8 +1,0 @@
-use Rattle.cweb_lines.proofs.Common.{length, is_ok, names_of}
-use Rattle.cweb_lines.proofs.Runs.{files_in-if}
-use Rattle.cweb_lines.proofs.run.Run.tell.Goals as goal
-
-pub invariant_of-self-clause-faults_known : goal.invariant_of-self-clause-faults_known
-invariant_of-self-clause-faults_known g c =
-    rw c.push.ensures.items (files_in-if (is_ok c.push.result) c.args.self.now.faults.items _
-    (length (names_of c.args.self.now.names)) c.args.self.now.faults_known c.requires.known)

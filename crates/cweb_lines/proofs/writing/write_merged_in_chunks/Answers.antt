@@ -1,0 +1,255 @@
+use Rattle.cweb_lines.proofs.Common.{rules, Line, ◌+◌, refl, ap, sym, ◌∙◌, arith, IsTrue, Writes, BuffersLines, HasWritten, events_to_come, so_far_of, to_come, so_far, read_failures_of}
+use Rattle.cweb_input.proofs.ReadersStayNamed.{blames_none, stop_after}
+use Rattle.cweb_lines.proofs.ReportsOnlyGrow.{grows_told, told_halted, told_passed, told_same, told_then}
+use Rattle.cweb_lines.proofs.BufferedWrites.{held, held_on, fails_front, fails_among, written_on}
+use Rattle.cweb_files.proofs.FramesCompose.{keeps_same, keeps_then, place_same, place_then}
+use Rattle.cweb_lines.proofs.NoReadFails.{Quiet, quiet_by, quiet_same, quiet_then, still_tells}
+use Rattle.cweb_lines.proofs.WrittenLinesAddUp.{nothing_yet, written_by, written_front, written_some, written_whole, tells_some, tells_more, tells_same}
+use Rattle.cweb_lines.proofs.WriteStops.{blames_own, blames_write, memory_failed, memory_write, none_before, write_failed}
+use Rattle.cweb_lines.proofs.writing.write_merged_in_chunks.Given as given
+use Rattle.cweb_lines.proofs.writing.write_merged_in_chunks.Goals as goal
+use Rattle.cweb_lines.proofs.writing.write_merged_in_chunks.Goals.{After-pass_lines-passed, In-Ok, In_default-write_buffer}
+
+pub lines-init : goal.lines-init
+lines-init g c = record {
+  quiet = quiet_same g.S.Shelf _ _;
+  keeps = keeps_same g.S.Shelf _;
+  place = place_same g.W.Sink _;
+  failed = refl;
+  out_failed = refl;
+  running = sym c.stopped.ensures.stop ∙ c.in_default.is;
+  before = sym c.stopped.ensures.stop ∙ c.in_default.is;
+  empty = c.new-buffer.ensures.items;
+  written = λ tells. nothing_yet g.W.Sink _ _ _;
+}
+
+-- a line came, or the end
+quiet : (g : given.Over) (c : In-Ok g) → Quiet g.S.Shelf c.args.shelf.now c.next_line.new.shelf c.args.merger.now.run
+    c.next_line.new.self.run
+quiet g c = quiet_then g.S.Shelf c.lines.invariant.quiet (quiet_by g.S.Shelf _ _ _ _ c.in-Ok.ensures.keeps
+    (λ tells known. (c.in-Ok.ensures.known tells known).readers)
+    (λ tells known. (c.in-Ok.ensures.known tells known).blamed c.lines.invariant.running) c.in-Ok.ensures.grows.told)
+
+-- lines that passed through are gathered behind a line
+more : (g : given.Over) (c : After-pass_lines-passed g) → IsTrue (g.S.Shelf.tells c.args.shelf.now)
+    → BuffersLines c.args.room (so_far
+    c.args.merger.now) (so_far_of c.pass_lines-passed.new.self.run)
+    (to_come g.S.Shelf c.args.shelf.now c.args.merger.now)
+    (events_to_come (g.S.Shelf.texts c.next_line.new.shelf)
+    (g.S.Shelf.left c.next_line.new.shelf) c.pass_lines-passed.new.self.run)
+    (Writes g.W.Sink c.args.out.now c.lines.out) c.pass_lines-passed.new.buffer.items
+more g c tells =
+    let next = rw c.in-Some-next.is at (c.in-Ok.ensures.next (still_tells g.S.Shelf c.lines.invariant.quiet tells)) in
+    let line : Line = record { bytes = c.next_line.new.line.items; place = c.in-Some-next.field-0 } in
+    let passes = c.pass_lines-passed.ensures.passes in
+    held_on _ _ _ _ _ _ _ (held _ _ _ _ _ _ (c.lines.invariant.written tells) line _ _ next _ _ c.lines.invariant.empty
+    (rw c.deref.ensures.value at c.in_default-append_line.ensures.ok)) passes.lines _ _
+    (passes.gives (g.S.Shelf.texts c.next_line.new.shelf) (g.S.Shelf.left c.next_line.new.shelf))
+    _ passes.gathered c.pass_lines-passed.ensures.alone
+
+pub returns-in-Some-clause-grows : goal.returns-in-Some-clause-grows
+returns-in-Some-clause-grows g c = grows_told c.args.merger.now.run (told_same _ _ refl refl)
+
+-- the merger stopped
+pub returns-in-Err : goal.returns-in-Err
+returns-in-Err g c =
+    let told = still_tells g.S.Shelf c.lines.invariant.quiet in
+    record {
+      keeps = (keeps_then g.S.Shelf _ _ _ c.lines.invariant.keeps c.in-Err.ensures.keeps, c.lines.invariant.place);
+      grows = record {
+        told = told_then _ _ _ c.lines.invariant.quiet.told c.in-Err.ensures.grows.told;
+        lines = c.in-Err.ensures.grows.lines;
+        bytes = c.in-Err.ensures.grows.bytes;
+      };
+      ok = λ _. tt;
+      ended = tt;
+      front = λ tells. written_front g.W.Sink _ _ _ _ _ _ (c.lines.invariant.written tells);
+      stops = λ tells before.
+          let written = c.lines.invariant.written tells in
+          let there = c.in-Err.ensures.stops (told tells) c.lines.invariant.running in
+          record {
+            why = written_by g.W.Sink _ _ _ _ _ _ written c.in-Err.stop _ there.why;
+            told = tells_more _ _ _ _ _ _ written.gives there.told;
+          };
+      fault = search rules;
+      blames = λ before.
+          let blames = c.in-Err.ensures.blames c.lines.invariant.running in
+          blames_own c.in-Err.stop _ _ _ _ blames.reading c.in-Err.ensures.leaves.kept c.in-Err.ensures.leaves.named
+          (blames.failed ∙ ap (λ n. n + read_failures_of c.in-Err.stop) c.lines.invariant.failed)
+          c.lines.invariant.out_failed;
+      known = λ tells known.
+          let stays = c.in-Err.ensures.known (told tells) (c.lines.invariant.quiet.readers tells known) in
+          record {
+            readers = stays.readers;
+            blamed = λ before. stop_after c.in-Err.stop _ _ _ _ (c.lines.invariant.quiet.blamed tells known)
+                (stays.blamed c.lines.invariant.running);
+          };
+      again = none_before _ c.lines.invariant.before;
+    }
+
+-- no line was left
+pub returns-in_default-next-clause-ok : goal.returns-in_default-next-clause-ok
+returns-in_default-next-clause-ok g c = λ tells.
+    let last = rw c.in_default-next.is at
+    (c.in-Ok.ensures.next (still_tells g.S.Shelf c.lines.invariant.quiet tells)) in
+    written_whole g.W.Sink _ _ _ _ _ _ (c.lines.invariant.written tells) _ _ last.0 last.1
+
+pub returns-in_default-next-clause-grows : goal.returns-in_default-next-clause-grows
+returns-in_default-next-clause-grows g c = grows_told c.next_line.new.self.run
+    (quiet g (goal.at.returns-in_default-next-clause-grows g c).In-Ok).told
+
+pub returns-in_default-next-clause-known : goal.returns-in_default-next-clause-known
+returns-in_default-next-clause-known g c = λ tells known.
+    let q = quiet g (goal.at.returns-in_default-next-clause-known g c).In-Ok in
+    record { readers = q.readers tells known; blamed = λ before. q.blamed tells known }
+
+-- memory was refused for a line
+pub returns-in-Err-append_line : goal.returns-in-Err-append_line
+returns-in-Err-append_line g c =
+    let q = quiet g (goal.at.returns-in-Err-append_line g c).In-Ok in
+    let is_memory = c.halt.ensures.stop c.in-Ok.ensures.leaves.running in
+    record {
+      keeps = (keeps_then g.S.Shelf _ _ _ c.lines.invariant.keeps c.in-Ok.ensures.keeps, c.lines.invariant.place);
+      grows = grows_told c.halt.new.self.run (told_then _ _ _ q.told (told_halted c.halt.ensures.so_far));
+      ok = λ _. tt;
+      ended = tt;
+      front = λ tells. written_front g.W.Sink _ _ _ _ _ _ (c.lines.invariant.written tells);
+      stops = λ tells before.
+          let written = c.lines.invariant.written tells in
+          let next = rw c.in-Some-next.is at
+          (c.in-Ok.ensures.next (still_tells g.S.Shelf c.lines.invariant.quiet tells)) in
+          record {
+            why = memory_failed _ _ _ _ _ is_memory (written_some g.W.Sink _ _ _ _ _ _ written);
+            told = tells_same _ _ _ _ c.halt.ensures.so_far (tells_more _ _ _ _ _ _ written.gives
+                (tells_some _ _ _ _ _ next));
+          };
+      fault = λ tells out before is. absurd (memory_write _ _ refl is_memory is);
+      blames = λ before. blames_own c.halt.result _ _ _ _ (rw is_memory tt) c.halt.ensures.kept c.halt.ensures.named
+          (omega (
+            arith,
+            (c.in-Ok.ensures.blames c.lines.invariant.running).failed,
+            c.lines.invariant.failed,
+            ap read_failures_of is_memory,
+          ))
+          c.lines.invariant.out_failed;
+      known = λ tells known. record {
+        readers = c.halt.ensures.readers _ (q.readers tells known);
+        blamed = λ before. blames_none _ _ _ _ (ap read_failures_of is_memory) (q.blamed tells known);
+      };
+      again = none_before _ c.lines.invariant.before;
+    }
+
+-- a write failed
+pub returns-in-Err-write_buffer : goal.returns-in-Err-write_buffer
+returns-in-Err-write_buffer g c =
+    let at = goal.at.returns-in-Err-write_buffer g c in
+    let q = quiet g at.In-Ok in
+    let passes = c.pass_lines-passed.ensures.passes in
+    let err = rw c.deref-in-lines.ensures.value at c.in-Err-write_buffer.ensures.err in
+    record {
+      keeps = (
+        keeps_then g.S.Shelf _ _ _ c.lines.invariant.keeps c.in-Ok.ensures.keeps,
+        place_then g.W.Sink _ _ _ c.lines.invariant.place c.in-Err-write_buffer.ensures.keeps,
+      );
+      grows = grows_told c.pass_lines-passed.new.self.run (told_then _ _ _ q.told (told_passed passes));
+      ok = λ _. tt;
+      ended = tt;
+      front = λ tells. fails_front g.W.Sink _ _ c.lines.invariant.place _ _ _ _ _ _
+          (more g at.After-pass_lines-passed tells) c.write_buffer.new.out err;
+      stops = λ tells before. record {
+        why = write_failed _ _ _ _ _ c.in-Err-write_buffer.ensures.stop;
+        told = tells_some _ _ _ _ _ (more g at.After-pass_lines-passed tells).gives;
+      };
+      fault = λ tells out before is. fails_among g.W.Sink _ _ c.lines.invariant.place _ _ _ _ _ _
+          (more g at.After-pass_lines-passed tells) c.write_buffer.new.out out err;
+      blames = λ before. blames_write _ _ _ _ _ c.in-Err-write_buffer.ensures.stop
+          (passes.stopped ∙ c.in-Ok.ensures.leaves.running)
+          ((c.in-Ok.ensures.blames c.lines.invariant.running).failed ∙ c.lines.invariant.failed)
+          (c.in-Err-write_buffer.ensures.failed ∙ ap (λ n. n + 1) c.lines.invariant.out_failed);
+      known = λ tells known. record {
+        readers = passes.readers _ (q.readers tells known);
+        blamed = λ before. blames_none _ _ _ _ (ap read_failures_of c.in-Err-write_buffer.ensures.stop)
+            (q.blamed tells known);
+      };
+      again = none_before _ c.lines.invariant.before;
+    }
+
+-- the lines were written
+wrote : (g : given.Over) (c : In_default-write_buffer g) → IsTrue (g.S.Shelf.tells c.args.shelf.now)
+    → HasWritten (so_far
+    c.args.merger.now) (so_far_of c.pass_lines-passed.new.self.run)
+    (to_come g.S.Shelf c.args.shelf.now c.args.merger.now)
+    (events_to_come (g.S.Shelf.texts c.next_line.new.shelf) (g.S.Shelf.left c.next_line.new.shelf)
+    c.pass_lines-passed.new.self.run) (Writes g.W.Sink c.args.out.now c.write_buffer.new.out)
+wrote g c tells = written_on g.W.Sink _ _ c.lines.invariant.place _ _ _ _ _ _
+    (more g (goal.at.In_default-write_buffer g c).After-pass_lines-passed tells) c.write_buffer.new.out
+    (rw c.deref-in-lines.ensures.value at c.in_default-write_buffer.ensures.ok)
+
+-- memory was refused for lines that pass through
+pub returns-in-Err-passed : goal.returns-in-Err-passed
+returns-in-Err-passed g c =
+    let at = goal.at.returns-in-Err-passed g c in
+    let q = quiet g at.In-Ok in
+    let passes = c.pass_lines-passed.ensures.passes in
+    let halted = c.halt-in-Err-passed.ensures in
+    let is_memory = halted.stop (passes.stopped ∙ c.in-Ok.ensures.leaves.running) in
+    record {
+      keeps = (
+        keeps_then g.S.Shelf _ _ _ c.lines.invariant.keeps c.in-Ok.ensures.keeps,
+        place_then g.W.Sink _ _ _ c.lines.invariant.place c.in_default-write_buffer.ensures.keeps,
+      );
+      grows = grows_told c.halt-in-Err-passed.new.self.run
+          (told_then _ _ _ (told_then _ _ _ q.told (told_passed passes)) (told_halted halted.so_far));
+      ok = λ _. tt;
+      ended = tt;
+      front = λ tells. written_front g.W.Sink _ _ _ _ _ _ (wrote g at.In_default-write_buffer tells);
+      stops = λ tells before.
+          let written = wrote g at.In_default-write_buffer tells in
+          record {
+            why = memory_failed _ _ _ _ _ is_memory (written_some g.W.Sink _ _ _ _ _ _ written);
+            told = tells_same _ _ _ _ halted.so_far (tells_some _ _ _ _ _ written.gives);
+          };
+      fault = λ tells out before is. absurd (memory_write _ _ refl is_memory is);
+      blames = λ before. blames_own c.halt-in-Err-passed.result _ _ _ _ (rw is_memory tt) halted.kept halted.named
+          (omega (
+            arith,
+            (c.in-Ok.ensures.blames c.lines.invariant.running).failed,
+            c.lines.invariant.failed,
+            ap read_failures_of is_memory,
+          ))
+          (c.in_default-write_buffer.ensures.failed ∙ c.lines.invariant.out_failed);
+      known = λ tells known. record {
+        readers = halted.readers _ (passes.readers _ (q.readers tells known));
+        blamed = λ before. blames_none _ _ _ _ (ap read_failures_of is_memory) (q.blamed tells known);
+      };
+      again = none_before _ c.lines.invariant.before;
+    }
+
+pub lines-preserved : goal.lines-preserved
+lines-preserved g c =
+    let at = goal.at.lines-preserved g c in
+    let q = quiet g at.In-Ok in
+    let passes = c.pass_lines-passed.ensures.passes in
+    record {
+      quiet = quiet_then g.S.Shelf q (quiet_by g.S.Shelf _ _ _ _ (keeps_same g.S.Shelf _)
+          (λ tells known. passes.readers _ known) (λ tells known. refl) (told_passed passes));
+      keeps = keeps_then g.S.Shelf _ _ _ c.lines.invariant.keeps c.in-Ok.ensures.keeps;
+      place = place_then g.W.Sink _ _ _ c.lines.invariant.place c.in_default-write_buffer.ensures.keeps;
+      failed = (c.in-Ok.ensures.blames c.lines.invariant.running).failed ∙ c.lines.invariant.failed;
+      out_failed = c.in_default-write_buffer.ensures.failed ∙ c.lines.invariant.out_failed;
+      running = passes.stopped ∙ c.in-Ok.ensures.leaves.running;
+      before = c.lines.invariant.before;
+      empty = c.clear.ensures.items;
+      written = λ tells. wrote g at.In_default-write_buffer tells;
+    }
+
+pub lines-smaller : goal.lines-smaller
+lines-smaller g c =
+    let given = rw c.in-Some-next.is at c.in-Ok.ensures.given in
+    omega (
+      arith,
+      given.lines,
+      c.pass_lines-passed.ensures.passes.counted,
+      c.in-Ok.ensures.grows.lines,
+      c.pass_lines-passed.new.self.run.limits.few,
+    )

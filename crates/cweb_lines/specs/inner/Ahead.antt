@@ -1,0 +1,73 @@
+-- Lines that come next are looked at where they lie in what was read, before they are taken.
+use Rattle.std.specs.Prelude.{◌≡◌, ℕ, ◌+◌, ◌-◌, ◌<◌, ◌≤◌, List, [], ◌∷◌, ◌++◌, length, slice_range, Option, None, Some}
+use Rattle.cweb_lines.specs.Change.{WaitingEntry}
+use Rattle.cweb_lines.specs.inner.LineSpans.{BorrowsLines, IsSpanIn, span_bytes}
+use Rattle.cweb_input.specs.surface.Lines.{IsOneLine}
+use Rattle.cweb_input.specs.surface.OpenedFileNames.{opened_file_names}
+use Rattle.cweb_lines.specs.inner.Passing.{ComesNext, EmitsBufferedLines, IsStretchAt, lines_next, buffer_of}
+use Rattle.cweb_lines.specs.inner.Passing.{with_newlines}
+use Rattle.cweb_lines.specs.inner.Passing.{top_of}
+use Rattle.cweb_input.specs.inner.OpenSources.{files_up_to}
+use Rattle.cweb_input.specs.surface.OpenSources.{number_or_zero}
+use Rattle.cweb_input.specs.declared.counters.TakenCounters.{TakenCounters}
+use Rattle.cweb_input.specs.declared.limits.TheConstants.{LINES, BYTES}
+use Rattle.cweb_lines.specs.declared.merger.ahead.Ahead.{Ahead}
+use Rattle.cweb_lines.specs.declared.merge_state.MergeState.{MergeState}
+use Rattle.cweb_input.specs.declared.open_source.OpenSource.{OpenSource}
+
+-- with all that was read of a text no limit is passed
+pub record FitsLimits {R : Type 0} (limits : TakenCounters) (text : OpenSource R) : Type 0 where
+  pub few : limits.lines + (text.source.end - text.source.start) ≤ LINES
+  pub small : limits.bytes + (text.source.end - text.source.start) ≤ BYTES
+
+abbrev pub FitsLimitsAt : {R : Type 0} → TakenCounters → Option (OpenSource R) → Type 0
+FitsLimitsAt limits None = ⊥
+FitsLimitsAt limits (Some text) = FitsLimits limits text
+
+-- one line of an open text behind others, where it lies, and all of them
+pub record LooksAheadIn {R : Type 0} (entry : Option WaitingEntry) (slot : Option (OpenSource R))
+    (before : List (List ℕ))
+    (ahead : Ahead) : Type 0 where
+  pub raw : List ℕ
+  pub stands : IsStretchAt entry slot ahead.stretch (before ++ raw ∷ [])
+  pub given : lines_next slot (before ++ raw ∷ []) ≡ lines_next slot before ++ record {
+    bytes = slice_range (buffer_of slot) ahead.line.from ahead.line.to;
+    place = ahead.line.place;
+  } ∷ []
+  pub order : ahead.line.from ≤ ahead.line.to
+  pub within : ahead.line.to ≤ length (buffer_of slot)
+  pub line : IsOneLine (slice_range (buffer_of slot) ahead.line.from ahead.line.to)
+  pub file : ahead.line.place.file.0 < number_or_zero files_up_to slot
+  pub size : length (slice_range (buffer_of slot) ahead.line.from ahead.line.to) ≤ length raw
+  pub count : ahead.stretch.lines ≡ length before + 1
+  pub ordered : ahead.stretch.text < ahead.stretch.end
+
+-- the same of the deepest text: the lines come next
+pub record LooksAhead {R : Type 0} (run : MergeState R) (before : List (List ℕ)) (ahead : Ahead) : Type 0 where
+  pub raw : List ℕ
+  pub comes : ComesNext run ahead.stretch (before ++ raw ∷ [])
+  pub given : lines_next (top_of run.stack) (before ++ raw ∷ []) ≡ lines_next (top_of run.stack) before ++ record {
+    bytes = span_bytes run ahead.line;
+    place = ahead.line.place;
+  } ∷ []
+  pub lies : IsSpanIn run ahead.line
+  pub line : IsOneLine (span_bytes run ahead.line)
+  pub known : ahead.line.place.file.0 < length (opened_file_names run.names)
+  pub size : length (span_bytes run ahead.line) ≤ length raw
+  pub count : ahead.stretch.lines ≡ length before + 1
+  pub ordered : ahead.stretch.text < ahead.stretch.end
+
+-- these lines come next, the last one lies in what was read, and with all that was read no limit is passed
+pub record IsAhead {R : Type 0} (run : MergeState R) (ahead : Ahead) : Type 0 where
+  pub lines : List (List ℕ)
+  pub comes : ComesNext run ahead.stretch lines
+  pub lies : IsSpanIn run ahead.line
+  pub ordered : ahead.stretch.text < ahead.stretch.end
+  pub fits : FitsLimitsAt run.limits (top_of run.stack)
+
+-- lines that come next were taken and counted, whatever the shelf
+pub record TakesLines {R : Type 0} (lines : List (List ℕ)) (old new : MergeState R) : Type 0 where
+  pub given : EmitsBufferedLines old new (lines_next (top_of old.stack) lines)
+  pub bytes : new.limits.bytes ≡ old.limits.bytes + length (with_newlines lines)
+  pub count : new.limits.lines ≡ old.limits.lines + length lines
+  pub lends : BorrowsLines old new

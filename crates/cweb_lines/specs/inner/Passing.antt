@@ -1,0 +1,183 @@
+-- Lines that only pass through: what they are in what was read, and what it does to take and to gather them.
+use Rattle.std.specs.Prelude.{◌≡◌, ℕ, ◌+◌, ◌-◌, ◌<◌, ◌≤◌, Bool, false, List, [], ◌∷◌, ◌++◌, length, map, slice_range}
+use Rattle.std.specs.Prelude.{slice_index_or, Option, None, Some}
+use Rattle.cweb_lines.specs.Change.{WaitingEntry}
+use Rattle.cweb_input.specs.Include.{is_include_line}
+use Rattle.cweb_input.specs.Lines.{Line, SourceLine, CutLine, numbered_lines, trimmed}
+use Rattle.cweb_input.specs.surface.Lines.{HasNoNewline}
+use Rattle.cweb_lines.specs.Merge.{Event}
+use Rattle.cweb_input.specs.Things.{Thing, raws}
+use Rattle.cweb_lines.specs.MergeProgress.{SoFar, EmitsLines}
+use Rattle.cweb_lines.specs.surface.MergeProgress.{so_far_of, events_to_come, pending_of}
+use Rattle.cweb_input.specs.surface.ReaderNames.{AreReadersNamed, IsReaderNamed}
+use Rattle.cweb_lines.specs.surface.MergeReaderNames.{AreReadersKnown}
+use Rattle.cweb_lines.specs.inner.Stages.{IsSettled, begun_by, floor_of}
+use Rattle.cweb_input.specs.inner.OpenSources.{AreDeep, DeepAt, StaysBelow, files_up_to, maximum_of}
+use Rattle.cweb_input.specs.surface.OpenSources.{lines_at, matches_at}
+use Rattle.cweb_input.specs.surface.OpenSources.{number_or_zero, source_depth, things_above}
+use Rattle.cweb_lines.specs.Writing.{written_lines}
+use Rattle.cweb_input.specs.declared.counters.TakenCounters.{TakenCounters}
+use Rattle.cweb_input.specs.declared.limits.TheConstants.{LINES, BYTES}
+use Rattle.cweb_input.specs.declared.limits.TheConstants.{LINE_LENGTH}
+use Rattle.cweb_lines.specs.declared.passing.stretch.Stretch.{Stretch}
+use Rattle.cweb_lines.specs.declared.merge_state.MergeState.{MergeState}
+use Rattle.cweb_input.specs.declared.open_source.stack.Stack.{Stack}
+use Rattle.cweb_input.specs.declared.open_source.OpenSource.{OpenSource}
+
+-- a line as it stands in its text, without its newline, that passes through: it is no include line, and the entry that
+-- waits does not begin with it
+pub record PassesThrough (entry : Option WaitingEntry) (may_match : Bool) (raw : List ℕ) : Type 0 where
+  pub clean : HasNoNewline raw
+  pub short : length raw ≤ LINE_LENGTH
+  pub plain : is_include_line (trimmed raw) ≡ false
+  pub unbegun : begun_by entry may_match (trimmed raw) ≡ None
+
+abbrev pub AllPassThrough : Option WaitingEntry → Bool → List (List ℕ) → Type 0
+AllPassThrough entry may_match [] = Unit {0}
+AllPassThrough entry may_match (line ∷ lines) = PassesThrough entry may_match line
+    × AllPassThrough entry may_match lines
+
+-- lines one behind another, each with a newline
+abbrev pub with_newlines : List (List ℕ) → List ℕ
+with_newlines [] = []
+with_newlines (line ∷ lines) = line ++ 10 ∷ with_newlines lines
+
+-- the same lines as they are printed
+abbrev pub trimmed_with_newlines : List (List ℕ) → List ℕ
+trimmed_with_newlines lines = with_newlines (map trimmed lines)
+
+-- lines stand one behind another in a piece from a place on, and pass through; where the last one has no blanks at its
+-- end either, what is printed of them is what stands there
+pub record IsStretch (entry : Option WaitingEntry) (may_match : Bool) (buffer : List ℕ) (start : ℕ) (s : Stretch)
+    (raw_lines : List (List ℕ)) : Type 0 where
+  pub passing : AllPassThrough entry may_match raw_lines
+  pub lines : s.lines ≡ length raw_lines
+  pub stands : slice_range buffer start s.end ≡ with_newlines raw_lines
+  pub size : start + length (with_newlines raw_lines) ≡ s.end
+  pub text : slice_range buffer start s.text ++ 10 ∷ [] ≡ trimmed_with_newlines raw_lines
+  pub whole : s.text + 1 ≡ s.end → slice_range buffer start s.end ≡ trimmed_with_newlines raw_lines
+  pub forth : start ≤ s.text
+  pub before : s.text < s.end
+
+-- such lines, in front of a place
+abbrev pub Reaches : Option WaitingEntry → Bool → List ℕ → ℕ → ℕ → Stretch → Type 0
+Reaches entry may_match buffer start end s = (raw_lines : List (List ℕ))
+    × IsStretch entry may_match buffer start s raw_lines
+    × (s.end ≤ end)
+
+-- the next lines that were read of an open text
+pub record IsStretchOf {R : Type 0} (entry : Option WaitingEntry) (text : OpenSource R) (s : Stretch)
+    (raw_lines : List (List ℕ)) : Type 0 where
+  pub is : IsStretch entry text.may_match text.source.buffer.items text.source.start s raw_lines
+  pub within : s.end ≤ text.source.end
+
+abbrev pub IsStretchAt : {R : Type 0} → Option WaitingEntry → Option (OpenSource R) → Stretch → List (List ℕ) → Type 0
+IsStretchAt entry None s raw_lines = ⊥
+IsStretchAt entry (Some text) s raw_lines = IsStretchOf entry text s raw_lines
+
+-- with these lines no limit is passed
+pub record HasRoomFor (limits : TakenCounters) (raw_lines : List (List ℕ)) : Type 0 where
+  pub few : limits.lines + length raw_lines ≤ LINES
+  pub small : limits.bytes + length (with_newlines raw_lines) ≤ BYTES
+
+-- the deepest text
+abbrev pub top_of : {R : Type 0} → Stack R → Option (OpenSource R)
+top_of stack = slice_index_or stack.texts (stack.depth - 1) None
+
+-- what is printed of lines of an open text, without the last newline
+abbrev pub stretch_bytes : {R : Type 0} → Option (OpenSource R) → Stretch → List ℕ
+stretch_bytes None s = []
+stretch_bytes (Some text) s = slice_range text.source.buffer.items text.source.start s.text
+
+-- no entry is sought, and these are the next lines of the deepest text
+pub record ComesNext {R : Type 0} (run : MergeState R) (s : Stretch) (raw_lines : List (List ℕ)) : Type 0 where
+  pub settled : IsSettled run.stage
+  pub above : floor_of run.stage < run.stack.depth
+  pub stands : IsStretchAt (pending_of run) (top_of run.stack) s raw_lines
+  pub room : HasRoomFor run.limits raw_lines
+
+-- a line with its newline
+abbrev pub line_with_newline : List ℕ → CutLine
+line_with_newline raw = record { bytes = raw; size = length raw + 1 }
+
+-- the next lines of an open text, as they are taken
+abbrev pub sources_next : {R : Type 0} → Option (OpenSource R) → List (List ℕ) → List SourceLine
+sources_next None lines = []
+sources_next (Some text) lines = numbered_lines text.file.0 (text.line + 1) (map line_with_newline lines)
+
+-- the same lines, as they are given out
+abbrev pub lines_next : {R : Type 0} → Option (OpenSource R) → List (List ℕ) → List Line
+lines_next slot lines = map (λ source. source.line) (sources_next slot lines)
+
+-- what was read of an open text and is kept
+abbrev pub buffer_of : {R : Type 0} → Option (OpenSource R) → List ℕ
+buffer_of None = []
+buffer_of (Some text) = text.source.buffer.items
+
+-- the file, its reader, the depth of the lines and whether they match stay, and so does what was read
+pub record KeepsLevel {R : Type 0} (old new : Option (OpenSource R)) : Type 0 where
+  pub file : number_or_zero files_up_to new ≡ number_or_zero files_up_to old
+  pub depth : number_or_zero source_depth new ≡ number_or_zero source_depth old
+  pub may_match : matches_at new ≡ matches_at old
+  pub deep : (place : ℕ) → DeepAt place old → DeepAt place new
+  pub named : (opened_as : R → List ℕ) (names : List (List ℕ)) → IsReaderNamed opened_as names old
+      → IsReaderNamed opened_as names new
+  pub buffer : buffer_of new ≡ buffer_of old
+
+-- these lines are taken of an open text, and counted
+pub record PassesSlot {R : Type 0} (old new : Option (OpenSource R)) (before after : TakenCounters)
+    (lines : List (List ℕ)) : Type 0 where
+  pub takes : (left : R → List ℕ) → lines_at left old ≡ sources_next old lines ++ lines_at left new
+  pub few : after.lines ≡ before.lines + length lines
+  pub bytes : after.bytes ≡ before.bytes + length (with_newlines lines)
+
+-- the same of the deepest text
+pub record PassesTop {R : Type 0} (old new : Stack R) (before after : TakenCounters)
+    (lines : List (List ℕ)) : Type 0 where
+  pub takes : (left : R → List ℕ) (low : ℕ) → low < old.depth → (rest : List Thing) →
+      things_above left low old rest
+      ≡ raws (number_or_zero source_depth (top_of old)) (matches_at (top_of old)) (sources_next (top_of old) lines)
+      ++ things_above left low new rest
+  pub few : after.lines ≡ before.lines + length lines
+  pub bytes : after.bytes ≡ before.bytes + length (with_newlines lines)
+
+-- the deepest text keeps its level, and the others stay as they are
+pub record KeepsTop {R : Type 0} (old new : Stack R) : Type 0 where
+  pub depth : new.depth ≡ old.depth
+  pub below : StaysBelow (old.depth - 1) old.texts new.texts
+  pub named : (opened_as : R → List ℕ) (names : List (List ℕ)) → AreReadersNamed opened_as names old.texts
+      → AreReadersNamed opened_as names new.texts
+  pub files : maximum_of files_up_to new.texts ≤ maximum_of files_up_to old.texts
+  pub deep : AreDeep old.texts → AreDeep new.texts
+  pub buffer : buffer_of (top_of new) ≡ buffer_of (top_of old)
+
+-- lines are given out, whatever the shelf; no file is opened, and what was read stays
+pub record EmitsBufferedLines {R : Type 0} (old new : MergeState R) (lines : List Line) : Type 0 where
+  pub gives : (texts : List ℕ → Option (List ℕ)) (left : R → List ℕ) →
+      EmitsLines lines (so_far_of old) (so_far_of new) (events_to_come texts left old) (events_to_come texts left new)
+  pub stopped : new.stopped ≡ old.stopped
+  pub names : new.names ≡ old.names
+  pub counted : new.limits.lines ≡ old.limits.lines + length lines
+  pub readers : (opened_as : R → List ℕ) → AreReadersKnown opened_as old → AreReadersKnown opened_as new
+
+-- lines are given out and stand behind what was gathered, whatever the shelf; no file is opened
+pub record AppendsPassedLines {R : Type 0} (old new : MergeState R) (buffer more : List ℕ) : Type 0 where
+  pub lines : List Line
+  pub gives : (texts : List ℕ → Option (List ℕ)) (left : R → List ℕ) →
+      EmitsLines lines (so_far_of old) (so_far_of new) (events_to_come texts left old) (events_to_come texts left new)
+  pub gathered : more ≡ buffer ++ written_lines lines
+  pub stopped : new.stopped ≡ old.stopped
+  pub names : new.names ≡ old.names
+  pub counted : old.limits.lines ≤ new.limits.lines
+  pub readers : (opened_as : R → List ℕ) → AreReadersKnown opened_as old → AreReadersKnown opened_as new
+
+-- Lines that were given out and written, and lines that are gathered: one at least, and no more where there is no room.
+pub record BuffersLines (room : ℕ) (old new : SoFar) (all now : List Event) (Wrote : List ℕ → Type 0)
+    (buffer : List ℕ) : Type 0 where
+  pub done : List Line
+  pub gathered : List Line
+  pub gives : EmitsLines (done ++ gathered) old new all now
+  pub wrote : Wrote (written_lines done)
+  pub piece_is : buffer ≡ written_lines gathered
+  pub some : 0 < length gathered
+  pub alone : room ≡ 0 → length gathered ≡ 1

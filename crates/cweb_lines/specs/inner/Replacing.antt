@@ -1,0 +1,86 @@
+-- How far the old side of a change is.
+use Rattle.std.specs.Prelude.{◌≡◌, ◌+◌, ◌||◌, ℕ, Bool, nat_lt, List, [], ◌∷◌, ◌++◌, if◌then◌else◌}
+use Rattle.cweb_files.specs.declared.place.Place.{Place}
+use Rattle.cweb_lines.specs.Change.{WaitingEntry, at_place, old_lines}
+use Rattle.cweb_input.specs.Lines.{SourceLine}
+use Rattle.cweb_lines.specs.Merge.{Compared, after_old, compared}
+use Rattle.cweb_input.specs.Things.{Thing}
+use Rattle.cweb_lines.specs.MergeProgress.{SoFar, AddsFaultsAndLines}
+use Rattle.cweb_lines.specs.inner.Stages.{IsSettled}
+use Rattle.cweb_lines.specs.surface.Stages.{change_in, pending_in}
+use Rattle.cweb_input.specs.declared.fault.SourceFault.{SourceFault}
+use Rattle.cweb_input.specs.declared.fault.SourceKind.TheVariants.{EndedBeforeY, Unequal, WebEnded}
+use Rattle.cweb_lines.specs.declared.change.old_side.Replaced.{Replaced}
+use Rattle.cweb_lines.specs.declared.change.Stage.{Stage}
+
+-- the raw lines that the further old lines of a change take away
+abbrev pub taken_away : List SourceLine → List Thing → Compared
+taken_away change things = compared (old_lines change).lines things
+
+-- the lines that an old side takes: those of the change file, and the raw lines
+abbrev pub lines_replaced : List SourceLine → List Thing → List SourceLine
+lines_replaced change things = (old_lines change).taken ++ (taken_away change things).taken
+
+-- an old side has come so far: it began with these change lines and raw lines, and these are left
+pub record Replaces (change : List SourceLine) (things : List Thing) (so_far : Replaced) (change' : List SourceLine)
+    (things' : List Thing) (old new : SoFar) : Type 0 where
+  pub told : List SourceFault
+  pub taken : List SourceLine
+  pub raw_taken : List SourceLine
+  pub faults_are : (old_lines change).faults ≡ told ++ (old_lines change').faults
+  pub taken_are : (old_lines change).taken ≡ taken ++ (old_lines change').taken
+  pub ended : (old_lines change).ended ≡ (old_lines change').ended
+  pub rest : (old_lines change).rest ≡ (old_lines change').rest
+  pub raw_taken_are : (taken_away change things).taken ≡ raw_taken ++ (taken_away change' things').taken
+  pub unequal : (taken_away change things).unequal ≡ so_far.unequal + (taken_away change' things').unequal
+  pub ran_out : (taken_away change things).ran_out ≡ (so_far.ran_out || (taken_away change' things').ran_out)
+  pub raw_rest : (taken_away change things).rest ≡ (taken_away change' things').rest
+  pub adds : AddsFaultsAndLines told (taken ++ raw_taken) old new
+
+-- an old side has ended: its lines are counted, and the faults among them told
+pub record IsReplaced (change : List SourceLine) (things : List Thing) (so_far : Replaced) (change' : List SourceLine)
+    (things' : List Thing) (old new : SoFar) : Type 0 where
+  pub adds : AddsFaultsAndLines (old_lines change).faults (lines_replaced change things) old new
+  pub ended : (old_lines change).ended ≡ so_far.ended
+  pub rest : (old_lines change).rest ≡ change'
+  pub unequal : (taken_away change things).unequal ≡ so_far.unequal
+  pub ran_out : (taken_away change things).ran_out ≡ so_far.ran_out
+  pub raw_rest : (taken_away change things).rest ≡ things'
+
+-- an old line took the next raw line away, where there is one, whatever old lines follow
+pub record Compares (bytes : List ℕ) (before after : Replaced) (things things' : List Thing)
+    (old new : SoFar) : Type 0 where
+  pub taken : List SourceLine
+  pub taken_are : (olds : List (List ℕ)) → (compared (bytes ∷ olds) things).taken ≡ taken
+      ++ (compared olds things').taken
+  pub unequal : (olds : List (List ℕ)) → before.unequal + (compared (bytes ∷ olds) things).unequal
+      ≡ after.unequal + (compared olds things').unequal
+  pub ran_out : (olds : List (List ℕ)) → (before.ran_out || (compared (bytes ∷ olds) things).ran_out)
+      ≡ (after.ran_out || (compared olds things').ran_out)
+  pub rest : (olds : List (List ℕ)) → (compared (bytes ∷ olds) things).rest ≡ (compared olds things').rest
+  pub adds : AddsFaultsAndLines [] taken old new
+
+-- a fault, where there is one
+abbrev pub fault_list_if : Bool → SourceFault → List SourceFault
+fault_list_if b fault = if b then fault ∷ [] else []
+
+-- the faults that come behind those of the old lines
+abbrev pub closing_faults : Place → Bool → Bool → ℕ → List SourceFault
+closing_faults begin ended ran_out unequal =
+    fault_list_if ended (at_place EndedBeforeY begin) ++ fault_list_if ran_out (at_place WebEnded begin)
+    ++ fault_list_if (nat_lt 0 unequal) (record { kind = Unequal; place = begin; count = unequal })
+
+-- all faults of an old side
+abbrev pub faults_replaced : Place → List SourceLine → List Thing → List SourceFault
+faults_replaced begin change things =
+    (old_lines change).faults ++ closing_faults begin (old_lines change).ended (taken_away change things).ran_out
+    (taken_away change things).unequal
+
+-- a change was begun: its old side is counted, and what is to come is as the definition has it
+pub record IsChanged (begin : Place) (depth : ℕ) (change : List SourceLine) (things : List Thing) (stage : Stage)
+    (change' : List SourceLine) (things' : List Thing) (old new : SoFar) : Type 0 where
+  pub adds : AddsFaultsAndLines (faults_replaced begin change things) (lines_replaced change things) old new
+  pub settled : IsSettled stage
+  pub after : (entry : WaitingEntry) → entry.begin ≡ begin → (files : ℕ) (first : List ℕ)
+      → record { things = things'; pending = pending_in stage first; change = change_in stage change'; files = files }
+      ≡ after_old (old_lines change).ended files depth entry (old_lines change) (taken_away change things).rest

@@ -1,0 +1,22 @@
+-- What merged lines look like in a sink.
+use Rattle.std.specs.Prelude.{◌≡◌, ◌<◌, ℕ, List, ◌++◌, length}
+use Rattle.cweb_files.specs.Frames.{WritesPrefix}
+use Rattle.cweb_input.specs.Lines.{Line}
+use Rattle.cweb_lines.specs.Merge.{Event}
+use Rattle.cweb_lines.specs.MergeProgress.{SoFar, EmitsLines}
+use Rattle.cweb_lines.specs.Writing.{written_lines}
+
+-- A write failed in the midst of lines that were gathered. What comes after that comes behind them.
+pub record FailsAmong (room : ℕ) (old new : SoFar) (all later : List Event) (before after : List ℕ) : Type 0 where
+  pub done : List Line
+  pub gathered : List Line
+  pub gives : EmitsLines (done ++ gathered) old new all later
+  pub front : WritesPrefix (before ++ written_lines done) after (written_lines gathered)
+  pub some : 0 < length gathered
+  pub alone : room ≡ 0 → length gathered ≡ 1
+
+-- All lines that were given out were written.
+pub record HasWritten (old new : SoFar) (all now : List Event) (Wrote : List ℕ → Type 0) : Type 0 where
+  pub lines : List Line
+  pub gives : EmitsLines lines old new all now
+  pub wrote : Wrote (written_lines lines)

@@ -1,0 +1,87 @@
+-- What an author sees of a merge.
+use Rattle.std.specs.Prelude.{ℕ, ◌+◌, true, List, [], ◌∷◌, ◌++◌, map, Option, None}
+use Rattle.cweb_files.specs.declared.place.Place.{Place}
+use Rattle.cweb_input.specs.Lines.{Line, SourceLine}
+use Rattle.cweb_input.specs.laws.Lines.{lines}
+use Rattle.cweb_input.specs.Include.{World}
+use Rattle.cweb_lines.specs.Change.{at_place}
+use Rattle.cweb_lines.specs.Merge.{Event, started}
+use Rattle.cweb_input.specs.Things.{raws}
+use Rattle.cweb_lines.specs.EventsByKind.{emitted_lines, reported_faults, openings}
+use Rattle.cweb_lines.specs.Total.{merge}
+use Rattle.cweb_input.specs.declared.fault.SourceFault.{SourceFault}
+use Rattle.cweb_input.specs.declared.fault.SourceKind.{SourceKind}
+
+-- what an author sees of a merge: the lines with their places, the faults, and the names of included files
+pub record MergeOutcome : Type 0 where
+  pub lines : List Line
+  pub faults : List SourceFault
+  pub included : List (List ℕ)
+
+abbrev pub outcome_of_events : List Event → MergeOutcome
+outcome_of_events events = record {
+  lines = emitted_lines events;
+  faults = reported_faults events;
+  included = openings events;
+}
+
+-- what comes of a web, and of a change file where one is given
+abbrev pub merge_outcome : World → List ℕ → Option (List ℕ) → MergeOutcome
+merge_outcome world web change = outcome_of_events (merge world (started web change))
+
+abbrev pub placed_line : ℕ → ℕ → List ℕ → Line
+placed_line file number bytes = record { bytes = bytes; place = record { file = record { 0 = file }; line = number } }
+
+-- the lines of a file, of which the first has this number, with their places
+abbrev pub placed : ℕ → ℕ → List (List ℕ) → List Line
+placed file number [] = []
+placed file number (bytes ∷ rest) = placed_line file number bytes ∷ placed file (number + 1) rest
+
+-- lines and nothing else
+abbrev pub only_lines : List Line → MergeOutcome
+only_lines lines = record { lines = lines; faults = []; included = [] }
+
+abbrev pub followed_by : MergeOutcome → MergeOutcome → MergeOutcome
+followed_by first later = record {
+  lines = first.lines ++ later.lines;
+  faults = first.faults ++ later.faults;
+  included = first.included ++ later.included;
+}
+
+abbrev pub only_name : List ℕ → MergeOutcome
+only_name name = record { lines = []; faults = []; included = name ∷ [] }
+
+abbrev pub only_fault : SourceKind → Place → MergeOutcome
+only_fault kind place = record { lines = []; faults = at_place kind place ∷ []; included = [] }
+
+-- the same with other numbers of files
+abbrev pub place_renumbered : (ℕ → ℕ) → Place → Place
+place_renumbered number place = record { file = record { 0 = number place.file.0 }; line = place.line }
+
+abbrev pub line_renumbered : (ℕ → ℕ) → Line → Line
+line_renumbered number line = record { bytes = line.bytes; place = place_renumbered number line.place }
+
+abbrev pub fault_renumbered : (ℕ → ℕ) → SourceFault → SourceFault
+fault_renumbered number fault = record {
+  kind = fault.kind;
+  place = place_renumbered number fault.place;
+  count = fault.count;
+}
+
+abbrev pub renumbered : (ℕ → ℕ) → MergeOutcome → MergeOutcome
+renumbered number all = record {
+  lines = map (line_renumbered number) all.lines;
+  faults = map (fault_renumbered number) all.faults;
+  included = all.included;
+}
+
+-- what comes of lines that lie at a depth, where no change is pending and so many files have been opened before
+abbrev pub outcome_of_lines : World → ℕ → ℕ → List SourceLine → MergeOutcome
+outcome_of_lines world depth files lines =
+    outcome_of_events (merge world (record {
+      things = raws depth true lines;
+      pending = None;
+      change = [];
+      files =
+          files;
+    }))

@@ -1,0 +1,45 @@
+// What a merger holds.
+ghost use Rattle.std.specs.Prelude.{◌≤◌, ◌+◌, length};
+ghost use Rattle.cweb_input.specs.surface.OpenedFileNames.{opened_file_names};
+ghost use Rattle.cweb_input.specs.declared.limits.TheConstants.{OPEN_FILES};
+ghost use Rattle.cweb_input.specs.inner.OpenSources.{AreDeep, maximum_of, line_number};
+ghost use Rattle.cweb_input.specs.surface.OpenSources.{number_or_zero};
+ghost use Rattle.cweb_input.specs.inner.OpenSources.{files_up_to};
+ghost use Rattle.cweb_lines.specs.inner.Faults.{files_of_faults, files_of_stop};
+ghost use Rattle.cweb_lines.specs.inner.Stages.{floor_of, new_depth, files_begun};
+
+use crate::change::Stage;
+use cweb_input::{FileNames, OpenSource, SourceFault, Stack, Stop, TakenCounters};
+use std::alloc::Global;
+
+#[derive(Drop)]
+pub struct MergeState<R: Drop> {
+    pub alloc: Global,
+    /// The folder in which included files are sought too.
+    pub inputs: Option<String>,
+    pub stack: Stack<R>,
+    /// The change file, of which lines are only taken forward.
+    pub change: Option<OpenSource<R>>,
+    pub stage: Stage,
+    /// The first old line of the entry that waits.
+    pub first: Vec<u8>,
+    pub limits: TakenCounters,
+    pub faults: Vec<SourceFault>,
+    pub names: FileNames,
+    /// The stop that every further call answers.
+    pub stopped: Option<Stop>,
+    ghost shallow: { stack.depth ≤ OPEN_FILES },
+    ghost deep: { AreDeep stack.texts },
+    ghost numbers: { maximum_of line_number stack.texts ≤ limits.lines },
+    ghost change_number: { number_or_zero line_number change ≤ limits.lines },
+    // the texts that were open when new lines began stay open, and the new lines lie no less deep
+    ghost floor: { floor_of stage ≤ stack.depth },
+    ghost floor_deep: { floor_of stage ≤ new_depth stage },
+    ghost named: { length (opened_file_names names) ≤ limits.lines + 2 },
+    // every file that an open text, an entry, a fault or the kept stop names has been opened
+    ghost open_known: { maximum_of files_up_to stack.texts ≤ length (opened_file_names names) },
+    ghost change_known: { number_or_zero files_up_to change ≤ length (opened_file_names names) },
+    ghost begun_known: { files_begun stage ≤ length (opened_file_names names) },
+    ghost faults_known: { files_of_faults faults.items ≤ length (opened_file_names names) },
+    ghost stop_known: { files_of_stop stopped ≤ length (opened_file_names names) },
+}

@@ -1,0 +1,65 @@
+// Lines that are lent from where they lie in what was read.
+ghost use Rattle.std.specs.Prelude.{◌≡◌, ℕ, List, IfSome, None};
+ghost use Rattle.cweb_lines.specs.inner.LineSpans.{BorrowsLine, IsSpanIn, span_bytes, line_span_at};
+ghost use Rattle.cweb_lines.specs.inner.Passing.{ComesNext, top_of};
+
+use crate::merge_state::MergeState;
+use crate::passing::stretch::Stretch;
+use cweb_files::Place;
+
+/// A line that was taken: where it stands in its file, and where it lies in what was read.
+#[derive(Clone, Copy, Debug, PartialEq, Eq)]
+pub struct LineSpan {
+    pub place: Place,
+    pub(crate) from: usize,
+    pub(crate) to: usize,
+}
+
+impl<R: Drop> MergeState<R> {
+    // Where the line that comes next stands and lies.
+    #[inline(always)]
+    pub(crate) fn line_at(&self, stretch: Stretch) -> Option<LineSpan>
+        requires { (lines : List (List ℕ)) × ComesNext self.now stretch lines }
+        ensures { result ≡ line_span_at (top_of self.now.stack) stretch }
+    {
+        match &self.stack.texts[self.stack.depth - 1] {
+            Some(text) => Some(LineSpan {
+                place: Place {
+                    file: text.file,
+                    line: text.line + 1,
+                },
+                from: text.source.start,
+                to: stretch.text,
+            }),
+            None => None,
+        }
+    }
+
+    /// Takes the next line where it passes through.
+    #[inline(always)]
+    pub fn borrow_line(&mut self) -> Option<LineSpan>
+        ensures lent { IfSome result (λ line. BorrowsLine line self.old self.new) }
+        ensures none { result ≡ None → self.new ≡ self.old }
+    {
+        let Some(stretch) = self.stretch(0) else {
+            return None;
+        };
+        let Some(line) = self.line_at(stretch) else {
+            return None;
+        };
+        self.advance(stretch);
+        Some(line)
+    }
+
+    /// The bytes of a line that lies in what was read.
+    #[inline(always)]
+    pub fn bytes_of(&self, line: LineSpan) -> &[u8]
+        requires { IsSpanIn self.now line }
+        ensures { result.now ≡ span_bytes self.now line }
+    {
+        match &self.stack.texts[self.stack.depth - 1] {
+            Some(text) => &text.source.buffer[line.from..line.to],
+            None => &[],
+        }
+    }
+}

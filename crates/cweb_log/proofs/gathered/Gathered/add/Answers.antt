@@ -1,8 +1,0 @@
-use Rattle.cweb_log.proofs.Common.{arith, common_steps}
-use Rattle.cweb_log.proofs.gathered.Gathered.add.Goals as goal
-
-pub returns-then-part-self-2 : goal.returns-then-part-self-2
-returns-then-part-self-2 c = grind (arith, common_steps)
-
-pub returns : goal.returns
-returns c = grind (arith, common_steps)

@@ -1,9 +1,0 @@
-use Rattle.cweb_log.proofs.Gathering.{writes_all, writes_front}
-use Rattle.cweb_log.proofs.gathered.say.Goals as goal
-
-pub returns-in_err-add_line : goal.returns-in_err-add_line
-returns-in_err-add_line g c =
-    writes_front _ _ (rw c.new-gathered.ensures at c.in_err-add_line.ensures) c.from_residual.ensures.0
-
-pub returns : goal.returns
-returns g c = writes_all _ (rw c.new-gathered.ensures at c.in_ok-add_line.ensures) c.pass_on.ensures.writes

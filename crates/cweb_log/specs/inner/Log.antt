@@ -1,0 +1,20 @@
+-- The lines of the log.
+use Rattle.std.specs.Prelude.{ℕ, List, [], codes}
+use Rattle.cweb_input.specs.declared.stop.Stop.{Stop}
+use Rattle.cweb_input.specs.declared.stop.Stop.TheVariants.{WebNotOpened, ChangeNotOpened, ReadFault}
+use Rattle.cweb_input.specs.declared.stop.Stop.TheVariants.{LineTooLong}
+use Rattle.cweb_input.specs.declared.stop.Stop.TheVariants.{WriteFault}
+use Rattle.cweb_log.specs.Log.{file_name_at}
+
+-- what a stop at the start of a merge is about, by the names of the web and of the change file
+abbrev pub start_subject : List ℕ → List ℕ → Stop → List ℕ
+start_subject web change WebNotOpened = web
+start_subject web change ChangeNotOpened = change
+start_subject web change _ = []
+
+-- what a stop within a merge is about, by the names of the files that were opened
+abbrev pub subject : List (List ℕ) → Stop → List ℕ
+subject names (ReadFault file) = file_name_at names file.0
+subject names (LineTooLong file) = file_name_at names file.0
+subject names WriteFault = codes "standard output"
+subject names _ = []

@@ -1,0 +1,2 @@
+-- What public calls promise beside the headline.
+pub mod Options

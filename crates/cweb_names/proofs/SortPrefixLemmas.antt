@@ -1,0 +1,97 @@
+-- Fronts are ordered as their texts are.
+use Rattle.cweb_names.proofs.Common.{◌≡◌, ℕ, zero, suc, ◌+◌, ◌*◌, ◌<◌, ◌≤◌, List, [], ◌∷◌, refl, sym, ◌∙◌, ap, arith, nat_cmp, ordering_then, slice_cmp, Less, Equal, Greater, nat_tests, suc-mul, mul-le-mul_right, AreBytes, sort_prefix_of}
+
+-- what a byte is worth with n bytes behind it
+abbrev worth : ℕ → ℕ
+worth zero = 1
+worth (suc n) = 256 * worth n
+
+-- the number that the first n bytes make
+abbrev front_from : ℕ → List ℕ → ℕ
+front_from zero text = 0
+front_from (suc n) [] = 0
+front_from (suc n) (b ∷ text) = b * worth n + front_from n text
+
+behind : (b : ℕ) (text : List ℕ) → AreBytes (b ∷ text) → AreBytes text
+behind b text all = λ i. all (suc i)
+
+-- a step of one byte is worth more than all bytes behind it
+rise : (a b w x : ℕ) → a < b → x < w → a * w + x < b * w
+rise a b w x less small =
+    let up : suc a ≤ b = omega (arith, less) in
+    omega (arith, mul-le-mul_right w up, suc-mul a w, small)
+
+some-worth : (n : ℕ) → 0 < worth n
+some-worth zero = omega arith
+some-worth (suc n) = omega (arith, some-worth n)
+
+front-small : (n : ℕ) (text : List ℕ) → AreBytes text → front_from n text < worth n
+front-small zero text all = omega arith
+front-small (suc n) [] all = some-worth (suc n)
+front-small (suc n) (b ∷ text) all =
+    rise b 256 (worth n) (front_from n text) (all 0) (front-small n text (behind b text all))
+
+cmp-less : (x y : ℕ) → x < y → nat_cmp x y ≡ Less
+cmp-less x y h = grind (arith, nat_tests)
+
+cmp-greater : (x y : ℕ) → y < x → nat_cmp x y ≡ Greater
+cmp-greater x y h = grind (arith, nat_tests)
+
+cmp-shift : (k x y : ℕ) → nat_cmp (k + x) (k + y) ≡ nat_cmp x y
+cmp-shift k x y = grind (arith, nat_tests)
+
+less-is : (x y : ℕ) → nat_cmp x y ≡ Less → x < y
+less-is x y h = grind (arith, nat_tests)
+
+equal-is : (x y : ℕ) → nat_cmp x y ≡ Equal → x ≡ y
+equal-is x y h = grind (arith, nat_tests)
+
+greater-is : (x y : ℕ) → nat_cmp x y ≡ Greater → y < x
+greater-is x y h = grind (arith, nat_tests)
+
+-- some number that isn't 0 is above it
+above-none : (n : ℕ) → (0 ≡ n → ⊥) → 0 < n
+above-none zero other = absurd (other refl)
+above-none (suc n) other = omega arith
+
+fronts-from : (n : ℕ) (s t : List ℕ) → AreBytes s → AreBytes t → (front_from n s ≡ front_from n t → ⊥)
+    → nat_cmp (front_from n s) (front_from n t) ≡ slice_cmp nat_cmp s t
+fronts-from zero s t all_s all_t other = absurd (other refl)
+fronts-from (suc n) [] [] all_s all_t other = absurd (other refl)
+fronts-from (suc n) [] (b ∷ t) all_s all_t other =
+    cmp-less 0 (front_from (suc n) (b ∷ t)) (above-none (front_from (suc n) (b ∷ t)) other)
+fronts-from (suc n) (a ∷ s) [] all_s all_t other =
+    cmp-greater (front_from (suc n) (a ∷ s)) 0 (above-none (front_from (suc n) (a ∷ s)) (λ e. other (sym e)))
+fronts-from (suc n) (a ∷ s) (b ∷ t) all_s all_t other =
+    let w = worth n in
+    let x = front_from n s in
+    let y = front_from n t in
+    (elim (nat_cmp a b) as (λ o. nat_cmp a b ≡ o
+    → nat_cmp (a * w + x) (b * w + y) ≡ ordering_then o (slice_cmp nat_cmp s t)) [
+      | Less ↦ λ is.
+          let up = rise a b w x (less-is a b is) (front-small n s (behind a s all_s)) in
+          cmp-less (a * w + x) (b * w + y) (omega (arith, up))
+      | Equal ↦ λ is.
+          let same : a ≡ b = equal-is a b is in
+          ap (λ c. nat_cmp (a * w + x) (c * w + y)) (sym same) ∙ cmp-shift (a * w) x y
+          ∙ fronts-from n s t (behind a s all_s) (behind b t all_t) (λ e. other (λ i. same i * w + e i))
+      | Greater ↦ λ is.
+          let up = rise b a w y (greater-is a b is) (front-small n t (behind b t all_t)) in
+          cmp-greater (a * w + x) (b * w + y) (omega (arith, up))
+    ]) refl
+
+front-is : (t : List ℕ) → sort_prefix_of t ≡ front_from 8 t
+front-is [] = omega arith
+front-is (a ∷ []) = omega arith
+front-is (a ∷ b ∷ []) = omega arith
+front-is (a ∷ b ∷ c ∷ []) = omega arith
+front-is (a ∷ b ∷ c ∷ d ∷ []) = omega arith
+front-is (a ∷ b ∷ c ∷ d ∷ e ∷ []) = omega arith
+front-is (a ∷ b ∷ c ∷ d ∷ e ∷ f ∷ []) = omega arith
+front-is (a ∷ b ∷ c ∷ d ∷ e ∷ f ∷ g ∷ []) = omega arith
+front-is (a ∷ b ∷ c ∷ d ∷ e ∷ f ∷ g ∷ h ∷ t) = omega arith
+
+-- where fronts differ they tell the order of their texts
+pub fronts-tell : (s t : List ℕ) → AreBytes s → AreBytes t → (sort_prefix_of s ≡ sort_prefix_of t → ⊥)
+    → nat_cmp (sort_prefix_of s) (sort_prefix_of t) ≡ slice_cmp nat_cmp s t
+fronts-tell s t all_s all_t other = grind (arith, front-is s, front-is t, fronts-from 8 s t all_s all_t)

@@ -1,0 +1,54 @@
+-- A name that is being squeezed.
+use Rattle.cweb_names.proofs.Common.{◌≡◌, ℕ, Bool, true, false, ◌&&◌, not, List, [], ◌∷◌, ◌++◌, refl, ap, sym, ◌∙◌, if◌then◌else◌, eqb-true}
+use Rattle.std.proofs.Common.{◌==◌}
+use Rattle.std.specs.Prelude.{codes}
+use Rattle.cweb_rules.specs.Bytes.{is_white}
+use Rattle.cweb_names.specs.inner.Squeezing.{is_squeezed, is_squeezed_after}
+use Rattle.cweb_names.specs.Squeezing.{squeezed, squeezed_after}
+use Rattle.std.proofs.lemmas.Bool.{and_parts}
+
+-- whether there is a byte
+abbrev pub is_some : List ℕ → Bool
+is_some [] = false
+is_some (b ∷ t) = true
+
+-- A NAME THAT IS SQUEEZED AS IT STANDS
+
+abbrev squeezed_by : Bool → Bool → List ℕ → ℕ → List ℕ → List ℕ
+squeezed_by white begun gap b t =
+    elim white [
+      | true ↦ squeezed_after begun (if begun then codes " " else []) t
+      | false ↦ gap ++ b ∷ squeezed_after true [] t
+    ]
+
+abbrev fits_by : Bool → Bool → ℕ → List ℕ → Bool
+fits_by white gap b t =
+    elim white [ true ↦ not gap && (b == 32) && is_squeezed_after true t | false ↦ is_squeezed_after false t ]
+
+-- behind a byte that isn't white, and behind a blank
+abbrev Stays : List ℕ → Type 0
+Stays t = (is_squeezed_after false t ≡ true → squeezed_after true [] t ≡ t) ×
+    (is_squeezed_after true t ≡ true → squeezed_after true (codes " ") t ≡ 32 ∷ t)
+
+behind_byte : (w : Bool) (b : ℕ) (t : List ℕ) → Stays t → fits_by w false b t ≡ true → squeezed_by w true [] b t ≡ b ∷ t
+behind_byte true b t s h =
+    let p = and_parts (b == 32) (is_squeezed_after true t) h in s.1 p.1 ∙ ap (λ n. n ∷ t) (sym (eqb-true b 32 p.0))
+behind_byte false b t s h = ap (λ u. b ∷ u) (s.0 h)
+
+behind_blank : (w : Bool) (b : ℕ) (t : List ℕ) → Stays t → fits_by w true b t ≡ true
+    → squeezed_by w true (codes " ") b t ≡ 32 ∷ b ∷ t
+behind_blank true b t s h = cc
+behind_blank false b t s h = ap (λ u. 32 ∷ b ∷ u) (s.0 h)
+
+stays : (t : List ℕ) → Stays t
+stays [] = (λ h. refl, λ h. cc)
+stays (b ∷ t) =
+    let s = stays t in (λ h. behind_byte (is_white b) b t s h, λ h. behind_blank (is_white b) b t s h)
+
+first_stays : (w : Bool) (b : ℕ) (t : List ℕ) → Stays t → fits_by w true b t ≡ true → squeezed_by w false [] b t ≡ b ∷ t
+first_stays true b t s h = cc
+first_stays false b t s h = ap (λ u. b ∷ u) (s.0 h)
+
+pub squeezed_stays : (t : List ℕ) → is_squeezed t ≡ true → squeezed t ≡ t
+squeezed_stays [] h = refl
+squeezed_stays (b ∷ t) h = first_stays (is_white b) b t (stays t) h

@@ -1,0 +1,14 @@
+-- Names: their occurrences, what each occurrence stands for, and which names are files.
+use Rattle.std.specs.Prelude.{ℕ, Bool, List}
+use Rattle.cweb_names.specs.declared.name.How.{How}
+use Rattle.cweb_names.specs.Names.{Occurrence}
+
+abbrev pub occurrence_of : List ℕ → How → Bool → Occurrence
+occurrence_of text how is_file = record { text = text; how = how; is_file = is_file }
+
+abbrev pub occurrence_text : Occurrence → List ℕ
+occurrence_text o = o.text
+
+-- fewer occurrences than this are taken
+abbrev pub too_many : ℕ
+too_many = 4294967295

@@ -1,0 +1,64 @@
+// How names of sections are spelled. The CWEB manual, "Section names".
+ghost use Rattle.std.specs.Prelude.{◌≡◌, IfOk};
+ghost use Rattle.cweb_rules.specs.Bytes as bytes;
+ghost use Rattle.cweb_names.specs.Squeezing.{is_abbreviation};
+ghost use Rattle.cweb_names.specs.inner.Squeezing as spec;
+ghost use Rattle.cweb_names.specs.Squeezing as base;
+
+use std::alloc::{AllocError, Global};
+
+fn is_white(byte: u8) -> bool
+    ensures { result ≡ bytes.is_white byte }
+{
+    matches!(byte, b' ' | b'\t' | b'\r' | 11 | 12 | b'\n')
+}
+
+/// A text in which each run of white bytes is one blank, and none stands at the ends.
+pub fn squeezed(alloc: Global, text: &[u8]) -> Result<Vec<u8>, AllocError>
+    ensures { IfOk result (λ name. name.items ≡ base.squeezed text.now) }
+{
+    let mut name = Vec::with_capacity(alloc, text.len())?;
+    let mut gap = false;
+    for byte in text {
+        if is_white(*byte) {
+            gap = !name.is_empty();
+        } else {
+            if gap {
+                name.push(b' ')?;
+            }
+            name.push(*byte)?;
+            gap = false;
+        }
+    }
+    Ok(name)
+}
+
+/// Whether a text is such a name as it stands.
+pub fn is_squeezed(text: &[u8]) -> bool
+    ensures { result ≡ spec.is_squeezed text.now }
+{
+    let mut before = b' ';
+    for byte in text {
+        if !may_follow(before, *byte) {
+            return false;
+        }
+        before = *byte;
+    }
+    before != b' '
+}
+
+// Whether a byte stands behind another in such a name: one that is white is a blank, and behind no blank. Most bytes are above
+// a blank, and not white.
+#[inline(always)]
+fn may_follow(before: u8, byte: u8) -> bool
+    ensures { result ≡ spec.may_follow before byte }
+{
+    byte > b' ' || !is_white(byte) || (byte == b' ' && before != b' ')
+}
+
+/// Whether a name is an abbreviation: longer than three bytes, it ends in `...`.
+pub fn is_prefix(name: &[u8]) -> bool
+    ensures { result ≡ is_abbreviation name.now }
+{
+    name.len() > 3 && name.ends_with(b"...")
+}

@@ -1,5 +1,0 @@
-use Rattle.cweb_open.proofs.Common.{arith, common_steps}
-use Rattle.cweb_open.proofs.files.FileNames.get.Goals as goal
-
-pub returns : goal.returns
-returns c = grind (arith, common_steps)

@@ -1,0 +1,66 @@
+-- What comes before the first use in a list, and in a frame's.
+use Rattle.cweb_out.proofs.Common.{◌≡◌, ◌<◌, ◌||◌, true, false, List, [], ◌∷◌, ◌++◌, length, refl, sym, ◌∙◌, ap, arith, append_assoc, length-append, list_any, list_any-append, flat_map-append, Part, Token, Stored, uses, use_of, defs_first, suffix, tokens_of_parts, Frame}
+use Rattle.cweb_store.specs.inner.Next.{is_name_use}
+use Rattle.cweb_out.specs.inner.Uses.{PassesNoUse}
+use Rattle.cweb_print.specs.surface.TokenRanges.{tokens_of_part}
+use Rattle.std.proofs.lemmas.Bool.{or_from}
+use Rattle.cweb_store.specs.Parts as spec
+
+none-append : (ts us : List Token) → list_any is_name_use ts ≡ false
+    → list_any is_name_use us ≡ false → list_any is_name_use (ts ++ us) ≡ false
+none-append ts us a b = list_any-append is_name_use ts us
+    ∙ or_from (list_any is_name_use ts) (list_any is_name_use us) a b
+
+pub pass-on : {a b c : List Token} → PassesNoUse a b → PassesNoUse b c → PassesNoUse a c
+pass-on {c} x y = record {
+  before = x.before ++ y.before;
+  none = none-append x.before y.before x.none y.none;
+  same = x.same ∙ ap (λ ts. x.before ++ ts) y.same ∙ sym (append_assoc x.before y.before c);
+}
+
+-- what a list uses does not change where no use is passed over
+not-used : (w : Stored) (t : Token) → is_name_use t ≡ false → use_of w t ≡ []
+not-used w (spec.Name name) h = cc
+not-used w _ h = refl
+
+pub none-used : (w : Stored) (ts : List Token) → list_any is_name_use ts ≡ false → uses w ts ≡ []
+none-used w [] h = refl
+none-used w (t ∷ ts) h =
+    (elim (is_name_use t) as (λ b. is_name_use t ≡ b → (b || list_any is_name_use ts) ≡ false
+    → use_of w t ++ uses w ts ≡ []) [
+      | true ↦ λ e some. cc
+      | false ↦ λ e none. ap (λ ns. ns ++ uses w ts) (not-used w t e) ∙ none-used w ts none
+    ]) refl h
+
+pub same-uses : (w : Stored) {old new : List Token} → PassesNoUse old new → uses w old ≡ uses w new
+same-uses w {new} x =
+    ap (uses w) x.same ∙ flat_map-append (use_of w) x.before new
+    ∙ ap (λ ns. ns ++ uses w new) (none-used w x.before x.none)
+
+pub use-shorter : {old : List Token} (new : List Token) (t : Token) → PassesNoUse old (t ∷ new)
+    → length new < length old
+use-shorter new t x = omega (arith, ap length x.same, length-append x.before (t ∷ new))
+
+-- a part without a use is passed, and a part up to its first use
+pub pass-part : (w : Stored) (f : Frame) (q : Part) (more : List Part) → f.defs ≡ false
+    → list_any is_name_use (tokens_of_part w f.part) ≡ false → f.rest ≡ q ∷ more
+    → PassesNoUse (suffix w f) (suffix w (record { owner = f.owner; defs = f.defs; part = q; rest = more }))
+pass-part w f q more d none e = record {
+  before = tokens_of_part w f.part;
+  none = none;
+  same = ap (λ b. defs_first b ++ (tokens_of_part w f.part ++ tokens_of_parts w f.rest)) d
+      ∙ ap (λ ps. tokens_of_part w f.part ++ tokens_of_parts w ps) e
+      ∙ ap (λ b. tokens_of_part w f.part ++ (defs_first b ++ tokens_of_parts w (q ∷ more))) (sym d);
+}
+
+pub pass-to-use : (w : Stored) (f : Frame) (q : Part) (t : Token) → f.defs ≡ false
+    → PassesNoUse (tokens_of_part w f.part) (t ∷ tokens_of_part w q)
+    → PassesNoUse (suffix w f) (t ∷ suffix w (record { owner = f.owner; defs = f.defs; part = q; rest = f.rest }))
+pass-to-use w f q t d x = record {
+  before = x.before;
+  none = x.none;
+  same = ap (λ b. defs_first b ++ (tokens_of_part w f.part ++ tokens_of_parts w f.rest)) d
+      ∙ ap (λ ts. ts ++ tokens_of_parts w f.rest) x.same
+      ∙ append_assoc x.before (t ∷ tokens_of_part w q) (tokens_of_parts w f.rest)
+      ∙ ap (λ b. x.before ++ (t ∷ (defs_first b ++ (tokens_of_part w q ++ tokens_of_parts w f.rest)))) (sym d);
+}

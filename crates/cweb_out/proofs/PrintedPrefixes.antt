@@ -1,0 +1,49 @@
+-- Fronts of what is left that were printed one after another.
+use Rattle.cweb_out.proofs.Common.{◌≡◌, ◌++◌, ◌∙◌, [], refl, sym, ap, subst, append_assoc, ℕ, List, ◌&&◌, list_all, Token, Setting, print, AreDirect, is_direct, setting_of, PrintsPrefix}
+use Rattle.std.proofs.lemmas.List.Folds.{list_all-append}
+use Rattle.cweb_print.specs.surface.Classes.{left_after_tokens}
+use Rattle.cweb_print.specs.declared.printer.Printer.{Printer}
+use Rattle.cweb_print.specs.surface.Printed.{AddsBytes}
+use Rattle.cweb_print.proofs.DirectPrefixes.{passed_none}
+
+pub front_none : {p : Printer} {ts : List Token} {old : List ℕ} → PrintsPrefix p p ts ts old old
+front_none {p} {old} =
+    let none = passed_none p old in
+    record { done = []; whole = refl; direct = none.direct; moves = none.moves; prints = none.prints }
+
+are_lent-append : (xs ys : List Token) → AreDirect xs → AreDirect ys → AreDirect (xs ++ ys)
+are_lent-append xs ys h k = list_all-append is_direct xs ys ∙ ap (λ b. b && list_all is_direct ys) h ∙ k
+
+pub front_more : {p q r : Printer} {a b c : List Token} {old mid new : List ℕ} → setting_of q ≡ setting_of p
+    → PrintsPrefix p q a b old mid → PrintsPrefix q r b c mid new → PrintsPrefix p r a c old new
+front_more {p} {c} {old} {mid} {new} same f g =
+    let s = setting_of p in
+    record {
+      done = f.done ++ g.done;
+      whole =
+          f.whole ∙ ap (λ (ts : List Token). f.done ++ ts) g.whole ∙ sym (append_assoc f.done g.done c);
+      direct = are_lent-append f.done g.done f.direct g.direct;
+      moves = λ done is.
+          ap left_after_tokens (sym (append_assoc done f.done g.done)) ∙ g.moves (done ++ f.done) (f.moves done is);
+      prints = λ done is.
+          let one = f.prints done is in
+          let two = subst (λ (t : Setting). AddsBytes (print t (done ++ f.done))
+          (print t ((done ++ f.done) ++ g.done)) mid new) same (g.prints (done ++ f.done) (f.moves done is)) in
+          record {
+            bytes = one.bytes ++ two.bytes;
+            due = ap (print s) (sym (append_assoc done f.done g.done)) ∙ two.due
+                ∙ ap (λ (u : List ℕ). u ++ two.bytes) one.due ∙ append_assoc (print s done) one.bytes two.bytes;
+            written = two.written ∙ ap (λ (u : List ℕ). u ++ two.bytes) one.written
+                ∙ append_assoc old one.bytes two.bytes;
+          };
+    }
+
+-- the same where what is left is told in other words
+pub front_to : {p q : Printer} {a b c : List Token} {old new : List ℕ} → b ≡ c
+    → PrintsPrefix p q a b old new → PrintsPrefix p q a c old new
+front_to {p} {q} {a} {old} {new} same f = rw (← same) f
+
+-- what is left before and after, with tokens in front of the rest
+pub front_of : {p q : Printer} (a b : List Token) {c d : List Token} {old new : List ℕ}
+    (f : PrintsPrefix p q a b old new) → c ≡ f.done ++ d → PrintsPrefix p q c d old new
+front_of a b f whole = record { done = f.done; whole = whole; direct = f.direct; moves = f.moves; prints = f.prints }

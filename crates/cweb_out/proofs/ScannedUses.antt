@@ -1,0 +1,85 @@
+-- What of a list was looked at: the uses that were passed over, up to the next name without a rank.
+use Rattle.cweb_out.proofs.Common.{◌≡◌, ◌<◌, Bool, true, false, ◌&&◌, List, [], ◌∷◌, ◌++◌, refl, sym, ◌∙◌, ap, append-nil, append_assoc, Some, None, list_all, NameId, Token, Stored, names, uses, use_of, has_rank, suffix, Frame, and_parts}
+use Rattle.cweb_out.specs.inner.Uses.{PassesNoUse}
+use Rattle.cweb_out.specs.declared.outputs.search.Mark.{Mark}
+use Rattle.cweb_out.specs.declared.outputs.search.Mark.TheVariants.{Ranked}
+use Rattle.cweb_out.specs.declared.outputs.search.Waiting.{Waiting}
+use Rattle.cweb_out.specs.inner.Search.{MarksFitPath, IsScanned, FindsUnranked, SkipsRanked, is_marked, is_ranked_mark, mark_of}
+use Rattle.cweb_out.proofs.FirstUses.{same-uses}
+use Rattle.cweb_out.proofs.Ranks.{all-append}
+
+pub passes-more : {w : Stored} {marks : List Mark} {old mid new : List Token} (t : Token) → SkipsRanked w marks old mid
+    → mid ≡ t ∷ new → list_all (is_marked marks) (use_of w t) ≡ true → SkipsRanked w marks old new
+passes-more {w} {marks} {new} t p e h = record {
+  before = p.before ++ use_of w t;
+  marked = all-append (is_marked marks) p.before (use_of w t) p.marked h;
+  same = p.same ∙ ap (λ ts. p.before ++ uses w ts) e ∙ sym (append_assoc p.before (use_of w t) (uses w new));
+}
+
+-- no use was passed over
+pub passes-on : {w : Stored} {marks : List Mark} {old mid new : List Token}
+    → SkipsRanked w marks old mid → PassesNoUse mid new → SkipsRanked w marks old new
+passes-on {w} p x = record {
+  before = p.before;
+  marked = p.marked;
+  same = p.same ∙ ap (λ ns. p.before ++ ns) (same-uses w x);
+}
+
+pub meets : {w : Stored} {marks : List Mark} {old mid new : List Token} (t : Token) {n : NameId}
+    → SkipsRanked w marks old mid → mid ≡ t ∷ new → n ∷ [] ≡ use_of w t
+    → is_marked marks n ≡ false → n.0 < names w → FindsUnranked w marks old n new
+meets {w} {new} t p e u f l = record {
+  before = p.before;
+  marked = p.marked;
+  same = p.same ∙ ap (λ ts. p.before ++ uses w ts) e ∙ ap (λ ns. p.before ++ (ns ++ uses w new)) (sym u);
+  unranked = f;
+  name = l;
+}
+
+pub passes-all : {w : Stored} {marks : List Mark} {old new : List Token}
+    → SkipsRanked w marks old new → uses w new ≡ [] → list_all (is_marked marks) (uses w old) ≡ true
+passes-all {marks} p e =
+    ap (list_all (is_marked marks)) (p.same ∙ ap (λ ns. p.before ++ ns) e ∙ append-nil p.before) ∙ p.marked
+
+-- marks that are ranked stand for ranks
+marked-rank : (m : Mark) (b : Bool) → (m ≡ Ranked → b ≡ true) → is_ranked_mark m ≡ true → b ≡ true
+marked-rank Ranked b f h = f refl
+marked-rank _ b f h = cc
+
+pub all-ranked : {w : Stored} {marks : List Mark} {path : List Waiting} (ns : List NameId)
+    → MarksFitPath w marks path → list_all (is_marked marks) ns ≡ true → list_all (has_rank w) ns ≡ true
+all-ranked [] f h = refl
+all-ranked {w} {marks} {path} (n ∷ ns) f h = ap (λ b. b && list_all (has_rank w) ns) (marked-rank (mark_of marks n)
+    (has_rank w n) (f.ranked n) (and_parts (is_marked marks n) (list_all (is_marked marks) ns) h).0)
+    ∙ all-ranked ns f (and_parts (is_marked marks n) (list_all (is_marked marks) ns) h).1
+
+-- a list was looked at up to a name, and then as far as the next one
+pub looked-more : {w : Stored}
+    {list : List Token} {marks : List Mark} {path : List Waiting} {old new : Frame} {n : NameId}
+    → MarksFitPath w marks path
+    → IsScanned w list old None → FindsUnranked w marks (suffix w old) n (suffix w new) → IsScanned w list new (Some n)
+looked-more {w} {new} {n} f l m = record {
+  before = l.before ++ m.before;
+  ranked = all-append (has_rank w) l.before m.before l.ranked (all-ranked m.before f m.marked);
+  same = l.same ∙ ap (λ ns. l.before ++ ns) m.same ∙ sym (append_assoc l.before m.before (n ∷ uses w (suffix w new)));
+}
+
+-- the next name has got a rank
+pub looked-on : {w : Stored} {list : List Token} {frame : Frame} (n : NameId)
+    → has_rank w n ≡ true → IsScanned w list frame (Some n) → IsScanned w list frame None
+looked-on {w} {frame} n h l = record {
+  before = l.before ++ n ∷ [];
+  ranked = all-append (has_rank w) l.before (n ∷ []) l.ranked (ap (λ b. b && true) h);
+  same = l.same ∙ sym (append_assoc l.before (n ∷ []) (uses w (suffix w frame)));
+}
+
+-- nothing is left to look at
+pub looked-all : {w : Stored} {list : List Token} {frame : Frame} {marks : List Mark} {path : List Waiting}
+    → MarksFitPath w marks path → IsScanned w list frame None
+    → list_all (is_marked marks) (uses w (suffix w frame)) ≡ true → list_all (has_rank w) (uses w list) ≡ true
+looked-all {w} {frame} f l h = ap (list_all (has_rank w)) l.same
+    ∙ all-append (has_rank w) l.before (uses w (suffix w frame)) l.ranked (all-ranked (uses w (suffix w frame)) f h)
+
+pub looked-start : {w : Stored} {list : List Token} {frame : Frame} → suffix w frame ≡ list
+    → IsScanned w list frame None
+looked-start {w} e = record { before = []; ranked = refl; same = ap (uses w) (sym e) }

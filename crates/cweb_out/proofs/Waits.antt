@@ -1,0 +1,152 @@
+-- The marks of names, as they begin to wait and get their rank.
+use Rattle.cweb_out.proofs.Common.{◌≡◌, ◌<◌, true, false, ◌||◌, List, [], ◌∷◌, ◌++◌, sym, ◌∙◌, ap, arith, length, inl, inr, subst, sum_by, list_any, set, get_or-set_same, length-set, NameId, is_id, Stored, names, joined, has_rank, FrameIsWithin, suffix, AreNew, false_from_ne_true, or_left, or_right, id}
+use Rattle.std.proofs.Common.{◌≢◌}
+use Rattle.std.proofs.lemmas.Bool.Decides.{eqb_tells}
+use Rattle.std.proofs.lemmas.List.{get_or-set_other, get_or_past}
+use Rattle.std.proofs.lemmas.List.Sums.{sum_by-set}
+use Rattle.cweb_out.specs.declared.outputs.search.Mark.{Mark}
+use Rattle.cweb_out.specs.declared.outputs.search.Mark.TheVariants.{Unseen, Waits, Ranked}
+use Rattle.cweb_out.specs.declared.outputs.search.Waiting.{Waiting}
+use Rattle.cweb_out.specs.inner.Search.{MarksFitPath, Waited, mark_of, marks_left, path_of}
+use Rattle.std.proofs.lemmas.Bool.{cases_lt}
+use Rattle.cweb_out.proofs.Ranks.{on-front, on-last}
+use Rattle.cweb_out.proofs.ScannedUses.{looked-start}
+use Rattle.cweb_out.proofs.Paths.{new-pop, new-push, on-pushed, path-push, split-or, within-pop, within-push}
+
+-- a name that waits no more, or one that waits from now on
+mark-same : (marks : List Mark) (n : NameId) (m : Mark) → n.0 < length marks → mark_of (set marks n.0 m) n ≡ m
+mark-same marks n m l = get_or-set_same marks n.0 m Unseen l
+
+mark-other : (marks : List Mark) (n k : NameId) (m : Mark) → k.0 ≢ n.0 → mark_of (set marks n.0 m) k ≡ mark_of marks k
+mark-other marks n k m d = get_or-set_other marks n.0 k.0 m Unseen d
+
+pub top-within : {w : Stored} {marks : List Mark} (path : List Waiting) (f : Waiting)
+    → MarksFitPath w marks (path ++ f ∷ []) → FrameIsWithin w f.text
+top-within path f t = (within-pop path f t.within).1
+
+-- a name begins to wait
+pub fits-push : {w : Stored} {marks : List Mark} {path : List Waiting} (f : Waiting)
+    → MarksFitPath w marks path → mark_of marks f.name ≡ Unseen → f.name.0 < names w
+    → FrameIsWithin w f.text → MarksFitPath w (set marks f.name.0 Waits) (path ++ f ∷ [])
+fits-push {marks} {path} f t u l i =
+    let lt : f.name.0 < length marks = omega (arith, l, t.all) in
+    let absent : list_any (is_id f.name) (path_of path) ≡ false =
+    false_from_ne_true (list_any (is_id f.name) (path_of path))
+    (λ h. let bad : Unseen ≡ Waits = sym u ∙ t.marked f.name h in cc) in
+    record {
+      all = length-set marks f.name.0 Waits ∙ t.all;
+      ranked = λ n h. elim (eqb_tells n.0 f.name.0) [
+        | inl e ↦
+            let bad : Waits ≡ Ranked =
+            sym (mark-same marks f.name Waits lt)
+            ∙ ap (mark_of (set marks f.name.0 Waits)) (sym (ap id e.1)) ∙ h in
+            cc
+        | inr e ↦ t.ranked n (sym (mark-other marks f.name n Waits e.1) ∙ h)
+      ];
+      waits = λ n h. ap (list_any (is_id n)) (path-push path f)
+          ∙ on-pushed (path_of path) n f.name ∙ elim (eqb_tells n.0 f.name.0) [
+            | inl e ↦ or_right (list_any (is_id n) (path_of path)) (is_id n f.name || false)
+                (or_left (is_id n f.name) false e.0)
+            | inr e ↦ or_left (list_any (is_id n) (path_of path)) (is_id n f.name || false)
+                (t.waits n (sym (mark-other marks f.name n Waits e.1) ∙ h))
+          ];
+      marked = λ n h. elim (eqb_tells n.0 f.name.0) [
+        | inl e ↦ ap (mark_of (set marks f.name.0 Waits)) (ap id e.1) ∙ mark-same marks f.name Waits lt
+        | inr e ↦ mark-other marks f.name n Waits e.1
+            ∙ t.marked n (elim (split-or (list_any (is_id n) (path_of path)) (is_id n f.name)
+            (sym (on-pushed (path_of path) n f.name) ∙ ap (list_any (is_id n)) (sym (path-push path f)) ∙ h)) [
+              | inl a ↦ a
+              | inr b ↦ let bad : true ≡ false = sym b ∙ e.0 in cc
+            ])
+      ];
+      new = subst (AreNew []) (sym (path-push path f)) (new-push [] (path_of path) f.name t.new absent);
+      within = within-push path f t.within i;
+    }
+
+-- the name that waits last has got its rank
+pub fits-pop : {w : Stored} {marks : List Mark} {path : List Waiting} (f : Waiting)
+    → MarksFitPath w marks (path ++ f ∷ [])
+    → f.name.0 < names w → has_rank w f.name ≡ true → MarksFitPath w (set marks f.name.0 Ranked) path
+fits-pop {w} {marks} {path} f t l r =
+    let lt : f.name.0 < length marks = omega (arith, l, t.all) in
+    let split = new-pop [] (path_of path) f.name (subst (AreNew []) (path-push path f) t.new) in
+    record {
+      all = length-set marks f.name.0 Ranked ∙ t.all;
+      ranked = λ n h. elim (eqb_tells n.0 f.name.0) [
+        | inl e ↦ ap (has_rank w) (ap id e.1) ∙ r
+        | inr e ↦ t.ranked n (sym (mark-other marks f.name n Ranked e.1) ∙ h)
+      ];
+      waits = λ n h. elim (eqb_tells n.0 f.name.0) [
+        | inl e ↦
+            let bad : Ranked ≡ Waits =
+            sym (mark-same marks f.name Ranked lt)
+            ∙ ap (mark_of (set marks f.name.0 Ranked)) (sym (ap id e.1)) ∙ h in
+            cc
+        | inr e ↦ elim (split-or (list_any (is_id n) (path_of path))
+            (is_id n f.name) (sym (on-pushed (path_of path) n f.name) ∙ ap (list_any (is_id n)) (sym (path-push path f))
+            ∙ t.waits n (sym (mark-other marks f.name n Ranked e.1) ∙ h))) [
+              | inl a ↦ a
+              | inr b ↦ let bad : true ≡ false = sym b ∙ e.0 in cc
+            ]
+      ];
+      marked = λ n h. elim (eqb_tells n.0 f.name.0) [
+        | inl e ↦
+            let bad : true ≡ false = sym h ∙ ap (λ m. list_any (is_id m) (path_of path)) (ap id e.1) ∙ split.1 in
+            cc
+        | inr e ↦ mark-other marks f.name n Ranked e.1
+            ∙ t.marked n (ap (list_any (is_id n)) (path-push path f) ∙ on-front (path_of path) (f.name ∷ []) n h)
+      ];
+      new = split.0;
+      within = (within-pop path f t.within).0;
+    }
+
+-- the name that waits last goes on in its text
+pub fits-swap : {w : Stored} {marks : List Mark} (path : List Waiting) (f g : Waiting) → g.name ≡ f.name
+    → FrameIsWithin w g.text → MarksFitPath w marks (path ++ f ∷ []) → MarksFitPath w marks (path ++ g ∷ [])
+fits-swap path f g e i t =
+    let same : path_of (path ++ g ∷ []) ≡ path_of (path ++ f ∷ []) =
+    path-push path g ∙ ap (λ n. path_of path ++ n ∷ []) e ∙ sym (path-push path f) in
+    record {
+      all = t.all;
+      ranked = t.ranked;
+      waits = λ n h. ap (list_any (is_id n)) same ∙ t.waits n h;
+      marked = λ n h. t.marked n (sym (ap (list_any (is_id n)) same) ∙ h);
+      new = subst (AreNew []) (sym same) t.new;
+      within = within-push path g (within-pop path f t.within).0 i;
+    }
+
+-- a name that waits is one of the names
+pub top-name : {w : Stored} {marks : List Mark} {path : List Waiting} (n : NameId)
+    → MarksFitPath w marks path → list_any (is_id n) (path_of path) ≡ true → n.0 < names w
+top-name {w} {marks} n t h = elim (cases_lt n.0 (names w)) [
+  | inr le ↦
+      let past : mark_of marks n ≡ Unseen = get_or_past marks n.0 Unseen (omega (arith, le, t.all)) in
+      let bad : Unseen ≡ Waits = sym past ∙ t.marked n h in cc
+  | inl lt ↦ lt
+]
+
+pub on-top : (path : List Waiting) (f : Waiting) → list_any (is_id f.name) (path_of (path ++ f ∷ [])) ≡ true
+on-top path f = ap (list_any (is_id f.name)) (path-push path f) ∙ on-last (path_of path) f.name
+
+-- marking a name leaves less to mark
+pub left-less : (marks : List Mark) (n : NameId) (m : Mark) → n.0 < length marks
+    → marks_left m < marks_left (mark_of marks n) → sum_by marks_left (set marks n.0 m) < sum_by marks_left marks
+left-less marks n m l h = let e = sum_by-set marks_left marks n.0 m Unseen l in omega (arith, h, e)
+
+-- what a name that waits looks like, first
+pub waited-fits : {w : Stored} {marks more : List Mark} {path longer : List Waiting} {n : NameId} (f : Waiting)
+    → MarksFitPath w marks path → mark_of marks n ≡ Unseen → n.0 < names w → f.name ≡ n → FrameIsWithin w f.text
+    → suffix w f.text
+    ≡ joined w n → more ≡ set marks n.0 Waits → longer ≡ path ++ f ∷ [] → Waited w marks path n more longer
+waited-fits {w} {marks} {longer} {n} f t u l e i s m p =
+    let fits = fits-push f t (ap (mark_of marks) e ∙ u) (rw e l) i in
+    let lt : n.0 < length marks = omega (arith, l, t.all) in
+    let two : marks_left Waits < marks_left (mark_of marks n) = rw u (omega arith) in
+    record {
+      top = f;
+      name = e;
+      long = p;
+      fits = rw (← (ap (λ (k : NameId). set marks k.0 Waits) e ∙ sym m)) (rw p fits);
+      looked = looked-start s;
+      less = rw m (left-less marks n Waits lt two);
+    }

@@ -1,0 +1,20 @@
+use Rattle.std.proofs.Common.{slice_range}
+use Rattle.cweb_out.proofs.Common.{all_tokens}
+use Rattle.cweb_out.proofs.PrintedPrefixes.{front_none}
+use Rattle.cweb_out.proofs.Suffixes.{suffix-passed}
+use Rattle.cweb_out.proofs.frame.Frame.append_part.Goals as goal
+
+pub returns-then-self-clause-prints : goal.returns-then-self-clause-prints
+returns-then-self-clause-prints c =
+    let run = c.append_range-self in
+    record {
+      done = slice_range (all_tokens c.args.store.now.parts) c.args.self.now.part.first run.result;
+      whole = suffix-passed c.args.store.now c.args.self.now run.result
+          c.requires.started run.ensures.from run.ensures.upto;
+      direct = run.ensures.direct;
+      moves = run.ensures.moves;
+      prints = run.ensures.prints;
+    }
+
+pub returns-else-self-clause-prints : goal.returns-else-self-clause-prints
+returns-else-self-clause-prints c = front_none

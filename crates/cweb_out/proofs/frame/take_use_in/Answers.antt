@@ -1,0 +1,29 @@
+use Rattle.cweb_out.proofs.Common.{◌++◌, ◌∙◌, [], ap, arith, refl, Some, Name, all_tokens, token_model}
+use Rattle.std.proofs.Common.{slice_range}
+use Rattle.cweb_store.proofs.RangeLemmas.{range-split, range-head}
+use Rattle.cweb_out.proofs.frame.take_use_in.Goals as goal
+
+pub returns-in-Name-clause-some : goal.returns-in-Name-clause-some
+returns-in-Name-clause-some c =
+    let here = c.token.ensures ∙ ap (λ t. Some (token_model t)) c.in-Name.is in
+    record {
+      before = [];
+      none = refl;
+      same = range-head (all_tokens c.args.store.now.parts) c.args.part.now.first c.args.part.now.after
+          (Name c.in-Name.name) here (omega (arith, c.if-part.false));
+    }
+
+pub returns-in-Name-token-clause-some : goal.returns-in-Name-token-clause-some
+returns-in-Name-token-clause-some c =
+    let ts = all_tokens c.args.store.now.parts in
+    let first = c.args.part.now.first in
+    let after = c.args.part.now.after in
+    let next = c.next_use-next.result in
+    let here = c.token-2.ensures ∙ ap (λ t. Some (token_model t)) c.in-Name-token.is in
+    record {
+      before = slice_range ts first next;
+      none = c.next_use-next.ensures.before;
+      same = range-split ts first next after c.next_use-next.ensures.begins c.next_use-next.ensures.within
+          ∙ ap (λ us. slice_range ts first next ++ us)
+          (range-head ts next after (Name c.in-Name-token.name) here (omega (arith, c.if-next-part.false)));
+    }

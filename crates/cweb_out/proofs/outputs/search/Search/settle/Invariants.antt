@@ -1,0 +1,14 @@
+use Rattle.cweb_out.proofs.Common.{◌≡◌, None, sum_by}
+use Rattle.cweb_out.specs.inner.Search.{PathBegins, Chain, MarksFitPath, marks_left}
+use Rattle.cweb_out.proofs.outputs.search.Search.settle.Given as goal
+
+abbrev pub invariant-names : goal.invariant-names
+invariant-names l = record {
+  store : l.self.store ≡ l.fn.self.store;
+  fits : MarksFitPath l.fn.self.store.now l.self.marks.items l.self.waiting.items;
+  chain : Chain l.fn.self.store.now l.self.waiting.items None;
+  begins : PathBegins l.fn.self.store.now l.self.waiting.items l.fn.name;
+}
+
+abbrev pub decreases-names : goal.decreases-names
+decreases-names l = sum_by marks_left l.self.marks.items

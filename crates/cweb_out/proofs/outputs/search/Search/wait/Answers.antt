@@ -1,0 +1,11 @@
+use Rattle.cweb_out.proofs.Common.{refl, Stored}
+use Rattle.cweb_out.specs.declared.outputs.search.Waiting.{Waiting}
+use Rattle.cweb_out.proofs.Waits.{waited-fits}
+use Rattle.cweb_out.proofs.outputs.search.Search.wait.Goals as goal
+
+pub returns-clause-waits : goal.returns-clause-waits
+returns-clause-waits c =
+    let w : Stored = c.args.self.now.store.now in
+    let f : Waiting = record { name = c.args.name; text = c.of_root.result } in
+    waited-fits f c.requires.fits c.requires.unseen c.requires.name refl
+    c.of_root.ensures.within c.of_root.ensures.list refl c.in_ok-push.ensures.items

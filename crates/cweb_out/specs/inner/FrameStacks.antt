@@ -1,0 +1,59 @@
+-- What a stack of frames still has to give.
+use Rattle.std.specs.Prelude.{ℕ, ◌≤◌, ◌<◌, ◌≡◌, ◌+◌, ◌-◌, suc, zero, List, [], ◌∷◌, ◌++◌, Option, Some, None}
+use Rattle.std.specs.Prelude.{length, sum_by}
+use Rattle.cweb_names.specs.declared.name.NameId.{NameId}
+use Rattle.cweb_names.specs.declared.name.NameRef.{NameRef}
+use Rattle.cweb_store.specs.Parts.{Token, Name}
+use Rattle.cweb_store.specs.Calls.{Stored}
+use Rattle.cweb_out.specs.Uses.{names, joined, use_of, resolved_use}
+use Rattle.cweb_out.specs.Expansion.{expanded_name, put}
+use Rattle.cweb_out.specs.surface.FrameSuffixes.{suffix}
+use Rattle.cweb_out.specs.declared.frame.Frame.{Frame}
+use Rattle.cweb_out.specs.surface.FrameStacks.{RanksAreBelow, rank, left}
+
+-- the rank of the top frame's owner, or a number where there is no frame
+abbrev pub top_rank : Stored → ℕ → List Frame → ℕ
+top_rank w above [] = above
+top_rank w above (f ∷ fs) = top_rank w (rank w f.owner) fs
+
+-- each name that a token uses has a rank below that of the top frame's owner
+abbrev pub UsesLower : Stored → List Frame → Token → Type 0
+UsesLower w fs t = RanksAreBelow w (top_rank w (names w + 1) fs) (use_of w t)
+
+-- how many tokens are met in what a name and a token give, k deep, and how many frames are taken away
+abbrev pub work_for : (NameId → ℕ) → Option NameId → ℕ
+work_for f None = 0
+work_for f (Some n) = f n
+
+abbrev pub token_work : Stored → (NameId → ℕ) → Token → ℕ
+token_work w f (Name r) = 1 + work_for f (resolved_use w r)
+token_work w f t = 1
+
+abbrev pub name_work : Stored → ℕ → NameId → ℕ
+name_work w zero n = 0
+name_work w (suc k) n = 1 + sum_by (token_work w (name_work w k)) (joined w n)
+
+abbrev pub list_work : Stored → ℕ → List Token → ℕ
+list_work w k ts = 1 + sum_by (token_work w (name_work w k)) ts
+
+abbrev pub work_of : Stored → ℕ → List Frame → ℕ
+work_of w k [] = 0
+work_of w zero (f ∷ fs) = work_of w zero fs + list_work w zero (suffix w f)
+work_of w (suc k) (f ∷ fs) = work_of w k fs + list_work w (suc k) (suffix w f)
+
+-- the depth that the top frame is expanded to
+abbrev pub level : Stored → List Frame → ℕ
+level w fs = names w + 1 - length fs
+
+-- a token of the top frame was taken
+pub record Advances (w : Stored) (old new : List Frame) (t : Token) : Type 0 where
+  pub left : left w old ≡ put w (expanded_name w (level w new)) t ++ left w new
+  pub below : RanksAreBelow w (level w new) (use_of w t)
+  pub lower : UsesLower w new t
+  pub work : token_work w (name_work w (level w new)) t + work_of w (names w) new ≤ work_of w (names w) old
+  pub some : 0 < length new
+
+-- a frame was put on top for a use, or none where the use gives nothing
+pub record Enters (w : Stored) (old new : List Frame) (r : NameRef) : Type 0 where
+  pub left : left w new ≡ put w (expanded_name w (level w old)) (Name r) ++ left w old
+  pub work : work_of w (names w) new < token_work w (name_work w (level w old)) (Name r) + work_of w (names w) old

@@ -1,0 +1,2 @@
+-- Theorems about the definitions.
+pub mod Laws

@@ -1,0 +1,77 @@
+-- What holds of expansion, of print and of cycles whatever the web is.
+use Rattle.std.specs.Prelude.{◌≡◌, ◌≤◌, ◌==◌, ℕ, suc, Bool, true, false, List, [], ◌∷◌, ◌++◌, Some, Err, fold}
+use Rattle.std.specs.List.{list_all, list_any}
+use Rattle.cweb_names.specs.declared.name.NameId.{NameId}
+use Rattle.cweb_names.specs.declared.name.NameRef.{NameRef}
+use Rattle.cweb_names.specs.Names.{is_id}
+use Rattle.cweb_store.specs.Parts.{Token, Name}
+use Rattle.cweb_store.specs.Calls.{Stored}
+use Rattle.cweb_out.specs.Uses.{joined, resolved_use, uses}
+use Rattle.cweb_out.specs.Ranks.{ends_below}
+use Rattle.cweb_out.specs.Expansion.{expand}
+use Rattle.cweb_out.specs.Outputs.{cycle, planned}
+use Rattle.cweb_texts.specs.Edges.{last_is}
+use Rattle.cweb_print.specs.Printing.{Setting, file, file_token_bytes, without_joined_layout, left_after, print}
+use Rattle.cweb_print.specs.Printing.{print_after, stays_joined}
+
+-- any token but the use of a name
+abbrev pub is_no_use : Token → Bool
+is_no_use (Name r) = false
+is_no_use t = true
+
+-- no use remains; any other token stays between the expansions of what stands before and behind it; and a use that stands for
+-- a name becomes the expansion of that name's text, one less deep
+pub record ReplacesUses (w : Stored) (k : ℕ) : Type 0 where
+  pub no_use : (ts : List Token) → list_all is_no_use (expand w k ts) ≡ true
+  pub kept : (before behind : List Token) (t : Token) → is_no_use t ≡ true
+      → expand w k (before ++ t ∷ behind) ≡ expand w k before ++ t ∷ expand w k behind
+  pub replaced : (before behind : List Token) (r : NameRef) (n : NameId) → resolved_use w r ≡ Some n
+      → expand w (suc k) (before ++ Name r ∷ behind) ≡ expand w (suc k) before
+      ++ (expand w k (joined w n) ++ expand w (suc k) behind)
+
+abbrev pub ExpansionReplacesUsesAlone : Type 0
+ExpansionReplacesUsesAlone = (w : Stored) (k : ℕ) → ReplacesUses w k
+
+-- where each name that a list uses has a rank below k, its expansion is the same for every depth from k on
+abbrev pub DepthAboveTheRankChangesNothing : Type 0
+DepthAboveTheRankChangesNothing = (w : Stored) (k depth : ℕ) (ts : List Token) → k ≤ depth
+    → list_all (ends_below w k) (uses w ts) ≡ true → expand w depth ts ≡ expand w k ts
+
+-- whether only layout and section comments stand behind the last join of a list
+abbrev pub is_joined : List Token → Bool
+is_joined ts = fold stays_joined false ts
+
+-- what a list prints behind another, by the last token of that one that was printed and by its open join
+abbrev pub print_following : Setting → List Token → List Token → List ℕ
+print_following s before ts =
+    print_after (file_token_bytes s) (left_after before) (without_joined_layout (is_joined before) ts)
+
+-- print of two lists is print of the one and then of the other
+abbrev pub PrintGoesOn : Type 0
+PrintGoesOn = (s : Setting) (before ts : List Token)
+    → print s (before ++ ts) ≡ print s before ++ print_following s before ts
+
+-- no bytes, or bytes whose last one is a newline
+abbrev pub is_whole_lines : List ℕ → Bool
+is_whole_lines [] = true
+is_whole_lines (b ∷ bytes) = last_is (λ x. x == 10) (b ∷ bytes)
+
+abbrev pub FilesHaveWholeLines : Type 0
+FilesHaveWholeLines = (s : Setting) (ts : List Token) → is_whole_lines (file s ts) ≡ true
+
+-- each name of a list but the last one uses the next one in its text
+abbrev pub EachUsesNext : Stored → List NameId → Type 0
+EachUsesNext w [] = Unit {0}
+EachUsesNext w (n ∷ []) = Unit {0}
+EachUsesNext w (n ∷ m ∷ ns) = (list_any (is_id m) (uses w (joined w n)) ≡ true) × EachUsesNext w (m ∷ ns)
+
+-- names that use one another in a circle: at least two stand there, and the last one is the first again
+pub record IsCycle (w : Stored) (ns : List NameId) : Type 0 where
+  pub first : NameId
+  pub between : List NameId
+  pub closed : ns ≡ first ∷ between ++ first ∷ []
+  pub each : EachUsesNext w ns
+
+abbrev pub RefusedCyclesAreCycles : Type 0
+RefusedCyclesAreCycles = (w : Stored) (main : List ℕ) (ns : List NameId) → planned w main ≡ Err (cycle ns)
+    → IsCycle w ns

@@ -1,0 +1,37 @@
+// Tokens that lend their texts, printed at once from the lists that give them.
+ghost use Rattle.std.specs.Prelude.{◌≡◌, vec_capacity};
+ghost use Rattle.cweb_out.specs.surface.FrameStacks.{IsFrameStack, left};
+ghost use Rattle.cweb_print.specs.inner.BufferedPrinting.{PrintsPrefix};
+ghost use Rattle.cweb_print.specs.surface.Printed.{setting_of};
+
+use crate::expander::Expander;
+use cweb_print::{OutBuffer, Printer};
+
+impl<'a> Expander<'a> {
+    /// Prints tokens that come next to where bytes are gathered, up to one that lends no text, or for whose text there is no
+    /// room. It takes no memory.
+    pub fn append(&mut self, printer: &mut Printer<'_>, buffer: &mut OutBuffer)
+        requires { IsFrameStack self.old.store.now self.old.frames.items
+            (vec_capacity self.old.frames) }
+        ensures stands { IsFrameStack self.new.store.now
+            self.new.frames.items (vec_capacity self.new.frames) }
+        ensures store { self.new.store ≡ self.old.store }
+        ensures plan { self.new.plan ≡ self.old.plan }
+        ensures setting { setting_of printer.new ≡ setting_of printer.old }
+        ensures prints { PrintsPrefix printer.old printer.new
+            (left self.old.store.now self.old.frames.items)
+            (left self.old.store.now self.new.frames.items) buffer.old buffer.new }
+    {
+        let store = self.store;
+        'frames: while let Some(frame) = self.frames.last_mut() {
+            if frame.append(store, printer, buffer) {
+                self.frames.pop();
+                continue;
+            }
+            let Some(name) = frame.take_name(store) else {
+                break;
+            };
+            self.enter(name);
+        }
+    }
+}

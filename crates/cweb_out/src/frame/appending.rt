@@ -1,0 +1,80 @@
+// Tokens that lend their texts, printed at once from the list that gives them.
+ghost use Rattle.std.specs.Prelude.{◌≡◌, ◌≢◌, ◌∷◌, [], None, IfSome, true, false};
+ghost use Rattle.cweb_store.specs.Parts.{Name};
+ghost use Rattle.cweb_out.specs.surface.FrameSuffixes.{FrameIsWithin, suffix};
+ghost use Rattle.cweb_print.specs.inner.BufferedPrinting.{PrintsPrefix};
+ghost use Rattle.cweb_print.specs.surface.Printed.{setting_of};
+
+use crate::frame::Frame;
+use cweb_print::{OutBuffer, Printer};
+use cweb_store::{NameRef, Store, Token};
+
+impl<'a> Frame<'a> {
+    /// Prints the tokens of the list that lend their texts, up to one that lends none, or for whose text there is no room,
+    /// and answers whether the list has come to its end.
+    pub fn append(
+        &mut self,
+        store: &'a Store,
+        printer: &mut Printer<'_>,
+        buffer: &mut OutBuffer,
+    ) -> bool
+        requires { FrameIsWithin store.now self.old }
+        ensures owner { self.new.owner ≡ self.old.owner }
+        ensures within { FrameIsWithin store.now self.new }
+        ensures setting { setting_of printer.new ≡ setting_of printer.old }
+        ensures prints { PrintsPrefix printer.old printer.new
+            (suffix store.now self.old) (suffix store.now self.new) buffer.old buffer.new }
+        ensures ended { result ≡ true → suffix store.now self.new ≡ [] }
+        ensures goes_on { result ≡ false → suffix store.now self.new ≢ [] }
+    {
+        if self.defs {
+            return false;
+        }
+        'parts: loop {
+            self.append_part(store, printer, buffer);
+            if self.part.first < self.part.after {
+                return false;
+            }
+            let Some(part) = self.rest.next() else {
+                return true;
+            };
+            self.part = part;
+        }
+    }
+
+    // Prints those of the part.
+    fn append_part(&mut self, store: &Store, printer: &mut Printer<'_>, buffer: &mut OutBuffer)
+        requires started { self.old.defs ≡ false }
+        requires within { FrameIsWithin store.now self.old }
+        ensures owner { self.new.owner ≡ self.old.owner }
+        ensures started { self.new.defs ≡ false }
+        ensures rest { self.new.rest ≡ self.old.rest }
+        ensures within { FrameIsWithin store.now self.new }
+        ensures setting { setting_of printer.new ≡ setting_of printer.old }
+        ensures prints { PrintsPrefix printer.old printer.new
+            (suffix store.now self.old) (suffix store.now self.new) buffer.old buffer.new }
+    {
+        if self.part.first < self.part.after {
+            self.part.first = printer.append_range(store, self.part, buffer);
+        }
+    }
+
+    /// Takes the next token of the part, where that is a use of a name, and else nothing.
+    pub fn take_name(&mut self, store: &Store) -> Option<NameRef>
+        requires { FrameIsWithin store.now self.old }
+        ensures owner { self.new.owner ≡ self.old.owner }
+        ensures within { FrameIsWithin store.now self.new }
+        ensures some { IfSome result
+            (λ name. suffix store.now self.old ≡ Name name ∷ suffix store.now self.new) }
+        ensures none { result ≡ None → self.new ≡ self.old }
+    {
+        if self.defs || self.part.first >= self.part.after {
+            return None;
+        }
+        let Token::Name(name) = store.token(self.part.first) else {
+            return None;
+        };
+        self.part.first += 1;
+        Some(name)
+    }
+}

@@ -1,0 +1,243 @@
+// The search for a cycle of names that use one another.
+ghost use Rattle.std.specs.Prelude.{◌≡◌, ◌≤◌, ◌<◌, ◌+◌, ◌++◌, ◌∷◌, [], true, false, None, Some};
+ghost use Rattle.std.specs.Prelude.{length, map, sum_by, option_map, All, IfOk, IfSome, OnOk};
+ghost use Rattle.std.specs.List.{list_all};
+ghost use Rattle.cweb_out.specs.Uses.{names, uses};
+ghost use Rattle.cweb_out.specs.surface.FrameSuffixes.{FrameIsWithin, suffix};
+ghost use Rattle.cweb_out.specs.inner.Outputs.{IsRoot};
+ghost use Rattle.cweb_out.specs.inner.Planning.{first_cycle};
+ghost use Rattle.cweb_out.specs.inner.Search.{Chain, MarksFitPath, Goes, FindsUnranked, Settles};
+ghost use Rattle.cweb_out.specs.inner.Search.{SettlesList, Waited, back_to, is_marked, mark_of};
+ghost use Rattle.cweb_out.specs.inner.Search.{cycle_with_next};
+
+use crate::frame::Frame;
+use cweb_store::{NameId, Store};
+use std::alloc::{AllocError, Global};
+
+/// What is known of a name.
+#[derive(Clone, Copy)]
+pub(crate) enum Mark {
+    Unseen,
+    /// It waits until each name that it uses has a rank.
+    Waits,
+    Ranked,
+}
+
+/// A name that waits, and what of its text was not looked at yet.
+#[derive(Drop)]
+pub(crate) struct Waiting<'a> {
+    pub name: NameId,
+    pub text: Frame<'a>,
+}
+
+fn is_ranked(marks: &[Mark], name: NameId) -> bool
+    requires { name.0 < length marks.now }
+    ensures { result ≡ is_marked marks.now name }
+{
+    matches!(marks[name.0 as usize], Mark::Ranked)
+}
+
+fn is_waiting(marks: &[Mark], name: NameId) -> bool
+    requires { name.0 < length marks.now }
+    ensures waits { result ≡ true → mark_of marks.now name ≡ Mark.Waits }
+    ensures other { result ≡ false → is_marked marks.now name ≡ false
+        → mark_of marks.now name ≡ Mark.Unseen }
+{
+    matches!(marks[name.0 as usize], Mark::Waits)
+}
+
+// Passes over names that have a rank, up to one that has none yet.
+fn next_unranked<'a>(store: &'a Store, marks: &[Mark], text: &mut Frame<'a>) -> Option<NameId>
+    requires marks { length marks.now ≡ names store.now }
+    requires within { FrameIsWithin store.now text.old }
+    ensures within { FrameIsWithin store.now text.new }
+    ensures shorter { IfSome result
+        (λ id. length (suffix store.now text.new) < length (suffix store.now text.old)) }
+    ensures meets { IfSome result (λ id.
+        FindsUnranked store.now marks.now (suffix store.now text.old) id (suffix store.now text.new)) }
+    ensures none { result ≡ None
+        → list_all (is_marked marks.now) (uses store.now (suffix store.now text.old)) ≡ true }
+{
+    'uses: while let Some(used) = text.take_use(store) {
+        if let Some(name) = store.standing(used) {
+            if !is_ranked(marks, name) {
+                return Some(name);
+            }
+        }
+    }
+    None
+}
+
+// Adds a name, if it is the one from which on names are wanted, or comes after it.
+fn add_from(names: &mut Vec<NameId>, first: NameId, name: NameId) -> Result<(), AllocError>
+    ensures { OnOk result (names.new.items ≡ cycle_with_next first names.old.items name) }
+{
+    if !names.is_empty() || first.0 == name.0 {
+        names.push(name)?;
+    }
+    Ok(())
+}
+
+/// A search through the names that outputs use, one after another.
+#[derive(Drop)]
+pub(crate) struct Search<'a> {
+    alloc: Global,
+    store: &'a Store,
+    marks: Vec<Mark>,
+    waiting: Vec<Waiting<'a>>,
+}
+
+impl<'a> Search<'a> {
+    /// A search that has seen no name.
+    pub fn new(alloc: Global, store: &'a Store) -> Result<Search<'a>, AllocError>
+        ensures store { IfOk result (λ s. s.store ≡ store.entry) }
+        ensures fits { IfOk result (λ s. MarksFitPath store.now s.marks.items []) }
+        ensures path { IfOk result (λ s. s.waiting.items ≡ []) }
+    {
+        let count = store.names();
+        Ok(Search {
+            alloc,
+            store,
+            marks: vec![in alloc; Mark::Unseen; count as usize]?,
+            waiting: Vec::new(alloc),
+        })
+    }
+
+    /// Looks through the text of a name, and so through the texts of the names that it uses, until each has a rank, or one
+    /// uses a name that waits for it: then that cycle is answered.
+    pub fn settle(&mut self, name: NameId) -> Result<Option<Vec<NameId>>, AllocError>
+        requires name { name.0 < names self.old.store.now }
+        requires fits { MarksFitPath self.old.store.now self.old.marks.items [] }
+        requires path { self.old.waiting.items ≡ [] }
+        ensures store { self.new.store ≡ self.old.store }
+        ensures fits { IfOk result
+            (λ cycle. cycle ≡ None → MarksFitPath self.old.store.now self.new.marks.items []) }
+        ensures path { IfOk result (λ cycle. cycle ≡ None → self.new.waiting.items ≡ []) }
+        ensures settles { IfOk result
+            (λ cycle. Settles self.old.store.now name (option_map (λ names. names.items) cycle)) }
+    {
+        if is_ranked(self.marks.as_slice(), name) {
+            return Ok(None);
+        }
+        self.wait(name)?;
+        'names: while let Some(top) = self.waiting.pop() {
+            if let Some(again) = self.go_on(top)? {
+                return Ok(Some(self.back_to(again)?));
+            }
+        }
+        Ok(None)
+    }
+
+    /// Settles the names that the list of an output uses, one after another.
+    pub fn settle_list(&mut self, root: Option<NameId>) -> Result<Option<Vec<NameId>>, AllocError>
+        requires root { IsRoot self.old.store.now root }
+        requires fits { MarksFitPath self.old.store.now self.old.marks.items [] }
+        requires path { self.old.waiting.items ≡ [] }
+        ensures store { self.new.store ≡ self.old.store }
+        ensures fits { IfOk result
+            (λ cycle. cycle ≡ None → MarksFitPath self.old.store.now self.new.marks.items []) }
+        ensures path { IfOk result (λ cycle. cycle ≡ None → self.new.waiting.items ≡ []) }
+        ensures settles { IfOk result (λ cycle.
+            SettlesList self.old.store.now root (option_map (λ names. names.items) cycle)) }
+    {
+        match root {
+            Some(name) => self.settle(name),
+            None => self.settle_program(),
+        }
+    }
+
+    fn settle_program(&mut self) -> Result<Option<Vec<NameId>>, AllocError>
+        requires fits { MarksFitPath self.old.store.now self.old.marks.items [] }
+        requires path { self.old.waiting.items ≡ [] }
+        ensures store { self.new.store ≡ self.old.store }
+        ensures fits { IfOk result
+            (λ cycle. cycle ≡ None → MarksFitPath self.old.store.now self.new.marks.items []) }
+        ensures path { IfOk result (λ cycle. cycle ≡ None → self.new.waiting.items ≡ []) }
+        ensures settles { IfOk result (λ cycle.
+            SettlesList self.old.store.now None (option_map (λ names. names.items) cycle)) }
+    {
+        let store = self.store;
+        let mut text = Frame::of_root(store, None);
+        'names: while let Some(name) = next_unranked(store, self.marks.as_slice(), &mut text) {
+            if let Some(cycle) = self.settle(name)? {
+                return Ok(Some(cycle));
+            }
+        }
+        Ok(None)
+    }
+
+    // A name waits from now on.
+    fn wait(&mut self, name: NameId) -> Result<(), AllocError>
+        requires name { name.0 < names self.old.store.now }
+        requires fits { MarksFitPath self.old.store.now self.old.marks.items self.old.waiting.items }
+        requires unseen { mark_of self.old.marks.items name ≡ Mark.Unseen }
+        ensures store { self.new.store ≡ self.old.store }
+        ensures waits { OnOk result
+            (Waited self.old.store.now self.old.marks.items self.old.waiting.items
+            name self.new.marks.items self.new.waiting.items) }
+    {
+        self.marks[name.0 as usize] = Mark::Waits;
+        self.waiting.push(Waiting {
+            name,
+            text: Frame::of_root(self.store, Some(name)),
+        })?;
+        Ok(())
+    }
+
+    // Looks on in the text of the name that waited last, up to a name without a rank. That one waits from now on, or it is
+    // answered where it waits already. Where there is none the name has a rank.
+    fn go_on(&mut self, top: Waiting<'a>) -> Result<Option<NameId>, AllocError>
+        requires name { top.name.0 < names self.old.store.now }
+        requires fits { MarksFitPath self.old.store.now self.old.marks.items
+            (self.old.waiting.items ++ top ∷ []) }
+        requires chain { Chain self.old.store.now (self.old.waiting.items ++ top ∷ []) None }
+        ensures store { self.new.store ≡ self.old.store }
+        ensures goes { IfOk result (λ again.
+            Goes self.old.store.now self.old.marks.items
+            (self.old.waiting.items ++ top.entry ∷ [])
+            self.new.marks.items self.new.waiting.items again) }
+    {
+        let mut top = top;
+        let Some(used) = next_unranked(self.store, self.marks.as_slice(), &mut top.text) else {
+            self.marks[top.name.0 as usize] = Mark::Ranked;
+            return Ok(None);
+        };
+        self.waiting.push(top)?;
+        if is_waiting(self.marks.as_slice(), used) {
+            return Ok(Some(used));
+        }
+        self.wait(used)?;
+        Ok(None)
+    }
+
+    // The names that wait, from one of them on, and then that one again.
+    fn back_to(&self, again: NameId) -> Result<Vec<NameId>, AllocError>
+        ensures { IfOk result (λ cycle. cycle.items ≡ back_to again self.now.waiting.items) }
+    {
+        let mut cycle = Vec::new(self.alloc);
+        'path: for waiting in &self.waiting {
+            add_from(&mut cycle, again, waiting.name)?;
+        }
+        cycle.push(again)?;
+        Ok(cycle)
+    }
+}
+
+/// The cycle of the first output whose expansion doesn't end, if there is one.
+pub(crate) fn first_cycle(
+    alloc: Global,
+    store: &Store,
+    roots: &[Option<NameId>],
+) -> Result<Option<Vec<NameId>>, AllocError>
+    requires { All (IsRoot store.now) roots.now }
+    ensures { IfOk result
+        (λ cycle. first_cycle store.now roots.now ≡ option_map (λ names. names.items) cycle) }
+{
+    let mut search = Search::new(alloc, store)?;
+    'roots: for root in roots {
+        if let Some(cycle) = search.settle_list(*root)? {
+            return Ok(Some(cycle));
+        }
+    }
+    Ok(None)
+}

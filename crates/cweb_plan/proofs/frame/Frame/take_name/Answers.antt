@@ -1,7 +1,0 @@
-use Rattle.cweb_plan.proofs.Common.{arith, Name}
-use Rattle.cweb_plan.proofs.Suffixes.{suffix-first}
-use Rattle.cweb_plan.proofs.frame.Frame.take_name.Goals as goal
-
-pub returns-clause-some : goal.returns-clause-some
-returns-clause-some c = suffix-first
-    (Name c.in-Name.name) c.if-self.false (omega (arith, c.if-self-2.false)) c.requires c.in-Name.ensures

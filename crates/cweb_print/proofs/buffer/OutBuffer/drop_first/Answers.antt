@@ -1,0 +1,18 @@
+use Rattle.cweb_print.proofs.Common.{◌≤◌, ◌-◌, ◌++◌, ◌∙◌, ap, drop, take, length, arith, List, ℕ}
+use Rattle.std.proofs.lemmas.List.{length-take-le}
+use Rattle.cweb_print.proofs.OverlappingEnds.{rest_in_front, whole_again}
+use Rattle.cweb_print.proofs.buffer.OutBuffer.drop_first.Goals as goal
+
+pub returns : goal.returns
+returns c =
+    let s = c.self.inside in
+    let bytes = s.bytes.items.items in
+    let count = c.args.count in
+    let within : s.used ≤ length bytes = omega (arith, c.self.invariant.0, c.self.invariant.1) in
+    let below : count ≤ s.used =
+    omega (arith, c.requires, ap length c.self.view_is, length-take-le s.used bytes within) in
+    ap (take (s.used - count)) (whole_again bytes c.rotate_left.new.self s.bytes.items.len
+    (c.rotate_left.ensures.len ∙ c.deref_mut.ensures.len)
+    ∙ c.rotate_left.ensures.after
+    ∙ ap (λ (t : List ℕ). drop count t ++ take count t) c.deref_mut.ensures.value)
+    ∙ rest_in_front bytes s.used count below within ∙ ap (drop count) c.self.view_is

@@ -1,0 +1,23 @@
+use Rattle.cweb_print.proofs.Common.{◌≡◌, ◌+◌, ◌-◌, ◌++◌, ◌∙◌, ap, length, take, drop, arith, sym, List, ℕ}
+use Rattle.std.proofs.lemmas.List.{length-take-le}
+use Rattle.cweb_print.proofs.OverlappingEnds.{overlapped, taken_twice}
+use Rattle.cweb_print.proofs.buffer.copying.put_ends.Goals as goal
+
+pub returns-clause-put : goal.returns-clause-put
+returns-clause-put g c =
+    let bytes = c.args.bytes.now in
+    let used = c.args.used in
+    let text = c.args.text.now in
+    let before = take used bytes in
+    let behind : ℕ = length text - g.row.N in
+    let mid = c.put_chunk.new.bytes in
+    let size : length before ≡ used = length-take-le used bytes (omega (arith, c.requires.room)) in
+    let front : take (used + behind) mid ≡ take (used + behind) (before ++ take g.row.N text) = sym (taken_twice (used +
+    behind) c.put_chunk.result mid (omega (arith, c.put_chunk.ensures.end, c.requires.least, c.requires.most))
+    (omega (arith, c.put_chunk.ensures.end, c.put_chunk.ensures.size, c.requires.room, c.requires.least)))
+    ∙ ap
+    (take (used + behind)) (c.put_chunk.ensures.put ∙ ap (λ (t : List ℕ). before ++ t) c.in-Some.ensures.cases.same) in
+    c.put_chunk-2.ensures.put
+    ∙ (λ i. front i ++ c.in-Some-last_chunk.ensures.cases.1.same i)
+    ∙ ap (λ k. take (k + behind) (before ++ take g.row.N text) ++ drop behind text) (sym size)
+    ∙ overlapped before text g.row.N c.requires.least c.requires.most

@@ -1,0 +1,64 @@
+use Rattle.cweb_print.proofs.Common.{◌++◌, ◌∙◌, [], List, Some, ap, slice_range, sym, subst, take, arith, length, option_map, length-map, TokenBytesModel, direct_bytes, token_bytes_model, Token, all_tokens, Left, left_after_edge, blank_where}
+use Rattle.cweb_print.proofs.DirectEdges.{gathers-direct}
+use Rattle.cweb_print.proofs.TokenReaderSteps.{direct-at}
+use Rattle.cweb_print.proofs.MacroLines.{range_more}
+use Rattle.cweb_print.proofs.DirectPrefixes.{Passed, passed_more, passed_none, passed_same}
+use Rattle.cweb_store.proofs.RangeLemmas.{range-none}
+use Rattle.cweb_print.proofs.printer.Printer.put_range.Goals as goal
+
+pub tokens-init : goal.tokens-init
+tokens-init c =
+    let p = c.args.self.now in
+    let first = c.args.part.first in
+    let old = take c.args.used c.args.bytes.now in
+    record {
+      from = omega arith;
+      upto = c.requires.ordered;
+      size = c.requires.room.0;
+      within = c.requires.room.1;
+      passed = subst (λ (us : List Token). Passed p us (left_after_edge c.edge_of_class.result) old old)
+          (sym (range-none
+          (all_tokens c.args.store.now.parts) first first (omega arith))) (subst (λ (l : Left). Passed p [] l old old)
+          (λ i. record { class = sym c.edge_of_class.ensures i; joined = c.requires.open i }) (passed_none p old));
+    }
+
+pub direct-requires : goal.direct-requires
+direct-requires c =
+    omega (
+      arith,
+      c.tokens-test.true,
+      c.requires.within,
+      ap length c.token_reader-token_reader.ensures,
+      length-map (all_tokens c.args.store.now.parts) direct_bytes,
+    )
+
+pub tokens-preserved : goal.tokens-preserved
+tokens-preserved c =
+    let p = c.args.self.now in
+    let ts = all_tokens c.args.store.now.parts in
+    let first = c.args.part.first in
+    let n = c.tokens.reached.number in
+    let direct = c.in-Some.direct in
+    let l : TokenBytesModel = token_bytes_model direct in
+    let mid = take c.tokens.reached.used c.tokens.bytes in
+    let new = take c.in-Some-put_if_fits.used c.put_if_fits.new.bytes in
+    let at = direct-at c.token_reader-token_reader.result ts n l c.token_reader-token_reader.ensures
+    (c.direct.ensures ∙ ap (λ o. Some (option_map token_bytes_model o)) c.in-Some.is) in
+    let gathers = gathers-direct c.tokens.reached.last at.token l mid new at.direct
+    (c.in-Some-put_if_fits.ensures.kept
+    ∙ ap (λ a. mid ++ (blank_where a ++ l.string)) c.edge_is_apart-is_apart.ensures) in
+    record {
+      from = omega (arith, c.tokens.invariant.from);
+      upto = omega (arith, c.tokens-test.true);
+      size = c.put_if_fits.ensures.size;
+      within = c.in-Some-put_if_fits.ensures.within.1;
+      passed = subst (λ (us : List Token). Passed p us (left_after_edge direct.edge) (take c.args.used c.args.bytes.now)
+          new) (sym (range_more ts first n at.token c.tokens.invariant.from at.there))
+          (passed_more p (slice_range ts first n) (left_after_edge c.tokens.reached.last)
+          (left_after_edge direct.edge) at.token
+          (take c.args.used c.args.bytes.now) mid new c.tokens.invariant.passed gathers);
+    }
+
+pub returns-in_default-put_if_fits-clause-prints : goal.returns-in_default-put_if_fits-clause-prints
+returns-in_default-put_if_fits-clause-prints c =
+    (passed_same _ _ _ _ _ _ c.put_if_fits.ensures.front c.tokens.invariant.passed).prints

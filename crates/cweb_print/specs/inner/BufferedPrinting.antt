@@ -1,0 +1,36 @@
+-- Tokens that are printed one after another to where bytes are gathered for a sink.
+use Rattle.std.specs.Prelude.{◌≡◌, ℕ, false, List, ◌++◌, Some}
+use Rattle.cweb_store.specs.Parts.{Token}
+use Rattle.cweb_print.specs.inner.Flushing.{blank_where}
+use Rattle.cweb_print.specs.Printing.{print}
+use Rattle.cweb_print.specs.surface.Classes.{class_of, left_after_tokens}
+use Rattle.cweb_print.specs.inner.Classes.{is_apart}
+use Rattle.cweb_print.specs.inner.DirectTokens.{AreDirect, direct_unless_dropped}
+use Rattle.cweb_print.specs.surface.Printed.{AddsBytes, left_in_printer, setting_of}
+use Rattle.cweb_print.specs.declared.printer.left.Left.{Left}
+use Rattle.cweb_print.specs.declared.printer.Printer.{Printer}
+
+-- what a token lends was added, and this is kept after it
+pub record AppendsToken (left : Left) (t : Token) (after : Left) (old new : List ℕ) : Type 0 where
+  pub string : List ℕ
+  pub direct : direct_unless_dropped left.joined t ≡ Some string
+  pub class : after.class ≡ class_of (Some t)
+  pub closed : after.joined ≡ false
+  pub added : new ≡ old ++ (blank_where (is_apart left.class t) ++ string)
+
+-- every list that leaves the one leaves the other with these tokens
+abbrev pub MovesBy : Left → List Token → Left → Type 0
+MovesBy old ts new = (done : List Token) → left_after_tokens done ≡ old → left_after_tokens (done ++ ts) ≡ new
+
+-- for every list that leaves what the printer keeps: what `print` of the list with these tokens has after `print` of the list is added
+abbrev pub PrintsBy : Printer → List Token → List ℕ → List ℕ → Type 0
+PrintsBy p ts old new = (done : List Token) → left_after_tokens done ≡ left_in_printer p
+    → AddsBytes (print (setting_of p) done) (print (setting_of p) (done ++ ts)) old new
+
+-- of the tokens that are left a front was printed, of tokens that lend their text
+pub record PrintsPrefix (before after : Printer) (left left' : List Token) (old new : List ℕ) : Type 0 where
+  pub done : List Token
+  pub whole : left ≡ done ++ left'
+  pub direct : AreDirect done
+  pub moves : MovesBy (left_in_printer before) done (left_in_printer after)
+  pub prints : PrintsBy before done old new

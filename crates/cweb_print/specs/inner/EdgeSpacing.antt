@@ -1,0 +1,55 @@
+-- Whether a blank comes between two tokens that lend their texts, told by their borders.
+use Rattle.std.specs.Prelude.{ℕ, List, Bool, true, false, ◌||◌, ◌&&◌, not, codes, if◌then◌else◌}
+use Rattle.cweb_texts.specs.inner.Edges.{TokenBytesModel}
+use Rattle.cweb_texts.specs.declared.edges.Edge.{Edge}
+use Rattle.cweb_texts.specs.declared.edges.Edge.TheVariants as border
+use Rattle.cweb_print.specs.inner.Classes.{class_is_literal, class_is_number, class_is_operator, class_is_point}
+use Rattle.cweb_print.specs.inner.Classes.{class_is_wordlike}
+use Rattle.cweb_print.specs.declared.printer.class.Class.{Class}
+use Rattle.cweb_print.specs.declared.printer.class.Class.TheVariants as class
+use Rattle.cweb_print.specs.declared.printer.left.Left.{Left}
+
+-- the class of a token with a border, for what comes behind it
+abbrev pub class_after_edge : Edge → Class
+class_after_edge border.Word = class.Word
+class_after_edge border.Number = class.Number
+class_after_edge border.Literal = class.Literal
+class_after_edge border.Glue = class.Glue
+class_after_edge border.PlainPlain = class.Other
+class_after_edge border.PlainOperator = class.Operator
+class_after_edge border.PlainPoint = class.Point
+class_after_edge border.OperatorPlain = class.Other
+class_after_edge border.OperatorOperator = class.Operator
+class_after_edge border.OperatorPoint = class.Point
+class_after_edge border.NumericPlain = class.Other
+class_after_edge border.NumericOperator = class.Operator
+class_after_edge border.NumericPoint = class.Point
+class_after_edge border.Blank = class.Other
+class_after_edge border.LineEnd = class.LineStart
+class_after_edge border.Unknown = class.Other
+
+-- what is kept after a token with a border
+abbrev pub left_after_edge : Edge → Left
+left_after_edge b = record { class = class_after_edge b; joined = false }
+
+-- whether a blank comes between a token of the class and one with a border
+abbrev pub edge_is_apart : Class → Edge → Bool
+edge_is_apart left border.Word = class_is_wordlike left
+edge_is_apart left border.Number = class_is_wordlike left || class_is_point left
+edge_is_apart left border.Literal = class_is_wordlike left && not (class_is_literal left)
+edge_is_apart left border.OperatorPlain = class_is_operator left
+edge_is_apart left border.OperatorOperator = class_is_operator left
+edge_is_apart left border.OperatorPoint = class_is_operator left
+edge_is_apart left border.NumericPlain = class_is_number left || class_is_operator left
+edge_is_apart left border.NumericOperator = class_is_number left || class_is_operator left
+edge_is_apart left border.NumericPoint = class_is_number left || class_is_operator left
+edge_is_apart left b = false
+
+-- whether a token with the border ends a line
+abbrev pub edge_ends_line : Edge → Bool
+edge_ends_line border.LineEnd = true
+edge_ends_line b = false
+
+-- the text in a macro, where a line goes on after a backslash
+abbrev pub continued_by : TokenBytesModel → List ℕ
+continued_by l = if edge_ends_line l.edge then codes " \\\n" else l.string

@@ -1,0 +1,139 @@
+// Texts, put behind the first bytes of a list of bytes in place of those that stand there.
+ghost use Rattle.std.specs.Prelude.{◌≡◌, ◌≤◌, ◌<◌, ◌+◌, ◌++◌, ◌∷◌, [], length, take, nat_lt};
+ghost use Rattle.std.specs.Prelude.{is_some, IfSome};
+ghost use Rattle.cweb_print.specs.inner.Flushing.{blank_where};
+ghost use Rattle.cweb_print.specs.declared.buffer.TheConstants.{ROOM};
+
+use crate::buffer::ROOM;
+
+/// Puts a text behind so many of ROOM bytes, and a blank before it or none, where there is room for both, and answers how many
+/// are the first ones then. Those before them stay as they are.
+#[inline(always)]
+pub fn put_if_fits(bytes: &mut [u8], used: usize, is_apart: bool, text: &[u8]) -> Option<usize>
+    requires size { length bytes.old ≡ ROOM }
+    requires within { used ≤ ROOM }
+    ensures size { length bytes.new ≡ ROOM }
+    ensures within { IfSome result (λ end. (used ≤ end) × (end ≤ ROOM)) }
+    ensures kept { IfSome result (λ end. take end bytes.new
+        ≡ take used bytes.old ++ (blank_where is_apart ++ text.now)) }
+    ensures front { take used bytes.new ≡ take used bytes.old }
+    ensures room { is_some result ≡ nat_lt (used + length text.now) ROOM }
+{
+    if used + text.len() >= ROOM {
+        return None;
+    }
+    let begin = put_blank(bytes, used, is_apart);
+    Some(put_slice(bytes, begin, text))
+}
+
+// Puts a blank where one is wanted.
+#[inline(always)]
+fn put_blank(bytes: &mut [u8], used: usize, is_wanted: bool) -> usize
+    requires { used < length bytes.old }
+    ensures size { length bytes.new ≡ length bytes.old }
+    ensures within { (used ≤ result) × (result ≤ used + 1) }
+    ensures put { take result bytes.new ≡ take used bytes.old ++ blank_where is_wanted }
+{
+    bytes[used] = b' ';
+    if is_wanted { used + 1 } else { used }
+}
+
+/// Puts a text for which there is room. Most are short, and then no call copies them.
+#[inline(always)]
+pub(crate) fn put_slice(bytes: &mut [u8], used: usize, text: &[u8]) -> usize
+    requires { used + length text.now ≤ length bytes.old }
+    ensures size { length bytes.new ≡ length bytes.old }
+    ensures end { result ≡ used + length text.now }
+    ensures put { take result bytes.new ≡ take used bytes.old ++ text.now }
+{
+    match text {
+        [byte] => put_byte(bytes, used, *byte),
+        _ => put_bytes(bytes, used, text),
+    }
+}
+
+#[inline(always)]
+fn put_byte(bytes: &mut [u8], used: usize, byte: u8) -> usize
+    requires { used < length bytes.old }
+    ensures size { length bytes.new ≡ length bytes.old }
+    ensures end { result ≡ used + 1 }
+    ensures put { take result bytes.new ≡ take used bytes.old ++ byte ∷ [] }
+{
+    bytes[used] = byte;
+    used + 1
+}
+
+#[inline(always)]
+fn put_bytes(bytes: &mut [u8], used: usize, text: &[u8]) -> usize
+    requires { used + length text.now ≤ length bytes.old }
+    ensures size { length bytes.new ≡ length bytes.old }
+    ensures end { result ≡ used + length text.now }
+    ensures put { take result bytes.new ≡ take used bytes.old ++ text.now }
+{
+    match text.len() {
+        2..=4 => put_ends::<2>(bytes, used, text),
+        5..=8 => put_ends::<4>(bytes, used, text),
+        9..=16 => put_ends::<8>(bytes, used, text),
+        _ => put_any(bytes, used, text),
+    }
+}
+
+// Puts a text of so many bytes to twice as many in two moves: its first bytes, and from where they reach over its last
+// ones these. All are read before one is put, so that no question comes of which list they stand in.
+#[inline(always)]
+fn put_ends<const N: usize>(bytes: &mut [u8], used: usize, text: &[u8]) -> usize
+    requires room { used + length text.now ≤ length bytes.old }
+    requires least { N ≤ length text.now }
+    requires most { length text.now ≤ N + N }
+    ensures size { length bytes.new ≡ length bytes.old }
+    ensures end { result ≡ used + length text.now }
+    ensures put { take result bytes.new ≡ take used bytes.old ++ text.now }
+{
+    let Some(first) = text.first_chunk::<N>() else {
+        unreachable!();
+    };
+    let Some(last) = text.last_chunk::<N>() else {
+        unreachable!();
+    };
+    let (first, last) = (*first, *last);
+    put_chunk(bytes, used, first);
+    put_chunk(bytes, used + (text.len() - N), last)
+}
+
+#[inline(always)]
+fn put_chunk<const N: usize>(bytes: &mut [u8], used: usize, chunk: [u8; N]) -> usize
+    requires { used + N ≤ length bytes.old }
+    ensures size { length bytes.new ≡ length bytes.old }
+    ensures end { result ≡ used + N }
+    ensures put { take result bytes.new ≡ take used bytes.old ++ chunk.entry }
+{
+    let end = used + N;
+    replace_all(&mut bytes[used..end], chunk);
+    end
+}
+
+// Puts bytes in place of as many.
+#[inline(always)]
+fn replace_all<const N: usize>(bytes: &mut [u8], chunk: [u8; N])
+    requires { length bytes.old ≡ N }
+    ensures { bytes.new ≡ chunk.entry }
+{
+    let Some(place) = bytes.as_mut_array::<N>() else {
+        unreachable!();
+    };
+    *place = chunk;
+}
+
+// Puts a text of any length.
+#[cold]
+#[inline(never)]
+fn put_any(bytes: &mut [u8], used: usize, text: &[u8]) -> usize
+    requires { used + length text.now ≤ length bytes.old }
+    ensures size { length bytes.new ≡ length bytes.old }
+    ensures end { result ≡ used + length text.now }
+    ensures put { take result bytes.new ≡ take used bytes.old ++ text.now }
+{
+    let end = used + text.len();
+    bytes[used..end].copy_from_slice(text);
+    end
+}

@@ -1,0 +1,71 @@
+// Pieces of text, written one after another.
+ghost use Rattle.std.specs.Prelude.{◌≡◌, ◌<◌, ◌+◌, ◌^◌, IsTrue, IfSome, flat_map};
+ghost use Rattle.cweb_files.specs.Device.{CountsFailure};
+ghost use Rattle.cweb_print.specs.inner.Writing.{Wrote};
+
+use arrayvec::ArrayVec;
+use cweb_files::{Sink, SinkFault, write_all};
+
+// So many bytes of short pieces are written at once.
+const ROOM: usize = 64;
+
+/// Writes a whole piece, in as many writes as it takes, or a front of it where one fails.
+pub fn write_chunk<W: Sink>(out: &mut W, piece: &[u8]) -> Result<(), SinkFault>
+    requires { W.failed out.old + 1 < 2 ^ 64 }
+    ensures tells { W.tells out.new ≡ W.tells out.old }
+    ensures failed { CountsFailure (W.failed out.old) (W.failed out.new) result }
+    ensures beside { IsTrue (W.tells out.old) → W.beside out.new ≡ W.beside out.old }
+    ensures wrote { IsTrue (W.tells out.old)
+        → Wrote (W.written out.old) (W.written out.new) piece.now result }
+{
+    write_all(out, piece)
+}
+
+/// Writes pieces: at once where they are short, and else one by one. Where a write fails, a front of them is written.
+#[inline(always)]
+pub fn write_chunks<W: Sink>(out: &mut W, pieces: &[&[u8]]) -> Result<(), SinkFault>
+    requires { W.failed out.old + 1 < 2 ^ 64 }
+    ensures tells { W.tells out.new ≡ W.tells out.old }
+    ensures failed { CountsFailure (W.failed out.old) (W.failed out.new) result }
+    ensures beside { IsTrue (W.tells out.old) → W.beside out.new ≡ W.beside out.old }
+    ensures wrote { IsTrue (W.tells out.old)
+        → Wrote (W.written out.old) (W.written out.new)
+        (flat_map (λ piece. piece.now) pieces.now) result }
+{
+    match concatenate(pieces) {
+        Some(buffer) => write_chunk(out, buffer.as_slice()),
+        None => write_each(out, pieces),
+    }
+}
+
+// The bytes of pieces, where there is room for them.
+#[inline(always)]
+fn concatenate(pieces: &[&[u8]]) -> Option<ArrayVec<u8, ROOM>>
+    ensures { IfSome result
+        (λ buffer. buffer.items ≡ flat_map (λ piece. piece.now) pieces.now) }
+{
+    let mut buffer = ArrayVec::new();
+    'pieces: for piece in pieces {
+        if buffer.try_extend_from_slice(piece).is_err() {
+            return None;
+        }
+    }
+    Some(buffer)
+}
+
+// Writes pieces one by one.
+#[inline(never)]
+fn write_each<W: Sink>(out: &mut W, pieces: &[&[u8]]) -> Result<(), SinkFault>
+    requires { W.failed out.old + 1 < 2 ^ 64 }
+    ensures tells { W.tells out.new ≡ W.tells out.old }
+    ensures failed { CountsFailure (W.failed out.old) (W.failed out.new) result }
+    ensures beside { IsTrue (W.tells out.old) → W.beside out.new ≡ W.beside out.old }
+    ensures wrote { IsTrue (W.tells out.old)
+        → Wrote (W.written out.old) (W.written out.new)
+        (flat_map (λ piece. piece.now) pieces.now) result }
+{
+    'pieces: for piece in pieces {
+        write_chunk(out, piece)?;
+    }
+    Ok(())
+}

@@ -1,0 +1,98 @@
+// Printing to where bytes are gathered for a sink.
+ghost use Rattle.std.specs.Prelude.{◌≡◌, ◌≤◌, ◌<◌, ◌+◌, ◌^◌, ◌++◌, length, IsTrue, OnOk, OnErr};
+ghost use Rattle.cweb_files.specs.Device.{CountsFailure};
+ghost use Rattle.cweb_store.specs.Parts.{Defs};
+ghost use Rattle.cweb_store.specs.surface.TokenModels.{token_model};
+ghost use Rattle.cweb_print.specs.declared.buffer.TheConstants.{ROOM, SHORT};
+ghost use Rattle.cweb_print.specs.surface.Printers.{MarkFileIsNamed};
+ghost use Rattle.cweb_print.specs.surface.Printed.{Moves, PrintsToken, left_in_printer, setting_of};
+
+use crate::buffer::OutBuffer;
+use crate::printer::Printer;
+use crate::printer::defines::append_macros;
+use crate::short::ShortBuffer;
+use cweb_files::{Sink, SinkFault};
+use cweb_store::Token;
+
+impl<'a> Printer<'a> {
+    /// Prints a token as `write` does, behind what is gathered: what the sink has and what is gathered for it, taken
+    /// together, are what the sink alone has after `write`. A text that isn't short goes to the sink at once.
+    pub fn append<W: Sink>(
+        &mut self,
+        token: Token<'_>,
+        buffer: &mut OutBuffer,
+        out: &mut W,
+    ) -> Result<(), SinkFault>
+        requires count { W.failed out.old + 1 < 2 ^ 64 }
+        requires named { MarkFileIsNamed (setting_of self.old) (token_model token) }
+        ensures tells { W.tells out.new ≡ W.tells out.old }
+        ensures failed { CountsFailure (W.failed out.old) (W.failed out.new) result }
+        ensures beside { IsTrue (W.tells out.old) → W.beside out.new ≡ W.beside out.old }
+        ensures setting { setting_of self.new ≡ setting_of self.old }
+        ensures moves { OnOk result
+            (Moves (left_in_printer self.old) (token_model token.entry) (left_in_printer self.new)) }
+        ensures err { OnErr result (self.new ≡ self.old) }
+        ensures prints { IsTrue (W.tells out.old) → PrintsToken self.old (token_model token.entry)
+            (W.written out.old ++ buffer.old) (W.written out.new ++ buffer.new) result }
+    {
+        buffer.make_room(out)?;
+        if let Token::Defs = token {
+            return self.append_defs(buffer, out);
+        }
+        if self.append_rare(&token, buffer) {
+            return Ok(());
+        }
+        self.append_other(&token, buffer, out)
+    }
+
+    // Prints what is seldom printed, by way of a short text. It is a function of its own, since room is made for the short text
+    // wherever it is called.
+    #[inline(never)]
+    fn append_other<W: Sink>(
+        &mut self,
+        token: &Token<'_>,
+        buffer: &mut OutBuffer,
+        out: &mut W,
+    ) -> Result<(), SinkFault>
+        requires count { W.failed out.old + 1 < 2 ^ 64 }
+        requires named { MarkFileIsNamed (setting_of self.old) (token_model token.now) }
+        requires room { length buffer.old + SHORT ≤ ROOM }
+        ensures tells { W.tells out.new ≡ W.tells out.old }
+        ensures failed { CountsFailure (W.failed out.old) (W.failed out.new) result }
+        ensures beside { IsTrue (W.tells out.old) → W.beside out.new ≡ W.beside out.old }
+        ensures setting { setting_of self.new ≡ setting_of self.old }
+        ensures moves { OnOk result
+            (Moves (left_in_printer self.old) (token_model token.now) (left_in_printer self.new)) }
+        ensures err { OnErr result (self.new ≡ self.old) }
+        ensures prints { IsTrue (W.tells out.old) → PrintsToken self.old (token_model token.now)
+            (W.written out.old ++ buffer.old) (W.written out.new ++ buffer.new) result }
+    {
+        let mut text = ShortBuffer::new();
+        if self.print(token, &mut text).is_ok() {
+            buffer.add(text.as_slice());
+            return Ok(());
+        }
+        buffer.flush(out)?;
+        self.print(token, out)
+    }
+
+    // Prints the macro lines, where there is room for a short text.
+    fn append_defs<W: Sink>(&mut self, buffer: &mut OutBuffer, out: &mut W) -> Result<(), SinkFault>
+        requires count { W.failed out.old + 1 < 2 ^ 64 }
+        requires room { length buffer.old + SHORT ≤ ROOM }
+        ensures tells { W.tells out.new ≡ W.tells out.old }
+        ensures failed { CountsFailure (W.failed out.old) (W.failed out.new) result }
+        ensures beside { IsTrue (W.tells out.old) → W.beside out.new ≡ W.beside out.old }
+        ensures setting { setting_of self.new ≡ setting_of self.old }
+        ensures moves { OnOk result
+            (Moves (left_in_printer self.old) Defs (left_in_printer self.new)) }
+        ensures err { OnErr result (self.new ≡ self.old) }
+        ensures prints { IsTrue (W.tells out.old) → PrintsToken self.old Defs
+            (W.written out.old ++ buffer.old) (W.written out.new ++ buffer.new) result }
+    {
+        buffer.add(self.begin_line());
+        append_macros(self.store, buffer, out)?;
+        self.left = self.left.after(&Token::Defs);
+        Ok(())
+    }
+}

@@ -1,0 +1,96 @@
+// Stored tokens that lend their texts, printed in one loop.
+ghost use Rattle.std.specs.Prelude.{◌≤◌, ◌≡◌, false, length, slice_range, take};
+ghost use Rattle.cweb_store.specs.Parts.{all_tokens};
+ghost use Rattle.cweb_print.specs.declared.buffer.TheConstants.{ROOM};
+ghost use Rattle.cweb_print.specs.inner.EdgeSpacing.{left_after_edge};
+ghost use Rattle.cweb_print.specs.inner.BufferedPrinting.{MovesBy, PrintsBy};
+ghost use Rattle.cweb_print.specs.inner.DirectTokens.{AreDirect};
+ghost use Rattle.cweb_print.specs.surface.Printed.{left_in_printer, setting_of};
+
+use crate::buffer::OutBuffer;
+use crate::buffer::copying::put_if_fits;
+use crate::printer::Printer;
+use crate::printer::edges::{class_after_edge, edge_is_apart, edge_of_class};
+use crate::printer::left::Left;
+use cweb_store::{Edge, Part, Store};
+
+// How far a run was printed: the number of the next token, the border of the last one, and how many bytes are used.
+#[derive(Clone, Copy)]
+struct Reached {
+    number: u32,
+    last: Edge,
+    used: usize,
+}
+
+impl<'a> Printer<'a> {
+    /// Prints tokens of a run to where bytes are gathered, up to one that lends no text, or for whose text there is no room,
+    /// and answers its number. Behind a join it prints none.
+    pub fn append_range(&mut self, store: &Store, part: Part, buffer: &mut OutBuffer) -> u32
+        requires ordered { part.first ≤ part.after }
+        requires within { part.after ≤ length (all_tokens store.now.parts) }
+        ensures from { part.first ≤ result }
+        ensures upto { result ≤ part.after }
+        ensures setting { setting_of self.new ≡ setting_of self.old }
+        ensures direct { AreDirect (slice_range (all_tokens store.now.parts) part.first result) }
+        ensures moves { MovesBy (left_in_printer self.old)
+            (slice_range (all_tokens store.now.parts) part.first result)
+            (left_in_printer self.new) }
+        ensures prints { PrintsBy self.old
+            (slice_range (all_tokens store.now.parts) part.first result)
+            buffer.old buffer.new }
+    {
+        if self.left.joined {
+            return part.first;
+        }
+        let reached = self.put_range(store, part, buffer.bytes.as_mut_slice(), buffer.used);
+        buffer.used = reached.used;
+        self.left = Left {
+            class: class_after_edge(reached.last),
+            joined: false,
+        };
+        reached.number
+    }
+
+    // Prints them behind the first bytes. All that the loop reads stands in locals, so that no byte that is put makes it
+    // read anything again.
+    #[inline(always)]
+    fn put_range(&self, store: &Store, part: Part, bytes: &mut [u8], used: usize) -> Reached
+        requires open { (left_in_printer self.now).joined ≡ false }
+        requires ordered { part.first ≤ part.after }
+        requires within { part.after ≤ length (all_tokens store.now.parts) }
+        requires room { (length bytes.old ≡ ROOM) × (used ≤ ROOM) }
+        ensures from { part.first ≤ result.number }
+        ensures upto { result.number ≤ part.after }
+        ensures room { (length bytes.new ≡ ROOM) × (result.used ≤ ROOM) }
+        ensures direct { AreDirect
+            (slice_range (all_tokens store.now.parts) part.first result.number) }
+        ensures moves { MovesBy (left_in_printer self.now)
+            (slice_range (all_tokens store.now.parts) part.first result.number)
+            (left_after_edge result.last) }
+        ensures prints { PrintsBy self.now
+            (slice_range (all_tokens store.now.parts) part.first result.number)
+            (take used bytes.old) (take result.used bytes.new) }
+    {
+        let token_reader = store.token_reader();
+        let mut reached = Reached {
+            number: part.first,
+            last: edge_of_class(self.left.class),
+            used,
+        };
+        'tokens: while reached.number < part.after {
+            let Some(direct) = token_reader.direct(reached.number) else {
+                break;
+            };
+            let is_apart = edge_is_apart(reached.last, direct.edge);
+            let Some(used) = put_if_fits(bytes, reached.used, is_apart, direct.string) else {
+                break;
+            };
+            reached = Reached {
+                number: reached.number + 1,
+                last: direct.edge,
+                used,
+            };
+        }
+        reached
+    }
+}

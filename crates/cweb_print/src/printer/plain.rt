@@ -1,0 +1,138 @@
+// The texts of tokens that look the same whatever is to their left.
+ghost use Rattle.std.specs.Prelude.{◌≡◌, ◌<◌, ◌+◌, ◌^◌, IsTrue, nat_le};
+ghost use Rattle.std.specs.List.{list_any};
+ghost use Rattle.cweb_files.specs.Device.{CountsFailure};
+ghost use Rattle.cweb_store.specs.surface.TokenModels.{token_model};
+ghost use Rattle.cweb_print.specs.inner.Writing.{Wrote};
+ghost use Rattle.cweb_print.specs.Printing.{numbered_comment, plain_bytes, word_byte, word_bytes};
+ghost use Rattle.cweb_print.specs.Printers.{default_replacement, hex_digit, replaced_in};
+
+use crate::chunks::{write_chunk, write_chunks};
+use cweb_files::{Sink, SinkFault};
+use cweb_store::{Store, Token};
+use itoa::Buffer;
+
+fn hex_digit(n: u8) -> u8
+    requires { n < 16 }
+    ensures { result ≡ hex_digit n }
+{
+    b"0123456789ABCDEF"[n as usize]
+}
+
+// What stands for a byte from 128: what was given for it, or `X` and its two hexadecimal digits.
+fn write_replaced<W: Sink>(store: &Store, byte: u8, out: &mut W) -> Result<(), SinkFault>
+    requires { W.failed out.old + 1 < 2 ^ 64 }
+    ensures tells { W.tells out.new ≡ W.tells out.old }
+    ensures failed { CountsFailure (W.failed out.old) (W.failed out.new) result }
+    ensures beside { IsTrue (W.tells out.old) → W.beside out.new ≡ W.beside out.old }
+    ensures wrote { IsTrue (W.tells out.old)
+        → Wrote (W.written out.old) (W.written out.new) (replaced_in store.now byte) result }
+{
+    match store.replacement(byte) {
+        Some(text) => write_chunk(out, text),
+        None => write_chunk(out, &[b'X', hex_digit(byte / 16), hex_digit(byte % 16)]),
+    }
+}
+
+fn write_word_byte<W: Sink>(store: &Store, byte: u8, out: &mut W) -> Result<(), SinkFault>
+    requires { W.failed out.old + 1 < 2 ^ 64 }
+    ensures tells { W.tells out.new ≡ W.tells out.old }
+    ensures failed { CountsFailure (W.failed out.old) (W.failed out.new) result }
+    ensures beside { IsTrue (W.tells out.old) → W.beside out.new ≡ W.beside out.old }
+    ensures wrote { IsTrue (W.tells out.old)
+        → Wrote (W.written out.old) (W.written out.new)
+        (word_byte (replaced_in store.now) byte) result }
+{
+    if byte >= 128 {
+        write_replaced(store, byte, out)
+    } else {
+        write_chunk(out, &[byte])
+    }
+}
+
+// Words are mostly ASCII, and then written at once.
+fn write_word<W: Sink>(store: &Store, bytes: &[u8], out: &mut W) -> Result<(), SinkFault>
+    requires { W.failed out.old + 1 < 2 ^ 64 }
+    ensures tells { W.tells out.new ≡ W.tells out.old }
+    ensures failed { CountsFailure (W.failed out.old) (W.failed out.new) result }
+    ensures beside { IsTrue (W.tells out.old) → W.beside out.new ≡ W.beside out.old }
+    ensures wrote { IsTrue (W.tells out.old)
+        → Wrote (W.written out.old) (W.written out.new)
+        (word_bytes (replaced_in store.now) bytes.now) result }
+{
+    if has_high_byte(bytes) {
+        write_word_bytes(store, bytes, out)
+    } else {
+        write_chunk(out, bytes)
+    }
+}
+
+#[inline(never)]
+fn write_word_bytes<W: Sink>(store: &Store, bytes: &[u8], out: &mut W) -> Result<(), SinkFault>
+    requires { W.failed out.old + 1 < 2 ^ 64 }
+    ensures tells { W.tells out.new ≡ W.tells out.old }
+    ensures failed { CountsFailure (W.failed out.old) (W.failed out.new) result }
+    ensures beside { IsTrue (W.tells out.old) → W.beside out.new ≡ W.beside out.old }
+    ensures wrote { IsTrue (W.tells out.old)
+        → Wrote (W.written out.old) (W.written out.new)
+        (word_bytes (replaced_in store.now) bytes.now) result }
+{
+    'bytes: for byte in bytes {
+        write_word_byte(store, *byte, out)?;
+    }
+    Ok(())
+}
+
+pub(crate) fn has_high_byte(bytes: &[u8]) -> bool
+    ensures { result ≡ list_any (λ b. nat_le 128 b) bytes.now }
+{
+    bytes.iter().any(|byte| *byte >= 128)
+}
+
+#[inline(never)]
+fn write_numbered<W: Sink>(
+    before: &[u8],
+    section: u32,
+    behind: &[u8],
+    out: &mut W,
+) -> Result<(), SinkFault>
+    requires { W.failed out.old + 1 < 2 ^ 64 }
+    ensures tells { W.tells out.new ≡ W.tells out.old }
+    ensures failed { CountsFailure (W.failed out.old) (W.failed out.new) result }
+    ensures beside { IsTrue (W.tells out.old) → W.beside out.new ≡ W.beside out.old }
+    ensures wrote { IsTrue (W.tells out.old)
+        → Wrote (W.written out.old) (W.written out.new)
+        (numbered_comment before.now section behind.now) result }
+{
+    let mut digits = Buffer::new();
+    write_chunks(out, &[before, digits.format(section).as_bytes(), behind])
+}
+
+/// Writes the text of a token; that of a use, Defs or a line mark is nothing here.
+#[inline(always)]
+pub(crate) fn write_plain<W: Sink>(
+    store: &Store,
+    token: &Token<'_>,
+    out: &mut W,
+) -> Result<(), SinkFault>
+    requires { W.failed out.old + 1 < 2 ^ 64 }
+    ensures tells { W.tells out.new ≡ W.tells out.old }
+    ensures failed { CountsFailure (W.failed out.old) (W.failed out.new) result }
+    ensures beside { IsTrue (W.tells out.old) → W.beside out.new ≡ W.beside out.old }
+    ensures wrote { IsTrue (W.tells out.old)
+        → Wrote (W.written out.old) (W.written out.new)
+        (plain_bytes (replaced_in store.now) (token_model token.now)) result }
+{
+    match token {
+        Token::Word(bytes) => write_word(store, bytes, out),
+        Token::Number(bytes) => write_chunk(out, bytes),
+        Token::Literal(bytes) => write_chunk(out, bytes),
+        Token::Verbatim(bytes) => write_chunk(out, bytes),
+        Token::Punct(bytes) => write_chunk(out, bytes),
+        Token::Blank => write_chunk(out, b" "),
+        Token::Newline => write_chunk(out, b"\n"),
+        Token::Head(section) => write_numbered(b"/*", *section, b":*/", out),
+        Token::Tail(section) => write_numbered(b"/*:", *section, b"*/", out),
+        Token::Join | Token::Defs | Token::Name(_) | Token::Mark(_) => Ok(()),
+    }
+}

@@ -1,0 +1,55 @@
+// Short texts in memory.
+ghost use Rattle.std.specs.Prelude.{◌≡◌, ◌≤◌, [], length, true};
+ghost use Rattle.cweb_print.specs.declared.buffer.TheConstants.{SHORT};
+
+use crate::buffer::SHORT;
+use arrayvec::ArrayVec;
+use cweb_files::{Sink, SinkFault};
+
+/// A short text that is written in memory. A piece for which there is no room is refused.
+#[derive(Drop)]
+pub struct ShortBuffer {
+    bytes: ArrayVec<u8, SHORT>,
+    failed: u64,
+}
+
+impl ShortBuffer {
+    /// Nothing was written.
+    pub fn new() -> ShortBuffer
+        ensures empty { result.bytes.items ≡ [] }
+        ensures failed { result.failed ≡ 0 }
+    {
+        ShortBuffer {
+            bytes: ArrayVec::new(),
+            failed: 0,
+        }
+    }
+
+    /// What was written.
+    pub fn as_slice(&self) -> &[u8]
+        ensures bytes { result.now ≡ self.now.bytes.items }
+        ensures short { length result.now ≤ SHORT }
+    {
+        self.bytes.as_slice()
+    }
+}
+
+impl Sink for ShortBuffer {
+    ghost tells = { λ _. true };
+
+    ghost written = { λ text. text.bytes.items };
+
+    ghost failed = { λ text. text.failed };
+
+    fn write(&mut self, piece: &[u8]) -> Result<usize, SinkFault> {
+        if self.bytes.try_extend_from_slice(piece).is_err() {
+            self.failed += 1;
+            return Err(SinkFault);
+        }
+        Ok(piece.len())
+    }
+
+    fn failures(&self) -> u64 {
+        self.failed
+    }
+}

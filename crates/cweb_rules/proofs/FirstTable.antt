@@ -1,0 +1,48 @@
+-- The table of what first bytes tell.
+use Rattle.cweb_rules.proofs.Common.{◌≡◌, ◌<◌, ℕ, zero, suc, ◌+◌, Bool, true, ◌&&◌, ◌==◌, List, [], ◌∷◌, ◌++◌, length, replicate, slice_index_or, refl, ap, sym, ◌∙◌, arith, eqb-true, and_parts}
+use Rattle.cweb_rules.specs.inner.Firsts.{first_byte_class}
+use Rattle.cweb_rules.specs.declared.firsts.Plain.{Plain}
+use Rattle.cweb_rules.specs.declared.firsts.Plain.TheVariants.{Lone, Operator, Digit, Quote, Stop, Blank, Word, Further}
+
+-- kinds as numbers, so that two of them are compared by computing
+abbrev number : Plain → ℕ
+number p = elim p [ Blank ↦ 0 | Word ↦ 1 | Lone ↦ 2 | Operator ↦ 3 | Digit ↦ 4 | Quote ↦ 5 | Further ↦ 6 | Stop ↦ 7 ]
+
+abbrev kind : ℕ → Plain
+kind n = slice_index_or (Blank ∷ Word ∷ Lone ∷ Operator ∷ Digit ∷ Quote ∷ Further ∷ []) n Stop
+
+kind_back : (p : Plain) → kind (number p) ≡ p
+kind_back Blank = refl
+kind_back _ = refl
+
+-- the entries from a byte on are what the definition says of it and of the bytes after it
+abbrev agrees : ℕ → List Plain → Bool
+agrees k [] = true
+agrees k (x ∷ xs) = (number x == number (first_byte_class k)) && agrees (suc k) xs
+
+told_from : (xs : List Plain) (k i b : ℕ) (d : Plain) → agrees k xs ≡ true → i < length xs → b ≡ k + i
+    → slice_index_or xs i d ≡ first_byte_class b
+told_from [] k i b d h within e = absurd (omega (arith, within))
+told_from (x ∷ xs) k zero b d h within e =
+    let here : k ≡ b = omega (arith, e) in
+    let test = number x == number (first_byte_class k) in
+    let same = eqb-true (number x) (number (first_byte_class k)) (and_parts test (agrees (suc k) xs) h).0 in
+    sym (kind_back x) ∙ ap kind same ∙ kind_back (first_byte_class k) ∙ ap first_byte_class here
+told_from (x ∷ xs) k (suc i) b d h within e = told_from xs (suc k) i b d
+    (and_parts (number x == number (first_byte_class k)) (agrees (suc k) xs) h).1 (omega (arith, within))
+    (omega (arith, e))
+
+-- the table, as runs of equal kinds
+abbrev pub firsts : List Plain
+firsts = replicate 9 Operator ++ replicate 1 Blank ++ replicate 1 Further ++ replicate 3 Blank
+    ++ replicate 18 Operator ++ replicate 1 Blank ++ replicate 1 Operator ++ replicate 1 Quote ++ replicate 1 Stop
+    ++ replicate 1 Word ++ replicate 2 Operator ++ replicate 1 Quote ++ replicate 2 Lone ++ replicate 2 Operator
+    ++ replicate 1 Lone ++ replicate 1 Operator ++ replicate 2 Further ++ replicate 10 Digit ++ replicate 1 Operator
+    ++ replicate 1 Lone ++ replicate 3 Operator ++ replicate 1 Lone ++ replicate 1 Stop ++ replicate 11 Word
+    ++ replicate 1 Further ++ replicate 5 Word ++ replicate 1 Further ++ replicate 2 Word ++ replicate 1 Further
+    ++ replicate 5 Word ++ replicate 1 Lone ++ replicate 1 Stop ++ replicate 1 Lone ++ replicate 1 Operator
+    ++ replicate 1 Word ++ replicate 1 Operator ++ replicate 20 Word ++ replicate 1 Further ++ replicate 5 Word
+    ++ replicate 1 Lone ++ replicate 1 Operator ++ replicate 2 Lone ++ replicate 1 Operator ++ replicate 128 Word
+
+pub first_told : (b : ℕ) (d : Plain) → b < 256 → slice_index_or firsts b d ≡ first_byte_class b
+first_told b d small = told_from firsts 0 b b d refl small (omega arith)

@@ -1,0 +1,191 @@
+-- What stands at the front of the remaining text, in each context.
+use Rattle.std.specs.Prelude.{ℕ, ◌+◌, Bool, true, false, ◌||◌, ◌&&◌, nat_le, nat_lt, List, [], ◌∷◌, ◌++◌, length, take}
+use Rattle.std.specs.Prelude.{drop, codes, if◌then◌else◌, Option, Some, None}
+use Rattle.std.specs.List.{prefix_len}
+use Rattle.cweb_rules.specs.declared.fault.ScanKind.TheVariants.{ImproperHexNumber}
+use Rattle.cweb_rules.specs.Bytes.{is_blank, is_line_end, is_word_byte, is_delimiter, begins, first_is, at_line_end}
+use Rattle.cweb_rules.specs.Bytes.{starts_section}
+use Rattle.cweb_rules.specs.declared.effect.Effect.{Effect}
+use Rattle.cweb_rules.specs.declared.effect.Effect.TheVariants.{Named}
+use Rattle.cweb_rules.specs.declared.effect.Effect.TheVariants.{Faulty}
+use Rattle.cweb_rules.specs.declared.context.Context.{Context}
+use Rattle.cweb_rules.specs.declared.context.Context.TheVariants.{Limbo, TeX, Definition, Macro, CText}
+use Rattle.cweb_rules.specs.Codes.{in_limbo, in_tex, in_macro, in_c}
+use Rattle.cweb_rules.specs.declared.effect.Effect.TheVariants as effect
+use Rattle.cweb_rules.specs.Constants.{constant, letter}
+use Rattle.cweb_rules.specs.declared.constants.Transliteration.{Transliteration}
+use Rattle.cweb_rules.specs.Cut.{Reach, body, reach_size}
+use Rattle.cweb_rules.specs.declared.end.End.{End}
+use Rattle.cweb_rules.specs.declared.end.End.TheVariants.{Closed}
+use Rattle.cweb_rules.specs.Items.{reach_of_control_text, reach_of_name, opener_len, reach_of_comment}
+use Rattle.cweb_rules.specs.Items.{reach_of_line_comment, reach_of_literal, reach_of_included_name}
+use Rattle.cweb_rules.specs.Items.{reach_of_raw_literal}
+use Rattle.cweb_rules.specs.Kinds.{Kind, Skipped, Section, Code, Letter, ControlText, Verbatim, Constant, Occurrence}
+use Rattle.cweb_rules.specs.Kinds.{Blanks, LineEnd, Comment, Quoted, Defined, Identifier, Numeral, Punctuator}
+use Rattle.cweb_rules.specs.Kinds.{RuleMatch, rule_match}
+use Rattle.cweb_rules.specs.Tables.{listed, longest, number_len, starts_number}
+
+abbrev pub section_match : List ℕ → RuleMatch
+section_match t = if begins (codes "@*") t then rule_match (Section true) 2 else rule_match (Section false) 1
+
+abbrev pub control_text_match : List ℕ → RuleMatch
+control_text_match t = let r = reach_of_control_text (drop 2 t) in rule_match (ControlText r.how) (2 + reach_size r)
+
+abbrev pub verbatim_match : List ℕ → RuleMatch
+verbatim_match t = let r = reach_of_control_text (drop 2 t) in rule_match (Verbatim r.units r.how) (2 + reach_size r)
+
+abbrev pub constant_match : List ℕ → RuleMatch
+constant_match t = let v = constant (drop 2 t) in rule_match (Constant v.value) (2 + v.size)
+
+-- no replacement is longer than 31 bytes; where `@l` has not its form it is the pair alone
+abbrev pub found_letter_match : Option Transliteration → List ℕ → RuleMatch
+found_letter_match None t = rule_match (Code (Faulty ImproperHexNumber)) 2
+found_letter_match (Some l) t =
+    rule_match (Letter l.byte (if nat_le l.size 31 then Some (take l.size (drop (2 + l.start) t)) else None))
+    (2 + (l.start + l.size))
+
+abbrev pub letter_match : List ℕ → RuleMatch
+letter_match t = found_letter_match (letter (drop 2 t)) t
+
+-- only a name that ended has an opener sign
+abbrev pub opener_after : End → List ℕ → ℕ
+opener_after Closed t = opener_len t
+opener_after _ t = 0
+
+-- a name; the opener sign belongs to it where it opens a part
+abbrev pub name_match : Bool → List ℕ → RuleMatch
+name_match takes_sign t =
+    let r = reach_of_name (drop 2 t) in
+    let size = 2 + reach_size r in
+    let sign = opener_after r.how (drop size t) in
+    rule_match (Occurrence (begins (codes "@(") t) r.units r.how (nat_lt 0 sign))
+    (if takes_sign then size + sign else size)
+
+abbrev pub effect_match : Effect → Bool → List ℕ → RuleMatch
+effect_match Named takes_sign t = name_match takes_sign t
+effect_match effect.Letter takes_sign t = letter_match t
+effect_match effect.ControlText takes_sign t = control_text_match t
+effect_match effect.Verbatim takes_sign t = verbatim_match t
+effect_match effect.Constant takes_sign t = constant_match t
+effect_match e takes_sign t = rule_match (Code e) 2
+
+-- `@` and the next byte
+abbrev pub code_match : (ℕ → Effect) → Bool → List ℕ → RuleMatch
+code_match effect takes_sign [] = rule_match Skipped 0
+code_match effect takes_sign (a ∷ []) = rule_match Skipped 1
+code_match effect takes_sign (a ∷ b ∷ t) = effect_match (effect b) takes_sign (a ∷ b ∷ t)
+
+-- In limbo and text every byte but `@` is skipped.
+abbrev pub tex_match : (ℕ → Effect) → List ℕ → RuleMatch
+tex_match effect t =
+    if starts_section t then section_match t
+    else (if begins (codes "@") t then code_match effect true t
+    else rule_match Skipped 1)
+
+abbrev pub comment_match : List ℕ → RuleMatch
+comment_match t = let r = reach_of_comment (drop 2 t) in rule_match (Comment r.how) (2 + reach_size r)
+
+abbrev pub line_comment_match : List ℕ → RuleMatch
+line_comment_match t = let r = reach_of_line_comment (drop 2 t) in rule_match (Comment r.how) (2 + reach_size r)
+
+abbrev pub has_quote_at : ℕ → List ℕ → Bool
+has_quote_at n t = begins (codes "\"") (drop n t) || begins (codes "'") (drop n t)
+
+-- the optional `L`, `u`, `U` or `u8` before a quote
+abbrev pub literal_prefix : List ℕ → ℕ
+literal_prefix t =
+    if begins (codes "u8") t && has_quote_at 2 t then 2
+    else (if (begins (codes "L") t || begins (codes "u") t || begins (codes "U") t) && has_quote_at 1 t then 1 else 0)
+
+abbrev pub starts_literal : List ℕ → Bool
+starts_literal t = has_quote_at (literal_prefix t) t
+
+-- a literal with its quotes, the first of which ends the first n bytes
+abbrev pub quoted_match : ℕ → Reach → List ℕ → RuleMatch
+quoted_match n r t =
+    rule_match (Quoted (take n t ∷ r.units ++ take r.close (drop (n + length (body r)) t) ∷ []) r.how)
+    (n + reach_size r)
+
+abbrev pub quote_of : List ℕ → ℕ
+quote_of t = if begins (codes "'") t then 39 else 34
+
+abbrev pub literal_match : List ℕ → RuleMatch
+literal_match t =
+    let n = literal_prefix t in
+    quoted_match (n + 1) (reach_of_literal (quote_of (drop n t)) (drop (n + 1) t)) t
+
+-- the optional `L`, `u`, `U` or `u8` before `R"`
+abbrev pub raw_prefix : List ℕ → ℕ
+raw_prefix t =
+    if begins (codes "u8R\"") t then 2
+    else (if begins (codes "LR\"") t || begins (codes "uR\"") t || begins (codes "UR\"") t then 1 else 0)
+
+-- what follows the `R"`: the delimiter is the longest run, at most 16 bytes, and `(` follows it
+abbrev pub has_delimiter : List ℕ → Bool
+has_delimiter t = let n = prefix_len is_delimiter t in nat_le n 16 && begins (codes "(") (drop n t)
+
+abbrev pub starts_raw : List ℕ → Bool
+starts_raw t = let n = raw_prefix t in begins (codes "R\"") (drop n t) && has_delimiter (drop (n + 2) t)
+
+abbrev pub delimiter : List ℕ → List ℕ
+delimiter t = take (prefix_len is_delimiter t) t
+
+abbrev pub raw_closer : List ℕ → List ℕ
+raw_closer t = codes ")" ++ delimiter t ++ codes "\""
+
+abbrev pub raw_match : List ℕ → RuleMatch
+raw_match t =
+    let m = raw_prefix t + 2 in
+    let n = m + length (delimiter (drop m t)) + 1 in
+    quoted_match n (reach_of_raw_literal (raw_closer (drop m t)) (drop n t)) t
+
+abbrev pub is_closed : End → Bool
+is_closed Closed = true
+is_closed _ = false
+
+-- a `<` that has a `>` later on its line
+abbrev pub starts_include : List ℕ → Bool
+starts_include t = begins (codes "<") t && is_closed (reach_of_included_name (drop 1 t)).how
+
+abbrev pub include_match : List ℕ → RuleMatch
+include_match t = quoted_match 1 (reach_of_included_name (drop 1 t)) t
+
+-- C text: the first rule that fits.
+abbrev pub c_match : (ℕ → Effect) → Bool → Bool → List ℕ → RuleMatch
+c_match effect takes_sign includes t =
+    if first_is is_blank t then rule_match Blanks (prefix_len is_blank t)
+    else (if first_is is_line_end t then rule_match LineEnd 1
+    else (if begins (codes "/*") t then comment_match t
+    else (if begins (codes "//") t then line_comment_match t
+    else (if starts_section t then section_match t
+    else (if begins (codes "@") t then code_match effect takes_sign t
+    else (if starts_raw t then raw_match t
+    else (if starts_literal t then literal_match t
+    else (if includes && starts_include t then include_match t
+    else (if starts_number t then rule_match Numeral (number_len 0 t)
+    else (if first_is is_word_byte t then rule_match Identifier (prefix_len is_word_byte t)
+    else rule_match Punctuator (longest listed t)))))))))))
+
+-- a macro: a `\` right before a line end gives nothing
+abbrev pub macro_match : List ℕ → RuleMatch
+macro_match t = if begins (codes "\\") t && at_line_end
+    (drop 1 t) then rule_match Skipped 1 else c_match in_macro true false t
+
+-- a head: blanks, line ends and comments, and the identifier. With anything else text goes on.
+abbrev pub head_match_of : Kind → RuleMatch → List ℕ → RuleMatch
+head_match_of Blanks f t = f
+head_match_of LineEnd f t = f
+head_match_of (Comment how) f t = f
+head_match_of Identifier f t = rule_match (Defined (begins (codes "(") (drop f.size t))) f.size
+head_match_of k f t = tex_match in_tex t
+
+abbrev pub head_match : List ℕ → RuleMatch
+head_match t = let f = c_match in_macro true false t in head_match_of f.kind f t
+
+-- what the rules name at the front of a text, in the context that the pieces before it left
+abbrev pub match_in : Context → Bool → List ℕ → RuleMatch
+match_in Limbo includes t = tex_match in_limbo t
+match_in TeX includes t = tex_match in_tex t
+match_in (Definition begun) includes t = head_match t
+match_in Macro includes t = macro_match t
+match_in CText includes t = c_match in_c false includes t

@@ -1,0 +1,83 @@
+-- What follows a line, and the items that go on after one.
+use Rattle.std.specs.Prelude.{◌≡◌, ◌≢◌, ℕ, ◌+◌, Bool, true, false, ◌&&◌, ◌||◌, List, [], ◌∷◌, length, drop, codes}
+use Rattle.std.specs.Prelude.{if◌then◌else◌}
+use Rattle.cweb_rules.specs.Bytes.{is_blank, is_line_end, begins, first_is, at_line_end, starts_section}
+use Rattle.cweb_rules.specs.declared.effect.Effect.{Effect}
+use Rattle.cweb_rules.specs.declared.effect.Effect.TheVariants.{Named}
+use Rattle.cweb_rules.specs.Codes.{in_limbo, in_tex, in_macro, in_c}
+use Rattle.cweb_rules.specs.Cut.{reach}
+use Rattle.cweb_rules.specs.declared.end.End.{End}
+use Rattle.cweb_rules.specs.declared.end.End.TheVariants.{Closed, Cut, Nested, Open}
+use Rattle.cweb_rules.specs.Items.{look_in_comment, look_in_name, look_in_literal, look_in_raw}
+use Rattle.cweb_rules.specs.Matches.{literal_prefix, quote_of, starts_literal, raw_prefix, delimiter, raw_closer}
+use Rattle.cweb_rules.specs.Matches.{starts_raw}
+use Rattle.cweb_rules.specs.declared.context.Context.{Context}
+use Rattle.cweb_rules.specs.declared.context.Context.TheVariants.{Limbo, TeX, Definition, Macro, CText}
+
+-- the bytes of a line
+abbrev pub IsLine : List ℕ → Type 0
+IsLine [] = Unit {0}
+IsLine (b ∷ t) = (b ≢ 10) × IsLine t
+
+-- a line end, or the end of the text
+abbrev pub AtLineEnd : List ℕ → Type 0
+AtLineEnd [] = Unit {0}
+AtLineEnd (b ∷ t) = b ≡ 10
+
+abbrev pub is_unclosed : End → Bool
+is_unclosed Open = true
+is_unclosed Closed = false
+is_unclosed Cut = false
+is_unclosed Nested = false
+
+-- whether the item at the front of the rest of a line is still open at its end
+abbrev pub opens_comment : List ℕ → Bool
+opens_comment t = is_unclosed (reach (look_in_comment (begins (codes "*/")) 2) Open (drop 2 t)).how
+
+abbrev pub opens_name : List ℕ → Bool
+opens_name t = is_unclosed (reach look_in_name Open (drop 2 t)).how
+
+abbrev pub opens_literal : List ℕ → Bool
+opens_literal t = let n = literal_prefix t in
+    is_unclosed (reach (look_in_literal (quote_of (drop n t))) Open (drop (n + 1) t)).how
+
+abbrev pub opens_raw : List ℕ → Bool
+opens_raw t =
+    let m = raw_prefix t + 2 in
+    is_unclosed (reach (look_in_raw (raw_closer (drop m t))) Open (drop (m + length (delimiter (drop m t)) + 1) t)).how
+
+abbrev pub opens_effect : Effect → List ℕ → Bool
+opens_effect Named t = opens_name t
+opens_effect e t = false
+
+abbrev pub opens_code : (ℕ → Effect) → List ℕ → Bool
+opens_code effect [] = false
+opens_code effect (a ∷ []) = false
+opens_code effect (a ∷ b ∷ t) = opens_effect (effect b) (a ∷ b ∷ t)
+
+abbrev pub tex_opens : (ℕ → Effect) → List ℕ → Bool
+tex_opens effect t =
+    if starts_section t then false
+    else (if begins (codes "@") t then opens_code effect t else false)
+
+abbrev pub c_opens : (ℕ → Effect) → List ℕ → Bool
+c_opens effect t =
+    if first_is is_blank t then false
+    else (if first_is is_line_end t then false
+    else (if begins (codes "/*") t then opens_comment t
+    else (if begins (codes "//") t then false
+    else (if starts_section t then false
+    else (if begins (codes "@") t then opens_code effect t
+    else (if starts_raw t then opens_raw t
+    else (if starts_literal t then opens_literal t
+    else false)))))))
+
+abbrev pub macro_opens : List ℕ → Bool
+macro_opens t = if begins (codes "\\") t && at_line_end (drop 1 t) then false else c_opens in_macro t
+
+abbrev pub opens_in : Context → List ℕ → Bool
+opens_in Limbo t = tex_opens in_limbo t
+opens_in TeX t = tex_opens in_tex t
+opens_in (Definition begun) t = c_opens in_macro t || tex_opens in_tex t
+opens_in Macro t = macro_opens t
+opens_in CText t = c_opens in_c t

@@ -1,0 +1,3 @@
+-- Theorems about the definitions.
+pub mod Pays
+pub mod Follows

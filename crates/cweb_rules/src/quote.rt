@@ -1,0 +1,36 @@
+// The quotes of literals.
+ghost use Rattle.std.specs.Prelude.{◌≡◌};
+ghost use Rattle.cweb_rules.specs.Matches as rules;
+ghost use Rattle.cweb_rules.specs.inner.Quotes.{quote_byte};
+
+use crate::bytes::begins;
+
+/// The quote of a literal.
+#[derive(Clone, Copy)]
+pub enum Quote {
+    Single,
+    Double,
+}
+
+impl Quote {
+    /// The quote at a text's front.
+    pub fn of(text: &[u8]) -> Quote
+        ensures { quote_byte result ≡ rules.quote_of text.now }
+    {
+        if begins(b"'", text) {
+            Quote::Single
+        } else {
+            Quote::Double
+        }
+    }
+
+    /// The byte of a quote.
+    pub fn byte(self) -> u8
+        ensures { result ≡ quote_byte self }
+    {
+        match self {
+            Quote::Single => b'\'',
+            Quote::Double => b'"',
+        }
+    }
+}

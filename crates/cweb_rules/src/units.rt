@@ -1,0 +1,41 @@
+// Units of the items that last to an end sign: the text that they give.
+ghost use Rattle.std.specs.Prelude.{◌≡◌, ◌++◌, OnOk};
+ghost use Rattle.cweb_rules.specs.Cut as cut;
+ghost use Rattle.cweb_rules.specs.Items as items;
+ghost use Rattle.cweb_rules.specs.inner.Looks.{look_of};
+ghost use Rattle.cweb_rules.specs.declared.end.End.TheVariants as how;
+
+use crate::items::Item;
+use crate::look::Look;
+use std::alloc::AllocError;
+
+/// Adds a unit to a text: `@@` stands for `@`.
+pub fn push_unit(text: &mut Vec<u8>, unit: &[u8]) -> Result<(), AllocError>
+    ensures { OnOk result (text.new.items ≡ text.old.items ++ items.unit_bytes unit.now) }
+{
+    if unit == b"@@".as_slice() {
+        text.push(b'@')?;
+        return Ok(());
+    }
+    text.extend_from_slice(unit)?;
+    Ok(())
+}
+
+/// Adds the text of an item's units in a line.
+pub fn push_units(text: &mut Vec<u8>, item: Item<'_>, line: &[u8]) -> Result<(), AllocError>
+    ensures { OnOk result
+        (text.new.items
+        ≡ text.old.items
+        ++ items.unescaped (cut.reach (look_of item.entry) how.Open line.now).units) }
+{
+    let mut rest = line;
+    'units: while !rest.is_empty() {
+        let Look::Goes(size) = item.look(rest) else {
+            return Ok(());
+        };
+        let (unit, after) = rest.split_at(size.min(rest.len()));
+        push_unit(text, unit)?;
+        rest = after;
+    }
+    Ok(())
+}

@@ -1,0 +1,77 @@
+-- What is taken in one turn where no item is open: a code, and text before one.
+use Rattle.cweb_scan.proofs.Common.{◌≡◌, ◌≤◌, ℕ, Bool, true, false, ◌==◌, not, List, [], ◌∷◌, length, drop, get_or, refl, ap, sym, ◌∙◌, subst, arith, codes, prefix_len, eqb-true, begins, starts_section, match_in, effect_match, section_match, IsLine, opens_in, opens_effect, Context, Limbo, TeX, Definition, Effect, Named, is_c, effect_in, is_head, is_name_effect, is_skipped, reads_c, ReaderModel, TakesPrefix, MakesProgress, Between, and_parts}
+use Rattle.cweb_scan.proofs.SkippedRest.{is_text, skipped_takes}
+use Rattle.cweb_scan.proofs.FirstMatchTaken.{between}
+
+-- CODES
+
+-- `@` and a letter
+pub code_shape : (u : List ℕ) → starts_section u ≡ false
+    → begins (codes "@") u ≡ true → 64 ∷ get_or u 1 0 ∷ drop 2 u ≡ u
+code_shape [] section at = cc
+code_shape (a ∷ []) section at =
+    let wrong : true ≡ false =
+    subst (λ n. (n == 64) ≡ false) (sym (eqb-true 64 a (and_parts (64 == a) true at).0)) section in
+    cc
+code_shape (a ∷ b ∷ t) section at = ap (λ n. n ∷ b ∷ t) (eqb-true 64 a (and_parts (64 == a) true at).0)
+
+pub code_size : (u : List ℕ) → starts_section u ≡ false → begins (codes "@") u ≡ true → 2 ≤ length u
+code_size u section at = omega (arith, ap (λ (v : List ℕ). length v) (code_shape u section at))
+
+code_is : (c : Context) (includes : Bool) (b : ℕ) (w : List ℕ) → is_head c ≡ false → starts_section (64 ∷ b ∷ w) ≡ false
+    → match_in c includes (64 ∷ b ∷ w) ≡ effect_match (effect_in c b) (not (is_c c)) (64 ∷ b ∷ w)
+code_is (Definition begun) includes b w head h = cc
+code_is _ includes b w head h = rw h
+
+code_opens : (c : Context) (b : ℕ) (w : List ℕ) → is_head c ≡ false → starts_section (64 ∷ b ∷ w) ≡ false
+    → opens_in c (64 ∷ b ∷ w) ≡ opens_effect (effect_in c b) (64 ∷ b ∷ w)
+code_opens (Definition begun) b w head h = cc
+code_opens _ b w head h = rw h
+
+-- a code that is no name's is one item, whether or not names take their sign
+plain_code : (e : Effect) (takes : Bool) (t : List ℕ) → is_name_effect e ≡ false
+    → (effect_match e takes t ≡ effect_match e true t) × (opens_effect e t ≡ false)
+plain_code Named takes t h = cc
+plain_code _ takes t h = (refl, refl)
+
+-- what a code's front is, and that it ends in its line
+pub plain_front : (c : Context) (includes : Bool) (u : List ℕ) → is_head c ≡ false
+    → starts_section u ≡ false → begins (codes "@") u ≡ true → is_name_effect (effect_in c (get_or u 1 0)) ≡ false
+    → (match_in c includes u ≡ effect_match (effect_in c (get_or u 1 0)) true u) × (opens_in c u ≡ false)
+plain_front c includes u head section at plain =
+    let b = get_or u 1 0 in
+    let w = drop 2 u in
+    let shape = code_shape u section at in
+    let p = plain_code (effect_in c b) (not (is_c c)) (64 ∷ b ∷ w) plain in
+    let s = subst (λ (x : List ℕ). starts_section x ≡ false) (sym shape) section in
+    subst (λ (x : List ℕ). (match_in c includes x ≡ effect_match (effect_in c b) true x) × (opens_in c x ≡ false)) shape
+    (code_is c includes b w head s ∙ p.0, code_opens c b w head s ∙ p.1)
+
+-- LIMBO AND TEXT
+
+text_is : (c : Context) → reads_c c ≡ false → is_text c ≡ true
+text_is Limbo h = refl
+text_is TeX h = refl
+text_is _ h = cc
+
+pub text_head : (c : Context) → reads_c c ≡ false → is_head c ≡ false
+text_head (Definition begun) h = cc
+text_head _ h = refl
+
+-- what stands before the next `@`
+pub skipped_at : (n : ℕ) (u : List ℕ) (h : ReaderModel) → n ≡ prefix_len is_skipped u → 1 ≤ n
+    → h.item ≡ Between → reads_c h.state.context ≡ false → IsLine u → MakesProgress n u h h
+skipped_at n u h is some none text line = subst (λ i. MakesProgress n u
+    (record { state = h.state; item = i; begun = h.begun }) (record { state = h.state; item = i; begun = h.begun }))
+    (sym none) (record {
+      some = some;
+      within = refl;
+      taken = subst (λ k. TakesPrefix k u (between h.state h.begun) (between h.state h.begun)) (sym is)
+          (skipped_takes h.state h.begun u (text_is h.state.context text) line);
+    })
+
+pub section_text : (c : Context) (includes : Bool) (u : List ℕ) → reads_c c ≡ false
+    → starts_section u ≡ true → (match_in c includes u ≡ section_match u) × (opens_in c u ≡ false)
+section_text Limbo includes u c h = (rw h, rw h)
+section_text TeX includes u c h = (rw h, rw h)
+section_text _ includes u c h = cc

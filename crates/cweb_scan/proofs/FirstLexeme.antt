@@ -1,0 +1,19 @@
+-- The first piece of a text, and the pieces behind it.
+use Rattle.cweb_scan.proofs.Common.{◌≡◌, ℕ, ◌-◌, ◌<◌, suc, zero, List, [], ◌∷◌, take, drop, refl, ap, ◌∙◌, Lexeme, Reading, after_lexeme, next_match, lexemes, lexemes_in}
+use Rattle.cweb_rules.proofs.UnitNewlines.{drop-pred}
+
+pieces_in-drop : (k : ℕ) (r : Reading) (t : List ℕ) → lexemes_in k r t ≡ lexemes_in 0 r (drop k t)
+pieces_in-drop zero r t = refl
+pieces_in-drop (suc k) r [] = refl
+pieces_in-drop (suc k) r (b ∷ t) = pieces_in-drop k r t
+
+abbrev pub first : Reading → List ℕ → Lexeme
+first r t = record { kind = (next_match r.state t).kind; bytes = take (next_match r.state t).size t }
+
+-- the pieces of a text are what stands at its front, and the pieces of the rest
+pub pieces_first : (r : Reading) (b : ℕ) (t : List ℕ) → 0 < (next_match r.state (b ∷ t)).size → lexemes r (b ∷ t)
+    ≡ first r (b ∷ t) ∷ lexemes (after_lexeme r (first r (b ∷ t))) (drop (next_match r.state (b ∷ t)).size (b ∷ t))
+pieces_first r b t h =
+    let n = (next_match r.state (b ∷ t)).size in
+    let u = after_lexeme r (first r (b ∷ t)) in
+    ap (λ ps. first r (b ∷ t) ∷ ps) (pieces_in-drop (n - 1) u t ∙ ap (lexemes_in 0 u) (drop-pred n b t h))

@@ -1,0 +1,113 @@
+-- What is at the front of the rest of a line, once the code has seen its rule; and that taking it is right.
+use Rattle.cweb_scan.proofs.Common.{◌≡◌, ℕ, Bool, true, false, ◌&&◌, List, [], ◌∷◌, ◌++◌, take, drop, refl, ap, sym, ◌∙◌, subst, arith, if◌then◌else◌, codes, length-take-le, begins, first_is, is_blank, is_word_byte, starts_section, starts_raw, starts_literal, starts_include, Kind, RuleMatch, IsLine, opens_in, opens_code, c_opens, c_rule, starts_number, Context, Definition, Effect, Rule, enter_in, item, names_include, Applies, is_head, IsPast, ReaderModel, TakesPrefix, Between, weight, next_match, lex, ScanState}
+use Rattle.cweb_rules.specs.inner.LineItems.{opens_comment, opens_raw, opens_literal}
+use Rattle.cweb_scan.specs.inner.MatchSteps.{after_match}
+use Rattle.cweb_rules.specs.Bytes.{is_line_end}
+use Rattle.cweb_rules.specs.declared.rule.Rule.TheVariants as rule
+use Rattle.cweb_scan.proofs.NextMatchPays.{fair}
+use Rattle.cweb_scan.proofs.FirstLexeme.{first}
+use Rattle.cweb_scan.proofs.TakenItems.{reading, state_after, taken}
+use Rattle.cweb_scan.proofs.Weights.{piece-weight}
+use Rattle.cweb_rules.proofs.Newlines.{told}
+use Rattle.cweb_rules.proofs.ByRules.{by_test}
+
+-- ITEMS THAT END IN THEIR LINE
+
+pub enter_same : (c : Context) (k : Kind) (s : ScanState) → is_head c ≡ false → enter_in c k s ≡ s
+enter_same (Definition begun) k s h = cc
+enter_same _ k s h = refl
+
+abbrev pub between : ScanState → Bool → ReaderModel
+between s g = record { state = s; item = Between; begun = g }
+
+-- an item that leaves no head
+pub staying_takes : (s new : ScanState) (g : Bool) (n b : ℕ) (t : List ℕ) (f : RuleMatch) → IsLine (b ∷ t)
+    → enter_in s.context (next_match s (b ∷ t)).kind s ≡ s → next_match s (b ∷ t) ≡ f
+    → opens_in s.context (b ∷ t) ≡ false
+    → Applies f (b ∷ t) n s new → TakesPrefix n (b ∷ t) (between s g) (between new g)
+staying_takes s new g n b t f line stays is ends gives =
+    let u = b ∷ t in
+    let f0 = next_match s u in
+    let p = first (reading s []) u in
+    let fits = fair s b t in
+    let same : state_after s p ≡ new =
+    ap (λ (v : ScanState). (item f0.kind (take f0.size u) (reading v [])).state) stays
+    ∙ ap (λ (v : RuleMatch). after_match v u s) is ∙ sym gives.state in
+    let size : n ≡ f0.size = gives.size ∙ ap (λ (v : RuleMatch). v.size) (sym is) in
+    let long = length-take-le f0.size u fits.within in
+    let adds = piece-weight (reading s []) p (omega (arith, long, fits.some)) fits.pays
+    (told s.context (names_include s) b t) in
+    record {
+      begun = refl;
+      within = omega (arith, size, fits.within);
+      adds = omega (arith, adds, ap (λ (v : ScanState). weight v) same, size, long);
+      same = λ later more e. ap (λ (v : ScanState). lex (reading v later) (drop n u ++ more)) (sym same)
+          ∙ ap (λ k. lex (reading (state_after s p) later) (drop k u ++ more)) size
+          ∙ sym (taken s later b t more line e ends);
+    }
+
+-- THE RULES OF C TEXT
+
+-- whether the item that a rule names stays open
+abbrev pub opens_by : (ℕ → Effect) → List ℕ → Rule → Bool
+opens_by effect t rule.Comment = opens_comment t
+opens_by effect t rule.Code = opens_code effect t
+opens_by effect t rule.RawLiteral = opens_raw t
+opens_by effect t rule.Literal = opens_literal t
+opens_by effect t r = false
+
+rest_closed : (effect : ℕ → Effect) (t : List ℕ) (a b c : Bool) → false ≡ opens_by effect
+    t (if a then rule.IncludedName else (if b then rule.Number else (if c then rule.Identifier else rule.Punctuator)))
+rest_closed effect t true b c = refl
+rest_closed effect t false true c = refl
+rest_closed effect t false false true = refl
+rest_closed effect t false false false = refl
+
+pub c_opens-by : (effect : ℕ → Effect) (includes : Bool) (t : List ℕ)
+    → c_opens effect t ≡ opens_by effect t (c_rule includes t)
+c_opens-by effect includes t =
+    let f : Rule → Bool = opens_by effect t in
+    by_test f (first_is is_blank t) rule.Blanks _ _ (by_test f (first_is is_line_end t) rule.LineEnd _ _
+    (by_test f (begins (codes "/*") t) rule.Comment _ _ (by_test f (begins (codes "//") t) rule.LineComment _ _
+    (by_test f (starts_section t) rule.Section _ _ (by_test f (begins (codes "@") t) rule.Code _ _
+    (by_test f (starts_raw t) rule.RawLiteral _ _ (by_test f (starts_literal t) rule.Literal _ _
+    (rest_closed effect t (includes && starts_include t) (starts_number t) (first_is is_word_byte t)))))))))
+
+-- WHAT A RULE SAYS OF THE TEXT
+
+pub told_if : {A : Type 0} (T : A → Type 0) (v : Bool) (x y : A) → (v ≡ true → T x) → (v ≡ false → T y)
+    → T (if v then x else y)
+told_if T true x y f g = f refl
+told_if T false x y f g = g refl
+
+pub neither : (is : Rule → Bool) (v : Bool) (x y : Rule) → is x ≡ false → is y ≡ false → is (if v then x else y) ≡ false
+neither is v x y f g = told_if (λ r. is r ≡ false) v x y (λ e. f) (λ e. g)
+
+-- what is known of a text at whose front a rule is the first that fits
+abbrev pub IsSeen : List ℕ → Rule → Type 0
+IsSeen t rule.LineEnd = first_is is_line_end t ≡ true
+IsSeen t rule.Comment = begins (codes "/*") t ≡ true
+IsSeen t rule.LineComment = begins (codes "//") t ≡ true
+IsSeen t rule.Code = (starts_section t ≡ false) × (begins (codes "@") t ≡ true)
+IsSeen t rule.RawLiteral = IsPast t × (starts_raw t ≡ true)
+IsSeen t rule.Literal = IsPast t × (starts_raw t ≡ false) × (starts_literal t ≡ true)
+IsSeen t r = Unit {0}
+
+rule_seen : (includes : Bool) (t : List ℕ) → IsSeen t (c_rule includes t)
+rule_seen includes t =
+    let S : Rule → Type 0 = IsSeen t in
+    told_if S (first_is is_blank t) _ _ (λ e. tt) (λ b.
+    told_if S (first_is is_line_end t) _ _ (λ e. e) (λ l.
+    told_if S (begins (codes "/*") t) _ _ (λ e. e) (λ c.
+    told_if S (begins (codes "//") t) _ _ (λ e. e) (λ d.
+    told_if S (starts_section t) _ _ (λ e. tt) (λ s.
+    told_if S (begins (codes "@") t) _ _ (λ e. (s, e)) (λ a.
+    let past : IsPast t = record { blank = b; line_end = l; comment = c; line_comment = d; section = s; code = a } in
+    told_if S (starts_raw t) _ _ (λ e. (past, e)) (λ w.
+    told_if S (starts_literal t) _ _ (λ e. (past, w, e)) (λ q.
+    told_if S (includes && starts_include t) _ _ (λ e. tt) (λ i.
+    told_if S (starts_number t) _ _ (λ e. tt) (λ n.
+    told_if S (first_is is_word_byte t) _ _ (λ e. tt) (λ e. tt)))))))))))
+
+pub seen : (includes : Bool) (t : List ℕ) (r : Rule) → c_rule includes t ≡ r → IsSeen t r
+seen includes t r h = subst (IsSeen t) h (rule_seen includes t)

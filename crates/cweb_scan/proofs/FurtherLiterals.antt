@@ -1,0 +1,92 @@
+-- Plain C text: literals that end in their line and have no `@`.
+use Rattle.cweb_scan.proofs.Common.{◌≡◌, ◌≤◌, ℕ, ◌+◌, true, false, ◌&&◌, ◌==◌, not, List, [], ◌∷◌, ◌++◌, length, take, drop, refl, ap, sym, ◌∙◌, subst, arith, if◌then◌else◌, codes, bytes_eq, flat_map, fold, prefix_len, Literal, Reach, reach, body, reach_size, literal_match, literal_prefix, quote_of, look_in_literal, unit_bytes, unescaped, IsLine, is_unclosed, reached, c_rule, End, Closed, Cut, Open, Reached, Reading, each_line_end, emit_literal, literal_unit, Applies, TakesPlain, ScanState, emit, move_to}
+use Rattle.cweb_scan.specs.inner.Skipped.{is_skipped}
+use Rattle.cweb_scan.specs.inner.Plain.{IsPlainC}
+use Rattle.cweb_rules.specs.declared.rule.Rule.TheVariants as rule
+use Rattle.cweb_rules.proofs.Looks.{ended_whole, ended_same, literal-local, literal-some}
+use Rattle.cweb_rules.proofs.UnitNewlines.{quoted-bytes}
+use Rattle.cweb_scan.proofs.Ends.{none_to_come, nothing_later}
+use Rattle.cweb_scan.proofs.Furthers.{ended_turn}
+
+-- NO `@`
+
+abbrev pub HasNone : List ℕ → Type 0
+HasNone [] = Unit {0}
+HasNone (b ∷ t) = ((b == 64) ≡ false) × HasNone t
+
+pub none_stands : (t : List ℕ) → length t ≤ prefix_len is_skipped t → HasNone t
+none_stands [] h = tt
+none_stands (b ∷ t) h = (elim (b == 64) as (λ v.
+    (b == 64) ≡ v → length (b ∷ t) ≤ (if not v then 1 + prefix_len is_skipped t else 0) → HasNone (b ∷ t)) [
+      | true ↦ λ e g. absurd (omega (arith, g))
+      | false ↦ λ e g. (e, none_stands t (omega (arith, g)))
+    ]) refl h
+
+none_apart : (t u : List ℕ) → HasNone (t ++ u) → HasNone t × HasNone u
+none_apart [] u h = (tt, h)
+none_apart (b ∷ t) u h = let p = none_apart t u h.1 in ((h.0, p.0), p.1)
+
+unit_stays : (u : List ℕ) → HasNone u → unit_bytes u ≡ u
+unit_stays [] h = refl
+unit_stays (b ∷ t) h = ap (λ v. if v && bytes_eq t (codes "@") then codes "@" else b ∷ t) h.0
+
+text_stays : (us : List (List ℕ)) → HasNone (flat_map (λ u. u) us) → unescaped us ≡ flat_map (λ u. u) us
+text_stays [] h = refl
+text_stays (u ∷ us) h =
+    let p = none_apart u (flat_map (λ u. u) us) h in (λ i. unit_stays u p.0 i ++ text_stays us p.1 i)
+
+unit_told : (u : List ℕ) (s : ScanState) → HasNone u → literal_unit (nothing_later s) u ≡ nothing_later s
+unit_told [] s h = refl
+unit_told (b ∷ t) s h = ap (λ v. if v && bytes_eq t [] then literal_unit
+    (nothing_later s) (codes "@") else each_line_end move_to (b ∷ t) (nothing_later s)) h.0
+    ∙ none_to_come move_to (b ∷ t) s
+
+units_told : (us : List (List ℕ)) (s : ScanState) → HasNone (flat_map (λ u. u) us)
+    → fold literal_unit (nothing_later s) us ≡ nothing_later s
+units_told [] s h = refl
+units_told (u ∷ us) s h =
+    let p = none_apart u (flat_map (λ u. u) us) h in
+    ap (λ (q : Reading). fold literal_unit q us) (unit_told u s p.0) ∙ units_told us s p.1
+
+-- LITERALS
+
+abbrev pub literal_reach : List ℕ → End → Reach
+literal_reach u e =
+    let n = literal_prefix u in reach (look_in_literal (quote_of (drop n u))) e (drop (n + 1) u)
+
+same_reach : (u : List ℕ) → is_unclosed (literal_reach u Open).how ≡ false → literal_reach u Cut ≡ literal_reach u Open
+same_reach u ends =
+    let n = literal_prefix u in
+    let quote = quote_of (drop n u) in
+    ended_same (look_in_literal quote) Cut (drop (n + 1) u) (literal-local quote [] refl)
+    (ended_whole (look_in_literal quote) (literal-some quote) (drop (n + 1) u) ends) ends
+
+literal_gives : (n : ℕ) (u : List ℕ) (s new : ScanState) (r : Reached) → r ≡ reached (literal_reach u Open)
+    → r.how ≡ Closed → n ≡ literal_prefix u + 1 + (r.size + r.close) → HasNone (take n u)
+    → new ≡ emit (Literal (take n u)) s → Applies (literal_match u) u n s new
+literal_gives n u s new r is closed size none made =
+    let k = literal_prefix u + 1 in
+    let look = look_in_literal (quote_of (drop (literal_prefix u) u)) in
+    let m = literal_reach u Cut in
+    let us = take k u ∷ m.units ++ take m.close (drop (k + length (body m)) u) ∷ [] in
+    let ends = sym (ap (λ (v : Reached). is_unclosed v.how) is) ∙ ap is_unclosed closed in
+    let same : r ≡ reached m = is ∙ ap reached (sym (same_reach u ends)) in
+    let fits : n ≡ k + reach_size m = size ∙ ap (λ (v : Reached). k + (v.size + v.close)) same in
+    let bytes : flat_map (λ u. u) us ≡ take n u =
+    quoted-bytes look (literal-some (quote_of (drop (literal_prefix u) u))) k u ∙ ap (λ j. take j u) (sym fits) in
+    let clean = subst HasNone (sym bytes) none in
+    let how : m.how ≡ Closed = sym (ap (λ (v : Reached). v.how) same) ∙ closed in
+    record {
+      size = fits;
+      state = made ∙ ap (λ x. emit (Literal x) s) (sym bytes ∙ sym (text_stays us clean))
+          ∙ ap (λ (e : End). emit_literal (unescaped us) e s.here s) (sym how)
+          ∙ ap (λ (q : Reading). emit_literal (unescaped us) m.how s.here q.state) (sym (units_told us s clean));
+    }
+
+pub literal_turn : (n : ℕ) (u : List ℕ) (s new : ScanState) (r : Reached) → IsLine u → 1 ≤ length u → IsPlainC s
+    → rule.Literal ≡ c_rule false u → r ≡ reached (literal_reach u Open) → r.how ≡ Closed
+    → n ≡ literal_prefix u + 1 + (r.size + r.close) → HasNone (take n u) → new ≡ emit (Literal (take n u)) s
+    → TakesPlain n u s new
+literal_turn n u s new r line some h is reach closed size none made =
+    ended_turn n u s new rule.Literal line some h is (sym (ap (λ (v : Reached). is_unclosed v.how) reach)
+    ∙ ap is_unclosed closed) (literal_gives n u s new r reach closed size none made)

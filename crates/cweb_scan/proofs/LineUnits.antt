@@ -1,0 +1,21 @@
+-- The units of a literal in one line: they leave the places of later lines as they are.
+use Rattle.cweb_scan.proofs.Common.{◌≡◌, ℕ, true, false, List, [], ◌∷◌, refl, ap, ◌∙◌, if◌then◌else◌, codes, bytes_eq, fold, Place, DoubleAtInString, Reading, on, literal_unit, IsLine, unit_state, ScanState, report, move_to}
+use Rattle.cweb_rules.proofs.InLines.{AreLines}
+use Rattle.cweb_scan.proofs.LineHasNoNewline.{none-line}
+
+abbrev pub reading : ScanState → List Place → Reading
+reading s later = record { state = s; later = later }
+
+pub one-unit : (s : ScanState) (later : List Place) (u : List ℕ) → IsLine u
+    → literal_unit (reading s later) u ≡ reading (unit_state s u) later
+one-unit s later u h = ap (λ (r : Reading). if bytes_eq u
+    (codes "@") then on (report DoubleAtInString) (reading s later) else r) (none-line move_to u (reading s later) h)
+    ∙ (elim (bytes_eq u (codes "@")) as (λ v. (if v then on (report DoubleAtInString) (reading s later)
+    else reading s later) ≡ reading (if v then report DoubleAtInString s else s) later) [ true ↦ refl | false ↦ refl ])
+
+-- within a line the units make of the state what they make, whatever lines follow
+pub units_line : (s : ScanState) (later : List Place) (us : List (List ℕ)) → AreLines us
+    → fold literal_unit (reading s later) us ≡ reading (fold unit_state s us) later
+units_line s later [] h = refl
+units_line s later (u ∷ us) h =
+    ap (λ (r : Reading). fold literal_unit r us) (one-unit s later u h.0) ∙ units_line (unit_state s u) later us h.1

@@ -1,0 +1,7 @@
+-- What the rules name where a text goes on is fair.
+use Rattle.cweb_scan.proofs.Common.{ℕ, List, ◌∷◌, names_include, next_match, ScanState}
+use Rattle.cweb_rules.specs.laws.Pays.{FitsAndPays}
+use Rattle.cweb_rules.proofs.MatchesPay.{front_in-fair}
+
+pub fair : (s : ScanState) (b : ℕ) (t : List ℕ) → FitsAndPays s.context (b ∷ t) (next_match s (b ∷ t))
+fair s b t = front_in-fair s.context (names_include s) b t

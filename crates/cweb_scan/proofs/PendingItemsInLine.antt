@@ -1,0 +1,103 @@
+-- An item or a comment that is open: what a line makes of it.
+use Rattle.cweb_scan.proofs.Common.{◌≡◌, ◌<◌, ℕ, zero, suc, ◌+◌, ◌-◌, true, false, List, [], ◌∷◌, ◌++◌, length, take, drop, refl, ap, sym, ◌∙◌, arith, length-append, take-append-drop, codes, flat_map, flat_map-append, take-append-le, drop-append-le, take-append-add, drop-append-add, Place, Reading, on, comment_line_end, pass_comment, begins, Look, Goes, Ends, Reach, reach, reach_in, body, reach_size, End, Cut, Open, look_in_comment, AtLineEnd, is_unclosed, InComment, resume, IsLine, lex}
+use Rattle.cweb_scan.proofs.Ends.{at_front}
+use Rattle.cweb_rules.specs.Items as items
+use Rattle.cweb_rules.proofs.InLines.{IsLine-take}
+use Rattle.cweb_rules.proofs.Reaches.{IsEnd, IsLocal, IsWhole, join, reach-append}
+use Rattle.cweb_rules.proofs.Looks.{reach_ends, whole, comment-local, comment-units}
+use Rattle.cweb_rules.proofs.Seams.{begins_line}
+use Rattle.cweb_rules.proofs.Sizes.{reach-size, comment-within, begins-size}
+use Rattle.cweb_scan.proofs.LineHasNoNewline.{each-line, none-line}
+
+-- AN ITEM THAT STAYS OPEN
+
+pub whole-end : (how : End) → IsEnd how → is_unclosed how ≡ false
+whole-end Open h = absurd h
+whole-end _ h = refl
+
+-- its units are all bytes before the seam
+body_at : (look : List ℕ → Look) (b : ℕ) (t : List ℕ) (v : Look)
+    → (elim v as (λ w. Type 0) [ Goes n ↦ (0 < n) × IsWhole look (n - 1) t | Ends n how ↦ IsEnd how ])
+    → ((k : ℕ) → IsWhole look k t → is_unclosed (reach_in look Open k t).how ≡ true → body (reach_in look Open k t)
+    ≡ drop k t) → is_unclosed (at_front look v (b ∷ t) Open t).how ≡ true
+    → body (at_front look v (b ∷ t) Open t) ≡ b ∷ t
+body_at look b t (Ends n how) h f g = let wrong : true ≡ false = sym g ∙ whole-end how h in cc
+body_at look b t (Goes n) h f g =
+    let e : n ≡ suc (n - 1) = omega (arith, h.0) in
+    ap (λ w. take n (b ∷ t) ++ w) (f (n - 1) h.1 g)
+    ∙ ap (λ w. take n (b ∷ t) ++ w) (sym (ap (λ m. drop m (b ∷ t)) e)) ∙ take-append-drop n (b ∷ t)
+
+open_body_in : (look : List ℕ → Look) (k : ℕ) (t : List ℕ) → IsWhole look k t
+    → is_unclosed (reach_in look Open k t).how ≡ true → body (reach_in look Open k t) ≡ drop k t
+open_body_in look zero [] w h = refl
+open_body_in look (suc k) [] w h = refl
+open_body_in look (suc k) (b ∷ t) w h = open_body_in look k t w h
+open_body_in look zero (b ∷ t) w h = body_at look b t (look (b ∷ t)) w (λ k v g. open_body_in look k t v g) h
+
+pub open_body : (look : List ℕ → Look) (t : List ℕ) → IsWhole look 0 t
+    → is_unclosed (reach look Open t).how ≡ true → body (reach look Open t) ≡ t
+open_body look t w h = open_body_in look 0 t w h
+
+abbrev pub after_units : List (List ℕ) → Reach → Reach
+after_units us m = record { units = us ++ m.units; close = m.close; how = m.how }
+
+join-open : (us : List (List ℕ)) (n : ℕ) (how : End) (m : Reach) → is_unclosed how ≡ true
+    → join (record { units = us; close = n; how = how }) m ≡ after_units us m
+join-open us n Open m h = refl
+join-open us n _ m h = cc
+
+pub reach-open : (look : List ℕ → Look) (e : End) (t more : List ℕ)
+    → IsLocal look more → IsWhole look 0 t → is_unclosed (reach look Open t).how ≡ true
+    → reach look e (t ++ more) ≡ after_units (reach look Open t).units (reach look e more)
+reach-open look e t more local w h =
+    let r = reach look Open t in
+    reach-append look e t more local w ∙ join-open r.units r.close r.how (reach look e more) h
+
+pub size-open : (us : List (List ℕ)) (t : List ℕ) (m : Reach) → flat_map (λ u. u) us ≡ t
+    → length (body (after_units us m)) ≡ length t + length (body m)
+size-open us t m h =
+    ap (λ (x : List ℕ). length x) (flat_map-append (λ u. u) us m.units)
+    ∙ length-append (flat_map (λ u. u) us) (body m) ∙ ap (λ (x : List ℕ). length x + length (body m)) h
+
+pub sizes : (us : List (List ℕ)) (t : List ℕ) (m : Reach)
+    → flat_map (λ u. u) us ≡ t → reach_size (after_units us m) ≡ length t + reach_size m
+sizes us t m h = omega (arith, size-open us t m h)
+
+-- COMMENTS
+
+comment-sees : (more : List ℕ) → AtLineEnd more → IsLocal (look_in_comment (begins (codes "*/")) 2) more
+comment-sees more e = comment-local (begins (codes "*/")) 2 more e (λ b u. begins_line (codes "*/") (b ∷ u) more refl e)
+
+-- a comment that goes on after the line
+pub comment_stays : (begun : Place) (t more : List ℕ) (m : Reading) → AtLineEnd more
+    → IsLine t → is_unclosed (reach (look_in_comment (begins (codes "*/")) 2) Open t).how ≡ true
+    → resume (InComment begun) (t ++ more) m ≡ resume (InComment begun) more m
+comment_stays begun t more m e line h =
+    let look = look_in_comment (begins (codes "*/")) 2 in
+    let w = whole look (comment-units (begins (codes "*/")) 2) t in
+    let n = reach_size (items.reach_of_comment more) in
+    rw (
+      reach-open look Cut t more (comment-sees more e) w h,
+      sizes (reach look Open t).units t (items.reach_of_comment more) (open_body look t w h),
+      take-append-add t more n,
+      each-line comment_line_end t (take n more) m line,
+      drop-append-add t more n,
+    ) refl
+
+-- a comment that ends in the line
+pub comment_ends : (begun : Place) (t more : List ℕ) (m : Reading) → AtLineEnd more
+    → IsLine t → is_unclosed (reach (look_in_comment (begins (codes "*/")) 2) Open t).how ≡ false
+    → resume (InComment begun) (t ++ more) m
+    ≡ lex (on (pass_comment (items.reach_of_comment t).how begun) m) (drop (reach_size (items.reach_of_comment t)) t
+    ++ more)
+comment_ends begun t more m e line h =
+    let look = look_in_comment (begins (codes "*/")) 2 in
+    let n = reach_size (items.reach_of_comment t) in
+    let fits = reach-size look Cut (comment-within (begins (codes "*/")) 2 (begins-size (codes "*/"))) t in
+    rw (
+      reach_ends look Cut t more (comment-sees more e) (comment-sees [] tt)
+          (whole look (comment-units (begins (codes "*/")) 2) t) h,
+      take-append-le n t more fits,
+      none-line comment_line_end (take n t) m (IsLine-take n t line),
+      drop-append-le n t more fits,
+    ) refl

@@ -1,0 +1,84 @@
+-- The open item as the code keeps it: what a turn leaves of it, seen through the reader's fields.
+use Rattle.cweb_scan.proofs.Common.{◌≡◌, ℕ, Bool, true, false, List, ◌++◌, refl, ap, sym, ◌∙◌, subst, list_all, Place, delimiter, unit_bytes, Context, Look, ReaderModel, in_open_part, pending_bytes, with_pending_bytes, delimiter_of, literal_step, look_size, TakesPending, item_of, is_raw, HasRawCloser, PendingItem, Between, InComment, InName, InRaw, closer_of}
+use Rattle.cweb_rules.proofs.LineDelimiters.{closing_sign-in_line}
+use Rattle.cweb_rules.proofs.Seams.{in_line}
+use Rattle.cweb_scan.specs.declared.reader.open.Open.{Open}
+use Rattle.cweb_scan.specs.declared.reader.open.Open.TheVariants as code
+use Rattle.cweb_scan.proofs.OpeningSteps.{opened}
+
+pub open_at : (n : ℕ) (u : List ℕ) (h v : ReaderModel) → v ≡ h → (i : PendingItem) → h.item ≡ i
+    → (new made : ReaderModel)
+    → new ≡ made → TakesPending n u (opened v.state v.begun i) made → TakesPending n u h new
+open_at n u h v is i item new made same takes =
+    let old : opened v.state v.begun i ≡ h = ap (λ (k : ReaderModel). opened k.state k.begun i) is
+    ∙ (λ j. record { state = h.state; item = sym item j; begun = h.begun }) in
+    subst (λ (k : ReaderModel). TakesPending n u k new) old
+    (subst (λ (k : ReaderModel). TakesPending n u (opened v.state v.begun i) k) (sym same) takes)
+
+pub item_texted : (o : Open) (d t now : List ℕ) → item_of o d now ≡ with_pending_bytes now (item_of o d t)
+item_texted code.Between d t now = refl
+item_texted _ d t now = refl
+
+abbrev pub has_text : PendingItem → Bool
+has_text i =
+    elim i [
+      | Between ↦ false
+      | InComment begun ↦ false
+      | _ ↦ true
+    ]
+
+pub text_kept : (o : Open) (d t : List ℕ) → has_text (item_of o d t) ≡ true → t ≡ pending_bytes (item_of o d t)
+text_kept code.Between d t h = cc
+text_kept (code.Comment begun) d t h = cc
+text_kept _ d t h = refl
+
+abbrev is_raw_item : PendingItem → Bool
+is_raw_item i =
+    elim i [
+      | InRaw begun delimiter text ↦ true
+      | _ ↦ false
+    ]
+
+raw_kept : (o : Open) (d t : List ℕ) → is_raw_item (item_of o d t) ≡ true
+    → (is_raw o ≡ true) × (d ≡ delimiter_of (item_of o d t))
+raw_kept (code.Raw begun) d t h = (refl, refl)
+raw_kept _ d t h = cc
+
+-- the closing sign that the code keeps
+pub sign_kept : (o : Open) (c : Context) (d t sign : List ℕ) (h : ReaderModel) (begun : Place) → item_of o d t ≡ h.item
+    → h.item ≡ InRaw begun (delimiter_of h.item) (pending_bytes h.item) → HasRawCloser o c d sign
+    → (sign ≡ closer_of (delimiter_of h.item)) × (list_all in_line (closer_of (delimiter_of h.item)) ≡ true)
+sign_kept o c d t sign h begun is item signed =
+    let raw = raw_kept o d t (ap is_raw_item (is ∙ item)) in
+    let same : sign ≡ closer_of (delimiter_of h.item) = signed.signed raw.0
+    ∙ ap closer_of (raw.1 ∙ ap delimiter_of is) in
+    (same, ap (λ (x : List ℕ). list_all in_line x) (sym same) ∙ signed.clean raw.0)
+
+-- a name whose text the code has made longer
+pub name_texted : (o : Open) (d t now : List ℕ) (h : ReaderModel) (begun : Place) (is_file : Bool) (unit : List ℕ)
+    → item_of o d t ≡ h.item → h.item ≡ InName begun is_file (pending_bytes h.item) → now ≡ t ++ unit_bytes unit
+    → item_of o d now ≡ InName begun is_file (pending_bytes h.item ++ unit_bytes unit)
+name_texted o d t now h begun is_file unit is item longer =
+    let kept : t ≡ pending_bytes h.item = text_kept o d t (ap has_text (is ∙ item)) ∙ ap pending_bytes is in
+    item_texted o d t now ∙ ap (with_pending_bytes now) (is ∙ item)
+    ∙ ap (λ (x : List ℕ). InName begun is_file x) (longer ∙ ap (λ (x : List ℕ). x ++ unit_bytes unit) kept)
+
+-- a literal's turn as the code takes it
+pub turn_at : (n : ℕ) (look : Look) (begun : Place) (u : List ℕ) (h new : ReaderModel) (i : PendingItem)
+    → h.item ≡ i → n ≡ look_size look → new ≡ literal_step look begun u h
+    → TakesPending (look_size look) u (opened h.state h.begun i) (literal_step look begun u (opened h.state h.begun i))
+    → TakesPending n u h new
+turn_at n look begun u h new i item size made takes =
+    let old : opened h.state h.begun i ≡ h = (λ j. record { state = h.state; item = sym item j; begun = h.begun }) in
+    subst (λ (k : ℕ). TakesPending k u h new) (sym size)
+    (subst (λ (k : ReaderModel). TakesPending (look_size look) u h k)
+    (sym made) (subst (λ (k : ReaderModel). TakesPending (look_size look) u k (literal_step look begun u k)) old takes))
+
+-- a raw literal's closing sign as the code makes it
+pub raw_signed : (c : Context) (p : Place) (t d kept sign : List ℕ) → d ≡ delimiter t
+    → kept ≡ d → sign ≡ closer_of d → in_open_part c ≡ true → HasRawCloser (code.Raw p) c kept sign
+raw_signed c p t d kept sign name same is part = record {
+  signed = λ h. is ∙ ap closer_of (sym same);
+  clean = λ h. ap (λ (x : List ℕ). list_all in_line x) (is ∙ ap closer_of name) ∙ closing_sign-in_line t;
+  in_part = λ h. part;
+}

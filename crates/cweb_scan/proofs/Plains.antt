@@ -1,0 +1,134 @@
+-- Plain C text: that a piece that its first byte tells is taken rightly.
+use Rattle.cweb_scan.proofs.Common.{◌≡◌, ◌≤◌, ℕ, true, false, ◌&&◌, not, List, [], ◌∷◌, Option, Some, None, length, take, refl, ap, sym, ◌∙◌, subst, if◌then◌else◌, codes, option_map, prefix_len, part_with_token, Token, Word, Punct, Blank, Newline, Part, is_blank, is_word_byte, in_c, IsLine, c_rule, c_match_by, Context, CText, Rule, punctuator, directive, is_c, names_include, Applies, is_head, in_open_part, TakesPlain, ScanState, emit, tokens_of}
+use Rattle.std.proofs.lemmas.List.Sums.{fold-append}
+use Rattle.cweb_scan.specs.DirectiveTokens.{directive_of, directive_tokens, ends_line, is_punct, is_some, directive_after}
+use Rattle.cweb_scan.specs.inner.Stages.{next_open_stage, continues_line, is_after_line_end, is_outside, last_kind, next_stage, new_directive, after_token}
+use Rattle.cweb_scan.specs.inner.DirectiveInvariant.{IsTied}
+use Rattle.cweb_scan.specs.inner.Plain.{IsPlainC, IsPlainToken}
+use Rattle.cweb_scan.specs.inner.FirstRule.{ends_macro_line}
+use Rattle.cweb_scan.specs.declared.directive.Directive.{Directive}
+use Rattle.cweb_scan.specs.declared.directive.Stage.{Stage}
+use Rattle.cweb_scan.specs.declared.directive.Stage.TheVariants.{Outside, Bare}
+use Rattle.std.proofs.lemmas.Bool.{not-false}
+use Rattle.cweb_rules.specs.declared.rule.Rule.TheVariants as rule
+use Rattle.cweb_scan.specs.DirectiveTokens as spec
+use Rattle.cweb_scan.specs.declared.directive.Last.TheVariants as last
+use Rattle.cweb_scan.proofs.InLineItemSteps.{closed_at}
+use Rattle.cweb_scan.proofs.PlainFirsts.{IsSign}
+use Rattle.cweb_scan.proofs.InLineRules.{closes, rule_closed}
+use Rattle.cweb_scan.proofs.Steps.{outside-seen}
+use Rattle.cweb_scan.proofs.TiedSteps.{tied_given}
+use Rattle.cweb_scan.proofs.FirstMatchTaken.{between}
+
+-- DIRECTIVES
+
+no_more : (o : Option Part) (t : Token) → is_some (directive_of (tokens_of o)).tokens ≡ false
+    → is_punct (codes "#") (Some t) ≡ false
+    → is_some (directive_of (tokens_of (option_map (part_with_token t) o))).tokens ≡ false
+no_more None t h plain = h
+no_more (Some p) t h plain =
+    let d = directive_of p.tokens in
+    ap (λ (e : spec.Directive). is_some e.tokens)
+    (fold-append directive_after (record { tokens = None; last = None }) p.tokens (t ∷ []))
+    ∙ none_opens d.tokens d.last t h plain
+  where
+    none_opens : (o : Option (List Token)) (l : Option Token) (t : Token) → is_some o ≡ false
+        → is_punct (codes "#") (Some t) ≡ false → is_some (directive_tokens o l t) ≡ false
+    none_opens None l t h plain = ap (λ v. is_some (if v && ends_line l then Some [] else None)) plain
+    none_opens (Some ts) l t h plain = cc
+
+pub none_open : (s : ScanState) → IsPlainC s → is_some (directive s).tokens ≡ false
+none_open s h = ap (λ (c : Context). is_c c && is_some (directive s).tokens) (sym h.in_c) ∙ h.outside
+
+pub stays_plain : (s : ScanState) (t : Token) → IsPlainC s → IsPlainToken t → IsPlainC (emit t s)
+stays_plain s t h plain = record {
+  in_c = h.in_c;
+  outside = ap (λ (c : Context). is_c c && is_some (directive (emit t s)).tokens) h.in_c
+      ∙ no_more s.contents.parts.current t (none_open s h) plain.hash;
+}
+
+stage_outside : (g : Stage) → is_outside g ≡ true → g ≡ Outside
+stage_outside Outside h = refl
+stage_outside _ h = cc
+
+step_plain : (d : Directive) (t : Token) → is_outside d.stage ≡ true → IsPlainToken t → after_token d t ≡ new_directive
+step_plain d t h plain =
+    (λ i. record {
+      stage = if h i then (if is_punct (codes "#") (Some t) && is_after_line_end d.last then Bare else Outside)
+          else (if is_after_line_end (last_kind t) && not
+          (continues_line d.last t) then Outside else next_open_stage d.stage t);
+      last = plain.last i;
+    }) ∙ ap (λ v. record {
+      stage = if v && is_after_line_end d.last then Bare else Outside;
+      last =
+          new_directive.last;
+    }) plain.hash
+
+-- what is kept after a plain token
+pub tied_plain : (d l : Directive) (c : Context) (o : Option Part) (t : Token) → IsTied d l c o → is_c c ≡ true
+    → in_open_part c ≡ true → is_some (directive_of (tokens_of o)).tokens ≡ false → IsPlainToken t
+    → IsTied new_directive new_directive c (option_map (part_with_token t) o)
+tied_plain d l c o t tied in_c part none plain =
+    let is_out = ap (λ (e : Directive). is_outside e.stage) (tied.directive_is in_c)
+    ∙ not-false _ (outside-seen (directive_of (tokens_of o)).tokens ∙ none) in
+    let stepped = step_plain d t is_out plain in
+    subst (λ (e : Directive). IsTied e new_directive c (option_map (part_with_token t) o)) stepped
+    (subst (λ (e : Directive). IsTied (after_token d t) e c (option_map (part_with_token t) o))
+    (ap (λ v. if v then l else after_token d t) plain.solid ∙ stepped) (tied_given d l c o t tied part))
+
+-- what is kept after a line end where no directive is open
+step_newline : (d : Directive) → is_outside d.stage ≡ true
+    → after_token d Newline ≡ record { stage = d.stage; last = last.LineEnd }
+step_newline d h = λ i. record { stage = (stays h ∙ sym (stage_outside d.stage h)) i; last = last.LineEnd }
+  where
+    stays : is_outside d.stage ≡ true → next_stage d Newline ≡ Outside
+    stays h =
+        ap (λ v. if v then Outside else
+        (if not (continues_line d.last Newline) then Outside else next_open_stage d.stage Newline)) h
+
+pub tied_newline : (d l : Directive) (c : Context) (o : Option Part) → IsTied d l c o → is_c c ≡ true
+    → in_open_part c ≡ true → is_some (directive_of (tokens_of o)).tokens ≡ false
+    → IsTied (record { stage = d.stage; last = last.LineEnd }) l c (option_map (part_with_token Newline) o)
+tied_newline d l c o tied in_c part none =
+    let is_out = ap (λ (e : Directive). is_outside e.stage) (tied.directive_is in_c)
+    ∙ not-false _ (outside-seen (directive_of (tokens_of o)).tokens ∙ none) in
+    subst (λ (e : Directive). IsTied e l c (option_map (part_with_token Newline) o)) (step_newline d is_out)
+    (tied_given d l c o Newline tied part)
+
+-- PIECES
+
+-- the rule that fits in C text where this was read before
+abbrev pub rule_at : ScanState → List ℕ → Rule
+rule_at s u = c_rule (is_c s.context && names_include s) u
+
+pub turn : (n : ℕ) (u : List ℕ) (s new : ScanState) (r : Rule) → IsLine u → 1 ≤ length u → s.context ≡ CText
+    → r ≡ rule_at s u → closes r ≡ true → Applies (c_match_by in_c false u r) u n s new → TakesPlain n u s new
+turn n u s new r line some c_text is closed gives =
+    let f = rule_closed s.context (names_include s) u r (ap in_open_part c_text)
+    (ap (λ (c : Context). ends_macro_line c u) c_text) is closed in
+    record {
+      taken = λ g. (closed_at n u (between s g) (between s g) new (c_match_by in_c false u r) refl refl
+          (ap is_head c_text) line some f.0 f.1 gives).taken;
+    }
+
+pub blanks_turn : (n : ℕ) (u : List ℕ) (s : ScanState) → IsLine u → 1 ≤ length u → IsPlainC s
+    → rule.Blanks ≡ rule_at s u → n ≡ prefix_len is_blank u → TakesPlain n u s s
+blanks_turn n u s line some h is size = turn n u s s rule.Blanks line some h.in_c is refl
+    (record {
+      size = size;
+      state = sym (ap (λ v. if v && not (spec.is_last_blank (directive s).last) then emit Blank s else s) h.outside);
+    })
+
+pub word_turn : (n : ℕ) (u : List ℕ) (s new : ScanState) → IsLine u → 1 ≤ length u → s.context ≡ CText → rule.Identifier
+    ≡ rule_at s u → n ≡ prefix_len is_word_byte u → new ≡ emit (Word (take n u)) s → TakesPlain n u s new
+word_turn n u s new line some c_text is size made = turn n u s new rule.Identifier line some c_text is refl
+    (record { size = size; state = made ∙ ap (λ k. emit (Word (take k u)) s) size })
+
+pub sign_turn : (u : List ℕ) (s new : ScanState) → IsLine u → 1 ≤ length u → IsPlainC s → rule.Punctuator ≡ rule_at s u
+    → IsSign u → new ≡ record (emit (Punct (take 1 u)) s) { folded = false } → TakesPlain 1 u s new
+sign_turn u s new line some h is sign made = turn 1 u s new rule.Punctuator line some h.in_c is refl
+    (record {
+      size = sym sign.size;
+      state = made ∙ ap (λ v. record (emit (Punct (take 1 u)) s) { folded = v && s.folded }) (sym h.outside)
+          ∙ ap (λ k. punctuator (take k u) s) (sym sign.size);
+    })

@@ -1,0 +1,52 @@
+-- The rest of a line: all of it, and text before the next `@`.
+use Rattle.cweb_scan.proofs.Common.{◌≡◌, ℕ, ◌+◌, Bool, true, false, ◌==◌, not, List, [], ◌∷◌, refl, ap, sym, if◌then◌else◌, prefix_len, starts_section, match_in, Skipped, rule_match, IsLine, opens_in, Context, Limbo, TeX, Definition, Macro, CText, Reading, names_include, is_head, is_skipped, TakesPrefix, ScanState, move_to}
+use Rattle.cweb_scan.proofs.Ends.{none_to_come}
+use Rattle.cweb_scan.proofs.FirstMatchTaken.{between}
+use Rattle.cweb_scan.proofs.ClosedItemSteps.{closed_takes}
+use Rattle.cweb_scan.proofs.RestByLexemes.{takes_none, takes_both}
+use Rattle.cweb_rules.proofs.TokensStay.{no_section}
+use Rattle.cweb_rules.proofs.PlainSpans.{turned}
+
+-- ONE PIECE AND THEN ANOTHER
+
+-- LIMBO AND TEXT
+
+abbrev pub is_text : Context → Bool
+is_text c = elim c [ Limbo ↦ true | TeX ↦ true | Definition begun ↦ false | Macro ↦ false | CText ↦ false ]
+
+skipped_front : (c : Context) (includes : Bool) (b : ℕ) (t : List ℕ) → is_text c ≡ true
+    → starts_section (b ∷ t) ≡ false → (64 == b) ≡ false → match_in c includes (b ∷ t) ≡ rule_match Skipped 1
+skipped_front Limbo includes b t c s h = rw (s, h)
+skipped_front TeX includes b t c s h = rw (s, h)
+skipped_front _ includes b t c s h = cc
+
+skipped_opens : (c : Context) (b : ℕ) (t : List ℕ) → is_text c ≡ true
+    → starts_section (b ∷ t) ≡ false → (64 == b) ≡ false → opens_in c (b ∷ t) ≡ false
+skipped_opens Limbo b t c s h = rw (s, h)
+skipped_opens TeX b t c s h = rw (s, h)
+skipped_opens _ b t c s h = cc
+
+no_head : (c : Context) → is_text c ≡ true → is_head c ≡ false
+no_head (Definition begun) h = cc
+no_head _ h = refl
+
+one_skipped : (s : ScanState) (g : Bool) (b : ℕ) (t : List ℕ) → is_text s.context ≡ true → IsLine (b ∷ t)
+    → (b == 64) ≡ false → (64 == b) ≡ false → TakesPrefix 1 (b ∷ t) (between s g) (between s g)
+one_skipped s g b t c line h k =
+    let section = no_section b t h in
+    closed_takes s s g 1 b t (rule_match Skipped 1) line (no_head s.context c)
+    (skipped_front s.context (names_include s) b t c section k) (skipped_opens s.context b t c section k) (record {
+      size = refl;
+      state = sym (ap (λ (r : Reading). r.state) (none_to_come move_to (b ∷ []) s));
+    })
+
+-- what stands before the first `@` is skipped
+pub skipped_takes : (s : ScanState) (g : Bool) (u : List ℕ) → is_text s.context ≡ true
+    → IsLine u → TakesPrefix (prefix_len is_skipped u) u (between s g) (between s g)
+skipped_takes s g [] c line = takes_none [] (between s g)
+skipped_takes s g (b ∷ t) c line = (elim (b == 64) as (λ v. (b == 64) ≡ v
+    → TakesPrefix (if not v then 1 + prefix_len is_skipped t else 0) (b ∷ t) (between s g) (between s g)) [
+      | true ↦ λ h. takes_none (b ∷ t) (between s g)
+      | false ↦ λ h. takes_both 1 (prefix_len is_skipped t)
+          (b ∷ t) _ _ _ (one_skipped s g b t c line h (turned 64 b h)) (skipped_takes s g t c line.1)
+    ]) refl

@@ -1,0 +1,37 @@
+-- Plain C text: the turn behind its pieces.
+use Rattle.cweb_scan.proofs.Common.{◌≡◌, ◌≤◌, ◌<◌, ℕ, ◌+◌, ◌*◌, false, List, length, drop, ap, sym, ◌∙◌, subst, arith, length-drop, too_many, ReaderModel, cost, TakesPrefix, awaits_line_end, TakesPlain, PendingItem, Between, HasItemRoom, ScanState, MakesProgress}
+use Rattle.cweb_scan.proofs.InLineItemSteps.{at_item}
+use Rattle.cweb_scan.proofs.RestByLexemes.{takes_both}
+
+-- THE READER
+
+pub plain_held : (n : ℕ) (u : List ℕ) (h v : ReaderModel) (new : ScanState) → v ≡ h → h.item ≡ Between
+    → TakesPlain n u v.state new → TakesPrefix n u h (at_item v new)
+plain_held n u h v new is none t =
+    let item : v.item ≡ Between = ap (λ (k : ReaderModel). k.item) is ∙ none in
+    subst (λ (k : ReaderModel). TakesPrefix n u k (at_item v new)) is
+    (subst (λ (i : PendingItem). TakesPrefix n u (record { state = v.state; item = i; begun = v.begun })
+    (record { state = new; item = i; begun = v.begun })) (sym item) (t.taken v.begun))
+
+pub plain_all : (n : ℕ) (u : List ℕ) (h new : ReaderModel) → TakesPrefix n u h new → awaits_line_end new.item ≡ false
+    → length (drop n u) ≡ 0 → 1 ≤ length u → MakesProgress n u h new
+plain_all n u h new t within none some =
+    record { some = omega (arith, length-drop n u, none, some, t.within); within = within; taken = t }
+
+pub plain_then : (n m : ℕ) (u after : List ℕ) (h mid new : ReaderModel) → TakesPrefix n u h mid → after ≡ drop n u
+    → MakesProgress m after mid new → MakesProgress (n + m) u h new
+plain_then n m u after h mid new t is p = record {
+  some = omega (arith, p.some);
+  within = p.within;
+  taken = takes_both n m u h mid new t (subst (λ (w : List ℕ). TakesPrefix m w mid new) is p.taken);
+}
+
+pub plain_room : (n : ℕ) (u : List ℕ) (h new : ReaderModel) → TakesPrefix n u h new
+    → cost h + 3 * length u + 8 < too_many
+    → HasItemRoom 2 new.state
+plain_room n u h new t room = record {
+  for_tokens = omega (arith, t.adds, t.within, room);
+  for_a_part = omega (arith, t.adds, t.within, room);
+  for_an_occurrence = omega (arith, t.adds, t.within, room);
+  for_a_section = omega (arith, t.adds, t.within, room);
+}

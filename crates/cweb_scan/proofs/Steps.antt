@@ -1,0 +1,132 @@
+-- The code's directive follows that of the tokens.
+use Rattle.cweb_scan.proofs.Common.{◌≡◌, Bool, true, false, ◌&&◌, not, List, [], ◌∷◌, ◌++◌, Option, Some, None, refl, ap, sym, ◌∙◌, codes, bytes_eq, if◌then◌else◌, Token, Word, Number, Literal, Verbatim, Punct, Blank, Newline, Join, Defs, Name, Head, Tail, Mark}
+use Rattle.std.proofs.lemmas.List.Sums.{fold-append}
+use Rattle.cweb_scan.specs.declared.directive.Stage.{Stage}
+use Rattle.cweb_scan.specs.declared.directive.Stage.TheVariants.{Outside, Bare, Include, Further}
+use Rattle.cweb_scan.specs.DirectiveTokens.{is_bare, is_bare_include, is_punct, ends_line, directive_tokens, directive_after, directive_of, some_include, is_some, is_line_continued}
+use Rattle.cweb_scan.specs.inner.Stages.{last_kind, maybe_last_kind, stage_of, directive_model, is_after_line_end, is_after_backslash, is_outside, is_bare_stage, is_include_stage, next_open_stage, next_stage, after_token}
+use Rattle.cweb_scan.specs.declared.directive.Last.TheVariants as last
+use Rattle.cweb_scan.specs.DirectiveTokens as spec
+use Rattle.cweb_scan.specs.inner.Stages as kept
+
+other_last : (v : Bool) → is_after_line_end (if v then last.Backslash else last.Other) ≡ false
+other_last true = refl
+other_last false = refl
+
+backslash_last : (v : Bool) → is_after_backslash (if v then last.Backslash else last.Other) ≡ v
+backslash_last true = refl
+backslash_last false = refl
+
+ends-seen : (o : Option Token) → is_after_line_end (maybe_last_kind o) ≡ ends_line o
+ends-seen None = refl
+ends-seen (Some (Punct b)) = other_last (bytes_eq b (codes "\\"))
+ends-seen (Some Newline) = refl
+ends-seen (Some (Mark p)) = refl
+ends-seen (Some Blank) = refl
+ends-seen (Some (Word b)) = refl
+ends-seen (Some (Number b)) = refl
+ends-seen (Some (Literal b)) = refl
+ends-seen (Some (Verbatim b)) = refl
+ends-seen (Some Join) = refl
+ends-seen (Some Defs) = refl
+ends-seen (Some (Name n)) = refl
+ends-seen (Some (Head n)) = refl
+ends-seen (Some (Tail n)) = refl
+
+pub backslash-seen : (o : Option Token) → is_after_backslash (maybe_last_kind o) ≡ is_punct (codes "\\") o
+backslash-seen None = refl
+backslash-seen (Some (Punct b)) = backslash_last (bytes_eq b (codes "\\"))
+backslash-seen (Some Newline) = refl
+backslash-seen (Some (Mark p)) = refl
+backslash-seen (Some Blank) = refl
+backslash-seen (Some (Word b)) = refl
+backslash-seen (Some (Number b)) = refl
+backslash-seen (Some (Literal b)) = refl
+backslash-seen (Some (Verbatim b)) = refl
+backslash-seen (Some Join) = refl
+backslash-seen (Some Defs) = refl
+backslash-seen (Some (Name n)) = refl
+backslash-seen (Some (Head n)) = refl
+backslash-seen (Some (Tail n)) = refl
+
+over-seen : (o : Option Token) (t : Token) → kept.continues_line (maybe_last_kind o) t ≡ is_line_continued o t
+over-seen o Newline = backslash-seen o
+over-seen o _ = refl
+
+stage_when : (v : Bool) → stage_of (if v then Some [] else None) ≡ (if v then Bare else Outside)
+stage_when true = refl
+stage_when false = refl
+
+not_outside : (a b : Bool) → is_outside (if a then Bare else (if b then Include else Further)) ≡ false
+not_outside true b = refl
+not_outside false true = refl
+not_outside false false = refl
+
+bare_is : (a b : Bool) → is_bare_stage (if a then Bare else (if b then Include else Further)) ≡ a
+bare_is true b = refl
+bare_is false true = refl
+bare_is false false = refl
+
+stage_of_some : (ts : List Token) (t : Token) → stage_of (Some (t ∷ ts)) ≡ next_open_stage (stage_of (Some ts)) t
+stage_of_some ts (Word b) = ap
+    (λ v. if bytes_eq b (codes "include") && v then Include else Further)
+    (sym (bare_is (is_bare ts) (is_bare_include ts)))
+stage_of_some ts _ = refl
+
+choice : (v : Bool) (ts : List Token) (t : Token)
+    → stage_of (if v then None else Some (t ∷ ts)) ≡ (if v then Outside else next_open_stage (stage_of (Some ts)) t)
+choice true ts t = refl
+choice false ts t = stage_of_some ts t
+
+stage-seen : (o : Option (List Token)) (l : Option Token) (t : Token)
+    → stage_of (directive_tokens o l t) ≡ next_stage (record { stage = stage_of o; last = maybe_last_kind l }) t
+stage-seen None l t = stage_when (is_punct (codes "#") (Some t) && ends_line l)
+    ∙ ap (λ v. if is_punct (codes "#") (Some t) && v then Bare else Outside) (sym (ends-seen l))
+stage-seen (Some ts) l t = choice (ends_line (Some t) && not (is_line_continued l t)) ts t
+    ∙ (λ i.
+    if sym (ends-seen (Some t)) i && not (sym (over-seen l t) i) then Outside else next_open_stage
+    (stage_of (Some ts)) t)
+    ∙ ap (λ v. if v then
+    (if is_punct (codes "#") (Some t) && is_after_line_end (maybe_last_kind l) then Bare else Outside) else
+    (if is_after_line_end (last_kind t) && not
+    (kept.continues_line (maybe_last_kind l) t) then Outside else next_open_stage
+    (stage_of (Some ts)) t)) (sym (not_outside (is_bare ts) (is_bare_include ts)))
+
+step-seen : (d : spec.Directive) (t : Token) → directive_model (directive_after d t) ≡ after_token (directive_model d) t
+step-seen d t = ap (λ (g : Stage). record { stage = g; last = last_kind t }) (stage-seen d.tokens d.last t)
+
+pub directive-pushed : (ts : List Token) (t : Token)
+    → directive_model (directive_of (ts ++ t ∷ [])) ≡ after_token (directive_model (directive_of ts)) t
+directive-pushed ts t = ap directive_model (fold-append directive_after _ ts (t ∷ [])) ∙ step-seen (directive_of ts) t
+
+-- INCLUDED NAMES
+
+bare_includes : (ts : List Token) → is_bare ts ≡ true → is_bare_include ts ≡ false
+bare_includes [] h = refl
+bare_includes (Blank ∷ ts) h = bare_includes ts h
+bare_includes (Word b ∷ ts) h = cc
+bare_includes (Number b ∷ ts) h = refl
+bare_includes (Literal b ∷ ts) h = refl
+bare_includes (Verbatim b ∷ ts) h = refl
+bare_includes (Punct b ∷ ts) h = refl
+bare_includes (Newline ∷ ts) h = refl
+bare_includes (Join ∷ ts) h = refl
+bare_includes (Defs ∷ ts) h = refl
+bare_includes (Name n ∷ ts) h = refl
+bare_includes (Head n ∷ ts) h = refl
+bare_includes (Tail n ∷ ts) h = refl
+bare_includes (Mark p ∷ ts) h = refl
+
+include_when : (a b : Bool) → (a ≡ true → b ≡ false)
+    → is_include_stage (if a then Bare else (if b then Include else Further)) ≡ b
+include_when true b h = sym (h refl)
+include_when false true h = refl
+include_when false false h = refl
+
+pub include-seen : (o : Option (List Token)) → is_include_stage (stage_of o) ≡ some_include o
+include-seen None = refl
+include-seen (Some ts) = include_when (is_bare ts) (is_bare_include ts) (bare_includes ts)
+
+pub outside-seen : (o : Option (List Token)) → not (is_outside (stage_of o)) ≡ is_some o
+outside-seen None = refl
+outside-seen (Some ts) = ap not (not_outside (is_bare ts) (is_bare_include ts))

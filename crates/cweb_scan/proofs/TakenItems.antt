@@ -1,0 +1,65 @@
+-- An item of a line that ends in it: the state after it, whatever lines follow.
+use Rattle.cweb_scan.proofs.Common.{◌≡◌, ℕ, false, List, [], ◌∷◌, ◌++◌, take, drop, refl, ap, sym, ◌∙◌, Place, Reading, on, comment_line_end, pass_comment, blank, occurrence, emit_literal, enter, item, after_lexeme, unescaped, Kind, Skipped, LineEnd, Comment, Quoted, RuleMatch, Lexeme, AtLineEnd, opens_in, IsLine, next_match, lex, fold, take-append-le, drop-append-le, names_include, ScanState, move_to}
+use Rattle.cweb_rules.specs.Kinds.{Occurrence}
+use Rattle.cweb_rules.proofs.LineMatches.{front_line}
+use Rattle.cweb_rules.proofs.InLines.{InLine, stands}
+use Rattle.cweb_scan.proofs.NextMatchPays.{fair}
+pub use Rattle.cweb_scan.proofs.LineUnits.{reading}
+use Rattle.cweb_scan.proofs.LineUnits.{units_line}
+use Rattle.cweb_scan.proofs.LineHasNoNewline.{none-line}
+use Rattle.cweb_scan.proofs.FirstLexeme.{first, pieces_first}
+
+abbrev pub state_after : ScanState → Lexeme → ScanState
+state_after s p = (after_lexeme (reading s []) p).state
+
+item_line : (k : Kind) (bytes : List ℕ) (s : ScanState) (later : List Place) → InLine k bytes
+    → item k bytes (reading s later) ≡ reading (item k bytes (reading s [])).state later
+item_line Skipped bytes s later h = none-line move_to bytes (reading s later) h
+    ∙ ap (λ (r : Reading). reading r.state later) (sym (none-line move_to bytes (reading s []) h))
+item_line (Occurrence is_file us how opens) bytes s later h =
+    ap (on (occurrence is_file (unescaped us) how opens s.here)) (none-line move_to bytes (reading s later) h)
+    ∙ ap (λ (r : Reading). reading (occurrence is_file (unescaped us) how opens s.here r.state) later)
+    (sym (none-line move_to bytes (reading s []) h))
+item_line LineEnd bytes s later h = absurd h
+item_line (Comment how) bytes s later h =
+    ap (on (pass_comment how s.here)) (none-line comment_line_end bytes (reading (blank s) later) h)
+    ∙ ap (λ (r : Reading). reading (pass_comment how s.here r.state) later)
+    (sym (none-line comment_line_end bytes (reading (blank s) []) h))
+item_line (Quoted us how) bytes s later h = ap (on (emit_literal (unescaped us) how s.here)) (units_line s later us h)
+    ∙ ap (λ (r : Reading). reading (emit_literal (unescaped us) how s.here r.state) later) (sym (units_line s [] us h))
+item_line _ bytes s later h = refl
+
+abbrev with_front : Reading → List ℕ → RuleMatch → Reading
+with_front r t f = lex (after_lexeme r (record { kind = f.kind; bytes = take f.size t })) (drop f.size t)
+
+-- what is read after a whole item of a line, and what follows
+pub run_line_item : (r : Reading) (b : ℕ) (t more : List ℕ) → AtLineEnd more → opens_in r.state.context (b ∷ t) ≡ false
+    → lex r (b ∷ t ++ more)
+    ≡ lex (after_lexeme r (first r (b ∷ t))) (drop (next_match r.state (b ∷ t)).size (b ∷ t) ++ more)
+run_line_item r b t more e h =
+    let f = next_match r.state (b ∷ t) in
+    let fits = (fair r.state b t).within in
+    ap (fold after_lexeme r) (pieces_first r b (t ++ more) (fair r.state b (t ++ more)).some)
+    ∙ ap (with_front r (b ∷ t ++ more)) (front_line r.state.context (names_include r.state) b t more e h)
+    ∙ ap (λ u. lex (after_lexeme r (record { kind = f.kind; bytes = u })) (drop f.size (b ∷ t ++ more)))
+    (take-append-le f.size (b ∷ t) more fits)
+    ∙ ap (λ u. lex (after_lexeme r (first r (b ∷ t))) u) (drop-append-le f.size (b ∷ t) more fits)
+
+-- what is read after a whole item of a line, and what follows
+pub taken_item : (s : ScanState) (later : List Place) (b : ℕ) (t more : List ℕ) → AtLineEnd more
+    → opens_in s.context (b ∷ t) ≡ false → InLine (next_match s (b ∷ t)).kind (take (next_match s (b ∷ t)).size (b ∷ t))
+    → lex (reading s later) (b ∷ t ++ more) ≡
+    lex (reading (state_after s (first (reading s []) (b ∷ t))) later) (drop (next_match s (b ∷ t)).size (b ∷ t)
+    ++ more)
+taken_item s later b t more e ends h =
+    let f = next_match s (b ∷ t) in
+    run_line_item (reading s later) b t more e ends
+    ∙ ap (λ (r : Reading). lex r (drop f.size (b ∷ t) ++ more))
+    (item_line f.kind (take f.size (b ∷ t)) (enter f.kind s) later h)
+
+-- an item that ends in its line
+pub taken : (s : ScanState) (later : List Place) (b : ℕ) (t more : List ℕ)
+    → IsLine (b ∷ t) → AtLineEnd more → opens_in s.context (b ∷ t) ≡ false → lex (reading s later) (b ∷ t ++ more) ≡
+    lex (reading (state_after s (first (reading s []) (b ∷ t))) later) (drop (next_match s (b ∷ t)).size (b ∷ t)
+    ++ more)
+taken s later b t more h e ends = taken_item s later b t more e ends (stands s.context (names_include s) b t h)

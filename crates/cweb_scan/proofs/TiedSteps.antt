@@ -1,0 +1,79 @@
+-- What is tied to the tokens of the part that is open: the layout that is last.
+use Rattle.cweb_scan.proofs.Common.{◌≡◌, true, false, List, [], ◌∷◌, ◌++◌, Option, Some, None, refl, ap, sym, ◌∙◌, take, drop, option_map, if◌then◌else◌, Token, Part, part_with_token, Context, in_open_part, is_macro, is_layout, before_last, without_last, without_layout}
+use Rattle.cweb_scan.specs.declared.directive.Directive.{Directive}
+use Rattle.cweb_scan.specs.inner.Stages.{after_token, after_tokens}
+use Rattle.cweb_scan.specs.inner.DirectiveInvariant.{IsTied}
+use Rattle.cweb_scan.proofs.Steps.{directive-pushed}
+
+-- LAYOUT THAT IS LAST
+
+-- one more token that is layout
+last_layout : (ts : List Token) (t : Token) → is_layout t ≡ true
+    → without_last is_layout (ts ++ t ∷ []) ≡ without_last is_layout ts
+last_layout [] t h = ap (λ v. if v then [] else t ∷ []) h
+last_layout (x ∷ ts) t h = ap (before_last is_layout x) (last_layout ts t h)
+
+before_some : (x : Token) (ts : List Token) (t : Token) → before_last is_layout x (ts ++ t ∷ []) ≡ x ∷ ts ++ t ∷ []
+before_some x [] t = refl
+before_some x (u ∷ ts) t = refl
+
+-- one more token that is none
+last_solid : (ts : List Token) (t : Token) → is_layout t ≡ false → without_last is_layout (ts ++ t ∷ []) ≡ ts ++ t ∷ []
+last_solid [] t h = ap (λ v. if v then [] else t ∷ []) h
+last_solid (x ∷ ts) t h = ap (before_last is_layout x) (last_solid ts t h) ∙ before_some x ts t
+
+before_twice : (x : Token) (ts : List Token) → without_last is_layout ts ≡ ts
+    → without_last is_layout (before_last is_layout x ts) ≡ before_last is_layout x ts
+before_twice x [] h = elim (is_layout x)
+    as (λ v. is_layout x ≡ v → without_last is_layout (if v then [] else x ∷ []) ≡ (if v then [] else x ∷ [])) [
+      | true ↦ λ e. refl
+      | false ↦ λ e. ap (λ v. if v then [] else x ∷ []) e
+    ] refl
+before_twice x (u ∷ us) h = ap (before_last is_layout x) h
+
+last_twice : (ts : List Token) → without_last is_layout (without_last is_layout ts) ≡ without_last is_layout ts
+last_twice [] = refl
+last_twice (x ∷ ts) = before_twice x (without_last is_layout ts) (last_twice ts)
+
+-- WHAT IS TIED
+
+solid_given : (d l : Directive) (ts : List Token) (t : Token)
+    → d ≡ after_tokens ts → l ≡ after_tokens (without_last is_layout ts)
+    → (if is_layout t then l else after_token d t) ≡ after_tokens (without_last is_layout (ts ++ t ∷ []))
+solid_given d l ts t h k = (elim (is_layout t)
+    as (λ v. is_layout t ≡ v
+    → (if v then l else after_token d t) ≡ after_tokens (without_last is_layout (ts ++ t ∷ []))) [
+      | true ↦ λ e. k ∙ ap after_tokens (sym (last_layout ts t e))
+      | false ↦ λ e. ap (λ d. after_token d t) h ∙ sym (directive-pushed ts t)
+          ∙ ap after_tokens (sym (last_solid ts t e))
+    ]) refl
+
+pub tied_given : (d l : Directive) (c : Context) (o : Option Part) (t : Token) → IsTied d l c o → in_open_part c ≡ true
+    → IsTied (after_token d t) (if is_layout t then l else after_token d t) c (option_map (part_with_token t) o)
+tied_given d l c None t tied h = let wrong : false ≡ true = tied.part_is_open ∙ h in cc
+tied_given d l c (Some p) t tied h = record {
+  part_is_open = tied.part_is_open;
+  is_no_macro = tied.is_no_macro;
+  directive_is = λ e. ap (λ d. after_token d t) (tied.directive_is e) ∙ sym (directive-pushed p.tokens t);
+  solid_is = λ e. solid_given d l p.tokens t (tied.directive_is e) (tied.solid_is e);
+}
+
+dropped_tokens : (p : Part) → is_macro p.kind ≡ false → (without_layout p).tokens ≡ without_last is_layout p.tokens
+dropped_tokens p h =
+    ap (λ v. let n = (if v then 2 else 0) in take n p.tokens ++ without_last is_layout (drop n p.tokens)) h
+
+pub tied_dropped : (d l : Directive) (c : Context) (o : Option Part)
+    → IsTied d l c o → IsTied l l c (option_map without_layout o)
+tied_dropped d l c None tied = record {
+  part_is_open = tied.part_is_open;
+  is_no_macro = tied.is_no_macro;
+  directive_is = λ e. tied.solid_is e;
+  solid_is = λ e. tied.solid_is e;
+}
+tied_dropped d l c (Some p) tied = record {
+  part_is_open = tied.part_is_open;
+  is_no_macro = tied.is_no_macro;
+  directive_is = λ e. tied.solid_is e ∙ ap after_tokens (sym (dropped_tokens p (tied.is_no_macro e)));
+  solid_is = λ e. tied.solid_is e ∙ ap after_tokens
+      (sym (last_twice p.tokens) ∙ ap (without_last is_layout) (sym (dropped_tokens p (tied.is_no_macro e))));
+}

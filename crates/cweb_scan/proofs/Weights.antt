@@ -1,0 +1,108 @@
+-- How much each step of a scan adds to the tokens, parts, occurrences and sections, taken together.
+use Rattle.cweb_scan.proofs.Common.{◌≤◌, ℕ, ◌+◌, ◌*◌, Bool, List, [], ◌∷◌, ◌++◌, Some, None, length, ap, arith, length-append, option_map, option_to_list, Place, PartKind, Token, Part, all_tokens, PartsSoFar, with_opened_part, with_pushed_token, part_with_token, Lexeme, Pays, End, Reading, next_line, ScanState, move_to, line_end, comment_line_end, blank, pass_comment, occurrence, emit_literal, after_lexeme, weight}
+use Rattle.std.proofs.Common.{append-nil}
+use Rattle.cweb_store.specs.surface.Growing.{token_count, part_count}
+use Rattle.cweb_rules.proofs.UnitNewlines.{Tells}
+use Rattle.cweb_store.proofs.CallerLemmas.{part_count_pushed, part_count_dropped, part_count_closed, token_count_closed, token_count_dropped, tokens-last}
+use Rattle.cweb_scan.proofs.Moves as step
+use Rattle.cweb_scan.proofs.Moves.{Moves, Any, holds_any}
+use Rattle.cweb_scan.proofs.LexemeMoves.{after-walks}
+use Rattle.cweb_scan.proofs.TakenItems.{reading}
+
+-- PARTS AND TOKENS
+
+token_pushed : (t : Token) (v : PartsSoFar) → token_count (with_pushed_token t v) ≤ token_count v + 1
+token_pushed t v = elim v.current as
+    (λ o. length (all_tokens (v.closed ++ option_to_list (option_map (part_with_token t) o)))
+    ≤ length (all_tokens (v.closed ++ option_to_list o)) + 1) [
+      | None ↦ omega arith
+      | Some p ↦
+          omega (
+            arith,
+            tokens-last v.closed (part_with_token t p),
+            tokens-last v.closed p,
+            length-append p.tokens
+                (t ∷ []),
+          )
+    ]
+
+abbrev empty_part : PartKind → Part
+empty_part kind = record { kind = kind; tokens = [] }
+
+token_opened : (kind : PartKind) (v : PartsSoFar) → token_count (with_opened_part kind v) ≤ token_count v
+token_opened kind v = elim v.current as (λ o. length (all_tokens (v.closed ++ (empty_part kind) ∷ []))
+    ≤ length (all_tokens (v.closed ++ option_to_list o))) [
+      | None ↦
+          omega (
+            arith,
+            tokens-last v.closed (empty_part kind),
+            ap (λ (ps : List Part). length (all_tokens ps)) (append-nil v.closed),
+          )
+      | Some p ↦ omega (arith, tokens-last v.closed (empty_part kind), tokens-last v.closed p)
+    ]
+
+part_opened : (kind : PartKind) (v : PartsSoFar) → part_count (with_opened_part kind v) ≤ part_count v + 1
+part_opened kind v =
+    elim v.current as (λ o. length (v.closed ++ (empty_part kind) ∷ []) ≤ length (v.closed ++ option_to_list o) + 1) [
+      | None ↦ omega (arith, length-append v.closed ((empty_part kind) ∷ []), length-append v.closed [])
+      | Some p ↦ omega (arith, length-append v.closed ((empty_part kind) ∷ []), length-append v.closed (p ∷ []))
+    ]
+
+-- THE MOVES
+
+abbrev Weighs : ℕ → ℕ → ℕ → ℕ → Reading → Reading → Type 0
+Weighs n w t b r m = weight m.state ≤ weight r.state + w
+
+moved-weight : (s : ScanState) (later : List Place)
+    → Weighs 1 0 0 0 (reading s later) (next_line move_to (reading s later))
+moved-weight s [] = omega arith
+moved-weight s (p ∷ later) = omega arith
+
+weighs : Moves Any Weighs
+weighs = record {
+  nothing = λ r. omega arith;
+  both = λ x y. omega (arith, x, y);
+  within = λ n w t b x h. omega (arith, x, h);
+  knowing = λ f. f (holds_any _ _ _);
+  advances = λ r. moved-weight r.state r.later;
+  gives = λ t r h.
+      omega (arith, token_pushed t r.state.contents.parts, part_count_pushed t r.state.contents.parts);
+  faults = λ k p r h. omega arith;
+  enters = λ c r h. omega arith;
+  pays = λ t h x. omega (arith, x);
+  opens = λ kind r. omega (arith, token_opened kind r.state.contents.parts, part_opened kind r.state.contents.parts);
+  closes = λ r.
+      omega (arith, token_count_closed r.state.contents.parts, part_count_closed r.state.contents.parts);
+  drops = λ r. omega (arith, token_count_dropped r.state.contents.parts, part_count_dropped r.state.contents.parts);
+  occurs = λ o r. omega (arith, length-append r.state.contents.occurrences (o ∷ []));
+  replaces = λ x r. omega arith;
+  folds = λ v r. omega arith;
+  numbers = λ n ns r e. omega (arith, e);
+}
+
+-- THE STEPS THAT AN OPEN ITEM TAKES
+
+pub line_end-weight : (p : Place) (s : ScanState) → weight (line_end p s) ≤ weight s + 1
+line_end-weight p s = step.line_end-walks weighs (reading s (p ∷ []))
+
+pub comment_line_end-weight : (p : Place) (s : ScanState) → weight (comment_line_end p s) ≤ weight s + 1
+comment_line_end-weight p s = step.comment_line_end-walks weighs s (p ∷ [])
+
+pub blank-weight : (s : ScanState) → weight (blank s) ≤ weight s + 1
+blank-weight s = step.blank-walks weighs (reading s [])
+
+pub comment-weight : (how : End) (p : Place) (s : ScanState) → weight (pass_comment how p s) ≤ weight s + 0
+comment-weight how p s = step.comment-walks weighs how p (reading s []) tt
+
+pub occurrence-weight : (is_file : Bool) (text : List ℕ) (how : End) (opens : Bool) (p : Place) (s : ScanState)
+    → weight (occurrence is_file text how opens p s) ≤ weight s + 4
+occurrence-weight is_file text how opens p s = step.occurrence-walks weighs is_file text how opens p (reading s []) tt
+
+pub literal-weight : (text : List ℕ) (how : End) (p : Place) (s : ScanState)
+    → weight (emit_literal text how p s) ≤ weight s + 1
+literal-weight text how p s = step.literal-walks weighs text how p (reading s []) tt
+
+-- each byte of a piece adds at most three
+pub piece-weight : (r : Reading) (p : Lexeme) → 1 ≤ length p.bytes → Pays r.state.context p.kind p.bytes
+    → Tells p.kind p.bytes → weight (after_lexeme r p).state ≤ weight r.state + 3 * length p.bytes
+piece-weight r p some pays tells = after-walks weighs r p some pays tells

@@ -1,8 +1,0 @@
-use Rattle.cweb_scan.proofs.Pieces.{ArePieces-unique, are_pieces}
-use Rattle.cweb_scan.proofs.laws.pieces_are_one.Goals as goal
-
-pub returns-clause-only : goal.returns-clause-only
-returns-clause-only c = ArePieces-unique
-
-pub returns-clause-are : goal.returns-clause-are
-returns-clause-are c = are_pieces

@@ -1,8 +1,0 @@
-use Rattle.cweb_scan.proofs.PlainTokens.{comment_read, newline_read}
-use Rattle.cweb_scan.proofs.laws.what_stands_between_is_passed.Goals as goal
-
-pub returns-clause-comments : goal.returns-clause-comments
-returns-clause-comments c = comment_read
-
-pub returns-clause-line_ends : goal.returns-clause-line_ends
-returns-clause-line_ends c = newline_read

@@ -1,5 +1,0 @@
-use Rattle.cweb_scan.proofs.Common.{rules}
-use Rattle.cweb_scan.proofs.reader.Reader.end_text.Goals as goal
-
-pub returns-in-Comment : goal.returns-in-Comment
-returns-in-Comment c = search rules

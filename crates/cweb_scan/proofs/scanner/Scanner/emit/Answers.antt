@@ -1,0 +1,21 @@
+use Rattle.cweb_scan.proofs.Common.{◌≡◌, true, sym, ap, ◌∙◌, subst, if◌then◌else◌, is_layout, in_open_part, ScanState}
+use Rattle.cweb_store.specs.Calls.{Contents}
+use Rattle.cweb_store.specs.surface.TokenModels.{token_model}
+use Rattle.cweb_scan.specs.inner.DirectiveInvariant.{IsTied}
+use Rattle.cweb_scan.specs.inner.Stages.{after_token}
+use Rattle.cweb_scan.specs.declared.directive.Directive.{Directive}
+use Rattle.cweb_scan.proofs.TiedSteps.{tied_given}
+use Rattle.cweb_scan.proofs.scanner.Scanner.emit.Goals as goal
+
+pub invariant_of-self-2 : goal.invariant_of-self-2
+invariant_of-self-2 c =
+    let s = c.self.inside in
+    let t = token_model c.args.token in
+    let part = subst (λ (u : ScanState). in_open_part u.context ≡ true) (sym c.self.view_is) c.requires.part in
+    let tied = tied_given s.directive s.solid s.context s.builder.parts.current t c.self.invariant part in
+    let next = c.after_token-next.ensures in
+    let solid = c.solid_after-self-inside.ensures ∙ ap (λ (d : Directive). if is_layout t then s.solid else d) next in
+    subst (λ (d : Directive). IsTied d c.solid_after-self-inside.result s.context c.push.new.self.parts.current)
+    (sym next) (subst (λ (d : Directive). IsTied (after_token s.directive t) d s.context c.push.new.self.parts.current)
+    (sym solid) (subst (λ (v : Contents). IsTied (after_token s.directive t) (if is_layout
+    t then s.solid else after_token s.directive t) s.context v.parts.current) (sym c.in_ok-push.ensures.ok) tied))

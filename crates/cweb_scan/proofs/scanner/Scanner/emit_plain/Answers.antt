@@ -1,0 +1,20 @@
+use Rattle.cweb_scan.proofs.Common.{sym, ap, subst, is_c, in_open_part}
+use Rattle.cweb_store.specs.Calls.{Contents}
+use Rattle.cweb_store.specs.surface.TokenModels.{token_model}
+use Rattle.cweb_scan.specs.inner.Stages.{new_directive}
+use Rattle.cweb_scan.specs.inner.DirectiveInvariant.{IsTied}
+use Rattle.cweb_scan.specs.inner.Plain.{IsPlainC}
+use Rattle.cweb_scan.specs.declared.directive.Directive.{Directive}
+use Rattle.cweb_scan.proofs.Plains.{none_open, tied_plain}
+use Rattle.cweb_scan.proofs.scanner.Scanner.emit_plain.Goals as goal
+
+pub invariant_of-self-2 : goal.invariant_of-self-2
+invariant_of-self-2 c =
+    let s = c.self.inside in
+    let t = token_model c.args.token in
+    let h = subst IsPlainC (sym c.self.view_is) c.requires.in_c in
+    let tied = tied_plain s.directive s.solid s.context s.builder.parts.current t c.self.invariant
+    (ap is_c h.in_c) (ap in_open_part h.in_c) (none_open _ h) c.requires.plain in
+    subst (λ (d : Directive). IsTied d d s.context c.push.new.self.parts.current) (sym c.new-next.ensures)
+    (subst (λ (v : Contents). IsTied new_directive new_directive s.context v.parts.current)
+    (sym c.in_ok-push.ensures.ok) tied)

@@ -1,0 +1,23 @@
+use Rattle.cweb_scan.proofs.Common.{arith}
+use Rattle.cweb_lines.proofs.Lookahead.{lends_then}
+use Rattle.cweb_scan.proofs.Aheads.{read_taken}
+use Rattle.cweb_scan.proofs.scanning.take_borrowed.Goals as goal
+
+pub stretches-preserved : goal.stretches-preserved
+stretches-preserved g c =
+    let inv = c.stretches.invariant in
+    let read = c.in_ok-ahead.ensures in
+    let takes = c.take_ahead.ensures read.0 read.1.comes in
+    record {
+      lent = lends_then _ c.stretches.merger.run _ inv.lent takes.lends;
+      taken = λ tells first all texts left taken.
+          read_taken c.stretches.merger.run _ read.0 tells first all _ _ c.stretches.reader _ takes read.1.read
+          (λ told. takes.given.gives texts left) (inv.taken tells first all texts left taken);
+      room = omega (arith, read.1.read.adds, inv.room, takes.bytes, takes.count);
+    }
+
+pub stretches-smaller : goal.stretches-smaller
+stretches-smaller g c =
+    let read = c.in_ok-ahead.ensures in
+    let takes = c.take_ahead.ensures read.0 read.1.comes in
+    omega (arith, takes.count, read.1.some, c.take_ahead.new.self.run.limits.few)

@@ -1,0 +1,38 @@
+-- Plain C text: pieces that their first bytes tell, where no directive is open.
+use Rattle.std.specs.Prelude.{◌≡◌, ℕ, Bool, ◌&&◌, false, List, codes, Option, Some, None}
+use Rattle.cweb_store.specs.Parts.{Token}
+use Rattle.cweb_store.specs.Layout.{is_layout}
+use Rattle.cweb_rules.specs.declared.context.Context.TheVariants.{CText}
+use Rattle.cweb_scan.specs.inner.Stages.{is_further_stage, last_kind, stage_of}
+use Rattle.cweb_scan.specs.declared.directive.Last.TheVariants as last
+use Rattle.cweb_scan.specs.CurrentDirective.{directive, in_directive, is_c}
+use Rattle.cweb_scan.specs.DirectiveTokens.{is_punct}
+use Rattle.cweb_scan.specs.inner.ReaderModel.{TakesPrefix}
+use Rattle.cweb_scan.specs.inner.Resume.{Between}
+use Rattle.cweb_scan.specs.State.{ScanState}
+
+-- how many bytes were taken, if any
+abbrev pub taken_size : Option ℕ → ℕ
+taken_size None = 0
+taken_size (Some n) = n
+
+-- C text in which no directive is open
+pub record IsPlainC (s : ScanState) : Type 0 where
+  pub in_c : s.context ≡ CText
+  pub outside : in_directive s ≡ false
+
+-- C text in which a directive is open that has come too far for an included name: more stands in it than blanks and an `include`
+abbrev pub in_directive_body : ScanState → Bool
+in_directive_body s = is_c s.context && is_further_stage (stage_of (directive s).tokens)
+
+-- a token that is no layout and neither a `#` nor a `\`
+pub record IsPlainToken (t : Token) : Type 0 where
+  pub hash : is_punct (codes "#") (Some t) ≡ false
+  pub last : last_kind t ≡ last.Other
+  pub solid : is_layout t ≡ false
+
+-- the first n bytes of the rest of a line were taken, where no item is open
+pub record TakesPlain (n : ℕ) (rest : List ℕ) (old new : ScanState) : Type 0 where
+  pub taken : (begun : Bool)
+      → TakesPrefix n rest (record { state = old; item = Between; begun = begun })
+      (record { state = new; item = Between; begun = begun })

@@ -1,0 +1,101 @@
+-- What is held between two lines: the state, and an item that goes on in the next line.
+use Rattle.std.specs.Prelude.{◌≡◌, ◌≤◌, ℕ, ◌+◌, ◌*◌, Bool, true, false, List, [], ◌∷◌, ◌++◌, length, drop}
+use Rattle.cweb_files.specs.declared.place.Place.{Place}
+use Rattle.cweb_input.specs.Lines.{Line}
+use Rattle.cweb_rules.specs.inner.LineItems.{AtLineEnd}
+use Rattle.cweb_rules.specs.declared.end.End.TheVariants.{Cut}
+use Rattle.cweb_scan.specs.State.{ScanState, move_to, start_state}
+use Rattle.cweb_scan.specs.After.{Reading, line_end, comment_line_end, pass_comment, occurrence, emit_literal}
+use Rattle.cweb_scan.specs.inner.Resume.{PendingItem, Between, InComment, InName, InLiteral, AfterBackslash, InRaw}
+use Rattle.cweb_scan.specs.inner.Resume.{resume}
+use Rattle.cweb_scan.specs.inner.Room.{weight}
+use Rattle.cweb_scan.specs.Lexemes.{no_place, read_lines, newline_prefixed}
+use Rattle.cweb_scan.specs.laws.ReaderModel.{places}
+
+pub record ReaderModel : Type 0 where
+  pub state : ScanState
+  pub item : PendingItem
+  -- whether a line was taken
+  pub begun : Bool
+
+-- before the first line
+abbrev pub new_reader : ReaderModel
+new_reader = record { state = start_state no_place; item = Between; begun = false }
+
+abbrev pub begun_reader : ScanState → PendingItem → ReaderModel
+begun_reader s item = record { state = s; item = item; begun = true }
+
+-- what a line end does to what is held: it is taken once the next line's place is known
+abbrev pub after_line_end : Place → PendingItem → ScanState → ReaderModel
+after_line_end q Between s = begun_reader (line_end q s) Between
+after_line_end q (InComment begun) s = begun_reader (comment_line_end q s) (InComment begun)
+after_line_end q (InName begun is_file text) s = begun_reader (move_to q s) (InName begun is_file (text ++ 10 ∷ []))
+after_line_end q (InLiteral begun quote text) s = begun_reader (line_end q (emit_literal text Cut begun s)) Between
+after_line_end q (AfterBackslash begun quote text) s =
+    begun_reader (move_to q s) (InLiteral begun quote (text ++ 92 ∷ 10 ∷ []))
+after_line_end q (InRaw begun delimiter text) s = begun_reader (move_to q s) (InRaw begun delimiter (text ++ 10 ∷ []))
+
+-- what is read after the rest of a line and the lines after it
+abbrev pub read_on : ReaderModel → List Place → List ℕ → Reading
+read_on h later t = resume h.item t (record { state = h.state; later = later })
+
+abbrev pub reader_at : Place → ReaderModel
+reader_at place = begun_reader (start_state place) Between
+
+-- what is read after the lines that are still to come
+abbrev pub read_after : ReaderModel → List Line → Reading
+read_after h lines = elim h.begun [
+  | false ↦ read_lines lines
+  | true ↦ read_on h (places lines) (newline_prefixed lines)
+]
+
+-- the line end before a line at a place was taken
+pub record TakesLineEnd (place : Place) (old new : ReaderModel) : Type 0 where
+  pub begun : new.begun ≡ true
+  pub same : (later : List Place) (t : List ℕ) → read_on new later t ≡ read_on old (place ∷ later) (10 ∷ t)
+
+-- the bytes of a line were taken; what follows is a line end or nothing
+pub record TakesBytes (line : List ℕ) (old new : ReaderModel) : Type 0 where
+  pub begun : new.begun ≡ old.begun
+  pub same : (later : List Place) (more : List ℕ) → AtLineEnd more
+      → read_on new later more ≡ read_on old later (line ++ more)
+
+-- what an open item still adds to what is kept when it ends
+abbrev pub pending_cost : PendingItem → ℕ
+pending_cost Between = 0
+pending_cost (InComment begun) = 0
+pending_cost (InName begun is_file text) = 4
+pending_cost (InLiteral begun quote text) = 1
+pending_cost (AfterBackslash begun quote text) = 1
+pending_cost (InRaw begun delimiter text) = 1
+
+-- what is kept, and what is owed
+abbrev pub cost : ReaderModel → ℕ
+cost h = weight h.state + pending_cost h.item
+
+-- the first n bytes of the rest of a line were taken; each byte adds three at most
+pub record TakesPrefix (n : ℕ) (rest : List ℕ) (old new : ReaderModel) : Type 0 where
+  pub begun : new.begun ≡ old.begun
+  pub within : n ≤ length rest
+  pub adds : cost new ≤ cost old + 3 * n
+  pub same : (later : List Place) (more : List ℕ) → AtLineEnd more
+      → read_on new later (drop n rest ++ more) ≡ read_on old later (rest ++ more)
+
+-- a line at a place begins: the first, or one behind a line end
+pub record BeginsLine (place : Place) (old new : ReaderModel) : Type 0 where
+  pub first : old.begun ≡ false → new ≡ reader_at place
+  pub next : old.begun ≡ true → TakesLineEnd place old new
+  pub adds : cost new ≤ cost old + 3
+
+-- text goes on in another line
+abbrev pub gone_to : Place → ReaderModel → ReaderModel
+gone_to place h = record h { state = move_to place h.state }
+
+-- the state once no line follows: an item that is open ends
+abbrev pub source_ended : PendingItem → ScanState → ScanState
+source_ended Between s = s
+source_ended (InComment begun) s = pass_comment Cut begun s
+source_ended (InName begun is_file text) s = occurrence is_file text Cut false begun s
+source_ended (InLiteral begun quote text) s = emit_literal text Cut begun s
+source_ended (AfterBackslash begun quote text) s = emit_literal (text ++ 92 ∷ []) Cut begun s
+source_ended (InRaw begun delimiter text) s = emit_literal text Cut begun s

@@ -1,0 +1,151 @@
+// The directive that is open in a part.
+ghost use Rattle.std.specs.Prelude.{◌≡◌, true, Some, codes};
+ghost use Rattle.cweb_store.specs.surface.TokenModels.{token_model};
+ghost use Rattle.cweb_scan.specs.DirectiveTokens.{is_punct};
+ghost use Rattle.cweb_scan.specs.inner.Stages.{after_token, new_directive, is_further_stage};
+ghost use Rattle.cweb_scan.specs.inner.Stages.{is_include_stage, is_include_word, is_blank_token};
+ghost use Rattle.cweb_scan.specs.inner.Stages as spec;
+
+use cweb_store::Token;
+
+/// What the last token is, as far as directives ask.
+#[derive(Clone, Copy)]
+pub enum Last {
+    LineEnd,
+    Backslash,
+    Blank,
+    Other,
+}
+
+/// How far the directive has come: none is open; nothing but blanks after its `#`; `include` and blanks; more.
+#[derive(Clone, Copy)]
+pub enum Stage {
+    Outside,
+    Bare,
+    Include,
+    Further,
+}
+
+/// The directive that is open in a part, as far as it is asked for: its stage, and what the last token of the part is.
+#[derive(Clone, Copy)]
+pub struct Directive {
+    pub stage: Stage,
+    pub last: Last,
+}
+
+#[inline(always)]
+fn last_kind(token: Token<'_>) -> Last
+    ensures { result ≡ spec.last_kind (token_model token.entry) }
+{
+    match token {
+        Token::Newline | Token::Mark(_) => Last::LineEnd,
+        Token::Blank => Last::Blank,
+        Token::Punct(bytes) => {
+            if bytes == b"\\".as_slice() {
+                Last::Backslash
+            } else {
+                Last::Other
+            }
+        }
+        _ => Last::Other,
+    }
+}
+
+// Whether an open directive goes on over the line end that a token is.
+#[inline(always)]
+fn continues_line(last: Last, token: Token<'_>) -> bool
+    ensures { result ≡ spec.continues_line last (token_model token.entry) }
+{
+    matches!(token, Token::Newline) && matches!(last, Last::Backslash)
+}
+
+fn is_hash(token: Token<'_>) -> bool
+    ensures { result ≡ is_punct (codes "#") (Some (token_model token.entry)) }
+{
+    match token {
+        Token::Punct(bytes) => bytes == b"#".as_slice(),
+        _ => false,
+    }
+}
+
+fn is_include_word(token: Token<'_>) -> bool
+    ensures { result ≡ is_include_word (token_model token.entry) }
+{
+    match token {
+        Token::Word(bytes) => bytes == b"include".as_slice(),
+        _ => false,
+    }
+}
+
+fn is_blank_token(token: Token<'_>) -> bool
+    ensures { result ≡ is_blank_token (token_model token.entry) }
+{
+    matches!(token, Token::Blank)
+}
+
+// The stage of an open directive after one more token.
+fn next_open_stage(stage: Stage, token: Token<'_>) -> Stage
+    ensures { result ≡ spec.next_open_stage stage (token_model token.entry) }
+{
+    if is_blank_token(token) {
+        return stage;
+    }
+    if is_include_word(token) && matches!(stage, Stage::Bare) {
+        return Stage::Include;
+    }
+    Stage::Further
+}
+
+impl Directive {
+    /// None is open: no token was given.
+    pub fn new() -> Directive
+        ensures { result ≡ new_directive }
+    {
+        Directive {
+            stage: Stage::Outside,
+            last: Last::Other,
+        }
+    }
+
+    #[inline(always)]
+    fn next_stage(self, token: Token<'_>) -> Stage
+        ensures { result ≡ spec.next_stage self (token_model token.entry) }
+    {
+        if matches!(self.stage, Stage::Outside) {
+            if is_hash(token) && matches!(self.last, Last::LineEnd) {
+                return Stage::Bare;
+            }
+            return Stage::Outside;
+        }
+        if matches!(last_kind(token), Last::LineEnd) && !continues_line(self.last, token) {
+            return Stage::Outside;
+        }
+        next_open_stage(self.stage, token)
+    }
+
+    /// The directive after one more token.
+    #[inline(always)]
+    pub fn after_token(self, token: Token<'_>) -> Directive
+        ensures { result ≡ after_token self (token_model token.entry) }
+    {
+        Directive {
+            stage: self.next_stage(token),
+            last: last_kind(token),
+        }
+    }
+
+    /// Whether `include` and blanks are all that it has.
+    pub fn names_include(self) -> bool
+        ensures { result ≡ is_include_stage self.stage }
+    {
+        matches!(self.stage, Stage::Include)
+    }
+
+    /// Whether more stands in it than blanks and `include`.
+    #[inline(always)]
+    pub fn is_further(&self) -> bool
+        ensures { result ≡ is_further_stage self.now.stage }
+    {
+        matches!(self.stage, Stage::Further)
+    }
+}

@@ -1,0 +1,184 @@
+// One turn in a line where no item is open: what stands at the front is taken.
+ghost use Rattle.std.specs.Prelude.{◌≡◌, ◌≤◌, IfOk, codes, length, true, false};
+
+use crate::reader::Reader;
+use crate::reader::codes::{effect_of, is_name_effect};
+use crate::skipped::skipped_len;
+use cweb_files::Place;
+use cweb_rules::Context;
+use cweb_rules::bytes::{Class, at_line_end, begins, span_len, starts_section};
+use cweb_rules::rule::{Rule, c_rule};
+use std::alloc::AllocError;
+
+impl Reader {
+    ghost use Rattle.cweb_rules.specs.Bytes as bytes;
+    ghost use Rattle.cweb_rules.specs.inner.LineItems.{IsLine};
+    ghost use Rattle.cweb_scan.specs.inner.MatchSteps.{is_head, reads_c};
+    ghost use Rattle.cweb_scan.specs.inner.ReaderSteps.{MakesProgress};
+    ghost use Rattle.cweb_scan.specs.inner.Resume.{Between};
+    ghost use Rattle.cweb_scan.specs.inner.Room.{HasItemRoom};
+    ghost use Rattle.cweb_rules.specs.declared.context.Context.TheVariants as context;
+    ghost use Rattle.cweb_rules.specs.inner.Rules as spec;
+    ghost use Rattle.cweb_rules.specs.declared.rule.Rule.TheVariants as rule;
+    ghost use Rattle.cweb_scan.specs.inner.DirectiveInvariant.{in_open_part};
+    ghost use Rattle.cweb_scan.specs.inner.FirstRule.{ends_macro_line, rule_in};
+
+    // A code at the front, which is no section start.
+    #[inline(never)]
+    fn take_code(&mut self, rest: &[u8]) -> Result<usize, AllocError>
+        requires between { self.old.item ≡ Between }
+        requires head { is_head self.old.state.context ≡ false }
+        requires line { IsLine rest.now }
+        requires section { bytes.starts_section rest.now ≡ false }
+        requires sign { bytes.begins (codes "@") rest.now ≡ true }
+        requires room { HasItemRoom 2 self.old.state }
+        ensures { IfOk result (λ n. MakesProgress n rest.now self.old self.new) }
+    {
+        let effect = effect_of(self.scanner.context(), rest[1]);
+        if is_name_effect(effect) {
+            if begins(b"@<", rest) {
+                return Ok(self.open_name(rest));
+            }
+            return Ok(self.open_file(rest));
+        }
+        let size = self.scanner.take_item(effect, rest)?;
+        Ok(size)
+    }
+
+    // In limbo and text: what stands before the next `@`, a section start or a code.
+    fn take_tex(&mut self, rest: &[u8]) -> Result<usize, AllocError>
+        requires between { self.old.item ≡ Between }
+        requires text { reads_c self.old.state.context ≡ false }
+        requires line { IsLine rest.now }
+        requires some { 1 ≤ length rest.now }
+        requires room { HasItemRoom 2 self.old.state }
+        ensures { IfOk result (λ n. MakesProgress n rest.now self.old self.new) }
+    {
+        let skipped = skipped_len(rest);
+        if skipped > 0 {
+            return Ok(skipped);
+        }
+        if starts_section(rest) {
+            let size = self.scanner.take_section(rest)?;
+            return Ok(size);
+        }
+        self.take_code(rest)
+    }
+
+    // In a macro and in C text: what the first rule that fits names.
+    #[inline(always)]
+    fn take_by(&mut self, rule: Rule, rest: &[u8]) -> Result<usize, AllocError>
+        requires between { self.old.item ≡ Between }
+        requires part { in_open_part self.old.state.context ≡ true }
+        requires line { IsLine rest.now }
+        requires some { 1 ≤ length rest.now }
+        requires plain { ends_macro_line self.old.state.context rest.now ≡ false }
+        requires first { rule ≡ rule_in self.old.state rest.now }
+        requires room { HasItemRoom 2 self.old.state }
+        ensures { IfOk result (λ n. MakesProgress n rest.now self.old self.new) }
+    {
+        match rule {
+            Rule::Comment => self.open_comment(rest),
+            Rule::Code => self.take_code(rest),
+            Rule::RawLiteral => self.open_raw(rest),
+            Rule::Literal => self.open_literal(rest),
+            Rule::Section => {
+                let size = self.scanner.take_section(rest)?;
+                Ok(size)
+            }
+            _ => {
+                let size = self.scanner.take_rule(rule, rest)?;
+                Ok(size)
+            }
+        }
+    }
+
+    // In a macro: a `\` that ends its line gives nothing.
+    fn take_macro(&mut self, rest: &[u8]) -> Result<usize, AllocError>
+        requires between { self.old.item ≡ Between }
+        requires in_macro { self.old.state.context ≡ context.Macro }
+        requires line { IsLine rest.now }
+        requires some { 1 ≤ length rest.now }
+        requires room { HasItemRoom 2 self.old.state }
+        ensures { IfOk result (λ n. MakesProgress n rest.now self.old self.new) }
+    {
+        if begins(b"\\", rest) {
+            let (_, after) = rest.split_at(1);
+            if at_line_end(after) {
+                return Ok(1);
+            }
+        }
+        self.take_by(c_rule(false, rest), rest)
+    }
+
+    // In a head: the identifier begins the macro.
+    fn take_macro_name(&mut self, begun: Place, rest: &[u8]) -> Result<usize, AllocError>
+        requires between { self.old.item ≡ Between }
+        requires in_head { self.old.state.context ≡ context.Definition begun }
+        requires line { IsLine rest.now }
+        requires some { 1 ≤ length rest.now }
+        requires first { spec.c_rule false rest.now ≡ rule.Identifier }
+        requires room { HasItemRoom 2 self.old.state }
+        ensures { IfOk result (λ n. MakesProgress n rest.now self.old self.new) }
+    {
+        let size = span_len(Class::Word, rest);
+        let (name, after) = rest.split_at(size);
+        self.scanner.define(name, begins(b"(", after))?;
+        Ok(size)
+    }
+
+    // In a head: blanks, comments and the identifier. With anything else the definition is dropped, and text goes on.
+    fn take_head(&mut self, begun: Place, rest: &[u8]) -> Result<usize, AllocError>
+        requires between { self.old.item ≡ Between }
+        requires in_head { self.old.state.context ≡ context.Definition begun }
+        requires line { IsLine rest.now }
+        requires some { 1 ≤ length rest.now }
+        requires room { HasItemRoom 2 self.old.state }
+        ensures { IfOk result (λ n. MakesProgress n rest.now self.old self.new) }
+    {
+        let rule = c_rule(false, rest);
+        match rule {
+            Rule::Blanks => Ok(span_len(Class::Blank, rest)),
+            Rule::Comment => self.open_comment(rest),
+            Rule::LineComment => {
+                let size = self.scanner.take_line_comment(rest)?;
+                Ok(size)
+            }
+            Rule::Identifier => self.take_macro_name(begun, rest),
+            _ => {
+                self.scanner.drop_definition(begun)?;
+                let size = self.take_tex(rest)?;
+                Ok(size)
+            }
+        }
+    }
+
+    // In C text an included name may be a rule.
+    fn take_c(&mut self, rest: &[u8]) -> Result<usize, AllocError>
+        requires between { self.old.item ≡ Between }
+        requires in_c { self.old.state.context ≡ context.CText }
+        requires line { IsLine rest.now }
+        requires some { 1 ≤ length rest.now }
+        requires room { HasItemRoom 2 self.old.state }
+        ensures { IfOk result (λ n. MakesProgress n rest.now self.old self.new) }
+    {
+        let rule = c_rule(self.scanner.names_include(), rest);
+        self.take_by(rule, rest)
+    }
+
+    /// What stands at the front of the rest of a line where no item is open. Answers how many bytes it has.
+    pub(crate) fn take_between(&mut self, rest: &[u8]) -> Result<usize, AllocError>
+        requires between { self.old.item ≡ Between }
+        requires line { IsLine rest.now }
+        requires some { 1 ≤ length rest.now }
+        requires room { HasItemRoom 2 self.old.state }
+        ensures { IfOk result (λ n. MakesProgress n rest.now self.old self.new) }
+    {
+        match self.scanner.context() {
+            Context::Limbo | Context::TeX => self.take_tex(rest),
+            Context::Definition(begun) => self.take_head(begun, rest),
+            Context::Macro => self.take_macro(rest),
+            Context::CText => self.take_c(rest),
+        }
+    }
+}

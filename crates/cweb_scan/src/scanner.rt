@@ -1,0 +1,203 @@
+// What is made of the text so far, and the steps that serve many rules.
+ghost use Rattle.std.specs.Prelude.{◌≡◌, ◌<◌, ◌+◌, OnOk, OnErr, true, if◌then◌else◌};
+ghost use Rattle.cweb_store.specs.Layout as layout;
+ghost use Rattle.cweb_store.specs.surface.TokenModels.{token_model};
+
+pub mod codes;
+pub mod directive_body;
+pub mod effects;
+pub mod further;
+pub mod line_ends;
+pub mod names;
+pub mod plain;
+pub mod rule;
+pub mod scanned;
+pub mod sections;
+pub mod units;
+
+use crate::directive::{Directive, Last, Stage};
+use cweb_files::Place;
+use cweb_rules::{Context, ScanFault, ScanKind};
+use cweb_store::{Builder, Token};
+use std::alloc::{AllocError, Global};
+use std::marker::Model;
+
+/// What is made of the text so far. The directive that is open in C text is kept besides, as far as it is asked for, and the
+/// one that is open once the layout that is last is dropped.
+pub struct Scanner {
+    pub(crate) alloc: Global,
+    pub(crate) context: Context,
+    pub(crate) builder: Builder,
+    pub(crate) faults: Vec<ScanFault>,
+    pub(crate) sections: u32,
+    pub(crate) starred: Vec<u32>,
+    pub(crate) here: Place,
+    pub(crate) folded: bool,
+    pub(crate) directive: Directive,
+    pub(crate) solid: Directive,
+}
+
+// It is let go by one call wherever it is held, not part by part.
+impl Drop for Scanner {
+    fn drop(self) {
+        let Scanner {
+            alloc: _,
+            context: _,
+            builder: _,
+            faults: _,
+            sections: _,
+            starred: _,
+            here: _,
+            folded: _,
+            directive: _,
+            solid: _,
+        } = self;
+    }
+}
+
+impl Model for Scanner {
+    ghost use Rattle.std.specs.Prelude.{◌≡◌};
+    ghost use Rattle.cweb_scan.specs.inner.DirectiveInvariant.{IsTied};
+    ghost use Rattle.cweb_scan.specs.State.{ScanState};
+
+    ghost Value = { ScanState };
+
+    ghost view = { λ s.
+        record {
+          context = s.context;
+          contents = s.builder;
+          faults = s.faults.items;
+          sections = s.sections;
+          starred = s.starred.items;
+          here = s.here;
+          folded = s.folded;
+        } };
+
+    ghost invariant = { λ s. IsTied s.directive s.solid s.context s.builder.parts.current };
+}
+
+fn is_layout(token: Token<'_>) -> bool
+    ensures { result ≡ layout.is_layout (token_model token.entry) }
+{
+    matches!(token, Token::Blank | Token::Newline | Token::Mark(_))
+}
+
+// The directive that is open once the layout that is last is dropped, after a token.
+fn solid_after(solid: Directive, next: Directive, token: Token<'_>) -> Directive
+    ensures { result ≡ (if layout.is_layout (token_model token.entry) then solid else next) }
+{
+    if is_layout(token) { solid } else { next }
+}
+
+impl Scanner {
+    ghost use Rattle.cweb_names.specs.surface.Names.{too_many};
+    ghost use Rattle.cweb_store.specs.surface.Growing.{token_count};
+    ghost use Rattle.cweb_scan.specs.After as after;
+    ghost use Rattle.cweb_scan.specs.CurrentDirective.{in_directive, is_c, names_include};
+    ghost use Rattle.cweb_scan.specs.inner.DirectiveInvariant.{in_open_part};
+    ghost use Rattle.cweb_scan.specs.State.{start_state, report_at, move_to};
+    ghost use Rattle.cweb_scan.specs.State as spec;
+
+    /// Nothing was read; the text begins here.
+    pub fn new(alloc: Global, here: Place) -> Scanner
+        ensures { result ≡ start_state here }
+    {
+        Scanner {
+            alloc,
+            context: Context::Limbo,
+            builder: Builder::new(alloc),
+            faults: Vec::new(alloc),
+            sections: 0,
+            starred: Vec::new(alloc),
+            here,
+            folded: false,
+            directive: Directive::new(),
+            solid: Directive::new(),
+        }
+    }
+
+    /// The line on which the text goes on.
+    pub fn here(&self) -> Place
+        ensures { result ≡ self.now.here }
+    {
+        self.here
+    }
+
+    /// What the text belongs to.
+    pub fn context(&self) -> Context
+        ensures { result ≡ self.now.context }
+    {
+        self.context
+    }
+
+    /// Adds a fault. A refused call changes nothing.
+    pub fn fault(&mut self, kind: ScanKind, place: Place) -> Result<(), AllocError>
+        ensures ok { OnOk result (self.new ≡ report_at kind place self.old) }
+        ensures err { OnErr result (self.new ≡ self.old) }
+    {
+        self.faults.push(ScanFault { kind, place })?;
+        Ok(())
+    }
+
+    /// Adds a token to the open part. A refused call changes nothing.
+    #[inline(always)]
+    pub fn emit(&mut self, token: Token<'_>) -> Result<(), AllocError>
+        requires part { in_open_part self.old.context ≡ true }
+        requires few { token_count self.old.contents.parts + 1 < too_many }
+        ensures ok { OnOk result (self.new ≡ spec.emit (token_model token.entry) self.old) }
+        ensures err { OnErr result (self.new ≡ self.old) }
+    {
+        self.builder.push(token)?;
+        let next = self.directive.after_token(token);
+        self.solid = solid_after(self.solid, next, token);
+        self.directive = next;
+        Ok(())
+    }
+
+    /// The text goes on in another line.
+    pub fn go_to(&mut self, place: Place)
+        ensures { self.new ≡ move_to place self.old }
+    {
+        self.here = place;
+        self.folded = true;
+    }
+
+    /// Whether a directive is open.
+    pub fn in_directive(&self) -> bool
+        ensures { result ≡ in_directive self.now }
+    {
+        matches!(self.context, Context::CText) && !matches!(self.directive.stage, Stage::Outside)
+    }
+
+    /// Whether an included name may follow in the directive.
+    pub fn names_include(&self) -> bool
+        requires { is_c self.now.context ≡ true }
+        ensures { result ≡ names_include self.now }
+    {
+        self.directive.names_include()
+    }
+
+    /// Blanks and comments give one Blank in a directive.
+    pub fn blank(&mut self) -> Result<(), AllocError>
+        requires { token_count self.old.contents.parts + 1 < too_many }
+        ensures { OnOk result (self.new ≡ after.blank self.old) }
+    {
+        if self.in_directive() && !matches!(self.directive.last, Last::Blank) {
+            self.emit(Token::Blank)?;
+        }
+        Ok(())
+    }
+
+    /// A punctuator; the text of a directive begins with its `#`.
+    #[inline(always)]
+    pub fn punctuator(&mut self, bytes: &[u8]) -> Result<(), AllocError>
+        requires part { in_open_part self.old.context ≡ true }
+        requires few { token_count self.old.contents.parts + 1 < too_many }
+        ensures { OnOk result (self.new ≡ after.punctuator bytes.now self.old) }
+    {
+        let folded = self.in_directive() && self.folded;
+        self.emit(Token::Punct(bytes))?;
+        self.folded = folded;
+        Ok(())
+    }
+}

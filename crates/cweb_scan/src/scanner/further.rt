@@ -1,0 +1,158 @@
+// Plain C text: the pieces that their first bytes don't tell, where they stand whole in their line and nothing is to be told.
+ghost use Rattle.std.specs.Prelude.{◌≡◌, ◌≤◌, ◌<◌, ◌+◌, IfOk, OnOk, false, length};
+ghost use Rattle.cweb_names.specs.surface.Names.{too_many};
+ghost use Rattle.cweb_scan.specs.inner.Plain.{IsPlainC, TakesPlain};
+ghost use Rattle.cweb_rules.specs.inner.Firsts.{stops_plain};
+
+use crate::scanner::Scanner;
+use crate::skipped::skipped_len;
+use cweb_rules::bytes::{Class, span_len};
+use cweb_rules::items::{Item, reach};
+use cweb_rules::literals::literal_prefix;
+use cweb_rules::numbers::number_len;
+use cweb_rules::punctuators::punctuator_len;
+use cweb_rules::rule::{Rule, c_rule};
+use cweb_rules::{End, Quote, quoted_len};
+use cweb_store::Token;
+use std::alloc::AllocError;
+
+impl Scanner {
+    ghost use Rattle.cweb_rules.specs.Bytes.{first_is};
+    ghost use Rattle.cweb_rules.specs.inner.LineItems.{IsLine};
+    ghost use Rattle.cweb_rules.specs.inner.Rules as spec;
+    ghost use Rattle.cweb_rules.specs.declared.rule.Rule.TheVariants as rule;
+    ghost use Rattle.cweb_scan.specs.inner.Room.{weight};
+
+    // A number.
+    #[inline(always)]
+    pub(crate) fn take_number(&mut self, rest: &[u8]) -> Result<usize, AllocError>
+        requires in_c { IsPlainC self.old }
+        requires line { IsLine rest.now }
+        requires some { 1 ≤ length rest.now }
+        requires first { rule.Number ≡ spec.c_rule false rest.now }
+        requires room { weight self.old + 1 < too_many }
+        ensures taken { IfOk result (λ n. TakesPlain n rest.now self.old self.new) }
+        ensures stays { OnOk result (IsPlainC self.new) }
+    {
+        let size = number_len(rest);
+        self.emit_plain(Token::Number(rest.split_at(size).0))?;
+        Ok(size)
+    }
+
+    // A word that may have begun a literal.
+    #[inline(always)]
+    fn take_word(&mut self, rest: &[u8]) -> Result<usize, AllocError>
+        requires in_c { IsPlainC self.old }
+        requires line { IsLine rest.now }
+        requires some { 1 ≤ length rest.now }
+        requires first { rule.Identifier ≡ spec.c_rule false rest.now }
+        requires room { weight self.old + 1 < too_many }
+        ensures taken { IfOk result (λ n. TakesPlain n rest.now self.old self.new) }
+        ensures stays { OnOk result (IsPlainC self.new) }
+    {
+        let size = span_len(Class::Word, rest);
+        self.emit_plain(Token::Word(rest.split_at(size).0))?;
+        Ok(size)
+    }
+
+    // A punctuator that no directive asks for.
+    #[inline(always)]
+    pub(crate) fn take_operator(&mut self, rest: &[u8]) -> Result<usize, AllocError>
+        requires in_c { IsPlainC self.old }
+        requires line { IsLine rest.now }
+        requires some { 1 ≤ length rest.now }
+        requires first { rule.Punctuator ≡ spec.c_rule false rest.now }
+        requires kept { first_is stops_plain rest.now ≡ false }
+        requires room { weight self.old + 1 < too_many }
+        ensures taken { IfOk result (λ n. TakesPlain n rest.now self.old self.new) }
+        ensures stays { OnOk result (IsPlainC self.new) }
+    {
+        let size = punctuator_len(rest);
+        self.emit_plain(Token::Punct(rest.split_at(size).0))?;
+        self.folded = false;
+        Ok(size)
+    }
+
+    // How many bytes a comment has that ends in its line; it gives nothing.
+    fn comment_len(&self, rest: &[u8]) -> usize
+        requires in_c { IsPlainC self.now }
+        requires line { IsLine rest.now }
+        requires some { 1 ≤ length rest.now }
+        requires two { 2 ≤ length rest.now }
+        requires first { rule.Comment ≡ spec.c_rule false rest.now }
+        ensures { TakesPlain result rest.now self.now self.now }
+    {
+        let (_, text) = rest.split_at(2);
+        let reached = reach(Item::Comment, text);
+        match reached.how {
+            End::Closed => 2 + (reached.size + reached.close),
+            _ => 0,
+        }
+    }
+
+    // How many bytes a comment has that lasts to the line's end.
+    fn line_comment_len(&self, rest: &[u8]) -> usize
+        requires in_c { IsPlainC self.now }
+        requires line { IsLine rest.now }
+        requires some { 1 ≤ length rest.now }
+        requires two { 2 ≤ length rest.now }
+        requires first { rule.LineComment ≡ spec.c_rule false rest.now }
+        ensures { TakesPlain result rest.now self.now self.now }
+    {
+        let (_, text) = rest.split_at(2);
+        let reached = reach(Item::LineComment, text);
+        match reached.how {
+            End::Open => 2 + (reached.size + reached.close),
+            _ => 0,
+        }
+    }
+
+    // A literal that ends in its line and has no `@`.
+    pub(crate) fn take_whole_literal(&mut self, rest: &[u8]) -> Result<usize, AllocError>
+        requires in_c { IsPlainC self.old }
+        requires line { IsLine rest.now }
+        requires some { 1 ≤ length rest.now }
+        requires first { rule.Literal ≡ spec.c_rule false rest.now }
+        requires room { weight self.old + 1 < too_many }
+        ensures taken { IfOk result (λ n. TakesPlain n rest.now self.old self.new) }
+        ensures stays { OnOk result (IsPlainC self.new) }
+    {
+        let prefix = literal_prefix(rest);
+        let quote = Quote::of(rest.split_at(prefix).1);
+        match quoted_len(quote, rest.split_at(prefix + 1).1) {
+            Some(inner) => {
+                let size = prefix + 1 + (inner + 1);
+                let (text, _) = rest.split_at(size);
+                if skipped_len(text) < size {
+                    return Ok(0);
+                }
+                self.emit_plain(Token::Literal(text))?;
+                Ok(size)
+            }
+            None => Ok(0),
+        }
+    }
+
+    /// The piece at the front of the rest of a line, by the first rule that fits; nothing where it doesn't stand whole in the
+    /// line, where a directive asks for it, and where a code, a section or a fault may stand in it.
+    #[inline(always)]
+    pub fn take_further(&mut self, rest: &[u8]) -> Result<usize, AllocError>
+        requires in_c { IsPlainC self.old }
+        requires line { IsLine rest.now }
+        requires some { 1 ≤ length rest.now }
+        requires kept { first_is stops_plain rest.now ≡ false }
+        requires room { weight self.old + 1 < too_many }
+        ensures taken { IfOk result (λ n. TakesPlain n rest.now self.old self.new) }
+        ensures stays { OnOk result (IsPlainC self.new) }
+    {
+        match c_rule(false, rest) {
+            Rule::Number => self.take_number(rest),
+            Rule::Identifier => self.take_word(rest),
+            Rule::Punctuator => self.take_operator(rest),
+            Rule::Comment => Ok(self.comment_len(rest)),
+            Rule::LineComment => Ok(self.line_comment_len(rest)),
+            Rule::Literal => self.take_whole_literal(rest),
+            _ => Ok(0),
+        }
+    }
+}

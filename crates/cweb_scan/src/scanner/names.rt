@@ -1,0 +1,77 @@
+// Occurrences of names, and what they give where they stand.
+ghost use Rattle.std.specs.Prelude.{◌≡◌, IfOk, OnOk, if◌then◌else◌, length, false};
+
+use crate::scanner::Scanner;
+use cweb_files::Place;
+use cweb_names::{is_prefix, is_squeezed, squeezed};
+use cweb_rules::{Context, End};
+use cweb_store::{How, NameRef};
+use std::alloc::AllocError;
+
+impl Scanner {
+    ghost use Rattle.cweb_scan.specs.After as spec;
+    ghost use Rattle.cweb_scan.specs.NameOccurrences.{as_occurrence, name_occurrence};
+    ghost use Rattle.cweb_scan.specs.inner.Resume.{takes_opener};
+    ghost use Rattle.cweb_scan.specs.inner.Room.{HasItemRoom};
+    ghost use Rattle.cweb_scan.specs.State.{add_name};
+
+    // The occurrence that a name gives as it is spelled. Answers its number.
+    fn add_spelled(&mut self, is_file: bool, name: &[u8]) -> Result<NameRef, AllocError>
+        requires { HasItemRoom 2 self.old }
+        ensures number { IfOk result (λ name. name.0 ≡ length self.old.contents.occurrences) }
+        ensures ok { OnOk result (self.new ≡ add_name (as_occurrence is_file name.now) self.old) }
+    {
+        if is_prefix(name) {
+            let (prefix, _) = name.split_at(name.len() - 3);
+            let number = self.builder.occurrence(prefix, How::Prefix, is_file)?;
+            return Ok(number);
+        }
+        let number = self.builder.occurrence(name, How::Full, is_file)?;
+        Ok(number)
+    }
+
+    // The occurrence that a name's text gives. Answers its number.
+    fn add_occurrence(&mut self, is_file: bool, text: &[u8]) -> Result<NameRef, AllocError>
+        requires { HasItemRoom 2 self.old }
+        ensures number { IfOk result (λ name. name.0 ≡ length self.old.contents.occurrences) }
+        ensures ok { OnOk result (self.new ≡ add_name (name_occurrence is_file text.now) self.old) }
+    {
+        if is_squeezed(text) {
+            return self.add_spelled(is_file, text);
+        }
+        let name = squeezed(self.alloc, text)?;
+        self.add_spelled(is_file, &name)
+    }
+
+    /// A name that began at a place ended, with an opener sign behind it or without.
+    pub fn end_name(
+        &mut self,
+        is_file: bool,
+        text: &[u8],
+        how: End,
+        opens: bool,
+        begun: Place,
+    ) -> Result<(), AllocError>
+        requires { HasItemRoom 2 self.old }
+        ensures { OnOk result
+            (self.new ≡ spec.occurrence is_file text.now how opens begun self.old) }
+    {
+        let name = self.add_occurrence(is_file, text)?;
+        self.report_name_fault(how, begun)?;
+        match self.context {
+            Context::TeX | Context::Macro => self.open_name(name, opens),
+            Context::CText => self.use_name(name, opens, begun),
+            Context::Limbo | Context::Definition(_) => Ok(()),
+        }
+    }
+
+    /// How many bytes of an opener sign belong to the name before it: in C text none.
+    pub fn opener_taken(&self, sign: usize) -> usize
+        ensures { result ≡ (if takes_opener self.now then sign else 0) }
+    {
+        match self.context {
+            Context::CText => 0,
+            _ => sign,
+        }
+    }
+}

@@ -1,0 +1,102 @@
+// Plain C text, where no item and no directive is open: the pieces that their first bytes tell, one after another.
+ghost use Rattle.std.specs.Prelude.{◌≡◌, ◌≤◌, ◌<◌, ◌+◌, ◌*◌, IfOk, IfSome, OnOk, OnErr, length};
+ghost use Rattle.cweb_names.specs.surface.Names.{too_many};
+ghost use Rattle.cweb_store.specs.surface.TokenModels.{token_model};
+ghost use Rattle.cweb_scan.specs.inner.Plain.{taken_size, IsPlainC, IsPlainToken, TakesPlain};
+
+use crate::directive::Directive;
+use crate::scanner::Scanner;
+use cweb_rules::bytes::{Class, nonempty_span_len};
+use cweb_rules::{Context, Plain, first_byte_class, past_blank};
+use cweb_store::Token;
+use std::alloc::AllocError;
+
+// A piece of no bytes is none.
+#[inline(always)]
+pub(crate) fn nonempty_len(size: usize) -> Option<usize>
+    ensures size { taken_size result ≡ size }
+    ensures some { IfSome result (λ n. 1 ≤ n) }
+{
+    if size == 0 { None } else { Some(size) }
+}
+
+impl Scanner {
+    ghost use Rattle.cweb_store.specs.surface.Growing.{token_count};
+    ghost use Rattle.cweb_rules.specs.inner.LineItems.{IsLine};
+    ghost use Rattle.cweb_scan.specs.inner.Room.{weight};
+    ghost use Rattle.cweb_scan.specs.State as spec;
+
+    // A token that leaves no directive open. A refused call changes nothing.
+    #[inline(always)]
+    pub(crate) fn emit_plain(&mut self, token: Token<'_>) -> Result<(), AllocError>
+        requires in_c { IsPlainC self.old }
+        requires plain { IsPlainToken (token_model token) }
+        requires few { token_count self.old.contents.parts + 1 < too_many }
+        ensures ok { OnOk result (self.new ≡ spec.emit (token_model token.entry) self.old) }
+        ensures err { OnErr result (self.new ≡ self.old) }
+    {
+        self.builder.push(token)?;
+        let next = Directive::new();
+        self.solid = next;
+        self.directive = next;
+        Ok(())
+    }
+
+    // The piece at the front of the rest of a line, where its first byte tells it; else nothing.
+    #[inline(always)]
+    fn take_lexeme(&mut self, rest: &[u8]) -> Result<Option<usize>, AllocError>
+        requires in_c { IsPlainC self.old }
+        requires line { IsLine rest.now }
+        requires some { 1 ≤ length rest.now }
+        requires room { weight self.old + 1 < too_many }
+        ensures taken { IfOk result (λ o. TakesPlain (taken_size o) rest.now self.old self.new) }
+        ensures some { IfOk result (λ o. IfSome o (λ n. 1 ≤ n)) }
+        ensures stays { OnOk result (IsPlainC self.new) }
+    {
+        match first_byte_class(rest[0]) {
+            Plain::Blank => Ok(Some(nonempty_span_len(Class::Blank, rest))),
+            Plain::Word => {
+                let size = nonempty_span_len(Class::Word, rest);
+                self.emit_plain(Token::Word(rest.split_at(size).0))?;
+                Ok(Some(size))
+            }
+            Plain::Lone => {
+                self.emit_plain(Token::Punct(rest.split_at(1).0))?;
+                self.folded = false;
+                Ok(Some(1))
+            }
+            Plain::Operator => Ok(nonempty_len(self.take_operator(rest)?)),
+            Plain::Digit => Ok(nonempty_len(self.take_number(rest)?)),
+            Plain::Quote => Ok(nonempty_len(self.take_whole_literal(rest)?)),
+            Plain::Further => Ok(nonempty_len(self.take_further(rest)?)),
+            Plain::Stop => Ok(None),
+        }
+    }
+
+    /// Takes the pieces at the front of the rest of a line that their first bytes tell, in C text. Answers how many bytes they
+    /// have.
+    pub fn take_plain(&mut self, rest: &[u8]) -> Result<usize, AllocError>
+        requires line { IsLine rest.now }
+        requires room { weight self.old + 3 * length rest.now + 8 < too_many }
+        ensures { IfOk result (λ n. TakesPlain n rest.now self.old self.new) }
+    {
+        if !matches!(self.context(), Context::CText) {
+            return Ok(0);
+        }
+        if self.in_directive() {
+            return self.take_directive_body(rest);
+        }
+        let mut left = rest;
+        'pieces: while !left.is_empty() {
+            let piece = past_blank(left);
+            if piece.is_empty() {
+                return Ok(rest.len() - piece.len());
+            }
+            match self.take_lexeme(piece)? {
+                Some(size) => left = piece.split_at(size).1,
+                None => return Ok(rest.len() - piece.len()),
+            }
+        }
+        Ok(rest.len() - left.len())
+    }
+}

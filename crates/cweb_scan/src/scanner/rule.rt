@@ -1,0 +1,56 @@
+// Pieces of a line, where no item is open: which rule fits, and what it does.
+ghost use Rattle.std.specs.Prelude.{◌≡◌, ◌≤◌, IfOk, length, true, false};
+
+use crate::scanner::Scanner;
+use cweb_rules::bytes::{Class, span_len};
+use cweb_rules::numbers::number_len;
+use cweb_rules::punctuators::punctuator_len;
+use cweb_rules::rule::Rule;
+use cweb_store::Token;
+use std::alloc::AllocError;
+
+impl Scanner {
+    ghost use Rattle.cweb_rules.specs.Codes.{in_c};
+    ghost use Rattle.cweb_rules.specs.inner.LineItems.{IsLine};
+    ghost use Rattle.cweb_rules.specs.inner.Rules.{c_match_by};
+    ghost use Rattle.cweb_scan.specs.inner.MatchSteps.{ends_in_line, needs_two, Applies};
+    ghost use Rattle.cweb_scan.specs.inner.DirectiveInvariant.{in_open_part};
+    ghost use Rattle.cweb_scan.specs.inner.Room.{HasItemRoom};
+
+    /// What a rule of C text names, where it ends in its line and is no code.
+    #[inline(always)]
+    pub fn take_rule(&mut self, rule: Rule, rest: &[u8]) -> Result<usize, AllocError>
+        requires line { IsLine rest.now }
+        requires ends { ends_in_line rule ≡ true }
+        requires part { in_open_part self.old.context ≡ true }
+        requires room { HasItemRoom 1 self.old }
+        requires two { needs_two rule ≡ true → 2 ≤ length rest.now }
+        requires some { 1 ≤ length rest.now }
+        ensures { IfOk result
+            (λ n. Applies (c_match_by in_c false rest.now rule) rest.now n self.old self.new) }
+    {
+        match rule {
+            Rule::Blanks => {
+                self.blank()?;
+                Ok(span_len(Class::Blank, rest))
+            }
+            Rule::LineComment => self.take_line_comment(rest),
+            Rule::IncludedName => self.take_included_name(rest),
+            Rule::Number => {
+                let size = number_len(rest);
+                self.emit(Token::Number(rest.split_at(size).0))?;
+                Ok(size)
+            }
+            Rule::Identifier => {
+                let size = span_len(Class::Word, rest);
+                self.emit(Token::Word(rest.split_at(size).0))?;
+                Ok(size)
+            }
+            _ => {
+                let size = punctuator_len(rest);
+                self.punctuator(rest.split_at(size).0)?;
+                Ok(size)
+            }
+        }
+    }
+}

@@ -1,0 +1,14 @@
+// What stands before the next `@`.
+ghost use Rattle.std.specs.Prelude.{◌≡◌, ◌≤◌, length};
+ghost use Rattle.std.specs.List.{prefix_len};
+ghost use Rattle.cweb_scan.specs.inner.Skipped.{is_skipped};
+
+use cweb_rules::plains::len_before;
+
+/// How many bytes stand before the first `@`.
+pub fn skipped_len(text: &[u8]) -> usize
+    ensures value { result ≡ prefix_len is_skipped text.now }
+    ensures within { result ≤ length text.now }
+{
+    len_before(b'@', text)
+}

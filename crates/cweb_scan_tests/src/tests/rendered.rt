@@ -1,0 +1,162 @@
+// What a scan made, as text: the tokens, each part behind its kind; the bytes that have a replacement; the names of files;
+// the faults of the text and of names.
+use super::*;
+use cweb_files::Place;
+use cweb_rules::ScanFault;
+use cweb_store::{NameId, NameRef, Parts, Store, Token};
+
+// Bytes; those that aren't printed as they stand, by their numbers in braces.
+fn render_bytes(told: &mut String, bytes: &[u8]) -> Result<(), AllocError> {
+    for byte in bytes {
+        if matches!(*byte, b' '..=b'~') {
+            told.push(char::from(*byte))?;
+        } else {
+            write!(told, "{{{:02x}}}", *byte)?;
+        }
+    }
+    Ok(())
+}
+
+// A place by its line, and by its file where that isn't the web.
+fn render_place(told: &mut String, place: Place) -> Result<(), AllocError> {
+    if place.file.0 > 0 {
+        write!(told, "{}.", place.file.0)?;
+    }
+    write!(told, "{}", place.line)
+}
+
+// Bytes between a front and a back.
+fn render_between(
+    told: &mut String,
+    front: &str,
+    bytes: &[u8],
+    back: &str,
+) -> Result<(), AllocError> {
+    told.push_str(front)?;
+    render_bytes(told, bytes)?;
+    told.push_str(back)
+}
+
+// A name in angle brackets.
+fn render_name(told: &mut String, name: &[u8]) -> Result<(), AllocError> {
+    render_between(told, "<", name, ">")
+}
+
+// A use, by the name that it stands for.
+fn render_use(told: &mut String, store: &Store, name: NameRef) -> Result<(), AllocError> {
+    match store.standing(name) {
+        Some(id) => render_name(told, store.name_text(id)),
+        None => told.push_str("<?>"),
+    }
+}
+
+fn render_mark(told: &mut String, place: Place) -> Result<(), AllocError> {
+    told.push_str("at:")?;
+    render_place(told, place)
+}
+
+// The letter of a kind of token, and the bytes of the token.
+fn render_spelling(told: &mut String, letter: &str, bytes: &[u8]) -> Result<(), AllocError> {
+    told.push_str(letter)?;
+    render_bytes(told, bytes)
+}
+
+fn render_token(told: &mut String, store: &Store, token: Token<'_>) -> Result<(), AllocError> {
+    match token {
+        Token::Word(bytes) => render_spelling(told, "w:", bytes),
+        Token::Number(bytes) => render_spelling(told, "n:", bytes),
+        Token::Literal(bytes) => render_spelling(told, "l:", bytes),
+        Token::Verbatim(bytes) => render_spelling(told, "v:", bytes),
+        Token::Punct(bytes) => render_spelling(told, "p:", bytes),
+        Token::Blank => told.push_str("_"),
+        Token::Newline => told.push_str("/"),
+        Token::Join => told.push_str("&"),
+        Token::Defs => told.push_str("defs"),
+        Token::Name(name) => render_use(told, store, name),
+        Token::Head(section) => write!(told, "head:{section}"),
+        Token::Tail(section) => write!(told, "tail:{section}"),
+        Token::Mark(place) => render_mark(told, place),
+    }
+}
+
+// The kind of each of these parts that begins with a token, between a front and a back.
+fn render_parts(
+    told: &mut String,
+    parts: Parts<'_>,
+    number: u32,
+    kind: &[u8],
+    signs: (&str, &str),
+) -> Result<(), AllocError> {
+    for part in parts {
+        if part.first == number {
+            render_between(told, signs.0, kind, signs.1)?;
+        }
+    }
+    Ok(())
+}
+
+// The kind of the part that begins with a token, in brackets.
+fn render_kind(told: &mut String, store: &Store, number: u32) -> Result<(), AllocError> {
+    render_parts(told, store.macros(), number, b"macro", ("[", "] "))?;
+    render_parts(told, store.unnamed(), number, b"program", ("[", "] "))?;
+    for id in 0..store.names() {
+        let id = NameId(id);
+        let name = store.name_text(id);
+        render_parts(told, store.parts(id), number, name, ("[<", ">] "))?;
+    }
+    Ok(())
+}
+
+// The tokens, each with a blank behind it.
+fn render_tokens(told: &mut String, store: &Store) -> Result<(), AllocError> {
+    for number in 0..store.tokens() {
+        render_kind(told, store, number)?;
+        render_token(told, store, store.token(number))?;
+        told.push_str(" ")?;
+    }
+    Ok(())
+}
+
+fn render_replacements(told: &mut String, store: &Store) -> Result<(), AllocError> {
+    for byte in 128..=255 {
+        if let Some(text) = store.replacement(byte) {
+            write!(told, "{byte:02x}")?;
+            render_between(told, "=", text, " ")?;
+        }
+    }
+    Ok(())
+}
+
+fn render_files(told: &mut String, store: &Store) -> Result<(), AllocError> {
+    for id in store.files() {
+        render_between(told, "file <", store.name_text(*id), "> ")?;
+    }
+    Ok(())
+}
+
+fn render_faults(told: &mut String, faults: &[ScanFault]) -> Result<(), AllocError> {
+    for fault in faults {
+        write!(told, "{:?} ", fault.kind)?;
+        render_place(told, fault.place)?;
+        told.push_str(" ")?;
+    }
+    Ok(())
+}
+
+// The faults of names, each with the name or the prefix that shows it.
+fn render_name_faults(told: &mut String, store: &Store) -> Result<(), AllocError> {
+    for fault in store.name_faults() {
+        write!(told, "{:?}", fault.kind)?;
+        render_between(told, " <", store.occurrence_text(fault.occurrence), "> ")?;
+    }
+    Ok(())
+}
+
+/// All of it, each piece with a blank behind it.
+pub fn render(told: &mut String, made: &Scanned) -> Result<(), AllocError> {
+    render_tokens(told, &made.store)?;
+    render_replacements(told, &made.store)?;
+    render_files(told, &made.store)?;
+    render_faults(told, made.faults.as_slice())?;
+    render_name_faults(told, &made.store)
+}

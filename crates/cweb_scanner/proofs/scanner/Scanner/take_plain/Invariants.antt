@@ -1,9 +1,0 @@
-use Rattle.cweb_scanner.proofs.Common.{length, IsPlainC}
-use Rattle.cweb_scanner.proofs.PlainTurns.{TakesSome}
-use Rattle.cweb_scanner.proofs.scanner.Scanner.take_plain.Given as goal
-
-abbrev pub invariant-pieces : goal.invariant-pieces
-invariant-pieces l = TakesSome l.rest l.left l.fn.self l.self × IsPlainC l.self
-
-abbrev pub decreases-pieces : goal.decreases-pieces
-decreases-pieces l = length l.left

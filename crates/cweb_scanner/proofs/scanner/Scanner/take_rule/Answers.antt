@@ -1,7 +1,0 @@
-use Rattle.cweb_scanner.proofs.Common.{arith}
-use Rattle.cweb_spelling.proofs.Walks.{punctuator_fits}
-use Rattle.cweb_scanner.proofs.scanner.Scanner.take_rule.Goals as goal
-
-pub split_at-requires-in_default : goal.split_at-requires-in_default
-split_at-requires-in_default c =
-    omega (arith, c.punctuator_len-size.ensures, punctuator_fits c.args.rest.now c.requires.some)

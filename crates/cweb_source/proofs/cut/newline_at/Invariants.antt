@@ -1,8 +1,0 @@
-use Rattle.cweb_source.proofs.Common.{◌≡◌, ◌++◌, ℕ, List, length, HasNoNewline}
-use Rattle.cweb_source.proofs.cut.newline_at.Given as goal
-
-abbrev pub invariant-runs : goal.invariant-runs
-invariant-runs l = (front : List ℕ) × (l.bytes ≡ front ++ l.rest) × HasNoNewline front
-
-abbrev pub decreases-runs : goal.decreases-runs
-decreases-runs l = length l.rest

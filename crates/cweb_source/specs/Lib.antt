@@ -1,3 +1,0 @@
-pub mod Include
-pub mod Lines
-pub mod Source

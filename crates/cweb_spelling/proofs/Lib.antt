@@ -1,6 +1,0 @@
-pub mod Common
-pub mod Spelling
-pub mod Steps
-pub mod Walks
-mod FirstTable
-mod WholeLiterals

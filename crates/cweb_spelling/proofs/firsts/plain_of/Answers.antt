@@ -1,6 +1,0 @@
-use Rattle.cweb_spelling.proofs.Common.{◌<◌, arith}
-use Rattle.cweb_spelling.proofs.FirstTable.{first_told}
-use Rattle.cweb_spelling.proofs.firsts.plain_of.Goals as goal
-
-pub returns : goal.returns
-returns c = let small : c.args.byte < 256 = omega (arith, c.ranges.byte.fits) in first_told c.args.byte _ small

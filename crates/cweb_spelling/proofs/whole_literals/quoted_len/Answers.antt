@@ -1,5 +1,0 @@
-use Rattle.cweb_spelling.proofs.Common.{rules}
-use Rattle.cweb_spelling.proofs.whole_literals.quoted_len.Goals as goal
-
-pub returns-in-Closed : goal.returns-in-Closed
-returns-in-Closed c = search rules

@@ -1,9 +1,0 @@
-use Rattle.cweb_spelling.proofs.Common.{length}
-use Rattle.cweb_spelling.proofs.WholeLiterals.{GoesTo}
-use Rattle.cweb_spelling.proofs.whole_literals.quoted_len.Given as goal
-
-abbrev pub invariant-units : goal.invariant-units
-invariant-units l = GoesTo l.quote l.text l.rest
-
-abbrev pub decreases-units : goal.decreases-units
-decreases-units l = length l.rest

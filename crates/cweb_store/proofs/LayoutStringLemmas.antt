@@ -1,0 +1,62 @@
+-- The texts of tokens without the layout at their end.
+use Rattle.cweb_store.proofs.Common.{arith, ◌≡◌, ℕ, suc, true, false, List, [], ◌∷◌, ◌++◌, Some, take, drop, refl, sym, ◌∙◌, ap, append-nil, slice_get, filter, if◌then◌else◌, take-append-drop, Token, before_last, without_last, without_last_after, is_blank}
+use Rattle.std.proofs.lemmas.List.Elements.{filter-append}
+use Rattle.cweb_store.specs.declared.tokens.layout.Trailing.{Trailing}
+use Rattle.cweb_store.specs.inner.Trailing.{is_trailing}
+use Rattle.cweb_store.specs.inner.TokenStrings.{has_string}
+use Rattle.cweb_store.specs.Parts as spec
+use Rattle.cweb_store.specs.declared.tokens.layout.Trailing.TheVariants as trailing
+use Rattle.cweb_store.proofs.LayoutLemmas.{take-next}
+
+-- tokens that are dropped have no text
+dropped-none : (t : Trailing) (token : Token) → is_trailing t token ≡ true → has_string token ≡ false
+dropped-none trailing.Layout (spec.Word b) h = cc
+dropped-none trailing.Layout (spec.Number b) h = cc
+dropped-none trailing.Layout (spec.Literal b) h = cc
+dropped-none trailing.Layout (spec.Verbatim b) h = cc
+dropped-none trailing.Layout (spec.Punct b) h = cc
+dropped-none trailing.Newlines (spec.Word b) h = cc
+dropped-none trailing.Newlines (spec.Number b) h = cc
+dropped-none trailing.Newlines (spec.Literal b) h = cc
+dropped-none trailing.Newlines (spec.Verbatim b) h = cc
+dropped-none trailing.Newlines (spec.Punct b) h = cc
+dropped-none t _ h = refl
+
+gone : (token : Token) (ts : List Token) → has_string token ≡ false
+    → filter has_string (token ∷ ts) ≡ filter has_string ts
+gone token ts h = ap (λ b. if b then token ∷ filter has_string ts else filter has_string ts) h
+
+before_last-strings : (t : Trailing) (token : Token) (ts : List Token)
+    → filter has_string (before_last (is_trailing t) token ts) ≡ filter has_string (token ∷ ts)
+before_last-strings t token [] = grind (arith, gone token, dropped-none t token)
+before_last-strings t token (u ∷ us) = refl
+
+without_last-strings : (t : Trailing) (ts : List Token)
+    → filter has_string (without_last (is_trailing t) ts) ≡ filter has_string ts
+without_last-strings t [] = refl
+without_last-strings t (x ∷ ts) =
+    cc (before_last-strings t x (without_last (is_trailing t) ts), without_last-strings t ts)
+
+pub trimmed-strings : (n : ℕ) (t : Trailing) (ts : List Token)
+    → filter has_string (without_last_after n (is_trailing t) ts) ≡ filter has_string ts
+trimmed-strings n t ts =
+    cc (
+      filter-append has_string (take n ts) (without_last (is_trailing t) (drop n ts)),
+      without_last-strings t (drop n ts),
+      filter-append has_string (take n ts) (drop n ts),
+      take-append-drop n ts,
+    )
+
+blank-none : (t : Token) → is_blank t ≡ true → has_string t ≡ false
+blank-none (spec.Word b) h = cc
+blank-none (spec.Number b) h = cc
+blank-none (spec.Literal b) h = cc
+blank-none (spec.Verbatim b) h = cc
+blank-none (spec.Punct b) h = cc
+blank-none _ h = refl
+
+pub blank-strings : (ts : List Token) (k : ℕ) (t : Token) → slice_get ts k ≡ Some t
+    → is_blank t ≡ true → filter has_string (take k ts) ≡ filter has_string (take (suc k) ts)
+blank-strings ts k t h blank =
+    sym (ap (filter has_string) (take-next ts k t h) ∙ filter-append has_string (take k ts) (t ∷ []) ∙ ap (λ us.
+    filter has_string (take k ts) ++ us) (gone t [] (blank-none t blank)) ∙ append-nil (filter has_string (take k ts)))

@@ -1,0 +1,82 @@
+-- Who follows parts that are linked meets those that are wanted.
+use Rattle.cweb_store.proofs.Common.{◌≡◌, ℕ, zero, suc, ◌+◌, ◌-◌, ◌≤◌, Bool, true, false, List, [], ◌∷◌, Option, Some, length, drop, ◌++◌, get_or, refl, sym, ◌∙◌, ap, subst, arith, length-drop, slice_get, if◌then◌else◌, take_all, PartKind, Unnamed, Named, Macro, PartRange, Resolution, is_wanted, followed, AreLinked}
+use Rattle.std.proofs.Common.{reverse, drop-cons}
+use Rattle.std.specs.Prelude.{slice_range}
+use Rattle.std.proofs.lemmas.List.{reverse-append}
+use Rattle.cweb_store.specs.declared.parts.iter.Wanted.{Wanted}
+use Rattle.cweb_store.specs.declared.parts.iter.Wanted.TheVariants.{Program, OfName, Macros}
+use Rattle.cweb_store.specs.declared.parts.links.Heads.{Heads}
+use Rattle.cweb_store.specs.inner.Links.{group_of, is_group, IsPut}
+
+-- a part is wanted where its group is
+wanted-group : (rs : List Resolution) (w : Wanted) (kind : PartKind)
+    → is_wanted rs w kind ≡ is_group w (group_of rs kind)
+wanted-group rs Program Unnamed = refl
+wanted-group rs Program (Named name) = grind arith
+wanted-group rs Program Macro = refl
+wanted-group rs (OfName n) (Named name) = grind (arith, OfName n)
+wanted-group rs Macros (Named name) = grind arith
+wanted-group rs _ Unnamed = refl
+wanted-group rs _ Macro = refl
+
+put-within : (ranges n m : ℕ) (b : Bool) → n ≡ (if b then ranges + 1 else m) → m ≤ ranges → n ≤ ranges + 1
+put-within ranges n m true is le = omega arith
+put-within ranges n m false is le = omega arith
+
+-- one more part in front
+pub put-linked : (rs : List Resolution) (r : PartRange) (ranges : List PartRange)
+    (skips : List ℕ) (old : Heads) (skip : ℕ) (new : Heads) → IsPut (group_of rs r.kind) (length ranges) old skip new
+    → AreLinked rs ranges skips old → AreLinked rs (r ∷ ranges) (skip ∷ skips) new
+put-linked rs r ranges skips old skip new put linked = grind (arith, put-within (length ranges), wanted-group rs)
+
+-- the first part that is met, and where the others are
+pub followed-none : (ranges : List PartRange) (skips : List ℕ) (n : ℕ) → length ranges ≤ n
+    → followed ranges skips n ≡ []
+followed-none [] skips n h = refl
+followed-none (r ∷ ranges) [] n h = refl
+followed-none (r ∷ ranges) (skip ∷ skips) zero h = absurd (let none : ⊥ = omega arith in none)
+followed-none (r ∷ ranges) (skip ∷ skips) (suc n) h = followed-none ranges skips n (omega arith)
+
+pub followed-ended : (ranges : List PartRange) (skips : List ℕ) (n : ℕ) → length skips ≤ n
+    → followed ranges skips n ≡ []
+followed-ended [] skips n h = refl
+followed-ended (r ∷ ranges) [] n h = refl
+followed-ended (r ∷ ranges) (skip ∷ skips) zero h = absurd (let none : ⊥ = omega arith in none)
+followed-ended (r ∷ ranges) (skip ∷ skips) (suc n) h = followed-ended ranges skips n (omega arith)
+
+pub followed-some : (ranges : List PartRange) (skips : List ℕ) (n : ℕ) (r : PartRange) (skip : ℕ)
+    → slice_get ranges n ≡ Some r → slice_get skips n ≡ Some skip
+    → followed ranges skips n ≡ r.part ∷ followed (drop (suc n) ranges) (drop (suc n) skips) skip
+followed-some [] skips n r skip here there = cc
+followed-some (x ∷ ranges) [] n r skip here there = cc
+followed-some (x ∷ ranges) (k ∷ skips) zero r skip here there = cc
+followed-some (x ∷ ranges) (k ∷ skips) (suc n) r skip here there = followed-some ranges skips n r skip here there
+
+range-end : {X : Type 0} (xs : List X) (n : ℕ) → drop (suc n) xs ≡ slice_range xs (n + 1) (length xs)
+range-end xs n =
+    let next : suc n ≡ n + 1 = omega arith in
+    sym (take_all (length xs - suc n) (drop (suc n) xs) (omega (arith, length-drop (suc n) xs)))
+    ∙ ap (λ k. slice_range xs k (length xs)) next
+
+pub followed-next : (ranges : List PartRange) (skips : List ℕ) (n : ℕ) (r : PartRange) (skip : ℕ)
+    → slice_get ranges n ≡ Some r → slice_get skips n ≡ Some skip → followed ranges skips n
+    ≡ r.part ∷ followed (slice_range ranges (n + 1) (length ranges)) (slice_range skips (n + 1) (length skips)) skip
+followed-next ranges skips n r skip here there = followed-some ranges skips n r skip here there
+    ∙ (λ i. r.part ∷ followed (range-end ranges n i) (range-end skips n i) skip)
+
+-- one more part in front, where the links are gathered from the last part on
+pub step-linked : (rs : List Resolution) (ranges : List PartRange) (i behind skip : ℕ) (d : PartRange)
+    (kept more : List ℕ) (group : Option Wanted) (old new : Heads) → group ≡ group_of rs (get_or ranges i d).kind
+    → suc i + behind ≡ length ranges → IsPut group behind old skip new → more ≡ kept ++ skip ∷ []
+    → AreLinked rs (drop (suc i) ranges) (reverse kept) old → AreLinked rs (drop i ranges) (reverse more) new
+step-linked rs ranges i behind skip d kept more group old new belongs count put is linked =
+    let others = drop (suc i) ranges in
+    let size : behind ≡ length others = omega (arith, length-drop (suc i) ranges, count) in
+    let here : drop i ranges ≡ get_or ranges i d ∷ others = drop-cons ranges i d (omega (arith, count)) in
+    let back : reverse more ≡ skip ∷ reverse kept = ap reverse is ∙ reverse-append kept (skip ∷ []) in
+    let put_here : IsPut (group_of rs (get_or ranges i d).kind) (length others) old skip new =
+    subst (λ (n : ℕ). IsPut (group_of rs (get_or ranges i d).kind) n old skip new) size
+    (subst (λ (g : Option Wanted). IsPut g behind old skip new) belongs put) in
+    subst (λ (xs : List PartRange). AreLinked rs xs (reverse more) new) (sym here)
+    (subst (λ (ks : List ℕ). AreLinked rs (get_or ranges i d ∷ others) ks new) (sym back)
+    (put-linked rs (get_or ranges i d) others (reverse kept) old skip new put_here linked))

@@ -1,0 +1,76 @@
+-- Parts by the numbers of their tokens.
+use Rattle.cweb_store.proofs.Common.{◌≡◌, ℕ, ◌+◌, ◌≤◌, ◌<◌, Bool, true, false, cond, List, [], ◌∷◌, map, filter, length, drop, refl, ap, arith, length-append, All, AllByRecursion, list_any, take-append_seam, drop-append_seam, All-from_recursion, PartKind, PartRange, Token, Part, all_tokens, joined_where, numbers_where, tokens_at, ranges_from}
+use Rattle.std.proofs.lemmas.List.{drop-drop}
+use Rattle.cweb_store.specs.surface.Parts.{numbers_from}
+use Rattle.cweb_store.specs.declared.parts.Part as declared
+
+-- the runs that a test keeps have the numbers of the parts that it keeps
+pub part-ranges : (test : PartKind → Bool) (n : ℕ) (ps : List Part)
+    → map (λ (r : PartRange). r.part) (filter (λ (r : PartRange). test r.kind) (ranges_from n ps))
+    ≡ numbers_from test n ps
+part-ranges test n [] = refl
+part-ranges test n (p ∷ ps) =
+    let after = n + length p.tokens in
+    let ranges = filter (λ (r : PartRange). test r.kind) (ranges_from after ps) in
+    let rest = numbers_from test after ps in
+    let number : declared.Part = record { first = n; after = after } in
+    let later = part-ranges test after ps in
+    elim (test p.kind) as
+    (λ b. map (λ (r : PartRange). r.part) (cond b ((record { kind = p.kind; part = number }) ∷ ranges)
+    ranges) ≡ cond b (number ∷ rest) rest) [ true ↦ ap (λ ns. number ∷ ns) later | false ↦ later ]
+
+text_from : (test : PartKind → Bool) (parts : List Part) (n : ℕ) (ts : List Token)
+    → drop n ts ≡ all_tokens parts → tokens_at ts (numbers_from test n parts) ≡ joined_where test parts
+text_from test [] n ts h = refl
+text_from test (p ∷ parts) n ts h =
+    grind (
+      arith,
+      take-append_seam p.tokens (all_tokens parts),
+      drop-drop,
+      drop-append_seam p.tokens (all_tokens parts),
+      text_from test parts,
+    )
+
+-- the tokens at the numbers of the parts that a test keeps are these parts joined
+pub tokens_at-numbers : (test : PartKind → Bool) (parts : List Part)
+    → tokens_at (all_tokens parts) (numbers_where test parts) ≡ joined_where test parts
+tokens_at-numbers test parts = text_from test parts 0 (all_tokens parts) refl
+
+within_from : (test : PartKind → Bool) (parts : List Part) (n end : ℕ) → n + length (all_tokens parts) ≤ end
+    → AllByRecursion (λ (p : declared.Part). p.after ≤ end) (numbers_from test n parts)
+within_from test [] n end h = tt
+within_from test (p ∷ parts) n end h =
+    let size = length p.tokens in
+    let fits : n + size + length (all_tokens parts) ≤ end =
+    omega (arith, h, length-append p.tokens (all_tokens parts)) in
+    let later = within_from test parts (n + size) end fits in
+    elim (test p.kind) as (λ b. AllByRecursion (λ (q : declared.Part). q.after ≤ end)
+    (cond b ((record { first = n; after = n + size }) ∷ numbers_from test (n + size) parts)
+    (numbers_from test (n + size) parts))) [ true ↦ (omega arith, later) | false ↦ later ]
+
+-- these numbers are those of tokens
+pub numbers-within : (test : PartKind → Bool) (parts : List Part)
+    → All (λ (p : declared.Part). p.after ≤ length (all_tokens parts)) (numbers_where test parts)
+numbers-within test parts = All-from_recursion (λ (p : declared.Part). p.after ≤ length (all_tokens parts))
+    (numbers_where test parts) (within_from test parts 0 (length (all_tokens parts)) (omega arith))
+
+ordered_from : (test : PartKind → Bool) (parts : List Part) (n : ℕ)
+    → AllByRecursion (λ (p : declared.Part). p.first ≤ p.after) (numbers_from test n parts)
+ordered_from test [] n = tt
+ordered_from test (p ∷ parts) n = grind (arith, ordered_from test parts (n + length p.tokens), test p.kind)
+
+pub numbers-ordered : (test : PartKind → Bool) (parts : List Part)
+    → All (λ (p : declared.Part). p.first ≤ p.after) (numbers_where test parts)
+numbers-ordered test parts = grind (arith, All-from_recursion, ordered_from test parts 0)
+
+some_from : (test : PartKind → Bool) (parts : List Part) (n : ℕ)
+    → (list_any (λ (p : Part). test p.kind) parts ≡ true → 0 < length (numbers_from test n parts))
+    × (0 < length (numbers_from test n parts) → list_any (λ (p : Part). test p.kind) parts ≡ true)
+some_from test [] n = (λ h. cc, λ h. absurd (let none : ⊥ = omega arith in none))
+some_from test (p ∷ parts) n = grind (arith, some_from test parts (n + length p.tokens), test p.kind)
+
+-- there are numbers exactly where a part passes the test
+pub numbers-some : (test : PartKind → Bool) (parts : List Part)
+    → (list_any (λ (p : Part). test p.kind) parts ≡ true → 0 < length (numbers_where test parts))
+    × (0 < length (numbers_where test parts) → list_any (λ (p : Part). test p.kind) parts ≡ true)
+numbers-some test parts = some_from test parts 0

@@ -1,0 +1,109 @@
+-- The texts of a store: what bytes are replaced by, and how many bytes all texts have.
+use Rattle.cweb_store.proofs.Common.{◌≡◌, ℕ, suc, ◌+◌, ◌≤◌, ◌<◌, Bool, true, false, List, [], ◌∷◌, ◌++◌, Option, Some, None, map, length, drop, refl, sym, ◌∙◌, ap, subst, arith, flat_map, slice_get, option_and_then, nat_eq, if◌then◌else◌, OccurrenceForm, PartRange, Token, all_tokens, replaced_by, replacement, IsWhole, closed_in, Stored, total, token_strings, interned_token_bytes, occurrence_text, replacement_bytes, stored_strings, uninterned_store_bytes, interned_store_bytes, AreSpansOf, AreInOneList, ClosedTokensModel, occurrences_at, replacements_at, last_from, stored_in}
+use Rattle.cweb_store.proofs.RangeLemmas.{drop-here}
+use Rattle.cweb_store.proofs.WordLemmas.{kept-few}
+use Rattle.cweb_store.proofs.TokenStringLemmas.{all-drop, all-both}
+use Rattle.cweb_store.proofs.PartRangeLemmas.{whole-tokens}
+
+-- the text for a byte is the last that was given for it
+abbrev pub at_last : List (List ℕ) → Option ℕ → Option (List ℕ)
+at_last ts found = option_and_then (slice_get ts) found
+
+last-replaces : (all ts : List (List ℕ)) (bs : List ℕ) (byte i : ℕ) (found : Option ℕ) → drop i all ≡ ts → length ts
+    ≡ length bs → replaced_by byte (at_last all found) (replacements_at ts bs) ≡ at_last all (last_from byte found i bs)
+last-replaces all ts [] byte i found h size = refl
+last-replaces all [] (b ∷ bs) byte i found h size = absurd (let none : ⊥ = omega arith in none)
+last-replaces all (t ∷ ts) (b ∷ bs) byte i found h size =
+    let here = drop-here all i t ts h in
+    let next : suc i ≡ i + 1 = omega arith in
+    let step : (if nat_eq b byte then Some t else at_last all found) ≡ at_last all
+    (if nat_eq b byte then Some i else found) = elim (nat_eq b byte) as (λ v. (if v then Some t else at_last all found)
+    ≡ at_last all (if v then Some i else found)) [ true ↦ sym here.0 | false ↦ refl ] in
+    ap (λ x. replaced_by byte x (replacements_at ts bs)) step
+    ∙ last-replaces all ts bs byte
+    (i + 1) (if nat_eq b byte then Some i else found) (ap (λ k. drop k all) (sym next) ∙ here.1) (omega arith)
+
+pub last-is : (ts : List (List ℕ)) (bs : List ℕ) (byte : ℕ) → length ts ≡ length bs
+    → replacement (replacements_at ts bs) byte ≡ at_last ts (last_from byte None 0 bs)
+last-is ts bs byte size = last-replaces ts ts bs byte 0 None refl size
+
+last_from-within : (byte i n : ℕ) (found : Option ℕ) (bs : List ℕ) (k : ℕ)
+    → ((j : ℕ) → found ≡ Some j → j < n) → i + length bs ≤ n → last_from byte found i bs ≡ Some k → k < n
+last_from-within byte i n found [] k early h is = early k is
+last_from-within byte i n found (b ∷ bs) k early h is = last_from-within byte
+    (i + 1) n (if nat_eq b byte then Some i else found) bs k (step (nat_eq b byte)) (omega arith) is
+  where
+    step : (v : Bool) (j : ℕ) → (if v then Some i else found) ≡ Some j → j < n
+    step true j e = let same : i ≡ j = cc in omega (arith, same, h)
+    step false j e = early j e
+
+pub last-within : (byte : ℕ) (bs : List ℕ) (k : ℕ) → last_from byte None 0 bs ≡ Some k → k < length bs
+last-within byte bs k is = last_from-within byte 0 (length bs) None bs k (λ j e. cc) (omega arith) is
+
+-- the texts of a store stand where its other texts stand
+occurrences-stand : (bytes : List ℕ) (ts : List (List ℕ)) (gs : List OccurrenceForm)
+    → AreSpansOf bytes ts → AreSpansOf bytes (map occurrence_text (occurrences_at ts gs))
+occurrences-stand bytes ts [] h = tt
+occurrences-stand bytes [] (g ∷ gs) h = tt
+occurrences-stand bytes (t ∷ ts) (g ∷ gs) h = (h.0, occurrences-stand bytes ts gs h.1)
+
+replacements-stand : (bytes : List ℕ) (ts : List (List ℕ)) (bs : List ℕ)
+    → AreSpansOf bytes ts → AreSpansOf bytes (map replacement_bytes (replacements_at ts bs))
+replacements-stand bytes ts [] h = tt
+replacements-stand bytes [] (b ∷ bs) h = tt
+replacements-stand bytes (t ∷ ts) (b ∷ bs) h = (h.0, replacements-stand bytes ts bs h.1)
+
+front-stands : (bytes : List ℕ) (ts us : List (List ℕ))
+    → AreSpansOf bytes (ts ++ us) → AreSpansOf bytes ts × AreSpansOf bytes us
+front-stands bytes [] us h = (tt, h)
+front-stands bytes (t ∷ ts) us h = grind (arith, front-stands bytes ts us h.1)
+
+pub store-strings : (n : ℕ) (c : ClosedTokensModel) (ranges : List PartRange) (given : List OccurrenceForm)
+    (replaced : List ℕ)
+    → IsWhole c.tokens ranges → AreInOneList n (flat_map token_strings c.tokens ++ c.others)
+    → AreInOneList n (stored_strings (stored_in c ranges given replaced))
+store-strings n c ranges given replaced whole all =
+    let both = front-stands all.bytes (flat_map token_strings c.tokens) c.others all.ranges in
+    let os = occurrences_at c.others given in
+    let rs = replacements_at (drop (length given) c.others) replaced in
+    let others = all-both all.bytes (map occurrence_text os)
+    (map replacement_bytes rs) (occurrences-stand all.bytes c.others given both.1) (replacements-stand all.bytes
+    (drop (length given) c.others) replaced (all-drop all.bytes (length given) c.others both.1)) in
+    let tokens = subst (λ (ts : List Token). AreSpansOf all.bytes (flat_map token_strings ts))
+    (sym (whole-tokens c.tokens ranges whole)) both.0 in
+    record {
+      bytes = all.bytes;
+      count = all.count;
+      ranges = all-both all.bytes (flat_map token_strings (all_tokens (map (closed_in c.tokens) ranges)))
+          (map occurrence_text os ++ map replacement_bytes rs) tokens others;
+    }
+
+-- as many bytes as the other texts have
+replacements-total : (ts : List (List ℕ)) (bs : List ℕ) → length ts ≡ length bs
+    → total length ts ≡ total length (map replacement_bytes (replacements_at ts bs))
+replacements-total [] [] h = refl
+replacements-total [] (b ∷ bs) h = refl
+replacements-total (t ∷ ts) [] h = absurd (let none : ⊥ = omega arith in none)
+replacements-total (t ∷ ts) (b ∷ bs) h = ap (λ n. length t + n) (replacements-total ts bs (omega arith))
+
+others-total : (ts : List (List ℕ)) (gs : List OccurrenceForm) (bs : List ℕ)
+    → length ts ≡ length gs + length bs → total length ts ≡ total length (map occurrence_text (occurrences_at ts gs))
+    + total length (map replacement_bytes (replacements_at (drop (length gs) ts) bs))
+others-total [] [] bs h = omega (arith, replacements-total [] bs (omega arith))
+others-total (t ∷ ts) [] bs h = omega (arith, replacements-total (t ∷ ts) bs (omega arith))
+others-total [] (g ∷ gs) bs h = absurd (let none : ⊥ = omega arith in none)
+others-total (t ∷ ts) (g ∷ gs) bs h = omega (arith, others-total ts gs bs (omega arith))
+
+pub store-bytes : (c : ClosedTokensModel) (ranges : List PartRange) (given : List OccurrenceForm) (replaced : List ℕ)
+    → IsWhole c.tokens ranges → length c.others ≡ length given + length replaced →
+    interned_token_bytes c.tokens + total length c.others ≡ interned_store_bytes (stored_in c ranges given replaced)
+store-bytes c ranges given replaced whole size =
+    cc (whole-tokens c.tokens ranges whole, others-total c.others given replaced size)
+
+-- equal Words that are kept once make the bytes fewer
+pub bytes-few : (s : Stored) → interned_store_bytes s ≤ uninterned_store_bytes s
+bytes-few s = omega (arith, kept-few (all_tokens s.parts))
+
+pub map-both : {A B C : Type 0} (f : B → C) (g : A → B) (xs : List A) → map (λ x. f (g x)) xs ≡ map f (map g xs)
+map-both f g [] = refl
+map-both f g (x ∷ xs) = ap (λ ys. f (g x) ∷ ys) (map-both f g xs)

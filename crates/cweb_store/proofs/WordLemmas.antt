@@ -1,0 +1,100 @@
+-- Words and punctuators that are kept once, and how many bytes of tokens are kept.
+use Rattle.cweb_store.proofs.Common.{◌≡◌, ℕ, ◌+◌, ◌≤◌, cond, List, [], ◌∷◌, ◌++◌, length, refl, sym, ◌∙◌, ap, arith, bytes_eq, filter, fold, list_any, Token, Word, Punct, Blank, Newline, Mark, total, interned_token_bytes}
+use Rattle.std.proofs.lemmas.List.Sums.{fold-append}
+use Rattle.cweb_texts.specs.surface.StringTables.{with_word}
+use Rattle.cweb_store.specs.inner.TokenStrings.{has_string}
+use Rattle.cweb_store.specs.surface.TokenStrings.{token_size, with_word_of, words_of, other_bytes}
+use Rattle.cweb_store.specs.Parts.{Number, Literal, Verbatim, Join, Defs, Name, Head, Tail}
+use Rattle.cweb_texts.proofs.WordLemmas.{total-append, with-word-any}
+
+-- where words are the same in some order, one more token makes the same of them
+pub same-more : (ws vs : List (List ℕ)) (t : Token)
+    → ((q : List ℕ) → list_any (bytes_eq q) ws ≡ list_any (bytes_eq q) vs)
+    → (q : List ℕ) → list_any (bytes_eq q) (with_word_of ws t) ≡ list_any (bytes_eq q) (with_word_of vs t)
+same-more ws vs (Word b) same = grind (arith, with-word-any)
+same-more ws vs (Punct b) same = grind (arith, with-word-any)
+same-more ws vs _ same = same
+
+word-bytes : (ws : List (List ℕ)) (w : List ℕ)
+    → total length (with_word ws w) ≡ total length ws + cond (list_any (bytes_eq w) ws) 0 (length w)
+word-bytes ws w = grind (arith, total-append length ws (w ∷ []))
+
+-- and as many bytes more
+pub same-more-bytes : (ws vs : List (List ℕ)) (t : Token)
+    → ((q : List ℕ) → list_any (bytes_eq q) ws ≡ list_any (bytes_eq q) vs)
+    → total length (with_word_of ws t) + total length vs ≡ total length (with_word_of vs t) + total length ws
+same-more-bytes ws vs (Word b) same =
+    omega (arith, word-bytes ws b, word-bytes vs b, ap (λ v. cond v 0 (length b)) (same b))
+same-more-bytes ws vs (Punct b) same =
+    omega (arith, word-bytes ws b, word-bytes vs b, ap (λ v. cond v 0 (length b)) (same b))
+same-more-bytes ws vs _ same = omega arith
+
+-- one more token
+pub words-push : (ts : List Token) (t : Token) → words_of (ts ++ t ∷ []) ≡ with_word_of (words_of ts) t
+words-push ts t = fold-append with_word_of [] ts (t ∷ [])
+
+-- tokens without a text add no word and no bytes
+words-strings : (ws : List (List ℕ)) (ts : List Token)
+    → fold with_word_of ws (filter has_string ts) ≡ fold with_word_of ws ts
+words-strings ws [] = refl
+words-strings ws (Word b ∷ ts) = words-strings (with_word ws b) ts
+words-strings ws (Number b ∷ ts) = words-strings ws ts
+words-strings ws (Literal b ∷ ts) = words-strings ws ts
+words-strings ws (Verbatim b ∷ ts) = words-strings ws ts
+words-strings ws (Punct b ∷ ts) = words-strings (with_word ws b) ts
+words-strings ws (Blank ∷ ts) = words-strings ws ts
+words-strings ws (Newline ∷ ts) = words-strings ws ts
+words-strings ws (Join ∷ ts) = words-strings ws ts
+words-strings ws (Defs ∷ ts) = words-strings ws ts
+words-strings ws (Name name ∷ ts) = words-strings ws ts
+words-strings ws (Head section ∷ ts) = words-strings ws ts
+words-strings ws (Tail section ∷ ts) = words-strings ws ts
+words-strings ws (Mark place ∷ ts) = words-strings ws ts
+
+other-strings : (ts : List Token) → total other_bytes (filter has_string ts) ≡ total other_bytes ts
+other-strings [] = refl
+other-strings (Word b ∷ ts) = omega (arith, other-strings ts)
+other-strings (Number b ∷ ts) = omega (arith, other-strings ts)
+other-strings (Literal b ∷ ts) = omega (arith, other-strings ts)
+other-strings (Verbatim b ∷ ts) = omega (arith, other-strings ts)
+other-strings (Punct b ∷ ts) = omega (arith, other-strings ts)
+other-strings (Blank ∷ ts) = omega (arith, other-strings ts)
+other-strings (Newline ∷ ts) = omega (arith, other-strings ts)
+other-strings (Join ∷ ts) = omega (arith, other-strings ts)
+other-strings (Defs ∷ ts) = omega (arith, other-strings ts)
+other-strings (Name name ∷ ts) = omega (arith, other-strings ts)
+other-strings (Head section ∷ ts) = omega (arith, other-strings ts)
+other-strings (Tail section ∷ ts) = omega (arith, other-strings ts)
+other-strings (Mark place ∷ ts) = omega (arith, other-strings ts)
+
+pub same-words : (ts us : List Token) → filter has_string ts ≡ filter has_string us → words_of ts ≡ words_of us
+same-words ts us same = sym (words-strings [] ts) ∙ ap words_of same ∙ words-strings [] us
+
+pub same-bytes : (ts us : List Token) → filter has_string ts ≡ filter has_string us
+    → interned_token_bytes ts ≡ interned_token_bytes us
+same-bytes ts us same = omega
+    (arith, ap (total length) (same-words ts us same), other-strings ts, other-strings us, ap (total other_bytes) same)
+
+-- no more bytes are kept than were given
+word-few : (ws : List (List ℕ)) (b : List ℕ) → total length (with_word ws b) ≤ total length ws + length b
+word-few ws b = grind (arith, total-append length ws (b ∷ []))
+
+few-from : (ws : List (List ℕ)) (ts : List Token)
+    → total length (fold with_word_of ws ts) + total other_bytes ts ≤ total length ws + total token_size ts
+few-from ws [] = omega arith
+few-from ws (Word b ∷ ts) = omega (arith, word-few ws b, few-from (with_word ws b) ts)
+few-from ws (Number b ∷ ts) = omega (arith, few-from ws ts)
+few-from ws (Literal b ∷ ts) = omega (arith, few-from ws ts)
+few-from ws (Verbatim b ∷ ts) = omega (arith, few-from ws ts)
+few-from ws (Punct b ∷ ts) = omega (arith, word-few ws b, few-from (with_word ws b) ts)
+few-from ws (Blank ∷ ts) = omega (arith, few-from ws ts)
+few-from ws (Newline ∷ ts) = omega (arith, few-from ws ts)
+few-from ws (Join ∷ ts) = omega (arith, few-from ws ts)
+few-from ws (Defs ∷ ts) = omega (arith, few-from ws ts)
+few-from ws (Name name ∷ ts) = omega (arith, few-from ws ts)
+few-from ws (Head section ∷ ts) = omega (arith, few-from ws ts)
+few-from ws (Tail section ∷ ts) = omega (arith, few-from ws ts)
+few-from ws (Mark place ∷ ts) = omega (arith, few-from ws ts)
+
+pub kept-few : (ts : List Token) → interned_token_bytes ts ≤ total token_size ts
+kept-few ts = omega (arith, few-from [] ts)

@@ -1,0 +1,13 @@
+use Rattle.cweb_store.proofs.Common.{map, subst, ◌∙◌, is_defs, IsNextNumber, ClosedTokensModel}
+use Rattle.cweb_store.specs.inner.InternedTokens.{token_of_interned}
+use Rattle.cweb_store.proofs.UseLemmas.{next-any}
+use Rattle.cweb_store.proofs.tokens.closed.ClosedTokens.has_defs.Goals as goal
+
+pub returns : goal.returns
+returns c =
+    let s = c.self.inside in
+    let is = c.next_in_range.ensures is_defs
+    (map (token_of_interned s.strings) s.records.interned) (c.as_slice.ensures.value ∙ c.self.invariant.notes.defs) in
+    next-any is_defs c.args.self.now.tokens c.args.part c.next_in_range.result
+    (subst (λ (v : ClosedTokensModel). IsNextNumber is_defs v.tokens c.args.part c.next_in_range.result) c.self.view_is
+    is)

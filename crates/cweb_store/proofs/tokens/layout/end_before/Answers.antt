@@ -1,0 +1,52 @@
+use Rattle.cweb_store.proofs.Common.{◌≡◌, suc, ◌-◌, true, false, take, sym, ◌∙◌, ap, arith, filter, if◌then◌else◌, without_last_after}
+use Rattle.cweb_store.specs.inner.Trailing.{is_trailing}
+use Rattle.cweb_store.specs.surface.TokenModels.{token_model}
+use Rattle.cweb_store.specs.inner.TokenStrings.{has_string}
+use Rattle.cweb_store.proofs.LayoutLemmas.{trim-next}
+use Rattle.cweb_store.proofs.LayoutStringLemmas.{trimmed-strings}
+use Rattle.cweb_store.proofs.tokens.layout.end_before.Goals as goal
+
+pub loop-end-preserved : goal.loop-end-preserved
+loop-end-preserved c =
+    let ts = c.args.tokens.now.tokens in
+    let from = c.args.from in
+    let test = is_trailing c.args.trailing in
+    let k = c.loop-end.end - 1 in
+    let t = token_model c.token.result in
+    let next : suc k ≡ c.loop-end.end = omega (arith, c.loop-end-test.true) in
+    let dropped : test t ≡ true = sym c.is_trailing.ensures ∙ c.if-is_trailing.true in
+    let step = trim-next from test ts k t c.token.ensures (omega (arith, c.loop-end-test.true)) in
+    record {
+      within = omega (arith, c.loop-end.invariant.within);
+      begins = λ n low all. omega (arith, c.loop-end-test.true, low);
+      same = sym (ap (λ b. if b then without_last_after from test (take k ts) else take (suc k) ts) dropped)
+          ∙ sym step ∙ ap (λ n. without_last_after from test (take n ts)) next ∙ c.loop-end.invariant.same;
+    }
+
+pub returns-else-is_trailing-clause-kept : goal.returns-else-is_trailing-clause-kept
+returns-else-is_trailing-clause-kept c =
+    let ts = c.args.tokens.now.tokens in
+    let from = c.args.from in
+    let test = is_trailing c.args.trailing in
+    let k = c.loop-end.end - 1 in
+    let t = token_model c.token.result in
+    let next : suc k ≡ c.loop-end.end = omega (arith, c.loop-end-test.true) in
+    let stays : test t ≡ false = sym c.is_trailing.ensures ∙ c.if-is_trailing.false in
+    let step = trim-next from test ts k t c.token.ensures (omega (arith, c.loop-end-test.true)) in
+    ap (λ n. take n ts) (sym next)
+    ∙ sym (ap (λ b. if b then without_last_after from test (take k ts) else take (suc k) ts) stays)
+    ∙ sym step ∙ ap (λ n. without_last_after from test (take n ts)) next ∙ c.loop-end.invariant.same
+
+pub returns-else-is_trailing-clause-strings : goal.returns-else-is_trailing-clause-strings
+returns-else-is_trailing-clause-strings c =
+    let ts = c.args.tokens.now.tokens in
+    let from = c.args.from in
+    sym (trimmed-strings from c.args.trailing (take c.loop-end.end ts))
+    ∙ ap (filter has_string) c.loop-end.invariant.same ∙ trimmed-strings from c.args.trailing ts
+
+pub returns-after-loop-end-clause-strings : goal.returns-after-loop-end-clause-strings
+returns-after-loop-end-clause-strings c =
+    let ts = c.args.tokens.now.tokens in
+    let from = c.args.from in
+    sym (trimmed-strings from c.args.trailing (take c.loop-end.end ts))
+    ∙ ap (filter has_string) c.loop-end.invariant.same ∙ trimmed-strings from c.args.trailing ts

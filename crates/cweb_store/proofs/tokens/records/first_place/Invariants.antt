@@ -1,0 +1,6 @@
+use Rattle.cweb_store.proofs.Common.{ℕ, drop}
+use Rattle.cweb_store.specs.inner.Records.{AreNumbered}
+use Rattle.cweb_store.proofs.tokens.records.first_place.Given as goal
+
+abbrev pub invariant-loop-item : goal.invariant-loop-item
+invariant-loop-item l = (n : ℕ) → AreNumbered n l.records l.all → AreNumbered n (drop l.item-index l.records) l.all

@@ -1,0 +1,85 @@
+use Rattle.cweb_store.proofs.Common.{◌≡◌, ◌<◌, ℕ, List, [], ◌∷◌, ap, arith, filter, length, refl, rules, common_steps}
+use Rattle.cweb_store.specs.inner.Records.{place_at}
+use Rattle.cweb_store.specs.inner.InternedTokens.{InternsToken, StringIsWithin, token_of_interned}
+use Rattle.cweb_store.specs.declared.tokens.interned.InternedToken.{InternedToken}
+use Rattle.cweb_store.specs.declared.tokens.interned.InternedToken.TheVariants.{Number, Literal, Verbatim}
+use Rattle.cweb_texts.specs.inner.StringTables.{StringTableModel, AddsString, InternsWord}
+use Rattle.cweb_texts.specs.surface.StringTables.{with_word}
+use Rattle.cweb_store.specs.inner.TokenStrings.{has_string}
+use Rattle.cweb_store.specs.surface.TokenStrings.{other_bytes, with_word_of}
+use Rattle.std.proofs.lemmas.Option.{slice_get_within}
+use Rattle.cweb_texts.specs.inner.StringLists.{string_at}
+use Rattle.cweb_store.specs.Parts as spec
+use Rattle.cweb_store.specs.declared.tokens.interned.InternedToken.TheVariants as packed
+use Rattle.cweb_texts.proofs.StringListLemmas.{get-string}
+use Rattle.cweb_store.proofs.tokens.records.record_of.Goals as goal
+
+-- a text that is kept, and the record that has its number
+kept-packs : {old new : StringTableModel} {string : List ℕ} {number : ℕ} (token : spec.Token) (item : InternedToken)
+    → AddsString old string number new → (number < length new.strings → StringIsWithin (length new.strings) item)
+    → (string_at new.strings number ≡ string → token_of_interned new.strings item ≡ token)
+    → with_word_of old.words token ≡ old.words
+    → other_bytes token ≡ length string → length (filter has_string (token ∷ [])) ≡ 1 → InternsToken old token item new
+kept-packs {new} {string} {number} token item keeps within stands no_word bytes one = record {
+  more = keeps.more;
+  grows = keeps.grows;
+  within = within (slice_get_within new.strings number string keeps.stands);
+  stands = stands (get-string new.strings number string keeps.stands);
+  words = rw no_word keeps.words;
+  bytes = rw no_word (omega (arith, keeps.bytes, bytes));
+  few = omega (arith, keeps.few, one);
+}
+
+-- the same of a word
+word-packs : {old new : StringTableModel} {word : List ℕ} {number : ℕ} (token : spec.Token) (item : InternedToken)
+    → InternsWord old word number new → (number < length new.strings → StringIsWithin (length new.strings) item)
+    → (string_at new.strings number ≡ word → token_of_interned new.strings item ≡ token)
+    → with_word_of old.words token ≡ with_word old.words word
+    → other_bytes token ≡ 0 → length (filter has_string (token ∷ [])) ≡ 1 → InternsToken old token item new
+word-packs {new} {word} {number} token item keeps within stands is_word none one = record {
+  more = keeps.more;
+  grows = keeps.grows;
+  within = within (slice_get_within new.strings number word keeps.stands);
+  stands = stands (get-string new.strings number word keeps.stands);
+  words = rw is_word keeps.words;
+  bytes = rw is_word (omega (arith, keeps.bytes, none));
+  few = omega (arith, keeps.few, one);
+}
+
+pub returns-in_ok-intern_word-in-Word-clause-packs : goal.returns-in_ok-intern_word-in-Word-clause-packs
+returns-in_ok-intern_word-in-Word-clause-packs c =
+    rw c.in-Word.is (word-packs (spec.Word c.in-Word.string.now) (packed.Word
+    c.in_ok-intern_word-in-Word.field-0) c.in_ok-intern_word-in-Word.ensures.ok (λ w. w) (ap spec.Word) refl refl refl)
+
+pub returns-in_ok-intern_punctuator-in-Punct-clause-packs : goal.returns-in_ok-intern_punctuator-in-Punct-clause-packs
+returns-in_ok-intern_punctuator-in-Punct-clause-packs c =
+    rw c.in-Punct.is (word-packs (spec.Punct c.in-Punct.string.now)
+    (packed.Punct c.in_ok-intern_punctuator-in-Punct.field-0)
+    c.in_ok-intern_punctuator-in-Punct.ensures.ok (λ w. w) (ap spec.Punct) refl refl refl)
+
+pub returns-in_ok-add_string-in-Number-clause-packs : goal.returns-in_ok-add_string-in-Number-clause-packs
+returns-in_ok-add_string-in-Number-clause-packs c =
+    rw c.in-Number.is (kept-packs (spec.Number c.in-Number.string.now) (Number
+    c.in_ok-add_string-in-Number.field-0) c.in_ok-add_string-in-Number.ensures.ok (λ w. w) (ap spec.Number) refl
+    (omega arith) refl)
+
+pub returns-in_ok-add_string-in-Literal-clause-packs : goal.returns-in_ok-add_string-in-Literal-clause-packs
+returns-in_ok-add_string-in-Literal-clause-packs c =
+    rw c.in-Literal.is (kept-packs (spec.Literal c.in-Literal.string.now)
+    (Literal c.in_ok-add_string-in-Literal.field-0)
+    c.in_ok-add_string-in-Literal.ensures.ok (λ w. w) (ap spec.Literal) refl (omega arith) refl)
+
+pub returns-in_ok-add_string-in-Verbatim-clause-packs : goal.returns-in_ok-add_string-in-Verbatim-clause-packs
+returns-in_ok-add_string-in-Verbatim-clause-packs c =
+    rw c.in-Verbatim.is (kept-packs (spec.Verbatim c.in-Verbatim.string.now)
+    (Verbatim c.in_ok-add_string-in-Verbatim.field-0)
+    c.in_ok-add_string-in-Verbatim.ensures.ok (λ w. w) (ap spec.Verbatim) refl (omega arith) refl)
+
+pub returns-in-Mark-clause-packs : goal.returns-in-Mark-clause-packs
+returns-in-Mark-clause-packs c =
+    let same : place_at c.push_reserved.new.self.items c.len-number.result ≡ c.in-Mark.place =
+    grind (arith, common_steps) in
+    rw (same, c.in-Mark.is) (search rules)
+
+pub returns-in-Mark-clause-placed : goal.returns-in-Mark-clause-placed
+returns-in-Mark-clause-placed c = grind (arith, common_steps)

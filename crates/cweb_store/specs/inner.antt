@@ -1,0 +1,21 @@
+-- What functions of this crate promise one another.
+pub mod Rooms
+pub mod PartRanges
+pub mod TokenStrings
+pub mod DirectBytes
+pub mod TokenReaders
+pub mod ClosedTokens
+pub mod Next
+pub mod TokenIndexes
+pub mod InternedTokens
+pub mod Records
+pub mod Trailing
+pub mod NameUses
+pub mod Wanted
+pub mod Links
+pub mod Faults
+pub mod BuilderCalls
+pub mod NamesWithParts
+pub mod Answers
+pub mod Replaced
+pub mod Stored

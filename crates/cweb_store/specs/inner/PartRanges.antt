@@ -1,0 +1,58 @@
+-- Parts as runs of one list of tokens.
+use Rattle.std.specs.Prelude.{◌≡◌, ℕ, ◌+◌, ◌≤◌, ◌<◌, List, [], ◌∷◌, Option, Some, None, map, length, drop, slice_range}
+use Rattle.std.specs.Prelude.{option_map, option_to_list, IsSome}
+use Rattle.cweb_store.specs.declared.parts.PartRange.{PartRange}
+use Rattle.cweb_store.specs.declared.parts.Open.{Open}
+use Rattle.cweb_store.specs.Parts.{Token, Part}
+use Rattle.cweb_store.specs.Growing.{PartsSoFar}
+use Rattle.cweb_names.specs.surface.Names.{too_many}
+use Rattle.cweb_store.specs.inner.ClosedTokens.{ClosedTokensModel, tokens_alone}
+
+abbrev pub closed_in : List Token → PartRange → Part
+closed_in ts r = record { kind = r.kind; tokens = slice_range ts r.part.first r.part.after }
+
+abbrev pub open_in : List Token → Open → Part
+open_in ts o = record { kind = o.kind; tokens = drop o.first ts }
+
+abbrev pub parts_in : List Token → List PartRange → Option Open → PartsSoFar
+parts_in ts ranges current = record { closed = map (closed_in ts) ranges; current = option_map (open_in ts) current }
+
+-- where the tokens of the closed parts end
+abbrev pub closed_end : List Token → Option Open → ℕ
+closed_end ts None = length ts
+closed_end ts (Some o) = o.first
+
+-- from n up to an end, each run begins where the one before it ended
+abbrev pub RangesFollow : ℕ → List PartRange → ℕ → Type 0
+RangesFollow n [] end = n ≡ end
+RangesFollow n (r ∷ rs) end = (r.part.first ≡ n) × (n ≤ r.part.after) × RangesFollow r.part.after rs end
+
+-- the closed parts follow one another up to the open one, and while a part is open there is a place for its run
+pub record ArePartRanges (ts : List Token) (ranges : List PartRange) (current : Option Open) (places : ℕ) : Type 0 where
+  pub follow : RangesFollow 0 ranges (closed_end ts current)
+  pub within : closed_end ts current ≤ length ts
+  pub room : IsSome current → length ranges < places
+  pub few_tokens : length ts < too_many
+  pub few_parts : length ranges + length (option_to_list current) < too_many
+
+-- closed parts that follow one another through all tokens
+pub record IsWhole (ts : List Token) (ranges : List PartRange) : Type 0 where
+  pub follow : RangesFollow 0 ranges (length ts)
+  pub few_tokens : length ts < too_many
+  pub few_parts : length ranges < too_many
+
+-- the same, where no other texts stand behind those of the tokens
+pub record AreClosedRanges (c : ClosedTokensModel) (ranges : List PartRange) : Type 0 where
+  pub whole : IsWhole c.tokens ranges
+  pub alone : c ≡ tokens_alone c.tokens
+
+-- parts as runs, where the first token has number n
+abbrev pub ranges_from : ℕ → List Part → List PartRange
+ranges_from n [] = []
+ranges_from n (p ∷ ps) =
+    let after = n + length p.tokens in
+    record { kind = p.kind; part = record { first = n; after = after } } ∷ ranges_from after ps
+
+-- the run of the open part, where its tokens end
+abbrev pub last_range : Open → ℕ → PartRange
+last_range o after = record { kind = o.kind; part = record { first = o.first; after = after } }

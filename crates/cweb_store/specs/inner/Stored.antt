@@ -1,0 +1,51 @@
+-- What a store keeps, and what it stands for.
+use Rattle.std.specs.Prelude.{◌≡◌, ◌<◌, ℕ, ◌+◌, Bool, List, [], ◌∷◌, Option, Some, None, map, length, drop, slice_get}
+use Rattle.std.specs.Prelude.{nat_eq, if◌then◌else◌}
+use Rattle.cweb_names.specs.declared.name.NameId.{NameId}
+use Rattle.cweb_names.specs.declared.name.NameFault.{NameFault}
+use Rattle.cweb_names.specs.declared.table.OccurrenceForm.{OccurrenceForm}
+use Rattle.cweb_store.specs.declared.parts.PartRange.{PartRange}
+use Rattle.cweb_store.specs.declared.parts.links.Links.{Links}
+use Rattle.cweb_names.specs.Names.{Resolution, names}
+use Rattle.cweb_names.specs.surface.Names.{too_many}
+use Rattle.cweb_names.specs.inner.OccurrenceTables.{occurrences_at}
+use Rattle.cweb_store.specs.Replacements.{Replacement}
+use Rattle.cweb_store.specs.surface.Replacements.{replacement_of}
+use Rattle.cweb_store.specs.inner.PartRanges.{IsWhole, closed_in}
+use Rattle.cweb_store.specs.inner.Links.{AreLinked}
+use Rattle.cweb_store.specs.inner.ClosedTokens.{ClosedTokensModel}
+use Rattle.cweb_store.specs.Calls.{Stored, stored}
+use Rattle.cweb_store.specs.inner.Answers.{AreAnswers}
+
+-- the replacements of bytes by texts, one after another
+abbrev pub replacements_at : List (List ℕ) → List ℕ → List Replacement
+replacements_at strings [] = []
+replacements_at [] (b ∷ bs) = []
+replacements_at (t ∷ ts) (b ∷ bs) = replacement_of b t ∷ replacements_at ts bs
+
+-- where a byte stands last in a list, where the first byte has number i
+abbrev pub last_from : ℕ → Option ℕ → ℕ → List ℕ → Option ℕ
+last_from byte found i [] = found
+last_from byte found i (b ∷ bs) = last_from byte (if nat_eq b byte then Some i else found) (i + 1) bs
+
+-- a table of where each byte stands last in a list
+abbrev pub AreLast : List (Option ℕ) → List ℕ → Type 0
+AreLast places bytes = (byte : ℕ) → byte < 256 → slice_get places byte ≡ Some (last_from byte None 0 bytes)
+
+-- the texts of occurrences come first behind those of the tokens, then the replacements
+abbrev pub stored_in : ClosedTokensModel → List PartRange → List OccurrenceForm → List ℕ → Stored
+stored_in c ranges given replaced =
+    stored (occurrences_at c.others given) (map (closed_in c.tokens) ranges)
+    (replacements_at (drop (length given) c.others) replaced)
+
+pub record AreStored (c : ClosedTokensModel) (ranges : List PartRange) (links : Links) (given : List OccurrenceForm)
+    (replaced : List ℕ) (last_places : List (Option ℕ)) (firsts : List ℕ) (resolutions : List Resolution)
+    (files : List NameId) (faults : List NameFault) (has_defs : Bool) : Type 0 where
+  pub whole : IsWhole c.tokens ranges
+  pub linked : AreLinked resolutions ranges links.skips.items links.heads
+  pub strings : length c.others ≡ length given + length replaced
+  pub last : AreLast last_places replaced
+  pub few : length firsts < too_many
+  pub first_places : firsts ≡ map (λ n. n.first) (names (occurrences_at c.others given))
+  pub answers : AreAnswers (occurrences_at c.others given)
+      (map (closed_in c.tokens) ranges) resolutions files faults has_defs

@@ -1,0 +1,6 @@
+-- Theorems about the definitions.
+pub mod Calls
+pub mod BuilderCalls
+pub mod Laws
+pub mod MoreLaws
+pub mod TokenLaws

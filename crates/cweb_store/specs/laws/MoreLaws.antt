@@ -1,0 +1,59 @@
+-- What else holds of names, faults, layout and tokens whatever the calls are.
+use Rattle.std.specs.Prelude.{◌≡◌, ℕ, Bool, true, nat_eq, List, [], ◌∷◌, ◌++◌, Some, take, slice_get, filter}
+use Rattle.std.specs.Prelude.{option_to_list}
+use Rattle.std.specs.List.{starts_with}
+use Rattle.cweb_names.specs.declared.name.How.TheVariants.{Prefix}
+use Rattle.cweb_names.specs.declared.name.NameFault.{NameFault}
+use Rattle.cweb_store.specs.declared.parts.PartKind.TheVariants.{Macro}
+use Rattle.cweb_names.specs.Names.{Occurrence, Resolution, spellings, names}
+use Rattle.cweb_store.specs.Parts.{Token, Part}
+use Rattle.cweb_store.specs.Layout.{is_layout, protected_count, without_layout}
+use Rattle.cweb_store.specs.Faults.{unresolved_fault, unresolved_faults}
+use Rattle.cweb_names.specs.laws.Found.{Distinct}
+use Rattle.cweb_store.specs.laws.Laws.{resolved_spelling}
+
+-- no text is the name of two names
+abbrev pub NamesAreDistinct : Type 0
+NamesAreDistinct = (os : List Occurrence) → Distinct (spellings (names os))
+
+-- the name that an abbreviation stands for begins with its prefix
+abbrev pub AbbreviationsBeginTheirNames : Type 0
+AbbreviationsBeginTheirNames = (os : List Occurrence) (i : ℕ) (o : Occurrence) (text : List ℕ) → slice_get os i ≡ Some o
+    → o.how ≡ Prefix → resolved_spelling os i ≡ Some text → starts_with nat_eq text o.text ≡ true
+
+abbrev pub is_at : ℕ → NameFault → Bool
+is_at i fault = nat_eq fault.occurrence.0 i
+
+-- an occurrence stands for a name and has no fault of its own, or it stands for none and has just one
+abbrev pub OneFaultForNoName : Type 0
+OneFaultForNoName = (rs : List Resolution) (i : ℕ) (r : Resolution) → slice_get rs i ≡ Some r
+    → filter (is_at i) (unresolved_faults rs) ≡ option_to_list (unresolved_fault i r)
+
+abbrev pub AllPass : (Token → Bool) → List Token → Type 0
+AllPass test [] = Unit {0}
+AllPass test (t ∷ ts) = (test t ≡ true) × AllPass test ts
+
+-- some tokens are the first ones of others, and the rest of these passes a test
+pub record IsTokenPrefix (test : Token → Bool) (whole front : List Token) : Type 0 where
+  pub rest : List Token
+  pub splits : whole ≡ front ++ rest
+  pub passes : AllPass test rest
+
+-- what stands before the layout that is dropped stays as it is, and a macro keeps its first two tokens
+pub record KeepsPrefix (p : Part) : Type 0 where
+  pub front : IsTokenPrefix is_layout p.tokens (without_layout p).tokens
+  pub firsts : take (protected_count p.kind) (without_layout p).tokens ≡ take (protected_count p.kind) p.tokens
+
+abbrev pub DroppingKeepsThePrefix : Type 0
+DroppingKeepsThePrefix = (p : Part) → KeepsPrefix p
+
+-- what is left of a macro's tokens where its last layout is dropped
+abbrev pub left_of_macro : List Token → List Token
+left_of_macro ts = (without_layout (record { kind = Macro; tokens = ts })).tokens
+
+-- a macro keeps its first two tokens, whatever follows; only layout at its end is dropped, and behind the two all of it
+pub record MacrosKeepTwoTokens : Type 0 where
+  pub firsts : (ts : List Token) → take 2 (left_of_macro ts) ≡ take 2 ts
+  pub fronts : (ts : List Token) → IsTokenPrefix is_layout ts (left_of_macro ts)
+  pub no_more : (t u : Token) (layout : List Token) → AllPass is_layout layout
+      → left_of_macro (t ∷ u ∷ layout) ≡ t ∷ u ∷ []

@@ -1,0 +1,6 @@
+-- What bytes are replaced by in Words that are printed.
+use Rattle.std.specs.Prelude.{ℕ, List}
+use Rattle.cweb_store.specs.Replacements.{Replacement}
+
+abbrev pub replacement_of : ℕ → List ℕ → Replacement
+replacement_of byte text = record { byte = byte; text = text }

@@ -1,0 +1,84 @@
+// Parts that are all given.
+
+ghost use Rattle.std.specs.Prelude.{◌≡◌, ◌<◌, [], length, map, IfOk};
+ghost use Rattle.cweb_names.specs.surface.Names.{too_many};
+ghost use Rattle.cweb_store.specs.Parts.{has_defs_code};
+ghost use Rattle.cweb_store.specs.inner.ClosedTokens.{tokens_alone};
+ghost use Rattle.cweb_store.specs.inner.PartRanges.{IsWhole, closed_in, ranges_from};
+ghost use Rattle.cweb_store.specs.inner.NameUses.{used_in};
+
+use crate::parts::PartRange;
+use crate::tokens::closed::ClosedTokens;
+use cweb_names::{NameId, NameKind};
+use indexmap::IndexSet;
+use std::alloc::{AllocError, Global};
+use std::marker::Model;
+
+/// Parts: the tokens of all of them in one list, and where each part begins and ends in it.
+#[derive(Drop)]
+pub struct ClosedParts {
+    pub(crate) tokens: ClosedTokens,
+    pub(crate) ranges: Vec<PartRange>,
+}
+
+impl Model for ClosedParts {
+    ghost use Rattle.std.specs.Prelude.{List, map};
+    ghost use Rattle.cweb_store.specs.Parts.{Part};
+
+    ghost Value = { List Part };
+
+    ghost use Rattle.cweb_store.specs.inner.PartRanges.{closed_in, AreClosedRanges};
+
+    ghost view = { λ s. map (closed_in s.tokens.tokens) s.ranges.items };
+
+    ghost invariant = { λ s. AreClosedRanges s.tokens s.ranges.items };
+}
+
+impl ClosedParts {
+    /// The parts in order, as runs of token numbers.
+    pub fn ranges(&self) -> &[PartRange]
+        ensures ranges { result.now ≡ ranges_from 0 self.now }
+        ensures few { length result.now < too_many }
+    {
+        self.ranges.as_slice()
+    }
+
+    /// The tokens of all parts, behind whose texts others may come, and the parts as runs of their numbers.
+    pub fn take_apart(self) -> (ClosedTokens, Vec<PartRange>)
+        ensures alone { result.0 ≡ tokens_alone result.0.tokens }
+        ensures whole { IsWhole result.0.tokens result.1.items }
+        ensures parts { map (closed_in result.0.tokens) result.1.items ≡ self }
+    {
+        let ClosedParts { tokens, ranges } = self;
+        (tokens, ranges)
+    }
+
+    /// The names that the parts of C text use.
+    pub fn uses(
+        &self,
+        alloc: Global,
+        resolutions: &[Result<NameId, NameKind>],
+    ) -> Result<IndexSet<NameId>, AllocError>
+        ensures { IfOk result (λ used. used.keys ≡ used_in resolutions.now [] self.now) }
+    {
+        let mut used = IndexSet::new(alloc);
+        for range in &self.ranges {
+            if !range.kind.is_macro() {
+                self.tokens.add_uses(range.part, resolutions, &mut used)?;
+            }
+        }
+        Ok(used)
+    }
+
+    /// Whether a part of C text has a Defs.
+    pub fn has_defs_code(&self) -> bool
+        ensures { result ≡ has_defs_code self.now }
+    {
+        for range in &self.ranges {
+            if !range.kind.is_macro() && self.tokens.has_defs(range.part) {
+                return true;
+            }
+        }
+        false
+    }
+}

@@ -1,0 +1,112 @@
+// Parts that tell where the next part of the same name stands.
+
+ghost use Rattle.std.specs.Prelude.{◌≡◌, ◌<◌, ◌≤◌, ℕ, [], length, IfOk, IfSome};
+ghost use Rattle.cweb_names.specs.Names.{resolved_at};
+ghost use Rattle.cweb_names.specs.surface.Names.{too_many};
+ghost use Rattle.cweb_store.specs.inner.Links.{AreLinked, IsAmong, IsPut, group_of, head_of};
+
+use crate::parts::iter::Wanted;
+use crate::parts::{PartKind, PartRange};
+use cweb_names::{NameId, NameKind, resolved_at};
+use std::alloc::{AllocError, Global};
+
+/// For the program, the macros and each name: how many parts there are from its first one on, or 0 where it has none.
+#[derive(Drop)]
+pub struct Heads {
+    pub program: u32,
+    pub macros: u32,
+    pub names: Vec<u32>,
+}
+
+/// For each part how many stand between it and the next one of its name, of the program or of the macros.
+#[derive(Drop)]
+pub struct Links {
+    pub skips: Vec<u32>,
+    pub heads: Heads,
+}
+
+impl Heads {
+    /// Where there is no part.
+    fn none(alloc: Global, names: usize) -> Result<Heads, AllocError>
+        ensures linked { IfOk result (λ heads. AreLinked [] [] [] heads) }
+        ensures names { IfOk result (λ heads. length heads.names.items ≡ names) }
+    {
+        Ok(Heads {
+            program: 0,
+            macros: 0,
+            names: vec![in alloc; 0; names]?,
+        })
+    }
+
+    /// How many parts there are from the first one that is wanted on, or 0 where there is none.
+    pub fn get(&self, wanted: Wanted) -> u32
+        ensures { result ≡ head_of self.now wanted }
+    {
+        match wanted {
+            Wanted::Program => self.program,
+            Wanted::Macros => self.macros,
+            Wanted::OfName(id) => match self.names.get(id.0 as usize) {
+                Some(head) => *head,
+                None => 0,
+            },
+        }
+    }
+
+    /// Puts a part before others. Answers how many of them stand between it and the next one of its group.
+    fn put(&mut self, group: Option<Wanted>, behind: u32) -> u32
+        requires among { IsAmong (length self.old.names.items) group }
+        requires within { IfSome group (λ wanted. head_of self.old wanted ≤ behind) }
+        requires few { behind < too_many }
+        ensures { IsPut group behind self.old result self.new }
+    {
+        let Some(wanted) = group else {
+            return 0;
+        };
+        let skip = behind - self.get(wanted);
+        match wanted {
+            Wanted::Program => self.program = behind + 1,
+            Wanted::Macros => self.macros = behind + 1,
+            Wanted::OfName(id) => self.names[id.0 as usize] = behind + 1,
+        }
+        skip
+    }
+}
+
+impl Links {
+    /// The links of parts, where so many names are known.
+    pub fn new(
+        alloc: Global,
+        ranges: &[PartRange],
+        resolutions: &[Result<NameId, NameKind>],
+        names: usize,
+    ) -> Result<Links, AllocError>
+        requires few { length ranges.now < too_many }
+        requires known { (i : ℕ) → IfSome (resolved_at resolutions.now i) (λ id. id.0 < names) }
+        ensures { IfOk result
+            (λ links. AreLinked resolutions.now ranges.now links.skips.items links.heads) }
+    {
+        let mut skips = Vec::with_capacity(alloc, ranges.len())?;
+        let mut heads = Heads::none(alloc, names)?;
+        for i in (0..ranges.len()).rev() {
+            let group = group_of(resolutions, ranges[i].kind);
+            let skip = heads.put(group, skips.len() as u32);
+            skips.push(skip)?;
+        }
+        skips.reverse();
+        Ok(Links { skips, heads })
+    }
+}
+
+// What a part belongs to, if to anything.
+fn group_of(resolutions: &[Result<NameId, NameKind>], kind: PartKind) -> Option<Wanted>
+    ensures { result ≡ group_of resolutions.now kind }
+{
+    match kind {
+        PartKind::Unnamed => Some(Wanted::Program),
+        PartKind::Macro => Some(Wanted::Macros),
+        PartKind::Named(name) => match resolved_at(resolutions, name.0 as usize) {
+            Some(id) => Some(Wanted::OfName(id)),
+            None => None,
+        },
+    }
+}

@@ -1,0 +1,151 @@
+// Parts while they are given.
+
+ghost use Rattle.std.specs.Prelude.{◌≡◌, ◌<◌, ◌+◌, IsSome, IsNone, is_some, OnOk, OnErr};
+ghost use Rattle.cweb_store.specs.Growing.{with_closed_part, all_parts, with_dropped_layout};
+ghost use Rattle.cweb_store.specs.Growing.{no_parts, with_opened_part};
+ghost use Rattle.cweb_store.specs.surface.Growing.{part_count};
+ghost use Rattle.cweb_store.specs.Growing.{with_pushed_token};
+ghost use Rattle.cweb_store.specs.surface.Growing.{token_count};
+ghost use Rattle.cweb_names.specs.surface.Names.{too_many};
+ghost use Rattle.cweb_store.specs.inner.PartRanges.{last_range};
+
+use crate::parts::closed::ClosedParts;
+use crate::parts::{Open, Part, PartKind, PartRange};
+use crate::tokens::Token;
+use crate::tokens::layout::{end_at_close, end_before_layout};
+use crate::tokens::list::TokenList;
+use std::alloc::{AllocError, Global};
+use std::marker::Model;
+
+/// Parts: the tokens of all of them in one list, and where each part begins and ends in it.
+#[derive(Drop)]
+pub struct PartList {
+    tokens: TokenList,
+    ranges: Vec<PartRange>,
+    current: Option<Open>,
+}
+
+impl Model for PartList {
+    ghost use Rattle.std.specs.Prelude.{vec_capacity};
+    ghost use Rattle.cweb_store.specs.inner.Rooms.{PartListModel, in_rooms};
+
+    ghost Value = { PartListModel };
+
+    ghost use Rattle.cweb_store.specs.inner.PartRanges.{parts_in, ArePartRanges};
+
+    ghost view = { λ s.
+        in_rooms (parts_in s.tokens.tokens s.ranges.items s.current)
+        s.tokens.rooms (vec_capacity s.ranges) };
+
+    ghost invariant = { λ s. ArePartRanges s.tokens.tokens s.ranges.items s.current (vec_capacity s.ranges) };
+}
+
+impl PartList {
+    ghost use Rattle.cweb_store.specs.surface.TokenModels.{token_model};
+
+    /// Parts of which none is given yet.
+    pub fn new(alloc: Global) -> PartList
+        ensures { result.parts ≡ no_parts }
+    {
+        PartList {
+            tokens: TokenList::new(alloc),
+            ranges: Vec::new(alloc),
+            current: None,
+        }
+    }
+
+    /// Whether a part is open.
+    pub fn is_open(&self) -> bool
+        ensures { result ≡ is_some self.now.parts.current }
+    {
+        self.current.is_some()
+    }
+
+    /// Begins a part. A refused call leaves the parts as they were.
+    pub fn open(&mut self, kind: PartKind) -> Result<(), AllocError>
+        requires closed { IsNone self.old.parts.current }
+        requires few { part_count self.old.parts + 1 < too_many }
+        ensures ok { OnOk result (self.new.parts ≡ with_opened_part kind self.old.parts) }
+        ensures err { OnErr result (self.new.parts ≡ self.old.parts) }
+    {
+        // room for the part, so that `close` cannot fail
+        self.ranges.reserve(1)?;
+        let first = self.tokens.len() as u32;
+        self.current = Some(Open { kind, first });
+        Ok(())
+    }
+
+    /// Adds a token to the open part. A refused call leaves the parts as they were.
+    #[inline(always)]
+    pub fn push(&mut self, token: Token<'_>) -> Result<(), AllocError>
+        requires open { IsSome self.old.parts.current }
+        requires few { token_count self.old.parts + 1 < too_many }
+        ensures ok { OnOk result
+            (self.new.parts ≡ with_pushed_token (token_model token.entry) self.old.parts) }
+        ensures err { OnErr result (self.new.parts ≡ self.old.parts) }
+    {
+        self.tokens.push(token)?;
+        Ok(())
+    }
+
+    /// Drops the last layout of the open part. It takes no memory.
+    pub fn drop_layout(&mut self)
+        requires { IsSome self.old.parts.current }
+        ensures parts { self.new.parts ≡ with_dropped_layout self.old.parts }
+        ensures rooms { self.new.rooms ≡ self.old.rooms }
+    {
+        let Some(current) = self.current else {
+            return;
+        };
+        let end = end_before_layout(&self.tokens, current);
+        self.tokens.truncate(end);
+    }
+
+    /// Ends the open part. It takes no memory.
+    pub fn close(&mut self)
+        requires { IsSome self.old.parts.current }
+        ensures parts { self.new.parts ≡ with_closed_part self.old.parts }
+        ensures rooms { self.new.rooms ≡ self.old.rooms }
+    {
+        let Some(current) = self.current else {
+            return;
+        };
+        let end = end_at_close(&self.tokens, current);
+        self.tokens.truncate(end);
+        let range = closed_range(current, end as u32);
+        self.current = None;
+        self.ranges.push_reserved(range);
+    }
+
+    /// The parts, where one that is open counts as it stands.
+    pub fn finish(self) -> ClosedParts
+        ensures { result ≡ all_parts self.parts }
+    {
+        let PartList {
+            tokens,
+            mut ranges,
+            current,
+        } = self;
+        let tokens = tokens.close();
+        let Some(current) = current else {
+            return ClosedParts { tokens, ranges };
+        };
+        let range = closed_range(current, tokens.len() as u32);
+        ranges.push_reserved(range);
+        ClosedParts { tokens, ranges }
+    }
+}
+
+// The run of a part whose tokens end before a number.
+fn closed_range(current: Open, after: u32) -> PartRange
+    ensures { result ≡ last_range current after }
+{
+    let part = Part {
+        first: current.first,
+        after,
+    };
+    PartRange {
+        kind: current.kind,
+        part,
+    }
+}

@@ -1,0 +1,39 @@
+// A store's tokens: how many there are, and what they lend.
+
+ghost use Rattle.std.specs.Prelude.{◌≡◌, ◌<◌, length, map, option_map, slice_get, Some};
+ghost use Rattle.cweb_store.specs.inner.DirectBytes.{direct_bytes};
+ghost use Rattle.cweb_texts.specs.inner.Edges.{token_bytes_model};
+ghost use Rattle.cweb_names.specs.surface.Names.{too_many};
+ghost use Rattle.cweb_store.specs.Parts.{all_tokens};
+
+use crate::store::Store;
+use crate::tokens::token_reader::TokenReader;
+use cweb_texts::TokenBytes;
+
+impl Store {
+    /// How many tokens there are, of all parts and macros.
+    pub fn tokens(&self) -> u32
+        ensures count { result ≡ length (all_tokens self.now.parts) }
+        ensures few { result < too_many }
+    {
+        self.tokens.len() as u32
+    }
+
+    /// What the token with a number lends, where it is printed as a text stands.
+    #[inline(always)]
+    pub fn direct(&self, number: u32) -> Option<TokenBytes<'_>>
+        requires { number < length (all_tokens self.now.parts) }
+        ensures { option_map direct_bytes (slice_get (all_tokens self.now.parts) number)
+            ≡ Some (option_map token_bytes_model result) }
+    {
+        self.token_reader().direct(number)
+    }
+
+    /// What lends the texts of all tokens, for a loop that prints many of them.
+    #[inline(always)]
+    pub fn token_reader(&self) -> TokenReader<'_>
+        ensures { result ≡ map direct_bytes (all_tokens self.now.parts) }
+    {
+        self.tokens.token_reader()
+    }
+}

@@ -1,0 +1,108 @@
+// The layout at the end of a part, and where the tokens before it end.
+
+ghost use Rattle.std.specs.Prelude.{◌≡◌, ◌≤◌, ℕ, filter, length, take, drop};
+ghost use Rattle.cweb_store.specs.Layout.{at_close, is_blank, without_blank, without_last_after};
+ghost use Rattle.cweb_store.specs.Layout.{without_layout};
+ghost use Rattle.cweb_store.specs.inner.PartRanges.{open_in};
+ghost use Rattle.cweb_store.specs.inner.Trailing.{is_trailing};
+ghost use Rattle.cweb_store.specs.inner.TokenStrings.{has_string};
+ghost use Rattle.cweb_store.specs.surface.TokenModels.{token_model};
+
+use crate::parts::Open;
+use crate::tokens::Token;
+use crate::tokens::list::TokenList;
+
+/// Which last tokens are dropped.
+#[derive(Clone, Copy)]
+pub enum Trailing {
+    /// Blanks, Newlines and Marks.
+    Layout,
+    /// Newlines.
+    Newlines,
+}
+
+/// The number after the last token of an open part that isn't layout. A macro's first two tokens are kept, whatever they are:
+/// the second may be the Blank after its name.
+pub fn end_before_layout(tokens: &TokenList, current: Open) -> usize
+    requires { current.first ≤ length tokens.now.tokens }
+    ensures part { open_in (take result tokens.now.tokens) current
+        ≡ without_layout (open_in tokens.now.tokens current) }
+    ensures strings { filter has_string (take result tokens.now.tokens)
+        ≡ filter has_string tokens.now.tokens }
+    ensures begins { current.first ≤ result }
+    ensures within { result ≤ length tokens.now.tokens }
+{
+    let kept = if current.kind.is_macro() { 2 } else { 0 };
+    end_before(tokens, current.first as usize + kept, Trailing::Layout)
+}
+
+/// The number after the last token that an open part has when it is closed.
+pub fn end_at_close(tokens: &TokenList, current: Open) -> usize
+    requires { current.first ≤ length tokens.now.tokens }
+    ensures part { open_in (take result tokens.now.tokens) current
+        ≡ at_close (open_in tokens.now.tokens current) }
+    ensures strings { filter has_string (take result tokens.now.tokens)
+        ≡ filter has_string tokens.now.tokens }
+    ensures begins { current.first ≤ result }
+    ensures within { result ≤ length tokens.now.tokens }
+{
+    if !current.kind.is_macro() {
+        return tokens.len();
+    }
+    let first = current.first as usize;
+    let end = end_before(tokens, first, Trailing::Newlines);
+    end_before_blank(tokens, first, end)
+}
+
+// The number after the last token that isn't dropped, of those from a number on.
+fn end_before(tokens: &TokenList, from: usize, trailing: Trailing) -> usize
+    ensures kept { take result tokens.now.tokens
+        ≡ without_last_after from (is_trailing trailing) tokens.now.tokens }
+    ensures strings { filter has_string (take result tokens.now.tokens)
+        ≡ filter has_string tokens.now.tokens }
+    ensures begins { (n : ℕ) → n ≤ from → n ≤ length tokens.now.tokens → n ≤ result }
+    ensures within { result ≤ length tokens.now.tokens }
+{
+    let mut end = tokens.len();
+    while from < end && is_trailing(tokens.token(end - 1), trailing) {
+        end -= 1;
+    }
+    end
+}
+
+fn is_trailing(token: Token<'_>, trailing: Trailing) -> bool
+    ensures { result ≡ is_trailing trailing (token_model token.entry) }
+{
+    match (trailing, token) {
+        (_, Token::Newline) => true,
+        (Trailing::Layout, Token::Blank) => true,
+        (Trailing::Layout, Token::Mark(_)) => true,
+        _ => false,
+    }
+}
+
+// The end of tokens, less a Blank that is the last of them, from a number on.
+fn end_before_blank(tokens: &TokenList, from: usize, end: usize) -> usize
+    requires begins { from ≤ end }
+    requires within { end ≤ length tokens.now.tokens }
+    ensures kept { drop from (take result tokens.now.tokens)
+        ≡ without_blank (drop from (take end tokens.now.tokens)) }
+    ensures strings { filter has_string (take result tokens.now.tokens)
+        ≡ filter has_string (take end tokens.now.tokens) }
+    ensures begins { from ≤ result }
+    ensures within { result ≤ end }
+{
+    if from < end && is_blank(tokens.token(end - 1)) {
+        return end - 1;
+    }
+    end
+}
+
+fn is_blank(token: Token<'_>) -> bool
+    ensures { result ≡ is_blank (token_model token.entry) }
+{
+    match token {
+        Token::Blank => true,
+        _ => false,
+    }
+}

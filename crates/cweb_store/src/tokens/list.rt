@@ -1,0 +1,131 @@
+// Tokens in order.
+
+ghost use Rattle.std.specs.Prelude.{◌≡◌, ◌<◌, ◌+◌, ◌++◌, ◌∷◌, [], filter, length, take, Some};
+ghost use Rattle.std.specs.Prelude.{slice_get, OnOk, OnErr};
+ghost use Rattle.cweb_names.specs.surface.Names.{too_many};
+ghost use Rattle.cweb_store.specs.inner.TokenStrings.{has_string};
+ghost use Rattle.cweb_store.specs.inner.ClosedTokens.{tokens_alone};
+
+use crate::tokens::Token;
+use crate::tokens::closed::ClosedTokens;
+use crate::tokens::interned::token_of_interned;
+use crate::tokens::records::Records;
+use crate::tokens::token_index::TokenIndex;
+use cweb_texts::StringTable;
+use std::alloc::{AllocError, Global};
+use std::marker::Model;
+
+/// Tokens as records, and their texts. Uses and Defs are noted beside them.
+pub struct TokenList {
+    strings: StringTable,
+    records: Records,
+    token_index: TokenIndex,
+}
+
+// It is let go by one call wherever it is held, not part by part.
+impl Drop for TokenList {
+    fn drop(self) {
+        let TokenList {
+            strings: _,
+            records: _,
+            token_index: _,
+        } = self;
+    }
+}
+
+impl Model for TokenList {
+    ghost use Rattle.std.specs.Prelude.{map, vec_capacity};
+    ghost use Rattle.cweb_store.specs.inner.Rooms.{TokenListModel};
+
+    ghost Value = { TokenListModel };
+
+    ghost use Rattle.cweb_store.specs.inner.InternedTokens.{token_of_interned};
+    ghost use Rattle.cweb_store.specs.inner.TokenIndexes.{AreIndexedTokens};
+
+    ghost view = { λ s.
+        record {
+          tokens = map (token_of_interned s.strings.strings) s.records.interned;
+          rooms = record {
+            for_records = s.records.room;
+            for_places = s.records.place_room;
+            for_uses = vec_capacity s.token_index.uses;
+            for_defs = vec_capacity s.token_index.defs;
+          };
+        } };
+
+    ghost invariant = { λ s. AreIndexedTokens s.strings s.records.interned s.token_index };
+}
+
+impl TokenList {
+    ghost use Rattle.cweb_store.specs.surface.TokenModels.{token_model};
+
+    pub fn new(alloc: Global) -> TokenList
+        ensures { result.tokens ≡ [] }
+    {
+        TokenList {
+            strings: StringTable::new(alloc),
+            records: Records::new(alloc),
+            token_index: TokenIndex::new(alloc),
+        }
+    }
+
+    pub fn len(&self) -> usize
+        ensures { result ≡ length self.now.tokens }
+    {
+        self.records.len()
+    }
+
+    /// Adds a token. A refused call leaves the tokens as they were.
+    #[inline(always)]
+    pub fn push(&mut self, token: Token<'_>) -> Result<(), AllocError>
+        requires few { length self.old.tokens + 1 < too_many }
+        ensures ok { OnOk result (self.new.tokens ≡ self.old.tokens ++ token_model token.entry
+            ∷ []) }
+        ensures err { OnErr result (self.new.tokens ≡ self.old.tokens) }
+    {
+        self.records.reserve(token)?;
+        self.token_index.reserve(token)?;
+        let number = self.records.len();
+        self.records.put(&mut self.strings, token)?;
+        self.token_index.add_number(number, token);
+        Ok(())
+    }
+
+    pub fn token(&self, number: usize) -> Token<'_>
+        requires { number < length self.now.tokens }
+        ensures { slice_get self.now.tokens number ≡ Some (token_model result) }
+    {
+        let interned = self.records.get(number);
+        token_of_interned(self.strings.strings(), interned)
+    }
+
+    /// Keeps the first `count` tokens. The others have no text. It takes no memory.
+    pub fn truncate(&mut self, count: usize)
+        requires { filter has_string (take count self.old.tokens)
+            ≡ filter has_string self.old.tokens }
+        ensures tokens { self.new.tokens ≡ take count self.old.tokens }
+        ensures rooms { self.new.rooms ≡ self.old.rooms }
+    {
+        self.records.truncate(count);
+        self.token_index.truncate(count);
+    }
+
+    /// The same tokens, to which none comes. Behind their texts others may come.
+    pub fn close(self) -> ClosedTokens
+        ensures { result ≡ tokens_alone self.tokens }
+    {
+        let TokenList {
+            strings,
+            records,
+            token_index,
+        } = self;
+        let strings = strings.close();
+        let own = strings.len();
+        ClosedTokens {
+            strings,
+            records,
+            own,
+            token_index,
+        }
+    }
+}

@@ -1,0 +1,112 @@
+// The lists that the texts of tokens stand in, as slices.
+
+ghost use Rattle.std.specs.Prelude.{◌≡◌, ◌<◌, ◌+◌, List, ℕ, [], length, option_map, slice_get};
+ghost use Rattle.std.specs.Prelude.{Some};
+ghost use Rattle.cweb_store.specs.inner.DirectBytes.{direct_bytes};
+ghost use Rattle.cweb_store.specs.inner.InternedTokens.{StringIsWithin, token_of_interned};
+ghost use Rattle.cweb_store.specs.Parts as spec;
+ghost use Rattle.cweb_store.specs.inner.Records.{interned_of_record};
+ghost use Rattle.cweb_texts.specs.inner.Edges.{token_bytes_model};
+ghost use Rattle.cweb_texts.specs.inner.StringLists.{string_at};
+
+use crate::tokens::records::Record;
+use cweb_texts::{Edge, StringSlices, TokenBytes, has_high_byte, punctuator_edge};
+use std::marker::Model;
+
+/// What lends the texts of tokens. A loop that holds it reads no list of the store again for where its items stand.
+#[derive(Drop)]
+pub struct TokenReader<'a> {
+    pub(crate) records: &'a [Record],
+    pub(crate) strings: StringSlices<'a>,
+}
+
+impl<'a> Model for TokenReader<'a> {
+    ghost use Rattle.std.specs.Prelude.{List, Option};
+    ghost use Rattle.cweb_texts.specs.inner.Edges.{TokenBytesModel};
+    ghost use Rattle.cweb_store.specs.inner.TokenReaders.{direct_bytes_of_records};
+    ghost use Rattle.cweb_store.specs.inner.TokenReaders.{RecordStringsAreWithin};
+
+    ghost Value = { List (Option TokenBytesModel) };
+
+    ghost view = { λ s. direct_bytes_of_records s.strings s.records.now };
+
+    ghost invariant = { λ s. RecordStringsAreWithin s.strings s.records.now };
+}
+
+impl<'a> TokenReader<'a> {
+    /// What the token with a number lends.
+    #[inline(always)]
+    pub fn direct(&self, number: u32) -> Option<TokenBytes<'a>>
+        requires { number < length self.now }
+        ensures { slice_get self.now number ≡ Some (option_map token_bytes_model result) }
+    {
+        direct(&self.strings, self.records[number as usize])
+    }
+}
+
+// What a record lends. No byte is looked at where the border of the text is kept.
+#[inline(always)]
+fn direct<'a>(strings: &StringSlices<'a>, item: Record) -> Option<TokenBytes<'a>>
+    requires { StringIsWithin (length strings.now) (interned_of_record [] item) }
+    ensures { option_map token_bytes_model result
+        ≡ direct_bytes (token_of_interned strings.now (interned_of_record [] item)) }
+{
+    match item {
+        Record::Word(number) => direct_word(strings, number as usize),
+        Record::Number(number) => Some(TokenBytes {
+            string: strings.string(number as usize),
+            edge: Edge::Number,
+        }),
+        Record::Literal(number) => Some(TokenBytes {
+            string: strings.string(number as usize),
+            edge: Edge::Literal,
+        }),
+        Record::Verbatim(number) => Some(TokenBytes {
+            string: strings.string(number as usize),
+            edge: Edge::Glue,
+        }),
+        Record::Punct(number) => direct_punctuator(strings, number as usize),
+        Record::Blank => Some(TokenBytes {
+            string: b" ",
+            edge: Edge::Blank,
+        }),
+        Record::Newline => Some(TokenBytes {
+            string: b"\n",
+            edge: Edge::LineEnd,
+        }),
+        _ => None,
+    }
+}
+
+#[inline(always)]
+fn direct_word<'a>(strings: &StringSlices<'a>, number: usize) -> Option<TokenBytes<'a>>
+    requires { number < length strings.now }
+    ensures { option_map token_bytes_model result
+        ≡ direct_bytes (spec.Word (string_at strings.now number)) }
+{
+    let word = strings.string(number);
+    match strings.edge(number) {
+        Edge::Unknown if has_high_byte(word) => None,
+        _ => Some(TokenBytes {
+            string: word,
+            edge: Edge::Word,
+        }),
+    }
+}
+
+#[inline(always)]
+fn direct_punctuator<'a>(strings: &StringSlices<'a>, number: usize) -> Option<TokenBytes<'a>>
+    requires { number < length strings.now }
+    ensures { option_map token_bytes_model result
+        ≡ direct_bytes (spec.Punct (string_at strings.now number)) }
+{
+    let string = strings.string(number);
+    match strings.edge(number) {
+        Edge::Unknown if has_high_byte(string) => None,
+        Edge::Unknown => Some(TokenBytes {
+            string,
+            edge: punctuator_edge(string),
+        }),
+        edge => Some(TokenBytes { string, edge }),
+    }
+}

@@ -1,0 +1,44 @@
+-- Whether a file is among those of a set.
+use Rattle.std.proofs.Common.{◌≡◌, ◌↔◌, Bool, true, List, Contains, IsTrue, slice_index_or, sym, ◌∙◌, refl, ap, subst, nat_cmp}
+use Rattle.std.specs.declared.cmp.Ordering.{Ordering}
+use Rattle.std.specs.declared.cmp.Ordering.TheVariants.{Less, Equal, Greater}
+use Rattle.std.specs.List.{list_any, Any}
+use Rattle.std.specs.BTreeMap.{is_at}
+use Rattle.std.specs.Cmp.{nat_cmp_is}
+use Rattle.std.specs.Ordering.{is_eq, ordering_then}
+use Rattle.std.proofs.lemmas.List.Folds.{list_any_at, Any-from_list_any}
+use Rattle.std.proofs.lemmas.Map.Lookups.{exact_unsigned}
+use Rattle.cweb_system.specs.inner.Written.{compare_keys}
+use Rattle.cweb_system.specs.declared.system.FileKey.{FileKey}
+
+both_equal : (a b : Ordering) → is_eq (ordering_then a b) ≡ true → (a ≡ Equal) × (b ≡ Equal)
+both_equal Equal Equal e = (refl, refl)
+both_equal Equal Less e = search
+both_equal Equal Greater e = search
+both_equal _ b e = search
+
+same : (a b : FileKey) → (nat_cmp a.device b.device ≡ Equal) × (nat_cmp a.number b.number ≡ Equal) → b ≡ a
+same a b equal = sym (λ i. record {
+  device = exact_unsigned a.device b.device equal.0 i;
+  number = exact_unsigned a.number b.number equal.1 i;
+})
+
+itself : (a : FileKey) → is_at (compare_keys a) a ≡ true
+itself a =
+    ap is_eq
+    (ap (λ o. ordering_then o (nat_cmp a.number a.number)) (sym (nat_cmp_is a.device a.device Equal refl))
+    ∙ sym (nat_cmp_is a.number a.number Equal refl))
+
+found : (file : FileKey) (keys : List FileKey) → Any (λ k. is_at (compare_keys file) k ≡ true) keys → Contains keys file
+found file keys (n, k, within, at, equal) =
+    (n, within, subst (λ (key : FileKey). slice_index_or keys n key ≡ key) (same file k (both_equal _ _ equal)) at)
+
+-- a set has a file where it is said to have one of its key
+pub among : (file : FileKey) (keys : List FileKey) (has : Bool) → has ≡ list_any (is_at (compare_keys file)) keys
+    → IsTrue has ↔ Contains keys file
+among file keys has is = (
+  (λ t. found file keys (Any-from_list_any (is_at (compare_keys file)) keys (sym is ∙ t))),
+  (λ (n, within, at).
+      is ∙ list_any_at (is_at (compare_keys file)) keys n file within
+      (ap (is_at (compare_keys file)) at ∙ itself file)),
+)

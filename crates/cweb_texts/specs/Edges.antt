@@ -1,0 +1,19 @@
+-- What a text that is printed as it stands is to those beside it.
+use Rattle.std.specs.Prelude.{ℕ, Bool, false, ◌==◌, List, [], ◌∷◌, codes}
+use Rattle.std.specs.List.{list_any}
+
+abbrev pub is_one_of : List ℕ → ℕ → Bool
+is_one_of bytes b = list_any (λ x. x == b) bytes
+
+-- bytes that may join with one another to a longer operator
+abbrev pub is_operator : ℕ → Bool
+is_operator b = is_one_of (codes "+-*/%&|^!=<>.:#?") b
+
+abbrev pub first_is : (ℕ → Bool) → List ℕ → Bool
+first_is test [] = false
+first_is test (b ∷ bytes) = test b
+
+abbrev pub last_is : (ℕ → Bool) → List ℕ → Bool
+last_is test [] = false
+last_is test (b ∷ []) = test b
+last_is test (b ∷ c ∷ bytes) = last_is test (c ∷ bytes)

@@ -1,0 +1,58 @@
+-- What a text that is printed as it stands is to those beside it.
+use Rattle.std.specs.Prelude.{◌≡◌, ℕ, Bool, true, false, ◌==◌, nat_le, List, [], ◌∷◌, codes, if◌then◌else◌}
+use Rattle.std.specs.List.{list_any}
+use Rattle.cweb_texts.specs.declared.edges.Edge.{Edge}
+use Rattle.cweb_texts.specs.declared.edges.Edge.TheVariants as border
+use Rattle.cweb_texts.specs.declared.edges.TokenBytes.{TokenBytes}
+use Rattle.cweb_texts.specs.Edges.{is_one_of, is_operator, first_is, last_is}
+
+-- bytes that could go on in a number
+abbrev pub is_numeric : ℕ → Bool
+is_numeric b = is_one_of (codes ".+-") b
+
+-- a byte that is not ASCII
+abbrev pub is_high : ℕ → Bool
+is_high b = nat_le 128 b
+
+-- one of three borders, by two tests of the last byte: it is a point, it is an operator byte
+abbrev pub edge_by_last : Edge → Edge → Edge → Bool → Bool → Edge
+edge_by_last plain operator point is_point is_operator =
+    if is_point then point else (if is_operator then operator else plain)
+
+-- the border of a punctuator, by two tests of its first byte, and those of its last one
+abbrev pub punctuator_edge_by : Bool → Bool → Bool → Bool → Edge
+punctuator_edge_by is_numeric is_operator is_point ends =
+    if is_numeric then edge_by_last border.NumericPlain border.NumericOperator border.NumericPoint is_point ends
+    else (if is_operator then edge_by_last border.OperatorPlain border.OperatorOperator border.OperatorPoint is_point
+    ends
+    else edge_by_last border.PlainPlain border.PlainOperator border.PlainPoint is_point ends)
+
+abbrev pub punctuator_edge : List ℕ → Edge
+punctuator_edge b =
+    punctuator_edge_by (first_is is_numeric b) (first_is is_operator b) (last_is (λ x. x == 46) b)
+    (last_is is_operator b)
+
+-- that of a text, which is told where all its bytes are ASCII
+abbrev pub string_edge : List ℕ → Edge
+string_edge b = if list_any is_high b then border.Unknown else punctuator_edge b
+
+abbrev pub is_known_edge : Edge → Bool
+is_known_edge border.Unknown = false
+is_known_edge b = true
+
+-- the border that is kept of a text is its own, unless none is kept
+abbrev pub IsStoredEdge : List ℕ → Edge → Type 0
+IsStoredEdge string b = is_known_edge b ≡ true → b ≡ string_edge string
+
+abbrev pub AreStoredEdges : List (List ℕ) → List Edge → Type 0
+AreStoredEdges [] [] = Unit {0}
+AreStoredEdges (t ∷ ts) (b ∷ bs) = IsStoredEdge t b × AreStoredEdges ts bs
+AreStoredEdges ts bs = ⊥
+
+-- a text and its border
+pub record TokenBytesModel : Type 0 where
+  pub string : List ℕ
+  pub edge : Edge
+
+abbrev pub token_bytes_model : TokenBytes → TokenBytesModel
+token_bytes_model l = record { string = l.string.now; edge = l.edge }

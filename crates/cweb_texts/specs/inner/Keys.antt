@@ -1,0 +1,44 @@
+-- The key of a word, and where the words of a key stand in a table.
+use Rattle.std.specs.Prelude.{ℕ, ◌<◌, ◌+◌, ◌-◌, ◌*◌, ◌/◌, ◌%◌, ◌^◌, nat_lt, List, length, take, drop, slice_index_or}
+use Rattle.std.specs.Prelude.{if◌then◌else◌, bit_xor}
+use Rattle.std.specs.Int.{w32, w64, from_le_bytes}
+use Rattle.cweb_texts.specs.declared.words.key.Key.{Key}
+
+-- the numbers of a text are bytes
+abbrev pub AreBytes : List ℕ → Type 0
+AreBytes string = (i : ℕ) → slice_index_or string i 0 < 256
+
+abbrev pub short_key : List ℕ → Key
+short_key word = record {
+  first = slice_index_or word 0 0 + 256 * slice_index_or word 1 0;
+  last = slice_index_or word 2 0;
+}
+
+abbrev pub middle_key : List ℕ → Key
+middle_key word = record {
+  first = from_le_bytes w32 (take 4 word);
+  last = from_le_bytes w32 (drop (length word - 4) word);
+}
+
+abbrev pub long_key : List ℕ → Key
+long_key word = record {
+  first = from_le_bytes w64 (take 8 word);
+  last = from_le_bytes w64 (drop (length word - 8) word);
+}
+
+-- the numbers that the first bytes of a word and its last ones make: eight of each, or four, or what there is
+unfoldable pub key_of : List ℕ → Key
+key_of word =
+    if nat_lt (length word) 4 then short_key word
+    else (if nat_lt (length word) 8 then middle_key word else long_key word)
+
+abbrev pub product_of : Key → ℕ
+product_of key = ((key.first + (key.last * 0x8EBC6AF09C88C6E3) % 2 ^ 64) % 2 ^ 64) * 0x9FB21C651E98DF25
+
+-- the two numbers mixed into one: both halves of a product, so that each of their bits counts
+unfoldable pub key_hash : Key → ℕ
+key_hash key = bit_xor (product_of key / 2 ^ 64) (product_of key % 2 ^ 64)
+
+-- where the window of a key begins among n slots
+unfoldable pub home_bucket_of : Key → ℕ → ℕ
+home_bucket_of key n = (key_hash key * n) / 2 ^ 64

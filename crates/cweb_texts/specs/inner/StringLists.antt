@@ -1,0 +1,39 @@
+-- Texts that stand one after another in a list of bytes.
+use Rattle.std.specs.Prelude.{◌≡◌, ℕ, zero, suc, ◌≤◌, List, [], ◌∷◌, flat_map, drop, length, slice_index_or}
+use Rattle.std.specs.Prelude.{slice_range}
+use Rattle.cweb_texts.specs.declared.edges.Edge.{Edge}
+use Rattle.cweb_texts.specs.inner.Edges.{AreStoredEdges}
+
+-- each text ends where the next begins, where the first begins at byte n
+abbrev pub strings_from : List ℕ → ℕ → List ℕ → List (List ℕ)
+strings_from bytes n [] = []
+strings_from bytes n (end ∷ ends) = slice_range bytes n end ∷ strings_from bytes end ends
+
+-- from byte n on the texts take all bytes
+abbrev pub AreEnds : ℕ → List ℕ → ℕ → Type 0
+AreEnds n [] all = n ≡ all
+AreEnds n (end ∷ ends) all = (n ≤ end) × AreEnds end ends all
+
+-- the bytes of texts
+abbrev pub text_bytes : List (List ℕ) → List ℕ
+text_bytes strings = flat_map (λ t. t) strings
+
+-- where text k begins, where the first begins at byte n
+abbrev pub string_start : ℕ → List ℕ → ℕ → ℕ
+string_start n ends zero = n
+string_start n [] (suc k) = n
+string_start n (end ∷ ends) (suc k) = string_start end ends k
+
+-- the first text begins at byte 0
+abbrev pub IsFromStart : List ℕ → Type 0
+IsFromStart [] = Unit {0}
+IsFromStart (n ∷ ends) = n ≡ 0
+
+-- what is kept of texts: where the first begins and each ends, and of each its border, or that none is kept
+pub record IsStringList (bytes offsets : List ℕ) (edges : List Edge) : Type 0 where
+  pub start : IsFromStart offsets
+  pub ends_at : AreEnds 0 (drop 1 offsets) (length bytes)
+  pub told : AreStoredEdges (strings_from bytes 0 (drop 1 offsets)) edges
+
+abbrev pub string_at : List (List ℕ) → ℕ → List ℕ
+string_at strings number = slice_index_or strings number []

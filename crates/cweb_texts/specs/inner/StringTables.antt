@@ -1,0 +1,45 @@
+-- Texts, and the words that are kept once.
+use Rattle.std.specs.Prelude.{◌≡◌, ◌≤◌, ℕ, ◌+◌, Bool, List, [], ◌++◌, Some, map, length, slice_get, bytes_eq}
+use Rattle.std.specs.List.{list_any}
+use Rattle.cweb_texts.specs.declared.words.slot.Slot.{Slot}
+use Rattle.cweb_texts.specs.inner.StringLists.{text_bytes}
+use Rattle.cweb_texts.specs.inner.Slots.{Entries, slot_words, entry_word}
+use Rattle.cweb_texts.specs.surface.StringTables.{total, with_word}
+
+-- texts are numbered by 32 bits, and so there are fewer than this
+abbrev pub string_limit : ℕ
+string_limit = 4294967295
+
+-- texts, and the words among them in some order
+pub record StringTableModel : Type 0 where
+  pub strings : List (List ℕ)
+  pub words : List (List ℕ)
+
+abbrev pub empty_table : StringTableModel
+empty_table = record { strings = []; words = [] }
+
+-- whether a word is kept
+abbrev pub has_word : StringTableModel → List ℕ → Bool
+has_word kept word = list_any (bytes_eq word) kept.words
+
+-- the texts, with the words of slots and those of a map
+abbrev pub table_model : List (List ℕ) → List Slot → Entries → StringTableModel
+table_model strings slots es = record { strings = strings; words = slot_words strings slots ++ map entry_word es }
+
+-- the texts that were there stay, and the text has a number
+pub record AddsString (old : StringTableModel) (string : List ℕ) (number : ℕ) (new : StringTableModel) : Type 0 where
+  pub more : List (List ℕ)
+  pub grows : new.strings ≡ old.strings ++ more
+  pub stands : slice_get new.strings number ≡ Some string
+  pub words : (q : List ℕ) → has_word new q ≡ has_word old q
+  pub bytes : length (text_bytes more) ≡ length string
+  pub few : length more ≤ 1
+
+-- the same of a word, which adds no bytes where it was kept before
+pub record InternsWord (old : StringTableModel) (word : List ℕ) (number : ℕ) (new : StringTableModel) : Type 0 where
+  pub more : List (List ℕ)
+  pub grows : new.strings ≡ old.strings ++ more
+  pub stands : slice_get new.strings number ≡ Some word
+  pub words : (q : List ℕ) → has_word new q ≡ list_any (bytes_eq q) (with_word old.words word)
+  pub bytes : length (text_bytes more) + total length old.words ≡ total length (with_word old.words word)
+  pub few : length more ≤ 1

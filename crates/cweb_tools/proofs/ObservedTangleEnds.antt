@@ -1,0 +1,85 @@
+-- What the devices hold at the end of a run of `ctangle`, as far as they tell it.
+use Rattle.cweb_tools.proofs.Common.{◌≡◌, inl, inr, ℕ, List, refl, ◌∙◌, ap, Some, Stop, LogFault, LogItem, line, stopped, stop_line, log_ending, says, Result, Ok, Err, [], ◌∷◌, Logs, BinsModel, TangleDevices, StreamModel, Act, ending, DeviceState, LogsLine, PerformsActs, TangleEnds, completes, stops, AgreesWith, Closes, ClosesLog, LogsEnding, done, halted}
+use Rattle.cweb_tools.proofs.Logging.{at, logs_write, said}
+
+-- what the devices hold behind a line of the log, as far as they tell it
+record LineLeft (text : List ℕ) (now : DeviceState) (after : TangleDevices) : Type 0 where
+  pub left : DeviceState
+  pub told : AgreesWith left after
+  pub is : LogsLine text now left
+
+-- the other devices were left alone
+beside_told : {left : DeviceState} (then : TangleDevices) {after : TangleDevices} → after.shelf ≡ then.shelf
+    → after.bins ≡ then.bins → AgreesWith left (at then.shelf then.bins after.log) → AgreesWith left after
+beside_told {left} then {after} shelf bins log_ending = rw bins (rw shelf log_ending)
+
+line_by : {A E : Type 0} (r : Result A E) (item : LogItem) (old new : DeviceState)
+    → PerformsActs (says item ∷ []) (log_ending r) old new → LogsLine (line item) old new
+line_by (Ok x) item old new (inl run) = inl run.1
+line_by (Err e) item old new (inr fails) = inr fails
+line_by (Ok x) item old new (inr never) = absurd never
+line_by (Err e) item old new (inl run) = absurd run.1
+
+-- the line of a stop was logged behind a run
+line_left : (stop : Stop) (about : List ℕ) {then after : TangleDevices} → after.shelf ≡ then.shelf
+    → after.bins ≡ then.bins
+    → Logs (stop_line stop about) then.log after.log → (now : DeviceState) → AgreesWith now then
+    → LineLeft (stop_line stop about) now after
+line_left stop about {then} shelf bins logs now held =
+    let writes = logs_write logs in
+    let lead = (said (stopped stop about) writes.1 then.shelf then.bins).runs now held in
+    record {
+      left = lead.left;
+      told = beside_told then shelf bins lead.told;
+      is = line_by writes.0 (stopped stop about) now lead.left lead.runs;
+    }
+
+-- how a run ends in the devices, as far as they tell it
+pub record EndsTold (acts : List Act) (due : ℕ) (now : DeviceState) (after : TangleDevices) (status : ℕ) : Type 0 where
+  pub left : DeviceState
+  pub told : AgreesWith left after
+  pub ends : TangleEnds acts due now left status
+
+stop_ends : (stop : Stop) (about : List ℕ) {acts : List Act}
+    {due : ℕ} {first now : DeviceState} {then after : TangleDevices} {status : ℕ}
+    → PerformsActs acts (Some (ending stop about)) first now
+    → AgreesWith now then → ClosesLog (ending stop about) then after → status ≡ 1 → EndsTold acts due first after status
+stop_ends LogFault about {now} {then} runs log_ending logs answered = record {
+  left = now;
+  told = beside_told then logs.shelf logs.bins
+      (rw logs.log log_ending);
+  ends = stops (ending LogFault about) now runs refl answered;
+}
+stop_ends stop about {now} runs log_ending logs answered =
+    let line = line_left stop about logs.shelf logs.bins logs.log now log_ending in record {
+      left = line.left;
+      told = line.told;
+      ends = stops (ending stop about) now runs line.is answered;
+    }
+
+pub tangle_ends : {acts : List Act} {due : ℕ} {before after : TangleDevices} {status : ℕ}
+    → Closes acts due before after status → (now : DeviceState) → AgreesWith now before
+    → EndsTold acts due now after status
+tangle_ends (done does answered) now log_ending =
+    let lead = does.runs now log_ending in
+    record { left = lead.left; told = lead.told; ends = completes lead.runs answered }
+tangle_ends (halted (ending stop about) then does logs answered) now log_ending =
+    let lead = does.runs now log_ending in
+    stop_ends stop about lead.runs lead.told logs answered
+
+-- a log and bins that tell go on telling
+ending_tells : (stop : Stop) (about : List ℕ) (old new : StreamModel)
+    → LogsEnding (ending stop about) old new → new.tells ≡ old.tells
+ending_tells LogFault about old new logs = ap (λ (l : StreamModel). l.tells) logs
+ending_tells _ about old new logs = logs.tells
+
+pub log_tells : {acts : List Act} {due : ℕ} {before after : TangleDevices} {status : ℕ}
+    → Closes acts due before after status → after.log.tells ≡ before.log.tells
+log_tells (done does answered) = does.log_tells
+log_tells {after} (halted (ending stop about) then does logs answered) =
+    ending_tells stop about then.log after.log logs.log ∙ does.log_tells
+
+pub bins_tell : {acts : List Act} {due : ℕ} {before after : TangleDevices} {status : ℕ}
+    → Closes acts due before after status → after.bins.tells ≡ before.bins.tells
+bins_tell (done does answered) = does.bins_tells
+bins_tell (halted why then does logs answered) = ap (λ (b : BinsModel). b.tells) logs.bins ∙ does.bins_tells

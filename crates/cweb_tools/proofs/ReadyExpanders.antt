@@ -1,0 +1,55 @@
+-- An expander that goes on with its store and its plan.
+use Rattle.cweb_tools.proofs.Common.{◌≡◌, ℕ, Bool, List, length, map, refl, sym, ◌∙◌, ap, subst, Bor, All, Result, File, opened_file_names, FileNames, Stop, Stored, Token, IsMarkBelow, expand, left, Planned, output_name_at, output_at, root_at, root_list, setting, file, names, Expander, BinsModel, StreamModel, ending_of, DoesInBoth, AreMarksBelow, IsReady, StaysReady, output_ending, file_at, planned_files, left_in, output_acts, outputs_acts, output_file, Failed}
+use Rattle.cweb_tools.proofs.Marks.{expansion_all}
+
+pub stays : {e : Expander} → IsReady e → StaysReady e e
+stays ready = record { store = refl; plan = refl; stands = ready.stands }
+
+pub stays_on : {a b c : Expander} → StaysReady a b → StaysReady b c → StaysReady a c
+stays_on first then = record { store = then.store ∙ first.store; plan = then.plan ∙ first.plan; stands = then.stands }
+
+-- the file of an output stays the same
+pub file_on : (files : FileNames) {a b : Expander} (n : ℕ) → StaysReady a b → file_at files b n ≡ file_at files a n
+file_on files n on = λ i. output_file (on.store i).now (opened_file_names files) (output_at (on.plan i).now.outputs n)
+
+-- the marks of an output are about files with names
+pub root_known : (files : FileNames) (e : Expander) (n : ℕ) → AreMarksBelow files e → All (IsMarkBelow (length
+    (opened_file_names files)))
+    (expand e.store.now (names e.store.now) (root_list e.store.now (root_at e.plan.now.outputs n)))
+root_known files e n known =
+    expansion_all (IsMarkBelow (length (opened_file_names files))) e.store.now known tt (root_at e.plan.now.outputs n)
+
+pub left_known : (files : FileNames) (a b : Expander) (n : ℕ) → AreMarksBelow files a → b.store ≡ a.store
+    → left a.store.now b.frames.items
+    ≡ expand a.store.now (names a.store.now) (root_list a.store.now (root_at a.plan.now.outputs n))
+    → All (IsMarkBelow (length (opened_file_names files))) (left_in b)
+left_known files a b n known same gives = subst (All (IsMarkBelow (length (opened_file_names files))))
+    (sym (ap (λ (s : Bor Stored). left s.now b.frames.items) same ∙ gives)) (root_known files a n known)
+
+-- what is printed of the tokens of an output is its file
+pub text_on : (files : FileNames) (a b : Expander) (ts : List Token)
+    → b.store ≡ a.store → left a.store.now b.frames.items ≡ ts
+    → file (setting b.store.now (opened_file_names files)) (left_in b)
+    ≡ file (setting a.store.now (opened_file_names files)) ts
+text_on files a b ts same gives =
+    ap (λ (s : Bor Stored). file (setting s.now (opened_file_names files)) (left s.now b.frames.items)) same
+    ∙ ap (λ (ts : List Token). file (setting a.store.now (opened_file_names files)) ts) gives
+
+-- the acts of an output are those of the expander at first
+pub output_on : {A : Type 0} (progress : Bool) (files : FileNames) {a b : Expander}
+    (n : ℕ) (r : Result A Stop) {x y : BinsModel} {k l : StreamModel} → StaysReady a b
+    → DoesInBoth (output_acts progress (file_at files b n)) (ending_of (output_name_at b.plan.now.outputs n) r) x y k l
+    → DoesInBoth (output_acts progress (file_at files a n)) (ending_of (output_name_at a.plan.now.outputs n) r) x y k l
+output_on progress files {a} {b} n r {x} {y} {k} {l} on does = subst (λ (f : File). DoesInBoth (output_acts progress f)
+    (ending_of (output_name_at a.plan.now.outputs n) r) x y k l) (file_on files n on) (subst (λ (p : Bor Planned).
+    DoesInBoth (output_acts progress (file_at files b n)) (ending_of (output_name_at p.now.outputs n) r) x y k l)
+    on.plan does)
+
+-- the acts of all outputs are those of the store and the plan that the expander was made for
+pub all_on : {A : Type 0} (progress : Bool) (files : FileNames) (e : Expander) {store : Stored} {plan : Planned}
+    (r : Result A Failed) {x y : BinsModel} {k l : StreamModel} → e.store.now ≡ store → e.plan.now ≡ plan
+    → DoesInBoth (outputs_acts progress (planned_files files e)) (output_ending e.plan.now.outputs r) x y k l
+    → DoesInBoth
+    (outputs_acts progress (map (output_file store (opened_file_names files)) plan.outputs))
+    (output_ending plan.outputs r) x y k l
+all_on progress files e {store} {plan} r {x} {y} {k} {l} of_store of_plan does = rw (← of_plan) (rw (← of_store) does)

@@ -1,0 +1,115 @@
+-- Whole runs of `ctangle`, computed: from texts and words to log, files and status.
+use Rattle.cweb_tools.proofs.Common.{◌≡◌, ℕ, List, [], ◌∷◌, ◌++◌, Option, Some, None, refl, ap, ◌∙◌, cond, codes, bytes_eq, File, World, Event, MergeStateModel, run_steps, started, merge, merge-run_steps, OptionsModel, options_by, TangleCourse, tangle_files, tangle_log, tangle_status, shown_by, tangle_course, tangled}
+use Rattle.std.specs.Fmt.{digits}
+use Rattle.std.specs.Str.{is_utf8, chars}
+use lib.Utf8.{encode}
+use Rattle.cweb_tools.specs.Course as course
+
+-- what a run leaves
+record Left : Type 0 where
+  log : List ℕ
+  files : List File
+  status : ℕ
+
+abbrev left_of : Option OptionsModel → TangleCourse → Left
+left_of asked course =
+    record {
+      log = tangle_log (shown_by asked) course;
+      files = tangle_files (shown_by asked) course;
+      status = tangle_status (shown_by asked) course;
+    }
+
+-- what it leaves over these texts, by its words
+abbrev left_by : World → List (List ℕ) → Left
+left_by there words = left_of (options_by words) (tangle_course there (options_by words))
+
+abbrev file : List ℕ → List ℕ → File
+file name bytes = record { name = name; bytes = bytes }
+
+abbrev text_in : List ℕ → List ℕ → List ℕ → Option (List ℕ)
+text_in name text sought = cond (bytes_eq sought name) (Some text) None
+
+-- a folder with a web alone
+abbrev one_web : List ℕ → List ℕ → World
+one_web name text = record { texts = text_in name text; inputs = None }
+
+-- what a merge that has ended gives
+abbrev events_of : Option (List Event) → List Event
+events_of None = []
+events_of (Some events) = events
+
+-- the course of a run whose merge begins so, with these files open; its steps are few
+abbrev merging : World → MergeStateModel → List (List ℕ) → List ℕ → TangleCourse
+merging there begun files main = tangled main (course.merging files (events_of (run_steps 40 there begun)))
+
+-- a run whose merge begins so leaves what its lines come to
+runs_to : (there : World) (begun : MergeStateModel) (files : List (List ℕ)) (main : List ℕ) (words : List (List ℕ))
+    (left : Left)
+    → tangle_course there (options_by words) ≡ tangled main (course.merging files (merge there begun))
+    → run_steps 40 there begun ≡ Some (events_of (run_steps 40 there begun))
+    → left_of (options_by words) (merging there begun files main) ≡ left → left_by there words ≡ left
+runs_to there begun files main words left is few computed = ap (left_of (options_by words))
+    (is ∙ ap (λ (events : List Event). tangled main (course.merging files events))
+    (merge-run_steps 40 there begun _ few))
+    ∙ computed
+
+-- two sections: the name of the second one is used in the first
+abbrev hello_text : List ℕ
+hello_text =
+    codes "@ Hello.\n@c\n#include <stdio.h>\nint main(void) { @<Greet@> return 0; }\n@ @<Greet@>=\nputs(\"hi\");\n"
+
+hello_run : left_by (one_web (codes "hello.w") hello_text) (codes "hello" ∷ []) ≡ record {
+  log = codes "This is CTANGLE, profile of CWEB 3\nWriting hello.c\n(No errors were found.)\n";
+  files = file (codes "hello.c") (codes "/*1:*/\n#line 2 \"hello.w\"\n\n#include <stdio.h>\nint main(void){/*2:*/\n"
+      ++ codes "#line 5 \"hello.w\"\n\nputs(\"hi\");/*:2*/\n#line 4 \"hello.w\"\nreturn 0;}\n/*:1*/\n")
+      ∷ [];
+  status = 0;
+}
+unfolding digits is_utf8 chars encode
+hello_run = runs_to (one_web (codes "hello.w") hello_text) (started hello_text None) (codes "hello.w" ∷ [])
+    (codes "hello.c") (codes "hello" ∷ []) _ refl refl refl
+
+-- a macro, a file of its own, and a literal that doesn't end: two outputs and a fault
+abbrev two_text : List ℕ
+two_text = codes "@ @d M 1\n@(a.h@>=\nint m=\"x\n"
+
+two_run : left_by (one_web (codes "f.w") two_text) (codes "-bph" ∷ codes "f" ∷ []) ≡ record {
+  log = codes "f.w:3: ! String did not end\n";
+  files = file (codes "f.c") (codes "#define M 1\n")
+      ∷ file (codes "a.h") (codes "/*1:*/\n#line 2 \"f.w\"\n\nint m=\"x/*:1*/\n") ∷ [];
+  status = 1;
+}
+unfolding digits is_utf8 chars encode
+two_run = runs_to (one_web (codes "f.w") two_text) (started two_text None) (codes "f.w" ∷ []) (codes "f.c")
+    (codes "-bph" ∷ codes "f" ∷ []) _ refl refl refl
+
+-- names that use each other: nothing is written
+abbrev cycle_text : List ℕ
+cycle_text = codes "@ @c @<A@>\n@ @<A@>= @<B@>\n@ @<B@>= @<A@>\n"
+
+cycle_run : left_by (one_web (codes "c.w") cycle_text) (codes "c" ∷ []) ≡ record {
+  log = codes "This is CTANGLE, profile of CWEB 3\n! Cycle: <A> <B> <A>\n(Faults: 1.)\n";
+  files = [];
+  status = 1;
+}
+unfolding digits is_utf8 chars encode
+cycle_run = runs_to (one_web (codes "c.w") cycle_text) (started cycle_text None) (codes "c.w" ∷ []) (codes "c.c")
+    (codes "c" ∷ []) _ refl refl refl
+
+-- a line that a change file replaces, with marks to where each line stands
+abbrev changed_texts : List ℕ → Option (List ℕ)
+changed_texts sought = cond (bytes_eq sought (codes "v.w"))
+    (Some (codes "@ @c\na;\nb;\nc;\n")) (text_in (codes "v.ch") (codes "@x\nb;\n@y\nB;\n@z\n") sought)
+
+changed_run : left_by (record { texts = changed_texts; inputs = None }) (codes "-bph" ∷ codes "v" ∷ codes "v" ∷ [])
+    ≡ record {
+      log = [];
+      files =
+          file (codes "v.c") (codes "/*1:*/\n#line 1 \"v.w\"\n\na;\n#line 4 \"v.ch\"\nB;\n#line 4 \"v.w\"\nc;/*:1*/\n")
+          ∷ [];
+      status = 0;
+    }
+unfolding digits is_utf8 chars encode
+changed_run = runs_to (record { texts = changed_texts; inputs = None })
+    (started (codes "@ @c\na;\nb;\nc;\n") (Some (codes "@x\nb;\n@y\nB;\n@z\n")))
+    (codes "v.w" ∷ codes "v.ch" ∷ []) (codes "v.c") (codes "-bph" ∷ codes "v" ∷ codes "v" ∷ []) _ refl refl refl

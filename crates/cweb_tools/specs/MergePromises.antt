@@ -1,0 +1,146 @@
+-- What a run of `wmerge` leaves in its devices. Each sentence asks only of the devices it speaks of that they tell what they hold.
+use Rattle.std.specs.Prelude.{◌≡◌, ◌≢◌, ◌≤◌, ℕ, ◌+◌, length, List, [], ◌++◌, codes, Option, None, Some, IsTrue}
+use Rattle.cweb_input.specs.Include.{World}
+use Rattle.cweb_input.specs.ReaderNames.{blame}
+use Rattle.cweb_input.specs.OpenSources.{files_named, read_failures_of}
+use Rattle.cweb_lines.specs.EventsByKind.{reported_faults, openings, taken_lines, IsWithinLimits}
+use Rattle.cweb_lines.specs.Writing.{BreaksLimit, write_failures_of}
+use Rattle.cweb_files.specs.Frames.{WritesPrefix}
+use Rattle.cweb_input.specs.declared.fault.SourceFault.{SourceFault}
+use Rattle.cweb_input.specs.declared.stop.Stop.{Stop}
+use Rattle.cweb_input.specs.declared.stop.Stop.TheVariants.{Usage, WebNotOpened, ChangeNotOpened, ReadFault}
+use Rattle.cweb_input.specs.declared.stop.Stop.TheVariants.{LineTooLong}
+use Rattle.cweb_input.specs.declared.stop.Stop.TheVariants.{TooMuchText, Memory, WriteFault}
+use Rattle.cweb_log.specs.LogWriting.{Logs}
+use Rattle.cweb_log.specs.Log.{fault_lines, stop_line, file_name_at}
+use Rattle.cweb_log.specs.DeviceModels.{MergeDevices}
+use Rattle.cweb_log.specs.Words.{WebNames}
+use Rattle.cweb_tools.specs.Course.{Course, not_there, change_not_there, merging, merge_course, change_name}
+use Rattle.cweb_tools.specs.Course.{fault_status, merged, usage, MergeKeepsLimits}
+
+-- the words can't be read: the log alone is written to
+pub record RefusesArgs (before after : MergeDevices) (status : ℕ) : Type 0 where
+  pub read : after.shelf.failed ≡ before.shelf.failed
+  pub printed : after.out.failed ≡ before.out.failed
+  pub written : after.out.bytes ≡ before.out.bytes
+  pub logged : Logs (stop_line Usage usage) before.log after.log
+  pub answered : status ≡ 1
+
+-- all of a course was merged: these files were opened, these faults were met, and the limits were kept
+abbrev pub HasMerged : Course → List (List ℕ) → List SourceFault → Type 0
+HasMerged (merging first events) files faults = (files ≡ first ++ openings events) × (faults ≡ reported_faults events)
+    × IsWithinLimits (taken_lines events)
+HasMerged course files faults = ⊥
+
+-- the run went its whole course
+pub record Completes (course : Course) (before after : MergeDevices) (status : ℕ) : Type 0 where
+  pub files : List (List ℕ)
+  pub faults : List SourceFault
+  pub all : IsTrue before.shelf.tells → HasMerged course files faults
+  pub read : after.shelf.failed ≡ before.shelf.failed
+  pub none_blamed : IsTrue before.shelf.tells → after.shelf.blamed ≡ before.shelf.blamed
+  pub printed : after.out.failed ≡ before.out.failed
+  pub written : IsTrue before.shelf.tells → IsTrue before.out.tells
+      → after.out.bytes ≡ before.out.bytes ++ merged course
+  pub logged : Logs (fault_lines files faults) before.log after.log
+  pub answered : after.log.failed ≡ before.log.failed → status ≡ fault_status faults
+  pub failed : after.log.failed ≢ before.log.failed → status ≡ 1
+
+-- A stop to which a course can come. A limit that it names is the first that the course breaks.
+abbrev pub CanStop : Stop → Course → Type 0
+CanStop WebNotOpened (not_there web) = Unit {0}
+CanStop ChangeNotOpened (change_not_there change) = Unit {0}
+CanStop (ReadFault file) (merging first events) = Unit {0}
+CanStop (LineTooLong file) (merging first events) = BreaksLimit (LineTooLong file) events
+CanStop TooMuchText (merging first events) = BreaksLimit TooMuchText events
+CanStop WriteFault (merging first events) = Unit {0}
+CanStop Memory course = Unit {0}
+CanStop stop course = ⊥
+
+-- the stops that come once the words were read
+abbrev pub Comes : Stop → Type 0
+Comes WebNotOpened = Unit {0}
+Comes ChangeNotOpened = Unit {0}
+Comes (ReadFault file) = Unit {0}
+Comes (LineTooLong file) = Unit {0}
+Comes TooMuchText = Unit {0}
+Comes WriteFault = Unit {0}
+Comes Memory = Unit {0}
+Comes stop = ⊥
+
+-- what the line of a stop is about, by the names that the words ask for and those of the files that were opened
+abbrev pub about : WebNames → List (List ℕ) → Stop → List ℕ
+about names files WebNotOpened = names.web
+about names files ChangeNotOpened = change_name names.change
+about names files (ReadFault file) = file_name_at files file.0
+about names files (LineTooLong file) = file_name_at files file.0
+about names files WriteFault = codes "standard output"
+about names files stop = []
+
+-- a device failed where the stop is its own, once, and no other did
+pub record BlamesDevice (stop : Stop) (before after : MergeDevices) : Type 0 where
+  pub shelf : after.shelf.failed ≡ before.shelf.failed + read_failures_of stop
+  pub out : after.out.failed ≡ before.out.failed + write_failures_of stop
+
+-- names of files that a course opens, in their order, as far as it went
+abbrev pub AreOpened : List (List ℕ) → Course → Type 0
+AreOpened files (merging first events) = (rest : List (List ℕ)) × (first ++ openings events ≡ files ++ rest)
+AreOpened files course = files ≡ []
+
+-- something stopped the run: a front of the merged lines is written, and the log has the stop's line alone
+pub record Stops (names : WebNames) (course : Course) (before after : MergeDevices) (status : ℕ) : Type 0 where
+  pub stop : Stop
+  pub comes : Comes stop
+  pub cause : IsTrue before.shelf.tells → CanStop stop course
+  -- the files that were opened by then, with that of the stop
+  pub files : List (List ℕ)
+  pub named : files_named stop ≤ length files
+  pub opened : IsTrue before.shelf.tells → AreOpened files course
+  pub blames : BlamesDevice stop before after
+  -- a read fault is one of the very file that it names
+  pub blamed : IsTrue before.shelf.tells → after.shelf.blamed ≡ before.shelf.blamed ++ blame files stop
+  pub written : IsTrue before.shelf.tells → IsTrue before.out.tells
+      → WritesPrefix before.out.bytes after.out.bytes (merged course)
+  pub logged : Logs (stop_line stop (about names files stop)) before.log after.log
+  pub answered : status ≡ 1
+
+-- how a run ends whose words could be read
+pub data Merges (names : WebNames) (course : Course) (before after : MergeDevices) (status : ℕ) : Type 0 where
+  completes : Completes course before after status → Merges names course before after status
+  stops : Stops names course before after status → Merges names course before after status
+
+-- how a run ends
+abbrev pub MergeEnds : World → Option WebNames → MergeDevices → MergeDevices → ℕ → Type 0
+MergeEnds world None before after status = RefusesArgs before after status
+MergeEnds world (Some names) before after status = Merges names (merge_course world (Some names)) before after status
+
+-- a front of the merged lines was printed, and all of them where the status is 0
+pub record PrintsMerged (course : Course) (before after : MergeDevices) (status : ℕ) : Type 0 where
+  pub front : WritesPrefix before.out.bytes after.out.bytes (merged course)
+  pub whole : status ≡ 0 → after.out.bytes ≡ before.out.bytes ++ merged course
+
+-- no device failed more than once, and not both the shelf and the output
+pub record MergeFailsOnce (before after : MergeDevices) : Type 0 where
+  pub one : after.shelf.failed + after.out.failed ≤ before.shelf.failed + before.out.failed + 1
+  pub log : after.log.failed ≤ before.log.failed + 1
+
+-- a device that failed makes the status 1
+pub record MergeReportsFaults (before after : MergeDevices) (status : ℕ) : Type 0 where
+  pub read : after.shelf.failed ≢ before.shelf.failed → status ≡ 1
+  pub printed : after.out.failed ≢ before.out.failed → status ≡ 1
+  pub logged : after.log.failed ≢ before.log.failed → status ≡ 1
+
+-- what is promised of each run, also where something stops it
+pub record MergePromises (world : World) (asked : Option WebNames) (before after : MergeDevices)
+    (status : ℕ) : Type 0 where
+  -- the words can't be read, or the run goes its whole course, or one thing stops it, whose line is then the log
+  pub ends : MergeEnds world asked before after status
+  -- the output is never anything else than a front of the merged lines, and the status is 0 only where it is all of them
+  pub prints : IsTrue before.shelf.tells → IsTrue before.out.tells
+      → PrintsMerged (merge_course world asked) before after status
+  -- a web that breaks the limits is never answered by 0
+  pub limits : IsTrue before.shelf.tells → ¬ MergeKeepsLimits (merge_course world asked) → status ≡ 1
+  -- no device fails twice
+  pub once : MergeFailsOnce before after
+  -- no fault of a device is passed over
+  pub faults : MergeReportsFaults before after status

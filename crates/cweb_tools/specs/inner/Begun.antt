@@ -1,0 +1,42 @@
+-- A run whose merge has begun.
+use Rattle.std.specs.Prelude.{◌≡◌, ℕ, Option, Some, IsTrue}
+use Rattle.cweb_files.specs.declared.device.Shelf.{Ghosts as Shelf}
+use Rattle.cweb_input.specs.Include.{World, Found}
+use Rattle.cweb_lines.specs.surface.MergerCalls.{BeginsMerge, KnowsReaders, so_far, to_come}
+use Rattle.cweb_lines.specs.declared.merger.Merger.{Merger}
+use Rattle.cweb_log.specs.Options.{OptionsModel}
+use Rattle.cweb_log.specs.DeviceModels.{MergeDevices, BinsModel, TangleDevices, ShelfModel, StreamModel}
+use Rattle.cweb_log.specs.Words.{WebNames}
+use Rattle.cweb_tools.specs.Course.{found_course}
+use Rattle.cweb_tools.specs.inner.Does.{FollowsCourse}
+use Rattle.cweb_tools.specs.MergePromises.{Merges}
+use Rattle.cweb_tools.specs.Tangle.{CanCome, tangled}
+use Rattle.cweb_tools.specs.inner.Tangle.{course_acts, course_status}
+
+-- The shelf was looked at since it was seen first, and no more: the merge of what was found there begins.
+pub record MergeHasBegun {S R : Type 0} (shelf : Shelf S R) (first : ShelfModel) (now : S) (merger : Merger S R)
+    (world : World) (found : Option Found) (changes : Option (Option Found)) : Type 0 where
+  pub tells : shelf.tells now ≡ first.tells
+  pub failed : shelf.failed now ≡ first.failed
+  pub blamed : IsTrue first.tells → shelf.blamed now ≡ first.blamed
+  pub begins : IsTrue first.tells → BeginsMerge world found changes (so_far merger) (to_come shelf now merger)
+  pub known : IsTrue first.tells → KnowsReaders shelf now merger
+
+-- Whatever was found, a run of `ctangle` ends as its course does,
+abbrev pub EndsBegun : {S R : Type 0} → Shelf S R → OptionsModel → S → Merger S R → BinsModel → StreamModel
+    → TangleDevices → ℕ → Type 0
+EndsBegun shelf asked now merger bins log after status =
+    (first : ShelfModel) (world : World) (found : Option Found) (changes : Option (Option Found))
+    → MergeHasBegun shelf first now merger world found changes
+    → FollowsCourse (course_acts asked.shown) course_status (CanCome (Some asked))
+    (tangled asked.names.main (found_course world asked.names.merge found changes))
+    (record { shelf = first; bins = bins; log = log }) after status
+
+-- and a run of `wmerge`.
+abbrev pub MergesBegun : {S R : Type 0} → Shelf S R → S → Merger S R → StreamModel → StreamModel → MergeDevices → ℕ
+    → Type 0
+MergesBegun shelf now merger out log after status =
+    (names : WebNames) (first : ShelfModel) (world : World) (found : Option Found) (changes : Option (Option Found))
+    → MergeHasBegun shelf first now merger world found changes
+    → Merges names (found_course world names found changes)
+    (record { shelf = first; out = out; log = log }) after status

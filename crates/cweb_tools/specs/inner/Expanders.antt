@@ -1,0 +1,66 @@
+-- What an expander goes on with, and the files of its plan.
+use Rattle.std.specs.Prelude.{◌≡◌, ℕ, List, ◌++◌, IsTrue, All, length, map, vec_capacity, Option, Some, None, Result}
+use Rattle.std.specs.Prelude.{Ok, Err}
+use Rattle.cweb_files.specs.Files.{File}
+use Rattle.cweb_files.specs.declared.device.Sink.{Ghosts as Sink}
+use Rattle.cweb_input.specs.surface.OpenedFileNames.{opened_file_names}
+use Rattle.cweb_input.specs.declared.files.FileNames.{FileNames}
+use Rattle.cweb_store.specs.Parts.{Token, all_tokens}
+use Rattle.cweb_scan.specs.surface.Scan.{IsMarkBelow}
+use Rattle.cweb_print.specs.surface.Classes.{left_after_tokens}
+use Rattle.cweb_out.specs.surface.FrameStacks.{IsFrameStack, left}
+use Rattle.cweb_out.specs.surface.Outputs.{IsPlanOf, output_name_at, output_at}
+use Rattle.cweb_out.specs.Outputs.{Output}
+use Rattle.cweb_print.specs.surface.Printed.{left_in_printer, setting_of}
+use Rattle.cweb_print.specs.Printers.{setting}
+use Rattle.cweb_print.specs.Printing.{print}
+use Rattle.cweb_out.specs.declared.expander.Expander.{Expander}
+use Rattle.cweb_print.specs.declared.printer.Printer.{Printer}
+use Rattle.cweb_tools.specs.Acts.{Ending, ending}
+use Rattle.cweb_tools.specs.Tangle.{output_file}
+use Rattle.cweb_tools.specs.declared.outputs.Failed.{Failed}
+
+-- its plan is one of its store, and it has a stack of frames that it may have
+pub record IsReady (e : Expander) : Type 0 where
+  pub made : IsPlanOf e.store.now e.plan.now
+  pub stands : IsFrameStack e.store.now e.frames.items (vec_capacity e.frames)
+
+pub record StaysReady (old new : Expander) : Type 0 where
+  pub store : new.store ≡ old.store
+  pub plan : new.plan ≡ old.plan
+  pub stands : IsFrameStack new.store.now new.frames.items (vec_capacity new.frames)
+
+-- the tokens that it has still to give
+abbrev pub left_in : Expander → List Token
+left_in e = left e.store.now e.frames.items
+
+-- all line marks of its store are about files that have names
+abbrev pub AreMarksBelow : FileNames → Expander → Type 0
+AreMarksBelow names e = All (IsMarkBelow (length (opened_file_names names))) (all_tokens e.store.now.parts)
+
+-- the file of an output, by its number
+abbrev pub file_at : FileNames → Expander → ℕ → File
+file_at names e number = output_file e.store.now (opened_file_names names) (output_at e.plan.now.outputs number)
+
+-- the files of the plan
+abbrev pub planned_files : FileNames → Expander → List File
+planned_files names e = map (output_file e.store.now (opened_file_names names)) e.plan.now.outputs
+
+-- how the writing of the outputs ended
+abbrev pub output_ending : {A : Type 0} → List Output → Result A Failed → Option Ending
+output_ending outputs (Ok x) = None
+output_ending outputs (Err failed) = Some (ending failed.stop (output_name_at outputs failed.output))
+
+-- of what an expander had to give some tokens are printed; a sink has a front of their text, and the rest of it is gathered
+pub record PrintsSoFar {W : Type 0} (sink : Sink W) (files : List (List ℕ)) (first now : Expander) (printer : Printer)
+    (old new : W) (buffer : List ℕ) : Type 0 where
+  pub ready : StaysReady first now
+  pub setting_is : setting_of printer ≡ setting first.store.now files
+  pub tells : sink.tells new ≡ sink.tells old
+  pub failed : sink.failed new ≡ sink.failed old
+  pub beside : IsTrue (sink.tells old) → sink.beside new ≡ sink.beside old
+  pub done : List Token
+  pub whole : left_in first ≡ done ++ left_in now
+  pub kept : left_after_tokens done ≡ left_in_printer printer
+  pub written : IsTrue (sink.tells old)
+      → sink.written new ++ buffer ≡ sink.written old ++ print (setting first.store.now files) done

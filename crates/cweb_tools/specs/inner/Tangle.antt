@@ -1,0 +1,31 @@
+-- What a web holds by its lines and its faults, and how a run of `ctangle` goes by texts, words and folder.
+use Rattle.std.specs.Prelude.{ℕ, ◌==◌, List, [], ◌∷◌}
+use Rattle.std.specs.Prelude.{if◌then◌else◌}
+use Rattle.cweb_input.specs.declared.stop.Stop.TheVariants.{WebNotOpened, ChangeNotOpened}
+use Rattle.cweb_out.specs.Uses.{names}
+use Rattle.cweb_log.specs.Items.{fault_count, stopped}
+use Rattle.cweb_log.specs.declared.shown.Shown.{Shown}
+use Rattle.cweb_tools.specs.Acts.{Act, opens, reads, says}
+use Rattle.cweb_tools.specs.Script.{Planning, TangleCourse, Web, unread, not_there, change_not_there, tangling}
+use Rattle.cweb_tools.specs.Script.{refused, planned, web_acts}
+
+-- the status of a run with so many faults that nothing stopped: a plan that is refused is a fault
+abbrev pub status_by : ℕ → Planning → ℕ
+status_by count (refused text) = 1
+status_by count (planned files missing) = if count == 0 then 0 else 1
+
+abbrev pub web_status : Web → ℕ
+web_status web = status_by (fault_count web.faults) web.plan
+
+-- what is done once the words are read and the banner is logged
+abbrev pub course_acts : Shown → TangleCourse → List Act
+course_acts shown unread = []
+course_acts shown (not_there web) = opens ∷ says (stopped WebNotOpened web) ∷ []
+course_acts shown (change_not_there change) = opens ∷ says (stopped ChangeNotOpened change) ∷ []
+course_acts shown (tangling names events web) = opens ∷ reads names events ∷ web_acts shown web
+
+abbrev pub course_status : TangleCourse → ℕ
+course_status unread = 1
+course_status (not_there web) = 1
+course_status (change_not_there change) = 1
+course_status (tangling names events web) = web_status web

@@ -1,0 +1,44 @@
+-- A web that was read, as the code holds it.
+use Rattle.std.specs.Prelude.{ℕ, List, All, ◌<◌, length, map, Option, Some, None}
+use Rattle.cweb_input.specs.surface.OpenedFileNames.{opened_file_names}
+use Rattle.cweb_scan.specs.surface.ScannedModel.{scanned_model}
+use Rattle.cweb_scan.specs.surface.Scan.{IsScanBelow}
+use Rattle.cweb_out.specs.Outputs.{Refusal, bad_name, same_name, cycle}
+use Rattle.cweb_out.specs.declared.outputs.fault.PlanFault.{PlanFault}
+use Rattle.cweb_out.specs.declared.outputs.fault.PlanFault.TheVariants as fault
+use Rattle.cweb_log.specs.Items.{LogItem}
+use Rattle.cweb_tools.specs.Acts.{Act, says}
+use Rattle.cweb_tools.specs.Script as script
+use Rattle.cweb_tools.specs.Tangle.{fault_items, web_of}
+use Rattle.cweb_tools.specs.declared.web.Numbers.{Numbers}
+use Rattle.cweb_tools.specs.declared.web.Web.{Web}
+
+abbrev pub counted : Numbers → script.Numbers
+counted numbers = record { sections = numbers.sections; names = numbers.names; macros = numbers.macros }
+
+-- the names of its files
+abbrev pub files_of : Web → List (List ℕ)
+files_of web = opened_file_names web.names.now
+
+abbrev pub faults_of : Web → List LogItem
+faults_of web = fault_items (files_of web) web.faults.now (scanned_model web.scanned.now)
+
+-- what it holds, where its main file has this name
+abbrev pub web_in : Web → List ℕ → script.Web
+web_in web main = web_of (files_of web) web.faults.now (scanned_model web.scanned.now) main
+
+-- its faults and line marks stand in files that have names
+pub record IsKnown (web : Web) : Type 0 where
+  pub faults : All (λ fault. fault.place.file.0 < length (files_of web)) web.faults.now
+  pub below : IsScanBelow (length (files_of web)) (scanned_model web.scanned.now)
+
+-- they are logged, one after another
+abbrev pub said_faults : Web → List Act
+said_faults web = map says (faults_of web)
+
+-- the refusal of a plan that a fault tells of; want of memory is none
+abbrev pub refusal_in : PlanFault → Option Refusal
+refusal_in (fault.Cycle names) = Some (cycle names.items)
+refusal_in (fault.SameName name) = Some (same_name name)
+refusal_in (fault.BadName output) = Some (bad_name output)
+refusal_in fault.Memory = None
