@@ -1,107 +1,200 @@
-"""What may happen to the calls of a run, and what is promised of a run in which it happened to one of them."""
-import errno
-from dataclasses import dataclass
-from typing import Callable
+"""What is promised of a run in which something happened to a call. Each promise is about a case and what a run of it left."""
+from dataclasses import replace
 
-from fault_cases import Result, stopped
+from fault_cases import DRAFT
+from shared import BANNER, stopped
 
-WRITE_FAULT = b"! Write fault on standard output\n"
-
-
-# Each promise is of a case, what a run of it left, and the call that was met: its number and what it was told as.
+# how `faults.c` reports the stat of an open file, and one after a write to the last file that was opened
+OPEN_FILE, WRITTEN = b"open ", b"written "
+WRITE_FAULT = stopped(b"Write fault on standard output")
 
 
-def unchanged(case, left, nth, told):
-    return left == case.whole
+def committed(case, left):
+    """The number of new outputs, if these are the first ones and all other files are unchanged; else None."""
+    old = {name: text for name, text in case.files.items() if text is not None and not name.endswith(DRAFT)}
+    files = {name: text for name, text in left.files.items() if not name.endswith(DRAFT)}
+    outputs = list(case.outputs.items())
+    return next((count for count in range(len(outputs) + 1) if files == {**old, **dict(outputs[:count])}), None)
 
 
-def refused(case, left, nth, told):
-    """The file counts as not there."""
-    return [left] == case.refused[nth - 1 : nth]
+def is_whole(case, left):
+    # a draft that existed before is removed when its output begins
+    has_drafts = left.drafts({} if case.outputs else case.files)
+    ended = (left.out, left.log, left.status) == (case.out, case.log, case.status)
+    return ended and committed(case, left) == len(case.outputs) and not has_drafts
 
 
-def stops(case, left, text):
-    """The output is a front of the merged lines, of whole lines; the log has the stop's line alone."""
-    return left == stopped(left.out, text) and case.whole.out.startswith(left.out) and left.out[-1:] in (b"", b"\n")
-
-
-def out_of_memory(case, left, nth, told):
-    return stops(case, left, b"Out of memory")
-
-
-def out_of_memory_or_whole(case, left, nth, told):
-    """A run may do without some memory, as that in which it keeps pieces to be used again."""
-    return left == case.whole or out_of_memory(case, left, nth, told)
-
-
-def unread(case, left, nth, told):
-    return stops(case, left, b"Read fault on " + told)
-
-
-def unwritten(case, left, nth, told):
-    """The output is a front of the merged text, which ends where the write failed."""
-    return left == Result(left.out, WRITE_FAULT, 1) and is_shorter_front(left.out, case.whole.out)
-
-
-def unlogged(case, left, nth, told):
-    """The log is a front of what was to be logged."""
-    return left == Result(case.whole.out, left.log, 1) and is_shorter_front(left.log, case.whole.log)
-
-
-def silent(case, left, nth, told):
-    """Nothing can be written from some write on, to whichever stream."""
-    if told == b"2":
-        return unlogged(case, left, nth, told)
-    return left == Result(left.out, b"", 1) and is_shorter_front(left.out, case.whole.out)
-
-
-def is_shorter_front(text, whole):
+def is_shorter(text, whole):
+    """Whether a text is a proper prefix."""
     return len(text) < len(whole) and whole.startswith(text)
 
 
-@dataclass(frozen=True)
-class Failure:
-    """Calls that are met, as `faults.c` is asked for them, and what is promised of such a run."""
-
-    promise: Callable
-    call: str
-    error: int = 0
-    # the calls behind the first one that are met too: none, each, or each second one
-    every: int = 0
-    # the stream whose calls are counted
-    stream: int = -1
-    # whether a transfer takes nothing at all, where it does not fail
-    takes_nothing: bool = False
-
-    def __str__(self):
-        what = errno.errorcode.get(self.error, "takes nothing" if self.takes_nothing else "is short")
-        where = f" to {self.stream}" if self.stream >= 0 else ""
-        behind = ("", ", and so do all behind it", ", and so does each second one behind it")[self.every]
-        return f"{self.call}{where} {what}{behind}: {self.promise.__name__} is promised"
-
-    def asked(self, nth, least):
-        most = 0 if self.takes_nothing else least
-        return f"{self.call} {self.stream} {nth} {self.every} {self.error} {most}"
+def has_lines_of(text, whole):
+    """Whether a text is a prefix in whole lines."""
+    return whole.startswith(text) and text[-1:] in (b"", b"\n")
 
 
-def failures():
-    """All that may happen to the calls of a run."""
-    for every in (0, 1):
-        yield Failure(out_of_memory_or_whole, "alloc", errno.ENOMEM, every)
-        yield Failure(unread, "read", errno.EIO, every)
-        yield Failure(unwritten, "write", errno.ENOSPC, every, stream=1)
-        yield Failure(unlogged, "write", errno.ENOSPC, every, stream=2)
-    yield Failure(silent, "write", errno.EIO, 1)
-    for error in (errno.EACCES, errno.EMFILE, errno.ELOOP):
-        yield Failure(refused, "open", error)
-    yield Failure(out_of_memory, "open", errno.ENOMEM)
-    for error in (errno.EPIPE, errno.EAGAIN):
-        yield Failure(unwritten, "write", error, stream=1)
-    yield Failure(unwritten, "write", stream=1, takes_nothing=True)
-    yield Failure(unlogged, "write", stream=2, takes_nothing=True)
-    for call in ("open", "read", "write"):
-        for every in (0, 2):
-            yield Failure(unchanged, call, errno.EINTR, every)
-    for call in ("read", "write"):
-        for every in (0, 1):
-            yield Failure(unchanged, call, every=every)
+def stops(case, left, text):
+    """The log ends with the stop's line. Before it are whole lines, and the last file that they announce is not written."""
+    before = left.log.removesuffix(stopped(text))
+    if left.status != 1 or before == left.log or left.drafts(case.files):
+        return False
+    is_prefix = has_lines_of(before, case.log) and has_lines_of(left.out, case.out)
+    return is_prefix and committed(case, left) == max(0, before.count(b"Writing ") - 1)
+
+
+def unlogged(case, left):
+    """The log is a proper prefix. The files are new that it announced in a whole line, before the next line failed."""
+    if not is_shorter(left.log, case.log) or (left.status, left.out) != (1, case.out) or left.drafts(case.files):
+        return False
+    lines = left.log.splitlines(keepends=True)
+    begun = sum(line.startswith(b"Writing ") and line.endswith(b"\n") for line in lines)
+    return committed(case, left) == min(begun, len(case.outputs))
+
+
+def dead_streams(case, left, dead):
+    """Streams that are dead take nothing."""
+    if case.out and 1 in dead:
+        case = replace(case, out=b"", log=WRITE_FAULT, status=1)
+    if case.log and 2 in dead:
+        return left.log == b"" and unlogged(case, left)
+    return is_whole(case, left)
+
+
+# Promises of wmerge: it logs faults only after the whole output, so the line of a stop is its whole log.
+
+
+def merge_stops(case, left, text):
+    return left.log == stopped(text) and stops(case, left, text)
+
+
+def merge_memory(case, left):
+    """wmerge can do without some memory, such as that for lines that it keeps."""
+    return is_whole(case, left) or merge_open_memory(case, left)
+
+
+def merge_open_memory(case, left):
+    return merge_stops(case, left, b"Out of memory")
+
+
+def merge_read(case, left):
+    return merge_stops(case, left, b"Read fault on " + left.reported)
+
+
+def merge_open(case, left):
+    """The file counts as missing."""
+    return left.nth <= len(case.refused) and is_whole(replace(case, **case.refused[left.nth - 1]), left)
+
+
+def merge_write(case, left):
+    """The output ends where the write failed."""
+    return left.log == WRITE_FAULT and prints_less(case, left)
+
+
+def merge_silence(case, left):
+    """No stream can be written after some write."""
+    return unlogged(case, left) if left.reported == b"2" else left.log == b"" and prints_less(case, left)
+
+
+def prints_less(case, left):
+    return left.status == 1 and is_shorter(left.out, case.out) and committed(case, left) == 0
+
+
+# Promises of ctangle. The line of a stop at an output begins with one of these texts.
+NOT_OPENED, NOT_WRITTEN = b"Cannot open output file ", b"Write fault on "
+
+
+def stops_at_output(case, left, text, may_leave_draft=False):
+    """An output could not be written: the log ends where it begins, with a line if there is a text, and the files before it are new."""
+    count = committed(case, left)
+    if count is None or count == len(case.expected()) or (left.status, left.out) != (1, case.out):
+        return False
+    line = stopped(text + case.expected()[count].encode()) if text else b""
+    return left.log == case.log_before(count) + line and (may_leave_draft or not left.drafts(case.files))
+
+
+def is_draft(path):
+    return path.endswith(DRAFT.encode())
+
+
+def missing(case, path):
+    """The case whose file at a path, which is read, counts as missing."""
+    no_output = {"outputs": {}, "status": 1, "stuck": ()}
+    begun = BANNER if case.log.startswith(BANNER) else b""
+    changes = {
+        b"a.w": {**no_output, "log": begun + stopped(b"Cannot open web file a.w")},
+        b"a.web": no_output,
+        b"m.ch": {**no_output, "log": begun + stopped(b"Cannot open change file m.ch")},
+        b"gone": {"status": 1},
+        **dict(case.refused),
+    }
+    return replace(case, **changes[path])
+
+
+def tangle_memory(case, left):
+    """ctangle can do without some memory. Renaming a file takes some, and so does deleting a draft."""
+    return is_whole(case, left) or stops(case, left, b"Out of memory") or stops_at_output(case, left, NOT_WRITTEN, True)
+
+
+def tangle_open_memory(case, left):
+    return is_whole(case, left) if left.reported == b"/" else stops(case, left, b"Out of memory")
+
+
+def tangle_open(case, left):
+    if left.reported == b"/":
+        return is_whole(case, left)
+    if not is_draft(left.reported):
+        return is_whole(missing(case, left.reported), left)
+    # an old draft that cannot be opened is removed
+    was_there = left.reported.decode() in case.files and is_whole(case, left)
+    return was_there or stops_at_output(case, left, NOT_OPENED)
+
+
+def tangle_read(case, left):
+    return stops(case, left, b"Read fault on " + left.reported) and committed(case, left) == 0
+
+
+def tangle_write(case, left):
+    return unlogged(case, left) if left.reported == b"2" else stops_at_output(case, left, NOT_WRITTEN)
+
+
+def tangle_silence(case, left):
+    """No stream and no file can be written after some write."""
+    return unlogged(case, left) if left.reported == b"2" else stops_at_output(case, left, b"")
+
+
+def tangle_replace(case, left):
+    """The draft cannot be renamed, or cannot have the mode of the old file."""
+    return stops_at_output(case, left, NOT_WRITTEN)
+
+
+def tangle_delete(case, left):
+    """An old draft stays, so its output does not begin. If a new draft stays, all else is as without the failure."""
+    if left.reported.decode() in case.files:
+        return left.reported.decode() in left.files and stops_at_output(case, left, NOT_OPENED)
+    return left.drafts() == [left.reported.decode()] and committed(case, left) is not None and (left.log, left.status) == (case.log, 1)
+
+
+def tangle_stat(case, left):
+    """A file that is read counts as missing. An output fails when it begins, or when it is renamed."""
+    if left.reported.startswith(OPEN_FILE) and not is_draft(left.reported):
+        return is_whole(missing(case, left.reported.removeprefix(OPEN_FILE)), left)
+    return output_fails(case, left)
+
+
+def tangle_stat_always(case, left):
+    """Each later stat fails too. After that of a file that is read, the first output fails."""
+    if left.reported.startswith(OPEN_FILE) and not is_draft(left.reported):
+        case = missing(case, left.reported.removeprefix(OPEN_FILE))
+        if not case.expected():
+            return is_whole(case, left)
+    return output_fails(case, left)
+
+
+def output_fails(case, left):
+    """An output without bytes can have failed at either time."""
+    if left.reported.startswith(WRITTEN):
+        return stops_at_output(case, left, NOT_WRITTEN)
+    count = committed(case, left) or 0
+    is_empty = list(case.outputs.values())[count : count + 1] == [b""]
+    return stops_at_output(case, left, NOT_OPENED) or is_empty and stops_at_output(case, left, NOT_WRITTEN)

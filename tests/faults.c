@@ -1,16 +1,15 @@
 /* A library to be loaded before the C library (LD_PRELOAD). It makes chosen calls of a program fail, be cut short or
- * be broken off by a signal. The script `faults` beside it compiles and drives it.
+ * be interrupted by a signal. The script `faults` compiles and drives it.
  *
  * The variable FAULTS has seven words:
  *   CALL    alloc, open, read, write, rename, unlink, flock, statx or fchmod: the calls that are counted
- *   STREAM  the file descriptor whose reads or writes are counted, -1: all
- *   NTH     the first call that is met, from 1
- *   EVERY   0: no other one is met; else each EVERY-th from there on
- *   ERROR   the errno with which a call that is met fails; 0: it is not to fail
- *   MOST    where it is not to fail, the most bytes that it transfers (a write of 0 bytes takes nothing)
- *   REPORT  the file descriptor to which the first call that is met is told: `alloc`, a path, or a stream's number; a statx
- *           of an open file as `open` and its path; behind a write to a file, before the next one is opened, with `written`
- *           in front
+ *   STREAM  the file descriptor whose reads or writes are counted; -1: all
+ *   NTH     the first call that is affected, from 1
+ *   EVERY   0: no other call is affected; else each EVERY-th after it
+ *   ERROR   the errno of an affected call; 0: it does not fail
+ *   MOST    if it does not fail, the most bytes that it transfers (a write of 0 bytes takes nothing)
+ *   REPORT  the file descriptor to which the first affected call is reported: `alloc`, a path, or the number of a stream. For a statx of
+ *           an open file it is `open` and the path. After a write to a file, until the next open, `written` comes before it.
  */
 #define _GNU_SOURCE
 #include <dlfcn.h>
@@ -51,13 +50,13 @@ __attribute__((constructor)) static void begin(void)
         call[0] = 0;
 }
 
-static void tell(const char *what)
+static void report_call(const char *what)
 {
     syscall(SYS_write, report, what, strlen(what));
 }
 
-/* Counts a call, and answers whether it is met. */
-static int meets(const char *name, int descriptor, const char *what)
+/* Counts a call, and returns whether it is affected. */
+static int is_affected(const char *name, int descriptor, const char *what)
 {
     if (strcmp(call, name) || (stream >= 0 && descriptor != stream))
         return 0;
@@ -65,13 +64,13 @@ static int meets(const char *name, int descriptor, const char *what)
     if (count < nth || (count > nth && (every == 0 || (count - nth) % every)))
         return 0;
     if (count == nth)
-        tell(what);
+        report_call(what);
     return 1;
 }
 
 static int refuses_memory(void)
 {
-    if (!meets("alloc", -1, "alloc"))
+    if (!is_affected("alloc", -1, "alloc"))
         return 0;
     errno = ENOMEM;
     return 1;
@@ -86,7 +85,7 @@ void *malloc(size_t size)
 
 void *calloc(size_t number, size_t size)
 {
-    /* dlsym itself may call it before it is known, and can do without */
+    /* dlsym may call it before it is known, and accepts NULL */
     if (!next_calloc)
         return NULL;
     return refuses_memory() ? NULL : next_calloc(number, size);
@@ -108,7 +107,7 @@ int open(const char *path, int flags, ...)
         mode = va_arg(rest, mode_t);
         va_end(rest);
     }
-    if (meets("open", -1, path)) {
+    if (is_affected("open", -1, path)) {
         errno = error;
         return -1;
     }
@@ -126,7 +125,7 @@ static const char *path_of(int descriptor)
 
 ssize_t read(int descriptor, void *piece, size_t size)
 {
-    if (meets("read", descriptor, path_of(descriptor))) {
+    if (is_affected("read", descriptor, path_of(descriptor))) {
         if (error) {
             errno = error;
             return -1;
@@ -141,7 +140,7 @@ ssize_t write(int descriptor, const void *piece, size_t size)
 {
     const char number[] = { '0' + descriptor % 10, 0 };
     is_written |= descriptor > 2;
-    if (meets("write", descriptor, number)) {
+    if (is_affected("write", descriptor, number)) {
         if (error) {
             errno = error;
             return -1;
@@ -156,7 +155,7 @@ ssize_t write(int descriptor, const void *piece, size_t size)
 
 int rename(const char *path, const char *other)
 {
-    if (meets("rename", -1, other)) {
+    if (is_affected("rename", -1, other)) {
         errno = error;
         return -1;
     }
@@ -166,7 +165,7 @@ int rename(const char *path, const char *other)
 
 int unlink(const char *path)
 {
-    if (meets("unlink", -1, path)) {
+    if (is_affected("unlink", -1, path)) {
         errno = error;
         return -1;
     }
@@ -175,7 +174,7 @@ int unlink(const char *path)
 
 int flock(int descriptor, int how)
 {
-    if (meets("flock", -1, path_of(descriptor))) {
+    if (is_affected("flock", -1, path_of(descriptor))) {
         errno = error;
         return -1;
     }
@@ -184,7 +183,7 @@ int flock(int descriptor, int how)
 
 int fchmod(int descriptor, mode_t mode)
 {
-    if (meets("fchmod", -1, path_of(descriptor))) {
+    if (is_affected("fchmod", -1, path_of(descriptor))) {
         errno = error;
         return -1;
     }
@@ -195,7 +194,7 @@ int statx(int descriptor, const char *path, int flags, unsigned int mask, struct
 {
     char what[NAME + 16];
     snprintf(what, sizeof what, "%s%s%s", is_written ? "written " : "", *path ? "" : "open ", *path ? path : path_of(descriptor));
-    if (meets("statx", -1, what)) {
+    if (is_affected("statx", -1, what)) {
         errno = error;
         return -1;
     }

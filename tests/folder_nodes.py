@@ -4,7 +4,7 @@ import os
 import stat
 from dataclasses import dataclass, replace
 
-from fault_runs import shown
+from shared import shown
 
 NOBODY = 65534
 SYSTEM = ["/dev/stdin", "/dev/stdout", "/dev/stderr", "/dev/fd", "/dev/null", "/dev/full"]

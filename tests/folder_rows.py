@@ -3,7 +3,7 @@ import resource
 from dataclasses import dataclass, field, replace
 from typing import Callable
 
-from tangle_cases import BANNER, line_mark, stopped
+from shared import BANNER, line_mark, stopped
 
 NO_ERRORS = b"(No errors were found.)\n"
 # how many lines may be taken from files

@@ -9,7 +9,7 @@ import threading
 import time
 from dataclasses import replace
 
-from fault_runs import shown
+from shared import shown
 from folder_nodes import all_names, nodes_here, owner, wrong_nodes
 
 # the longest time that a run may take

@@ -1,6 +1,6 @@
 """The runs of `folders` that find something under an output's name: files that they have read or written, folders, devices, pipes."""
 from folder_rows import NO_ERRORS, Row, section
-from tangle_cases import BANNER, stopped
+from shared import BANNER, stopped
 
 WEB = {"a.w": b"@ @c x\n"}
 MAIN = section(1, 1, b"x") + b"\n"

@@ -1,43 +1,9 @@
-"""The runs of ctangle that `tangle_faults` makes fail: their files and words, and what they leave where nothing fails."""
-from dataclasses import dataclass, field
+"""The runs of ctangle that `faults` makes fail, and what happens to their calls."""
+import errno
 
-BANNER = b"This is CTANGLE, profile of CWEB 3\n"
-
-
-@dataclass
-class Case:
-    """A run in a folder of its own, the files that it writes in their order, its log and its status."""
-
-    name: str
-    words: list
-    # texts by their paths, None being a folder; among them outputs that are there before
-    files: dict
-    outputs: dict
-    log: bytes
-    status: int = 0
-    # what comes of it where the opening of a file is refused, by its path: the outputs and the log
-    refused: dict = field(default_factory=dict)
-    # an output that can't be written where nothing fails either
-    stuck: tuple = ()
-    modes: dict = field(default_factory=dict)
-    # the bytes that a file may have; 0: any number
-    most: int = 0
-
-    def due(self):
-        return [*self.outputs, *self.stuck]
-
-    def banner(self):
-        return BANNER if self.log.startswith(BANNER) else b""
-
-    def log_before(self, number):
-        """The log up to the line on the beginning of an output, by its number from 0."""
-        lines = self.log.splitlines(keepends=True)
-        begins = [n for n, line in enumerate(lines) if line.startswith(b"Writing ")]
-        return b"".join(lines[: begins[number] + 1]) if begins else b""
-
-
-def line_mark(file, line):
-    return b'#line %d "%s"\n' % (line, file)
+import fault_promises as promises
+from fault_cases import DRAFT, Case, Failure
+from shared import BANNER, line_mark, stopped
 
 
 def two_files():
@@ -49,7 +15,7 @@ def two_files():
     log = BANNER + b"*1\n" + written + b"(No errors were found.)\n"
     without = main.replace(line_mark(b"b.w", 1) + b"int b;\n", b"")
     faults = BANNER + b"*1\na.w:4: ! Cannot open include file\n" + written + b"(Faults: 1.)\n"
-    refused = {b"b.w": ({"a.c": without, "a.h": header}, faults)}
+    refused = {b"b.w": {"outputs": {"a.c": without, "a.h": header}, "log": faults, "status": 1}}
     return Case("two files", ["+s", "a", "m"], files, {"a.c": main, "a.h": header}, log, refused=refused)
 
 
@@ -79,10 +45,6 @@ def many_files():
         log += b"Writing %s\n" % name
     files = {"a.w": web, "f00": b"old\n", "f33": b"old\n"}
     return Case("many files", ["a"], files, outputs, log + b"(No errors were found.)\n")
-
-
-def stopped(text):
-    return b"! " + text + b"\n"
 
 
 def writing(name):
@@ -139,5 +101,32 @@ def cases():
     log = BANNER + b"Writing a.c\nWriting f\n(No errors were found.)\n"
     yield Case("files of their own modes", ["a"], files, outputs, log, modes={"a.c": 0o444, "f": 0o666})
     # left by a run that was killed
-    yield Case("a draft that is there", ["-bph", "a"], {"a.w": b"@ @c x\n", "a.c\x7f": b"draft"}, {"a.c": text}, b"")
+    yield Case("a draft that is there", ["-bph", "a"], {"a.w": b"@ @c x\n", "a.c" + DRAFT: b"draft"}, {"a.c": text}, b"")
     yield many_files()
+
+
+def failures():
+    for every in (0, 1):
+        yield Failure(promises.tangle_memory, "alloc", errno.ENOMEM, every)
+        yield Failure(promises.tangle_read, "read", errno.EIO, every)
+        yield Failure(promises.tangle_replace, "rename", errno.EACCES, every)
+    for error in (errno.ENOSPC, errno.EIO, errno.EAGAIN):
+        yield Failure(promises.tangle_write, "write", error)
+    yield Failure(promises.tangle_silence, "write", errno.ENOSPC, 1)
+    yield Failure(promises.tangle_write, "write", most=0)
+    for error in (errno.EACCES, errno.EMFILE, errno.EROFS):
+        yield Failure(promises.tangle_open, "open", error)
+    yield Failure(promises.tangle_open_memory, "open", errno.ENOMEM)
+    for every in (0, 1):
+        yield Failure(promises.tangle_delete, "unlink", errno.EACCES, every)
+        yield Failure(promises.tangle_replace, "fchmod", errno.EPERM, every)
+        for error in (errno.ENOLCK, errno.EOPNOTSUPP):
+            yield Failure(promises.is_whole, "flock", error, every)
+    for error in (errno.EACCES, errno.EIO):
+        yield Failure(promises.tangle_stat, "statx", error)
+        yield Failure(promises.tangle_stat_always, "statx", error, 1)
+    for call in ("open", "read", "write", "flock"):
+        for every in (0, 2):
+            yield Failure(promises.is_whole, call, errno.EINTR, every)
+    for call in ("read", "write"):
+        yield Failure(promises.is_whole, call, most=1000)

@@ -1,0 +1,52 @@
+"""What the scripts of this folder share: where programs and tools are, the library `faults.c`, and lines that ctangle writes."""
+import os
+import shutil
+import subprocess
+import sys
+
+HERE = os.path.dirname(os.path.abspath(__file__))
+# the time limit of a run
+SECONDS = 30
+# a program is given up after this many failed runs
+SHOWN = 20
+BANNER = b"This is CTANGLE, profile of CWEB 3\n"
+
+
+def stopped(text):
+    """The log line of a run that is stopped."""
+    return b"! " + text + b"\n"
+
+
+def line_mark(file, line):
+    return b'#line %d "%s"\n' % (line, file)
+
+
+def shown(text):
+    return text if len(text) < 200 else text[:60] + b" .. " + text[-60:]
+
+
+def proved(name):
+    """The path of a program that `make build` built."""
+    return os.path.join(HERE, "../build/proved", name)
+
+
+def programs_at(paths):
+    """The absolute paths of built programs. The script ends if one does not exist."""
+    for path in paths:
+        if not os.access(path, os.X_OK):
+            sys.exit(f"{path} is not built: make build")
+    return [os.path.abspath(path) for path in paths]
+
+
+def wanted(tool, what):
+    """The path of a tool. The script ends if it does not exist."""
+    found = shutil.which(tool)
+    return found or sys.exit(f"{os.path.basename(sys.argv[0])} needs {tool}, {what}, which is not installed")
+
+
+def compiled(folder):
+    """The library `faults.so`, in a folder."""
+    compiler = wanted(os.environ.get("CC", "cc"), "a C compiler (or what CC names)")
+    library, source = os.path.join(folder, "faults.so"), os.path.join(HERE, "faults.c")
+    subprocess.run([compiler, "-O2", "-shared", "-fPIC", "-o", library, source, "-ldl"], check=True)
+    return library
