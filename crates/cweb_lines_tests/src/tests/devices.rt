@@ -13,7 +13,7 @@ impl Shelf for Endless {
     // How many bytes of the line were given.
     type R = usize;
 
-    ghost reports = { λ _. false };
+    ghost tells = { λ _. false };
 
     ghost texts = { λ _ _. None };
 
@@ -54,7 +54,7 @@ impl Shelf for EndlessChange {
     // A place in a text, and for the change file how many bytes of a line behind its end were given.
     type R = (MemoryReader, Option<usize>);
 
-    ghost reports = { λ _. false };
+    ghost tells = { λ _. false };
 
     ghost texts = { λ _ _. None };
 
