@@ -4,18 +4,14 @@
 
 ghost use Rattle.std.specs.Prelude.{◌<◌, ◌+◌, ◌^◌};
 
-use cweb_lines::Stop;
 use cweb_out::Bins;
-use cweb_tools::{FilesRead, FolderBins, FolderShelf, StdSink, run_ctangle, write_stop};
-use std::alloc::{AllocError, Global};
-use std::env;
-use std::env::VarError;
-use std::io::{ErrorKind, Write};
+use cweb_tools::{
+    FilesRead, FolderBins, FolderShelf, StdSink, as_slices, out_of_memory, read_args, read_inputs,
+    run_ctangle,
+};
+use std::io::Write;
 use std::process::ExitCode;
 use std::rt::{Env, Files};
-
-/// The variable that names the folder in which included files are sought too.
-const INPUTS: &str = "CWEBINPUTS";
 
 fn main(rt: HostRuntime) -> ExitCode {
     let read = FilesRead::new(rt.alloc());
@@ -47,46 +43,4 @@ fn tangle<R: Env + Files + AllocGlobal, B: Bins + Drop, L: Write + Drop>(
     let mut shelf = FolderShelf::noting(rt, read);
     let mut log = StdSink::new(log);
     run_ctangle(rt.alloc(), &words, inputs, &mut shelf, &mut bins, &mut log)
-}
-
-/// Logs that memory is wanting where the arguments could not be read for it.
-fn out_of_memory<L: Write + Drop>(log: L) -> u8 {
-    let mut log = StdSink::new(log);
-    let _ = write_stop(&mut log, Stop::Memory, "");
-    1
-}
-
-/// The arguments behind the program's name. Where one isn't UTF-8 there are none, which is refused as no words are.
-fn read_args<R: Env + AllocGlobal>(rt: &R) -> Result<Vec<String>, AllocError> {
-    let mut words = Vec::new(rt.alloc());
-    match env::args(rt) {
-        Ok(args) => {
-            for word in args.skip(1) {
-                words.push(word)?;
-            }
-        }
-        Err(error) => {
-            if let ErrorKind::OutOfMemory = error.kind() {
-                return Err(AllocError);
-            }
-        }
-    }
-    Ok(words)
-}
-
-fn as_slices<'a>(alloc: Global, words: &'a [String]) -> Result<Vec<&'a str>, AllocError> {
-    let mut slices = Vec::new(alloc);
-    for word in words {
-        slices.push(word.as_str())?;
-    }
-    Ok(slices)
-}
-
-/// The folder of included files. A value that isn't UTF-8 counts as none.
-fn read_inputs<R: Env + AllocGlobal>(rt: &R) -> Result<Option<String>, AllocError> {
-    match env::var(rt, INPUTS) {
-        Ok(folder) => Ok(Some(folder)),
-        Err(VarError::OutOfMemory) => Err(AllocError),
-        Err(_) => Ok(None),
-    }
 }

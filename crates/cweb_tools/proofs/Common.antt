@@ -130,7 +130,7 @@ pub use Rattle.cweb_tools.specs.Course.{fault_status, MergeKeepsLimits, merge_lo
 pub use Rattle.cweb_tools.specs.inner.Course.{course_of}
 pub use Rattle.cweb_tools.specs.Does.{AgreesWith}
 pub use Rattle.cweb_tools.specs.inner.Does.{Closes, ClosesLog, Does, DoesInBins, DoesInBoth, DoesInLog}
-pub use Rattle.cweb_tools.specs.Does.{bins_blame}
+pub use Rattle.cweb_tools.specs.laws.Leaves.{LeavesFiles, bins_blame}
 pub use Rattle.cweb_tools.specs.inner.Does.{done, halted, log_blame, rise, log_ending, ClosesInBoth, ClosesInLog}
 pub use Rattle.cweb_tools.specs.inner.Does.{LogsEnding}
 pub use Rattle.cweb_tools.specs.inner.Does.{FollowsCourse, observed_state}
@@ -138,14 +138,15 @@ pub use Rattle.cweb_tools.specs.inner.Expanders.{PrintsSoFar, StaysReady, left_i
 pub use Rattle.cweb_tools.specs.inner.Expanders.{output_ending}
 pub use Rattle.cweb_tools.specs.inner.Expanders.{file_at}
 pub use Rattle.cweb_tools.specs.inner.Expanders.{planned_files}
-pub use Rattle.cweb_tools.specs.Leaves.{put_files, LeavesFiles}
+pub use Rattle.cweb_tools.specs.Leaves.{put_files}
 pub use Rattle.cweb_tools.specs.MergePromises.{about, AreOpened, CanStop, Comes, MergeEnds, Merges, RefusesArgs}
 pub use Rattle.cweb_tools.specs.MergePromises.{HasMerged}
 pub use Rattle.cweb_tools.specs.Headline.{IsMerge, IsTangle, TangleKeepsLimits, MergesFreely, MergeRanFreely}
 pub use Rattle.cweb_tools.specs.Headline.{TangleRanFreely}
 pub use Rattle.cweb_tools.specs.Headline.{TanglesFreely, AllObservable}
-pub use Rattle.cweb_tools.specs.MergePromises.{BlamesDevice, Completes, MergeFailsOnce, MergePromises}
-pub use Rattle.cweb_tools.specs.MergePromises.{MergeReportsFaults}
+pub use Rattle.cweb_tools.specs.MergePromises.{BlamesDevice, Completes}
+pub use Rattle.cweb_tools.specs.laws.RunEffects.{LeavesDevices, LeavesMerge, LeavesStates, MergeFailsOnce, MergeReportsFaults}
+pub use Rattle.cweb_tools.specs.laws.RunEffects.{PrintsMerged}
 pub use Rattle.cweb_tools.specs.Script.{written_files, logged_items, Numbers, closing_acts, unread, not_there}
 pub use Rattle.cweb_tools.specs.Script.{change_not_there}
 pub use Rattle.cweb_tools.specs.Script.{Planning, refused, Web, planned_acts, script, starred_acts, tangle_files}
@@ -158,10 +159,8 @@ pub use Rattle.cweb_tools.specs.inner.Tangle.{course_status, web_status}
 pub use Rattle.cweb_tools.specs.Tangle.{tangled, web_of, plan_made, planning, planning_by}
 pub use Rattle.cweb_tools.specs.inner.Tangle.{status_by}
 pub use Rattle.cweb_tools.specs.Tangle.{numbers_of}
-pub use Rattle.cweb_tools.specs.TanglePromises.{DoesAll, IsStopped, IsEnded, ActsKeepLimits, TangleFailsOnce}
-pub use Rattle.cweb_tools.specs.TanglePromises.{TangleReportsFaults}
-pub use Rattle.cweb_tools.specs.TanglePromises.{LogEnds, RisesOnce, TanglePromises, DevicePromises, ObservedPromises}
-pub use Rattle.cweb_tools.specs.TanglePromises.{cut, said}
-pub use Rattle.cweb_tools.specs.TanglePromises.{ReadAll, LogsUpTo}
+pub use Rattle.cweb_tools.specs.TanglePromises.{EndsIn, TanglePromises}
+pub use Rattle.cweb_tools.specs.laws.RunEffects.{ActsKeepLimits, DoesAll, IsEnded, IsStopped, LogEnds, LogsUpTo, ReadAll}
+pub use Rattle.cweb_tools.specs.laws.RunEffects.{RisesOnce, TangleFailsOnce, TangleReportsFaults, cut, said}
 pub use Rattle.cweb_tools.specs.inner.Web.{refusal_in, files_of, faults_of}
 pub use Rattle.cweb_tools.specs.declared.outputs.Failed.{Failed}

@@ -21,6 +21,7 @@ pub mod Marks
 pub mod OutputActs
 mod WorkedExamples
 mod TangleExamples
+pub mod RunLaws
 pub mod Running
 mod ScriptExamples
 pub mod Statuses

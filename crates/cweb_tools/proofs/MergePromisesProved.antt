@@ -1,6 +1,6 @@
 -- What the ends of a run come to, in the words of its promises.
-use Rattle.cweb_tools.proofs.Common.{◌≤◌, ◌≡◌, inl, inr, ℕ, ◌+◌, List, [], ◌∷◌, ◌++◌, refl, sym, ◌∙◌, ap, append-nil, arith, Option, Some, None, IsTrue, FileId, World, Found, web_at, change_at, read_failures_of, WritesPrefix, write_failures_of, SourceFault, Stop, Usage, WebNotOpened, ChangeNotOpened, ReadFault, LineTooLong, TooMuchText, Memory, WriteFault, Logs, fault_lines, stop_line, MergeDevices, StreamModel, AreObservable, WebNames, Course, merging, merge_course, fault_status, found_course, merged, MergeKeepsLimits, about, BlamesDevice, CanStop, Completes, MergeEnds, MergeFailsOnce, HasMerged, IsMerge, MergesFreely, Merges, MergePromises, MergeRanFreely, MergeReportsFaults}
-use Rattle.cweb_tools.specs.MergePromises.{completes, PrintsMerged, stops}
+use Rattle.cweb_tools.proofs.Common.{◌≤◌, ◌≡◌, inl, inr, ℕ, ◌+◌, List, [], ◌∷◌, ◌++◌, refl, sym, ◌∙◌, ap, append-nil, arith, Option, Some, None, IsTrue, FileId, World, Found, web_at, change_at, read_failures_of, WritesPrefix, write_failures_of, SourceFault, Stop, Usage, WebNotOpened, ChangeNotOpened, ReadFault, LineTooLong, TooMuchText, Memory, WriteFault, Logs, fault_lines, stop_line, MergeDevices, StreamModel, AreObservable, WebNames, Course, merging, merge_course, fault_status, found_course, merged, MergeKeepsLimits, about, BlamesDevice, CanStop, Completes, MergeEnds, MergeFailsOnce, HasMerged, IsMerge, MergesFreely, Merges, LeavesMerge, MergeRanFreely, MergeReportsFaults, PrintsMerged}
+use Rattle.cweb_tools.specs.MergePromises.{completes, stops}
 use Rattle.cweb_tools.proofs.Limits.{beyond}
 
 -- a course that a limit stops does not stay within them
@@ -142,10 +142,9 @@ tells_faults world (Some names) (completes whole) =
 tells_faults world (Some names) (stops stop) =
     record { read = λ failed. stop.answered; printed = λ failed. stop.answered; logged = λ failed. stop.answered }
 
-pub promises : {world : World} {asked : Option WebNames} {before after : MergeDevices} {status : ℕ}
-    → MergeEnds world asked before after status → MergePromises world asked before after status
-promises {world} {asked} {before} {after} {status} ends = record {
-  ends = ends;
+pub leave_merge : (world : World) (asked : Option WebNames) (before after : MergeDevices) (status : ℕ)
+    → MergeEnds world asked before after status → LeavesMerge (merge_course world asked) before after status
+leave_merge world asked before after status ends = record {
   prints = prints world asked ends;
   limits = beyond_limits world asked before after status ends;
   once = fails_once world asked status ends;

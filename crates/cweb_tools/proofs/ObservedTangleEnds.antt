@@ -1,5 +1,5 @@
 -- What the devices hold at the end of a run of `ctangle`, as far as they tell it.
-use Rattle.cweb_tools.proofs.Common.{◌≡◌, inl, inr, ℕ, List, refl, ◌∙◌, ap, Some, Stop, LogFault, LogItem, line, stopped, stop_line, log_ending, says, Result, Ok, Err, [], ◌∷◌, Logs, BinsModel, TangleDevices, StreamModel, Act, ending, DeviceState, LogsLine, PerformsActs, TangleEnds, completes, stops, AgreesWith, Closes, ClosesLog, LogsEnding, done, halted}
+use Rattle.cweb_tools.proofs.Common.{◌≡◌, inl, inr, ℕ, List, refl, ◌∙◌, ap, Some, Stop, LogFault, LogItem, line, stopped, stop_line, log_ending, says, Result, Ok, Err, [], ◌∷◌, Logs, BinsModel, TangleDevices, StreamModel, Act, ending, DeviceState, EndsIn, LogsLine, PerformsActs, completes, stops, AgreesWith, Closes, ClosesLog, LogsEnding, done, halted}
 use Rattle.cweb_tools.proofs.Logging.{at, logs_write, said}
 
 -- what the devices hold behind a line of the log, as far as they tell it
@@ -35,34 +35,29 @@ line_left stop about {then} shelf bins logs now held =
     }
 
 -- how a run ends in the devices, as far as they tell it
-pub record EndsTold (acts : List Act) (due : ℕ) (now : DeviceState) (after : TangleDevices) (status : ℕ) : Type 0 where
-  pub left : DeviceState
-  pub told : AgreesWith left after
-  pub ends : TangleEnds acts due now left status
-
 stop_ends : (stop : Stop) (about : List ℕ) {acts : List Act}
     {due : ℕ} {first now : DeviceState} {then after : TangleDevices} {status : ℕ}
     → PerformsActs acts (Some (ending stop about)) first now
-    → AgreesWith now then → ClosesLog (ending stop about) then after → status ≡ 1 → EndsTold acts due first after status
+    → AgreesWith now then → ClosesLog (ending stop about) then after → status ≡ 1 → EndsIn acts due first after status
 stop_ends LogFault about {now} {then} runs log_ending logs answered = record {
-  left = now;
-  told = beside_told then logs.shelf logs.bins
+  new = now;
+  agrees = beside_told then logs.shelf logs.bins
       (rw logs.log log_ending);
   ends = stops (ending LogFault about) now runs refl answered;
 }
 stop_ends stop about {now} runs log_ending logs answered =
     let line = line_left stop about logs.shelf logs.bins logs.log now log_ending in record {
-      left = line.left;
-      told = line.told;
+      new = line.left;
+      agrees = line.told;
       ends = stops (ending stop about) now runs line.is answered;
     }
 
 pub tangle_ends : {acts : List Act} {due : ℕ} {before after : TangleDevices} {status : ℕ}
     → Closes acts due before after status → (now : DeviceState) → AgreesWith now before
-    → EndsTold acts due now after status
+    → EndsIn acts due now after status
 tangle_ends (done does answered) now log_ending =
     let lead = does.runs now log_ending in
-    record { left = lead.left; told = lead.told; ends = completes lead.runs answered }
+    record { new = lead.left; agrees = lead.told; ends = completes lead.runs answered }
 tangle_ends (halted (ending stop about) then does logs answered) now log_ending =
     let lead = does.runs now log_ending in
     stop_ends stop about lead.runs lead.told logs answered

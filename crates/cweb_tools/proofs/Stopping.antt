@@ -1,5 +1,5 @@
 -- What is logged where something stops a run, and which counts rise.
-use Rattle.cweb_tools.proofs.Common.{◌≡◌, inl, inr, ℕ, List, [], ◌∷◌, ◌++◌, refl, sym, ◌∙◌, ap, append-nil, append_assoc, WritesPrefix, arith, add-zero, Some, flat_map, Stop, LogFault, stop_line, LogItem, line, DeviceState, Act, says, after_act, ending, Breaks, PerformsActs, LogsLine, LogsStop, logged_items, IsStopped}
+use Rattle.cweb_tools.proofs.Common.{◌≡◌, inl, inr, ℕ, List, [], ◌∷◌, ◌++◌, refl, sym, ◌∙◌, ap, append-nil, append_assoc, WritesPrefix, arith, add-zero, Some, flat_map, Stop, LogFault, stop_line, LogItem, line, DeviceState, Act, says, after_act, ending, Breaks, PerformsActs, LogsLine, LogsStop, logged_items, IsStopped, RisesOnce}
 use Rattle.cweb_tools.proofs.Leaving.{broken, stop_logged}
 
 -- a line was logged, or the log failed at it
@@ -18,6 +18,10 @@ line_front old new (inr fails) = (
   },
   λ same. absurd (omega (arith, ap (λ (d : DeviceState). d.log_failed) fails.is, same)),
 )
+
+line_once : {text : List ℕ} (old new : DeviceState) → LogsLine text old new → RisesOnce old.log_failed new.log_failed
+line_once old new (inl is) = inl (ap (λ (d : DeviceState). d.log_failed) is)
+line_once old new (inr fails) = inr (ap (λ (d : DeviceState). d.log_failed) fails.is)
 
 -- a run that was stopped at its first act: the stop's line was logged, or the log failed at it, or at the act's own
 -- line
@@ -40,6 +44,7 @@ stopped_at (says item) LogFault {old} mid fails is acts = record {
   shelf = ap (λ (d : DeviceState). d.shelf_failed) (is ∙ fails.is) ∙ sym (add-zero old.shelf_failed);
   bins = ap (λ (d : DeviceState). d.bins_failed) (is ∙ fails.is) ∙ sym (add-zero old.bins_failed);
   log_fails = λ _. ap (λ (d : DeviceState). d.log_failed) (is ∙ fails.is);
+  log_once = inr (ap (λ (d : DeviceState). d.log_failed) (is ∙ fails.is));
 }
 stopped_at act LogFault mid broke logs acts = absurd broke
 stopped_at act stop {about} {old} mid {new} broke logs acts =
@@ -59,6 +64,7 @@ stopped_at act stop {about} {old} mid {new} broke logs acts =
       shelf = ap (λ (d : DeviceState). d.shelf_failed) alone ∙ left.shelf;
       bins = ap (λ (d : DeviceState). d.bins_failed) alone ∙ left.bins;
       log_fails = λ fault. absurd (never fault);
+      log_once = rw (← (left.log never).1) (line_once mid new logs);
     }
 
 -- one more line was logged before that
@@ -85,6 +91,7 @@ said_before item {stop} {about} {old} rest = record {
   shelf = rest.shelf;
   bins = rest.bins;
   log_fails = rest.log_fails;
+  log_once = rest.log_once;
 }
 
 pub is_stopped : (acts : List Act) {stop : Stop} {about : List ℕ} {old : DeviceState} (mid : DeviceState)
@@ -102,5 +109,6 @@ is_stopped (act ∷ acts) {stop} {about} {old} mid {new} (inl run) logs =
       shelf = rest.shelf;
       bins = rest.bins;
       log_fails = rest.log_fails;
+      log_once = rest.log_once;
     }
 is_stopped (act ∷ acts) {stop} mid (inr stop_here) logs = stopped_at act stop mid stop_here logs acts

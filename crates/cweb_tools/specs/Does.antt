@@ -1,8 +1,6 @@
 -- Acts that calls do in the devices of a run: what they leave in each device that tells what it holds, and which device failed
 -- over all devices.
-use Rattle.std.specs.Prelude.{◌≡◌, ℕ, IsTrue}
-use Rattle.cweb_input.specs.declared.stop.Stop.{Stop}
-use Rattle.cweb_input.specs.declared.stop.Stop.TheVariants.{OutNotOpened, WriteFault}
+use Rattle.std.specs.Prelude.{◌≡◌, IsTrue}
 use Rattle.cweb_log.specs.DeviceModels.{TangleDevices}
 use Rattle.cweb_tools.specs.Acts.{DeviceState}
 
@@ -18,8 +16,3 @@ pub record AgreesWith (now : DeviceState) (seen : TangleDevices) : Type 0 where
   pub draft : IsTrue seen.bins.tells → now.draft ≡ seen.bins.beside.draft
   pub refused : IsTrue seen.bins.tells → now.refused ≡ seen.bins.beside.refused
   pub log : IsTrue seen.log.tells → now.log ≡ seen.log.bytes
-
-abbrev pub bins_blame : Stop → ℕ
-bins_blame OutNotOpened = 1
-bins_blame WriteFault = 1
-bins_blame _ = 0

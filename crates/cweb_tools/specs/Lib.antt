@@ -8,4 +8,5 @@ pub mod Script
 pub mod Tangle
 pub mod TanglePromises
 pub mod Spacing
+pub mod laws
 pub mod inner

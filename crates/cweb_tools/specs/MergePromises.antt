@@ -16,7 +16,7 @@ use Rattle.cweb_log.specs.Log.{fault_lines, stop_line, file_name_at}
 use Rattle.cweb_log.specs.DeviceModels.{MergeDevices}
 use Rattle.cweb_log.specs.Words.{WebNames}
 use Rattle.cweb_tools.specs.Course.{Course, not_there, change_not_there, merging, merge_course, change_name}
-use Rattle.cweb_tools.specs.Course.{fault_status, merged, usage, MergeKeepsLimits}
+use Rattle.cweb_tools.specs.Course.{fault_status, merged, usage}
 
 -- the words can't be read: the log alone is written to
 pub record RefusesArgs (before after : MergeDevices) (status : ℕ) : Type 0 where
@@ -113,34 +113,3 @@ pub data Merges (names : WebNames) (course : Course) (before after : MergeDevice
 abbrev pub MergeEnds : World → Option WebNames → MergeDevices → MergeDevices → ℕ → Type 0
 MergeEnds world None before after status = RefusesArgs before after status
 MergeEnds world (Some names) before after status = Merges names (merge_course world (Some names)) before after status
-
--- a front of the merged lines was printed, and all of them where the status is 0
-pub record PrintsMerged (course : Course) (before after : MergeDevices) (status : ℕ) : Type 0 where
-  pub front : WritesPrefix before.out.bytes after.out.bytes (merged course)
-  pub whole : status ≡ 0 → after.out.bytes ≡ before.out.bytes ++ merged course
-
--- no device failed more than once, and not both the shelf and the output
-pub record MergeFailsOnce (before after : MergeDevices) : Type 0 where
-  pub one : after.shelf.failed + after.out.failed ≤ before.shelf.failed + before.out.failed + 1
-  pub log : after.log.failed ≤ before.log.failed + 1
-
--- a device that failed makes the status 1
-pub record MergeReportsFaults (before after : MergeDevices) (status : ℕ) : Type 0 where
-  pub read : after.shelf.failed ≢ before.shelf.failed → status ≡ 1
-  pub printed : after.out.failed ≢ before.out.failed → status ≡ 1
-  pub logged : after.log.failed ≢ before.log.failed → status ≡ 1
-
--- what is promised of each run, also where something stops it
-pub record MergePromises (world : World) (asked : Option WebNames) (before after : MergeDevices)
-    (status : ℕ) : Type 0 where
-  -- the words can't be read, or the run goes its whole course, or one thing stops it, whose line is then the log
-  pub ends : MergeEnds world asked before after status
-  -- the output is never anything else than a front of the merged lines, and the status is 0 only where it is all of them
-  pub prints : IsTrue before.shelf.tells → IsTrue before.out.tells
-      → PrintsMerged (merge_course world asked) before after status
-  -- a web that breaks the limits is never answered by 0
-  pub limits : IsTrue before.shelf.tells → ¬ MergeKeepsLimits (merge_course world asked) → status ≡ 1
-  -- no device fails twice
-  pub once : MergeFailsOnce before after
-  -- no fault of a device is passed over
-  pub faults : MergeReportsFaults before after status

@@ -14,7 +14,10 @@ mod web;
 mod saying;
 mod subjects;
 
-// what is printed is read again
+// what both programs do before their run
+mod program;
+
+// what follows from the definition of a run
 pub mod laws;
 
 pub use cweb_log::{
@@ -23,5 +26,6 @@ pub use cweb_log::{
     write_stop, write_writing,
 };
 pub use cweb_system::{FilesRead, FolderBins, FolderShelf, LockableFile, StdSink, read_once};
+pub use program::{as_slices, out_of_memory, read_args, read_inputs};
 pub use tangle::run_ctangle;
 pub use wmerge::run_wmerge;

@@ -14,7 +14,7 @@ ghost use Rattle.cweb_tools.specs.inner.Begun.{MergesBegun};
 ghost use Rattle.cweb_tools.specs.Course.{merge_course, change_name, fault_status, folder_of};
 ghost use Rattle.cweb_tools.specs.Course.{world_of};
 ghost use Rattle.cweb_tools.specs.Headline.{MergesFreely};
-ghost use Rattle.cweb_tools.specs.MergePromises.{Merges, MergePromises};
+ghost use Rattle.cweb_tools.specs.MergePromises.{MergeEnds, Merges};
 
 use crate::subjects::{folder, subject};
 use cweb_lines::{FileNames, Merger, Shelf, Sink, SourceFault, Stop, write_merged_in_chunks};
@@ -42,7 +42,7 @@ pub fn run_wmerge<S: Shelf, W: Sink, L: Sink>(
     ensures promises { let before = merge_devices S.Shelf W.Sink L.Sink shelf.old out.old log.old in
         let asked = web_names_by (map (λ word. word.now) words.now) in
         let world = world_of before.shelf.texts (option_copied inputs.entry) in
-        MergePromises world asked before (merge_devices S.Shelf W.Sink L.Sink shelf.new out.new log.new) result }
+        MergeEnds world asked before (merge_devices S.Shelf W.Sink L.Sink shelf.new out.new log.new) result }
     ensures freely { let before = merge_devices S.Shelf W.Sink L.Sink shelf.old out.old log.old in
         let asked = web_names_by (map (λ word. word.now) words.now) in
         let world = world_of before.shelf.texts (option_copied inputs.entry) in

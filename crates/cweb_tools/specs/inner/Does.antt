@@ -9,7 +9,8 @@ use Rattle.cweb_log.specs.LogWriting.{Logs}
 use Rattle.cweb_log.specs.DeviceModels.{BinsModel, TangleDevices, ShelfModel, StreamModel}
 use Rattle.cweb_tools.specs.Acts.{Act, Ending, ending, DeviceState, PerformsActs}
 use Rattle.cweb_tools.specs.Script.{TangleCourse}
-use Rattle.cweb_tools.specs.Does.{AgreesWith, bins_blame}
+use Rattle.cweb_tools.specs.Does.{AgreesWith}
+use Rattle.cweb_tools.specs.laws.Leaves.{bins_blame}
 
 -- acts that begin with this in the devices leave something in them, as far as they tell it
 pub record LeadTo (acts : List Act) (why : Option Ending) (now : DeviceState) (after : TangleDevices) : Type 0 where

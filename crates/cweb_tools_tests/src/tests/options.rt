@@ -1,7 +1,7 @@
 // The words of a command line of `ctangle`.
 use super::wanted::{holds, same_name, same_string};
 use cweb_lines::Stop;
-use cweb_tools::{Options, Shown};
+use cweb_tools::{Options, Shown, as_slices};
 use std::alloc::Global;
 use std::process::Abort;
 
@@ -97,4 +97,18 @@ fn command_lines_that_are_refused(rt: HostRuntime) {
     for words in REFUSED {
         holds(&rt, is_refused(rt.alloc(), *words));
     }
+}
+
+#[test]
+fn arguments_become_slices(rt: HostRuntime) {
+    let mut args = Vec::new(rt.alloc());
+    for word in ["-b", "", "web.w"] {
+        let arg = String::from_str(rt.alloc(), word).expect(&rt, "an argument");
+        args.push(arg).expect(&rt, "arguments");
+    }
+    let words = as_slices(rt.alloc(), &args).expect(&rt, "slices");
+    holds(&rt, words.len() == 3);
+    same_string(&rt, words[0], "-b");
+    same_string(&rt, words[1], "");
+    same_string(&rt, words[2], "web.w");
 }

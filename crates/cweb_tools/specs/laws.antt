@@ -1,0 +1,3 @@
+-- Theorems about the definitions.
+pub mod Leaves
+pub mod RunEffects
