@@ -3,7 +3,7 @@
 mod printing;
 
 use crate::calls::{Calls, Refusal};
-use crate::given;
+use crate::shapes;
 use anyhow::{Result, bail};
 use cweb_files::{FileId, Place};
 use cweb_store::{How, NameRef, PartKind, Store, Token};

@@ -3,7 +3,7 @@
 mod answers;
 
 use crate::calls::{Calls, Refusal};
-use crate::given;
+use crate::shapes;
 use anyhow::{Result, bail};
 use cweb_store::{How, NameRef, PartKind, Store, Token};
 use std::alloc::{AllocError, Global};
