@@ -81,21 +81,21 @@ pub use Rattle.cweb_lines.specs.Merge.{Event, took, fault, Next, MergeStateModel
 pub use Rattle.cweb_lines.specs.Merge.{open_include}
 pub use Rattle.cweb_lines.specs.Merge.{opening, past, plain, run_steps, taking, NewSide, new_at, new_things, compared}
 pub use Rattle.cweb_lines.specs.Merge.{Compared, after_old, at_entry, change_events, fault_event_if, new_lines, started}
-pub use Rattle.cweb_lines.specs.MergeProgress.{SoFar, EmitsLines, AddsFaultsAndLines}
+pub use Rattle.cweb_lines.specs.surface.MergeProgress.{SoFar, EmitsLines, AddsFaultsAndLines}
 pub use Rattle.cweb_lines.specs.surface.MergeProgress.{ReportsPrefix}
 pub use Rattle.cweb_lines.specs.inner.MergeProgress.{ReportsSomeFaults}
-pub use Rattle.cweb_lines.specs.MergeProgress.{HasBegunStep}
+pub use Rattle.cweb_lines.specs.surface.MergeProgress.{HasBegunStep}
 pub use Rattle.cweb_lines.specs.surface.MergeProgress.{Stopped, pending_of}
 pub use Rattle.cweb_lines.specs.surface.MergeProgress.{so_far_of, IsPrefix, KeepsReported, change_lines, events_to_come}
 pub use Rattle.cweb_lines.specs.inner.MergeProgress.{events_after_line}
 pub use Rattle.cweb_lines.specs.surface.MergeProgress.{things_of}
 pub use Rattle.cweb_lines.specs.surface.MergeProgress.{NothingLeft}
 pub use Rattle.cweb_lines.specs.inner.MergeProgress.{EmitsAfterLine, turns_left, turn_lines}
-pub use Rattle.cweb_lines.specs.MergeProgress.{StopsAfterLines}
-pub use Rattle.cweb_lines.specs.MergeProgress.{StopsIn, step_events}
+pub use Rattle.cweb_lines.specs.surface.MergeProgress.{StopsAfterLines}
+pub use Rattle.cweb_lines.specs.surface.MergeProgress.{StopsIn, step_events}
 pub use Rattle.cweb_lines.specs.inner.MergeProgress.{EndsStep}
 pub use Rattle.cweb_lines.specs.surface.MergeProgress.{ReadFailsAfterLines, TakesBeforeEmitting}
-pub use Rattle.cweb_lines.specs.MergeProgress.{ComesFirst}
+pub use Rattle.cweb_lines.specs.EventsByKind.{ComesFirst}
 pub use Rattle.cweb_lines.specs.surface.MergeReaderNames.{AreReadersKnown}
 pub use Rattle.cweb_lines.specs.inner.MergeReaderNames.{KeepsReaders}
 pub use Rattle.cweb_lines.specs.inner.Passing.{ComesNext, EmitsBufferedLines, HasRoomFor, IsStretch, Reaches}

@@ -1,9 +1,8 @@
 pub mod Change
 pub mod Merge
-pub mod MergeProgress
 pub mod EventsByKind
-pub mod Total
 pub mod Halting
+pub mod Total
 pub mod Writing
 pub mod surface
 pub mod laws

@@ -1,5 +1,5 @@
 -- The merged lines of a web: one list of things still to come, of which the first decides what happens.
-use Rattle.std.specs.Prelude.{ℕ, zero, suc, ◌+◌, Bool, true, false, ◌&&◌, nat_lt, List, [], ◌∷◌, ◌++◌, map, Option}
+use Rattle.std.specs.Prelude.{◌≡◌, ℕ, zero, suc, ◌+◌, Bool, true, false, ◌&&◌, nat_lt, List, [], ◌∷◌, ◌++◌, map, Option}
 use Rattle.std.specs.Prelude.{None, Some, if◌then◌else◌}
 use Rattle.std.specs.Str.{bytes_eq}
 use Rattle.cweb_files.specs.declared.place.Place.{Place}
@@ -175,6 +175,12 @@ step_then_run (Some next) later = onto next.0 (later next.1)
 abbrev pub run_steps : ℕ → World → MergeStateModel → Option (List Event)
 run_steps zero world s = None
 run_steps (suc n) world s = step_then_run (step world s) (λ next. run_steps n world next)
+
+-- so many steps are enough, and this is what comes out
+pub record Halts (world : World) (s : MergeStateModel) : Type 0 where
+  pub steps : ℕ
+  pub events : List Event
+  pub comes : run_steps steps world s ≡ Some events
 
 -- The merge begins with the web's lines. Where there is a change file, its first entry is sought before them.
 abbrev pub started : List ℕ → Option (List ℕ) → MergeStateModel

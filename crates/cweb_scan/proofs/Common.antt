@@ -24,7 +24,7 @@ pub use Rattle.cweb_lines.specs.inner.LineSpans.{span_bytes, BorrowsLines}
 pub use Rattle.cweb_input.specs.Lines.{Line}
 pub use Rattle.cweb_input.specs.surface.Lines.{HasNoNewline}
 pub use Rattle.cweb_lines.specs.Merge.{Event}
-pub use Rattle.cweb_lines.specs.MergeProgress.{SoFar}
+pub use Rattle.cweb_lines.specs.surface.MergeProgress.{SoFar}
 pub use Rattle.cweb_lines.specs.surface.MergeProgress.{so_far_of, KeepsReported, Stopped, events_to_come}
 pub use Rattle.cweb_input.specs.surface.OpenedFileNames.{opened_file_names}
 pub use Rattle.cweb_input.specs.ReaderNames.{blame}

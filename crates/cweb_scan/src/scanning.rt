@@ -5,7 +5,7 @@ ghost use Rattle.cweb_files.specs.surface.Frames.{KeepsShelf};
 ghost use Rattle.cweb_lines.specs.inner.Ahead.{IsAhead, LooksAhead};
 ghost use Rattle.cweb_lines.specs.inner.LineSpans.{BorrowsLines};
 ghost use Rattle.cweb_lines.specs.Merge.{Event};
-ghost use Rattle.cweb_lines.specs.MergeProgress.{SoFar};
+ghost use Rattle.cweb_lines.specs.surface.MergeProgress.{SoFar};
 ghost use Rattle.cweb_lines.specs.surface.MergeProgress.{events_to_come};
 ghost use Rattle.cweb_input.specs.OpenSources.{files_named};
 ghost use Rattle.cweb_input.specs.surface.ReaderNames.{BlamesFile};

@@ -28,7 +28,7 @@ pub use Rattle.cweb_input.specs.Finding.{names_found, contents_found}
 pub use Rattle.cweb_input.specs.Include.{World, Found, web_at, change_at}
 pub use Rattle.cweb_input.specs.Lines.{Line, SourceLine}
 pub use Rattle.cweb_lines.specs.Merge.{Event, took, given, opening, MergeStateModel, run_steps, started}
-pub use Rattle.cweb_lines.specs.MergeProgress.{SoFar, EmitsLines, StopsAfterLines}
+pub use Rattle.cweb_lines.specs.surface.MergeProgress.{SoFar, EmitsLines, StopsAfterLines, begun_with}
 pub use Rattle.cweb_lines.specs.surface.MergeProgress.{ReportsPrefix}
 pub use Rattle.cweb_input.specs.surface.OpenedFileNames.{opened_file_names}
 pub use Rattle.cweb_input.specs.ReaderNames.{blame}
@@ -43,8 +43,8 @@ pub use Rattle.cweb_lines.specs.inner.Total.{merge-run_steps}
 pub use Rattle.cweb_lines.specs.surface.MergerCalls.{BeginsMerge, StopsAtStart, so_far}
 pub use Rattle.cweb_lines.specs.surface.Writing.{StopsWriting, WritingStops}
 pub use Rattle.cweb_files.specs.Frames.{WritesPrefix}
-pub use Rattle.cweb_lines.specs.Writing.{write_failures_of, BreaksLimit}
-pub use Rattle.cweb_lines.specs.Writing.{begun_with, written_lines}
+pub use Rattle.cweb_lines.specs.Writing.{write_failures_of, written_lines}
+pub use Rattle.cweb_lines.specs.EventsByKind.{BreaksLimit, ComesFirst, counts_of}
 pub use Rattle.cweb_input.specs.declared.fault.SourceFault.{SourceFault}
 pub use Rattle.cweb_input.specs.declared.fault.SourceKind.{SourceKind}
 pub use Rattle.cweb_input.specs.declared.fault.SourceKind.TheVariants.{Unequal, NotThere}

@@ -1,5 +1,6 @@
 -- How the exits of a run that come before it writes are its ends.
-use Rattle.cweb_tools.proofs.Common.{◌≤◌, ◌≡◌, ◌⊎◌, inl, inr, ℕ, List, [], ◌∷◌, ◌++◌, refl, sym, ◌∙◌, ap, subst, append-nil, append_assoc, arith, Option, Some, None, IsTrue, names_found, World, Found, Line, Event, SoFar, EmitsLines, StopsAfterLines, BreaksLimit, begun_with, ReportsPrefix, blame, StartStops, files_named, read_failures_of, emitted_lines, reported_faults, openings, taken_lines, IsWithinLimits, BeginsMerge, StopsAtStart, StopsWriting, WritingStops, WritesPrefix, write_failures_of, LINES, BYTES, Stop, Usage, WebNotOpened, ChangeNotOpened, ReadFault, LineTooLong, TooMuchText, Memory, WriteFault, Logs, stop_line, start_subject, subject, MergeDevices, StreamModel, WebNames, Course, merging, merge_course, change_name, found_course, usage, about, AreOpened, CanStop, Comes, MergeEnds, Merges, RefusesArgs}
+use Rattle.cweb_tools.proofs.Common.{◌≤◌, ◌≡◌, ◌⊎◌, inl, inr, ℕ, List, [], ◌∷◌, ◌++◌, refl, sym, ◌∙◌, ap, subst, append-nil, append_assoc, arith, Option, Some, None, IsTrue, names_found, World, Found, Line, Event, SoFar, EmitsLines, begun_with, ReportsPrefix, blame, StartStops, files_named, read_failures_of, emitted_lines, reported_faults, openings, taken_lines, IsWithinLimits, BeginsMerge, StopsAtStart, StopsWriting, WritingStops, WritesPrefix, write_failures_of, LINES, BYTES, Stop, Usage, WebNotOpened, ChangeNotOpened, ReadFault, LineTooLong, TooMuchText, Memory, WriteFault, Logs, stop_line, start_subject, subject, MergeDevices, StreamModel, WebNames, Course, merging, merge_course, change_name, found_course, usage, about, AreOpened, CanStop, Comes, MergeEnds, Merges, RefusesArgs}
+use Rattle.cweb_tools.proofs.Limits.{breaks_limit}
 use Rattle.cweb_lines.proofs.EmittedLinesAddUp.{openings-append}
 use Rattle.cweb_tools.specs.Course.{unread, not_there, change_not_there}
 use Rattle.cweb_tools.specs.MergePromises.{stops}
@@ -127,27 +128,14 @@ module _ (first : List (List ℕ)) (all : List Event) (old new : SoFar)
         small = omega (arith, gives.bytes_are, small);
       })
 
--- a merge that began with these files breaks a limit
-pub breaks_limit : (stop : Stop) (first : List (List ℕ)) (lines : List Line) (old new : SoFar) (events : List Event)
-    → old ≡ begun_with first → new.count.lines ≤ LINES → new.count.bytes ≤ BYTES
-    → StopsAfterLines lines stop old new events → BreaksLimit stop events
-breaks_limit stop first lines old new events began few small behind = record {
-  first = first;
-  lines = lines;
-  new = new;
-  stops = subst (λ (so : SoFar). StopsAfterLines lines stop so new events) began behind;
-  few = few;
-  small = small;
-}
-
 pub writing_cause : (stop : Stop) (first : List (List ℕ)) (old new : SoFar) (events : List Event)
     (Wrote : List ℕ → Type 0) → old ≡ begun_with first → new.count.lines ≤ LINES → new.count.bytes ≤ BYTES
     → WritingStops stop → StopsWriting stop old new events Wrote → CanStop stop (merging first events)
 writing_cause (ReadFault file) first old new events Wrote began few small kind why = tt
 writing_cause (LineTooLong file) first old new events Wrote began few small kind why =
-    breaks_limit _ first why.lines old new events began few small why.stops
+    breaks_limit began few small why.stops
 writing_cause TooMuchText first old new events Wrote began few small kind why =
-    breaks_limit _ first why.lines old new events began few small why.stops
+    breaks_limit began few small why.stops
 writing_cause Memory first old new events Wrote began few small kind why = tt
 writing_cause WriteFault first old new events Wrote began few small kind why = tt
 writing_cause stop first old new events Wrote began few small kind why = absurd kind

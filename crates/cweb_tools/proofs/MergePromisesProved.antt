@@ -5,11 +5,11 @@ use Rattle.cweb_tools.proofs.Limits.{beyond}
 
 -- a course that a limit stops does not stay within them
 course_long : (course : Course) (file : FileId) → CanStop (LineTooLong file) course → MergeKeepsLimits course → ⊥
-course_long (merging first events) file why within = beyond (LineTooLong file) events why within
+course_long (merging first events) file why within = beyond (LineTooLong file) (taken_lines events) why within
 course_long course file why within = absurd why
 
 course_much : (course : Course) → CanStop TooMuchText course → MergeKeepsLimits course → ⊥
-course_much (merging first events) why within = beyond TooMuchText events why within
+course_much (merging first events) why within = beyond TooMuchText (taken_lines events) why within
 course_much course why within = absurd why
 
 no_front : (front rest : List ℕ) → [] ≡ front ++ rest → front ≡ []

@@ -1,9 +1,7 @@
 -- What a stop of reading leaves, and why reading ended before its end.
-use Rattle.cweb_tools.proofs.Common.{◌≤◌, ◌≡◌, ◌+◌, inl, inr, ℕ, List, [], ◌∷◌, ◌++◌, length, length-append, refl, sym, ◌∙◌, ap, add-zero, append-nil, arith, get_or-append, IsTrue, FileId, SourceLine, Event, took, SoFar, BreaksLimit, begun_with, blame, StopsFor, StopsReading, files_named, read_failures_of, openings, IsWithinLimits, LINE_LENGTH, LINES, BYTES, Stop, ReadFault, LineTooLong, TooMuchText, Memory, OutNotOpened, WriteFault, LogFault, StopsAfter, file_name_at, stop_line, subject, Logs, BinsModel, ShelfModel, StreamModel, Breaks, ending, DeviceState, IsOfFile, reads, read_fails, AgreesWith, LogsEnding, bins_blame, log_blame}
-use Rattle.cweb_lines.proofs.AddedEvents.{begun_none}
-use Rattle.cweb_lines.proofs.Stops.{stops_first}
+use Rattle.cweb_tools.proofs.Common.{◌≤◌, ◌≡◌, ◌+◌, inl, inr, ℕ, List, [], ◌∷◌, ◌++◌, length, length-append, refl, sym, ◌∙◌, ap, add-zero, append-nil, arith, get_or-append, IsTrue, FileId, SourceLine, Event, took, SoFar, BreaksLimit, counts_of, begun_with, blame, StopsFor, StopsReading, files_named, read_failures_of, openings, IsWithinLimits, LINE_LENGTH, LINES, BYTES, Stop, ReadFault, LineTooLong, TooMuchText, Memory, OutNotOpened, WriteFault, LogFault, StopsAfter, file_name_at, stop_line, subject, Logs, BinsModel, ShelfModel, StreamModel, Breaks, ending, DeviceState, IsOfFile, reads, read_fails, AgreesWith, LogsEnding, bins_blame, log_blame}
 use Rattle.cweb_input.specs.OpenSources.{RefusesLine}
-use Rattle.cweb_tools.proofs.Exits.{breaks_limit}
+use Rattle.cweb_tools.proofs.Limits.{breaks_limit}
 use Rattle.cweb_tools.proofs.Logging.{at}
 use Rattle.cweb_tools.proofs.TangleExits.{looked, shelf_told}
 
@@ -43,11 +41,11 @@ reads_broke (ReadFault file) first opened rest old new all now began few small k
     (of_file _ opened rest file.0 names known, refl)
 reads_broke (LineTooLong file) first opened rest old new all now began few small kind why names known = (
   of_file _ opened rest file.0 names known,
-  breaks_limit _ first why.lines old new all began few small why.stops,
+  breaks_limit began few small why.stops,
   refl,
 )
 reads_broke TooMuchText first opened rest old new all now began few small kind why names known =
-    (breaks_limit _ first why.lines old new all began few small why.stops, refl)
+    (breaks_limit began few small why.stops, refl)
 reads_broke Memory first opened rest old new all now began few small kind why names known = refl
 reads_broke stop first opened rest old new all now began few small kind why names known = absurd kind
 
@@ -62,21 +60,23 @@ read_by (LineTooLong file) = took (line_of file (LINE_LENGTH + 1) 0) ∷ []
 read_by TooMuchText = took (line_of (record { 0 = 0 }) 0 (BYTES + 1)) ∷ []
 read_by stop = []
 
--- a merge whose first line breaks a limit
-breaks_first : (stop : Stop) (line : SourceLine) → RefusesLine stop (record { lines = 0; bytes = 0 }) line →
-    BreaksLimit stop (took line ∷ [])
+pub nothing_passes : IsWithinLimits []
+nothing_passes = record { short = tt; few = omega arith; small = omega arith }
+
+-- the first line breaks a limit
+breaks_first : (stop : Stop) (line : SourceLine) → RefusesLine stop (counts_of []) line → BreaksLimit stop (line ∷ [])
 breaks_first stop line why = record {
-  first = [];
-  lines = [];
-  new = begun_with [];
-  stops = stops_first stop (line ∷ []) [] [] (begun_with []) (begun_with []) _ [] refl (record {
-    begun = begun_none (begun_with []) (begun_with []) (line ∷ []) [] [] refl;
-    line = line;
-    next = inl ([], refl);
-    why = why;
-  });
-  few = omega arith;
-  small = omega arith;
+  before = [];
+  olds = [];
+  old_rest = line ∷ [];
+  raws = [];
+  raw_rest = [];
+  after = [];
+  whole = refl;
+  within = nothing_passes;
+  line = line;
+  next = inl ([], refl);
+  why = why;
 }
 
 pub silent_broke : (stop : Stop) (files : List (List ℕ)) (now : DeviceState) → StopsReading stop
@@ -107,6 +107,3 @@ reading_only OutNotOpened n kind = absurd kind
 reading_only WriteFault n kind = absurd kind
 reading_only LogFault n kind = absurd kind
 reading_only stop n kind = (sym (add-zero n), sym (add-zero n))
-
-pub nothing_passes : IsWithinLimits []
-nothing_passes = record { short = tt; few = omega arith; small = omega arith }

@@ -3,7 +3,7 @@ use Rattle.std.specs.Prelude.{◌≡◌, ◌<◌, ◌⊎◌, ℕ, ◌+◌, lengt
 use Rattle.cweb_files.specs.Files.{File, Refused, no_device, no_memory, put_file}
 use Rattle.cweb_lines.specs.Merge.{Event}
 use Rattle.cweb_lines.specs.EventsByKind.{IsWithinLimits, taken_lines}
-use Rattle.cweb_lines.specs.Writing.{BreaksLimit}
+use Rattle.cweb_lines.specs.EventsByKind.{BreaksLimit}
 use Rattle.cweb_input.specs.declared.stop.Stop.{Stop}
 use Rattle.cweb_input.specs.declared.stop.Stop.TheVariants.{ReadFault, LineTooLong, TooMuchText, Memory, OutNotOpened}
 use Rattle.cweb_input.specs.declared.stop.Stop.TheVariants.{WriteFault, LogFault}
@@ -91,8 +91,9 @@ Breaks opens (ending Memory about) old new = new ≡ old
 Breaks (reads names events) (ending (ReadFault file) about) old new = IsOfFile names file.0 about
     × (new ≡ read_fails about old)
 Breaks (reads names events) (ending (LineTooLong file) about) old new =
-    IsOfFile names file.0 about × BreaksLimit (LineTooLong file) events × (new ≡ old)
-Breaks (reads names events) (ending TooMuchText about) old new = BreaksLimit TooMuchText events × (new ≡ old)
+    IsOfFile names file.0 about × BreaksLimit (LineTooLong file) (taken_lines events) × (new ≡ old)
+Breaks (reads names events) (ending TooMuchText about) old new =
+    BreaksLimit TooMuchText (taken_lines events) × (new ≡ old)
 Breaks (reads names events) (ending Memory about) old new = new ≡ old
 Breaks plans (ending Memory about) old new = new ≡ old
 Breaks reserves (ending Memory about) old new = new ≡ old

@@ -4,7 +4,8 @@ use Rattle.cweb_input.specs.Include.{World}
 use Rattle.cweb_input.specs.ReaderNames.{blame}
 use Rattle.cweb_input.specs.OpenSources.{files_named, read_failures_of}
 use Rattle.cweb_lines.specs.EventsByKind.{reported_faults, openings, taken_lines, IsWithinLimits}
-use Rattle.cweb_lines.specs.Writing.{BreaksLimit, write_failures_of}
+use Rattle.cweb_lines.specs.EventsByKind.{BreaksLimit}
+use Rattle.cweb_lines.specs.Writing.{write_failures_of}
 use Rattle.cweb_files.specs.Frames.{WritesPrefix}
 use Rattle.cweb_input.specs.declared.fault.SourceFault.{SourceFault}
 use Rattle.cweb_input.specs.declared.stop.Stop.{Stop}
@@ -51,8 +52,8 @@ abbrev pub CanStop : Stop → Course → Type 0
 CanStop WebNotOpened (not_there web) = Unit {0}
 CanStop ChangeNotOpened (change_not_there change) = Unit {0}
 CanStop (ReadFault file) (merging first events) = Unit {0}
-CanStop (LineTooLong file) (merging first events) = BreaksLimit (LineTooLong file) events
-CanStop TooMuchText (merging first events) = BreaksLimit TooMuchText events
+CanStop (LineTooLong file) (merging first events) = BreaksLimit (LineTooLong file) (taken_lines events)
+CanStop TooMuchText (merging first events) = BreaksLimit TooMuchText (taken_lines events)
 CanStop WriteFault (merging first events) = Unit {0}
 CanStop Memory course = Unit {0}
 CanStop stop course = ⊥

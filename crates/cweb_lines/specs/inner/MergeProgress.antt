@@ -15,7 +15,7 @@ use Rattle.cweb_input.specs.declared.stop.Stop.TheVariants.{ReadFault, LineTooLo
 use Rattle.cweb_input.specs.declared.open_source.LineAt.{LineAt}
 use Rattle.cweb_lines.specs.declared.step.Turn.{Turn}
 use Rattle.cweb_lines.specs.declared.step.Turn.TheVariants.{Emitted, On, Ended}
-use Rattle.cweb_lines.specs.MergeProgress.{SoFar, EmitsLines, HasBegunStep, StopsIn}
+use Rattle.cweb_lines.specs.surface.MergeProgress.{SoFar, EmitsLines, HasBegunStep, StopsIn}
 use Rattle.cweb_lines.specs.surface.MergeProgress.{state_of, things_of, NothingLeft}
 
 -- the same behind a line that is counted already

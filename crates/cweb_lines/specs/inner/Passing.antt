@@ -7,7 +7,7 @@ use Rattle.cweb_input.specs.Lines.{Line, SourceLine, CutLine, numbered_lines, tr
 use Rattle.cweb_input.specs.surface.Lines.{HasNoNewline}
 use Rattle.cweb_lines.specs.Merge.{Event}
 use Rattle.cweb_input.specs.Things.{Thing, raws}
-use Rattle.cweb_lines.specs.MergeProgress.{SoFar, EmitsLines}
+use Rattle.cweb_lines.specs.surface.MergeProgress.{SoFar, EmitsLines}
 use Rattle.cweb_lines.specs.surface.MergeProgress.{so_far_of, events_to_come, pending_of}
 use Rattle.cweb_input.specs.surface.ReaderNames.{AreReadersNamed, IsReaderNamed}
 use Rattle.cweb_lines.specs.surface.MergeReaderNames.{AreReadersKnown}

@@ -5,7 +5,7 @@ use Rattle.cweb_lines.specs.Change.{WaitingEntry, at_place, old_lines}
 use Rattle.cweb_input.specs.Lines.{SourceLine}
 use Rattle.cweb_lines.specs.Merge.{Compared, after_old, compared}
 use Rattle.cweb_input.specs.Things.{Thing}
-use Rattle.cweb_lines.specs.MergeProgress.{SoFar, AddsFaultsAndLines}
+use Rattle.cweb_lines.specs.surface.MergeProgress.{SoFar, AddsFaultsAndLines}
 use Rattle.cweb_lines.specs.inner.Stages.{IsSettled}
 use Rattle.cweb_lines.specs.surface.Stages.{change_in, pending_in}
 use Rattle.cweb_input.specs.declared.fault.SourceFault.{SourceFault}

@@ -3,7 +3,7 @@ use Rattle.std.specs.Prelude.{◌≡◌, ◌<◌, ℕ, List, [], ◌∷◌, ◌+
 use Rattle.cweb_files.specs.declared.place.Place.{Place}
 use Rattle.cweb_lines.specs.Change.{Sought, at_place, sought}
 use Rattle.cweb_input.specs.Lines.{SourceLine}
-use Rattle.cweb_lines.specs.MergeProgress.{SoFar, AddsFaultsAndLines}
+use Rattle.cweb_lines.specs.surface.MergeProgress.{SoFar, AddsFaultsAndLines}
 use Rattle.cweb_lines.specs.inner.Stages.{IsOutside}
 use Rattle.cweb_lines.specs.surface.Stages.{pending_in, change_in}
 use Rattle.cweb_lines.specs.declared.change.code.Code.{Code}

@@ -3,7 +3,7 @@ use Rattle.std.specs.Prelude.{◌≡◌, ◌<◌, ℕ, List, ◌++◌, length}
 use Rattle.cweb_files.specs.Frames.{WritesPrefix}
 use Rattle.cweb_input.specs.Lines.{Line}
 use Rattle.cweb_lines.specs.Merge.{Event}
-use Rattle.cweb_lines.specs.MergeProgress.{SoFar, EmitsLines}
+use Rattle.cweb_lines.specs.surface.MergeProgress.{SoFar, EmitsLines}
 use Rattle.cweb_lines.specs.Writing.{written_lines}
 
 -- A write failed in the midst of lines that were gathered. What comes after that comes behind them.

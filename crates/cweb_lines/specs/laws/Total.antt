@@ -2,7 +2,7 @@
 use Rattle.std.proofs.Common.{◌≡◌, ℕ, List, Some}
 use Rattle.cweb_input.specs.Include.{World}
 use Rattle.cweb_lines.specs.Merge.{Event, MergeStateModel, run_steps}
-use Rattle.cweb_lines.specs.Halting.{Halts}
+use Rattle.cweb_lines.specs.Merge.{Halts}
 use Rattle.cweb_lines.specs.Total.{merge}
 
 -- some number of steps is enough, and whatever number is enough gives `merge`

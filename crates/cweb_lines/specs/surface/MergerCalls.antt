@@ -8,7 +8,7 @@ use Rattle.cweb_input.specs.Include.{World, Found}
 use Rattle.cweb_input.specs.Lines.{Line}
 use Rattle.cweb_input.specs.surface.Lines.{IsOneLine}
 use Rattle.cweb_lines.specs.Merge.{Event, started}
-use Rattle.cweb_lines.specs.MergeProgress.{SoFar, EmitsLines}
+use Rattle.cweb_lines.specs.surface.MergeProgress.{SoFar, EmitsLines}
 use Rattle.cweb_lines.specs.surface.MergeProgress.{KeepsReported, NothingLeft, Stopped, ReportsPrefix}
 use Rattle.cweb_lines.specs.surface.MergeProgress.{so_far_of, events_to_come}
 use Rattle.cweb_lines.specs.surface.MergeReaderNames.{AreReadersKnown}

@@ -3,7 +3,7 @@ use Rattle.std.specs.Prelude.{◌≡◌, ◌≤◌, ◌+◌, ℕ, List, [], ◌�
 use Rattle.cweb_files.specs.Frames.{WritesPrefix}
 use Rattle.cweb_input.specs.Lines.{Line}
 use Rattle.cweb_lines.specs.Merge.{Event}
-use Rattle.cweb_lines.specs.MergeProgress.{SoFar, EmitsLines, StopsAfterLines}
+use Rattle.cweb_lines.specs.surface.MergeProgress.{SoFar, EmitsLines, StopsAfterLines}
 use Rattle.cweb_lines.specs.surface.MergeProgress.{ReadFailsAfterLines, ReportsPrefix}
 use Rattle.cweb_input.specs.OpenSources.{read_failures_of, files_named}
 use Rattle.cweb_lines.specs.EventsByKind.{emitted_lines}

@@ -3,7 +3,7 @@ ghost use Rattle.std.specs.Prelude.{◌≡◌, ◌≤◌, ◌<◌, ◌+◌, ◌^
 ghost use Rattle.std.specs.Prelude.{OnErr};
 ghost use Rattle.cweb_files.specs.surface.Frames.{KeepsShelf};
 ghost use Rattle.cweb_lines.specs.inner.StepCalls.{Turns};
-ghost use Rattle.cweb_lines.specs.MergeProgress.{EmitsLines};
+ghost use Rattle.cweb_lines.specs.surface.MergeProgress.{EmitsLines};
 ghost use Rattle.cweb_lines.specs.surface.MergeProgress.{KeepsReported, Stopped, ReportsPrefix};
 ghost use Rattle.cweb_lines.specs.surface.MergeProgress.{NothingLeft};
 ghost use Rattle.cweb_lines.specs.inner.MergeProgress.{TurnLine, TurnGains, TurnCounts};

@@ -2,7 +2,7 @@
 use Rattle.std.specs.Prelude.{◌≡◌, ◌<◌, ◌≤◌, ◌+◌, ℕ, List, [], length, All, Option, Some}
 use Rattle.cweb_input.specs.Lines.{Line}
 use Rattle.cweb_lines.specs.Merge.{Event}
-use Rattle.cweb_lines.specs.MergeProgress.{SoFar, EmitsLines, StopsAfterLines}
+use Rattle.cweb_lines.specs.surface.MergeProgress.{SoFar, EmitsLines, StopsAfterLines}
 use Rattle.cweb_lines.specs.surface.MergeProgress.{ReportsPrefix}
 use Rattle.cweb_input.specs.surface.OpenSources.{StopsFor, StopsReading}
 use Rattle.cweb_input.specs.OpenSources.{read_failures_of}
