@@ -1,5 +1,5 @@
 -- Texts that come one after another, gathered and written.
-use Rattle.cweb_log.proofs.Common.{◌≡◌, ◌<◌, ◌≤◌, ◌+◌, inl, inr, ℕ, suc, List, [], ◌∷◌, ◌++◌, length, map, take, drop, get_or, refl, sym, ◌∙◌, ap, subst, append_assoc, append-nil, arith, flat_map-append, flat_map-map, take-append-drop, take_all, take-suc, flat_map, IsTrue, Result, Ok, Err, OnOk, OnErr, IsErr, CountsFailure, WritesPrefix, Logs, WritesToStream, IsWrittenOrBuffered, AppendsToLog, LogItem, line, StreamModel}
+use Rattle.cweb_log.proofs.Common.{◌≡◌, ◌<◌, ◌≤◌, ◌+◌, inl, inr, ℕ, suc, List, [], ◌∷◌, ◌++◌, length, map, take, drop, get_or, refl, sym, ◌∙◌, ap, subst, append_assoc, append-nil, arith, flat_map-append, flat_map-map, take-append-drop, take_all, take-suc, flat_map, IsTrue, Result, Ok, Err, OnOk, OnErr, IsErr, CountsFailure, WritesPrefix, Logs, WritesToStream, IsWrittenOrBuffered, AppendsToLog, LogItem, line, SinkModel}
 
 on_ok : {A E : Type 0} (r : Result A E) (P Q : Type 0) → (P → Q) → OnOk r P → OnOk r Q
 on_ok (Ok x) P Q map holds = map holds
@@ -15,7 +15,7 @@ counts_from (Ok x) before mid after same counts = counts ∙ same
 counts_from (Err e) before mid after same counts = omega (arith, counts, same)
 
 -- nothing more came yet
-pub gathers_none : {A E : Type 0} {stream : StreamModel} {held : List ℕ} (x : A)
+pub gathers_none : {A E : Type 0} {stream : SinkModel} {held : List ℕ} (x : A)
     → AppendsToLog {A = A} {E = E} [] stream stream held held (Ok x)
 gathers_none {stream} {held} x = record {
   tells = refl;
@@ -27,7 +27,7 @@ gathers_none {stream} {held} x = record {
 
 -- what came behind that
 pub gathers_on : {A E B F : Type 0}
-    (x : A) {r : Result B F} {old more : List ℕ} {before mid after : StreamModel} {held between now : List ℕ}
+    (x : A) {r : Result B F} {old more : List ℕ} {before mid after : SinkModel} {held between now : List ℕ}
     → AppendsToLog {A = A} {E = E} old before mid held between (Ok x)
     → AppendsToLog more mid after between now r → AppendsToLog (old ++ more) before after held now r
 gathers_on x {r} {old} {more} {before} {mid} {after} {now} came comes = record {
@@ -67,7 +67,7 @@ longer rest front = record {
 
 -- a fault in a front of a text is one in the text
 pub gathers_front : {A E B F : Type 0}
-    (e : E) (r : Result B F) {text : List ℕ} (rest : List ℕ) {before after : StreamModel} {held now : List ℕ}
+    (e : E) (r : Result B F) {text : List ℕ} (rest : List ℕ) {before after : SinkModel} {held now : List ℕ}
     → AppendsToLog {A = A} text before after held now (Err e)
     → IsErr r → AppendsToLog (text ++ rest) before after held now r
 gathers_front e (Ok x) rest fails is = absurd (cc)
@@ -95,7 +95,7 @@ joined_split f xs i = ap (flat_map f) (sym (take-append-drop i xs)) ∙ flat_map
 
 -- a piece of a list fails: so does the whole
 pub gathers_failed : {A E B F X : Type 0} (f : X → List ℕ) (xs : List X)
-    (i : ℕ) (d : X) (x : A) (e : E) {r : Result B F} {before mid after : StreamModel} {held between now : List ℕ}
+    (i : ℕ) (d : X) (x : A) (e : E) {r : Result B F} {before mid after : SinkModel} {held between now : List ℕ}
     → i < length xs → AppendsToLog {A = A} {E = E} (flat_map f (take i xs)) before mid held between (Ok x)
     → AppendsToLog {A = A} (f (get_or xs i d)) mid after between now (Err e)
     → IsErr r → AppendsToLog (flat_map f xs) before after held now r
@@ -105,7 +105,7 @@ gathers_failed f xs i d x e {r} {before} {after} {held} {now} lt came fails is =
 
 -- one more piece of a list came
 pub gathers_next : {A E X : Type 0}
-    (f : X → List ℕ) (xs : List X) (i : ℕ) (d : X) (x y : A) {before mid after : StreamModel}
+    (f : X → List ℕ) (xs : List X) (i : ℕ) (d : X) (x y : A) {before mid after : SinkModel}
     {held between now : List ℕ}
     → i < length xs → AppendsToLog {A = A} {E = E} (flat_map f (take i xs)) before mid held between (Ok x)
     → AppendsToLog {A = A} {E = E} (f (get_or xs i d)) mid after between now (Ok y)
@@ -115,14 +115,14 @@ gathers_next {A = A} {E = E} f xs i d x y {before} {after} {held} {now} lt came 
 
 -- all pieces of a list came
 pub gathers_all : {A E X : Type 0}
-    (f : X → List ℕ) (xs : List X) (i : ℕ) (x : A) {before after : StreamModel} {held now : List ℕ}
+    (f : X → List ℕ) (xs : List X) (i : ℕ) (x : A) {before after : SinkModel} {held now : List ℕ}
     → length xs ≤ i → AppendsToLog {A = A} {E = E} (flat_map f (take i xs)) before after held now (Ok x)
     → AppendsToLog {A = A} {E = E} (flat_map f xs) before after held now (Ok x)
 gathers_all f xs i x le came = rw take_all at came
 
 -- nothing was gathered before, and what is gathered is written at last
 pub writes_all : {A E B F : Type 0}
-    (x : A) {r : Result B F} {text : List ℕ} {before mid after : StreamModel} {held : List ℕ}
+    (x : A) {r : Result B F} {text : List ℕ} {before mid after : SinkModel} {held : List ℕ}
     → AppendsToLog {A = A} {E = E} text before mid [] held (Ok x) → WritesToStream held mid after r
     → WritesToStream text before after r
 writes_all x {r} {text} {before} {mid} {after} {held} came writes =
@@ -140,7 +140,7 @@ writes_all x {r} {text} {before} {mid} {after} {held} came writes =
     }
 
 -- nothing was gathered before, and a part of the text fails
-pub writes_front : {A E B F : Type 0} (e : E) (r : Result B F) {text : List ℕ} {before after : StreamModel}
+pub writes_front : {A E B F : Type 0} (e : E) (r : Result B F) {text : List ℕ} {before after : SinkModel}
     {held : List ℕ} → AppendsToLog {A = A} text before after [] held (Err e) → IsErr r
     → WritesToStream text before after r
 writes_front e (Ok x) fails is = absurd (cc)
@@ -152,13 +152,13 @@ writes_front e (Err f) {before} fails is = record {
 }
 
 -- the lines of a list of items
-pub writes_items : {A E X : Type 0} (f : X → LogItem) (xs : List X) {before after : StreamModel} {r : Result A E}
+pub writes_items : {A E X : Type 0} (f : X → LogItem) (xs : List X) {before after : SinkModel} {r : Result A E}
     → WritesToStream (flat_map (λ (x : X). line (f x)) xs) before after r
     → WritesToStream (flat_map line (map f xs)) before after r
 writes_items f xs {before} {after} {r} writes = rw (flat_map-map line f xs) writes
 
 -- what writing a text left is what logging it leaves
-pub logs_by : {A E : Type 0} (r : Result A E) {text : List ℕ} {before after : StreamModel}
+pub logs_by : {A E : Type 0} (r : Result A E) {text : List ℕ} {before after : SinkModel}
     → WritesToStream text before after r → Logs text before after
 logs_by (Ok x) {text} writes = record {
   tells = writes.tells;

@@ -30,7 +30,7 @@ pub use Rattle.cweb_log.specs.Options.{OptionsModel, TangleNames, named_by, name
 pub use Rattle.cweb_log.specs.surface.Options.{options_of}
 pub use Rattle.cweb_log.specs.Options.{other_words}
 pub use Rattle.cweb_log.specs.Options.{shown_by_default, words_shown, stem, letters_shown}
-pub use Rattle.cweb_log.specs.DeviceModels.{StreamModel, stream_model}
+pub use Rattle.cweb_log.specs.DeviceModels.{SinkModel, sink_model}
 pub use Rattle.cweb_log.specs.WebItems.{name_items, refusal_message, scan_items, cycle_step, scan_item}
 pub use Rattle.cweb_log.specs.WebItems.{occurrence_spelling}
 pub use Rattle.cweb_log.specs.WebItems.{name_item}

@@ -4,7 +4,7 @@ ghost use Rattle.cweb_input.specs.surface.OpenedFileNames.{opened_file_names};
 ghost use Rattle.cweb_log.specs.inner.LogBuffer.{unwritten_bytes};
 ghost use Rattle.cweb_log.specs.inner.LogWriting.{WritesToStream, AppendsToLog};
 ghost use Rattle.cweb_log.specs.Log.{fault_line, fault_lines, kind_message, located_line};
-ghost use Rattle.cweb_log.specs.DeviceModels.{stream_model};
+ghost use Rattle.cweb_log.specs.DeviceModels.{sink_model};
 
 use crate::log_buffer::LogBuffer;
 use cweb_lines::{FileNames, Sink, SinkFault, SourceFault, SourceKind};
@@ -22,7 +22,7 @@ pub fn write_faults<L: Sink>(
     requires known { All
         (λ fault. fault.place.file.0 < length (opened_file_names names.now)) faults.now }
     ensures { WritesToStream (fault_lines (opened_file_names names.now) faults.now)
-        (stream_model L.Sink log.old) (stream_model L.Sink log.new) result }
+        (sink_model L.Sink log.old) (sink_model L.Sink log.new) result }
 {
     let mut log_buffer = LogBuffer::new();
     'faults: for fault in faults {
@@ -40,7 +40,7 @@ fn add_fault<L: Sink>(
     requires count { L.failed log.old + 1 < 2 ^ 64 }
     requires known { fault.now.place.file.0 < length (opened_file_names names.now) }
     ensures { AppendsToLog (fault_line (opened_file_names names.now) fault.now)
-        (stream_model L.Sink log.old) (stream_model L.Sink log.new)
+        (sink_model L.Sink log.old) (sink_model L.Sink log.new)
         (unwritten_bytes log_buffer.old) (unwritten_bytes log_buffer.new) result }
 {
     let file = names.get(fault.place.file);
@@ -75,7 +75,7 @@ pub(crate) fn add_located<L: Sink>(
     requires { L.failed log.old + 1 < 2 ^ 64 }
     ensures { AppendsToLog
         (located_line file.now line.now (text.now ++ (sign.now ++ (count.now ++ codes "\n"))))
-        (stream_model L.Sink log.old) (stream_model L.Sink log.new)
+        (sink_model L.Sink log.old) (sink_model L.Sink log.new)
         (unwritten_bytes log_buffer.old) (unwritten_bytes log_buffer.new) result }
 {
     log_buffer.add_line(

@@ -5,7 +5,7 @@ ghost use Rattle.cweb_log.specs.inner.LogBuffer.{unwritten_bytes};
 ghost use Rattle.cweb_log.specs.inner.LogWriting.{AppendsToLog, WritesToStream};
 ghost use Rattle.cweb_log.specs.Items.{banner, closing, counts, line, no_text, star, starred};
 ghost use Rattle.cweb_log.specs.Items.{writing};
-ghost use Rattle.cweb_log.specs.DeviceModels.{stream_model};
+ghost use Rattle.cweb_log.specs.DeviceModels.{sink_model};
 
 use crate::log_buffer::{LogBuffer, say};
 use cweb_lines::{Sink, SinkFault};
@@ -15,7 +15,7 @@ use itoa::Buffer;
 pub fn write_banner<L: Sink>(log: &mut L) -> Result<(), SinkFault>
     requires { L.failed log.old + 1 < 2 ^ 64 }
     ensures { WritesToStream (line banner)
-        (stream_model L.Sink log.old) (stream_model L.Sink log.new) result }
+        (sink_model L.Sink log.old) (sink_model L.Sink log.new) result }
 {
     say(log, &[b"This is CTANGLE, profile of CWEB 3\n"])
 }
@@ -25,7 +25,7 @@ pub fn write_banner<L: Sink>(log: &mut L) -> Result<(), SinkFault>
 pub fn write_starred<L: Sink>(log: &mut L, numbers: &[u32]) -> Result<(), SinkFault>
     requires { L.failed log.old + 1 < 2 ^ 64 }
     ensures { WritesToStream (line (starred numbers.now))
-        (stream_model L.Sink log.old) (stream_model L.Sink log.new) result }
+        (sink_model L.Sink log.old) (sink_model L.Sink log.new) result }
 {
     let mut log_buffer = LogBuffer::new();
     add_stars(&mut log_buffer, log, numbers)?;
@@ -40,7 +40,7 @@ fn add_stars<L: Sink>(
 ) -> Result<(), SinkFault>
     requires { L.failed log.old + 1 < 2 ^ 64 }
     ensures { AppendsToLog (flat_map star numbers.now)
-        (stream_model L.Sink log.old) (stream_model L.Sink log.new)
+        (sink_model L.Sink log.old) (sink_model L.Sink log.new)
         (unwritten_bytes log_buffer.old) (unwritten_bytes log_buffer.new) result }
 {
     'numbers: for number in numbers {
@@ -52,7 +52,7 @@ fn add_stars<L: Sink>(
 fn add_star<L: Sink>(log_buffer: &mut LogBuffer, log: &mut L, number: u32) -> Result<(), SinkFault>
     requires { L.failed log.old + 1 < 2 ^ 64 }
     ensures { AppendsToLog (star number)
-        (stream_model L.Sink log.old) (stream_model L.Sink log.new)
+        (sink_model L.Sink log.old) (sink_model L.Sink log.new)
         (unwritten_bytes log_buffer.old) (unwritten_bytes log_buffer.new) result }
 {
     log_buffer.add(log, b"*")?;
@@ -64,7 +64,7 @@ fn add_star<L: Sink>(log_buffer: &mut LogBuffer, log: &mut L, number: u32) -> Re
 pub fn write_no_program<L: Sink>(log: &mut L) -> Result<(), SinkFault>
     requires { L.failed log.old + 1 < 2 ^ 64 }
     ensures { WritesToStream (line no_text)
-        (stream_model L.Sink log.old) (stream_model L.Sink log.new) result }
+        (sink_model L.Sink log.old) (sink_model L.Sink log.new) result }
 {
     say(log, &[b"! No program text\n"])
 }
@@ -73,7 +73,7 @@ pub fn write_no_program<L: Sink>(log: &mut L) -> Result<(), SinkFault>
 pub fn write_writing<L: Sink>(log: &mut L, name: &str) -> Result<(), SinkFault>
     requires { L.failed log.old + 1 < 2 ^ 64 }
     ensures { WritesToStream (line (writing name.now))
-        (stream_model L.Sink log.old) (stream_model L.Sink log.new) result }
+        (sink_model L.Sink log.old) (sink_model L.Sink log.new) result }
 {
     say(log, &[b"Writing ", name.as_bytes(), b"\n"])
 }
@@ -87,7 +87,7 @@ pub fn write_counts<L: Sink>(
 ) -> Result<(), SinkFault>
     requires { L.failed log.old + 1 < 2 ^ 64 }
     ensures { WritesToStream (line (counts sections names macros))
-        (stream_model L.Sink log.old) (stream_model L.Sink log.new) result }
+        (sink_model L.Sink log.old) (sink_model L.Sink log.new) result }
 {
     let mut of_sections = Buffer::new();
     let mut of_names = Buffer::new();
@@ -110,7 +110,7 @@ pub fn write_counts<L: Sink>(
 pub fn write_closing<L: Sink>(log: &mut L, count: u128, missing: bool) -> Result<(), SinkFault>
     requires { L.failed log.old + 1 < 2 ^ 64 }
     ensures { WritesToStream (line (closing count missing))
-        (stream_model L.Sink log.old) (stream_model L.Sink log.new) result }
+        (sink_model L.Sink log.old) (sink_model L.Sink log.new) result }
 {
     if count == 0 {
         if missing {

@@ -2,7 +2,7 @@
 ghost use Rattle.std.specs.Prelude.{◌≡◌, ◌≤◌, ◌<◌, ◌+◌, ◌^◌, ◌++◌, [], length, OnOk};
 ghost use Rattle.cweb_log.specs.inner.LogWriting.{WritesToStream, AppendsToLog, joined_line};
 ghost use Rattle.cweb_log.specs.declared.log_buffer.TheConstants.{ROOM};
-ghost use Rattle.cweb_log.specs.DeviceModels.{stream_model};
+ghost use Rattle.cweb_log.specs.DeviceModels.{sink_model};
 
 use cweb_lines::{Sink, SinkFault, write_all};
 
@@ -37,7 +37,7 @@ impl LogBuffer {
     ) -> Result<(), SinkFault>
         requires { L.failed log.old + 1 < 2 ^ 64 }
         ensures { AppendsToLog (joined_line parts.now)
-            (stream_model L.Sink log.old) (stream_model L.Sink log.new)
+            (sink_model L.Sink log.old) (sink_model L.Sink log.new)
             (unwritten_bytes self.old) (unwritten_bytes self.new) result }
     {
         'parts: for part in parts {
@@ -51,7 +51,7 @@ impl LogBuffer {
     pub(crate) fn add<L: Sink>(&mut self, log: &mut L, part: &[u8]) -> Result<(), SinkFault>
         requires { L.failed log.old + 1 < 2 ^ 64 }
         ensures { AppendsToLog part.now
-            (stream_model L.Sink log.old) (stream_model L.Sink log.new)
+            (sink_model L.Sink log.old) (sink_model L.Sink log.new)
             (unwritten_bytes self.old) (unwritten_bytes self.new) result }
     {
         if part.len() > ROOM - self.len {
@@ -78,7 +78,7 @@ impl LogBuffer {
     pub(crate) fn pass_on<L: Sink>(&mut self, log: &mut L) -> Result<(), SinkFault>
         requires { L.failed log.old + 1 < 2 ^ 64 }
         ensures writes { WritesToStream (unwritten_bytes self.old)
-            (stream_model L.Sink log.old) (stream_model L.Sink log.new) result }
+            (sink_model L.Sink log.old) (sink_model L.Sink log.new) result }
         ensures empty { OnOk result (unwritten_bytes self.new ≡ []) }
     {
         write_all(log, &self.bytes[..self.len])?;
@@ -92,7 +92,7 @@ impl LogBuffer {
 pub(crate) fn say<L: Sink>(log: &mut L, parts: &[&[u8]]) -> Result<(), SinkFault>
     requires { L.failed log.old + 1 < 2 ^ 64 }
     ensures { WritesToStream (joined_line parts.now)
-        (stream_model L.Sink log.old) (stream_model L.Sink log.new) result }
+        (sink_model L.Sink log.old) (sink_model L.Sink log.new) result }
 {
     let mut log_buffer = LogBuffer::new();
     log_buffer.add_line(log, parts)?;

@@ -3,7 +3,7 @@ ghost use Rattle.std.specs.Prelude.{◌≡◌, ◌<◌, ◌+◌, ◌^◌};
 ghost use Rattle.cweb_log.specs.LogWriting.{Logs};
 ghost use Rattle.cweb_log.specs.inner.LogWriting.{WritesToStream};
 ghost use Rattle.cweb_log.specs.Log.{message_line, stop_line};
-ghost use Rattle.cweb_log.specs.DeviceModels.{stream_model};
+ghost use Rattle.cweb_log.specs.DeviceModels.{sink_model};
 
 use crate::log_buffer::say;
 use cweb_lines::{Sink, SinkFault, Stop};
@@ -12,7 +12,7 @@ use cweb_lines::{Sink, SinkFault, Stop};
 pub fn write_stop<L: Sink>(log: &mut L, stop: Stop, name: &str) -> Result<(), SinkFault>
     requires { L.failed log.old + 1 < 2 ^ 64 }
     ensures { WritesToStream (stop_line stop name.now)
-        (stream_model L.Sink log.old) (stream_model L.Sink log.new) result }
+        (sink_model L.Sink log.old) (sink_model L.Sink log.new) result }
 {
     match stop {
         Stop::Usage => write_message(log, "Usage: ", name),
@@ -33,7 +33,7 @@ pub fn log_stop<L: Sink>(log: &mut L, stop: Stop, name: &str) -> u8
     requires { L.failed log.old + 1 < 2 ^ 64 }
     ensures status { result ≡ 1 }
     ensures logs { Logs (stop_line stop name.now)
-        (stream_model L.Sink log.old) (stream_model L.Sink log.new) }
+        (sink_model L.Sink log.old) (sink_model L.Sink log.new) }
 {
     let _ = write_stop(log, stop, name);
     1
@@ -42,7 +42,7 @@ pub fn log_stop<L: Sink>(log: &mut L, stop: Stop, name: &str) -> u8
 fn write_message<L: Sink>(log: &mut L, text: &str, name: &str) -> Result<(), SinkFault>
     requires { L.failed log.old + 1 < 2 ^ 64 }
     ensures { WritesToStream (message_line text.now name.now)
-        (stream_model L.Sink log.old) (stream_model L.Sink log.new) result }
+        (sink_model L.Sink log.old) (sink_model L.Sink log.new) result }
 {
     say(log, &[b"! ", text.as_bytes(), name.as_bytes(), b"\n"])
 }

@@ -7,7 +7,7 @@ ghost use Rattle.cweb_out.specs.Outputs.{name_spelling, output_name};
 ghost use Rattle.cweb_log.specs.inner.LogBuffer.{unwritten_bytes};
 ghost use Rattle.cweb_log.specs.inner.LogWriting.{WritesToStream, AppendsToLog};
 ghost use Rattle.cweb_log.specs.Items.{line, fault};
-ghost use Rattle.cweb_log.specs.DeviceModels.{stream_model};
+ghost use Rattle.cweb_log.specs.DeviceModels.{sink_model};
 ghost use Rattle.cweb_log.specs.WebItems.{cycle_step, name_item, name_items, scan_item};
 ghost use Rattle.cweb_log.specs.inner.WebItems.{plan_item};
 ghost use Rattle.cweb_log.specs.WebItems.{scan_items, scan_message};
@@ -31,7 +31,7 @@ pub fn write_scan_faults<L: Sink>(
     requires known { All
         (λ fault. fault.place.file.0 < length (opened_file_names names.now)) faults.now }
     ensures { WritesToStream (flat_map line (scan_items (opened_file_names names.now) faults.now))
-        (stream_model L.Sink log.old) (stream_model L.Sink log.new) result }
+        (sink_model L.Sink log.old) (sink_model L.Sink log.new) result }
 {
     let mut log_buffer = LogBuffer::new();
     'faults: for fault in faults {
@@ -49,7 +49,7 @@ fn add_scan_fault<L: Sink>(
     requires count { L.failed log.old + 1 < 2 ^ 64 }
     requires known { fault.now.place.file.0 < length (opened_file_names names.now) }
     ensures { AppendsToLog (line (scan_item (opened_file_names names.now) fault.now))
-        (stream_model L.Sink log.old) (stream_model L.Sink log.new)
+        (sink_model L.Sink log.old) (sink_model L.Sink log.new)
         (unwritten_bytes log_buffer.old) (unwritten_bytes log_buffer.new) result }
 {
     let file = names.get(fault.place.file);
@@ -93,7 +93,7 @@ fn scan_message(kind: ScanKind) -> &'static str
 pub fn write_name_faults<L: Sink>(log: &mut L, store: &Store) -> Result<(), SinkFault>
     requires { L.failed log.old + 1 < 2 ^ 64 }
     ensures { WritesToStream (flat_map line (name_items store.now))
-        (stream_model L.Sink log.old) (stream_model L.Sink log.new) result }
+        (sink_model L.Sink log.old) (sink_model L.Sink log.new) result }
 {
     let mut log_buffer = LogBuffer::new();
     let faults = store.name_faults();
@@ -112,7 +112,7 @@ fn add_name_fault<L: Sink>(
     requires count { L.failed log.old + 1 < 2 ^ 64 }
     requires known { fault.now.occurrence.0 < length store.now.occurrences }
     ensures { AppendsToLog (line (name_item store.now.occurrences fault.now))
-        (stream_model L.Sink log.old) (stream_model L.Sink log.new)
+        (sink_model L.Sink log.old) (sink_model L.Sink log.new)
         (unwritten_bytes log_buffer.old) (unwritten_bytes log_buffer.new) result }
 {
     let name = store.occurrence_text(fault.occurrence);
@@ -140,7 +140,7 @@ fn add_named<L: Sink>(
 ) -> Result<(), SinkFault>
     requires { L.failed log.old + 1 < 2 ^ 64 }
     ensures { AppendsToLog (line (fault (text.now ++ (name.now ++ end.now))))
-        (stream_model L.Sink log.old) (stream_model L.Sink log.new)
+        (sink_model L.Sink log.old) (sink_model L.Sink log.new)
         (unwritten_bytes log_buffer.old) (unwritten_bytes log_buffer.new) result }
 {
     log_buffer.add_line(log, &[b"! ", text.as_bytes(), name, end.as_bytes(), b"\n"])
@@ -156,7 +156,7 @@ pub fn write_plan_fault<L: Sink>(
 ) -> Result<(), SinkFault>
     requires { L.failed log.old + 1 < 2 ^ 64 }
     ensures { WritesToStream (line (plan_item store.now main.now fault.now))
-        (stream_model L.Sink log.old) (stream_model L.Sink log.new) result }
+        (sink_model L.Sink log.old) (sink_model L.Sink log.new) result }
 {
     match fault {
         PlanFault::Cycle(names) => write_cycle(log, store, names.as_slice()),
@@ -177,7 +177,7 @@ pub fn write_plan_fault<L: Sink>(
 fn write_named<L: Sink>(log: &mut L, text: &str, name: &[u8]) -> Result<(), SinkFault>
     requires { L.failed log.old + 1 < 2 ^ 64 }
     ensures { WritesToStream (line (fault (text.now ++ (name.now ++ codes ">"))))
-        (stream_model L.Sink log.old) (stream_model L.Sink log.new) result }
+        (sink_model L.Sink log.old) (sink_model L.Sink log.new) result }
 {
     say(log, &[b"! ", text.as_bytes(), name, b">\n"])
 }
@@ -187,7 +187,7 @@ fn write_cycle<L: Sink>(log: &mut L, store: &Store, names: &[NameId]) -> Result<
     requires { L.failed log.old + 1 < 2 ^ 64 }
     ensures { WritesToStream
         (line (fault (codes "Cycle:" ++ flat_map (cycle_step store.now) names.now)))
-        (stream_model L.Sink log.old) (stream_model L.Sink log.new) result }
+        (sink_model L.Sink log.old) (sink_model L.Sink log.new) result }
 {
     let mut log_buffer = LogBuffer::new();
     log_buffer.add(log, b"! Cycle:")?;
@@ -204,7 +204,7 @@ fn add_steps<L: Sink>(
 ) -> Result<(), SinkFault>
     requires { L.failed log.old + 1 < 2 ^ 64 }
     ensures { AppendsToLog (flat_map (cycle_step store.now) names.now)
-        (stream_model L.Sink log.old) (stream_model L.Sink log.new)
+        (sink_model L.Sink log.old) (sink_model L.Sink log.new)
         (unwritten_bytes log_buffer.old) (unwritten_bytes log_buffer.new) result }
 {
     'names: for name in names {
@@ -221,7 +221,7 @@ fn add_step<L: Sink>(
 ) -> Result<(), SinkFault>
     requires { L.failed log.old + 1 < 2 ^ 64 }
     ensures { AppendsToLog (cycle_step store.now name)
-        (stream_model L.Sink log.old) (stream_model L.Sink log.new)
+        (sink_model L.Sink log.old) (sink_model L.Sink log.new)
         (unwritten_bytes log_buffer.old) (unwritten_bytes log_buffer.new) result }
 {
     log_buffer.add_line(log, &[b" <", name_bytes(store, name), b">"])

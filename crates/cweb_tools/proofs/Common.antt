@@ -66,9 +66,9 @@ pub use Rattle.cweb_log.specs.Log.{kind_message}
 pub use Rattle.cweb_log.specs.Log.{located_line, file_name_at}
 pub use Rattle.cweb_log.specs.Options.{OptionsModel, options_by, shown_by_default}
 pub use Rattle.cweb_log.specs.surface.Options.{options_of}
-pub use Rattle.cweb_log.specs.DeviceModels.{BinsModel, TangleDevices, ShelfModel, StreamModel, MergeDevices}
-pub use Rattle.cweb_log.specs.DeviceModels.{AreObservable, bins_model, stream_model}
-pub use Rattle.cweb_log.specs.DeviceModels.{shelf_model, tangle_devices}
+pub use Rattle.cweb_log.specs.DeviceModels.{SinkModel, Devices, ShelfModel}
+pub use Rattle.cweb_log.specs.DeviceModels.{AreObservable, sink_model}
+pub use Rattle.cweb_log.specs.DeviceModels.{shelf_model, devices}
 pub use Rattle.cweb_log.specs.WebItems.{name_item, name_items, scan_item, scan_items, refusal_message}
 pub use Rattle.cweb_log.specs.inner.WebItems.{plan_item}
 pub use Rattle.cweb_log.specs.Words.{WebNames, web_names_by}
@@ -143,7 +143,7 @@ pub use Rattle.cweb_tools.specs.MergePromises.{about, AreOpened, CanStop, Comes,
 pub use Rattle.cweb_tools.specs.MergePromises.{HasMerged}
 pub use Rattle.cweb_tools.specs.Headline.{IsMerge, IsTangle, TangleKeepsLimits, MergesFreely, MergeRanFreely}
 pub use Rattle.cweb_tools.specs.Headline.{TangleRanFreely}
-pub use Rattle.cweb_tools.specs.Headline.{TanglesFreely, AllObservable}
+pub use Rattle.cweb_tools.specs.Headline.{TanglesFreely}
 pub use Rattle.cweb_tools.specs.MergePromises.{BlamesDevice, Completes}
 pub use Rattle.cweb_tools.specs.laws.RunEffects.{LeavesDevices, LeavesMerge, LeavesStates, MergeFailsOnce, MergeReportsFaults}
 pub use Rattle.cweb_tools.specs.laws.RunEffects.{PrintsMerged}

@@ -1,9 +1,9 @@
 -- Calls one after another, and what they leave in the devices.
-use Rattle.cweb_tools.proofs.Common.{◌≡◌, inl, inr, ◌+◌, ℕ, List, [], ◌∷◌, ◌++◌, refl, sym, ◌∙◌, ap, add-zero, arith, false, Option, Some, None, IsErr, IsTrue, Result, Ok, Err, Beside, always_open, read_failures_of, LogFault, BinsModel, TangleDevices, ShelfModel, StreamModel, Act, Breaks, Ending, ending, DeviceState, PerformsActs, after_act, says, AgreesWith, Closes, ClosesLog, Does, DoesInBins, DoesInBoth, DoesInLog, bins_blame, done, halted, log_blame, rise, log_ending}
+use Rattle.cweb_tools.proofs.Common.{◌≡◌, inl, inr, ◌+◌, ℕ, List, [], ◌∷◌, ◌++◌, refl, sym, ◌∙◌, ap, add-zero, arith, false, Option, Some, None, IsErr, IsTrue, Result, Ok, Err, Beside, always_open, read_failures_of, LogFault, SinkModel, Devices, ShelfModel, Act, Breaks, Ending, ending, DeviceState, PerformsActs, after_act, says, AgreesWith, Closes, ClosesLog, Does, DoesInBins, DoesInBoth, DoesInLog, bins_blame, done, halted, log_blame, rise, log_ending}
 use Rattle.cweb_tools.proofs.Running.{runs_on, stops_in}
 
 -- nothing was done that the devices show
-pub quietly : {acts : List Act} {why : Option Ending} {seen : TangleDevices} → rise read_failures_of why ≡ 0
+pub quietly : {acts : List Act} {why : Option Ending} {seen : Devices} → rise read_failures_of why ≡ 0
     → rise bins_blame why
     ≡ 0 → rise log_blame why ≡ 0 → ((now : DeviceState) → PerformsActs acts why now now) → Does acts why seen seen
 quietly no_read no_bins no_log runs = record {
@@ -16,18 +16,18 @@ quietly no_read no_bins no_log runs = record {
   runs = λ now log_ending. record { left = now; told = log_ending; runs = runs now };
 }
 
-pub does_none : {seen : TangleDevices} → Does [] None seen seen
+pub does_none : {seen : Devices} → Does [] None seen seen
 does_none = quietly refl refl refl (λ now. refl)
 
 -- the first acts were done, and then the others
-pub does_on : {xs ys : List Act} {why : Option Ending} {before mid after : TangleDevices}
+pub does_on : {xs ys : List Act} {why : Option Ending} {before mid after : Devices}
     → Does xs None before mid → Does ys why mid after → Does (xs ++ ys) why before after
 does_on {xs} {ys} {why} {before} first then = record {
   shelf_tells = then.shelf_tells ∙ first.shelf_tells;
   bins_tells = then.bins_tells ∙ first.bins_tells;
   log_tells = then.log_tells ∙ first.log_tells;
   shelf = then.shelf ∙ ap (λ (n : ℕ). n + rise read_failures_of why) (first.shelf ∙ add-zero before.shelf.failed);
-  bins = then.bins ∙ ap (λ (n : ℕ). n + rise bins_blame why) (first.bins ∙ add-zero before.bins.failed);
+  bins = then.bins ∙ ap (λ (n : ℕ). n + rise bins_blame why) (first.bins ∙ add-zero before.out.failed);
   log = then.log ∙ ap (λ (n : ℕ). n + rise log_blame why) (first.log ∙ add-zero before.log.failed);
   runs = λ now log_ending.
       let one = first.runs now log_ending in
@@ -40,7 +40,7 @@ does_on {xs} {ys} {why} {before} first then = record {
 }
 
 -- acts do what others do that leave the same
-does_as : {xs ys : List Act} {why other : Option Ending} {before after : TangleDevices}
+does_as : {xs ys : List Act} {why other : Option Ending} {before after : Devices}
     → rise read_failures_of other ≡ rise read_failures_of why → rise bins_blame other ≡ rise bins_blame why
     → rise log_blame other ≡ rise log_blame why
     → ((old new : DeviceState) → PerformsActs xs why old new → PerformsActs ys other old new)
@@ -50,7 +50,7 @@ does_as {before} shelf bins log runs does = record {
   bins_tells = does.bins_tells;
   log_tells = does.log_tells;
   shelf = does.shelf ∙ ap (λ (n : ℕ). before.shelf.failed + n) (sym shelf);
-  bins = does.bins ∙ ap (λ (n : ℕ). before.bins.failed + n) (sym bins);
+  bins = does.bins ∙ ap (λ (n : ℕ). before.out.failed + n) (sym bins);
   log = does.log ∙ ap (λ (n : ℕ). before.log.failed + n) (sym log);
   runs = λ now log_ending.
       let lead = does.runs now log_ending in
@@ -58,18 +58,18 @@ does_as {before} shelf bins log runs does = record {
 }
 
 -- something stopped the first acts
-pub does_in : {xs : List Act} (ys : List Act) {why : Ending} {before after : TangleDevices}
+pub does_in : {xs : List Act} (ys : List Act) {why : Ending} {before after : Devices}
     → Does xs (Some why) before after → Does (xs ++ ys) (Some why) before after
 does_in {xs} ys {why} first = does_as refl refl refl (stops_in xs ys why) first
 
 -- the first acts were done, and the run ended in the others
-pub closes_on : {xs ys : List Act} {due : ℕ} {before mid after : TangleDevices} {status : ℕ}
+pub closes_on : {xs ys : List Act} {due : ℕ} {before mid after : Devices} {status : ℕ}
     → Does xs None before mid → Closes ys due mid after status → Closes (xs ++ ys) due before after status
 closes_on first (done does answered) = done (does_on first does) answered
 closes_on first (halted why then does logs answered) = halted why then (does_on first does) logs answered
 
 -- something stopped the first acts, and that was logged
-pub closes_in : {xs : List Act} (ys : List Act) {due : ℕ} {why : Ending} {before then after : TangleDevices}
+pub closes_in : {xs : List Act} (ys : List Act) {due : ℕ} {why : Ending} {before then after : Devices}
     {status : ℕ}
     → Does xs (Some why) before then → ClosesLog why then after → status ≡ 1 → Closes (xs ++ ys) due before after status
 closes_in ys {why} {then} does logs answered = halted why then (does_in ys does) logs answered
@@ -77,16 +77,16 @@ closes_in ys {why} {then} does logs answered = halted why then (does_in ys does)
 abbrev no_shelf : ShelfModel
 no_shelf = record { tells = false; failed = 0; texts = λ name. None; blamed = [] }
 
-abbrev no_bins : BinsModel
+abbrev no_bins : SinkModel
 no_bins = record { tells = false; failed = 0; bytes = []; beside = always_open }
 
 -- what happened to the count of a log alone
-pub log_counted : {acts : List Act} {why : Option Ending} {old new : StreamModel}
+pub log_counted : {acts : List Act} {why : Option Ending} {old new : SinkModel}
     → DoesInLog acts why old new → new.failed ≡ old.failed + rise log_blame why
 log_counted does = (does no_shelf no_bins).log
 
 -- the log failed in the first acts
-pub log_fails : {E B F : Type 0} (e : E) (r : Result B F) {xs : List Act} (ys : List Act) {old new : StreamModel}
+pub log_fails : {E B F : Type 0} (e : E) (r : Result B F) {xs : List Act} (ys : List Act) {old new : SinkModel}
     → DoesInLog xs (log_ending {A = Unit {0}} (Err e)) old new → IsErr r → DoesInLog (xs ++ ys) (log_ending r) old new
 log_fails e (Ok x) ys does is = absurd (cc)
 log_fails e (Err f) ys does is = λ shelf bins. does_in ys (does shelf bins)
@@ -103,16 +103,16 @@ log_about [] a b old new none = absurd none
 log_about (act ∷ acts) a b old new (inl run) = inl (run.0, log_about acts a b (after_act act old) new run.1)
 log_about (act ∷ acts) a b old new (inr broke) = inr (break_about act a b old new broke)
 
-pub does_about : {acts : List Act} {a b : List ℕ} {before after : TangleDevices}
+pub does_about : {acts : List Act} {a b : List ℕ} {before after : Devices}
     → Does acts (Some (ending LogFault a)) before after → Does acts (Some (ending LogFault b)) before after
 does_about {acts} {a} {b} does = does_as refl refl refl (log_about acts a b) does
 
 -- what happened to the counts of both
-pub bins_counted : {acts : List Act} {why : Option Ending} {a b : BinsModel} {k l : StreamModel}
+pub bins_counted : {acts : List Act} {why : Option Ending} {a b : SinkModel} {k l : SinkModel}
     → DoesInBoth acts why a b k l → b.failed ≡ a.failed + rise bins_blame why
 bins_counted does = (does no_shelf).bins
 
-pub logs_counted : {acts : List Act} {why : Option Ending} {a b : BinsModel} {k l : StreamModel}
+pub logs_counted : {acts : List Act} {why : Option Ending} {a b : SinkModel} {k l : SinkModel}
     → DoesInBoth acts why a b k l → l.failed ≡ k.failed + rise log_blame why
 logs_counted does = (does no_shelf).log
 
@@ -125,11 +125,11 @@ abbrev pub with_bins : DeviceState → ℕ → Beside → DeviceState
 with_bins now count beside =
     record now { bins_failed = count; files = beside.files; draft = beside.draft; refused = beside.refused }
 
-bins_told : {now : DeviceState} (count : ℕ) (shelf : ShelfModel) (a d : BinsModel) (log : StreamModel) (change : Beside
+bins_told : {now : DeviceState} (count : ℕ) (shelf : ShelfModel) (a d : SinkModel) (log : SinkModel) (change : Beside
     → Beside)
-    → AgreesWith now (record { shelf = shelf; bins = a; log = log })
+    → AgreesWith now (record { shelf = shelf; out = a; log = log })
     → d.tells ≡ a.tells → (IsTrue a.tells → d.beside ≡ change a.beside) → count ≡ d.failed
-    → AgreesWith (with_bins now count (change (beside_of now))) (record { shelf = shelf; bins = d; log = log })
+    → AgreesWith (with_bins now count (change (beside_of now))) (record { shelf = shelf; out = d; log = log })
 bins_told {now} count shelf a d log change log_ending tells beside counted =
     let first : IsTrue d.tells → IsTrue a.tells = λ tell. sym tells ∙ tell in
     let same : IsTrue d.tells → change (beside_of now) ≡ d.beside = λ tell. ap change (λ i.
@@ -151,7 +151,7 @@ bins_told {now} count shelf a d log change log_ending tells beside counted =
     }
 
 -- acts that change the bins alone
-pub does_in_bins : {acts : List Act} {why : Option Ending} (more : ℕ → ℕ) (change : Beside → Beside) {a d : BinsModel}
+pub does_in_bins : {acts : List Act} {why : Option Ending} (more : ℕ → ℕ) (change : Beside → Beside) {a d : SinkModel}
     → rise read_failures_of why ≡ 0 → rise log_blame why ≡ 0 → ((n : ℕ) → more n ≡ n + rise bins_blame why)
     → d.tells ≡ a.tells → d.failed ≡ more a.failed → (IsTrue a.tells → d.beside ≡ change a.beside)
     → ((now : DeviceState) → PerformsActs acts why now (with_bins now (more now.bins_failed) (change (beside_of now))))

@@ -1,5 +1,5 @@
 -- What the promises of a run say of its endings.
-use Rattle.cweb_tools.proofs.Common.{◌≡◌, ◌≢◌, ◌++◌, flat_map, LogItem, line, stop_line, inl, inr, ℕ, List, [], ◌∷◌, refl, ap, arith, Some, None, Stop, Usage, WebNotOpened, ChangeNotOpened, ReadFault, LineTooLong, TooMuchText, Memory, OutNotOpened, WriteFault, LogFault, DeviceState, Act, judges, reads, after_act, ending, Breaks, PerformsActs, TangleEnds, completes, stops, DoesAll, IsStopped, IsEnded, ActsKeepLimits}
+use Rattle.cweb_tools.proofs.Common.{taken_lines, ◌≡◌, ◌≢◌, ◌++◌, flat_map, LogItem, line, stop_line, inl, inr, ℕ, List, [], ◌∷◌, refl, ap, arith, Some, None, Stop, Usage, WebNotOpened, ChangeNotOpened, ReadFault, LineTooLong, TooMuchText, Memory, OutNotOpened, WriteFault, LogFault, DeviceState, Act, judges, reads, after_act, ending, Breaks, PerformsActs, TangleEnds, completes, stops, DoesAll, IsStopped, IsEnded, ActsKeepLimits}
 use Rattle.cweb_tools.proofs.AllDone.{files_all, log_all}
 use Rattle.cweb_tools.proofs.Limits.{beyond}
 use Rattle.cweb_tools.proofs.Stopping.{is_stopped}

@@ -1,5 +1,5 @@
 -- How the exits of a run that come before it writes are its ends.
-use Rattle.cweb_tools.proofs.Common.{◌≤◌, ◌≡◌, ◌⊎◌, inl, inr, ℕ, List, [], ◌∷◌, ◌++◌, refl, sym, ◌∙◌, ap, subst, append-nil, append_assoc, arith, Option, Some, None, IsTrue, names_found, World, Found, Line, Event, SoFar, EmitsLines, begun_with, ReportsPrefix, blame, StartStops, files_named, read_failures_of, emitted_lines, reported_faults, openings, taken_lines, IsWithinLimits, BeginsMerge, StopsAtStart, StopsWriting, WritingStops, WritesPrefix, write_failures_of, LINES, BYTES, Stop, Usage, WebNotOpened, ChangeNotOpened, ReadFault, LineTooLong, TooMuchText, Memory, WriteFault, Logs, stop_line, start_subject, subject, MergeDevices, StreamModel, WebNames, Course, merging, merge_course, change_name, found_course, usage, about, AreOpened, CanStop, Comes, MergeEnds, Merges, RefusesArgs}
+use Rattle.cweb_tools.proofs.Common.{◌≤◌, ◌≡◌, ◌⊎◌, inl, inr, ℕ, List, [], ◌∷◌, ◌++◌, refl, sym, ◌∙◌, ap, subst, append-nil, append_assoc, arith, Option, Some, None, IsTrue, names_found, World, Found, Line, Event, SoFar, EmitsLines, begun_with, ReportsPrefix, blame, StartStops, files_named, read_failures_of, emitted_lines, reported_faults, openings, taken_lines, IsWithinLimits, BeginsMerge, StopsAtStart, StopsWriting, WritingStops, WritesPrefix, write_failures_of, LINES, BYTES, Stop, Usage, WebNotOpened, ChangeNotOpened, ReadFault, LineTooLong, TooMuchText, Memory, WriteFault, Logs, stop_line, start_subject, subject, Devices, SinkModel, WebNames, Course, merging, merge_course, change_name, found_course, usage, about, AreOpened, CanStop, Comes, MergeEnds, Merges, RefusesArgs}
 use Rattle.cweb_tools.proofs.Limits.{breaks_limit}
 use Rattle.cweb_lines.proofs.EmittedLinesAddUp.{openings-append}
 use Rattle.cweb_tools.specs.Course.{unread, not_there, change_not_there}
@@ -35,14 +35,14 @@ pub begins_course : (world : World) (names : WebNames) (found : Option Found) (c
 begins_course world names found changes begins = rw (begins.there, begins.changes_there, begins.whole) refl
 
 -- a run that stops before it writes
-module _ (before after : MergeDevices) (status : ℕ) (read : after.shelf.failed ≡ before.shelf.failed)
+module _ (before after : Devices) (status : ℕ) (read : after.shelf.failed ≡ before.shelf.failed)
     (blamed : IsTrue before.shelf.tells → after.shelf.blamed ≡ before.shelf.blamed)
     (same : after.out ≡ before.out) (answered : status ≡ 1) where
   out_count : after.out.failed ≡ before.out.failed
-  out_count = ap (λ (stream : StreamModel). stream.failed) same
+  out_count = ap (λ (stream : SinkModel). stream.failed) same
 
   out_bytes : after.out.bytes ≡ before.out.bytes
-  out_bytes = ap (λ (stream : StreamModel). stream.bytes) same
+  out_bytes = ap (λ (stream : SinkModel). stream.bytes) same
 
   refused : (stop : Stop) → stop ≡ Usage
       → Logs (stop_line stop usage) before.log after.log → RefusesArgs before after status

@@ -1,5 +1,5 @@
 -- The faults of a web as items: how many there are, and that they are written.
-use Rattle.cweb_tools.proofs.Common.{◌≡◌, ◌<◌, ◌+◌, ℕ, zero, suc, Bool, true, false, cond, List, [], ◌∷◌, ◌++◌, length, map, refl, sym, ◌∙◌, ap, subst, append_assoc, arith, length-append, flat_map-append, length-map, sum_by-append, sum_by-cons, flat_map, IsTrue, IsErr, None, Result, Ok, Err, count_by, decimal, codes, SourceFault, SourceKind, Unequal, Part, is_macro, numbers_from, numbers_where, PartKind, Scanned, WritesToStream, LogItem, message_with_count, fault_count, is_fault, line, source_item, count_suffix, fault_line, fault_lines, kind_message, located_line, file_name_at, StreamModel, name_item, name_items, scan_item, scan_items, says, DoesInLog, log_ending, fault_items}
+use Rattle.cweb_tools.proofs.Common.{◌≡◌, ◌<◌, ◌+◌, ℕ, zero, suc, Bool, true, false, cond, List, [], ◌∷◌, ◌++◌, length, map, refl, sym, ◌∙◌, ap, subst, append_assoc, arith, length-append, flat_map-append, length-map, sum_by-append, sum_by-cons, flat_map, IsTrue, IsErr, None, Result, Ok, Err, count_by, decimal, codes, SourceFault, SourceKind, Unequal, Part, is_macro, numbers_from, numbers_where, PartKind, Scanned, WritesToStream, LogItem, message_with_count, fault_count, is_fault, line, source_item, count_suffix, fault_line, fault_lines, kind_message, located_line, file_name_at, SinkModel, name_item, name_items, scan_item, scan_items, says, DoesInLog, log_ending, fault_items}
 use Rattle.cweb_store.specs.Faults as store
 use Rattle.cweb_tools.proofs.Logging.{said_all, said_none}
 
@@ -47,18 +47,18 @@ some_from zero never = absurd (never refl)
 some_from (suc n) never = omega arith
 
 -- where no fault is counted there is nothing to log
-pub none_said : (items : List LogItem) {stream : StreamModel}
+pub none_said : (items : List LogItem) {stream : SinkModel}
     → length items ≡ 0 → DoesInLog (map says items) None stream stream
 none_said [] {stream} none = said_none
 none_said (item ∷ items) none = absurd (omega (arith, none))
 
-pub some_said : {A E : Type 0} {r : Result A E} (items : List LogItem) {old new : StreamModel} → 0 < length items
+pub some_said : {A E : Type 0} {r : Result A E} (items : List LogItem) {old new : SinkModel} → 0 < length items
     → WritesToStream (flat_map line items) old new r → DoesInLog (map says items) (log_ending r) old new
 some_said [] some writes = absurd (omega (arith, some))
 some_said {r} (item ∷ items) {old} {new} some writes = said_all r item items writes
 
 -- one text was written behind another
-pub writes_on : {A E B F : Type 0} (x : A) (r : Result B F) {a b : List ℕ} {old mid new : StreamModel}
+pub writes_on : {A E B F : Type 0} (x : A) (r : Result B F) {a b : List ℕ} {old mid new : SinkModel}
     → WritesToStream {E = E} a old mid (Ok x) → WritesToStream b mid new r → WritesToStream (a ++ b) old new r
 writes_on x (Ok y) {a} {b} {old} first then = record {
   tells = then.tells ∙ first.tells;
@@ -80,7 +80,7 @@ writes_on x (Err e) {a} {old} first then = record {
   };
 }
 
-pub writes_in : {A E B F : Type 0} (e : E) (r : Result B F) {a : List ℕ} (b : List ℕ) {old new : StreamModel}
+pub writes_in : {A E B F : Type 0} (e : E) (r : Result B F) {a : List ℕ} (b : List ℕ) {old new : SinkModel}
     → WritesToStream {A = A} a old new (Err e) → IsErr r → WritesToStream (a ++ b) old new r
 writes_in e (Ok x) b fails is = absurd (cc)
 writes_in e (Err f) b fails is = record {

@@ -1,5 +1,5 @@
 -- Items that are logged are acts that are done.
-use Rattle.cweb_tools.proofs.Common.{◌≡◌, ◌<◌, ◌+◌, ◌⊎◌, inl, inr, ℕ, zero, suc, List, [], ◌∷◌, ◌++◌, map, refl, sym, ◌∙◌, ap, append_assoc, append-nil, add-zero, length, arith, flat_map, ◌==◌, Bool, true, false, IsTrue, Option, None, Some, Logs, Ending, read_failures_of, bins_blame, log_blame, rise, Act, Result, Ok, Err, WritesPrefix, LogFault, WritesToStream, LogItem, line, starred, BinsModel, TangleDevices, ShelfModel, StreamModel, ending, DeviceState, PerformsActs, after_act, says, AgreesWith, DoesInLog, log_ending, starred_acts, when}
+use Rattle.cweb_tools.proofs.Common.{◌≡◌, ◌<◌, ◌+◌, ◌⊎◌, inl, inr, ℕ, zero, suc, List, [], ◌∷◌, ◌++◌, map, refl, sym, ◌∙◌, ap, append_assoc, append-nil, add-zero, length, arith, flat_map, ◌==◌, Bool, true, false, IsTrue, Option, None, Some, Logs, Ending, read_failures_of, bins_blame, log_blame, rise, Act, Result, Ok, Err, WritesPrefix, LogFault, WritesToStream, LogItem, line, starred, SinkModel, Devices, ShelfModel, ending, DeviceState, PerformsActs, after_act, says, AgreesWith, DoesInLog, log_ending, starred_acts, when}
 use Rattle.cweb_tools.proofs.Doing.{does_none}
 
 -- two ways to cut a text in two: the first front ends within the second's, or the second's within it
@@ -42,8 +42,8 @@ all_said (item ∷ items) old = inl (
   rw (← (append_assoc old.log (line item) (flat_map line items))) (all_said items (after_act (says item) old)),
 )
 
-abbrev pub at : ShelfModel → BinsModel → StreamModel → TangleDevices
-at shelf bins log = record { shelf = shelf; bins = bins; log = log }
+abbrev pub at : ShelfModel → SinkModel → SinkModel → Devices
+at shelf bins log = record { shelf = shelf; out = bins; log = log }
 
 -- a front of a text was written, and where it is told this is the one
 record FrontTold (tells : Bool) (old new text : List ℕ) : Type 0 where
@@ -60,8 +60,8 @@ front_told true {old} {new} {text} writes =
 front_told false {text} writes = record { front = []; rest = text; whole = refl; written = λ tell. absurd (cc) }
 
 -- what the devices hold where the log alone has changed
-log_told : {now : DeviceState} (count : ℕ) (text : List ℕ) (shelf : ShelfModel) (bins : BinsModel)
-    (old new : StreamModel)
+log_told : {now : DeviceState} (count : ℕ) (text : List ℕ) (shelf : ShelfModel) (bins : SinkModel)
+    (old new : SinkModel)
     → AgreesWith now (at shelf bins old) → count ≡ new.failed → (IsTrue new.tells → text ≡ new.bytes)
     → AgreesWith (record now { log_failed = count; log = text }) (at shelf bins new)
 log_told count text shelf bins old new log_ending counted bytes = record {
@@ -76,7 +76,7 @@ log_told count text shelf bins old new log_ending counted bytes = record {
 }
 
 -- acts that log a text
-does_logged : {acts : List Act} {why : Option Ending} (more : ℕ → ℕ) (text : List ℕ) {old new : StreamModel}
+does_logged : {acts : List Act} {why : Option Ending} (more : ℕ → ℕ) (text : List ℕ) {old new : SinkModel}
     → rise read_failures_of why ≡ 0 → rise bins_blame why ≡ 0 → ((n : ℕ) → more n ≡ n + rise log_blame why)
     → new.tells ≡ old.tells → new.failed ≡ more old.failed → (IsTrue old.tells → new.bytes ≡ old.bytes ++ text)
     → ((now : DeviceState)
@@ -99,7 +99,7 @@ does_logged more text {old} {new} no_read no_bins rises tells count bytes runs =
 }
 
 -- writing the lines of items, of which there are some, is logging them
-pub said_all : {A E : Type 0} (r : Result A E) (item : LogItem) (items : List LogItem) {old new : StreamModel}
+pub said_all : {A E : Type 0} (r : Result A E) (item : LogItem) (items : List LogItem) {old new : SinkModel}
     → WritesToStream (flat_map line (item ∷ items)) old new r
     → DoesInLog (map says (item ∷ items)) (log_ending r) old new
 said_all (Ok x) item items writes = does_logged (λ n. n) (flat_map line (item ∷ items))
@@ -110,12 +110,12 @@ said_all (Err e) item items {old} writes =
     writes.counts front.written (λ now. front_stops item items front.front front.rest now front.whole)
 
 -- a line
-pub said : {A E : Type 0} {r : Result A E} (item : LogItem) {old new : StreamModel}
+pub said : {A E : Type 0} {r : Result A E} (item : LogItem) {old new : SinkModel}
     → WritesToStream (line item) old new r → DoesInLog (says item ∷ []) (log_ending r) old new
 said {r} item {old} {new} writes = said_all r item [] (rw (append-nil (line item)) writes)
 
 -- what was logged, or a front of it, was written
-pub logs_write : {text : List ℕ} {old new : StreamModel}
+pub logs_write : {text : List ℕ} {old new : SinkModel}
     → Logs text old new → (r : Result (Unit {0}) (Unit {0})) × WritesToStream text old new r
 logs_write logs = elim logs.once [
   | inl kept ↦ (
@@ -126,17 +126,17 @@ logs_write logs = elim logs.once [
 ]
 
 -- nothing was to be logged
-pub said_none : {stream : StreamModel} → DoesInLog [] None stream stream
+pub said_none : {stream : SinkModel} → DoesInLog [] None stream stream
 said_none = λ shelf bins. does_none
 
 -- a line that is asked for
-pub said_when : {A E : Type 0} {r : Result A E} (asked : Bool) (item : LogItem) {old new : StreamModel}
+pub said_when : {A E : Type 0} {r : Result A E} (asked : Bool) (item : LogItem) {old new : SinkModel}
     → asked ≡ true → WritesToStream (line item) old new r → DoesInLog (when asked item) (log_ending r) old new
 said_when true item is writes = said item writes
 said_when false item is writes = absurd (cc)
 
 -- and one that isn't
-pub said_not : (asked : Bool) (item : LogItem) {stream : StreamModel} → asked ≡ false
+pub said_not : (asked : Bool) (item : LogItem) {stream : SinkModel} → asked ≡ false
     → DoesInLog (when asked item) None stream stream
 said_not true item is = absurd (cc)
 said_not false item is = said_none
@@ -147,7 +147,7 @@ some_by zero is = absurd (cc)
 some_by (suc n) is = omega arith
 
 -- the numbers of starred sections, of which there are some
-pub said_starred : {A E : Type 0} {r : Result A E} (progress : Bool) (numbers : List ℕ) {old new : StreamModel}
+pub said_starred : {A E : Type 0} {r : Result A E} (progress : Bool) (numbers : List ℕ) {old new : SinkModel}
     → progress ≡ true → 0 < length numbers
     → WritesToStream (line (starred numbers)) old new r
     → DoesInLog (starred_acts progress numbers) (log_ending r) old new

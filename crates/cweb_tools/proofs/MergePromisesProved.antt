@@ -1,5 +1,5 @@
 -- What the ends of a run come to, in the words of its promises.
-use Rattle.cweb_tools.proofs.Common.{◌≤◌, ◌≡◌, inl, inr, ℕ, ◌+◌, List, [], ◌∷◌, ◌++◌, refl, sym, ◌∙◌, ap, append-nil, arith, Option, Some, None, IsTrue, FileId, World, Found, web_at, change_at, read_failures_of, WritesPrefix, write_failures_of, SourceFault, Stop, Usage, WebNotOpened, ChangeNotOpened, ReadFault, LineTooLong, TooMuchText, Memory, WriteFault, Logs, fault_lines, stop_line, MergeDevices, StreamModel, AreObservable, WebNames, Course, merging, merge_course, fault_status, found_course, merged, MergeKeepsLimits, about, BlamesDevice, CanStop, Completes, MergeEnds, MergeFailsOnce, HasMerged, IsMerge, MergesFreely, Merges, LeavesMerge, MergeRanFreely, MergeReportsFaults, PrintsMerged}
+use Rattle.cweb_tools.proofs.Common.{taken_lines, ◌≤◌, ◌≡◌, inl, inr, ℕ, ◌+◌, List, [], ◌∷◌, ◌++◌, refl, sym, ◌∙◌, ap, append-nil, arith, Option, Some, None, IsTrue, FileId, World, Found, web_at, change_at, read_failures_of, WritesPrefix, write_failures_of, SourceFault, Stop, Usage, WebNotOpened, ChangeNotOpened, ReadFault, LineTooLong, TooMuchText, Memory, WriteFault, Logs, fault_lines, stop_line, Devices, SinkModel, AreObservable, WebNames, Course, merging, merge_course, fault_status, found_course, merged, MergeKeepsLimits, about, BlamesDevice, CanStop, Completes, MergeEnds, MergeFailsOnce, HasMerged, IsMerge, MergesFreely, Merges, LeavesMerge, MergeRanFreely, MergeReportsFaults, PrintsMerged}
 use Rattle.cweb_tools.specs.MergePromises.{completes, stops}
 use Rattle.cweb_tools.proofs.Limits.{beyond}
 
@@ -21,7 +21,7 @@ front_of_nothing : {old new : List ℕ} → WritesPrefix old new [] → new ≡ 
 front_of_nothing {old} front =
     front.written ∙ ap (λ (t : List ℕ). old ++ t) (no_front front.front front.rest front.whole)
 
-module _ (world : World) (names : WebNames) (before after : MergeDevices) (status : ℕ)
+module _ (world : World) (names : WebNames) (before after : Devices) (status : ℕ)
     (tell : AreObservable before) where
   freely_merged : (course : Course) (whole : Completes course before after status)
       → HasMerged course whole.files whole.faults → MergeRanFreely course before after
@@ -68,7 +68,7 @@ module _ (world : World) (names : WebNames) (before after : MergeDevices) (statu
       rw is (freely_stopped found changes stop.stop stop.files (rw (← is) (stop.cause tell.0)) stop.blames stop.logged
       (rw (← is) (stop.written tell.0 tell.1)) stop.answered (rw (← is) free))
 
-pub ran_freely : (world : World) (asked : Option WebNames) {before after : MergeDevices} {status : ℕ}
+pub ran_freely : (world : World) (asked : Option WebNames) {before after : Devices} {status : ℕ}
     → MergeEnds world asked before after status → MergesFreely world asked before after status
 ran_freely world None {before} ends tell free =
     record {
@@ -84,7 +84,7 @@ stays_within : (course : Course) (files : List (List ℕ)) (faults : List Source
 stays_within (merging first events) files faults all = all.2
 stays_within course files faults all = absurd all
 
-beyond_limits : (world : World) (asked : Option WebNames) (before after : MergeDevices) (status : ℕ)
+beyond_limits : (world : World) (asked : Option WebNames) (before after : Devices) (status : ℕ)
     → MergeEnds world asked before after status
     → IsTrue before.shelf.tells → ¬ MergeKeepsLimits (merge_course world asked) → status ≡ 1
 beyond_limits world None before after status ends tells beyond = ends.answered
@@ -98,7 +98,7 @@ all_printed {text} is = record { front = text; rest = []; written = is; whole = 
 not_zero : {A : Type 0} (status : ℕ) → status ≡ 1 → status ≡ 0 → A
 not_zero status one none = absurd (omega (arith, one, none))
 
-prints : (world : World) (asked : Option WebNames) {before after : MergeDevices} {status : ℕ}
+prints : (world : World) (asked : Option WebNames) {before after : Devices} {status : ℕ}
     → MergeEnds world asked before after status
     → IsTrue before.shelf.tells → IsTrue before.out.tells → PrintsMerged (merge_course world asked) before after status
 prints world None {before} {status} ends tells told = record {
@@ -114,10 +114,10 @@ one_blame : (stop : Stop) → read_failures_of stop + write_failures_of stop ≤
 one_blame Usage = omega arith
 one_blame _ = omega arith
 
-once_logged : {text : List ℕ} {before after : StreamModel} → Logs text before after → after.failed ≤ before.failed + 1
+once_logged : {text : List ℕ} {before after : SinkModel} → Logs text before after → after.failed ≤ before.failed + 1
 once_logged logs = elim logs.once [ inl same ↦ omega (arith, same) | inr more ↦ omega (arith, more) ]
 
-fails_once : (world : World) (asked : Option WebNames) {before after : MergeDevices} (status : ℕ)
+fails_once : (world : World) (asked : Option WebNames) {before after : Devices} (status : ℕ)
     → MergeEnds world asked before after status → MergeFailsOnce before after
 fails_once world None status ends =
     record { one = omega (arith, ends.read, ends.printed); log = once_logged ends.logged }
@@ -129,7 +129,7 @@ fails_once world (Some names) status (stops stop) =
       log = once_logged stop.logged;
     }
 
-tells_faults : (world : World) (asked : Option WebNames) {before after : MergeDevices} {status : ℕ}
+tells_faults : (world : World) (asked : Option WebNames) {before after : Devices} {status : ℕ}
     → MergeEnds world asked before after status → MergeReportsFaults before after status
 tells_faults world None ends =
     record { read = λ failed. ends.answered; printed = λ failed. ends.answered; logged = λ failed. ends.answered }
@@ -142,7 +142,7 @@ tells_faults world (Some names) (completes whole) =
 tells_faults world (Some names) (stops stop) =
     record { read = λ failed. stop.answered; printed = λ failed. stop.answered; logged = λ failed. stop.answered }
 
-pub leave_merge : (world : World) (asked : Option WebNames) (before after : MergeDevices) (status : ℕ)
+pub leave_merge : (world : World) (asked : Option WebNames) (before after : Devices) (status : ℕ)
     → MergeEnds world asked before after status → LeavesMerge (merge_course world asked) before after status
 leave_merge world asked before after status ends = record {
   prints = prints world asked ends;

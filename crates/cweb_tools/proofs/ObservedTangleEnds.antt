@@ -1,16 +1,16 @@
 -- What the devices hold at the end of a run of `ctangle`, as far as they tell it.
-use Rattle.cweb_tools.proofs.Common.{◌≡◌, inl, inr, ℕ, List, refl, ◌∙◌, ap, Some, Stop, LogFault, LogItem, line, stopped, stop_line, log_ending, says, Result, Ok, Err, [], ◌∷◌, Logs, BinsModel, TangleDevices, StreamModel, Act, ending, DeviceState, EndsIn, LogsLine, PerformsActs, completes, stops, AgreesWith, Closes, ClosesLog, LogsEnding, done, halted}
+use Rattle.cweb_tools.proofs.Common.{◌≡◌, inl, inr, ℕ, List, refl, ◌∙◌, ap, Some, Stop, LogFault, LogItem, line, stopped, stop_line, log_ending, says, Result, Ok, Err, [], ◌∷◌, Logs, SinkModel, Devices, Act, ending, DeviceState, EndsIn, LogsLine, PerformsActs, completes, stops, AgreesWith, Closes, ClosesLog, LogsEnding, done, halted}
 use Rattle.cweb_tools.proofs.Logging.{at, logs_write, said}
 
 -- what the devices hold behind a line of the log, as far as they tell it
-record LineLeft (text : List ℕ) (now : DeviceState) (after : TangleDevices) : Type 0 where
+record LineLeft (text : List ℕ) (now : DeviceState) (after : Devices) : Type 0 where
   pub left : DeviceState
   pub told : AgreesWith left after
   pub is : LogsLine text now left
 
 -- the other devices were left alone
-beside_told : {left : DeviceState} (then : TangleDevices) {after : TangleDevices} → after.shelf ≡ then.shelf
-    → after.bins ≡ then.bins → AgreesWith left (at then.shelf then.bins after.log) → AgreesWith left after
+beside_told : {left : DeviceState} (then : Devices) {after : Devices} → after.shelf ≡ then.shelf
+    → after.out ≡ then.out → AgreesWith left (at then.shelf then.out after.log) → AgreesWith left after
 beside_told {left} then {after} shelf bins log_ending = rw bins (rw shelf log_ending)
 
 line_by : {A E : Type 0} (r : Result A E) (item : LogItem) (old new : DeviceState)
@@ -21,13 +21,13 @@ line_by (Ok x) item old new (inr never) = absurd never
 line_by (Err e) item old new (inl run) = absurd run.1
 
 -- the line of a stop was logged behind a run
-line_left : (stop : Stop) (about : List ℕ) {then after : TangleDevices} → after.shelf ≡ then.shelf
-    → after.bins ≡ then.bins
+line_left : (stop : Stop) (about : List ℕ) {then after : Devices} → after.shelf ≡ then.shelf
+    → after.out ≡ then.out
     → Logs (stop_line stop about) then.log after.log → (now : DeviceState) → AgreesWith now then
     → LineLeft (stop_line stop about) now after
 line_left stop about {then} shelf bins logs now held =
     let writes = logs_write logs in
-    let lead = (said (stopped stop about) writes.1 then.shelf then.bins).runs now held in
+    let lead = (said (stopped stop about) writes.1 then.shelf then.out).runs now held in
     record {
       left = lead.left;
       told = beside_told then shelf bins lead.told;
@@ -36,7 +36,7 @@ line_left stop about {then} shelf bins logs now held =
 
 -- how a run ends in the devices, as far as they tell it
 stop_ends : (stop : Stop) (about : List ℕ) {acts : List Act}
-    {due : ℕ} {first now : DeviceState} {then after : TangleDevices} {status : ℕ}
+    {due : ℕ} {first now : DeviceState} {then after : Devices} {status : ℕ}
     → PerformsActs acts (Some (ending stop about)) first now
     → AgreesWith now then → ClosesLog (ending stop about) then after → status ≡ 1 → EndsIn acts due first after status
 stop_ends LogFault about {now} {then} runs log_ending logs answered = record {
@@ -52,7 +52,7 @@ stop_ends stop about {now} runs log_ending logs answered =
       ends = stops (ending stop about) now runs line.is answered;
     }
 
-pub tangle_ends : {acts : List Act} {due : ℕ} {before after : TangleDevices} {status : ℕ}
+pub tangle_ends : {acts : List Act} {due : ℕ} {before after : Devices} {status : ℕ}
     → Closes acts due before after status → (now : DeviceState) → AgreesWith now before
     → EndsIn acts due now after status
 tangle_ends (done does answered) now log_ending =
@@ -63,18 +63,18 @@ tangle_ends (halted (ending stop about) then does logs answered) now log_ending 
     stop_ends stop about lead.runs lead.told logs answered
 
 -- a log and bins that tell go on telling
-ending_tells : (stop : Stop) (about : List ℕ) (old new : StreamModel)
+ending_tells : (stop : Stop) (about : List ℕ) (old new : SinkModel)
     → LogsEnding (ending stop about) old new → new.tells ≡ old.tells
-ending_tells LogFault about old new logs = ap (λ (l : StreamModel). l.tells) logs
+ending_tells LogFault about old new logs = ap (λ (l : SinkModel). l.tells) logs
 ending_tells _ about old new logs = logs.tells
 
-pub log_tells : {acts : List Act} {due : ℕ} {before after : TangleDevices} {status : ℕ}
+pub log_tells : {acts : List Act} {due : ℕ} {before after : Devices} {status : ℕ}
     → Closes acts due before after status → after.log.tells ≡ before.log.tells
 log_tells (done does answered) = does.log_tells
 log_tells {after} (halted (ending stop about) then does logs answered) =
     ending_tells stop about then.log after.log logs.log ∙ does.log_tells
 
-pub bins_tell : {acts : List Act} {due : ℕ} {before after : TangleDevices} {status : ℕ}
-    → Closes acts due before after status → after.bins.tells ≡ before.bins.tells
+pub bins_tell : {acts : List Act} {due : ℕ} {before after : Devices} {status : ℕ}
+    → Closes acts due before after status → after.out.tells ≡ before.out.tells
 bins_tell (done does answered) = does.bins_tells
-bins_tell (halted why then does logs answered) = ap (λ (b : BinsModel). b.tells) logs.bins ∙ does.bins_tells
+bins_tell (halted why then does logs answered) = ap (λ (b : SinkModel). b.tells) logs.bins ∙ does.bins_tells

@@ -1,5 +1,5 @@
 -- How the exits of a run of `ctangle` that has begun its merge are its ends.
-use Rattle.cweb_tools.proofs.Common.{◌≤◌, ◌≡◌, ◌+◌, inl, inr, ℕ, List, [], ◌∷◌, ◌++◌, length, refl, sym, ◌∙◌, ap, IsTrue, Option, Some, None, names_found, World, Found, Event, SoFar, blame, StopsReading, files_named, read_failures_of, emitted_lines, reported_faults, openings, taken_lines, IsWithinLimits, BeginsMerge, SourceFault, LINES, BYTES, Stop, Scanned, scanned, ScanEndsEarly, Scans, stop_line, subject, OptionsModel, Logs, BinsModel, TangleDevices, ShelfModel, StreamModel, Act, Breaks, ending, DeviceState, opens, reads, Course, found_course, merging, Closes, Does, halted, TangleCourse, tangling, web_acts, course_acts, course_status, tangled, web_of, web_status}
+use Rattle.cweb_tools.proofs.Common.{◌≤◌, ◌≡◌, ◌+◌, inl, inr, ℕ, List, [], ◌∷◌, ◌++◌, length, refl, sym, ◌∙◌, ap, IsTrue, Option, Some, None, names_found, World, Found, Event, SoFar, blame, StopsReading, files_named, read_failures_of, emitted_lines, reported_faults, openings, taken_lines, IsWithinLimits, BeginsMerge, SourceFault, LINES, BYTES, Stop, Scanned, scanned, ScanEndsEarly, Scans, stop_line, subject, OptionsModel, Logs, SinkModel, Devices, ShelfModel, Act, Breaks, ending, DeviceState, opens, reads, Course, found_course, merging, Closes, Does, halted, TangleCourse, tangling, web_acts, course_acts, course_status, tangled, web_of, web_status}
 use Rattle.cweb_tools.proofs.Doing.{closes_on}
 use Rattle.cweb_tools.proofs.Exits.{begins_course, faults_told, limits_kept, names_told, opened_by}
 use Rattle.cweb_tools.proofs.Logging.{at}
@@ -9,7 +9,7 @@ use Rattle.cweb_tools.proofs.ReadingStops.{left_by, left_told, reads_broke, read
 -- a run that begins a merge, of which all this comes
 module _ (asked : OptionsModel) (world : World) (found : Option Found) (changes : Option (Option Found))
     (shelf shelf' : ShelfModel) (tells : shelf'.tells ≡ shelf.tells)
-    (bins : BinsModel) (l : StreamModel) (status : ℕ) (old new : SoFar) (all : List Event)
+    (bins : SinkModel) (l : SinkModel) (status : ℕ) (old new : SoFar) (all : List Event)
     (begins : IsTrue shelf.tells → BeginsMerge world found changes old all) where
   abbrev merged : Course
   merged = found_course world asked.names.merge found changes
@@ -37,7 +37,7 @@ module _ (asked : OptionsModel) (world : World) (found : Option Found) (changes 
     };
   }
 
-  halts : (stop : Stop) (about : List ℕ) (l' : StreamModel) (course : TangleCourse)
+  halts : (stop : Stop) (about : List ℕ) (l' : SinkModel) (course : TangleCourse)
       → StopsReading stop → Logs (stop_line stop about) l l' → status ≡ 1
       → Does (course_acts asked.shown course) (Some (ending stop about)) (at shelf bins l) (at shelf' bins l)
       → Closes (course_acts asked.shown course) (course_status course) (at shelf bins l) (at shelf' bins l') status
@@ -45,7 +45,7 @@ module _ (asked : OptionsModel) (world : World) (found : Option Found) (changes 
       (record { shelf = refl; bins = refl; log = reading_ends stop about kind logs }) answered
 
   -- reading ended before its end
-  pub read_stops : (stop : Stop) (opened : List (List ℕ)) (l' : StreamModel) → opened ≡ new.names → StopsReading stop
+  pub read_stops : (stop : Stop) (opened : List (List ℕ)) (l' : SinkModel) → opened ≡ new.names → StopsReading stop
       → (IsTrue shelf.tells → ScanEndsEarly stop old new all) → shelf'.failed ≡ shelf.failed + read_failures_of stop
       → (IsTrue shelf.tells → shelf'.blamed ≡ shelf.blamed ++ blame new.names stop)
       → files_named stop ≤ length new.names → new.count.lines ≤ LINES → new.count.bytes ≤ BYTES
@@ -85,7 +85,7 @@ module _ (asked : OptionsModel) (world : World) (found : Option Found) (changes 
       (opens ∷ reads files events ∷ []) None refl refl refl (λ now. inl (tt, inl (within, refl)))
 
   -- and the run went on with what it holds
-  pub read_whole : (files : List (List ℕ)) (faults : List SourceFault) (made : Scanned) (after : TangleDevices) → files
+  pub read_whole : (files : List (List ℕ)) (faults : List SourceFault) (made : Scanned) (after : Devices) → files
       ≡ new.names → faults ≡ new.faults → (IsTrue shelf.tells → Scans made old new all) → new.count.lines ≤ LINES
       → new.count.bytes ≤ BYTES → shelf'.failed ≡ shelf.failed → (IsTrue shelf.tells → shelf'.blamed ≡ shelf.blamed)
       → Closes (web_acts asked.shown (web_of files faults made asked.names.main))

@@ -1,5 +1,5 @@
 -- What a stop of reading leaves, and why reading ended before its end.
-use Rattle.cweb_tools.proofs.Common.{◌≤◌, ◌≡◌, ◌+◌, inl, inr, ℕ, List, [], ◌∷◌, ◌++◌, length, length-append, refl, sym, ◌∙◌, ap, add-zero, append-nil, arith, get_or-append, IsTrue, FileId, SourceLine, Event, took, SoFar, BreaksLimit, counts_of, begun_with, blame, StopsFor, StopsReading, files_named, read_failures_of, openings, IsWithinLimits, LINE_LENGTH, LINES, BYTES, Stop, ReadFault, LineTooLong, TooMuchText, Memory, OutNotOpened, WriteFault, LogFault, StopsAfter, file_name_at, stop_line, subject, Logs, BinsModel, ShelfModel, StreamModel, Breaks, ending, DeviceState, IsOfFile, reads, read_fails, AgreesWith, LogsEnding, bins_blame, log_blame}
+use Rattle.cweb_tools.proofs.Common.{◌≤◌, ◌≡◌, ◌+◌, inl, inr, ℕ, List, [], ◌∷◌, ◌++◌, length, length-append, refl, sym, ◌∙◌, ap, add-zero, append-nil, arith, get_or-append, IsTrue, FileId, SourceLine, Event, took, SoFar, BreaksLimit, counts_of, begun_with, blame, StopsFor, StopsReading, files_named, read_failures_of, openings, IsWithinLimits, LINE_LENGTH, LINES, BYTES, Stop, ReadFault, LineTooLong, TooMuchText, Memory, OutNotOpened, WriteFault, LogFault, StopsAfter, file_name_at, stop_line, subject, Logs, SinkModel, ShelfModel, Breaks, ending, DeviceState, IsOfFile, reads, read_fails, AgreesWith, LogsEnding, bins_blame, log_blame}
 use Rattle.cweb_input.specs.OpenSources.{RefusesLine}
 use Rattle.cweb_tools.proofs.Limits.{breaks_limit}
 use Rattle.cweb_tools.proofs.Logging.{at}
@@ -19,8 +19,8 @@ abbrev pub left_by : Stop → List ℕ → DeviceState → DeviceState
 left_by (ReadFault file) about now = read_fails about now
 left_by stop about now = now
 
-pub left_told : (stop : Stop) (files : List (List ℕ)) {now : DeviceState} (shelf shelf' : ShelfModel) (bins : BinsModel)
-    (l : StreamModel) → StopsReading stop → AgreesWith now (at shelf bins l) → shelf'.tells ≡ shelf.tells
+pub left_told : (stop : Stop) (files : List (List ℕ)) {now : DeviceState} (shelf shelf' : ShelfModel) (bins : SinkModel)
+    (l : SinkModel) → StopsReading stop → AgreesWith now (at shelf bins l) → shelf'.tells ≡ shelf.tells
     → shelf'.failed
     ≡ shelf.failed + read_failures_of stop → (IsTrue shelf.tells → shelf'.blamed ≡ shelf.blamed ++ blame files stop)
     → AgreesWith (left_by stop (subject files stop) now) (at shelf' bins l)
@@ -96,7 +96,7 @@ silent_broke TooMuchText files now kind known = (
 silent_broke Memory files now kind known = refl
 silent_broke stop files now kind known = absurd kind
 
-pub reading_ends : (stop : Stop) (about : List ℕ) {l l' : StreamModel} → StopsReading stop
+pub reading_ends : (stop : Stop) (about : List ℕ) {l l' : SinkModel} → StopsReading stop
     → Logs (stop_line stop about) l l' → LogsEnding (ending stop about) l l'
 reading_ends LogFault about kind logs = absurd kind
 reading_ends stop about kind logs = logs

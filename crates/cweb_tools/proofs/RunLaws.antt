@@ -1,5 +1,5 @@
 -- What follows from the promises of a run of `ctangle`.
-use Rattle.cweb_tools.proofs.Common.{◌≡◌, ◌+◌, ◌⊎◌, inl, inr, ℕ, List, ◌++◌, refl, sym, ◌∙◌, arith, flat_map, IsTrue, Option, World, read_failures_of, Stop, ReadFault, OutNotOpened, WriteFault, line, stop_line, OptionsModel, TangleDevices, Shown, Act, ending, DeviceState, TangleEnds, completes, stops, AgreesWith, bins_blame, observed_state, TangleCourse, logged_items, script, tangle_status, shown_by, TangleFailsOnce, TangleReportsFaults, IsEnded, LogEnds, RisesOnce, TanglePromises, LeavesDevices, LeavesStates, cut, said}
+use Rattle.cweb_tools.proofs.Common.{◌≡◌, ◌+◌, ◌⊎◌, inl, inr, ℕ, List, ◌++◌, refl, sym, ◌∙◌, arith, flat_map, IsTrue, Option, World, read_failures_of, Stop, ReadFault, OutNotOpened, WriteFault, line, stop_line, OptionsModel, Devices, Shown, Act, ending, DeviceState, TangleEnds, completes, stops, AgreesWith, bins_blame, observed_state, TangleCourse, logged_items, script, tangle_status, shown_by, TangleFailsOnce, TangleReportsFaults, IsEnded, LogEnds, RisesOnce, TanglePromises, LeavesDevices, LeavesStates, cut, said}
 use Rattle.cweb_tools.proofs.Endings.{counts_all, ends_so, ends_within}
 use Rattle.cweb_tools.proofs.Leaving.{ends_files}
 use Rattle.cweb_tools.proofs.ChangedFilesWereRead.{ends_read}
@@ -47,7 +47,7 @@ counts {acts} {old} {new} (stops (ending stop about) then run logs answered) =
       shows = inr answered;
     }
 
-fail_once : (before : TangleDevices) {after : TangleDevices} {new : DeviceState} {status : ℕ} → AgreesWith new after
+fail_once : (before : Devices) {after : Devices} {new : DeviceState} {status : ℕ} → AgreesWith new after
     → Counts (observed_state before) new status → TangleFailsOnce before after
 fail_once before agrees counts = record {
   shelf = rw (← agrees.shelf_failed) counts.shelf;
@@ -55,8 +55,8 @@ fail_once before agrees counts = record {
   log = rw (← agrees.log_failed) counts.log;
 }
 
-faults_show : (before : TangleDevices) {after : TangleDevices} {new : DeviceState} {status : ℕ} → AgreesWith new after
-    → (new.shelf_failed ≡ before.shelf.failed) × (new.bins_failed ≡ before.bins.failed)
+faults_show : (before : Devices) {after : Devices} {new : DeviceState} {status : ℕ} → AgreesWith new after
+    → (new.shelf_failed ≡ before.shelf.failed) × (new.bins_failed ≡ before.out.failed)
     × (new.log_failed ≡ before.log.failed) ⊎ (status ≡ 1) → TangleReportsFaults before after status
 faults_show before agrees (inl same) = record {
   read = λ failed. absurd (failed (sym agrees.shelf_failed ∙ same.0));
@@ -67,7 +67,7 @@ faults_show before agrees (inr answered) =
     record { read = λ failed. answered; written = λ failed. answered; logged = λ failed. answered }
 
 -- what a log that tells has at a run's end
-log_ends : (acts : List Act) {due : ℕ} (before : TangleDevices) {after : TangleDevices} {status : ℕ} {new : DeviceState}
+log_ends : (acts : List Act) {due : ℕ} (before : Devices) {after : Devices} {status : ℕ} {new : DeviceState}
     → AgreesWith new after → IsTrue after.log.tells → IsEnded acts due (observed_state before) new status
     → LogEnds (logged_items acts) due before.log after.log status
 log_ends acts before told tells (inl all) = said (sym (told.log tells) ∙ all.log) all.answered
@@ -77,7 +77,7 @@ log_ends acts before told tells (inr why) =
     cut why.0 why.1 log.before log.later log.whole
     (rw (← (told.log tells)) log.front) (λ same. sym (told.log tells) ∙ log.all (told.log_failed ∙ same)) why.3
 
-pub leave_devices : (world : World) (asked : Option OptionsModel) (before after : TangleDevices) (status : ℕ)
+pub leave_devices : (world : World) (asked : Option OptionsModel) (before after : Devices) (status : ℕ)
     → (run : TanglePromises world asked before after status)
     → LeavesDevices (script (shown_by asked) run.course) (tangle_status (shown_by asked) run.course) before after status
 leave_devices world asked before after status run =

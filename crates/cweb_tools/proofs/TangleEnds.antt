@@ -1,5 +1,5 @@
 -- How a whole run of `ctangle` ends, by what became of its words.
-use Rattle.cweb_tools.proofs.Common.{◌≡◌, ◌⊎◌, inl, inr, ℕ, List, [], ◌∷◌, ◌++◌, refl, sym, subst, Option, Some, None, World, Stop, Usage, Memory, LogFault, banner, stopped, stop_line, OptionsModel, Logs, BinsModel, TangleDevices, ShelfModel, StreamModel, Act, ending, judges, says, Closes, Does, DoesInLog, FollowsCourse, halted, TangleCourse, change_not_there, not_there, script, tangle_status, tangle_usage, tangling, unread, when, CanCome, course_acts, shown_by, tangle_course}
+use Rattle.cweb_tools.proofs.Common.{◌≡◌, ◌⊎◌, inl, inr, ℕ, List, [], ◌∷◌, ◌++◌, refl, sym, subst, Option, Some, None, World, Stop, Usage, Memory, LogFault, banner, stopped, stop_line, OptionsModel, Logs, SinkModel, Devices, ShelfModel, Act, ending, judges, says, Closes, Does, DoesInLog, FollowsCourse, halted, TangleCourse, change_not_there, not_there, script, tangle_status, tangle_usage, tangling, unread, when, CanCome, course_acts, shown_by, tangle_course}
 use Rattle.cweb_tools.proofs.Doing.{closes_on, does_in, does_on, quietly}
 use Rattle.cweb_tools.proofs.Logging.{at}
 use Rattle.cweb_tools.proofs.Statuses.{status_is}
@@ -14,11 +14,11 @@ script_is asked (change_not_there change) can = refl
 script_is asked (tangling names events web) can = refl
 
 -- the words were read
-judged : {seen : TangleDevices} → Does (judges ∷ []) None seen seen
+judged : {seen : Devices} → Does (judges ∷ []) None seen seen
 judged = quietly refl refl refl (λ now. inl (tt, refl))
 
 -- how a whole run ends
-abbrev EndsRun : World → Option OptionsModel → TangleDevices → TangleDevices → ℕ → Type 0
+abbrev EndsRun : World → Option OptionsModel → Devices → Devices → ℕ → Type 0
 EndsRun world asked before after status = FollowsCourse (script (shown_by asked))
     (tangle_status (shown_by asked)) (CanCome asked) (tangle_course world asked) before after status
 
@@ -32,7 +32,7 @@ memory_is asked stop (inr is) none_by = is
 
 -- the words can't be read, or memory was wanting for their names
 pub words_end : (world : World) (asked : Option OptionsModel) (stop : Stop)
-    (shelf : ShelfModel) (bins : BinsModel) {l l' : StreamModel} (status : ℕ) → (stop ≡ Usage) ⊎ (stop ≡ Memory)
+    (shelf : ShelfModel) (bins : SinkModel) {l l' : SinkModel} (status : ℕ) → (stop ≡ Usage) ⊎ (stop ≡ Memory)
     → (stop ≡ Usage → asked ≡ None) → (asked ≡ None → stop ≡ Usage) → Logs (stop_line stop tangle_usage) l l'
     → status ≡ 1 → EndsRun world asked (at shelf bins l) (at shelf bins l') status
 words_end world None stop shelf bins {l} {l'} status why none_by is_usage logs answered = record {
@@ -61,7 +61,7 @@ words_end world (Some asked) stop shelf bins {l} {l'} status why none_by is_usag
     }
 
 -- the banner could not be logged
-pub banner_ends : (world : World) (asked : OptionsModel) (shelf : ShelfModel) (bins : BinsModel) {l l' : StreamModel}
+pub banner_ends : (world : World) (asked : OptionsModel) (shelf : ShelfModel) (bins : SinkModel) {l l' : SinkModel}
     → DoesInLog (when asked.shown.banner banner) (Some (ending LogFault [])) l l'
     → EndsRun world (Some asked) (at shelf bins l) (at shelf bins l') 1
 banner_ends world asked shelf bins {l} {l'} does =
@@ -75,8 +75,8 @@ banner_ends world asked shelf bins {l} {l'} does =
     }
 
 -- the run went on behind the banner
-pub named_ends : (world : World) (asked : OptionsModel) (shelf : ShelfModel) (bins : BinsModel) {l l' : StreamModel}
-    (after : TangleDevices) (status : ℕ) → DoesInLog (when asked.shown.banner banner) None l l'
+pub named_ends : (world : World) (asked : OptionsModel) (shelf : ShelfModel) (bins : SinkModel) {l l' : SinkModel}
+    (after : Devices) (status : ℕ) → DoesInLog (when asked.shown.banner banner) None l l'
     → EndsAs asked (tangle_course world (Some asked)) (at shelf bins l') after status
     → EndsRun world (Some asked) (at shelf bins l) after status
 named_ends world asked shelf bins {l} after status does follows =

@@ -1,5 +1,5 @@
 -- How the exits of a run of `ctangle` that come before its web is read are its ends.
-use Rattle.cweb_tools.proofs.Common.{◌≡◌, ◌⊎◌, inl, inr, ℕ, List, [], ◌∷◌, refl, sym, ◌∙◌, Bool, true, false, IsTrue, Option, Some, None, contents_found, World, Found, Event, started, StartStops, emitted_lines, reported_faults, merge, StopsAtStart, Stop, WebNotOpened, ChangeNotOpened, Memory, scanned, LogItem, line, stopped, start_subject, stop_line, OptionsModel, Logs, BinsModel, TangleDevices, ShelfModel, StreamModel, Act, Ending, PerformsActs, rise, read_failures_of, bins_blame, log_blame, arith, ending, DeviceState, opens, says, change_name, found_course, AgreesWith, Closes, Does, FollowsCourse, halted, TangleCourse, change_not_there, not_there, CanCome, course_acts, course_status, tangled}
+use Rattle.cweb_tools.proofs.Common.{◌≡◌, ◌⊎◌, inl, inr, ℕ, List, [], ◌∷◌, refl, sym, ◌∙◌, Bool, true, false, IsTrue, Option, Some, None, contents_found, World, Found, Event, started, StartStops, emitted_lines, reported_faults, merge, StopsAtStart, Stop, WebNotOpened, ChangeNotOpened, Memory, scanned, LogItem, line, stopped, start_subject, stop_line, OptionsModel, Logs, SinkModel, Devices, ShelfModel, Act, Ending, PerformsActs, rise, read_failures_of, bins_blame, log_blame, arith, ending, DeviceState, opens, says, change_name, found_course, AgreesWith, Closes, Does, FollowsCourse, halted, TangleCourse, change_not_there, not_there, CanCome, course_acts, course_status, tangled}
 use Rattle.cweb_tools.proofs.Doing.{closes_on}
 use Rattle.cweb_tools.proofs.DoingFiles.{closes_told}
 use Rattle.cweb_tools.proofs.Logging.{at, logs_write, said}
@@ -10,7 +10,7 @@ either true = inl refl
 either false = inr (λ is. cc)
 
 -- a line that says what ended the run was logged, or the log failed at it
-pub told_last : (item : LogItem) (shelf : ShelfModel) (bins : BinsModel) {l l' : StreamModel} → Logs (line item) l l'
+pub told_last : (item : LogItem) (shelf : ShelfModel) (bins : SinkModel) {l l' : SinkModel} → Logs (line item) l l'
     → Closes (says item ∷ []) 1 (at shelf bins l) (at shelf bins l') 1
 told_last item shelf bins logs =
     let writes = logs_write logs in
@@ -18,7 +18,7 @@ told_last item shelf bins logs =
 
 -- what the devices hold where the shelf alone was read
 pub shelf_told : {now : DeviceState}
-    (count : ℕ) (blames : List (List ℕ)) (shelf shelf' : ShelfModel) (bins : BinsModel) (l : StreamModel)
+    (count : ℕ) (blames : List (List ℕ)) (shelf shelf' : ShelfModel) (bins : SinkModel) (l : SinkModel)
     → AgreesWith now (at shelf bins l) → count ≡ shelf'.failed → (IsTrue shelf'.tells → blames ≡ shelf'.blamed)
     → AgreesWith (record now { shelf_failed = count; blamed = blames }) (at shelf' bins l)
 shelf_told count blames shelf shelf' bins l told counted blamed = record {
@@ -42,14 +42,14 @@ can_come asked world (Some web) (Some change) =
     record { faults = reported_faults events; made = scanned (emitted_lines events); is = refl }
 
 -- how the last part of a run ends, behind its words
-abbrev pub EndsAs : OptionsModel → TangleCourse → TangleDevices → TangleDevices → ℕ → Type 0
+abbrev pub EndsAs : OptionsModel → TangleCourse → Devices → Devices → ℕ → Type 0
 EndsAs asked course before after status =
     FollowsCourse (course_acts asked.shown) course_status (CanCome (Some asked)) course before after status
 
 -- the shelf was looked at, and nothing else was done
 module _ (shelf shelf' : ShelfModel) (tells : shelf'.tells ≡ shelf.tells)
     (failed : shelf'.failed ≡ shelf.failed) (blamed : IsTrue shelf.tells → shelf'.blamed ≡ shelf.blamed)
-    (bins : BinsModel) (l l' : StreamModel) where
+    (bins : SinkModel) (l l' : SinkModel) where
   pub looked : (now : DeviceState) → AgreesWith now (at shelf bins l) → AgreesWith now (at shelf' bins l)
   looked now told = shelf_told _ _ shelf shelf' bins l told (told.shelf_failed ∙ sym failed)
       (λ tell. let first : IsTrue shelf.tells = sym tells ∙ tell in told.blamed first ∙ sym (blamed first))

@@ -1,11 +1,11 @@
 -- What a run of `ctangle` promises, by how it ends.
-use Rattle.cweb_tools.proofs.Common.{◌≡◌, ℕ, ◌++◌, refl, sym, ◌∙◌, ap, IsTrue, Option, World, OptionsModel, TangleDevices, Shown, AgreesWith, FollowsCourse, observed_state, script, tangle_status, CanCome, shown_by, tangle_course, TanglePromises, TanglesFreely, put_files, tangle_files, tangle_log}
+use Rattle.cweb_tools.proofs.Common.{◌≡◌, ℕ, ◌++◌, refl, sym, ◌∙◌, ap, IsTrue, Option, World, OptionsModel, Devices, Shown, AgreesWith, FollowsCourse, observed_state, script, tangle_status, CanCome, shown_by, tangle_course, TanglePromises, TanglesFreely, put_files, tangle_files, tangle_log}
 use Rattle.cweb_tools.proofs.Endings.{ends_freely}
 use Rattle.cweb_tools.proofs.ChangedFilesWereRead.{keeps_limits}
 use Rattle.cweb_tools.proofs.ObservedTangleEnds.{tangle_ends, log_tells, bins_tell}
 
 -- devices hold what they show
-pub shown_told : {seen : TangleDevices} → AgreesWith (observed_state seen) seen
+pub shown_told : {seen : Devices} → AgreesWith (observed_state seen) seen
 shown_told =
     record {
       shelf_failed = refl;
@@ -19,7 +19,7 @@ shown_told =
     }
 
 -- a run whose acts are those of its script keeps its promises
-pub promised : {world : World} {asked : Option OptionsModel} {before after : TangleDevices} {status : ℕ}
+pub promised : {world : World} {asked : Option OptionsModel} {before after : Devices} {status : ℕ}
     → FollowsCourse (script (shown_by asked)) (tangle_status (shown_by asked))
     (CanCome asked) (tangle_course world asked) before after status → TanglePromises world asked before after status
 promised follows = record {
@@ -32,12 +32,12 @@ promised follows = record {
 }
 
 -- what devices that tell leave, where nothing stopped a run
-pub tangled_freely : (world : World) (asked : Option OptionsModel) {before after : TangleDevices} {status : ℕ}
+pub tangled_freely : (world : World) (asked : Option OptionsModel) {before after : Devices} {status : ℕ}
     → TanglePromises world asked before after status → TanglesFreely world asked before after status
 tangled_freely world asked {before} {after} {status} run tell free =
     let shown : Shown = shown_by asked in
     let last = run.ends (observed_state before) shown_told in
-    let bins : IsTrue after.bins.tells = run.bins_tell ∙ tell.1 in
+    let bins : IsTrue after.out.tells = run.bins_tell ∙ tell.1 in
     let log : IsTrue after.log.tells = run.log_tells ∙ tell.2 in
     let is : run.course ≡ tangle_course world asked = run.is tell.0 in
     let all = ends_freely last.ends (record {
@@ -49,7 +49,7 @@ tangled_freely world asked {before} {after} {status} run tell free =
     }) in
     record {
       written = sym (last.agrees.files bins) ∙ all.files
-          ∙ ap (λ course. put_files before.bins.beside.files (tangle_files shown course)) is;
+          ∙ ap (λ course. put_files before.out.beside.files (tangle_files shown course)) is;
       logged = sym (last.agrees.log log) ∙ all.log ∙ ap (λ course. before.log.bytes ++ tangle_log shown course) is;
       answered = all.answered ∙ ap (tangle_status shown) is;
     }

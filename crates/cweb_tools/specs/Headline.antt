@@ -8,7 +8,7 @@ use Rattle.cweb_input.specs.declared.stop.Stop.TheVariants.{Memory}
 use Rattle.cweb_log.specs.Items.{LogItem, line}
 use Rattle.cweb_log.specs.Log.{stop_line}
 use Rattle.cweb_log.specs.Options.{OptionsModel}
-use Rattle.cweb_log.specs.DeviceModels.{MergeDevices, TangleDevices, AreObservable}
+use Rattle.cweb_log.specs.DeviceModels.{Devices, AreObservable}
 use Rattle.cweb_log.specs.Words.{WebNames}
 use Rattle.cweb_log.specs.declared.shown.Shown.{Shown}
 use Rattle.cweb_tools.specs.Course.{Course, merge_course, merge_log, merge_status, merged, MergeKeepsLimits}
@@ -17,7 +17,7 @@ use Rattle.cweb_tools.specs.Script.{TangleCourse, tangling, tangle_files, tangle
 use Rattle.cweb_tools.specs.Tangle.{shown_by, tangle_course}
 
 -- no device failed, the limits were kept, and the log's new text is not the line on refused memory alone
-pub record MergeRanFreely (course : Course) (before after : MergeDevices) : Type 0 where
+pub record MergeRanFreely (course : Course) (before after : Devices) : Type 0 where
   pub read : after.shelf.failed ≡ before.shelf.failed
   pub printed : after.out.failed ≡ before.out.failed
   pub told : after.log.failed ≡ before.log.failed
@@ -25,13 +25,13 @@ pub record MergeRanFreely (course : Course) (before after : MergeDevices) : Type
   pub memory : after.log.bytes ≢ before.log.bytes ++ stop_line Memory []
 
 -- the output has the merged lines, the log has the faults, and this is the status
-pub record IsMerge (course : Course) (before after : MergeDevices) (status : ℕ) : Type 0 where
+pub record IsMerge (course : Course) (before after : Devices) (status : ℕ) : Type 0 where
   pub written : after.out.bytes ≡ before.out.bytes ++ merged course
   pub logged : after.log.bytes ≡ before.log.bytes ++ merge_log course
   pub answered : status ≡ merge_status course
 
 -- the headline of `wmerge`
-abbrev pub MergesFreely : World → Option WebNames → MergeDevices → MergeDevices → ℕ → Type 0
+abbrev pub MergesFreely : World → Option WebNames → Devices → Devices → ℕ → Type 0
 MergesFreely world asked before after status = AreObservable before
     → MergeRanFreely (merge_course world asked) before after
     → IsMerge (merge_course world asked) before after status
@@ -42,26 +42,22 @@ TangleKeepsLimits (tangling names events web) = IsWithinLimits (taken_lines even
 TangleKeepsLimits course = Unit {0}
 
 -- no device failed, the limits were kept, and the log's new text doesn't end in the line on refused memory
-pub record TangleRanFreely (course : TangleCourse) (before after : TangleDevices) : Type 0 where
+pub record TangleRanFreely (course : TangleCourse) (before after : Devices) : Type 0 where
   pub read : after.shelf.failed ≡ before.shelf.failed
-  pub filed : after.bins.failed ≡ before.bins.failed
+  pub filed : after.out.failed ≡ before.out.failed
   pub told : after.log.failed ≡ before.log.failed
   pub within : TangleKeepsLimits course
   pub memory : (items : List LogItem)
       → after.log.bytes ≢ before.log.bytes ++ (flat_map line items ++ stop_line Memory [])
 
 -- the bins have the files of the web, the log has its lines, and this is the status
-pub record IsTangle (shown : Shown) (course : TangleCourse) (before after : TangleDevices) (status : ℕ) : Type 0 where
-  pub written : after.bins.beside.files ≡ put_files before.bins.beside.files (tangle_files shown course)
+pub record IsTangle (shown : Shown) (course : TangleCourse) (before after : Devices) (status : ℕ) : Type 0 where
+  pub written : after.out.beside.files ≡ put_files before.out.beside.files (tangle_files shown course)
   pub logged : after.log.bytes ≡ before.log.bytes ++ tangle_log shown course
   pub answered : status ≡ tangle_status shown course
 
--- all devices tell what they hold
-abbrev pub AllObservable : TangleDevices → Type 0
-AllObservable seen = IsTrue seen.shelf.tells × IsTrue seen.bins.tells × IsTrue seen.log.tells
-
 -- the headline of `ctangle`
-abbrev pub TanglesFreely : World → Option OptionsModel → TangleDevices → TangleDevices → ℕ → Type 0
-TanglesFreely world asked before after status = AllObservable before
+abbrev pub TanglesFreely : World → Option OptionsModel → Devices → Devices → ℕ → Type 0
+TanglesFreely world asked before after status = AreObservable before
     → TangleRanFreely (tangle_course world asked) before after
     → IsTangle (shown_by asked) (tangle_course world asked) before after status

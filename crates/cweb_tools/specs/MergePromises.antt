@@ -14,13 +14,13 @@ use Rattle.cweb_input.specs.declared.stop.Stop.TheVariants.{LineTooLong}
 use Rattle.cweb_input.specs.declared.stop.Stop.TheVariants.{TooMuchText, Memory, WriteFault}
 use Rattle.cweb_log.specs.LogWriting.{Logs}
 use Rattle.cweb_log.specs.Log.{fault_lines, stop_line, file_name_at}
-use Rattle.cweb_log.specs.DeviceModels.{MergeDevices}
+use Rattle.cweb_log.specs.DeviceModels.{Devices}
 use Rattle.cweb_log.specs.Words.{WebNames}
 use Rattle.cweb_tools.specs.Course.{Course, not_there, change_not_there, merging, merge_course, change_name}
 use Rattle.cweb_tools.specs.Course.{fault_status, merged, usage}
 
 -- the words can't be read: the log alone is written to
-pub record RefusesArgs (before after : MergeDevices) (status : ℕ) : Type 0 where
+pub record RefusesArgs (before after : Devices) (status : ℕ) : Type 0 where
   pub read : after.shelf.failed ≡ before.shelf.failed
   pub printed : after.out.failed ≡ before.out.failed
   pub written : after.out.bytes ≡ before.out.bytes
@@ -34,7 +34,7 @@ HasMerged (merging first events) files faults = (files ≡ first ++ openings eve
 HasMerged course files faults = ⊥
 
 -- the run went its whole course
-pub record Completes (course : Course) (before after : MergeDevices) (status : ℕ) : Type 0 where
+pub record Completes (course : Course) (before after : Devices) (status : ℕ) : Type 0 where
   pub files : List (List ℕ)
   pub faults : List SourceFault
   pub all : IsTrue before.shelf.tells → HasMerged course files faults
@@ -79,7 +79,7 @@ about names files WriteFault = codes "standard output"
 about names files stop = []
 
 -- a device failed where the stop is its own, once, and no other did
-pub record BlamesDevice (stop : Stop) (before after : MergeDevices) : Type 0 where
+pub record BlamesDevice (stop : Stop) (before after : Devices) : Type 0 where
   pub shelf : after.shelf.failed ≡ before.shelf.failed + read_failures_of stop
   pub out : after.out.failed ≡ before.out.failed + write_failures_of stop
 
@@ -89,7 +89,7 @@ AreOpened files (merging first events) = (rest : List (List ℕ)) × (first ++ o
 AreOpened files course = files ≡ []
 
 -- something stopped the run: a front of the merged lines is written, and the log has the stop's line alone
-pub record Stops (names : WebNames) (course : Course) (before after : MergeDevices) (status : ℕ) : Type 0 where
+pub record Stops (names : WebNames) (course : Course) (before after : Devices) (status : ℕ) : Type 0 where
   pub stop : Stop
   pub comes : Comes stop
   pub cause : IsTrue before.shelf.tells → CanStop stop course
@@ -106,11 +106,11 @@ pub record Stops (names : WebNames) (course : Course) (before after : MergeDevic
   pub answered : status ≡ 1
 
 -- how a run ends whose words could be read
-pub data Merges (names : WebNames) (course : Course) (before after : MergeDevices) (status : ℕ) : Type 0 where
+pub data Merges (names : WebNames) (course : Course) (before after : Devices) (status : ℕ) : Type 0 where
   completes : Completes course before after status → Merges names course before after status
   stops : Stops names course before after status → Merges names course before after status
 
 -- how a run ends
-abbrev pub MergeEnds : World → Option WebNames → MergeDevices → MergeDevices → ℕ → Type 0
+abbrev pub MergeEnds : World → Option WebNames → Devices → Devices → ℕ → Type 0
 MergeEnds world None before after status = RefusesArgs before after status
 MergeEnds world (Some names) before after status = Merges names (merge_course world (Some names)) before after status

@@ -8,7 +8,7 @@ ghost use Rattle.cweb_scan.specs.surface.Scan.{IsMarkBelow};
 ghost use Rattle.cweb_out.specs.surface.Outputs.{output_name_at};
 ghost use Rattle.cweb_print.specs.Printers.{setting};
 ghost use Rattle.cweb_print.specs.Printing.{file};
-ghost use Rattle.cweb_log.specs.DeviceModels.{bins_model, stream_model};
+ghost use Rattle.cweb_log.specs.DeviceModels.{sink_model};
 ghost use Rattle.cweb_tools.specs.inner.Acts.{ending_of};
 ghost use Rattle.cweb_tools.specs.Acts.{writes};
 ghost use Rattle.cweb_tools.specs.inner.Does.{DoesInBins, DoesInBoth};
@@ -43,8 +43,8 @@ pub(crate) fn write_outputs<B: Bins, L: Sink>(
     ensures known { IfErr result (λ failed. failed.output < length expander.old.plan.now.outputs) }
     ensures does { DoesInBoth (outputs_acts progress (planned_files names.now expander.old))
         (output_ending expander.old.plan.now.outputs result)
-        (bins_model B.Sink bins.old) (bins_model B.Sink bins.new)
-        (stream_model L.Sink log.old) (stream_model L.Sink log.new) }
+        (sink_model B.Sink bins.old) (sink_model B.Sink bins.new)
+        (sink_model L.Sink log.old) (sink_model L.Sink log.new) }
 {
     let plan = expander.plan;
     'outputs: for output in 0..plan.outputs() {
@@ -73,8 +73,8 @@ fn write_output<B: Bins, L: Sink>(
     ensures stays { StaysReady expander.old expander.new }
     ensures does { DoesInBoth (output_acts progress (file_at names.now expander.old output))
         (ending_of (output_name_at expander.old.plan.now.outputs output) result)
-        (bins_model B.Sink bins.old) (bins_model B.Sink bins.new)
-        (stream_model L.Sink log.old) (stream_model L.Sink log.new) }
+        (sink_model B.Sink bins.old) (sink_model B.Sink bins.new)
+        (sink_model L.Sink log.old) (sink_model L.Sink log.new) }
 {
     let name = expander.plan.output_name(output);
     if let Err(_) = say_writing(progress, name, log) {
@@ -100,7 +100,7 @@ fn write_file<B: Bins>(
         (writes (output_name_at expander.old.plan.now.outputs output)
         (file_at names.now expander.old output).bytes ∷ [])
         (ending_of (output_name_at expander.old.plan.now.outputs output) result)
-        (bins_model B.Sink bins.old) (bins_model B.Sink bins.new) }
+        (sink_model B.Sink bins.old) (sink_model B.Sink bins.new) }
 {
     match bins.start_file(expander.plan.output_name(output)) {
         Ok(()) => {}

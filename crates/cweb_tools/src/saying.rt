@@ -1,7 +1,7 @@
 // The items of the log of `ctangle`, each where it is asked for.
 ghost use Rattle.std.specs.Prelude.{◌<◌, ◌+◌, ◌^◌};
 ghost use Rattle.cweb_log.specs.Items.{banner, closing, counts, no_text, starred, writing};
-ghost use Rattle.cweb_log.specs.DeviceModels.{stream_model};
+ghost use Rattle.cweb_log.specs.DeviceModels.{sink_model};
 ghost use Rattle.cweb_tools.specs.inner.Does.{DoesInLog, log_ending};
 ghost use Rattle.cweb_tools.specs.Script.{closing_acts, starred_acts, when};
 ghost use Rattle.cweb_tools.specs.inner.Web.{counted};
@@ -16,7 +16,7 @@ use cweb_log::{
 pub(crate) fn say_banner<L: Sink>(shown: bool, log: &mut L) -> Result<(), SinkFault>
     requires { L.failed log.old + 1 < 2 ^ 64 }
     ensures { DoesInLog (when shown banner) (log_ending result)
-        (stream_model L.Sink log.old) (stream_model L.Sink log.new) }
+        (sink_model L.Sink log.old) (sink_model L.Sink log.new) }
 {
     if !shown {
         return Ok(());
@@ -32,7 +32,7 @@ pub(crate) fn say_starred<L: Sink>(
 ) -> Result<(), SinkFault>
     requires { L.failed log.old + 1 < 2 ^ 64 }
     ensures { DoesInLog (starred_acts progress numbers.now) (log_ending result)
-        (stream_model L.Sink log.old) (stream_model L.Sink log.new) }
+        (sink_model L.Sink log.old) (sink_model L.Sink log.new) }
 {
     if !progress || numbers.is_empty() {
         return Ok(());
@@ -43,7 +43,7 @@ pub(crate) fn say_starred<L: Sink>(
 pub(crate) fn say_no_program_text<L: Sink>(missing: bool, log: &mut L) -> Result<(), SinkFault>
     requires { L.failed log.old + 1 < 2 ^ 64 }
     ensures { DoesInLog (when missing no_text) (log_ending result)
-        (stream_model L.Sink log.old) (stream_model L.Sink log.new) }
+        (sink_model L.Sink log.old) (sink_model L.Sink log.new) }
 {
     if !missing {
         return Ok(());
@@ -55,7 +55,7 @@ pub(crate) fn say_no_program_text<L: Sink>(missing: bool, log: &mut L) -> Result
 pub(crate) fn say_writing<L: Sink>(progress: bool, name: &str, log: &mut L) -> Result<(), SinkFault>
     requires { L.failed log.old + 1 < 2 ^ 64 }
     ensures { DoesInLog (when progress (writing name.now)) (log_ending result)
-        (stream_model L.Sink log.old) (stream_model L.Sink log.new) }
+        (sink_model L.Sink log.old) (sink_model L.Sink log.new) }
 {
     if !progress {
         return Ok(());
@@ -73,7 +73,7 @@ pub(crate) fn say_end<L: Sink>(
 ) -> Result<(), SinkFault>
     requires { L.failed log.old + 1 < 2 ^ 64 }
     ensures { DoesInLog (closing_acts shown (counted numbers) count missing) (log_ending result)
-        (stream_model L.Sink log.old) (stream_model L.Sink log.new) }
+        (sink_model L.Sink log.old) (sink_model L.Sink log.new) }
 {
     say_counts(shown.statistics, numbers, log)?;
     say_closing(shown.closing, count, missing, log)
@@ -82,7 +82,7 @@ pub(crate) fn say_end<L: Sink>(
 fn say_counts<L: Sink>(shown: bool, numbers: Numbers, log: &mut L) -> Result<(), SinkFault>
     requires { L.failed log.old + 1 < 2 ^ 64 }
     ensures { DoesInLog (when shown (counts numbers.sections numbers.names numbers.macros))
-        (log_ending result) (stream_model L.Sink log.old) (stream_model L.Sink log.new) }
+        (log_ending result) (sink_model L.Sink log.old) (sink_model L.Sink log.new) }
 {
     if !shown {
         return Ok(());
@@ -98,7 +98,7 @@ fn say_closing<L: Sink>(
 ) -> Result<(), SinkFault>
     requires { L.failed log.old + 1 < 2 ^ 64 }
     ensures { DoesInLog (when shown (closing count missing)) (log_ending result)
-        (stream_model L.Sink log.old) (stream_model L.Sink log.new) }
+        (sink_model L.Sink log.old) (sink_model L.Sink log.new) }
 {
     if !shown {
         return Ok(());

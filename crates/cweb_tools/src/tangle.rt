@@ -10,7 +10,7 @@ ghost use Rattle.cweb_log.specs.Items.{fault_count, line};
 ghost use Rattle.cweb_log.specs.inner.Log.{start_subject};
 ghost use Rattle.cweb_log.specs.Options.{options_by};
 ghost use Rattle.cweb_log.specs.surface.Options.{options_of};
-ghost use Rattle.cweb_log.specs.DeviceModels.{bins_model, tangle_devices, stream_model};
+ghost use Rattle.cweb_log.specs.DeviceModels.{sink_model, devices};
 ghost use Rattle.cweb_tools.specs.Acts.{ending, plans};
 ghost use Rattle.cweb_tools.specs.Course.{world_of, change_name};
 ghost use Rattle.cweb_tools.specs.inner.Does.{ClosesInBoth, DoesInLog, FollowsCourse, LogsEnding};
@@ -54,16 +54,16 @@ pub fn run_ctangle<S: Shelf, B: Bins, L: Sink>(
     requires bins_count { B.failed bins.old + 1 < 2 ^ 64 }
     requires log_count { L.failed log.old + 1 < 2 ^ 64 }
     ensures promises { let before =
-        tangle_devices S.Shelf B.Sink L.Sink shelf.old bins.old log.old in
+        devices S.Shelf B.Sink L.Sink shelf.old bins.old log.old in
         let asked = options_by (map (λ word. word.now) words.now) in
         let world = world_of before.shelf.texts (option_copied inputs.entry) in
         TanglePromises world asked before
-        (tangle_devices S.Shelf B.Sink L.Sink shelf.new bins.new log.new) result }
-    ensures freely { let before = tangle_devices S.Shelf B.Sink L.Sink shelf.old bins.old log.old in
+        (devices S.Shelf B.Sink L.Sink shelf.new bins.new log.new) result }
+    ensures freely { let before = devices S.Shelf B.Sink L.Sink shelf.old bins.old log.old in
         let asked = options_by (map (λ word. word.now) words.now) in
         let world = world_of before.shelf.texts (option_copied inputs.entry) in
         TanglesFreely world asked before
-        (tangle_devices S.Shelf B.Sink L.Sink shelf.new bins.new log.new) result }
+        (devices S.Shelf B.Sink L.Sink shelf.new bins.new log.new) result }
     ensures untouched { options_by (map (λ word. word.now) words.now) ≡ None →
         (shelf.new ≡ shelf.old) × (bins.new ≡ bins.old) }
 {
@@ -89,12 +89,12 @@ fn tangle_named<S: Shelf, B: Bins, L: Sink>(
     requires shelf_count { S.failed shelf.old + 1 < 2 ^ 64 }
     requires bins_count { B.failed bins.old + 1 < 2 ^ 64 }
     requires log_count { L.failed log.old + 1 < 2 ^ 64 }
-    ensures { let before = tangle_devices S.Shelf B.Sink L.Sink shelf.old bins.old log.old in
+    ensures { let before = devices S.Shelf B.Sink L.Sink shelf.old bins.old log.old in
         let world = world_of before.shelf.texts (option_copied inputs.entry) in
         let course = tangle_course world (Some (options_of options.now)) in
         FollowsCourse (course_acts (options_of options.now).shown) course_status
         (CanCome (Some (options_of options.now))) course before
-        (tangle_devices S.Shelf B.Sink L.Sink shelf.new bins.new log.new) result }
+        (devices S.Shelf B.Sink L.Sink shelf.new bins.new log.new) result }
 {
     let started = Merger::start(
         alloc,
@@ -124,8 +124,8 @@ fn tangle_web<B: Bins, L: Sink>(
     requires log_count { L.failed log.old + 1 < 2 ^ 64 }
     ensures { ClosesInBoth (web_acts shown (web_in web.entry main.now))
         (web_status (web_in web.entry main.now))
-        (bins_model B.Sink bins.old) (bins_model B.Sink bins.new)
-        (stream_model L.Sink log.old) (stream_model L.Sink log.new) result }
+        (sink_model B.Sink bins.old) (sink_model B.Sink bins.new)
+        (sink_model L.Sink log.old) (sink_model L.Sink log.new) result }
 {
     if let Err(_) = say_starred(shown.progress, web.scanned.starred.as_slice(), log) {
         return 1;
@@ -144,7 +144,7 @@ fn say_faults<L: Sink>(web: Web<'_>, log: &mut L) -> Result<(), SinkFault>
     requires known { IsKnown web }
     requires count { L.failed log.old + 1 < 2 ^ 64 }
     ensures { DoesInLog (said_faults web.entry) (log_ending result)
-        (stream_model L.Sink log.old) (stream_model L.Sink log.new) }
+        (sink_model L.Sink log.old) (sink_model L.Sink log.new) }
 {
     if web.fault_count() == 0 {
         return Ok(());
@@ -156,7 +156,7 @@ fn write_web_faults<L: Sink>(web: Web<'_>, log: &mut L) -> Result<(), SinkFault>
     requires known { IsKnown web }
     requires count { L.failed log.old + 1 < 2 ^ 64 }
     ensures { WritesToStream (flat_map line (faults_of web.entry))
-        (stream_model L.Sink log.old) (stream_model L.Sink log.new) result }
+        (sink_model L.Sink log.old) (sink_model L.Sink log.new) result }
 {
     write_faults(log, web.names, web.faults)?;
     write_scan_faults(log, web.names, web.scanned.faults.as_slice())?;
@@ -183,8 +183,8 @@ fn tangle_planned<B: Bins, L: Sink>(
         (plan_made web.entry.scanned.now.store (files_of web.entry) plan.now))
         (status_by (fault_count (faults_of web.entry))
         (plan_made web.entry.scanned.now.store (files_of web.entry) plan.now))
-        (bins_model B.Sink bins.old) (bins_model B.Sink bins.new)
-        (stream_model L.Sink log.old) (stream_model L.Sink log.new) result }
+        (sink_model B.Sink bins.old) (sink_model B.Sink bins.new)
+        (sink_model L.Sink log.old) (sink_model L.Sink log.new) result }
 {
     if let Err(_) = say_no_program_text(plan.no_text(), log) {
         return 1;
@@ -224,7 +224,7 @@ fn log_failed<L: Sink>(log: &mut L, stop: Stop, name: &str) -> u8
     requires { stop ≢ Stop.LogFault → L.failed log.old + 1 < 2 ^ 64 }
     ensures status { result ≡ 1 }
     ensures logs { LogsEnding (ending stop name.now)
-        (stream_model L.Sink log.old) (stream_model L.Sink log.new) }
+        (sink_model L.Sink log.old) (sink_model L.Sink log.new) }
 {
     if let Stop::LogFault = stop {
         return 1;

@@ -7,7 +7,7 @@ ghost use Rattle.cweb_lines.specs.surface.MergerCalls.{stop_in};
 ghost use Rattle.cweb_log.specs.LogWriting.{Logs};
 ghost use Rattle.cweb_log.specs.Log.{fault_lines, stop_line};
 ghost use Rattle.cweb_log.specs.inner.Log.{start_subject, subject};
-ghost use Rattle.cweb_log.specs.DeviceModels.{merge_devices, stream_model};
+ghost use Rattle.cweb_log.specs.DeviceModels.{devices, sink_model};
 ghost use Rattle.cweb_log.specs.Words.{web_names_by};
 ghost use Rattle.cweb_log.specs.inner.Words.{merge_word_names};
 ghost use Rattle.cweb_tools.specs.inner.Begun.{MergesBegun};
@@ -39,15 +39,15 @@ pub fn run_wmerge<S: Shelf, W: Sink, L: Sink>(
     requires shelf_count { S.failed shelf.old + 1 < 2 ^ 64 }
     requires out_count { W.failed out.old + 1 < 2 ^ 64 }
     requires log_count { L.failed log.old + 1 < 2 ^ 64 }
-    ensures promises { let before = merge_devices S.Shelf W.Sink L.Sink shelf.old out.old log.old in
+    ensures promises { let before = devices S.Shelf W.Sink L.Sink shelf.old out.old log.old in
         let asked = web_names_by (map (λ word. word.now) words.now) in
         let world = world_of before.shelf.texts (option_copied inputs.entry) in
-        MergeEnds world asked before (merge_devices S.Shelf W.Sink L.Sink shelf.new out.new log.new) result }
-    ensures freely { let before = merge_devices S.Shelf W.Sink L.Sink shelf.old out.old log.old in
+        MergeEnds world asked before (devices S.Shelf W.Sink L.Sink shelf.new out.new log.new) result }
+    ensures freely { let before = devices S.Shelf W.Sink L.Sink shelf.old out.old log.old in
         let asked = web_names_by (map (λ word. word.now) words.now) in
         let world = world_of before.shelf.texts (option_copied inputs.entry) in
         MergesFreely world asked before
-        (merge_devices S.Shelf W.Sink L.Sink shelf.new out.new log.new) result }
+        (devices S.Shelf W.Sink L.Sink shelf.new out.new log.new) result }
     ensures untouched { web_names_by (map (λ word. word.now) words.now) ≡ None →
         (shelf.new ≡ shelf.old) × (out.new ≡ out.old) }
 {
@@ -69,10 +69,10 @@ fn merge_web<S: Shelf, W: Sink, L: Sink>(
     requires shelf_count { S.failed shelf.old + 1 < 2 ^ 64 }
     requires out_count { W.failed out.old + 1 < 2 ^ 64 }
     requires log_count { L.failed log.old + 1 < 2 ^ 64 }
-    ensures { let before = merge_devices S.Shelf W.Sink L.Sink shelf.old out.old log.old in
+    ensures { let before = devices S.Shelf W.Sink L.Sink shelf.old out.old log.old in
         let world = world_of before.shelf.texts (option_copied inputs.entry) in
         Merges (merge_word_names asked.now) (merge_course world (Some (merge_word_names asked.now))) before
-        (merge_devices S.Shelf W.Sink L.Sink shelf.new out.new log.new) result }
+        (devices S.Shelf W.Sink L.Sink shelf.new out.new log.new) result }
 {
     let started = Merger::start(
         alloc,
@@ -100,8 +100,8 @@ fn merge_begun<S: Shelf, W: Sink, L: Sink>(
     requires out_count { W.failed out.old + 1 < 2 ^ 64 }
     requires log_count { L.failed log.old + 1 < 2 ^ 64 }
     ensures { MergesBegun S.Shelf shelf.old merger.old
-        (stream_model W.Sink out.old) (stream_model L.Sink log.old)
-        (merge_devices S.Shelf W.Sink L.Sink shelf.new out.new log.new) result }
+        (sink_model W.Sink out.old) (sink_model L.Sink log.old)
+        (devices S.Shelf W.Sink L.Sink shelf.new out.new log.new) result }
 {
     match write_merged_in_chunks(merger, shelf, out, CHUNK_SIZE) {
         Ok(()) => log_faults(log, merger.names(), merger.faults()),
@@ -127,7 +127,7 @@ fn log_faults<L: Sink>(log: &mut L, names: &FileNames, faults: &[SourceFault]) -
     requires known { All
         (λ fault. fault.place.file.0 < length (spec.opened_file_names names.now)) faults.now }
     ensures logs { Logs (fault_lines (spec.opened_file_names names.now) faults.now)
-        (stream_model L.Sink log.old) (stream_model L.Sink log.new) }
+        (sink_model L.Sink log.old) (sink_model L.Sink log.new) }
     ensures answered { L.failed log.new ≡ L.failed log.old → result ≡ fault_status faults.now }
     ensures failed { L.failed log.new ≢ L.failed log.old → result ≡ 1 }
 {

@@ -4,10 +4,10 @@ use Rattle.std.specs.Borrow.{Bor}
 use Rattle.std.specs.List.{flat_map}
 use Rattle.cweb_files.specs.Device.{CountsFailure}
 use Rattle.cweb_files.specs.Frames.{WritesPrefix}
-use Rattle.cweb_log.specs.DeviceModels.{StreamModel}
+use Rattle.cweb_log.specs.DeviceModels.{SinkModel}
 
 -- a text is written, or after a fault a front of it
-pub record WritesToStream {A E : Type 0} (text : List ℕ) (before after : StreamModel)
+pub record WritesToStream {A E : Type 0} (text : List ℕ) (before after : SinkModel)
     (result : Result A E) : Type 0 where
   pub tells : after.tells ≡ before.tells
   pub counts : CountsFailure before.failed after.failed result
@@ -21,7 +21,7 @@ pub record IsWrittenOrBuffered (first text written pending : List ℕ) : Type 0 
   pub whole : text ≡ done ++ pending
 
 -- more comes behind any text: it is written or pending, or after a fault a front is written
-pub record AppendsToLog {A E : Type 0} (more : List ℕ) (before after : StreamModel) (old new : List ℕ)
+pub record AppendsToLog {A E : Type 0} (more : List ℕ) (before after : SinkModel) (old new : List ℕ)
     (result : Result A E) : Type 0 where
   pub tells : after.tells ≡ before.tells
   pub counts : CountsFailure before.failed after.failed result

@@ -5,7 +5,7 @@ use Rattle.cweb_input.specs.Include.{World, Found}
 use Rattle.cweb_lines.specs.surface.MergerCalls.{BeginsMerge, KnowsReaders, so_far, to_come}
 use Rattle.cweb_lines.specs.declared.merger.Merger.{Merger}
 use Rattle.cweb_log.specs.Options.{OptionsModel}
-use Rattle.cweb_log.specs.DeviceModels.{MergeDevices, BinsModel, TangleDevices, ShelfModel, StreamModel}
+use Rattle.cweb_log.specs.DeviceModels.{Devices, SinkModel, ShelfModel}
 use Rattle.cweb_log.specs.Words.{WebNames}
 use Rattle.cweb_tools.specs.Course.{found_course}
 use Rattle.cweb_tools.specs.inner.Does.{FollowsCourse}
@@ -23,17 +23,17 @@ pub record MergeHasBegun {S R : Type 0} (shelf : Shelf S R) (first : ShelfModel)
   pub known : IsTrue first.tells → KnowsReaders shelf now merger
 
 -- Whatever was found, a run of `ctangle` ends as its course does,
-abbrev pub EndsBegun : {S R : Type 0} → Shelf S R → OptionsModel → S → Merger S R → BinsModel → StreamModel
-    → TangleDevices → ℕ → Type 0
+abbrev pub EndsBegun : {S R : Type 0} → Shelf S R → OptionsModel → S → Merger S R → SinkModel → SinkModel
+    → Devices → ℕ → Type 0
 EndsBegun shelf asked now merger bins log after status =
     (first : ShelfModel) (world : World) (found : Option Found) (changes : Option (Option Found))
     → MergeHasBegun shelf first now merger world found changes
     → FollowsCourse (course_acts asked.shown) course_status (CanCome (Some asked))
     (tangled asked.names.main (found_course world asked.names.merge found changes))
-    (record { shelf = first; bins = bins; log = log }) after status
+    (record { shelf = first; out = bins; log = log }) after status
 
 -- and a run of `wmerge`.
-abbrev pub MergesBegun : {S R : Type 0} → Shelf S R → S → Merger S R → StreamModel → StreamModel → MergeDevices → ℕ
+abbrev pub MergesBegun : {S R : Type 0} → Shelf S R → S → Merger S R → SinkModel → SinkModel → Devices → ℕ
     → Type 0
 MergesBegun shelf now merger out log after status =
     (names : WebNames) (first : ShelfModel) (world : World) (found : Option Found) (changes : Option (Option Found))

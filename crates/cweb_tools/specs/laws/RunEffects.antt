@@ -10,7 +10,7 @@ use Rattle.cweb_log.specs.Items.{LogItem, line}
 use Rattle.cweb_log.specs.Log.{stop_line}
 use Rattle.cweb_log.specs.Options.{OptionsModel}
 use Rattle.cweb_log.specs.Words.{WebNames}
-use Rattle.cweb_log.specs.DeviceModels.{MergeDevices, TangleDevices, StreamModel}
+use Rattle.cweb_log.specs.DeviceModels.{Devices, SinkModel}
 use Rattle.cweb_log.specs.declared.shown.Shown.{Shown}
 use Rattle.cweb_tools.specs.Acts.{Act, DeviceState, ActKeepsLimits, TangleEnds}
 use Rattle.cweb_tools.specs.Course.{Course, merge_course, merged, MergeKeepsLimits}
@@ -63,20 +63,20 @@ pub record ReadAll (acts : List Act) (old new : DeviceState) : Type 0 where
   pub within : ActsKeepLimits acts
 
 -- no device failed twice
-pub record TangleFailsOnce (before after : TangleDevices) : Type 0 where
+pub record TangleFailsOnce (before after : Devices) : Type 0 where
   pub shelf : RisesOnce before.shelf.failed after.shelf.failed
-  pub bins : RisesOnce before.bins.failed after.bins.failed
+  pub bins : RisesOnce before.out.failed after.out.failed
   pub log : RisesOnce before.log.failed after.log.failed
 
 -- a device that failed makes the status 1
-pub record TangleReportsFaults (before after : TangleDevices) (status : ℕ) : Type 0 where
+pub record TangleReportsFaults (before after : Devices) (status : ℕ) : Type 0 where
   pub read : after.shelf.failed ≢ before.shelf.failed → status ≡ 1
-  pub written : after.bins.failed ≢ before.bins.failed → status ≡ 1
+  pub written : after.out.failed ≢ before.out.failed → status ≡ 1
   pub logged : after.log.failed ≢ before.log.failed → status ≡ 1
 
 -- what a log has that tells: all items that are due, or the items up to a place and then the line of what stopped the run,
 -- where the log failed a front of that
-pub data LogEnds (items : List LogItem) (due : ℕ) (old new : StreamModel) (status : ℕ) : Type 0 where
+pub data LogEnds (items : List LogItem) (due : ℕ) (old new : SinkModel) (status : ℕ) : Type 0 where
   said : new.bytes ≡ old.bytes ++ flat_map line items → status ≡ due → LogEnds items due old new status
   cut : (stop : Stop) (about : List ℕ) (before later : List LogItem) → items ≡ before ++ later
       → WritesPrefix old.bytes new.bytes (flat_map line before ++ stop_line stop about)
@@ -93,12 +93,12 @@ pub record LeavesStates (acts : List Act) (due : ℕ) (old new : DeviceState) (s
   pub limits : ¬ ActsKeepLimits acts → status ≡ 1
 
 -- what it leaves in devices, by what they show
-pub record LeavesDevices (acts : List Act) (due : ℕ) (before after : TangleDevices) (status : ℕ) : Type 0 where
+pub record LeavesDevices (acts : List Act) (due : ℕ) (before after : Devices) (status : ℕ) : Type 0 where
   -- a log that shows its bytes has the lines that are due, or those up to the line of a stop, whatever shelf and bins are
   pub logged : IsTrue before.log.tells → LogEnds (logged_items acts) due before.log after.log status
   -- bins that show their files have the first of those that are due, each whole, whatever shelf and log are
-  pub filed : IsTrue before.bins.tells
-      → LeavesFiles (written_files acts) before.bins.beside.files after.bins.beside.files
+  pub filed : IsTrue before.out.tells
+      → LeavesFiles (written_files acts) before.out.beside.files after.out.beside.files
   pub once : TangleFailsOnce before after
   pub faults : TangleReportsFaults before after status
 
@@ -107,28 +107,28 @@ EveryRunLeavesStates = (shown : Shown) (course : TangleCourse) (due : ℕ) (old 
     → TangleEnds (script shown course) due old new status → LeavesStates (script shown course) due old new status
 
 abbrev pub EveryRunLeavesDevices : Type 0
-EveryRunLeavesDevices = (world : World) (asked : Option OptionsModel) (before after : TangleDevices) (status : ℕ)
+EveryRunLeavesDevices = (world : World) (asked : Option OptionsModel) (before after : Devices) (status : ℕ)
     → (run : TanglePromises world asked before after status)
     → LeavesDevices (script (shown_by asked) run.course) (tangle_status (shown_by asked) run.course) before after status
 
 -- a prefix of the merged lines was printed, and all of them where the status is 0
-pub record PrintsMerged (course : Course) (before after : MergeDevices) (status : ℕ) : Type 0 where
+pub record PrintsMerged (course : Course) (before after : Devices) (status : ℕ) : Type 0 where
   pub front : WritesPrefix before.out.bytes after.out.bytes (merged course)
   pub whole : status ≡ 0 → after.out.bytes ≡ before.out.bytes ++ merged course
 
 -- no device failed more than once, and not both the shelf and the output
-pub record MergeFailsOnce (before after : MergeDevices) : Type 0 where
+pub record MergeFailsOnce (before after : Devices) : Type 0 where
   pub one : after.shelf.failed + after.out.failed ≤ before.shelf.failed + before.out.failed + 1
   pub log : after.log.failed ≤ before.log.failed + 1
 
 -- a device that failed makes the status 1
-pub record MergeReportsFaults (before after : MergeDevices) (status : ℕ) : Type 0 where
+pub record MergeReportsFaults (before after : Devices) (status : ℕ) : Type 0 where
   pub read : after.shelf.failed ≢ before.shelf.failed → status ≡ 1
   pub printed : after.out.failed ≢ before.out.failed → status ≡ 1
   pub logged : after.log.failed ≢ before.log.failed → status ≡ 1
 
 -- what a run of `wmerge` leaves, however it ends
-pub record LeavesMerge (course : Course) (before after : MergeDevices) (status : ℕ) : Type 0 where
+pub record LeavesMerge (course : Course) (before after : Devices) (status : ℕ) : Type 0 where
   -- the output is never anything else than a prefix of the merged lines, and the status is 0 only if it is all of them
   pub prints : IsTrue before.shelf.tells → IsTrue before.out.tells → PrintsMerged course before after status
   -- a web that breaks the limits is never answered by 0
@@ -137,5 +137,5 @@ pub record LeavesMerge (course : Course) (before after : MergeDevices) (status :
   pub faults : MergeReportsFaults before after status
 
 abbrev pub EveryMergeLeavesOutput : Type 0
-EveryMergeLeavesOutput = (world : World) (asked : Option WebNames) (before after : MergeDevices) (status : ℕ)
+EveryMergeLeavesOutput = (world : World) (asked : Option WebNames) (before after : Devices) (status : ℕ)
     → MergeEnds world asked before after status → LeavesMerge (merge_course world asked) before after status

@@ -4,7 +4,7 @@ ghost use Rattle.cweb_lines.specs.surface.MergerCalls.{so_far, stop_in};
 ghost use Rattle.cweb_scan.specs.surface.ScannedModel.{scanned_model};
 ghost use Rattle.cweb_scan.specs.surface.Scan.{IsScanBelow};
 ghost use Rattle.cweb_log.specs.surface.Options.{options_of};
-ghost use Rattle.cweb_log.specs.DeviceModels.{bins_model, tangle_devices, stream_model};
+ghost use Rattle.cweb_log.specs.DeviceModels.{sink_model, devices};
 ghost use Rattle.cweb_tools.specs.inner.Begun.{EndsBegun};
 ghost use Rattle.cweb_tools.specs.inner.Does.{ClosesInBoth};
 ghost use Rattle.cweb_tools.specs.Script.{web_acts};
@@ -34,8 +34,8 @@ pub fn tangle_begun<S: Shelf, B: Bins, L: Sink>(
     requires bins_count { B.failed bins.old + 1 < 2 ^ 64 }
     requires log_count { L.failed log.old + 1 < 2 ^ 64 }
     ensures { EndsBegun S.Shelf (options_of options.now) shelf.old merger.old
-        (bins_model B.Sink bins.old) (stream_model L.Sink log.old)
-        (tangle_devices S.Shelf B.Sink L.Sink shelf.new bins.new log.new) result }
+        (sink_model B.Sink bins.old) (sink_model L.Sink log.old)
+        (devices S.Shelf B.Sink L.Sink shelf.new bins.new log.new) result }
 {
     match scan(alloc, merger, shelf) {
         Ok(scanned) => tangle_scanned(alloc, options, merger, &scanned, bins, log),
@@ -59,8 +59,8 @@ fn tangle_scanned<S: Shelf, B: Bins, L: Sink>(
         let told = so_far merger.now in
         let web = web_of told.names told.faults (scanned_model scanned.now) asked.names.main in
         ClosesInBoth (web_acts asked.shown web) (web_status web)
-        (bins_model B.Sink bins.old) (bins_model B.Sink bins.new)
-        (stream_model L.Sink log.old) (stream_model L.Sink log.new) result }
+        (sink_model B.Sink bins.old) (sink_model B.Sink bins.new)
+        (sink_model L.Sink log.old) (sink_model L.Sink log.new) result }
 {
     let web = Web {
         names: merger.names(),

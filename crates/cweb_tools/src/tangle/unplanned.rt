@@ -4,7 +4,7 @@ ghost use Rattle.cweb_scan.specs.surface.ScannedModel.{scanned_model};
 ghost use Rattle.cweb_out.specs.Outputs.{planned};
 ghost use Rattle.cweb_out.specs.surface.Planning.{IsExpectedFault};
 ghost use Rattle.cweb_log.specs.Items.{fault_count};
-ghost use Rattle.cweb_log.specs.DeviceModels.{stream_model};
+ghost use Rattle.cweb_log.specs.DeviceModels.{sink_model};
 ghost use Rattle.cweb_log.specs.WebItems.{refusal_message};
 ghost use Rattle.cweb_tools.specs.Acts.{plans};
 ghost use Rattle.cweb_tools.specs.inner.Does.{ClosesInLog};
@@ -35,13 +35,13 @@ pub fn tangle_unplanned<L: Sink>(
         (planning web.entry.scanned.now.store (files_of web.entry) main.now))
         (status_by (fault_count (faults_of web.entry))
         (planning web.entry.scanned.now.store (files_of web.entry) main.now))
-        (stream_model L.Sink log.old) (stream_model L.Sink log.new) result }
+        (sink_model L.Sink log.old) (sink_model L.Sink log.new) result }
     // What isn't want of memory is told as what it is.
     ensures told { IfSome (refusal_in fault) (λ refusal. ClosesInLog
         (planned_acts shown
         (numbers_of (scanned_model web.entry.scanned.now)) (fault_count (faults_of web.entry))
         (refused (refusal_message web.entry.scanned.now.store main.now refusal)))
-        1 (stream_model L.Sink log.old) (stream_model L.Sink log.new) result) }
+        1 (sink_model L.Sink log.old) (sink_model L.Sink log.new) result) }
 {
     if let PlanFault::Memory = fault {
         return log_stop(log, Stop::Memory, "");
@@ -62,7 +62,7 @@ fn tangle_refused<L: Sink>(
         (planned_acts shown
         (numbers_of (scanned_model web.entry.scanned.now)) (fault_count (faults_of web.entry))
         (refused (refusal_message web.entry.scanned.now.store main.now refusal)))
-        1 (stream_model L.Sink log.old) (stream_model L.Sink log.new) result) }
+        1 (sink_model L.Sink log.old) (sink_model L.Sink log.new) result) }
 {
     if let Err(_) = write_plan_fault(log, web.store(), &fault, main) {
         return 1;

@@ -1,4 +1,4 @@
-use Rattle.cweb_tools.proofs.Common.{◌+◌, ◌++◌, List, ℕ, refl, sym, ◌∙◌, ap, add-zero, IsTrue, no_device, no_memory, without_draft, output_name_at, bins_model, inr}
+use Rattle.cweb_tools.proofs.Common.{◌+◌, ◌++◌, List, ℕ, refl, sym, ◌∙◌, ap, add-zero, IsTrue, no_device, no_memory, without_draft, output_name_at, sink_model, inr}
 use Rattle.cweb_files.specs.Files as files
 use Rattle.cweb_tools.proofs.Doing.{does_in_bins}
 use Rattle.cweb_tools.proofs.DoingFiles.{file_done, not_written}
@@ -51,8 +51,8 @@ returns-in-Err-commit_file-clause-does g c =
     ∙ ap without_draft (printed.beside told ∙ (rw c.output_name.ensures at began.begun) tell))
 
 pub returns-clause-does : goal.returns-clause-does
-returns-clause-does g c = file_done _ _ (bins_model g.B.Sink c.start_file.new.self)
-    (bins_model g.B.Sink c.print_all.new.out)
+returns-clause-does g c = file_done _ _ (sink_model g.B.Sink c.start_file.new.self)
+    (sink_model g.B.Sink c.print_all.new.out)
     c.in-Ok.ensures.tells c.in-Ok.ensures.failed (rw c.output_name.ensures at c.in-Ok.ensures.begun)
     c.in-Ok.ensures.empty c.in_default.ensures.tells c.in_default.ensures.failed c.in_default.ensures.beside
     (λ tells. c.in_default.ensures.prints tells ∙ ap (λ (t : List ℕ). g.B.Sink.written c.start_file.new.self ++ t)

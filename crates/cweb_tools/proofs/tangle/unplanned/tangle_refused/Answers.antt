@@ -1,13 +1,13 @@
-use Rattle.cweb_tools.proofs.Common.{List, ℕ, Act, StreamModel, ShelfModel, BinsModel, Closes, ClosesInLog, false, refl, ap, ◌+◌, SinkFault, fault, refusal_message}
+use Rattle.cweb_tools.proofs.Common.{List, ℕ, Act, SinkModel, ShelfModel, Closes, ClosesInLog, false, refl, ap, ◌+◌, SinkFault, fault, refusal_message}
 use Rattle.cweb_tools.proofs.Doing.{closes_on}
 use Rattle.cweb_tools.proofs.DoingFiles.{closes_told, closing_on, log_halts}
 use Rattle.cweb_tools.proofs.Logging.{said}
 use Rattle.cweb_tools.proofs.Refusals.{each_some, refusal_line}
 use Rattle.cweb_tools.proofs.tangle.unplanned.tangle_refused.Goals as goal
 
-in_log : {acts : List Act} {due status : ℕ} {old new : StreamModel} → ((shelf : ShelfModel) (bins : BinsModel)
-    → Closes acts due (record { shelf = shelf; bins = bins; log = old })
-    (record { shelf = shelf; bins = bins; log = new }) status) → ClosesInLog acts due old new status
+in_log : {acts : List Act} {due status : ℕ} {old new : SinkModel} → ((shelf : ShelfModel) (bins : SinkModel)
+    → Closes acts due (record { shelf = shelf; out = bins; log = old })
+    (record { shelf = shelf; out = bins; log = new }) status) → ClosesInLog acts due old new status
 in_log closes = closes
 
 pub returns-in-Err : goal.returns-in-Err
