@@ -201,7 +201,7 @@ fn take_line<S: Shelf>(
     }))
 }
 
-// Takes the next line of a slot's source, if it has one.
+/// Takes the next line of a slot's source, if it has one.
 #[inline(always)]
 pub fn take_from<S: Shelf>(
     shelf: &mut S,
