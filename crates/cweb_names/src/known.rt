@@ -71,7 +71,7 @@ impl KnownNames {
         self.names.len()
     }
 
-    /// The number of the name that occurrence `first` gives in full. Adds a new name. If memory is refused, it adds none.
+    /// The number of the name that occurrence `first` gives in full, added if new. A refused call changes nothing.
     pub fn know(&mut self, text: &[u8], first: u32) -> Result<NameId, AllocError>
         requires { length self.old < 2 ^ 32 }
         ensures number { IfOk result
@@ -141,8 +141,7 @@ impl KnownNames {
         Ok(find_one(&self.sorted, from, prefix))
     }
 
-    /// Adds the name of occurrence `number`, if that is in full, and returns which names fit so far. If memory is
-    /// refused, nothing changes.
+    /// Adds the name of occurrence `number`, if in full. Returns which names fit so far. A refused call adds nothing.
     pub fn take(&mut self, text: &[u8], how: How, number: u32) -> Result<Found, AllocError>
         requires { length self.old < 2 ^ 32 }
         ensures found { IfOk result

@@ -47,7 +47,7 @@ pub fn is_squeezed(text: &[u8]) -> bool
     before != b' '
 }
 
-// Whether a byte may follow another one in a spelling. White space is only single spaces. Mostly the first test decides.
+// Whether a byte may follow another in a spelling. White space is only single spaces. Mostly the first test decides.
 #[inline(always)]
 fn may_follow(before: u8, byte: u8) -> bool
     ensures { result ≡ spec.may_follow before byte }
