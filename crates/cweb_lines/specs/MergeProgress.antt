@@ -1,4 +1,4 @@
--- What a merger has still to give, and what a call gives of it.
+-- How far a merge is.
 use Rattle.std.specs.Prelude.{◌≡◌, ◌+◌, ◌⊎◌, ℕ, length, map, List, ◌∷◌, ◌++◌}
 use Rattle.cweb_input.specs.Lines.{Line, SourceLine}
 use Rattle.cweb_lines.specs.Merge.{Event, took, fault}
@@ -8,15 +8,14 @@ use Rattle.cweb_input.specs.OpenSources.{TakenCountersModel, RefusesLine}
 use Rattle.cweb_input.specs.declared.fault.SourceFault.{SourceFault}
 use Rattle.cweb_input.specs.declared.stop.Stop.{Stop}
 
--- what was told and taken so far
+-- What was reported and taken so far.
 pub record SoFar : Type 0 where
   pub faults : List SourceFault
-  -- the names of the files that were opened
+  -- the names of the opened files
   pub names : List (List ℕ)
   pub count : TakenCountersModel
 
--- some of all that is to come comes: these lines are given out, and faults, openings and lines taken add to what came
--- so far
+-- A prefix of all events happened, and `later` is left. It emitted these lines, and its other events add to `old`.
 pub record EmitsLines (lines : List Line) (old new : SoFar) (all later : List Event) : Type 0 where
   pub events : List Event
   pub whole : all ≡ events ++ later
@@ -27,7 +26,7 @@ pub record EmitsLines (lines : List Line) (old new : SoFar) (all later : List Ev
   pub bytes_are : new.count.bytes ≡ old.count.bytes + size_of_lines (taken_lines events)
   pub short : AreShort (taken_lines events)
 
--- these faults are reported, and these lines are taken and counted
+-- These faults were reported, and these lines were taken and counted.
 pub record AddsFaultsAndLines (faults : List SourceFault) (lines : List SourceLine) (old new : SoFar) : Type 0 where
   pub told : new.faults ≡ old.faults ++ faults
   pub names : new.names ≡ old.names
@@ -35,8 +34,7 @@ pub record AddsFaultsAndLines (faults : List SourceFault) (lines : List SourceLi
   pub bytes_are : new.count.bytes ≡ old.count.bytes + size_of_lines lines
   pub short : AreShort lines
 
--- A step of the merge has begun. It takes lines, and raw lines by turns with them: a prefix of either was taken, and a prefix of its
--- faults reported.
+-- A step has begun: prefixes of its lines, of its raw lines and of its faults were taken and reported.
 pub record HasBegunStep (old new : SoFar) (lines raws : List SourceLine) (faults : List SourceFault) : Type 0 where
   pub front : List SourceLine
   pub rest : List SourceLine
@@ -49,10 +47,11 @@ pub record HasBegunStep (old new : SoFar) (lines raws : List SourceLine) (faults
   pub faults_are : faults ≡ told ++ more
   pub adds : AddsFaultsAndLines told (front ++ raw_front) old new
 
+-- The line is the first of a list.
 abbrev pub ComesFirst : SourceLine → List SourceLine → Type 0
 ComesFirst line lines = (rest : List SourceLine) × (lines ≡ line ∷ rest)
 
--- the line that such a step takes next can't be taken
+-- The next line of a step that has begun causes the stop.
 pub record StopsIn (stop : Stop) (old new : SoFar) (lines raws : List SourceLine)
     (faults : List SourceFault) : Type 0 where
   pub begun : HasBegunStep old new lines raws faults
@@ -60,11 +59,11 @@ pub record StopsIn (stop : Stop) (old new : SoFar) (lines raws : List SourceLine
   pub next : ComesFirst line begun.rest ⊎ ComesFirst line begun.raw_rest
   pub why : RefusesLine stop new.count line
 
--- what a step takes and reports, and what comes after it
+-- The events of a step that takes lines, then raw lines, and reports faults, and then `later`.
 abbrev pub step_events : List SourceLine → List SourceLine → List SourceFault → List Event → List Event
 step_events lines raws faults later = map took lines ++ (map took raws ++ (map fault faults ++ later))
 
--- all came that comes before a step, with these lines, and in this step a line can't be taken
+-- All events before a step happened and emitted these lines. A line in the step causes the stop.
 pub record StopsAfterLines (given : List Line) (stop : Stop) (old new : SoFar) (all : List Event) : Type 0 where
   pub mid : SoFar
   pub lines : List SourceLine

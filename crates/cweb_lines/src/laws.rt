@@ -28,8 +28,8 @@ pub fn printed_merge_comes_again()
     ensures { PrintedMergesComeAgain }
 {}
 
-/// Without a change file each line is independent. A line that is no include line is emitted. An include line is a fault
-/// if it has no name, is too deep or its file isn't there, else it is replaced as `include_line_is_replaced` says.
+/// Without a change file each line is independent. A plain line is emitted. An include line is a fault if it has no
+/// name, is too deep or its file isn't there. Otherwise it is replaced as `include_line_is_replaced` says.
 pub fn lines_come_apart()
     ensures { LinesComeApart }
 {}

@@ -213,7 +213,7 @@ impl<S: Shelf> Merger<S> {
         pass_lines(&mut self.run, buffer, room)
     }
 
-    /// Stops the merger because memory was refused to its caller. It returns that stop, or an earlier one if it has one.
+    /// Stops the merger because memory was refused to its caller. Returns that stop, or an earlier one if it has one.
     pub fn halt(&mut self) -> Stop
         ensures stop { stop_in self.old ≡ None → result ≡ Stop.Memory }
         ensures kept { stop_in self.new ≡ Some result }

@@ -1,4 +1,4 @@
--- What a merger has still to give, and what a call gives of it.
+-- How far a merger is, and why it stops.
 use Rattle.std.specs.Prelude.{◌≡◌, ℕ, length, List, [], ◌∷◌, ◌++◌, Option}
 use Rattle.cweb_lines.specs.Change.{WaitingEntry}
 use Rattle.cweb_input.specs.Lines.{Line, SourceLine}
@@ -18,16 +18,15 @@ use Rattle.cweb_input.specs.declared.stop.Stop.{Stop}
 use Rattle.cweb_input.specs.declared.stop.Stop.TheVariants.{ReadFault, LineTooLong, TooMuchText, Memory}
 use Rattle.cweb_lines.specs.MergeProgress.{SoFar, EmitsLines, HasBegunStep, step_events, StopsAfterLines}
 
--- the first list is a front of the second
 abbrev pub IsPrefix : {A : Type 0} → List A → List A → Type 0
 IsPrefix {A = A} front list = (rest : List A) × (list ≡ front ++ rest)
 
--- the faults and the names that were told stay as they are, in front of what is told since
+-- The faults and names so far are a prefix of the new ones.
 pub record KeepsReported (old new : SoFar) : Type 0 where
   pub faults : IsPrefix old.faults new.faults
   pub names : IsPrefix old.names new.names
 
--- the faults and openings that were told are a front of all that are to come
+-- The new faults and names are those of a prefix of all events.
 pub record ReportsPrefix (old new : SoFar) (all : List Event) : Type 0 where
   pub events : List Event
   pub later : List Event
@@ -35,12 +34,12 @@ pub record ReportsPrefix (old new : SoFar) (all : List Event) : Type 0 where
   pub faults : new.faults ≡ old.faults ++ reported_faults events
   pub names : new.names ≡ old.names ++ openings events
 
--- no line is given out before more is taken
+-- The next event emits no line.
 abbrev pub TakesBeforeEmitting : List Event → Type 0
 TakesBeforeEmitting (given line ∷ events) = ⊥
 TakesBeforeEmitting _ = Unit {0}
 
--- a read failed in a step: all lines were given out before it that were taken to be given out
+-- A read failed in a step. All lines that were taken before were emitted.
 pub record ReadFailsAfterLines (given : List Line) (old new : SoFar) (all : List Event) : Type 0 where
   pub mid : SoFar
   pub lines : List SourceLine
@@ -51,7 +50,7 @@ pub record ReadFailsAfterLines (given : List Line) (old new : SoFar) (all : List
   pub begun : HasBegunStep mid new lines raws faults
   pub next : TakesBeforeEmitting later
 
--- why no line came: a read failed, a line can't be taken, or memory was refused
+-- Why there is no line: a read failed, a line breaks a limit, or memory was refused.
 abbrev pub Stopped : Stop → SoFar → SoFar → List Event → Type 0
 Stopped (ReadFault file) old new all = ReadFailsAfterLines [] old new all
 Stopped (LineTooLong file) old new all = StopsAfterLines [] (LineTooLong file) old new all
@@ -67,14 +66,13 @@ so_far_of run = record {
       counters_of run.limits;
 }
 
--- the lines that the change file has left
 abbrev pub change_lines : {R : Type 0} → (R → List ℕ) → MergeState R → List SourceLine
 change_lines left run = lines_at left run.change
 
 abbrev pub pending_of : {R : Type 0} → MergeState R → Option WaitingEntry
 pending_of run = pending_in run.stage run.first.items
 
--- all that is to come, by what the shelf holds and what its readers have left
+-- The state of the merge that has these things to come.
 abbrev pub state_of : {R : Type 0} → (R → List ℕ) → MergeState R → List Thing → MergeStateModel
 state_of left run things = record {
   things = things;
@@ -89,6 +87,6 @@ things_of left run = things_in left run.stage (change_lines left run) run.stack
 abbrev pub events_to_come : {R : Type 0} → (List ℕ → Option (List ℕ)) → (R → List ℕ) → MergeState R → List Event
 events_to_come texts left run = merge (world_in texts run.inputs) (state_of left run (things_of left run))
 
--- no text is open any more, and no entry is left
+-- No source is open, and no entry is left.
 abbrev pub NothingLeft : {R : Type 0} → MergeState R → Type 0
 NothingLeft run = (run.stack.depth ≡ 0) × (run.stage ≡ Done)
