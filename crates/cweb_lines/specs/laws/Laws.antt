@@ -120,7 +120,7 @@ pub record Splice : Type 0 where
   pub new : List (List ℕ)
   pub end : List ℕ
 
--- No other line is a code line, and no line that stays or is new is an include line. The first old line isn't empty, and
+-- No other line is a code line, and no line that stays or is new is an include line. The first old line isn't empty and
 -- no line before it equals it.
 pub record IsPlainSplice (splice : Splice) : Type 0 where
   pub begins : change_code splice.begin ≡ Some old_side
