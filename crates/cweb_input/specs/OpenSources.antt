@@ -22,7 +22,7 @@ pub record PassesLimit (count : TakenCountersModel) (line : SourceLine) : Type 0
   pub passes : (count.lines ≡ LINES) ⊎ (BYTES < count.bytes + line.size)
   pub short : line.length ≤ LINE_LENGTH
 
--- The line is what the stop complains of. Other stops have no line.
+-- The line causes the stop. Other kinds of stops have no line.
 abbrev pub RefusesLine : Stop → TakenCountersModel → SourceLine → Type 0
 RefusesLine (LineTooLong file) count line = IsTooLong file line
 RefusesLine TooMuchText count line = PassesLimit count line

@@ -29,7 +29,7 @@ fn newline_near(bytes: &[u8]) -> Option<usize>
     Some(marked.trailing_zeros() as usize)
 }
 
-/// The index of the first newline. The first 32 bytes are a fast path, because most lines are shorter.
+/// The index of the first newline. It tests 32 bytes at a time, and most lines are shorter.
 pub fn newline_at(bytes: &[u8]) -> Option<usize>
     ensures { IsNewlineAt bytes.now result }
 {

@@ -185,7 +185,7 @@ fn span_len_bytewise(class: Class, text: &[u8]) -> usize
     text.len()
 }
 
-/// The length of this prefix if the first byte is known to be in the class. That byte isn't tested again.
+/// `span_len` if the first byte is known to be in the class. That byte isn't tested again.
 #[inline(always)]
 pub fn nonempty_span_len(class: Class, text: &[u8]) -> usize
     requires first { spec.first_is (in_class class) text.now ≡ true }

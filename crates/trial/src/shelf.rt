@@ -16,8 +16,8 @@ pub fn shelf_of(alloc: Global, texts: &[(&str, &[u8])]) -> Result<MemoryShelf, A
 /// A shelf in memory with limited reads, one of which may fail.
 #[derive(Drop)]
 pub struct TrialShelf {
-    /// The maximum number of bytes of a read.
     pub shelf: MemoryShelf,
+    /// The maximum number of bytes of a read.
     pub most: usize,
     pub reads: u64,
     /// The number of the read that fails, from 1. With 0 none fails.

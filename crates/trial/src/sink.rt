@@ -7,8 +7,8 @@ use std::alloc::{AllocError, Global};
 /// A sink in memory with limited writes, one of which may fail. A write also fails if memory is refused.
 #[derive(Drop)]
 pub struct TrialSink {
-    /// The maximum number of bytes of a write.
     pub bytes: Vec<u8>,
+    /// The maximum number of bytes of a write.
     pub most: usize,
     pub writes: u64,
     /// The number of the write that fails, from 1. With 0 none fails.
