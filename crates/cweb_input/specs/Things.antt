@@ -8,6 +8,7 @@ pub record RawLine : Type 0 where
   pub source : SourceLine
   -- 1 for the web's own lines, one more in each included file
   pub depth : ℕ
+  -- whether it may match a change entry
   pub may_match : Bool
 
 -- What is still to come: a search for an entry, a raw line, a fault of a change's new side, or a code line to skip.

@@ -14,6 +14,7 @@ pub struct OpenSource<R: Drop> {
     pub line: u32,
     /// The depth of its lines: 1 for the web, one more in each included file.
     pub depth: usize,
+    /// Whether its lines may match a change entry.
     pub may_match: bool,
 }
 

@@ -100,8 +100,8 @@ impl<S: Shelf> Merger<S> {
         })
     }
 
-    /// The next merged line, without its newline, and its place. At the end it is `None`, then and on each further
-    /// call. After a stop each further call returns the same stop and leaves `line` empty.
+    /// The next merged line, without its newline, and its place. At the end it is `None`, and stays so. After a stop
+    /// each further call returns the same stop and leaves `line` empty.
     pub fn next_line(&mut self, shelf: &mut S, line: &mut Vec<u8>) -> Result<Option<Place>, Stop>
         requires { S.failed shelf.old + 1 < 2 ^ 64 }
         ensures keeps { KeepsShelf S.Shelf shelf.old shelf.new }

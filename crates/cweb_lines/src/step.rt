@@ -1,4 +1,4 @@
-// One step of a merger.
+// What one step of a merger results in.
 pub mod obey;
 pub mod progress;
 pub mod turning;

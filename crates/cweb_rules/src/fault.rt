@@ -21,7 +21,7 @@ pub enum ScanKind {
     CommentDidNotEnd,
     /// A literal that its line, a section start or the end of the source ends.
     StringDidNotEnd,
-    /// A single `@` in a literal.
+    /// An `@` in a literal that isn't doubled.
     DoubleAtInString,
     /// A control text that its line or another code ends.
     ControlTextDidNotEnd,

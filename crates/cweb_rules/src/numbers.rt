@@ -1,4 +1,4 @@
-// Numbers of C text (the preprocessing numbers of the C standard).
+// Numbers of C text, like the preprocessing numbers of the C standard.
 ghost use Rattle.std.specs.Prelude.{◌≡◌, ◌≤◌, length};
 ghost use Rattle.cweb_rules.specs.Tables as spec;
 

@@ -1,4 +1,4 @@
-// The code lines of a change file (CWEB manual, "Change files").
+// The code lines of a change file.
 ghost use Rattle.std.specs.Prelude.{◌≡◌};
 ghost use Rattle.cweb_lines.specs.Change as spec;
 

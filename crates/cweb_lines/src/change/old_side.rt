@@ -192,8 +192,8 @@ fn close<R: Drop>(run: &mut MergeState<R>, begin: Place, replaced: Replaced) -> 
     report_if(run, differ, SourceKind::Unequal, begin, replaced.unequal)
 }
 
-/// Makes a change whose first old line was matched: drops the old side, then takes the new lines. If the change file
-/// has ended, there is neither a new side nor a further entry.
+/// Begins a change whose first old line was matched, and drops its old side. If the change file has ended, there is
+/// neither a new side nor a further entry.
 pub fn begin_change<S: Shelf>(
     shelf: &mut S,
     run: &mut MergeState<S::R>,
