@@ -1,4 +1,4 @@
--- A table with an entry for each byte tells what a test of bytes does.
+-- A table with one entry per byte agrees with a test of bytes.
 use Rattle.std.proofs.lemmas.Bool.{and_parts}
 use Rattle.std.proofs.Common.{◌≡◌, ◌<◌, ℕ, zero, suc, ◌+◌, Bool, true, false, ◌&&◌, not, List, [], ◌∷◌, length, slice_index_or, refl, ap, sym, ◌∙◌, arith}
 
@@ -11,7 +11,7 @@ same_is true y h = sym h
 same_is false true h = cc
 same_is false false h = refl
 
--- the entries of a table from a byte on are what the test says of it and the bytes after it
+-- The entries of a table from index `k` on are the results of the test.
 abbrev pub agrees : (ℕ → Bool) → ℕ → List Bool → Bool
 agrees test k [] = true
 agrees test k (x ∷ xs) = same x (test k) && agrees test (suc k) xs
@@ -26,7 +26,6 @@ told_from test (x ∷ xs) k (suc i) b h within e =
     told_from test xs (suc k) i b (and_parts (same x (test k)) (agrees test (suc k) xs) h).1
     (omega (arith, within)) (omega (arith, e))
 
--- a table that agrees with the test from byte 0 on tells it of each byte that has an entry
 pub told_by_table : (test : ℕ → Bool) (xs : List Bool) → agrees test 0 xs ≡ true → (b : ℕ) → b < length xs
     → slice_index_or xs b false ≡ test b
 told_by_table test xs h b within = told_from test xs 0 b b h within (omega arith)

@@ -1,4 +1,4 @@
--- A draft that becomes a file.
+-- Committing a draft to a `Vec` of files is `put_file` on the model.
 use Rattle.std.proofs.Common.{◌≡◌, ℕ, Bool, true, false, not, cond, List, [], ◌∷◌, ◌++◌, refl, ◌∙◌, ap, map, string_bytes}
 use Rattle.std.proofs.lemmas.List.{map-append}
 use Rattle.std.specs.Prelude.{filter}

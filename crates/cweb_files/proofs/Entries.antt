@@ -1,4 +1,4 @@
--- Texts after one more entry.
+-- The contents of a memory shelf after one more entry, and the bytes that a read takes.
 use Rattle.std.proofs.Common.{◌≡◌, ◌≤◌, ◌+◌, ◌-◌, ℕ, Bool, true, false, cond, List, [], ◌∷◌, ◌++◌, Option, Some, None, refl, sym, ◌∙◌, ap, take, drop, get_or, length, ◌<◌, string_bytes, subst, arith, take-append-drop}
 use Rattle.std.proofs.lemmas.List.{take_at, drop-drop, take_more, length-take-le, length-drop}
 use Rattle.std.proofs.lemmas.Option.{slice_get_read}
@@ -91,7 +91,6 @@ finds_more entries i e name found lt is so_far b test =
           (sym same) so_far
     ]) found_one
 
--- the entry of the name that was asked for has that name
 pub opened_here : (entries : List Entry) (i : ℕ) (e : Entry) (name : List ℕ) → i < length entries
     → e ≡ get_or entries i e → true ≡ bytes_eq (string_bytes e.name) name
     → entry_name (slice_get entries i) ≡ name

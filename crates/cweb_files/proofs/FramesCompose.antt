@@ -1,4 +1,4 @@
--- What two calls leave alone, one after the other.
+-- The frames of two calls compose.
 use Rattle.std.proofs.Common.{◌++◌, List, [], ℕ, refl, sym, ◌∙◌, ap, subst}
 use Rattle.std.specs.Prelude.{IsTrue}
 use Rattle.std.proofs.lemmas.List.{append-nil, append_assoc}

@@ -1,7 +1,7 @@
--- What a call leaves alone at a device, and what it adds there.
+-- Partial writes.
 use Rattle.std.specs.Prelude.{◌≡◌, ℕ, List, ◌++◌}
 
--- a front of a text was written
+-- A prefix of `text` was appended.
 pub record WritesPrefix (old new text : List ℕ) : Type 0 where
   pub front : List ℕ
   pub rest : List ℕ

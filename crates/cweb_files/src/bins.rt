@@ -1,4 +1,4 @@
-// A place that keeps files, as generic code sees it.
+// The trait of a device that stores named files.
 ghost use Rattle.std.specs.Prelude.{◌≡◌, ◌<◌, ◌+◌, ◌^◌, [], IsTrue, IsSome, IfErr, OnOk, OnErr};
 ghost use Rattle.cweb_files.specs.Device.{CountsFailure};
 ghost use Rattle.cweb_files.specs.Files.{committed, with_draft, without_draft};
@@ -9,7 +9,7 @@ pub mod memory;
 use crate::device::Sink;
 use thiserror::Error;
 
-/// Why a file could not be begun or put in its place.
+/// Why a file could not be begun or committed.
 #[derive(Clone, Copy, Debug, PartialEq, Eq, Error)]
 pub enum BinFault {
     #[error("out of memory")]
@@ -18,15 +18,14 @@ pub enum BinFault {
     Device,
 }
 
-/// A place that keeps files under names, and at most one draft of a file.
+/// A device that stores files under names, and at most one draft of a file.
 ///
-/// As a sink it has written the bytes of the draft; beside them stand the files, the draft's name, and why the last
-/// beginning was refused, if it was. A file is the old one or the whole new one: what is written goes to the draft, and
-/// `commit_file` puts it in the file's place. Each `BinFault::Device` raises the count of failures by one, as a fault of
-/// `write` does, and nothing else changes it.
+/// The bytes that it has written as a `Sink` are those of the draft. Writes go to the draft, and `commit_file` replaces
+/// the file. So a file is either the old or the whole new one. Each `BinFault::Device` raises the failure count by one,
+/// as a `SinkFault` does.
 pub trait Bins: Sink {
-    /// Begins an empty draft of a name; an open draft is given up. The files don't change. After a fault there is no draft,
-    /// and the place knows by which answer the beginning was refused, until one goes well.
+    /// Begins an empty draft and discards an open one. The files are unchanged. After a fault there is no draft, and
+    /// the device records why, until the next call succeeds.
     fn start_file(&mut self, name: &str) -> Result<(), BinFault>
         requires { Self.failed self.old + 1 < 2 ^ 64 }
         ensures tells { Self.tells self.new ≡ Self.tells self.old }
@@ -37,8 +36,8 @@ pub trait Bins: Sink {
         ensures err { IsTrue (Self.tells self.old) →
             IfErr result (λ fault. Self.beside self.new ≡ refused_with fault (Self.beside self.old)) };
 
-    /// Puts the draft last among the files, in the place of a file of its name. Without a draft it fails; after a fault the
-    /// files are as they were. No draft remains in any case. It takes no memory, and its fault is never `Memory`.
+    /// Appends the draft to the files and removes an earlier file of its name. It fails without a draft. After a fault
+    /// the files are unchanged. In any case no draft remains. It allocates nothing, so its fault is never `Memory`.
     fn commit_file(&mut self) -> Result<(), BinFault>
         requires { Self.failed self.old + 1 < 2 ^ 64 }
         ensures tells { Self.tells self.new ≡ Self.tells self.old }
@@ -52,7 +51,7 @@ pub trait Bins: Sink {
         ensures err { IsTrue (Self.tells self.old)
             → OnErr result (Self.beside self.new ≡ without_draft (Self.beside self.old)) };
 
-    /// Gives the draft up; without one it changes nothing. It takes no memory.
+    /// Discards the draft, if there is one. It allocates nothing.
     fn abandon_file(&mut self)
         ensures tells { Self.tells self.new ≡ Self.tells self.old }
         ensures failed { Self.failed self.new ≡ Self.failed self.old }

@@ -1,20 +1,16 @@
-//! Files as the tools see them: sources that are read by name, sinks that bytes are written to, bins that keep output files,
-//! and places in files. Each device is a trait, with one implementation in memory.
+//! Files as the tools see them: shelves to read from, sinks to write to, bins that store output files, and places in
+//! files. Each device is a trait with one implementation in memory.
 #![tactic(auto)]
 
-// shelves and sinks
+// the traits of shelves and sinks
 mod device;
-
 // a shelf and a sink in memory
 mod memory;
-
 // file numbers and line numbers
 mod place;
-
-// all bytes of a slice to a sink
+// writes of whole slices
 mod writing;
-
-// places that keep output files, and one in memory
+// bins: the trait, and files in memory
 mod bins;
 
 pub use bins::memory::{BinFile, MemoryBins};

@@ -1,4 +1,4 @@
-// Texts and sinks in memory, which tell their bytes.
+// A shelf and a sink in memory. Both are observable.
 ghost use Rattle.std.specs.Prelude.{◌≡◌, ◌≤◌, ◌+◌, ◌^◌, ◌<◌, ◌-◌, [], ◌++◌, length, take, true};
 ghost use Rattle.std.specs.Prelude.{Some, vec_len, vec_capacity, string_bytes, IfOk, IfSome, OnOk};
 ghost use Rattle.std.specs.Prelude.{OnErr, IsOk, None, if◌then◌else◌};
@@ -8,20 +8,21 @@ ghost use Rattle.cweb_files.specs.Device.{CountsFailure, Finds, IsOpenedAs};
 use crate::{Shelf, ShelfFault, Sink, SinkFault};
 use std::alloc::{AllocError, Global};
 
+/// The contents `text` of a name.
 #[derive(Drop)]
 pub struct Entry {
     pub name: String,
     pub text: Vec<u8>,
 }
 
-/// Texts under names. Of two texts under one name the later one counts.
+/// Byte strings under names. The last entry of a name counts.
 #[derive(Drop)]
 pub struct MemoryShelf {
     alloc: Global,
     entries: Vec<Entry>,
 }
 
-/// A place in a text of a shelf.
+/// A position in an entry of a shelf.
 #[derive(Clone, Copy, Debug)]
 pub struct MemoryReader {
     entry: usize,
@@ -31,6 +32,7 @@ pub struct MemoryReader {
 impl MemoryShelf {
     ghost use Rattle.cweb_files.specs.surface.MemoryDevices.{KeepsOpenReaders, shelf_contents};
 
+    /// A shelf without entries. It allocates nothing.
     pub fn new(alloc: Global) -> Self
         ensures { shelf_contents result ≡ (λ _. None) }
     {
@@ -40,7 +42,7 @@ impl MemoryShelf {
         }
     }
 
-    /// Puts a text under a name, in the place of an earlier one. An open reader still reads the earlier text.
+    /// Replaces the contents of a name. An open reader still reads the earlier contents.
     pub fn put(&mut self, name: &str, text: &[u8]) -> Result<(), AllocError>
         ensures ok { OnOk result
             (shelf_contents self.new
@@ -72,11 +74,10 @@ impl Shelf for MemoryShelf {
 
     ghost opened_as = { reader_name };
 
-    // No read fails.
     ghost blamed = { λ _. [] };
 
     fn fetch(&mut self, name: &str) -> Result<Option<MemoryReader>, AllocError>
-        // It takes no memory.
+        // It allocates nothing.
         ensures ok { IsOk result }
         ensures found { IfOk result
             (Finds (reader_rest self.new) (shelf_contents self.old name.now)) }
@@ -122,7 +123,7 @@ impl Shelf for MemoryShelf {
     }
 }
 
-/// Bytes written one after another, with room that is set aside beforehand.
+/// A sink in memory with a reserved capacity.
 #[derive(Drop)]
 pub struct MemorySink {
     bytes: Vec<u8>,
@@ -132,6 +133,7 @@ pub struct MemorySink {
 impl MemorySink {
     ghost use Rattle.cweb_files.specs.surface.MemoryDevices.{sink_bytes, sink_room, sink_failed};
 
+    /// An empty sink with room for `bytes` bytes.
     pub fn with_room(alloc: Global, bytes: usize) -> Result<Self, AllocError>
         ensures empty { IfOk result (λ sink. sink_bytes sink ≡ []) }
         ensures room { IfOk result (λ sink. bytes ≤ sink_room sink) }
@@ -143,6 +145,7 @@ impl MemorySink {
         })
     }
 
+    /// All bytes written so far.
     pub fn bytes(&self) -> &[u8]
         ensures { result.now ≡ sink_bytes self.now }
     {
@@ -167,7 +170,7 @@ impl Sink for MemorySink {
         ensures bytes { OnOk result (sink_bytes self.new ≡ sink_bytes self.old ++ piece.now) }
         ensures err { OnErr result (sink_bytes self.new ≡ sink_bytes self.old) }
         ensures room { sink_room self.old ≤ sink_room self.new }
-        // Within the room it never fails.
+        // Within the capacity it never fails.
         ensures within_room { length (sink_bytes self.old) + length piece.now ≤ sink_room self.old
             → IsOk result }
     {

@@ -1,10 +1,10 @@
-// Where a line stands.
+// Files and lines as numbers.
 
-/// The number of a file, in the order in which the files of a run were opened: the web is 0.
+/// The number of a file, in the order in which a run opens its files. The web is 0.
 #[derive(Clone, Copy, Debug, PartialEq, Eq, Hash)]
 pub struct FileId(pub u32);
 
-/// A line of a file. Lines are numbered from 1.
+/// A line of a file, numbered from 1.
 #[derive(Clone, Copy, Debug, PartialEq, Eq, Hash)]
 pub struct Place {
     pub file: FileId,

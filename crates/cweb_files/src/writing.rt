@@ -1,4 +1,4 @@
-// Writes that go on until all is written.
+// Writes of whole slices.
 ghost use Rattle.std.specs.Prelude.{◌≡◌, ◌<◌, ◌+◌, ◌^◌, IsTrue, OnOk, OnErr, length};
 ghost use Rattle.cweb_files.specs.Device.{CountsFailure};
 ghost use Rattle.cweb_files.specs.surface.Frames.{KeepsPlace, Writes};
@@ -6,7 +6,7 @@ ghost use Rattle.cweb_files.specs.Frames.{WritesPrefix};
 
 use crate::device::{Sink, SinkFault};
 
-/// Writes a whole piece, in as many writes as it takes. After a fault a front of it is written.
+/// Writes all bytes in as many calls of `write` as it takes. After a fault a prefix of them is written.
 pub fn write_all<W: Sink>(out: &mut W, bytes: &[u8]) -> Result<(), SinkFault>
     requires { W.failed out.old + 1 < 2 ^ 64 }
     ensures keeps { KeepsPlace W.Sink out.old out.new }

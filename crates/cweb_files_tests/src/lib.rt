@@ -1,4 +1,4 @@
-//! The tests of `cweb_files`. They stand in a crate of their own, so that they are checked without proving it anew.
+//! The tests of `cweb_files`, in a crate of their own, so that a change of them doesn't check `cweb_files` again.
 #![tactic(auto)]
 
 #[cfg(test)]

@@ -1,8 +1,9 @@
+// The shelf and the sink in memory.
 use cweb_files::{MemoryShelf, MemorySink, Shelf, Sink};
 use std::alloc::{AllocError, Global};
 use std::test::Fail;
 
-// Reads a whole text, through the bound, in pieces of two bytes.
+// Reads a file in chunks of two bytes.
 fn read_all<S: Shelf>(
     alloc: Global,
     shelf: &mut S,

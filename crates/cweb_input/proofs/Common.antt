@@ -1,4 +1,4 @@
--- The names that the proofs of this crate cite, passed on from one place. Declares nothing.
+-- Imports that the proofs of this crate share.
 pub use Rattle.memchr.specs.Find.{IsFirstByte, is_byte}
 pub use Rattle.std.proofs.Common.{◌≡◌, ◌+◌, ℕ, List, [], ◌∷◌, ◌++◌, refl, sym, ◌∙◌, ap, subst, arith, length}
 pub use Rattle.std.proofs.Common.{length-append, map, ◌≤◌, ◌<◌, ◌-◌, Option, None, Some, zero, suc, Bool, true, false}

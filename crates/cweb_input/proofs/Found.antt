@@ -1,4 +1,4 @@
--- What the two searches for a name find.
+-- What a search under two names finds.
 use Rattle.cweb_input.proofs.Common.{◌≡◌, ℕ, Bool, true, false, List, Option, Some, None, Err, refl, sym, ◌∙◌, ap}
 use Rattle.std.specs.Prelude.{Result, Ok, IfOk, OnOk}
 use Rattle.std.specs.Str.{IsUtf8, is_utf8}

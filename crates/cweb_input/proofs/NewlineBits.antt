@@ -1,4 +1,4 @@
--- Newlines among 32 bytes, a bit for each.
+-- The bit mask of the newlines among 32 bytes.
 use Rattle.cweb_input.proofs.Common.{◌≡◌, ◌<◌, ◌≤◌, ℕ, List, Bool, true, false, cond, eqb, get_or, length, replicate, Some, refl, sym, ap, ◌∙◌, arith, ⊎_elim, cases_lt, get_or_past, get_or-replicate, bit_at-zero, bit_mask_l, get_or-zip2, length-zip2, bit_at, mask_l, zip2, HasNoNewline, SplitsAt}
 use Rattle.cweb_input.proofs.Newlines.{newline_at-memchr, no_newline}
 

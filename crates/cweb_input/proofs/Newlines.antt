@@ -1,4 +1,4 @@
--- The first newline of a text.
+-- The first newline, and the first line.
 use Rattle.cweb_input.proofs.Common.{◌≡◌, ◌≢◌, ◌≤◌, ◌<◌, ◌+◌, ◌-◌, ℕ, suc, true, false, List, [], ◌∷◌, ◌++◌, Option, Some, None, sym, ◌∙◌, ap, take, drop, get_or, length, subst, arith, take-append-drop, append_assoc, length-append, drop-append-add, take-append_seam, drop_more, get_or-take, length-take, drop-take, drop-drop, nat_tests, IsFirstByte, is_byte, HasNoNewline, SplitsAt, IsNewlineAt, CutLine, cut_lines, onto_first, IsLongerThan, TakesRawLine, TakesFromBuffer, Full}
 
 pub no_newline : (xs : List ℕ) → ((k : ℕ) → k < length xs → get_or xs k 0 ≢ 10) → HasNoNewline xs
@@ -21,7 +21,6 @@ newline_at-memchr xs (Some at) first =
 no_more : (b : ℕ) → b ≢ 10 → (text rest : List ℕ) → cut_lines (b ∷ text) ≡ onto_first b (cut_lines text)
 no_more b not text rest = grind (arith, nat_tests)
 
--- a line with its newline
 pub text_lines-full : (line rest : List ℕ) → HasNoNewline line →
     cut_lines (line ++ 10 ∷ rest) ≡ record { bytes = line; size = length line + 1 } ∷ cut_lines rest
 text_lines-full [] rest none = ap (λ n. record { bytes = []; size = n } ∷ cut_lines rest) (omega arith)
@@ -29,7 +28,6 @@ text_lines-full (b ∷ line) rest none =
     no_more b none.0 (line ++ 10 ∷ rest) rest ∙ ap (onto_first b) (text_lines-full line rest none.1)
     ∙ ap (λ n. record { bytes = b ∷ line; size = n } ∷ cut_lines rest) (omega arith)
 
--- the last line, without one
 pub text_lines-last : (line : List ℕ) → HasNoNewline line → 0 < length line →
     cut_lines line ≡ record { bytes = line; size = length line } ∷ []
 text_lines-last [] none some = absurd (omega arith)
@@ -42,7 +40,6 @@ pub no_newline-append : (xs ys : List ℕ) → HasNoNewline xs → HasNoNewline 
 no_newline-append [] ys none_x none_y = none_y
 no_newline-append (x ∷ xs) ys none_x none_y = (none_x.0, no_newline-append xs ys none_x.1 none_y)
 
--- a line that gets too long
 pub longer : (limit : ℕ) (line front rest : List ℕ) → HasNoNewline line → HasNoNewline front →
     limit < length line + length front → IsLongerThan limit (line ++ (front ++ rest))
 longer limit line front rest none_l none_f more = (
@@ -53,7 +50,7 @@ longer limit line front rest none_l none_f more = (
   omega (arith, length-append line front),
 )
 
--- what is left of a piece behind its first newline
+-- The buffered bytes after the first newline.
 pub behind : (buffer : List ℕ) (start end at : ℕ) → SplitsAt (take (end - start) (drop start buffer)) at → start ≤ end
     → take (end - start) (drop start buffer) ≡ take at (take (end - start) (drop start buffer))
     ++ 10 ∷ take (end - (start + (at + 1))) (drop (start + (at + 1)) buffer)
@@ -91,7 +88,6 @@ taken_more all line old rest after new is none takes = (
   subst HasNoNewline (sym takes.1) (no_newline-append line old none takes.0),
 )
 
--- the first line of a text that begins with bytes other than newlines has those bytes at least
 pub longer_first : (front rest : List ℕ) → HasNoNewline front → 0 < length front → (line : CutLine) ×
     (lines : List CutLine) × (cut_lines (front ++ rest) ≡ line ∷ lines) × (length front ≤ length line.bytes)
 longer_first [] rest none some = absurd (omega arith)
@@ -109,7 +105,6 @@ longer_first (b ∷ c ∷ front) rest none some =
       omega (arith, later.3),
     )
 
--- a newline behind bytes that have none
 splits_at : (a b : List ℕ) → HasNoNewline a → SplitsAt (a ++ 10 ∷ b) (length a)
 splits_at a b none = record {
   within = omega (arith, length-append a (10 ∷ b));
@@ -117,7 +112,7 @@ splits_at a b none = record {
   before = subst HasNoNewline (sym (take-append_seam a (10 ∷ b))) none;
 }
 
--- the first newline of a part of a text, before which there is none
+-- The first newline in the rest after bytes that have none.
 pub splits_behind : (text front run after : List ℕ) (at : ℕ) → text ≡ front ++ (run ++ after) → HasNoNewline front
     → SplitsAt run at → SplitsAt text (length front + at)
 splits_behind text front run after at is none splits =

@@ -1,4 +1,4 @@
--- Readers that stay those of their files, and what is blamed.
+-- Readers stay opened under the names of their files, and what is blamed.
 use Rattle.cweb_input.proofs.Common.{◌≡◌, ◌≤◌, ◌<◌, ℕ, zero, suc, List, [], ◌∷◌, ◌++◌, Option, Some, None, sym, ◌∙◌, ap, subst, arith, length, get_or, replicate, Err, append-nil}
 use Rattle.std.proofs.Common.{set}
 use Rattle.std.specs.Prelude.{Result, Ok, IfErr}
@@ -35,7 +35,6 @@ module _ {R : Type 0} (opened_as : R → List ℕ) (names : List (List ℕ)) whe
   named_set (text ∷ texts) (suc at) slot each top zero = each zero
   named_set (text ∷ texts) (suc at) slot each top (suc place) = named_set texts at slot (λ p. each (suc p)) top place
 
-  -- with more files
   slot_more : (more : List (List ℕ)) (slot : Option (OpenSource R)) → number_or_zero files_up_to slot ≤ length names
       → IsReaderNamed opened_as names slot → IsReaderNamed opened_as (names ++ more) slot
   slot_more more None known is = tt
@@ -52,7 +51,7 @@ module _ {R : Type 0} (opened_as : R → List ℕ) (names : List (List ℕ)) whe
       → IsReaderNamed opened_as names slot → IsReaderNamed opened_as (names ++ more) slot
   change_more more slot known is = slot_more more slot known is
 
--- a text gives its place to another, over a shelf
+-- A slot of the stack is replaced.
 module _ {S R : Type 0} (shelf : Shelf S R) (old new : S) (texts : List (Option (OpenSource R))) (at : ℕ)
     (d : Option (OpenSource R)) (within : at < length texts) where
   pub names_set : (slot : Option (OpenSource R)) → KeepsShelf shelf old new
@@ -62,7 +61,6 @@ module _ {S R : Type 0} (shelf : Shelf S R) (old new : S) (texts : List (Option 
       (subst (λ f. AreReadersNamed f names texts) (sym (keeps.names tells)) each)
       (named tells names (named_at (shelf.opened_as old) names texts at d within each))
 
--- a stop that is no read fault blames no reader
 pub blames_none : (names before now : List (List ℕ)) (stop : Stop) → read_failures_of stop ≡ 0 → now ≡ before
     → now ≡ before ++ blame names stop
 blames_none names before now (ReadFault file) none same = absurd (omega (arith, none))
@@ -74,7 +72,6 @@ blames_memory (Ok x) names before now memory same = same
 blames_memory (Err stop) names before now memory same = same
     ∙ sym (ap (λ s. before ++ blame names s) memory ∙ append-nil before)
 
--- the line of a text could not be taken
 pub blames_line : (fault : LineFault) (stop : Stop) (file : FileId) (name : List ℕ)
     (names before now : List (List ℕ)) → stop ≡ stop_for fault file → name ≡ name_of_file names file
     → BlamesReader {A = FileId} name before now (Err fault) → now ≡ before ++ blame names stop
@@ -92,7 +89,6 @@ pub blames_after : {A : Type 0} (result : Result A Stop) (names before mid now :
 blames_after result names before mid now is blames = subst (λ (b : List (List ℕ)). BlamesFile names b now result) is
     blames
 
--- a first text alone
 nones : {R : Type 0} (opened_as : R → List ℕ) (names : List (List ℕ)) (n place : ℕ) → IsReaderNamed opened_as names
     (get_or (replicate n None) place None)
 nones opened_as names zero place = tt

@@ -1,4 +1,4 @@
--- Open texts in an array.
+-- The stack of open sources in an array.
 use Rattle.cweb_input.proofs.Common.{Bool, true, false, nat_tests, append_assoc, ◌≡◌, ◌≢◌, ◌≤◌, ◌<◌, ◌+◌, ◌-◌, ℕ, zero, suc, List, [], ◌∷◌, ◌++◌, Option, Some, None, refl, sym, ◌∙◌, ap, subst, arith, length, get_or}
 use Rattle.std.specs.Prelude.{nat_eq}
 use Rattle.std.proofs.Common.{set, get_or-set_same, get_or-set_other}
@@ -62,7 +62,6 @@ module _ {R : Type 0} (left : R → List ℕ) where
     over-set low n texts (low + n) slot rest (omega arith),
   )
 
--- no place above a low one, so nothing stands over the rest
 pub over-none : {R : Type 0} (left : R → List ℕ) (low n : ℕ) (texts : List (Option (OpenSource R)))
     (rest : List Thing) →
     n ≡ 0 → things_over left low n texts rest ≡ rest
@@ -74,7 +73,7 @@ raws-append depth may_match [] behind = refl
 raws-append depth may_match (line ∷ before) behind = ap (λ (ts : List Thing). raw
     (record { source = line; depth = depth; may_match = may_match }) ∷ ts) (raws-append depth may_match before behind)
 
--- the deepest text, of which a line was taken, or which was at its end, or whose line stops
+-- The deepest source yields a line, has ended, or causes a stop.
 module _ {R : Type 0} (left left' : R → List ℕ) (same : left' ≡ left) (texts : List (Option (OpenSource R)))
     (d slot' : Option (OpenSource R)) (depth : ℕ)
     (within : depth - 1 < length texts) (before after : TakenCountersModel) (bytes : List ℕ) (low : ℕ)
@@ -167,7 +166,6 @@ pub stays_below : {R : Type 0} (old new : List (Option (OpenSource R))) (at low 
 stays_below old new at low slot le texts = λ left n le' rest. ap (λ ts. things_over left 0 n ts rest) texts
     ∙ over-set left 0 n old at slot rest (omega (arith, le, le'))
 
--- a text that gives its place to one of which as many lines were taken
 pub numbers_set : {R : Type 0} (old new : List (Option (OpenSource R))) (at place : ℕ)
     (d slot : Option (OpenSource R)) →
     at < length old → new ≡ set old at slot
@@ -187,7 +185,6 @@ numbers_set old new at place d slot within texts same = by (nat_eq place at) ref
         (λ i. number_or_zero line_number (get_or (texts i) place None))
         ∙ ap (number_or_zero line_number) (get_or-set_other old at place slot None away)
 
--- texts below one that is closed
 pub numbers_below : {R : Type 0} (old new : List (Option (OpenSource R))) (at place : ℕ)
     (slot : Option (OpenSource R)) →
     place < at → new ≡ set old at slot → line_number_at place new ≡ line_number_at place old
@@ -196,7 +193,6 @@ numbers_below old new at place slot below texts =
     (λ i. number_or_zero line_number (get_or (texts i) place None))
     ∙ ap (number_or_zero line_number) (get_or-set_other old at place slot None away)
 
--- the texts lie deeper than their places
 pub deep-at : {R : Type 0} (place at p : ℕ) (texts : List (Option (OpenSource R))) (d : Option (OpenSource R)) →
     p ≡ place + at → at < length texts → gaps_from place texts ≡ 0 → DeepAt p (get_or texts at d)
 unfolding gaps_from
@@ -219,7 +215,6 @@ deep-set place (suc at) p (text ∷ texts) slot is deep top =
     let later = deep-set (suc place) at p texts slot (omega (arith, is)) (omega (arith, deep)) top in
     omega (arith, later, deep)
 
--- the same stop for another reason
 pub stops_map : {A B : Type 0} (stop : Stop) → (A → B) → StopsFor A stop → StopsFor B stop
 stops_map (ReadFault file) map stops = stops
 stops_map (LineTooLong file) map stops = map stops
@@ -227,7 +222,6 @@ stops_map TooMuchText map stops = map stops
 stops_map Memory map stops = stops
 stops_map stop map stops = absurd stops
 
--- things that are the same as others, at the same count
 pub takes_same : (at : Option LineAt) (old mid new : List Thing) (bytes : List ℕ)
     (before before' after : TakenCountersModel) →
     old ≡ mid → before' ≡ before → TakesFirst mid at bytes new before' after → TakesFirst old at bytes new before after
@@ -235,7 +229,6 @@ takes_same None old mid new bytes before before' after things count takes = thin
 takes_same (Some at) old mid new bytes before before' after things count takes =
     subst (λ (b : TakenCountersModel). TakesFirst old (Some at) bytes new b after) count (takes.0, things ∙ takes.1)
 
--- a text gives its place to one that is no further, of the same files and as deep
 pub keeps_stack : {R : Type 0} (old new : Stack R) (at : ℕ) (slot : Option (OpenSource R)) (after : TakenCountersModel)
     → new.texts ≡ set old.texts at slot → maximum_of line_number old.texts ≤ after.lines
     → number_or_zero line_number slot ≤ after.lines → number_or_zero files_up_to slot ≤ maximum_of files_up_to old.texts

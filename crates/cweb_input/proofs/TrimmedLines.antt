@@ -1,4 +1,4 @@
--- Lines without the blanks at their ends, and what taking a line leaves.
+-- Trimmed lines, and what taking a line leaves.
 use Rattle.cweb_input.proofs.Common.{Bool, ◌≡◌, ◌≢◌, ◌+◌, ◌≤◌, ℕ, true, false, cond, List, [], ◌∷◌, ◌++◌, refl, sym, ◌∙◌, ap, subst, arith, ◌<◌, length, get_or, take, Some, HasNoNewline, cut_lines, TakesRawLine, IsLongerThan, LINE_LENGTH, TooLong, Full}
 use Rattle.std.proofs.Common.{◌⊎◌}
 use Rattle.std.proofs.lemmas.List.{take_more}
@@ -27,7 +27,6 @@ trimmed-byte [] b other = ap (λ t. cond t [] (b ∷ [])) other
 trimmed-byte (x ∷ []) b other = ap (before_blanks x) (trimmed-byte [] b other)
 trimmed-byte (x ∷ y ∷ xs) b other = ap (before_blanks x) (trimmed-byte (y ∷ xs) b other)
 
--- the first line of a text, where it took these bytes and a newline or none
 abbrev pub source_line : ℕ → ℕ → List ℕ → LineTermination → SourceLine
 source_line file number bytes taken = record {
   line = record { bytes = trimmed bytes; place = record { file = record { 0 = file }; line = number } };
@@ -124,7 +123,7 @@ first_passes stop taken old new bytes file number count not takes short is passe
       why = record { passes = passes; short = short };
     })
 
--- the last byte of a front, where it is a blank, and where it is another
+-- Whether the last byte of a prefix is a blank decides whether trimming drops it.
 pub trims_more : (xs : List ℕ) (n : ℕ) → n < length xs → is_blank (get_or xs n 0) ≡ true →
     trimmed (take n xs) ≡ trimmed (take (n + 1) xs)
 trims_more xs n within blank = sym (ap trimmed (take_more xs n 0 within)
@@ -141,7 +140,6 @@ before_blanks-clean b [] other clean = elim (is_blank b) as (λ v. HasNoNewline 
     [ true ↦ tt | false ↦ (other, tt) ]
 before_blanks-clean b (x ∷ xs) other clean = (other, clean)
 
--- a line without its last blanks has no newline either
 pub trimmed-clean : (xs : List ℕ) → HasNoNewline xs → HasNoNewline (trimmed xs)
 trimmed-clean [] clean = tt
 trimmed-clean (b ∷ xs) clean = before_blanks-clean b (trimmed xs) clean.0 (trimmed-clean xs clean.1)

@@ -1,21 +1,21 @@
-// The pieces that files are read into. Those of texts that ended serve the texts that are opened next.
+// The buffers that files are read into. Those of closed files are reused for files that are opened later.
 ghost use Rattle.std.specs.Prelude.{◌≡◌, ◌<◌, ◌++◌, ◌∷◌, [], ◌⊎◌, ◌+◌, length, IfOk, vec_len};
 ghost use Rattle.std.specs.Prelude.{vec_capacity};
 ghost use Rattle.cweb_input.specs.declared.buffer_pool.TheConstants.{BUFFER_SIZE};
 
 use std::alloc::{AllocError, Global};
 
-/// How many bytes a reader is asked for at once.
+/// The size of a buffer, and so of a read, in bytes.
 const BUFFER_SIZE: usize = 65536;
 
-/// Pieces of texts that ended, no more than there were open texts at one time.
+/// Free buffers: at most as many as files were open at once.
 #[derive(Drop)]
 pub struct BufferPool {
     free: Vec<Vec<u8>>,
 }
 
 impl BufferPool {
-    /// No pieces, and no memory is taken for them before one is kept.
+    /// An empty pool. It allocates nothing.
     pub fn new(alloc: Global) -> Self
         ensures { result.free.items ≡ [] }
     {
@@ -24,7 +24,7 @@ impl BufferPool {
         }
     }
 
-    /// A piece with room for bytes: one that was kept, or else a new one.
+    /// A free buffer, or else a new one.
     pub fn take(&mut self, alloc: Global) -> Result<Vec<u8>, AllocError>
         ensures some { IfOk result (λ buffer. 0 < length buffer.items) }
         ensures taken { IfOk result (λ buffer.
@@ -41,7 +41,7 @@ impl BufferPool {
         new_buffer(alloc)
     }
 
-    /// Keeps a piece. Where memory is refused, it is let go.
+    /// Adds a buffer. If memory for the list is refused, the buffer is dropped.
     pub fn keep(&mut self, buffer: Vec<u8>)
         ensures kept { (self.new.free.items ≡ self.old.free.items ++ buffer ∷ [])
             ⊎ (self.new.free.items ≡ self.old.free.items) }
@@ -52,7 +52,7 @@ impl BufferPool {
     }
 }
 
-/// A piece of 65,536 bytes, all of them 0.
+/// A buffer of 65,536 zeros.
 pub fn new_buffer(alloc: Global) -> Result<Vec<u8>, AllocError>
     ensures some { IfOk result (λ buffer. 0 < length buffer.items) }
     ensures len { IfOk result (λ buffer. length buffer.items ≡ BUFFER_SIZE) }

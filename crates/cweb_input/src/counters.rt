@@ -4,7 +4,7 @@ ghost use Rattle.std.specs.Prelude.{◌≡◌, ◌≤◌, ◌<◌, ◌+◌, ◌�
 use crate::limits::{BYTES, LINES};
 use crate::stop::Stop;
 
-/// How many lines and bytes were taken so far.
+/// The number of lines and bytes that were taken from all files so far, newlines included.
 #[derive(Drop)]
 pub struct TakenCounters {
     pub lines: u32,
@@ -14,6 +14,7 @@ pub struct TakenCounters {
 }
 
 impl TakenCounters {
+    /// No line and no byte.
     pub fn new() -> Self
         ensures lines { result.lines ≡ 0 }
         ensures bytes { result.bytes ≡ 0 }
@@ -21,7 +22,7 @@ impl TakenCounters {
         TakenCounters { lines: 0, bytes: 0 }
     }
 
-    /// Counts a line that takes so many bytes, where it does not pass a limit.
+    /// Counts a line of `size` bytes, its newline included, unless it exceeds a limit.
     pub fn add(&mut self, size: usize) -> Result<(), Stop>
         ensures lines { OnOk result (self.new.lines ≡ self.old.lines + 1) }
         ensures bytes { OnOk result (self.new.bytes ≡ self.old.bytes + size) }
@@ -40,7 +41,7 @@ impl TakenCounters {
         Ok(())
     }
 
-    /// Whether lines that have so many bytes together pass no limit, however many they are.
+    /// Whether any lines of `size` bytes in total are within the limits. A line has at least one byte.
     pub fn has_room(&self, size: usize) -> bool
         ensures lines { IsTrue result → self.now.lines + size ≤ LINES }
         ensures bytes { IsTrue result → self.now.bytes + size ≤ BYTES }
@@ -50,7 +51,7 @@ impl TakenCounters {
         size as u64 <= BYTES - self.bytes && size as u64 <= (LINES - self.lines) as u64
     }
 
-    /// Counts lines with which no limit is passed.
+    /// Counts lines of `size` bytes in total that are within the limits.
     pub fn add_all(&mut self, lines: u32, size: usize)
         requires few { self.old.lines + lines ≤ LINES }
         requires small { self.old.bytes + size ≤ BYTES }

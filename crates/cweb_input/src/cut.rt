@@ -1,4 +1,4 @@
-// The lines of an open text one after another, however reads cut its bytes.
+// The next line of a source, however reads split it.
 ghost use Rattle.std.specs.Prelude.{◌≡◌, ◌≤◌, ◌<◌, ◌+◌, ◌^◌, ◌++◌, ◌∷◌, [], ℕ, List, length, take};
 ghost use Rattle.std.specs.Prelude.{drop, Vec, IsTrue, IfOk, OnOk, OnErr, IsErrOf, Option, Some};
 ghost use Rattle.std.specs.Prelude.{None};
@@ -15,7 +15,7 @@ use cweb_files::Shelf;
 use memchr::{memchr, memrchr};
 use std::simd::prelude::*;
 
-// Where the first newline is among the first 32 bytes.
+// The index of the first newline among the first 32 bytes.
 #[inline(always)]
 fn newline_near(bytes: &[u8]) -> Option<usize>
     requires { 32 ≤ length bytes.now }
@@ -29,7 +29,7 @@ fn newline_near(bytes: &[u8]) -> Option<usize>
     Some(marked.trailing_zeros() as usize)
 }
 
-/// Where the first newline is. Most lines have less than 32 bytes.
+/// The index of the first newline. It tests 32 bytes at a time, and most lines are shorter.
 pub fn newline_at(bytes: &[u8]) -> Option<usize>
     ensures { IsNewlineAt bytes.now result }
 {
@@ -46,7 +46,7 @@ pub fn newline_at(bytes: &[u8]) -> Option<usize>
     }
 }
 
-// Adds bytes to a line, where it does not get too long.
+// Appends bytes to a line, unless it gets too long.
 fn extend(line: &mut Vec<u8>, front: &[u8]) -> Result<(), LineFault>
     requires { length line.old.items ≤ LINE_LENGTH }
     ensures ok { OnOk result (line.new.items ≡ line.old.items ++ front.now) }
@@ -62,7 +62,7 @@ fn extend(line: &mut Vec<u8>, front: &[u8]) -> Result<(), LineFault>
     Ok(())
 }
 
-// Takes what belongs to a line, and answers whether its newline came.
+// Takes the buffered bytes up to a newline, and returns whether there was one.
 fn take_buffered<R: Drop>(source: &mut Source<R>, line: &mut Vec<u8>) -> Result<bool, LineFault>
     requires { length line.old.items ≤ LINE_LENGTH }
     ensures reader { source.new.reader.value ≡ source.old.reader.value }
@@ -88,7 +88,7 @@ fn take_buffered<R: Drop>(source: &mut Source<R>, line: &mut Vec<u8>) -> Result<
     }
 }
 
-// Where the last whole line ends.
+// The end of the last whole line.
 fn lines_end(bytes: &[u8]) -> usize
     ensures within { result ≤ length bytes.now }
     ensures newline { byte_before bytes.now result ≡ 10 }
@@ -99,7 +99,7 @@ fn lines_end(bytes: &[u8]) -> usize
     }
 }
 
-// Reads the next piece, where nothing is pending.
+// Reads into the buffer if it is empty.
 fn refill<S: Shelf>(shelf: &mut S, source: &mut Source<S::R>) -> Result<(), LineFault>
     requires count { S.failed shelf.old + 1 < 2 ^ 64 }
     ensures keeps { KeepsShelf S.Shelf shelf.old shelf.new }
@@ -131,7 +131,7 @@ fn refill<S: Shelf>(shelf: &mut S, source: &mut Source<S::R>) -> Result<(), Line
     }
 }
 
-/// Takes the next line, without its newline.
+/// Takes the next line, without its newline, into `line`.
 pub fn next_line<S: Shelf>(
     shelf: &mut S,
     source: &mut Source<S::R>,

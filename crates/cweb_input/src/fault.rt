@@ -1,36 +1,36 @@
-// Faults of webs and change files, which are told and don't stop a run.
+// Faults of webs and change files. They are reported and don't stop a run.
 use cweb_files::Place;
 
 /// What is wrong with a line of a web or of a change file.
 #[derive(Clone, Copy, Debug, PartialEq, Eq)]
 pub enum SourceKind {
-    /// An include line gives no name.
+    /// An include line has no name.
     NoName,
-    /// An include line stands in the deepest file that may be open.
+    /// An include line is in a file at the maximum depth.
     TooDeep,
-    /// No text is there under the name of an include line.
+    /// The file of an include line isn't there.
     NotThere,
-    /// A line `@y` or `@z` of the change file stands outside an entry.
+    /// `@y` or `@z` outside a change entry.
     MissingX,
-    /// A line `@x` is followed by no old line.
+    /// `@x` without an old line after it.
     NoOldLines,
-    /// The change file ended among the old lines of an entry.
+    /// The change file ended in the old lines of an entry.
     EndedBeforeY,
     /// The web ended before all old lines of an entry were compared.
     WebEnded,
-    /// A line `@x` or `@z` stands among old lines.
+    /// `@x` or `@z` among old lines.
     WantsY,
-    /// Old lines behind the first differ from the web's; the fault's count says how many.
+    /// Old lines after the first differ from the lines of the web. The fault's count says how many.
     Unequal,
-    /// A line `@x` or `@y` stands among new lines.
+    /// `@x` or `@y` among new lines.
     WantsZ,
-    /// The change file ended among the new lines of an entry.
+    /// The change file ended in the new lines of an entry.
     EndedBeforeZ,
     /// No line of the web equals the first old line of an entry.
     NoMatch,
 }
 
-/// A fault, and the line that has it. The count is 0 but for unequal lines.
+/// A fault and its line. The count is 0 except for `Unequal`.
 #[derive(Clone, Copy, Debug, PartialEq, Eq)]
 pub struct SourceFault {
     pub kind: SourceKind,

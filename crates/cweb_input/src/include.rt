@@ -2,7 +2,7 @@
 ghost use Rattle.std.specs.Prelude.{◌≡◌, ◌≤◌, ◌<◌, ◌+◌, ℕ, List, length, take, drop};
 ghost use Rattle.cweb_input.specs.Include as spec;
 
-/// Whether a line is an include line: it begins `@i` or `@I` (the CWEB manual's `@i`).
+/// Whether a line begins with `@i` or `@I` (CWEB manual, `@i`). No blank is needed after it.
 pub fn is_include_line(line: &[u8]) -> bool
     ensures { result ≡ spec.is_include_line line.now }
 {
@@ -15,7 +15,6 @@ fn is_space(b: u8) -> bool
     b == b' ' || b == b'\t'
 }
 
-// What ends a name: a quote, and outside quotes a space.
 fn ends_name(quoted: bool, b: u8) -> bool
     ensures { result ≡ spec.ends_name quoted b }
 {
@@ -51,7 +50,7 @@ fn name_after_spaces(bytes: &[u8]) -> &[u8]
     &[]
 }
 
-/// The name that an include line gives. It is empty where none is given.
+/// The file name in an include line: in double quotes, or up to a space, tab or quote. It is empty if there is none.
 pub fn include_name(line: &[u8]) -> &[u8]
     requires { 2 ≤ length line.now }
     ensures { result.now ≡ spec.include_name line.now }

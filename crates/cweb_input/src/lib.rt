@@ -3,31 +3,22 @@
 
 // the limits
 mod limits;
-
 // how many lines and bytes were taken
 mod counters;
-
 // the buffers that files are read into
 mod buffer_pool;
-
-// a reader, and its bytes that were read but not taken
+// a reader and its unread buffer
 mod source;
-
-// the next line of a source, however reads cut its bytes
+// the next line of a source, however reads split it
 mod cut;
-
-// include lines
+// include lines and their names
 mod include;
-
 // open sources, and the lines that are taken from them
 mod open_source;
-
-// the names of the files that were opened, and how files are found
+// the names of opened files, and how files are found
 mod files;
-
 // faults of includes and changes
 mod fault;
-
 // what ends a merge
 mod stop;
 

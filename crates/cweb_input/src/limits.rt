@@ -1,13 +1,13 @@
-// The limits on the input of a web.
+// The limits on the input of a run.
 
-/// The bytes that a line may have, without its newline.
+/// The maximum length of a line in bytes, without its newline.
 pub const LINE_LENGTH: usize = 1_048_575;
 
-/// The lines that may be taken from all files.
+/// The maximum number of lines that are taken from all files.
 pub const LINES: u32 = 16_777_216;
 
-/// The bytes that the lines taken from all files may have, with their newlines.
+/// The maximum number of bytes that are taken from all files, newlines included.
 pub const BYTES: u64 = 1_073_741_824;
 
-/// The files that may be open within one another, the web counted.
+/// The maximum number of nested open files, including the web.
 pub const OPEN_FILES: usize = 20;

@@ -1,4 +1,4 @@
-// A text that is being read, and how a line of it ended.
+// A reader with its buffer, and how a line ended.
 ghost use Rattle.std.specs.Prelude.{◌≡◌, ◌≤◌, ◌<◌, length, IfOk};
 ghost use Rattle.cweb_input.specs.inner.Lines.{byte_before};
 ghost use Rattle.cweb_input.specs.declared.source.LineFault.TheVariants.{Memory};
@@ -9,11 +9,9 @@ use std::alloc::{AllocError, Global};
 /// Why a line could not be taken.
 #[derive(Clone, Copy)]
 pub enum LineFault {
-    /// The reader failed.
     Read,
     /// It has more than `LINE_LENGTH` bytes.
     TooLong,
-    /// Memory was refused.
     Memory,
 }
 
@@ -28,23 +26,23 @@ impl From<AllocError> for LineFault {
 /// How a line ended.
 #[derive(Clone, Copy)]
 pub enum LineTermination {
-    /// There is no line.
+    /// There is no more line.
     Ended,
-    /// It is the last one, without a newline.
+    /// It is the last line and has no newline.
     Last,
-    /// Its newline came.
+    /// It has a newline.
     Full,
 }
 
-/// A reader, and the bytes that were read and not yet taken: those of the piece from `start` to `end`.
+/// A reader and its buffer. The bytes from `start` to `end` were read and not yet taken.
 #[derive(Drop)]
 pub struct Source<R: Drop> {
-    // On the heap: so the size of what holds it, and of many such in an array, doesn't depend on the reader's type.
+    // Boxed, so that the size of an array of open sources doesn't depend on the reader's type.
     pub reader: Box<R>,
     pub buffer: Vec<u8>,
     pub start: usize,
     pub end: usize,
-    /// Where the last whole line that was read ends: right behind the last newline, or 0 where none was read.
+    /// The end of the last whole line in the buffer: just after the last newline, or 0 if it has none.
     pub lines_end: usize,
     ghost ordered: { start ≤ end },
     ghost within: { end ≤ length buffer.items },
@@ -57,7 +55,7 @@ impl<R: Drop> Source<R> {
     ghost use Rattle.cweb_input.specs.surface.Source.{buffered};
     ghost use Rattle.std.specs.Prelude.{[]};
 
-    /// A reader of which nothing was read.
+    /// Nothing is read yet. It allocates a buffer.
     pub fn new(alloc: Global, reader: R) -> Result<Self, AllocError>
         ensures reader { IfOk result (λ source. source.reader.value ≡ reader) }
         ensures pending { IfOk result (λ source. buffered source ≡ []) }
@@ -66,7 +64,7 @@ impl<R: Drop> Source<R> {
         Source::with_buffer(alloc, reader, buffer)
     }
 
-    /// A reader of which nothing was read, and a piece for its bytes. What stands in the piece is never shown.
+    /// Nothing is read yet. The old contents of the buffer are never seen.
     pub fn with_buffer(alloc: Global, reader: R, buffer: Vec<u8>) -> Result<Self, AllocError>
         requires { 0 < length buffer.items }
         ensures reader { IfOk result (λ source. source.reader.value ≡ reader) }
@@ -81,7 +79,7 @@ impl<R: Drop> Source<R> {
         })
     }
 
-    /// The piece, for a text that is opened later.
+    /// The buffer, for a file that is opened later.
     pub fn into_buffer(self) -> Vec<u8>
         ensures { result ≡ self.buffer }
     {

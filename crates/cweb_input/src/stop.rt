@@ -1,4 +1,4 @@
-// Why a run ends before its end.
+// What ends a run early.
 ghost use Rattle.std.specs.Prelude.{◌≡◌};
 ghost use Rattle.cweb_input.specs.declared.stop.Stop.TheVariants.{Memory};
 
@@ -6,7 +6,7 @@ use cweb_files::FileId;
 use std::alloc::AllocError;
 use thiserror::Error;
 
-/// Why a run ended before its end. The tools print texts of their own.
+/// Why a run ended early. The tools print messages of their own.
 #[derive(Clone, Copy, Debug, PartialEq, Eq, Error)]
 pub enum Stop {
     #[error("the command line can't be read")]

@@ -1,8 +1,7 @@
--- Lines that were taken and faults that were told, as events of a merge.
+-- Taken lines and reported faults as events of a merge.
 use Rattle.cweb_lines.proofs.Common.{◌≡◌, ℕ, List, [], ◌∷◌, ◌++◌, refl, ◌∙◌, ap, arith, length-append, map, append-nil, append_assoc, Place, SourceLine, Event, took, fault, SoFar, EmitsLines, ReportsPrefix, AddsFaultsAndLines, ReportsSomeFaults, HasBegunStep, StopsIn, EndsStep, TakenCountersModel, CountsLine, emitted_lines, reported_faults, openings, taken_lines, AreShort, SourceFault, Stop, ReadFault, LineTooLong, TooMuchText, Memory, map-append}
 use Rattle.cweb_lines.proofs.EmittedLinesAddUp.{size-append, short-append}
 
--- what lines that were taken, and faults behind them, say
 abbrev pub events : List SourceLine → List SourceFault → List Event
 events lines faults = map took lines ++ map fault faults
 
@@ -48,7 +47,6 @@ gives_adds lines faults old new all later whole adds = record {
   short = rw taken_all adds.short;
 }
 
--- some of the faults of a step were told
 pub tells_some : (lines : List SourceLine) (faults : List SourceFault) (old new : SoFar) (all later : List Event) →
     all ≡ map took lines ++ (map fault faults ++ later) → ReportsSomeFaults faults old new → ReportsPrefix old new all
 tells_some lines faults old new all later whole some = record {
@@ -59,7 +57,6 @@ tells_some lines faults old new all later whole some = record {
   names = simp (some.names, opened_none, append-nil);
 }
 
--- nothing was told or taken
 pub adds_none : (old new : SoFar) → new ≡ old → AddsFaultsAndLines [] [] old new
 adds_none old new same = record {
   told = simp (same, append-nil);
@@ -69,7 +66,6 @@ adds_none old new same = record {
   short = tt;
 }
 
--- nothing of a step was done
 abbrev pub begun_none : (old new : SoFar) (lines raws : List SourceLine) (faults : List SourceFault) → new ≡ old →
     HasBegunStep old new lines raws faults
 begun_none old new lines raws faults same = record {
@@ -85,7 +81,6 @@ begun_none old new lines raws faults same = record {
   adds = adds_none old new same;
 }
 
--- a line was taken behind others
 pub adds_line : (faults : List SourceFault) (lines : List SourceLine) (old mid new : SoFar) (bytes : List ℕ)
     (place : Place) (t : CountsLine bytes place mid.count new.count) → AddsFaultsAndLines faults lines old mid
     → new.faults ≡ mid.faults → new.names ≡ mid.names → AddsFaultsAndLines faults (lines ++ t.line ∷ []) old new
@@ -97,7 +92,6 @@ adds_line faults lines old mid new bytes place t adds told names = record {
   short = short-append lines (t.line ∷ []) adds.short (t.short, tt);
 }
 
--- more faults were told
 pub adds_faults : (faults more : List SourceFault) (lines : List SourceLine) (old mid new : SoFar) →
     AddsFaultsAndLines faults lines old mid → new.faults ≡ mid.faults ++ more → new.names ≡ mid.names
     → new.count ≡ mid.count
@@ -110,7 +104,6 @@ adds_faults faults more lines old mid new adds told names count = record {
   short = adds.short;
 }
 
--- both, one behind the other
 pub adds_both : (faults more : List SourceFault) (lines further : List SourceLine) (old mid new : SoFar) →
     AddsFaultsAndLines faults lines old mid → AddsFaultsAndLines more further mid new
     → AddsFaultsAndLines (faults ++ more) (lines ++ further) old new
@@ -122,7 +115,7 @@ adds_both faults more lines further old mid new first second = record {
   short = short-append lines further first.short second.short;
 }
 
--- what comes after one line that was taken
+-- The rest of a step after its first line was taken.
 module _ (old mid : SoFar) (bytes : List ℕ) (place : Place) (t : CountsLine bytes place old.count mid.count)
     (told : mid.faults ≡ old.faults) (names : mid.names ≡ old.names) where
   pub adds_one : AddsFaultsAndLines [] (t.line ∷ []) old mid
@@ -144,7 +137,6 @@ module _ (old mid : SoFar) (bytes : List ℕ) (place : Place) (t : CountsLine by
     names = some.names ∙ names;
   }
 
-  -- the line is the first of a step
   abbrev begun_after : (lines raws : List SourceLine) (faults : List SourceFault) (new : SoFar)
       → HasBegunStep mid new lines raws
       faults → HasBegunStep old new (t.line ∷ lines) raws faults
@@ -183,7 +175,7 @@ short-split : (a b : List SourceLine) → AreShort (a ++ b) → AreShort a × Ar
 short-split [] b short = (tt, short)
 short-split (l ∷ a) b short = let rest = short-split a b short.1 in ((short.0, rest.0), rest.1)
 
--- a line was taken, which is counted in front of some of the others
+-- A line is taken before some of the lines that were counted.
 pub adds_within : (faults : List SourceFault) (lines others : List SourceLine) (old mid new : SoFar) (bytes : List ℕ)
     (place : Place) (t : CountsLine bytes place mid.count new.count)
     → AddsFaultsAndLines faults (lines ++ others) old mid
@@ -200,7 +192,6 @@ adds_within faults lines others old mid new bytes place t adds told names =
           short.1;
     }
 
--- more lines were taken
 pub adds_lines : (faults : List SourceFault) (lines others further : List SourceLine) (old mid new : SoFar) →
     AddsFaultsAndLines faults (lines ++ others) old mid → AddsFaultsAndLines [] further mid new
     → AddsFaultsAndLines faults (lines ++ (others ++ further)) old new

@@ -1,4 +1,4 @@
--- A line that is lent from where it lies.
+-- A line that is borrowed from the buffer.
 use Rattle.cweb_lines.proofs.Common.{◌≡◌, ◌<◌, ◌+◌, ℕ, List, [], ◌∷◌, length, Option, None, Some, refl, ap, arith, length-append, LooksAhead, BorrowsLine, span_bytes, so_far_of, opened_file_names, EmitsBufferedLines, lines_next, buffer_of, slice_range, with_newlines, top_of, Ahead, MergeState, OpenSource}
 use Rattle.cweb_lines.proofs.ReportsOnlyGrow.{grows_told, told_given}
 
@@ -6,7 +6,6 @@ none_next : {R : Type 0} (slot : Option (OpenSource R)) → lines_next slot [] �
 none_next None = refl
 none_next (Some text) = refl
 
--- the first line is lent
 pub lends_line : {R : Type 0} (old new : MergeState R) (ahead : Ahead) (looks : LooksAhead old [] ahead)
     → EmitsBufferedLines old new (lines_next (top_of old.stack) (looks.raw ∷ [])) → new.limits.bytes
     ≡ old.limits.bytes + length (with_newlines (looks.raw ∷ [])) → old.limits.lines < new.limits.lines → new.stack.depth

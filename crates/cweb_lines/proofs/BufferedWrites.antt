@@ -1,11 +1,10 @@
--- How lines that were given out are gathered, written and lost.
+-- Emitted lines are buffered, written or lost.
 use Rattle.cweb_lines.proofs.Common.{◌≡◌, ℕ, List, [], ◌∷◌, ◌++◌, length, refl, sym, ◌∙◌, ap, arith, length-append, IsTrue, append-nil, append_assoc, KeepsPlace, Writes, Line, Event, SoFar, EmitsLines, BuffersLines, emitted_lines, written_lines, WritesPrefix, HasWritten, FailsAmong, LosesLine}
 use Rattle.cweb_files.specs.declared.device.Sink.{Ghosts as Sink}
 use Rattle.cweb_files.proofs.FramesCompose.{place_told, writes_then}
 use Rattle.cweb_lines.proofs.EmittedLinesAddUp.{gives_both}
 use Rattle.cweb_lines.proofs.WrittenLinesAddUp.{front_of_all, given_front, text_of-append}
 
--- a line was gathered, behind none
 pub held : (room : ℕ) (old so : SoFar) (all now : List Event) (Wrote : List ℕ → Type 0) →
     HasWritten old so all now Wrote
     → (line : Line) (so' : SoFar) (later : List Event) → EmitsLines (line ∷ []) so so' now later
@@ -21,7 +20,6 @@ held room old so all now Wrote g line so' later next buffer more none is = recor
   alone = λ none. refl;
 }
 
--- lines that add no bytes are none
 no_lines : (lines : List Line) (buffer : List ℕ) → buffer ++ written_lines lines ≡ buffer → lines ≡ []
 no_lines [] buffer same = refl
 no_lines (line ∷ lines) buffer same =
@@ -32,7 +30,6 @@ no_lines (line ∷ lines) buffer same =
       length-append line.bytes (10 ∷ written_lines lines),
     ))
 
--- and lines that passed through
 pub held_on : (room : ℕ) (old so : SoFar) (all now : List Event) (Wrote : List ℕ → Type 0) (buffer : List ℕ) →
     BuffersLines room old so all now Wrote buffer
     → (lines : List Line) (so' : SoFar) (later : List Event) → EmitsLines lines so so' now later → (more : List ℕ) →
@@ -49,7 +46,6 @@ held_on room old so all now Wrote buffer h lines so' later next more is alone = 
 
 module _ {W : Type 0} (sink : Sink W) (first mid : W) (keeps : KeepsPlace sink first mid) (room : ℕ) (old so : SoFar)
     (all now : List Event) (buffer : List ℕ) (h : BuffersLines room old so all now (Writes sink first mid) buffer) where
-  -- all of them were written
   pub written_on : (new : W) → Writes sink mid new buffer → HasWritten old so all now (Writes sink first new)
   written_on new wrote = record {
     lines = h.done ++ h.gathered;
@@ -77,7 +73,7 @@ module _ {W : Type 0} (sink : Sink W) (first mid : W) (keeps : KeepsPlace sink f
     alone = h.alone;
   }
 
--- where lines are not gathered one line alone is lost
+-- Without buffering a write fault loses only one line.
 pub loses_line : (old new : SoFar) (all later : List Event) (before after : List ℕ) →
     FailsAmong 0 old new all later before after → LosesLine old new all later before after
 loses_line old new all later before after failed = by failed.gathered (failed.alone refl) failed.gives failed.front

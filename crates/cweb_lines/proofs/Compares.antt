@@ -1,8 +1,7 @@
--- What a comparison of an old line with a raw line comes to.
+-- The comparison of an old line with a raw line.
 use Rattle.cweb_lines.proofs.Common.{◌≡◌, ◌+◌, ◌||◌, ℕ, Bool, true, false, List, [], ◌∷◌, refl, sym, ◌∙◌, ap, arith, if◌then◌else◌, bytes_eq, Line, Thing, compared, SoFar, Compares, CountsLine, raw_thing, Replaced, LineAt, or-true}
 use Rattle.cweb_lines.proofs.AddedEvents.{adds_none, adds_one}
 
--- where no raw line is left, old lines take none
 none_taken : (olds : List (List ℕ)) → (compared olds []).taken ≡ []
 none_taken [] = refl
 none_taken (old ∷ olds) = refl

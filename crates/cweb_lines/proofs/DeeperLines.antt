@@ -1,10 +1,10 @@
--- What comes of lines that lie deeper, with other numbers of files.
+-- Lines at a greater depth, with other file numbers, merge in the same way.
 use Rattle.cweb_lines.proofs.Common.{map-append, ◌≡◌, ◌≤◌, ◌+◌, ◌<◌, ◌⊎◌, inl, inr, ℕ, zero, suc, Bool, true, false, List, [], ◌∷◌, ◌++◌, map, None, Some, Option, refl, sym, ◌∙◌, ap, append-nil, subst, arith, length, nat_tests, nat_lt, AllByRecursion, list_any, SourceLine, CutLine, lines_in, numbered_lines, cut_lines, trimmed, Found, World, found_at, include_name, is_include_line, is_too_deep, at_place, Event, RawLine, MergeStateModel, Thing, Next, fault, given, onto, opening, passed, raw, raws, run_steps, seek, started, taking, told, took, fault_renumbered, line_renumbered, renumbered, outcome_of_events, reported_faults, or_parts, merge, merge_end, merge-run_steps, merge_next, halts, TooDeep, OPEN_FILES}
 use Rattle.cweb_lines.proofs.IndependentLines.{IsNoSearch, Kind, becomes, faults, found_kind, gives, included_kind, kind_of, onto_some, opened_kind, opens, plain_kind, raw_is, raws_seek_not}
 use Rattle.cweb_lines.proofs.Merges.{state}
 use Rattle.cweb_lines.proofs.OutcomeOfEvents.{fault_first, line_first, name_first}
 
--- no include line lies too deep
+-- No include line is too deep.
 abbrev pub IsShallow : List Event → Type 0
 IsShallow events = list_any (λ fault. is_too_deep fault.kind) (reported_faults events) ≡ false
 
@@ -14,7 +14,7 @@ shallow_tail (fault f ∷ front) rest is = shallow_tail front rest (or_parts (is
     (list_any (λ fault. is_too_deep fault.kind) (reported_faults (front ++ rest))) is).1
 shallow_tail (_ ∷ front) rest is = shallow_tail front rest is
 
--- so much deeper, and with files that have other numbers
+-- Lines that are deeper by `by`. `number` maps file numbers.
 module _ (world : World) (by : ℕ) (number : ℕ → ℕ) where
   abbrev pub source_from : SourceLine → SourceLine
   source_from source = record { line = line_renumbered number source.line; length = source.length; size = source.size }
@@ -42,7 +42,7 @@ module _ (world : World) (by : ℕ) (number : ℕ → ℕ) where
   abbrev deep_fault : RawLine → Kind
   deep_fault r = faults (at_place TooDeep (raw_from r).source.line.place)
 
-  -- what a raw line comes to so much deeper: the same, or it lies too deep
+  -- A deeper raw line has the same kind, or it is too deep.
   abbrev Same : RawLine → Kind → Kind → Type 0
   Same r kind deeper = (deeper ≡ kind_from kind) ⊎ ((0 < by) × (deeper ≡ deep_fault r))
 
@@ -72,7 +72,6 @@ module _ (world : World) (by : ℕ) (number : ℕ → ℕ) where
   plain_same r false = inl refl
   plain_same r true = included_same r (include_name r.source.line.bytes)
 
-  -- a line of a file as a raw line to come
   abbrev raw_of : ℕ → Bool → ℕ → ℕ → CutLine → Thing
   raw_of depth may_match file line text = raw (record {
     source = record {
@@ -92,11 +91,9 @@ module _ (world : World) (by : ℕ) (number : ℕ → ℕ) where
   raws_from depth depth' may_match file file' line (text ∷ texts) things deep is = (λ i. raw_of (deep i) may_match
       (is i) line text ∷ raws_from depth depth' may_match file file' (line + 1) texts things deep is i)
 
-  -- all that comes of the things so much deeper
   abbrev deep_events : ℕ → List Thing → List Event
   deep_events files things = merge world (state (map thing_from things) None [] (number files))
 
-  -- they lie no deeper, or none of them lies too deep
   abbrev MayLie : List Event → Type 0
   MayLie events = (by ≡ 0) ⊎ IsShallow events
 
@@ -104,7 +101,6 @@ module _ (world : World) (by : ℕ) (number : ℕ → ℕ) where
   lie_on front rest (inl none) = inl none
   lie_on front rest (inr shallow) = inr (shallow_tail front rest shallow)
 
-  -- behind a first step
   goes_on : (first events : List Event) (later : Option (List Event)) (all rest : List Event)
       → onto first later ≡ Some events → all ≡ map event_from first ++ rest → MayLie all
       → ((es : List Event) → later ≡ Some es → MayLie rest → rest ≡ map event_from es) → all ≡ map event_from events
@@ -116,7 +112,6 @@ module _ (world : World) (by : ℕ) (number : ℕ → ℕ) where
       ∙ sym (map-append event_from first x.0) ∙ ap (map event_from) x.2
 
   module _ (next : (files : ℕ) → 0 < files → number (files + 1) ≡ number files + 1) where
-    -- so many steps are enough for the things where they lie
     abbrev Goes : ℕ → Type 0
     Goes n = (files : ℕ) (things : List Thing) (events : List Event) → 0 < files → AllByRecursion IsNoSearch things
         → run_steps n world (state things None [] files) ≡ Some events → MayLie (deep_events files things)
@@ -200,7 +195,7 @@ module _ (world : World) (by : ℕ) (number : ℕ → ℕ) where
     seen_from (fault f ∷ events) = ap (fault_first (fault_renumbered number f)) (seen_from events)
     seen_from (opening name ∷ events) = ap (name_first name) (seen_from events)
 
-    -- what is seen of a text so much deeper
+    -- The outcome of a file that is deeper.
     pub seen_deeper : (text : List ℕ) (file : ℕ) → number 0 ≡ file →
         let deep = merge world (state (raws (1 + by) true (lines_in file text)) None [] (number 1)) in
         MayLie deep → outcome_of_events deep ≡ renumbered number (outcome_of_events (merge world (started text None)))

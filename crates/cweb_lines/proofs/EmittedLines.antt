@@ -1,8 +1,7 @@
--- Lines that pass through, as a merge takes them and gives them out.
+-- Lines that pass through are taken and emitted one by one.
 use Rattle.cweb_lines.proofs.Common.{◌≡◌, ◌+◌, ℕ, Bool, List, [], ◌∷◌, ◌++◌, length, map, Option, Some, None, refl, sym, ◌∙◌, ap, arith, length-append, Place, WaitingEntry, World, SourceLine, numbered_lines, trimmed, Event, Thing, took, given, raws, AllPassThrough, IsStretchAt, line_with_newline, lines_next, trimmed_with_newlines, sources_next, with_newlines, stretch_bytes, matches_at, number_or_zero, source_depth, AreShort, emitted_lines, openings, size_of_lines, taken_lines, reported_faults, merge, written_lines, Stretch, OpenSource}
 use Rattle.cweb_lines.proofs.Merges.{merge_given, state}
 
--- each is taken and given out
 abbrev pub events_of : List SourceLine → List Event
 events_of [] = []
 events_of (source ∷ sources) = took source ∷ given source.line ∷ events_of sources
@@ -23,7 +22,6 @@ pub events-taken : (sources : List SourceLine) → taken_lines (events_of source
 events-taken [] = refl
 events-taken (source ∷ sources) = simp (events-taken sources)
 
--- what a merge gives of lines that pass through
 merge_lines : (world : World) (entry : Option WaitingEntry) (may_match : Bool) (depth file number : ℕ)
     (lines : List (List ℕ))
     (things : List Thing) (change : List SourceLine) (files : ℕ) → AllPassThrough entry may_match lines
@@ -45,7 +43,6 @@ merge_lines world entry may_match depth file number (line ∷ lines) things chan
     ∙ ap (λ (es : List Event). took source ∷ given source.line ∷ es)
     (merge_lines world entry may_match depth file (number + 1) lines things change files passing.1)
 
--- what these lines are, by the text that they stand in
 pub merge_next_lines : {R : Type 0} (world : World) (entry : Option WaitingEntry) (slot : Option (OpenSource R))
     (s : Stretch)
     (lines : List (List ℕ)) (things : List Thing) (change : List SourceLine) (files : ℕ)

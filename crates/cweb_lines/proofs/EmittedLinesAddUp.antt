@@ -1,7 +1,6 @@
--- How what came adds up.
+-- The events of consecutive calls are concatenated.
 use Rattle.cweb_lines.proofs.Common.{◌≡◌, ◌+◌, ℕ, List, [], ◌∷◌, ◌++◌, refl, sym, ◌∙◌, ap, subst, arith, length, length-append, append_assoc, Place, Line, SourceLine, Event, took, given, fault, opening, SoFar, EmitsLines, EmitsAfterLine, Stopped, StopsAfterLines, ReadFailsAfterLines, CountsLine, emitted_lines, reported_faults, openings, taken_lines, size_of_lines, AreShort, Stop, ReadFault, LineTooLong, TooMuchText, Memory}
 
--- a line was taken before
 pub gives_took : (lines : List Line) (old mid new : SoFar) (bytes : List ℕ)
     (place : Place) (t : CountsLine bytes place old.count mid.count) (first all later : List Event)
     → mid.faults ≡ old.faults
@@ -69,7 +68,6 @@ gives_both lines more old mid new all now later a b = record {
       (short-append (taken_lines a.events) (taken_lines b.events) a.short b.short);
 }
 
--- a stop behind what came
 pub behind_both : (lines more : List Line) (stop : Stop) (old mid new : SoFar) (all rest : List Event) →
     EmitsLines lines old mid all rest → StopsAfterLines more stop mid new rest
     → StopsAfterLines (lines ++ more) stop old new all
@@ -83,7 +81,6 @@ behind_both lines more stop old mid new all rest gives stops = record {
   stops = stops.stops;
 }
 
--- a read fault behind what came
 pub reads_both : (lines more : List Line) (old mid new : SoFar) (all rest : List Event) →
     EmitsLines lines old mid all rest → ReadFailsAfterLines more mid new rest
     → ReadFailsAfterLines (lines ++ more) old new all

@@ -1,4 +1,4 @@
--- A change file of no entries is no change file.
+-- A change file without entries changes nothing.
 use Rattle.cweb_lines.proofs.Common.{◌≡◌, ◌<◌, ◌+◌, inl, ℕ, zero, suc, true, [], None, refl, ◌∙◌, ap, arith, list_any, lines, lines_in, cut_lines, ChangeFilesWithoutEntriesChangeNothing, file_with_change, is_change_code, raws}
 use Rattle.cweb_lines.proofs.DeeperLines.{seen_deeper}
 use Rattle.cweb_lines.proofs.Entries.{finds_none}

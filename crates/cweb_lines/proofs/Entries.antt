@@ -1,4 +1,4 @@
--- What becomes of the lines of an entry, and of lines that begin no change.
+-- The lines of an entry, and lines that begin no change.
 use Rattle.cweb_lines.proofs.Common.{◌≡◌, ◌≢◌, ◌&&◌, ℕ, Bool, true, false, List, [], ◌∷◌, ◌++◌, map, None, Some, Option, refl, sym, ◌∙◌, ap, append-nil, bytes_eq-Decides, list_any, bytes_eq, Place, Line, SourceLine, World, is_include_line, WaitingEntry, Sought, after_x, change_code, old_at, old_lines, outside, passing, sought, is_change_code, followed_by, only_lines, outcome_of_events, Event, RawLine, Thing, at_entry, compared, given, new_at, new_lines, passed, plain, raws, taking, took, merge, merge_end, merge_next, Code, or_parts}
 use Rattle.cweb_lines.specs.declared.change.code.Code.TheVariants.{EndSide as end_side, NewSide as new_side, OldSide as old_side}
 use Rattle.cweb_lines.proofs.Merges.{state}
@@ -10,7 +10,6 @@ bytes_in lines = map (λ source. source.line.bytes) lines
 abbrev pub lines_of : List SourceLine → List Line
 lines_of lines = map (λ source. source.line) lines
 
--- among lines that are no codes there is no entry
 pub finds_none : (lines : List SourceLine) → list_any is_change_code (bytes_in lines) ≡ false
     → sought lines None ≡ record { faults = []; taken = lines; entry = None; rest = [] }
 finds_none [] none = refl
@@ -18,7 +17,6 @@ finds_none (line ∷ lines) none =
     let parts = or_parts (is_change_code line.line.bytes) (list_any is_change_code (bytes_in lines)) none in
     simp (no_code (change_code line.line.bytes) parts.0, finds_none lines parts.1)
 
--- the entry that begins with these two lines
 abbrev pub entry_of : SourceLine → SourceLine → WaitingEntry
 entry_of x first = record { begin = x.line.place; first = first.line.bytes }
 
@@ -28,7 +26,6 @@ first_old : (bytes : List ℕ) (code : Option Code) (begin : Place) (first : Sou
 first_old [] code begin first rest later some none = absurd (some refl)
 first_old (b ∷ bs) code begin first rest later some none = ap (λ c. after_x (b ∷ bs) c begin first rest later) none
 
--- a search passes over a comment, and finds the entry behind it
 pub finds : (comment : List SourceLine) (x first : SourceLine) (rest : List SourceLine)
     → list_any is_change_code (bytes_in comment) ≡ false → change_code x.line.bytes ≡ Some old_side
     → first.line.bytes ≢ [] → change_code first.line.bytes ≡ None → sought (comment ++ (x ∷ first ∷ rest)) None
@@ -40,7 +37,6 @@ finds (line ∷ comment) x first rest no_codes begins some none =
     let parts = or_parts (is_change_code line.line.bytes) (list_any is_change_code (bytes_in comment)) no_codes in
     simp (no_code (change_code line.line.bytes) parts.0, finds comment x first rest parts.1 begins some none)
 
--- the further old lines go up to the @y line
 pub old_splits : (further : List SourceLine) (y : SourceLine) (rest : List SourceLine)
     → list_any is_change_code (bytes_in further) ≡ false → change_code y.line.bytes ≡ Some new_side
     → old_lines (further ++ (y ∷ rest))
@@ -50,7 +46,6 @@ old_splits (line ∷ further) y rest no_codes turns =
     let parts = or_parts (is_change_code line.line.bytes) (list_any is_change_code (bytes_in further)) no_codes in
     simp (no_code (change_code line.line.bytes) parts.0, old_splits further y rest parts.1 turns)
 
--- raw lines that equal the further old lines are taken away
 pub compares : (depth : ℕ) (may_match : Bool) (lines : List SourceLine) (later : List Thing)
     → compared (bytes_in lines) (raws depth may_match lines ++ later)
     ≡ record { unequal = 0; taken = lines; ran_out = false; rest = later }
@@ -58,7 +53,6 @@ compares depth may_match [] later = refl
 compares depth may_match (line ∷ lines) later =
     simp ((bytes_eq-Decides line.line.bytes line.line.bytes).1 refl, compares depth may_match lines later)
 
--- the new lines go up to the @z line
 pub new_splits : (depth : ℕ) (begin : Place) (new : List SourceLine) (z : SourceLine) (rest : List SourceLine)
     → list_any is_change_code (bytes_in new) ≡ false → change_code z.line.bytes ≡ Some end_side
     → new_lines depth begin (new ++ (z ∷ rest))
@@ -68,7 +62,6 @@ new_splits depth begin (line ∷ new) z rest no_codes ends =
     let parts = or_parts (is_change_code line.line.bytes) (list_any is_change_code (bytes_in new)) no_codes in
     simp (no_code (change_code line.line.bytes) parts.0, new_splits depth begin new z rest parts.1 ends)
 
--- lines that begin no include and no change are given out
 pub gives_out : (world : World) (depth : ℕ) (may_match : Bool) (lines : List SourceLine) (later : List Thing)
     (change : List SourceLine) (files : ℕ) → list_any is_include_line (bytes_in lines) ≡ false
     → outcome_of_events (merge world (state (raws depth may_match lines ++ later) None change files))
@@ -93,7 +86,6 @@ gives_alone world depth may_match lines change files plain_lines = ap (λ (ts : 
     (merge_end world (state [] None change files) refl)
     ∙ ap only_lines (append-nil (lines_of lines))
 
--- and where an entry waits that none of them equals
 pub passes_by : (world : World) (depth : ℕ) (entry : WaitingEntry) (lines : List SourceLine) (later : List Thing)
     (change : List SourceLine) (files : ℕ) → list_any is_include_line (bytes_in lines) ≡ false
     → list_any (λ line. bytes_eq line entry.first) (bytes_in lines) ≡ false

@@ -1,4 +1,4 @@
--- Answers that a call can't give at once.
+-- Results of a call that exclude each other.
 use Rattle.cweb_lines.proofs.Common.{◌≡◌, Bool, true, false, IsTrue, Option, Some, None, Result, Ok, Err, Place, Turn, Emitted, On, Ended}
 
 pub some_none : {A : Type 0} (answer : Option A) (a : A) → answer ≡ None → answer ≡ Some a → ⊥

@@ -1,4 +1,4 @@
--- An include line is replaced by the merged lines of its text.
+-- An include line is replaced by the merged lines of its file.
 use Rattle.cweb_lines.proofs.Common.{◌≡◌, ◌≢◌, ◌<◌, ◌+◌, ℕ, Bool, true, false, List, [], ◌∷◌, ◌++◌, None, Some, refl, sym, ◌∙◌, ap, append-nil, subst, arith, length, nat_tests, AllByRecursion, nat_lt, SourceLine, lines_in, World, include_name, is_include_line, at_place, IncludeLinesAreReplaced, Includes, LinesComeApart, MergeOutcome, followed_by, outcome_of_events, outcome_of_lines, Event, Next, RawLine, MergeStateModel, Thing, fault, given, included, obeyed, open_include, opening, plain, raw, raws, taking, took, openings, merge, merge-run_steps, merge_end, merge_next, halts, NoName, NotThere, TooDeep, OPEN_FILES}
 use Rattle.cweb_lines.proofs.IndependentLines.{IsNoSearch, front, raws_seek_not}
 use Rattle.cweb_lines.proofs.Merges.{state}
@@ -10,7 +10,6 @@ pub raws_seek_none : (depth : ℕ) (may_match : Bool) (lines : List SourceLine)
 raws_seek_none depth may_match lines = subst
     (AllByRecursion IsNoSearch) (append-nil (raws depth may_match lines)) (raws_seek_not depth may_match lines [] tt)
 
--- what stands behind some things comes as if alone
 pub in_two : (world : World) (things later : List Thing) (change : List SourceLine) (files : ℕ)
     → AllByRecursion IsNoSearch things →
     let first = merge world (state things None change files) in
@@ -23,7 +22,6 @@ in_two world things later change files none =
     ∙ ap (λ (es : List Event). es ++ merge world (state later None change (files + length (openings es))))
     (sym (merge-run_steps first.steps world s first.events first.comes))
 
--- an include line that names something
 names_some : (world : World) (r : RawLine) (s : MergeStateModel) (things : List Thing) (next : Next) (b : Bool)
     → is_include_line r.source.line.bytes ≡ true → include_name r.source.line.bytes ≢ [] → nat_lt r.depth OPEN_FILES ≡ b
     → open_include b world (include_name r.source.line.bytes) s r things ≡ next
@@ -35,7 +33,6 @@ names_some world r s things next b include named room is = ap (λ b. plain b wor
     by [] some is = absurd (some refl)
     by (c ∷ cs) some is = ap (λ t. open_include t world (c ∷ cs) s r things) room ∙ is
 
--- an include line that finds its text opens it
 opens_text : (world : World) (r : RawLine) (things : List Thing) (s : MergeStateModel) (name text : List ℕ)
     → Includes world r.source.line.bytes name text → r.depth < OPEN_FILES
     → plain (is_include_line r.source.line.bytes) world s r things ≡ obeyed (Some (name, text)) s r things
@@ -44,7 +41,6 @@ opens_text world r things s name text includes shallow =
     names_some world r s things (obeyed (Some (name, text)) s r things) true includes.include includes.named room
     (ap (λ found. obeyed found s r things) includes.found)
 
--- a line by which one event comes
 one_event : (world : World) (depth files : ℕ) (line : SourceLine) (event : Event) →
     let r : RawLine = record { source = line; depth = depth; may_match = true } in
     let s = state (raw r ∷ []) None [] files in

@@ -1,4 +1,4 @@
--- The merged lines of an included text are those that it has as a web of its own.
+-- An included file merges as a web of its own.
 use Rattle.cweb_lines.proofs.Common.{◌+◌, inr, arith, IncludesMergeAsWebs}
 use Rattle.cweb_lines.proofs.DeeperLines.{seen_deeper}
 

@@ -1,9 +1,8 @@
--- What comes of lines where no change is pending: what stands behind them comes as if alone, and the numbers of files
--- don't matter.
+-- Without a pending change, lines merge independently of those before them, and file numbers don't matter.
 use Rattle.cweb_lines.proofs.Common.{OPEN_FILES, nat_lt, ◌≡◌, ◌+◌, ℕ, zero, suc, Bool, true, false, List, [], ◌∷◌, ◌++◌, None, Some, Option, refl, sym, ◌∙◌, ap, arith, length, append_assoc, AllByRecursion, Line, SourceLine, lines_in, World, Found, found_at, include_name, is_include_line, at_place, Event, Next, RawLine, MergeStateModel, Thing, at_raw, fault, given, included, obeyed, onto, open_include, opening, passed, past, plain, raw, raws, run_steps, seek, taking, told, took, openings, merge, merge_next, SourceFault, NoName, NotThere, TooDeep}
 use Rattle.cweb_lines.proofs.Merges.{state}
 
--- what a raw line comes to, where it begins no change: it is given out, is a fault, or opens a text
+-- A raw line that begins no change is emitted, is a fault, or opens a file.
 pub data Kind : Type 0 where
   gives : Line → Kind
   faults : SourceFault → Kind
@@ -14,7 +13,6 @@ becomes (gives line) s r things = (given line ∷ [], past s things)
 becomes (faults f) s r things = (fault f ∷ [], past s things)
 becomes (opens found) s r things = obeyed (Some found) s r things
 
--- what that is, by the line
 abbrev pub found_kind : Option Found → RawLine → Kind
 found_kind None r = faults (at_place NotThere r.source.line.place)
 found_kind (Some found) r = opens found
@@ -55,7 +53,6 @@ module _ (world : World) (r : RawLine) (s : MergeStateModel) (things : List Thin
   pub raw_is : at_raw None world s r things ≡ becomes (kind_of world r) s r things
   raw_is = plain_is (is_include_line r.source.line.bytes)
 
--- no search for an entry
 abbrev pub IsNoSearch : Thing → Type 0
 IsNoSearch seek = ⊥
 IsNoSearch (raw r) = Unit {0}
@@ -72,17 +69,16 @@ pub onto_some : (events all : List Event) (later : Option (List Event)) → onto
 onto_some events all None is = absurd (cc)
 onto_some events all (Some rest) is = (rest, refl, cc)
 
--- What stands behind some lines comes as if alone.
+-- The things in `later` merge as they do alone.
 module _ (world : World) (later : List Thing) (change : List SourceLine) where
   abbrev coming_of : ℕ → List Thing → List Event
   coming_of files things = merge world (state things None change files)
 
-  -- these events come of the things, and then what stands behind them, with the files that they opened counted
+  -- These events come first, then those of `later`, with the opened files counted.
   abbrev Comes : ℕ → List Thing → List Event → Type 0
   Comes files things events =
       coming_of files (things ++ later) ≡ events ++ coming_of (files + length (openings events)) later
 
-  -- so many steps are enough for the things alone
   abbrev Runs : ℕ → ℕ → List Thing → List Event → Type 0
   Runs n files things events = run_steps n world (state things None change files) ≡ Some events
 
@@ -90,7 +86,6 @@ module _ (world : World) (later : List Thing) (change : List SourceLine) where
   front_none files [] is = ap (λ f. coming_of f later) (omega arith)
   front_none files (e ∷ es) is = absurd (cc)
 
-  -- behind a raw line, where so many steps do for what is behind it
   front_raw : (n : ℕ) (r : RawLine) (things : List Thing) (files : ℕ) (events : List Event)
       → AllByRecursion IsNoSearch things → ((f : ℕ) (ts : List Thing) (es : List Event)
       → AllByRecursion IsNoSearch ts → Runs n f ts es → Comes f ts es) → (kind : Kind) →

@@ -1,4 +1,4 @@
--- The laws' premises can be met, and what they say is computed from the definition of the merge.
+-- Worked examples of the laws: their premises can be met.
 use Rattle.cweb_lines.proofs.Common.{◌≡◌, ◌+◌, true, false, List, [], ◌∷◌, ◌++◌, Option, Some, None, refl, cond, codes, option_map, bytes_eq, AllByRecursion, list_any, lines, lines_in, World, is_include_line, Includes, IsPlainSplice, Splice, file_with_change, is_change_code, spliced, web_lines, MergeOutcome, only_lines, placed, renumbered, outcome_of_events, Event, raws, run_steps, started, written_lines, NoMatch, NoName}
 use Rattle.std.specs.Str.{is_utf8, chars}
 use lib.Utf8.{encode}
@@ -18,7 +18,7 @@ a_file_included = record {
       None;
 }
 
--- a change that includes a file: what it prints, and what is printed again
+-- A change that includes a file, its output, and that output merged again.
 abbrev changed_web : Option MergeOutcome
 changed_web = seen_by (run_steps 30 a_file_included (started (codes "A\nC\n") (Some (codes "@x\nA\n@y\n@i b\n@z\n"))))
 
@@ -26,7 +26,7 @@ include_line : Includes a_file_included (codes "@i b") (codes "b") (codes "B\n@i
 unfolding is_utf8 chars encode
 include_line = record { include = refl; named = λ is. cc; found = refl }
 
--- what stands before and behind the include line, and the text that it names
+-- The lines around an include line, and the lines of its file.
 abbrev before_and_behind : MergeOutcome
 before_and_behind = record {
   lines = placed 0 1 (codes "A" ∷ []) ++ placed 1 1 (codes "B" ∷ []) ++ placed 0 3 (codes "C" ∷ []);
@@ -34,7 +34,7 @@ before_and_behind = record {
   included = codes "b" ∷ [];
 }
 
--- a change of two lines, the second an include line, and one that only drops a line
+-- A change of two lines, the second an include line, and one that only deletes a line.
 abbrev two_changes : List Splice
 two_changes =
     record {
@@ -96,7 +96,7 @@ record Computed : Type 0 where
   its_own_lines : seen_by (run_steps 10 no_texts (started (codes "one \n\n@ two") None))
       ≡ Some (only_lines (placed 0 1 (codes "one" ∷ [] ∷ codes "@ two" ∷ [])))
   change_file_without_entries : list_any is_change_code (lines (codes "a comment\n@ alone\n")) ≡ false
-  -- the included file is file 2 in place of 1, with its fault too
+  -- the included file is file 2 instead of 1
   it_changes_nothing : seen_by (run_steps 20 a_file_included
       (started (codes "A\n@i b\n") (Some (codes "a comment\n@ alone\n"))))
       ≡ option_map (renumbered file_with_change)
@@ -121,7 +121,7 @@ record Computed : Type 0 where
       ≡ Some (only_lines (spliced 1 1 two_changes (codes "D" ∷ [])))
   they_show : spliced 1 1 two_changes (codes "D" ∷ []) ≡ placed 0 1 (codes "A" ∷ []) ++ placed 1 6
       (codes "b" ∷ codes "bb" ∷ []) ++ placed 0 5 (codes "D" ∷ [])
-  -- the second entry is never looked at
+  -- the second entry is never reached
   entry_without_match : seen_by
       (run_steps 30 no_texts (started (codes "A\n") (Some (codes "why\n@x\nZ\n@z\n@x\nA\n@y\n@z\n"))))
       ≡ Some (record {
@@ -129,7 +129,7 @@ record Computed : Type 0 where
         faults = record { kind = NoMatch; place = record { file = record { 0 = 1 }; line = 2 }; count = 0 } ∷ [];
         included = [];
       })
-  -- the text of an include line as it comes at depth 2, as file 1, and as it comes of a web of its own
+  -- an included file at depth 2 as file 1, and the same file as a web
   it_merges_as_a_web : seen_by (run_steps 20 a_file_included (record
       { things = raws 2 true (lines_in 1 (codes "A\n@i b\n")); pending = None; change = []; files = 2 })) ≡ option_map
       (renumbered (λ number. 1 + number)) (seen_by (run_steps 20 a_file_included (started (codes "A\n@i b\n") None)))

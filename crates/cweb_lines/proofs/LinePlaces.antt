@@ -1,8 +1,7 @@
--- Lines that lie in a file, from a number on.
+-- The places of consecutive lines of a file.
 use Rattle.cweb_lines.proofs.Common.{◌≡◌, ◌+◌, ℕ, suc, List, [], ◌∷◌, ◌++◌, map, refl, ◌∙◌, ap, subst, arith, length, Line, SourceLine, CutLine, numbered_lines, trimmed, placed, placed_line}
 use Rattle.cweb_lines.proofs.Entries.{bytes_in, lines_of}
 
--- these lines lie in a file from this number on
 abbrev pub Lie : ℕ → ℕ → List (List ℕ) → List SourceLine → Type 0
 Lie file number texts lines = lines_of lines ≡ placed file number texts
 
@@ -23,7 +22,6 @@ bytes_of file number (text ∷ texts) (line ∷ lines) lie =
     ap (λ (bytes : List ℕ). bytes ∷ bytes_in lines) (ap (λ (l : Line). l.bytes) first)
     ∙ ap (λ (ls : List (List ℕ)). text ∷ ls) (bytes_of file (number + 1) texts lines later)
 
--- lines in two
 pub record Parts (file number : ℕ) (first later : List (List ℕ)) (lines : List SourceLine) : Type 0 where
   pub front : List SourceLine
   pub rest : List SourceLine

@@ -1,4 +1,4 @@
--- Lines that stand one behind another in a piece, and what they are in their text.
+-- Adjacent lines in the buffer, and the lines of the source that they are.
 use Rattle.cweb_lines.proofs.Common.{◌≡◌, ◌≤◌, ◌<◌, ◌+◌, ◌-◌, ℕ, Bool, List, [], ◌∷◌, ◌++◌, length, map, take, drop, Option, Some, None, refl, sym, ◌∙◌, ap, arith, take-add, append_assoc, append_cancel_right, drop-drop, length-append, length-map, length-take, map-append, take-take, take_all, slice_range, IfSome, WaitingEntry, SplitsAt, CutLine, numbered_lines, cut_lines, trimmed, AllPassThrough, HasRoomFor, IsStretch, PassesThrough, Reaches, IsStretchOf, line_with_newline, trimmed_with_newlines, sources_next, with_newlines, buffered, lines_at, TakenCounters, LINES, BYTES, Stretch, OpenSource}
 use Rattle.cweb_input.proofs.Newlines.{behind, text_lines-full}
 
@@ -16,7 +16,6 @@ passing-append : (entry : Option WaitingEntry) (may_match : Bool) (a b : List (L
 passing-append entry may_match [] b first then = then
 passing-append entry may_match (line ∷ a) b first then = (first.0, passing-append entry may_match a b first.1 then)
 
--- what stands from one place to another, by a place between
 pub slice_split : (buffer : List ℕ) (i j k : ℕ) → i ≤ j → j ≤ k
     → slice_range buffer i k ≡ slice_range buffer i j ++ slice_range buffer j k
 slice_split buffer i j k low high =
@@ -26,7 +25,7 @@ slice_split buffer i j k low high =
     ∙ ap (λ (l : List ℕ). take (j - i) (drop i buffer) ++ take (k - j) l)
     (drop-drop (j - i) i buffer ∙ ap (λ n. drop n buffer) place)
 
--- one line
+-- One line of the buffer.
 module _ (entry : Option WaitingEntry) (may_match : Bool) (buffer : List ℕ) (start end at len : ℕ)
     (splits : SplitsAt (slice_range buffer start end) at) (le : start ≤ end) (within : len ≤ at)
     (trims : take len (take at (slice_range buffer start end)) ≡ trimmed (take at (slice_range buffer start end)))
@@ -70,7 +69,6 @@ module _ (entry : Option WaitingEntry) (may_match : Bool) (buffer : List ℕ) (s
     before = omega (arith, text, ends, within);
   }
 
--- lines, the last without blanks at its end, and those behind them
 pub joined : (entry : Option WaitingEntry) (may_match : Bool) (buffer : List ℕ) (start : ℕ) (s t u : Stretch)
     (a b : List (List ℕ)) → IsStretch entry may_match buffer start s a → s.text + 1 ≡ s.end
     → IsStretch entry may_match buffer s.end t b → u.text ≡ t.text → u.end ≡ t.end → u.lines ≡ s.lines + t.lines
@@ -109,7 +107,6 @@ pub few_lines : (lines : List (List ℕ)) → length lines ≤ length (with_newl
 few_lines [] = omega arith
 few_lines (line ∷ lines) = omega (arith, few_lines lines, length-append line (10 ∷ with_newlines lines))
 
--- no more lines than bytes
 pub lines_within : {entry : Option WaitingEntry} {may_match : Bool} {buffer : List ℕ} {start end : ℕ} {s : Stretch}
     → Reaches entry may_match buffer start end s → start + s.lines ≤ s.end
 lines_within reaches = omega (arith, reaches.1.lines, reaches.1.size, few_lines reaches.0)
@@ -123,7 +120,6 @@ reaches_more {entry = e} {may_match = m} {buffer = buffer} {start = start} s t u
   omega (arith, ends, then.2),
 )
 
--- lines of an open text, where there is room for all that was read of it
 pub stands_in : {R : Type 0} (entry : Option WaitingEntry) (text : OpenSource R) (limits : TakenCounters)
     (next : Option Stretch)
     → limits.lines + (text.source.end - text.source.start) ≤ LINES
@@ -140,7 +136,6 @@ stands_in entry text limits (Some s) few small reaches = (
   },
 )
 
--- the lines of a text that begins with them
 text_lines-standing : (entry : Option WaitingEntry) (may_match : Bool) (lines : List (List ℕ)) (rest : List ℕ)
     → AllPassThrough entry may_match lines
     → cut_lines (with_newlines lines ++ rest) ≡ map line_with_newline lines ++ cut_lines rest
@@ -160,7 +155,6 @@ numbered-append file number (line ∷ a) b =
     let next : number + 1 + length a ≡ number + length (line ∷ a) = omega arith in
     simp (numbered-append file (number + 1) a b, next)
 
--- the lines that an open text has left, where lines are taken that stand in what was read
 pub takes_lines : {R : Type 0} (entry : Option WaitingEntry) (text : OpenSource R) (s : Stretch) (lines : List (List ℕ))
     → IsStretchOf entry text s lines → (left : R → List ℕ) → lines_at left (Some text) ≡ sources_next (Some text) lines
     ++ numbered_lines text.file.0 (text.line + s.lines + 1)

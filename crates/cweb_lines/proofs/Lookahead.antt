@@ -1,4 +1,4 @@
--- Lines that are looked at where they lie, one behind another.
+-- Lookahead at consecutive lines in the buffer.
 use Rattle.cweb_lines.proofs.Common.{◌≡◌, ◌≤◌, ◌<◌, ◌+◌, ◌-◌, ℕ, List, [], ◌∷◌, ◌++◌, length, map, Option, None, Some, refl, sym, ◌∙◌, ap, subst, arith, append_cancel_right, length-append, length-map, map-append, slice_range, unwrap_or, IfSome, OnSome, Place, FitsLimits, FitsLimitsAt, IsAhead, LooksAhead, LooksAheadIn, WaitingEntry, BorrowsLines, line_span_at, Line, IsOneLine, SourceLine, numbered_lines, trimmed, pending_of, so_far_of, ComesNext, EmitsBufferedLines, HasRoomFor, IsStretch, Reaches, IsStretchAt, IsStretchOf, line_with_newline, lines_next, top_of, IsSettled, floor_of, files_up_to, TakenCounters, LINES, Ahead, LineSpan, Stretch, MergeState, OpenSource}
 use Rattle.cweb_lines.proofs.ReportsOnlyGrow.{grows_told, told_given, told_then}
 use Rattle.cweb_input.proofs.SourceStacks.{most_at}
@@ -6,7 +6,7 @@ use Rattle.cweb_lines.proofs.LinesInBuffer.{few_lines, joined, numbered-append}
 use Rattle.cweb_lines.proofs.EmittedLinesAddUp.{gives_both}
 use Rattle.cweb_input.proofs.TrimmedLines.{trimmed-length, trimmed-line}
 
--- one line behind others
+-- One line after others.
 module _ {R : Type 0} (entry : Option WaitingEntry) (text : OpenSource R) (lines : List (List ℕ)) (raw : List ℕ)
     (s : Stretch)
     (ahead : Ahead) (is : IsStretch entry text.may_match text.source.buffer.items ahead.line.from s (raw ∷ []))
@@ -45,7 +45,6 @@ module _ {R : Type 0} (entry : Option WaitingEntry) (text : OpenSource R) (lines
     ordered = stands.is.before;
   }
 
--- the first line
 pub looks_first : {R : Type 0} (entry : Option WaitingEntry) (slot : Option (OpenSource R)) (s : Stretch)
     (line : LineSpan)
     (lines : List (List ℕ)) → IsStretchAt entry slot s lines → s.lines ≡ 1 → Some line ≡ line_span_at slot s
@@ -66,7 +65,6 @@ looks_first entry (Some text) s line (raw ∷ []) stands one is = subst (λ (l :
     place : here.place ≡ record { file = text.file; line = text.line + 1 + 0 }
     place = λ i. record { file = text.file; line = count i }
 
--- a line behind others, of which the last has no blanks at its end
 pub looks_behind : {R : Type 0} (entry : Option WaitingEntry) (text : OpenSource R) (before next all : Stretch)
     (lines : List (List ℕ)) → IsStretchOf entry text before lines → before.text + 1 ≡ before.end
     → Reaches entry text.may_match text.source.buffer.items before.end text.source.end next → next.lines ≡ 1
@@ -107,7 +105,6 @@ looks_behind entry text before next all lines stands joins reaches one text_is e
       within = omega (arith, end_is, reaches.2);
     })
 
--- a line more passes no limit
 pub few_behind : {R : Type 0} (entry : Option WaitingEntry) (text : OpenSource R) (limits : TakenCounters)
     (before next : Stretch)
     (lines : List (List ℕ)) → FitsLimits limits text → text.line ≤ limits.lines → IsStretchOf entry text before lines
@@ -134,7 +131,6 @@ room_for entry limits (Some text) s lines fits stands = record {
   small = omega (arith, fits.small, stands.is.size, stands.within);
 }
 
--- lines of the deepest text come next
 pub looks_at : {R : Type 0} (run : MergeState R) (before : List (List ℕ)) (ahead : Ahead) → IsSettled run.stage
     → floor_of run.stage < run.stack.depth → FitsLimitsAt run.limits (top_of run.stack)
     → LooksAheadIn (pending_of run) (top_of run.stack) before ahead → LooksAhead run before ahead
@@ -182,12 +178,10 @@ pub are_ahead : {R : Type 0} (run : MergeState R) (before : Ahead) (next : Optio
 are_ahead run before None is looks = tt
 are_ahead run before (Some ahead) is looks = is_ahead run is.lines ahead is.fits (looks is.lines is.comes)
 
--- what holds whatever is found
 pub whatever : {A : Type 0} (found : Option A) (P : Type 0) → P → OnSome found P
 whatever None P holds = tt
 whatever (Some x) P holds = holds
 
--- lines were taken
 pub lends_lines : {R : Type 0} (old new : MergeState R) (lines : List Line) → EmitsBufferedLines old new lines
     → BorrowsLines old new
 lends_lines old new lines given = record {

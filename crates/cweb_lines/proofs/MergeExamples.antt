@@ -1,9 +1,9 @@
--- Worked examples, computed from the definition of the merge.
+-- Worked examples of merges.
 use Rattle.cweb_lines.proofs.Common.{◌≡◌, ◌+◌, ℕ, zero, suc, List, [], ◌∷◌, ◌++◌, Option, Some, None, cond, codes, bytes_eq, Place, SourceFault, SourceKind, TooDeep, NotThere, MissingX, NoOldLines, EndedBeforeY, WebEnded, WantsY, Unequal, WantsZ, EndedBeforeZ, NoMatch, Line, lines, World, Event, run_steps, started, emitted_lines, reported_faults, openings, OPEN_FILES, LINE_LENGTH, LINES, BYTES}
 use Rattle.std.specs.Str.{is_utf8, chars}
 use lib.Utf8.{encode}
 
--- what comes out, without the lines taken
+-- The events without the lines taken.
 record Outcome : Type 0 where
   lines : List Line
   faults : List SourceFault
@@ -36,7 +36,7 @@ no_texts = record { texts = λ _. None; inputs = None }
 abbrev one_text : List ℕ → List ℕ → World
 one_text name text = record { texts = λ asked. cond (bytes_eq asked name) (Some text) None; inputs = None }
 
--- the files 0 to n that are the same file, each opened by the one before
+-- The first lines of files 0 to n, each included by the one before.
 abbrev firsts : ℕ → ℕ → List Line
 firsts zero from = []
 firsts (suc n) from = line (codes "P") from 1 ∷ firsts n (from + 1)
@@ -57,9 +57,9 @@ in_lib = record {
 }
 
 record Computed : Type 0 where
-  -- blanks at the ends of lines are dropped, and nothing stands behind the last newline
+  -- trailing blanks are dropped, and there is no line after the last newline
   blanks_at_line_ends : lines (120 ∷ 32 ∷ 13 ∷ 10 ∷ 10 ∷ 121 ∷ 9 ∷ []) ≡ codes "x" ∷ [] ∷ codes "y" ∷ []
-  -- a last line of blanks alone, without newline, is an empty line
+  -- a last line without newline that has only blanks is an empty line
   last_line_of_blanks : lines (codes "x\n  ") ≡ codes "x" ∷ [] ∷ []
   blanks_merged : outcome_of (run_steps 10 no_texts (started (120 ∷ 32 ∷ 13 ∷ 10 ∷ 10 ∷ 121 ∷ 9 ∷ []) None)) ≡ Some
       (record { lines = line (codes "x") 0 1 ∷ line [] 0 2 ∷ line (codes "y") 0 3 ∷ []; faults = []; names = [] })
@@ -73,7 +73,7 @@ record Computed : Type 0 where
         faults = [];
         names = [];
       })
-  -- further old lines are taken over the end of an included file, unequal ones too
+  -- further old lines drop raw lines across the end of an included file, even unequal ones
   change_over_a_file_end : outcome_of (run_steps 20 (one_text (codes "inc.w") (codes "I1\nI2\n"))
       (started (codes "@i inc.w\nL2\nL3\n") (Some (codes "@x\nI2\nLX\n@y\nN\n@z\n"))))
       ≡ Some (record {
@@ -87,11 +87,11 @@ record Computed : Type 0 where
   entry_that_matches_nothing : outcome_of
       (run_steps 20 no_texts (started (codes "A\n") (Some (codes "@x\nZ\n@y\n@z\n"))))
       ≡ Some (record { lines = line (codes "A") 0 1 ∷ []; faults = fault NoMatch 1 1 ∷ []; names = [] })
-  -- no more than `OPEN_FILES` are open: the include line of the deepest is a fault
+  -- at most `OPEN_FILES` files are open: the include line of the deepest is a fault
   file_that_includes_itself : outcome_of (run_steps 90 (one_text (codes "a.w") (codes "P\n@i a.w\nQ\n"))
       (started (codes "P\n@i a.w\nQ\n") None))
       ≡ Some (record { lines = firsts 20 0 ++ lasts 20; faults = fault TooDeep 19 2 ∷ []; names = copies 19 })
-  -- a file is sought as it is named, then in the folder
+  -- a file is sought under its name, then in the folder
   include_in_a_folder : outcome_of (run_steps 20 in_lib (started (codes "one\n@i b.w\nthree\n@i gone\n") None))
       ≡ Some (record {
         lines = line (codes "one") 0 1 ∷ line (codes "two") 1 1 ∷ line (codes "three") 0 3 ∷ [];
@@ -99,7 +99,7 @@ record Computed : Type 0 where
             fault NotThere 0 4 ∷ [];
         names = codes "lib/b.w" ∷ [];
       })
-  -- codes out of place
+  -- misplaced codes
   stray_codes : outcome_of (run_steps 30 no_texts (started (codes "A\nB\n")
       (Some (codes "@y\n@x\nA\n@x\nQ\n@y\nN\n@y\nM\n@z\n"))))
       ≡ Some (record {
@@ -113,7 +113,7 @@ record Computed : Type 0 where
   change_file_ends_among_new_lines : outcome_of
       (run_steps 30 no_texts (started (codes "A\n") (Some (codes "@x\nA\n@y\nN\n"))))
       ≡ Some (record { lines = line (codes "N") 1 4 ∷ []; faults = fault EndedBeforeZ 1 1 ∷ []; names = [] })
-  -- lines that a new line includes do not match
+  -- lines that a new line includes match no entry
   new_lines_do_not_match : outcome_of (run_steps 30 (one_text (codes "inc.w") (codes "B\n"))
       (started (codes "A\nB\n") (Some (codes "@x\nA\n@y\n@i inc.w\n@z\n@x\nB\n@y\nC\n@z\n"))))
       ≡ Some (record {

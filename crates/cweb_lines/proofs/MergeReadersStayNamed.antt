@@ -1,7 +1,6 @@
--- Readers of a run that stay those of their files.
+-- The readers of a merger stay opened under the names of their files.
 use Rattle.cweb_lines.proofs.Common.{◌≡◌, ℕ, List, sym, ap, subst, opened_file_names, AreReadersNamed, AreReadersKnown, IsReaderNamed, OnlyReports, MergeState}
 
--- the texts that are open, and their names, stay
 pub knows_same : {R : Type 0} (opened_as : R → List ℕ) (old new : MergeState R) → new.stack.texts ≡ old.stack.texts
     → new.change ≡ old.change → opened_file_names new.names ≡ opened_file_names old.names
     → AreReadersKnown opened_as old → AreReadersKnown opened_as new

@@ -1,4 +1,4 @@
--- What is to come of a merger's run, for its stack, its stage, its files and its faults.
+-- The events to come of a merger, by its stack, stage, files and faults.
 use Rattle.cweb_lines.proofs.Common.{OnlyOpens, OnlyReports, append-nil, Some, Bool, true, false, if◌then◌else◌, ◌≡◌, ◌≤◌, ◌<◌, ◌+◌, ◌-◌, ℕ, zero, suc, get_or, List, [], ◌∷◌, ◌++◌, Option, None, refl, sym, ◌∙◌, ap, arith, length, length-append, le-max_left, le-max_right, max-le, Place, WaitingEntry, at_place, Found, World, lines_found, names_found, contents_found, optional_string_bytes, SourceLine, lines_in, Event, Thing, fault, raws, seek, new_lines, started, EmitsLines, NothingLeft, events_to_come, so_far_of, things_of, opened_file_names, IsSettled, begun_stage, change_in, files_begun, stage_for, floor_of, pending_in, things_below, things_in, TakenCountersModel, OpensSource, StaysBelow, StopsAbove, TakesAbove, TakesFirst, TopStops, lines_at, lines_left, things_above, things_over, merge, merge_end, merge_next, SourceFault, NoMatch, MergeState, Stack, Change, Stage, Seeking, Waiting, Changing, Stop, LineAt, OpenSource, counters_of}
 use Rattle.cweb_lines.specs.inner.Faults.{files_of_faults}
 use Rattle.cweb_lines.proofs.Merges.{state, gives_fault}
@@ -29,13 +29,12 @@ files_in-at (f ∷ faults) (suc k) d lt = omega (
   le-max_right (f.place.file.0 + 1) (files_of_faults faults),
 )
 
--- all that is to come, by the parts of a run
 abbrev pub coming_of : {R : Type 0} → (List ℕ → Option (List ℕ)) → Option (List ℕ) → (R → List ℕ) → Stage →
     Option (OpenSource R) → List ℕ → ℕ → List Thing → List Event
 coming_of t inputs l stage change first files things = merge (record { texts = t; inputs = inputs })
     (state things (pending_in stage first) (change_in stage (lines_at l change)) files)
 
--- texts below a change, where those above change
+-- The sources below a change are unchanged while those above change.
 below_same : {R : Type 0} (left left' : R → List ℕ) (same : left' ≡ left) (change : Change) (lines : List SourceLine)
     (old new : Stack R) → StaysBelow change.below old.texts new.texts
     → things_below left change lines old ≡ things_below left' change lines new
@@ -43,7 +42,6 @@ below_same left left' same change lines old new stays =
     ap (λ (ts : List Thing). (new_lines change.depth change.begin lines).things ++ seek ∷ ts)
     (sym (stays left change.below (omega arith) []) ∙ ap (λ l. things_over l 0 change.below new.texts []) (sym same))
 
--- a line was taken above the texts that stay open
 pub takes_in : {R : Type 0} (left left' : R → List ℕ) (same : left' ≡ left) (stage : Stage) (lines : List SourceLine)
     (old new : Stack R) (at : Option LineAt) (bytes : List ℕ) (before after : TakenCountersModel) → IsSettled stage
     → TakesAbove left left' (floor_of stage) old new at bytes before after →
@@ -54,7 +52,7 @@ takes_in left left' same (Changing change) lines old new at bytes before after s
     rw (← (below_same left left' same change lines old new stays)) (takes (things_below left change lines old))
 takes_in left left' same _ lines old new at bytes before after settled takes stays = takes []
 
--- things came in front, above the texts that stay open
+-- Things come first, above the sources that stay open.
 pub passes_in : {R : Type 0} (left : R → List ℕ) (stage : Stage) (lines : List SourceLine) (old new : Stack R)
     (first : List Thing) → IsSettled stage → ((rest : List Thing) → things_above left (floor_of stage)
     old rest ≡ first ++ things_above left (floor_of stage) new rest) → StaysBelow (floor_of stage) old.texts new.texts
@@ -71,7 +69,6 @@ stops_in left Seeking lines stack stop count settled stops = absurd (settled ref
 stops_in left (Changing change) lines stack stop count settled stops = stops (things_below left change lines stack)
 stops_in left _ lines stack stop count settled stops = stops []
 
--- a text was opened
 pub opened_in : {R : Type 0} (left : R → List ℕ) (stage : Stage) (lines : List SourceLine) (old new : Stack R)
     (reader : R) (file : ℕ) (at : LineAt) → IsSettled stage → floor_of stage ≤ old.depth
     → OpensSource old new reader file at
@@ -83,21 +80,18 @@ opened_in left (Changing change) lines old new reader file at settled floor open
     (opens left change.below floor (things_below left change lines new))
 opened_in left _ lines old new reader file at settled floor opens stays = opens left 0 (omega arith) []
 
--- no text has lines left, and no entry is left
 pub nothing_above : {R : Type 0} (world : World) (l : R → List ℕ) (stack : Stack R) (files : ℕ) → stack.depth ≡ 0 →
     merge world (state (things_above l 0 stack []) None [] files) ≡ []
 nothing_above world l stack files none = ap (λ (things : List Thing). merge world (state things None [] files))
     (over-none l 0 (stack.depth - 0) stack.texts [] (omega (arith, none)))
     ∙ merge_end world (state [] None [] files) refl
 
--- nothing is left
 pub coming_none : {R : Type 0} (t : List ℕ → Option (List ℕ)) (l : R → List ℕ) (run : MergeState R) → NothingLeft run →
     events_to_come t l run ≡ []
 coming_none t l run none = (λ i. coming_of t (optional_string_bytes run.inputs) l (none.1 i) run.change run.first.items
     (length (opened_file_names run.names)) (things_in l (none.1 i) (lines_at l run.change) run.stack))
     ∙ nothing_above (record { texts = t; inputs = optional_string_bytes run.inputs }) l run.stack _ none.0
 
--- a text was opened, by what the calls say of shelf and run
 pub coming_opened : {R : Type 0} (t t' : List ℕ → Option (List ℕ)) (l l' : R
     → List ℕ) (run run' : MergeState R) (reader : R)
     (name : List ℕ) (at : LineAt) → t' ≡ t → l' ≡ l → OnlyOpens run run'
@@ -121,7 +115,6 @@ coming_opened t t' l l' run run' reader name at texts left only names settled op
     (things ∙ ap (λ k. raws (at.depth + 1) at.may_match (lines_in (length (opened_file_names run.names)) (k reader))
     ++ things_of l run) (sym left)))
 
--- a fault came, and nothing else has changed
 pub gives_told : {R : Type 0} (t t' : List ℕ → Option (List ℕ)) (l l' : R
     → List ℕ) (run run' : MergeState R) (f : SourceFault)
     → t' ≡ t → l' ≡ l → OnlyReports run run' → run'.faults.items ≡ run.faults.items ++ f ∷ []
@@ -133,7 +126,6 @@ gives_told t t' l l' run run' f texts left only told = gives_fault (so_far_of ru
     (things_in (left i) (only.stage i)
     (lines_at (left i) (only.change i)) (only.stack i)))) told (ap opened_file_names only.names)
 
--- no text has lines left, and an entry waits
 pub no_match : {R : Type 0} (t : List ℕ → Option (List ℕ)) (l : R → List ℕ) (run : MergeState R) (begin : Place) →
     run.stage ≡ Waiting begin → run.stack.depth ≡ 0 → events_to_come t l run ≡ fault (at_place NoMatch begin) ∷ []
 no_match t l run begin stage none =
@@ -151,13 +143,11 @@ no_match t l run begin stage none =
     ) refl
     ∙ ap (λ (es : List Event). fault (at_place NoMatch begin) ∷ es) (merge_end world (state [] None lines files) refl)
 
--- where a merge begins, no texts stay open and no entry waits
 pub begins_low : {R : Type 0} (change : Option (OpenSource R)) (stage : Stage) → stage ≡ stage_for change →
     (floor_of stage ≡ 0) × (files_begun stage ≡ 0)
 begins_low None stage is = (ap floor_of is, ap files_begun is)
 begins_low (Some text) stage is = (ap floor_of is, ap files_begun is)
 
--- what is to come where a merge begins
 pub begun : {R : Type 0} (left : R
     → List ℕ) (stack : Stack R) (text : OpenSource R) (rest : List (Option (OpenSource R))) →
     stack.depth ≡ 1 → stack.texts ≡ Some text ∷ rest → text.depth ≡ 1 → text.may_match ≡ true

@@ -1,10 +1,10 @@
--- What comes of a line that was taken, and how what came adds up.
+-- The events of a line that was taken.
 use Rattle.cweb_lines.proofs.Common.{Option, if◌then◌else◌, ◌&&◌, ◌≡◌, ◌≤◌, ◌<◌, ◌+◌, ◌==◌, ℕ, Bool, true, false, List, [], ◌∷◌, ◌++◌, Some, None, refl, sym, ◌∙◌, ap, arith, length, append-nil, nat_lt, nat_tests, Place, bytes_eq, WaitingEntry, at_place, World, is_include_line, include_name, found_at, Line, SourceLine, lines_in, MergeStateModel, RawLine, Thing, raw, Event, took, given, fault, opening, Next, at_entry, at_raw, included, open_include, obeyed, plain, taking, raws, begun_by, OPEN_FILES, LineAt, SoFar, EmitsLines, taken_lines, reported_faults, openings, emitted_lines, merge, merge_next, SourceFault, NoName, TooDeep, NotThere}
 
 abbrev pub state : List Thing → Option WaitingEntry → List SourceLine → ℕ → MergeStateModel
 state things pending change files = record { things = things; pending = pending; change = change; files = files }
 
--- a line that was taken, comes first, and begins no change
+-- A line that was taken and begins no change.
 module _ (world : World) (source : SourceLine) (bytes : List ℕ) (at : LineAt)
     (is : source.line ≡ record { bytes = bytes; place = at.place }) (things : List Thing)
     (pending : Option WaitingEntry)
@@ -88,14 +88,13 @@ module _ (world : World) (source : SourceLine) (bytes : List ℕ) (at : LineAt)
       (ap (λ t. open_include t world (include_name bytes) before r things) room
       ∙ ap (λ o. obeyed o before r things) (sym there))
 
--- whatever comes of a raw line, it is taken first
 pub merge_takes : (world : World) (r : RawLine) (things : List Thing) (pending : Option WaitingEntry)
     (change : List SourceLine) (files : ℕ)
     → (rest : List Event) × (merge world (state (raw r ∷ things) pending change files) ≡ took r.source ∷ rest)
 merge_takes world r things pending change files =
     let next = at_raw _ _ _ r _ in (next.0 ++ merge _ _, merge_next _ _ _ refl)
 
--- one event came, or none
+-- At most one event happened.
 module _ (old new : SoFar) (all later : List Event) (count : new.count ≡ old.count) where
   gives_untaken : (events : List Event) → taken_lines events ≡ [] → all ≡ events ++ later → new.faults ≡ old.faults
       ++ reported_faults events → new.names ≡ old.names ++ openings events

@@ -8,7 +8,7 @@ use Rattle.cweb_lines.proofs.Stops.{stopped_first, takes_next}
 use Rattle.cweb_input.proofs.SourceStacks.{over-none}
 use Rattle.cweb_lines.proofs.Codes.{is_faulty_new}
 
--- what is to come of a change's new lines, in front of what the texts below have left
+-- The events of the remaining new lines, the next search and the sources below.
 abbrev pub coming_new : World → Change → List SourceLine → List Thing → ℕ → List Event
 coming_new world change lines below files = merge world (state ((new_lines change.depth change.begin lines).things
     ++ seek ∷ below) None (new_lines change.depth change.begin lines).rest files)
@@ -17,7 +17,6 @@ module _ (world : World) (change : Change) (below : List Thing) (files : ℕ) wh
   abbrev of_side : NewSide → List Event
   of_side side = merge world (state (side.things ++ seek ∷ below) None side.rest files)
 
-  -- the change file has ended
   pub new_none : (lines : List SourceLine) → lines ≡ [] → coming_new world change lines below files ≡ fault
       (at_place EndedBeforeZ change.begin) ∷ merge world (state below None [] files)
   new_none lines none = ap (λ (ls : List SourceLine). coming_new world change ls below files) none
@@ -36,7 +35,6 @@ module _ (world : World) (change : Change) (below : List Thing) (files : ℕ) wh
     takes_by (Some new_side) = (_, merge_next world _ (took line ∷ [], _) refl)
     takes_by (Some end_side) = (_, merge_next world _ (took line ∷ [], _) refl)
 
-    -- whatever comes of a new line, it is taken first
     pub new_takes : (rest : List Event) × (coming_new world change (line ∷ lines) below files ≡ took line ∷ rest)
     new_takes = takes_by (change_code line.line.bytes)
 
@@ -79,7 +77,6 @@ module _ (world : World) (change : Change) (below : List Thing) (files : ℕ) wh
           ∙ ap (λ (at : Line). took line ∷ fault (at_place WantsZ at.place) ∷ coming_new world change lines below files)
           is
 
-  -- the next new line can't be taken
   pub new_stops : (stop : Stop) (lines : List SourceLine) (old new : SoFar) → new ≡ old → StopsFor
       (FirstStops stop old.count lines) stop → Stopped stop old new (coming_new world change lines below files)
   new_stops stop lines old new same stops = stopped_first stop (FirstStops stop old.count lines) old new _ same
@@ -91,7 +88,7 @@ module _ (world : World) (change : Change) (below : List Thing) (files : ℕ) wh
       ))
       stops
 
--- a run whose new lines come, where no more texts are open than when they began
+-- A merger that takes new lines, with no more open sources than at their start.
 module _ {R : Type 0} (t : List ℕ → Option (List ℕ)) (l : R → List ℕ) (run : MergeState R) (change : Change)
     (stage : run.stage ≡ Changing change) (low : run.stack.depth ≡ change.below) where
   abbrev pub texts_below : List Thing
@@ -119,7 +116,7 @@ module _ {R : Type 0} (t : List ℕ → Option (List ℕ)) (l : R → List ℕ) 
   pub below_are : things_above l 0 run.stack [] ≡ texts_below
   below_are = ap (λ n. things_over l 0 n run.stack.texts []) (omega (arith, low))
 
--- what a new line gives, by what the calls say of shelf and run
+-- The events of a new line, by the contracts of the calls.
 module _ {R : Type 0} (t t' : List ℕ → Option (List ℕ)) (l l' : R → List ℕ) (run mid : MergeState R) (change : Change)
     (stage : run.stage ≡ Changing change) (low : run.stack.depth ≡ change.below) (texts : t' ≡ t) (left : l' ≡ l)
     (only : OnlyTakes run mid) (stack : mid.stack ≡ run.stack) where
@@ -132,7 +129,6 @@ module _ {R : Type 0} (t t' : List ℕ → Option (List ℕ)) (l l' : R → List
   abbrev under : List Thing
   under = things_over l 0 change.below run.stack.texts []
 
-  -- behind the new side
   later_is : (new : MergeState R) → new.inputs ≡ run.inputs → new.stack ≡ run.stack → new.names ≡ run.names → (front :
       List Thing → List Thing) (lines : List SourceLine) → merge world (state (front under) None lines files) ≡ merge
       (world_in t' new.inputs)
@@ -192,7 +188,6 @@ module _ {R : Type 0} (t t' : List ℕ → Option (List ℕ)) (l l' : R → List
         (so_far_of run) (so_far_of mid) (so_far_of new) counted is (ap opened_file_names tells.names)
         (ap counters_of tells.limits))
 
-    -- a line that is no code line comes first
     pub new_first : change_lines l run ≡ taken.line ∷ change_lines l' mid → change_code bytes ≡ None
         → events_to_come t l run
         ≡ events_after_line t' l' mid (record { place = place; depth = change.depth; may_match = false }) taken.line

@@ -1,4 +1,4 @@
--- An entry that matches no line is told once, and changes nothing.
+-- An entry that matches no line is reported once and changes nothing.
 use Rattle.cweb_lines.proofs.Common.{◌≡◌, ◌≢◌, ◌+◌, true, false, List, [], ◌∷◌, ◌++◌, None, Some, refl, sym, ◌∙◌, ap, append-nil, length, list_any, bytes_eq, Line, SourceLine, lines, lines_in, cut_lines, World, is_include_line, at_place, change_code, UnmatchedEntriesAreReported, is_change_code, followed_by, only_fault, only_lines, placed, outcome_of_events, Event, Thing, fault, raws, seek, merge, merge_end, merge_next, SourceFault, NoMatch}
 use Rattle.cweb_lines.specs.declared.change.code.Code.TheVariants.{OldSide as old_side}
 use Rattle.cweb_lines.proofs.Entries.{bytes_in, entry_of, finds, lines_of, passes_by}
@@ -6,13 +6,12 @@ use Rattle.cweb_lines.proofs.LinePlaces.{bytes_of, first_of, lie_in, parts}
 use Rattle.cweb_lines.proofs.Merges.{state}
 use Rattle.cweb_lines.proofs.OutcomeOfEvents.{seek_unseen}
 
--- by the lines of the web, and those of the change file
 module _ (world : World) (web comment : List SourceLine) (x first : SourceLine) (rest : List SourceLine)
     (no_codes : list_any is_change_code (bytes_in comment) ≡ false) (begins : change_code x.line.bytes ≡ Some old_side)
     (some : first.line.bytes ≢ []) (no_first : change_code first.line.bytes ≡ None)
     (plain_web : list_any is_include_line (bytes_in web) ≡ false)
     (others : list_any (λ line. bytes_eq line first.line.bytes) (bytes_in web) ≡ false) where
-  -- the entry waits to the end
+  -- The entry waits until the end.
   waits : outcome_of_events (merge world (state [] (Some (entry_of x first)) rest 2)) ≡ only_fault NoMatch x.line.place
   waits =
       let told = fault (at_place NoMatch x.line.place) in

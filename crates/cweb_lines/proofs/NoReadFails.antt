@@ -1,4 +1,4 @@
--- Steps over a shelf at which no read fails: readers that were known stay so, none is blamed, and what was told stays.
+-- Steps in which no read fails: readers keep their names, none is blamed, and reports only grow.
 use Rattle.cweb_lines.proofs.Common.{◌≡◌, ◌++◌, ℕ, List, refl, sym, ◌∙◌, ap, subst, IsTrue, KeepsShelf, KeepsReported, so_far_of, opened_file_names, AreReadersKnown, KeepsReaders, blame, OnlyReports, SourceFault, MergeState, Stop}
 use Rattle.cweb_files.specs.declared.device.Shelf.{Ghosts as Shelf}
 use Rattle.cweb_lines.proofs.ReportsOnlyGrow.{told_behind, told_same, told_then}
@@ -21,7 +21,6 @@ module _ {S R : Type 0} (shelf : Shelf S R) where
     told = told_same _ _ refl refl;
   }
 
-  -- by what a call says that no stop came of
   pub quiet_by : (old new : S) (run run' : MergeState R) → KeepsShelf shelf old new
       → KeepsReaders shelf old new run run'
       → (IsTrue (shelf.tells old) → AreReadersKnown (shelf.opened_as old) run → shelf.blamed new ≡ shelf.blamed old)
@@ -29,7 +28,6 @@ module _ {S R : Type 0} (shelf : Shelf S R) where
   quiet_by old new run run' keeps readers blamed told =
       record { tells = keeps.tells; readers = readers; blamed = blamed; told = told }
 
-  -- what follows
   module _ {a b : S} {x y : MergeState R} (first : Quiet a b x y) where
     pub still_tells : IsTrue (shelf.tells a) → IsTrue (shelf.tells b)
     still_tells = subst IsTrue (sym first.tells)
@@ -42,7 +40,6 @@ module _ {S R : Type 0} (shelf : Shelf S R) where
       told = told_then _ _ _ first.told then.told;
     }
 
-    -- faults were told
     pub quiet_tells : {z : MergeState R} (more : List SourceFault) → OnlyReports y z
         → z.faults.items ≡ y.faults.items ++ more
         → Quiet a b x z
@@ -53,7 +50,6 @@ module _ {S R : Type 0} (shelf : Shelf S R) where
       told = told_then _ _ _ first.told (told_behind _ _ more told (ap opened_file_names only.names));
     }
 
-    -- a buffer or the stage changed
     pub quiet_set : (z : MergeState R) → z.stack ≡ y.stack → z.change ≡ y.change → so_far_of z ≡ so_far_of y
         → Quiet a b x z
     quiet_set z stack change told = record {

@@ -1,7 +1,6 @@
--- The faults that an old side told, where something stopped it.
+-- The faults that were reported of an old side that a stop interrupted.
 use Rattle.cweb_lines.proofs.Common.{◌≡◌, List, ◌++◌, ◌∙◌, append_assoc, Place, old_lines, SourceLine, Thing, SoFar, ReportsSomeFaults, HasBegunStep, StopsIn, EndsStep, IsReplaced, closing_faults, faults_replaced, ReportsFaultPrefix, SourceFault, Replaced, Stop, ReadFault, LineTooLong, TooMuchText, Memory}
 
--- some of the faults of the old lines were told, and none behind them
 pub tells_front : (faults more : List SourceFault) (old new : SoFar) → ReportsSomeFaults faults old new →
     ReportsSomeFaults (faults ++ more) old new
 tells_front faults more old new some = record {
@@ -34,7 +33,6 @@ stops_more : {stop : Stop} {old new : SoFar} {lines raws : List SourceLine} {fau
 stops_more more stops =
     record { begun = begun_more more stops.begun; line = stops.line; next = stops.next; why = stops.why }
 
--- a stop among the old lines comes before the faults behind them
 pub ends_more : (stop : Stop) (old new : SoFar) (lines raws : List SourceLine) (faults more : List SourceFault) →
     EndsStep stop old new lines raws faults → EndsStep stop old new lines raws (faults ++ more)
 ends_more (ReadFault file) old new lines raws faults more ends = begun_more more ends
@@ -45,7 +43,6 @@ ends_more stop old new lines raws faults more ends = absurd ends
 
 module _ (begin : Place) (change : List SourceLine) (things : List Thing) (r : Replaced) (change' : List SourceLine)
     (things' : List Thing) (old mid new : SoFar) (by : IsReplaced change things r change' things' old mid) where
-  -- some of the faults behind the old lines were told
   pub closes_some : ReportsFaultPrefix (closing_faults begin r.ended r.ran_out r.unequal) mid.faults new.faults →
       new.names ≡ mid.names → ReportsSomeFaults (faults_replaced begin change things) old new
   closes_some front names = record {

@@ -1,4 +1,4 @@
--- What is seen of events, one after another.
+-- The outcome of a list of events.
 use Rattle.cweb_lines.proofs.Common.{◌∙◌, WaitingEntry, Sought, Thing, World, merge, merge_next, seek, sought, ◌≡◌, false, ℕ, List, [], ◌∷◌, ◌++◌, map, None, Some, Option, refl, ap, is_some, Line, SourceLine, MergeOutcome, followed_by, outcome_of_events, Event, fault, given, opening, took, Code, SourceFault}
 use Rattle.cweb_lines.proofs.Merges.{state}
 
@@ -6,7 +6,6 @@ pub no_code : (code : Option Code) → is_some code ≡ false → code ≡ None
 no_code None is = refl
 no_code (Some code) is = absurd (cc)
 
--- what was seen before all others
 abbrev pub line_first : Line → MergeOutcome → MergeOutcome
 line_first line s = record { lines = line ∷ s.lines; faults = s.faults; included = s.included }
 
@@ -16,13 +15,12 @@ fault_first f s = record { lines = s.lines; faults = f ∷ s.faults; included = 
 abbrev pub name_first : List ℕ → MergeOutcome → MergeOutcome
 name_first name s = record { lines = s.lines; faults = s.faults; included = name ∷ s.included }
 
--- lines that were taken aren't seen
 pub took_unseen : (lines : List SourceLine) (events : List Event)
     → outcome_of_events (map took lines ++ [] ++ events) ≡ outcome_of_events events
 took_unseen [] events = refl
 took_unseen (line ∷ lines) events = took_unseen lines events
 
--- a search that tells nothing isn't seen
+-- A search without faults doesn't show in the outcome.
 pub seek_unseen : (world : World) (things : List Thing) (change : List SourceLine) (files : ℕ) (taken : List SourceLine)
     (entry : Option WaitingEntry) (rest : List SourceLine)
     → sought change None ≡ record { faults = []; taken = taken; entry = entry; rest = rest }

@@ -1,4 +1,4 @@
--- Lines that pass through, for the stack and the run that they are taken from.
+-- Lines that pass through, taken from the stack of a merger.
 use Rattle.cweb_lines.proofs.Common.{◌≡◌, ◌-◌, ℕ, List, [], ◌∷◌, ◌++◌, length, Option, refl, sym, ◌∙◌, ap, subst, arith, append-nil, append_assoc, counters_of, optional_string_bytes, world_in, SourceLine, Thing, EmitsLines, so_far_of, events_to_come, change_lines, pending_of, opened_file_names, ComesNext, EmitsBufferedLines, AppendsPassedLines, PassesTop, lines_next, sources_next, stretch_bytes, top_of, change_in, floor_of, things_in, StaysBelow, lines_at, AreShort, size_of_lines, TakenCounters, Stretch, MergeState, Stack}
 use Rattle.cweb_lines.proofs.EmittedLines.{events_of, events-given, events-untold, events-unopened, events-taken, merge_next_lines, next-length, next-size, next-short, next-text}
 use Rattle.cweb_lines.proofs.Merges.{gives_nothing}
@@ -6,7 +6,7 @@ use Rattle.cweb_lines.proofs.EmittedLinesAddUp.{gives_both}
 use Rattle.cweb_lines.proofs.MergeStateEvents.{coming_of, passes_in}
 use Rattle.cweb_lines.proofs.WrittenLinesAddUp.{text_of-append}
 
--- what comes of a run whose next lines are taken, by its stack and its counts afterwards
+-- The merger after its next lines were taken.
 module _ {R : Type 0} (run : MergeState R) (stack : Stack R) (limits : TakenCounters) (s : Stretch)
     (lines : List (List ℕ))
     (next : ComesNext run s lines) (passes : PassesTop run.stack stack run.limits limits lines)
@@ -53,7 +53,6 @@ module _ {R : Type 0} (run : MergeState R) (stack : Stack R) (limits : TakenCoun
         (next-short (pending_of run) (top_of run.stack) s lines next.stands);
   }
 
--- lines behind those that were gathered
 pub passes_next : {R : Type 0} (old new : MergeState R) (s : Stretch) (lines : List (List ℕ)) (buffer more : List ℕ)
     → ComesNext old s lines → EmitsBufferedLines old new (lines_next (top_of old.stack) lines)
     → more ≡ buffer ++ stretch_bytes (top_of old.stack) s ++ 10 ∷ [] → AppendsPassedLines old new buffer more
@@ -67,7 +66,6 @@ passes_next old new s lines buffer more next given gathered = record {
   readers = given.readers;
 }
 
--- nothing passed
 pub passes_nothing : {R : Type 0} (run : MergeState R) (buffer : List ℕ) → AppendsPassedLines run run buffer buffer
 passes_nothing run buffer = record {
   lines = [];
@@ -79,7 +77,6 @@ passes_nothing run buffer = record {
   readers = λ opened_as known. known;
 }
 
--- lines, and then more lines
 pub passes_then : {R : Type 0} (a b c : MergeState R) (x y z : List ℕ) → AppendsPassedLines a b x y
     → AppendsPassedLines b c y z →
     AppendsPassedLines a c x z

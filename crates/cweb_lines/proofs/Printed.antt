@@ -1,4 +1,4 @@
--- What is printed of a merge is printed again: its lines are cut and trimmed already, and none begins an include.
+-- The output of a merge merges to itself: its lines are trimmed, and none is an include line.
 use Rattle.cweb_lines.proofs.Common.{◌≡◌, ◌+◌, ℕ, zero, suc, true, false, List, [], ◌∷◌, ◌++◌, map, None, Some, Option, refl, sym, ◌∙◌, ap, subst, AllByRecursion, list_any, Line, SourceLine, lines, lines_in, World, is_include_line, WaitingEntry, at_place, sought, PrintedMergesComeAgain, MergeOutcome, placed, Event, Next, MergeStateModel, Thing, at_raw, fault, onto, passed, raw, run_steps, seek, started, told, took, emitted_lines, merge, merge-run_steps, halts, written_lines, NoMatch}
 use Rattle.cweb_lines.proofs.IndependentLines.{onto_some}
 use Rattle.cweb_lines.proofs.Merges.{state}
@@ -8,7 +8,6 @@ use Rattle.cweb_input.proofs.Newlines.{text_lines-full}
 use Rattle.cweb_lines.proofs.WebLaws.{webs_without_includes}
 use Rattle.cweb_lines.proofs.TrimmedLinesStay.{IsCutLine, IsCutState, IsCutThing, IsPrinted, Keeps, all-append, lines_in-cut, raw_keeps, raws-cut, silent_keeps, sought-cut}
 
--- all lines that are given out may be printed
 abbrev Prints : List Event → Type 0
 Prints events = AllByRecursion IsPrinted (emitted_lines events)
 
@@ -21,7 +20,6 @@ module _ (world : World) where
   PrintsIn n = (s : MergeStateModel) (events : List Event) → IsCutState s → run_steps n world s ≡ Some events
       → Prints events
 
-  -- a step, and then so many more
   step_prints : (n : ℕ) (next : Next) (events : List Event) → PrintsIn n → Keeps next
       → onto next.0 (run_steps n world next.1) ≡ Some events → Prints events
   step_prints n next events each keeps is =
@@ -69,7 +67,6 @@ merge_prints world web change =
     subst Prints (sym (merge-run_steps all.steps world s all.events all.comes))
     (run_prints world all.steps s all.events (started-cut web change) all.comes)
 
--- what is read again of lines that were printed
 lines_again : (printed : List Line) → AllByRecursion IsPrinted printed → lines (written_lines printed)
     ≡ map (λ line. line.bytes) printed
 lines_again [] all = refl

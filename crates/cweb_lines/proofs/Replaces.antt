@@ -21,7 +21,6 @@ replaces_from change things old = record {
   adds = adds_none old old refl;
 }
 
--- the same where the lines, or the things, are told in other words
 pub replaces_same : (change : List SourceLine) (things : List Thing) (so_far : Replaced) (ls ls' : List SourceLine)
     (ts ts' : List Thing) (old new : SoFar) → ls ≡ ls' → ts ≡ ts' → Replaces change things so_far ls ts old new
     → Replaces change things so_far ls' ts' old new
@@ -65,7 +64,6 @@ module _ (change : List SourceLine) (things : List Thing) (so_far : Replaced) (l
         why = rw same stops.why;
       }
 
-  -- a line of the change file can't be taken
   pub replaces_ends : (stop : Stop) (new : SoFar) → new ≡ mid → StopsFor (FirstStops stop mid.count lines) stop →
       EndsStep stop old new (old_lines change).taken (taken_away change things).taken (old_lines change).faults
   replaces_ends (ReadFault file) new same stops = replaces_begun new same
@@ -74,7 +72,6 @@ module _ (change : List SourceLine) (things : List Thing) (so_far : Replaced) (l
   replaces_ends Memory new same stops = tt
   replaces_ends stop new same stops = absurd stops
 
-  -- the old side ends here, behind these lines
   pub replaces_done : (new : SoFar) (last rest : List SourceLine) (ended : Bool)
       → old_lines lines ≡ record { faults = []; lines = []; taken = last; ended = ended; rest = rest }
       → AddsFaultsAndLines r.told ((r.taken ++ last) ++ r.raw_taken) old new → IsReplaced change things
@@ -89,7 +86,7 @@ module _ (change : List SourceLine) (things : List Thing) (so_far : Replaced) (l
         raw_rest = simp (r.raw_rest, is);
       }
 
-  -- a line of the change file was taken
+  -- A line of the change file was taken.
   module _ (now : SoFar) (bytes : List ℕ) (place : Place) (t : CountsLine bytes place mid.count now.count)
       (rest : List SourceLine) (is : lines ≡ t.line ∷ rest) (told : now.faults ≡ mid.faults)
       (names : now.names ≡ mid.names) where
@@ -99,7 +96,6 @@ module _ (change : List SourceLine) (things : List Thing) (so_far : Replaced) (l
     side : (code : Option Code) → change_code bytes ≡ code → old_lines lines ≡ old_at code t.line rest (old_lines rest)
     side code test = ap old_lines is ∙ old_code_at code t.line rest bytes place t.is test
 
-    -- it is an @x or @z line
     pub replaces_code : (code : Code) (new : SoFar) → change_code bytes ≡ Some code → old_at (Some code) t.line rest
         (old_lines rest) ≡ old_code t.line (old_lines rest) → new.faults ≡ now.faults ++ at_place WantsY place ∷ []
         → new.names ≡ now.names → new.count ≡ now.count → Replaces change things so_far rest raws old new
@@ -122,7 +118,6 @@ module _ (change : List SourceLine) (things : List Thing) (so_far : Replaced) (l
               _ old now new counted told' names' count;
         }
 
-    -- it is an old line, which was compared
     pub replaces_line : (after : Replaced) (raws' : List Thing) (new : SoFar) → change_code bytes ≡ None →
         Compares bytes so_far after raws raws' now new → Replaces change things after rest raws' old new
     replaces_line after raws' new test by =
@@ -178,7 +173,7 @@ module _ (change : List SourceLine) (things : List Thing) (so_far : Replaced) (l
           why = rw same stops.why;
         }
 
-    -- it is an old line, and the raw line that it would take away can't be taken
+    -- The raw line that an old line would drop can't be taken.
     pub raw_ends : (stop : Stop) (new : SoFar) → new ≡ now → change_code bytes ≡ None
         → StopsFor (TopStops stop now.count
         raws) stop → EndsStep stop old new (old_lines change).taken (taken_away change things).taken
@@ -189,7 +184,6 @@ module _ (change : List SourceLine) (things : List Thing) (so_far : Replaced) (l
     raw_ends Memory new same test stops = tt
     raw_ends stop new same test stops = absurd stops
 
-    -- it is the @y line
     pub replaces_new : change_code bytes ≡ Some new_side → IsReplaced change things
         (record { unequal = so_far.unequal; ran_out = so_far.ran_out; ended = false }) rest raws old now
     replaces_new test = replaces_done now (t.line ∷ []) rest false (side (Some new_side) test) counted

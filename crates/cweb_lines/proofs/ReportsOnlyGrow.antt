@@ -1,4 +1,4 @@
--- What was told stays in front of what is told later.
+-- Earlier reports are a prefix of later ones.
 use Rattle.cweb_lines.proofs.Common.{◌≡◌, ◌≤◌, ℕ, List, [], ◌++◌, None, length, ap, arith, length-append, Result, Ok, Err, OnOk, OnErr, append-nil, append_assoc, Line, Event, SoFar, EmitsLines, IsPrefix, KeepsReported, Grows, so_far_of, opened_file_names, AppendsPassedLines, OnlyTakes, SourceFault, MergeState}
 
 front_then : {A : Type 0} (a b c : List A) → IsPrefix a b → IsPrefix b c → IsPrefix a c
@@ -20,7 +20,6 @@ told_more old new faults names faults_are names_are = record {
 pub told_same : (old new : SoFar) → new.faults ≡ old.faults → new.names ≡ old.names → KeepsReported old new
 told_same old new faults names = told_more old new [] [] (simp (faults, append-nil)) (simp (names, append-nil))
 
--- no fewer files are known
 pub told_files : (old new : SoFar) → KeepsReported old new → length old.names ≤ length new.names
 told_files old new told = omega (
   arith,
@@ -29,24 +28,20 @@ told_files old new told = omega (
       told.names.0,
 )
 
--- what comes of a merge is told behind what was told before
 pub told_given : (lines : List Line) (old new : SoFar) (all later : List Event) → EmitsLines lines old new all later
     → KeepsReported old new
 told_given lines old new all later gives = told_more old new _ _ gives.faults gives.names
 
--- faults were told
 pub told_behind : (old new : SoFar) (more : List SourceFault) → new.faults ≡ old.faults ++ more
     → new.names ≡ old.names → KeepsReported old new
 told_behind old new more faults names = told_more old new more [] faults (simp (names, append-nil))
 
--- by an answer: faults were told, or memory was refused for them
 pub told_if : {A E : Type 0} (result : Result A E) (old new : SoFar) (more : List SourceFault)
     → OnOk result (new.faults ≡ old.faults ++ more) → OnErr result (new.faults ≡ old.faults)
     → new.names ≡ old.names → KeepsReported old new
 told_if (Ok x) old new more told same names = told_behind old new more told names
 told_if (Err e) old new more told same names = told_same old new same names
 
--- a line was taken
 pub told_took : {R : Type 0} {old new : MergeState R} → OnlyTakes old new
     → KeepsReported (so_far_of old) (so_far_of new)
 told_took {old = old} {new = new} only = told_same _ _ (λ i. (only.faults i).items) (ap opened_file_names only.names)
@@ -58,12 +53,10 @@ pub took_names : {R : Type 0} {old new : MergeState R} → OnlyTakes old new
     → opened_file_names new.names ≡ opened_file_names old.names
 took_names only = ap opened_file_names only.names
 
--- what a run told and counted, and the limits that it keeps
 pub grows_told : {R : Type 0} {old : SoFar} (run : MergeState R) → KeepsReported old (so_far_of run)
     → Grows old (so_far_of run)
 grows_told run told = record { told = told; lines = run.limits.few; bytes = run.limits.small }
 
--- lines that passed through tell nothing
 pub told_passed : {R : Type 0} {old new : MergeState R} {buffer more : List ℕ} → AppendsPassedLines old new buffer more
     → KeepsReported (so_far_of old) (so_far_of new)
 told_passed {old = old} {new = new} passes = told_given _ _ _ _ _ (passes.gives (λ _. None) (λ _. []))

@@ -1,4 +1,4 @@
--- A search for an entry, line by line.
+-- The search for an entry, line by line.
 use Rattle.cweb_lines.proofs.Common.{◌≡◌, ℕ, List, [], ◌∷◌, ◌++◌, Option, Some, None, refl, sym, ◌∙◌, ap, subst, append-nil, append_assoc, Place, Sought, after_x, change_code, sought, SourceLine, SoFar, HasBegunStep, StopsIn, EndsStep, ReportsSomeFaults, Searched, SeeksTo, ReportsFaultPrefix, search_after, IsOutside, FirstStops, CountsLine, Code, Stage, Done, Waiting, StopsFor, inl, Stop, ReadFault, LineTooLong, TooMuchText, Memory}
 use Rattle.cweb_lines.specs.inner.Seeking.{LooksAt}
 use Rattle.cweb_lines.specs.declared.change.seek.Look.TheVariants.{Entry as first_line, On as goes_on}
@@ -7,7 +7,6 @@ use Rattle.cweb_lines.proofs.AddedEvents.{adds_none, adds_line, adds_faults}
 pub seeks_from : (found : Sought) (old : SoFar) → SeeksTo found found old old
 seeks_from found old = record { told = []; taken = []; whole = refl; adds = adds_none old old refl }
 
--- whatever comes of a line in a search, it is taken first
 taken_behind : (bytes : List ℕ) (code : Option Code) (begin : Place) (line : SourceLine) (lines : List SourceLine) →
     (more : List SourceLine) × ((after_x bytes code begin line lines (λ next. sought lines next)).taken ≡ line ∷ more)
 taken_behind [] code begin line lines = ((sought lines (Some begin)).taken, refl)
@@ -46,7 +45,6 @@ module _ (all : Sought) (lines : List SourceLine) (begin : Option Place) (old mi
         why = rw same stops.why;
       }
 
-  -- a line can't be taken
   pub seeks_ends : (stop : Stop) (new : SoFar) → new ≡ mid → StopsFor (FirstStops stop mid.count lines) stop →
       EndsStep stop old new all.taken [] all.faults
   seeks_ends (ReadFault file) new same stops = seeks_begun new same
@@ -55,7 +53,6 @@ module _ (all : Sought) (lines : List SourceLine) (begin : Option Place) (old mi
   seeks_ends Memory new same stops = tt
   seeks_ends stop new same stops = absurd stops
 
-  -- some faults of a line are told behind those so far
   pub seeks_told_more : (new : SoFar) → ReportsFaultPrefix (sought lines begin).faults mid.faults new.faults →
       new.names ≡ mid.names → ReportsSomeFaults all.faults old new
   seeks_told_more new more names = record {
@@ -66,7 +63,7 @@ module _ (all : Sought) (lines : List SourceLine) (begin : Option Place) (old mi
     names = names ∙ seeks.adds.names;
   }
 
-  -- a line was taken and looked at
+  -- A line was taken and looked at.
   module _ (now new : SoFar) (bytes : List ℕ) (place : Place) (t : CountsLine bytes place mid.count now.count)
       (rest : List SourceLine) (is : lines ≡ t.line ∷ rest) (same_faults : now.faults ≡ mid.faults)
       (same_names : now.names ≡ mid.names)
@@ -102,13 +99,11 @@ module _ (all : Sought) (lines : List SourceLine) (begin : Option Place) (old mi
           rest = simp whole;
         }
 
--- where no line is left, no entry is found
 sought_none : (begin : Option Place) → ((sought [] begin).taken ≡ []) × ((sought [] begin).entry ≡ None)
     × ((sought [] begin).rest ≡ [])
 sought_none None = (refl, refl, refl)
 sought_none (Some place) = (refl, refl, refl)
 
--- the change file has ended
 pub seeks_ended : (all : Sought) (lines : List SourceLine) (begin : Option Place) (old mid : SoFar)
     → SeeksTo all (sought lines begin) old mid → lines ≡ [] → (new : SoFar)
     → new.faults ≡ mid.faults ++ (sought [] begin).faults → new.names ≡ mid.names → new.count ≡ mid.count

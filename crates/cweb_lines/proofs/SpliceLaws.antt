@@ -1,4 +1,4 @@
--- Changes that match, in order, splice.
+-- Entries that match in order splice the web.
 use Rattle.cweb_lines.proofs.Common.{◌≡◌, ◌+◌, ℕ, true, false, List, [], ◌∷◌, ◌++◌, None, sym, ◌∙◌, ap, subst, arith, length, AllByRecursion, list_any, bytes_eq, SourceLine, lines_in, cut_lines, World, is_include_line, change_code, ChangesSplice, IsPlainSplice, Splice, is_change_code, spliced, web_lines, followed_by, only_lines, placed, outcome_of_events, raws, seek, merge, or_parts}
 use Rattle.cweb_lines.specs.laws.Laws.{spliced_change_lines}
 use Rattle.cweb_lines.proofs.Merges.{state}
@@ -7,7 +7,7 @@ use Rattle.cweb_lines.proofs.LinePlaces.{Lie, bytes_of, first_of, lie_in, parts}
 use Rattle.cweb_lines.proofs.Splices.{Edit, IsPlain, splices_one}
 use Rattle.cweb_lines.proofs.OutcomeOfEvents.{no_code, seek_unseen}
 
--- the lines of a web up to the last that a change replaces, and what stands behind them
+-- The lines of a web up to the last old line of its first change, and the lines after it.
 record WebParts (number : ℕ) (s : Splice) (later : List (List ℕ)) (lines : List SourceLine) : Type 0 where
   stays : List SourceLine
   line : SourceLine
@@ -38,7 +38,7 @@ web_parts number s later lines lie =
           ≡ number + length s.stays + length s.further + 1 = omega arith in same) c.rest_lies;
     }
 
--- the lines of a change file up to the @z of its first entry, and what stands behind it
+-- The lines of a change file up to the @z of its first entry, and the lines after it.
 record ChangeParts (number : ℕ) (s : Splice) (later : List (List ℕ)) (lines : List SourceLine) : Type 0 where
   comment : List SourceLine
   x : SourceLine
@@ -98,7 +98,6 @@ change_parts number s later lines lie =
       rest_lies = subst (λ n. Lie 1 n later g.rest) rest_number g.rest_lies;
     }
 
--- behind the last entry
 splices_none : (world : World) (web change : ℕ) (behind comment : List (List ℕ)) (lines changes : List SourceLine)
     → list_any is_include_line behind ≡ false → list_any is_change_code comment ≡ false
     → Lie 0 web behind lines → Lie 1 change comment changes → outcome_of_events
@@ -110,7 +109,7 @@ splices_none world web change behind comment lines changes plain_behind no_codes
     ∙ gives_alone world 1 true lines [] 2 plain_lines
     ∙ ap only_lines lie
 
--- a change by where its lines lie
+-- The change that these lines make.
 abbrev edit_of : (web change : ℕ) (s : Splice) (later later' : List (List ℕ)) (lines changes : List SourceLine)
     → WebParts web s later lines → ChangeParts change s later' changes → Edit
 edit_of web change s later later' lines changes w c = record {

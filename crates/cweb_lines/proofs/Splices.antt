@@ -1,4 +1,4 @@
--- What one change makes of the lines that it stands between.
+-- One change and the lines around it.
 use Rattle.cweb_lines.proofs.Common.{◌≡◌, ◌≢◌, ◌&&◌, ℕ, true, false, List, [], ◌∷◌, ◌++◌, map, None, Some, refl, sym, ◌∙◌, ap, append_assoc, bytes_eq-Decides, list_any, bytes_eq, SourceLine, World, is_include_line, WaitingEntry, OldSide, change_code, is_change_code, followed_by, only_lines, outcome_of_events, Compared, Event, NewSide, Next, RawLine, Thing, after_old, at_entry, change_events, compared, passed, raw, raws, seek, taking, took, merge, merge_next}
 use Rattle.cweb_lines.specs.declared.change.code.Code.TheVariants.{EndSide as end_side, NewSide as new_side, OldSide as old_side}
 use Rattle.cweb_input.proofs.SourceStacks.{raws-append}
@@ -6,9 +6,8 @@ use Rattle.cweb_lines.proofs.Merges.{state}
 use Rattle.cweb_lines.proofs.OutcomeOfEvents.{seek_unseen}
 use Rattle.cweb_lines.proofs.Entries.{bytes_in, compares, entry_of, finds, gives_out, lines_of, new_splits, old_splits, passes_by}
 
--- The lines of one change. Of the change file: a comment, the @x line, the first old line, the further ones, the
--- @y line, the new lines, the @z line. Of the web: the lines that stay, the first line that is replaced, and the
--- further ones.
+-- The lines of one change. In the change file: a comment, @x, the first old line, further ones, @y, the new lines and
+-- @z. In the web: lines that stay, the first old line and further ones.
 pub record Edit : Type 0 where
   pub comment : List SourceLine
   pub x : SourceLine
@@ -21,14 +20,14 @@ pub record Edit : Type 0 where
   pub line : SourceLine
   pub old : List SourceLine
 
--- the change file's lines from the comment on, and the web's from those that stay, with what stands behind them
+-- The lines of the change file from the comment on, and those of the web from the ones that stay on.
 abbrev pub change_from : Edit → List SourceLine → List SourceLine
 change_from e change = e.comment ++ (e.x ∷ e.first ∷ (e.further ++ (e.y ∷ (e.new ++ (e.z ∷ change)))))
 
 abbrev pub web_from : Edit → List SourceLine → List SourceLine
 web_from e behind = e.stays ++ (e.line ∷ (e.old ++ behind))
 
--- only the codes of the entry are codes, no line includes, and the entry matches at its place and not before
+-- Only code lines are codes, there is no include line, and the first old line doesn't match earlier.
 pub record IsPlain (e : Edit) : Type 0 where
   pub no_comment : list_any is_change_code (bytes_in e.comment) ≡ false
   pub begins : change_code e.x.line.bytes ≡ Some old_side
@@ -50,7 +49,7 @@ lines_unseen [] [] events = refl
 lines_unseen [] (line ∷ b) events = lines_unseen [] b events
 lines_unseen (line ∷ a) b events = lines_unseen a b events
 
--- a change whose old lines equal the web's
+-- A change whose old lines equal those of the web.
 module _ (world : World) (files : ℕ) (e : Edit) (plain_edit : IsPlain e) (change behind : List SourceLine) where
   abbrev entry : WaitingEntry
   entry = entry_of e.x e.first
@@ -58,18 +57,15 @@ module _ (world : World) (files : ℕ) (e : Edit) (plain_edit : IsPlain e) (chan
   abbrev rest : List Thing
   rest = raws 1 true behind
 
-  -- behind the old lines
   abbrev new_on : List SourceLine
   new_on = e.new ++ (e.z ∷ change)
 
   abbrev old_on : List SourceLine
   old_on = e.further ++ (e.y ∷ new_on)
 
-  -- the web from the line on that is replaced
   abbrev replaced_on : List SourceLine
   replaced_on = e.line ∷ (e.old ++ behind)
 
-  -- by its old side, and how that compares
   abbrev next_by : OldSide → Compared → Next
   next_by side by = (change_events entry side by, after_old side.ended files 1 entry side by.rest)
 
@@ -90,7 +86,6 @@ module _ (world : World) (files : ℕ) (e : Edit) (plain_edit : IsPlain e) (chan
       ∙ ap (λ (olds : List (List ℕ)). compared olds (raws 1 true e.old ++ rest)) (sym plain_edit.same_old)
       ∙ compares 1 true e.old rest
 
-  -- the new lines come, and then the next entry is sought
   new_come : outcome_of_events (merge world (after_old false files 1 entry side_is rest))
       ≡ followed_by (only_lines (lines_of e.new))
       (outcome_of_events (merge world (state (seek ∷ rest) None change files)))
@@ -119,7 +114,7 @@ module _ (world : World) (files : ℕ) (e : Edit) (plain_edit : IsPlain e) (chan
       ∙ lines_unseen (e.further ++ (e.y ∷ [])) e.old (merge world (after_old false files 1 entry side_is rest))
       ∙ new_come
 
-  -- one change: the search for it, the lines before it, the new lines, and what comes behind
+  -- One change: the lines that stay, the new lines, and then the rest.
   pub splices_one : outcome_of_events (merge world (state (seek ∷ raws 1 true (web_from e behind)) None
       (change_from e change) files)) ≡ followed_by (only_lines (lines_of e.stays))
       (followed_by (only_lines (lines_of e.new))

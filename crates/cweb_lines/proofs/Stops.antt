@@ -1,10 +1,9 @@
--- Where a stop comes in a merge.
+-- The events before a stop.
 use Rattle.cweb_lines.proofs.Common.{◌≡◌, ◌++◌, ℕ, zero, suc, List, [], ◌∷◌, Option, Some, None, refl, sym, ◌∙◌, ap, subst, inl, map, WaitingEntry, World, SourceLine, MergeStateModel, Thing, seek, raw, told, passed, Event, took, given, fault, opening, at_place, NoMatch, at_raw, sought, onto, SoFar, StopsIn, EndsStep, StopsAfterLines, TakesBeforeEmitting, Stopped, step_events, TopStops, StopsFor, RefusesLine, run_steps, merge, merge-run_steps, halts, so_far_of, counters_of, opened_file_names, OnlyTakes, MergeState, SourceFault, Stop, ReadFault, LineTooLong, TooMuchText, Memory}
 use Rattle.cweb_lines.specs.Merge.{step_at, step_then_run}
 use Rattle.cweb_lines.proofs.AddedEvents.{begun_none}
 use Rattle.cweb_lines.proofs.Merges.{gives_nothing, merge_takes, state}
 
--- an event that is no line comes first
 onto_first : (e : Event) (es events : List Event) (later : Option (List Event)) → TakesBeforeEmitting (e ∷ [])
     → onto (e ∷ es) later
     ≡ Some events → TakesBeforeEmitting events
@@ -19,7 +18,6 @@ onto_first (opening name) es events None first is = absurd (cc)
 onto_first (opening name) es events (Some more) first is = let all : opening name ∷ (es ++ more) ≡ events = cc in
     subst TakesBeforeEmitting all tt
 
--- a search takes lines and reports faults, or what follows it comes first
 takes_search : (lines : List SourceLine) (faults : List SourceFault) (events : List Event) (later : Option (List Event))
     → onto (map took lines ++ map fault faults) later ≡ Some events
     → ((rest : List Event) → later ≡ Some rest → TakesBeforeEmitting rest) → TakesBeforeEmitting events
@@ -54,14 +52,13 @@ takes_run (suc n) world s events is = by s.things s.pending is (λ s' rest more.
     by (passed line ∷ things) pending is later =
         onto_first (took line) [] events (run_steps n world (state things pending s.change s.files)) tt is
 
--- no merge begins with a line that is given out: the line is taken first
+-- A merge never begins with an emitted line, since the line is taken first.
 pub takes_next : (world : World) (s : MergeStateModel) → TakesBeforeEmitting (merge world s)
 takes_next world s =
     let h = halts world s in
     subst TakesBeforeEmitting (sym (merge-run_steps h.steps world s h.events h.comes))
     (takes_run h.steps world s h.events h.comes)
 
--- a line of the first step that is to come can't be taken
 pub stops_first : (stop : Stop) (lines raws : List SourceLine) (faults : List SourceFault) (old new : SoFar)
     (all later : List Event) → all ≡ step_events lines raws faults later → StopsIn stop old new lines raws faults
     → StopsAfterLines [] stop old new all
@@ -75,7 +72,6 @@ stops_first stop lines raws faults old new all later whole stops = record {
   stops = stops;
 }
 
--- a stop ends a step, the first that is to come
 pub stopped_in : (stop : Stop) (lines raws : List SourceLine) (faults : List SourceFault) (old new : SoFar)
     (all later : List Event) → all ≡ step_events lines raws faults later → TakesBeforeEmitting later
     → EndsStep stop old new lines raws faults → Stopped stop old new all
@@ -96,7 +92,6 @@ stopped_in TooMuchText lines raws faults old new all later whole next stops =
 stopped_in Memory lines raws faults old new all later whole next stops = tt
 stopped_in stop lines raws faults old new all later whole next stops = absurd stops
 
--- the line that comes first is the one that stops
 pub stopped_first : (stop : Stop) (Why : Type 0) (old new : SoFar) (all : List Event) → new ≡ old
     → TakesBeforeEmitting all
     → (Why → (line : SourceLine) × ((later : List Event) × (all ≡ took line ∷ later))
@@ -124,7 +119,6 @@ stopped_first stop Why old new all same next first = by stop first
     by Memory first why = tt
     by stop first why = absurd why
 
--- the first thing is a raw line that stops
 pub stopped_by : (stop : Stop) (old new : SoFar) (world : World) (things : List Thing) (pending : Option WaitingEntry)
     (change : List SourceLine) (files : ℕ) → new ≡ old → StopsFor (TopStops stop old.count things) stop
     → Stopped stop old new (merge world (state things pending change files))
@@ -137,7 +131,6 @@ stopped_by stop old new world things pending change files same stops = stopped_f
     ))
     stops
 
--- a call that took no line told nothing and counted nothing
 pub told_uncounted : {R : Type 0} (old new : MergeState R) → OnlyTakes old new
     → counters_of new.limits ≡ counters_of old.limits →
     so_far_of new ≡ so_far_of old

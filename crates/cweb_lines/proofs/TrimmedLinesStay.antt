@@ -1,4 +1,4 @@
--- Lines that are cut and trimmed stay so through each step of a merge, and none that is given out begins an include.
+-- Each step leaves lines trimmed and emits no include line.
 use Rattle.cweb_lines.proofs.Common.{◌≡◌, ◌≢◌, ◌+◌, ◌==◌, ◌&&◌, ℕ, Bool, true, false, cond, List, [], ◌∷◌, ◌++◌, map, None, Some, Option, refl, sym, ap, subst, arith, AllByRecursion, if◌then◌else◌, bytes_eq, nat_tests, Place, HasNoNewline, Line, SourceLine, CutLine, before_blanks, is_blank, lines, lines_in, numbered_lines, onto_first, cut_lines, trimmed, Found, World, found_at, include_name, is_include_line, WaitingEntry, OldSide, Sought, after_x, change_code, old_at, old_lines, outside, sought, Compared, Event, NewSide, Next, RawLine, MergeStateModel, Thing, after_old, at_entry, at_raw, change_events, compared, fault, fault_event_if, included, new_at, new_lines, obeyed, open_include, passed, plain, raw, raws, seek, told, emitted_lines, Code, SourceFault}
 use Rattle.cweb_lines.specs.declared.change.code.Code.TheVariants.{EndSide as end_side, NewSide as new_side, OldSide as old_side}
 use Rattle.cweb_lines.proofs.AddedEvents.{given-took, given_none}
@@ -10,7 +10,6 @@ pub all-append : {A : Type 0} (P : A → Type 0) (xs ys : List A) → AllByRecur
 all-append P [] ys all more = more
 all-append P (x ∷ xs) ys all more = (all.0, all-append P xs ys all.1 more)
 
--- a line without newline and without blanks at its end
 abbrev pub IsCut : List ℕ → Type 0
 IsCut bytes = HasNoNewline bytes × (trimmed bytes ≡ bytes)
 
@@ -23,11 +22,9 @@ IsCutThing (raw r) = IsCutLine r.source
 IsCutThing (told f) = Unit {0}
 IsCutThing (passed line) = Unit {0}
 
--- a line that may be printed
 abbrev pub IsPrinted : Line → Type 0
 IsPrinted line = IsCut line.bytes × (is_include_line line.bytes ≡ false)
 
--- trimming twice is trimming once
 one_byte : (b : ℕ) → trimmed (before_blanks b []) ≡ before_blanks b []
 one_byte b = by (is_blank b) refl
   where
@@ -43,7 +40,6 @@ trimmed-twice : (xs : List ℕ) → trimmed (trimmed xs) ≡ trimmed xs
 trimmed-twice [] = refl
 trimmed-twice (x ∷ xs) = before_blanks-twice x (trimmed xs) (trimmed-twice xs)
 
--- the lines of a text are cut
 onto_first-clean : (b : ℕ) (texts : List CutLine) → b ≢ 10 → AllByRecursion (λ line. HasNoNewline line.bytes) texts
     → AllByRecursion (λ line. HasNoNewline line.bytes) (onto_first b texts)
 onto_first-clean b [] other all = ((other, tt), tt)
@@ -73,7 +69,7 @@ pub raws-cut : (depth : ℕ) (may_match : Bool) (lines : List SourceLine) → Al
 raws-cut depth may_match [] all = tt
 raws-cut depth may_match (line ∷ lines) all = (all.0, raws-cut depth may_match lines all.1)
 
--- what a search, an old side, a new side and a comparison leave
+-- What a search, an old side, a new side and a comparison leave.
 outside-cut : (code : Option Code) (place : Place) (later : Option Place → Sought)
     → ((p : Option Place) → AllByRecursion IsCutLine (later p).rest) → AllByRecursion IsCutLine
     (outside code place later).rest
@@ -131,7 +127,6 @@ compared-cut (old ∷ olds) [] cut = tt
 compared-cut (old ∷ olds) (raw r ∷ things) cut = compared-cut olds things cut.1
 compared-cut (old ∷ olds) (_ ∷ things) cut = compared-cut (old ∷ olds) things cut.1
 
--- events by which no line is given out
 abbrev pub IsSilent : List Event → Type 0
 IsSilent events = emitted_lines events ≡ []
 
@@ -145,11 +140,9 @@ fault_if-silent false f = refl
 change-silent : (entry : WaitingEntry) (old : OldSide) (by : Compared) → IsSilent (change_events entry old by)
 change-silent entry old by = simp (given-append, given-took, faults-silent, fault_if-silent)
 
--- a state of cut lines
 abbrev pub IsCutState : MergeStateModel → Type 0
 IsCutState s = AllByRecursion IsCutThing s.things × AllByRecursion IsCutLine s.change
 
--- a step prints such lines, and leaves cut ones
 abbrev pub Keeps : Next → Type 0
 Keeps next = AllByRecursion IsPrinted (emitted_lines next.0) × IsCutState next.1
 
@@ -164,7 +157,7 @@ after_old-cut false files depth entry old rest cut_old cut =
     let new = new_lines-cut depth entry.begin old.rest cut_old in
     (all-append IsCutThing (new_lines depth entry.begin old.rest).things (seek ∷ rest) new.0 (tt, cut), new.1)
 
--- a raw line in front of others
+-- A raw line before other things.
 module _ (world : World) (r : RawLine) (things : List Thing) (s : MergeStateModel) (first : IsCutLine r.source)
     (cut : AllByRecursion IsCutThing things) (change : AllByRecursion IsCutLine s.change) where
   obeyed_keeps : (found : Option Found) → Keeps (obeyed found s r things)

@@ -1,4 +1,4 @@
--- What a turn gives: a search, a line that was taken, a change that begins.
+-- The events of a turn: a search, a line that was taken, or a change that begins.
 use Rattle.cweb_lines.proofs.Common.{Sought, map-append, ◌≡◌, ◌&&◌, ℕ, Bool, true, false, List, [], ◌∷◌, ◌++◌, Some, None, Option, refl, sym, ◌∙◌, ap, length, map, if◌then◌else◌, subst, append_assoc, Ok, bytes_eq, Place, WaitingEntry, old_lines, sought, optional_string_bytes, world_in, World, Line, SourceLine, Event, RawLine, Thing, after_old, at_entry, change_events, fault, fault_event_if, raw, seek, taking, took, SoFar, change_lines, events_to_come, events_after_line, pending_of, things_of, so_far_of, opened_file_names, IsChanged, faults_replaced, lines_replaced, fault_list_if, taken_away, Searched, IsOutside, begun_by, change_in, pending_in, things_in, IsSettled, floor_of, lines_at, raw_thing, things_above, Counted, StaysBelow, TakesAbove, merge, merge_next, SourceFault, MergeState, Stack, Stage, Seeking, Waiting, Changing, LineAt, counters_of, OnlyTakes, CountsLine, ReportsSomeFaults, ReportsPrefix, EndsStep, step_events, Stopped, Stop, EmitsLines}
 use Rattle.cweb_lines.proofs.AddedEvents.{adds_both, adds_one, ends_after, gives_adds, tells_after, tells_some}
 use Rattle.cweb_lines.proofs.ReportsOnlyGrow.{took_faults, took_names}
@@ -6,14 +6,13 @@ use Rattle.cweb_lines.proofs.Merges.{state}
 use Rattle.cweb_lines.proofs.MergeStateEvents.{coming_of, takes_in}
 use Rattle.cweb_lines.proofs.Stops.{stopped_in, takes_next}
 
--- outside a change the texts alone are to come
 outside_things : {R : Type 0} (l : R → List ℕ) (stage : Stage) (lines : List SourceLine) (stack : Stack R) →
     IsOutside stage → things_in l stage lines stack ≡ things_above l 0 stack []
 outside_things l Seeking lines stack outside = absurd outside
 outside_things l (Changing change) lines stack outside = absurd outside
 outside_things l _ lines stack outside = refl
 
--- an entry is sought: lines are taken, faults come, and then what the texts have left
+-- An entry is sought.
 module _ {R : Type 0} (t : List ℕ → Option (List ℕ)) (l : R
     → List ℕ) (run : MergeState R) (stage : run.stage ≡ Seeking) where
   abbrev found : Sought
@@ -43,7 +42,6 @@ module _ {R : Type 0} (t : List ℕ → Option (List ℕ)) (l : R
   sought_stops stop new = stopped_in stop found.taken [] found.faults (so_far_of run) new _ behind_search sought_first
       (takes_next _ _)
 
-  -- the search has ended
   pub sought_gives : (t' : List ℕ → Option (List ℕ)) (l' : R → List ℕ) (run' : MergeState R) → t' ≡ t → l' ≡ l
       → run'.inputs ≡ run.inputs → run'.stack ≡ run.stack → run'.names ≡ run.names → Searched found (so_far_of run)
       (so_far_of run') run'.stage run'.first.items (change_lines l' run')
@@ -57,7 +55,6 @@ module _ {R : Type 0} (t : List ℕ → Option (List ℕ)) (l : R
       run'.stack ends.outside) ∙ (λ i. merge (world_in (texts i) (inputs i)) (state (things_above (left i) 0
       (stack i) []) (ends.entry i) (ends.rest i) (length (opened_file_names (names i)))))))) ends.adds
 
--- a raw line was taken, by what the call says that took it
 pub raw_taken : {R : Type 0} (t t' : List ℕ → Option (List ℕ)) (l l' : R
     → List ℕ) (old new : MergeState R) (at : LineAt)
     (bytes : List ℕ) → t' ≡ t → l' ≡ l → IsSettled old.stage → TakesAbove l l' (floor_of old.stage) old.stack new.stack
@@ -80,18 +77,15 @@ fault_list : (b : Bool) (f : SourceFault) → fault_event_if b f ≡ map fault (
 fault_list true f = refl
 fault_list false f = refl
 
--- the events of an old side, lines first
 events_are : (entry : WaitingEntry) (change : List SourceLine) (things : List Thing)
     → change_events entry (old_lines change) (taken_away change things) ≡ map took (lines_replaced change things)
     ++ map fault (faults_replaced entry.begin change things)
 events_are entry change things = simp (fault_list, map-append, append_assoc)
 
--- the lines that an old side takes, those of the change file first
 in_turn : (line : SourceLine) (lines raws : List SourceLine) (faults : List SourceFault) (later : List Event)
     → map took (line ∷ (lines ++ raws)) ++ (map fault faults ++ later) ≡ step_events (line ∷ lines) raws faults later
 in_turn line lines raws faults later = simp (map-append, append_assoc)
 
--- a change begins
 begun_entry : (p : Option WaitingEntry) (may_match : Bool) (bytes : List ℕ) (place : Place) →
     begun_by p may_match bytes ≡ Some place → (entry : WaitingEntry) × (p ≡ Some entry) × (entry.begin ≡ place)
     × ((may_match && bytes_eq bytes entry.first) ≡ true)
@@ -104,7 +98,6 @@ begun_entry (Some entry) may_match bytes place is = by (may_match && bytes_eq by
     by true test found = (entry, refl, cc, test)
     by false test found = absurd (cc)
 
--- a line that equals the first old line, and the change that it begins
 begin_step : (world : World) (entry : WaitingEntry) (source : SourceLine) (bytes : List ℕ) (at : LineAt)
     → source.line ≡ record { bytes = bytes; place = at.place }
     → (at.may_match && bytes_eq bytes entry.first) ≡ true → (things : List Thing) (lines : List SourceLine) (files : ℕ)
@@ -123,13 +116,12 @@ begin_step world entry source bytes at is test things lines files =
     ∙ append_assoc (map took (source ∷ lines_replaced lines things))
     (map fault (faults_replaced entry.begin lines things)) (merge world later)
 
--- an entry waits where its first old line was found
 waits : (stage : Stage) (first : List ℕ) (entry : WaitingEntry) → pending_in stage first ≡ Some entry →
     (begin : Place) × (stage ≡ Waiting begin)
 waits (Waiting begin) first entry is = (begin, refl)
 waits _ first entry is = absurd (cc)
 
--- a change begins, by the run that took the line
+-- A change begins, in terms of the merger that took the line.
 module _ {R : Type 0} (t : List ℕ → Option (List ℕ)) (l : R → List ℕ) (run : MergeState R) where
   abbrev things : List Thing
   things = things_above l 0 run.stack []
@@ -140,7 +132,6 @@ module _ {R : Type 0} (t : List ℕ → Option (List ℕ)) (l : R → List ℕ) 
   abbrev faults : Place → List SourceFault
   faults begin = faults_replaced begin (change_lines l run) things
 
-  -- what is to come behind its old side
   abbrev behind_old : World → ℕ → ℕ → WaitingEntry → List Event
   behind_old world files depth entry = merge world (after_old (old_lines (change_lines l run)).ended files depth entry
       (old_lines (change_lines l run)) (taken_away (change_lines l run) things).rest)
@@ -164,7 +155,6 @@ module _ {R : Type 0} (t : List ℕ → Option (List ℕ)) (l : R → List ℕ) 
             ++ behind_old (world_in t run.inputs) files at.depth found.0)) found.2,
       )
 
-  -- what comes of a line that was taken and begins a change
   module _ (old : MergeState R) (at : LineAt) (bytes : List ℕ) (begin : Place) (all : List Event)
       (only : OnlyTakes old run)
       (taken : CountsLine bytes at.place (counters_of old.limits) (counters_of run.limits))
@@ -204,7 +194,6 @@ module _ {R : Type 0} (t : List ℕ → Option (List ℕ)) (l : R → List ℕ) 
         (adds_one (so_far_of old) (so_far_of run) bytes at.place taken (took_faults only) (took_names only))
         changed.adds)
 
--- No line was taken: what was told and what is to come are as they were.
 pub untaken : {R : Type 0} (Says : SoFar → List Event → Type 0) (t t' : List ℕ → Option (List ℕ)) (l l' : R → List ℕ)
     (old new : MergeState R) (bytes : List ℕ) → t' ≡ t → l' ≡ l → IsSettled old.stage
     → TakesAbove l l' (floor_of old.stage) old.stack new.stack None bytes (counters_of old.limits)

@@ -1,4 +1,4 @@
--- The law of webs without include lines and without a change file.
+-- A web without include lines and change file.
 use Rattle.cweb_lines.proofs.Common.{true, [], ◌∙◌, ap, list_any, lines, lines_in, cut_lines, is_include_line, WebsWithoutIncludesAreTheirOwnLines, only_lines}
 use Rattle.cweb_lines.proofs.Entries.{gives_alone}
 use Rattle.cweb_lines.proofs.LinePlaces.{bytes_of, lie_in}

@@ -1,7 +1,6 @@
--- What the end of a run blames where a read or a write failed.
+-- Which device the end of a run blames.
 use Rattle.cweb_lines.proofs.Common.{◌≡◌, ◌≤◌, ◌+◌, ℕ, List, Option, None, Some, Result, Err, refl, sym, ap, subst, arith, IfSome, Event, SoFar, StopsReading, read_failures_of, files_named, StopsWriting, WritingStops, WritesSome, FailureCounts, LeavesDevices, KeepsStop, write_failures_of, Stop, ReadFault, LineTooLong, TooMuchText, Memory, WriteFault}
 
--- what holds of a stop that came before holds where none came
 pub none_before : {A : Type 0} (P : A → Type 0) {stop : Option A} → stop ≡ None → IfSome stop P
 none_before P none = subst (λ stop. IfSome stop P) (sym none) tt
 
@@ -16,7 +15,6 @@ reads_or_writes TooMuchText reading = tt
 reads_or_writes Memory reading = tt
 reads_or_writes stop reading = absurd reading
 
--- a reading stop is kept, and is no write fault
 keeps_reading : (stop : Stop) (kept : Option Stop) → StopsReading stop → kept ≡ Some stop → KeepsStop stop kept
 keeps_reading (ReadFault file) kept reading keeps = keeps
 keeps_reading (LineTooLong file) kept reading keeps = keeps
@@ -24,7 +22,6 @@ keeps_reading TooMuchText kept reading keeps = keeps
 keeps_reading Memory kept reading keeps = keeps
 keeps_reading stop kept reading keeps = absurd reading
 
--- the merger stopped
 pub blames_own : (stop : Stop) (kept : Option Stop) (files : ℕ) (before after : FailureCounts) → StopsReading stop
     → kept ≡ Some stop → files_named stop ≤ files → after.shelf ≡ before.shelf + read_failures_of stop
     → after.out ≡ before.out → LeavesDevices stop before after kept files
@@ -36,7 +33,6 @@ blames_own stop kept files before after reading keeps named shelf out = record {
   kept = keeps_reading stop kept reading keeps;
 }
 
--- a write failed, and the merger goes on
 pub blames_write : (result : Stop) (kept : Option Stop) (files : ℕ) (before after : FailureCounts) →
     result ≡ WriteFault → kept ≡ None
     → after.shelf ≡ before.shelf → after.out ≡ before.out + 1 → LeavesDevices result before after kept files
@@ -52,7 +48,6 @@ pub write_failed : (result : Stop) (old new : SoFar) (all : List Event) (Wrote :
     result ≡ WriteFault → StopsWriting result old new all Wrote
 write_failed result old new all Wrote is = subst (λ s. StopsWriting s old new all Wrote) (sym is) tt
 
--- memory was refused behind lines that were written
 pub memory_failed : (result : Stop) (old new : SoFar) (all : List Event) (Wrote : List ℕ → Type 0) →
     result ≡ Memory → WritesSome all Wrote → StopsWriting result old new all Wrote
 memory_failed result old new all Wrote is wrote = subst (λ s. StopsWriting s old new all Wrote) (sym is) wrote

@@ -1,4 +1,4 @@
--- How lines that were given out and written add up.
+-- The written lines of consecutive calls are concatenated.
 use Rattle.cweb_lines.proofs.Common.{◌≡◌, ℕ, List, [], ◌∷◌, ◌++◌, refl, sym, ◌∙◌, IsTrue, append-nil, append_assoc, Writes, Line, Event, SoFar, EmitsLines, Stopped, StopsAfterLines, ReportsPrefix, emitted_lines, written_lines, WritesPrefix, WritesAll, WritesSome, WritesUpTo, HasWritten, StopsWriting, Stop, ReadFault, LineTooLong, TooMuchText, Memory}
 use Rattle.cweb_files.specs.declared.device.Sink.{Ghosts as Sink}
 use Rattle.cweb_lines.proofs.Merges.{gives_nothing}
@@ -8,7 +8,6 @@ pub given_front : (lines : List Line) (old new : SoFar) (all later : List Event)
     emitted_lines all ≡ lines ++ emitted_lines later
 given_front lines old new all later gives = simp (gives.whole, given-append, gives.given)
 
--- all came: the lines that were given out are all lines
 pub gives_all : (lines : List Line) (old new : SoFar) (all later : List Event) → EmitsLines lines old new all later →
     later ≡ [] → EmitsLines (emitted_lines all) old new all []
 gives_all lines old new all later gives none = record {
@@ -26,8 +25,7 @@ pub text_of-append : (a b : List Line) → written_lines (a ++ b) ≡ written_li
 text_of-append [] b = refl
 text_of-append (line ∷ a) b = simp (text_of-append a b, append_assoc)
 
--- a front of the text of all lines, where they are lines that were written, lines of which a front was written, and
--- lines that follow
+-- A prefix of the whole output: whole lines, then a prefix of the buffered lines.
 pub front_of_all : (all done gathered now : List Line) (old mid new buffer : List ℕ) → all ≡ done ++ (gathered ++ now) →
     mid ≡ old ++ written_lines done → buffer ≡ written_lines gathered
     → WritesPrefix mid new buffer → WritesPrefix old new (written_lines all)
@@ -48,7 +46,6 @@ nothing_yet sink w so all = record {
 
 module _ {W : Type 0} (sink : Sink W) (first mid : W) (old so : SoFar) (all now : List Event)
     (g : HasWritten old so all now (Writes sink first mid)) where
-  -- a prefix of all lines
   pub written_front : IsTrue (sink.tells first) → WritesPrefix (sink.written first) (sink.written mid)
       (written_lines (emitted_lines all))
   written_front tells = record {
@@ -58,7 +55,6 @@ module _ {W : Type 0} (sink : Sink W) (first mid : W) (old so : SoFar) (all now 
     whole = simp (given_front g.lines old so all now g.gives, text_of-append);
   }
 
-  -- all of them
   pub written_whole : (so' : SoFar) (later : List Event) → EmitsLines [] so so' now later → later ≡ [] →
       WritesAll old so' all (Writes sink first mid)
   written_whole so' later next none =
@@ -85,7 +81,6 @@ module _ {W : Type 0} (sink : Sink W) (first mid : W) (old so : SoFar) (all now 
     wrote = g.wrote;
   }
 
-  -- the merger stopped
   pub written_by : (stop : Stop) (new : SoFar) → Stopped stop so new now → StopsWriting stop old new all (Writes sink
       first mid)
   written_by (ReadFault file) new reads = record {
@@ -98,7 +93,6 @@ module _ {W : Type 0} (sink : Sink W) (first mid : W) (old so : SoFar) (all now 
   written_by Memory new stopped = written_some
   written_by stop new stopped = absurd stopped
 
--- what was told is a front of all that is to be told
 pub tells_some : (lines : List Line) (old new : SoFar) (all later : List Event) → EmitsLines lines old new all later →
     ReportsPrefix old new all
 tells_some lines old new all later gives = record {

@@ -1,4 +1,4 @@
--- The entries of a change file: the code lines @x, @y and @z, and the old and new lines between them.
+-- Change files: entries of old and new lines between the code lines @x, @y and @z.
 use Rattle.std.specs.Prelude.{ℕ, Bool, true, false, ◌||◌, ◌==◌, List, [], ◌∷◌, Option, None, Some, if◌then◌else◌}
 use Rattle.cweb_files.specs.declared.place.Place.{Place}
 use Rattle.cweb_input.specs.Lines.{SourceLine}
@@ -9,47 +9,49 @@ use Rattle.cweb_input.specs.declared.fault.SourceKind.{SourceKind}
 use Rattle.cweb_input.specs.declared.fault.SourceKind.TheVariants.{MissingX, NoOldLines, WantsY}
 use Rattle.cweb_input.specs.declared.fault.SourceFault.{SourceFault}
 
--- x, y and z, in either case
+-- `x`, `y` or `z` in either case.
 abbrev pub letter_code : ℕ → Option Code
 letter_code b =
     if b == 120 || b == 88 then Some old_side
     else (if b == 121 || b == 89 then Some new_side else (if b == 122 || b == 90 then Some end_side else None))
 
--- the code of a line that begins with @ and such a letter
+-- A code line begins with `@` and one of these letters.
 abbrev pub change_code : List ℕ → Option Code
 change_code [] = None
 change_code (a ∷ []) = None
 change_code (a ∷ b ∷ rest) = if a == 64 then letter_code b else None
 
+-- A fault at a place, without a count.
 abbrev pub at_place : SourceKind → Place → SourceFault
 at_place kind place = record { kind = kind; place = place; count = 0 }
 
--- an entry that waits for its first old line: where its @x stands, and that line
+-- An entry that waits for its first old line, with the place of its @x.
 pub record WaitingEntry : Type 0 where
   pub begin : Place
   pub first : List ℕ
 
--- a search for an entry: the faults met and the lines taken on the way, the entry, and the lines that follow
+-- The search for an entry: its faults, the lines that it takes, the entry, and the lines after it.
 pub record Sought : Type 0 where
   pub faults : List SourceFault
   pub taken : List SourceLine
   pub entry : Option WaitingEntry
   pub rest : List SourceLine
 
+-- Prepends a fault.
 abbrev pub met : SourceFault → Sought → Sought
 met f sought = record sought { faults = f ∷ sought.faults }
 
+-- Prepends a line that was taken.
 abbrev pub passing : SourceLine → Sought → Sought
 passing line sought = record sought { taken = line ∷ sought.taken }
 
--- Outside an entry, at a line with this code. What follows is a function of the @x line that waits, so that only one of
--- the two ways is computed.
+-- A line with this code outside an entry. `later` is the rest of the search: a function, so that one case is computed.
 abbrev pub outside : Option Code → Place → (Option Place → Sought) → Sought
 outside None place later = later None
 outside (Some old_side) place later = later (Some place)
 outside (Some code) place later = met (at_place MissingX place) (later None)
 
--- behind an @x line: empty lines are skipped, a code line begins the search anew, any other line is the first old line
+-- A line after @x: empty lines are skipped, a code line restarts the search, and any other line is the first old line.
 abbrev pub after_x : List ℕ → Option Code → Place → SourceLine → List SourceLine → (Option Place → Sought) → Sought
 after_x [] code begin line lines later = passing line (later (Some begin))
 after_x (b ∷ bs) None begin line lines later =
@@ -57,7 +59,7 @@ after_x (b ∷ bs) None begin line lines later =
 after_x (b ∷ bs) (Some code) begin line lines later =
     met (at_place NoOldLines begin) (passing line (outside (Some code) line.line.place later))
 
--- the next entry; behind an @x line, where that stands
+-- The search for the next entry. `Some begin` is the place of an @x that has no old line yet.
 abbrev pub sought : List SourceLine → Option Place → Sought
 sought [] None = record { faults = []; taken = []; entry = None; rest = [] }
 sought [] (Some begin) = record { faults = at_place NoOldLines begin ∷ []; taken = []; entry = None; rest = [] }
@@ -66,7 +68,7 @@ sought (line ∷ lines) None =
 sought (line ∷ lines) (Some begin) =
     after_x line.line.bytes (change_code line.line.bytes) begin line lines (λ next. sought lines next)
 
--- the further old lines of an entry, up to its @y
+-- The further old lines of an entry, up to its @y.
 pub record OldSide : Type 0 where
   pub faults : List SourceFault
   pub lines : List (List ℕ)
@@ -75,19 +77,22 @@ pub record OldSide : Type 0 where
   pub ended : Bool
   pub rest : List SourceLine
 
+-- Prepends an old line.
 abbrev pub old_line : SourceLine → OldSide → OldSide
 old_line line side = record side { lines = line.line.bytes ∷ side.lines; taken = line ∷ side.taken }
 
--- an @x or @z among the old lines is a fault, and skipped
+-- @x or @z among the old lines is a fault and skipped.
 abbrev pub old_code : SourceLine → OldSide → OldSide
 old_code line side = record side { faults = at_place WantsY line.line.place ∷ side.faults; taken = line ∷ side.taken }
 
+-- A line of the old side by its code: @y ends the side.
 abbrev pub old_at : Option Code → SourceLine → List SourceLine → OldSide → OldSide
 old_at None line lines later = old_line line later
 old_at (Some new_side) line lines later =
     record { faults = []; lines = []; taken = line ∷ []; ended = false; rest = lines }
 old_at (Some code) line lines later = old_code line later
 
+-- The old side at the start of these lines.
 abbrev pub old_lines : List SourceLine → OldSide
 old_lines [] = record { faults = []; lines = []; taken = []; ended = true; rest = [] }
 old_lines (line ∷ lines) = old_at (change_code line.line.bytes) line lines (old_lines lines)

@@ -1,4 +1,4 @@
--- The steps of the merge end, for every shelf, web and change file.
+-- Every merge ends: a proof by the remaining lines of the change file, the remaining depth, and the list of things.
 use Rattle.std.proofs.Common.{◌≡◌, ◌≤◌, ◌<◌, ◌+◌, ℕ, zero, suc, Bool, true, false, List, [], ◌∷◌, ◌++◌, Option, Some}
 use Rattle.std.proofs.Common.{None, refl, ◌∙◌, ap, length, arith, ◌&&◌}
 use Rattle.std.specs.Prelude.{nat_lt}
@@ -19,6 +19,7 @@ use Rattle.cweb_lines.specs.Merge.{new_lines, compared, after_old, Next, obeyed,
 use Rattle.cweb_lines.specs.Merge.{at_entry, at_raw, step, onto, step_then_run, run_steps, Halts}
 use Rattle.cweb_input.specs.Things.{raws}
 
+-- A state halts if the next one does.
 unfoldable pub halts_next : (world : World) (s : MergeStateModel) (next : Next) → step world s ≡ Some next
     → Halts world next.1 →
     Halts world s
@@ -32,7 +33,7 @@ waiting : Option WaitingEntry → ℕ
 waiting None = 0
 waiting (Some entry) = 1
 
--- what a search leaves: the lines behind it, and one for an entry
+-- What a search leaves: the lines after it, and one for an entry.
 left_by : Sought → ℕ
 left_by found = length found.rest + waiting found.entry
 
@@ -54,7 +55,7 @@ after_x_less (b ∷ bs) None begin line lines later less = omega arith
 after_x_less (b ∷ bs) (Some code) begin line lines later less =
     omega (arith, outside_less (Some code) line.line.place later (length lines) less)
 
--- a search takes no fewer lines than it finds entries
+-- A search takes at least as many lines as it finds entries.
 sought_less : (lines : List SourceLine) (begin : Option Place) → left_by (sought lines begin) ≤ length lines
 unfolding left_by waiting
 sought_less [] None = omega arith
@@ -92,8 +93,7 @@ new_less depth begin [] = omega arith
 new_less depth begin (line ∷ lines) = new_at_less (change_code line.line.bytes) depth line lines
     (new_lines depth begin lines) (new_less depth begin lines)
 
--- The steps end for every state whose change lines and pending entry are no more than so many, where they end for those
--- that have fewer: each change uses up its entry.
+-- Induction: states with fewer than `most` change lines left halt. Each change uses up its entry, so it leads to one.
 module _ (world : World) (most : ℕ) (fewer : (things : List Thing) (change : List SourceLine) (files : ℕ) →
     length change < most → Halts world (record { things = things; pending = None; change = change; files = files }))
   where
@@ -114,7 +114,7 @@ module _ (world : World) (most : ℕ) (fewer : (things : List Thing) (change : L
         fewer ((new_lines depth entry.begin old.rest).things ++ seek ∷ rest)
         (new_lines depth entry.begin old.rest).rest files (omega (arith, new_less depth entry.begin old.rest))
 
-    -- a raw line, where those that it opens are good
+    -- A raw line, if the lines of a file that it opens are good.
     module _ (r : RawLine) (rest : List Thing) (good : Good rest)
         (opens : r.depth < OPEN_FILES → (lines : List SourceLine) → Good (raws (r.depth + 1) r.may_match lines ++ rest))
       where
@@ -173,7 +173,7 @@ module _ (world : World) (most : ℕ) (fewer : (things : List Thing) (change : L
         one_good pending change files within = halts_next world (before pending change files) _ refl
             (at_raw_good pending change files within)
 
-    -- the room is how much deeper the lines may lie that a line opens
+    -- `room` is the depth that is left for nested includes.
     raw_good : (room : ℕ) (r : RawLine) (rest : List Thing) → OPEN_FILES < r.depth + room → Good rest →
         Good (raw r ∷ rest)
     raw_good zero r rest deep good = one_good r rest good (λ shallow. absurd (omega arith))
@@ -207,7 +207,7 @@ module _ (world : World) (most : ℕ) (fewer : (things : List Thing) (change : L
     all_good [] = good_none
     all_good (thing ∷ things) = thing_good thing things (all_good things)
 
--- by the lines that the change file has left
+-- Induction on the remaining lines of the change file.
 halts_below : (world : World) (most : ℕ) (things : List Thing) (change : List SourceLine) (files : ℕ) →
     length change < most
     → Halts world (record { things = things; pending = None; change = change; files = files })
@@ -216,6 +216,7 @@ halts_below world zero things change files less = absurd (omega arith)
 halts_below world (suc most) things change files less =
     all_good world most (λ t c f l. halts_below world most t c f l) things None change files (omega arith)
 
+-- Every state halts.
 pub halts : (world : World) (s : MergeStateModel) → Halts world s
 unfolding waiting
 halts world s =

@@ -1,4 +1,4 @@
--- The merged lines of a web: one list of things still to come, of which the first decides what happens.
+-- The merge as steps over a list of things to come. The first thing decides the step.
 use Rattle.std.specs.Prelude.{◌≡◌, ℕ, zero, suc, ◌+◌, Bool, true, false, ◌&&◌, nat_lt, List, [], ◌∷◌, ◌++◌, map, Option}
 use Rattle.std.specs.Prelude.{None, Some, if◌then◌else◌}
 use Rattle.std.specs.Str.{bytes_eq}
@@ -14,69 +14,73 @@ use Rattle.cweb_input.specs.declared.fault.SourceKind.TheVariants.{NoName, TooDe
 use Rattle.cweb_input.specs.declared.fault.SourceKind.TheVariants.{Unequal, WantsZ, EndedBeforeZ, NoMatch}
 use Rattle.cweb_input.specs.declared.fault.SourceFault.{SourceFault}
 
--- what comes out: a line is taken from its file, a merged line is given out, a fault is told, a file is opened under a
--- name
+-- An event: a line is taken from its file, a merged line is emitted, a fault is reported, or a file is opened.
 pub data Event : Type 0 where
   took : SourceLine → Event
   given : Line → Event
   fault : SourceFault → Event
   opening : List ℕ → Event
 
+-- The state of a merge.
 pub record MergeStateModel : Type 0 where
   pub things : List Thing
   -- the entry that waits for its first old line
   pub pending : Option WaitingEntry
-  -- what the change file has left
+  -- the remaining lines of the change file
   pub change : List SourceLine
-  -- how many files have been opened
+  -- the number of opened files
   pub files : ℕ
 
--- the new lines of an entry, up to its @z, as things to come
+-- The new lines of an entry, up to its @z, as things to come.
 pub record NewSide : Type 0 where
   pub things : List Thing
   pub rest : List SourceLine
 
+-- Prepends things.
 abbrev pub new_things : List Thing → NewSide → NewSide
 new_things things side = record side { things = things ++ side.things }
 
--- a new line may not match; an @x or @y among them is a fault, and skipped
+-- A line of the new side by its code. A new line matches no entry. @x or @y is a fault and skipped.
 abbrev pub new_at : Option Code → ℕ → SourceLine → List SourceLine → NewSide → NewSide
 new_at None depth line lines later = new_things (raw (record { source = line; depth = depth; may_match = false }) ∷ [])
     later
 new_at (Some end_side) depth line lines later = record { things = passed line ∷ []; rest = lines }
 new_at (Some code) depth line lines later = new_things (passed line ∷ told (at_place WantsZ line.line.place) ∷ []) later
 
+-- The new side at the start of these lines.
 abbrev pub new_lines : ℕ → Place → List SourceLine → NewSide
 new_lines depth begin [] = record { things = told (at_place EndedBeforeZ begin) ∷ []; rest = [] }
 new_lines depth begin (line ∷ lines) =
     new_at (change_code line.line.bytes) depth line lines (new_lines depth begin lines)
 
--- how the raw lines that a change takes away compare with its further old lines
+-- The raw lines that a change drops, compared with its further old lines.
 pub record Compared : Type 0 where
   pub unequal : ℕ
   pub taken : List SourceLine
-  -- the raw lines ran out
+  -- the raw lines ended first
   pub ran_out : Bool
   pub rest : List Thing
 
+-- Prepends a raw line, which equals its old line or not.
 abbrev pub one_more : Bool → SourceLine → Compared → Compared
 one_more equal line by = record by { unequal = if equal then by.unequal else by.unequal + 1; taken = line ∷ by.taken }
 
--- each further old line takes the next raw line, whatever that holds
+-- Each further old line drops the next raw line, whether they are equal or not.
 abbrev pub compared : List (List ℕ) → List Thing → Compared
 compared [] things = record { unequal = 0; taken = []; ran_out = false; rest = things }
 compared (old ∷ olds) [] = record { unequal = 0; taken = []; ran_out = true; rest = [] }
 compared (old ∷ olds) (raw r ∷ things) = one_more (bytes_eq r.source.line.bytes old) r.source (compared olds things)
 compared (old ∷ olds) (thing ∷ things) = compared (old ∷ olds) things
 
--- what comes out at a step, and what is to come after it
+-- The events of a step, and the next state.
 abbrev pub Next : Type 0
 Next = List Event × MergeStateModel
 
+-- A fault, if there is one.
 abbrev pub fault_event_if : Bool → SourceFault → List Event
 fault_event_if b f = if b then fault f ∷ [] else []
 
--- the old side of a change: its lines and the raw lines that it takes away, then its faults
+-- The old side of a change: the lines that are taken, then the faults.
 abbrev pub change_events : WaitingEntry → OldSide → Compared → List Event
 change_events entry old by =
     map took old.taken ++ map took by.taken
@@ -84,65 +88,67 @@ change_events entry old by =
     ++ fault_event_if by.ran_out (at_place WebEnded entry.begin)
     ++ fault_event_if (nat_lt 0 by.unequal) (record { kind = Unequal; place = entry.begin; count = by.unequal })
 
--- behind the old side: the new lines come in front of the rest, then the next entry is sought; where the change file
--- has ended, neither
+-- After the old side the new lines come first, then the search for the next entry, unless the change file has ended.
 abbrev pub after_old : Bool → ℕ → ℕ → WaitingEntry → OldSide → List Thing → MergeStateModel
 after_old true files depth entry old rest = record { things = rest; pending = None; change = []; files = files }
 after_old false files depth entry old rest =
     let new = new_lines depth entry.begin old.rest in
     record { things = new.things ++ seek ∷ rest; pending = None; change = new.rest; files = files }
 
--- a change at its first old line, which a raw line equals
+-- A change whose first old line equals this raw line.
 abbrev pub changed : MergeStateModel → WaitingEntry → RawLine → List Thing → Next
 changed s entry r things =
     let old = old_lines s.change in
     let by = compared old.lines things in
     (change_events entry old by, after_old old.ended s.files r.depth entry old by.rest)
 
+-- The state with these things to come.
 abbrev pub past : MergeStateModel → List Thing → MergeStateModel
 past s things = record s { things = things }
 
--- an include line whose text was sought: the lines of the text come in front, one deeper, and may match where the
--- include line may
+-- An included file that was found or not. Its lines come first, one deeper, and match as the include line does.
 abbrev pub obeyed : Option Found → MergeStateModel → RawLine → List Thing → Next
 obeyed None s r things = (fault (at_place NotThere r.source.line.place) ∷ [], past s things)
 obeyed (Some found) s r things =
     let inside = raws (r.depth + 1) r.may_match (lines_in s.files found.1) in
     (opening found.0 ∷ [], record s { things = inside ++ things; files = s.files + 1 })
 
+-- An include line with a name. At the maximum depth it is a fault.
 abbrev pub open_include : Bool → World → List ℕ → MergeStateModel → RawLine → List Thing → Next
 open_include false world name s r things = (fault (at_place TooDeep r.source.line.place) ∷ [], past s things)
 open_include true world name s r things = obeyed (found_at world name) s r things
 
--- an include line is dropped with a fault where it gives no name, where no more files may be open, or where no text is
--- there
+-- An include line. Without a name it is a fault.
 abbrev pub included : List ℕ → World → MergeStateModel → RawLine → List Thing → Next
 included [] world s r things = (fault (at_place NoName r.source.line.place) ∷ [], past s things)
 included (b ∷ bs) world s r things = open_include (nat_lt r.depth OPEN_FILES) world (b ∷ bs) s r things
 
--- a line that begins no change is obeyed or given out
+-- A line that begins no change is obeyed or emitted.
 abbrev pub plain : Bool → World → MergeStateModel → RawLine → List Thing → Next
 plain true world s r things = included (include_name r.source.line.bytes) world s r things
 plain false world s r things = (given r.source.line ∷ [], past s things)
 
+-- A line that begins the change of this entry or not.
 abbrev pub at_entry : Bool → WaitingEntry → World → MergeStateModel → RawLine → List Thing → Next
 at_entry true entry world s r things = changed s entry r things
 at_entry false entry world s r things = plain (is_include_line r.source.line.bytes) world s r things
 
--- the first old line is compared before an include line is obeyed
+-- A raw line is compared with the first old line before it may be obeyed.
 abbrev pub at_raw : Option WaitingEntry → World → MergeStateModel → RawLine → List Thing → Next
 at_raw None world s r things = plain (is_include_line r.source.line.bytes) world s r things
 at_raw (Some entry) world s r things = at_entry (r.may_match && bytes_eq r.source.line.bytes entry.first) entry world s
     r things
 
+-- Prepends the event that a line is taken.
 abbrev pub taking : SourceLine → Next → Next
 taking line next = (took line ∷ next.0, next.1)
 
+-- At the end an entry that waits is a fault.
 abbrev pub at_end : Option WaitingEntry → MergeStateModel → Option Next
 at_end None s = None
 at_end (Some entry) s = Some (fault (at_place NoMatch entry.begin) ∷ [], record s { things = []; pending = None })
 
--- the first thing to come decides; there is no step where nothing is to come
+-- The first thing decides. There is no step if nothing is to come.
 abbrev pub step_at : List Thing → World → MergeStateModel → Option Next
 step_at [] world s = at_end s.pending s
 step_at (seek ∷ things) world s =
@@ -160,29 +166,32 @@ step_at (raw r ∷ things) world s = Some (taking r.source (at_raw s.pending wor
 step_at (told f ∷ things) world s = Some (fault f ∷ [], past s things)
 step_at (passed line ∷ things) world s = Some (took line ∷ [], past s things)
 
+-- One step of the merge.
 abbrev pub step : World → MergeStateModel → Option Next
 step world s = step_at s.things world s
 
+-- Prepends events, if there is a result.
 abbrev pub onto : List Event → Option (List Event) → Option (List Event)
 onto events None = None
 onto events (Some later) = Some (events ++ later)
 
+-- A step, then the rest of the run.
 abbrev pub step_then_run : Option Next → (MergeStateModel → Option (List Event)) → Option (List Event)
 step_then_run None later = Some []
 step_then_run (Some next) later = onto next.0 (later next.1)
 
--- all that comes, where so many steps are enough
+-- All events, if this number of steps is enough.
 abbrev pub run_steps : ℕ → World → MergeStateModel → Option (List Event)
 run_steps zero world s = None
 run_steps (suc n) world s = step_then_run (step world s) (λ next. run_steps n world next)
 
--- so many steps are enough, and this is what comes out
+-- A number of steps that is enough, and the events.
 pub record Halts (world : World) (s : MergeStateModel) : Type 0 where
   pub steps : ℕ
   pub events : List Event
   pub comes : run_steps steps world s ≡ Some events
 
--- The merge begins with the web's lines. Where there is a change file, its first entry is sought before them.
+-- A merge begins with the lines of the web. If there is a change file, its first entry is sought before them.
 abbrev pub started : List ℕ → Option (List ℕ) → MergeStateModel
 started web None = record { things = raws 1 true (lines_in 0 web); pending = None; change = []; files = 1 }
 started web (Some change) =

@@ -1,9 +1,9 @@
--- Every web has its merged lines, and has them once.
+-- All events of a merge.
 use Rattle.std.proofs.Common.{List}
 use Rattle.cweb_input.specs.Include.{World}
 use Rattle.cweb_lines.specs.Merge.{Event, MergeStateModel}
 use Rattle.cweb_lines.specs.Halting.{halts}
 
--- all that comes from a state on
+-- All events from a state on.
 unfoldable pub merge : World → MergeStateModel → List Event
 merge world s = (halts world s).events

@@ -1,4 +1,4 @@
-// Where a merger stands with its change file.
+// The state of a merger with its change file.
 pub mod code;
 pub mod old_side;
 pub mod seek;
@@ -10,21 +10,21 @@ use cweb_files::Place;
 pub enum Stage {
     /// There is no change file, or it has no entry left.
     Done,
-    /// The next entry is to be sought.
+    /// The next entry must be sought.
     Seeking,
-    /// An entry, whose `@x` line stands here, waits for its first old line.
+    /// An entry waits for a line that equals its first old line. Its `@x` is at this place.
     Waiting(Place),
-    /// The new lines of an entry come.
+    /// The new lines of an entry are taken.
     Changing(Change),
 }
 
-/// A change whose new lines come.
+/// A change whose new lines are taken.
 #[derive(Clone, Copy)]
 pub struct Change {
-    /// Where its entry's `@x` line stands.
+    /// The place of its `@x`.
     pub begin: Place,
-    /// How many texts were open when the new lines began. A new line is taken where no more are open.
+    /// The number of open sources at the start of the new side. A new line is taken when no more are open.
     pub below: usize,
-    /// How deep the new lines lie: as deep as the line that began the change.
+    /// The depth of the new lines: that of the line that began the change.
     pub depth: usize,
 }

@@ -1,28 +1,21 @@
-//! The merged lines of a web: the lines of its files, with included files put in and a change file's entries made.
+//! The merged lines of a web: the lines of its files, with included files inserted and a change file applied.
 #![tactic(auto)]
 
-// the texts that a merge begins with
+// how a merge begins
 mod open;
-
-// the change file: its stage, its entries, the old side that an entry takes away
+// the change file: its state, its entries, the old side of a change
 mod change;
-
-// what a merge holds
+// what a merger holds
 mod merge_state;
-
 // one step of a merge
 mod step;
-
 // lines that pass through
 mod passing;
-
 // the merged lines, one after another
 mod merger;
-
-// all of them, written
+// all merged lines, written to a sink
 mod writing;
-
-// what holds of merged lines whatever the texts are
+// what holds of every merge
 pub mod laws;
 
 pub use cweb_files::{

@@ -12,13 +12,14 @@ use crate::change::Stage;
 use cweb_input::{FileNames, OpenSource, SourceFault, Stack, Stop, TakenCounters};
 use std::alloc::Global;
 
+/// The state of a merger. The shelf isn't part of it.
 #[derive(Drop)]
 pub struct MergeState<R: Drop> {
     pub alloc: Global,
-    /// The folder in which included files are sought too.
+    /// The folder that is also searched for included files.
     pub inputs: Option<String>,
     pub stack: Stack<R>,
-    /// The change file, of which lines are only taken forward.
+    /// The change file. Its lines are only taken forward.
     pub change: Option<OpenSource<R>>,
     pub stage: Stage,
     /// The first old line of the entry that waits.
@@ -26,17 +27,17 @@ pub struct MergeState<R: Drop> {
     pub limits: TakenCounters,
     pub faults: Vec<SourceFault>,
     pub names: FileNames,
-    /// The stop that every further call answers.
+    /// The stop that each further call returns.
     pub stopped: Option<Stop>,
     ghost shallow: { stack.depth ≤ OPEN_FILES },
     ghost deep: { AreDeep stack.texts },
     ghost numbers: { maximum_of line_number stack.texts ≤ limits.lines },
     ghost change_number: { number_or_zero line_number change ≤ limits.lines },
-    // the texts that were open when new lines began stay open, and the new lines lie no less deep
+    // the sources below a change stay open, and its new lines are at least as deep
     ghost floor: { floor_of stage ≤ stack.depth },
     ghost floor_deep: { floor_of stage ≤ new_depth stage },
     ghost named: { length (opened_file_names names) ≤ limits.lines + 2 },
-    // every file that an open text, an entry, a fault or the kept stop names has been opened
+    // each file number of an open source, an entry, a fault or the stored stop is below the count of opened files
     ghost open_known: { maximum_of files_up_to stack.texts ≤ length (opened_file_names names) },
     ghost change_known: { number_or_zero files_up_to change ≤ length (opened_file_names names) },
     ghost begun_known: { files_begun stage ≤ length (opened_file_names names) },

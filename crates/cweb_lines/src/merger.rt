@@ -24,13 +24,12 @@ use cweb_files::{Place, Shelf};
 use cweb_input::{FileNames, SourceFault, Stack, Stop, TakenCounters, find_change, find_web};
 use std::alloc::{AllocError, Global};
 
-/// A web whose lines are being merged with those of the files that it includes. The shelf is handed to each call, as the
-/// call before left it.
+/// A web that is being merged. Each call gets the shelf as the previous call left it.
 pub struct Merger<S: Shelf> {
     run: MergeState<S::R>,
 }
 
-// It is let go by one call wherever it is held, not part by part.
+// One call frees it, not one per field.
 impl<S: Shelf> Drop for Merger<S> {
     fn drop(self) {
         let Merger { run: _ } = self;
@@ -43,8 +42,8 @@ impl<S: Shelf> Merger<S> {
     ghost use Rattle.cweb_lines.specs.surface.MergerCalls.{ReportsReadFailures, StopsThere, BeginsMerge};
     ghost use Rattle.cweb_lines.specs.surface.MergerCalls.{StopsAtStart, KnowsReaders, StaysKnown};
 
-    /// Opens the web under its name, or under the second where the first isn't there, then the change file if one is
-    /// named, and reads nothing. Included files are sought as they are named and then in the folder `inputs`.
+    /// Opens the web under its name, else under `second`, and the change file if one is named. It reads nothing. An
+    /// included file is sought under its name, then in the folder `inputs`.
     pub fn start(
         alloc: Global,
         shelf: &mut S,
@@ -101,15 +100,15 @@ impl<S: Shelf> Merger<S> {
         })
     }
 
-    /// The next merged line without its newline, and the place where it stands; at the end none, from then on always.
-    /// After a stop the merger answers the same one to each further call, and `line` is empty.
+    /// The next merged line, without its newline, and its place. At the end it is `None`, and stays so. After a stop
+    /// each further call returns the same stop and leaves `line` empty.
     pub fn next_line(&mut self, shelf: &mut S, line: &mut Vec<u8>) -> Result<Option<Place>, Stop>
         requires { S.failed shelf.old + 1 < 2 ^ 64 }
         ensures keeps { KeepsShelf S.Shelf shelf.old shelf.new }
         ensures grows { Grows (so_far self.old) (so_far self.new) }
         ensures leaves { LeavesMerger result line.new.items self.new }
 
-        // the next line that is to come, or none
+        // the next line, or none
         ensures next { IsTrue (S.tells shelf.old) →
             IfOk result (λ place. NextLine place line.new.items (so_far self.old) (so_far self.new)
             (to_come S.Shelf shelf.old self.old) (to_come S.Shelf shelf.new self.new)) }
@@ -118,7 +117,7 @@ impl<S: Shelf> Merger<S> {
         ensures ended { stop_in self.old ≡ None → HasEnded self.old →
             (result ≡ Ok None) × (self.new ≡ self.old) × (shelf.new ≡ shelf.old) }
 
-        // why there is no answer
+        // why there is no result
         ensures blames { stop_in self.old ≡ None →
             ReportsReadFailures (S.failed shelf.old) (S.failed shelf.new) result }
         ensures stops { IsTrue (S.tells shelf.old) → stop_in self.old ≡ None →
@@ -153,8 +152,9 @@ impl<S: Shelf> Merger<S> {
         }
     }
 
-    /// The next line, where it was read already and passes through: it is counted, and lies in what was read (`bytes_of`) until
-    /// the next call that changes the merger. None where there is more to do for it, or a stop is kept, and nothing is changed.
+    /// Fast path of `next_line` for a line that is in the buffer and passes through. It is counted. Its bytes
+    /// (`bytes_of`) are valid until the next call that changes the merger. `None` is always allowed and changes
+    /// nothing: the caller falls back to `next_line`.
     #[inline(always)]
     pub fn borrow_line(&mut self) -> Option<LineSpan>
         ensures lent { IfSome result (λ line. BorrowsLine line self.old.run self.new.run) }
@@ -167,7 +167,7 @@ impl<S: Shelf> Merger<S> {
         self.run.borrow_line()
     }
 
-    /// The bytes of a line that was lent last.
+    /// The bytes of the line that was borrowed last.
     #[inline(always)]
     pub fn bytes_of(&self, line: LineSpan) -> &[u8]
         requires { IsSpanIn self.now.run line }
@@ -176,7 +176,7 @@ impl<S: Shelf> Merger<S> {
         self.run.bytes_of(line)
     }
 
-    /// The faults met so far, in the order in which they came.
+    /// The faults so far, in the order in which they occurred.
     pub fn faults(&self) -> &[SourceFault]
         ensures value { result.now ≡ (so_far self.now).faults }
         ensures known { All (λ fault. fault.place.file.0 < length (so_far self.now).names)
@@ -185,14 +185,14 @@ impl<S: Shelf> Merger<S> {
         &self.run.faults
     }
 
-    /// The files opened so far.
+    /// The files that were opened so far.
     pub fn names(&self) -> &FileNames
         ensures { opened_file_names result.now ≡ (so_far self.now).names }
     {
         &self.run.names
     }
 
-    /// The stop that each further call answers.
+    /// The stop that each further call returns.
     pub fn stopped(&self) -> Option<Stop>
         ensures stop { result ≡ stop_in self.now }
         ensures named { IfSome result (λ stop. files_named stop ≤ length (so_far self.now).names) }
@@ -204,7 +204,7 @@ impl<S: Shelf> Merger<S> {
         self.run.alloc
     }
 
-    /// Appends lines that were read and pass through to a caller's buffer, while that has fewer than `room` bytes.
+    /// Appends buffered lines that pass through, while `buffer` has fewer than `room` bytes.
     pub(crate) fn pass_lines(&mut self, buffer: &mut Vec<u8>, room: usize) -> Result<(), AllocError>
         ensures passes { AppendsPassedLines self.old.run self.new.run buffer.old.items
             buffer.new.items }
@@ -213,8 +213,7 @@ impl<S: Shelf> Merger<S> {
         pass_lines(&mut self.run, buffer, room)
     }
 
-    /// Memory was refused to a caller that has taken a line: the merger answers that stop from then on, unless it has
-    /// stopped already. It answers the stop that it keeps.
+    /// Stops the merger because memory was refused to its caller. Returns that stop, or an earlier one if it has one.
     pub fn halt(&mut self) -> Stop
         ensures stop { stop_in self.old ≡ None → result ≡ Stop.Memory }
         ensures kept { stop_in self.new ≡ Some result }

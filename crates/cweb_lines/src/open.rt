@@ -1,4 +1,4 @@
-// How a merger begins: its web and its change file, opened and not yet read.
+// How a merger begins: the web and the change file are opened, and nothing is read.
 ghost use Rattle.std.specs.Prelude.{◌≡◌, ◌≤◌, ◌++◌, ◌∷◌, ℕ, List, [], length, string_bytes, IfOk};
 ghost use Rattle.std.specs.Prelude.{IfErr, OnOk, true};
 ghost use Rattle.std.specs.Option.{option_copied};
@@ -19,7 +19,7 @@ use cweb_files::FileId;
 use cweb_input::{FileNames, OpenSource, Opening, Source, Stop};
 use std::alloc::{AllocError, Global};
 
-/// A copy of a name, where there is one.
+/// A copy of a name, if there is one.
 pub fn owned(alloc: Global, name: Option<&str>) -> Result<Option<String>, AllocError>
     ensures { IfOk result (λ owned. optional_string_bytes owned ≡ option_copied name.entry) }
 {
@@ -29,7 +29,7 @@ pub fn owned(alloc: Global, name: Option<&str>) -> Result<Option<String>, AllocE
     }
 }
 
-/// The web is the first file.
+/// Opens the web as file 0.
 pub fn open_web<R: Drop>(
     alloc: Global,
     names: &mut FileNames,
@@ -58,7 +58,7 @@ pub fn open_web<R: Drop>(
     })
 }
 
-/// The change file, where there is one, is the second file. Its lines match nothing.
+/// Opens the change file, if there is one, as file 1. Its lines match nothing.
 pub fn open_change<R: Drop>(
     alloc: Global,
     names: &mut FileNames,
@@ -96,7 +96,7 @@ pub fn open_change<R: Drop>(
     }))
 }
 
-/// The first entry is sought before the first line of the web.
+/// If there is a change file, its first entry is sought before the first line of the web.
 pub fn first_stage<R: Drop>(change: &Option<OpenSource<R>>) -> Stage
     ensures { result ≡ stage_for change.now }
 {

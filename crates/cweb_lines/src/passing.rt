@@ -1,4 +1,4 @@
-// Lines that were read whole and only pass through: they are no include lines and begin no change.
+// Lines that pass through: they were read whole, are no include lines and begin no change.
 pub mod advance;
 pub mod line_span;
 pub mod stretch;

@@ -1,4 +1,4 @@
-// What no clause says: worked webs and changes, the limits, and devices that fail, that take little at once or that never end.
+// What no clause says: worked examples, the limits, and devices that fail, take little at once or never end.
 mod ahead;
 mod changed_files;
 mod changed_lines;
@@ -23,7 +23,7 @@ use std::test::Fail;
 use trial::{TrialSink, shelf_of};
 use wanted::*;
 
-/// The count of a fault, where it has one, and the end of its line.
+/// Appends the count of a fault, if it has one, and ends its line.
 fn describe_count(told: &mut String, count: u32) -> Result<(), Fail> {
     if count > 0 {
         write!(told, ": {count}")?;
@@ -32,7 +32,7 @@ fn describe_count(told: &mut String, count: u32) -> Result<(), Fail> {
     Ok(())
 }
 
-/// A fault in a line, with its count where it has one.
+/// Appends a fault as a line.
 fn describe_fault(told: &mut String, fault: &SourceFault) -> Result<(), Fail> {
     let place = fault.place;
     write!(
@@ -43,7 +43,7 @@ fn describe_fault(told: &mut String, fault: &SourceFault) -> Result<(), Fail> {
     describe_count(told, fault.count)
 }
 
-/// The faults so far, a line each.
+/// Appends the faults so far, one per line.
 fn describe_faults<S: Shelf>(told: &mut String, merger: &Merger<S>) -> Result<(), Fail> {
     for fault in merger.faults() {
         describe_fault(told, fault)?;
@@ -51,7 +51,7 @@ fn describe_faults<S: Shelf>(told: &mut String, merger: &Merger<S>) -> Result<()
     Ok(())
 }
 
-/// The names of the files so far from this number on, a line each.
+/// Appends the names of the files from number `from` on, one per line.
 fn describe_names<S: Shelf>(told: &mut String, merger: &Merger<S>, from: u32) -> Result<(), Fail> {
     let names = merger.names();
     for i in from..names.count() {
@@ -60,7 +60,7 @@ fn describe_names<S: Shelf>(told: &mut String, merger: &Merger<S>, from: u32) ->
     Ok(())
 }
 
-/// A merger tells these faults and the names of these files, a line each.
+/// Checks the faults and file names that a merger reports.
 fn reports<S: Shelf>(
     rt: &impl Abort,
     merger: &Merger<S>,
@@ -74,7 +74,7 @@ fn reports<S: Shelf>(
     Ok(())
 }
 
-/// Writes what a merger still has to a sink that has failed once at most.
+/// Writes the rest of a merge to a sink that has failed at most once.
 fn write_all<S: Shelf>(
     rt: &impl Abort,
     merger: &mut Merger<S>,
@@ -87,7 +87,7 @@ fn write_all<S: Shelf>(
     write_merged(merger, shelf, sink)
 }
 
-/// The same, where lines are gathered up to so many bytes.
+/// Writes the rest of a merge in chunks of `room` bytes.
 fn write_buffered<S: Shelf>(
     rt: &impl Abort,
     merger: &mut Merger<S>,
@@ -101,7 +101,7 @@ fn write_buffered<S: Shelf>(
     write_merged_in_chunks(merger, shelf, sink, room)
 }
 
-/// A merger still has this to write.
+/// Checks the rest of a merge.
 fn writes(
     rt: &impl Abort,
     merger: &mut Merger<MemoryShelf>,

@@ -1,7 +1,7 @@
--- How the one name of a prefix changes with one more name in the sorted map.
+-- How the names that fit a prefix change when a name is inserted.
 use Rattle.cweb_names.proofs.Common.{arith, ◌≡◌, ℕ, Bool, true, false, cond, List, [], ◌∷◌, map, filter, None, refl, nat_eq, starts_with, lookup, insert_entry, is_at, NameId, Found, Nothing, One, Several, NameEntry, compare_bytes, entry_has_prefix, found_of}
 
--- the one that there is, with one more number that counts or not
+-- The names that fit after one more, which fits or not.
 abbrev pub grown : Bool → NameId → Found → Found
 grown false v f = f
 grown true v Nothing = One v

@@ -1,10 +1,10 @@
--- A text that is put into a map with its number, or with the next one.
+-- A spelling is inserted with its number, or with the next one.
 use Rattle.cweb_names.proofs.Common.{◌≡◌, ℕ, ◌<◌, true, false, List, Some, None, length, refl, sym, ◌∙◌, ap, arith, bytes_eq, unwrap_or, list_any, position_or_len, keys_of, lookup, insert_entry, is_at, length-map, NameId, Name, spellings, NameEntry, compare_bytes, IsNameMap}
 use Rattle.std.specs.List.Sorted.{IsStrictlySortedBy}
 use Rattle.cweb_names.proofs.NameLemmas.{number-some, number-none, position-below}
 use Rattle.cweb_names.proofs.NeighbourLemmas.{insert-same}
 
--- a text that has a number stays with it
+-- A known spelling keeps its number.
 pub record Stays (es : List NameEntry) (ns : List Name) (text : List ℕ) (v : NameId) : Type 0 where
   pub same : insert_entry compare_bytes es text v ≡ es
   pub among : list_any (bytes_eq text) (spellings ns) ≡ true
@@ -31,7 +31,6 @@ stays es ns text v known sorted there =
           );
     }
 
--- of a number that isn't the next one
 pub known-old : (es : List NameEntry) (ns : List Name) (text : List ℕ) (next v : NameId) → IsNameMap es ns
     → IsStrictlySortedBy compare_bytes (keys_of es) → v ≡ unwrap_or (lookup (is_at (compare_bytes text)) es) next
     → (v.0 ≡ next.0 → ⊥) → Stays es ns text v
@@ -43,7 +42,6 @@ known-old es ns text next v known sorted is other =
       | None ↦ λ there g. absurd (other (ap (λ (x : NameId). x.0) g))
     ]) refl is
 
--- and of the next one
 pub known-new : (es : List NameEntry) (ns : List Name) (text : List ℕ) (next v : NameId) → IsNameMap es ns
     → IsStrictlySortedBy compare_bytes (keys_of es) → v ≡ unwrap_or (lookup (is_at (compare_bytes text)) es) next
     → v.0 ≡ length ns → list_any (bytes_eq text) (spellings ns) ≡ false

@@ -1,4 +1,4 @@
--- The names that are longer than a text and begin with it.
+-- Longer names that begin with a spelling.
 use Rattle.cweb_names.proofs.Common.{◌≡◌, ℕ, zero, suc, ◌+◌, ◌<◌, Bool, true, false, not, ◌||◌, ◌&&◌, List, [], ◌∷◌, Some, length, refl, sym, ◌∙◌, ap, arith, bytes_eq, if◌then◌else◌, nat_eq, slice_get, option_map, list_any, starts_with, take-length, bytes_eq-Decides, NameId, Found, Nothing, Name, id, spellings, beginning_from, beginning, found_of, is_several, Distinct, is_prefix_of_another, not-not}
 use Rattle.cweb_names.proofs.InsertLemmas.{grown, found-first}
 use Rattle.cweb_names.proofs.NameLemmas.{bytes_eq-same, bytes_eq-sym, front_at}
@@ -17,11 +17,10 @@ unfolding is_nothing
 grown-nothing n Nothing = refl
 grown-nothing n _ = refl
 
--- the names that are longer than a text and begin with it
 abbrev longer : List Name → List ℕ → Bool
 longer ns text = is_prefix_of_another ns text
 
--- of a text that is no name, what begins with it is longer
+-- For a spelling that is no name, all names that begin with it are longer.
 none-begins : (i : ℕ) (q : List ℕ) (ns : List Name) → list_any (bytes_eq q) (spellings ns) ≡ false
     → is_nothing (found_of (beginning_from i q ns)) ≡ not (longer ns q)
 unfolding is_nothing
@@ -31,7 +30,6 @@ none-begins i q (n ∷ ns) h = grind (arith, bytes_eq-sym n.text q, none-begins 
 pub starts-same : (q : List ℕ) → starts_with nat_eq q q ≡ true
 starts-same q = ap (bytes_eq q) (take-length q) ∙ bytes_eq-same q
 
--- of a name something begins with it
 some-begins : (i : ℕ) (q : List ℕ) (ns : List Name) → list_any (bytes_eq q) (spellings ns) ≡ true
     → is_nothing (found_of (beginning_from i q ns)) ≡ false
 unfolding is_nothing
@@ -49,7 +47,7 @@ some-begins i q (n ∷ ns) h =
       some-begins (i + 1) q ns,
     )
 
--- several names begin with a name where one is longer
+-- Several names begin with a name if and only if one of them is longer.
 pub several-longer : (i : ℕ) (q : List ℕ) (ns : List Name) → Distinct (spellings ns)
     → list_any (bytes_eq q) (spellings ns) ≡ true → is_several (found_of (beginning_from i q ns)) ≡ longer ns q
 several-longer i q [] d h = cc
@@ -89,7 +87,6 @@ any-there [] i n h = cc
 any-there (m ∷ ns) zero n h = cc (bytes_eq-same n.text)
 any-there (m ∷ ns) (suc i) n h = grind (arith, any-there ns i n h)
 
--- a name is a proper prefix of another where several names begin with it
 pub prefix-several : (ns : List Name) (i : ℕ) (text : List ℕ)
     → Distinct (spellings ns) → i < length ns → option_map (λ (n : Name). n.text) (slice_get ns i) ≡ Some text
     → option_map

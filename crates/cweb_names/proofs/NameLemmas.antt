@@ -1,4 +1,4 @@
--- How names stand in lists and maps.
+-- Names in lists and maps.
 use Rattle.cweb_names.proofs.Common.{◌≡◌, ℕ, zero, suc, ◌+◌, Bool, true, false, cond, ◌||◌, List, [], ◌∷◌, ◌++◌, Some, None, length, refl, sym, ◌∙◌, ap, subst, arith, bytes_eq, if◌then◌else◌, nat_eq, list_any, starts_with, position_or_len, lookup, is_eq, nat_cmp, slice_cmp, is_eq-slice_cmp, bytes_eq-Decides, map-append, list_any-append, NameId, has_spelling_at, Name, id, spellings, beginning_from, beginning, with_full_name, NameEntry, compare_bytes, found_of, id_of_spelling, Distinct, IsNameMap, option_map, take, map, slice_get, drop, ◌<◌}
 use Rattle.std.specs.BTreeMap as tree
 use Rattle.cweb_names.proofs.InsertLemmas.{grown, found-insert}
@@ -13,7 +13,7 @@ bytes_eq-sym a b = grind (arith, bytes_eq-Decides b a, bytes_eq-Decides a b, no_
     no_more true f = sym (f refl)
     no_more false f = refl
 
--- the item at an index, and what follows it
+-- The item at an index, and the rest after it.
 pub record Front {X : Type 0} (xs : List X) (i : ℕ) : Type 0 where
   pub item : X
   pub there : slice_get xs i ≡ Some item
@@ -33,7 +33,6 @@ pub or-false : (a b : Bool) → (a || b) ≡ false → Neither a b
 or-false true b h = cc
 or-false false b h = record { left = refl; right = h }
 
--- the number of a text among names, by its place
 pub number-some : (i : ℕ) (q : List ℕ) (ns : List Name) (n : NameId) → id_of_spelling i q ns ≡ Some n
     → (list_any (bytes_eq q) (spellings ns) ≡ true) × (n.0 ≡ i + position_or_len (bytes_eq q) (spellings ns))
 number-some i q [] n h = cc
@@ -51,7 +50,6 @@ pub number-new : (i : ℕ) (q : List ℕ) (ns : List Name) → list_any (bytes_e
 number-new i q [] h = refl
 number-new i q (m ∷ ns) h = grind (arith, number-new (i + 1) q ns)
 
--- one more name, where no other has its text
 number-push : (i : ℕ) (q : List ℕ) (ns : List Name) (n : Name) (j : ℕ) → j ≡ i + length ns
     → list_any (bytes_eq n.text) (spellings ns) ≡ false
     → id_of_spelling i q (ns ++ n ∷ []) ≡ cond (bytes_eq q n.text) (Some (id j)) (id_of_spelling i q ns)
@@ -75,14 +73,12 @@ pub with_text-new : (i : ℕ) (ns : List Name) (text : List ℕ) → list_any (b
     → with_full_name i ns text ≡ ns ++ (record { text = text; first = i }) ∷ []
 with_text-new i ns text h = ap (λ b. if b then ns else ns ++ (record { text = text; first = i }) ∷ []) h
 
--- the name that has a text is the only one
 pub known-at : (ns : List Name) (i : ℕ) (q : List ℕ) → Distinct (spellings ns) → has_spelling_at ns i q ≡ true
     → (list_any (bytes_eq q) (spellings ns) ≡ true) × (i ≡ position_or_len (bytes_eq q) (spellings ns))
 known-at [] i q d h = cc
 known-at (n ∷ ns) zero q d h = grind (arith, bytes_eq-sym q n.text)
 known-at (n ∷ ns) (suc i) q d h = grind (arith, known-at ns i q d.1 h, suc i, bytes_eq-Decides q n.text)
 
--- one more name begins with a prefix, or not
 beginning-push : (i : ℕ) (p : List ℕ) (ns : List Name) (n : Name) (j : ℕ) → j ≡ i + length ns →
     found_of (beginning_from i p (ns ++ n ∷ []))
     ≡ grown (starts_with nat_eq n.text p) (id j) (found_of (beginning_from i p ns))
@@ -92,7 +88,6 @@ beginning-push i p (m ∷ ns) n j e = grind (arith, beginning-push (i + 1) p ns 
 abbrev at : List ℕ → List ℕ → Bool
 at q k = is_eq (slice_cmp nat_cmp q k)
 
--- a map gives what was put into it, and else what it gave
 lookup-inserted : (es : List NameEntry) (key : List ℕ) (v : NameId) (q : List ℕ)
     → lookup (at q) (tree.insert_entry compare_bytes es key v) ≡ cond (bytes_eq q key) (Some v) (lookup (at q) es)
 lookup-inserted [] key v q = ap (λ b. cond b (Some v) None) (is_eq-slice_cmp q key)
@@ -117,7 +112,6 @@ Distinct-push (x ∷ xs) y d h =
 pub strings-push : (ns : List Name) (n : Name) → spellings (ns ++ n ∷ []) ≡ spellings ns ++ n.text ∷ []
 strings-push ns n = map-append (λ (m : Name). m.text) ns (n ∷ [])
 
--- a new name in the list and in the map
 pub known-push : (es : List NameEntry) (ns : List Name) (key : List ℕ) (first : ℕ) (v : NameId)
     → IsNameMap es ns → list_any (bytes_eq key) (spellings ns) ≡ false → v ≡ id (length ns) →
     IsNameMap (tree.insert_entry compare_bytes es key v) (ns ++ (record { text = key; first = first }) ∷ [])
@@ -135,7 +129,6 @@ known-push es ns key first v known new last =
       distinct = subst Distinct (sym (strings-push ns n)) (Distinct-push (spellings ns) key known.distinct new);
     }
 
--- the first occurrences of names, one more
 pub firsts-next : (ns : List Name) (k f : ℕ) → option_map (λ (n : Name). n.first) (slice_get ns k) ≡ Some f
     → map (λ (n : Name). n.first) (take (suc k) ns) ≡ map (λ (n : Name). n.first) (take k ns) ++ f ∷ []
 firsts-next [] k f h = cc

@@ -1,4 +1,4 @@
--- A name that is a proper prefix of another is one of the next in order.
+-- A name that is a proper prefix of another is a prefix of its successor.
 use Rattle.cweb_names.proofs.Common.{arith, ◌≡◌, ℕ, zero, suc, Bool, true, false, cond, ◌||◌, List, [], ◌∷◌, Some, map, filter, refl, sym, ◌∙◌, ap, nat_eq, bytes_eq, slice_get, starts_with, list_any, AllByRecursion, keys_of, lookup, insert_entry, is_at, match_ordering, is_eq, is_le, ordering_reverse, bytes_decides, nat_list_cmp_total, Less, Equal, Greater, is_eq-slice_cmp, NameId, Found, Name, spellings, is_prefix_of_another, NameEntry, compare_bytes, entry_has_prefix, found_of, is_several, next_begins, any_next, id_of_spelling, IsNameMap}
 use Rattle.std.specs.List.Sorted.{IsStrictlySortedBy}
 use Rattle.cweb_names.proofs.PrefixLemmas.{none-begins, begins-le}
@@ -12,7 +12,7 @@ abbrev is_some : List NameEntry → Bool
 is_some [] = false
 is_some (e ∷ es) = true
 
--- of texts above another, the first begins with it where one does
+-- If some greater spelling begins with this one, the first of them does.
 next-some : (p : List ℕ) (es : List NameEntry) → AllByRecursion (λ k. compare_bytes p k ≡ Less) (keys_of es)
     → IsStrictlySortedBy compare_bytes (keys_of es)
     → next_begins p (keys_of es) ≡ is_some (filter (entry_has_prefix p) es)
@@ -43,7 +43,6 @@ same-key p k h = (bytes_decides p k).0 (sym (is_eq-slice_cmp p k) ∙ h)
 at-itself : (p : List ℕ) → is_eq (compare_bytes p p) ≡ true
 at-itself p = is_eq-slice_cmp p p ∙ bytes_eq-same p
 
--- what is below all texts of a map is below one that it has
 below-found : (k p : List ℕ) (v : NameId) (es : List NameEntry)
     → AllByRecursion (λ j. compare_bytes k j ≡ Less) (keys_of es)
     → lookup (is_at (compare_bytes p)) es ≡ Some v → compare_bytes k p ≡ Less
@@ -54,7 +53,6 @@ below-found k p v (e ∷ es) above h = (elim (is_eq (compare_bytes p e.0)) as (�
       | false ↦ λ is g. below-found k p v es above.1 g
     ]) refl h
 
--- a text doesn't begin with one that is above it
 not-begins : (k p : List ℕ) → compare_bytes k p ≡ Less → starts_with nat_eq k p ≡ false
 not-begins k p less =
     (elim (starts_with nat_eq k p) as (λ b. starts_with nat_eq k p ≡ b → b ≡ false) [
@@ -65,7 +63,7 @@ not-begins k p less =
       | false ↦ λ is. refl
     ]) refl
 
--- where no text begins with the one before it, no several begin with one of them
+-- If no spelling begins with its predecessor, no several begin with one.
 none-next : (es : List NameEntry) → IsStrictlySortedBy compare_bytes (keys_of es) → any_next (keys_of es) ≡ false →
     (p : List ℕ) (v : NameId) → lookup (is_at (compare_bytes p)) es ≡ Some v
     → is_several (found (filter (entry_has_prefix p) es)) ≡ false
@@ -82,7 +80,7 @@ none-next (e ∷ es) sorted none p v h =
       none-next es sorted.1,
     )
 
--- a text of a map, with which several begin
+-- A spelling of the map with which several begin.
 pub record Several (es : List NameEntry) : Type 0 where
   pub text : List ℕ
   pub value : NameId
@@ -139,7 +137,6 @@ number-there : (q : List ℕ) (ns : List Name) → list_any (bytes_eq q) (spelli
     → (v : NameId) × (id_of_spelling 0 q ns ≡ Some v)
 number-there q ns h = grind (arith, number-none 0 q ns)
 
--- a name is a proper prefix of another where the text behind some text begins with it
 pub next-prefix : (es : List NameEntry) (ns : List Name) → IsNameMap es ns
     → IsStrictlySortedBy compare_bytes (keys_of es)
     → any_next (keys_of es) ≡ list_any (is_prefix_of_another ns) (spellings ns)
@@ -160,7 +157,6 @@ next-prefix es ns known sorted =
           sym (longer n.text there) ∙ none-next es sorted is n.text v.0 (known.gives n.text ∙ v.1)))
     ]) refl
 
--- a text that a map has, put into it once more with its number
 pub insert-same : (es : List NameEntry) (k : List ℕ) (v : NameId) → IsStrictlySortedBy compare_bytes (keys_of es)
     → lookup (is_at (compare_bytes k)) es ≡ Some v → insert_entry compare_bytes es k v ≡ es
 unfolding IsStrictlySortedBy

@@ -1,4 +1,4 @@
--- What the occurrences give: names, what is found of each, and what each stands for.
+-- The names of occurrences, and what they resolve to.
 use Rattle.cweb_names.proofs.Common.{◌≡◌, ℕ, ◌+◌, ◌≤◌, Bool, true, false, cond, not, ◌||◌, List, [], ◌∷◌, ◌++◌, length, refl, sym, ◌∙◌, ap, arith, length-append, append_assoc, append-nil, Err, bytes_eq, if◌then◌else◌, list_any, position_or_len, map-append, How, Full, Prefix, NameId, NeverFull, Occurrence, Name, Resolution, spellings, with_full_name, with_occurrence_name, names_from, names, beginning, the_one, resolved_among, found_of, early, earlies_from, by_found}
 use Rattle.cweb_names.proofs.NameLemmas.{bytes_eq-same}
 
@@ -13,7 +13,6 @@ names_from-few i ns [] = omega arith
 names_from-few i ns (o ∷ os) =
     omega (arith, names_from-few (i + 1) (with_occurrence_name i ns o) os, with_name-few i ns o)
 
--- there are no more names than occurrences
 pub names-few : (os : List Occurrence) → length (names os) ≤ length os
 names-few os = omega (arith, names_from-few 0 [] os)
 
@@ -28,7 +27,6 @@ earlies_from-push i ns [] o = refl
 earlies_from-push i ns (p ∷ os) o =
     ap (λ fs. early ns p ∷ fs) (earlies_from-push (i + 1) (with_occurrence_name i ns p) os o)
 
--- names that come later stand behind those that there are
 pub record Grows (old new : List Name) : Type 0 where
   pub more : List Name
   pub grows : new ≡ old ++ more
@@ -70,20 +68,17 @@ position-last : (p : List ℕ → Bool) (xs : List (List ℕ)) (y : List ℕ) �
 position-last p [] y h none = ap (λ b. cond (not b) 1 0) h
 position-last p (x ∷ xs) y h none = grind (arith, p x, position-last p xs y h)
 
--- a text is among the names once it is given in full
 pub with_text-has : (i : ℕ) (ns : List Name) (text : List ℕ)
     → list_any (bytes_eq text) (spellings (with_full_name i ns text)) ≡ true
 with_text-has i ns text =
     grind (arith, strings-append ns, any-last (bytes_eq text) (spellings ns) text (bytes_eq-same text))
 
--- and its number is the one that it had, or that of the first new name
 with_text-position : (i : ℕ) (ns : List Name) (text : List ℕ)
     → position_or_len (bytes_eq text) (spellings (with_full_name i ns text))
     ≡ position_or_len (bytes_eq text) (spellings ns)
 with_text-position i ns text =
     grind (arith, strings-append ns, position-last (bytes_eq text) (spellings ns) text (bytes_eq-same text))
 
--- a name keeps its number
 pub position-grows : (text : List ℕ) (old new : List Name) → Grows old new
     → list_any (bytes_eq text) (spellings old) ≡ true
     → position_or_len (bytes_eq text) (spellings new) ≡ position_or_len (bytes_eq text) (spellings old)

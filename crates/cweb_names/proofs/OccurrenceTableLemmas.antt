@@ -1,16 +1,14 @@
--- What is kept of occurrences: texts, how they are given, and what was found of each.
+-- The contents of a table of occurrences.
 use Rattle.cweb_names.proofs.Common.{◌≡◌, ℕ, ◌+◌, ◌<◌, List, [], ◌∷◌, ◌++◌, map, length, drop, refl, sym, ◌∙◌, ap, subst, arith, length-append, slice_get, Some, Found, OccurrenceForm, Occurrence, Name, with_occurrence_name, names_from, resolved_among, resolutions_from, resolutions, occurrence_of, too_many, early, earlies_from, by_found, IsOccurrenceTable, resolve, resolve_all, occurrence_form, occurrences_at, occurrence_text, slice_get_within, ◌≤◌}
 use Rattle.cweb_names.proofs.NameLemmas.{front_at}
 use Rattle.cweb_names.proofs.OccurrenceLemmas.{names_from-push, earlies_from-push, late, resolve-one}
 
--- the occurrences of texts
 pub occurrences-count : (ts : List (List ℕ)) (gs : List OccurrenceForm)
     → length gs ≤ length ts → length (occurrences_at ts gs) ≡ length gs
 occurrences-count ts [] h = refl
 occurrences-count [] (g ∷ gs) h = absurd (let none : ⊥ = omega arith in none)
 occurrences-count (t ∷ ts) (g ∷ gs) h = omega (arith, occurrences-count ts gs (omega arith))
 
--- the occurrences of texts, one more
 pub occurrences-push : (ts : List (List ℕ)) (gs : List OccurrenceForm) (t : List ℕ) (g : OccurrenceForm)
     → length ts ≡ length gs →
     occurrences_at (ts ++ t ∷ []) (gs ++ g ∷ []) ≡ occurrences_at ts gs ++ occurrence_of t g.how g.is_file ∷ []
@@ -19,7 +17,6 @@ occurrences-push [] (h ∷ gs) t g e = absurd (let none : ⊥ = omega arith in n
 occurrences-push (u ∷ ts) [] t g e = absurd (let none : ⊥ = omega arith in none)
 occurrences-push (u ∷ ts) (h ∷ gs) t g e = cc (occurrences-push ts gs t g (omega arith))
 
--- one more occurrence
 pub given-push : (known more : List Name) (ts : List (List ℕ)) (gs : List OccurrenceForm)
     (fs : List Found) (t : List ℕ) (g : OccurrenceForm) (f : Found) → IsOccurrenceTable known ts gs fs
     → length gs + 1 < too_many → f ≡ early known (occurrence_of t g.how g.is_file)
@@ -40,7 +37,6 @@ earlies-count : (i : ℕ) (ns : List Name) (os : List Occurrence) → length (ea
 earlies-count i ns [] = refl
 earlies-count i ns (o ∷ os) = omega (arith, earlies-count (i + 1) (with_occurrence_name i ns o) os)
 
--- as many are found as are given
 pub found-count : (known : List Name) (ts : List (List ℕ)) (gs : List OccurrenceForm)
     (fs : List Found) → IsOccurrenceTable known ts gs fs → length fs ≡ length gs
 found-count known ts gs fs tied =
@@ -51,7 +47,6 @@ found-count known ts gs fs tied =
       occurrences-count ts gs (omega (arith, tied.count)),
     )
 
--- what comes of the texts and of how they are given
 pub strings-back : (ts : List (List ℕ)) (gs : List OccurrenceForm) → length ts ≡ length gs
     → map occurrence_text (occurrences_at ts gs) ≡ ts
 strings-back [] [] e = refl
@@ -83,7 +78,7 @@ resolve-from i before (t ∷ ts) (g ∷ gs) fs all e is found =
     ap (resolve_all all (t ∷ ts)) found
     ∙ (λ j. one j ∷ resolve-from (i + 1) next ts gs (earlies_from (i + 1) next os) all (omega arith) is refl j)
 
--- what is found early, and else late, is what each occurrence stands for
+-- What fits an occurrence up to there, else among all names, is what it resolves to.
 pub resolve-resolutions : (known : List Name) (ts : List (List ℕ)) (gs : List OccurrenceForm) (fs : List Found)
     → IsOccurrenceTable known ts gs fs → resolve_all known ts fs ≡ resolutions (occurrences_at ts gs)
 resolve-resolutions known ts gs fs tied = grind (arith, resolve-from 0)
@@ -99,6 +94,5 @@ resolve-count known [] (f ∷ fs) e = absurd (let none : ⊥ = omega arith in no
 resolve-count known (t ∷ ts) [] e = absurd (let none : ⊥ = omega arith in none)
 resolve-count known (t ∷ ts) (f ∷ fs) e = omega (arith, resolve-count known ts fs (omega arith))
 
--- what an index has, and what follows it
 pub drop-at : {X : Type 0} (xs : List X) (i : ℕ) (x : X) → slice_get xs i ≡ Some x → drop i xs ≡ x ∷ drop (i + 1) xs
 drop-at xs i x here = grind (arith, front_at xs i (slice_get_within xs i x here))

@@ -1,4 +1,4 @@
--- Texts with a prefix stand together in a sorted list.
+-- Spellings with a common prefix are adjacent in a sorted list.
 use Rattle.cweb_names.proofs.Common.{◌≡◌, ℕ, ◌<◌, Bool, true, false, cond, ◌&&◌, List, [], ◌∷◌, map, filter, refl, sym, ◌∙◌, ap, subst, arith, eq-eqb, nat_eq, starts_with, AllByRecursion, keys_of, nat_cmp, ordering_then, is_le, slice_cmp, Ordering, Less, Equal, eqb-true, nat_tests, Nothing, One, Several, NameEntry, compare_bytes, entry_has_prefix, ids_with_prefix, found_of}
 use Rattle.std.specs.List.Sorted.{IsStrictlySortedBy}
 
@@ -21,7 +21,7 @@ step x y z r s xz h g = grind (arith, Step x y r s, nat_less x y, nat_less y z, 
 both : (x z : ℕ) (b : Bool) → (nat_eq x z && b) ≡ true → (x ≡ z) × (b ≡ true)
 both x z b h = grind (arith, eqb-true x z)
 
--- what lies between a prefix and a text that begins with it begins with it
+-- A spelling between a prefix and a spelling that begins with it begins with it too.
 pub squeeze : (p a b : List ℕ) → is_le (slice_cmp nat_cmp p a) ≡ true
     → slice_cmp nat_cmp a b ≡ Less → starts_with nat_eq b p ≡ true → starts_with nat_eq a p ≡ true
 squeeze [] a b h g s = refl
@@ -29,14 +29,12 @@ squeeze (x ∷ p) [] b h g s = cc
 squeeze (x ∷ p) (y ∷ a) [] h g s = cc
 squeeze (x ∷ p) (y ∷ a) (z ∷ b) h g s = grind (arith, both x z (starts_with nat_eq b p) s, eq-eqb x y, squeeze p a b)
 
--- a text that begins with a prefix isn't below it
 pub begins-le : (p b : List ℕ) → starts_with nat_eq b p ≡ true → is_le (slice_cmp nat_cmp p b) ≡ true
 begins-le [] [] s = refl
 begins-le [] (z ∷ b) s = refl
 begins-le (x ∷ p) [] s = cc
 begins-le (x ∷ p) (z ∷ b) s = grind (arith, both x z (starts_with nat_eq b p) s, nat_same x, begins-le p b)
 
--- past a text that isn't below the prefix and doesn't begin with it none does
 pub none-begins : (p : List ℕ) (k : List ℕ) (es : List NameEntry) → is_le (slice_cmp nat_cmp p k) ≡ true
     → starts_with nat_eq k p ≡ false → AllByRecursion (λ j. compare_bytes k j ≡ Less) (keys_of es)
     → filter (entry_has_prefix p) es ≡ []
@@ -48,7 +46,6 @@ none-begins p k (e ∷ es) low other above = (elim (starts_with nat_eq e.0 p)
       | false ↦ λ s. none-begins p k es low other above.1
     ]) refl
 
--- the names that begin with a prefix are among those from the prefix on
 pub from-begins : (p : List ℕ) (es : List NameEntry)
     → filter (entry_has_prefix p) (filter (λ (e : NameEntry). is_le (slice_cmp nat_cmp p e.0) && true) es)
     ≡ filter (entry_has_prefix p) es
@@ -78,7 +75,7 @@ low-from : (p : List ℕ) (es : List NameEntry)
 low-from p [] = tt
 low-from p (e ∷ es) = grind (arith, from p es, low-from p es)
 
--- what the first two entries from the prefix on say of all
+-- The first two entries from the prefix on decide how many begin with it.
 pub record Names (p : List ℕ) (es rest : List NameEntry) : Type 0 where
   pub is : filter (entry_has_prefix p) es ≡ filter (entry_has_prefix p) rest
   pub sorted : IsStrictlySortedBy compare_bytes (keys_of rest)

@@ -1,12 +1,12 @@
--- Fronts are ordered as their texts are.
+-- Sort prefixes are in the order of their spellings.
 use Rattle.cweb_names.proofs.Common.{◌≡◌, ℕ, zero, suc, ◌+◌, ◌*◌, ◌<◌, ◌≤◌, List, [], ◌∷◌, refl, sym, ◌∙◌, ap, arith, nat_cmp, ordering_then, slice_cmp, Less, Equal, Greater, nat_tests, suc-mul, mul-le-mul_right, AreBytes, sort_prefix_of}
 
--- what a byte is worth with n bytes behind it
+-- The weight of a byte with `n` bytes after it.
 abbrev worth : ℕ → ℕ
 worth zero = 1
 worth (suc n) = 256 * worth n
 
--- the number that the first n bytes make
+-- The number that the first `n` bytes form.
 abbrev front_from : ℕ → List ℕ → ℕ
 front_from zero text = 0
 front_from (suc n) [] = 0
@@ -15,7 +15,7 @@ front_from (suc n) (b ∷ text) = b * worth n + front_from n text
 behind : (b : ℕ) (text : List ℕ) → AreBytes (b ∷ text) → AreBytes text
 behind b text all = λ i. all (suc i)
 
--- a step of one byte is worth more than all bytes behind it
+-- A greater byte outweighs all bytes after it.
 rise : (a b w x : ℕ) → a < b → x < w → a * w + x < b * w
 rise a b w x less small =
     let up : suc a ≤ b = omega (arith, less) in
@@ -49,7 +49,6 @@ equal-is x y h = grind (arith, nat_tests)
 greater-is : (x y : ℕ) → nat_cmp x y ≡ Greater → y < x
 greater-is x y h = grind (arith, nat_tests)
 
--- some number that isn't 0 is above it
 above-none : (n : ℕ) → (0 ≡ n → ⊥) → 0 < n
 above-none zero other = absurd (other refl)
 above-none (suc n) other = omega arith
@@ -91,7 +90,7 @@ front-is (a ∷ b ∷ c ∷ d ∷ e ∷ f ∷ []) = omega arith
 front-is (a ∷ b ∷ c ∷ d ∷ e ∷ f ∷ g ∷ []) = omega arith
 front-is (a ∷ b ∷ c ∷ d ∷ e ∷ f ∷ g ∷ h ∷ t) = omega arith
 
--- where fronts differ they tell the order of their texts
+-- If sort prefixes differ, their order is that of the spellings.
 pub fronts-tell : (s t : List ℕ) → AreBytes s → AreBytes t → (sort_prefix_of s ≡ sort_prefix_of t → ⊥)
     → nat_cmp (sort_prefix_of s) (sort_prefix_of t) ≡ slice_cmp nat_cmp s t
 fronts-tell s t all_s all_t other = grind (arith, front-is s, front-is t, fronts-from 8 s t all_s all_t)

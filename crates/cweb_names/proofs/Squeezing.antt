@@ -1,4 +1,4 @@
--- A name that is being squeezed.
+-- The spelling of a name, byte by byte.
 use Rattle.cweb_names.proofs.Common.{◌≡◌, ℕ, Bool, true, false, ◌&&◌, not, List, [], ◌∷◌, ◌++◌, refl, ap, sym, ◌∙◌, if◌then◌else◌, eqb-true}
 use Rattle.std.proofs.Common.{◌==◌}
 use Rattle.std.specs.Prelude.{codes}
@@ -7,12 +7,9 @@ use Rattle.cweb_names.specs.inner.Squeezing.{is_squeezed, is_squeezed_after}
 use Rattle.cweb_names.specs.Squeezing.{squeezed, squeezed_after}
 use Rattle.std.proofs.lemmas.Bool.{and_parts}
 
--- whether there is a byte
 abbrev pub is_some : List ℕ → Bool
 is_some [] = false
 is_some (b ∷ t) = true
-
--- A NAME THAT IS SQUEEZED AS IT STANDS
 
 abbrev squeezed_by : Bool → Bool → List ℕ → ℕ → List ℕ → List ℕ
 squeezed_by white begun gap b t =
@@ -25,7 +22,7 @@ abbrev fits_by : Bool → Bool → ℕ → List ℕ → Bool
 fits_by white gap b t =
     elim white [ true ↦ not gap && (b == 32) && is_squeezed_after true t | false ↦ is_squeezed_after false t ]
 
--- behind a byte that isn't white, and behind a blank
+-- The rest after a byte that isn't white, and after a space.
 abbrev Stays : List ℕ → Type 0
 Stays t = (is_squeezed_after false t ≡ true → squeezed_after true [] t ≡ t) ×
     (is_squeezed_after true t ≡ true → squeezed_after true (codes " ") t ≡ 32 ∷ t)

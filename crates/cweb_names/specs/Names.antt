@@ -1,4 +1,4 @@
--- Names: their occurrences, what each occurrence stands for, and which names are files.
+-- Occurrences of names, the names that they resolve to, and the names of files.
 use Rattle.std.specs.Prelude.{ℕ, ◌+◌, Bool, not, ◌&&◌, nat_eq, List, [], ◌∷◌, ◌++◌, Option, Some, None, Result, Ok, Err}
 use Rattle.std.specs.Prelude.{map, slice_get, bytes_eq, if◌then◌else◌}
 use Rattle.std.specs.List.{starts_with, list_any, position_or_len}
@@ -8,104 +8,112 @@ use Rattle.cweb_names.specs.declared.name.NameId.{NameId}
 use Rattle.cweb_names.specs.declared.name.NameKind.{NameKind}
 use Rattle.cweb_names.specs.declared.name.NameKind.TheVariants.{Ambiguous, NeverFull}
 
--- an occurrence of a name: its text, or the prefix of an abbreviation, and whether it is given as a file's
+-- An occurrence: its spelling, or the prefix of an abbreviation, and whether it names a file.
 pub record Occurrence : Type 0 where
   pub text : List ℕ
   pub how : How
   pub is_file : Bool
 
--- a name, and the number of the occurrence that first gave it in full
+-- A name, and the number of the occurrence that first gave it in full.
 pub record Name : Type 0 where
   pub text : List ℕ
   pub first : ℕ
 
+-- The spellings of names.
 abbrev pub spellings : List Name → List (List ℕ)
 spellings names = map (λ n. n.text) names
 
--- a text is a proper prefix of a name
+-- The spelling is a proper prefix of a name.
 abbrev pub is_prefix_of_another : List Name → List ℕ → Bool
 is_prefix_of_another all text =
     list_any (λ other. starts_with nat_eq other text && not (bytes_eq other text)) (spellings all)
 
--- the names with one more text, given in full by occurrence i
+-- Appends a name that occurrence `i` gives in full, unless it is known.
 abbrev pub with_full_name : ℕ → List Name → List ℕ → List Name
 with_full_name i names text =
     if list_any (bytes_eq text) (spellings names) then names else names ++ (record { text = text; first = i }) ∷ []
 
--- the names after occurrence i: only a text given in full is a name
+-- Appends the name of occurrence `i`, if that is in full.
 abbrev pub with_occurrence_name : ℕ → List Name → Occurrence → List Name
 with_occurrence_name i names o = elim o.how [ Full ↦ with_full_name i names o.text | Prefix ↦ names ]
 
+-- Appends the names of the occurrences from number `i` on.
 abbrev pub names_from : ℕ → List Name → List Occurrence → List Name
 names_from i names [] = names
 names_from i names (o ∷ os) = names_from (i + 1) (with_occurrence_name i names o) os
 
--- the distinct texts that are given in full, in order of their first occurrence in full
+-- The distinct names that are given in full, in order of their first occurrence in full.
 abbrev pub names : List Occurrence → List Name
 names os = names_from 0 [] os
 
+-- A name by its number.
 abbrev pub id : ℕ → NameId
 id n = record { 0 = n }
 
--- the names that begin with a prefix, by number, where the first name has number n
+-- The names that begin with a prefix. The first name has number `n`.
 abbrev pub beginning_from : ℕ → List ℕ → List Name → List NameId
 beginning_from n prefix [] = []
 beginning_from n prefix (name ∷ names) =
     let rest = beginning_from (n + 1) prefix names in
     if starts_with nat_eq name.text prefix then id n ∷ rest else rest
 
+-- The names that begin with a prefix.
 abbrev pub beginning : List ℕ → List Name → List NameId
 beginning prefix names = beginning_from 0 prefix names
 
--- what an occurrence stands for: a name, or none for a fault
+-- What an occurrence resolves to: a name or a fault.
 abbrev pub Resolution : Type 0
 Resolution = Result NameId NameKind
 
--- the only name of a list; several are ambiguous, and of none something else decides
+-- One name is the result, and several are ambiguous. For no name the result is `otherwise`.
 abbrev pub the_one : List NameId → Resolution → Resolution
 the_one [] otherwise = otherwise
 the_one (n ∷ []) otherwise = Ok n
 the_one (n ∷ m ∷ ns) otherwise = Err Ambiguous
 
--- what an occurrence stands for, by the names given before it and all names: an abbreviation looks at the earlier ones first
+-- Resolves an occurrence by all names. An abbreviation looks first among those that were given before it.
 abbrev pub resolved_among : List Name → List Name → Occurrence → Resolution
 resolved_among before all o = elim o.how [
   | Full ↦ Ok (id (position_or_len (bytes_eq o.text) (spellings all)))
   | Prefix ↦ the_one (beginning o.text before) (the_one (beginning o.text all) (Err NeverFull))
 ]
 
+-- Resolves the occurrences from number `i` on.
 abbrev pub resolutions_from : ℕ → List Name → List Name → List Occurrence → List Resolution
 resolutions_from i before all [] = []
 resolutions_from i before all (o ∷ os) =
     resolved_among before all o ∷ resolutions_from (i + 1) (with_occurrence_name i before o) all os
 
--- what each occurrence stands for
+-- What each occurrence resolves to.
 abbrev pub resolutions : List Occurrence → List Resolution
 resolutions os = resolutions_from 0 [] (names os) os
 
--- the name that occurrence i stands for, if any
+-- The name that occurrence `i` resolves to, if there is one.
 abbrev pub resolved_at : List Resolution → ℕ → Option NameId
 resolved_at rs i = elim (slice_get rs i) [ Some r ↦ elim r [ Ok n ↦ Some n | Err kind ↦ None ] | None ↦ None ]
 
+-- Two names are the same.
 abbrev pub is_id : NameId → NameId → Bool
 is_id n m = nat_eq n.0 m.0
 
--- distinct names with one more name
+-- Appends a name, unless it is in the list.
 abbrev pub with_id : List NameId → NameId → List NameId
 with_id ns n = if list_any (is_id n) ns then ns else ns ++ n ∷ []
 
+-- Appends a name, if there is one.
 abbrev pub with_some : List NameId → Option NameId → List NameId
 with_some ns None = ns
 with_some ns (Some n) = with_id ns n
 
--- the file names after occurrence i
+-- Appends the name of occurrence `i`, if that names a file.
 abbrev pub with_file : List Resolution → List NameId → ℕ → Occurrence → List NameId
 with_file rs files i o = if o.is_file then with_some files (resolved_at rs i) else files
 
+-- Appends the names of files from occurrence `i` on.
 abbrev pub files_from : List Resolution → List NameId → ℕ → List Occurrence → List NameId
 files_from rs files i [] = files
 files_from rs files i (o ∷ os) = files_from rs (with_file rs files i o) (i + 1) os
 
--- the file names, in order of the first occurrence as a file's
+-- The names of files, in order of their first occurrence as a file.
 abbrev pub files : List Occurrence → List NameId
 files os = files_from (resolutions os) [] 0 os

@@ -1,4 +1,4 @@
-// The names that begin with a prefix.
+// The names that begin with a prefix, in a sorted map.
 
 ghost use Rattle.std.specs.Prelude.{◌≡◌, unwrap_or, IfOk, OnErr};
 ghost use Rattle.std.specs.BTreeMap.{insert_entry, is_at, keys};
@@ -11,7 +11,7 @@ use crate::sorted::SortKey;
 use std::alloc::AllocError;
 use std::collections::BTreeMap;
 
-/// How many names there are, and which if it is one.
+/// The names that fit: none, one or several.
 #[derive(Clone, Copy)]
 pub enum Found {
     Nothing,
@@ -22,6 +22,7 @@ pub enum Found {
 impl Found {
     ghost use Rattle.cweb_names.specs.inner.Found.{is_several};
 
+    /// Whether several names fit.
     pub fn is_several(self) -> bool
         ensures { result ≡ is_several self }
     {
@@ -32,8 +33,7 @@ impl Found {
     }
 }
 
-/// The names that begin with a prefix. They stand together in the map, from the prefix on, so two looks decide.
-/// `from` is the prefix once more.
+/// The names that begin with a prefix. They are adjacent in the map, so two entries decide. `from` is a copy of it.
 pub fn find_one(sorted: &BTreeMap<SortKey, NameId>, from: SortKey, prefix: &[u8]) -> Found
     requires { from ≡ prefix.now }
     ensures { result ≡ found_of (ids_with_prefix prefix.now sorted.now.entries) }
@@ -55,7 +55,7 @@ pub fn find_one(sorted: &BTreeMap<SortKey, NameId>, from: SortKey, prefix: &[u8]
     }
 }
 
-/// The number of a text in a map, where one that is new takes the next number. A refused call changes nothing.
+/// The number of a spelling. A new spelling gets the number `next`. If memory is refused, nothing changes.
 pub fn number_in(
     sorted: &mut BTreeMap<SortKey, NameId>,
     spelling: SortKey,
@@ -72,7 +72,7 @@ pub fn number_in(
     Ok(id)
 }
 
-/// Whether a text of a map begins with the one before it.
+/// Whether any spelling in the map has its predecessor as a prefix.
 pub fn has_prefix(sorted: &BTreeMap<SortKey, NameId>) -> bool
     ensures value { result ≡ any_next (keys sorted.now) }
     ensures ordered { IsStrictlySortedBy compare_bytes (keys sorted.now) }

@@ -1,4 +1,4 @@
-// The names so far.
+// The names that were given in full so far.
 
 ghost use Rattle.std.specs.Prelude.{false, ◌≡◌, ◌<◌, ◌^◌, [], map, length, slice_get, bytes_eq};
 ghost use Rattle.std.specs.Prelude.{option_map, Some, IfOk, IfSome, true, OnOk, OnErr};
@@ -17,25 +17,23 @@ use std::alloc::{AllocError, Global};
 use std::collections::BTreeMap;
 use std::marker::Model;
 
-// How many homes there are for texts.
+// The number of buckets of `latest`.
 const BUCKETS: usize = 1024;
 
-/// A name, and the number of its first occurrence in full.
+/// A name, and the number of the occurrence that first gave it in full.
 #[derive(Drop)]
 pub struct KnownName {
     pub text: Vec<u8>,
     pub first: u32,
 }
 
-/// The names that were given in full, in order. They are kept sorted besides, so that a name is soon found, and so are
-/// those with a prefix.
+/// The names that were given in full, numbered in this order. A sorted map finds a name, and the names with a prefix.
 #[derive(Drop)]
 pub struct KnownNames {
     alloc: Global,
     names: Vec<KnownName>,
     sorted: BTreeMap<SortKey, NameId>,
-    // for each home the name that was given last, of those whose texts share it; empty before the first name. It is on the heap,
-    // since a builder is moved several times.
+    // the last name of each bucket; empty before the first name, and on the heap because a builder is moved often
     latest: Vec<NameId>,
 }
 
@@ -54,7 +52,7 @@ impl Model for KnownNames {
 }
 
 impl KnownNames {
-    /// No names.
+    /// No names. It allocates nothing.
     pub fn new(alloc: Global) -> KnownNames
         ensures { result ≡ [] }
     {
@@ -66,15 +64,14 @@ impl KnownNames {
         }
     }
 
-    /// How many names there are.
+    /// The number of names.
     pub fn len(&self) -> usize
         ensures { result ≡ length self.now }
     {
         self.names.len()
     }
 
-    /// Adds a name that occurrence `first` gives in full, if it is new, and answers its number. A refused call changes
-    /// nothing.
+    /// The number of the name that occurrence `first` gives in full, added if new. A refused call changes nothing.
     pub fn know(&mut self, text: &[u8], first: u32) -> Result<NameId, AllocError>
         requires { length self.old < 2 ^ 32 }
         ensures number { IfOk result
@@ -86,7 +83,7 @@ impl KnownNames {
         if let Some(known) = self.latest_at(home_bucket, text) {
             return Ok(known);
         }
-        // a name is found without the table too, so no call fails for it
+        // The table only saves time, so a refused allocation is no error.
         if self.latest.is_empty() {
             if let Ok(latest) = vec![in self.alloc; NameId(0); BUCKETS] {
                 self.latest = latest;
@@ -99,7 +96,7 @@ impl KnownNames {
         Ok(id)
     }
 
-    // The name that was given last at a home, where it has this text.
+    // The fast path: the last name of this bucket, if it has this spelling.
     fn latest_at(&self, home_bucket: usize, text: &[u8]) -> Option<NameId>
         ensures { IfSome result (λ id. has_spelling_at self.now id.0 text.now ≡ true) }
     {
@@ -107,7 +104,6 @@ impl KnownNames {
         if self.has(id, text) { Some(id) } else { None }
     }
 
-    // Whether the name with a number has a text.
     fn has(&self, id: NameId, text: &[u8]) -> bool
         ensures { result ≡ has_spelling_at self.now id.0 text.now }
     {
@@ -117,7 +113,7 @@ impl KnownNames {
         }
     }
 
-    // The same as `know`, where the text is sought among all names.
+    // The slow path of `know`: looks the name up in the map.
     fn add(&mut self, text: &[u8], first: u32) -> Result<NameId, AllocError>
         requires { length self.old < 2 ^ 32 }
         ensures number { IfOk result
@@ -137,7 +133,7 @@ impl KnownNames {
         Ok(id)
     }
 
-    /// The names that begin with a prefix.
+    /// The names that begin with a prefix: none, one or several.
     pub fn find(&self, prefix: &[u8]) -> Result<Found, AllocError>
         ensures { IfOk result (λ found. found ≡ found_of (beginning prefix.now self.now)) }
     {
@@ -145,8 +141,7 @@ impl KnownNames {
         Ok(find_one(&self.sorted, from, prefix))
     }
 
-    /// Takes occurrence `number` in, and answers which names the text stands for or begins, of those given up to it. A
-    /// refused call changes nothing.
+    /// Adds the name of occurrence `number`, if in full. Returns which names fit so far. A refused call adds nothing.
     pub fn take(&mut self, text: &[u8], how: How, number: u32) -> Result<Found, AllocError>
         requires { length self.old < 2 ^ 32 }
         ensures found { IfOk result
@@ -161,7 +156,7 @@ impl KnownNames {
         }
     }
 
-    /// The text of a name.
+    /// The spelling of a name.
     pub fn text(&self, id: NameId) -> &[u8]
         requires { id.0 < length self.now }
         ensures { option_map (λ n. n.text) (slice_get self.now id.0) ≡ Some result.now }
@@ -177,7 +172,7 @@ impl KnownNames {
         self.names[id.0 as usize].first
     }
 
-    /// The numbers of the occurrences that first gave the names in full.
+    /// For each name the number of the occurrence that first gave it in full.
     pub fn firsts(&self) -> Result<Vec<u32>, AllocError>
         requires { length self.now < 2 ^ 32 }
         ensures { IfOk result (λ all. all.items ≡ map (λ n. n.first) self.now) }
@@ -196,7 +191,7 @@ impl KnownNames {
         has_prefix(&self.sorted)
     }
 
-    /// Whether this name is a proper prefix of another one. If it is, several names begin with its text: itself and the others.
+    /// Whether this name is a proper prefix of another one: if so, several names begin with it, itself included.
     pub fn is_prefix(&self, id: NameId) -> Result<bool, AllocError>
         requires { id.0 < length self.now }
         ensures { IfOk result (λ is.
@@ -210,7 +205,7 @@ impl KnownNames {
     }
 }
 
-// The home of a text, by its ends and its length. Texts that share one are told apart by their bytes.
+// The bucket of a spelling, from its length and the bytes at its ends.
 fn bucket_of(text: &[u8]) -> usize
     ensures { result < 1024 }
 {

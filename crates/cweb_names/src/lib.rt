@@ -1,26 +1,19 @@
-//! The names of a web: their spelling, their occurrences, and the name that each occurrence resolves to. The CWEB manual,
-//! "Section names".
+//! The names of a web: spelling, occurrences, and which name each one resolves to (CWEB manual, "Section names").
 #![tactic(auto)]
 
-// section names with single blanks
+// the spelling of section names
 mod spelling;
-
 // names as numbers, and faults of names
 mod name;
-
 // sorted byte strings
 mod sorted;
-
 // the names that begin with a prefix
 mod found;
-
 // the names so far
 mod known;
-
 // the name that an occurrence resolves to
 mod resolution;
-
-// the occurrences
+// the occurrences of names
 mod table;
 
 pub use found::Found;

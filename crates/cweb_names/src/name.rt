@@ -1,15 +1,15 @@
-// Names as numbers, and what can be wrong with them.
+// Names and occurrences as numbers, and faults of names.
 
 /// How an occurrence gives a name.
 #[derive(Clone, Copy, Debug, PartialEq, Eq)]
 pub enum How {
-    /// The whole name.
+    /// In full.
     Full,
-    /// An abbreviation, given by its prefix without the dots.
+    /// As an abbreviation: a prefix, without its dots.
     Prefix,
 }
 
-/// The number of an occurrence of a name, in the order in which a builder was given them, from 0.
+/// The number of an occurrence of a name, in the order in which they were added, from 0.
 #[derive(Clone, Copy, Debug, PartialEq, Eq, Hash)]
 pub struct NameRef(pub u32);
 
@@ -17,16 +17,16 @@ pub struct NameRef(pub u32);
 #[derive(Clone, Copy, Debug, PartialEq, Eq, Hash)]
 pub struct NameId(pub u32);
 
-/// What is wrong with a name.
+/// The kind of a fault of a name.
 #[derive(Clone, Copy, Debug, PartialEq, Eq)]
 pub enum NameKind {
     /// An abbreviation fits several names.
     Ambiguous,
     /// An abbreviation fits no name.
     NeverFull,
-    /// A name is a proper prefix of another name.
+    /// A name is a proper prefix of another one.
     PrefixOfAnother,
-    /// A name that is used, or is a file's, has no part.
+    /// A name that is used, or that is an output file, has no part.
     NotPresent,
 }
 

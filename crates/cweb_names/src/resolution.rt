@@ -1,4 +1,4 @@
-// What occurrences stand for.
+// The names that occurrences resolve to.
 
 ghost use Rattle.std.specs.Prelude.{◌≡◌, IfOk, OnOk, OnErr};
 ghost use Rattle.cweb_names.specs.Names.{resolved_at, with_some};
@@ -10,7 +10,7 @@ use crate::name::{NameId, NameKind};
 use indexmap::IndexSet;
 use std::alloc::AllocError;
 
-/// The name that an occurrence stands for, if any.
+/// The name that an occurrence resolves to, if there is one.
 pub fn resolved_at(resolutions: &[Result<NameId, NameKind>], occurrence: usize) -> Option<NameId>
     ensures { result ≡ resolved_at resolutions.now occurrence }
 {
@@ -20,7 +20,7 @@ pub fn resolved_at(resolutions: &[Result<NameId, NameKind>], occurrence: usize) 
     }
 }
 
-/// What an occurrence stands for, where all names are known. What was found when it was given comes first.
+/// The name that an occurrence resolves to among all names. `found`, the names up to it, takes precedence.
 pub fn resolve(
     names: &KnownNames,
     text: &[u8],
@@ -39,7 +39,7 @@ pub fn resolve(
     })
 }
 
-/// Adds the name that an occurrence stands for, if any, to distinct names. A refused call changes nothing.
+/// Adds the name that an occurrence resolves to, if there is one, to a set. If memory is refused, nothing changes.
 pub fn add_resolved(
     names: &mut IndexSet<NameId>,
     resolutions: &[Result<NameId, NameKind>],

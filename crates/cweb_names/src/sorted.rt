@@ -1,4 +1,4 @@
-// Texts in their order, which is told for the most part by their first bytes.
+// Spellings as keys of a sorted map.
 
 ghost use Rattle.std.specs.Prelude.{◌≡◌, Some, IfOk, refl, bytes_eq};
 ghost use Rattle.std.specs.Ordering.{nat_cmp};
@@ -12,8 +12,7 @@ use std::alloc::{AllocError, Global};
 use std::cmp::Ordering;
 use std::marker::Model;
 
-/// A text to sort by. Two are told apart by their fronts, the numbers that their first eight bytes make, before the bytes behind
-/// those are looked at.
+/// A spelling, ordered by its bytes. `sort_prefix` decides most comparisons without a look at them.
 #[derive(Drop)]
 pub struct SortKey {
     sort_prefix: u64,
@@ -33,6 +32,7 @@ impl Model for SortKey {
 }
 
 impl SortKey {
+    /// Copies a spelling.
     pub fn new(alloc: Global, spelling: &[u8]) -> Result<SortKey, AllocError>
         ensures { IfOk result (λ sorted. sorted ≡ spelling.now) }
     {
@@ -45,6 +45,7 @@ impl SortKey {
         })
     }
 
+    /// The bytes of the spelling.
     pub fn spelling(&self) -> &[u8]
         ensures { result.now ≡ self.now }
     {
@@ -94,7 +95,7 @@ impl Ord for SortKey {
     }
 }
 
-// The number that the first eight bytes of a text make, the first of them highest. Where there are fewer, zeros stand for them.
+// The first eight bytes as a big-endian number. Missing bytes are 0.
 fn sort_prefix(spelling: &[u8]) -> u64
     ensures { result ≡ sort_prefix_of spelling.now }
 {

@@ -1,4 +1,4 @@
-// How names of sections are spelled. The CWEB manual, "Section names".
+// The spelling of section names (CWEB manual, "Section names").
 ghost use Rattle.std.specs.Prelude.{◌≡◌, IfOk};
 ghost use Rattle.cweb_rules.specs.Bytes as bytes;
 ghost use Rattle.cweb_names.specs.Squeezing.{is_abbreviation};
@@ -13,7 +13,7 @@ fn is_white(byte: u8) -> bool
     matches!(byte, b' ' | b'\t' | b'\r' | 11 | 12 | b'\n')
 }
 
-/// A text in which each run of white bytes is one blank, and none stands at the ends.
+/// The spelling of a name: each span of white space becomes one space, and it is trimmed.
 pub fn squeezed(alloc: Global, text: &[u8]) -> Result<Vec<u8>, AllocError>
     ensures { IfOk result (λ name. name.items ≡ base.squeezed text.now) }
 {
@@ -33,7 +33,7 @@ pub fn squeezed(alloc: Global, text: &[u8]) -> Result<Vec<u8>, AllocError>
     Ok(name)
 }
 
-/// Whether a text is such a name as it stands.
+/// Whether a name isn't empty and `squeezed` would leave it unchanged.
 pub fn is_squeezed(text: &[u8]) -> bool
     ensures { result ≡ spec.is_squeezed text.now }
 {
@@ -47,8 +47,7 @@ pub fn is_squeezed(text: &[u8]) -> bool
     before != b' '
 }
 
-// Whether a byte stands behind another in such a name: one that is white is a blank, and behind no blank. Most bytes are above
-// a blank, and not white.
+// Whether a byte may follow another in a spelling. White space is only single spaces. Mostly the first test decides.
 #[inline(always)]
 fn may_follow(before: u8, byte: u8) -> bool
     ensures { result ≡ spec.may_follow before byte }
@@ -56,7 +55,7 @@ fn may_follow(before: u8, byte: u8) -> bool
     byte > b' ' || !is_white(byte) || (byte == b' ' && before != b' ')
 }
 
-/// Whether a name is an abbreviation: longer than three bytes, it ends in `...`.
+/// Whether a name is an abbreviation: it is longer than three bytes and ends in `...`.
 pub fn is_prefix(name: &[u8]) -> bool
     ensures { result ≡ is_abbreviation name.now }
 {

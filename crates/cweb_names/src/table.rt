@@ -17,24 +17,24 @@ use indexmap::IndexSet;
 use std::alloc::{AllocError, Global};
 use std::marker::Model;
 
-/// How an occurrence is given, where its text stands elsewhere.
+/// An occurrence without its spelling.
 #[derive(Clone, Copy)]
 pub struct OccurrenceForm {
     pub how: How,
     pub is_file: bool,
 }
 
-/// The occurrences of names, and the names.
+/// The occurrences of names, in order, and the names that they give in full.
 pub struct NameTable {
     alloc: Global,
     known: KnownNames,
-    // of each occurrence its text, how it is given, and what was found of it among the names given up to it
+    // one entry for each occurrence: its spelling, its form, and which of the names up to it fit
     strings: StringList,
     given: Vec<OccurrenceForm>,
     found: Vec<Found>,
 }
 
-// It is let go by one call wherever it is held, not part by part.
+// One call frees it, not one per field.
 impl Drop for NameTable {
     fn drop(self) {
         let NameTable {
@@ -61,7 +61,7 @@ impl Model for NameTable {
 }
 
 impl NameTable {
-    /// A table that was given nothing.
+    /// No occurrence. It allocates nothing.
     pub fn new(alloc: Global) -> NameTable
         ensures { result ≡ [] }
     {
@@ -74,7 +74,7 @@ impl NameTable {
         }
     }
 
-    /// Adds an occurrence, and answers its number. A refused call changes nothing.
+    /// Appends an occurrence and returns its number. If memory is refused, nothing changes.
     pub fn add(&mut self, name: &[u8], how: How, is_file: bool) -> Result<NameRef, AllocError>
         requires { length self.old + 1 < too_many }
         ensures number { IfOk result (λ name. name.0 ≡ length self.old) }
@@ -97,7 +97,7 @@ impl NameTable {
         Ok(NameRef(number as u32))
     }
 
-    /// The names.
+    /// The names that are given in full.
     pub fn names(&self) -> &KnownNames
         ensures names { result.now ≡ names self.now }
         ensures few { length (names self.now) < too_many }
@@ -105,7 +105,7 @@ impl NameTable {
         &self.known
     }
 
-    /// What each occurrence stands for.
+    /// The name that each occurrence resolves to, or its fault.
     pub fn resolutions(&self) -> Result<Vec<Result<NameId, NameKind>>, AllocError>
         ensures resolutions { IfOk result (λ all. all.items ≡ resolutions self.now) }
         ensures few { IfOk result (λ all. length all.items < 2 ^ 32) }
@@ -117,7 +117,7 @@ impl NameTable {
         Ok(all)
     }
 
-    /// The texts of the occurrences, and how each is given.
+    /// The spelling and form of each occurrence.
     pub fn close(self) -> (StringList, Vec<OccurrenceForm>)
         ensures strings { result.0 ≡ map occurrence_text self }
         ensures given { result.1.items ≡ map occurrence_form self }
@@ -132,7 +132,7 @@ impl NameTable {
         (strings, given)
     }
 
-    /// The file names, in order of their first occurrence as a file's.
+    /// The names of output files, in order of their first occurrence with `@(`.
     pub fn files(
         &self,
         resolutions: &[Result<NameId, NameKind>],

@@ -1,7 +1,6 @@
--- What stands at the front of a text is what the first rule that fits names.
+-- The next lexeme is that of the first rule that applies.
 use Rattle.cweb_rules.proofs.Common.{◌≡◌, ℕ, Bool, true, false, ◌&&◌, List, refl, codes, if◌then◌else◌, is_blank, is_line_end, is_word_byte, begins, first_is, starts_section, c_match, starts_raw, starts_literal, starts_include, RuleMatch, c_rule, c_match_by, starts_number, Effect, Rule}
 
--- one test more
 pub by_test : {R S : Type 0} (f : R → S) (v : Bool) (x : R) (y : S) (z : R)
     → y ≡ f z → (if v then f x else y) ≡ f (if v then x else z)
 by_test f true x y z h = refl

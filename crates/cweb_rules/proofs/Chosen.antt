@@ -1,4 +1,4 @@
--- Which rule of C text was taken, by the kind that it names.
+-- Which rule of C text was applied, by the kind of the lexeme.
 use Rattle.cweb_rules.proofs.Common.{◌≡◌, ℕ, Bool, true, false, List, [], ◌∷◌, Option, Some, None, refl, sym, subst, codes, if◌then◌else◌, drop, prefix_len, is_blank, is_line_end, is_word_byte, begins, first_is, starts_section, in_c, Effect, Named, letter, Transliteration, Kind, Code, Section, Blanks, LineEnd, Quoted, Identifier, Numeral, Punctuator, RuleMatch, rule_match, listed, longest, number_len, starts_number, section_match, found_letter_match, effect_match, code_match, comment_match, line_comment_match, starts_literal, literal_match, starts_raw, raw_match, c_match}
 use Rattle.cweb_rules.specs.declared.effect.Effect.TheVariants as effect
 
@@ -16,7 +16,7 @@ rule_of k =
       | _ ↦ Other
     ]
 
--- the rules before Literal don't fit
+-- The rules before `Literal` don't apply.
 pub record Passed (t : List ℕ) : Type 0 where
   pub blank : first_is is_blank t ≡ false
   pub line_end : first_is is_line_end t ≡ false
@@ -25,12 +25,10 @@ pub record Passed (t : List ℕ) : Type 0 where
   pub section : starts_section t ≡ false
   pub code : begins (codes "@") t ≡ false
 
--- a raw literal, or another
 abbrev pub Opens : List ℕ → Bool → Type 0
 Opens t true = starts_raw t ≡ true
 Opens t false = (starts_raw t ≡ false) × (starts_literal t ≡ true)
 
--- `@` that begins no section
 abbrev pub Coded : List ℕ → Type 0
 Coded t = (starts_section t ≡ false) × (begins (codes "@") t ≡ true)
 

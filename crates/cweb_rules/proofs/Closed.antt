@@ -1,11 +1,10 @@
--- Where nothing is seen that opens an item, none stays open.
+-- Items that are surely closed at the end of their line.
 use Rattle.cweb_rules.proofs.Common.{◌≡◌, ◌<◌, ℕ, ◌+◌, Bool, true, false, ◌&&◌, ◌||◌, ◌==◌, List, [], ◌∷◌, refl, ap, sym, ◌∙◌, arith, nat_le, list_any, eqb-true, leb-true, is_one_of, lower, Effect, Nothing, Named, CodeEntry, code_table, entry_for, in_tex, in_macro, in_c, opens_effect, or_right, and_parts}
 
 abbrev pub is_named : Effect → Bool
 is_named Named = true
 is_named e = false
 
--- a code that has an effect stands in a row that has it
 row-named : (col : CodeEntry → Effect) (rs : List CodeEntry) (l : ℕ) → col (entry_for [] l) ≡ Nothing
     → is_named (col (entry_for rs l)) ≡ true → list_any (λ r. is_named (col r) && is_one_of r.letters l) rs ≡ true
 row-named col [] l none h = sym (ap is_named none) ∙ h
@@ -15,7 +14,6 @@ or_elim : (a b : Bool) (c : Bool) → (a || b) ≡ true → (a ≡ true → c �
 or_elim true b c h f g = f refl
 or_elim false b c h f g = g h
 
--- letters in upper case are none of the two
 lowered : (n b : ℕ) → n < 97 → (n == lower b) ≡ true → (n == b) ≡ true
 lowered n b small h = grind (arith, eqb-true n (b + 32), leb-true 65 b, and_parts (nat_le 65 b) (nat_le b 90))
 

@@ -1,11 +1,9 @@
--- A literal ends by itself.
+-- A literal ends at its quote, whatever follows.
 use Rattle.cweb_rules.proofs.Common.{◌≡◌, ℕ, ◌+◌, ◌-◌, ◌<◌, ◌≤◌, suc, zero, Bool, true, false, cond, ◌&&◌, ◌||◌, ◌==◌, List, [], ◌∷◌, ◌++◌, length, take, drop, refl, ap, sym, ◌∙◌, subst, arith, codes, eqb-true, begins, at_line_end, in_c, Reach, reach_in, with_unit, reach_size, Look, Goes, Ends, reach_of_literal, look_in_literal, Closed, Cut, c_match, literal_match, quoted_match, has_quote_at, literal_prefix, starts_literal, quote_of, starts_raw, raw_match, and_parts, and-false, drop-append-le}
 use Rattle.cweb_rules.proofs.Chosen.{Passed, passed_front}
 use Rattle.cweb_rules.proofs.Raws.{quoted_stays, raw_stays, ends_raw}
 use Rattle.cweb_rules.proofs.Stays.{opening, opens, is_letter_first}
 use Rattle.cweb_rules.proofs.TokensStay.{passes}
-
--- UP TO ITS QUOTE
 
 abbrev seen : Bool → Bool → Bool → Bool → Look
 seen closes cut escaped pair =
@@ -49,8 +47,6 @@ closed_stays quote zero (b ∷ c ∷ t) more h =
     further_byte look (begins (quote ∷ []) u) (at_line_end u) (begins (codes "\\@") u)
     (begins (codes "\\") u || begins (codes "@@") u) b c t more h (λ k g. closed_stays quote k (c ∷ t) more g)
 
--- ITS PREFIX
-
 either : (a b : Bool) (P : Type 0) → (a || b) ≡ true → (a ≡ true → P) → (b ≡ true → P) → P
 either true b P h f g = f refl
 either false b P h f g = g h
@@ -85,8 +81,6 @@ prefix_stays b (c ∷ []) more h =
     by_second (is_letter_first t) (has_quote_at 1 t) (has_quote_at 0 t) (literal_prefix (b ∷ c ∷ more)
     ≡ literal_prefix (b ∷ c ∷ [])) e (λ q. prefix_one b more c q) (λ q. quote_first b (c ∷ more) (c ∷ []) q)
 prefix_stays b (c ∷ e ∷ t) more h = refl
-
--- THE WHOLE LITERAL
 
 quote_within : (n : ℕ) (t more : List ℕ) → has_quote_at n t ≡ true
     → (n < length t) × (has_quote_at n (t ++ more) ≡ true) × (quote_of (drop n (t ++ more)) ≡ quote_of (drop n t))
@@ -123,7 +117,6 @@ raw_front t p r = cc (passed_front t p)
 abbrev pub ends_closed : List ℕ → Type 0
 ends_closed t = let n = literal_prefix t in ((inside n t).how ≡ Closed) × ((n + 1) + reach_size (inside n t) ≤ length t)
 
--- the literal's quote stands where a raw literal has its `R`, or right after its prefix
 quote_no_raw : (b : ℕ) (t : List ℕ) → has_quote_at 0 (b ∷ []) ≡ true → starts_raw (b ∷ t) ≡ false
 quote_no_raw b t h = is_a_quote b (λ n. starts_raw (n ∷ t) ≡ false) h refl refl
 
@@ -156,7 +149,7 @@ literal_not_raw : (t : List ℕ) → starts_literal t ≡ true → starts_raw t 
 literal_not_raw t h = by_prefix (begins (codes "u8") t) (is_letter_first t) (has_quote_at 2 t) (has_quote_at 1 t)
     (has_quote_at 0 t) (starts_raw t ≡ false) (sym (opening t) ∙ h) (after_u8 t) (after_letter t) (after_quote t)
 
--- a literal that isn't raw doesn't become raw: its prefix ends in a quote
+-- A literal that isn't raw doesn't become raw, since its prefix ends in a quote.
 pub literal_stays_whole : (b : ℕ) (t more : List ℕ) → Passed (b ∷ t)
     → starts_raw (b ∷ t) ≡ false → starts_literal (b ∷ t) ≡ true → ends_closed (b ∷ t)
     → c_match in_c false false (b ∷ t ++ more) ≡ c_match in_c false false (b ∷ t)

@@ -1,4 +1,4 @@
--- A section comment ends by itself.
+-- A comment ends at its `*/`, whatever follows.
 use Rattle.cweb_rules.proofs.Common.{arith, ◌≡◌, ℕ, ◌+◌, ◌-◌, Bool, true, false, cond, ◌==◌, List, [], ◌∷◌, ◌++◌, length, take, map, refl, ap, codes, list_all, flat_map, begins, in_c, Reach, reach_in, with_unit, Look, Goes, Ends, look_in_comment, Closed, Cut, is_quiet, c_match, rule_match, Comment, not-true}
 use Rattle.cweb_rules.proofs.Joins.{unlike}
 use Rattle.cweb_rules.proofs.TokensStay.{no_section}
@@ -30,7 +30,6 @@ singles : (x : List ℕ) → flat_map (λ u. u) (map (λ b. b ∷ []) x) ≡ x
 singles [] = refl
 singles (b ∷ x) = ap (λ t. b ∷ t) (singles x)
 
--- a comment of quiet bytes is read alike, whatever follows
 pub comment_front : (x more : List ℕ) → list_all is_quiet x ≡ true
     → c_match in_c false false (47 ∷ 42 ∷ x ++ 42 ∷ 47 ∷ more) ≡ rule_match (Comment Closed) (2 + (length x + 2))
 comment_front x more h = grind (arith, comment_ends x more h, singles x)

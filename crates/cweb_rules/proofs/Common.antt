@@ -1,4 +1,4 @@
--- The names that the proofs of this crate cite, passed on from one place. Declares nothing.
+-- Imports that the proofs of this crate share.
 pub use Rattle.memchr.specs.Find.{IsFirstByte, is_byte2, is_byte3, is_byte}
 pub use Rattle.std.proofs.Common.{◌≡◌, ℕ, Bool, true, false, ◌&&◌, List, refl, [], ◌∷◌, Option, Some, None, sym, subst}
 pub use Rattle.std.proofs.Common.{drop, ◌<◌, ◌+◌, ◌||◌, ◌==◌, ap, ◌∙◌, arith, ◌-◌, ◌≤◌, suc, zero, cond, ◌++◌, length}

@@ -1,4 +1,4 @@
--- A first byte that leaves but one rule of C text tells it.
+-- First bytes after which only one rule of C text is possible.
 use Rattle.cweb_rules.proofs.Common.{◌≡◌, ℕ, Bool, true, false, ◌||◌, ◌&&◌, ◌==◌, not, ◌≤◌, List, [], ◌∷◌, length, slice_index_or, refl, ap, sym, ◌∙◌, subst, arith, if◌then◌else◌, codes, list_all, eqb-true, begins, is_blank, is_digit, is_one_of, is_word_byte, starts_section, has_quote_at, literal_prefix, raw_prefix, starts_include, starts_literal, starts_raw, rule_after_dot, rule_after_slash, lead, c_rule, is_settled, starts_number, Lead, and-false, and_parts}
 use Rattle.cweb_rules.specs.declared.rule.Lead.TheVariants as first
 use Rattle.cweb_rules.specs.declared.rule.Rule.TheVariants as rule
@@ -67,7 +67,6 @@ pub if_true : {A : Type 0} (v : Bool) (x y : A) → v ≡ true → (if v then x 
 if_true true x y h = refl
 if_true false x y h = cc
 
--- the rule that a first byte leaves
 abbrev pub IsTold : Bool → List ℕ → Lead → Type 0
 IsTold includes t first.Blank = rule.Blanks ≡ c_rule includes t
 IsTold includes t first.Word = rule.Identifier ≡ c_rule includes t
@@ -99,7 +98,7 @@ pub told-at : (includes : Bool) (t : List ℕ) (r : Lead) → 1 ≤ length t
 told-at includes [] r h e = absurd (omega (arith, h))
 told-at includes (b ∷ t) r h e = subst (IsTold includes (b ∷ t)) (sym e) (lead-told includes b t)
 
--- what the byte behind a `/` or a `.` leaves of the rules
+-- The rules after a `/` or a `.`.
 slash_left : (a b includes : Bool)
     → (if a then rule.Comment else (if b then rule.LineComment else rule.Punctuator)) ≡ (if a && true then rule.Comment
     else (if b && true then rule.LineComment else (if includes && false then rule.IncludedName else rule.Punctuator)))

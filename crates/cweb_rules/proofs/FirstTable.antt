@@ -1,10 +1,10 @@
--- The table of what first bytes tell.
+-- The table of first bytes agrees with its definition.
 use Rattle.cweb_rules.proofs.Common.{◌≡◌, ◌<◌, ℕ, zero, suc, ◌+◌, Bool, true, ◌&&◌, ◌==◌, List, [], ◌∷◌, ◌++◌, length, replicate, slice_index_or, refl, ap, sym, ◌∙◌, arith, eqb-true, and_parts}
 use Rattle.cweb_rules.specs.inner.Firsts.{first_byte_class}
 use Rattle.cweb_rules.specs.declared.firsts.Plain.{Plain}
 use Rattle.cweb_rules.specs.declared.firsts.Plain.TheVariants.{Lone, Operator, Digit, Quote, Stop, Blank, Word, Further}
 
--- kinds as numbers, so that two of them are compared by computing
+-- Classes as numbers, so that computing compares them.
 abbrev number : Plain → ℕ
 number p = elim p [ Blank ↦ 0 | Word ↦ 1 | Lone ↦ 2 | Operator ↦ 3 | Digit ↦ 4 | Quote ↦ 5 | Further ↦ 6 | Stop ↦ 7 ]
 
@@ -15,7 +15,7 @@ kind_back : (p : Plain) → kind (number p) ≡ p
 kind_back Blank = refl
 kind_back _ = refl
 
--- the entries from a byte on are what the definition says of it and of the bytes after it
+-- The entries from index `k` on agree with the definition.
 abbrev agrees : ℕ → List Plain → Bool
 agrees k [] = true
 agrees k (x ∷ xs) = (number x == number (first_byte_class k)) && agrees (suc k) xs
@@ -32,7 +32,7 @@ told_from (x ∷ xs) k (suc i) b d h within e = told_from xs (suc k) i b d
     (and_parts (number x == number (first_byte_class k)) (agrees (suc k) xs) h).1 (omega (arith, within))
     (omega (arith, e))
 
--- the table, as runs of equal kinds
+-- The table as spans of equal classes.
 abbrev pub firsts : List Plain
 firsts = replicate 9 Operator ++ replicate 1 Blank ++ replicate 1 Further ++ replicate 3 Blank
     ++ replicate 18 Operator ++ replicate 1 Blank ++ replicate 1 Operator ++ replicate 1 Quote ++ replicate 1 Stop

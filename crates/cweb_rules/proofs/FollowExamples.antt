@@ -1,7 +1,6 @@
--- Tokens that stand alone, and a relation that has all bytes that join, computed.
+-- Worked examples: tokens, and a relation that holds for all adjacent bytes.
 use Rattle.cweb_rules.proofs.Common.{ℕ, Bool, true, ◌||◌, ◌&&◌, ◌==◌, not, [], ◌∷◌, ◌++◌, refl, codes, is_one_of, is_digit, JoinsAll, IsToken, Code, Quoted, Identifier, Numeral, Punctuator, EmitAt, Closed, or_left}
 
--- operator bytes, but `.` only after `.`; or `.` and a digit
 abbrev is_operator : ℕ → Bool
 is_operator b = is_one_of (codes "+-*/%&|^!=<>.:#") b
 
@@ -31,12 +30,12 @@ sign = record { whole = refl; token = refl }
 null : IsToken Punctuator (0 ∷ [])
 null = record { whole = refl; token = refl }
 
--- a literal of two lines
+-- A literal of two lines.
 two_lines : IsToken (Quoted ((34 ∷ []) ∷ (64 ∷ 64 ∷ []) ∷ (92 ∷ 10 ∷ []) ∷ (34 ∷ []) ∷ []) Closed)
     (34 ∷ 64 ∷ 64 ∷ 92 ∷ 10 ∷ 34 ∷ [])
 two_lines = record { whole = refl; token = refl }
 
--- a raw literal that has a line end and an `@`
+-- A raw literal with a newline and an `@`.
 raw : IsToken (Quoted (codes "R\"(" ∷ (10 ∷ []) ∷ codes "@@" ∷ codes ")\"" ∷ []) Closed)
     (codes "R\"(" ++ 10 ∷ 64 ∷ 64 ∷ codes ")\"")
 raw = record { whole = refl; token = refl }

@@ -1,8 +1,7 @@
--- What the rules name at the front of a line has no line end.
+-- A lexeme of a line has no newline.
 use Rattle.cweb_rules.proofs.Common.{arith, ◌≡◌, ℕ, zero, suc, ◌+◌, ◌-◌, Bool, true, false, ◌&&◌, List, [], ◌∷◌, ◌++◌, Option, Some, None, length, take, drop, refl, sym, ◌∙◌, if◌then◌else◌, codes, prefix_len, ne_eqb, begins, is_blank, is_line_end, is_word_byte, at_line_end, starts_section, Effect, Named, in_limbo, in_tex, in_macro, in_c, letter, Transliteration, Look, Goes, Ends, Reach, reach, reach_in, with_unit, body, End, Cut, look_in_literal, look_in_include, look_in_raw, Kind, Section, Blanks, LineEnd, Comment, Quoted, Identifier, RuleMatch, rule_match, section_match, found_letter_match, name_match, effect_match, code_match, tex_match, comment_match, line_comment_match, literal_prefix, starts_literal, quoted_match, quote_of, raw_prefix, delimiter, raw_closer, starts_raw, starts_include, c_match, head_match_of, IsLine, match_in, Context, Limbo, TeX, Definition, Macro, CText, listed, longest, number_len, starts_number}
 use Rattle.cweb_rules.specs.declared.effect.Effect.TheVariants as effect
 
--- a piece of one line
 abbrev pub AreLines : List (List ℕ) → Type 0
 AreLines [] = Unit {0}
 AreLines (u ∷ us) = IsLine u × AreLines us
@@ -34,7 +33,6 @@ lines_in look e k [] h = tt
 lines_in look e (suc k) (b ∷ t) h = lines_in look e k t h.1
 lines_in look e zero (b ∷ t) h = lines_at look e (look (b ∷ t)) (b ∷ t) t h (λ k. lines_in look e k t h.1)
 
--- no unit of a line has a line end
 pub units-lines : (look : List ℕ → Look) (e : End) (t : List ℕ) → IsLine t → AreLines (reach look e t).units
 units-lines look e t h = lines_in look e 0 t h
 

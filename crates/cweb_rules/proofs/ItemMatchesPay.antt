@@ -1,4 +1,4 @@
--- What the rules of codes, comments and literals name stands in the text, and its bytes pay for what it gives.
+-- Lexemes of codes, comments and literals are within the source, and their bytes pay.
 use Rattle.cweb_rules.proofs.Common.{◌≡◌, ◌≤◌, ◌<◌, ℕ, zero, suc, ◌+◌, Bool, true, false, ◌||◌, List, [], ◌∷◌, ◌++◌, Option, Some, None, length, take, drop, refl, ap, arith, length-append, if◌then◌else◌, nat_lt, nat_le, codes, flat_map, flat_map-append, length-drop, length-take-le, prefix_len-le-length, ImproperHexNumber, begins, starts_section, is_line_end, is_delimiter, Effect, Nothing, Define, Format, Program, Named, InsertDefs, Joins, EmitAt, Faulty, letter, constant, Transliteration, Reach, body, reach_size, End, Cut, reach_of_control_text, reach_of_name, reach_of_literal, reach_of_included_name, look_in_control, look_in_name, look_in_literal, look_in_include, look_in_raw, reach_of_raw_literal, Kind, Skipped, Section, Code, Letter, Verbatim, Constant, Occurrence, Comment, Quoted, RuleMatch, rule_match, Context, section_match, control_text_match, verbatim_match, constant_match, found_letter_match, letter_match, opener_after, name_match, effect_match, code_match, tex_match, has_quote_at, literal_prefix, starts_literal, quoted_match, quote_of, literal_match, raw_prefix, has_delimiter, starts_raw, delimiter, raw_closer, raw_match, include_match, at_line_ends, Pays, FitsAndPays, second_so}
 use Rattle.cweb_rules.specs.declared.effect.Effect.TheVariants as effect
 use Rattle.cweb_rules.proofs.Sizes.{take-at_most, begins-size, units-text, reach-size, control-within, name-within, literal-within, include-within, raw-within, opener_after-size}
@@ -8,7 +8,6 @@ pub fair_of : (c : Context) (t : List ℕ) (k : Kind) (n : ℕ) → 0 < n → n 
     → (length (take n t) ≡ n → Pays c k (take n t)) → FitsAndPays c t (rule_match k n)
 fair_of c t k n some within pays = record { some = some; within = within; pays = pays (length-take-le n t within) }
 
--- the first rule that fits
 pub choose : (c : Context) (t : List ℕ) (v : Bool) (x y : RuleMatch) → (v ≡ true → FitsAndPays c t x)
     → (v ≡ false → FitsAndPays c t y) → FitsAndPays c t (if v then x else y)
 choose c t true x y f g = f refl
@@ -22,8 +21,6 @@ section_at-fair c b t =
 
 pub skipped-fair : (c : Context) (b : ℕ) (t : List ℕ) → FitsAndPays c (b ∷ t) (rule_match Skipped 1)
 skipped-fair c b t = fair_of c (b ∷ t) Skipped 1 (omega arith) (omega arith) (λ e. tt)
-
--- CODES
 
 module _ (c : Context) (a b : ℕ) (u : List ℕ) where
   abbrev pub t : List ℕ
@@ -111,8 +108,6 @@ pub text_front-fair : (c : Context) (effect : ℕ → Effect) (b : ℕ) (t : Lis
 text_front-fair c effect b t = choose c (b ∷ t) (starts_section (b ∷ t)) _ _ (λ h. section_at-fair c b t) (λ h.
     choose c (b ∷ t) (begins (codes "@") (b ∷ t)) _ _ (λ k. code_at-fair c effect true b t) (λ k. skipped-fair c b t))
 
--- COMMENTS
-
 ends-size : (t : List ℕ) → at_line_ends 1 t ≤ length t
 ends-size [] = omega arith
 ends-size (b ∷ t) = grind (arith, t, ends-size t)
@@ -131,8 +126,6 @@ pub commented : (c : Context) (how : End) (b : ℕ) (t : List ℕ) (r : Reach) �
     → reach_size r ≤ length (drop 2 (b ∷ t)) → FitsAndPays c (b ∷ t) (rule_match (Comment how) (2 + reach_size r))
 commented c how b t r h two within = fair_of c (b ∷ t) (Comment how) (2 + reach_size r) (omega arith)
     (omega (arith, two, within, length-drop 2 (b ∷ t))) (λ e. comment_pays (2 + reach_size r) b t (omega arith) h)
-
--- LITERALS
 
 quoted-fair : (c : Context) (t : List ℕ) (n : ℕ) (r : Reach) → 0 < n
     → n ≤ length t → reach_size r ≤ length (drop n t) → FitsAndPays c t (quoted_match n r t)

@@ -1,16 +1,16 @@
--- What stands at the front stays, whatever follows that can't go on with it.
+-- The next punctuator doesn't depend on bytes that can't continue it.
 use Rattle.cweb_rules.proofs.Common.{arith, ◌≡◌, ℕ, Bool, true, false, ◌&&◌, ◌==◌, not, List, [], ◌∷◌, ◌++◌, refl, sym, ◌∙◌, list_all, eqb-true, begins, first_is, longest, all_join, and_parts}
 
 pub second : (a b : Bool) → a ≡ true → (a && b) ≡ false → b ≡ false
 second true b p e = e
 second false b p e = cc
 
--- the last byte of a text and the first of what follows
+-- The last byte before the seam and the first byte after it join.
 abbrev pub seam_joins : (ℕ → ℕ → Bool) → ℕ → List ℕ → List ℕ → Bool
 seam_joins joins b [] more = first_is (joins b) more
 seam_joins joins b (c ∷ t) more = seam_joins joins c t more
 
--- a sign that begins a text and what follows, and not the text alone, goes over the seam
+-- A prefix of the whole that isn't one of the first part extends over the seam.
 crosses : (joins : ℕ → ℕ → Bool) (p : List ℕ) (b : ℕ) (t more : List ℕ) → all_join joins p ≡ true
     → begins p (b ∷ t ++ more) ≡ true → begins p (b ∷ t) ≡ false → seam_joins joins b t more ≡ true
 crosses joins [] b t more j fits misses = cc
@@ -47,6 +47,5 @@ not_both : (v : Bool) → not v ≡ v → true ≡ false
 not_both true e = sym e
 not_both false e = e
 
--- bytes that a test tells apart aren't equal
 pub unlike : (p : ℕ → Bool) (c b : ℕ) (v : Bool) → p b ≡ v → p c ≡ not v → (c == b) ≡ false
 unlike p c b v h k = grind (arith, p c, p b, eqb-true c b, not_both v)

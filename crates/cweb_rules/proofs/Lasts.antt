@@ -1,4 +1,4 @@
--- An item with its end sign stands in its text.
+-- A delimited item is within its source.
 use Rattle.cweb_rules.proofs.Common.{◌≤◌, ℕ, List, length, codes, begins, at_line_end, reach, reach_size, Open, Item, Name, LineComment, Literal, IncludedName, RawLiteral, look_of, arith}
 use Rattle.cweb_rules.specs.declared.items.Item.TheVariants.{ControlText, Comment}
 use Rattle.cweb_rules.proofs.Sizes.{IsWithin, reach-size, begins-size, control-within, name-within, comment-within, literal-within, include-within, raw-within}

@@ -1,4 +1,4 @@
--- What the rules of codes name in a line doesn't depend on what comes after it.
+-- A control code in a line doesn't depend on the bytes after the line.
 use Rattle.cweb_rules.proofs.Common.{◌≡◌, ◌≤◌, ℕ, ◌+◌, Bool, false, ◌||◌, ◌==◌, List, [], ◌∷◌, ◌++◌, Option, Some, None, length, take, drop, refl, ap, ◌∙◌, arith, if◌then◌else◌, codes, nat_le, nat_lt, take-append-le, drop-append-le, length-drop, prefix_len-le-length, begins, is_gap, Effect, Named, letter, Transliteration, Reach, reach_size, End, Closed, Cut, reach_of_name, opener_len, look_in_name, Letter, Occurrence, RuleMatch, rule_match, found_letter_match, opener_after, name_match, effect_match, code_match, AtLineEnd, opens_name, opens_effect, opens_code}
 use Rattle.cweb_rules.specs.declared.effect.Effect.TheVariants as effect
 use Rattle.cweb_rules.proofs.Seams.{run_line}
@@ -60,7 +60,7 @@ code_front-line effect.Verbatim takes_sign a b t more e h = cc (control_text-lin
 code_front-line effect.Constant takes_sign a b t more e h = cc (constant-line t more e)
 code_front-line _ takes_sign a b t more e h = refl
 
--- an `@` that begins no section has a byte after it in its line
+-- An `@` that begins no section has a byte after it in its line.
 pub code_at_line : (effect : ℕ → Effect) (takes_sign : Bool) (b : ℕ) (t more : List ℕ)
     → AtLineEnd more → 2 ≤ length (b ∷ t) → opens_code effect (b ∷ t) ≡ false
     → code_match effect takes_sign (b ∷ t ++ more) ≡ code_match effect takes_sign (b ∷ t)

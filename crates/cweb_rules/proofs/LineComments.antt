@@ -1,4 +1,4 @@
--- What the rules of comments name in a line doesn't depend on what comes after it.
+-- A comment that ends in its line doesn't depend on the bytes after it.
 use Rattle.cweb_rules.proofs.Common.{arith, ◌≡◌, ◌≤◌, ℕ, Bool, true, false, ◌&&◌, List, [], ◌∷◌, ◌++◌, length, refl, ap, ◌∙◌, codes, begins, Closed, reach_of_line_comment, comment_match, line_comment_match, AtLineEnd, opens_comment}
 use Rattle.cweb_rules.proofs.Reaches.{IsLocal, reach-line}
 use Rattle.cweb_rules.proofs.Looks.{reach_ends, whole, comment-units}
@@ -6,8 +6,6 @@ use Rattle.cweb_rules.proofs.Looks.{reach_ends, whole, comment-units}
 pub and_same : (a' a b' b : Bool) → a' ≡ a → (a ≡ true → b' ≡ b) → (a' && b') ≡ (a && b)
 and_same a' true b' b e f = ap (λ v. v && b') e ∙ f refl
 and_same a' false b' b e f = ap (λ v. v && b') e
-
--- COMMENTS
 
 pub comment_at_line : (t more : List ℕ) → AtLineEnd more → 2 ≤ length t
     → opens_comment t ≡ false → comment_match (t ++ more) ≡ comment_match t

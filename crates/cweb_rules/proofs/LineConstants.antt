@@ -1,11 +1,9 @@
--- What constants, letters and control texts are in a line doesn't depend on what comes after it.
+-- Constants, transliterations and control texts don't depend on the bytes after their line.
 use Rattle.cweb_rules.proofs.Common.{◌≡◌, ◌≤◌, ℕ, ◌+◌, true, false, List, [], ◌∷◌, ◌++◌, Option, Some, None, length, take, drop, refl, ap, ◌∙◌, subst, arith, if◌then◌else◌, codes, prefix_len, take-append-le, drop-append-le, length-take-le, prefix_len-le-length, begins, is_gap, is_octal, is_hex, is_replacing, character, escapes, escaped, octal, after_backslash, is_plain_character, character_at, faulty_size, constant_of, constant, hex_at, letter_with, letter_after, letter, Transliteration, Character, Cut, reach_of_control_text, look_in_control, AtLineEnd, and-false}
 use Rattle.cweb_rules.proofs.Seams.{begins_line, drop_line, run_line}
 use Rattle.cweb_rules.proofs.Reaches.{reach-line}
 use Rattle.cweb_rules.proofs.Looks.{whole, control-local, control-units}
 use Rattle.cweb_rules.proofs.Sizes.{begins-size}
-
--- CODES
 
 control-stops : (more : List ℕ) → AtLineEnd more
     → reach_of_control_text more ≡ record { units = []; close = 0; how = Cut }

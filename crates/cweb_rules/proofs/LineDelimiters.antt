@@ -1,4 +1,4 @@
--- What the rules of raw literals and included names name in a line doesn't depend on what comes after it.
+-- Raw literals and included names that end in their line don't depend on the bytes after it.
 use Rattle.cweb_rules.proofs.Common.{◌≡◌, ◌≤◌, ℕ, suc, ◌+◌, true, false, cond, ◌&&◌, List, [], ◌∷◌, ◌++◌, length, take, drop, refl, ap, ◌∙◌, arith, codes, list_all, prefix_len, take-append-le, drop-append-le, length-drop, length-take-le, prefix_len-le-length, begins, is_blank, is_delimiter, Cut, reach_of_included_name, reach_of_raw_literal, look_in_include, look_in_raw, RuleMatch, quoted_match, raw_prefix, has_delimiter, starts_raw, delimiter, raw_closer, raw_match, starts_include, include_match, AtLineEnd, opens_raw, or-true, and_parts}
 use Rattle.cweb_rules.proofs.Seams.{in_line, begins_line, drop_line, run_line}
 use Rattle.cweb_rules.proofs.Reaches.{reach-line}
@@ -6,8 +6,6 @@ use Rattle.cweb_rules.proofs.Looks.{whole, include-local, include-units, raw-loc
 use Rattle.cweb_rules.proofs.Sizes.{begins-size, reach-size, raw-within, include-within}
 use Rattle.cweb_rules.proofs.LineComments.{and_same}
 use Rattle.cweb_rules.proofs.LineLiterals.{quoted-line, quoted_ends}
-
--- RAW LITERALS
 
 pub raw_prefix-line : (t more : List ℕ) → AtLineEnd more → raw_prefix (t ++ more) ≡ raw_prefix t
 raw_prefix-line t more e = grind (arith, begins_line (codes "UR\"") t more refl e)
@@ -29,7 +27,6 @@ pub delimiter-line : (t more : List ℕ) → AtLineEnd more → delimiter (t ++ 
 delimiter-line t more e = ap (λ n. take n (t ++ more)) (run_line is_delimiter t more refl e)
     ∙ take-append-le (prefix_len is_delimiter t) t more (prefix_len-le-length is_delimiter t)
 
--- no line end stands in a delimiter
 delimits : (b : ℕ) → is_delimiter b ≡ true → in_line b ≡ true
 delimits b h = grind (arith, or-true (is_blank b))
 
@@ -74,8 +71,6 @@ raw_at_line t more e starts ends =
     ∙ ap (λ d. raw_from m d (t ++ more)) (ap delimiter (drop-append-le m t more two) ∙ delimiter-line (drop m t) more e)
     ∙ quoted_ends look n t more (omega (arith, some, two, length-drop m t)) (raw-within sign)
     (raw-local sign more clean e) (raw-local sign [] clean tt) (whole look (raw-units sign) (drop n t)) ends
-
--- INCLUDED NAMES
 
 include-stops : (more : List ℕ) → AtLineEnd more
     → reach_of_included_name more ≡ record { units = []; close = 0; how = Cut }

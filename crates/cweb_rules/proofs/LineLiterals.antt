@@ -1,12 +1,10 @@
--- What the rules of literals name in a line doesn't depend on what comes after it.
+-- A literal that ends in its line doesn't depend on the bytes after it.
 use Rattle.cweb_rules.proofs.Common.{◌≡◌, ◌≤◌, ℕ, ◌+◌, Bool, true, false, ◌||◌, ◌==◌, List, [], ◌∷◌, ◌++◌, length, take, drop, refl, ap, ◌∙◌, arith, if◌then◌else◌, codes, take-append-le, drop-append-le, length-drop, begins, Look, Reach, reach, body, reach_size, Cut, Open, reach_of_literal, look_in_literal, Quoted, RuleMatch, rule_match, has_quote_at, literal_prefix, starts_literal, quoted_match, quote_of, literal_match, AtLineEnd, is_unclosed, opens_literal, and_parts}
 use Rattle.cweb_rules.proofs.Seams.{stops, begins_line, drop_line}
 use Rattle.cweb_rules.proofs.Reaches.{IsLocal, IsWhole}
 use Rattle.cweb_rules.proofs.Looks.{reach_ends, ended_whole, literal-local, literal-some}
 use Rattle.cweb_rules.proofs.Sizes.{IsWithin, begins-size, reach-size, literal-within}
 use Rattle.cweb_rules.proofs.LineComments.{and_same}
-
--- LITERALS
 
 pub quoted-line : (n : ℕ) (r : Reach) (t more : List ℕ) → n ≤ length t
     → reach_size r ≤ length (drop n t) → quoted_match n r (t ++ more) ≡ quoted_match n r t
@@ -19,7 +17,6 @@ quoted-line n r t more fits within =
     ∙ take-append-le r.close (drop m t) more (omega (arith, fits, within, d, length-drop m t)) in
     λ i. rule_match (Quoted (first i ∷ r.units ++ last i ∷ []) r.how) (n + reach_size r)
 
--- a literal that ends in the line
 pub quoted_ends : (look : List ℕ → Look) (n : ℕ) (t more : List ℕ) → n ≤ length t → IsWithin look → IsLocal look more
     → IsLocal look [] → IsWhole look 0 (drop n t) → is_unclosed (reach look Open (drop n t)).how ≡ false
     → quoted_match n (reach look Cut (drop n (t ++ more))) (t ++ more) ≡ quoted_match n (reach look Cut (drop n t)) t

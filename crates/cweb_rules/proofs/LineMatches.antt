@@ -1,4 +1,4 @@
--- What the rules name in a line doesn't depend on what comes after it.
+-- A lexeme that ends in its line doesn't depend on the bytes after it.
 use Rattle.cweb_rules.proofs.Common.{arith, ◌≡◌, ◌≤◌, ℕ, Bool, true, false, ◌&&◌, ◌||◌, List, ◌∷◌, ◌++◌, length, refl, ap, ◌∙◌, if◌then◌else◌, codes, prefix_len, Place, begins, is_blank, is_line_end, is_digit, is_word_byte, at_line_end, starts_section, Effect, in_limbo, in_tex, in_macro, in_c, Kind, Blanks, LineEnd, Comment, Identifier, Numeral, Punctuator, RuleMatch, rule_match, section_match, tex_match, starts_raw, starts_literal, starts_include, include_match, c_match, macro_match, head_match_of, head_match, AtLineEnd, opens_comment, opens_literal, opens_raw, opens_code, tex_opens, c_opens, macro_opens, opens_in, match_in, Context, Limbo, TeX, Definition, Macro, CText, listed, longest, number_len, continues_number, starts_number, or_parts}
 use Rattle.cweb_rules.proofs.MatchesPay.{c_front-fair}
 use Rattle.cweb_rules.proofs.LineComments.{comment_at_line, line_comment_at_line}
@@ -9,7 +9,6 @@ use Rattle.cweb_rules.proofs.Looks.{at_fits}
 use Rattle.cweb_rules.proofs.Seams.{in_line, stops, begins_line, drop_line, run_line, number_stop, starts_number_stop, longest_stop, at_line_end_line, starts_section_line}
 use Rattle.cweb_rules.proofs.Sizes.{begins-size}
 
--- the first rule that fits, where its item ends in the line
 step : (v' v : Bool) (x' x y' y : RuleMatch) (p q : Bool) → v' ≡ v → (v ≡ true → p ≡ false → x' ≡ x)
     → (v ≡ false → q ≡ false → y' ≡ y) → (if v then p else q) ≡ false → (if v' then x' else y') ≡ (if v then x else y)
 step v' true x' x y' y p q e f g h = ap (λ w. if w then x' else y') e ∙ f refl h
@@ -91,7 +90,6 @@ head_front_line begun b t more e h =
       head_as_line,
     )
 
--- in every context, an item that ends in its line
 pub front_line : (c : Context) (includes : Bool) (b : ℕ) (t more : List ℕ) → AtLineEnd more
     → opens_in c (b ∷ t) ≡ false → match_in c includes (b ∷ t ++ more) ≡ match_in c includes (b ∷ t)
 front_line Limbo includes b t more e h = text_front_line in_limbo b t more e h

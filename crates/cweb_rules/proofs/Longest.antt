@@ -1,4 +1,4 @@
--- In a table whose longer entries stand first, the first entry that fits is the longest.
+-- If longer entries come first, the first entry that matches is the longest.
 use Rattle.cweb_rules.proofs.Common.{◌≡◌, ℕ, ◌≤◌, true, List, [], ◌∷◌, ◌==◌, cond, length, slice_index_or, refl, sym, ◌∙◌, subst, arith, nat_tests, longest, first_len, descends}
 
 pub longest_pos : (ps : List (List ℕ)) (t : List ℕ) → 1 ≤ longest ps t
@@ -10,13 +10,12 @@ pub longest-le : (ps : List (List ℕ)) (t : List ℕ) (m : ℕ) → descends m 
 longest-le [] t m d = let h : 1 ≤ m = grind (arith, nat_tests) in (h, h, refl)
 longest-le (p ∷ ps) t m d = grind (arith, longest-le ps t (length p), longest_pos ps t)
 
--- the entries that begin with a byte
+-- The entries that begin with a byte, which are the only ones that can match.
 abbrev pub starting : ℕ → List (List ℕ) → List (List ℕ)
 starting b [] = []
 starting b ([] ∷ ps) = starting b ps
 starting b ((x ∷ p) ∷ ps) = cond (x == b) ((x ∷ p) ∷ starting b ps) (starting b ps)
 
--- no other entry fits a text that begins with it
 longest-starting : (b : ℕ) (ps : List (List ℕ)) (t : List ℕ) → longest (starting b ps) (b ∷ t) ≡ longest ps (b ∷ t)
 longest-starting b [] t = refl
 longest-starting b ([] ∷ ps) t = omega (arith, longest-starting b ps t)

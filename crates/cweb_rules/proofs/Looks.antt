@@ -1,10 +1,8 @@
--- What the looks of items see in a line, and that their units stand in it.
+-- The next unit of an item in a line: it doesn't depend on the bytes after the line, and is within the line.
 use Rattle.cweb_rules.proofs.Common.{◌≡◌, ◌≤◌, ◌<◌, ℕ, zero, suc, ◌-◌, Bool, true, false, ◌||◌, ◌==◌, List, [], ◌∷◌, ◌++◌, length, refl, ap, sym, ◌∙◌, subst, arith, if◌then◌else◌, codes, list_all, eqb-true, append-nil, begins, first_is, is_line_end, starts_section, Look, Goes, Ends, reach, reach_in, End, Closed, Cut, Open, look_in_control, look_in_name, look_in_comment, look_in_literal, look_in_include, look_in_raw, AtLineEnd, is_unclosed, and_parts}
 use Rattle.cweb_rules.proofs.Seams.{in_line, begins_stop, begins_line, starts_section_line}
 use Rattle.cweb_rules.proofs.Sizes.{begins-size}
 use Rattle.cweb_rules.proofs.Reaches.{IsLocal, IsEnd, IsWhole, ended, at_front, WholeAt, reach-ended}
-
--- THE LOOKS: what they see in a line, and that their units stand in it
 
 abbrev pub IsWithin : Look → ℕ → Type 0
 IsWithin (Goes n) len = (0 < n) × (n ≤ len)
@@ -34,7 +32,6 @@ within_if false x y n f g = g refl
 goes : (n len : ℕ) → 0 < n → n ≤ len → IsWithin (Goes n) len
 goes n len h k = (h, k)
 
--- control texts
 pub control-local : (more : List ℕ) → AtLineEnd more → IsLocal look_in_control more
 control-local more e b t = grind arith
 
@@ -45,7 +42,7 @@ control-units b t =
     (λ k. goes 2 n (omega arith) (begins-size (codes "@@") (b ∷ t) k)) (λ k. within_if
     (begins (codes "@") (b ∷ t) || is_line_end b) _ _ n (λ l. tt) (λ l. goes 1 n (omega arith) (omega arith))))
 
--- `@` that begins no section has a byte after it
+-- An `@` that begins no section has a byte after it.
 pub at_fits : (b : ℕ) (t : List ℕ) → starts_section (b ∷ t) ≡ false
     → begins (codes "@") (b ∷ t) ≡ true → 2 ≤ length (b ∷ t)
 at_fits b [] s h =
@@ -53,7 +50,6 @@ at_fits b [] s h =
     cc
 at_fits b (c ∷ t) s h = omega arith
 
--- names
 pub name-local : (more : List ℕ) → AtLineEnd more → IsLocal look_in_name more
 name-local more e b t = grind (arith, begins_line (codes "@(") (b ∷ t) more refl e)
 
@@ -68,7 +64,6 @@ name-units b t =
     within_if (begins (codes "@<") (b ∷ t) || begins (codes "@(") (b ∷ t)) _ _ n (λ k. tt)
     (λ k. within_if (starts_section (b ∷ t)) _ _ n (λ l. tt) (λ l. at-units b t l)))
 
--- comments
 pub comment-local : (closes : List ℕ → Bool) (size : ℕ) (more : List ℕ) → AtLineEnd more
     → ((b : ℕ) (t : List ℕ) → closes (b ∷ t ++ more) ≡ closes (b ∷ t)) → IsLocal (look_in_comment closes size) more
 comment-local closes size more e same b t = grind arith
@@ -83,7 +78,6 @@ doubled-units : (b : ℕ) (t : List ℕ)
     → IsWithin (if begins (codes "@@") (b ∷ t) then Goes 2 else Goes 1) (length (b ∷ t))
 doubled-units b t = grind (arith, begins-size (codes "@@") (b ∷ t))
 
--- included names
 pub include-local : (more : List ℕ) → AtLineEnd more → IsLocal look_in_include more
 include-local more e b t = grind arith
 
@@ -93,7 +87,7 @@ include-units b t =
     within_if (begins (codes ">") (b ∷ t)) _ _ n (λ h. tt)
     (λ h. within_if (is_line_end b) _ _ n (λ k. tt) (λ k. doubled-units b t))
 
--- raw literals: their closing sign can't go over a line end
+-- The closer of a raw literal has no newline.
 pub raw-local : (sign more : List ℕ) → list_all in_line sign ≡ true → AtLineEnd more → IsLocal (look_in_raw sign) more
 raw-local sign more a e b t =
     λ i. if begins_line sign (b ∷ t) more a e i then Ends (length sign) Closed else (if starts_section_line
@@ -105,13 +99,12 @@ raw-units sign b t =
     within_if (begins sign (b ∷ t)) _ _ n (λ h. tt)
     (λ h. within_if (starts_section (b ∷ t)) _ _ n (λ k. tt) (λ k. doubled-units b t))
 
--- literals: any seam that no `@` follows
+-- In a literal this holds at each seam without an `@` after it.
 pub literal-local : (quote : ℕ) (more : List ℕ)
     → first_is (λ b. b == 64) more ≡ false → IsLocal (look_in_literal quote) more
 literal-local quote more stop b t = grind (arith, begins_stop)
 
--- UNITS THAT ARE NOT EMPTY: what ends before a seam has no unit over it
-
+-- If no unit is empty, an item that ended before a seam has no unit over it.
 abbrev pub IsSome : Look → Type 0
 IsSome (Goes n) = 0 < n
 IsSome (Ends n how) = IsEnd how
@@ -144,7 +137,6 @@ literal-some quote b t = some_if (begins (quote ∷ []) (b ∷ t)) _ _ tt
     (some_if (is_line_end b) _ _ tt (some_if (begins (codes "\\@") (b ∷ t)) _ _ (omega arith)
     (some_if (begins (codes "\\") (b ∷ t) || begins (codes "@@") (b ∷ t)) _ _ (omega arith) (omega arith))))
 
--- what ends in a text ends so, however the text ends
 pub ended_same : (look : List ℕ → Look) (e : End) (t : List ℕ) → IsLocal look [] → IsWhole look 0 t
     → is_unclosed (reach look Open t).how ≡ false → reach look e t ≡ reach look Open t
 ended_same look e t local h ended = ap (reach look e) (sym (append-nil t)) ∙ reach-ended look e t [] local h ended

@@ -1,4 +1,4 @@
--- What stands at the front of some texts, computed.
+-- Worked examples of lexemes.
 use Rattle.cweb_rules.proofs.Common.{◌≡◌, true, false, Some, None, [], ◌∷◌, codes, Place, Limbo, TeX, Definition, Macro, CText, Faulty, Closed, Cut, Nested, DoubleAtInLimbo, IgnoredInCText, match_in, Skipped, Section, Code, Letter, Constant, Occurrence, Comment, Quoted, Defined, Numeral, Punctuator, rule_match}
 
 abbrev here : Place

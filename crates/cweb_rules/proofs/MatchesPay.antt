@@ -1,11 +1,9 @@
--- What a rule names stands in the text, and its bytes pay for what it gives.
+-- Each lexeme is within the source, and its bytes pay for what it emits.
 use Rattle.cweb_rules.proofs.Common.{◌≡◌, ◌≤◌, ℕ, Bool, true, false, ◌&&◌, List, [], ◌∷◌, length, take, drop, refl, arith, codes, prefix_len, prefix_len-le-length, Place, begins, starts_section, at_line_end, is_line_end, is_blank, is_digit, is_word_byte, Effect, in_limbo, in_tex, in_macro, in_c, Closed, Cut, reach_of_comment, reach_of_line_comment, look_in_comment, Kind, Blanks, LineEnd, Comment, Identifier, Numeral, Punctuator, rule_match, listed, longest, number_len, continues_number, starts_number, Context, Limbo, TeX, Definition, Macro, CText, starts_literal, starts_raw, starts_include, c_match, macro_match, head_match_of, match_in, Pays, FitsAndPays}
 use Rattle.cweb_rules.proofs.Sizes.{begins-size, reach-size, comment-within}
 use Rattle.cweb_rules.proofs.TokenSizes.{number-size, longest-size}
 use Rattle.cweb_rules.proofs.ItemMatchesPay.{fair_of, choose, section_at-fair, skipped-fair, t, code_at-fair, text_front-fair, commented, literal_at-fair, raw_at-fair, include_at-fair}
 use Rattle.cweb_rules.proofs.Longest.{longest_pos}
-
--- C TEXT
 
 run-fair : (c : Context) (k : Kind) (p : ℕ → Bool) (b : ℕ) (t : List ℕ) → p b ≡ true
     → (1 ≤ length (take (prefix_len p (b ∷ t)) (b ∷ t)) → Pays c k (take (prefix_len p (b ∷ t)) (b ∷ t)))

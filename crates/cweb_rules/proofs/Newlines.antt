@@ -1,4 +1,4 @@
--- The line ends in the bytes that a rule names, as far as the kind of the piece tells them.
+-- The newlines in a lexeme, as far as its kind determines them.
 use Rattle.cweb_rules.proofs.Common.{◌≡◌, ◌≢◌, ℕ, ◌+◌, Bool, true, false, ◌&&◌, List, [], ◌∷◌, ◌++◌, length, take, drop, refl, ap, sym, ◌∙◌, subst, arith, if◌then◌else◌, codes, eqb-true, begins, is_blank, is_line_end, at_line_end, starts_section, in_limbo, in_tex, in_macro, in_c, effect_match, code_match, tex_match, quote_of, literal_prefix, raw_prefix, delimiter, raw_closer, starts_raw, starts_literal, c_match, head_match_of, match_in, look_in_literal, look_in_raw, Kind, Skipped, Blanks, LineEnd, Comment, Identifier, RuleMatch, rule_match, IsLine, AtLineEnd, opens_comment, opens_literal, opens_raw, opens_effect, opens_code, tex_opens, c_opens, Context, Limbo, TeX, Definition, Macro, CText, Effect, Named}
 use Rattle.cweb_rules.proofs.ItemMatchesPay.{text_front-fair}
 use Rattle.cweb_rules.proofs.MatchesPay.{c_front-fair}
@@ -9,8 +9,6 @@ use Rattle.cweb_rules.proofs.LineDelimiters.{starts_raw_line}
 use Rattle.cweb_rules.proofs.Looks.{literal-some}
 use Rattle.cweb_rules.proofs.Seams.{begins_line, starts_section_line}
 use Rattle.cweb_rules.proofs.UnitNewlines.{Tells, Told, in_line-told, quoted-told, raw-some}
-
--- ITEMS THAT GO ON BEHIND THEIR LINE
 
 no : {P : Type 0} → false ≡ true → P
 no h = cc
@@ -55,8 +53,6 @@ c-opened effect takes_sign includes b u more e h =
     let quote = quote_of (drop n t) in
     quoted-told (look_in_literal quote) (literal-some quote) (n + 1) t) (λ v7 h7. no h7) h6) h5) h4) h3) h2) h1) h0) h
 
--- WHAT A RULE NAMES
-
 text-told : (effect : ℕ → Effect) (b : ℕ) (u more : List ℕ) → AtLineEnd more
     → IsLine (b ∷ u) → Told (b ∷ u ++ more) (tex_match effect (b ∷ u ++ more))
 text-told effect b u more e l = (elim (tex_opens effect (b ∷ u))
@@ -99,7 +95,6 @@ in-told Macro includes b u more e l =
     ]
 in-told CText includes b u more e l = c-told in_c false includes b u more e l
 
--- at a line end
 end-told : (c : Context) (includes : Bool) (t : List ℕ) → Told (10 ∷ t) (match_in c includes (10 ∷ t))
 end-told Limbo includes [] = tt
 end-told Limbo includes (d ∷ t) = tt
@@ -107,7 +102,6 @@ end-told TeX includes [] = tt
 end-told TeX includes (d ∷ t) = tt
 end-told _ includes t = refl
 
--- a text is a line, and what follows it
 abbrev pub IsCut : List ℕ → List ℕ × List ℕ → Type 0
 IsCut t c = (t ≡ c.0 ++ c.1) × IsLine c.0 × AtLineEnd c.1
 
@@ -127,6 +121,5 @@ at_cut c includes b t [] [] e l h = let wrong : length (b ∷ t) ≡ 0 = ap leng
 at_cut c includes b t [] (d ∷ more) e l h = grind (arith, end-told c includes more)
 at_cut c includes b t (d ∷ u) more e l h = grind (arith, in-told c includes d u more h l)
 
--- the line ends of what a rule names, in every context and text
 pub told : (c : Context) (includes : Bool) (b : ℕ) (t : List ℕ) → Told (b ∷ t) (match_in c includes (b ∷ t))
 told c includes b t = let r = cut (b ∷ t) in at_cut c includes b t r.0.0 r.0.1 r.1.0 r.1.1 r.1.2

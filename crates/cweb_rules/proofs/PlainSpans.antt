@@ -1,24 +1,19 @@
--- Runs of bytes that are units of an item wherever they stand.
+-- Spans of plain bytes.
 use Rattle.cweb_rules.proofs.Common.{◌≡◌, ◌<◌, ℕ, ◌+◌, Bool, true, false, cond, not, ◌||◌, ◌==◌, List, [], ◌∷◌, Option, Some, None, length, drop, get_or, refl, ap, sym, arith, prefix_len, unwrap_or, ne_eqb, eqb-false, prefix_len_is, IsFirstByte, at_line_end, reach, look_in_control, look_in_name, look_in_comment, look_in_literal, look_in_include, look_in_raw, look_of, reached, is_raw_special, is_special, is_plain, End, Item, Name, LineComment, Literal, IncludedName, RawLiteral, Look, Goes, not-true, or_parts}
 use Rattle.cweb_rules.specs.declared.items.Item.TheVariants.{ControlText, Comment}
 use Rattle.cweb_rules.proofs.Ranges.{later_by, later_by-zero, reach_goes}
 use Rattle.cweb_rules.proofs.TokensStay.{no_section}
 
--- FIRST BYTES
-
 not_passed : (b : Bool) → (b ≡ true → ⊥) → not b ≡ true
 not_passed true h = absurd (h refl)
 not_passed false h = refl
 
--- what stands before the first byte that passes a test
 pub before_first : (test : ℕ → Bool) (xs : List ℕ) (r : Option ℕ) → IsFirstByte test xs r
     → unwrap_or r (length xs) ≡ prefix_len (λ b. not (test b)) xs
 before_first test xs None none = sym (prefix_len_is (λ b. not (test b)) xs (length xs) 0 (omega arith)
     (λ k lt. not_passed (test (get_or xs k 0)) (none k (omega arith) lt)) (λ lt. absurd (omega (arith, lt))))
 before_first test xs (Some at) first = sym (prefix_len_is (λ b. not (test b)) xs at 0 (omega (arith, first.0.high))
     (λ k lt. not_passed (test (get_or xs k 0)) (first.0.before k (omega arith) lt)) (λ lt. ap not first.1))
-
--- UNITS OF ONE BYTE
 
 pub turned : (a b : ℕ) → (b == a) ≡ false → (a == b) ≡ false
 turned a b h = ne_eqb a b (λ e. eqb-false b a h (sym e))
@@ -50,7 +45,6 @@ pub raw_goes : (sign : List ℕ) (b : ℕ) (t : List ℕ) → is_raw_special sig
 raw_goes [] b t h = cc
 raw_goes (first ∷ rest) b t h = grind (arith, turned 64 b, turned first b, no_section b t)
 
--- such a byte is a unit, whatever stands behind it
 pub plain_goes : (item : Item) (b : ℕ) (t : List ℕ) → is_special item b ≡ false → look_of item (b ∷ t) ≡ Goes 1
 plain_goes ControlText b t h = let off = or_parts (b == 64) (b == 10) h in control_goes b t (turned 64 b off.0) off.1
 plain_goes Name b t h = name_goes b t h
@@ -60,7 +54,6 @@ plain_goes (Literal quote) b t h = grind (arith, literal_goes quote b t, turned 
 plain_goes IncludedName b t h = grind (arith, include_goes b t, turned 62 b, turned 64 b)
 plain_goes (RawLiteral sign) b t h = raw_goes sign.now b t h
 
--- nor is it an `@`
 pub no_at_in_literal : (quote b : ℕ) → is_special (Literal quote) b ≡ false → (b == 64) ≡ false
 no_at_in_literal quote b h =
     (three (b == 64) (b == 92) (b == quote) (or_parts (b == 64 || b == 92 || b == quote) (b == 10) h).0).0
@@ -69,7 +62,7 @@ pub no_at_in_raw : (sign : List ℕ) (b : ℕ) → is_raw_special sign b ≡ fal
 no_at_in_raw [] b h = cc
 no_at_in_raw (first ∷ rest) b h = (or_parts (b == 64) (b == first) h).0
 
--- how far an item reaches behind a run of them
+-- The extent of an item after a span of plain bytes.
 pub reach_plain : (item : Item) (e : End) (t : List ℕ) → reached (reach (look_of item) e t)
     ≡ later_by (prefix_len (is_plain item) t) (reached (reach (look_of item) e (drop (prefix_len (is_plain item) t) t)))
 reach_plain item e [] = later_by-zero (reached (reach (look_of item) e []))
@@ -92,7 +85,6 @@ reach_plain item e (b ∷ t) = by (is_plain item b) refl (reach_plain item e t)
               (plain_goes item b t (not-true (is_special item b) on)),
         )
 
--- without a closing sign no byte is plain
 pub no_sign-none : (sign t : List ℕ) → length sign < 1 → 0 ≡ prefix_len (λ b. not (is_raw_special sign b)) t
 no_sign-none [] [] h = refl
 no_sign-none [] (b ∷ t) h = refl

@@ -1,7 +1,6 @@
--- How far an item reaches, unit by unit.
+-- The extent of an item, unit by unit.
 use Rattle.cweb_rules.proofs.Common.{◌≡◌, ◌<◌, ℕ, zero, suc, ◌+◌, ◌-◌, List, [], ◌∷◌, length, take, drop, refl, ap, sym, ◌∙◌, arith, length-append, min, length-take, drop_min, Reach, reach, reach_in, with_unit, body, reached, End, is_closed, Open, Cut, Reached, Look, Goes, Ends}
 
--- the same end, so many bytes later
 abbrev pub later_by : ℕ → Reached → Reached
 later_by n r = record { size = n + r.size; close = r.close; how = r.how }
 
@@ -27,7 +26,6 @@ at_front look e v u t =
 unit-size : (u : List ℕ) (r : Reach) → reached (with_unit u r) ≡ later_by (length u) (reached r)
 unit-size u r = ap (λ n. record { size = n; close = r.close; how = r.how }) (length-append u (body r))
 
--- a unit of n bytes, or of those that there are
 pub reach_goes : (look : List ℕ → Look) (e : End) (n : ℕ) (t : List ℕ) → 0 < length t → 0 < n → look t ≡ Goes n
     → reached (reach look e t) ≡ later_by (min n (length t)) (reached (reach look e (drop (min n (length t)) t)))
 reach_goes look e n [] some moves h = absurd (omega arith)
@@ -58,7 +56,7 @@ closed_in look (suc k) [] = refl
 closed_in look (suc k) (b ∷ t) = closed_in look k t
 closed_in look zero (b ∷ t) = closed_at look b t (look (b ∷ t)) (λ k. closed_in look k t)
 
--- whether an end sign closes an item doesn't depend on how the item ends without one
+-- Whether an item is closed doesn't depend on how it ends without a closer.
 pub closed_same : (look : List ℕ → Look) (t : List ℕ)
     → is_closed (reach look Cut t).how ≡ is_closed (reach look Open t).how
 closed_same look t = closed_in look 0 t

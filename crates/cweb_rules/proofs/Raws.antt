@@ -1,4 +1,4 @@
--- A raw literal ends by itself, and no other token begins one.
+-- A raw literal ends at its closer, and no other token begins one.
 use Rattle.cweb_rules.proofs.Common.{◌≡◌, ℕ, ◌+◌, ◌-◌, ◌<◌, ◌≤◌, suc, zero, Bool, true, false, cond, ◌&&◌, ◌||◌, ◌==◌, not, List, [], ◌∷◌, ◌++◌, length, take, drop, refl, ap, ◌∙◌, arith, length-append, codes, if◌then◌else◌, nat_le, list_all, prefix_len, take-append-le, length-drop, begins, is_delimiter, first_is, starts_section, is_word_byte, is_one_of, Reach, reach_in, with_unit, body, reach_size, Look, Goes, Ends, reach_of_raw_literal, look_in_raw, Closed, Cut, after_word, quoted_match, raw_prefix, has_delimiter, starts_raw, delimiter, raw_closer, raw_match, RuleMatch, rule_match, Quoted, and_parts, and-false, or_parts, drop-append-le}
 use Rattle.cweb_rules.proofs.Sizes.{begins-size}
 use Rattle.cweb_rules.proofs.Joins.{unlike, begins-append}
@@ -12,8 +12,6 @@ quoted_stays n r t more h =
     ap (take r.close) (drop-append-le k t more (omega (arith, h))) ∙ take-append-le r.close (drop k t) more within in
     (λ i. rule_match (Quoted (take-append-le n t more (omega (arith, h)) i ∷ r.units ++ close i ∷ []) r.how)
     (n + reach_size r))
-
--- NONE BEGINS
 
 abbrev pick : Bool → Bool → ℕ
 pick v w = if v then 2 else (if w then 1 else 0)
@@ -31,7 +29,6 @@ raw_none : (t : List ℕ) → begins (codes "u8R\"") t ≡ false
     → is_letter_raw t ≡ false → is_raw 0 t ≡ false → starts_raw t ≡ false
 raw_none t v w h = (λ i. opens_at (pick (v i) (w i)) t) ∙ ap (λ x. x && has_delimiter (drop 2 t)) h
 
--- where a byte is told apart from the letters of the prefixes and from `R`
 pub plain_raw : (p : ℕ → Bool) (v : Bool) (b : ℕ) (t : List ℕ) → p b ≡ v → p 76 ≡ not v
     → p 117 ≡ not v → p 85 ≡ not v → p 82 ≡ not v → starts_raw (b ∷ t) ≡ false
 plain_raw p v b t w hL hu hU hR = grind (arith, unlike p 85 b v w hU, unlike p 82 b v w hR, raw_none (b ∷ t))
@@ -39,7 +36,7 @@ plain_raw p v b t w hL hu hU hR = grind (arith, unlike p 85 b v w hU, unlike p 8
 no_quote : (c : ℕ) → after_word c ≡ false → (34 == c) ≡ false
 no_quote c h = (or_parts (34 == c) ((39 == c) || false) (or_parts (is_word_byte c) (is_one_of (codes "\"'") c) h).1).0
 
--- word bytes and a quote don't begin word bytes that no word byte and no quote follows
+-- A prefix and its quote don't match identifier bytes that neither such a byte nor a quote follows.
 no_mark : (w d more : List ℕ) → list_all is_word_byte w ≡ true → list_all is_word_byte d ≡ true
     → first_is after_word more ≡ false → begins (w ++ 34 ∷ []) (d ++ more) ≡ false
 no_mark [] [] [] a all h = refl
@@ -68,8 +65,6 @@ run_all p (b ∷ t) h =
       | true ↦ λ e. run_all p t (omega (arith, e))
       | false ↦ λ e. absurd (omega (arith, e))
     ] h
-
--- ONE ENDS BY ITSELF
 
 begins_fits : (p t more : List ℕ) → length p ≤ length t → begins p (t ++ more) ≡ begins p t
 begins_fits [] t more h = refl
@@ -125,13 +120,10 @@ closed_stays close two zero (b ∷ c ∷ t) more h =
     ∙ further_byte (look_in_raw close) (length close) (begins close u)
     (starts_section u) (begins (codes "@@") u) b c t more h (λ k g. closed_stays close two k (c ∷ t) more g)
 
--- THE WHOLE RAW LITERAL
-
 prefix_within : (p : ℕ → Bool) (t more : List ℕ) → prefix_len p t < length t → prefix_len p (t ++ more) ≡ prefix_len p t
 prefix_within p [] more h = absurd (omega (arith, h))
 prefix_within p (b ∷ t) more h = grind (arith, p b, prefix_within p t more)
 
--- a delimiter and `(` stay, whatever follows
 record Same (y more : List ℕ) : Type 0 where
   delimited : delimiter (y ++ more) ≡ delimiter y
   has : has_delimiter (y ++ more) ≡ true
@@ -192,7 +184,6 @@ abbrev pub ends_raw : List ℕ → Type 0
 ends_raw t =
     let n = raw_prefix t in ((inside_of n t).how ≡ Closed) × (start_of n t + reach_size (inside_of n t) ≤ length t)
 
--- an item that its closing sign ended has the bytes of that sign
 enough : (n : ℕ) (t : List ℕ) → (inside_of n t).how ≡ Closed → 5 ≤ length t
 enough n t closed = grind (arith, long, start_of n t, two, length-drop (start_of n t) t)
 

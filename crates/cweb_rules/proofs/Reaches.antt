@@ -1,7 +1,7 @@
--- An item that lasts to an end sign is what stands before a seam of it, and what stands after.
+-- A delimited item is its part before a seam, joined with its part after it.
 use Rattle.cweb_rules.proofs.Common.{◌≡◌, ◌≤◌, ◌<◌, ℕ, zero, suc, ◌-◌, false, List, [], ◌∷◌, ◌++◌, length, take, refl, ap, sym, ◌∙◌, arith, take-append-le, append-nil, Look, Goes, Ends, Reach, reach, reach_in, with_unit, End, Open, is_unclosed}
 
--- what is seen before a seam doesn't depend on what comes after it
+-- The next unit before the seam doesn't depend on the bytes after it.
 abbrev pub IsLocal : (List ℕ → Look) → List ℕ → Type 0
 IsLocal look more = (b : ℕ) (t : List ℕ) → look (b ∷ t ++ more) ≡ look (b ∷ t)
 
@@ -9,13 +9,13 @@ abbrev pub IsEnd : End → Type 0
 IsEnd Open = ⊥
 IsEnd _ = Unit {0}
 
--- no unit goes over the seam; `inner` bytes of a unit are still to pass
+-- No unit extends over the seam. The first `inner` bytes belong to the previous unit.
 abbrev pub IsWhole : (List ℕ → Look) → ℕ → List ℕ → Type 0
 IsWhole look inner [] = inner ≡ 0
 IsWhole look (suc inner) (b ∷ t) = IsWhole look inner t
 IsWhole look zero (b ∷ t) = elim (look (b ∷ t)) [ Goes n ↦ (0 < n) × IsWhole look (n - 1) t | Ends n how ↦ IsEnd how ]
 
--- an item's part before the seam, and its part after it where it is still open
+-- The part before the seam, and the part after it if the item is still open.
 abbrev pub join : Reach → Reach → Reach
 join r m = elim r.how [ Open ↦ record { units = r.units ++ m.units; close = m.close; how = m.how } | _ ↦ r ]
 
@@ -53,7 +53,6 @@ seam_in look e more local (suc k) (b ∷ t) h = seam_in look e more local k t h
 seam_in look e more local zero (b ∷ t) h = ap (λ v. at_front look v (b ∷ t ++ more) e (t ++ more)) (local b t)
     ∙ one_unit look e b t more (look (b ∷ t)) h (λ k f. seam_in look e more local k t f)
 
--- the item before the seam, and after it
 pub reach-append : (look : List ℕ → Look) (e : End) (t more : List ℕ) → IsLocal look more
     → IsWhole look 0 t → reach look e (t ++ more) ≡ join (reach look Open t) (reach look e more)
 reach-append look e t more local h = seam_in look e more local 0 t h
@@ -63,12 +62,10 @@ join-ended : (us : List (List ℕ)) (n : ℕ) (how : End) (m : Reach) → is_unc
 join-ended us n Open m h = cc
 join-ended us n _ m h = refl
 
--- an item that ends before the seam
 pub reach-ended : (look : List ℕ → Look) (e : End) (t more : List ℕ) → IsLocal look more → IsWhole look 0 t
     → is_unclosed (reach look Open t).how ≡ false → reach look e (t ++ more) ≡ reach look Open t
 reach-ended look e t more local h ended = grind (arith, reach-append look e t more local h, join-ended)
 
--- an item that a line end ends
 pub reach-line : (look : List ℕ → Look) (e : End) (t more : List ℕ) → IsLocal look more
     → IsLocal look [] → IsWhole look 0 t → reach look e more ≡ record { units = []; close = 0; how = e }
     → reach look e (t ++ more) ≡ reach look e t

@@ -1,7 +1,6 @@
--- What stands at the front stays, where the byte after the seam can't go on with it.
+-- What is next doesn't depend on bytes after a seam that can't continue it.
 use Rattle.cweb_rules.proofs.Common.{arith, ◌≡◌, ◌≤◌, ℕ, ◌+◌, Bool, true, false, cond, ◌&&◌, ◌==◌, not, List, [], ◌∷◌, ◌++◌, length, drop, refl, ap, ◌∙◌, list_all, prefix_len, eqb-true, drop-append-le, begins, first_is, is_line_end, is_digit, at_line_end, starts_section, AtLineEnd, longest, number_len, continues_number, starts_number, and_parts, and-false, or-false, and-true}
 
--- the bytes that stand in a line
 abbrev pub in_line : ℕ → Bool
 in_line b = not (is_line_end b)
 
@@ -9,11 +8,9 @@ pub stops : (p : ℕ → Bool) (more : List ℕ) → p 10 ≡ false → AtLineEn
 stops p [] h e = refl
 stops p (b ∷ more) h e = ap p e ∙ h
 
--- two bytes of which one alone passes a test differ
 pub differs : (p : ℕ → Bool) (x b : ℕ) → p x ≡ true → p b ≡ false → (x == b) ≡ false
 differs p x b h g = grind (arith, p b, eqb-true x b)
 
--- a sign of bytes of a class
 pub begins_stop : (p : ℕ → Bool) (s t more : List ℕ) → list_all p s ≡ true
     → first_is p more ≡ false → begins s (t ++ more) ≡ begins s t
 begins_stop p [] t more a h = refl
@@ -27,13 +24,11 @@ pub begins_drop : (p : ℕ → Bool) (s : List ℕ) (n : ℕ) (t more : List ℕ
     → first_is p more ≡ false → n ≤ length t → begins s (drop n (t ++ more)) ≡ begins s (drop n t)
 begins_drop p s n t more a h fits = ap (begins s) (drop-append-le n t more fits) ∙ begins_stop p s (drop n t) more a h
 
--- a run
 pub run_stop : (p : ℕ → Bool) (t more : List ℕ) → first_is p more ≡ false → prefix_len p (t ++ more) ≡ prefix_len p t
 run_stop p [] [] h = refl
 run_stop p [] (b ∷ more) h = ap (λ v. cond v (1 + prefix_len p more) 0) h
 run_stop p (b ∷ t) more h = ap (λ n. cond (p b) (1 + n) 0) (run_stop p t more h)
 
--- a number
 pub number_stop : (last : ℕ) (t more : List ℕ) → ((last : ℕ) → first_is (continues_number last) more ≡ false)
     → number_len last (t ++ more) ≡ number_len last t
 number_stop last [] [] h = refl
@@ -46,14 +41,12 @@ starts_number_stop b [] [] h = refl
 starts_number_stop b [] (c ∷ more) h = cc (and-false (b == 46), or-false (is_digit b))
 starts_number_stop b (c ∷ t) more h = refl
 
--- a punctuator
 pub longest_stop : (p : ℕ → Bool) (ps : List (List ℕ)) (t more : List ℕ)
     → list_all (list_all p) ps ≡ true → first_is p more ≡ false → longest ps (t ++ more) ≡ longest ps t
 longest_stop p [] t more a h = refl
 longest_stop p (s ∷ ps) t more a h = grind (arith, begins_stop p s t more, longest_stop p ps t more)
 
--- LINE ENDS: the end of the text is like one
-
+-- The end of the source counts as a line end.
 pub at_line_end_line : (t more : List ℕ) → AtLineEnd more → at_line_end (t ++ more) ≡ at_line_end t
 at_line_end_line [] [] e = refl
 at_line_end_line [] (b ∷ more) e = ap is_line_end e

@@ -1,4 +1,4 @@
--- A text whose second byte no listed sign has in its second place begins with none of them.
+-- A source without a second byte of a listed punctuator begins with none of them.
 use Rattle.cweb_rules.proofs.Common.{◌≡◌, ℕ, Bool, true, false, ◌&&◌, ◌==◌, List, [], ◌∷◌, refl, begins, second_is, longest, and-false, and_parts}
 use Rattle.cweb_rules.proofs.Seams.{differs}
 

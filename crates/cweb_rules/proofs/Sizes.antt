@@ -1,4 +1,4 @@
--- No rule of an item with an end sign names more than there is.
+-- Delimited items are within the source.
 use Rattle.cweb_rules.proofs.Common.{◌≡◌, ◌≤◌, ℕ, zero, suc, ◌-◌, Bool, true, false, ◌||◌, ◌==◌, List, [], ◌∷◌, length, take, refl, arith, length-append, if◌then◌else◌, codes, flat_map, length-drop, prefix_len-le-length, begins, starts_section, at_line_end, is_gap, Look, Goes, Ends, Reach, reach, reach_in, with_unit, reach_size, opener_after, End, Closed, unit_bytes, unescaped, look_in_control, look_in_name, opener_len, look_in_comment, look_in_literal, look_in_include, look_in_raw, and_parts}
 
 pub take-at_most : (n : ℕ) (t : List ℕ) → length (take n t) ≤ n
@@ -16,8 +16,6 @@ begins-size [] t h = omega arith
 begins-size (x ∷ p) [] h = cc
 begins-size (x ∷ p) (b ∷ t) h = omega (arith, begins-size p t (and_parts (x == b) (begins p t) h).1)
 
--- UNITS
-
 pub units-text : (us : List (List ℕ)) → length (unescaped us) ≤ length (flat_map (λ u. u) us)
 units-text [] = omega arith
 units-text (u ∷ us) =
@@ -33,13 +31,10 @@ units-text (u ∷ us) =
     unit [] = omega arith
     unit (x ∷ xs) = grind arith
 
--- ITEMS WITH AN END SIGN
-
 abbrev pub end_size : Look → ℕ
 end_size (Goes n) = 0
 end_size (Ends n how) = n
 
--- an end sign stands in the text
 abbrev pub IsWithin : (List ℕ → Look) → Type 0
 IsWithin look = (t : List ℕ) → end_size (look t) ≤ length t
 
@@ -68,7 +63,6 @@ pub reach-size : (look : List ℕ → Look) (how : End) → IsWithin look
     → (t : List ℕ) → reach_size (reach look how t) ≤ length t
 reach-size look how within t = omega (arith, reach_in-size look how within 0 t)
 
--- a choice between two looks
 either : (v : Bool) (x y : Look) (n : ℕ) → (v ≡ true → end_size x ≤ n)
     → end_size y ≤ n → end_size (if v then x else y) ≤ n
 either true x y n f g = f refl
@@ -105,8 +99,6 @@ include-within t = either (begins (codes ">") t) _ _ (length t) (begins-size (co
 pub raw-within : (sign : List ℕ) → IsWithin (look_in_raw sign)
 raw-within sign t = either (begins sign t) _ _ (length t) (begins-size sign t) (goes (starts_section t) _ _
     (length t) (omega arith) (goes (begins (codes "@@") t) _ _ (length t) (omega arith) (omega arith)))
-
--- OPENER SIGNS
 
 sign_size : (u : List ℕ) → (if begins (codes "=") u then 1 else (if begins (codes "+=") u then 2 else 0)) ≤ length u
 sign_size u = grind arith

@@ -1,8 +1,6 @@
--- Where literals and numbers begin, whatever follows that can't go on with them.
+-- Where literals and numbers begin doesn't depend on bytes that can't continue them.
 use Rattle.cweb_rules.proofs.Common.{arith, ◌≡◌, ℕ, Bool, true, false, cond, ◌&&◌, ◌||◌, ◌==◌, not, List, [], ◌∷◌, ◌++◌, refl, ap, sym, ◌∙◌, codes, if◌then◌else◌, eqb-true, begins, first_is, is_one_of, is_digit, is_word_byte, has_quote_at, starts_literal, number_len, starts_number, JoinsAll, after_word, after_number, or_parts, or-false}
 use Rattle.cweb_rules.proofs.Joins.{unlike, seam_joins}
-
--- LITERALS BEGIN
 
 abbrev pub opens : Bool → Bool → Bool → Bool → Bool → Bool
 opens u8 letter q2 q1 q0 = cond (u8 && q2) q2 (cond (letter && q1) q1 q0)
@@ -34,16 +32,13 @@ literal_stays b (c ∷ []) [] h = refl
 literal_stays b (c ∷ []) (e ∷ more) h = grind (arith, no_quote e, is_letter_first, opening (b ∷ c ∷ []))
 literal_stays b (c ∷ e ∷ t) more h = opening (b ∷ c ∷ e ∷ t ++ more) ∙ sym (opening (b ∷ c ∷ e ∷ t))
 
--- where a byte is told apart from the letters of the prefixes, only a quote begins a literal
+-- If a test separates a byte from the letters of the prefixes, only a quote begins a literal.
 pub plain_with : (p : ℕ → Bool) (v : Bool) (b : ℕ) (t : List ℕ) → p b ≡ v → p 76 ≡ not v
     → p 117 ≡ not v → p 85 ≡ not v → starts_literal (b ∷ t) ≡ has_quote_at 0 (b ∷ [])
 plain_with p v b t w hL hu hU = grind (arith, unlike p 76 b v w hL, unlike p 85 b v w hU, opening)
 
--- where no Word begins, only a quote begins a literal
 pub plain_literal : (b : ℕ) (t : List ℕ) → is_word_byte b ≡ false → starts_literal (b ∷ t) ≡ has_quote_at 0 (b ∷ [])
 plain_literal b t w = plain_with is_word_byte false b t w refl refl refl
-
--- NUMBERS BEGIN
 
 pub word_no_number : (b : ℕ) (t more : List ℕ) → (b == 46) ≡ false
     → starts_number (b ∷ t ++ more) ≡ starts_number (b ∷ t)

@@ -1,14 +1,11 @@
--- No rule of constants, letters, numbers and punctuators names more than there is.
+-- Constants, transliterations, numbers and punctuators are within the source.
 use Rattle.cweb_rules.proofs.Common.{◌≡◌, ◌≤◌, ◌<◌, ℕ, ◌+◌, Bool, true, false, ◌&&◌, not, List, [], ◌∷◌, Option, Some, None, length, drop, refl, subst, arith, if◌then◌else◌, nat_lt, codes, prefix_len, position_or_len, decimal, ltb-true, leb-true, length-decimal-le, length-drop, prefix_len-le-length, begins, is_gap, is_replacing, ends_faulty, character, escapes, escaped, octal_value, octal, after_backslash, is_plain_character, character_at, faulty_size, constant_of, constant, hex_at, letter_with, letter_after, letter, Transliteration, Valued, Character, longest, number_len, and_parts}
 use Rattle.cweb_rules.proofs.Sizes.{begins-size}
-
--- CONSTANTS
 
 abbrev IsCharacter : Option Character → Type 0
 IsCharacter None = Unit {0}
 IsCharacter (Some c) = (c.code < 256) × (1 ≤ c.size)
 
--- the codes of the table are below 256
 abbrev are_small : List (ℕ × ℕ) → Bool
 are_small [] = true
 are_small (e ∷ es) = nat_lt e.1 256 && are_small es
@@ -63,8 +60,6 @@ constant_of-size (Some c) t h =
 pub constant-size : (t : List ℕ) → IsValued (constant t) (length t)
 constant-size t = constant_of-size (character_at t) t (character_at-is t)
 
--- LETTERS
-
 abbrev pub IsLetter : Option Transliteration → ℕ → Type 0
 IsLetter None n = Unit {0}
 IsLetter (Some l) n = l.start + l.size ≤ n
@@ -89,8 +84,6 @@ letter-size t =
     let gap = prefix_len is_gap t in
     let e : gap + length (drop gap t) ≡ length t = omega (arith, length-drop gap t, prefix_len-le-length is_gap t) in
     subst (λ n. IsLetter (letter t) n) e (letter_after-size gap (drop gap t))
-
--- NUMBERS AND PUNCTUATORS
 
 pub number-size : (last : ℕ) (t : List ℕ) → number_len last t ≤ length t
 number-size last [] = omega arith

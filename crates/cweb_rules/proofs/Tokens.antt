@@ -1,4 +1,4 @@
--- A text that is one token of C text ends by itself, and what it begins with.
+-- A token of C text ends by itself, and which bytes begin it.
 use Rattle.cweb_rules.proofs.Common.{◌≡◌, ℕ, Bool, true, false, ◌&&◌, ◌==◌, not, List, [], ◌∷◌, ◌++◌, Option, Some, None, length, drop, refl, ap, sym, ◌∙◌, subst, arith, codes, eqb-true, is_one_of, is_digit, is_word_byte, first_is, starts_section, in_c, letter, Transliteration, Effect, EmitAt, End, Closed, JoinsAll, IsToken, joins_last, continues_lexeme, emits_at, is_token, begins_as, c_match, effect_match, found_letter_match, is_closed, has_quote_at, starts_raw, Kind, rule_match, starts_number, and_parts, or_parts, and-true, not-false}
 use Rattle.cweb_rules.specs.declared.effect.Effect.TheVariants as effect
 use Rattle.cweb_rules.specs.Kinds as kind
@@ -16,7 +16,7 @@ seam_of joins b [] [] = refl
 seam_of joins b [] (c ∷ more) = refl
 seam_of joins b (d ∷ t) more = seam_of joins d t more
 
--- what the rules of C text name at the front of a text, outside of an included name's directive
+-- The next lexeme of C text outside `#include` lines.
 abbrev pub Names : Kind → List ℕ → ℕ → Type 0
 Names k t n = c_match in_c false false t ≡ rule_match k n
 
@@ -25,8 +25,6 @@ facts_of d k n e = subst (Facts d) (ap (λ f. rule_of f.kind) e) (chosen d)
 
 pub no_empty : (k : Kind) (P : Type 0) → Names k [] 0 → P
 no_empty k P e = let n : 1 ≡ 0 = ap (λ f. f.size) e in absurd (omega (arith, n))
-
--- `@@`
 
 abbrev is_at : Kind → Bool
 is_at k = elim k [ kind.Code e ↦ emits_at e | _ ↦ false ]
@@ -61,8 +59,6 @@ code_stays : (c : Effect) (d more : List ℕ) → Names (kind.Code c) d (length 
 code_stays EmitAt d more e h = at_stays d more e
 code_stays _ d more e h = cc
 
--- LITERALS
-
 ended : (how : End) → is_closed how ≡ true → how ≡ Closed
 ended Closed h = refl
 ended _ h = cc
@@ -72,8 +68,6 @@ literal_case : (v : Bool) (units : List (List ℕ)) (how : End) (b : ℕ) (d mor
     → is_closed how ≡ true → Names (kind.Quoted units how) (b ∷ d ++ more) (length (b ∷ d))
 literal_case true units how b d more p o e h = grind (arith, ended how h, raw_stays_whole b d more p o)
 literal_case false units how b d more p o e h = grind (arith, ended how h, literal_stays_whole b d more p o.0 o.1)
-
--- EACH TOKEN
 
 pub stays : (joins : ℕ → ℕ → Bool) → JoinsAll joins → (k : Kind) (d more : List ℕ) → Names k d (length d)
     → is_token k ≡ true → first_is (continues_lexeme joins k d) more ≡ false → Names k (d ++ more) (length d)
@@ -95,8 +89,6 @@ stays joins all (kind.Quoted units how) (b ∷ d) more e h seam =
     literal_case (starts_raw (b ∷ d)) units how b d more f.0 f.1 e h
 stays joins all (kind.Code c) (b ∷ d) more e h seam = code_stays c (b ∷ d) more e h
 stays joins all _ (b ∷ d) more e h seam = cc
-
--- WHAT IT BEGINS WITH
 
 no_digit : (b : ℕ) (t : List ℕ) → starts_number (b ∷ t) ≡ false → is_digit b ≡ false
 no_digit b [] h = h
@@ -127,8 +119,6 @@ first_of (kind.Quoted units how) (b ∷ d) e h =
 first_of (kind.Code c) (b ∷ d) e h =
     let f = facts_of (b ∷ d) (kind.Code c) (length (b ∷ d)) e in at_byte b (and_parts (64 == b) true f.1).0
 first_of _ (b ∷ d) e h = cc
-
--- THE LAWS
 
 pub tokens_stay : (joins : ℕ → ℕ → Bool) (k : Kind) (d more : List ℕ) → JoinsAll joins
     → IsToken k d → first_is (continues_lexeme joins k d) more ≡ false → Names k (d ++ more) (length d)

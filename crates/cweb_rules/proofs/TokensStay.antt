@@ -1,12 +1,10 @@
--- A Word, a Number and a Punct are read alike, whatever follows that can't go on with them.
+-- Identifiers, numbers and punctuators don't depend on bytes that can't continue them.
 use Rattle.cweb_rules.proofs.Common.{arith, ◌≡◌, ℕ, Bool, true, false, ◌&&◌, ◌==◌, List, [], ◌∷◌, ◌++◌, refl, ap, sym, ◌∙◌, codes, list_all, prefix_len, begins, first_is, is_one_of, is_word_byte, starts_section, in_c, c_match, rule_match, Numeral, Identifier, Punctuator, listed, longest, number_len, JoinsAll, after_word, after_number, or_parts, and-true}
 use Rattle.cweb_rules.proofs.Chosen.{Passed, Facts, ForWord, ForNumber, ForPunct, passed_front}
 use Rattle.cweb_rules.proofs.Raws.{plain_raw, word_raw}
 use Rattle.cweb_rules.proofs.Joins.{unlike, seam_joins, longest_stays}
 use Rattle.cweb_rules.proofs.Seams.{run_stop}
 use Rattle.cweb_rules.proofs.Stays.{literal_stays, plain_literal, word_no_number, punct_no_number, number_stays_number, begins_number, number_first, number_goes}
-
--- THE RULES BEFORE
 
 pub no_section : (b : ℕ) (t : List ℕ) → (b == 64) ≡ false → starts_section (b ∷ t) ≡ false
 no_section b [] h = h
@@ -21,8 +19,6 @@ passes b t more e p = grind (arith, section_stays b (t ++ more) p.code)
 passes_seam : (joins : ℕ → ℕ → Bool) → JoinsAll joins → (b : ℕ) (t more : List ℕ)
     → seam_joins joins b t more ≡ false → Passed (b ∷ t) → Passed (b ∷ t ++ more)
 passes_seam joins all b t more h p = grind (arith, section_stays b (t ++ more) p.code)
-
--- THE THREE KINDS OF TOKENS
 
 not_word : (more : List ℕ) → first_is after_word more ≡ false → first_is is_word_byte more ≡ false
 not_word [] h = refl

@@ -1,11 +1,9 @@
--- The line ends in the bytes of lines and of units, as far as the kind of the piece tells them.
+-- The newlines in lines and units, as far as the kind of the lexeme determines them.
 use Rattle.cweb_rules.proofs.Common.{◌≡◌, ◌≤◌, ◌<◌, ℕ, zero, suc, ◌+◌, ◌-◌, Bool, true, false, List, [], ◌∷◌, ◌++◌, length, take, drop, refl, ap, sym, ◌∙◌, subst, arith, take-append-drop, append_assoc, append-nil, if◌then◌else◌, codes, flat_map, take-add, drop-nil, take-append_seam, ne_eqb, flat_map-append, take-append-le, begins, starts_section, Reach, reach, reach_in, with_unit, body, reach_size, quoted_match, look_in_raw, Kind, Skipped, Occurrence, LineEnd, Comment, Quoted, RuleMatch, IsLine, at_line_ends, End, Cut, Look, Goes, Ends}
 use Rattle.cweb_rules.proofs.InLines.{InLine, AreLines, IsLine-take}
 use Rattle.cweb_rules.proofs.Looks.{IsSome, AllSome}
 
--- Skipped bytes, names, comments and literals may have line ends, those of a literal in its units; a line end is one;
--- nothing
--- else has any.
+-- Only skipped bytes, names, comments, literals and line ends have newlines. Those of a literal are in its units.
 abbrev pub Tells : Kind → List ℕ → Type 0
 Tells Skipped bytes = Unit {0}
 Tells (Occurrence is_file us how opens) bytes = Unit {0}
@@ -16,8 +14,6 @@ Tells k bytes = at_line_ends 1 bytes ≡ 0
 
 abbrev pub Told : List ℕ → RuleMatch → Type 0
 Told t f = Tells f.kind (take f.size t)
-
--- LINES
 
 pub none-ends : (t : List ℕ) → IsLine t → at_line_ends 1 t ≡ 0
 none-ends [] h = refl
@@ -39,13 +35,10 @@ line-told (Comment how) bytes h l = tt
 line-told (Quoted us how) bytes h l = units-none us h ∙ sym (none-ends bytes l)
 line-told _ bytes h l = none-ends bytes l
 
--- what a line's front names is told, whatever follows the line
 pub in_line-told : (f : RuleMatch) (u more : List ℕ) → IsLine u
     → InLine f.kind (take f.size u) → f.size ≤ length u → Told (u ++ more) f
 in_line-told f u more l h fits = subst (Tells f.kind)
     (sym (take-append-le f.size u more fits)) (line-told f.kind (take f.size u) h (IsLine-take f.size u l))
-
--- THE UNITS OF AN ITEM
 
 abbrev at_front : (List ℕ → Look) → End → Look → List ℕ → List ℕ → Reach
 at_front look e v u t =
@@ -72,19 +65,16 @@ begins_in look e some k [] = ([], drop-nil k)
 begins_in look e some (suc k) (b ∷ t) = begins_in look e some k t
 begins_in look e some zero (b ∷ t) = begins_at look e (look (b ∷ t)) b t (some b t) (λ k. begins_in look e some k t)
 
--- an item's units are what its text begins with
 units-front : (look : List ℕ → Look) (e : End) (t : List ℕ) → AllSome look
     → take (length (body (reach look e t))) t ≡ body (reach look e t)
 units-front look e t some = grind (arith, begins_in look e some 0 t, take-append_seam)
 
--- dropping twice
 pub drop-sum : {A : Type 0} (n m : ℕ) (t : List A) → drop (n + m) t ≡ drop m (drop n t)
 drop-sum zero m t = let e : 0 + m ≡ m = omega arith in ap (λ k. drop k t) e
 drop-sum (suc n) m [] = drop-nil (suc n + m) ∙ sym (drop-nil m)
 drop-sum (suc n) m (b ∷ t) =
     let e : suc n + m ≡ suc (n + m) = omega arith in ap (λ k. drop k (b ∷ t)) e ∙ drop-sum n m t
 
--- the units of a literal are its bytes
 pub quoted-bytes : (look : List ℕ → Look) → AllSome look → (n : ℕ) (t : List ℕ) → (let r = reach look Cut (drop n t) in
     flat_map (λ u. u) (take n t ∷ r.units ++ take r.close (drop (n + length (body r)) t) ∷ []))
     ≡ take (n + reach_size (reach look Cut (drop n t))) t

@@ -1,10 +1,9 @@
--- An item's units, one after another.
+-- The units of an item, one after another.
 use Rattle.cweb_rules.proofs.Common.{◌≡◌, ◌≤◌, ◌<◌, ℕ, zero, suc, Bool, true, false, ◌==◌, ◌-◌, List, [], ◌∷◌, length, take, drop, ap, sym, ◌∙◌, arith, drop_min, Reach, reach, reach_in, with_unit, End, Look, Goes, Ends, listed, longest}
 use Rattle.std.proofs.Common.{min}
 use Rattle.cweb_rules.proofs.Ranges.{reach_in-drop}
 use Rattle.cweb_rules.proofs.TokenSizes.{longest-size}
 
--- what is reached, by what stands at the front
 abbrev pub at_front : (List ℕ → Look) → Look → List ℕ → End → List ℕ → Reach
 at_front look v u e t =
     elim v [
@@ -19,7 +18,6 @@ take_min (suc n) (b ∷ t) =
     let e : min (suc n) (suc (length t)) ≡ suc (min n (length t)) = omega arith in
     ap (λ u. b ∷ u) (take_min n t) ∙ sym (ap (λ k. take k (b ∷ t)) e)
 
--- the units of an item that goes on: the first, and those of the rest
 pub units_on : (look : List ℕ → Look) (e : End) (n : ℕ) (t : List ℕ) → 0 < length t → 0 < n → look t ≡ Goes n
     → (reach look e t).units ≡ take (min n (length t)) t ∷ (reach look e (drop (min n (length t)) t)).units
 units_on look e n [] some moves h = absurd (omega arith)
@@ -30,7 +28,7 @@ units_on look e n (b ∷ t) some moves h =
     ∙ ap (λ (r : Reach). take (min n (length (b ∷ t))) (b ∷ t) ∷ r.units) (reach_in-drop look e (n - 1) t
     ∙ ap (λ k. reach look e (drop k (b ∷ t))) (sym same) ∙ ap (reach look e) (sym (drop_min n (b ∷ t))))
 
--- the same, where the code has cut off the first unit
+-- The units if the code has already split off the first one.
 pub units_from : (look : List ℕ → Look) (e : End) (n m : ℕ) (t unit after : List ℕ) → look t ≡ Goes n
     → 0 < n → 0 < length t → m ≡ min n (length t) → unit ≡ take m t → after ≡ drop m t
     → (reach look e t).units ≡ unit ∷ (reach look e after).units
@@ -42,7 +40,6 @@ pub nonempty : (t : List ℕ) (v : Bool) → v ≡ (length t == 0) → v ≡ fal
 nonempty [] v is h = let wrong : false ≡ true = sym h ∙ is in cc
 nonempty (b ∷ t) v is h = omega arith
 
--- a punctuator stands in its text
 pub punctuator_fits : (t : List ℕ) → 1 ≤ length t → longest listed t ≤ length t
 punctuator_fits [] h = absurd (omega arith)
 punctuator_fits (b ∷ t) h = longest-size listed b t

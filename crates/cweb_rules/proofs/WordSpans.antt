@@ -1,14 +1,13 @@
--- Runs of bytes of identifiers, some bytes at a time.
+-- Spans of identifier bytes, several bytes at a time.
 use Rattle.cweb_rules.proofs.Common.{◌≡◌, ◌≤◌, ℕ, zero, suc, ◌+◌, ◌-◌, List, [], ◌∷◌, length, take, drop, ap, arith, prefix_len, length-drop, is_word_byte}
 
--- none of them does
 run_full : (k : ℕ) (u : List ℕ) → k ≤ prefix_len is_word_byte (take k u)
     → prefix_len is_word_byte u ≡ k + prefix_len is_word_byte (drop k u)
 run_full zero u h = omega arith
 run_full (suc k) [] h = absurd (omega (arith, h))
 run_full (suc k) (b ∷ t) h = grind (arith, suc k, run_full k t)
 
--- the run went on up to here
+-- The span goes on at least up to `rest`.
 pub record GoesTo (text rest : List ℕ) : Type 0 where
   pub within : length rest ≤ length text
   pub so_far : prefix_len is_word_byte text ≡ (length text - length rest) + prefix_len is_word_byte rest

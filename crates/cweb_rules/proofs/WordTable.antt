@@ -1,8 +1,8 @@
--- The table of the bytes of words.
+-- The table of identifier bytes agrees with its definition.
 use Rattle.cweb_rules.proofs.Common.{◌≡◌, ◌<◌, ℕ, Bool, true, false, List, ◌++◌, replicate, slice_index_or, refl, is_word_byte}
 use Rattle.cweb_files.proofs.ByteTables.{told_by_table}
 
--- which bytes are of words, as runs of equal answers: a dollar, digits, letters, a low line, letters and high bytes are
+-- The table as spans of equal values.
 abbrev pub word_bytes : List Bool
 word_bytes = replicate 36 false ++ replicate 1 true
     ++ replicate 11 false ++ replicate 10 true ++ replicate 7 false ++ replicate 26 true ++ replicate 4 false

@@ -1,4 +1,4 @@
--- The items that last to an end sign: control texts, names, comments and literals.
+-- Delimited items: control texts, names, comments and literals.
 use Rattle.std.specs.Prelude.{ℕ, ◌+◌, Bool, ◌||◌, ◌==◌, List, [], ◌∷◌, length, drop, codes, if◌then◌else◌, bytes_eq}
 use Rattle.std.specs.List.{flat_map, prefix_len}
 use Rattle.cweb_rules.specs.Bytes.{begins, starts_section, at_line_end, is_gap}
@@ -7,14 +7,15 @@ use Rattle.cweb_rules.specs.declared.look.Look.{Look}
 use Rattle.cweb_rules.specs.declared.look.Look.TheVariants.{Goes, Ends}
 use Rattle.cweb_rules.specs.Cut.{Reach, reach}
 
--- `@@` stands for `@`, any other unit for itself
+-- The unit `@@` emits `@`. Any other unit emits itself.
 abbrev pub unit_bytes : List ℕ → List ℕ
 unit_bytes u = if bytes_eq u (codes "@@") then codes "@" else u
 
+-- The bytes that units emit.
 abbrev pub unescaped : List (List ℕ) → List ℕ
 unescaped units = flat_map unit_bytes units
 
--- A control text lasts to the first `@` that isn't part of `@@`, or to the line end. It is closed by `@>` alone.
+-- A control text ends at the first `@` that isn't doubled, or at the line end. Only `@>` closes it.
 abbrev pub look_in_control : List ℕ → Look
 look_in_control t =
     if begins (codes "@>") t then Ends 2 Closed
@@ -22,10 +23,11 @@ look_in_control t =
     else (if begins (codes "@") t || at_line_end t then Ends 0 Cut
     else Goes 1))
 
+-- The control text after its code.
 abbrev pub reach_of_control_text : List ℕ → Reach
 reach_of_control_text t = reach look_in_control Cut t
 
--- A name lasts to `@>`. `@<`, `@(` and a section start end it before that `@`. Another `@` counts with its next byte.
+-- `@>` closes a name. `@<`, `@(` and a section start end it before their `@`. Another `@` and its next byte are a unit.
 abbrev pub look_in_name : List ℕ → Look
 look_in_name t =
     if begins (codes "@>") t then Ends 2 Closed
@@ -33,10 +35,11 @@ look_in_name t =
     else (if starts_section t then Ends 0 Cut
     else (if begins (codes "@") t then Goes 2 else Goes 1)))
 
+-- The name after `@<` or `@(`.
 abbrev pub reach_of_name : List ℕ → Reach
 reach_of_name t = reach look_in_name Cut t
 
--- any blanks and tabs, then `=` or `+=`, with no further `=` after it: its size, and 0 where there is none
+-- The length of an opener of a part: spaces and tabs, then `=` or `+=` without a further `=`. It is 0 if there is none.
 abbrev pub opener_len : List ℕ → ℕ
 opener_len t =
     let gap = prefix_len is_gap t in
@@ -44,21 +47,22 @@ opener_len t =
     let size : ℕ = (if begins (codes "=") u then 1 else (if begins (codes "+=") u then 2 else 0)) in
     if (size == 0) || begins (codes "=") (drop size u) then 0 else gap + size
 
--- A comment lasts to its end sign. A section start ends it. Another `@` counts with its next byte.
+-- A closer or a section start ends a comment. Another `@` and its next byte are a unit.
 abbrev pub look_in_comment : (List ℕ → Bool) → ℕ → List ℕ → Look
 look_in_comment closes size t =
     if closes t then Ends size Closed
     else (if starts_section t then Ends 0 Cut
     else (if begins (codes "@") t then Goes 2 else Goes 1))
 
--- what follows `/*`, and what follows `//`, which lasts to the line end
+-- The comment after `/*`.
 abbrev pub reach_of_comment : List ℕ → Reach
 reach_of_comment t = reach (look_in_comment (begins (codes "*/")) 2) Cut t
 
+-- The comment after `//`, which the line end closes.
 abbrev pub reach_of_line_comment : List ℕ → Reach
 reach_of_line_comment t = reach (look_in_comment at_line_end 0) Closed t
 
--- A literal lasts to its quote. `\` counts with its next byte unless that is `@`; `@@` counts as one; a line end cuts it.
+-- The quote closes a literal, a line end cuts it. `@@` is a unit, and so are `\` and its next byte unless that is `@`.
 abbrev pub look_in_literal : ℕ → List ℕ → Look
 look_in_literal quote t =
     if begins (quote ∷ []) t then Ends 1 Closed
@@ -66,25 +70,28 @@ look_in_literal quote t =
     else (if begins (codes "\\@") t then Goes 1
     else (if begins (codes "\\") t || begins (codes "@@") t then Goes 2 else Goes 1)))
 
+-- The literal after its opening quote.
 abbrev pub reach_of_literal : ℕ → List ℕ → Reach
 reach_of_literal quote t = reach (look_in_literal quote) Cut t
 
--- what follows the `<` of an included name, which lasts to its `>`
+-- `>` closes an included name, and a line end cuts it. `@@` is a unit.
 abbrev pub look_in_include : List ℕ → Look
 look_in_include t =
     if begins (codes ">") t then Ends 1 Closed
     else (if at_line_end t then Ends 0 Cut
     else (if begins (codes "@@") t then Goes 2 else Goes 1))
 
+-- The included name after its `<`.
 abbrev pub reach_of_included_name : List ℕ → Reach
 reach_of_included_name t = reach look_in_include Cut t
 
--- A raw literal lasts to its closing sign. A section start ends it. `@@` counts as one.
+-- Its closer or a section start ends a raw literal. `@@` is a unit.
 abbrev pub look_in_raw : List ℕ → List ℕ → Look
 look_in_raw sign t =
     if begins sign t then Ends (length sign) Closed
     else (if starts_section t then Ends 0 Cut
     else (if begins (codes "@@") t then Goes 2 else Goes 1))
 
+-- The raw literal after its `(`.
 abbrev pub reach_of_raw_literal : List ℕ → List ℕ → Reach
 reach_of_raw_literal sign t = reach (look_in_raw sign) Cut t

@@ -1,4 +1,4 @@
--- What stands at the front of the remaining text, in each context.
+-- The next lexeme in each context.
 use Rattle.std.specs.Prelude.{ℕ, ◌+◌, Bool, true, false, ◌||◌, ◌&&◌, nat_le, nat_lt, List, [], ◌∷◌, ◌++◌, length, take}
 use Rattle.std.specs.Prelude.{drop, codes, if◌then◌else◌, Option, Some, None}
 use Rattle.std.specs.List.{prefix_len}
@@ -25,34 +25,39 @@ use Rattle.cweb_rules.specs.Kinds.{Blanks, LineEnd, Comment, Quoted, Defined, Id
 use Rattle.cweb_rules.specs.Kinds.{RuleMatch, rule_match}
 use Rattle.cweb_rules.specs.Tables.{listed, longest, number_len, starts_number}
 
+-- A section start: `@*`, or `@` alone.
 abbrev pub section_match : List ℕ → RuleMatch
 section_match t = if begins (codes "@*") t then rule_match (Section true) 2 else rule_match (Section false) 1
 
+-- A control text with its code and closer.
 abbrev pub control_text_match : List ℕ → RuleMatch
 control_text_match t = let r = reach_of_control_text (drop 2 t) in rule_match (ControlText r.how) (2 + reach_size r)
 
+-- A control text that is emitted verbatim.
 abbrev pub verbatim_match : List ℕ → RuleMatch
 verbatim_match t = let r = reach_of_control_text (drop 2 t) in rule_match (Verbatim r.units r.how) (2 + reach_size r)
 
+-- An ASCII constant with its `@'`.
 abbrev pub constant_match : List ℕ → RuleMatch
 constant_match t = let v = constant (drop 2 t) in rule_match (Constant v.value) (2 + v.size)
 
--- no replacement is longer than 31 bytes; where `@l` has not its form it is the pair alone
+-- The transliteration, without its replacement if that is longer than 31 bytes. A faulty `@l` is the code alone.
 abbrev pub found_letter_match : Option Transliteration → List ℕ → RuleMatch
 found_letter_match None t = rule_match (Code (Faulty ImproperHexNumber)) 2
 found_letter_match (Some l) t =
     rule_match (Letter l.byte (if nat_le l.size 31 then Some (take l.size (drop (2 + l.start) t)) else None))
     (2 + (l.start + l.size))
 
+-- A transliteration with its `@l`.
 abbrev pub letter_match : List ℕ → RuleMatch
 letter_match t = found_letter_match (letter (drop 2 t)) t
 
--- only a name that ended has an opener sign
+-- Only a closed name may have the opener of a part after it.
 abbrev pub opener_after : End → List ℕ → ℕ
 opener_after Closed t = opener_len t
 opener_after _ t = 0
 
--- a name; the opener sign belongs to it where it opens a part
+-- A name. Its size includes the opener where that opens a part (`takes_sign`).
 abbrev pub name_match : Bool → List ℕ → RuleMatch
 name_match takes_sign t =
     let r = reach_of_name (drop 2 t) in
@@ -61,6 +66,7 @@ name_match takes_sign t =
     rule_match (Occurrence (begins (codes "@(") t) r.units r.how (nat_lt 0 sign))
     (if takes_sign then size + sign else size)
 
+-- The lexeme of a control code with this effect.
 abbrev pub effect_match : Effect → Bool → List ℕ → RuleMatch
 effect_match Named takes_sign t = name_match takes_sign t
 effect_match effect.Letter takes_sign t = letter_match t
@@ -69,88 +75,100 @@ effect_match effect.Verbatim takes_sign t = verbatim_match t
 effect_match effect.Constant takes_sign t = constant_match t
 effect_match e takes_sign t = rule_match (Code e) 2
 
--- `@` and the next byte
+-- A control code: `@` and the next byte.
 abbrev pub code_match : (ℕ → Effect) → Bool → List ℕ → RuleMatch
 code_match effect takes_sign [] = rule_match Skipped 0
 code_match effect takes_sign (a ∷ []) = rule_match Skipped 1
 code_match effect takes_sign (a ∷ b ∷ t) = effect_match (effect b) takes_sign (a ∷ b ∷ t)
 
--- In limbo and text every byte but `@` is skipped.
+-- In limbo and TeX every byte except `@` is skipped.
 abbrev pub tex_match : (ℕ → Effect) → List ℕ → RuleMatch
 tex_match effect t =
     if starts_section t then section_match t
     else (if begins (codes "@") t then code_match effect true t
     else rule_match Skipped 1)
 
+-- A comment with its `/*`.
 abbrev pub comment_match : List ℕ → RuleMatch
 comment_match t = let r = reach_of_comment (drop 2 t) in rule_match (Comment r.how) (2 + reach_size r)
 
+-- A comment with its `//`.
 abbrev pub line_comment_match : List ℕ → RuleMatch
 line_comment_match t = let r = reach_of_line_comment (drop 2 t) in rule_match (Comment r.how) (2 + reach_size r)
 
+-- A quote is at this offset.
 abbrev pub has_quote_at : ℕ → List ℕ → Bool
 has_quote_at n t = begins (codes "\"") (drop n t) || begins (codes "'") (drop n t)
 
--- the optional `L`, `u`, `U` or `u8` before a quote
+-- The length of `L`, `u`, `U` or `u8` before a quote.
 abbrev pub literal_prefix : List ℕ → ℕ
 literal_prefix t =
     if begins (codes "u8") t && has_quote_at 2 t then 2
     else (if (begins (codes "L") t || begins (codes "u") t || begins (codes "U") t) && has_quote_at 1 t then 1 else 0)
 
+-- A literal begins with a quote, with a prefix or without.
 abbrev pub starts_literal : List ℕ → Bool
 starts_literal t = has_quote_at (literal_prefix t) t
 
--- a literal with its quotes, the first of which ends the first n bytes
+-- A literal with its quotes. Its first unit is the first `n` bytes, up to the opening quote.
 abbrev pub quoted_match : ℕ → Reach → List ℕ → RuleMatch
 quoted_match n r t =
     rule_match (Quoted (take n t ∷ r.units ++ take r.close (drop (n + length (body r)) t) ∷ []) r.how)
     (n + reach_size r)
 
+-- The quote that is next: `"` unless it is `'`.
 abbrev pub quote_of : List ℕ → ℕ
 quote_of t = if begins (codes "'") t then 39 else 34
 
+-- A literal with its prefix.
 abbrev pub literal_match : List ℕ → RuleMatch
 literal_match t =
     let n = literal_prefix t in
     quoted_match (n + 1) (reach_of_literal (quote_of (drop n t)) (drop (n + 1) t)) t
 
--- the optional `L`, `u`, `U` or `u8` before `R"`
+-- The length of `L`, `u`, `U` or `u8` before `R"`.
 abbrev pub raw_prefix : List ℕ → ℕ
 raw_prefix t =
     if begins (codes "u8R\"") t then 2
     else (if begins (codes "LR\"") t || begins (codes "uR\"") t || begins (codes "UR\"") t then 1 else 0)
 
--- what follows the `R"`: the delimiter is the longest run, at most 16 bytes, and `(` follows it
+-- The longest span of delimiter bytes has at most 16 bytes, and `(` follows it.
 abbrev pub has_delimiter : List ℕ → Bool
 has_delimiter t = let n = prefix_len is_delimiter t in nat_le n 16 && begins (codes "(") (drop n t)
 
+-- A raw literal begins with `R"`, a delimiter and `(`, with a prefix or without.
 abbrev pub starts_raw : List ℕ → Bool
 starts_raw t = let n = raw_prefix t in begins (codes "R\"") (drop n t) && has_delimiter (drop (n + 2) t)
 
+-- The delimiter after `R"`.
 abbrev pub delimiter : List ℕ → List ℕ
 delimiter t = take (prefix_len is_delimiter t) t
 
+-- The closer of a raw literal: `)`, the delimiter and `"`.
 abbrev pub raw_closer : List ℕ → List ℕ
 raw_closer t = codes ")" ++ delimiter t ++ codes "\""
 
+-- A raw literal with its prefix.
 abbrev pub raw_match : List ℕ → RuleMatch
 raw_match t =
     let m = raw_prefix t + 2 in
     let n = m + length (delimiter (drop m t)) + 1 in
     quoted_match n (reach_of_raw_literal (raw_closer (drop m t)) (drop n t)) t
 
+-- The item ended by its closer.
 abbrev pub is_closed : End → Bool
 is_closed Closed = true
 is_closed _ = false
 
--- a `<` that has a `>` later on its line
+-- An included name is next: `<` with a `>` later in its line.
 abbrev pub starts_include : List ℕ → Bool
 starts_include t = begins (codes "<") t && is_closed (reach_of_included_name (drop 1 t)).how
 
+-- An included name with its `<` and `>`.
 abbrev pub include_match : List ℕ → RuleMatch
 include_match t = quoted_match 1 (reach_of_included_name (drop 1 t)) t
 
--- C text: the first rule that fits.
+-- C text: the first rule that applies.
 abbrev pub c_match : (ℕ → Effect) → Bool → Bool → List ℕ → RuleMatch
 c_match effect takes_sign includes t =
     if first_is is_blank t then rule_match Blanks (prefix_len is_blank t)
@@ -166,12 +184,12 @@ c_match effect takes_sign includes t =
     else (if first_is is_word_byte t then rule_match Identifier (prefix_len is_word_byte t)
     else rule_match Punctuator (longest listed t)))))))))))
 
--- a macro: a `\` right before a line end gives nothing
+-- A macro is like C text, but `\` before a line end is skipped.
 abbrev pub macro_match : List ℕ → RuleMatch
 macro_match t = if begins (codes "\\") t && at_line_end
     (drop 1 t) then rule_match Skipped 1 else c_match in_macro true false t
 
--- a head: blanks, line ends and comments, and the identifier. With anything else text goes on.
+-- A head (after `@d`) has blanks, line ends and comments before the identifier. Anything else is TeX again.
 abbrev pub head_match_of : Kind → RuleMatch → List ℕ → RuleMatch
 head_match_of Blanks f t = f
 head_match_of LineEnd f t = f
@@ -179,10 +197,11 @@ head_match_of (Comment how) f t = f
 head_match_of Identifier f t = rule_match (Defined (begins (codes "(") (drop f.size t))) f.size
 head_match_of k f t = tex_match in_tex t
 
+-- The next lexeme in a head.
 abbrev pub head_match : List ℕ → RuleMatch
 head_match t = let f = c_match in_macro true false t in head_match_of f.kind f t
 
--- what the rules name at the front of a text, in the context that the pieces before it left
+-- The next lexeme of a nonempty source in a context.
 abbrev pub match_in : Context → Bool → List ℕ → RuleMatch
 match_in Limbo includes t = tex_match in_limbo t
 match_in TeX includes t = tex_match in_tex t

@@ -1,4 +1,4 @@
-// The classes of bytes, and what a text begins with.
+// Classes of bytes, and what a source begins with.
 ghost use Rattle.std.specs.Prelude.{◌≡◌, ◌≤◌, IsTrue, length, take, true};
 ghost use Rattle.std.specs.List.{prefix_len};
 ghost use Rattle.cweb_rules.specs.Bytes as spec;
@@ -7,17 +7,16 @@ ghost use Rattle.cweb_rules.specs.inner.ByteClasses.{in_class};
 /// A class of bytes.
 #[derive(Clone, Copy)]
 pub enum Class {
-    /// Blank, tab, CR, VT and FF.
+    /// Space, tab, CR, VT and FF.
     Blank,
-    /// Blank and tab alone.
+    /// Space and tab alone.
     Gap,
-    /// Octal digits.
     Octal,
-    /// Letters, digits, `_`, `$` and bytes from 128.
+    /// Identifier bytes: letters, digits, `_`, `$` and bytes from 128 on.
     Word,
-    /// Letters, digits and `_`.
+    /// Bytes of a transliteration: letters, digits and `_`.
     Replacing,
-    /// What a raw literal's delimiter is made of.
+    /// Bytes of a raw literal's delimiter.
     Delimiter,
 }
 
@@ -33,7 +32,7 @@ fn is_gap(byte: u8) -> bool
     matches!(byte, b' ' | b'\t')
 }
 
-/// Whether a byte is a digit.
+/// Whether a byte is an ASCII digit.
 pub fn is_digit(byte: u8) -> bool
     ensures { result ≡ spec.is_digit byte }
 {
@@ -46,14 +45,14 @@ fn is_octal(byte: u8) -> bool
     matches!(byte, b'0'..=b'7')
 }
 
-/// Whether a byte is a hexadecimal digit.
+/// Whether a byte is an ASCII hexadecimal digit of either case.
 pub fn is_hex(byte: u8) -> bool
     ensures { result ≡ spec.is_hex byte }
 {
     matches!(byte, b'0'..=b'9' | b'A'..=b'F' | b'a'..=b'f')
 }
 
-// Which bytes are of an identifier: one look a byte.
+// The identifier bytes as a table.
 const WORD_BYTES: [bool; 256] = [
     false, false, false, false, false, false, false, false, false, false, false, false, false,
     false, false, false, false, false, false, false, false, false, false, false, false, false,
@@ -74,7 +73,7 @@ const WORD_BYTES: [bool; 256] = [
     true, true, true, true, true, true, true, true, true, true, true, true, true, true, true,
 ];
 
-/// Whether a byte is one of an identifier.
+/// Whether a byte may be in an identifier.
 pub fn is_word_byte(byte: u8) -> bool
     ensures { result ≡ spec.is_word_byte byte }
 {
@@ -97,7 +96,7 @@ fn is_delimiter(byte: u8) -> bool
 }
 
 impl Class {
-    /// Whether a byte is of the class.
+    /// Whether a byte is in the class.
     pub fn has(self, byte: u8) -> bool
         ensures { result ≡ in_class self byte }
     {
@@ -112,7 +111,7 @@ impl Class {
     }
 }
 
-/// Whether a text's first byte is of a class.
+/// Whether the first byte is in a class.
 pub fn starts(class: Class, text: &[u8]) -> bool
     ensures { result ≡ spec.first_is (in_class class) text.now }
 {
@@ -122,7 +121,6 @@ pub fn starts(class: Class, text: &[u8]) -> bool
     }
 }
 
-// How many of the first four bytes stand before one that is none of an identifier.
 #[inline(always)]
 fn word_len_of_four(text: &[u8]) -> usize
     requires { 4 ≤ length text.now }
@@ -146,7 +144,7 @@ fn word_len_of_four(text: &[u8]) -> usize
     4
 }
 
-// How many bytes at a text's front are of an identifier, looked at by fours.
+// Tests four bytes per step.
 #[inline(always)]
 fn word_len(text: &[u8]) -> usize
     ensures value { result ≡ prefix_len spec.is_word_byte text.now }
@@ -163,7 +161,7 @@ fn word_len(text: &[u8]) -> usize
     text.len() - rest.len() + span_len_bytewise(Class::Word, rest)
 }
 
-/// How many bytes at a text's front are of a class.
+/// The length of the longest prefix whose bytes are in a class.
 #[inline(always)]
 pub fn span_len(class: Class, text: &[u8]) -> usize
     ensures value { result ≡ prefix_len (in_class class) text.now }
@@ -175,7 +173,6 @@ pub fn span_len(class: Class, text: &[u8]) -> usize
     }
 }
 
-// The same, one byte at a time.
 fn span_len_bytewise(class: Class, text: &[u8]) -> usize
     ensures value { result ≡ prefix_len (in_class class) text.now }
     ensures within { result ≤ length text.now }
@@ -188,7 +185,7 @@ fn span_len_bytewise(class: Class, text: &[u8]) -> usize
     text.len()
 }
 
-/// The same, where the first byte is known to be of the class: it isn't looked at again.
+/// `span_len` if the first byte is known to be in the class. That byte isn't tested again.
 #[inline(always)]
 pub fn nonempty_span_len(class: Class, text: &[u8]) -> usize
     requires first { spec.first_is (in_class class) text.now ≡ true }
@@ -200,7 +197,7 @@ pub fn nonempty_span_len(class: Class, text: &[u8]) -> usize
     1 + span_len(class, rest)
 }
 
-/// Whether a text begins with a sign.
+/// Whether a source begins with a given prefix.
 pub fn begins(sign: &[u8], text: &[u8]) -> bool
     ensures value { result ≡ spec.begins sign.now text.now }
     ensures within { IsTrue result → length sign.now ≤ length text.now }
@@ -208,7 +205,7 @@ pub fn begins(sign: &[u8], text: &[u8]) -> bool
     text.starts_with(sign)
 }
 
-/// Whether a text is at a line end; its own end counts as one.
+/// Whether the next byte is a newline. The end of the source counts as one.
 pub fn at_line_end(text: &[u8]) -> bool
     ensures { result ≡ spec.at_line_end text.now }
 {
@@ -218,7 +215,7 @@ pub fn at_line_end(text: &[u8]) -> bool
     }
 }
 
-/// Whether a section starts at a text's front: `@` before a blank, a tab, a line end, the end of the text or `*`.
+/// Whether a section starts here: `@` before a space, a tab, a newline, the end of the source or `*`.
 pub fn starts_section(text: &[u8]) -> bool
     ensures { result ≡ spec.starts_section text.now }
 {

@@ -1,11 +1,11 @@
-// What the control codes do, in each context. The CWEB manual, "Control codes".
+// The effect of each control code in each context (CWEB manual, "Control codes").
 ghost use Rattle.std.specs.Prelude.{◌≡◌};
 ghost use Rattle.cweb_rules.specs.Codes as spec;
 
 use crate::effect::Effect;
 use crate::fault::ScanKind;
 
-/// What a code does before the first section.
+/// The effect of a code before the first section.
 pub fn in_limbo(letter: u8) -> Effect
     ensures { result ≡ spec.in_limbo letter }
 {
@@ -17,7 +17,7 @@ pub fn in_limbo(letter: u8) -> Effect
     }
 }
 
-/// What a code does in the TeX and middle parts of a section.
+/// The effect of a code in the TeX and middle parts of a section.
 pub fn in_tex(letter: u8) -> Effect
     ensures { result ≡ spec.in_tex letter }
 {
@@ -29,7 +29,7 @@ pub fn in_tex(letter: u8) -> Effect
     }
 }
 
-/// What a code does in a macro.
+/// The effect of a code in a macro.
 pub fn in_macro(letter: u8) -> Effect
     ensures { result ≡ spec.in_macro letter }
 {
@@ -49,7 +49,7 @@ pub fn in_macro(letter: u8) -> Effect
     }
 }
 
-/// What a code does in the C part of a section.
+/// The effect of a code in the C part of a section.
 pub fn in_c(letter: u8) -> Effect
     ensures { result ≡ spec.in_c letter }
 {

@@ -1,4 +1,4 @@
-// `@'` and `@l`: a character's code, and a letter with its replacement.
+// The ASCII constants of `@'` and the transliterations of `@l`.
 ghost use Rattle.std.specs.Prelude.{◌≡◌, ◌≤◌, ◌<◌, ◌+◌, length, IsTrue, IfSome, true};
 ghost use Rattle.std.specs.List.{position_or_len};
 ghost use Rattle.cweb_rules.specs.Bytes as bytes;
@@ -6,21 +6,21 @@ ghost use Rattle.cweb_rules.specs.Constants as spec;
 
 use crate::bytes::{Class, begins, is_digit, is_hex, span_len};
 
-/// A character as it is written: its code, and how many bytes it takes.
+/// The code of a character, and the number of bytes that it is written with.
 #[derive(Clone, Copy)]
 pub struct Character {
     pub code: u8,
     pub size: usize,
 }
 
-/// What follows `@'`: the code of its character, if it has one, and how many bytes it takes.
+/// What follows `@'`: the character's code, `None` if the constant is faulty, and the size in bytes.
 #[derive(Clone, Copy)]
 pub struct Valued {
     pub value: Option<u8>,
     pub size: usize,
 }
 
-/// What follows `@l`: the byte, where its replacement begins, and how many bytes that has.
+/// What follows `@l`: the byte, and the start and size of its replacement.
 #[derive(Clone, Copy)]
 pub struct Transliteration {
     pub byte: u8,
@@ -28,7 +28,7 @@ pub struct Transliteration {
     pub size: usize,
 }
 
-// What a letter stands for behind a `\`.
+// The escape sequence of a letter after `\`.
 fn escaped(text: &[u8]) -> Option<Character>
     ensures { result ≡ spec.escaped spec.escapes text.now }
 {
@@ -52,7 +52,6 @@ fn escaped(text: &[u8]) -> Option<Character>
     Some(Character { code, size: 2 })
 }
 
-// The number that one to three octal digits give.
 fn octal_value(digits: &[u8]) -> u32
     requires { length digits.now ≤ 3 }
     ensures { result ≡ spec.octal_value digits.now }
@@ -64,7 +63,7 @@ fn octal_value(digits: &[u8]) -> u32
     value
 }
 
-// What octal digits stand for behind a `\`.
+// The escape sequence of octal digits after `\`.
 fn octal(digits: &[u8]) -> Option<Character>
     requires { length digits.now ≤ 3 }
     ensures { result ≡ spec.octal digits.now }
@@ -79,7 +78,7 @@ fn octal(digits: &[u8]) -> Option<Character>
     })
 }
 
-// What stands behind a `\`: up to three octal digits, or a letter.
+// The escape sequence after `\`: up to three octal digits, or a letter.
 fn after_backslash(text: &[u8]) -> Option<Character>
     ensures { result ≡ spec.after_backslash text.now }
 {
@@ -97,7 +96,6 @@ fn is_plain_character(byte: u8) -> bool
     byte < 128 && !matches!(byte, b'\'' | b'\\' | b'@' | b'\n')
 }
 
-// The character at a text's front.
 fn character_at(text: &[u8]) -> Option<Character>
     ensures { result ≡ spec.character_at text.now }
 {
@@ -122,7 +120,7 @@ fn character_at(text: &[u8]) -> Option<Character>
     None
 }
 
-// Where a faulty constant ends: before the first `'` or line end.
+// The length up to the first `'` or newline, where a faulty constant ends.
 fn faulty_len(text: &[u8]) -> usize
     ensures value { result ≡ position_or_len spec.ends_faulty text.now }
     ensures within { result ≤ length text.now }
@@ -135,7 +133,7 @@ fn faulty_len(text: &[u8]) -> usize
     text.len()
 }
 
-// How many bytes a faulty constant takes.
+// The size of a faulty constant. It includes its `'`, but not a newline.
 fn faulty_size(text: &[u8]) -> usize
     ensures value { result ≡ spec.faulty_size text.now }
     ensures within { result ≤ length text.now }
@@ -145,7 +143,7 @@ fn faulty_size(text: &[u8]) -> usize
     if begins(b"'", rest) { size + 1 } else { size }
 }
 
-/// What follows `@'`: one character and `'`; else the constant is faulty, and ends with the first `'` or before the line end.
+/// What follows `@'`: one character and `'`. Otherwise the constant is faulty and lasts to a `'` or the line end.
 pub fn constant(text: &[u8]) -> Valued
     ensures value { result ≡ spec.constant text.now }
     ensures within { result.size ≤ length text.now }
@@ -167,7 +165,6 @@ pub fn constant(text: &[u8]) -> Valued
     }
 }
 
-// The value of a hexadecimal digit.
 fn hex_value(byte: u8) -> u8
     requires { bytes.is_hex byte ≡ true }
     ensures value { result ≡ spec.hex_value byte }
@@ -180,7 +177,7 @@ fn hex_value(byte: u8) -> u8
     }
 }
 
-// Two hexadecimal digits of value 80 or more.
+// The value of two hexadecimal digits if it is 0x80 or more.
 fn hex_at(text: &[u8]) -> Option<u8>
     ensures value { result ≡ spec.hex_at text.now }
     ensures within { IfSome result (λ byte. 2 ≤ length text.now) }
@@ -199,7 +196,7 @@ fn hex_at(text: &[u8]) -> Option<u8>
     Some(value)
 }
 
-/// What follows `@l`: two hexadecimal digits between blanks and tabs, and a replacement, which may be empty.
+/// What follows `@l`: two hexadecimal digits between spaces and tabs, and a replacement, which may be empty.
 pub fn letter(text: &[u8]) -> Option<Transliteration>
     ensures value { result ≡ spec.letter text.now }
     ensures within { IfSome result (λ found. found.start + found.size ≤ length text.now) }

@@ -1,17 +1,17 @@
-// The contexts of a text.
+// The contexts of the rules.
 
 use cweb_files::Place;
 
-/// What a place of a web's text belongs to, as far as the rules ask.
+/// The part of a web that a position is in, as far as the rules depend on it.
 #[derive(Clone, Copy, Debug, PartialEq, Eq)]
 pub enum Context {
     /// Before the first section.
     Limbo,
     /// The TeX and middle parts of a section.
     TeX,
-    /// After `@d`, which stands at the place, up to the identifier.
+    /// After the `@d` at this place, up to the identifier that it defines.
     Definition(Place),
-    /// The text of a macro.
+    /// The replacement text of a macro.
     Macro,
     /// The C part of a section.
     CText,

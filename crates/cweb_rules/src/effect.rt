@@ -1,34 +1,34 @@
-// What a control code does.
+// The effects of control codes.
 
 use crate::fault::ScanKind;
 
-/// What a control code does in its context.
+/// The effect of a control code in its context.
 #[derive(Clone, Copy)]
 pub enum Effect {
-    /// The pair gives nothing.
+    /// The code emits nothing.
     Nothing,
-    /// A macro definition begins.
+    /// `@d`: begins a macro definition.
     Define,
-    /// A format definition, which is skipped as text.
+    /// `@f` and `@s`: a format definition, skipped like TeX.
     Format,
-    /// An unnamed C part begins.
+    /// `@c` and `@p`: begins an unnamed C part.
     Program,
-    /// A section's name begins.
+    /// `@<` and `@(`: a section name begins.
     Named,
     /// `@l`: a byte and its replacement.
     Letter,
-    /// A text up to `@>` that gives nothing.
+    /// A control text up to `@>`, which emits nothing.
     ControlText,
-    /// A text up to `@>` that is given as it stands.
+    /// `@=`: a control text that is emitted verbatim.
     Verbatim,
     /// `@'`: the code of a character.
     Constant,
-    /// The macros' lines are inserted here.
+    /// `@h`: the macros are inserted here.
     InsertDefs,
-    /// The tokens beside the code are joined.
+    /// `@&`: joins the tokens on both sides.
     Joins,
-    /// `@@`: the punctuator `@`.
+    /// `@@`: emits the punctuator `@`.
     EmitAt,
-    /// The code has no place here.
+    /// The code isn't allowed here.
     Faulty(ScanKind),
 }

@@ -1,14 +1,14 @@
-// How an item ends.
+// How a delimited item ends.
 
-/// How an item that lasts to an end sign ended.
+/// How a delimited item ended.
 #[derive(Clone, Copy, Debug, PartialEq, Eq)]
 pub enum End {
-    /// By its end sign.
+    /// By its closer.
     Closed,
-    /// Before its end sign: by what may not stand in it, or by the end of the text.
+    /// Before its closer: by bytes that may not be in it, or by the end of the source.
     Cut,
-    /// A name, at the opener of another one.
+    /// A name, before the opener of another name.
     Nested,
-    /// Not in this line.
+    /// Not within this line.
     Open,
 }

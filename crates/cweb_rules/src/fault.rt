@@ -1,25 +1,25 @@
-// What can be wrong in a web's text.
+// The faults of a web that a scan reports.
 
 use cweb_files::Place;
 
-/// What is wrong in a web's text.
+/// What is wrong at a place of a web.
 #[derive(Clone, Copy, Debug, PartialEq, Eq)]
 pub enum ScanKind {
-    /// A control code that has no place before the first section.
+    /// A control code that isn't allowed before the first section.
     DoubleAtInLimbo,
-    /// `@l` without two hexadecimal digits of value 80 or more and a blank after them.
+    /// `@l` without two hexadecimal digits of value 0x80 or more and a space or tab after them.
     ImproperHexNumber,
     /// `@l` with a replacement of more than 31 bytes.
     ReplacementTooLong,
     /// `@l` after the first section began.
     LetterOutsideLimbo,
-    /// A section's name that a section start or the end of the text ends.
+    /// A section name that a section start or the end of the source ends.
     NameDidNotEnd,
-    /// A section's name that the opener of another one ends.
+    /// A section name that the opener of another one ends.
     NamesDoNotNest,
-    /// A comment that a section start or the end of the text ends.
+    /// A comment that a section start or the end of the source ends.
     CommentDidNotEnd,
-    /// A literal that its line, a section start or the end of the text ends.
+    /// A literal that its line, a section start or the end of the source ends.
     StringDidNotEnd,
     /// An `@` in a literal that isn't doubled.
     DoubleAtInString,
@@ -29,7 +29,7 @@ pub enum ScanKind {
     FaultyConstant,
     /// `@d`, `@f`, `@s`, `@c` or `@p` in C text.
     IgnoredInCText,
-    /// A name in C text with a sign after it that opens a part elsewhere.
+    /// In C text, a name before `=` or `+=`, which opens a part elsewhere.
     MissingAt,
     /// `@h` in a macro.
     DefsInMacro,
@@ -37,7 +37,7 @@ pub enum ScanKind {
     DefinitionDropped,
 }
 
-/// A fault, and the line on which its item begins; of an `@` in a literal, the line of the `@`.
+/// A fault and the line where its item begins. For `DoubleAtInString` it is the line of the `@`.
 #[derive(Clone, Copy, Debug, PartialEq, Eq)]
 pub struct ScanFault {
     pub kind: ScanKind,

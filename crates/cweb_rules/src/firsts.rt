@@ -1,10 +1,10 @@
-// First bytes of pieces of C text.
+// Classes of the first byte of a lexeme of C text.
 ghost use Rattle.std.specs.Prelude.{◌≡◌, ◌≤◌, length};
 ghost use Rattle.cweb_rules.specs.inner.Firsts.{past_blank, first_byte_class};
 
 use crate::firsts::Plain::{Blank, Digit, Further, Lone, Operator, Quote, Stop, Word};
 
-/// What a first byte tells of its piece: what the piece is, that the rules have to look further, or that they alone may take it.
+/// The class of a lexeme by its first byte. `Further`: more bytes decide. `Stop`: `@`, `#` or `\`, left to the rules.
 #[derive(Clone, Copy)]
 pub enum Plain {
     Blank,
@@ -17,7 +17,7 @@ pub enum Plain {
     Stop,
 }
 
-// The same for each byte: one look a piece.
+// The class of each byte.
 static FIRSTS: [Plain; 256] = [
     Operator, Operator, Operator, Operator, Operator, Operator, Operator, Operator, Operator,
     Blank, Further, Blank, Blank, Blank, Operator, Operator, Operator, Operator, Operator,
@@ -40,7 +40,7 @@ static FIRSTS: [Plain; 256] = [
     Word, Word, Word, Word, Word, Word, Word, Word,
 ];
 
-/// What a first byte tells of its piece in C text, by the first rule that fits.
+/// The class of a lexeme's first byte.
 #[inline(always)]
 pub fn first_byte_class(byte: u8) -> Plain
     ensures { result ≡ first_byte_class byte }
@@ -48,7 +48,7 @@ pub fn first_byte_class(byte: u8) -> Plain
     FIRSTS[byte as usize]
 }
 
-/// What stands behind a blank at the front of a text: most pieces have one blank before them, and it gives nothing.
+/// The rest after a leading space. Most lexemes have one space before them, which emits nothing.
 #[inline(always)]
 pub fn past_blank(text: &[u8]) -> &[u8]
     requires { 1 ≤ length text.now }

@@ -1,4 +1,4 @@
-// The items that last to an end sign: control texts, names, comments, literals and included names.
+// Delimited items: control texts, names, comments, literals and included names.
 ghost use Rattle.std.specs.Prelude.{◌≡◌, ◌≤◌, ◌<◌, ◌+◌, length};
 ghost use Rattle.cweb_rules.specs.Items as spec;
 ghost use Rattle.cweb_rules.specs.inner.Looks.{look_of, reached, MovesOn};
@@ -9,26 +9,26 @@ use crate::bytes::{Class, at_line_end, begins, span_len, starts_section};
 use crate::end::End;
 use crate::look::Look;
 
-/// An item that lasts to an end sign, by what stands behind its opener.
+/// A delimited item, as it is after its opener.
 #[derive(Clone, Copy)]
 pub enum Item<'a> {
-    /// Behind `@^`, `@.`, `@:`, `@t`, `@q` and `@=`.
+    /// After `@^`, `@.`, `@:`, `@t`, `@q` and `@=`.
     ControlText,
-    /// Behind `@<` and `@(`.
+    /// After `@<` and `@(`.
     Name,
-    /// Behind `/*`.
+    /// After `/*`.
     Comment,
-    /// Behind `//`.
+    /// After `//`.
     LineComment,
-    /// Behind the quote.
+    /// After this quote.
     Literal(u8),
-    /// Behind the `<` of an included name.
+    /// After the `<` of an included name.
     IncludedName,
-    /// Behind the `(` of a raw literal that is closed by the sign.
+    /// After the `(` of a raw literal with this closer.
     RawLiteral(&'a [u8]),
 }
 
-/// How far an item reaches: its bytes before the end sign, those of the sign, and how it ends.
+/// The extent of an item: the bytes before its closer, those of the closer, and how it ended.
 #[derive(Clone, Copy)]
 pub struct Reached {
     pub size: usize,
@@ -69,7 +69,7 @@ fn look_in_name(text: &[u8]) -> Look
     Look::Goes(1)
 }
 
-// What is seen in a comment whose end sign, of so many bytes, was sought.
+// `closes` says whether the closer, of `size` bytes, is next.
 fn look_in_comment(closes: bool, size: usize, text: &[u8]) -> Look
     ensures { result ≡ spec.look_in_comment (λ t. closes) size text.now }
 {
@@ -134,7 +134,7 @@ fn look_in_raw(sign: &[u8], text: &[u8]) -> Look
 }
 
 impl Item<'_> {
-    /// What stands at the front of the rest of the item.
+    /// The next unit of the item, or its end.
     pub fn look(self, text: &[u8]) -> Look
         ensures value { result ≡ look_of self.entry text.now }
         ensures some { MovesOn result }
@@ -151,7 +151,7 @@ impl Item<'_> {
     }
 }
 
-// How far an item reaches in a text: runs of units of one byte, and other units, by turns.
+// Skips spans of single-byte units at once, and takes other units one by one.
 fn reach_by_units(item: Item<'_>, text: &[u8]) -> Reached
     ensures value { result ≡ reached (cut.reach (look_of item.entry) how.Open text.now) }
     ensures within { result.size ≤ length text.now }
@@ -181,7 +181,7 @@ fn reach_by_units(item: Item<'_>, text: &[u8]) -> Reached
     }
 }
 
-/// How far an item reaches in a text that may end before it does.
+/// The extent of an item within a source that may end before the item does.
 pub fn reach(item: Item<'_>, text: &[u8]) -> Reached
     ensures value { result ≡ reached (cut.reach (look_of item.entry) how.Open text.now) }
     ensures within { result.size + result.close ≤ length text.now }
@@ -189,7 +189,7 @@ pub fn reach(item: Item<'_>, text: &[u8]) -> Reached
     reach_by_units(item, text)
 }
 
-/// How many bytes the opener sign at a text's front has: blanks and tabs, then `=` or `+=` with no further `=`; else none.
+/// The length of an opener of a part: spaces and tabs, then `=` or `+=` without a further `=`. 0 if there is none.
 pub fn opener_len(text: &[u8]) -> usize
     ensures value { result ≡ spec.opener_len text.now }
     ensures within { result ≤ length text.now }

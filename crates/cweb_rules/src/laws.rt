@@ -1,4 +1,4 @@
-// What holds of the rules in every context.
+// Laws of the rules.
 
 ghost use Rattle.std.specs.Prelude.{◌≡◌, ◌+◌, ℕ, Bool, true, false, List, ◌∷◌, ◌++◌, codes, length};
 ghost use Rattle.std.specs.List.{list_all};
@@ -12,16 +12,14 @@ ghost use Rattle.cweb_rules.specs.declared.context.Context.{Context};
 ghost use Rattle.cweb_rules.specs.declared.context.Context.TheVariants.{CText};
 ghost use Rattle.cweb_rules.specs.declared.end.End.TheVariants.{Closed};
 
-/// Of a text that has a byte, the first piece has a byte in every context, stands in the text, and is no shorter than `Pays` asks
-/// of its kind.
+/// The first lexeme of a nonempty source isn't empty, is within it, and is as long as `Pays` requires of its kind.
 pub fn matches_fit_and_pay()
     ensures { (c : Context) (includes : Bool) (b : ℕ) (t : List ℕ)
         → FitsAndPays c (b ∷ t) (match_in c includes (b ∷ t)) }
 {}
 
-/// A text that is one token of C text is the first piece of each longer C text whose next byte may not go on with it, where no
-/// included name may stand. This holds however it is told which bytes join with which: more may be said to join than the table of
-/// punctuators has.
+/// A source that is one token of C text is the first lexeme of each longer source whose next byte may not continue it,
+/// outside `#include` lines. `joins` may hold for more pairs of bytes than the table of punctuators has.
 pub fn tokens_end_by_themselves()
     ensures { (joins : ℕ → ℕ → Bool) (kind : Kind) (token more : List ℕ)
         → JoinsAll joins → IsToken kind token
@@ -29,14 +27,13 @@ pub fn tokens_end_by_themselves()
         → match_in CText false (token ++ more) ≡ rule_match kind (length token) }
 {}
 
-/// A token's first byte is one that its kind begins with: no digit begins an identifier, no word byte, quote or white byte a
-/// punctuator.
+/// A token's first byte fits its kind: no digit begins an identifier, and no word byte, quote or blank a punctuator.
 pub fn tokens_begin_by_kind()
     ensures { (kind : Kind) (token : List ℕ) → IsToken kind token
         → first_is (begins_as kind) token ≡ true }
 {}
 
-/// A comment with neither `*` nor `@` in it ends by itself, whatever follows it in C text, where no included name may stand.
+/// A comment without `*` and `@` ends at its `*/`, whatever follows it in C text, outside `#include` lines.
 pub fn comments_end_by_themselves()
     ensures { (text more : List ℕ) → list_all is_quiet text ≡ true
         → match_in CText false (codes "/*" ++ (text ++ (codes "*/" ++ more)))

@@ -1,48 +1,37 @@
-//! The lexical rules of a web: classes of bytes, control codes, items, and the lexeme at the start of the rest of a text in each
-//! context. The CWEB manual, "Control codes"; the lexemes of C text are those of the C standard.
+//! The lexical rules of a web: classes of bytes, control codes, delimited items, and the next lexeme in each context.
+//! Sources: the CWEB manual, "Control codes", and the C standard for the lexemes of C text.
 #![tactic(auto)]
 
-// the contexts of a text
+// the contexts of the rules
 mod context;
-
 // classes of bytes
 pub mod bytes;
-
 // control codes, and the effect of each in each context
 pub mod codes;
 mod effect;
-
 // lexemes of C text
 pub mod constants;
 pub mod literals;
 pub mod numbers;
 pub mod punctuators;
-
 // first bytes of C lexemes
 mod firsts;
-
 // the quotes of literals
 mod quote;
-
-// items that end at a closing delimiter, unit by unit
+// items that end at a closer, unit by unit
 mod end;
 pub mod items;
 mod look;
 mod units;
-
 // literals that end in their line
 mod whole_literals;
-
-// bytes before the next special byte
+// spans of bytes before the next special byte
 pub mod plains;
-
-// the rule that applies at the start of a text
+// the rule that applies next
 pub mod rule;
-
-// faults of a text
+// faults of a web
 mod fault;
-
-// what holds for any text
+// what holds for any source
 pub mod laws;
 
 pub use context::Context;

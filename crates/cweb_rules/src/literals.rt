@@ -4,7 +4,6 @@ ghost use Rattle.cweb_rules.specs.Matches as spec;
 
 use crate::bytes::{Class, begins, span_len};
 
-// Whether a quote stands behind the first n bytes.
 fn has_quote_at(n: usize, text: &[u8]) -> bool
     requires { n ≤ length text.now }
     ensures value { result ≡ spec.has_quote_at n text.now }
@@ -14,7 +13,7 @@ fn has_quote_at(n: usize, text: &[u8]) -> bool
     begins(b"\"", rest) || begins(b"'", rest)
 }
 
-/// How many bytes the `L`, `u`, `U` or `u8` before a quote has.
+/// The length of `L`, `u`, `U` or `u8` before a quote.
 pub fn literal_prefix(text: &[u8]) -> usize
     ensures value { result ≡ spec.literal_prefix text.now }
     ensures within { result ≤ length text.now }
@@ -29,7 +28,7 @@ pub fn literal_prefix(text: &[u8]) -> usize
     0
 }
 
-/// Whether a literal begins a text: a quote, with a prefix or without.
+/// Whether a literal is next: a quote, with a prefix or without.
 pub fn starts_literal(text: &[u8]) -> bool
     ensures value { result ≡ spec.starts_literal text.now }
     ensures within { IsTrue result → spec.literal_prefix text.now < length text.now }
@@ -37,14 +36,14 @@ pub fn starts_literal(text: &[u8]) -> bool
     has_quote_at(literal_prefix(text), text)
 }
 
-/// The quote at a text's front.
+/// The quote byte that is next, `"` unless it is `'`.
 pub fn quote_of(text: &[u8]) -> u8
     ensures { result ≡ spec.quote_of text.now }
 {
     if begins(b"'", text) { b'\'' } else { b'"' }
 }
 
-/// How many bytes the `L`, `u`, `U` or `u8` before `R"` has.
+/// The length of `L`, `u`, `U` or `u8` before `R"`.
 pub fn raw_prefix(text: &[u8]) -> usize
     ensures value { result ≡ spec.raw_prefix text.now }
     ensures within { result ≤ length text.now }
@@ -58,7 +57,6 @@ pub fn raw_prefix(text: &[u8]) -> usize
     0
 }
 
-// Whether a delimiter and `(` stand at a text's front.
 fn has_delimiter(text: &[u8]) -> bool
     ensures { result ≡ spec.has_delimiter text.now }
 {
@@ -67,7 +65,7 @@ fn has_delimiter(text: &[u8]) -> bool
     size <= 16 && begins(b"(", rest)
 }
 
-/// Whether a raw literal begins a text: `R"`, a delimiter of at most 16 bytes and `(`, with a prefix or without.
+/// Whether a raw literal is next: `R"`, a delimiter of at most 16 bytes and `(`, with a prefix or without.
 pub fn starts_raw(text: &[u8]) -> bool
     ensures { result ≡ spec.starts_raw text.now }
 {
@@ -80,7 +78,7 @@ pub fn starts_raw(text: &[u8]) -> bool
     has_delimiter(rest)
 }
 
-/// The delimiter of a raw literal, which stands behind its `R"`.
+/// The delimiter of a raw literal. `text` is what follows its `R"`.
 pub fn delimiter(text: &[u8]) -> &[u8]
     ensures { result.now ≡ spec.delimiter text.now }
 {

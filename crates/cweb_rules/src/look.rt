@@ -1,12 +1,12 @@
-// What is seen at the front of the rest of an item.
+// The next unit of a delimited item.
 
 use crate::end::End;
 
-/// What stands at the front of the rest of an item that lasts to an end sign.
+/// What is next in a delimited item.
 #[derive(Clone, Copy)]
 pub enum Look {
-    /// A unit of so many bytes.
+    /// A unit of this many bytes.
     Goes(usize),
-    /// The item's end, with an end sign of so many bytes.
+    /// The end of the item, with a closer of this many bytes.
     Ends(usize, End),
 }

@@ -1,10 +1,10 @@
-// Numbers of C text.
+// Numbers of C text, like the preprocessing numbers of the C standard.
 ghost use Rattle.std.specs.Prelude.{◌≡◌, ◌≤◌, length};
 ghost use Rattle.cweb_rules.specs.Tables as spec;
 
 use crate::bytes::{is_digit, is_word_byte};
 
-/// Whether a number begins a text: a digit, or `.` and a digit.
+/// Whether a number is next: a digit, or `.` and a digit.
 pub fn starts_number(text: &[u8]) -> bool
     ensures { result ≡ spec.starts_number text.now }
 {
@@ -15,7 +15,6 @@ pub fn starts_number(text: &[u8]) -> bool
     }
 }
 
-// Whether a byte goes on with a number whose last byte so far is `last`.
 fn continues_number(last: u8, byte: u8) -> bool
     ensures { result ≡ spec.continues_number last byte }
 {
@@ -24,7 +23,7 @@ fn continues_number(last: u8, byte: u8) -> bool
         || (matches!(byte, b'+' | b'-') && matches!(last, b'e' | b'E' | b'p' | b'P'))
 }
 
-/// How many bytes the number at a text's front has: the longest run.
+/// The length of the longest number that is next.
 pub fn number_len(text: &[u8]) -> usize
     ensures value { result ≡ spec.number_len 0 text.now }
     ensures within { result ≤ length text.now }

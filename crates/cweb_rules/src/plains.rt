@@ -1,4 +1,4 @@
-// The bytes of an item that are no part of a sign, many at a time.
+// Spans of plain bytes: bytes of an item that are units of their own.
 ghost use Rattle.std.specs.Prelude.{◌≡◌, ◌≤◌, ◌==◌, ◌||◌, length, not};
 ghost use Rattle.std.specs.List.{prefix_len};
 ghost use Rattle.cweb_rules.specs.inner.PlainBytes.{is_plain, is_raw_special};
@@ -7,7 +7,7 @@ ghost use Rattle.memchr.specs.Find.{is_byte, is_byte2, is_byte3};
 use crate::items::Item;
 use memchr::{memchr, memchr2, memchr3};
 
-/// How many bytes stand before the first byte of one value.
+/// The number of bytes before the first occurrence of a byte.
 pub fn len_before(byte: u8, text: &[u8]) -> usize
     ensures value { result ≡ prefix_len (λ b. not (is_byte byte b)) text.now }
     ensures within { result ≤ length text.now }
@@ -15,7 +15,6 @@ pub fn len_before(byte: u8, text: &[u8]) -> usize
     memchr(byte, text).unwrap_or(text.len())
 }
 
-// How many bytes stand before the first byte of two values.
 fn len_before2(one: u8, other: u8, text: &[u8]) -> usize
     ensures value { result ≡ prefix_len (λ b. not (is_byte2 one other b)) text.now }
     ensures within { result ≤ length text.now }
@@ -23,7 +22,6 @@ fn len_before2(one: u8, other: u8, text: &[u8]) -> usize
     memchr2(one, other, text).unwrap_or(text.len())
 }
 
-// How many bytes stand before the first byte of three values.
 fn len_before3(one: u8, other: u8, third: u8, text: &[u8]) -> usize
     ensures value { result ≡ prefix_len (λ b. not (is_byte3 one other third b)) text.now }
     ensures within { result ≤ length text.now }
@@ -36,7 +34,7 @@ fn plain_in_literal(quote: u8, text: &[u8]) -> usize
         ≡ prefix_len (λ b. not ((b == 64 || b == 92 || b == quote) || b == 10)) text.now }
     ensures within { result ≤ length text.now }
 {
-    // most literals are short
+    // A plain loop, since most literals are short.
     for (i, byte) in text.iter().enumerate() {
         if matches!(*byte, b'@' | b'\\' | b'\n') || *byte == quote {
             return i;
@@ -56,7 +54,7 @@ fn plain_in_raw(sign: &[u8], text: &[u8]) -> usize
 }
 
 impl Item<'_> {
-    /// How many bytes at a text's front are units of one byte, whatever stands behind them.
+    /// The length of the longest prefix of plain bytes, whatever follows it.
     pub fn plain_len(self, text: &[u8]) -> usize
         ensures value { result ≡ prefix_len (is_plain self.entry) text.now }
         ensures within { result ≤ length text.now }

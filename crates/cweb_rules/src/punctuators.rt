@@ -14,7 +14,7 @@ const LISTED: [&[u8]; 26] = [
     b"&&", b"||", b"*=", b"/=", b"%=", b"+=", b"-=", b"&=", b"^=", b"|=", b"##", b"::", b".*",
 ];
 
-// Those of them that begin with a dot, a less, and so on.
+// The listed punctuators by their first byte.
 const DOTS: [&[u8]; 2] = [b"...", b".*"];
 
 const LESSES: [&[u8]; 3] = [b"<<=", b"<<", b"<="];
@@ -35,7 +35,7 @@ const ANDS: [&[u8]; 2] = [b"&&", b"&="];
 
 const BARS: [&[u8]; 2] = [b"||", b"|="];
 
-// Whether the first bytes of a sign and of a text leave it open that the text begins with the sign.
+// Whether the first bytes are equal: a cheap test before `begins`.
 fn begins_alike(sign: &[u8], text: &[u8]) -> bool
     ensures { result ≡ false → spec.begins sign.now text.now ≡ false }
 {
@@ -45,7 +45,7 @@ fn begins_alike(sign: &[u8], text: &[u8]) -> bool
     }
 }
 
-// The length of the first entry of a table that a text begins with, and else 1.
+// The length of the first entry that is a prefix of the source, else 1.
 fn first_len(table: &[&[u8]], text: &[u8]) -> usize
     ensures { result ≡ first_len (map (λ p. p.now) table.now) text.now }
 {
@@ -57,7 +57,7 @@ fn first_len(table: &[&[u8]], text: &[u8]) -> usize
     1
 }
 
-// Whether a listed punctuator has this byte in its second place. Most punctuators of a program stand before another one.
+// Whether a byte is the second one of a listed punctuator. Most punctuators in a program have another byte after them.
 fn may_be_second(byte: u8) -> bool
     ensures { result ≡ is_one_of seconds byte }
 {
@@ -67,7 +67,6 @@ fn may_be_second(byte: u8) -> bool
     )
 }
 
-// Whether the second byte of a text lets a listed punctuator begin it.
 fn may_be_listed(text: &[u8]) -> bool
     ensures { result ≡ second_is (is_one_of seconds) text.now }
 {
@@ -77,7 +76,7 @@ fn may_be_listed(text: &[u8]) -> bool
     }
 }
 
-/// How many bytes the punctuator at a text's front has: the longest that is listed, and else one.
+/// The length of the longest listed punctuator that is next, else 1.
 #[inline(always)]
 pub fn punctuator_len(text: &[u8]) -> usize
     ensures { result ≡ longest listed text.now }
@@ -88,7 +87,7 @@ pub fn punctuator_len(text: &[u8]) -> usize
     listed_len(text)
 }
 
-// The same, where the second byte may be of a listed one. It stays a call: few punctuators come to it.
+// Slow path. It isn't inlined, because few punctuators come to it.
 #[inline(never)]
 fn listed_len(text: &[u8]) -> usize
     ensures { result ≡ longest listed text.now }

@@ -5,7 +5,7 @@ ghost use Rattle.cweb_rules.specs.inner.Quotes.{quote_byte};
 
 use crate::bytes::begins;
 
-/// The quote of a literal.
+/// The quote of a literal: `'` or `"`.
 #[derive(Clone, Copy)]
 pub enum Quote {
     Single,
@@ -13,7 +13,7 @@ pub enum Quote {
 }
 
 impl Quote {
-    /// The quote at a text's front.
+    /// The quote that is next, `"` unless it is `'`.
     pub fn of(text: &[u8]) -> Quote
         ensures { quote_byte result ≡ rules.quote_of text.now }
     {

@@ -1,4 +1,4 @@
-// Which rule of C text fits first.
+// Which rule applies next.
 ghost use Rattle.std.specs.Prelude.{◌≡◌, ◌<◌, length};
 ghost use Rattle.cweb_rules.specs.Matches as spec;
 ghost use Rattle.cweb_rules.specs.inner.Rules as rules;
@@ -27,7 +27,7 @@ pub enum Rule {
     Punctuator,
 }
 
-/// The rules of limbo and of text.
+/// The rules of limbo and TeX.
 #[derive(Clone, Copy, Debug, PartialEq, Eq)]
 pub enum TexRule {
     Section,
@@ -41,7 +41,6 @@ fn is_closed(how: End) -> bool
     matches!(how, End::Closed)
 }
 
-// Whether an included name begins a text: a `<` that has a `>` later on its line.
 fn starts_include(text: &[u8]) -> bool
     ensures { result ≡ spec.starts_include text.now }
 {
@@ -52,7 +51,7 @@ fn starts_include(text: &[u8]) -> bool
     is_closed(reach(Item::IncludedName, name).how)
 }
 
-// What the first byte of C text tells of the rule that fits: blanks, an identifier, a punctuator, or not yet which.
+// What the first byte of C text says about the rule. `Open`: it does not decide.
 #[derive(Clone, Copy)]
 enum Lead {
     Blank,
@@ -79,8 +78,7 @@ fn lead_of(byte: u8) -> Lead
     }
 }
 
-/// The first rule of C text that fits at a text's front; an included name is a rule where `includes` says so. Most pieces
-/// are told by their first byte.
+/// The first rule of C text that applies, `IncludedName` only if `includes` is set. Mostly the first byte decides.
 #[inline(always)]
 pub fn c_rule(includes: bool, text: &[u8]) -> Rule
     ensures { result ≡ rules.c_rule includes text.now }
@@ -96,7 +94,7 @@ pub fn c_rule(includes: bool, text: &[u8]) -> Rule
     }
 }
 
-// The same where the first byte leaves it open: a `/`, a `.` and an `@` are told by the byte behind them.
+// The second byte decides after `/`, `.` and `@`.
 #[inline(never)]
 fn tried_rule(includes: bool, text: &[u8]) -> Rule
     ensures { result ≡ rules.c_rule includes text.now }
@@ -114,7 +112,6 @@ fn tried_rule(includes: bool, text: &[u8]) -> Rule
     }
 }
 
-// The rule of a text that begins with a `/` and this byte.
 fn rule_after_slash(byte: u8) -> Rule
     ensures { result ≡ rule_after_slash byte }
 {
@@ -125,7 +122,6 @@ fn rule_after_slash(byte: u8) -> Rule
     }
 }
 
-// The rule of a text that begins with a `.` and this byte.
 fn rule_after_dot(byte: u8) -> Rule
     ensures { result ≡ rule_after_dot byte }
 {
@@ -135,7 +131,7 @@ fn rule_after_dot(byte: u8) -> Rule
     Rule::Punctuator
 }
 
-// The first rule that fits, each tried in its turn.
+// Slow path: tries each rule in order.
 fn first_rule(includes: bool, text: &[u8]) -> Rule
     ensures { result ≡ rules.c_rule includes text.now }
 {
@@ -166,7 +162,7 @@ fn first_rule(includes: bool, text: &[u8]) -> Rule
     }
 }
 
-/// The rule of limbo and text that fits at a text's front.
+/// The rule of limbo and TeX that applies.
 pub fn tex_rule(text: &[u8]) -> TexRule
     ensures { result ≡ rules.tex_rule text.now }
 {

@@ -1,4 +1,4 @@
-// Units of the items that last to an end sign: the text that they give.
+// The bytes that units of delimited items emit.
 ghost use Rattle.std.specs.Prelude.{◌≡◌, ◌++◌, OnOk};
 ghost use Rattle.cweb_rules.specs.Cut as cut;
 ghost use Rattle.cweb_rules.specs.Items as items;
@@ -9,7 +9,7 @@ use crate::items::Item;
 use crate::look::Look;
 use std::alloc::AllocError;
 
-/// Adds a unit to a text: `@@` stands for `@`.
+/// Appends a unit. `@@` is appended as `@`.
 pub fn push_unit(text: &mut Vec<u8>, unit: &[u8]) -> Result<(), AllocError>
     ensures { OnOk result (text.new.items ≡ text.old.items ++ items.unit_bytes unit.now) }
 {
@@ -21,7 +21,7 @@ pub fn push_unit(text: &mut Vec<u8>, unit: &[u8]) -> Result<(), AllocError>
     Ok(())
 }
 
-/// Adds the text of an item's units in a line.
+/// Appends the units of an item that are in this line.
 pub fn push_units(text: &mut Vec<u8>, item: Item<'_>, line: &[u8]) -> Result<(), AllocError>
     ensures { OnOk result
         (text.new.items

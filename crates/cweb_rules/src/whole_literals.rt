@@ -1,4 +1,4 @@
-// Literals that end in their line: what stands behind the quote, up to the closing one.
+// Fast path for literals that end in their line.
 ghost use Rattle.std.specs.Prelude.{◌≡◌, ◌≤◌, ◌<◌, ◌+◌, IfSome, length, false};
 ghost use Rattle.cweb_rules.specs.Bytes.{first_is};
 ghost use Rattle.cweb_rules.specs.inner.LineItems.{IsLine};
@@ -7,7 +7,7 @@ ghost use Rattle.cweb_rules.specs.inner.WholeLiterals.{closes, ClosesAt, IsUnit}
 
 use crate::quote::Quote;
 
-// What stands at the front of the rest of a literal: so many bytes of it, its closing quote, or what is left to the rules.
+// The next part of a literal: a unit of this size, its closing quote, or a case for the slow path.
 #[derive(Clone, Copy)]
 pub(crate) enum Ahead {
     Goes(usize),
@@ -15,7 +15,6 @@ pub(crate) enum Ahead {
     Left,
 }
 
-// Whether a byte of a literal may be more than that.
 #[inline(always)]
 fn is_literal_special(byte: u8) -> bool
     ensures { result ≡ spec.is_literal_special byte }
@@ -23,7 +22,7 @@ fn is_literal_special(byte: u8) -> bool
     matches!(byte, b'@' | b'\\' | b'"' | b'\'')
 }
 
-// A sign that isn't the closing quote; an `@` is left wherever it stands.
+// A backslash or a quote that doesn't close. An `@` is always left to the slow path.
 #[inline(always)]
 fn unit_of_special(quote: Quote, text: &[u8]) -> Ahead
     requires { first_is (closes quote) text.now ≡ false }
@@ -57,7 +56,7 @@ fn unit_of(quote: Quote, text: &[u8]) -> Ahead
     unit_of_special(quote, text)
 }
 
-/// How many bytes stand before the closing quote, where it is in the line and no `@` comes before it.
+/// The length before the closing quote, if that is in the line and no `@` before it. `text` follows the opening quote.
 pub fn quoted_len(quote: Quote, text: &[u8]) -> Option<usize>
     requires { IsLine text.now }
     ensures { IfSome result (λ n. ClosesAt quote text.now n) }

@@ -1,4 +1,4 @@
-// The rules on the front of some texts, as tables.
+// Worked examples of the rules, as tables.
 
 mod wanted;
 
@@ -32,7 +32,7 @@ fn first_rule_that_fits(rt: HostRuntime) {
         (false, b".x", Rule::Punctuator),
         (false, b"\x80", Rule::Identifier),
         (false, b"<a>", Rule::Punctuator),
-        // behind an include directive
+        // after `#include`
         (true, b"<a>", Rule::IncludedName),
         (true, b"<a\n>", Rule::Punctuator),
     ];

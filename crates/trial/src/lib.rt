@@ -1,11 +1,10 @@
-//! Devices for tests: texts and bytes in memory, of which one read or one write fails. They don't tell what they hold, so
-//! that a test learns it from the device alone and from no contract.
+//! Devices for tests: a shelf and a sink in memory whose n-th call fails. They aren't observable, so tests learn their
+//! contents by running them and from no contract.
 #![tactic(auto)]
 
-// texts under names
+// a shelf whose n-th read fails
 mod shelf;
-
-// where bytes are written
+// a sink whose n-th write fails
 mod sink;
 
 pub use shelf::{TrialShelf, shelf_of};

@@ -1,10 +1,10 @@
-// Texts under names, of which one read may fail.
+// A shelf in memory whose n-th read fails.
 ghost use Rattle.std.specs.Prelude.{◌≡◌, [], None, false};
 
 use cweb_files::{MemoryReader, MemoryShelf, Shelf, ShelfFault};
 use std::alloc::{AllocError, Global};
 
-/// A shelf with these texts under their names.
+/// A shelf with these names and contents.
 pub fn shelf_of(alloc: Global, texts: &[(&str, &[u8])]) -> Result<MemoryShelf, AllocError> {
     let mut shelf = MemoryShelf::new(alloc);
     for (name, text) in texts {
@@ -13,23 +13,24 @@ pub fn shelf_of(alloc: Global, texts: &[(&str, &[u8])]) -> Result<MemoryShelf, A
     Ok(shelf)
 }
 
-/// Texts in memory, of which at most so many bytes are read at once. One read fails.
+/// A shelf in memory with limited reads, one of which may fail.
 #[derive(Drop)]
 pub struct TrialShelf {
     pub shelf: MemoryShelf,
+    /// The maximum number of bytes of a read.
     pub most: usize,
     pub reads: u64,
-    /// The number of the read that fails, from 1: with 0 none does.
+    /// The number of the read that fails, from 1. With 0 none fails.
     pub fails_at: u64,
     pub failed: u64,
-    /// How many texts were opened.
+    /// The number of opened files.
     pub opened: u32,
-    /// The text of the read that failed: how many were opened before it.
+    /// The file of the failed read: how many were opened before it.
     pub failed_in: u32,
 }
 
 impl TrialShelf {
-    /// A shelf whose reads take all at once, and of which none fails.
+    /// A shelf without a limit and a failure.
     pub fn new(shelf: MemoryShelf) -> Self
         ensures { result.failed ≡ 0 }
     {
@@ -44,7 +45,7 @@ impl TrialShelf {
         }
     }
 
-    /// A shelf that gives at most three bytes a read, and fails once, behind so many good reads.
+    /// A shelf that reads at most three bytes at once, and fails once after `good` reads.
     pub fn failing_after(shelf: MemoryShelf, good: u64) -> Self
         ensures { result.failed ≡ 0 }
     {
@@ -56,7 +57,7 @@ impl TrialShelf {
 }
 
 impl Shelf for TrialShelf {
-    // How many texts were opened before it, and the place in its own.
+    // the number of files opened before it, and the reader
     type R = (u32, MemoryReader);
 
     ghost tells = { λ _. false };

@@ -1,22 +1,23 @@
-// Where bytes are written, of which one write may fail.
+// A sink in memory whose n-th write fails.
 ghost use Rattle.std.specs.Prelude.{◌≡◌, [], false, IfOk};
 
 use cweb_files::{Sink, SinkFault};
 use std::alloc::{AllocError, Global};
 
-/// Bytes in memory, of which at most so many are taken at once. One write fails, and so does one that memory is refused for.
+/// A sink in memory with limited writes, one of which may fail. A write also fails if memory is refused.
 #[derive(Drop)]
 pub struct TrialSink {
     pub bytes: Vec<u8>,
+    /// The maximum number of bytes of a write.
     pub most: usize,
     pub writes: u64,
-    /// The number of the write that fails, from 1: with 0 none does.
+    /// The number of the write that fails, from 1. With 0 none fails.
     pub fails_at: u64,
     pub failed: u64,
 }
 
 impl TrialSink {
-    /// A sink that takes all at once and never fails.
+    /// A sink without a limit and a failure.
     pub fn new(alloc: Global) -> Self
         ensures { result.failed ≡ 0 }
     {
@@ -29,7 +30,7 @@ impl TrialSink {
         }
     }
 
-    /// The same, with room for so many bytes.
+    /// A sink with room for `bytes` bytes.
     pub fn with_room(alloc: Global, bytes: usize) -> Result<Self, AllocError>
         ensures { IfOk result (λ sink. sink.failed ≡ 0) }
     {
@@ -38,7 +39,7 @@ impl TrialSink {
         Ok(sink)
     }
 
-    /// A sink with room for so many bytes that takes at most two bytes a write, and fails once, behind so many good writes.
+    /// A sink with room for `bytes` bytes that writes at most two bytes at once, and fails once after `good` writes.
     pub fn failing_after(alloc: Global, bytes: usize, good: u64) -> Result<Self, AllocError>
         ensures { IfOk result (λ sink. sink.failed ≡ 0) }
     {
@@ -48,7 +49,7 @@ impl TrialSink {
         Ok(sink)
     }
 
-    /// What was written.
+    /// All bytes written so far.
     pub fn bytes(&self) -> &[u8] {
         self.bytes.as_slice()
     }

@@ -1,4 +1,4 @@
--- What files in memory hold.
+-- The model of files in memory.
 use Rattle.std.specs.Prelude.{◌≡◌, ℕ, Bool, true, false, not, List, [], ◌∷◌, ◌++◌, filter, map, Option, Some, None}
 use Rattle.std.specs.Prelude.{option_map, string_bytes, vec_capacity}
 use Rattle.std.specs.Option.{is_some}
@@ -24,16 +24,14 @@ bin_file_room (Some file) = vec_capacity file.bytes
 abbrev pub committed_files : MemoryBins → List BinFile
 committed_files bins = bins.files.items
 
--- the bytes of the draft
 abbrev pub draft_bytes : MemoryBins → List ℕ
 draft_bytes bins = bin_file_bytes bins.draft
 
--- a beginning that memory refuses is refused by want of it
+-- The only reason for a refusal in memory is want of memory.
 abbrev pub memory_refusal : Bool → Option Refused
 memory_refusal true = Some no_memory
 memory_refusal false = None
 
--- why the last beginning was refused
 abbrev pub last_refusal : MemoryBins → Option Refused
 last_refusal bins = memory_refusal bins.refused
 
@@ -50,29 +48,29 @@ bins_failed bins = bins.failed
 abbrev pub has_draft : MemoryBins → Bool
 has_draft bins = is_some bins.draft
 
--- the room of the draft
+-- The capacity of the draft's buffer, in bytes.
 abbrev pub draft_room : MemoryBins → ℕ
 draft_room bins = bin_file_room bins.draft
 
--- the room that a draft gets
+-- The capacity that a new draft gets, in bytes.
 abbrev pub new_draft_room : MemoryBins → ℕ
 new_draft_room bins = bins.room
 
--- how many files the list has room for
+-- The capacity of the list of files.
 abbrev pub list_room : MemoryBins → ℕ
 list_room bins = vec_capacity bins.files
 
--- the list of files, with all its room, and the room that a draft gets are as before
+-- The list of files, its capacity and the capacity of new drafts are unchanged.
 pub record KeepsFiles (old new : MemoryBins) : Type 0 where
   pub files : new.files ≡ old.files
   pub room : new_draft_room new ≡ new_draft_room old
 
--- the name of the draft, with its room, is as before
+-- The draft's name and the capacity of that string are unchanged.
 abbrev pub KeepsDraftName : MemoryBins → MemoryBins → Type 0
 KeepsDraftName old new =
     option_map (λ (file : BinFile). file.name) new.draft ≡ option_map (λ (file : BinFile). file.name) old.draft
 
--- a draft is put last among files, with its room, in the place of one of its name
+-- The list of files after a draft, if any, is committed.
 abbrev pub files_with_draft : List BinFile → Option BinFile → List BinFile
 files_with_draft files None = files
 files_with_draft files (Some draft) =

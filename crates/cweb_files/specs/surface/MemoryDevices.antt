@@ -1,4 +1,4 @@
--- What texts in memory hold.
+-- The models of a shelf and a sink in memory.
 use Rattle.std.specs.Prelude.{◌≡◌, ◌<◌, ℕ, List, [], ◌∷◌, Option, Some, None, if◌then◌else◌, drop, length, slice_get}
 use Rattle.std.specs.Prelude.{string_bytes, vec_capacity}
 use Rattle.std.specs.Str.{bytes_eq}
@@ -7,16 +7,15 @@ use Rattle.cweb_files.specs.declared.memory.MemoryShelf.{MemoryShelf}
 use Rattle.cweb_files.specs.declared.memory.MemoryReader.{MemoryReader}
 use Rattle.cweb_files.specs.declared.memory.MemorySink.{MemorySink}
 
--- the first of two that is there
+-- The first of two options that is `Some`.
 abbrev pub first_of : {A : Type 0} → Option A → Option A → Option A
 first_of (Some x) other = Some x
 first_of None other = other
 
--- the text of an entry under its name
 abbrev pub contents_if_named : Entry → List ℕ → Option (List ℕ)
 contents_if_named entry name = if bytes_eq (string_bytes entry.name) name then Some entry.text.items else None
 
--- the last entry of a name counts
+-- The last entry of a name counts.
 abbrev pub contents_in_entries : List Entry → List ℕ → Option (List ℕ)
 contents_in_entries [] name = None
 contents_in_entries (entry ∷ entries) name = first_of (contents_in_entries entries name) (contents_if_named entry name)
@@ -24,7 +23,7 @@ contents_in_entries (entry ∷ entries) name = first_of (contents_in_entries ent
 abbrev pub shelf_contents : MemoryShelf → List ℕ → Option (List ℕ)
 shelf_contents shelf name = contents_in_entries shelf.entries.items name
 
--- what stands in an entry from a place on
+-- The bytes of an entry from an offset on.
 abbrev pub contents_from : Option Entry → ℕ → List ℕ
 contents_from (Some entry) at = drop at entry.text.items
 contents_from None at = []
@@ -32,20 +31,17 @@ contents_from None at = []
 abbrev pub reader_rest : MemoryShelf → MemoryReader → List ℕ
 reader_rest shelf reader = contents_from (slice_get shelf.entries.items reader.entry) reader.at
 
--- the name of an entry
 abbrev pub entry_name : Option Entry → List ℕ
 entry_name (Some entry) = string_bytes entry.name
 entry_name None = []
 
--- the name of the entry that a reader reads
 abbrev pub reader_name : MemoryShelf → MemoryReader → List ℕ
 reader_name shelf reader = entry_name (slice_get shelf.entries.items reader.entry)
 
--- a reader is open where the entry that it reads is there
 abbrev pub IsReaderOpen : MemoryShelf → MemoryReader → Type 0
 IsReaderOpen shelf reader = reader.entry < length shelf.entries.items
 
--- each open reader stays open, with its name and what it has left
+-- Open readers stay open, with the same name and rest.
 pub record KeepsOpenReaders (old new : MemoryShelf) : Type 0 where
   pub stays : (reader : MemoryReader) → IsReaderOpen old reader → IsReaderOpen new reader
   pub left : (reader : MemoryReader) → IsReaderOpen old reader → reader_rest new reader ≡ reader_rest old reader

@@ -1,4 +1,4 @@
-// A place in memory that keeps files.
+// Files in memory.
 ghost use Rattle.std.specs.Prelude.{◌≡◌, ◌≤◌, ◌<◌, ◌+◌, ◌^◌, ◌++◌, [], length, true, false, not};
 ghost use Rattle.std.specs.Prelude.{filter, None, vec_len, vec_capacity, string_bytes, IsTrue};
 ghost use Rattle.std.specs.Prelude.{IsSome, IsOk, IfOk, IfErr, OnOk, OnErr};
@@ -10,15 +10,14 @@ use crate::bins::{BinFault, Bins};
 use crate::device::{Sink, SinkFault};
 use std::alloc::{AllocError, Global};
 
-/// A file in memory.
+/// A committed file or a draft.
 #[derive(Drop)]
 pub struct BinFile {
     pub name: String,
     pub bytes: Vec<u8>,
 }
 
-/// Files in memory, in the order in which they were committed, at most one draft, and whether the last beginning was
-/// refused.
+/// Files in memory in commit order, at most one draft, and whether the last `start_file` was refused.
 pub struct MemoryBins {
     alloc: Global,
     files: Vec<BinFile>,
@@ -29,7 +28,7 @@ pub struct MemoryBins {
     ghost placed: { IsTrue (is_some draft) → vec_len files < vec_capacity files },
 }
 
-// It is let go by one call wherever it is held, not part by part.
+// One call frees it, not one per field.
 impl Drop for MemoryBins {
     fn drop(self) {
         let MemoryBins {
@@ -47,7 +46,7 @@ impl MemoryBins {
     ghost use Rattle.cweb_files.specs.surface.MemoryBins.{bins_failed, new_draft_room, committed_files};
     ghost use Rattle.cweb_files.specs.surface.MemoryBins.{has_draft, list_room, last_refusal};
 
-    /// No file yet: a list with room for so many files, and the room in bytes that each draft gets when it is begun.
+    /// No file yet, with room for `files` entries. Each new draft gets a buffer of `bytes` bytes.
     pub fn with_room(alloc: Global, files: usize, bytes: usize) -> Result<Self, AllocError>
         ensures empty { IfOk result (λ bins. committed_files bins ≡ []) }
         ensures no_draft { IfOk result (λ bins. has_draft bins ≡ false) }
@@ -66,7 +65,7 @@ impl MemoryBins {
         })
     }
 
-    /// The files, without the draft.
+    /// The committed files in commit order, without the draft.
     pub fn files(&self) -> &[BinFile]
         ensures { result.now ≡ committed_files self.now }
     {
@@ -74,7 +73,6 @@ impl MemoryBins {
     }
 }
 
-// An empty file, with room set aside.
 fn empty_file(alloc: Global, name: &str, room: usize) -> Result<BinFile, AllocError>
     ensures name { IfOk result (λ file. string_bytes file.name ≡ name.now) }
     ensures bytes { IfOk result (λ file. file.bytes.items ≡ []) }
@@ -86,7 +84,6 @@ fn empty_file(alloc: Global, name: &str, room: usize) -> Result<BinFile, AllocEr
     })
 }
 
-// Takes the file of a name away.
 fn remove_named(files: &mut Vec<BinFile>, name: &str)
     ensures others { files.new.items
         ≡ filter (λ file. not (bytes_eq (string_bytes file.name) name.now)) files.old.items }
@@ -119,7 +116,7 @@ impl Sink for MemoryBins {
         ensures kept { KeepsFiles self.old self.new }
         ensures name { KeepsDraftName self.old self.new }
         ensures room { draft_room self.old ≤ draft_room self.new }
-        // With a draft it never fails within the room, and takes memory for the draft's bytes alone.
+        // With a draft, a write within its capacity never fails.
         ensures within_room { has_draft self.old ≡ true
             → length (draft_bytes self.old) + length piece.now ≤ draft_room self.old → IsOk result }
     {
@@ -157,7 +154,7 @@ impl Bins for MemoryBins {
         ensures empty { OnOk result (draft_bytes self.new ≡ []) }
         ensures err { IfErr result (λ fault.
             beside_draft self.new ≡ refused_with fault (beside_draft self.old)) }
-        // It answers no Device, and the draft has the room that was set.
+        // The only fault is `Memory`. The draft has the capacity that was set.
         ensures memory { IfErr result (λ fault. fault ≡ BinFault.Memory) }
         ensures room { OnOk result (new_draft_room self.old ≤ draft_room self.new) }
         ensures set_room { new_draft_room self.new ≡ new_draft_room self.old }
@@ -184,7 +181,7 @@ impl Bins for MemoryBins {
             (beside_draft self.new ≡ committed (beside_draft self.old) (draft_bytes self.old)) }
         ensures err { OnErr result (beside_draft self.new ≡ without_draft (beside_draft self.old)) }
         ensures set_room { new_draft_room self.new ≡ new_draft_room self.old }
-        // It takes no memory, and with a draft it never fails.
+        // It allocates nothing, and with a draft it never fails.
         ensures list { list_room self.new ≡ list_room self.old }
         ensures files { committed_files self.new
             ≡ files_with_draft (committed_files self.old) self.old.draft }

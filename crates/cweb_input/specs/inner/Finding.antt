@@ -1,30 +1,28 @@
--- What a search for a text finds.
+-- What a search for a file returns.
 use Rattle.std.specs.Prelude.{◌≡◌, ℕ, List, [], Option, None, Some, string_bytes}
 use Rattle.cweb_input.specs.Include.{Found}
 use Rattle.cweb_input.specs.Lines.{SourceLine, lines_in}
 use Rattle.cweb_input.specs.declared.files.find.Opening.{Opening}
 
--- an opening as a text that was found, by what its reader has left
+-- An opening as a file that was found. Its contents are what its reader has left.
 abbrev pub found_as : {R : Type 0} → (R → List ℕ) → Option (Opening R) → Option Found
 found_as left None = None
 found_as left (Some opening) = Some (string_bytes opening.name, left opening.reader)
 
--- the same for a change file, where one is named
 abbrev pub changes_found : {R : Type 0} → (R → List ℕ) → Option (Option (Opening R)) → Option (Option Found)
 changes_found left None = None
 changes_found left (Some opening) = Some (found_as left opening)
 
--- the reader of an opening was opened under its name
+-- The reader of an opening was opened under its name.
 abbrev pub IsOpened : {R : Type 0} → (R → List ℕ) → Option (Opening R) → Type 0
 IsOpened opened_as None = Unit {0}
 IsOpened opened_as (Some opening) = opened_as opening.reader ≡ string_bytes opening.name
 
--- the same for a change file, where one is named
 abbrev pub IsChangeOpened : {R : Type 0} → (R → List ℕ) → Option (Option (Opening R)) → Type 0
 IsChangeOpened opened_as None = Unit {0}
 IsChangeOpened opened_as (Some opening) = IsOpened opened_as opening
 
--- the lines of a change file, which is the second file of a run
+-- The lines of a change file, whose file number is 1.
 abbrev pub lines_found : Option Found → List SourceLine
 lines_found None = []
 lines_found (Some found) = lines_in 1 found.1

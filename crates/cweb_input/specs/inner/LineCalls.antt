@@ -1,4 +1,4 @@
--- What the calls that take lines say whatever the shelf tells: a record for each kind of call.
+-- What calls that take lines promise for any shelf, observable or not.
 use Rattle.std.specs.Prelude.{◌≡◌, ◌≤◌, ◌<◌, ◌+◌, ℕ, List, length, Option, None, Some, Result, Ok, Err, IfOk, IfErr}
 use Rattle.std.specs.Prelude.{IfSome, OnSome, OnErr}
 use Rattle.cweb_input.specs.inner.OpenSources.{AreDeep, Counted, DepthAfter, NamesFiles, StaysBelow}
@@ -12,8 +12,7 @@ use Rattle.cweb_input.specs.declared.open_source.LineAt.{LineAt}
 use Rattle.cweb_input.specs.declared.open_source.OpenSource.{OpenSource}
 use Rattle.cweb_input.specs.declared.open_source.stack.Stack.{Stack}
 
--- What was taken is one line, it is counted, and its file is among those that were opened. A stop is one that reading
--- comes to, and the file that it names is among them too.
+-- The result is one counted line of an opened file, or a stop of reading that names one.
 pub record AnswersLine (files : ℕ) (before after : TakenCountersModel) (bytes : List ℕ)
     (result : Result (Option LineAt) Stop) : Type 0 where
   pub counted : Counted before after result
@@ -22,28 +21,26 @@ pub record AnswersLine (files : ℕ) (before after : TakenCountersModel) (bytes 
   pub known : NamesFiles files result
   pub reading : IfErr result (λ stop. StopsReading stop)
 
--- The text of which a line is taken stays the same file, as deep as it was, and its lines are numbered on.
+-- The source stays the same file at the same depth, and its next line is numbered on.
 pub record KeepsOpenSource {R : Type 0} (old new : Option (OpenSource R)) (before after : TakenCountersModel)
     (result : Result (Option LineAt) Stop) : Type 0 where
   pub number : number_or_zero line_number new ≤ after.lines
-  -- a line that could not be taken has no number yet
+  -- A line that could not be taken has no number.
   pub uncounted : OnErr result (number_or_zero line_number new ≡ number_or_zero line_number old)
   pub more : before.lines ≤ after.lines
   pub file : number_or_zero files_up_to new ≡ number_or_zero files_up_to old
   pub depth : number_or_zero source_depth new ≡ number_or_zero source_depth old
   pub may_match : matches_at new ≡ matches_at old
-  -- the line that was taken is as deep, and matches where the text does
   pub level : IfOk result (λ at. IfSome at (λ a. (a.depth ≡ number_or_zero source_depth old)
       × (a.may_match ≡ matches_at old)))
 
--- The texts of the stack stay in order: numbered within the lines that were taken, of no further file, each at least as
--- deep as its place.
+-- The stack stays in order: line numbers within the count, no further file, each source deeper than its index.
 pub record KeepsStack {R : Type 0} (old new : Stack R) (after : TakenCountersModel) : Type 0 where
   pub numbers : maximum_of line_number new.texts ≤ after.lines
   pub files : maximum_of files_up_to new.texts ≤ maximum_of files_up_to old.texts
   pub deep : AreDeep new.texts
 
--- No line was taken of the texts that are open: the next line of each has the number that it had.
+-- No line of the open sources was taken, so their line numbers are unchanged.
 abbrev pub KeepsNumbers : {R : Type 0} → Stack R → Stack R → Type 0
 KeepsNumbers old new = (place : ℕ) → place < new.depth → line_number_at place new.texts ≡ line_number_at place old.texts
 
@@ -52,14 +49,14 @@ UnlessTaken (Ok None) Says = Says
 UnlessTaken (Ok (Some at)) Says = Unit {0}
 UnlessTaken (Err stop) Says = Says
 
--- The deepest text is closed where it has no line, and else it is the one of which the line was taken.
+-- The deepest source is closed if it has no line. Otherwise the line is its next one.
 pub record ClosesTop {R : Type 0} (old new : Stack R) (result : Result (Option LineAt) Stop) : Type 0 where
   pub depth : DepthAfter old.depth new.depth result
   pub below : (low : ℕ) → low < old.depth → StaysBelow low old.texts new.texts
   pub numbers : UnlessTaken result (KeepsNumbers old new)
   pub deeper : IfOk result (λ at. IfSome at (λ a. new.depth ≤ a.depth))
 
--- Texts above a low place alone are closed: all of them where none has a line.
+-- Only sources from an index on are closed: all of them if none has a line.
 pub record ClosesAbove {R : Type 0} (place : ℕ) (old new : Stack R)
     (result : Result (Option LineAt) Stop) : Type 0 where
   pub low : place ≤ new.depth

@@ -1,4 +1,4 @@
--- What an open text has left, and what a line takes of it.
+-- What a source has left, and how taking a line changes that.
 use Rattle.std.specs.Prelude.{◌≡◌, ℕ, ◌+◌, ◌<◌, List, [], ◌∷◌, ◌++◌, length, Bool, true, false}
 use Rattle.std.specs.Prelude.{Result, Ok, Err}
 use Rattle.cweb_input.specs.surface.Lines.{HasNoNewline}
@@ -12,31 +12,31 @@ use Rattle.cweb_input.specs.surface.Source.{buffered}
 abbrev pub bytes_left : {S R : Type 0} → (S → R → List ℕ) → S → Source R → List ℕ
 bytes_left left shelf source = buffered source ++ left shelf source.reader.value
 
--- what a line takes of a text
+-- A raw line is taken from what is left.
 abbrev pub TakesRawLine : List ℕ → LineTermination → List ℕ → List ℕ → Type 0
 TakesRawLine old Ended line new = (old ≡ []) × (line ≡ []) × (new ≡ [])
 TakesRawLine old Last line new = (old ≡ line) × HasNoNewline line × (0 < length line) × (new ≡ [])
 TakesRawLine old Full line new = (old ≡ line ++ 10 ∷ new) × HasNoNewline line
 
--- the next line is longer than this
+-- The next line is longer than the limit.
 abbrev pub IsLongerThan : ℕ → List ℕ → Type 0
 IsLongerThan limit text = (front : List ℕ) × (rest : List ℕ) × (text ≡ front ++ rest) × HasNoNewline front
     × (limit < length front)
 
--- the count of failures rose by one where the fault is a failed read, and else it is as before
+-- Only a failed read raises the failure count.
 abbrev pub CountsReadFault : {A : Type 0} → ℕ → ℕ → Result A LineFault → Type 0
 CountsReadFault before now (Err Read) = now ≡ before + 1
 CountsReadFault before now (Err TooLong) = now ≡ before
 CountsReadFault before now (Err Memory) = now ≡ before
 CountsReadFault before now (Ok x) = now ≡ before
 
--- what a line takes of a piece: up to a newline, or all of it
+-- A line takes the buffered bytes up to a newline, or all of them.
 abbrev pub TakesFromBuffer : List ℕ → List ℕ → Bool → List ℕ → List ℕ → Type 0
 TakesFromBuffer old line true longer new = (front : List ℕ) × HasNoNewline front × (old ≡ front ++ 10 ∷ new)
     × (longer ≡ line ++ front)
 TakesFromBuffer old line false longer new = HasNoNewline old × (longer ≡ line ++ old) × (new ≡ [])
 
--- a failed read puts the reader's name behind those that were blamed before, and nothing else changes them
+-- A failed read appends the name of the reader to the blamed names. Nothing else changes them.
 abbrev pub BlamesReader : {A : Type 0} → List ℕ → List (List ℕ) → List (List ℕ) → Result A LineFault → Type 0
 BlamesReader name before now (Err Read) = now ≡ before ++ name ∷ []
 BlamesReader name before now (Err TooLong) = now ≡ before

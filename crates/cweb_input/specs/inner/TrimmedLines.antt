@@ -1,4 +1,4 @@
--- What a line that is taken without the blanks at its end takes of its text.
+-- How taking a trimmed line changes what is left.
 use Rattle.std.specs.Prelude.{◌≡◌, ◌≢◌, ℕ, ◌+◌, ◌≤◌, List, [], ◌∷◌, ◌++◌, length, Option, None, Some}
 use Rattle.cweb_input.specs.surface.Lines.{HasNoNewline}
 use Rattle.cweb_input.specs.Lines.{trimmed}
@@ -8,7 +8,7 @@ use Rattle.cweb_input.specs.declared.limits.TheConstants.{LINE_LENGTH}
 use Rattle.cweb_input.specs.declared.source.LineTermination.{LineTermination}
 use Rattle.cweb_input.specs.declared.source.LineTermination.TheVariants.{Ended}
 
--- a line with its newline, of so many bytes together
+-- A line with its newline is taken. `size` includes the newline.
 pub record TakesWholeLine (old bytes : List ℕ) (size : ℕ) (new : List ℕ) : Type 0 where
   pub raw : List ℕ
   pub whole : old ≡ raw ++ 10 ∷ new
@@ -17,7 +17,7 @@ pub record TakesWholeLine (old bytes : List ℕ) (size : ℕ) (new : List ℕ) :
   pub bytes_are : bytes ≡ trimmed raw
   pub size_is : size ≡ length raw + 1
 
--- a line, of so many bytes with the newline that it may have
+-- A line is taken. `size` includes the newline, if it has one.
 pub record TakesTrimmedLine (old bytes : List ℕ) (size : ℕ) (new : List ℕ) : Type 0 where
   pub taken : LineTermination
   pub raw : List ℕ
@@ -27,7 +27,6 @@ pub record TakesTrimmedLine (old bytes : List ℕ) (size : ℕ) (new : List ℕ)
   pub bytes_are : bytes ≡ trimmed raw
   pub size_is : size ≡ length raw + newline_bytes taken
 
--- the same, or there is no line
 abbrev pub TakesTrimmedOrEnds : List ℕ → Option ℕ → List ℕ → List ℕ → Type 0
 TakesTrimmedOrEnds old None bytes new = (old ≡ []) × (new ≡ [])
 TakesTrimmedOrEnds old (Some size) bytes new = TakesTrimmedLine old bytes size new

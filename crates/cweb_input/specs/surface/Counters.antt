@@ -1,4 +1,4 @@
--- What was taken so far.
+-- The model of the counters.
 use Rattle.cweb_input.specs.OpenSources.{TakenCountersModel}
 use Rattle.cweb_input.specs.declared.counters.TakenCounters.{TakenCounters}
 

@@ -1,4 +1,4 @@
--- What a search for a text finds.
+-- The model of a shelf with a folder of included files.
 use Rattle.std.specs.Prelude.{ℕ, List, Option, None, Some, String, string_bytes}
 use Rattle.cweb_input.specs.Include.{World}
 

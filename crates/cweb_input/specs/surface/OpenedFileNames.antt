@@ -1,4 +1,4 @@
--- What callers see of the names of opened files.
+-- The model of the names of opened files.
 use Rattle.std.specs.Prelude.{ℕ, List, map, string_bytes}
 use Rattle.cweb_input.specs.declared.files.FileNames.{FileNames}
 

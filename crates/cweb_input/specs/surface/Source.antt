@@ -1,7 +1,6 @@
--- What an open text has left, and what a line takes of it.
+-- The unread buffer of a source.
 use Rattle.std.specs.Prelude.{ℕ, List, slice_range}
 use Rattle.cweb_input.specs.declared.source.Source.{Source}
 
--- what was read and not yet taken
 abbrev pub buffered : {R : Type 0} → Source R → List ℕ
 buffered source = slice_range source.buffer.items source.start source.end

@@ -1,4 +1,4 @@
-// The texts that a web and its include lines name.
+// How the web, the change file and included files are found.
 ghost use Rattle.std.specs.Prelude.{◌≡◌, ◌∷◌, ◌++◌, ℕ, List, IsTrue, IfOk, string_bytes};
 ghost use Rattle.std.specs.Option.{option_copied};
 ghost use Rattle.cweb_files.specs.surface.Frames.{KeepsShelf};
@@ -10,7 +10,7 @@ ghost use Rattle.cweb_input.specs.inner.Finding.{IsOpened};
 use cweb_files::Shelf;
 use std::alloc::{AllocError, Global};
 
-/// A reader at the first byte of a text, and the name under which it was found.
+/// A reader at the first byte of a file, and the name under which it was found.
 #[derive(Drop)]
 pub struct Opening<R: Drop> {
     pub name: String,
@@ -41,7 +41,7 @@ fn in_folder(alloc: Global, folder: &str, name: &str) -> Result<String, AllocErr
     Ok(path)
 }
 
-/// The text that an include line names: as it is named, else in the folder.
+/// Finds the file of an include line: under its name, else in the folder `inputs`. A name that isn't UTF-8 finds none.
 pub fn find<S: Shelf>(
     alloc: Global,
     shelf: &mut S,
@@ -68,7 +68,7 @@ pub fn find<S: Shelf>(
     Ok(Some(opening))
 }
 
-/// The web, under its name, else under the second.
+/// Finds the web under its name, else under the second name.
 pub fn find_web<S: Shelf>(
     alloc: Global,
     shelf: &mut S,
@@ -92,7 +92,7 @@ pub fn find_web<S: Shelf>(
     Ok(Some(opening))
 }
 
-/// The change file, where one is named, under its name; nothing where that file is not there.
+/// Finds the change file. `Some(None)` means that none is named, and `None` that the named file isn't there.
 pub fn find_change<S: Shelf>(
     alloc: Global,
     shelf: &mut S,

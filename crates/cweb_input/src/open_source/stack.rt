@@ -1,4 +1,4 @@
-// The texts that are open, the deepest last.
+// The stack of open sources, the deepest last.
 ghost use Rattle.std.specs.Prelude.{◌≡◌, ◌≤◌, ◌<◌, ◌+◌, ◌-◌, ◌^◌, ℕ, List, ◌∷◌, replicate, length};
 ghost use Rattle.std.specs.Prelude.{IsTrue, IfOk, IfErr, IfSome, OnSome, Ok, None, Some, slice_set};
 ghost use Rattle.std.specs.Prelude.{slice_index_or, false};
@@ -24,16 +24,17 @@ use crate::stop::Stop;
 use cweb_files::Shelf;
 use std::alloc::Global;
 
-/// The web and the files that are open within it, each in a place of its own: the text at place `depth - 1` is being read.
+/// The web and the files that are open within it. The source at index `depth - 1` is being read.
 #[derive(Drop)]
 pub struct Stack<R: Drop> {
     pub texts: [Option<OpenSource<R>>; OPEN_FILES],
     pub depth: usize,
-    /// Those of texts that ended.
+    /// The buffers of closed files.
     pub buffers: BufferPool,
 }
 
 impl<R: Drop> Stack<R> {
+    /// A stack with the web alone.
     #[rattlefmt::skip]
     pub fn new(alloc: Global, text: OpenSource<R>) -> Self
         ensures depth { result.depth ≡ 1 }
@@ -52,6 +53,7 @@ impl<R: Drop> Stack<R> {
         }
     }
 
+    /// Opens a source within the deepest one.
     pub fn push(&mut self, text: OpenSource<R>)
         requires room { self.old.depth < OPEN_FILES }
         requires deep { AreDeep self.old.texts }
@@ -66,7 +68,7 @@ impl<R: Drop> Stack<R> {
         self.depth += 1;
     }
 
-    // Closes the text at a place, which has no more lines, and keeps its piece.
+    // Closes a source that has no more lines and returns its buffer to the pool.
     fn close(&mut self, place: usize)
         requires { place < OPEN_FILES }
         ensures texts { self.new.texts ≡ slice_set self.old.texts place None }
@@ -77,7 +79,7 @@ impl<R: Drop> Stack<R> {
     }
 }
 
-// Takes a line of the deepest text, or closes it where it has no more.
+// Takes a line of the deepest source, or closes that source if it has no more.
 #[inline(always)]
 fn take_top<S: Shelf>(
     shelf: &mut S,
@@ -119,8 +121,7 @@ fn take_top<S: Shelf>(
     Ok(Some(at))
 }
 
-/// Takes the next line of the texts above a low place, and closes those that have no more. There is none where all of
-/// them have ended.
+/// Takes the next line of the sources from index `low` on, and closes those that have no more. `None`: all have ended.
 #[inline(always)]
 pub fn take_above<S: Shelf>(
     shelf: &mut S,

@@ -1,4 +1,4 @@
-// The next line of an open text, without the blanks at its end.
+// The next line of an open source, trimmed of trailing blanks.
 ghost use Rattle.std.specs.Prelude.{◌≡◌, ◌≤◌, ◌<◌, ◌+◌, ◌^◌, ℕ, List, length, take, IsTrue, IfOk};
 ghost use Rattle.std.specs.Prelude.{IfErr, IfSome, OnSome, OnOk, OnErr, IsErrOf, Ok, None, Some};
 ghost use Rattle.cweb_files.specs.surface.Frames.{KeepsShelf};
@@ -37,7 +37,7 @@ fn is_blank(b: u8) -> bool
     matches!(b, b' ' | b'\t' | b'\r' | 11 | 12)
 }
 
-/// How many bytes of a line stand in front of the blanks at its end.
+/// The length of a line without trailing blanks.
 pub fn trimmed_length(line: &[u8]) -> usize
     ensures within { result ≤ length line.now }
     ensures trimmed { take result line.now ≡ trimmed line.now }
@@ -79,7 +79,7 @@ fn newline_size(taken: LineTermination) -> usize
     }
 }
 
-// A line in place of what stood in a buffer.
+// Replaces the contents of a buffer.
 fn set(line: &mut Vec<u8>, bytes: &[u8]) -> Result<(), AllocError>
     ensures { OnOk result (line.new.items ≡ bytes.now) }
 {
@@ -87,8 +87,8 @@ fn set(line: &mut Vec<u8>, bytes: &[u8]) -> Result<(), AllocError>
     line.extend_from_slice(bytes)
 }
 
-// Takes a line that was read whole, and answers how many bytes it takes with its newline. So it is copied once, without
-// the blanks at its end. None where no whole line was read, or where it may be too long.
+// Fast path: takes a line that was read whole, and returns its size with the newline. The line is copied once, already
+// trimmed. `None` means that no whole line was read, or that it may be too long.
 #[inline(always)]
 fn take_whole<R: Drop>(
     source: &mut Source<R>,
@@ -115,7 +115,7 @@ fn take_whole<R: Drop>(
     Ok(Some(at + 1))
 }
 
-// Takes the next line without the blanks at its end, and answers how many bytes it takes, with the newline that it may have.
+// Takes the next line, trimmed, and returns its untrimmed size with the newline, if it has one.
 #[inline(always)]
 fn take_trimmed<S: Shelf>(
     shelf: &mut S,
@@ -154,6 +154,7 @@ fn take_trimmed<S: Shelf>(
     Ok(Some(size))
 }
 
+// Takes the next line, counts it and numbers it.
 #[inline(always)]
 fn take_line<S: Shelf>(
     shelf: &mut S,
@@ -200,7 +201,7 @@ fn take_line<S: Shelf>(
     }))
 }
 
-// Takes a line of a text, where one is open.
+/// Takes the next line of a slot's source, if it has one.
 #[inline(always)]
 pub fn take_from<S: Shelf>(
     shelf: &mut S,

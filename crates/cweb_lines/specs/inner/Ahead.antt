@@ -1,4 +1,4 @@
--- Lines that come next are looked at where they lie in what was read, before they are taken.
+-- Lookahead in the buffer.
 use Rattle.std.specs.Prelude.{◌≡◌, ℕ, ◌+◌, ◌-◌, ◌<◌, ◌≤◌, List, [], ◌∷◌, ◌++◌, length, slice_range, Option, None, Some}
 use Rattle.cweb_lines.specs.Change.{WaitingEntry}
 use Rattle.cweb_lines.specs.inner.LineSpans.{BorrowsLines, IsSpanIn, span_bytes}
@@ -15,7 +15,7 @@ use Rattle.cweb_lines.specs.declared.merger.ahead.Ahead.{Ahead}
 use Rattle.cweb_lines.specs.declared.merge_state.MergeState.{MergeState}
 use Rattle.cweb_input.specs.declared.open_source.OpenSource.{OpenSource}
 
--- with all that was read of a text no limit is passed
+-- The whole buffer of a source is within the limits.
 pub record FitsLimits {R : Type 0} (limits : TakenCounters) (text : OpenSource R) : Type 0 where
   pub few : limits.lines + (text.source.end - text.source.start) ≤ LINES
   pub small : limits.bytes + (text.source.end - text.source.start) ≤ BYTES
@@ -24,7 +24,7 @@ abbrev pub FitsLimitsAt : {R : Type 0} → TakenCounters → Option (OpenSource 
 FitsLimitsAt limits None = ⊥
 FitsLimitsAt limits (Some text) = FitsLimits limits text
 
--- one line of an open text behind others, where it lies, and all of them
+-- One line of a source after `before`: its place, its range in the buffer, and the stretch of all of them.
 pub record LooksAheadIn {R : Type 0} (entry : Option WaitingEntry) (slot : Option (OpenSource R))
     (before : List (List ℕ))
     (ahead : Ahead) : Type 0 where
@@ -42,7 +42,7 @@ pub record LooksAheadIn {R : Type 0} (entry : Option WaitingEntry) (slot : Optio
   pub count : ahead.stretch.lines ≡ length before + 1
   pub ordered : ahead.stretch.text < ahead.stretch.end
 
--- the same of the deepest text: the lines come next
+-- These lines and one more come next. The last one has this place and range.
 pub record LooksAhead {R : Type 0} (run : MergeState R) (before : List (List ℕ)) (ahead : Ahead) : Type 0 where
   pub raw : List ℕ
   pub comes : ComesNext run ahead.stretch (before ++ raw ∷ [])
@@ -57,7 +57,7 @@ pub record LooksAhead {R : Type 0} (run : MergeState R) (before : List (List ℕ
   pub count : ahead.stretch.lines ≡ length before + 1
   pub ordered : ahead.stretch.text < ahead.stretch.end
 
--- these lines come next, the last one lies in what was read, and with all that was read no limit is passed
+-- Some lines come next, the last one is in the buffer, and the whole buffer is within the limits.
 pub record IsAhead {R : Type 0} (run : MergeState R) (ahead : Ahead) : Type 0 where
   pub lines : List (List ℕ)
   pub comes : ComesNext run ahead.stretch lines
@@ -65,7 +65,7 @@ pub record IsAhead {R : Type 0} (run : MergeState R) (ahead : Ahead) : Type 0 wh
   pub ordered : ahead.stretch.text < ahead.stretch.end
   pub fits : FitsLimitsAt run.limits (top_of run.stack)
 
--- lines that come next were taken and counted, whatever the shelf
+-- The next lines were taken and counted.
 pub record TakesLines {R : Type 0} (lines : List (List ℕ)) (old new : MergeState R) : Type 0 where
   pub given : EmitsBufferedLines old new (lines_next (top_of old.stack) lines)
   pub bytes : new.limits.bytes ≡ old.limits.bytes + length (with_newlines lines)

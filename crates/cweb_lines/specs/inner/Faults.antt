@@ -4,7 +4,7 @@ use Rattle.cweb_input.specs.OpenSources.{files_named}
 use Rattle.cweb_input.specs.declared.fault.SourceFault.{SourceFault}
 use Rattle.cweb_input.specs.declared.stop.Stop.{Stop}
 
--- how many files there are at least, by the faults told
+-- The least number of files that these faults imply.
 unfoldable pub files_of_faults : List SourceFault → ℕ
 files_of_faults [] = 0
 files_of_faults (fault ∷ faults) = max (fault.place.file.0 + 1) (files_of_faults faults)

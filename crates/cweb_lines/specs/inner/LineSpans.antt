@@ -1,4 +1,4 @@
--- A line that is lent from where it lies in what was read.
+-- Lines that are borrowed from the buffer.
 use Rattle.std.specs.Prelude.{◌≡◌, ℕ, ◌+◌, ◌≤◌, ◌<◌, List, [], ◌∷◌, length, slice_range, Option, None, Some}
 use Rattle.cweb_input.specs.Lines.{Line}
 use Rattle.cweb_lines.specs.surface.MergeProgress.{EmitsLines}
@@ -11,17 +11,15 @@ use Rattle.cweb_lines.specs.declared.passing.stretch.Stretch.{Stretch}
 use Rattle.cweb_lines.specs.declared.merge_state.MergeState.{MergeState}
 use Rattle.cweb_input.specs.declared.open_source.OpenSource.{OpenSource}
 
--- the bytes of a line that is lent
 abbrev pub span_bytes : {R : Type 0} → MergeState R → LineSpan → List ℕ
 span_bytes run line = slice_range (buffer_of (top_of run.stack)) line.from line.to
 
--- it lies in what was read of the deepest text
 pub record IsSpanIn {R : Type 0} (run : MergeState R) (line : LineSpan) : Type 0 where
   pub some : 0 < run.stack.depth
   pub order : line.from ≤ line.to
   pub within : line.to ≤ length (buffer_of (top_of run.stack))
 
--- where the first line of an open text stands and lies, where it is a stretch
+-- The place and range of a source's next line.
 abbrev pub line_span_at : {R : Type 0} → Option (OpenSource R) → Stretch → Option LineSpan
 line_span_at None s = None
 line_span_at (Some text) s = Some (record {
@@ -30,7 +28,7 @@ line_span_at (Some text) s = Some (record {
   to = s.text;
 })
 
--- the next line that is to come was counted, whatever the shelf, and lies in what was read
+-- The next line was taken and counted, and is in the buffer.
 pub record BorrowsLine {R : Type 0} (line : LineSpan) (old new : MergeState R) : Type 0 where
   pub lies : IsSpanIn new line
   pub given : EmitsLine line.place (span_bytes new line) (so_far_of old) (so_far_of new)
@@ -41,7 +39,7 @@ pub record BorrowsLine {R : Type 0} (line : LineSpan) (old new : MergeState R) :
   pub stopped : new.stopped ≡ old.stopped
   pub readers : (opened_as : R → List ℕ) → AreReadersKnown opened_as old → AreReadersKnown opened_as new
 
--- Lines were lent one after another, whatever the shelf: they were given out, nothing stopped, and no other reader came.
+-- Lines were borrowed one after another: they are emitted, there is no stop, and readers keep their names.
 pub record BorrowsLines {R : Type 0} (old new : MergeState R) : Type 0 where
   pub gives : (texts : List ℕ → Option (List ℕ)) (left : R → List ℕ) → (lines : List Line)
       × EmitsLines lines (so_far_of old) (so_far_of new) (events_to_come texts left old) (events_to_come texts left new)

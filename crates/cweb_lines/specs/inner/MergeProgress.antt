@@ -1,4 +1,4 @@
--- What a merger has still to give, and what a call gives of it.
+-- How far a merge is: steps and turns.
 use Rattle.std.specs.Prelude.{◌≡◌, ◌<◌, ◌≤◌, ◌+◌, ◌*◌, ◌-◌, ℕ, length, List, [], ◌∷◌, ◌++◌, Option}
 use Rattle.cweb_input.specs.Lines.{Line, SourceLine}
 use Rattle.cweb_input.specs.surface.Lines.{IsOneLine}
@@ -18,14 +18,14 @@ use Rattle.cweb_lines.specs.declared.step.Turn.TheVariants.{Emitted, On, Ended}
 use Rattle.cweb_lines.specs.surface.MergeProgress.{SoFar, EmitsLines, HasBegunStep, StopsIn}
 use Rattle.cweb_lines.specs.surface.MergeProgress.{state_of, things_of, NothingLeft}
 
--- the same behind a line that is counted already
+-- A line was taken, and then these lines are emitted.
 pub record EmitsAfterLine (source : SourceLine) (lines : List Line) (old new : SoFar)
     (all later : List Event) : Type 0 where
   pub rest : List Event
   pub first : all ≡ took source ∷ rest
   pub gives : EmitsLines lines old new rest later
 
--- some of these faults were told
+-- A prefix of these faults was reported.
 pub record ReportsSomeFaults (faults : List SourceFault) (old new : SoFar) : Type 0 where
   pub front : List SourceFault
   pub rest : List SourceFault
@@ -33,7 +33,7 @@ pub record ReportsSomeFaults (faults : List SourceFault) (old new : SoFar) : Typ
   pub told : new.faults ≡ old.faults ++ front
   pub names : new.names ≡ old.names
 
--- how far a step came that a stop ends
+-- How far a step is that ends with a stop.
 abbrev pub EndsStep : Stop → SoFar → SoFar → List SourceLine → List SourceLine → List SourceFault → Type 0
 EndsStep (ReadFault file) old new lines raws faults = HasBegunStep old new lines raws faults
 EndsStep (LineTooLong file) old new lines raws faults = StopsIn (LineTooLong file) old new lines raws faults
@@ -41,54 +41,48 @@ EndsStep TooMuchText old new lines raws faults = StopsIn TooMuchText old new lin
 EndsStep Memory old new lines raws faults = Unit {0}
 EndsStep _ old new lines raws faults = ⊥
 
--- the same with a line in front, which was taken
+-- All events after this line was taken.
 abbrev pub events_after_line : {R : Type 0} → (List ℕ → Option (List ℕ)) → (R → List ℕ) → MergeState R → LineAt
     → SourceLine →
     List Event
 events_after_line texts left run at source = merge (world_in texts run.inputs)
     (state_of left run (raw_thing at source ∷ things_of left run))
 
--- a bound on the turns that are left
+-- An upper bound of the turns that are left.
 abbrev pub turns_left : ℕ → Stage → ℕ
 turns_left taken stage = 4 * (16777216 - taken) + weight_of stage
 
--- the line that a turn gives out
 abbrev pub turn_lines : Turn → List ℕ → List Line
 turn_lines (Emitted place) bytes = record { bytes = bytes; place = place } ∷ []
 turn_lines On bytes = []
 turn_lines Ended bytes = []
 
--- a turn found a line
 abbrev pub IsTaken : Turn → Type 0
 IsTaken (Emitted place) = Unit {0}
 IsTaken On = Unit {0}
 IsTaken Ended = ⊥
 
--- a turn takes a line, or fewer turns are left
+-- A turn takes a line, or fewer turns are left.
 abbrev pub TurnCounts : Turn → ℕ → Stage → ℕ → Stage → Type 0
 TurnCounts (Emitted place) lines stage lines' stage' = lines < lines'
 TurnCounts On lines stage lines' stage' = (lines ≤ lines') × (turns_left lines' stage' < turns_left lines stage)
 TurnCounts Ended lines stage lines' stage' = lines' ≡ lines
 
--- where a turn found nothing, nothing is left
 abbrev pub TurnEnds : {R : Type 0} → Turn → MergeState R → Type 0
 TurnEnds (Emitted place) run = Unit {0}
 TurnEnds On run = Unit {0}
 TurnEnds Ended run = NothingLeft run
 
--- a line that a turn gives out is one, within its limit
 abbrev pub TurnLine : Turn → List ℕ → Type 0
 TurnLine (Emitted place) bytes = IsOneLine bytes
 TurnLine On bytes = Unit {0}
 TurnLine Ended bytes = Unit {0}
 
--- the bytes of a line that a turn gives out are counted
 abbrev pub TurnGains : Turn → List ℕ → ℕ → ℕ → Type 0
 TurnGains (Emitted place) bytes old new = old + length bytes ≤ new
 TurnGains On bytes old new = old ≤ new
 TurnGains Ended bytes old new = old ≤ new
 
--- the file of a line that a turn gives out is among those opened
 abbrev pub TurnKnown : ℕ → Turn → Type 0
 TurnKnown files (Emitted place) = place.file.0 < files
 TurnKnown files On = Unit {0}

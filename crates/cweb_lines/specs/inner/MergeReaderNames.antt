@@ -1,4 +1,4 @@
--- Under which names the readers of all texts of a run were opened, and which of them a stop blames.
+-- Frames of steps on the names of readers.
 use Rattle.std.specs.Prelude.{Result, IsTrue}
 use Rattle.cweb_files.specs.declared.device.Shelf.{Ghosts as Shelf}
 use Rattle.cweb_input.specs.surface.OpenedFileNames.{opened_file_names}
@@ -7,7 +7,7 @@ use Rattle.cweb_lines.specs.declared.merge_state.MergeState.{MergeState}
 use Rattle.cweb_input.specs.declared.stop.Stop.{Stop}
 use Rattle.cweb_lines.specs.surface.MergeReaderNames.{AreReadersKnown}
 
--- over a shelf that tells, at each step: the readers of all texts of a run stay those of their files
+-- On an observable shelf, each reader is still opened under the name of its file.
 abbrev pub KeepsReaders : {S R : Type 0} → Shelf S R → S → S → MergeState R → MergeState R → Type 0
 KeepsReaders shelf old new run run' = IsTrue (shelf.tells old) → AreReadersKnown (shelf.opened_as old) run
     → AreReadersKnown (shelf.opened_as new) run'

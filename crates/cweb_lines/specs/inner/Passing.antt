@@ -1,4 +1,4 @@
--- Lines that only pass through: what they are in what was read, and what it does to take and to gather them.
+-- Lines that pass through: what they are in the buffer, and how they are taken and appended.
 use Rattle.std.specs.Prelude.{◌≡◌, ℕ, ◌+◌, ◌-◌, ◌<◌, ◌≤◌, Bool, false, List, [], ◌∷◌, ◌++◌, length, map, slice_range}
 use Rattle.std.specs.Prelude.{slice_index_or, Option, None, Some}
 use Rattle.cweb_lines.specs.Change.{WaitingEntry}
@@ -24,8 +24,7 @@ use Rattle.cweb_lines.specs.declared.merge_state.MergeState.{MergeState}
 use Rattle.cweb_input.specs.declared.open_source.stack.Stack.{Stack}
 use Rattle.cweb_input.specs.declared.open_source.OpenSource.{OpenSource}
 
--- a line as it stands in its text, without its newline, that passes through: it is no include line, and the entry that
--- waits does not begin with it
+-- A raw line passes through: it is no include line and doesn't begin the entry that waits.
 pub record PassesThrough (entry : Option WaitingEntry) (may_match : Bool) (raw : List ℕ) : Type 0 where
   pub clean : HasNoNewline raw
   pub short : length raw ≤ LINE_LENGTH
@@ -37,17 +36,14 @@ AllPassThrough entry may_match [] = Unit {0}
 AllPassThrough entry may_match (line ∷ lines) = PassesThrough entry may_match line
     × AllPassThrough entry may_match lines
 
--- lines one behind another, each with a newline
 abbrev pub with_newlines : List (List ℕ) → List ℕ
 with_newlines [] = []
 with_newlines (line ∷ lines) = line ++ 10 ∷ with_newlines lines
 
--- the same lines as they are printed
 abbrev pub trimmed_with_newlines : List (List ℕ) → List ℕ
 trimmed_with_newlines lines = with_newlines (map trimmed lines)
 
--- lines stand one behind another in a piece from a place on, and pass through; where the last one has no blanks at its
--- end either, what is printed of them is what stands there
+-- Adjacent lines in the buffer that pass through. All but the last are printed as they are, and the last one trimmed.
 pub record IsStretch (entry : Option WaitingEntry) (may_match : Bool) (buffer : List ℕ) (start : ℕ) (s : Stretch)
     (raw_lines : List (List ℕ)) : Type 0 where
   pub passing : AllPassThrough entry may_match raw_lines
@@ -59,13 +55,13 @@ pub record IsStretch (entry : Option WaitingEntry) (may_match : Bool) (buffer : 
   pub forth : start ≤ s.text
   pub before : s.text < s.end
 
--- such lines, in front of a place
+-- Some such lines up to an end.
 abbrev pub Reaches : Option WaitingEntry → Bool → List ℕ → ℕ → ℕ → Stretch → Type 0
 Reaches entry may_match buffer start end s = (raw_lines : List (List ℕ))
     × IsStretch entry may_match buffer start s raw_lines
     × (s.end ≤ end)
 
--- the next lines that were read of an open text
+-- The next lines in the buffer of a source.
 pub record IsStretchOf {R : Type 0} (entry : Option WaitingEntry) (text : OpenSource R) (s : Stretch)
     (raw_lines : List (List ℕ)) : Type 0 where
   pub is : IsStretch entry text.may_match text.source.buffer.items text.source.start s raw_lines
@@ -75,46 +71,44 @@ abbrev pub IsStretchAt : {R : Type 0} → Option WaitingEntry → Option (OpenSo
 IsStretchAt entry None s raw_lines = ⊥
 IsStretchAt entry (Some text) s raw_lines = IsStretchOf entry text s raw_lines
 
--- with these lines no limit is passed
+-- The lines are within the limits.
 pub record HasRoomFor (limits : TakenCounters) (raw_lines : List (List ℕ)) : Type 0 where
   pub few : limits.lines + length raw_lines ≤ LINES
   pub small : limits.bytes + length (with_newlines raw_lines) ≤ BYTES
 
--- the deepest text
+-- The deepest source.
 abbrev pub top_of : {R : Type 0} → Stack R → Option (OpenSource R)
 top_of stack = slice_index_or stack.texts (stack.depth - 1) None
 
--- what is printed of lines of an open text, without the last newline
+-- The bytes that are printed of a source's next lines, without the last newline.
 abbrev pub stretch_bytes : {R : Type 0} → Option (OpenSource R) → Stretch → List ℕ
 stretch_bytes None s = []
 stretch_bytes (Some text) s = slice_range text.source.buffer.items text.source.start s.text
 
--- no entry is sought, and these are the next lines of the deepest text
+-- No entry is sought, and these are the next lines of the deepest source.
 pub record ComesNext {R : Type 0} (run : MergeState R) (s : Stretch) (raw_lines : List (List ℕ)) : Type 0 where
   pub settled : IsSettled run.stage
   pub above : floor_of run.stage < run.stack.depth
   pub stands : IsStretchAt (pending_of run) (top_of run.stack) s raw_lines
   pub room : HasRoomFor run.limits raw_lines
 
--- a line with its newline
 abbrev pub line_with_newline : List ℕ → CutLine
 line_with_newline raw = record { bytes = raw; size = length raw + 1 }
 
--- the next lines of an open text, as they are taken
+-- The next lines of a source, as they are taken.
 abbrev pub sources_next : {R : Type 0} → Option (OpenSource R) → List (List ℕ) → List SourceLine
 sources_next None lines = []
 sources_next (Some text) lines = numbered_lines text.file.0 (text.line + 1) (map line_with_newline lines)
 
--- the same lines, as they are given out
+-- The next lines of a source, as they are emitted.
 abbrev pub lines_next : {R : Type 0} → Option (OpenSource R) → List (List ℕ) → List Line
 lines_next slot lines = map (λ source. source.line) (sources_next slot lines)
 
--- what was read of an open text and is kept
 abbrev pub buffer_of : {R : Type 0} → Option (OpenSource R) → List ℕ
 buffer_of None = []
 buffer_of (Some text) = text.source.buffer.items
 
--- the file, its reader, the depth of the lines and whether they match stay, and so does what was read
+-- The file, reader, depth, matching and buffer of a source are unchanged.
 pub record KeepsLevel {R : Type 0} (old new : Option (OpenSource R)) : Type 0 where
   pub file : number_or_zero files_up_to new ≡ number_or_zero files_up_to old
   pub depth : number_or_zero source_depth new ≡ number_or_zero source_depth old
@@ -124,14 +118,14 @@ pub record KeepsLevel {R : Type 0} (old new : Option (OpenSource R)) : Type 0 wh
       → IsReaderNamed opened_as names new
   pub buffer : buffer_of new ≡ buffer_of old
 
--- these lines are taken of an open text, and counted
+-- These lines are taken from a slot's source, and counted.
 pub record PassesSlot {R : Type 0} (old new : Option (OpenSource R)) (before after : TakenCounters)
     (lines : List (List ℕ)) : Type 0 where
   pub takes : (left : R → List ℕ) → lines_at left old ≡ sources_next old lines ++ lines_at left new
   pub few : after.lines ≡ before.lines + length lines
   pub bytes : after.bytes ≡ before.bytes + length (with_newlines lines)
 
--- the same of the deepest text
+-- These lines are taken from the deepest source, and counted.
 pub record PassesTop {R : Type 0} (old new : Stack R) (before after : TakenCounters)
     (lines : List (List ℕ)) : Type 0 where
   pub takes : (left : R → List ℕ) (low : ℕ) → low < old.depth → (rest : List Thing) →
@@ -141,7 +135,7 @@ pub record PassesTop {R : Type 0} (old new : Stack R) (before after : TakenCount
   pub few : after.lines ≡ before.lines + length lines
   pub bytes : after.bytes ≡ before.bytes + length (with_newlines lines)
 
--- the deepest text keeps its level, and the others stay as they are
+-- The deepest source keeps its level, and the others are unchanged.
 pub record KeepsTop {R : Type 0} (old new : Stack R) : Type 0 where
   pub depth : new.depth ≡ old.depth
   pub below : StaysBelow (old.depth - 1) old.texts new.texts
@@ -151,7 +145,7 @@ pub record KeepsTop {R : Type 0} (old new : Stack R) : Type 0 where
   pub deep : AreDeep old.texts → AreDeep new.texts
   pub buffer : buffer_of (top_of new) ≡ buffer_of (top_of old)
 
--- lines are given out, whatever the shelf; no file is opened, and what was read stays
+-- These lines are emitted. No file is opened, and the buffer is unchanged.
 pub record EmitsBufferedLines {R : Type 0} (old new : MergeState R) (lines : List Line) : Type 0 where
   pub gives : (texts : List ℕ → Option (List ℕ)) (left : R → List ℕ) →
       EmitsLines lines (so_far_of old) (so_far_of new) (events_to_come texts left old) (events_to_come texts left new)
@@ -160,7 +154,7 @@ pub record EmitsBufferedLines {R : Type 0} (old new : MergeState R) (lines : Lis
   pub counted : new.limits.lines ≡ old.limits.lines + length lines
   pub readers : (opened_as : R → List ℕ) → AreReadersKnown opened_as old → AreReadersKnown opened_as new
 
--- lines are given out and stand behind what was gathered, whatever the shelf; no file is opened
+-- Lines are emitted and appended to a buffer. No file is opened.
 pub record AppendsPassedLines {R : Type 0} (old new : MergeState R) (buffer more : List ℕ) : Type 0 where
   pub lines : List Line
   pub gives : (texts : List ℕ → Option (List ℕ)) (left : R → List ℕ) →
@@ -171,7 +165,7 @@ pub record AppendsPassedLines {R : Type 0} (old new : MergeState R) (buffer more
   pub counted : old.limits.lines ≤ new.limits.lines
   pub readers : (opened_as : R → List ℕ) → AreReadersKnown opened_as old → AreReadersKnown opened_as new
 
--- Lines that were given out and written, and lines that are gathered: one at least, and no more where there is no room.
+-- Some lines were written, and others are buffered: at least one, and only one if there is no room.
 pub record BuffersLines (room : ℕ) (old new : SoFar) (all now : List Event) (Wrote : List ℕ → Type 0)
     (buffer : List ℕ) : Type 0 where
   pub done : List Line

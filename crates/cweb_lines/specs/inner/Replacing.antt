@@ -13,15 +13,13 @@ use Rattle.cweb_input.specs.declared.fault.SourceKind.TheVariants.{EndedBeforeY,
 use Rattle.cweb_lines.specs.declared.change.old_side.Replaced.{Replaced}
 use Rattle.cweb_lines.specs.declared.change.Stage.{Stage}
 
--- the raw lines that the further old lines of a change take away
 abbrev pub taken_away : List SourceLine → List Thing → Compared
 taken_away change things = compared (old_lines change).lines things
 
--- the lines that an old side takes: those of the change file, and the raw lines
 abbrev pub lines_replaced : List SourceLine → List Thing → List SourceLine
 lines_replaced change things = (old_lines change).taken ++ (taken_away change things).taken
 
--- an old side has come so far: it began with these change lines and raw lines, and these are left
+-- Some of the old side was taken. The rest of it starts with these change lines and raw lines.
 pub record Replaces (change : List SourceLine) (things : List Thing) (so_far : Replaced) (change' : List SourceLine)
     (things' : List Thing) (old new : SoFar) : Type 0 where
   pub told : List SourceFault
@@ -37,7 +35,7 @@ pub record Replaces (change : List SourceLine) (things : List Thing) (so_far : R
   pub raw_rest : (taken_away change things).rest ≡ (taken_away change' things').rest
   pub adds : AddsFaultsAndLines told (taken ++ raw_taken) old new
 
--- an old side has ended: its lines are counted, and the faults among them told
+-- The whole old side was taken and counted, and the faults among its lines were reported.
 pub record IsReplaced (change : List SourceLine) (things : List Thing) (so_far : Replaced) (change' : List SourceLine)
     (things' : List Thing) (old new : SoFar) : Type 0 where
   pub adds : AddsFaultsAndLines (old_lines change).faults (lines_replaced change things) old new
@@ -47,7 +45,7 @@ pub record IsReplaced (change : List SourceLine) (things : List Thing) (so_far :
   pub ran_out : (taken_away change things).ran_out ≡ so_far.ran_out
   pub raw_rest : (taken_away change things).rest ≡ things'
 
--- an old line took the next raw line away, where there is one, whatever old lines follow
+-- An old line drops the next raw line, if there is one, whatever old lines follow.
 pub record Compares (bytes : List ℕ) (before after : Replaced) (things things' : List Thing)
     (old new : SoFar) : Type 0 where
   pub taken : List SourceLine
@@ -60,23 +58,21 @@ pub record Compares (bytes : List ℕ) (before after : Replaced) (things things'
   pub rest : (olds : List (List ℕ)) → (compared (bytes ∷ olds) things).rest ≡ (compared olds things').rest
   pub adds : AddsFaultsAndLines [] taken old new
 
--- a fault, where there is one
 abbrev pub fault_list_if : Bool → SourceFault → List SourceFault
 fault_list_if b fault = if b then fault ∷ [] else []
 
--- the faults that come behind those of the old lines
+-- The faults of the old side as a whole.
 abbrev pub closing_faults : Place → Bool → Bool → ℕ → List SourceFault
 closing_faults begin ended ran_out unequal =
     fault_list_if ended (at_place EndedBeforeY begin) ++ fault_list_if ran_out (at_place WebEnded begin)
     ++ fault_list_if (nat_lt 0 unequal) (record { kind = Unequal; place = begin; count = unequal })
 
--- all faults of an old side
 abbrev pub faults_replaced : Place → List SourceLine → List Thing → List SourceFault
 faults_replaced begin change things =
     (old_lines change).faults ++ closing_faults begin (old_lines change).ended (taken_away change things).ran_out
     (taken_away change things).unequal
 
--- a change was begun: its old side is counted, and what is to come is as the definition has it
+-- The old side was taken and counted, and what is to come is as `after_old` defines it.
 pub record IsChanged (begin : Place) (depth : ℕ) (change : List SourceLine) (things : List Thing) (stage : Stage)
     (change' : List SourceLine) (things' : List Thing) (old new : SoFar) : Type 0 where
   pub adds : AddsFaultsAndLines (faults_replaced begin change things) (lines_replaced change things) old new

@@ -1,4 +1,4 @@
--- How far a search for an entry is.
+-- How far the search for an entry is.
 use Rattle.std.specs.Prelude.{◌≡◌, ◌<◌, ℕ, List, [], ◌∷◌, ◌++◌, Option, None, Some}
 use Rattle.cweb_files.specs.declared.place.Place.{Place}
 use Rattle.cweb_lines.specs.Change.{Sought, at_place, sought}
@@ -15,7 +15,7 @@ use Rattle.cweb_lines.specs.declared.change.seek.Look.{Look}
 use Rattle.cweb_lines.specs.declared.change.seek.Look.TheVariants.{Entry as first_line, On as goes_on}
 use Rattle.cweb_lines.specs.declared.change.Stage.{Stage}
 
--- a search behind faults that were told and lines that were taken
+-- A search after these faults and lines.
 abbrev pub search_after : List SourceFault → List SourceLine → Sought → Sought
 search_after faults taken found = record {
   faults = faults ++ found.faults;
@@ -24,7 +24,7 @@ search_after faults taken found = record {
   rest = found.rest;
 }
 
--- outside an entry: what a code line tells, and where an @x line stands that waits
+-- A code line outside an entry: its fault, and the place of an @x.
 abbrev pub faults_outside : Option Code → Place → List SourceFault
 faults_outside None place = []
 faults_outside (Some old_side) place = []
@@ -37,7 +37,7 @@ begun_outside (Some old_side) place = Some place
 begun_outside (Some new_side) place = None
 begun_outside (Some end_side) place = None
 
--- what one line comes to: the search goes on behind it, or it is the first old line of an entry
+-- A line continues the search, or is the first old line of an entry.
 abbrev pub Looks : Look → Option Place → SourceLine → List SourceLine → List SourceFault → Type 0
 Looks (goes_on next) begin line lines told =
     sought (line ∷ lines) begin ≡ search_after told (line ∷ []) (sought lines next)
@@ -50,7 +50,7 @@ Looks (first_line entry) begin line lines told =
       rest = lines;
     }
 
--- the faults that were told, and what the line came to, whatever follows it
+-- The faults of a line and what it is, whatever follows it.
 pub record LooksAt (look : Look) (begin : Option Place) (bytes : List ℕ) (place : Place)
     (old new : List SourceFault) : Type 0 where
   pub told : List SourceFault
@@ -58,21 +58,20 @@ pub record LooksAt (look : Look) (begin : Option Place) (bytes : List ℕ) (plac
   pub looks : (line : SourceLine) → line.line ≡ record { bytes = bytes; place = place } → (lines : List SourceLine) →
       Looks look begin line lines told
 
--- some of the faults of a search were told
 pub record ReportsFaultPrefix (all old new : List SourceFault) : Type 0 where
   pub front : List SourceFault
   pub rest : List SourceFault
   pub whole : all ≡ front ++ rest
   pub told : new ≡ old ++ front
 
--- a search has come so far
+-- Some of a search was done.
 pub record SeeksTo (all now : Sought) (old new : SoFar) : Type 0 where
   pub told : List SourceFault
   pub taken : List SourceLine
   pub whole : all ≡ search_after told taken now
   pub adds : AddsFaultsAndLines told taken old new
 
--- a search has ended: its faults and lines are counted, and its entry waits, or no entry is left
+-- The search has ended. Its entry waits, or no entry is left.
 pub record Searched (found : Sought) (old new : SoFar) (stage : Stage) (first : List ℕ)
     (lines : List SourceLine) : Type 0 where
   pub adds : AddsFaultsAndLines found.faults found.taken old new
@@ -80,7 +79,6 @@ pub record Searched (found : Sought) (old new : SoFar) (stage : Stage) (first : 
   pub entry : pending_in stage first ≡ found.entry
   pub rest : change_in stage lines ≡ found.rest
 
--- the place of an @x line that waits is in a file that was opened
 abbrev pub BegunKnown : ℕ → Option Place → Type 0
 BegunKnown files None = Unit {0}
 BegunKnown files (Some place) = place.file.0 < files

@@ -1,4 +1,4 @@
--- Where a merger stands with its change file, and what is to come of it by then.
+-- The stage of a merger.
 use Rattle.std.specs.Prelude.{◌≢◌, ℕ, ◌+◌, ◌&&◌, Bool, List, Option, None, Some, if◌then◌else◌}
 use Rattle.std.specs.Str.{bytes_eq}
 use Rattle.cweb_files.specs.declared.place.Place.{Place}
@@ -8,51 +8,47 @@ use Rattle.cweb_lines.specs.declared.change.Stage.{Stage}
 use Rattle.cweb_lines.specs.declared.change.Stage.TheVariants.{Done, Seeking, Waiting, Changing}
 use Rattle.cweb_input.specs.declared.open_source.OpenSource.{OpenSource}
 
--- how many texts stay open
+-- The number of sources that stay open.
 abbrev pub floor_of : Stage → ℕ
 floor_of Done = 0
 floor_of Seeking = 0
 floor_of (Waiting begin) = 0
 floor_of (Changing change) = change.below
 
--- how deep new lines lie
 abbrev pub new_depth : Stage → ℕ
 new_depth Done = 0
 new_depth Seeking = 0
 new_depth (Waiting begin) = 0
 new_depth (Changing change) = change.depth
 
--- how many files there are at least, by the entry that waits or whose new lines come
+-- The least number of files that the entry of a stage implies.
 abbrev pub files_begun : Stage → ℕ
 files_begun Done = 0
 files_begun Seeking = 0
 files_begun (Waiting begin) = begin.file.0 + 1
 files_begun (Changing change) = change.begin.file.0 + 1
 
--- where the entry has its @x line that a line begins
+-- The place of the @x of the entry that this line begins, if any.
 abbrev pub begun_by : Option WaitingEntry → Bool → List ℕ → Option Place
 begun_by None may_match bytes = None
 begun_by (Some entry) may_match bytes = if may_match && bytes_eq bytes entry.first then Some entry.begin else None
 
--- no entry is sought
 abbrev pub IsSettled : Stage → Type 0
 IsSettled stage = stage ≢ Seeking
 
--- no new lines come, and no entry is sought
 abbrev pub IsOutside : Stage → Type 0
 IsOutside Done = Unit {0}
 IsOutside Seeking = ⊥
 IsOutside (Waiting begin) = Unit {0}
 IsOutside (Changing change) = ⊥
 
--- how many turns may go on at this stage without a line
+-- How many turns this stage may take without a line.
 abbrev pub weight_of : Stage → ℕ
 weight_of Done = 0
 weight_of Seeking = 2
 weight_of (Waiting begin) = 1
 weight_of (Changing change) = 3
 
--- an entry is sought first where there is a change file
 abbrev pub stage_for : {R : Type 0} → Option (OpenSource R) → Stage
 stage_for None = Done
 stage_for (Some text) = Seeking

@@ -1,4 +1,4 @@
--- What the calls that take and obey lines say whatever the shelf tells: a record for each kind of call.
+-- What the calls of a step promise for any shelf, observable or not.
 use Rattle.std.specs.Prelude.{◌≡◌, ◌≤◌, ◌<◌, ℕ, List, length, Result, IfOk, IfErr, OnOk, OnErr}
 use Rattle.cweb_input.specs.surface.Counters.{counters_of}
 use Rattle.cweb_lines.specs.inner.MergeProgress.{TurnCounts, TurnEnds, TurnGains, TurnKnown, TurnLine, turns_left}
@@ -11,7 +11,7 @@ use Rattle.cweb_lines.specs.declared.step.Turn.{Turn}
 use Rattle.cweb_input.specs.declared.stop.Stop.{Stop}
 use Rattle.cweb_input.specs.declared.stop.Stop.TheVariants.{Memory}
 
--- An old line takes the next raw line away, and is the only thing that changes what is counted.
+-- An old line drops the next raw line, which alone is counted.
 pub record TakesAway {R : Type 0} (so_far : Replaced) (old new : MergeState R)
     (result : Result Replaced Stop) : Type 0 where
   pub more : old.limits.lines ≤ new.limits.lines
@@ -24,7 +24,7 @@ pub record TakesAway {R : Type 0} (so_far : Replaced) (old new : MergeState R)
   pub reading : IfErr result (λ stop. StopsReading stop)
   pub named : IfErr result (λ stop. files_named stop ≤ length (opened_file_names new.names))
 
--- Lines are taken of the change file and of open texts, and faults are told; no file is opened.
+-- Lines are taken, and faults are reported. No file is opened.
 pub record GoesOn {R A : Type 0} (old new : MergeState R) (result : Result A Stop) : Type 0 where
   pub more : old.limits.lines ≤ new.limits.lines
   pub longer : old.limits.bytes ≤ new.limits.bytes
@@ -35,9 +35,7 @@ pub record GoesOn {R A : Type 0} (old new : MergeState R) (result : Result A Sto
   pub reading : IfErr result (λ stop. StopsReading stop)
   pub named : IfErr result (λ stop. files_named stop ≤ length (opened_file_names new.names))
 
--- The next entry is sought: lines are taken of the change file alone, and where an entry or its end is found, fewer
--- turns
--- are left.
+-- Lines of the change file alone are taken. If an entry or the end is found, fewer turns are left.
 pub record OnlySeeks {R A : Type 0} (old new : MergeState R) (result : Result A Stop) : Type 0 where
   pub longer : old.limits.bytes ≤ new.limits.bytes
   pub counts : OnOk result ((old.limits.lines ≤ new.limits.lines)
@@ -49,7 +47,7 @@ pub record OnlySeeks {R A : Type 0} (old new : MergeState R) (result : Result A 
   pub reading : IfErr result (λ stop. StopsReading stop)
   pub named : IfErr result (λ stop. files_named stop ≤ length (opened_file_names new.names))
 
--- a text is opened in front of the others, and nothing else changes but the names
+-- A source is opened, and nothing else but the names changes.
 pub record OnlyOpens {R : Type 0} (old new : MergeState R) : Type 0 where
   pub inputs : new.inputs ≡ old.inputs
   pub change : new.change ≡ old.change
@@ -59,8 +57,7 @@ pub record OnlyOpens {R : Type 0} (old new : MergeState R) : Type 0 where
   pub faults : new.faults ≡ old.faults
   pub stopped : new.stopped ≡ old.stopped
 
--- An include line is obeyed, or told to be none that can be: no line is taken, and only want of memory stops it, before
--- anything is told.
+-- An include line is obeyed, or a fault is reported. No line is taken. Only want of memory stops it, before any report.
 pub record OnlyObeys {R A : Type 0} (old new : MergeState R) (result : Result A Stop) : Type 0 where
   pub limits : new.limits ≡ old.limits
   pub stage : new.stage ≡ old.stage
@@ -70,8 +67,7 @@ pub record OnlyObeys {R A : Type 0} (old new : MergeState R) (result : Result A 
       × (opened_file_names new.names ≡ opened_file_names old.names))
   pub memory : IfErr result (λ stop. stop ≡ Memory)
 
--- A turn: a line that it gives out is one, of a file that was opened, and counted; where it
--- finds nothing, nothing is left; each turn takes a line or leaves fewer turns.
+-- A turn emits a counted line of an opened file, leaves fewer turns, or finds that nothing is left.
 pub record Turns {R : Type 0} (old new : MergeState R) (bytes : List ℕ) (result : Result Turn Stop) : Type 0 where
   pub stopped : new.stopped ≡ old.stopped
   pub grows : length (opened_file_names old.names) ≤ length (opened_file_names new.names)

@@ -1,8 +1,8 @@
--- What the steps of a merger leave alone.
+-- Frames of the elementary actions.
 use Rattle.std.specs.Prelude.{◌≡◌}
 use Rattle.cweb_lines.specs.declared.merge_state.MergeState.{MergeState}
 
--- faults are told, and nothing else changes
+-- Only the faults change.
 pub record OnlyReports {R : Type 0} (old new : MergeState R) : Type 0 where
   pub inputs : new.inputs ≡ old.inputs
   pub stack : new.stack ≡ old.stack
@@ -13,7 +13,7 @@ pub record OnlyReports {R : Type 0} (old new : MergeState R) : Type 0 where
   pub names : new.names ≡ old.names
   pub stopped : new.stopped ≡ old.stopped
 
--- a line is taken of the texts or of the change file, and nothing else changes
+-- Only the sources and counters change.
 pub record OnlyTakes {R : Type 0} (old new : MergeState R) : Type 0 where
   pub inputs : new.inputs ≡ old.inputs
   pub stage : new.stage ≡ old.stage

@@ -1,4 +1,4 @@
--- Every web has its merged lines, and has them once.
+-- The events of a merge don't depend on the number of steps.
 use Rattle.std.proofs.Common.{◌≡◌, ℕ, zero, suc, List, [], ◌++◌, Option, Some, None, refl, sym, ◌∙◌, ap}
 use Rattle.cweb_input.specs.Include.{World}
 use Rattle.cweb_lines.specs.Merge.{Event, MergeStateModel, Next, step, onto, step_then_run, run_steps}
@@ -28,7 +28,6 @@ run_steps_unique (suc m) (suc n) world s a b one other = by (step world s) one o
         let y = onto_some next.0 b (run_steps n world next.1) other in
         sym x.2 ∙ ap (λ (es : List Event). next.0 ++ es) (later next.1 x.0 y.0 x.1 y.1) ∙ y.2
 
--- what so many steps give is all that comes
 pub merge-run_steps : (n : ℕ) (world : World) (s : MergeStateModel) (events : List Event)
     → run_steps n world s ≡ Some events →
     merge world s ≡ events

@@ -1,4 +1,4 @@
--- What merged lines look like in a sink.
+-- How far the output of a merge is.
 use Rattle.std.specs.Prelude.{◌≡◌, ◌<◌, ℕ, List, ◌++◌, length}
 use Rattle.cweb_files.specs.Frames.{WritesPrefix}
 use Rattle.cweb_input.specs.Lines.{Line}
@@ -6,7 +6,7 @@ use Rattle.cweb_lines.specs.Merge.{Event}
 use Rattle.cweb_lines.specs.surface.MergeProgress.{SoFar, EmitsLines}
 use Rattle.cweb_lines.specs.Writing.{written_lines}
 
--- A write failed in the midst of lines that were gathered. What comes after that comes behind them.
+-- A write failed within the buffered lines. The next line is the one after them.
 pub record FailsAmong (room : ℕ) (old new : SoFar) (all later : List Event) (before after : List ℕ) : Type 0 where
   pub done : List Line
   pub gathered : List Line
@@ -15,7 +15,7 @@ pub record FailsAmong (room : ℕ) (old new : SoFar) (all later : List Event) (b
   pub some : 0 < length gathered
   pub alone : room ≡ 0 → length gathered ≡ 1
 
--- All lines that were given out were written.
+-- All emitted lines were written.
 pub record HasWritten (old new : SoFar) (all now : List Event) (Wrote : List ℕ → Type 0) : Type 0 where
   pub lines : List Line
   pub gives : EmitsLines lines old new all now

@@ -1,4 +1,4 @@
--- What holds of merged lines whatever the texts are, in the words of someone who writes webs.
+-- What holds of every merge, in the words of an author of webs.
 use Rattle.std.specs.Prelude.{◌≡◌, ◌≢◌, ◌<◌, ◌≤◌, ℕ, zero, suc, ◌+◌, Bool, true, false, List, [], ◌∷◌, ◌++◌, length}
 use Rattle.std.specs.Prelude.{map, Option, None, Some}
 use Rattle.std.specs.List.{AllByRecursion, list_any}
@@ -17,31 +17,28 @@ use Rattle.cweb_input.specs.declared.fault.SourceKind.{SourceKind}
 use Rattle.cweb_input.specs.declared.fault.SourceKind.TheVariants.{NoMatch, NoName, NotThere, TooDeep}
 use Rattle.cweb_input.specs.declared.limits.TheConstants.{OPEN_FILES}
 
--- A web without include lines, and without a change file, is its own lines, in order, with their numbers, without a
--- fault.
+-- A web without include lines and change file merges to its own lines, in order, numbered and without a fault.
 abbrev pub WebsWithoutIncludesAreTheirOwnLines : Type 0
 WebsWithoutIncludesAreTheirOwnLines = (world : World) (web : List ℕ)
     → list_any is_include_line (lines web) ≡ false
     → merge_outcome world web None ≡ only_lines (placed 0 1 (lines web))
 
--- a line that begins @x, @y or @z
+-- The line begins with @x, @y or @z.
 abbrev pub is_change_code : List ℕ → Bool
 is_change_code line = is_some (change_code line)
 
--- Files are numbered as they are opened, from the web's 0 on. With a change file, which is then file 1, each included
--- file has the next number.
+-- The number of a file once there is a change file. That is file 1, so each included file has the next higher number.
 abbrev pub file_with_change : ℕ → ℕ
 file_with_change zero = zero
 file_with_change (suc file) = suc (suc file)
 
--- A change file of no entries is no change file: what comes of the web is the same, but for the numbers of the files.
+-- A change file without entries changes nothing but the numbers of files.
 abbrev pub ChangeFilesWithoutEntriesChangeNothing : Type 0
 ChangeFilesWithoutEntriesChangeNothing = (world : World) (web change : List ℕ)
     → list_any is_change_code (lines change) ≡ false
     → merge_outcome world web (Some change) ≡ renumbered file_with_change (merge_outcome world web None)
 
--- A text that was printed comes of itself: its lines are what was printed, none of them begins an include, and they are
--- printed again.
+-- A printed merge merges to itself: it has the printed lines, none is an include line, and they are printed again.
 pub record ComesAgain (printed : List Line) (again : MergeOutcome) : Type 0 where
   pub same_lines : lines (written_lines printed) ≡ map (λ line. line.bytes) printed
   pub without_includes : list_any is_include_line (lines (written_lines printed)) ≡ false
@@ -49,16 +46,16 @@ pub record ComesAgain (printed : List Line) (again : MergeOutcome) : Type 0 wher
   pub faultless : again.faults ≡ []
   pub alone : again.included ≡ []
 
--- What is printed of a merge, merged again without a change file, is itself, whatever texts lie beside it then.
+-- A printed merge, merged again without a change file, stays as it is, whatever other files there are.
 abbrev pub PrintedMergesComeAgain : Type 0
 PrintedMergesComeAgain = (world other : World) (web : List ℕ) (change : Option (List ℕ)) →
     let printed = (merge_outcome world web change).lines in
     ComesAgain printed (merge_outcome other (written_lines printed) None)
 
--- Where no change file is given, each line comes alone: what comes of lines is what comes of some of them and then what
--- comes of the rest, and a line that includes no text is given out, or is a fault.
+-- Without a change file each line is independent: lines merge as a prefix of them does, followed by the rest. A line
+-- that includes no file is emitted or a fault.
 pub record LinesComeApart : Type 0 where
-  -- a web's own lines lie at depth 1, behind one file
+  -- a web's own lines are at depth 1, after one opened file
   pub whole : (world : World) (web : List ℕ)
       → merge_outcome world web None ≡ outcome_of_lines world 1 1 (lines_in 0 web)
   pub apart : (world : World) (depth files : ℕ) (before behind : List SourceLine) →
@@ -77,14 +74,13 @@ pub record LinesComeApart : Type 0 where
       → include_name line.line.bytes ≢ [] → depth < OPEN_FILES → found_at world (include_name line.line.bytes) ≡ None
       → outcome_of_lines world depth files (line ∷ []) ≡ only_fault NotThere line.line.place
 
--- a line that includes a text, which is found under a name
+-- The line includes a file, which was found under a name.
 pub record Includes (world : World) (bytes name text : List ℕ) : Type 0 where
   pub include : is_include_line bytes ≡ true
   pub named : include_name bytes ≢ []
   pub found : found_at world (include_name bytes) ≡ Some (name, text)
 
--- What stands before an include line, then the name under which its text was found and the merged lines of that text,
--- then what stands behind it.
+-- The lines before an include line, then its file with its name, then the lines after it.
 abbrev pub with_included : World → ℕ → ℕ → List SourceLine → List ℕ → List ℕ → List SourceLine → MergeOutcome
 with_included world depth files before name text behind =
     let first = outcome_of_lines world depth files before in
@@ -93,8 +89,7 @@ with_included world depth files before name text behind =
     let last = outcome_of_lines world depth (file + 1 + length inside.included) behind in
     followed_by first (followed_by (only_name name) (followed_by inside last))
 
--- Where no change file is given, an include line is replaced by the merged lines of its text, one deeper, and what
--- stands before and behind it comes as if alone.
+-- Without a change file, an include line is replaced by the merged lines of its file, one deeper.
 abbrev pub IncludeLinesAreReplaced : Type 0
 IncludeLinesAreReplaced = (world : World) (depth files : ℕ) (before behind : List SourceLine)
     (line : SourceLine) (name text : List ℕ)
@@ -106,17 +101,15 @@ abbrev pub is_too_deep : SourceKind → Bool
 is_too_deep TooDeep = true
 is_too_deep _ = false
 
--- The merged lines of an included text are those that it has as a web of its own, where no include line lies too deep
--- for
--- that it is included: only its files are numbered from its own number on.
+-- An included file merges as a web of its own, if no include line is too deep. Only the files are numbered from it on.
 abbrev pub IncludesMergeAsWebs : Type 0
 IncludesMergeAsWebs = (world : World) (deeper file : ℕ) (text : List ℕ) →
     let inside = outcome_of_lines world (1 + deeper) (file + 1) (lines_in file text) in
     list_any (λ fault. is_too_deep fault.kind) inside.faults ≡ false
     → inside ≡ renumbered (λ number. file + number) (merge_outcome world text None)
 
--- One change as its author makes it. In the web: lines that stay, then the first line that is replaced, and further
--- ones. In the change file: a comment, an @x line, the old lines, an @y line, the new lines, an @z line.
+-- One change as its author makes it. In the web: lines that stay, the first old line and further ones. In the change
+-- file: a comment, @x, the old lines, @y, the new lines and @z.
 pub record Splice : Type 0 where
   pub stays : List (List ℕ)
   pub first : List ℕ
@@ -127,8 +120,8 @@ pub record Splice : Type 0 where
   pub new : List (List ℕ)
   pub end : List ℕ
 
--- The lines between the codes are no codes, the first old line isn't empty, no line that stays equals it, and no line
--- that stays or comes new begins an include.
+-- No other line is a code line, and no line that stays or is new is an include line. The first old line isn't empty and
+-- no line before it equals it.
 pub record IsPlainSplice (splice : Splice) : Type 0 where
   pub begins : change_code splice.begin ≡ Some old_side
   pub turns : change_code splice.middle ≡ Some new_side
@@ -141,20 +134,19 @@ pub record IsPlainSplice (splice : Splice) : Type 0 where
   pub stays_plain : list_any is_include_line splice.stays ≡ false
   pub new_plain : list_any is_include_line splice.new ≡ false
 
--- the lines of a web by its changes, and behind the last of them these
+-- The lines of the web that has these changes, and then `behind`.
 abbrev pub web_lines : List Splice → List (List ℕ) → List (List ℕ)
 web_lines [] behind = behind
 web_lines (s ∷ splices) behind = s.stays ++ (s.first ∷ (s.further ++ web_lines splices behind))
 
--- the lines of a change file by its entries, and behind the last of them a comment
+-- The lines of the change file that has these entries, and then a comment.
 abbrev pub spliced_change_lines : List Splice → List (List ℕ) → List (List ℕ)
 spliced_change_lines [] comment = comment
 spliced_change_lines (s ∷ splices) comment =
     s.comment ++ (s.begin ∷ s.first
     ∷ (s.further ++ (s.middle ∷ (s.new ++ (s.end ∷ spliced_change_lines splices comment)))))
 
--- The lines that stay and the new lines by turns, each with its place. The numbers are those of the next line of the
--- web and of the next line of the change file.
+-- The lines that stay and the new lines, with their places. `web` and `change` number the next lines of both files.
 abbrev pub spliced : ℕ → ℕ → List Splice → List (List ℕ) → List Line
 spliced web change [] behind = placed 0 web behind
 spliced web change (s ∷ splices) behind =
@@ -163,8 +155,7 @@ spliced web change (s ∷ splices) behind =
     placed 0 web s.stays
     ++ (placed 1 first_new s.new ++ spliced next_web (first_new + length s.new + 1) splices behind)
 
--- A change file whose entries match, in order, splices: the lines before, the new lines, the lines behind, without a
--- fault.
+-- If all entries match in order, the merge has the lines that stay and the new lines, without a fault.
 abbrev pub ChangesSplice : Type 0
 ChangesSplice = (world : World) (web change : List ℕ) (splices : List Splice) (behind comment : List (List ℕ))
     → AllByRecursion IsPlainSplice splices
@@ -172,8 +163,7 @@ ChangesSplice = (world : World) (web change : List ℕ) (splices : List Splice) 
     → lines web ≡ web_lines splices behind → lines change ≡ spliced_change_lines splices comment
     → merge_outcome world web (Some change) ≡ only_lines (spliced 1 1 splices behind)
 
--- An entry that begins a change file and whose first old line is no line of the web, which includes nothing, is told
--- once, at its @x line, and changes nothing. What stands behind that old line is never looked at.
+-- A first entry that matches no line of a web without include lines is reported once, at its @x, and changes nothing.
 abbrev pub UnmatchedEntriesAreReported : Type 0
 UnmatchedEntriesAreReported = (world : World) (web change : List ℕ)
     (comment : List (List ℕ)) (begin first : List ℕ) (rest : List (List ℕ))

@@ -1,4 +1,4 @@
--- What an author sees of a merge.
+-- The outcome of a merge for an author.
 use Rattle.std.specs.Prelude.{ℕ, ◌+◌, true, List, [], ◌∷◌, ◌++◌, map, Option, None}
 use Rattle.cweb_files.specs.declared.place.Place.{Place}
 use Rattle.cweb_input.specs.Lines.{Line, SourceLine}
@@ -12,7 +12,7 @@ use Rattle.cweb_lines.specs.Total.{merge}
 use Rattle.cweb_input.specs.declared.fault.SourceFault.{SourceFault}
 use Rattle.cweb_input.specs.declared.fault.SourceKind.{SourceKind}
 
--- what an author sees of a merge: the lines with their places, the faults, and the names of included files
+-- The lines with their places, the faults, and the names of included files.
 pub record MergeOutcome : Type 0 where
   pub lines : List Line
   pub faults : List SourceFault
@@ -25,19 +25,18 @@ outcome_of_events events = record {
   included = openings events;
 }
 
--- what comes of a web, and of a change file where one is given
+-- The outcome for a web and a change file, if there is one.
 abbrev pub merge_outcome : World → List ℕ → Option (List ℕ) → MergeOutcome
 merge_outcome world web change = outcome_of_events (merge world (started web change))
 
 abbrev pub placed_line : ℕ → ℕ → List ℕ → Line
 placed_line file number bytes = record { bytes = bytes; place = record { file = record { 0 = file }; line = number } }
 
--- the lines of a file, of which the first has this number, with their places
+-- Lines of a file with their places, from this number on.
 abbrev pub placed : ℕ → ℕ → List (List ℕ) → List Line
 placed file number [] = []
 placed file number (bytes ∷ rest) = placed_line file number bytes ∷ placed file (number + 1) rest
 
--- lines and nothing else
 abbrev pub only_lines : List Line → MergeOutcome
 only_lines lines = record { lines = lines; faults = []; included = [] }
 
@@ -54,7 +53,7 @@ only_name name = record { lines = []; faults = []; included = name ∷ [] }
 abbrev pub only_fault : SourceKind → Place → MergeOutcome
 only_fault kind place = record { lines = []; faults = at_place kind place ∷ []; included = [] }
 
--- the same with other numbers of files
+-- File numbers are replaced by `number`.
 abbrev pub place_renumbered : (ℕ → ℕ) → Place → Place
 place_renumbered number place = record { file = record { 0 = number place.file.0 }; line = place.line }
 
@@ -75,7 +74,7 @@ renumbered number all = record {
   included = all.included;
 }
 
--- what comes of lines that lie at a depth, where no change is pending and so many files have been opened before
+-- The outcome for lines at a depth, with no change to come and this number of opened files.
 abbrev pub outcome_of_lines : World → ℕ → ℕ → List SourceLine → MergeOutcome
 outcome_of_lines world depth files lines =
     outcome_of_events (merge world (record {

@@ -1,4 +1,4 @@
--- What a merger has still to give, and what a call gives of it.
+-- How far a merger is, and why it stops.
 use Rattle.std.specs.Prelude.{◌≡◌, ◌+◌, ◌⊎◌, ℕ, length, map, List, ◌∷◌, ◌++◌, [], Option}
 use Rattle.cweb_input.specs.Lines.{Line, SourceLine}
 use Rattle.cweb_lines.specs.Merge.{Event, took, fault, MergeStateModel, given}
@@ -19,15 +19,14 @@ use Rattle.cweb_lines.specs.declared.merge_state.MergeState.{MergeState}
 use Rattle.cweb_lines.specs.declared.change.Stage.TheVariants.{Done}
 use Rattle.cweb_input.specs.declared.stop.Stop.TheVariants.{ReadFault, LineTooLong, TooMuchText, Memory}
 
--- what was told and taken so far
+-- What was reported and taken so far.
 pub record SoFar : Type 0 where
   pub faults : List SourceFault
-  -- the names of the files that were opened
+  -- the names of the opened files
   pub names : List (List ℕ)
   pub count : TakenCountersModel
 
--- some of all that is to come comes: these lines are given out, and faults, openings and lines taken add to what came
--- so far
+-- A prefix of all events happened, and `later` is left. It emitted these lines, and its other events add to `old`.
 pub record EmitsLines (lines : List Line) (old new : SoFar) (all later : List Event) : Type 0 where
   pub events : List Event
   pub whole : all ≡ events ++ later
@@ -38,7 +37,7 @@ pub record EmitsLines (lines : List Line) (old new : SoFar) (all later : List Ev
   pub bytes_are : new.count.bytes ≡ old.count.bytes + size_of_lines (taken_lines events)
   pub short : AreShort (taken_lines events)
 
--- these faults are reported, and these lines are taken and counted
+-- These faults were reported, and these lines were taken and counted.
 pub record AddsFaultsAndLines (faults : List SourceFault) (lines : List SourceLine) (old new : SoFar) : Type 0 where
   pub told : new.faults ≡ old.faults ++ faults
   pub names : new.names ≡ old.names
@@ -46,8 +45,7 @@ pub record AddsFaultsAndLines (faults : List SourceFault) (lines : List SourceLi
   pub bytes_are : new.count.bytes ≡ old.count.bytes + size_of_lines lines
   pub short : AreShort lines
 
--- A step of the merge has begun. It takes lines, and raw lines by turns with them: a prefix of either was taken, and a prefix of its
--- faults reported.
+-- A step has begun: prefixes of its lines, of its raw lines and of its faults were taken and reported.
 pub record HasBegunStep (old new : SoFar) (lines raws : List SourceLine) (faults : List SourceFault) : Type 0 where
   pub front : List SourceLine
   pub rest : List SourceLine
@@ -60,7 +58,7 @@ pub record HasBegunStep (old new : SoFar) (lines raws : List SourceLine) (faults
   pub faults_are : faults ≡ told ++ more
   pub adds : AddsFaultsAndLines told (front ++ raw_front) old new
 
--- the line that such a step takes next can't be taken
+-- The next line of a step that has begun causes the stop.
 pub record StopsIn (stop : Stop) (old new : SoFar) (lines raws : List SourceLine)
     (faults : List SourceFault) : Type 0 where
   pub begun : HasBegunStep old new lines raws faults
@@ -68,11 +66,11 @@ pub record StopsIn (stop : Stop) (old new : SoFar) (lines raws : List SourceLine
   pub next : ComesFirst line begun.rest ⊎ ComesFirst line begun.raw_rest
   pub why : RefusesLine stop new.count line
 
--- what a step takes and reports, and what comes after it
+-- The events of a step that takes lines, then raw lines, and reports faults, and then `later`.
 abbrev pub step_events : List SourceLine → List SourceLine → List SourceFault → List Event → List Event
 step_events lines raws faults later = map took lines ++ (map took raws ++ (map fault faults ++ later))
 
--- all came that comes before a step, with these lines, and in this step a line can't be taken
+-- All events before a step happened and emitted these lines. A line in the step causes the stop.
 pub record StopsAfterLines (given : List Line) (stop : Stop) (old new : SoFar) (all : List Event) : Type 0 where
   pub mid : SoFar
   pub lines : List SourceLine
@@ -82,20 +80,19 @@ pub record StopsAfterLines (given : List Line) (stop : Stop) (old new : SoFar) (
   pub gives : EmitsLines given old mid all (step_events lines raws faults later)
   pub stops : StopsIn stop mid new lines raws faults
 
--- a merge begins with these files open
+-- The initial state of a merge with these files open.
 abbrev pub begun_with : List (List ℕ) → SoFar
 begun_with names = record { faults = []; names = names; count = record { lines = 0; bytes = 0 } }
 
--- the first list is a front of the second
 abbrev pub IsPrefix : {A : Type 0} → List A → List A → Type 0
 IsPrefix {A = A} front list = (rest : List A) × (list ≡ front ++ rest)
 
--- the faults and the names that were told stay as they are, in front of what is told since
+-- The faults and names so far are a prefix of the new ones.
 pub record KeepsReported (old new : SoFar) : Type 0 where
   pub faults : IsPrefix old.faults new.faults
   pub names : IsPrefix old.names new.names
 
--- the faults and openings that were told are a front of all that are to come
+-- The new faults and names are those of a prefix of all events.
 pub record ReportsPrefix (old new : SoFar) (all : List Event) : Type 0 where
   pub events : List Event
   pub later : List Event
@@ -103,12 +100,12 @@ pub record ReportsPrefix (old new : SoFar) (all : List Event) : Type 0 where
   pub faults : new.faults ≡ old.faults ++ reported_faults events
   pub names : new.names ≡ old.names ++ openings events
 
--- no line is given out before more is taken
+-- The next event emits no line.
 abbrev pub TakesBeforeEmitting : List Event → Type 0
 TakesBeforeEmitting (given line ∷ events) = ⊥
 TakesBeforeEmitting _ = Unit {0}
 
--- a read failed in a step: all lines were given out before it that were taken to be given out
+-- A read failed in a step. All lines that were taken before were emitted.
 pub record ReadFailsAfterLines (given : List Line) (old new : SoFar) (all : List Event) : Type 0 where
   pub mid : SoFar
   pub lines : List SourceLine
@@ -119,7 +116,7 @@ pub record ReadFailsAfterLines (given : List Line) (old new : SoFar) (all : List
   pub begun : HasBegunStep mid new lines raws faults
   pub next : TakesBeforeEmitting later
 
--- why no line came: a read failed, a line can't be taken, or memory was refused
+-- Why there is no line: a read failed, a line breaks a limit, or memory was refused.
 abbrev pub Stopped : Stop → SoFar → SoFar → List Event → Type 0
 Stopped (ReadFault file) old new all = ReadFailsAfterLines [] old new all
 Stopped (LineTooLong file) old new all = StopsAfterLines [] (LineTooLong file) old new all
@@ -135,14 +132,13 @@ so_far_of run = record {
       counters_of run.limits;
 }
 
--- the lines that the change file has left
 abbrev pub change_lines : {R : Type 0} → (R → List ℕ) → MergeState R → List SourceLine
 change_lines left run = lines_at left run.change
 
 abbrev pub pending_of : {R : Type 0} → MergeState R → Option WaitingEntry
 pending_of run = pending_in run.stage run.first.items
 
--- all that is to come, by what the shelf holds and what its readers have left
+-- The state of the merge that has these things to come.
 abbrev pub state_of : {R : Type 0} → (R → List ℕ) → MergeState R → List Thing → MergeStateModel
 state_of left run things = record {
   things = things;
@@ -157,6 +153,6 @@ things_of left run = things_in left run.stage (change_lines left run) run.stack
 abbrev pub events_to_come : {R : Type 0} → (List ℕ → Option (List ℕ)) → (R → List ℕ) → MergeState R → List Event
 events_to_come texts left run = merge (world_in texts run.inputs) (state_of left run (things_of left run))
 
--- no text is open any more, and no entry is left
+-- No source is open, and no entry is left.
 abbrev pub NothingLeft : {R : Type 0} → MergeState R → Type 0
 NothingLeft run = (run.stack.depth ≡ 0) × (run.stage ≡ Done)

@@ -2,18 +2,18 @@
 ghost use Rattle.std.specs.Prelude.{◌≡◌};
 ghost use Rattle.cweb_lines.specs.Change as spec;
 
-/// A code line of a change file, by the part of an entry that it begins or ends.
+/// A code line: what it begins or ends.
 #[derive(Clone, Copy, PartialEq, Eq)]
 pub enum Code {
-    /// `@x`: the old lines begin.
+    /// `@x`: begins the old lines.
     OldSide,
-    /// `@y`: the new lines begin.
+    /// `@y`: begins the new lines.
     NewSide,
-    /// `@z`: the entry ends.
+    /// `@z`: ends the entry.
     EndSide,
 }
 
-/// The code of a line that begins with `@` and the letter x, y or z in either case. The rest of the line is ignored.
+/// The code of a line that begins with `@x`, `@y` or `@z` in either case. The rest of the line is ignored.
 pub fn change_code(line: &[u8]) -> Option<Code>
     ensures { result ≡ spec.change_code line.now }
 {

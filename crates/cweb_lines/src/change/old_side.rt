@@ -1,4 +1,4 @@
-// The old side of a change: its further old lines, and the raw lines that they take away.
+// The old side of a change: its further old lines, and the raw lines that they replace.
 ghost use Rattle.std.specs.Prelude.{◌≡◌, ◌≤◌, ◌<◌, ◌+◌, ◌^◌, ◌++◌, ◌∷◌, [], length, IsTrue, IfOk};
 ghost use Rattle.std.specs.Prelude.{IfErr, OnOk, OnErr, false};
 ghost use Rattle.cweb_files.specs.surface.Frames.{KeepsShelf};
@@ -28,18 +28,18 @@ use cweb_files::{Place, Shelf};
 use cweb_input::{SourceKind, Stop};
 use std::mem::swap;
 
-/// What came of the old lines behind the first.
+/// What comparing the old lines after the first found.
 #[derive(Clone, Copy)]
 pub struct Replaced {
-    /// How many of them differ from the web's lines.
+    /// How many differ from the lines of the web.
     pub unequal: u32,
-    /// The web ended before all of them were compared.
+    /// The web ended before all were compared.
     pub ran_out: bool,
     /// The change file ended before the new lines.
     pub ended: bool,
 }
 
-// An old line, which the run keeps in place of the first, takes the next raw line away.
+// Compares an old line, which is in `run.first`, with the next raw line, and drops both.
 fn compare<S: Shelf>(
     shelf: &mut S,
     run: &mut MergeState<S::R>,
@@ -84,7 +84,7 @@ fn compare<S: Shelf>(
     })
 }
 
-// Takes the further old lines, and for each the next raw line, over the ends of included files too.
+// Takes the further old lines, and one raw line for each, across the ends of included files.
 fn replace<S: Shelf>(
     shelf: &mut S,
     run: &mut MergeState<S::R>,
@@ -171,7 +171,7 @@ fn report_if<R: Drop>(
     run.report(kind, place, count)
 }
 
-// The faults of an old side that come behind those of its lines.
+// Reports the faults of the old side as a whole.
 fn close<R: Drop>(run: &mut MergeState<R>, begin: Place, replaced: Replaced) -> Result<(), Stop>
     requires known { begin.file.0 < length (opened_file_names run.old.names) }
     ensures told { OnOk result (run.new.faults.items ≡ run.old.faults.items
@@ -192,8 +192,8 @@ fn close<R: Drop>(run: &mut MergeState<R>, begin: Place, replaced: Replaced) -> 
     report_if(run, differ, SourceKind::Unequal, begin, replaced.unequal)
 }
 
-/// Makes a change behind its first old line, which was taken. Its old side is taken away, and then its new lines come; where
-/// the change file has ended, neither they nor a further entry.
+/// Begins a change whose first old line was matched, and drops its old side. If the change file has ended, there is
+/// neither a new side nor a further entry.
 pub fn begin_change<S: Shelf>(
     shelf: &mut S,
     run: &mut MergeState<S::R>,

@@ -25,16 +25,16 @@ use cweb_files::{Place, Shelf};
 use cweb_input::{SourceKind, Stop};
 use std::mem::swap;
 
-/// What one line of the change file comes to in a search.
+/// What a line of the change file is in a search.
 #[derive(Clone, Copy)]
 pub enum Look {
-    /// It is the first old line of the entry whose `@x` line stands here.
+    /// The first old line of the entry whose `@x` is at this place.
     Entry(Place),
-    /// The search goes on, behind an `@x` line or outside an entry.
+    /// Another line. The place is that of an `@x` without an old line so far.
     On(Option<Place>),
 }
 
-// A line outside an entry: where it is an @x line, an entry may begin there.
+// A line outside an entry. An `@x` may begin one.
 fn pass<R: Drop>(
     run: &mut MergeState<R>,
     code: Option<Code>,
@@ -60,7 +60,7 @@ fn pass<R: Drop>(
     }
 }
 
-// A line behind an @x line: empty lines are skipped, and a code line begins the search anew.
+// A line after `@x`: empty lines are skipped, and a code line restarts the search.
 fn look_after_x<R: Drop>(
     run: &mut MergeState<R>,
     line: &[u8],
@@ -96,7 +96,6 @@ fn look_after_x<R: Drop>(
     }
 }
 
-// One line of the change file, behind an @x line or outside an entry.
 fn look_at<R: Drop>(
     run: &mut MergeState<R>,
     line: &[u8],
@@ -125,7 +124,7 @@ fn look_at<R: Drop>(
     }
 }
 
-// The change file has ended: no entry is left.
+// Ends the search at the end of the change file.
 fn end<R: Drop>(run: &mut MergeState<R>, begin: Option<Place>) -> Result<(), Stop>
     requires begun { BegunKnown (length (opened_file_names run.old.names)) begin }
     ensures told { OnOk result (run.new.faults.items ≡ run.old.faults.items
@@ -149,7 +148,7 @@ fn end<R: Drop>(run: &mut MergeState<R>, begin: Option<Place>) -> Result<(), Sto
     Ok(())
 }
 
-/// Seeks the next entry, whose first old line then waits.
+/// Seeks the next entry, which then waits for its first old line.
 pub fn seek<S: Shelf>(
     shelf: &mut S,
     run: &mut MergeState<S::R>,

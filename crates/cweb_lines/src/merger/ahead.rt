@@ -1,4 +1,4 @@
-// Lines that come next are looked at where they lie in what was read, one behind another, before they are taken all at once.
+// Lookahead: buffered lines are looked at one after another, and then taken all at once.
 ghost use Rattle.std.specs.Prelude.{◌≡◌, ◌≤◌, ◌+◌, ℕ, List, [], IfSome, OnSome, None, Some};
 ghost use Rattle.cweb_lines.specs.inner.Ahead.{FitsLimits, IsAhead, LooksAhead, LooksAheadIn, TakesLines};
 ghost use Rattle.cweb_lines.specs.inner.Passing.{ComesNext, IsStretchOf};
@@ -12,7 +12,7 @@ use crate::passing::stretch::{Stretch, line_from};
 use cweb_files::{Place, Shelf};
 use cweb_input::OpenSource;
 
-/// Lines that come next and were not yet taken: where the last of them stands and lies, and all of them.
+/// Next lines that were not taken yet: the last of them, and all of them.
 #[derive(Clone, Copy)]
 pub struct Ahead {
     pub line: LineSpan,
@@ -22,7 +22,7 @@ pub struct Ahead {
 impl<S: Shelf> Merger<S> {
     ghost use Rattle.cweb_lines.specs.surface.MergerCalls.{stop_in};
 
-    /// The next line as `borrow_line` lends it, but not yet taken. None where it lends none.
+    /// The line that `borrow_line` would return, not yet taken.
     #[inline(always)]
     pub fn first_ahead(&self) -> Option<Ahead>
         ensures looks { IfSome result (λ ahead. LooksAhead self.now.run [] ahead) }
@@ -41,8 +41,8 @@ impl<S: Shelf> Merger<S> {
         Some(Ahead { line, stretch })
     }
 
-    /// The line behind lines that come next, with them, where it passes through and they have no blanks at their ends. None
-    /// where it has to be asked for once they are taken.
+    /// The line after these next lines, added to them, if it passes through and they have no trailing blanks. After
+    /// `None` take the lines and call `next_line`.
     #[inline(always)]
     pub fn next_ahead(&self, before: Ahead) -> Option<Ahead>
         requires { IsAhead self.now.run before }
@@ -61,7 +61,7 @@ impl<S: Shelf> Merger<S> {
         }
     }
 
-    /// Takes lines that come next, and counts them.
+    /// Takes and counts these next lines.
     #[inline(always)]
     pub fn take_ahead(&mut self, ahead: Ahead)
         requires { IsAhead self.old.run ahead }
@@ -72,7 +72,7 @@ impl<S: Shelf> Merger<S> {
     }
 }
 
-// The line of an open text behind others.
+// The line of a source after these ones.
 #[inline(always)]
 fn line_after<R: Drop>(
     text: &OpenSource<R>,

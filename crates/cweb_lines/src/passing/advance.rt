@@ -71,7 +71,7 @@ fn advance_top<R: Drop>(stack: &mut Stack<R>, limits: &mut TakenCounters, stretc
 }
 
 impl<R: Drop> MergeState<R> {
-    /// Takes lines that come next.
+    /// Takes these next lines.
     #[inline(always)]
     pub fn advance(&mut self, stretch: Stretch)
         requires { (lines : List (List ℕ)) × ComesNext self.old stretch lines }

@@ -1,4 +1,4 @@
-// Lines that are lent from where they lie in what was read.
+// Lines that are borrowed from the buffer.
 ghost use Rattle.std.specs.Prelude.{◌≡◌, ℕ, List, IfSome, None};
 ghost use Rattle.cweb_lines.specs.inner.LineSpans.{BorrowsLine, IsSpanIn, span_bytes, line_span_at};
 ghost use Rattle.cweb_lines.specs.inner.Passing.{ComesNext, top_of};
@@ -7,7 +7,7 @@ use crate::merge_state::MergeState;
 use crate::passing::stretch::Stretch;
 use cweb_files::Place;
 
-/// A line that was taken: where it stands in its file, and where it lies in what was read.
+/// A line in the buffer: its place in its file, and its range in the buffer.
 #[derive(Clone, Copy, Debug, PartialEq, Eq)]
 pub struct LineSpan {
     pub place: Place,
@@ -16,7 +16,7 @@ pub struct LineSpan {
 }
 
 impl<R: Drop> MergeState<R> {
-    // Where the line that comes next stands and lies.
+    // The place and range of the next line.
     #[inline(always)]
     pub(crate) fn line_at(&self, stretch: Stretch) -> Option<LineSpan>
         requires { (lines : List (List ℕ)) × ComesNext self.now stretch lines }
@@ -35,7 +35,7 @@ impl<R: Drop> MergeState<R> {
         }
     }
 
-    /// Takes the next line where it passes through.
+    /// Takes the next line, if it passes through.
     #[inline(always)]
     pub fn borrow_line(&mut self) -> Option<LineSpan>
         ensures lent { IfSome result (λ line. BorrowsLine line self.old self.new) }
@@ -51,7 +51,7 @@ impl<R: Drop> MergeState<R> {
         Some(line)
     }
 
-    /// The bytes of a line that lies in what was read.
+    /// The bytes of a line in the buffer.
     #[inline(always)]
     pub fn bytes_of(&self, line: LineSpan) -> &[u8]
         requires { IsSpanIn self.now line }

@@ -1,4 +1,4 @@
-// How many lines of what was read pass through at once.
+// How many buffered lines pass through at once.
 ghost use Rattle.std.specs.Prelude.{◌≡◌, ◌≤◌, ◌+◌, ◌-◌, ℕ, List, IfSome, OnSome};
 ghost use Rattle.cweb_lines.specs.inner.Ahead.{FitsLimits, FitsLimitsAt};
 ghost use Rattle.cweb_lines.specs.inner.Passing.{Reaches, IsStretchOf, ComesNext, HasRoomFor};
@@ -13,20 +13,19 @@ use cweb_input::{
     LINE_LENGTH, OpenSource, Source, TakenCounters, is_include_line, newline_at, trimmed_length,
 };
 
-/// Lines that stand one behind another in what was read, and pass through. All but the last have no blanks at their ends, so
-/// that they are printed as they stand.
+/// Adjacent buffered lines that pass through. Only the last may have trailing blanks, so one copy prints them.
 #[derive(Clone, Copy)]
 pub struct Stretch {
-    /// Where what is printed of them ends, without the last newline.
+    /// The end of the bytes that are printed, without the last newline.
     pub text: usize,
-    /// Where they end, with the last newline.
+    /// The end of the lines, with the last newline.
     pub end: usize,
-    /// How many they are.
+    /// The number of lines.
     pub lines: u32,
 }
 
 impl Stretch {
-    // These lines and those behind them.
+    // These lines and the next ones.
     pub(crate) fn then(self, next: Stretch) -> Stretch
         requires { self.lines + next.lines ≤ LINES }
         ensures text { result.text ≡ next.text }
@@ -41,7 +40,7 @@ impl Stretch {
     }
 }
 
-// The line from a place on, where it was read whole and passes through.
+// The line from an offset on, if it was read whole and passes through.
 #[inline(always)]
 pub(crate) fn line_from<R: Drop>(
     source: &Source<R>,
@@ -78,7 +77,7 @@ pub(crate) fn line_from<R: Drop>(
     })
 }
 
-// The next lines of a source that pass through, until they have so many bytes. The last one alone may have blanks at its end.
+// The next lines of a source that pass through, until they have `room` bytes. Only the last may have trailing blanks.
 #[inline(always)]
 fn stretch_from<R: Drop>(
     source: &Source<R>,
@@ -111,7 +110,7 @@ fn stretch_from<R: Drop>(
     Some(stretch)
 }
 
-// The next lines of an open text. None where what was read might pass a limit.
+// The next lines of an open source, unless its buffer might exceed a limit.
 #[inline(always)]
 fn stretch_of<R: Drop>(
     text: &OpenSource<R>,
@@ -133,8 +132,7 @@ fn stretch_of<R: Drop>(
 }
 
 impl<R: Drop> MergeState<R> {
-    /// The next lines that pass through, until they have so many bytes, where no entry is sought and they are lines of an
-    /// open text. One line where there is no room.
+    /// The next lines that pass through, until they have `room` bytes, but at least one. `None` is always allowed.
     #[inline(always)]
     pub fn stretch(&self, room: usize) -> Option<Stretch>
         ensures lines { IfSome result (λ s. (lines : List (List ℕ)) × ComesNext self.now s lines) }
@@ -153,7 +151,7 @@ impl<R: Drop> MergeState<R> {
         }
     }
 
-    /// What is printed of lines that come next, without the last newline.
+    /// The bytes that are printed of the next lines, without the last newline.
     #[inline(always)]
     pub fn printed(&self, stretch: Stretch) -> &[u8]
         requires { (lines : List (List ℕ)) × ComesNext self.now stretch lines }

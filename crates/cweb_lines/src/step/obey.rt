@@ -1,4 +1,4 @@
-// Lines that begin no change: include lines are obeyed, and the others are given out.
+// Lines that begin no change: include lines are obeyed, and others are emitted.
 ghost use Rattle.std.specs.Prelude.{◌≡◌, ◌≤◌, ◌<◌, ◌+◌, ◌^◌, ◌++◌, ◌∷◌, [], length, IsTrue, IfOk};
 ghost use Rattle.std.specs.Prelude.{IfErr, OnOk, OnErr, None, Some, string_bytes, true, ℕ, List};
 ghost use Rattle.cweb_files.specs.surface.Frames.{KeepsShelf};
@@ -25,7 +25,7 @@ use cweb_input::{
     is_include_line,
 };
 
-// The lines of a text that was found come next, one deeper than the line that names it, and match where that line does.
+// Opens an included file. Its lines are next, one deeper than the include line, and match as it does.
 fn open<R: Drop>(run: &mut MergeState<R>, opening: Opening<R>, at: LineAt) -> Result<(), Stop>
     requires room { at.depth < OPEN_FILES }
     requires deep { run.old.stack.depth ≤ at.depth }
@@ -60,7 +60,7 @@ fn open<R: Drop>(run: &mut MergeState<R>, opening: Opening<R>, at: LineAt) -> Re
     Ok(())
 }
 
-// An include line is obeyed: a text is opened, or a fault is told.
+// Obeys an include line: opens a file, or reports a fault.
 fn obey<S: Shelf>(
     shelf: &mut S,
     run: &mut MergeState<S::R>,
@@ -99,7 +99,7 @@ fn obey<S: Shelf>(
     open(run, opening, at)
 }
 
-/// Gives a line out that was taken and begins no change, or obeys it where it is an include line.
+/// Emits a line that begins no change, or obeys it if it is an include line.
 #[inline(always)]
 pub fn emit_or_obey<S: Shelf>(
     shelf: &mut S,

@@ -1,4 +1,4 @@
-// What a merger does at once: it takes a line, or tells a fault.
+// Elementary actions of a merger: taking a line and reporting a fault.
 ghost use Rattle.std.specs.Prelude.{◌≡◌, ◌≤◌, ◌<◌, ◌+◌, ◌^◌, ◌++◌, ◌∷◌, [], length, IsTrue, IfOk};
 ghost use Rattle.std.specs.Prelude.{IfErr, IfSome, OnSome, Ok, OnOk, OnErr, None};
 ghost use Rattle.cweb_files.specs.surface.Frames.{KeepsShelf};
@@ -23,7 +23,7 @@ use cweb_input::{LineAt, SourceFault, SourceKind, Stop, take_above, take_from};
 use std::alloc::AllocError;
 
 impl<R: Drop> MergeState<R> {
-    /// How many texts stay open while lines are taken.
+    /// The number of sources that stay open while lines are taken.
     pub fn floor(&self) -> usize
         ensures { result ≡ floor_of self.now.stage }
     {
@@ -41,7 +41,7 @@ impl<R: Drop> MergeState<R> {
         self.stack.depth == 0 && matches!(self.stage, Stage::Done)
     }
 
-    /// Tells a fault.
+    /// Appends a fault.
     pub fn report(&mut self, kind: SourceKind, place: Place, count: u32) -> Result<(), Stop>
         requires known { place.file.0 < length (opened_file_names self.old.names) }
         ensures told { OnOk result (self.new.faults.items ≡ self.old.faults.items
@@ -85,7 +85,7 @@ pub fn take_change<S: Shelf>(
     take_from(shelf, &mut run.change, &mut run.limits, line)
 }
 
-/// Takes the next line of the open texts, but for those that stay open.
+/// Takes the next line of the open sources above the floor.
 #[inline(always)]
 pub fn take_raw<S: Shelf>(
     shelf: &mut S,

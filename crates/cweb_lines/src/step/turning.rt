@@ -28,7 +28,7 @@ use crate::step::progress::{take_change, take_raw};
 use cweb_files::{Place, Shelf};
 use cweb_input::{LineAt, SourceKind, Stop};
 
-// One line of a change's new side: an include line is obeyed, a code line ends the side or is a fault.
+// Takes a line of a change's new side. An include line is obeyed. A code line ends the side or is a fault.
 fn take_new<S: Shelf>(
     shelf: &mut S,
     run: &mut MergeState<S::R>,
@@ -88,7 +88,7 @@ fn take_new<S: Shelf>(
     }
 }
 
-// No raw line is left, but for those below a change.
+// No raw line is left above the floor.
 fn take_end<S: Shelf>(
     shelf: &mut S,
     run: &mut MergeState<S::R>,
@@ -127,7 +127,7 @@ fn take_end<S: Shelf>(
     }
 }
 
-/// Where the entry has its @x line that a line begins.
+/// The place of the `@x` of the entry that this line begins, if any.
 pub fn begun_at(stage: Stage, first: &[u8], may_match: bool, line: &[u8]) -> Option<Place>
     ensures { result ≡ begun_by (pending_in stage first.now) may_match line.now }
 {
@@ -137,7 +137,7 @@ pub fn begun_at(stage: Stage, first: &[u8], may_match: bool, line: &[u8]) -> Opt
     }
 }
 
-/// An entry is sought, or a line is taken: it begins a change, is obeyed or given out, or none is left.
+/// Seeks an entry, or takes a line that begins a change, is obeyed or is emitted.
 pub fn take_turn<S: Shelf>(
     shelf: &mut S,
     run: &mut MergeState<S::R>,
@@ -175,7 +175,6 @@ pub fn take_turn<S: Shelf>(
     take_settled(shelf, run, line)
 }
 
-// A line is taken: it begins a change, is obeyed or given out, or none is left.
 #[inline(always)]
 fn take_settled<S: Shelf>(
     shelf: &mut S,

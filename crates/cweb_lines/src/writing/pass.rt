@@ -1,4 +1,4 @@
-// Appending lines that pass through unchanged to a caller's buffer.
+// Appends lines that pass through to a caller's buffer.
 ghost use Rattle.std.specs.Prelude.{◌≡◌};
 ghost use Rattle.cweb_lines.specs.inner.Passing.{AppendsPassedLines};
 
@@ -6,8 +6,7 @@ use crate::merge_state::MergeState;
 use crate::writing::append_line::append_line;
 use std::alloc::AllocError;
 
-/// Appends lines that pass through, while the buffer has fewer than `room` bytes. Where memory is refused, the lines
-/// that were not appended are still to come.
+/// Appends lines that pass through, while the buffer has fewer than `room` bytes. A refused line is still to come.
 pub fn pass_lines<R: Drop>(
     run: &mut MergeState<R>,
     buffer: &mut Vec<u8>,

@@ -1,4 +1,4 @@
-// Lines that are lent, and lines that are looked at before they are taken.
+// Borrowed lines, and lookahead.
 use super::*;
 use std::process::Abort;
 
@@ -8,7 +8,7 @@ const PLACED: &[(&str, &[u8])] = &[
     ("c.ch", b"@x\nold\n@y\nnew\nnewer\n@z\n"),
 ];
 
-// The file and the number of each of their merged lines, and whether it is lent.
+// For each merged line its file and number, and whether it can be borrowed.
 const PLACES: &[(u32, u32, bool)] = &[
     (0, 1, false),
     (0, 2, true),
@@ -25,7 +25,7 @@ const LOOKED_AT: &[(&str, &[u8])] = &[
     ("b.w", b"in b\n"),
 ];
 
-// How many lines are taken at once and their text, and the number of the line that is asked for behind them.
+// How many lines are taken at once, their bytes, and the number of the next line.
 const TAKEN_AT_ONCE: &[(u32, &[u8], Option<u32>)] = &[
     (0, b"", Some(1)),
     (2, b"twothree", Some(4)),
@@ -35,7 +35,7 @@ const TAKEN_AT_ONCE: &[(u32, &[u8], Option<u32>)] = &[
     (0, b"", None),
 ];
 
-// The next line is of this place, and lent or not.
+// Checks the place of the next line, and whether it can be borrowed.
 fn comes_borrowed(
     rt: &impl Abort,
     merger: &mut Merger<MemoryShelf>,
@@ -57,7 +57,7 @@ fn comes_borrowed(
     Ok(())
 }
 
-// The lines have these places.
+// Checks all places.
 #[derive(Clone, Copy)]
 struct Placing;
 
@@ -78,14 +78,13 @@ impl Case<MemoryShelf, Fail> for Placing {
     }
 }
 
-// The places of lines that are lent are those of lines that are asked for; none is lent before something was read, or where
-// an include line or the old line of a change comes next.
+// Borrowed lines have the same places as others. None is borrowed before a read, before an include line or at a change.
 #[test]
 fn places_of_borrowed_lines(rt: HostRuntime) -> Result<(), Fail> {
     merge_files(&rt, PLACED, &CHANGED_WEB, &mut Placing)
 }
 
-// Two lines at most that come next, looked at and then taken at once: how many, and their text.
+// Looks at two lines at most and takes them at once. Returns their number and appends their bytes.
 fn taken_at_once(merger: &mut Merger<MemoryShelf>, text: &mut Vec<u8>) -> Result<u32, Stop> {
     let Some(first) = merger.first_ahead() else {
         return Ok(0);
@@ -100,7 +99,7 @@ fn taken_at_once(merger: &mut Merger<MemoryShelf>, text: &mut Vec<u8>) -> Result
     Ok(2)
 }
 
-// So many lines are taken at once, with this text, and then one comes of this number.
+// Checks the lines that are taken at once, and the number of the next line.
 fn takes_at_once(
     rt: &impl Abort,
     merger: &mut Merger<MemoryShelf>,
@@ -124,7 +123,7 @@ fn number_of(place: Option<Place>) -> Option<u32> {
     }
 }
 
-// So many lines are taken at once, again and again.
+// Takes lines at once, again and again.
 #[derive(Clone, Copy)]
 struct Taking;
 
@@ -143,8 +142,7 @@ impl Case<MemoryShelf, Fail> for Taking {
     }
 }
 
-// Lines that are looked at are taken once: those behind them come next. None is looked at before something was read, and none
-// behind a line with blanks at its end or before an include line.
+// Lookahead takes no line twice. It finds none before a read, after trailing blanks, or before an include line.
 #[test]
 fn lines_looked_at_before_they_are_taken(rt: HostRuntime) -> Result<(), Fail> {
     merge_files(&rt, LOOKED_AT, &WEB, &mut Taking)

@@ -1,4 +1,4 @@
-// Webs with change files, and the files that they include.
+// Webs with change files and include lines.
 use super::*;
 use changes::{NAMES, compare, compare_all};
 
@@ -6,13 +6,13 @@ use changes::{NAMES, compare, compare_all};
 fn included_lines(rt: HostRuntime) -> Result<(), Fail> {
     const OTHERS: &[(&str, &[u8])] = &[("b", b"B1\n@i c\nB3\n"), ("c", b"C1\nC2\n"), ("none", b"")];
     const EXAMPLES: &[(&str, &str, &str)] = &[
-        // matched at each depth, and once for each time that a file is opened
+        // matched at each depth, and each time that a file is opened
         (
             "@i c\nM2\n@i b\n",
             "@x\nC1\n@y\n1\n@z\n@x\nC1\n@y\n2\n@z\n@x\nB3\n@y\n3\n@z\n",
             "1:4 1\n2:2 C2\n0:2 M2\n3:1 B1\n1:9 2\n4:2 C2\n1:14 3\n2 is c\n3 is b\n4 is c\n",
         ),
-        // old lines that go on behind the end of a file, and of several
+        // old lines across the end of one file or several
         (
             "@i b\nM2\nM3\n",
             "@x\nC2\nB3\n@y\nN\n@z\n@x\nM3\n@y\n@z\n",
@@ -36,7 +36,7 @@ fn included_lines(rt: HostRuntime) -> Result<(), Fail> {
 fn include_lines_taken_away(rt: HostRuntime) -> Result<(), Fail> {
     const OTHERS: &[(&str, &[u8])] = &[("b", b"B1\n@i c\nB3\n"), ("c", b"C1\nC2\n")];
     const EXAMPLES: &[(&str, &str, &str)] = &[
-        // an include line that is an old line is not obeyed, be it the first, a further one or an unequal one
+        // an include line that is an old line is not obeyed: the first, a further or an unequal one
         (
             "@i b\nM2\n",
             "@x\n@i c\n@y\nN\n@z\n",
@@ -48,7 +48,7 @@ fn include_lines_taken_away(rt: HostRuntime) -> Result<(), Fail> {
             "@x\nA\nb\n@y\n@z\n",
             "0:3 C\nUnequal in 1 at 1: 1\n",
         ),
-        // one that is written otherwise is another line
+        // one that is spelled otherwise is another line
         (
             "@i  c\n",
             "@x\n@i c\n@y\n@z\n",
@@ -58,11 +58,11 @@ fn include_lines_taken_away(rt: HostRuntime) -> Result<(), Fail> {
     compare_all(&rt, OTHERS, EXAMPLES)
 }
 
-// The web includes itself until twenty files are open, and each gives a line `A`.
+// The web includes itself up to twenty open files. Each emits a line `A`.
 const NAMES_AT_THE_FULL_DEPTH: &str =
     "2 is m.w\n3 is m.w\n4 is m.w\n5 is m.w\n6 is m.w\n7 is m.w\n8 is m.w\n9 is m.w\n10 is m.w\n11 is m.w\n12 is m.w\n13 is m.w\n14 is m.w\n15 is m.w\n16 is m.w\n17 is m.w\n18 is m.w\n19 is m.w\n20 is m.w\n";
 
-// Merges it with a change file, and compares the lines and the faults.
+// Merges this web with a change file, and checks lines and faults.
 fn compare_at_the_full_depth(
     rt: &(impl AllocGlobal + Abort),
     change: &str,
@@ -80,7 +80,7 @@ fn changes_at_the_full_depth(rt: HostRuntime) -> Result<(), Fail> {
             "@x\nA\n@y\n@i c.ch\nN\n@z\n",
             "1:5 N\n19:2 A\n18:2 A\n17:2 A\n16:2 A\n15:2 A\n14:2 A\n13:2 A\n12:2 A\n11:2 A\n10:2 A\n9:2 A\n8:2 A\n7:2 A\n6:2 A\n5:2 A\n4:2 A\n3:2 A\n2:2 A\n0:2 A\nTooDeep in 20 at 1\nTooDeep in 1 at 4\n",
         ),
-        // the depth is that of the line that began the change, also where its file and others have ended
+        // the depth is that of the line that began the change, even if its file has ended
         (
             "@x\nA\nA\nA\nA\n@y\n@i c.ch\nN\n@z\n",
             "1:8 N\n16:2 A\n15:2 A\n14:2 A\n13:2 A\n12:2 A\n11:2 A\n10:2 A\n9:2 A\n8:2 A\n7:2 A\n6:2 A\n5:2 A\n4:2 A\n3:2 A\n2:2 A\n0:2 A\nTooDeep in 20 at 1\nTooDeep in 1 at 7\n",
@@ -96,7 +96,7 @@ fn changes_at_the_full_depth(rt: HostRuntime) -> Result<(), Fail> {
     Ok(())
 }
 
-// What a new line includes lies one deeper than the line that began the change.
+// An included file of a new line is one deeper than the line that began the change.
 #[test]
 fn files_within_a_change(rt: HostRuntime) -> Result<(), Fail> {
     const OTHERS: &[(&str, &[u8])] = &[("b", b"P\n@i b\n"), ("c", b"A\n")];
@@ -111,7 +111,7 @@ fn files_within_a_change(rt: HostRuntime) -> Result<(), Fail> {
             "@x\nA\nB\n@y\n@i b\n@z\n",
             "3:1 P\n4:1 P\n5:1 P\n6:1 P\n7:1 P\n8:1 P\n9:1 P\n10:1 P\n11:1 P\n12:1 P\n13:1 P\n14:1 P\n15:1 P\n16:1 P\n17:1 P\n18:1 P\n19:1 P\n20:1 P\nWebEnded in 1 at 1\nTooDeep in 20 at 2\n2 is c\n3 is b\n4 is b\n5 is b\n6 is b\n7 is b\n8 is b\n9 is b\n10 is b\n11 is b\n12 is b\n13 is b\n14 is b\n15 is b\n16 is b\n17 is b\n18 is b\n19 is b\n20 is b\n",
         ),
-        // the change file as an included file: its lines are the web's
+        // if the change file is also included, its lines are those of the web
         (
             "@i c.ch\n",
             "@x\nA\n@y\nN\n@z\n",
@@ -128,7 +128,7 @@ const NAMED: &[(&str, &[u8])] = &[
     ("lib/d.ch", b""),
 ];
 
-// It knows the names of its files at its start, writes its lines, and then knows the names of all.
+// Checks the names of files at the start, the lines, and all names.
 #[derive(Clone, Copy)]
 struct Naming;
 
@@ -157,7 +157,7 @@ fn names_of_the_files(rt: HostRuntime) -> Result<(), Fail> {
     merge_files(&rt, NAMED, &names, &mut Naming)
 }
 
-// The names of files of which some are not there.
+// Names of files that aren't there, and the stop.
 const NOT_THERE: &[(Names<'static>, Stop)] = &[
     (
         Names {
@@ -188,7 +188,7 @@ const NOT_THERE: &[(Names<'static>, Stop)] = &[
     ),
 ];
 
-// A change file that isn't there, which is not sought in the folder either; the web comes first.
+// The change file isn't sought in the folder. A missing web is reported first.
 #[test]
 fn names_of_files_that_are_not_there(rt: HostRuntime) {
     are_refused(&rt, NAMED, NOT_THERE);

@@ -1,11 +1,11 @@
-// Webs with change files: old lines and new ones.
+// Webs with change files: old lines and new lines.
 use super::*;
 use changes::compare_all;
 
 #[test]
 fn old_lines(rt: HostRuntime) -> Result<(), Fail> {
     const EXAMPLES: &[(&str, &str, &str)] = &[
-        // blanks at their ends don't count, and others do
+        // trailing blanks don't count, and other blanks do
         ("A \nB\x0c\n", "@x\nA\r\nB\t\n@y \nN  \n@z\n", "1:5 N\n"),
         (" A\n", "@x\nA\n@y\n@z\n", "0:1  A\nNoMatch in 1 at 1\n"),
         (
@@ -13,14 +13,14 @@ fn old_lines(rt: HostRuntime) -> Result<(), Fail> {
             "@x\nA\nb c\n@y\n@z\n",
             "Unequal in 1 at 1: 1\n",
         ),
-        // behind the first old line an empty one counts
+        // after the first old line an empty line counts
         ("A\n\nB\n", "@x\n\nA\n\n@y\n@z\n", "0:3 B\n"),
         (
             "A\nB\nC\nD\nE\n",
             "@x\nA\n\nC\nd\n@y\n@z\n",
             "0:5 E\nUnequal in 1 at 1: 2\n",
         ),
-        // a line alike that is taken away begins no change
+        // a line that is dropped begins no change
         (
             "A\nB\nA\n",
             "@x\nA\nB\n@y\nN\n@z\n@x\nB\n@y\n@z\n",
@@ -33,13 +33,13 @@ fn old_lines(rt: HostRuntime) -> Result<(), Fail> {
 #[test]
 fn old_lines_that_end_early(rt: HostRuntime) -> Result<(), Fail> {
     const EXAMPLES: &[(&str, &str, &str)] = &[
-        // the order of the faults of one old side, of which two lines are compared
+        // the order of the faults of an old side, of which two lines are compared
         (
             "A\nB\nC\n",
             "@x\nA\nb\n@Z\nc\n@x\nd\ne\n",
             "WantsY in 1 at 4\nWantsY in 1 at 6\nEndedBeforeY in 1 at 1\nWebEnded in 1 at 1\nUnequal in 1 at 1: 2\n",
         ),
-        // the web ends within a change, whose new lines come nevertheless
+        // the web ends within a change, and its new lines still come
         (
             "A\nB\n",
             "@x\nA\nB\nC\n@z\nD\n@y\nN\n@z\n",
@@ -79,7 +79,7 @@ fn new_lines(rt: HostRuntime) -> Result<(), Fail> {
             "@x\nA\n@y\nM\n@i\n@i gone\n@I c\nN\n@z\n",
             "1:4 M\n2:1 A\n2:2 C\n1:8 N\n0:2 B\nNoName in 1 at 5\nNotThere in 1 at 6\n2 is c\n",
         ),
-        // what they bring is not matched, neither by their own entry nor by the next, and however deep it lies
+        // their lines match no entry, whatever their depth
         (
             "A\nA\n",
             "@x\nA\n@y\n@i b\nN\n@z\n@x\nA\n@y\n@i c\n@z\n",

@@ -1,4 +1,4 @@
-// Webs with change files: their merged lines and the places of these, their faults, and the files that they include.
+// Webs with change files: merged lines with their places, faults, and included files.
 use super::*;
 use std::process::Abort;
 
@@ -15,14 +15,14 @@ fn shelf_with(
     Ok(shelf)
 }
 
-// A line behind its place.
+// Appends a place and a line.
 fn describe_line(text: &mut String, place: Place, line: &[u8]) -> Result<(), Fail> {
     let given = str::from_utf8(line)?;
     writeln!(text, "{}:{} {}", place.file.0, place.line, given)?;
     Ok(())
 }
 
-// The lines that a merger still has to give, each behind its place.
+// Appends the remaining lines of a merger with their places.
 fn describe_lines(
     text: &mut String,
     line: &mut Vec<u8>,
@@ -45,7 +45,7 @@ pub const NAMES: Names<'static> = Names {
     inputs: None,
 };
 
-// The merged lines come, each behind its place, then the faults and the names of the included files.
+// Checks the lines with their places, then the faults and the names of included files.
 #[derive(Clone, Copy)]
 struct Merging<'a> {
     text: &'a str,
@@ -67,7 +67,7 @@ impl Case<MemoryShelf, Fail> for Merging<'_> {
     }
 }
 
-/// Merges a web with its change file, and compares.
+/// Merges a web with a change file, and checks the result.
 pub fn compare(
     rt: &(impl AllocGlobal + Abort),
     others: &[(&str, &[u8])],
@@ -79,7 +79,7 @@ pub fn compare(
     merge(rt, &mut shelf, &NAMES, &mut Merging { text })
 }
 
-/// Merges each web with the change file beside it, and compares.
+/// Merges each web with its change file, and checks the results.
 pub fn compare_all(
     rt: &(impl AllocGlobal + Abort),
     others: &[(&str, &[u8])],
@@ -91,7 +91,7 @@ pub fn compare_all(
     Ok(())
 }
 
-// First uses of each rule.
+// One example of each rule.
 #[test]
 fn worked_changes(rt: HostRuntime) -> Result<(), Fail> {
     const OTHERS: &[(&str, &[u8])] = &[("inc.w", b"I1\nI2\n"), ("b.w", b"B\n")];
@@ -131,19 +131,19 @@ fn worked_changes(rt: HostRuntime) -> Result<(), Fail> {
 #[test]
 fn code_lines(rt: HostRuntime) -> Result<(), Fail> {
     const EXAMPLES: &[(&str, &str, &str)] = &[
-        // letters in either case; what follows them is ignored
+        // letters in either case; the rest of the line is ignored
         (
             "A\nB\n",
             "@X old\nA\n@Ynew\nN\n@Z\n@xx\nB\n@yy\nM\n@zz",
             "1:4 N\n1:9 M\n",
         ),
-        // lines that are none: the sign alone, another letter, a second sign, a blank in front
+        // no code lines: `@` alone, another letter, `@@`, a leading blank
         (
             "@\n@a\nB\n",
             "@\n@@x\n @y\n@x\n@\n@a\n@y\n@\n@@z\n @z\n@z\n",
             "1:8 @\n1:9 @@z\n1:10  @z\n0:3 B\n",
         ),
-        // in the web they are lines as others are
+        // in the web they are ordinary lines
         ("@x\nA\n@y\n@z\n", "", "0:1 @x\n0:2 A\n0:3 @y\n0:4 @z\n"),
     ];
     compare_all(&rt, &[], EXAMPLES)
@@ -165,7 +165,7 @@ fn seeking_an_entry(rt: HostRuntime) -> Result<(), Fail> {
             "@z\nA\n@y\n@x\nA\n@y\nN\n@z\n@Z\n",
             "1:7 N\nMissingX in 1 at 1\nMissingX in 1 at 3\nMissingX in 1 at 9\n",
         ),
-        // empty lines, and those of blanks, stand before the first old line and are none
+        // empty lines and lines of blanks before the first old line are skipped
         ("\nA\n", "@x\n\n \t\nA\n@y\nN\n@z\n", "0:1 \n1:6 N\n"),
         ("A\n", "@x\n\n  \n", "0:1 A\nNoOldLines in 1 at 1\n"),
     ];
@@ -175,7 +175,7 @@ fn seeking_an_entry(rt: HostRuntime) -> Result<(), Fail> {
 #[test]
 fn entries_that_are_passed_over(rt: HostRuntime) -> Result<(), Fail> {
     const EXAMPLES: &[(&str, &str, &str)] = &[
-        // an entry without old lines, and the next entry right there or later
+        // an entry without old lines, and the next one there or later
         (
             "A\n",
             "@x\n@x\n\n@x\nA\n@y\nN\n@z\n",
@@ -186,7 +186,7 @@ fn entries_that_are_passed_over(rt: HostRuntime) -> Result<(), Fail> {
             "@x\n\n@y\nM\n@z\n@x\nA\n@y\nN\n@z\n",
             "1:9 N\nNoOldLines in 1 at 1\nMissingX in 1 at 3\nMissingX in 1 at 5\n",
         ),
-        // an entry that waits at the end; those behind it are not looked at
+        // an entry that waits at the end; later ones are never reached
         (
             "A\nB\n",
             "@x\nB\nC\n@y\n@z\n@x\nA\n@y\n@z\n@y\n",
@@ -204,7 +204,7 @@ fn entries_that_are_passed_over(rt: HostRuntime) -> Result<(), Fail> {
 #[test]
 fn entries_in_turn(rt: HostRuntime) -> Result<(), Fail> {
     const EXAMPLES: &[(&str, &str, &str)] = &[
-        // the first line that equals an entry's, behind the change before
+        // the first line that equals an entry's, after the previous change
         (
             "A\nB\nA\nC\n",
             "@x\nB\n@y\nb\n@z\n@x\nA\n@y\na\n@z\n",
@@ -215,13 +215,13 @@ fn entries_in_turn(rt: HostRuntime) -> Result<(), Fail> {
             "@x\nA\n@y\na\n@z\n@x\nA\n@y\n@z\n",
             "1:4 a\n0:3 A\n",
         ),
-        // places behind changes that take more lines than they give, and fewer
+        // places after changes that drop more lines than they add, and fewer
         (
             "A\nB\nC\nD\nE\n",
             "@x\nB\nC\n@y\n@z\n@x\nD\n@y\nd\n\ne\n@z\n",
             "0:1 A\n1:9 d\n1:10 \n1:11 e\n0:5 E\n",
         ),
-        // new lines are not matched
+        // new lines match no entry
         (
             "A\nB\nC\n",
             "@x\nA\n@y\nA\nC\n@z\n@x\nC\n@y\n@z\n",
@@ -231,7 +231,7 @@ fn entries_in_turn(rt: HostRuntime) -> Result<(), Fail> {
         ("", "", ""),
         ("", "@z\n@x\n", "MissingX in 1 at 1\nNoOldLines in 1 at 2\n"),
         ("", "@x\nA\n@y\nN\n@z\n@z\n", "NoMatch in 1 at 1\n"),
-        // entries are sought behind the last line too
+        // entries are also sought after the last line
         (
             "A",
             "@x\nA\n@y\n@z\n@y\n@x\nB\n@y\n@z\n@y\n",

@@ -1,19 +1,18 @@
-// Lines that pass through together, where what is read at once ends within them.
+// Lines that pass through around the end of a read and of a chunk.
 use super::*;
 use std::process::Abort;
 
-// So many lines of 64 bytes stand in front, so that the first read ends 64 bytes behind them.
+// This many lines of 64 bytes come first, so that the first read ends 64 bytes after them.
 const LINES_BEFORE: usize = 1023;
 
 const LINE_BEFORE: &[u8] = b"int counter_of_all_the_lines_in_front[] = { 1, 2, 3, 4, 5, 6 };\n";
 
-// Behind them: plain lines, lines with blanks at their ends, an include line, the old line of a change, the last line without
-// a newline.
+// After them: plain lines, lines with trailing blanks, an include line, an old line, and a last line without newline.
 const TAIL: &[u8] = b"one\ntwo \t\nthree\n@i b.w\nfour\nfive\nold\n\nsix  \nseven\nlast";
 
 const TAIL_MERGED: &[u8] = b"one\ntwo\nthree\nin b\nfour\nfive\nnew\n\nsix\nseven\nlast\n";
 
-// The lines in front, a line of so many bytes, and what stands behind it.
+// These lines, then a line of `length` bytes, then `tail`.
 fn source_with(alloc: Global, length: usize, tail: &[u8]) -> Result<Vec<u8>, AllocError> {
     let mut text = Vec::new(alloc);
     for _ in 0..LINES_BEFORE {
@@ -30,15 +29,15 @@ fn source_with(alloc: Global, length: usize, tail: &[u8]) -> Result<Vec<u8>, All
 // How the merged lines are taken.
 #[derive(Clone, Copy)]
 enum Way {
-    // gathered up to so many bytes
+    // in chunks of this size
     Buffered(usize),
-    // asked for one by one
+    // one by one
     OneByOne,
-    // lent as long as they are
+    // borrowed where possible
     Borrowed,
 }
 
-// The next line, lent where it can be and that is the way, and else asked for, behind the text of those before it.
+// Appends the next line.
 fn add_line(
     merger: &mut Merger<MemoryShelf>,
     shelf: &mut MemoryShelf,
@@ -101,12 +100,11 @@ fn add_all(
     }
 }
 
-// This text is merged in one of the ways.
+// Checks the output of one way.
 #[derive(Clone, Copy)]
 struct Merging<'a> {
     text: &'a [u8],
     way: Way,
-    // the number of the case
     case: usize,
 }
 
@@ -124,7 +122,7 @@ impl Case<MemoryShelf, Fail> for Merging<'_> {
     }
 }
 
-// Merges the lines in front, a line of so many bytes, and what stands behind it.
+// Merges the web with a line of `length` bytes.
 fn merge_long(
     rt: &(impl AllocGlobal + Abort),
     length: usize,
@@ -139,7 +137,7 @@ fn merge_long(
     merge_files(rt, &files, &CHANGED_WEB, merging)
 }
 
-// The lines are merged in each of these ways.
+// Merges it in each of these ways.
 fn merges(
     rt: &(impl AllocGlobal + Abort),
     length: usize,
@@ -158,7 +156,7 @@ fn merges(
     Ok(())
 }
 
-// The first read ends at each place behind the line in the middle.
+// The first read ends at each byte after the long line.
 #[test]
 fn lines_around_the_end_of_a_read(rt: HostRuntime) -> Result<(), Fail> {
     const WAYS: &[Way] = &[Way::Buffered(65536), Way::OneByOne, Way::Borrowed];
@@ -168,7 +166,7 @@ fn lines_around_the_end_of_a_read(rt: HostRuntime) -> Result<(), Fail> {
     Ok(())
 }
 
-// Lines are gathered until they have so many bytes, and no line is lost or comes twice where they do.
+// No line is lost or repeated at the end of a chunk.
 #[test]
 fn lines_around_the_end_of_a_chunk(rt: HostRuntime) -> Result<(), Fail> {
     const ROOMS: &[usize] = &[0, 1, 64, 65, 1000, 65471, 65472, 65473];

@@ -1,18 +1,17 @@
-// The same text however lines are gathered and however little is taken at once.
+// The output doesn't depend on the size of chunks, reads and writes.
 use super::*;
 use failing::CHANGED;
 use std::process::Abort;
 use trial::TrialShelf;
 
-// Lines are gathered up to so many bytes, of which at most so many are taken at once, and this is written.
+// Chunks of `room` bytes, and writes of at most `most` bytes.
 #[derive(Clone, Copy)]
 struct Buffering<'a> {
     room: usize,
     most: usize,
     text: &'a [u8],
-    // how many writes it takes
+    // the number of writes
     writes: Option<u64>,
-    // the number of the case
     case: usize,
 }
 
@@ -59,8 +58,8 @@ fn compare_chunks(
 
 #[test]
 fn chunks(rt: HostRuntime) -> Result<(), Fail> {
-    // The room for lines that are gathered, the bytes taken at once, and the writes that it takes. Whatever the room, lines
-    // are written before the include line, before the end of its file, and before the last line, whose end must be read.
+    // The size of chunks, the size of writes, and the number of writes. Whatever the size, lines are written before the
+    // include line, before the end of its file, and before the last line, whose end needs a read.
     const EXAMPLES: &[(usize, usize, u64)] = &[
         (0, usize::MAX, 5),
         (1, usize::MAX, 5),
@@ -85,7 +84,7 @@ const READS: &[(&str, &[u8])] = &[
     ("b.w", b"two \n\n three"),
 ];
 
-// Where at most so many bytes are read at once.
+// Reads at most `most` bytes at once.
 fn compare_reads(rt: &(impl AllocGlobal + Abort), most: usize) -> Result<(), Fail> {
     let mut case = Buffering {
         room: 65536,
@@ -97,7 +96,7 @@ fn compare_reads(rt: &(impl AllocGlobal + Abort), most: usize) -> Result<(), Fai
     merge_reads(rt, READS, &WEB, most, 0, &mut case)
 }
 
-// Blanks, line ends and an include line stand at each place of a read, and pieces of ended texts come again.
+// Blanks, line ends and an include line are at each offset of a read, and buffers are reused.
 #[test]
 fn reads_of_all_sizes(rt: HostRuntime) -> Result<(), Fail> {
     for most in 1..=40usize {
@@ -106,8 +105,7 @@ fn reads_of_all_sizes(rt: HostRuntime) -> Result<(), Fail> {
     Ok(())
 }
 
-// At most so many bytes are read at once. What is written until a read fails is the same where lines are gathered up to so many
-// bytes as where none are.
+// With reads of at most `most` bytes, the output until a read fails is the same with chunks of any size.
 #[derive(Drop)]
 struct Written {
     most: usize,
@@ -160,7 +158,7 @@ fn buffers_as_much(
     merge_reads(rt, files, &CHANGED_WEB, most, fails_at, written)
 }
 
-// A read that fails loses no line that could be given before it.
+// A failed read loses no line that was read before it.
 #[test]
 fn lines_buffered_before_a_read_that_fails(rt: HostRuntime) -> Result<(), Fail> {
     const MOST: &[usize] = &[7, 12, 24, usize::MAX];

@@ -1,16 +1,16 @@
-// Texts that never end. Their shelves don't tell them.
+// Files that never end. Their shelves aren't observable.
 ghost use Rattle.std.specs.Prelude.{false, [], None};
 
 use super::*;
 
-/// Under each name a text that never ends: lines of so many bytes `x`.
+/// Each name has lines of `length` bytes `x` without end.
 #[derive(Drop)]
 pub struct Endless {
     pub length: usize,
 }
 
 impl Shelf for Endless {
-    // How many bytes of the line were given.
+    // the number of bytes of the current line that were read
     type R = usize;
 
     ghost tells = { λ _. false };
@@ -43,7 +43,7 @@ impl Shelf for Endless {
     }
 }
 
-/// Texts in memory, of which the change file `c.ch` goes on behind its end with lines that never end.
+/// Files in memory. The change file `c.ch` goes on with lines without end.
 #[derive(Drop)]
 pub struct EndlessChange {
     pub shelf: MemoryShelf,
@@ -51,7 +51,7 @@ pub struct EndlessChange {
 }
 
 impl Shelf for EndlessChange {
-    // A place in a text, and for the change file how many bytes of a line behind its end were given.
+    // a reader, and for the change file the number of bytes of the current line after its end
     type R = (MemoryReader, Option<usize>);
 
     ghost tells = { λ _. false };

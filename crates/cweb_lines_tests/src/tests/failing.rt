@@ -1,11 +1,11 @@
-// A read that fails in the midst of a run.
+// A read fails within a run.
 use super::*;
 use std::process::Abort;
 use trial::{TrialShelf, TrialSink};
 
 pub const FILES: &[(&str, &[u8])] = &[("a.w", b"one\n@i b.w\n@i gone\nthree\n"), ("b.w", b"two\n")];
 
-// A web with a change file, whose runs tell a fault in each part of it.
+// A web with a change file. Each part of a run reports a fault.
 pub const CHANGED: &[(&str, &[u8])] = &[
     ("a.w", b"one\n@i b.w\n@i gone\nthree\nfour\n"),
     ("b.w", b"two\n"),
@@ -20,7 +20,7 @@ pub const MERGED_CHANGED: &[u8] = b"one\ntwo\ntwo\nthree\nfour\n";
 const FAULTS_CHANGED: &str =
     "MissingX in 1 at 1\nUnequal in 1 at 2: 1\nNoName in 1 at 7\nNoMatch in 1 at 10\n";
 
-// So many lines come before a read fails.
+// Takes `lines` lines before a read fails.
 fn takes_lines(
     rt: &impl Abort,
     merger: &mut Merger<TrialShelf>,
@@ -35,7 +35,7 @@ fn takes_lines(
     Ok(())
 }
 
-// The next read fails, and none is made behind it.
+// The next read fails, and none is tried after it.
 fn stops_twice(
     rt: &impl Abort,
     merger: &mut Merger<TrialShelf>,
@@ -51,7 +51,7 @@ fn stops_twice(
     }
 }
 
-// The text of the read that failed, by its number and its name.
+// Checks the number and name of the file whose read failed.
 fn failed_in(
     rt: &impl Abort,
     merger: &Merger<TrialShelf>,
@@ -65,7 +65,7 @@ fn failed_in(
     same_string(rt, merger.names().get(FileId(file)), name);
 }
 
-// A merger of which a read has failed writes nothing.
+// A merger with a failed read writes nothing.
 fn writes_nothing(
     rt: &impl Abort,
     merger: &mut Merger<TrialShelf>,
@@ -78,7 +78,7 @@ fn writes_nothing(
     same_number(rt, sink.writes, 0);
 }
 
-// A read fails of this text, by its number and its name, behind so many lines.
+// A read of this file fails, after `lines` lines.
 #[derive(Clone, Copy)]
 struct Failing {
     file: u32,
@@ -103,7 +103,7 @@ impl Case<TrialShelf, Fail> for Failing {
     }
 }
 
-// Each text is read twice: its bytes, and then none.
+// Each file is read twice: all of its bytes, then none.
 #[test]
 fn a_read_that_fails(rt: HostRuntime) -> Result<(), Fail> {
     const EXAMPLES: &[(u64, u32, &str, u32)] = &[
@@ -123,7 +123,7 @@ fn a_read_that_fails(rt: HostRuntime) -> Result<(), Fail> {
     Ok(())
 }
 
-// A merger of which a read has failed: it answers that text's stop, and reads no more.
+// A merger with a failed read returns the same stop, and reads no more.
 fn stays_stopped(
     rt: &impl Abort,
     merger: &mut Merger<TrialShelf>,
@@ -141,19 +141,17 @@ fn stays_stopped(
     Ok(())
 }
 
-// All the merged lines and faults.
 fn is_all(rt: &impl Abort, written: &[u8], faults: &str) {
     same_bytes(rt, written, MERGED_CHANGED);
     same_string(rt, faults, FAULTS_CHANGED);
 }
 
-// A front of them.
 fn is_prefix(rt: &impl Abort, written: &[u8], faults: &str) {
     holds(rt, MERGED_CHANGED.starts_with(written));
     holds(rt, FAULTS_CHANGED.starts_with(faults));
 }
 
-// Runs of which each fails at a later read, but none at the 88th. So many bytes at least are written.
+// Each run fails at a later read than the one before, and writes no fewer bytes. There is no 88th read.
 #[derive(Clone, Copy)]
 struct FailingReads {
     least: usize,
@@ -183,8 +181,8 @@ impl Case<TrialShelf, Fail> for FailingReads {
     }
 }
 
-// Each read in turn, where a byte is read at once: the texts of the web, twice that of `b.w`, each with its end, and the
-// change file up to the first old line of the entry that waits.
+// Each read in turn, one byte at a time: all files of the web, `b.w` twice, each with its end, and the change file up
+// to the first old line of the entry that waits.
 #[test]
 fn each_read_that_fails(rt: HostRuntime) -> Result<(), Fail> {
     let mut runs = FailingReads { least: 0 };

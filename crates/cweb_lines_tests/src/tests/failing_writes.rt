@@ -1,4 +1,4 @@
-// A write or an allocation that fails in the midst of a run.
+// A write or an allocation fails within a run.
 use super::*;
 use failing::{CHANGED, FILES, MERGED_CHANGED};
 use std::process::Abort;
@@ -6,7 +6,7 @@ use trial::TrialSink;
 
 const MERGED: &[u8] = b"one\ntwo\nthree\n";
 
-// A write fails behind these bytes.
+// A write fails after these bytes.
 fn fails_after(
     rt: &impl Abort,
     merger: &mut Merger<MemoryShelf>,
@@ -20,8 +20,7 @@ fn fails_after(
     same_bytes(rt, &sink.bytes, written.as_bytes());
 }
 
-// A write fails of a sink that takes at most so many bytes at once. What is written by then, and what comes behind the line that
-// was being written.
+// A write of at most `most` bytes fails. `written` was written before it, and `rest` comes after the line that it cut.
 #[derive(Clone, Copy)]
 struct Failing {
     fails_at: u64,
@@ -65,7 +64,7 @@ fn a_write_that_fails(rt: HostRuntime) -> Result<(), Fail> {
     Ok(())
 }
 
-// A merger that was refused memory: it answers that stop, and writes nothing.
+// A merger that was refused memory returns the same stop, and writes nothing.
 fn stays_refused(
     rt: &impl Abort,
     merger: &mut Merger<MemoryShelf>,
@@ -80,7 +79,7 @@ fn stays_refused(
     same_number(rt, filled.sink.writes, writes);
 }
 
-// A run that gives this text and so many faults, or a front of the text where memory is refused.
+// A run with this output and number of faults, or with a prefix of the output if memory is refused.
 #[derive(Clone, Copy)]
 struct Refusing {
     merged: &'static [u8],
@@ -108,7 +107,7 @@ impl Case<MemoryShelf, Stop> for Refusing {
     }
 }
 
-// The same where memory may be refused: nothing else stops it.
+// Merges files while memory may be refused. Nothing else stops it.
 fn refuse_memory(
     rt: &(impl AllocGlobal + Abort),
     files: &[(&str, &[u8])],

@@ -1,9 +1,9 @@
-// Lines that are too long, and texts that are too long.
+// Lines that are too long, and files that are too long.
 use super::devices::{Endless, EndlessChange};
 use super::*;
 use std::process::Abort;
 
-// Puts a text that is one line of so many bytes `x`.
+// Adds a file with one line of `length` bytes `x`.
 fn put_line(
     alloc: Global,
     shelf: &mut MemoryShelf,
@@ -59,7 +59,7 @@ fn stops_at_the_longer(
     Ok(())
 }
 
-// The longest line comes, and then no longer one.
+// A line of the maximum length, then a longer one.
 #[derive(Clone, Copy)]
 struct Longest;
 
@@ -87,7 +87,7 @@ fn lines_as_long_as_they_may_be(rt: HostRuntime) -> Result<(), Fail> {
     merge(&rt, &mut shelf, &WEB, &mut Longest)
 }
 
-// So many lines of so many bytes come, from this place on, and then none for this cause. This is told then.
+// `lines` lines of `length` bytes, the first at this place. Then this stop and these faults.
 #[derive(Clone, Copy)]
 struct Lines {
     first: Place,
@@ -117,7 +117,7 @@ impl Lines {
         Ok(())
     }
 
-    // None comes, and there stays none.
+    // There is no line, also in later calls.
     fn stop<S: Shelf>(
         &self,
         rt: &impl Abort,
@@ -147,7 +147,7 @@ impl<S: Shelf> Case<S, Fail> for Lines {
     }
 }
 
-// As many lines of so many bytes of a web as may be taken, and then a stop.
+// As many lines of `length` bytes as the limits allow, then a stop.
 fn take_all(
     rt: &(impl AllocGlobal + Abort),
     length: usize,
@@ -182,13 +182,12 @@ fn long_lines_that_never_end(rt: HostRuntime) -> Result<(), Fail> {
     take_all(&rt, 1_048_575, 1024, Stop::TooMuchText)
 }
 
-// The web, and a change file that has this front.
+// A web, and a change file that begins with `front`.
 fn change_shelf(alloc: Global, front: &str) -> Result<MemoryShelf, AllocError> {
     shelf_of(alloc, &[("a.w", b"A\n"), ("c.ch", front.as_bytes())])
 }
 
-// A change file that begins so, and goes on with lines of so many bytes that never end. So many lines are given out, and this is
-// reported then.
+// A change file that goes on with lines of `length` bytes without end: how many are emitted, and what is reported.
 fn check_endless(
     rt: &(impl AllocGlobal + Abort),
     front: &str,
@@ -216,24 +215,24 @@ fn check_endless(
 #[test]
 fn change_files_that_never_end(rt: HostRuntime) -> Result<(), Fail> {
     const NO_FAULT: &str = "0 is a.w\n1 is c.ch\n";
-    // what comes before the lines that never end, how long they are, how many of them are given out, and what is reported
+    // what comes before the endless lines, their length, how many are emitted, and what is reported
     const EXAMPLES: &[(&str, usize, u32, &str)] = &[
         // outside an entry
         ("", 1_048_575, 0, NO_FAULT),
-        // empty ones after an @x line
+        // empty lines after @x
         ("@x\n", 0, 0, NO_FAULT),
         // old lines
         ("@x\nA\n", 0, 0, NO_FAULT),
         // new lines
         ("@x\nA\n@y\n", 1_048_575, 1023, NO_FAULT),
-        // a fault of the search in which the stop comes
+        // a fault of the search before the stop
         (
             "@z\n",
             1_048_575,
             0,
             "MissingX in 1 at 1\n0 is a.w\n1 is c.ch\n",
         ),
-        // a fault of the old side in which it comes
+        // a fault of the old side before the stop
         (
             "@x\nA\n@z\n",
             1_048_575,

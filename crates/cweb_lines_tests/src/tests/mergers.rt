@@ -1,5 +1,4 @@
-// What holds a merger: one function for all cases, which borrow it. A function that holds one takes ten times as long to prove as
-// one that borrows it. What cases fill is held by one function too.
+// Only these functions own a merger and the buffers of a case. Cases borrow them, which makes their proofs smaller.
 use super::*;
 use std::process::Abort;
 use trial::{TrialShelf, TrialSink};
@@ -29,7 +28,7 @@ pub const CHANGED_WEB: Names<'static> = Names {
     inputs: None,
 };
 
-/// What a case may fill: a line, what is told of the merger, and what is written. All is empty, and nothing has failed.
+/// The buffers of a case: a line, what a merger reports, and what is written.
 #[derive(Drop)]
 pub struct Filled {
     pub line: Vec<u8>,
@@ -37,7 +36,7 @@ pub struct Filled {
     pub sink: TrialSink,
 }
 
-/// What is asked of a merger that has started, and of its shelf.
+/// What is done with a started merger and its shelf.
 pub trait Case<S: Shelf, E> {
     fn ask<A: Abort>(
         &mut self,
@@ -48,7 +47,7 @@ pub trait Case<S: Shelf, E> {
     ) -> Result<(), E>;
 }
 
-/// Starts a merger of a shelf for a case.
+/// Starts a merger for a case.
 pub fn merge<S: Shelf, E: From<Stop>, C: Case<S, E>>(
     rt: &(impl AllocGlobal + Abort),
     shelf: &mut S,
@@ -79,7 +78,7 @@ fn ask_filling<S: Shelf, E, C: Case<S, E>>(
     case.ask(rt, merger, shelf, &mut filled)
 }
 
-/// Starts a merger of a shelf with these texts.
+/// Starts a merger with these files in memory.
 pub fn merge_files<E: From<Stop> + From<AllocError>, C: Case<MemoryShelf, E>>(
     rt: &(impl AllocGlobal + Abort),
     files: &[(&str, &[u8])],
@@ -90,7 +89,7 @@ pub fn merge_files<E: From<Stop> + From<AllocError>, C: Case<MemoryShelf, E>>(
     merge(rt, &mut shelf, names, case)
 }
 
-/// The same where at most so many bytes are read at once, and a read fails.
+/// Starts a merger with limited reads, one of which fails.
 pub fn merge_reads<C: Case<TrialShelf, Fail>>(
     rt: &(impl AllocGlobal + Abort),
     files: &[(&str, &[u8])],
@@ -105,7 +104,7 @@ pub fn merge_reads<C: Case<TrialShelf, Fail>>(
     merge(rt, &mut shelf, names, case)
 }
 
-// A merger that started is asked for nothing.
+// Does nothing with a merger.
 #[derive(Clone, Copy)]
 struct Unasked;
 
@@ -121,7 +120,7 @@ impl<S: Shelf> Case<S, Stop> for Unasked {
     }
 }
 
-/// Of these texts no merger starts under any of these names, for the cause beside them.
+/// No merger starts under these names: each has its stop.
 pub fn are_refused(
     rt: &(impl AllocGlobal + Abort),
     files: &[(&str, &[u8])],

@@ -1,5 +1,4 @@
-// What was found is what is wanted. Each question stands in a function of its own: a test that calls them is sooner proved than one
-// that has their failures in it.
+// Assertions. Each is a function of its own, so that its failure is checked once and not in each test.
 ghost use Rattle.std.specs.Prelude.{◌≡◌, true};
 
 use super::*;
@@ -23,22 +22,18 @@ pub fn same_bytes(rt: &impl Abort, got: &[u8], want: &[u8]) {
     assert_eq!(rt; got, want);
 }
 
-/// The same in one case of many, which has a number.
 pub fn same_at(rt: &impl Abort, got: &[u8], want: &[u8], case: usize) {
     assert!(rt; got == want, "at {case}");
 }
 
-/// The next line is of this place.
 pub fn comes(rt: &impl Abort, got: Option<Place>, want: Place) {
     assert!(rt; got == Some(want));
 }
 
-/// There is no next line, for this cause.
 pub fn stops(rt: &impl Abort, got: Result<Option<Place>, Stop>, want: Stop) {
     assert!(rt; got == Err(want));
 }
 
-/// Writing ended for this cause, or with all written.
 pub fn ends(rt: &impl Abort, got: Result<(), Stop>, want: Result<(), Stop>) {
     assert!(rt; got == want);
 }

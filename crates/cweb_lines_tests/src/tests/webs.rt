@@ -1,8 +1,8 @@
-// Worked webs: their merged lines, their faults and the names of their files.
+// Worked webs: merged lines, faults and names of files.
 use super::*;
 use std::process::Abort;
 
-// This is written, and then told of the faults and the files.
+// Checks what is written, then the faults and files.
 #[derive(Clone, Copy)]
 struct Telling<'a> {
     text: &'a str,
@@ -30,7 +30,7 @@ fn describe_bytes(told: &mut String, bytes: &[u8]) -> Result<(), Fail> {
     Ok(())
 }
 
-// The texts of a shelf, the second name of the web, the folder of its files, and what is written and told of it.
+// The files of a shelf, the second name of the web, the folder, and the expected output.
 struct Web {
     files: &'static [(&'static str, &'static [u8])],
     second: Option<&'static str>,
@@ -50,7 +50,7 @@ fn compare_all(rt: &(impl AllocGlobal + Abort), webs: &[Web]) -> Result<(), Fail
     Ok(())
 }
 
-// Webs that can include two files, and what is written and told of each.
+// Webs that can include two files, with their expected output.
 fn compare_including(rt: &(impl AllocGlobal + Abort), rows: &[(&[u8], &str)]) -> Result<(), Fail> {
     for (web, text) in rows {
         let files = [("a.w", *web), ("b", b"bee"), ("b c", b"quoted\n")];
@@ -62,9 +62,9 @@ fn compare_including(rt: &(impl AllocGlobal + Abort), rows: &[(&[u8], &str)]) ->
 #[test]
 fn lines(rt: HostRuntime) -> Result<(), Fail> {
     const EXAMPLES: &[(&[u8], &str)] = &[
-        // blanks at the end of a line are dropped, and a tab is one
+        // trailing blanks are dropped, and a tab is one
         (b"x \r\n\ny\t", "x\n\ny\n0 is a.w\n"),
-        // vertical tabs and form feeds too; those in front and within stay
+        // vertical tabs and form feeds too, but not at the start and within a line
         (b" x\x0b\x0c \n\t\ty  z\r\r\n", " x\n\t\ty  z\n0 is a.w\n"),
         (b"", "0 is a.w\n"),
         (b"\n", "\n0 is a.w\n"),
@@ -108,7 +108,7 @@ fn a_file_that_includes_itself(rt: HostRuntime) -> Result<(), Fail> {
     compare_including(&rt, &[EXAMPLE])
 }
 
-// The faults in the deepest file are of these kinds.
+// The faults in the deepest file have these kinds.
 fn has_deepest(merger: &Merger<MemoryShelf>, kinds: &[SourceKind]) -> bool {
     let mut rest = kinds;
     for fault in merger.faults() {
@@ -122,7 +122,7 @@ fn has_deepest(merger: &Merger<MemoryShelf>, kinds: &[SourceKind]) -> bool {
     rest.is_empty()
 }
 
-// There is no line, but so many faults, and of these kinds in the deepest file.
+// No line, this number of faults, and these kinds in the deepest file.
 #[derive(Clone, Copy)]
 struct Deepest<'a> {
     faults: usize,
@@ -145,7 +145,7 @@ impl Case<MemoryShelf, Fail> for Deepest<'_> {
     }
 }
 
-// In the deepest file a missing name comes before the depth, and the depth before a missing text.
+// In the deepest file, a missing name comes before the depth, and the depth before a missing file.
 #[test]
 fn faults_at_the_full_depth(rt: HostRuntime) -> Result<(), Fail> {
     const FILES: &[(&str, &[u8])] = &[("a.w", b"@i a.w\n@i\n@i gone\n")];
@@ -173,7 +173,7 @@ fn folders(rt: HostRuntime) -> Result<(), Fail> {
             inputs: None,
             text: "one\nthree\nNotThere in 0 at 2\nNotThere in 0 at 4\n0 is a.w\n",
         },
-        // the name as it stands comes first
+        // the name itself comes first
         Web {
             files: &[WEB, ("lib/b.w", b"two\n"), ("b.w", b"deux")],
             second: None,
@@ -184,7 +184,7 @@ fn folders(rt: HostRuntime) -> Result<(), Fail> {
     compare_all(&rt, WEBS)
 }
 
-// The web is not sought in the folder.
+// The web isn't sought in the folder.
 const NOT_OPENED: &[(Names<'static>, Stop)] = &[
     (
         Names {

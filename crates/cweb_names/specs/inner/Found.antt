@@ -1,4 +1,4 @@
--- What there is of the names that begin with a prefix: in a sorted map, and in a list of names.
+-- The names that begin with a prefix, in a list and in a sorted map.
 use Rattle.std.specs.Prelude.{◌≡◌, ℕ, Bool, true, false, List, [], ◌∷◌, ◌+◌, Option, Some, None, map, filter, nat_eq}
 use Rattle.std.specs.Prelude.{bytes_eq, ◌||◌, if◌then◌else◌}
 use Rattle.std.specs.List.{starts_with}
@@ -22,36 +22,34 @@ is_several Nothing = false
 is_several (One n) = false
 is_several Several = true
 
--- a name in a map, and its number
 abbrev pub NameEntry : Type 0
 NameEntry = List ℕ × NameId
 
 abbrev pub entry_has_prefix : List ℕ → NameEntry → Bool
 entry_has_prefix prefix e = starts_with nat_eq e.0 prefix
 
--- the names in a map that begin with a prefix, by number
 abbrev pub ids_with_prefix : List ℕ → List NameEntry → List NameId
 ids_with_prefix prefix es = map (λ e. e.1) (filter (entry_has_prefix prefix) es)
 
 abbrev pub compare_bytes : List ℕ → List ℕ → Ordering
 compare_bytes x y = slice_cmp nat_cmp x y
 
--- whether the first of texts begins with a text
+-- The next spelling begins with this one.
 abbrev pub next_begins : List ℕ → List (List ℕ) → Bool
 next_begins text [] = false
 next_begins text (next ∷ spellings) = starts_with nat_eq next text
 
--- whether one of texts begins with the one before it
+-- Some spelling begins with its predecessor.
 abbrev pub any_next : List (List ℕ) → Bool
 any_next [] = false
 any_next (text ∷ spellings) = next_begins text spellings || any_next spellings
 
--- the number of a name, if there is one with the text, where the first name has number i
+-- The number of the name with this spelling. The first name has number `i`.
 abbrev pub id_of_spelling : ℕ → List ℕ → List Name → Option NameId
 id_of_spelling i text [] = None
 id_of_spelling i text (n ∷ ns) = if bytes_eq text n.text then Some (id i) else id_of_spelling (i + 1) text ns
 
--- a map finds for every prefix, and for every text, what the list of names has
+-- The map finds the same names as the list: for each prefix and for each spelling.
 pub record IsNameMap (es : List NameEntry) (names : List Name) : Type 0 where
   pub finds : (p : List ℕ) → found_of (ids_with_prefix p es) ≡ found_of (beginning p names)
   pub gives : (q : List ℕ) → lookup (λ (k : List ℕ). is_eq (slice_cmp nat_cmp q k)) es ≡ id_of_spelling 0 q names

@@ -1,8 +1,8 @@
--- The number that the first bytes of a text make.
+-- The order of spellings by their first bytes.
 use Rattle.std.specs.Prelude.{ℕ, List, [], ◌∷◌, slice_index_or}
 use Rattle.std.specs.Int.{w64, from_be_bytes}
 
--- eight bytes make it, the first of them highest; where a text has fewer, zeros stand for them
+-- The first eight bytes as a big-endian number. Missing bytes are 0.
 abbrev pub sort_prefix_of : List ℕ → ℕ
 sort_prefix_of text =
     from_be_bytes w64

@@ -1,9 +1,8 @@
--- What there is of the names that begin with a prefix: in a sorted map, and in a list of names.
+-- Lists without duplicates.
 use Rattle.std.specs.Prelude.{◌≡◌, ℕ, false, List, [], ◌∷◌}
 use Rattle.std.specs.Prelude.{bytes_eq}
 use Rattle.std.specs.List.{list_any}
 
--- no text twice
 abbrev pub Distinct : List (List ℕ) → Type 0
 Distinct [] = Unit {0}
 Distinct (x ∷ xs) = (list_any (bytes_eq x) xs ≡ false) × Distinct xs

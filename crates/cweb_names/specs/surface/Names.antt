@@ -1,4 +1,4 @@
--- Names: their occurrences, what each occurrence stands for, and which names are files.
+-- Occurrences and their spellings.
 use Rattle.std.specs.Prelude.{ℕ, Bool, List}
 use Rattle.cweb_names.specs.declared.name.How.{How}
 use Rattle.cweb_names.specs.Names.{Occurrence}
@@ -9,6 +9,6 @@ occurrence_of text how is_file = record { text = text; how = how; is_file = is_f
 abbrev pub occurrence_text : Occurrence → List ℕ
 occurrence_text o = o.text
 
--- fewer occurrences than this are taken
+-- The maximum number of occurrences is less than this.
 abbrev pub too_many : ℕ
 too_many = 4294967295

@@ -1,4 +1,4 @@
--- The classes of bytes by their names in the code.
+-- The classes of bytes of the type `Class`.
 use Rattle.std.specs.Prelude.{ℕ, Bool}
 use Rattle.cweb_rules.specs.Bytes.{is_blank, is_gap, is_octal, is_word_byte, is_replacing, is_delimiter}
 use Rattle.cweb_rules.specs.declared.bytes.Class.{Class}

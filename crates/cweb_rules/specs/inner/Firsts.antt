@@ -1,30 +1,27 @@
--- What a first byte tells of its piece in C text.
+-- Classes of the first byte of a lexeme of C text.
 use Rattle.std.specs.Prelude.{ℕ, Bool, ◌==◌, List, [], ◌∷◌, codes, if◌then◌else◌}
 use Rattle.cweb_rules.specs.Bytes.{is_blank, is_one_of, is_word_byte}
 use Rattle.cweb_rules.specs.inner.Rules.{is_settled}
 use Rattle.cweb_rules.specs.declared.firsts.Plain.{Plain}
 use Rattle.cweb_rules.specs.declared.firsts.Plain.TheVariants as plain
 
--- the bytes that begin no listed punctuator, and no directive
+-- Punctuators that begin no longer one and no directive.
 abbrev pub is_single_punctuator : ℕ → Bool
 is_single_punctuator b = is_one_of (codes "()[]{};,?~") b
 
--- the bytes that begin a code, and the punctuators that directives ask for
+-- `@` begins a control code. `#` and `\` matter to directives.
 abbrev pub stops_plain : ℕ → Bool
 stops_plain b = is_one_of (codes "@#\\") b
 
--- the bytes that begin a number, and a literal, wherever they stand
 abbrev pub is_figure : ℕ → Bool
 is_figure b = is_one_of (codes "0123456789") b
 
 abbrev pub is_quote : ℕ → Bool
 is_quote b = is_one_of (codes "\"'") b
 
--- the byte that begins an included name where one may stand
 abbrev pub is_less : ℕ → Bool
 is_less b = is_one_of (codes "<") b
 
--- what a first byte tells of its piece
 abbrev pub first_byte_class : ℕ → Plain
 first_byte_class b =
     if stops_plain b then plain.Stop
@@ -35,7 +32,6 @@ first_byte_class b =
     else (if is_quote b then plain.Quote
     else (if is_less b then plain.Operator else plain.Further)))))
 
--- what stands behind a blank at the front
 abbrev pub past_blank : List ℕ → List ℕ
 past_blank [] = []
 past_blank (b ∷ t) = if b == 32 then t else b ∷ t

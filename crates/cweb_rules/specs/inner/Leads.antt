@@ -1,4 +1,4 @@
--- What the first byte of C text tells of the rule that fits.
+-- What one byte decides about the rule of C text.
 use Rattle.std.specs.Prelude.{ℕ, ◌==◌, if◌then◌else◌}
 use Rattle.cweb_rules.specs.Bytes.{is_blank, is_digit, is_word_byte}
 use Rattle.cweb_rules.specs.inner.Rules.{is_settled}
@@ -7,14 +7,13 @@ use Rattle.cweb_rules.specs.declared.rule.Rule.{Rule}
 use Rattle.cweb_rules.specs.declared.rule.Rule.TheVariants as rule
 use Rattle.cweb_rules.specs.declared.rule.Lead.TheVariants as first
 
--- where it leaves but one rule, that one
 abbrev pub lead : ℕ → Lead
 lead b =
     if is_blank b then first.Blank
     else (if is_settled b then (if is_word_byte b then first.Word else first.Operator)
     else first.Open)
 
--- what the byte behind a `/` tells, and the one behind a `.`
+-- The rule by the byte after `/`, and by the byte after `.`.
 abbrev pub rule_after_slash : ℕ → Rule
 rule_after_slash b = if 42 == b then rule.Comment else (if 47 == b then rule.LineComment else rule.Punctuator)
 

@@ -1,4 +1,4 @@
--- What follows a line, and the items that go on after one.
+-- Items that are still open at the end of their line.
 use Rattle.std.specs.Prelude.{◌≡◌, ◌≢◌, ℕ, ◌+◌, Bool, true, false, ◌&&◌, ◌||◌, List, [], ◌∷◌, length, drop, codes}
 use Rattle.std.specs.Prelude.{if◌then◌else◌}
 use Rattle.cweb_rules.specs.Bytes.{is_blank, is_line_end, begins, first_is, at_line_end, starts_section}
@@ -14,12 +14,11 @@ use Rattle.cweb_rules.specs.Matches.{starts_raw}
 use Rattle.cweb_rules.specs.declared.context.Context.{Context}
 use Rattle.cweb_rules.specs.declared.context.Context.TheVariants.{Limbo, TeX, Definition, Macro, CText}
 
--- the bytes of a line
+-- The bytes have no newline.
 abbrev pub IsLine : List ℕ → Type 0
 IsLine [] = Unit {0}
 IsLine (b ∷ t) = (b ≢ 10) × IsLine t
 
--- a line end, or the end of the text
 abbrev pub AtLineEnd : List ℕ → Type 0
 AtLineEnd [] = Unit {0}
 AtLineEnd (b ∷ t) = b ≡ 10
@@ -30,7 +29,7 @@ is_unclosed Closed = false
 is_unclosed Cut = false
 is_unclosed Nested = false
 
--- whether the item at the front of the rest of a line is still open at its end
+-- The next item is still open at the end of its line.
 abbrev pub opens_comment : List ℕ → Bool
 opens_comment t = is_unclosed (reach (look_in_comment (begins (codes "*/")) 2) Open (drop 2 t)).how
 

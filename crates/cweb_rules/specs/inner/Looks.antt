@@ -1,4 +1,4 @@
--- The rules of items by their names in the code, and how far an item reaches.
+-- Delimited items of the type `Item`, and their extent.
 use Rattle.std.specs.Prelude.{◌<◌, ℕ, List, codes, length}
 use Rattle.cweb_rules.specs.Bytes.{begins, at_line_end}
 use Rattle.cweb_rules.specs.Cut.{Reach, body}
@@ -20,11 +20,9 @@ look_of (Literal quote) t = look_in_literal quote t
 look_of IncludedName t = look_in_include t
 look_of (RawLiteral sign) t = look_in_raw sign.now t
 
--- a unit has a byte
 abbrev pub MovesOn : Look → Type 0
 MovesOn (Goes n) = 0 < n
 MovesOn (Ends n how) = Unit {0}
 
--- how many bytes the units of an item have, and its end
 abbrev pub reached : Reach → Reached
 reached r = record { size = length (body r); close = r.close; how = r.how }

@@ -1,10 +1,9 @@
--- The bytes that are a unit of an item wherever they stand in it: the others may begin its end sign, a unit of two bytes or what ends it.
+-- Plain bytes are units of their own, whatever follows. Others may begin a closer, a longer unit or another end.
 use Rattle.std.specs.Prelude.{ℕ, Bool, true, not, ◌||◌, ◌==◌, List, [], ◌∷◌}
 use Rattle.cweb_rules.specs.declared.items.Item.{Item}
 use Rattle.cweb_rules.specs.declared.items.Item.TheVariants.{ControlText, Name, Comment, LineComment, Literal}
 use Rattle.cweb_rules.specs.declared.items.Item.TheVariants.{IncludedName, RawLiteral}
 
--- of a raw literal, by its closing sign
 abbrev pub is_raw_special : List ℕ → ℕ → Bool
 is_raw_special [] b = true
 is_raw_special (first ∷ rest) b = b == 64 || b == first

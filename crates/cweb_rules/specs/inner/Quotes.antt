@@ -1,4 +1,4 @@
--- The bytes of quotes.
+-- The bytes of the type `Quote`.
 use Rattle.std.specs.Prelude.{ℕ}
 use Rattle.cweb_rules.specs.declared.quote.Quote.{Quote}
 use Rattle.cweb_rules.specs.declared.quote.Quote.TheVariants.{Single, Double}

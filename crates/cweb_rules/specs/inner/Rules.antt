@@ -1,4 +1,4 @@
--- Which rule fits first, by its name in the code.
+-- The rules as values of the types `Rule` and `TexRule`.
 use Rattle.std.specs.Prelude.{ℕ, Bool, true, ◌&&◌, ◌||◌, not, List, [], ◌∷◌, codes, if◌then◌else◌}
 use Rattle.std.specs.List.{prefix_len}
 use Rattle.cweb_rules.specs.Bytes.{is_blank, is_digit, is_line_end, is_one_of, is_word_byte, begins, first_is}
@@ -13,7 +13,6 @@ use Rattle.cweb_rules.specs.declared.rule.Rule.TheVariants as rule
 use Rattle.cweb_rules.specs.declared.rule.TexRule.{TexRule}
 use Rattle.cweb_rules.specs.declared.rule.TexRule.TheVariants as text
 
--- the first rule of C text that fits
 abbrev pub c_rule : Bool → List ℕ → Rule
 c_rule includes t =
     if first_is is_blank t then rule.Blanks
@@ -29,12 +28,10 @@ c_rule includes t =
     else (if first_is is_word_byte t then rule.Identifier
     else rule.Punctuator))))))))))
 
--- the bytes at a text's front that leave but an identifier or a punctuator to begin there: no blank or line end, no first byte of
--- a comment, a code, a literal, an included name or a number
+-- A first byte after which only an identifier or a punctuator is possible.
 abbrev pub is_settled : ℕ → Bool
 is_settled b = not (is_one_of (32 ∷ 9 ∷ 13 ∷ 11 ∷ 12 ∷ 10 ∷ []) b || is_one_of (codes "/@RLuU\"'<.") b || is_digit b)
 
--- what a rule of C text names
 abbrev pub c_match_by : (ℕ → Effect) → Bool → List ℕ → Rule → RuleMatch
 c_match_by effect takes_sign t rule.Blanks = rule_match Blanks (prefix_len is_blank t)
 c_match_by effect takes_sign t rule.LineEnd = rule_match LineEnd 1
@@ -49,7 +46,6 @@ c_match_by effect takes_sign t rule.Number = rule_match Numeral (number_len 0 t)
 c_match_by effect takes_sign t rule.Identifier = rule_match Identifier (prefix_len is_word_byte t)
 c_match_by effect takes_sign t rule.Punctuator = rule_match Punctuator (longest listed t)
 
--- the rule of limbo and text that fits
 abbrev pub tex_rule : List ℕ → TexRule
 tex_rule t =
     if starts_section t then text.Section

@@ -1,6 +1,6 @@
--- Numbers and punctuators.
+-- Bytes of punctuators.
 use Rattle.std.specs.Prelude.{ℕ, List, codes}
 
--- the bytes that stand in their second places
+-- The second bytes of listed punctuators.
 abbrev pub seconds : List ℕ
 seconds = codes ".<>=-+&|*#:"

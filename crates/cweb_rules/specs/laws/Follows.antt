@@ -1,4 +1,4 @@
--- What may follow a token of C text without going on with it, and what a token begins with.
+-- Which bytes may continue a token of C text, and which ones may begin it.
 use Rattle.std.specs.Prelude.{◌≡◌, ℕ, Bool, true, false, ◌||◌, ◌&&◌, ◌==◌, not, List, [], ◌∷◌, length, codes}
 use Rattle.std.specs.List.{list_all}
 use Rattle.cweb_rules.specs.Bytes.{is_one_of, is_digit, is_white, is_word_byte}
@@ -9,34 +9,34 @@ use Rattle.cweb_rules.specs.declared.context.Context.TheVariants.{CText}
 use Rattle.cweb_rules.specs.declared.effect.Effect.{Effect}
 use Rattle.cweb_rules.specs.declared.effect.Effect.TheVariants.{EmitAt}
 
--- a byte that may go on with an identifier, or make a literal's prefix of it
+-- The byte may continue an identifier, or make it a prefix of a literal.
 abbrev pub after_word : ℕ → Bool
 after_word b = is_word_byte b || is_one_of (codes "\"'") b
 
--- a byte that may go on with a number
+-- The byte may continue a number.
 abbrev pub after_number : ℕ → Bool
 after_number b = after_word b || is_one_of (codes ".+-") b
 
--- a relation of bytes holds of all that stand side by side in a sign
+-- The relation holds for all adjacent bytes.
 abbrev pub all_join : (ℕ → ℕ → Bool) → List ℕ → Bool
 all_join joins [] = true
 all_join joins (x ∷ []) = true
 all_join joins (x ∷ y ∷ sign) = joins x y && all_join joins (y ∷ sign)
 
--- a relation of bytes holds of all that stand side by side in a punctuator or in what opens a comment, and of `.` and a digit
+-- The relation holds for the adjacent bytes of listed punctuators, `/*` and `//`, and for `.` before a digit.
 pub record JoinsAll (joins : ℕ → ℕ → Bool) : Type 0 where
   pub punctuators : list_all (all_join joins) listed ≡ true
   pub comment : joins 47 42 ≡ true
   pub line_comment : joins 47 47 ≡ true
   pub number : (digit : ℕ) → is_digit digit ≡ true → joins 46 digit ≡ true
 
--- of a text's last byte and a further one
+-- The relation holds for the last byte of a source and this byte.
 abbrev pub joins_last : (ℕ → ℕ → Bool) → List ℕ → ℕ → Bool
 joins_last joins [] c = false
 joins_last joins (b ∷ []) c = joins b c
 joins_last joins (b ∷ d ∷ t) c = joins_last joins (d ∷ t) c
 
--- a byte may go on with a token of these bytes; none goes on with a literal, which its own sign ends
+-- The byte may continue a token of this kind. Nothing continues a literal, since its quote ends it.
 abbrev pub continues_lexeme : (ℕ → ℕ → Bool) → Kind → List ℕ → ℕ → Bool
 continues_lexeme joins kind bytes b = elim kind [
   | Identifier ↦ after_word b
@@ -48,7 +48,7 @@ continues_lexeme joins kind bytes b = elim kind [
 abbrev pub emits_at : Effect → Bool
 emits_at effect = elim effect [ EmitAt ↦ true | _ ↦ false ]
 
--- an identifier, a number, a punctuator, a literal that ended, or `@@`
+-- An identifier, a number, a punctuator, a closed literal, or `@@`.
 abbrev pub is_token : Kind → Bool
 is_token kind = elim kind [
   | Identifier ↦ true
@@ -59,12 +59,12 @@ is_token kind = elim kind [
   | _ ↦ false
 ]
 
--- a text is one token of C text
+-- The whole source is one token of C text.
 pub record IsToken (kind : Kind) (bytes : List ℕ) : Type 0 where
   pub whole : match_in CText false bytes ≡ rule_match kind (length bytes)
   pub token : is_token kind ≡ true
 
--- what is known of a token's first byte
+-- The byte may begin a token of this kind.
 abbrev pub begins_as : Kind → ℕ → Bool
 begins_as kind b = elim kind [
   | Identifier ↦ is_word_byte b && not (is_digit b)
@@ -75,6 +75,6 @@ begins_as kind b = elim kind [
   | _ ↦ false
 ]
 
--- a byte that neither ends a comment nor begins a code in it
+-- The byte neither ends a comment nor begins a code in it.
 abbrev pub is_quiet : ℕ → Bool
 is_quiet b = not (42 == b) && not (64 == b)

@@ -1,4 +1,4 @@
--- What a piece costs, and that its bytes pay for it.
+-- Lower bounds for the size of a lexeme, which pay for all that it emits.
 use Rattle.std.specs.Prelude.{◌≡◌, ◌≤◌, ◌<◌, ℕ, ◌+◌, List, [], ◌∷◌, Some, None, length, take, if◌then◌else◌}
 use Rattle.std.specs.Fmt.{decimal}
 use Rattle.cweb_rules.specs.Bytes.{is_line_end}
@@ -9,7 +9,7 @@ use Rattle.cweb_rules.specs.Kinds.{RuleMatch}
 use Rattle.cweb_rules.specs.declared.context.Context.{Context}
 use Rattle.cweb_rules.specs.declared.context.Context.TheVariants.{Limbo, TeX, Definition, Macro, CText}
 
--- a token is due: a part's Tail, which the next section start pays; in a head one more, which the `@d` has paid
+-- The tokens still owed: the Tail of the open part, and in a head one more, for which its `@d` paid.
 abbrev pub owed_tokens : Context → ℕ
 owed_tokens Limbo = 1
 owed_tokens TeX = 1
@@ -17,12 +17,12 @@ owed_tokens (Definition begun) = 2
 owed_tokens Macro = 1
 owed_tokens CText = 1
 
--- n for each line end
+-- `n` for each line end.
 abbrev pub at_line_ends : ℕ → List ℕ → ℕ
 at_line_ends n [] = 0
 at_line_ends n (b ∷ t) = if is_line_end b then n + at_line_ends n t else at_line_ends n t
 
--- the bytes of a piece pay for what a piece of its kind gives
+-- The bytes of a lexeme pay for what its kind emits.
 abbrev pub Pays : Context → Kind → List ℕ → Type 0
 Pays c Skipped bytes = Unit {0}
 Pays c (Section starred) bytes = 1 ≤ length bytes
@@ -43,7 +43,7 @@ Pays c Identifier bytes = 1 ≤ length bytes
 Pays c Numeral bytes = 1 ≤ length bytes
 Pays c Punctuator bytes = 1 ≤ length bytes
 
--- what a rule names stands in the text, and pays
+-- The lexeme isn't empty, is within the source, and pays.
 pub record FitsAndPays (c : Context) (t : List ℕ) (f : RuleMatch) : Type 0 where
   pub some : 0 < f.size
   pub within : f.size ≤ length t

@@ -16,7 +16,6 @@ runs-preserved c =
       no_newline-append inv.0 (take 32 rest) inv.2 c.in_default.ensures,
     )
 
--- what stands before the rest
 front_size : (bytes front rest : List ℕ) (at : ℕ) → bytes ≡ front ++ rest
     → length front + at ≡ length bytes - length rest + at
 front_size bytes front rest at is = omega (arith, ap (λ (l : List ℕ). length l) is, length-append front rest)

@@ -4,7 +4,7 @@ use Rattle.cweb_input.proofs.cut.next_line.Given as given
 use Rattle.cweb_input.proofs.cut.next_line.Goals as goal
 use Rattle.cweb_input.proofs.cut.next_line.Goals.{In_ok-refill}
 
--- what was left at first is the line so far, what is pending and what the reader has left
+-- The initial rest is the line so far, then the buffer, then what the reader has left.
 so_far : (g : given.Over) (c : In_ok-refill g) → IsTrue (g.S.Shelf.tells c.args.shelf.now)
     → bytes_left g.S.Shelf.left c.args.shelf.now c.args.source.now ≡ c.pieces.line.items
     ++ bytes_left g.S.Shelf.left c.refill.new.shelf c.refill.new.source

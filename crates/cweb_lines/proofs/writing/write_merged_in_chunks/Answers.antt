@@ -23,14 +23,12 @@ lines-init g c = record {
   written = λ tells. nothing_yet g.W.Sink _ _ _;
 }
 
--- a line came, or the end
 quiet : (g : given.Over) (c : In-Ok g) → Quiet g.S.Shelf c.args.shelf.now c.next_line.new.shelf c.args.merger.now.run
     c.next_line.new.self.run
 quiet g c = quiet_then g.S.Shelf c.lines.invariant.quiet (quiet_by g.S.Shelf _ _ _ _ c.in-Ok.ensures.keeps
     (λ tells known. (c.in-Ok.ensures.known tells known).readers)
     (λ tells known. (c.in-Ok.ensures.known tells known).blamed c.lines.invariant.running) c.in-Ok.ensures.grows.told)
 
--- lines that passed through are gathered behind a line
 more : (g : given.Over) (c : After-pass_lines-passed g) → IsTrue (g.S.Shelf.tells c.args.shelf.now)
     → BuffersLines c.args.room (so_far
     c.args.merger.now) (so_far_of c.pass_lines-passed.new.self.run)
@@ -50,7 +48,6 @@ more g c tells =
 pub returns-in-Some-clause-grows : goal.returns-in-Some-clause-grows
 returns-in-Some-clause-grows g c = grows_told c.args.merger.now.run (told_same _ _ refl refl)
 
--- the merger stopped
 pub returns-in-Err : goal.returns-in-Err
 returns-in-Err g c =
     let told = still_tells g.S.Shelf c.lines.invariant.quiet in
@@ -87,7 +84,6 @@ returns-in-Err g c =
       again = none_before _ c.lines.invariant.before;
     }
 
--- no line was left
 pub returns-in_default-next-clause-ok : goal.returns-in_default-next-clause-ok
 returns-in_default-next-clause-ok g c = λ tells.
     let last = rw c.in_default-next.is at
@@ -103,7 +99,6 @@ returns-in_default-next-clause-known g c = λ tells known.
     let q = quiet g (goal.at.returns-in_default-next-clause-known g c).In-Ok in
     record { readers = q.readers tells known; blamed = λ before. q.blamed tells known }
 
--- memory was refused for a line
 pub returns-in-Err-append_line : goal.returns-in-Err-append_line
 returns-in-Err-append_line g c =
     let q = quiet g (goal.at.returns-in-Err-append_line g c).In-Ok in
@@ -139,7 +134,6 @@ returns-in-Err-append_line g c =
       again = none_before _ c.lines.invariant.before;
     }
 
--- a write failed
 pub returns-in-Err-write_buffer : goal.returns-in-Err-write_buffer
 returns-in-Err-write_buffer g c =
     let at = goal.at.returns-in-Err-write_buffer g c in
@@ -174,7 +168,6 @@ returns-in-Err-write_buffer g c =
       again = none_before _ c.lines.invariant.before;
     }
 
--- the lines were written
 wrote : (g : given.Over) (c : In_default-write_buffer g) → IsTrue (g.S.Shelf.tells c.args.shelf.now)
     → HasWritten (so_far
     c.args.merger.now) (so_far_of c.pass_lines-passed.new.self.run)
@@ -185,7 +178,6 @@ wrote g c tells = written_on g.W.Sink _ _ c.lines.invariant.place _ _ _ _ _ _
     (more g (goal.at.In_default-write_buffer g c).After-pass_lines-passed tells) c.write_buffer.new.out
     (rw c.deref-in-lines.ensures.value at c.in_default-write_buffer.ensures.ok)
 
--- memory was refused for lines that pass through
 pub returns-in-Err-passed : goal.returns-in-Err-passed
 returns-in-Err-passed g c =
     let at = goal.at.returns-in-Err-passed g c in

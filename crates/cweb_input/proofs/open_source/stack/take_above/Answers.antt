@@ -9,7 +9,6 @@ returns-in-texts-clause-taken g c = λ tells rest.
     takes_same (Some c.in-Some.at) _ _ _ _ _ _ _ (c.texts.invariant.things tells rest) c.texts.invariant.counted
     (top c.args.low (omega (arith, c.texts-test.true)) rest)
 
--- the readers of the texts
 pub returns-in-Err-clause-named : goal.returns-in-Err-clause-named
 returns-in-Err-clause-named g c = λ tells names each. c.in-Err.ensures.named
     (subst IsTrue (sym c.texts.invariant.tells) tells) names (c.texts.invariant.named tells names each)

@@ -41,7 +41,6 @@ returns-clause-taken g c = λ tells.
     (counters_of c.add.new.self) line.some line.takes line.bytes_are line.short c.in_default-add.ensures.lines
     (rw line.size_is at c.in_default-add.ensures.bytes)
 
--- the reader stays the one of the file, and is blamed where a read of it failed
 pub returns-in-Err-clause-named : goal.returns-in-Err-clause-named
 returns-in-Err-clause-named g c = λ tells names is. c.in-Err.ensures.opened tells ∙ is
 

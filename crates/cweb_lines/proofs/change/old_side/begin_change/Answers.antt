@@ -15,7 +15,6 @@ returns-in-Err-close-clause-told g c = λ tells. closes_some c.args.begin _ _ _ 
 pub returns-in-Err-clause-stops : goal.returns-in-Err-clause-stops
 returns-in-Err-clause-stops g c = λ tells. ends_more c.in-Err.stop _ _ _ _ _ _ (c.in-Err.ensures.stops tells)
 
--- what was told stays
 pub returns-in-Err-close-clause-still : goal.returns-in-Err-close-clause-still
 returns-in-Err-close-clause-still g c = told_then _ _ _ c.in-Ok.ensures.still
     (told_behind _ _ _ c.in-Err-close.ensures.err.told (ap opened_file_names c.in-Err-close.ensures.only.names))
@@ -24,7 +23,6 @@ pub returns-clause-still : goal.returns-clause-still
 returns-clause-still g c = told_then _ _ _ c.in-Ok.ensures.still
     (told_behind _ _ _ c.in_default.ensures.told (ap opened_file_names c.in_default.ensures.only.names))
 
--- the readers
 pub returns-in-Err-close-clause-readers : goal.returns-in-Err-close-clause-readers
 returns-in-Err-close-clause-readers g c = λ tells known. knows_only c.in-Err-close.ensures.only
     (c.in-Ok.ensures.readers tells known)

@@ -19,13 +19,11 @@ lines-init g c = record {
   replaces = λ tells. replaces_from _ _ _;
 }
 
--- a line of the change file was taken
 quiet : (g : given.Over) (c : In-Ok g) → Quiet g.S.Shelf c.args.shelf.now c.take_change.new.shelf c.args.run.now
     c.take_change.new.run
 quiet g c = quiet_then g.S.Shelf c.lines.invariant.quiet (quiet_by g.S.Shelf _ _ _ _ c.in-Ok.ensures.keeps
     c.in-Ok.ensures.readers c.in-Ok.ensures.blamed (told_took c.in-Ok.ensures.only))
 
--- the texts have left what they had
 raws : (g : given.Over) (c : In-Ok g) → IsTrue (g.S.Shelf.tells c.args.shelf.now)
     → things_above (g.S.Shelf.left c.take_change.new.shelf) 0 c.take_change.new.run.stack []
     ≡ things_above (g.S.Shelf.left c.lines.shelf) 0 c.lines.run.stack []
@@ -113,7 +111,6 @@ lines-preserved-in-None g c = record {
       c.in-Ok-compare.replaced _ (so_far_of c.compare.new.run) test compares);
 }
 
--- what was told stays
 pub returns-in-Err-clause-still : goal.returns-in-Err-clause-still
 returns-in-Err-clause-still g c = told_then _ _ _ c.lines.invariant.quiet.told (told_took c.in-Err.ensures.only)
 
@@ -132,7 +129,6 @@ returns-in-Err-report-clause-still g c = told_then _ _ _
     (quiet g (goal.at.returns-in-Err-report-clause-still g c).In-Ok).told
     (told_same _ _ c.in-Err-report.ensures.err (ap opened_file_names c.in-Err-report.ensures.only.names))
 
--- the readers
 pub returns-in-Err-clause-readers : goal.returns-in-Err-clause-readers
 returns-in-Err-clause-readers g c = readers_after g.S.Shelf c.lines.invariant.quiet _ _ c.in-Err.ensures.readers
 

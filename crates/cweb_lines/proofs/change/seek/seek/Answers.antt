@@ -18,13 +18,11 @@ lines-init g c = record {
   seeks = λ tells. seeks_from _ _;
 }
 
--- a line was taken
 quiet : (g : given.Over) (c : In-Ok g) → Quiet g.S.Shelf c.args.shelf.now c.take_change.new.shelf c.args.run.now
     c.take_change.new.run
 quiet g c = quiet_then g.S.Shelf c.lines.invariant.quiet (quiet_by g.S.Shelf _ _ _ _ c.in-Ok.ensures.keeps
     c.in-Ok.ensures.readers c.in-Ok.ensures.blamed (told_took c.in-Ok.ensures.only))
 
--- and looked at
 looked : (g : given.Over) (c : In-Ok-look_at g) → Quiet g.S.Shelf c.args.shelf.now c.take_change.new.shelf
     c.args.run.now c.look_at.new.run
 looked g c = quiet_tells g.S.Shelf (quiet_then g.S.Shelf c.lines.invariant.quiet (quiet_by g.S.Shelf _ _ _ _
@@ -91,7 +89,6 @@ returns-in-Entry-clause-searched g c = λ tells.
     (so_far_of c.args.run.now) (so_far_of c.look_at.new.run) (Waiting c.in-Entry.place) v.items (lines_at
     (g.S.Shelf.left c.take_change.new.shelf) c.take_change.new.run.change)) (sym c.swap.ensures.x_after) found)
 
--- what was told stays
 pub returns-in-Err-clause-still : goal.returns-in-Err-clause-still
 returns-in-Err-clause-still g c = told_then _ _ _ c.lines.invariant.quiet.told (told_took c.in-Err.ensures.only)
 
@@ -115,7 +112,6 @@ returns-in-Err-look_at-clause-still g c =
 pub returns-in-Entry-clause-still : goal.returns-in-Entry-clause-still
 returns-in-Entry-clause-still g c = (looked g (goal.at.returns-in-Entry-clause-still g c).In-Ok-look_at).told
 
--- the change file has ended
 pub returns-in_default-clause-searched : goal.returns-in_default-clause-searched
 returns-in_default-clause-searched g c = λ tells.
     let taken = rw c.in_default.is at (c.in-Ok.ensures.taken (still_tells g.S.Shelf c.lines.invariant.quiet tells)) in
@@ -126,7 +122,6 @@ returns-in_default-clause-searched g c = λ tells.
     (ap opened_file_names (c.end.ensures.names ∙ c.in-Ok.ensures.only.names)) (ap counters_of c.end.ensures.limits
     ∙ (λ i. record { lines = counted.0 i; bytes = counted.1 i })) _ done _ _) c.end.ensures.told c.end.ensures.stage
 
--- the readers
 pub returns-in-Err-clause-readers : goal.returns-in-Err-clause-readers
 returns-in-Err-clause-readers g c = readers_after g.S.Shelf c.lines.invariant.quiet _ _ c.in-Err.ensures.readers
 

@@ -70,7 +70,6 @@ returns-clause-obeys g c = λ tells. OnOk-map c.open.result (λ names source is.
           (ap (λ (v : Vec SourceFault Global). v.items) c.open.ensures.only.faults) names.0;
     }) c.open.ensures.opens
 
--- what was told stays
 pub returns-then-is_empty-clause-still : goal.returns-then-is_empty-clause-still
 returns-then-is_empty-clause-still g c = told_if c.report.result _ _ _ c.report.ensures.told c.report.ensures.err
     (ap opened_file_names c.report.ensures.only.names)
@@ -88,7 +87,6 @@ returns-in_default-clause-still g c =
 pub returns-in_err-opening-clause-still : goal.returns-in_err-opening-clause-still
 returns-in_err-opening-clause-still g c = told_same _ _ refl refl
 
--- the readers
 pub returns-then-is_empty-clause-readers : goal.returns-then-is_empty-clause-readers
 returns-then-is_empty-clause-readers g c = λ tells known. knows_only c.report.ensures.only known
 

@@ -27,7 +27,6 @@ invariant_of-run-2 g c =
       stop_known = omega (arith, count, c.args.run.now.stop_known);
     }
 
--- what was told stays
 pub returns-clause-still : goal.returns-clause-still
 returns-clause-still g c = told_more _ _ [] _ (sym (append-nil c.args.run.now.faults.items)) c.in_default.ensures.ok
 
@@ -40,7 +39,6 @@ returns-in_err-buffer-clause-still g c = told_same _ _ refl refl
 pub returns-in_err-source-clause-still : goal.returns-in_err-source-clause-still
 returns-in_err-source-clause-still g c = told_same _ _ refl refl
 
--- the readers
 pub returns-clause-readers : goal.returns-clause-readers
 returns-clause-readers g c = λ opened_as opened known.
     let run = c.args.run.now in

@@ -19,7 +19,6 @@ returns-in_default-clause-gives g c = λ tells.
     c.in_default.ensures.only.stack ∙ none)))) c.in_default.ensures.told
     (ap opened_file_names c.in_default.ensures.only.names)
 
--- what was told stays
 pub returns-in-Err-clause-still : goal.returns-in-Err-clause-still
 returns-in-Err-clause-still g c = told_same _ _ c.in-Err.ensures.err (ap opened_file_names c.in-Err.ensures.only.names)
 
@@ -27,7 +26,6 @@ pub returns-in_default-clause-still : goal.returns-in_default-clause-still
 returns-in_default-clause-still g c = told_behind _ _ _ c.in_default.ensures.told
     (ap opened_file_names c.in_default.ensures.only.names)
 
--- the readers
 pub returns-in-Err-clause-readers : goal.returns-in-Err-clause-readers
 returns-in-Err-clause-readers g c = λ tells known. knows_only c.in-Err.ensures.only known
 

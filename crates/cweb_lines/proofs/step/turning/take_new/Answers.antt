@@ -57,7 +57,6 @@ returns-in_default-report-2-clause-gives g c = λ tells.
     c.in_default-report-2.ensures.only taken.1 c.in-Some-change_code.code test (sym c.eq.ensures ∙ c.if-eq.false)
     c.in_default-report-2.ensures.told
 
--- what was told stays
 pub returns-in-Err-clause-still : goal.returns-in-Err-clause-still
 returns-in-Err-clause-still g c = told_took c.in-Err.ensures.only
 
@@ -84,7 +83,6 @@ returns-in_default-report-2-clause-still g c = told_then _ _ _ (told_took c.in-O
     (told_behind _ _ _ c.in_default-report-2.ensures.told
     (ap opened_file_names c.in_default-report-2.ensures.only.names))
 
--- the readers
 pub returns-in-Err-report-clause-readers : goal.returns-in-Err-report-clause-readers
 returns-in-Err-report-clause-readers g c = λ tells known. knows_only c.in-Err-report.ensures.only
     (c.in-Ok.ensures.readers tells known)

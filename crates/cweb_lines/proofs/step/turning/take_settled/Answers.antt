@@ -21,11 +21,9 @@ returns-in-Err-clause-stops g c =
     (change_lines (g.S.Shelf.left c.args.shelf.now) c.args.run.now) c.args.run.now.stack c.in-Err.stop
     (counters_of c.args.run.now.limits) c.requires.settled) (c.in-Err.ensures.stops tells))
 
--- what was told stays
 pub returns-in-Err-clause-still : goal.returns-in-Err-clause-still
 returns-in-Err-clause-still g c = told_took c.in-Err.ensures.only
 
--- no raw line is left
 pub returns-in_default : goal.returns-in_default
 returns-in_default g c =
     let still = keeps_told g.S.Shelf _ _ c.in-Ok.ensures.keeps in
@@ -52,7 +50,6 @@ returns-in_default g c =
           Stopped stop told (so_far_of c.take_end.new.run) all)) (c.take_end.ensures.stops (still tells));
     }
 
--- a raw line was taken
 taken : (g : given.Over) (c : In-Some g) → IsTrue (g.S.Shelf.tells c.args.shelf.now) → (t : CountsLine
     c.take_raw.new.line.items c.in-Some.at.place (counters_of c.args.run.now.limits)
     (counters_of c.take_raw.new.run.limits))
@@ -63,7 +60,6 @@ taken g c tells = raw_taken _ _ _ _ c.args.run.now c.take_raw.new.run c.in-Some.
     (c.in-Ok.ensures.keeps.texts tells) (c.in-Ok.ensures.keeps.left tells) c.requires.settled (rw c.in-Some.is at
     (c.in-Ok.ensures.taken tells)) c.in-Ok.ensures.closes.below c.in-Ok.ensures.only c.in-Ok.ensures.change
 
--- it begins a change
 begun : (g : given.Over) (c : In-Some-begun_at g) → begun_by (pending_of c.take_raw.new.run) c.in-Some.at.may_match
     c.take_raw.new.line.items ≡ Some c.in-Some-begun_at.begin
 begun g c = (λ i. begun_by (pending_in c.take_raw.new.run.stage (sym c.deref.ensures.value i)) c.in-Some.at.may_match

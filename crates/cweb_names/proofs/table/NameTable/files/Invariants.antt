@@ -1,7 +1,6 @@
 use Rattle.cweb_names.proofs.Common.{◌≡◌, ℕ, List, [], drop, length, files_from, occurrences_at}
 use Rattle.cweb_names.proofs.table.NameTable.files.Given as goal
 
--- whatever their texts are
 abbrev pub invariant-loop-i : goal.invariant-loop-i
 invariant-loop-i l =
     (ts : List (List ℕ)) → length ts ≡ length l.given-items → files_from l.resolutions l.files.keys l.i (occurrences_at
