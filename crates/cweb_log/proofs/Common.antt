@@ -25,7 +25,7 @@ pub use Rattle.cweb_log.specs.inner.LogBuffer.{unwritten_bytes}
 pub use Rattle.cweb_log.specs.LogWriting.{Logs}
 pub use Rattle.cweb_log.specs.inner.LogWriting.{WritesToStream, IsWrittenOrBuffered, AppendsToLog, joined_line}
 pub use Rattle.cweb_log.specs.Items.{LogItem, line, star}
-pub use Rattle.cweb_log.specs.Log.{fault_line, fault_lines}
+pub use Rattle.cweb_log.specs.Items.{fault_lines, line, source_item}
 pub use Rattle.cweb_log.specs.Options.{OptionsModel, TangleNames, named_by, names_by, options_by}
 pub use Rattle.cweb_log.specs.surface.Options.{options_of}
 pub use Rattle.cweb_log.specs.Options.{other_words}
@@ -34,7 +34,8 @@ pub use Rattle.cweb_log.specs.DeviceModels.{SinkModel, sink_model}
 pub use Rattle.cweb_log.specs.WebItems.{name_items, refusal_message, scan_items, cycle_step, scan_item}
 pub use Rattle.cweb_log.specs.WebItems.{occurrence_spelling}
 pub use Rattle.cweb_log.specs.WebItems.{name_item}
-pub use Rattle.cweb_log.specs.Words.{web_names_by, is_dot, is_slash, has_extension}
+pub use Rattle.cweb_log.specs.Words.{web_names_by, is_dot, has_extension}
+pub use Rattle.cweb_out.specs.Outputs.{is_slash}
 pub use Rattle.cweb_log.specs.declared.options.Options.{Options}
 pub use Rattle.cweb_log.specs.declared.shown.Shown.{Shown}
 pub use Rattle.cweb_out.specs.Cycles.{cycle_from}

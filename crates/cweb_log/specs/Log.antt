@@ -1,7 +1,5 @@
 -- The lines of the log.
-use Rattle.std.specs.Prelude.{ℕ, List, [], ◌++◌, codes, decimal, slice_index_or}
-use Rattle.std.specs.List.{flat_map}
-use Rattle.cweb_input.specs.declared.fault.SourceFault.{SourceFault}
+use Rattle.std.specs.Prelude.{ℕ, List, [], ◌++◌, codes, slice_index_or}
 use Rattle.cweb_input.specs.declared.fault.SourceKind.{SourceKind}
 use Rattle.cweb_input.specs.declared.fault.SourceKind.TheVariants.{NoName, TooDeep, NotThere, MissingX, NoOldLines}
 use Rattle.cweb_input.specs.declared.fault.SourceKind.TheVariants.{EndedBeforeY, WebEnded, WantsY, Unequal, WantsZ}
@@ -29,22 +27,9 @@ kind_message WantsZ = codes "Where is @z?"
 kind_message EndedBeforeZ = codes "Change file ended before @z"
 kind_message NoMatch = codes "Change entry did not match"
 
--- what stands behind the text: a number, which unequal lines alone have
-abbrev pub count_suffix : SourceKind → ℕ → List ℕ
-count_suffix Unequal count = codes ": " ++ (decimal count ++ codes "\n")
-count_suffix _ count = codes "\n"
-
 -- FILE:LINE: ! TEXT
 abbrev pub located_line : List ℕ → List ℕ → List ℕ → List ℕ
 located_line file line text = file ++ (codes ":" ++ (line ++ (codes ": ! " ++ text)))
-
-abbrev pub fault_line : List (List ℕ) → SourceFault → List ℕ
-fault_line names fault =
-    located_line (file_name_at names fault.place.file.0) (decimal fault.place.line)
-    (kind_message fault.kind ++ count_suffix fault.kind fault.count)
-
-abbrev pub fault_lines : List (List ℕ) → List SourceFault → List ℕ
-fault_lines names faults = flat_map (λ fault. fault_line names fault) faults
 
 -- ! TEXT, which ends in a name where the text is about one
 abbrev pub message_line : List ℕ → List ℕ → List ℕ

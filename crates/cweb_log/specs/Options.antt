@@ -3,11 +3,9 @@ use Rattle.std.specs.Prelude.{ℕ, Bool, true, false, not, ◌&&◌, ◌||◌, �
 use Rattle.std.specs.Prelude.{None, Some, option_and_then, option_map, filter, if◌then◌else◌}
 use Rattle.std.specs.List.{list_any, after_last, before_last}
 use Rattle.cweb_log.specs.Words.{WebNames, web_names_for, web_names_with, can_name_file, extended, is_dot, is_option}
-use Rattle.cweb_log.specs.Words.{is_slash}
+use Rattle.cweb_out.specs.Outputs.{is_slash}
+use Rattle.cweb_rules.specs.Bytes.{is_letter}
 use Rattle.cweb_log.specs.declared.shown.Shown.{Shown}
-
-abbrev pub is_letter : ℕ → Bool
-is_letter b = (nat_le 65 b && nat_le b 90) || (nat_le 97 b && nat_le b 122)
 
 abbrev pub shown_by_default : Shown
 shown_by_default = record { banner = true; progress = true; closing = true; statistics = false }

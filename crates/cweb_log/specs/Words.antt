@@ -1,11 +1,8 @@
 -- The words of a command line of `wmerge`, and the names that they stand for.
-use Rattle.std.specs.Prelude.{ℕ, Bool, false, not, ◌&&◌, ◌||◌, ◌==◌, nat_lt, length, List, [], ◌∷◌, ◌++◌, codes, Option}
+use Rattle.std.specs.Prelude.{ℕ, Bool, false, not, ◌&&◌, ◌||◌, ◌==◌, length, List, [], ◌∷◌, ◌++◌, codes, Option}
 use Rattle.std.specs.Prelude.{None, Some, option_map, if◌then◌else◌}
 use Rattle.std.specs.List.{list_any, after_last}
-
--- a byte that stands in no word: one below 32, or 127
-abbrev pub is_control : ℕ → Bool
-is_control b = nat_lt b 32 || b == 127
+use Rattle.cweb_out.specs.Outputs.{is_control, is_slash}
 
 abbrev pub has_control : List ℕ → Bool
 has_control word = list_any is_control word
@@ -32,9 +29,6 @@ can_name_file word = not (length word == 0) && not (has_control word) && not (is
 
 abbrev pub is_dot : ℕ → Bool
 is_dot b = b == 46
-
-abbrev pub is_slash : ℕ → Bool
-is_slash b = b == 47
 
 -- whether a word's last path part, behind the last slash, has a dot
 abbrev pub has_extension : List ℕ → Bool

@@ -3,7 +3,8 @@ ghost use Rattle.std.specs.Prelude.{◌≡◌, ◌<◌, ◌+◌, ◌^◌, ◌++�
 ghost use Rattle.cweb_input.specs.surface.OpenedFileNames.{opened_file_names};
 ghost use Rattle.cweb_log.specs.inner.LogBuffer.{unwritten_bytes};
 ghost use Rattle.cweb_log.specs.inner.LogWriting.{WritesToStream, AppendsToLog};
-ghost use Rattle.cweb_log.specs.Log.{fault_line, fault_lines, kind_message, located_line};
+ghost use Rattle.cweb_log.specs.Items.{fault_lines, line, source_item};
+ghost use Rattle.cweb_log.specs.Log.{kind_message, located_line};
 ghost use Rattle.cweb_log.specs.DeviceModels.{sink_model};
 
 use crate::log_buffer::LogBuffer;
@@ -39,7 +40,7 @@ fn add_fault<L: Sink>(
 ) -> Result<(), SinkFault>
     requires count { L.failed log.old + 1 < 2 ^ 64 }
     requires known { fault.now.place.file.0 < length (opened_file_names names.now) }
-    ensures { AppendsToLog (fault_line (opened_file_names names.now) fault.now)
+    ensures { AppendsToLog (line (source_item (opened_file_names names.now) fault.now))
         (sink_model L.Sink log.old) (sink_model L.Sink log.new)
         (unwritten_bytes log_buffer.old) (unwritten_bytes log_buffer.new) result }
 {

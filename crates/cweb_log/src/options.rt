@@ -4,7 +4,7 @@ ghost use Rattle.std.specs.Prelude.{IfOk, IfErr, IsErrOf};
 ghost use Rattle.std.specs.List.{after_last};
 ghost use Rattle.std.specs.Option.{option_copied};
 ghost use Rattle.cweb_log.specs.Options.{main_by, named_by, options_by, other_words, stem};
-ghost use Rattle.cweb_log.specs.Words.{is_slash};
+ghost use Rattle.cweb_out.specs.Outputs.{is_slash};
 
 use crate::shown::Shown;
 use crate::words::{MergeWords, can_name_file, extended, is_option, with_extension};

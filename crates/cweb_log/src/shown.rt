@@ -1,6 +1,6 @@
 // The option words of a command line of `ctangle`.
 ghost use Rattle.std.specs.Prelude.{◌≡◌, map};
-ghost use Rattle.cweb_log.specs.Options.{is_letter};
+ghost use Rattle.cweb_rules.specs.Bytes.{is_letter};
 ghost use Rattle.cweb_log.specs.Words.{is_option};
 
 use crate::words::is_option;

@@ -2,7 +2,8 @@
 ghost use Rattle.std.specs.Prelude.{◌≡◌, ◌↔◌, ◌⊎◌, ◌++◌, Some, None, map, codes, string_bytes};
 ghost use Rattle.std.specs.Prelude.{option_map, IfOk, IfErr, IsErrOf};
 ghost use Rattle.std.specs.Option.{option_copied};
-ghost use Rattle.cweb_log.specs.Words.{web_names_by, web_names_with, web_names_for, is_control};
+ghost use Rattle.cweb_log.specs.Words.{web_names_by, web_names_with, web_names_for};
+ghost use Rattle.cweb_out.specs.Outputs.{is_control};
 ghost use Rattle.cweb_log.specs.Words.{is_dash, is_option, has_control, can_name_file};
 ghost use Rattle.cweb_log.specs.Words.{has_extension, extended, second_try};
 

@@ -57,10 +57,10 @@ pub use Rattle.cweb_input.specs.declared.stop.Stop.TheVariants.{ReadFault, LineT
 pub use Rattle.cweb_input.specs.declared.stop.Stop.TheVariants.{WriteFault}
 pub use Rattle.cweb_log.specs.LogWriting.{Logs}
 pub use Rattle.cweb_log.specs.inner.LogWriting.{WritesToStream}
-pub use Rattle.cweb_log.specs.Items.{line, LogItem, message_with_count, fault_count, is_fault, source_item, fault}
+pub use Rattle.cweb_log.specs.Items.{line, LogItem, fault_lines, fault_count, is_fault, source_item, fault}
 pub use Rattle.cweb_log.specs.Items.{starred}
 pub use Rattle.cweb_log.specs.Items.{located, banner, closing, faults, no_errors, no_text, see_warning, stopped}
-pub use Rattle.cweb_log.specs.Log.{stop_line, count_suffix, fault_line, fault_lines}
+pub use Rattle.cweb_log.specs.Log.{stop_line}
 pub use Rattle.cweb_log.specs.inner.Log.{start_subject, subject}
 pub use Rattle.cweb_log.specs.Log.{kind_message}
 pub use Rattle.cweb_log.specs.Log.{located_line, file_name_at}

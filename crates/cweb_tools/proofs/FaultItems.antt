@@ -1,5 +1,5 @@
 -- The faults of a web as items: how many there are, and that they are written.
-use Rattle.cweb_tools.proofs.Common.{◌≡◌, ◌<◌, ◌+◌, ℕ, zero, suc, Bool, true, false, cond, List, [], ◌∷◌, ◌++◌, length, map, refl, sym, ◌∙◌, ap, subst, append_assoc, arith, length-append, flat_map-append, length-map, sum_by-append, sum_by-cons, flat_map, IsTrue, IsErr, None, Result, Ok, Err, count_by, decimal, codes, SourceFault, SourceKind, Unequal, Part, is_macro, numbers_from, numbers_where, PartKind, Scanned, WritesToStream, LogItem, message_with_count, fault_count, is_fault, line, source_item, count_suffix, fault_line, fault_lines, kind_message, located_line, file_name_at, SinkModel, name_item, name_items, scan_item, scan_items, says, DoesInLog, log_ending, fault_items}
+use Rattle.cweb_tools.proofs.Common.{◌≡◌, ◌<◌, ◌+◌, ℕ, zero, suc, Bool, true, false, cond, List, [], ◌∷◌, ◌++◌, length, map, refl, sym, ◌∙◌, ap, subst, append_assoc, arith, length-append, flat_map-append, length-map, sum_by-append, sum_by-cons, flat_map, IsTrue, IsErr, None, Result, Ok, Err, count_by, decimal, codes, SourceFault, SourceKind, Unequal, Part, is_macro, numbers_from, numbers_where, PartKind, Scanned, WritesToStream, LogItem, fault_count, is_fault, line, source_item, fault_lines, SinkModel, name_item, name_items, scan_item, scan_items, says, DoesInLog, log_ending, fault_items}
 use Rattle.cweb_store.specs.Faults as store
 use Rattle.cweb_tools.proofs.Logging.{said_all, said_none}
 
@@ -95,21 +95,10 @@ writes_in e (Err f) b fails is = record {
   };
 }
 
--- the line of a fault of a file is that of its item
-end_text : (kind : SourceKind) (count : ℕ)
-    → kind_message kind ++ count_suffix kind count ≡ message_with_count kind count ++ codes "\n"
-end_text Unequal count = sym (append_assoc (kind_message Unequal) (codes ": " ++ decimal count) (codes "\n")
-    ∙ ap (λ (t : List ℕ). kind_message Unequal ++ t) (append_assoc (codes ": ") (decimal count) (codes "\n")))
-end_text kind count = refl
-
-same_line : (files : List (List ℕ)) (met : SourceFault) → fault_line files met ≡ line (source_item files met)
-same_line files met =
-    ap (located_line (file_name_at files met.place.file.0) (decimal met.place.line)) (end_text met.kind met.count)
-
 same_lines : (files : List (List ℕ)) (faults : List SourceFault)
     → fault_lines files faults ≡ flat_map line (map (source_item files) faults)
 same_lines files [] = refl
-same_lines files (met ∷ faults) = λ i. same_line files met i ++ same_lines files faults i
+same_lines files (met ∷ faults) = ap (λ (t : List ℕ). line (source_item files met) ++ t) (same_lines files faults)
 
 -- the lines of all faults of a web are those of its files, of its text and of its names
 pub fault_text : (files : List (List ℕ)) (faults : List SourceFault) (made : Scanned)

@@ -1,5 +1,5 @@
 -- Worked examples, computed from the definitions.
-use Rattle.cweb_tools.proofs.Common.{◌≡◌, ℕ, List, [], ◌∷◌, Option, Some, None, refl, ap, cond, codes, bytes_eq, Place, NotThere, Unequal, Usage, WebNotOpened, ChangeNotOpened, LineTooLong, WriteFault, Memory, World, Event, MergeStateModel, run_steps, started, merge-run_steps, fault_line, fault_lines, stop_line, subject, web_names_by, Course, merging, course_of, merged, merge_log, merge_status, usage}
+use Rattle.cweb_tools.proofs.Common.{◌≡◌, ℕ, List, [], ◌∷◌, Option, Some, None, refl, ap, cond, codes, bytes_eq, Place, NotThere, Unequal, Usage, WebNotOpened, ChangeNotOpened, LineTooLong, WriteFault, Memory, World, Event, MergeStateModel, run_steps, started, merge-run_steps, line, source_item, fault_lines, stop_line, subject, web_names_by, Course, merging, course_of, merged, merge_log, merge_status, usage}
 use Rattle.std.specs.Fmt.{digits}
 use Rattle.cweb_tools.specs.Course.{unread, change_not_there}
 
@@ -63,10 +63,10 @@ record Computed : Type 0 where
   empty_second : web_names_by (codes "m" ∷ [] ∷ []) ≡ None
   control_byte_second : web_names_by (codes "m" ∷ (99 ∷ 31 ∷ []) ∷ []) ≡ None
   three_words : web_names_by (codes "m" ∷ codes "c" ∷ codes "x" ∷ []) ≡ None
-  include_not_there : fault_line (codes "a.w" ∷ []) (record { kind = NotThere; place = place 0 2; count = 0 })
+  include_not_there : line (source_item (codes "a.w" ∷ []) (record { kind = NotThere; place = place 0 2; count = 0 }))
       ≡ codes "a.w:2: ! Cannot open include file\n"
-  unequal_lines : fault_line (codes "m.w" ∷ codes "c.ch" ∷ [])
-      (record { kind = Unequal; place = place 1 1; count = 12 }) ≡ codes "c.ch:1: ! Lines that failed to match: 12\n"
+  unequal_lines : line (source_item (codes "m.w" ∷ codes "c.ch" ∷ [])
+      (record { kind = Unequal; place = place 1 1; count = 12 })) ≡ codes "c.ch:1: ! Lines that failed to match: 12\n"
   two_faults : fault_lines (codes "m.w" ∷ codes "c.ch" ∷ []) (record
       { kind = Unequal; place = place 1 10; count = 1 } ∷ record { kind = NotThere; place = place 0 3; count = 0 } ∷ [])
       ≡ codes "c.ch:10: ! Lines that failed to match: 1\nm.w:3: ! Cannot open include file\n"

@@ -8,7 +8,8 @@ use Rattle.cweb_lines.specs.Total.{merge}
 use Rattle.cweb_lines.specs.Writing.{written_lines}
 use Rattle.cweb_input.specs.declared.fault.SourceFault.{SourceFault}
 use Rattle.cweb_input.specs.declared.stop.Stop.TheVariants.{Usage, WebNotOpened, ChangeNotOpened}
-use Rattle.cweb_log.specs.Log.{fault_lines, stop_line}
+use Rattle.cweb_log.specs.Items.{fault_lines}
+use Rattle.cweb_log.specs.Log.{stop_line}
 use Rattle.cweb_log.specs.Words.{WebNames}
 
 abbrev pub usage : List ℕ
@@ -51,10 +52,8 @@ world_of texts inputs = record { texts = texts; inputs = folder_of inputs }
 
 -- the merged lines, each with a newline
 abbrev pub merged : Course → List ℕ
-merged unread = []
-merged (not_there web) = []
-merged (change_not_there change) = []
 merged (merging names events) = written_lines (emitted_lines events)
+merged course = []
 
 -- the faults in their order, or the line of what stopped the run
 abbrev pub merge_log : Course → List ℕ
@@ -69,14 +68,10 @@ fault_status [] = 0
 fault_status (fault ∷ faults) = 1
 
 abbrev pub merge_status : Course → ℕ
-merge_status unread = 1
-merge_status (not_there web) = 1
-merge_status (change_not_there change) = 1
 merge_status (merging names events) = fault_status (reported_faults events)
+merge_status course = 1
 
 -- no line that the merge takes breaks the limits
 abbrev pub MergeKeepsLimits : Course → Type 0
-MergeKeepsLimits unread = Unit {0}
-MergeKeepsLimits (not_there web) = Unit {0}
-MergeKeepsLimits (change_not_there change) = Unit {0}
 MergeKeepsLimits (merging names events) = IsWithinLimits (taken_lines events)
+MergeKeepsLimits course = Unit {0}

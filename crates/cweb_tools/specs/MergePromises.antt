@@ -13,7 +13,8 @@ use Rattle.cweb_input.specs.declared.stop.Stop.TheVariants.{Usage, WebNotOpened,
 use Rattle.cweb_input.specs.declared.stop.Stop.TheVariants.{LineTooLong}
 use Rattle.cweb_input.specs.declared.stop.Stop.TheVariants.{TooMuchText, Memory, WriteFault}
 use Rattle.cweb_log.specs.LogWriting.{Logs}
-use Rattle.cweb_log.specs.Log.{fault_lines, stop_line, file_name_at}
+use Rattle.cweb_log.specs.Items.{fault_lines}
+use Rattle.cweb_log.specs.Log.{stop_line, file_name_at}
 use Rattle.cweb_log.specs.DeviceModels.{Devices}
 use Rattle.cweb_log.specs.Words.{WebNames}
 use Rattle.cweb_tools.specs.Course.{Course, not_there, change_not_there, merging, merge_course, change_name}

@@ -39,11 +39,12 @@ planning_by web files main (Err refusal) = refused (refusal_message web main ref
 abbrev pub planning : Stored → List (List ℕ) → List ℕ → Planning
 planning web files main = planning_by web files main (out.planned web main)
 
-abbrev pub macro_count : Stored → ℕ
-macro_count web = count_by (λ (part : Part). is_macro part.kind) web.parts
-
 abbrev pub numbers_of : Scanned → Numbers
-numbers_of made = record { sections = made.sections; names = names made.store; macros = macro_count made.store }
+numbers_of made = record {
+  sections = made.sections;
+  names = names made.store;
+  macros = count_by (λ (part : Part). is_macro part.kind) made.store.parts;
+}
 
 -- the faults of the files, of the text and of the names
 abbrev pub fault_items : List (List ℕ) → List SourceFault → Scanned → List LogItem
