@@ -70,7 +70,6 @@ pub use Rattle.cweb_lines.specs.inner.StepCalls.{OnlyOpens}
 pub use Rattle.cweb_lines.specs.Change.{WaitingEntry, at_place, OldSide, change_code, old_at, old_code, old_lines}
 pub use Rattle.cweb_lines.specs.Change.{Sought}
 pub use Rattle.cweb_lines.specs.Change.{after_x, outside, sought, old_line, passing}
-pub use Rattle.cweb_lines.specs.Halting.{halts}
 pub use Rattle.cweb_lines.specs.laws.Laws.{file_with_change, ChangeFilesWithoutEntriesChangeNothing, is_change_code}
 pub use Rattle.cweb_lines.specs.laws.Laws.{IncludeLinesAreReplaced, Includes, LinesComeApart, IncludesMergeAsWebs}
 pub use Rattle.cweb_lines.specs.laws.Laws.{is_too_deep, IsPlainSplice, Splice, spliced, web_lines}
@@ -119,8 +118,9 @@ pub use Rattle.cweb_lines.specs.inner.Stages.{begun_stage, files_begun, stage_fo
 pub use Rattle.cweb_lines.specs.inner.Steps.{OnlyTakes, OnlyReports}
 pub use Rattle.cweb_lines.specs.EventsByKind.{emitted_lines, reported_faults, openings, taken_lines, size_of_lines}
 pub use Rattle.cweb_lines.specs.EventsByKind.{AreShort}
-pub use Rattle.cweb_lines.specs.Total.{merge}
-pub use Rattle.cweb_lines.specs.inner.Total.{merge_next, merge-run_steps, merge_end}
+pub use Rattle.cweb_lines.specs.surface.Halting.{halts}
+pub use Rattle.cweb_lines.specs.surface.Total.{merge}
+pub use Rattle.cweb_lines.specs.inner.Total.{merge_yields, merge_next, merge-run_steps, merge_end}
 pub use Rattle.cweb_lines.specs.surface.MergerCalls.{Grows, to_come, so_far, stop_in}
 pub use Rattle.cweb_lines.specs.Writing.{written_lines}
 pub use Rattle.cweb_files.specs.Frames.{WritesPrefix}

@@ -1,8 +1,6 @@
 pub mod Change
 pub mod Merge
 pub mod EventsByKind
-pub mod Halting
-pub mod Total
 pub mod Writing
 pub mod surface
 pub mod laws

@@ -185,11 +185,9 @@ abbrev pub run_steps : ℕ → World → MergeStateModel → Option (List Event)
 run_steps zero world s = None
 run_steps (suc n) world s = step_then_run (step world s) (λ next. run_steps n world next)
 
--- A number of steps that is enough, and the events.
-pub record Halts (world : World) (s : MergeStateModel) : Type 0 where
-  pub steps : ℕ
-  pub events : List Event
-  pub comes : run_steps steps world s ≡ Some events
+-- These events are all that comes of a merge: some number of steps yields them.
+abbrev pub Yields : World → MergeStateModel → List Event → Type 0
+Yields world s events = (steps : ℕ) × (run_steps steps world s ≡ Some events)
 
 -- A merge begins with the lines of the web. If there is a change file, its first entry is sought before them.
 abbrev pub started : List ℕ → Option (List ℕ) → MergeStateModel

@@ -1,4 +1,6 @@
 -- Definitions that public calls cite and the headline does not.
+pub mod Halting
+pub mod Total
 pub mod MergeProgress
 pub mod MergeReaderNames
 pub mod Stages

@@ -38,7 +38,7 @@ pub use Rattle.cweb_input.specs.surface.OpenSources.{StopsReading}
 pub use Rattle.cweb_input.specs.surface.OpenSources.{StopsFor}
 pub use Rattle.cweb_lines.specs.EventsByKind.{emitted_lines, reported_faults, openings, taken_lines, IsWithinLimits}
 pub use Rattle.cweb_lines.specs.EventsByKind.{AreShort}
-pub use Rattle.cweb_lines.specs.Total.{merge}
+pub use Rattle.cweb_lines.specs.surface.Total.{merge}
 pub use Rattle.cweb_lines.specs.inner.Total.{merge-run_steps}
 pub use Rattle.cweb_lines.specs.surface.MergerCalls.{BeginsMerge, StopsAtStart, so_far}
 pub use Rattle.cweb_lines.specs.surface.Writing.{StopsWriting, WritingStops}
@@ -125,7 +125,8 @@ pub use Rattle.cweb_tools.specs.Acts.{PerformsActs}
 pub use Rattle.cweb_tools.specs.Acts.{Breaks, Ending, ending, TangleEnds, completes, stops, LogsLine, LogsStop}
 pub use Rattle.cweb_tools.specs.inner.Acts.{ending_of}
 pub use Rattle.cweb_tools.specs.Acts.{IsOfFile, read_fails, FailsLog, bins_fail, abandon_draft, begin_fails}
-pub use Rattle.cweb_tools.specs.Course.{Course, merging, merge_course, change_name, found_course, merged, usage}
+pub use Rattle.cweb_tools.specs.Course.{Course, merging, IsMergeCourse, change_name, merged, usage}
+pub use Rattle.cweb_tools.specs.inner.Course.{found_course, merge_course, EndsMerge}
 pub use Rattle.cweb_tools.specs.Course.{fault_status, MergeKeepsLimits, merge_log, merge_status, world_of}
 pub use Rattle.cweb_tools.specs.inner.Course.{course_of}
 pub use Rattle.cweb_tools.specs.Does.{AgreesWith}
@@ -153,8 +154,8 @@ pub use Rattle.cweb_tools.specs.Script.{Planning, refused, Web, planned_acts, sc
 pub use Rattle.cweb_tools.specs.Script.{tangling, when, output_acts, outputs_acts, TangleCourse, tangle_status}
 pub use Rattle.cweb_tools.specs.Script.{web_acts, planned, tangle_log, tangle_usage}
 pub use Rattle.cweb_tools.specs.Spacing.{IsPlain, Spacing, is_ascii}
-pub use Rattle.cweb_tools.specs.Tangle.{fault_items, CanCome, shown_by, tangle_course, output_file}
-pub use Rattle.cweb_tools.specs.inner.Tangle.{course_acts}
+pub use Rattle.cweb_tools.specs.Tangle.{fault_items, CanCome, shown_by, IsTangleCourse, output_file}
+pub use Rattle.cweb_tools.specs.inner.Tangle.{tangle_course, course_acts}
 pub use Rattle.cweb_tools.specs.inner.Tangle.{course_status, web_status}
 pub use Rattle.cweb_tools.specs.Tangle.{tangled, web_of, plan_made, planning, planning_by}
 pub use Rattle.cweb_tools.specs.inner.Tangle.{status_by}

@@ -1,5 +1,5 @@
 -- How the exits of a run that come before it writes are its ends.
-use Rattle.cweb_tools.proofs.Common.{◌≤◌, ◌≡◌, ◌⊎◌, inl, inr, ℕ, List, [], ◌∷◌, ◌++◌, refl, sym, ◌∙◌, ap, subst, append-nil, append_assoc, arith, Option, Some, None, IsTrue, names_found, World, Found, Line, Event, SoFar, EmitsLines, begun_with, ReportsPrefix, blame, StartStops, files_named, read_failures_of, emitted_lines, reported_faults, openings, taken_lines, IsWithinLimits, BeginsMerge, StopsAtStart, StopsWriting, WritingStops, WritesPrefix, write_failures_of, LINES, BYTES, Stop, Usage, WebNotOpened, ChangeNotOpened, ReadFault, LineTooLong, TooMuchText, Memory, WriteFault, Logs, stop_line, start_subject, subject, Devices, SinkModel, WebNames, Course, merging, merge_course, change_name, found_course, usage, about, AreOpened, CanStop, Comes, MergeEnds, Merges, RefusesArgs}
+use Rattle.cweb_tools.proofs.Common.{◌≤◌, ◌≡◌, ◌⊎◌, inl, inr, ℕ, List, [], ◌∷◌, ◌++◌, refl, sym, ◌∙◌, ap, subst, append-nil, append_assoc, arith, Option, Some, None, IsTrue, names_found, World, Found, Line, Event, SoFar, EmitsLines, begun_with, ReportsPrefix, blame, StartStops, files_named, read_failures_of, emitted_lines, reported_faults, openings, taken_lines, IsWithinLimits, BeginsMerge, StopsAtStart, StopsWriting, WritingStops, WritesPrefix, write_failures_of, LINES, BYTES, Stop, Usage, WebNotOpened, ChangeNotOpened, ReadFault, LineTooLong, TooMuchText, Memory, WriteFault, Logs, stop_line, start_subject, subject, Devices, SinkModel, WebNames, Course, merging, merge_course, change_name, found_course, usage, about, AreOpened, CanStop, Comes, EndsMerge, Merges, RefusesArgs}
 use Rattle.cweb_tools.proofs.Limits.{breaks_limit}
 use Rattle.cweb_lines.proofs.EmittedLinesAddUp.{openings-append}
 use Rattle.cweb_tools.specs.Course.{unread, not_there, change_not_there}
@@ -77,7 +77,7 @@ module _ (before after : Devices) (status : ℕ) (read : after.shelf.failed ≡ 
   -- the words can't be read, or memory was wanting for their names
   pub words_stopped : (world : World) (asked : Option WebNames) (stop : Stop) → (stop ≡ Usage) ⊎ (stop ≡ Memory)
       → (stop ≡ Usage → asked ≡ None) → (asked ≡ None → stop ≡ Usage) → Logs (stop_line stop usage) before.log after.log
-      → MergeEnds world asked before after status
+      → EndsMerge world asked before after status
   words_stopped world None stop why none_by is_usage logs = refused stop (is_usage refl) logs
   words_stopped world (Some names) stop why none_by is_usage logs = out_of_memory names (merge_course world
       (Some names)) stop (elim why [ inl is ↦ absurd (some_none names (none_by is)) | inr is ↦ is ]) logs

@@ -3,6 +3,7 @@ pub mod AllDone
 pub mod Doing
 pub mod DoingFiles
 pub mod Endings
+pub mod Courses
 pub mod Exits
 pub mod MergeExits
 pub mod FaultItems

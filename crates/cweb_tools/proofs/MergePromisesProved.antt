@@ -1,5 +1,7 @@
 -- What the ends of a run come to, in the words of its promises.
-use Rattle.cweb_tools.proofs.Common.{taken_lines, ◌≤◌, ◌≡◌, inl, inr, ℕ, ◌+◌, List, [], ◌∷◌, ◌++◌, refl, sym, ◌∙◌, ap, append-nil, arith, Option, Some, None, IsTrue, FileId, World, Found, web_at, change_at, read_failures_of, WritesPrefix, write_failures_of, SourceFault, Stop, Usage, WebNotOpened, ChangeNotOpened, ReadFault, LineTooLong, TooMuchText, Memory, WriteFault, Logs, fault_lines, stop_line, Devices, SinkModel, AreObservable, WebNames, Course, merging, merge_course, fault_status, found_course, merged, MergeKeepsLimits, about, BlamesDevice, CanStop, Completes, MergeEnds, MergeFailsOnce, HasMerged, IsMerge, MergesFreely, Merges, LeavesMerge, MergeRanFreely, MergeReportsFaults, PrintsMerged}
+use Rattle.cweb_tools.proofs.Common.{taken_lines, ◌≤◌, ◌≡◌, inl, inr, ℕ, ◌+◌, List, [], ◌∷◌, ◌++◌, refl, sym, ◌∙◌, ap, append-nil, arith, Option, Some, None, IsTrue, FileId, World, Found, web_at, change_at, read_failures_of, WritesPrefix, write_failures_of, SourceFault, Stop, Usage, WebNotOpened, ChangeNotOpened, ReadFault, LineTooLong, TooMuchText, Memory, WriteFault, Logs, fault_lines, stop_line, Devices, SinkModel, AreObservable, WebNames, Course, merging, merge_course, fault_status, found_course, merged, MergeKeepsLimits, about, BlamesDevice, CanStop, Completes, EndsMerge, MergeFailsOnce, HasMerged, IsMerge, MergesFreely, Merges, LeavesMerge, MergeRanFreely, MergeReportsFaults, PrintsMerged, MergeEnds, subst}
+use Rattle.cweb_tools.specs.laws.RunEffects.{EveryMergeLeavesOutput}
+use Rattle.cweb_tools.proofs.Courses.{merge_only, ends_by}
 use Rattle.cweb_tools.specs.MergePromises.{completes, stops}
 use Rattle.cweb_tools.proofs.Limits.{beyond}
 
@@ -68,16 +70,24 @@ module _ (world : World) (names : WebNames) (before after : Devices) (status : �
       rw is (freely_stopped found changes stop.stop stop.files (rw (← is) (stop.cause tell.0)) stop.blames stop.logged
       (rw (← is) (stop.written tell.0 tell.1)) stop.answered (rw (← is) free))
 
-pub ran_freely : (world : World) (asked : Option WebNames) {before after : Devices} {status : ℕ}
-    → MergeEnds world asked before after status → MergesFreely world asked before after status
-ran_freely world None {before} ends tell free =
+ran_by : (world : World) (asked : Option WebNames) {before after : Devices} {status : ℕ}
+    → EndsMerge world asked before after status → AreObservable before
+    → MergeRanFreely (merge_course world asked) before after → IsMerge (merge_course world asked) before after status
+ran_by world None {before} ends tell free =
     record {
       written = ends.written ∙ sym (append-nil before.out.bytes);
       logged = ends.logged.whole tell.2 free.told;
       answered = ends.answered;
     }
-ran_freely world (Some names) {before} {after} {status} ends tell free = freely_ended world names before
+ran_by world (Some names) {before} {after} {status} ends tell free = freely_ended world names before
     after status tell _ (web_at world.texts names.web names.second) (change_at world.texts names.change) refl ends free
+
+pub ran_freely : (world : World) (asked : Option WebNames) {before after : Devices} {status : ℕ}
+    → MergeEnds world asked before after status → MergesFreely world asked before after status
+ran_freely world asked {before} {after} {status} ends tell course is free =
+    let same : course ≡ merge_course world asked = merge_only world asked course is in
+    subst (λ (c : Course). IsMerge c before after status) (sym same)
+    (ran_by world asked (ends_by world asked before after status ends) tell (subst (λ (c : Course). MergeRanFreely c before after) same free))
 
 stays_within : (course : Course) (files : List (List ℕ)) (faults : List SourceFault)
     → HasMerged course files faults → MergeKeepsLimits course
@@ -85,7 +95,7 @@ stays_within (merging first events) files faults all = all.2
 stays_within course files faults all = absurd all
 
 beyond_limits : (world : World) (asked : Option WebNames) (before after : Devices) (status : ℕ)
-    → MergeEnds world asked before after status
+    → EndsMerge world asked before after status
     → IsTrue before.shelf.tells → ¬ MergeKeepsLimits (merge_course world asked) → status ≡ 1
 beyond_limits world None before after status ends tells beyond = ends.answered
 beyond_limits world (Some names) before after status (completes whole) tells beyond =
@@ -99,7 +109,7 @@ not_zero : {A : Type 0} (status : ℕ) → status ≡ 1 → status ≡ 0 → A
 not_zero status one none = absurd (omega (arith, one, none))
 
 prints : (world : World) (asked : Option WebNames) {before after : Devices} {status : ℕ}
-    → MergeEnds world asked before after status
+    → EndsMerge world asked before after status
     → IsTrue before.shelf.tells → IsTrue before.out.tells → PrintsMerged (merge_course world asked) before after status
 prints world None {before} {status} ends tells told = record {
   front = all_printed (ends.written ∙ sym (append-nil before.out.bytes));
@@ -118,7 +128,7 @@ once_logged : {text : List ℕ} {before after : SinkModel} → Logs text before 
 once_logged logs = elim logs.once [ inl same ↦ omega (arith, same) | inr more ↦ omega (arith, more) ]
 
 fails_once : (world : World) (asked : Option WebNames) {before after : Devices} (status : ℕ)
-    → MergeEnds world asked before after status → MergeFailsOnce before after
+    → EndsMerge world asked before after status → MergeFailsOnce before after
 fails_once world None status ends =
     record { one = omega (arith, ends.read, ends.printed); log = once_logged ends.logged }
 fails_once world (Some names) status (completes whole) =
@@ -130,7 +140,7 @@ fails_once world (Some names) status (stops stop) =
     }
 
 tells_faults : (world : World) (asked : Option WebNames) {before after : Devices} {status : ℕ}
-    → MergeEnds world asked before after status → MergeReportsFaults before after status
+    → EndsMerge world asked before after status → MergeReportsFaults before after status
 tells_faults world None ends =
     record { read = λ failed. ends.answered; printed = λ failed. ends.answered; logged = λ failed. ends.answered }
 tells_faults world (Some names) (completes whole) =
@@ -142,11 +152,16 @@ tells_faults world (Some names) (completes whole) =
 tells_faults world (Some names) (stops stop) =
     record { read = λ failed. stop.answered; printed = λ failed. stop.answered; logged = λ failed. stop.answered }
 
-pub leave_merge : (world : World) (asked : Option WebNames) (before after : Devices) (status : ℕ)
-    → MergeEnds world asked before after status → LeavesMerge (merge_course world asked) before after status
-leave_merge world asked before after status ends = record {
+leave_by : (world : World) (asked : Option WebNames) (before after : Devices) (status : ℕ)
+    → EndsMerge world asked before after status → LeavesMerge (merge_course world asked) before after status
+leave_by world asked before after status ends = record {
   prints = prints world asked ends;
   limits = beyond_limits world asked before after status ends;
   once = fails_once world asked status ends;
   faults = tells_faults world asked ends;
 }
+
+pub leave_merge : EveryMergeLeavesOutput
+leave_merge world asked before after status ends course is =
+    subst (λ (c : Course). LeavesMerge c before after status) (sym (merge_only world asked course is))
+    (leave_by world asked before after status (ends_by world asked before after status ends))

@@ -1,5 +1,6 @@
 -- What a run of `ctangle` promises, by how it ends.
-use Rattle.cweb_tools.proofs.Common.{◌≡◌, ℕ, ◌++◌, refl, sym, ◌∙◌, ap, IsTrue, Option, World, OptionsModel, Devices, Shown, AgreesWith, FollowsCourse, observed_state, script, tangle_status, CanCome, shown_by, tangle_course, TanglePromises, TanglesFreely, put_files, tangle_files, tangle_log}
+use Rattle.cweb_tools.proofs.Common.{◌≡◌, ℕ, ◌++◌, refl, sym, ◌∙◌, ap, IsTrue, Option, World, OptionsModel, Devices, Shown, AgreesWith, FollowsCourse, observed_state, script, tangle_status, CanCome, shown_by, tangle_course, IsTangleCourse, subst, TanglePromises, TanglesFreely, put_files, tangle_files, tangle_log}
+use Rattle.cweb_tools.proofs.Courses.{tangle_comes, tangle_only}
 use Rattle.cweb_tools.proofs.Endings.{ends_freely}
 use Rattle.cweb_tools.proofs.ChangedFilesWereRead.{keeps_limits}
 use Rattle.cweb_tools.proofs.ObservedTangleEnds.{tangle_ends, log_tells, bins_tell}
@@ -22,10 +23,10 @@ shown_told =
 pub promised : {world : World} {asked : Option OptionsModel} {before after : Devices} {status : ℕ}
     → FollowsCourse (script (shown_by asked)) (tangle_status (shown_by asked))
     (CanCome asked) (tangle_course world asked) before after status → TanglePromises world asked before after status
-promised follows = record {
+promised {world} {asked} follows = record {
   course = follows.taken;
   can = follows.can;
-  is = follows.is;
+  is = λ tells. subst (IsTangleCourse world asked) (sym (follows.is tells)) (tangle_comes world asked);
   ends = λ old agrees. tangle_ends follows.closes old agrees;
   bins_tell = bins_tell follows.closes;
   log_tells = log_tells follows.closes;
@@ -34,12 +35,13 @@ promised follows = record {
 -- what devices that tell leave, where nothing stopped a run
 pub tangled_freely : (world : World) (asked : Option OptionsModel) {before after : Devices} {status : ℕ}
     → TanglePromises world asked before after status → TanglesFreely world asked before after status
-tangled_freely world asked {before} {after} {status} run tell free =
+tangled_freely world asked {before} {after} {status} run tell course free_course free =
     let shown : Shown = shown_by asked in
     let last = run.ends (observed_state before) shown_told in
     let bins : IsTrue after.out.tells = run.bins_tell ∙ tell.1 in
     let log : IsTrue after.log.tells = run.log_tells ∙ tell.2 in
-    let is : run.course ≡ tangle_course world asked = run.is tell.0 in
+    let is : run.course ≡ course = tangle_only world asked run.course (run.is tell.0)
+        ∙ sym (tangle_only world asked course free_course) in
     let all = ends_freely last.ends (record {
       shelf = last.agrees.shelf_failed ∙ free.read;
       bins = last.agrees.bins_failed ∙ free.filed;

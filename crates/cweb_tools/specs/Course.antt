@@ -1,10 +1,9 @@
 -- What a run of `wmerge` writes and answers, as functions of the texts, the words and the folder of included files.
-use Rattle.std.specs.Prelude.{ℕ, List, [], ◌∷◌, ◌++◌, codes, Option, None, Some}
+use Rattle.std.specs.Prelude.{◌≡◌, ℕ, List, [], ◌∷◌, ◌++◌, codes, Option, None, Some}
 use Rattle.cweb_input.specs.Finding.{names_found, contents_found}
 use Rattle.cweb_input.specs.Include.{World, Found, web_at, change_at}
-use Rattle.cweb_lines.specs.Merge.{Event, started}
+use Rattle.cweb_lines.specs.Merge.{Event, started, Yields}
 use Rattle.cweb_lines.specs.EventsByKind.{emitted_lines, reported_faults, openings, taken_lines, IsWithinLimits}
-use Rattle.cweb_lines.specs.Total.{merge}
 use Rattle.cweb_lines.specs.Writing.{written_lines}
 use Rattle.cweb_input.specs.declared.fault.SourceFault.{SourceFault}
 use Rattle.cweb_input.specs.declared.stop.Stop.TheVariants.{Usage, WebNotOpened, ChangeNotOpened}
@@ -34,17 +33,19 @@ abbrev pub change_name : Option (List ℕ) → List ℕ
 change_name None = []
 change_name (Some name) = name
 
--- by the web and the change file that were found
-abbrev pub found_course : World → WebNames → Option Found → Option (Option Found) → Course
-found_course world names None changes = not_there names.web
-found_course world names (Some web) None = change_not_there (change_name names.change)
-found_course world names (Some web) (Some change) =
-    merging (web.0 ∷ names_found change) (merge world (started web.1 (contents_found change)))
+-- A run goes this way where its search found this web and this change file. A merge yields all its events, whatever the number of steps.
+abbrev pub IsFoundCourse : World → WebNames → Option Found → Option (Option Found) → Course → Type 0
+IsFoundCourse world names None changes course = course ≡ not_there names.web
+IsFoundCourse world names (Some web) None course = course ≡ change_not_there (change_name names.change)
+IsFoundCourse world names (Some web) (Some change) (merging files events) =
+    (files ≡ web.0 ∷ names_found change) × Yields world (started web.1 (contents_found change)) events
+IsFoundCourse world names _ _ course = ⊥
 
-abbrev pub merge_course : World → Option WebNames → Course
-merge_course world None = unread
-merge_course world (Some names) =
-    found_course world names (web_at world.texts names.web names.second) (change_at world.texts names.change)
+-- A run of these arguments goes this way.
+abbrev pub IsMergeCourse : World → Option WebNames → Course → Type 0
+IsMergeCourse world None course = course ≡ unread
+IsMergeCourse world (Some names) course =
+    IsFoundCourse world names (web_at world.texts names.web names.second) (change_at world.texts names.change) course
 
 -- the texts of a shelf, with the folder in which included files are sought too
 abbrev pub world_of : (List ℕ → Option (List ℕ)) → Option (List ℕ) → World

@@ -11,10 +11,10 @@ use Rattle.cweb_log.specs.Options.{OptionsModel}
 use Rattle.cweb_log.specs.DeviceModels.{Devices, AreObservable}
 use Rattle.cweb_log.specs.Words.{WebNames}
 use Rattle.cweb_log.specs.declared.shown.Shown.{Shown}
-use Rattle.cweb_tools.specs.Course.{Course, merge_course, merge_log, merge_status, merged, MergeKeepsLimits}
+use Rattle.cweb_tools.specs.Course.{Course, IsMergeCourse, merge_log, merge_status, merged, MergeKeepsLimits}
 use Rattle.cweb_tools.specs.Leaves.{put_files}
 use Rattle.cweb_tools.specs.Script.{TangleCourse, tangling, tangle_files, tangle_log, tangle_status}
-use Rattle.cweb_tools.specs.Tangle.{shown_by, tangle_course}
+use Rattle.cweb_tools.specs.Tangle.{shown_by, IsTangleCourse}
 
 -- no device failed, the limits were kept, and the log's new text is not the line on refused memory alone
 pub record MergeRanFreely (course : Course) (before after : Devices) : Type 0 where
@@ -33,8 +33,8 @@ pub record IsMerge (course : Course) (before after : Devices) (status : ℕ) : T
 -- the headline of `wmerge`
 abbrev pub MergesFreely : World → Option WebNames → Devices → Devices → ℕ → Type 0
 MergesFreely world asked before after status = AreObservable before
-    → MergeRanFreely (merge_course world asked) before after
-    → IsMerge (merge_course world asked) before after status
+    → (course : Course) → IsMergeCourse world asked course → MergeRanFreely course before after
+    → IsMerge course before after status
 
 -- no line that the merge takes breaks a limit
 abbrev pub TangleKeepsLimits : TangleCourse → Type 0
@@ -59,5 +59,5 @@ pub record IsTangle (shown : Shown) (course : TangleCourse) (before after : Devi
 -- the headline of `ctangle`
 abbrev pub TanglesFreely : World → Option OptionsModel → Devices → Devices → ℕ → Type 0
 TanglesFreely world asked before after status = AreObservable before
-    → TangleRanFreely (tangle_course world asked) before after
-    → IsTangle (shown_by asked) (tangle_course world asked) before after status
+    → (course : TangleCourse) → IsTangleCourse world asked course → TangleRanFreely course before after
+    → IsTangle (shown_by asked) course before after status

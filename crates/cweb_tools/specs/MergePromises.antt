@@ -17,7 +17,7 @@ use Rattle.cweb_log.specs.Items.{fault_lines}
 use Rattle.cweb_log.specs.Log.{stop_line, file_name_at}
 use Rattle.cweb_log.specs.DeviceModels.{Devices}
 use Rattle.cweb_log.specs.Words.{WebNames}
-use Rattle.cweb_tools.specs.Course.{Course, not_there, change_not_there, merging, merge_course, change_name}
+use Rattle.cweb_tools.specs.Course.{Course, not_there, change_not_there, merging, IsMergeCourse, change_name}
 use Rattle.cweb_tools.specs.Course.{fault_status, merged, usage}
 
 -- the words can't be read: the log alone is written to
@@ -114,4 +114,5 @@ pub data Merges (names : WebNames) (course : Course) (before after : Devices) (s
 -- how a run ends
 abbrev pub MergeEnds : World → Option WebNames → Devices → Devices → ℕ → Type 0
 MergeEnds world None before after status = RefusesArgs before after status
-MergeEnds world (Some names) before after status = Merges names (merge_course world (Some names)) before after status
+MergeEnds world (Some names) before after status =
+    (course : Course) × IsMergeCourse world (Some names) course × Merges names course before after status

@@ -18,7 +18,7 @@ use Rattle.cweb_log.specs.Options.{OptionsModel, shown_by_default}
 use Rattle.cweb_log.specs.WebItems.{name_items, refusal_message, scan_items}
 use Rattle.cweb_log.specs.declared.shown.Shown.{Shown}
 use Rattle.cweb_tools.specs.Course as course
-use Rattle.cweb_tools.specs.Course.{Course, merge_course, change_name}
+use Rattle.cweb_tools.specs.Course.{Course, IsMergeCourse, change_name}
 use Rattle.cweb_tools.specs.Script.{Numbers, Planning, TangleCourse, Web, unread, not_there, change_not_there, tangling}
 use Rattle.cweb_tools.specs.Script.{refused, planned}
 
@@ -70,10 +70,11 @@ tangled main (course.merging first events) =
     let files = first ++ openings events in
     tangling files events (web_of files (reported_faults events) (scanned (emitted_lines events)) main)
 
--- how a run goes, by what its words ask for
-abbrev pub tangle_course : World → Option OptionsModel → TangleCourse
-tangle_course world None = unread
-tangle_course world (Some asked) = tangled asked.names.main (merge_course world (Some asked.names.merge))
+-- A run of these arguments goes this way.
+abbrev pub IsTangleCourse : World → Option OptionsModel → TangleCourse → Type 0
+IsTangleCourse world None course = course ≡ unread
+IsTangleCourse world (Some asked) course =
+    (merge : Course) × IsMergeCourse world (Some asked.names.merge) merge × (course ≡ tangled asked.names.main merge)
 
 -- what some web holds that was read, with files of these names and a main file of this one
 pub record IsWebOf (files : List (List ℕ)) (main : List ℕ) (web : Web) : Type 0 where

@@ -6,7 +6,7 @@ use Rattle.cweb_log.specs.DeviceModels.{Devices}
 use Rattle.cweb_tools.specs.Acts.{Act, DeviceState, TangleEnds}
 use Rattle.cweb_tools.specs.Does.{AgreesWith}
 use Rattle.cweb_tools.specs.Script.{TangleCourse, script, tangle_status}
-use Rattle.cweb_tools.specs.Tangle.{CanCome, shown_by, tangle_course}
+use Rattle.cweb_tools.specs.Tangle.{CanCome, shown_by, IsTangleCourse}
 
 -- a run with these acts and this status ends in a state that agrees with what its devices show
 pub record EndsIn (acts : List Act) (due : ℕ) (old : DeviceState) (after : Devices) (status : ℕ) : Type 0 where
@@ -20,7 +20,7 @@ pub record TanglePromises (world : World) (asked : Option OptionsModel) (before 
   -- the course of the texts and the words; over a shelf that shows no texts one to which the words can lead
   pub course : TangleCourse
   pub can : CanCome asked course
-  pub is : IsTrue before.shelf.tells → course ≡ tangle_course world asked
+  pub is : IsTrue before.shelf.tells → IsTangleCourse world asked course
   -- whatever is in the devices that show nothing
   pub ends : (old : DeviceState) → AgreesWith old before
       → EndsIn (script (shown_by asked) course) (tangle_status (shown_by asked) course) old after status

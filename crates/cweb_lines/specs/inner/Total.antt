@@ -1,9 +1,9 @@
 -- The events of a merge don't depend on the number of steps.
 use Rattle.std.proofs.Common.{◌≡◌, ℕ, zero, suc, List, [], ◌++◌, Option, Some, None, refl, sym, ◌∙◌, ap}
 use Rattle.cweb_input.specs.Include.{World}
-use Rattle.cweb_lines.specs.Merge.{Event, MergeStateModel, Next, step, onto, step_then_run, run_steps}
-use Rattle.cweb_lines.specs.Halting.{halts, halts_next}
-use Rattle.cweb_lines.specs.Total.{merge}
+use Rattle.cweb_lines.specs.Merge.{Event, MergeStateModel, Next, step, onto, step_then_run, run_steps, Yields}
+use Rattle.cweb_lines.specs.surface.Halting.{halts, halts_next}
+use Rattle.cweb_lines.specs.surface.Total.{merge}
 
 onto_some : (events all : List Event) (later : Option (List Event)) → onto events later ≡ Some all →
     (rest : List Event) × (later ≡ Some rest) × (events ++ rest ≡ all)
@@ -34,6 +34,10 @@ pub merge-run_steps : (n : ℕ) (world : World) (s : MergeStateModel) (events : 
 unfolding merge
 merge-run_steps n world s events is = run_steps_unique (halts world s).steps n world s (halts world s).events events
     (halts world s).comes is
+
+pub merge_yields : (world : World) (s : MergeStateModel) → Yields world s (merge world s)
+unfolding merge
+merge_yields world s = ((halts world s).steps, (halts world s).comes)
 
 pub merge_end : (world : World) (s : MergeStateModel) → step world s ≡ None → merge world s ≡ []
 merge_end world s is = merge-run_steps 1 world s [] (ap (λ o. step_then_run o (λ s'. run_steps 0 world s')) is)

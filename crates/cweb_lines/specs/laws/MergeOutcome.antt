@@ -8,7 +8,7 @@ use Rattle.cweb_lines.specs.Change.{at_place}
 use Rattle.cweb_lines.specs.Merge.{Event, started}
 use Rattle.cweb_input.specs.Things.{raws}
 use Rattle.cweb_lines.specs.EventsByKind.{emitted_lines, reported_faults, openings}
-use Rattle.cweb_lines.specs.Total.{merge}
+use Rattle.cweb_lines.specs.surface.Total.{merge}
 use Rattle.cweb_input.specs.declared.fault.SourceFault.{SourceFault}
 use Rattle.cweb_input.specs.declared.fault.SourceKind.{SourceKind}
 

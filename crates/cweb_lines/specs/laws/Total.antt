@@ -1,14 +1,13 @@
 -- Every merge has one result.
-use Rattle.std.proofs.Common.{◌≡◌, ℕ, List, Some}
+use Rattle.std.specs.Prelude.{◌≡◌, List}
 use Rattle.cweb_input.specs.Include.{World}
-use Rattle.cweb_lines.specs.Merge.{Event, MergeStateModel, run_steps}
-use Rattle.cweb_lines.specs.Merge.{Halts}
-use Rattle.cweb_lines.specs.Total.{merge}
+use Rattle.cweb_lines.specs.Merge.{Event, MergeStateModel, Yields}
 
--- Some number of steps is enough, and each one that is enough gives `merge`.
+-- Some number of steps is enough, and each one that is enough yields the same events.
 pub record IsTheAnswer (world : World) (s : MergeStateModel) : Type 0 where
-  pub enough : Halts world s
-  pub same : (n : ℕ) (events : List Event) → run_steps n world s ≡ Some events → events ≡ merge world s
+  pub events : List Event
+  pub yields : Yields world s events
+  pub only : (others : List Event) → Yields world s others → others ≡ events
 
 abbrev pub HasOneAnswer : Type 0
 HasOneAnswer = (world : World) (s : MergeStateModel) → IsTheAnswer world s

@@ -9,7 +9,7 @@ use Rattle.cweb_input.specs.declared.fault.SourceFault.{SourceFault}
 use Rattle.cweb_input.specs.declared.stop.Stop.{Stop}
 use Rattle.cweb_lines.specs.Change.{WaitingEntry}
 use Rattle.cweb_input.specs.Things.{Thing}
-use Rattle.cweb_lines.specs.Total.{merge}
+use Rattle.cweb_lines.specs.surface.Total.{merge}
 use Rattle.cweb_input.specs.surface.Counters.{counters_of}
 use Rattle.cweb_input.specs.surface.Finding.{world_in}
 use Rattle.cweb_input.specs.surface.OpenedFileNames.{opened_file_names}

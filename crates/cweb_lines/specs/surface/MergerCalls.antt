@@ -16,7 +16,7 @@ use Rattle.cweb_input.specs.surface.ReaderNames.{BlamesFile}
 use Rattle.cweb_input.specs.surface.OpenSources.{CountsReadStop, StopsReading}
 use Rattle.cweb_input.specs.OpenSources.{files_named}
 use Rattle.cweb_lines.specs.EventsByKind.{emitted_lines}
-use Rattle.cweb_lines.specs.Total.{merge}
+use Rattle.cweb_lines.specs.surface.Total.{merge}
 use Rattle.cweb_input.specs.declared.limits.TheConstants.{LINES, BYTES}
 use Rattle.cweb_lines.specs.declared.merger.Merger.{Merger}
 use Rattle.cweb_input.specs.declared.stop.Stop.{Stop}

@@ -7,7 +7,7 @@ use Rattle.cweb_lines.specs.declared.merger.Merger.{Merger}
 use Rattle.cweb_log.specs.Options.{OptionsModel}
 use Rattle.cweb_log.specs.DeviceModels.{Devices, SinkModel, ShelfModel}
 use Rattle.cweb_log.specs.Words.{WebNames}
-use Rattle.cweb_tools.specs.Course.{found_course}
+use Rattle.cweb_tools.specs.inner.Course.{found_course}
 use Rattle.cweb_tools.specs.inner.Does.{FollowsCourse}
 use Rattle.cweb_tools.specs.MergePromises.{Merges}
 use Rattle.cweb_tools.specs.Tangle.{CanCome, tangled}

@@ -1,13 +1,16 @@
 -- What a web holds by its lines and its faults, and how a run of `ctangle` goes by texts, words and folder.
-use Rattle.std.specs.Prelude.{ℕ, ◌==◌, List, [], ◌∷◌}
-use Rattle.std.specs.Prelude.{if◌then◌else◌}
+use Rattle.std.specs.Prelude.{ℕ, ◌==◌, List, [], ◌∷◌, Option, None, Some, if◌then◌else◌}
+use Rattle.cweb_input.specs.Include.{World}
 use Rattle.cweb_input.specs.declared.stop.Stop.TheVariants.{WebNotOpened, ChangeNotOpened}
 use Rattle.cweb_out.specs.Uses.{names}
 use Rattle.cweb_log.specs.Items.{fault_count, stopped}
+use Rattle.cweb_log.specs.Options.{OptionsModel}
 use Rattle.cweb_log.specs.declared.shown.Shown.{Shown}
 use Rattle.cweb_tools.specs.Acts.{Act, opens, reads, says}
 use Rattle.cweb_tools.specs.Script.{Planning, TangleCourse, Web, unread, not_there, change_not_there, tangling}
 use Rattle.cweb_tools.specs.Script.{refused, planned, web_acts}
+use Rattle.cweb_tools.specs.Tangle.{tangled}
+use Rattle.cweb_tools.specs.inner.Course.{merge_course}
 
 -- the status of a run with so many faults that nothing stopped: a plan that is refused is a fault
 abbrev pub status_by : ℕ → Planning → ℕ
@@ -29,3 +32,8 @@ course_status unread = 1
 course_status (not_there web) = 1
 course_status (change_not_there change) = 1
 course_status (tangling names events web) = web_status web
+
+-- The way that a run goes, as a function.
+abbrev pub tangle_course : World → Option OptionsModel → TangleCourse
+tangle_course world None = unread
+tangle_course world (Some asked) = tangled asked.names.main (merge_course world (Some asked.names.merge))

@@ -13,7 +13,7 @@ use Rattle.cweb_log.specs.Words.{WebNames}
 use Rattle.cweb_log.specs.DeviceModels.{Devices, SinkModel}
 use Rattle.cweb_log.specs.declared.shown.Shown.{Shown}
 use Rattle.cweb_tools.specs.Acts.{Act, DeviceState, ActKeepsLimits, TangleEnds}
-use Rattle.cweb_tools.specs.Course.{Course, merge_course, merged, MergeKeepsLimits}
+use Rattle.cweb_tools.specs.Course.{Course, IsMergeCourse, merged, MergeKeepsLimits}
 use Rattle.cweb_tools.specs.Leaves.{put_files}
 use Rattle.cweb_tools.specs.MergePromises.{MergeEnds}
 use Rattle.cweb_tools.specs.Script.{TangleCourse, written_files, logged_items, script, tangle_status}
@@ -138,4 +138,5 @@ pub record LeavesMerge (course : Course) (before after : Devices) (status : ℕ)
 
 abbrev pub EveryMergeLeavesOutput : Type 0
 EveryMergeLeavesOutput = (world : World) (asked : Option WebNames) (before after : Devices) (status : ℕ)
-    → MergeEnds world asked before after status → LeavesMerge (merge_course world asked) before after status
+    → MergeEnds world asked before after status
+    → (course : Course) → IsMergeCourse world asked course → LeavesMerge course before after status

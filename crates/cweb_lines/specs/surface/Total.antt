@@ -2,7 +2,7 @@
 use Rattle.std.proofs.Common.{List}
 use Rattle.cweb_input.specs.Include.{World}
 use Rattle.cweb_lines.specs.Merge.{Event, MergeStateModel}
-use Rattle.cweb_lines.specs.Halting.{halts}
+use Rattle.cweb_lines.specs.surface.Halting.{halts}
 
 -- All events from a state on.
 unfoldable pub merge : World → MergeStateModel → List Event

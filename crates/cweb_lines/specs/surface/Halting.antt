@@ -16,8 +16,14 @@ use Rattle.cweb_lines.specs.declared.change.code.Code.TheVariants.{EndSide as en
 use Rattle.cweb_input.specs.Things.{RawLine, Thing, seek, raw, told, passed}
 use Rattle.cweb_lines.specs.Merge.{Event, MergeStateModel, NewSide, new_at}
 use Rattle.cweb_lines.specs.Merge.{new_lines, compared, after_old, Next, obeyed, open_include, included, plain}
-use Rattle.cweb_lines.specs.Merge.{at_entry, at_raw, step, onto, step_then_run, run_steps, Halts}
+use Rattle.cweb_lines.specs.Merge.{at_entry, at_raw, step, onto, step_then_run, run_steps}
 use Rattle.cweb_input.specs.Things.{raws}
+
+-- A number of steps that is enough, and the events.
+pub record Halts (world : World) (s : MergeStateModel) : Type 0 where
+  pub steps : ℕ
+  pub events : List Event
+  pub comes : run_steps steps world s ≡ Some events
 
 -- A state halts if the next one does.
 unfoldable pub halts_next : (world : World) (s : MergeStateModel) (next : Next) → step world s ≡ Some next

@@ -1,0 +1,57 @@
+-- The way that a run goes exists, and there is no other.
+use Rattle.cweb_tools.proofs.Common.{◌≡◌, ◌∙◌, ℕ, ◌∷◌, Option, Some, None, refl, sym, ap, subst, World, Found, Devices, WebNames, OptionsModel, Course, merging, IsMergeCourse, found_course, merge_course, merge-run_steps, names_found, contents_found, EndsMerge, MergeEnds, Merges, TangleCourse, IsTangleCourse, tangle_course, tangled}
+use Rattle.cweb_input.specs.Include.{web_at, change_at}
+use Rattle.cweb_lines.specs.Merge.{started}
+use Rattle.cweb_lines.specs.inner.Total.{merge_yields}
+use Rattle.cweb_tools.specs.Course.{IsFoundCourse, unread, not_there, change_not_there}
+
+found_comes : (world : World) (names : WebNames) (web : Option Found) (change : Option (Option Found))
+    → IsFoundCourse world names web change (found_course world names web change)
+found_comes world names None change = refl
+found_comes world names (Some web) None = refl
+found_comes world names (Some web) (Some change) = (refl, merge_yields world (started web.1 (contents_found change)))
+
+found_only : (world : World) (names : WebNames) (web : Option Found) (change : Option (Option Found)) (course : Course)
+    → IsFoundCourse world names web change course → course ≡ found_course world names web change
+found_only world names None change course is = is
+found_only world names (Some web) None course is = is
+found_only world names (Some web) (Some change) (merging files events) is = λ i.
+    merging (is.0 i) (sym (merge-run_steps is.1.0 world (started web.1 (contents_found change)) events is.1.1) i)
+found_only world names (Some web) (Some change) unread is = absurd is
+found_only world names (Some web) (Some change) (not_there name) is = absurd is
+found_only world names (Some web) (Some change) (change_not_there name) is = absurd is
+
+pub merge_comes : (world : World) (asked : Option WebNames) → IsMergeCourse world asked (merge_course world asked)
+merge_comes world None = refl
+merge_comes world (Some names) =
+    found_comes world names (web_at world.texts names.web names.second) (change_at world.texts names.change)
+
+pub merge_only : (world : World) (asked : Option WebNames) (course : Course) → IsMergeCourse world asked course
+    → course ≡ merge_course world asked
+merge_only world None course is = is
+merge_only world (Some names) course is =
+    found_only world names (web_at world.texts names.web names.second) (change_at world.texts names.change) course is
+
+pub ends_of : (world : World) (asked : Option WebNames) (before after : Devices) (status : ℕ)
+    → EndsMerge world asked before after status → MergeEnds world asked before after status
+ends_of world None before after status ends = ends
+ends_of world (Some names) before after status ends =
+    (merge_course world (Some names), merge_comes world (Some names), ends)
+
+pub ends_by : (world : World) (asked : Option WebNames) (before after : Devices) (status : ℕ)
+    → MergeEnds world asked before after status → EndsMerge world asked before after status
+ends_by world None before after status ends = ends
+ends_by world (Some names) before after status ends =
+    subst (λ (course : Course). Merges names course before after status)
+    (merge_only world (Some names) ends.0 ends.1) ends.2
+
+pub tangle_comes : (world : World) (asked : Option OptionsModel) → IsTangleCourse world asked (tangle_course world asked)
+tangle_comes world None = refl
+tangle_comes world (Some asked) =
+    (merge_course world (Some asked.names.merge), merge_comes world (Some asked.names.merge), refl)
+
+pub tangle_only : (world : World) (asked : Option OptionsModel) (course : TangleCourse)
+    → IsTangleCourse world asked course → course ≡ tangle_course world asked
+tangle_only world None course is = is
+tangle_only world (Some asked) course is =
+    is.2 ∙ ap (tangled asked.names.main) (merge_only world (Some asked.names.merge) is.0 is.1)
