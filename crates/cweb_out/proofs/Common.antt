@@ -45,7 +45,8 @@ pub use Rattle.cweb_print.specs.inner.DirectTokens.{AreDirect, is_direct}
 pub use Rattle.cweb_print.specs.surface.Printed.{setting_of}
 pub use Rattle.cweb_print.specs.Printing.{Setting, print, begin_line, file, file_token_bytes, without_joined_layout}
 pub use Rattle.cweb_print.specs.Printing.{last_token, left_after}
-pub use Rattle.cweb_print.specs.Printing.{macro_line, macro_lines, mark_line, file_name, macro_token_bytes, is_layout}
+pub use Rattle.cweb_print.specs.Printing.{macro_line, macro_lines, mark_line, file_name, macro_token_bytes}
+pub use Rattle.cweb_store.specs.Layout.{is_layout}
 pub use Rattle.cweb_print.specs.Printing.{print_after, printed_tokens, quoted, starts_line, stays_joined}
 pub use Rattle.cweb_texts.specs.Edges.{last_is}
 pub use Rattle.cweb_print.specs.Spacing.{sep}

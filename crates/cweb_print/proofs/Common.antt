@@ -35,7 +35,8 @@ pub use Rattle.cweb_print.specs.surface.Printed.{AddsBytes, AddsBy, left_in_prin
 pub use Rattle.cweb_print.specs.Printers.{macros, replaced_in}
 pub use Rattle.cweb_print.specs.Printing.{word_bytes, wants_backslash, quoted, plain_bytes, Setting, print}
 pub use Rattle.cweb_print.specs.Printing.{stays_joined}
-pub use Rattle.cweb_print.specs.Printing.{macro_line, macro_lines, macro_token_bytes, printed_tokens, is_layout}
+pub use Rattle.cweb_print.specs.Printing.{macro_line, macro_lines, macro_token_bytes, printed_tokens}
+pub use Rattle.cweb_store.specs.Layout.{is_layout}
 pub use Rattle.cweb_print.specs.Printing.{without_joined_layout, print_after}
 pub use Rattle.cweb_print.specs.Printing.{file, file_token_bytes, last_token, left_after, starts_line, begin_line}
 pub use Rattle.cweb_print.specs.Printing.{mark_line}

@@ -4,6 +4,7 @@ use Rattle.std.specs.Prelude.{if◌then◌else◌, Option, Some, None, flat_map}
 use Rattle.cweb_files.specs.declared.place.Place.{Place}
 use Rattle.cweb_store.specs.Parts.{Token, Word, Number, Literal, Verbatim, Punct, Blank, Newline, Join, Defs, Head}
 use Rattle.cweb_store.specs.Parts.{Tail, Mark}
+use Rattle.cweb_store.specs.Layout.{is_layout}
 use Rattle.cweb_texts.specs.Edges.{is_one_of}
 use Rattle.cweb_print.specs.Spacing.{sep}
 
@@ -16,12 +17,6 @@ stays_joined joined (Mark p) = joined
 stays_joined joined (Head n) = joined
 stays_joined joined (Tail n) = joined
 stays_joined joined t = false
-
-abbrev pub is_layout : Token → Bool
-is_layout Blank = true
-is_layout Newline = true
-is_layout (Mark p) = true
-is_layout t = false
 
 -- the tokens without the layout after a join
 abbrev pub without_joined_layout : Bool → List Token → List Token

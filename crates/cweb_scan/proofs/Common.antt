@@ -112,7 +112,8 @@ pub use Rattle.cweb_scan.specs.After.{comment_line_end, literal_unit, next_line,
 pub use Rattle.cweb_scan.specs.After.{line_end_token}
 pub use Rattle.cweb_scan.specs.Lines.{is_next_line}
 pub use Rattle.cweb_scan.specs.CurrentDirective.{is_c, directive, in_directive, names_include}
-pub use Rattle.cweb_scan.specs.DirectiveTokens.{is_some, directive_of}
+pub use Rattle.cweb_scan.specs.DirectiveTokens.{directive_of}
+pub use Rattle.std.specs.Option.{is_some}
 pub use Rattle.cweb_scan.specs.DirectiveTokens.{directive_tokens, directive_after, is_punct, ends_line}
 pub use Rattle.cweb_scan.specs.DirectiveTokens.{some_include}
 pub use Rattle.cweb_scan.specs.inner.MatchSteps.{Applies, effect_in, is_head, is_name_effect, reads_c}

@@ -1,6 +1,7 @@
 -- Plain C text: the pieces that their first bytes don't tell.
 use Rattle.cweb_scan.proofs.Common.{◌≡◌, ◌≤◌, ℕ, zero, suc, ◌+◌, Bool, false, ◌&&◌, ◌==◌, not, List, [], ◌∷◌, Option, Some, None, length, take, drop, refl, ap, sym, ◌∙◌, arith, if◌then◌else◌, codes, bytes_eq, Token, Number, Punct, Blank, begins, first_is, at_line_end, in_c, reach, reach_size, match_in, comment_match, look_in_comment, IsLine, is_unclosed, opens_in, reached, c_rule, c_match_by, listed, longest, number_len, Context, CText, End, Closed, Cut, Open, Reached, Look, Rule, Reading, blank, pass_comment, comment_line_end, punctuator, directive, is_c, names_include, Applies, ended_as, is_head, TakesPlain, ScanState, emit, and-false}
-use Rattle.cweb_scan.specs.DirectiveTokens.{is_some, some_include}
+use Rattle.cweb_scan.specs.DirectiveTokens.{some_include}
+use Rattle.std.specs.Option.{is_some}
 use Rattle.cweb_rules.specs.inner.Firsts.{stops_plain}
 use Rattle.cweb_scan.specs.inner.Plain.{IsPlainC, IsPlainToken}
 use Rattle.std.proofs.lemmas.Bool.{or_parts}

@@ -1,7 +1,8 @@
 -- Plain C text: that a piece that its first byte tells is taken rightly.
 use Rattle.cweb_scan.proofs.Common.{◌≡◌, ◌≤◌, ℕ, true, false, ◌&&◌, not, List, [], ◌∷◌, Option, Some, None, length, take, refl, ap, sym, ◌∙◌, subst, if◌then◌else◌, codes, option_map, prefix_len, part_with_token, Token, Word, Punct, Blank, Newline, Part, is_blank, is_word_byte, in_c, IsLine, c_rule, c_match_by, Context, CText, Rule, punctuator, directive, is_c, names_include, Applies, is_head, in_open_part, TakesPlain, ScanState, emit, tokens_of}
 use Rattle.std.proofs.lemmas.List.Sums.{fold-append}
-use Rattle.cweb_scan.specs.DirectiveTokens.{directive_of, directive_tokens, ends_line, is_punct, is_some, directive_after}
+use Rattle.cweb_scan.specs.DirectiveTokens.{directive_of, directive_tokens, ends_line, is_punct, directive_after}
+use Rattle.std.specs.Option.{is_some}
 use Rattle.cweb_scan.specs.inner.Stages.{next_open_stage, continues_line, is_after_line_end, is_outside, last_kind, next_stage, new_directive, after_token}
 use Rattle.cweb_scan.specs.inner.DirectiveInvariant.{IsTied}
 use Rattle.cweb_scan.specs.inner.Plain.{IsPlainC, IsPlainToken}
@@ -34,7 +35,7 @@ no_more (Some p) t h plain =
   where
     none_opens : (o : Option (List Token)) (l : Option Token) (t : Token) → is_some o ≡ false
         → is_punct (codes "#") (Some t) ≡ false → is_some (directive_tokens o l t) ≡ false
-    none_opens None l t h plain = ap (λ v. is_some (if v && ends_line l then Some [] else None)) plain
+    none_opens None l t h plain = ap (λ v. is_some {T = List Token} (if v && ends_line l then Some [] else None)) plain
     none_opens (Some ts) l t h plain = cc
 
 pub none_open : (s : ScanState) → IsPlainC s → is_some (directive s).tokens ≡ false

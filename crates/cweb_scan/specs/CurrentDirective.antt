@@ -3,7 +3,8 @@ use Rattle.std.specs.Prelude.{Bool, true, false, ◌&&◌}
 use Rattle.cweb_rules.specs.declared.context.Context.{Context}
 use Rattle.cweb_rules.specs.declared.context.Context.TheVariants.{Limbo, TeX, Definition, Macro, CText}
 use Rattle.cweb_scan.specs.DirectiveTokens.{Directive}
-use Rattle.cweb_scan.specs.DirectiveTokens.{directive_of, is_some, some_include}
+use Rattle.cweb_scan.specs.DirectiveTokens.{directive_of, some_include}
+use Rattle.std.specs.Option.{is_some}
 use Rattle.cweb_scan.specs.State.{ScanState, open_part_tokens}
 
 -- the directive of a C part

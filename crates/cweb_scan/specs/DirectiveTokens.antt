@@ -41,10 +41,6 @@ directive_after d t = record { tokens = directive_tokens d.tokens d.last t; last
 abbrev pub directive_of : List Token → Directive
 directive_of ts = fold directive_after (record { tokens = None; last = None }) ts
 
-abbrev pub is_some : Option (List Token) → Bool
-is_some None = false
-is_some (Some ts) = true
-
 abbrev pub is_bare : List Token → Bool
 is_bare [] = true
 is_bare (Blank ∷ ts) = is_bare ts

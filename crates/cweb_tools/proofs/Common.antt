@@ -28,7 +28,8 @@ pub use Rattle.cweb_input.specs.Finding.{names_found, contents_found}
 pub use Rattle.cweb_input.specs.Include.{World, Found, web_at, change_at}
 pub use Rattle.cweb_input.specs.Lines.{Line, SourceLine}
 pub use Rattle.cweb_lines.specs.Merge.{Event, took, given, opening, MergeStateModel, run_steps, started}
-pub use Rattle.cweb_lines.specs.surface.MergeProgress.{SoFar, EmitsLines, StopsAfterLines, begun_with}
+pub use Rattle.cweb_lines.specs.surface.MergeProgress.{SoFar, EmitsLines, StopsAfterLines}
+pub use Rattle.cweb_lines.specs.inner.MergeProgress.{begun_with}
 pub use Rattle.cweb_lines.specs.surface.MergeProgress.{ReportsPrefix}
 pub use Rattle.cweb_input.specs.surface.OpenedFileNames.{opened_file_names}
 pub use Rattle.cweb_input.specs.ReaderNames.{blame}

@@ -87,3 +87,7 @@ abbrev pub TurnKnown : ℕ → Turn → Type 0
 TurnKnown files (Emitted place) = place.file.0 < files
 TurnKnown files On = Unit {0}
 TurnKnown files Ended = Unit {0}
+
+-- The initial state of a merge with these files open.
+abbrev pub begun_with : List (List ℕ) → SoFar
+begun_with names = record { faults = []; names = names; count = record { lines = 0; bytes = 0 } }

@@ -80,10 +80,6 @@ pub record StopsAfterLines (given : List Line) (stop : Stop) (old new : SoFar) (
   pub gives : EmitsLines given old mid all (step_events lines raws faults later)
   pub stops : StopsIn stop mid new lines raws faults
 
--- The initial state of a merge with these files open.
-abbrev pub begun_with : List (List ℕ) → SoFar
-begun_with names = record { faults = []; names = names; count = record { lines = 0; bytes = 0 } }
-
 abbrev pub IsPrefix : {A : Type 0} → List A → List A → Type 0
 IsPrefix {A = A} front list = (rest : List A) × (list ≡ front ++ rest)
 

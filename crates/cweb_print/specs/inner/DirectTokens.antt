@@ -4,7 +4,7 @@ use Rattle.std.specs.List.{list_all}
 use Rattle.cweb_texts.specs.inner.Edges.{TokenBytesModel}
 use Rattle.cweb_store.specs.inner.DirectBytes.{direct_bytes}
 use Rattle.cweb_store.specs.Parts.{Token}
-use Rattle.cweb_print.specs.Printing.{is_layout}
+use Rattle.cweb_store.specs.Layout.{is_layout}
 
 -- the text that a token lends, where it isn't dropped; `joined` says whether a join is open
 abbrev pub direct_unless_dropped : Bool → Token → Option (List ℕ)

@@ -1,7 +1,8 @@
 // What a printer keeps of the tokens that it has printed.
 ghost use Rattle.std.specs.Prelude.{◌≡◌, ◌&&◌};
 ghost use Rattle.cweb_store.specs.surface.TokenModels.{token_model};
-ghost use Rattle.cweb_print.specs.Printing.{is_layout, stays_joined};
+ghost use Rattle.cweb_print.specs.Printing.{stays_joined};
+ghost use Rattle.cweb_store.specs.Layout.{is_layout};
 ghost use Rattle.cweb_print.specs.surface.Classes.{at_start, is_dropped, left_after_token};
 ghost use Rattle.cweb_print.specs.inner.Classes.{separator};
 
