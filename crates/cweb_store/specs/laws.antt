@@ -1,4 +1,4 @@
--- Theorems about the definitions.
+-- Definitions of the laws.
 pub mod Calls
 pub mod BuilderCalls
 pub mod Laws
