@@ -20,7 +20,6 @@ use std::alloc::{AllocError, Global};
 
 /// Makes the calls, and skips and counts as refused each one that the state doesn't allow. The store is that of the
 /// calls that returned `Ok`.
-/// others.
 pub fn store_holds_calls_answered_ok<'a>(
     alloc: Global,
     calls: &[Call<'a>],
