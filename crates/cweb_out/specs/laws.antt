@@ -1,2 +1,2 @@
--- Theorems about the definitions.
+-- Definitions of the laws.
 pub mod Laws

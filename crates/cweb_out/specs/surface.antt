@@ -1,4 +1,4 @@
--- What public calls promise beside the headline.
+-- Definitions that other crates' contracts use.
 pub mod Ranks
 pub mod Outputs
 pub mod FrameSuffixes
