@@ -1,4 +1,4 @@
--- Theorems about the definitions.
+-- Definitions of the laws.
 pub mod ReaderModel
 pub mod Law
 pub mod Alone

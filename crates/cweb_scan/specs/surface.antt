@@ -1,4 +1,4 @@
--- What public calls promise beside the headline.
+-- Definitions that other crates' contracts use.
 pub mod ScannedModel
 pub mod Law
 pub mod Scan
