@@ -1,4 +1,4 @@
--- What functions of this crate promise one another.
+-- Definitions that functions of this crate use among themselves.
 pub mod Devices
 pub mod WaysToWrite
 pub mod Written
