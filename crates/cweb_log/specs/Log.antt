@@ -1,4 +1,4 @@
--- The lines of the log.
+-- The lines of the log that both programs write.
 use Rattle.std.specs.Prelude.{ℕ, List, [], ◌++◌, codes, decimal, slice_index_or}
 use Rattle.std.specs.List.{flat_map}
 use Rattle.cweb_input.specs.declared.fault.SourceFault.{SourceFault}
@@ -11,10 +11,11 @@ use Rattle.cweb_input.specs.declared.stop.Stop.TheVariants.{Usage, WebNotOpened,
 use Rattle.cweb_input.specs.declared.stop.Stop.TheVariants.{LineTooLong}
 use Rattle.cweb_input.specs.declared.stop.Stop.TheVariants.{TooMuchText, Memory, OutNotOpened, WriteFault, LogFault}
 
--- the name of a file by its number
+-- The name of a file by its index.
 abbrev pub file_name_at : List (List ℕ) → ℕ → List ℕ
 file_name_at names file = slice_index_or names file []
 
+-- The message of a fault of a web or change file.
 abbrev pub kind_message : SourceKind → List ℕ
 kind_message NoName = codes "Include file name not given"
 kind_message TooDeep = codes "Too many nested includes"
@@ -29,28 +30,30 @@ kind_message WantsZ = codes "Where is @z?"
 kind_message EndedBeforeZ = codes "Change file ended before @z"
 kind_message NoMatch = codes "Change entry did not match"
 
--- what stands behind the text: a number, which unequal lines alone have
+-- The suffix of a message: only unequal lines have a count.
 abbrev pub count_suffix : SourceKind → ℕ → List ℕ
 count_suffix Unequal count = codes ": " ++ (decimal count ++ codes "\n")
 count_suffix _ count = codes "\n"
 
--- FILE:LINE: ! TEXT
+-- FILE:LINE: ! MESSAGE
 abbrev pub located_line : List ℕ → List ℕ → List ℕ → List ℕ
 located_line file line text = file ++ (codes ":" ++ (line ++ (codes ": ! " ++ text)))
 
+-- The line of a fault.
 abbrev pub fault_line : List (List ℕ) → SourceFault → List ℕ
 fault_line names fault =
     located_line (file_name_at names fault.place.file.0) (decimal fault.place.line)
     (kind_message fault.kind ++ count_suffix fault.kind fault.count)
 
+-- The lines of faults, in order.
 abbrev pub fault_lines : List (List ℕ) → List SourceFault → List ℕ
 fault_lines names faults = flat_map (λ fault. fault_line names fault) faults
 
--- ! TEXT, which ends in a name where the text is about one
+-- ! MESSAGE, followed by a name if the message is about one.
 abbrev pub message_line : List ℕ → List ℕ → List ℕ
 message_line text name = codes "! " ++ (text ++ (name ++ codes "\n"))
 
--- the line of a stop that is about this name; a log that failed is told nothing
+-- The line of a stop that is about this name. A log that failed gets no line.
 abbrev pub stop_line : Stop → List ℕ → List ℕ
 stop_line Usage name = message_line (codes "Usage: ") name
 stop_line WebNotOpened name = message_line (codes "Cannot open web file ") name

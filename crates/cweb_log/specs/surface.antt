@@ -1,2 +1,2 @@
--- What public calls promise beside the headline.
+-- Definitions that other crates' contracts use.
 pub mod Options

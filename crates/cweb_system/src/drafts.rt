@@ -82,8 +82,7 @@ impl<F: Write + OpenFile + LockableFile + Drop> Draft<F> {
         })
     }
 
-    /// Flushes the draft and renames it. It is an error if another file has the draft's path by now, since that one
-    /// would be renamed.
+    /// Flushes and renames the draft. It is an error if another file has its path by now: that one would be renamed.
     pub(crate) fn put_in_place<R: Files<File = F>>(&mut self, files: &R) -> io::Result<()>
         ensures flushed { OnOk result (writer_buffer self.new.out ≡ []) }
     {

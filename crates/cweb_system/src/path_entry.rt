@@ -79,8 +79,7 @@ impl PathEntry {
         }
     }
 
-    /// How an output of this name is written, given the files that were read. `is_own`: the file or the link's target
-    /// is the run's own.
+    /// How an output is written, given the files that were read. `is_own`: the run owns the file or the link's target.
     pub(crate) fn way(self, read: &BTreeSet<FileKey>, is_own: bool) -> Way
         ensures of_run { IsReadOrOwn read.now.keys is_own self → result ≡ Way.Refused }
         ensures other { (IsReadOrOwn read.now.keys is_own self → ⊥) → result ≡ way_over self }

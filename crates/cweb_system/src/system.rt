@@ -37,8 +37,7 @@ impl FileKey {
 
 /// An open file that can be locked, and whose descriptor is known.
 pub trait LockableFile {
-    /// Waits for the file's lock and holds it until this opening is closed. It is an error if the system has no locks
-    /// for the file.
+    /// Waits for the file's lock, which is held until this opening is closed. Fails if the system has no such locks.
     fn lock(&self) -> io::Result<()>;
 
     /// Whether it has the descriptor of a standard stream, which must have been closed.
@@ -46,8 +45,7 @@ pub trait LockableFile {
 }
 
 impl LockableFile for File {
-    /// Some network file systems allow an exclusive lock only on a file open for writing. A shared lock suffices to
-    /// wait.
+    /// Over a network an exclusive lock may require a file open for writing. A shared lock suffices to wait.
     fn lock(&self) -> io::Result<()> {
         match File::lock(self) {
             Ok(()) => Ok(()),

@@ -86,8 +86,7 @@ impl<F: Write + OpenFile + LockableFile + Drop> Target<F> {
     }
 }
 
-/// Opens a device for writing, also through links. It is an error if the name leads elsewhere by now; nothing is
-/// changed then.
+/// Opens a device for writing, also through links. If the name leads elsewhere by now, it fails and changes nothing.
 fn opened<R: Files>(files: &R, name: &str, device: FileKey) -> io::Result<R::File> {
     let file = OpenOptions::new().write(true).open(files, name)?;
     if FileKey::of_open(&file)? == device {
