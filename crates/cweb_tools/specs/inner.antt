@@ -1,4 +1,4 @@
--- What functions of this crate promise one another.
+-- Definitions that functions of this crate use among themselves.
 pub mod Acts
 pub mod Begun
 pub mod Course

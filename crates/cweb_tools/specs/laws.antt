@@ -1,3 +1,3 @@
--- Theorems about the definitions.
+-- Definitions of the laws.
 pub mod Leaves
 pub mod RunEffects

@@ -1,4 +1,4 @@
--- What a run of `wmerge` writes and answers, as functions of the texts, the words and the folder of included files.
+-- The course of `wmerge`, from its words.
 use Rattle.std.specs.Prelude.{ℕ, List, Option}
 use Rattle.cweb_log.specs.Words.{web_names_by}
 use Rattle.cweb_tools.specs.Course.{Course, merge_course, world_of}
