@@ -1,4 +1,4 @@
--- Tokens that are printed unchanged need no frame.
+-- Direct tokens need no frame.
 use Rattle.cweb_out.proofs.Common.{◌≡◌, ◌++◌, ◌∙◌, [], ◌∷◌, refl, ap, List, true, flat_map, list_all, NameId, Token, Name, Stored, use_of, uses, put, AreDirect, is_direct, and_parts}
 
 put-direct : (w : Stored) (text : NameId → List Token) (t : Token) → is_direct t ≡ true → put w text t ≡ t ∷ []

@@ -1,4 +1,4 @@
--- The top frame passes tokens that are printed unchanged, and then takes a use or ends.
+-- The top frame passes direct tokens, and then takes a use or ends.
 use Rattle.cweb_out.proofs.Common.{◌≡◌, ◌≤◌, ◌<◌, ◌+◌, ◌-◌, ◌++◌, ◌∷◌, [], ℕ, List, length, refl, sym, ◌∙◌, ap, arith, subst, sum_by, set, length-set, get_or-set_same, set-set, take-set, sum_by-append, Token, Stored, names, use_of, expanded_name, put, Frame, suffix, left, level, work_of, list_work, name_work, token_work, RanksAreBelow, FrameIsWithin, IsFrameStack, UsesLower, AreDirect}
 use Rattle.cweb_out.proofs.TopAfterDirect.{top_passed}
 use Rattle.cweb_out.proofs.Stack.{work_of-push}

@@ -1,4 +1,4 @@
--- The top frame of a stack passes tokens that are printed unchanged.
+-- The top frame of a stack passes direct tokens.
 use Rattle.cweb_out.proofs.Common.{◌≡◌, ◌-◌, ◌++◌, ◌∷◌, [], ℕ, List, length, refl, sym, ◌∙◌, ap, append_assoc, set, Token, Stored, names, uses, expand, expanded_name, root_list, Frame, suffix, left, FrameIsWithin, IsFrameStack, AreDirect}
 use Rattle.cweb_out.proofs.Owners.{OnTop}
 use Rattle.cweb_out.proofs.DirectExpansion.{put-all-direct, uses-direct}

@@ -29,8 +29,7 @@ pub struct Expander<'a> {
 }
 
 impl<'a> Expander<'a> {
-    /// An expander of an output. The plan must be the store's. It reserves all frames that it will ever need, and
-    /// allocates nothing later.
+    /// An expander of an output of the store's plan. Reserves all frames that it will need; allocates nothing later.
     pub fn new(
         alloc: Global,
         store: &'a Store,

@@ -1,9 +1,9 @@
--- Printing of consecutive tokens that are printed unchanged.
+-- Printing of consecutive direct tokens.
 use Rattle.cweb_print.proofs.Common.{arith, ◌≡◌, ◌++◌, ◌∙◌, [], ◌∷◌, refl, sym, subst, ap, append_assoc, append-nil, ℕ, List, true, ◌&&◌, None, Some, Option, is_some, option_map, list_all, Token, TokenBytesModel, direct_bytes, print, Left, Printer, is_apart, left_after_tokens, left_after_token, AreDirect, blank_where, is_direct, left_in_printer, setting_of, AppendsToken, MovesBy, PrintsBy, second_so}
 use Rattle.cweb_print.proofs.DirectPrinting.{leaves-direct, direct-open, print-direct}
 use Rattle.cweb_print.proofs.Steps.{leaves-push}
 
--- A token that is printed unchanged has its bytes.
+-- A direct token has its bytes.
 some-direct : (o : Option TokenBytesModel) (string : List ℕ)
     → option_map (λ (l : TokenBytesModel). l.string) o ≡ Some string
     → is_some o ≡ true

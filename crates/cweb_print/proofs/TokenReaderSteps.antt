@@ -1,4 +1,4 @@
--- Tokens that are printed unchanged, by index.
+-- Direct tokens, by index.
 use Rattle.cweb_print.proofs.Common.{arith, ◌≡◌, ℕ, List, Option, None, Some, map, refl, option_map, slice_get, slice_get-map, Token, TokenBytesModel, direct_bytes}
 
 -- The token at an index has these bytes.

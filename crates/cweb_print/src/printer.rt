@@ -46,8 +46,7 @@ pub struct Printer<'a> {
 }
 
 impl<'a> Printer<'a> {
-    /// A printer at the start of a file. It reads the macros and replacements of the store, and the file names for
-    /// line marks.
+    /// A printer at the start of a file. It reads the store's macros and replacements, and `names` for line marks.
     pub fn new(store: &'a Store, names: &'a FileNames) -> Printer<'a>
         ensures setting { setting_of result
             ≡ setting store.entry.now (opened_file_names names.entry.now) }
@@ -60,8 +59,7 @@ impl<'a> Printer<'a> {
         }
     }
 
-    /// Prints a token: the suffix that it adds to the output of the tokens before it. A use of a name prints nothing.
-    /// Allocates nothing.
+    /// Prints a token: the suffix that it adds to the output so far. A use of a name prints nothing. Allocates nothing.
     #[inline]
     pub fn write<W: Sink>(&mut self, token: Token<'_>, out: &mut W) -> Result<(), SinkFault>
         requires count { W.failed out.old + 1 < 2 ^ 64 }
@@ -122,7 +120,7 @@ impl<'a> Printer<'a> {
         Ok(())
     }
 
-    // Slow path of `write`: a token that isn't printed unchanged here.
+    // Slow path of `write`: a token that isn't direct here.
     #[inline(never)]
     fn print_other<W: Sink>(&mut self, token: &Token<'_>, out: &mut W) -> Result<(), SinkFault>
         requires count { W.failed out.old + 1 < 2 ^ 64 }

@@ -12,7 +12,7 @@ full is_file text = record { text = text; how = Full; is_file = is_file }
 abbrev pub prefix : Bool → List ℕ → Occurrence
 prefix is_file text = record { text = text; how = Prefix; is_file = is_file }
 
--- A name is an abbreviation if it ends in three dots.
+-- An abbreviation gives its prefix, and any other name its bytes.
 abbrev pub as_occurrence : Bool → List ℕ → Occurrence
 as_occurrence is_file text =
     if is_abbreviation text then prefix is_file (take (length text - 3) text) else full is_file text

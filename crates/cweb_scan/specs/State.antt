@@ -61,11 +61,11 @@ report_at kind place s = record s { faults = s.faults ++ record { kind = kind; p
 abbrev pub report : ScanKind → ScanState → ScanState
 report kind s = report_at kind s.here s
 
--- Moves to the next line.
+-- Moves to the next line, and sets `folded`.
 abbrev pub move_to : Place → ScanState → ScanState
 move_to place s = record s { here = place; folded = true }
 
--- Begins a part after its opener.
+-- Begins a part after its opener, with a Head and a Mark.
 abbrev pub begin_part : PartKind → ScanState → ScanState
 begin_part kind s =
     let t = emit (Mark s.here) (emit (Head s.sections) (record s { contents = with_open kind s.contents })) in

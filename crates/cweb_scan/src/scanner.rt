@@ -154,7 +154,7 @@ impl Scanner {
         Ok(())
     }
 
-    /// Moves to another line.
+    /// Moves to another line, and sets `folded`.
     pub fn go_to(&mut self, place: Place)
         ensures { self.new ≡ move_to place self.old }
     {

@@ -56,7 +56,7 @@ fn read_ahead<S: Shelf>(
     Ok(ahead)
 }
 
-// Fast path: takes lines in the merger's buffer, as long as it lends them.
+// Fast path: takes lines in the merger's buffer, as long as they can be borrowed.
 fn take_borrowed<S: Shelf>(merger: &mut Merger<S>, reader: &mut Reader) -> Result<(), AllocError>
     requires { let so = (so_far merger.old).count in cost reader.old ≤ 3 * (so.bytes + so.lines) }
     ensures lent { BorrowsLines merger.old.run merger.new.run }

@@ -63,7 +63,7 @@ impl Builder {
         }
     }
 
-    /// Adds an occurrence and returns its index. `text` is the name, or the prefix of an abbreviation without its dots.
+    /// Adds an occurrence and returns its index. `name` is a full name, or an abbreviation's prefix without the dots.
     pub fn occurrence(
         &mut self,
         name: &[u8],

@@ -34,9 +34,9 @@ pub enum Token<'a> {
     Defs,
     /// A use of a name.
     Name(NameRef),
-    /// The start of a section's contents.
+    /// The start of section N's code, printed as `/*N:*/`.
     Head(u32),
-    /// The end of a section's contents.
+    /// The end of section N's code, printed as `/*:N*/`.
     Tail(u32),
     /// The source line of the next token.
     Mark(Place),

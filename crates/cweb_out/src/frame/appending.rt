@@ -1,4 +1,4 @@
-// Fast path of a frame: prints runs of tokens that are printed unchanged.
+// Fast path of a frame: prints runs of direct tokens.
 ghost use Rattle.std.specs.Prelude.{◌≡◌, ◌≢◌, ◌∷◌, [], None, IfSome, true, false};
 ghost use Rattle.cweb_store.specs.Parts.{Name};
 ghost use Rattle.cweb_out.specs.surface.FrameSuffixes.{FrameIsWithin, suffix};
@@ -10,7 +10,7 @@ use cweb_print::{OutBuffer, Printer};
 use cweb_store::{NameRef, Store, Token};
 
 impl<'a> Frame<'a> {
-    /// Prints tokens up to one that isn't printed unchanged or doesn't fit. Returns whether the list has ended.
+    /// Prints tokens up to one that isn't direct or doesn't fit. Returns whether the list has ended.
     pub fn append(
         &mut self,
         store: &'a Store,

@@ -27,7 +27,7 @@ abbrev pub PrintsBy : Printer → List Token → List ℕ → List ℕ → Type 
 PrintsBy p ts old new = (done : List Token) → left_after_tokens done ≡ left_in_printer p
     → AddsBytes (print (setting_of p) done) (print (setting_of p) (done ++ ts)) old new
 
--- A prefix of the remaining tokens was printed. All its tokens are printed unchanged.
+-- A prefix of the remaining tokens was printed. All its tokens are direct.
 pub record PrintsPrefix (before after : Printer) (left left' : List Token) (old new : List ℕ) : Type 0 where
   pub done : List Token
   pub whole : left ≡ done ++ left'

@@ -1,4 +1,4 @@
--- Tokens that are printed unchanged, whatever is to their left.
+-- Direct tokens after an open join.
 use Rattle.std.specs.Prelude.{◌≡◌, ℕ, Bool, true, ◌&&◌, List, Option, None, is_some, option_map, if◌then◌else◌}
 use Rattle.std.specs.List.{list_all}
 use Rattle.cweb_texts.specs.inner.Edges.{TokenBytesModel}

@@ -1,4 +1,4 @@
--- Blanks between tokens that are printed unchanged, from their edges.
+-- Blanks between direct tokens, from their edges.
 use Rattle.std.specs.Prelude.{ℕ, List, Bool, true, false, ◌||◌, ◌&&◌, not, codes, if◌then◌else◌}
 use Rattle.cweb_texts.specs.inner.Edges.{TokenBytesModel}
 use Rattle.cweb_texts.specs.declared.edges.Edge.{Edge}

@@ -6,8 +6,7 @@ ghost use Rattle.cweb_print.specs.declared.buffer.TheConstants.{ROOM};
 
 use crate::buffer::ROOM;
 
-/// Writes an optional blank and a string after the first `used` of ROOM bytes, if both fit. Returns the new number of
-/// used bytes.
+/// Writes an optional blank and a string after the first `used` bytes, if both fit. Returns the new `used`.
 #[inline(always)]
 pub fn put_if_fits(bytes: &mut [u8], used: usize, is_apart: bool, text: &[u8]) -> Option<usize>
     requires size { length bytes.old ≡ ROOM }

@@ -42,8 +42,7 @@ pub(crate) fn append_macros<W: Sink>(
     Ok(())
 }
 
-// Prints the line of a macro. If it doesn't fit, or has a token that isn't printed unchanged, it goes to the sink at
-// once.
+// Prints the line of a macro. If it doesn't fit, or has a token that isn't direct, it goes to the sink at once.
 fn append_macro<W: Sink>(
     store: &Store,
     part: Part,
@@ -67,7 +66,7 @@ fn append_macro<W: Sink>(
     write_macro(store, part, out)
 }
 
-// Fast path: appends the line if it fits and all its tokens are printed unchanged. Returns whether it was appended.
+// Fast path: appends the line if it fits and all its tokens are direct. Returns whether it was appended.
 fn add_macro(store: &Store, part: Part, buffer: &mut OutBuffer) -> bool
     requires ordered { part.first ≤ part.after }
     requires within { part.after ≤ length (all_tokens store.now.parts) }

@@ -1,4 +1,4 @@
-// Tokens that are printed unchanged.
+// Direct tokens: those that are printed as their own bytes.
 ghost use Rattle.std.specs.Prelude.{◌≡◌, ◌<◌, ◌+◌, ◌^◌, ◌++◌, IfSome, IsTrue, Some};
 ghost use Rattle.cweb_files.specs.Device.{CountsFailure};
 ghost use Rattle.cweb_store.specs.surface.TokenModels.{token_model};
@@ -24,8 +24,8 @@ pub(crate) struct DirectToken<'a> {
 }
 
 impl<'a> DirectToken<'a> {
-    /// The output of a token after `left`, if it is printed unchanged. Each kind has its own arm, so that blank and
-    /// class need no second match.
+    /// The output of a token after `left`, if it is direct. Each kind has its own arm, so that blank and class need no
+    /// second match.
     #[inline(always)]
     pub fn of(left: Left, token: &Token<'a>) -> Option<DirectToken<'a>>
         ensures apart { IfSome result

@@ -1,4 +1,4 @@
-// Prints stored tokens in one loop, as long as they are printed unchanged.
+// Prints stored tokens in one loop, as long as they are direct.
 ghost use Rattle.std.specs.Prelude.{◌≤◌, ◌≡◌, false, length, slice_range, take};
 ghost use Rattle.cweb_store.specs.Parts.{all_tokens};
 ghost use Rattle.cweb_print.specs.declared.buffer.TheConstants.{ROOM};
@@ -23,8 +23,8 @@ struct Reached {
 }
 
 impl<'a> Printer<'a> {
-    /// Prints the tokens of a range into the buffer, up to one that isn't printed unchanged or doesn't fit. Returns its
-    /// index. Prints none if a join is open.
+    /// Prints the tokens of a range into the buffer, up to one that isn't direct or doesn't fit. Returns its index.
+    /// Prints none if a join is open.
     pub fn append_range(&mut self, store: &Store, part: Part, buffer: &mut OutBuffer) -> u32
         requires ordered { part.first ≤ part.after }
         requires within { part.after ≤ length (all_tokens store.now.parts) }

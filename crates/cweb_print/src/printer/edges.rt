@@ -1,4 +1,4 @@
-// Blanks between tokens that are printed unchanged.
+// Blanks between direct tokens.
 ghost use Rattle.std.specs.Prelude.{◌≡◌};
 ghost use Rattle.cweb_print.specs.inner.EdgeSpacing.{class_after_edge, edge_is_apart};
 

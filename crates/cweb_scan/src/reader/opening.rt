@@ -18,7 +18,7 @@ impl Reader {
     ghost use Rattle.cweb_scan.specs.inner.Resume.{Between};
     ghost use Rattle.cweb_scan.specs.inner.Room.{HasItemRoom};
 
-    /// `/*`. Like the functions below, it returns the size of the opener.
+    /// `/*`. Like the functions below, it returns the number of bytes taken.
     #[inline(never)]
     pub(crate) fn open_comment(&mut self, rest: &[u8]) -> Result<usize, AllocError>
         requires between { self.old.item ≡ Between }

@@ -92,7 +92,7 @@ impl Scanner {
         }
     }
 
-    /// A comment that began at `begun`. It acts like blanks.
+    /// Reports a comment that didn't end.
     pub fn pass_comment(&mut self, how: End, begun: Place) -> Result<(), AllocError>
         ensures { OnOk result (self.new ≡ after.pass_comment how begun self.old) }
     {

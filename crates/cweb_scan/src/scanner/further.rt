@@ -23,7 +23,6 @@ impl Scanner {
     ghost use Rattle.cweb_rules.specs.declared.rule.Rule.TheVariants as rule;
     ghost use Rattle.cweb_scan.specs.inner.Room.{weight};
 
-    // Takes a number.
     #[inline(always)]
     pub(crate) fn take_number(&mut self, rest: &[u8]) -> Result<usize, AllocError>
         requires in_c { IsPlainC self.old }
@@ -55,7 +54,7 @@ impl Scanner {
         Ok(size)
     }
 
-    // Takes a punctuator, other than those that concern directives.
+    // Takes a punctuator other than `#` and `\`.
     #[inline(always)]
     pub(crate) fn take_operator(&mut self, rest: &[u8]) -> Result<usize, AllocError>
         requires in_c { IsPlainC self.old }

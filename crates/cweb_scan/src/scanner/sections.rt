@@ -15,7 +15,7 @@ impl Scanner {
     ghost use Rattle.cweb_scan.specs.inner.Room.{HasPartRoom, HasItemRoom};
     ghost use Rattle.cweb_scan.specs.State as spec;
 
-    /// Begins a part after its opener.
+    /// Begins a part after its opener, with a Head and a Mark.
     pub fn begin_part(&mut self, kind: PartKind) -> Result<(), AllocError>
         requires closed { in_open_part self.old.context ≡ false }
         requires in_c { is_macro kind ≡ false }

@@ -6,7 +6,7 @@ use Rattle.cweb_store.specs.inner.InternedTokens.{StringsAreWithin, token_of_int
 use Rattle.cweb_store.specs.inner.Records.{interned_of_record}
 use Rattle.cweb_store.specs.declared.tokens.records.Record.{Record}
 
--- The bytes of a record that is printed unchanged. They don't depend on the places of Marks.
+-- The bytes of a direct record. They don't depend on the places of Marks.
 abbrev pub direct_bytes_of_record : List (List ℕ) → Record → Option TokenBytesModel
 direct_bytes_of_record strings r = direct_bytes (token_of_interned strings (interned_of_record [] r))
 

@@ -19,7 +19,7 @@ impl Store {
         self.tokens.len() as u32
     }
 
-    /// The bytes of a token that is printed unchanged, or `None` for any other token.
+    /// The bytes of a direct token: one that is printed as its own bytes, whatever is to its left. `None` for others.
     #[inline(always)]
     pub fn direct(&self, number: u32) -> Option<TokenBytes<'_>>
         requires { number < length (all_tokens self.now.parts) }

@@ -34,7 +34,7 @@ impl<'a> Model for TokenReader<'a> {
 }
 
 impl<'a> TokenReader<'a> {
-    /// The bytes of a token that is printed unchanged, or `None` for any other token.
+    /// The bytes of a direct token, or `None`.
     #[inline(always)]
     pub fn direct(&self, number: u32) -> Option<TokenBytes<'a>>
         requires { number < length self.now }

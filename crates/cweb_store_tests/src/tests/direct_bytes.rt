@@ -1,4 +1,4 @@
-// Tokens that are printed unchanged, and their edges.
+// Direct tokens, and their edges.
 use super::*;
 
 // The token at an index has these bytes and this edge.
@@ -39,7 +39,7 @@ fn direct_bytes_and_edges(rt: HostRuntime) -> Result<(), Fail> {
     check(&rt, rt.alloc(), &DirectTokens)
 }
 
-// None of the first `tokens` tokens is printed unchanged.
+// None of the first `tokens` tokens is direct.
 fn have_no_direct_bytes(rt: &impl Abort, store: &Store, tokens: u32) {
     holds(rt, store.tokens() == tokens);
     for number in 0..tokens {
@@ -47,7 +47,7 @@ fn have_no_direct_bytes(rt: &impl Abort, store: &Store, tokens: u32) {
     }
 }
 
-// Tokens that aren't printed unchanged.
+// Tokens that aren't direct.
 #[derive(Clone, Copy)]
 struct IndirectTokens;
 
