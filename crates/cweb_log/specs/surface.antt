@@ -1,2 +1,2 @@
--- Definitions that other crates' contracts use.
+-- Definitions that public calls cite and the headline does not.
 pub mod Options

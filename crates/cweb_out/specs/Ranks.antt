@@ -11,7 +11,7 @@ abbrev pub ends_below : Stored → ℕ → NameId → Bool
 ends_below w zero n = false
 ends_below w (suc k) n = list_all (ends_below w k) (uses w (joined w n))
 
--- The name's expansion ends: its rank is below the number of names, as nested uses of a finite expansion are distinct.
+-- The name's expansion ends. Its rank is below the number of names, since all names on a path of uses differ then.
 abbrev pub has_rank : Stored → NameId → Bool
 has_rank w n = ends_below w (names w) n
 

@@ -1,2 +1,2 @@
--- Definitions of the laws.
+-- Definitions that only laws cite.
 pub mod Laws

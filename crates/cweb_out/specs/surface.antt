@@ -1,4 +1,4 @@
--- Definitions that other crates' contracts use.
+-- Definitions that public calls cite and the headline does not.
 pub mod Ranks
 pub mod Outputs
 pub mod FrameSuffixes

@@ -1,4 +1,4 @@
--- Definitions that functions of this crate use among themselves.
+-- Definitions that only the functions of this crate cite.
 pub mod Stages
 pub mod Skipped
 pub mod Resume

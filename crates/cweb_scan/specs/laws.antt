@@ -1,4 +1,4 @@
--- Definitions of the laws.
+-- Definitions that only laws cite.
 pub mod ReaderModel
 pub mod Law
 pub mod Alone

@@ -7,7 +7,7 @@ use Rattle.cweb_store.specs.Growing.{PartsSoFar, no_parts, all_parts, with_opene
 use Rattle.cweb_store.specs.Growing.{with_dropped_layout, with_closed_part}
 use Rattle.cweb_store.specs.Replacements.{Replacement}
 
--- The occurrences of names, the parts and the replacements so far. Each kind has fewer than `too_many` entries.
+-- The occurrences of names, parts and replacements so far. Occurrences, parts and tokens stay below `too_many` each.
 pub record Contents : Type 0 where
   pub occurrences : List Occurrence
   pub parts : PartsSoFar

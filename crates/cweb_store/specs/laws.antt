@@ -1,4 +1,4 @@
--- Definitions of the laws.
+-- Definitions that only laws cite.
 pub mod Calls
 pub mod BuilderCalls
 pub mod Laws

@@ -1,4 +1,4 @@
--- The main theorem of both programs: if no device and no allocation fails and the web is within the limits, a run's
+-- The headline theorem of both programs: if no device and no allocation fails and the web is within the limits, a run's
 -- effect is a function of the files, the words and the folder of included files.
 use Rattle.std.specs.Prelude.{◌≡◌, ◌≢◌, ℕ, List, [], ◌++◌, Option, IsTrue}
 use Rattle.std.specs.List.{flat_map}
@@ -16,7 +16,7 @@ use Rattle.cweb_tools.specs.Leaves.{put_files}
 use Rattle.cweb_tools.specs.Script.{TangleCourse, tangling, tangle_files, tangle_log, tangle_status}
 use Rattle.cweb_tools.specs.Tangle.{shown_by, tangle_course}
 
--- No device failed, the limits were kept, and the log isn't just extended by the line on a failed allocation.
+-- No device failed, the limits were kept, and the log's new bytes aren't just the line on a failed allocation.
 pub record MergeRanFreely (course : Course) (before after : Devices) : Type 0 where
   pub read : after.shelf.failed ≡ before.shelf.failed
   pub printed : after.out.failed ≡ before.out.failed
@@ -30,7 +30,7 @@ pub record IsMerge (course : Course) (before after : Devices) (status : ℕ) : T
   pub logged : after.log.bytes ≡ before.log.bytes ++ merge_log course
   pub answered : status ≡ merge_status course
 
--- The main theorem of `wmerge`.
+-- The headline theorem of `wmerge`.
 abbrev pub MergesFreely : World → Option WebNames → Devices → Devices → ℕ → Type 0
 MergesFreely world asked before after status = AreObservable before
     → MergeRanFreely (merge_course world asked) before after
@@ -56,7 +56,7 @@ pub record IsTangle (shown : Shown) (course : TangleCourse) (before after : Devi
   pub logged : after.log.bytes ≡ before.log.bytes ++ tangle_log shown course
   pub answered : status ≡ tangle_status shown course
 
--- The main theorem of `ctangle`.
+-- The headline theorem of `ctangle`.
 abbrev pub TanglesFreely : World → Option OptionsModel → Devices → Devices → ℕ → Type 0
 TanglesFreely world asked before after status = AreObservable before
     → TangleRanFreely (tangle_course world asked) before after

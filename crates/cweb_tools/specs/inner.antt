@@ -1,4 +1,4 @@
--- Definitions that functions of this crate use among themselves.
+-- Definitions that only the functions of this crate cite.
 pub mod Acts
 pub mod Begun
 pub mod Course

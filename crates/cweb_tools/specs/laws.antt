@@ -1,3 +1,3 @@
--- Definitions of the laws.
+-- Definitions that only laws cite.
 pub mod Leaves
 pub mod RunEffects
