@@ -55,7 +55,7 @@ comment_line_end next s = if in_directive s then move_to next s else line_end ne
 abbrev pub blank : ScanState → ScanState
 blank s = if in_directive s && not (is_last_blank (directive s).last) then emit Blank s else s
 
--- A punctuator is a token. A `#` may begin a directive.
+-- A punctuator is a token. Outside directives it resets `folded`, since a `#` may begin one.
 abbrev pub punctuator : List ℕ → ScanState → ScanState
 punctuator bytes s = record (emit (Punct bytes) s) { folded = in_directive s && s.folded }
 
