@@ -49,6 +49,7 @@ pub struct Calls {
 }
 
 impl Calls {
+    /// A builder without calls.
     pub fn new(alloc: Global) -> Calls {
         Calls {
             alloc,

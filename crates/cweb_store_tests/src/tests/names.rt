@@ -1,7 +1,7 @@
 // Names, abbreviations, files and their faults.
 use super::*;
 
-// The resolutions of three occurrences.
+/// The resolutions of three occurrences.
 pub fn shows_resolutions(rt: &impl Abort, store: &Store, text: &str) {
     let mut expected = Expected::new(text);
     expected.compare_resolutions(store);

@@ -65,7 +65,7 @@ fn ends_of_macros(rt: HostRuntime) -> Result<(), Fail> {
     )
 }
 
-// The first uses of these ranges.
+/// The first uses of these ranges.
 pub fn has_uses(rt: &impl Abort, store: &Store, text: &str) {
     let mut expected = Expected::new(text);
     expected.compare_next_use(store, 0, 5);
