@@ -4,16 +4,14 @@ use Rattle.cweb_files.specs.Files.{Beside}
 use Rattle.cweb_files.specs.declared.device.Shelf.{Ghosts as Shelf}
 use Rattle.cweb_files.specs.declared.device.Sink.{Ghosts as Sink}
 
--- A shelf: whether its contents are observable, how often it has failed, its sources, and the names of the files whose
--- reads failed.
+-- A shelf: whether it is observable, its failure count, its sources, and the names of the files whose reads failed.
 pub record ShelfModel : Type 0 where
   pub tells : Bool
   pub failed : ℕ
   pub texts : List ℕ → Option (List ℕ)
   pub blamed : List (List ℕ)
 
--- A sink: whether its bytes are observable, how often it has failed, and its bytes. Bins also have committed files and
--- the open draft's name, in `beside`.
+-- A sink: whether it is observable, its failure count, its bytes, and, for bins, the files and the draft's name.
 pub record SinkModel : Type 0 where
   pub tells : Bool
   pub failed : ℕ

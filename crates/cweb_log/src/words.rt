@@ -9,8 +9,7 @@ ghost use Rattle.cweb_log.specs.Words.{has_extension, extended, second_try};
 use cweb_lines::Stop;
 use std::alloc::{AllocError, Global};
 
-/// The file names of a command line of `wmerge`: the web's, the one that is tried if there is no such web, and the
-/// change file's.
+/// The file names of a command line of `wmerge`. `second` is tried if there is no file of the web's name.
 #[derive(Debug, Drop)]
 pub struct MergeWords {
     pub web: String,

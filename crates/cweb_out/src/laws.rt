@@ -24,8 +24,7 @@ pub fn files_have_whole_lines()
     ensures { FilesHaveWholeLines }
 {}
 
-/// A plan that is refused for a cycle reports a cycle: at least two names, the last equal to the first, and each one
-/// used in the list of the one before it.
+/// The cycle of a refused plan is one: at least two names, the last equal to the first, each used by the one before it.
 pub fn refused_cycles_are_cycles()
     ensures { RefusedCyclesAreCycles }
 {}

@@ -36,8 +36,7 @@ use cweb_files::{Sink, SinkFault};
 use cweb_input::FileNames;
 use cweb_store::{Store, Token};
 
-/// Prints tokens in order. It stores the class of the last printed token and whether a join is open, but no bytes. It
-/// is not called again after a fault.
+/// Prints tokens in order. It stores the last token's class and whether a join is open. It isn't called after a fault.
 #[derive(Drop)]
 pub struct Printer<'a> {
     store: &'a Store,

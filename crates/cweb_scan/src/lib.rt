@@ -1,5 +1,4 @@
-//! Scans the merged lines of a web: names and parts for the store, faults, and sections. The rules are those of the
-//! CWEB manual, "Control codes".
+//! Scans the merged lines of a web for names, parts, faults and sections. See the CWEB manual, "Control codes".
 #![tactic(auto)]
 
 // the effect of each lexeme on the state

@@ -22,8 +22,7 @@ use cweb_store::{Builder, Token};
 use std::alloc::{AllocError, Global};
 use std::marker::Model;
 
-/// The result of the source so far. In C text it also has the state of the open directive, and that state without the
-/// trailing layout (`solid`).
+/// The result of the source so far, and the directive's state. `solid` is that state without the trailing layout.
 pub struct Scanner {
     pub(crate) alloc: Global,
     pub(crate) context: Context,

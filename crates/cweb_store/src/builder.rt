@@ -18,8 +18,7 @@ use cweb_names::{How, NameRef, NameTable};
 use std::alloc::{AllocError, Global};
 use std::marker::Model;
 
-/// The contents of a web so far: occurrences of names, parts with their tokens, and transliterations. A refused call
-/// changes nothing and may be repeated.
+/// The contents of a web so far: occurrences, parts with tokens, and transliterations. A refused call may be repeated.
 pub struct Builder {
     alloc: Global,
     names: NameTable,

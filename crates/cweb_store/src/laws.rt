@@ -18,8 +18,7 @@ use crate::call::{Answered, Call};
 use crate::store::Store;
 use std::alloc::{AllocError, Global};
 
-/// Makes the calls, and skips and counts as refused each one that the state doesn't allow. The store is that of the
-/// calls that returned `Ok`.
+/// Makes the calls that the state allows, and counts the others as refused. The store is that of the calls with `Ok`.
 pub fn store_holds_calls_answered_ok<'a>(
     alloc: Global,
     calls: &[Call<'a>],

@@ -22,17 +22,14 @@ use std::rt::Files;
 /// Files of the system, under their paths. An output is written to a draft, whose name is the file's name and byte 127;
 /// no output's name has that byte. A commit renames the draft. An abandoned draft is deleted; if that fails, it stays.
 ///
-/// A name that was committed here may be begun again, as in the next run; its file is replaced. A file that was
-/// committed under another name is refused.
+/// A name that was committed here may be begun again; its file is replaced. A file under another name is refused.
 ///
-/// Bytes are buffered, so a write may fail for bytes of earlier calls. The output is abandoned then: an output that
-/// lost bytes is never committed.
+/// Bytes are buffered, so a write may fail for earlier bytes. The output is abandoned then, and never committed.
 #[derive(Drop)]
 pub struct FolderBins<'a, R: Files<File: LockableFile> + Drop> {
     alloc: Global,
     files: R,
-    /// Files that occupy the descriptors of closed standard streams, so that no draft gets one. They are read-only: a
-    /// write to such a stream still fails.
+    /// Read-only files on the descriptors of closed standard streams, so that no draft gets one. Writing to them fails.
     streams: [Option<R::File>; 3],
     /// The files that the run has read.
     read: &'a FilesRead,

@@ -201,8 +201,7 @@ fn clear<R: Files<File: LockableFile>>(
     }
 }
 
-/// Waits until no run holds a draft, and removes the draft if it is still there: a killed run left it. If it may not be
-/// opened, there is no wait.
+/// Waits until no run holds a draft, and removes it if it is still there. If it may not be opened, there is no wait.
 fn clear_file<R: Files<File: LockableFile>>(
     files: &R,
     path: &str,

@@ -3,9 +3,8 @@ use Rattle.std.specs.Prelude.{◌≡◌, IsTrue}
 use Rattle.cweb_log.specs.DeviceModels.{Devices}
 use Rattle.cweb_tools.specs.Acts.{DeviceState}
 
--- The state agrees with the observable devices. Failure counts are always observable. An observable log has these
--- bytes. Observable bins have these files, this draft, and this result of the last beginning. An observable shelf
--- reports the files whose reads failed.
+-- The state agrees with the devices. Failure counts are always observable, and so are an observable log's bytes,
+-- observable bins' files, draft and refusal, and the files whose reads failed in an observable shelf.
 pub record AgreesWith (now : DeviceState) (seen : Devices) : Type 0 where
   pub shelf_failed : now.shelf_failed ≡ seen.shelf.failed
   pub bins_failed : now.bins_failed ≡ seen.out.failed

@@ -27,8 +27,7 @@ pub record Web : Type 0 where
   pub numbers : Numbers
   pub plan : Planning
 
--- The course of a run: the words can't be read; the web or its change file isn't there; or these files are read with
--- these events, and this is the web.
+-- The course of a run: unreadable words; no web or no change file; or files that are read, with their events and web.
 pub data TangleCourse : Type 0 where
   unread : TangleCourse
   not_there : List ℕ → TangleCourse

@@ -17,8 +17,7 @@ is_ascii bytes = list_all (λ b. not (nat_le 128 b)) bytes
 abbrev pub is_double_hash : Token → Bool
 is_double_hash token = is_punct (codes "##") (Some token)
 
--- The tokens of the law: layout, section comments, and ASCII words, numbers, literals and punctuators that read alone.
--- `#` and `##` belong to directives.
+-- Layout, section comments, ASCII words, numbers, literals and punctuators that read alone, except `#` and `##`.
 abbrev pub IsPlain : Token → Type 0
 IsPlain Blank = Unit {0}
 IsPlain Newline = Unit {0}

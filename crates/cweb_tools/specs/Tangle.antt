@@ -53,8 +53,7 @@ abbrev pub fault_items : List (List ℕ) → List SourceFault → Scanned → Li
 fault_items files faults made =
     map (source_item files) faults ++ (scan_items files made.faults ++ name_items made.store)
 
--- A scanned web, from the names of its files, the faults of web and change file, the scan of its lines, and the name of
--- its main output.
+-- A scanned web, from its file names, the faults of web and change file, the scan, and the main output's name.
 abbrev pub web_of : List (List ℕ) → List SourceFault → Scanned → List ℕ → Web
 web_of files faults made main = record {
   starred = made.starred;

@@ -1,5 +1,4 @@
-//! The runs of `ctangle` and `wmerge`, over any devices. Command lines and messages are in `cweb_log`, the system's
-//! files and streams in `cweb_system`.
+//! The runs of `ctangle` and `wmerge`, over any devices. Command lines and messages are in `cweb_log`.
 #![tactic(auto)]
 
 // the runs

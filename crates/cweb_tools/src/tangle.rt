@@ -40,8 +40,7 @@ use std::alloc::Global;
 
 const USAGE: &str = "ctangle [options] webfile[.w] [{changefile[.ch]|-} [outfile[.c]]]";
 
-/// Runs `ctangle`: writes the C files of the web to the bins and messages to the log. `words` are the arguments.
-/// Returns the exit status.
+/// Runs `ctangle`: writes C files to the bins and messages to the log. `words` are the arguments. Returns the status.
 pub fn run_ctangle<S: Shelf, B: Bins, L: Sink>(
     alloc: Global,
     words: &[&str],

@@ -26,8 +26,7 @@ const CHUNK_SIZE: usize = 65536;
 
 const USAGE: &str = "wmerge webfile[.w] [{changefile[.ch]|-}]";
 
-/// Runs `wmerge`: writes the merged lines of the web to the output, then the faults to the log. `words` are the
-/// arguments. Returns the exit status.
+/// Runs `wmerge`: merged lines go to the output, faults to the log. `words` are the arguments. Returns the status.
 pub fn run_wmerge<S: Shelf, W: Sink, L: Sink>(
     alloc: Global,
     words: &[&str],

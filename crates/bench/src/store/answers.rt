@@ -3,8 +3,7 @@
 use crate::store::Filling;
 use cweb_store::{NameId, NameRef, Store, Token};
 
-/// The size of the store's answer: the bytes of all Words, the number of resolved occurrences, or the number of parts
-/// of the name.
+/// The size of a store's answer: the bytes of all Words, the resolved occurrences, or the parts of the name.
 pub fn of(store: &Store, shape: Filling, count: u32) -> u64 {
     match shape {
         Filling::Words | Filling::Distinct | Filling::Flood => bytes_of_words(store),

@@ -45,8 +45,7 @@ fn check_draft(rt: &(impl Abort + Files + AllocGlobal), path: &str) {
     holds_of(rt, fs::symlink_metadata(rt, draft.as_str()).is_err(), path);
 }
 
-/// Puts a file into a folder, and checks the file and that no draft is left. The put must succeed exactly if its
-/// contents are expected.
+/// Puts a file into a folder. It must succeed exactly if the contents are then `text`, and leave no draft.
 fn check_put<B: Bins>(
     rt: &(impl Abort + Files + AllocGlobal),
     bins: &mut B,

@@ -19,9 +19,8 @@ use crate::outputs::search::first_cycle;
 use cweb_store::{NameId, Parts, Store};
 use std::alloc::{AllocError, Global};
 
-/// The plan of a store for a main file, or why there is none. Faults come in this order: a name that no file can have,
-/// by order of the outputs; a file name equal to the main file's; a cycle that an output reaches. `Memory` may come at
-/// any point.
+/// The plan of a store, or why there is none. Faults come in this order: names that no file can have, by order of the
+/// outputs; a file name equal to the main file's; a cycle that an output reaches. `Memory` may come at any point.
 pub fn plan(alloc: Global, store: &Store, main: &str) -> Result<Plan, PlanFault>
     ensures { IsExpectedPlan (planned store.now main.now) result }
 {

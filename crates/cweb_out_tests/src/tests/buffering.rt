@@ -157,8 +157,7 @@ fn a_word_of_each_length(rt: HostRuntime) {
     }
 }
 
-// The newline at the end is buffered, unless no short string fits. A string that doesn't fit is written after the
-// buffer.
+// The last newline is buffered, unless no short string fits. A string that doesn't fit is written after the buffer.
 #[test]
 fn a_word_at_the_end_of_the_room(rt: HostRuntime) {
     const EXAMPLES: &[(usize, u64)] = &[

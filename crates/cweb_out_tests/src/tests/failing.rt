@@ -22,8 +22,7 @@ const FILE: &[u8] =
 const PRINTED: &[u8] =
     b"/*1:*/\n#line 1 \"s\\\".w\"\n\nxXC3- -10@a\n#define M 1 \\\n\"x\"\n#define N\n/*2:*/b 'c'/*:2*/\n#line 12345 \"s\\\".w\"\n;\n/*:1*/\n";
 
-// Prints the web's main file, buffered or not, to a sink that fails after `good` writes. Returns whether all was
-// printed.
+// Prints the web's main file to a sink that fails after `good` writes. Returns whether all was printed.
 fn print(
     rt: &impl Abort,
     alloc: Global,

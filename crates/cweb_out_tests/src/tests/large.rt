@@ -13,8 +13,7 @@ use cweb_store::{NameId, Store, Token};
 use std::alloc::Global;
 use std::process::Abort;
 
-// Counts the Words `x` of an expander in this many calls after the first, which returns Defs, and its greatest depth.
-// There are no other tokens.
+// Counts the Words `x` in this many calls after the first, which returns Defs. Returns the greatest depth, too.
 fn counted(rt: &impl Abort, expander: &mut Expander<'_>, calls: u32) -> (u32, u32)
     requires { IsFrameStack expander.old.store.now expander.old.frames.items
         (vec_capacity expander.old.frames) }

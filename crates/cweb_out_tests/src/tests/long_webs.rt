@@ -33,8 +33,7 @@ fn add_link(
     web.push_str(text)
 }
 
-/// A web whose program uses name 0 `uses` times. Each name uses the next one `uses` times, up to the last one, which
-/// has its own contents.
+/// A web whose program uses name 0 `uses` times, and in which each name but the last uses the next one `uses` times.
 pub fn chain(
     alloc: Global,
     last: u32,

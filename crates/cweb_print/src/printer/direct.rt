@@ -24,8 +24,7 @@ pub(crate) struct DirectToken<'a> {
 }
 
 impl<'a> DirectToken<'a> {
-    /// The output of a token after `left`, if it is direct. Each kind has its own arm, so that blank and class need no
-    /// second match.
+    /// The output of a token after `left`, if it is direct. One arm per kind decides on both blank and class.
     #[inline(always)]
     pub fn of(left: Left, token: &Token<'a>) -> Option<DirectToken<'a>>
         ensures apart { IfSome result

@@ -23,8 +23,7 @@ struct Reached {
 }
 
 impl<'a> Printer<'a> {
-    /// Prints the tokens of a range into the buffer, up to one that isn't direct or doesn't fit. Returns its index.
-    /// Prints none if a join is open.
+    /// Prints a range's tokens up to one that isn't direct or doesn't fit. Returns its index. Prints none after a join.
     pub fn append_range(&mut self, store: &Store, part: Part, buffer: &mut OutBuffer) -> u32
         requires ordered { part.first ≤ part.after }
         requires within { part.after ≤ length (all_tokens store.now.parts) }

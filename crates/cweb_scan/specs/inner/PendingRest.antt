@@ -77,8 +77,7 @@ awaits_line_end i = elim i [
   | InRaw begun delimiter text ↦ false
 ]
 
--- The first n bytes belong to the open item. If it stays open, n is at least 1. A literal that continues in the next
--- line has taken the whole rest.
+-- The first n bytes belong to the open item, one at least if it stays open. A literal to be continued takes them all.
 pub record TakesPending (n : ℕ) (rest : List ℕ) (old new : ReaderModel) : Type 0 where
   pub takes : TakesPrefix n rest old new
   pub moves : is_pending new.item ≡ true → 0 < n

@@ -26,8 +26,7 @@ place_after r before = (fold after_lexeme r before).state.here
 abbrev pub newlines : List Lexeme → ℕ
 newlines before = at_line_ends 1 (flat_map (λ p. p.bytes) before)
 
--- Each lexeme has the place of the line of its first byte: the line whose index is the number of newlines before the
--- lexeme. The lines have no newline.
+-- Each lexeme has the place of the line of its first byte, whose index is the number of newlines before the lexeme.
 abbrev pub LexemesKeepLines : Line → List Line → Type 0
 LexemesKeepLines line lines =
     (before : List Lexeme) (p : Lexeme) (behind : List Lexeme)

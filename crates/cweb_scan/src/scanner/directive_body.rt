@@ -86,8 +86,7 @@ impl Scanner {
         }
     }
 
-    /// Takes lexemes whose rule is determined by their first byte, in a directive past an included name. Returns the
-    /// number of bytes.
+    /// Takes lexemes that their first byte determines, in a directive past an included name. Returns their size.
     #[inline(never)]
     pub(crate) fn take_directive_body(&mut self, rest: &[u8]) -> Result<usize, AllocError>
         requires line { IsLine rest.now }

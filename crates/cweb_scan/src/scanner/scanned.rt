@@ -9,8 +9,7 @@ use cweb_rules::ScanFault;
 use cweb_store::Store;
 use std::alloc::AllocError;
 
-/// The result of a scan: the store, the faults in the order of their items, and the number of sections. `starred` has
-/// the numbers of the starred sections.
+/// The result of a scan. Faults are in the order of their items. `starred` has the numbers of the starred sections.
 pub struct Scanned {
     pub store: Store,
     pub faults: Vec<ScanFault>,

@@ -1,5 +1,4 @@
-// Test cases over a scan. Only functions here own a merger or a scan's result, since owning one makes verification
-// slow.
+// Test cases over a scan. Only functions here own a merger or a scan's result, since that slows verification.
 use super::*;
 use cweb_lines::{MemoryShelf, Shelf, Stop};
 

@@ -1,5 +1,4 @@
-// Renders a scan as a string: the tokens, each part after its kind; the transliterated bytes; the names of files; the
-// faults of the source and of names.
+// Renders a scan: the tokens, each part after its kind; transliterated bytes; file names; faults of source and names.
 use super::*;
 use cweb_files::Place;
 use cweb_rules::ScanFault;

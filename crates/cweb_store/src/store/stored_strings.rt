@@ -11,8 +11,7 @@ use crate::tokens::closed::ClosedTokens;
 use cweb_names::{NameTable, OccurrenceForm};
 use std::alloc::AllocError;
 
-/// Tokens, whose strings are followed by those of occurrences and replacements; the form of each occurrence; and the
-/// replaced bytes.
+/// Tokens, followed by the strings of occurrences and replacements; the form of each occurrence; the replaced bytes.
 #[derive(Drop)]
 pub(crate) struct StoredStrings {
     pub tokens: ClosedTokens,

@@ -21,8 +21,7 @@ pub enum Trailing {
     Newlines,
 }
 
-/// The end of an open part without its trailing layout. A macro's first two tokens stay, as the second may be the Blank
-/// after its name.
+/// The end of an open part without its trailing layout. A macro keeps two tokens: the second may be a needed Blank.
 pub fn end_before_layout(tokens: &TokenList, current: Open) -> usize
     requires { current.first ≤ length tokens.now.tokens }
     ensures part { open_in (take result tokens.now.tokens) current

@@ -136,8 +136,7 @@ pub trait Case {
     fn look<A: Abort>(&self, rt: &A, store: &Store);
 }
 
-/// Makes the store of a case, again if an allocation failed, and checks it. Only this function owns a store, since
-/// owning one makes verification slow.
+/// Makes and checks the store of a case, again after a failed allocation. Only this function owns one, as that is slow.
 pub fn check<C: Case>(rt: &impl Abort, alloc: Global, case: &C) -> Result<(), Fail> {
     let store = filled_again(rt, alloc, case)?;
     case.look(rt, &store);

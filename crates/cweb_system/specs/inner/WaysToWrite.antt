@@ -24,8 +24,7 @@ abbrev pub IsDeviceFound : PathEntry → Type 0
 IsDeviceFound (PathEntry.Device device) = ⊤
 IsDeviceFound _ = ⊥
 
--- The run has read this file or the target of this link, or owns it: it has written the file under another name, or the
--- link leads to a standard stream.
+-- The run has read this file or link target, or wrote the file under another name, or the link is a standard stream.
 abbrev pub IsReadOrOwn : List FileKey → Bool → PathEntry → Type 0
 IsReadOrOwn read own (PathEntry.File file permissions) = Contains read file ⊎ IsTrue own
 IsReadOrOwn read own (PathEntry.Link (Some target)) = Contains read target ⊎ IsTrue own

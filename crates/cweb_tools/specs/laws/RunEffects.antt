@@ -74,8 +74,7 @@ pub record TangleReportsFaults (before after : Devices) (status : ℕ) : Type 0 
   pub written : after.out.failed ≢ before.out.failed → status ≡ 1
   pub logged : after.log.failed ≢ before.log.failed → status ≡ 1
 
--- The end of an observable log: all expected items, or the first ones and the line of the stop, or a prefix of that if
--- the log failed.
+-- The end of an observable log: all items, or the first ones and the stop's line, or a prefix if the log failed.
 pub data LogEnds (items : List LogItem) (due : ℕ) (old new : SinkModel) (status : ℕ) : Type 0 where
   said : new.bytes ≡ old.bytes ++ flat_map line items → status ≡ due → LogEnds items due old new status
   cut : (stop : Stop) (about : List ℕ) (before later : List LogItem) → items ≡ before ++ later

@@ -135,9 +135,8 @@ fn check_left_refused(rt: &impl Abort, left: &Merge, run: &Run) {
     }
 }
 
-/// A run in which a read fails after `good` ones. Without a failure it has the full effect. Otherwise the output is a
-/// prefix, and the log has the line of one of two files. Returns whether a read of the first file failed, if one
-/// failed.
+/// A run in which a read fails after `good` ones: the output is a prefix, and the log has the line of one of two files.
+/// Returns whether it was the first file, if a read failed.
 pub fn check_read(
     rt: &(impl Abort + AllocGlobal),
     run: &Run,

@@ -1,5 +1,4 @@
-// Runs of `ctangle` over files in memory. The effect of a run is one string: its log, each file after its name, its
-// status.
+// Runs of `ctangle` over files in memory. A run's effect is one string: the log, each file after its name, the status.
 use super::expected::Expected;
 use super::failing::FailingBins;
 use super::wanted::{holds, same_bytes};
