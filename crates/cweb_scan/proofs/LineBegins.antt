@@ -1,4 +1,4 @@
--- The begin of a line for any reader, and the end of the source.
+-- The start of a line for any reader, and the end of the source.
 use Rattle.cweb_scan.proofs.Common.{◌≡◌, ◌≤◌, ℕ, ◌+◌, Bool, true, false, List, [], ◌∷◌, ◌++◌, take, drop, refl, ap, sym, ◌∙◌, subst, arith, ◌==◌, if◌then◌else◌, append-nil, Place, Line, Cut, reach_size, opener_after, Reading, on, each_line_end, emit_literal, occurrence, ReaderModel, begun_reader, after_line_end, read_on, read_after, source_ended, BeginsLine, TakesLineEnd, TakesBytes, cost, pending_cost, awaits_line_end, item_of, quote_byte, PendingItem, takes_opener, weight, lex, ScanState, move_to, AfterBackslash, Raw, Quote, Single, Double}
 use Rattle.cweb_rules.specs.Items as items
 use Rattle.cweb_scan.specs.inner.Resume as item

@@ -84,7 +84,7 @@ plain (suc n) b t some h =
       double = ap (λ v. v && bytes_eq (take n t) (codes "@")) e;
     }
 
--- It continues after its line.
+-- Such a literal in a line, with more lines after it.
 opened_in_line : (look : List ℕ → Look) (r : Reading) (n b : ℕ) (t more : List ℕ)
     → 0 < n → n ≤ length (b ∷ t) → reads_literals r.state.context ≡ true → IsLine (b ∷ t)
     → begins (codes "@") (b ∷ t) ≡ false → match_in r.state.context (names_include r.state) (b ∷ t ++ more)

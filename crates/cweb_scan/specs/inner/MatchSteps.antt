@@ -44,7 +44,7 @@ may_do c effect.Define = not (is_c c)
 may_do c effect.Program = not (is_c c)
 may_do c e = true
 
--- How an item ends if a line end ends it as `at_end`.
+-- How an item ended: `at_end` if it ended at the line's end.
 abbrev pub ended_as : End → End → End
 ended_as at_end Closed = Closed
 ended_as at_end Cut = Cut

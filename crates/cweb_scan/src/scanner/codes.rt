@@ -11,7 +11,7 @@ use cweb_rules::{Context, Effect, End, ScanKind};
 use cweb_store::{PartKind, Token};
 use std::alloc::AllocError;
 
-/// How an item ended, if a line end ends it as `at_end`.
+/// How an item ended: `at_end` if it ended at the line's end.
 pub fn ended(at_end: End, how: End) -> End
     ensures { result ≡ ended_as at_end how }
 {
