@@ -1,4 +1,4 @@
-// Builders that are given so much.
+// Builders with bounded numbers of calls.
 ghost use Rattle.std.specs.Prelude.{◌≡◌, ◌≤◌, length, is_some};
 ghost use Rattle.cweb_store.specs.surface.Growing.{part_count, token_count};
 
@@ -8,10 +8,10 @@ use std::error::Error;
 use std::fmt;
 use std::fmt::{Display, Formatter, Write};
 
-// A builder takes at most so many calls here.
+// The greatest number of calls of each kind.
 const MOST: u32 = 20_000_000;
 
-/// Why a builder takes no more. An error of `anyhow` has 288 bytes, and an answer that may hold one costs more than a call.
+/// Why a builder accepts no more. An `anyhow` error has 288 bytes: a result that may hold one costs more than a call.
 #[derive(Clone, Copy, Debug)]
 pub enum Refusal {
     TooManyCalls,
@@ -35,7 +35,7 @@ impl From<AllocError> for Refusal {
     }
 }
 
-/// A builder that knows how many calls it had, and whether a part is open.
+/// A builder that counts its calls, and knows whether a part is open.
 #[derive(Drop)]
 pub struct Calls {
     pub alloc: Global,
@@ -49,6 +49,7 @@ pub struct Calls {
 }
 
 impl Calls {
+    /// A builder without calls.
     pub fn new(alloc: Global) -> Calls {
         Calls {
             alloc,
@@ -58,7 +59,7 @@ impl Calls {
         }
     }
 
-    /// Gives an occurrence of a name.
+    /// Adds an occurrence of a name.
     pub fn occur(&mut self, name: &[u8], how: How) -> Result<NameRef, Refusal> {
         if self.calls >= MOST {
             return Err(Refusal::TooManyCalls);
@@ -67,7 +68,7 @@ impl Calls {
         Ok(self.builder.occurrence(name, how, false)?)
     }
 
-    /// Opens a part, and closes the one that was open.
+    /// Opens a part, after it closes an open one.
     #[tactic(auto, using(cweb_store::proofs::CallerLemmas::token_count_opened, cweb_store::proofs::CallerLemmas::token_count_closed, cweb_store::proofs::CallerLemmas::part_count_opened, cweb_store::proofs::CallerLemmas::part_count_closed))]
     pub fn open(&mut self, kind: PartKind) -> Result<(), Refusal> {
         if self.calls >= MOST {
@@ -83,7 +84,7 @@ impl Calls {
         Ok(())
     }
 
-    /// Gives a token to the part that is open. One call too many is answered as if memory were refused.
+    /// Pushes a token. A call beyond the limit counts as a failed allocation.
     #[tactic(auto, using(cweb_store::proofs::CallerLemmas::token_count_pushed, cweb_store::proofs::CallerLemmas::part_count_pushed))]
     pub fn push(&mut self, token: Token<'_>) -> Result<(), AllocError> {
         if self.calls >= MOST || !self.is_open {
@@ -93,7 +94,7 @@ impl Calls {
         self.builder.push(token)
     }
 
-    /// The store of what was given.
+    /// The store of these calls.
     pub fn finish(self) -> Result<Store, AllocError> {
         let Calls {
             alloc: _,

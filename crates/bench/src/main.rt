@@ -1,22 +1,22 @@
-//! Runs the layers of `ctangle` one by one, so that each can be measured apart. Without words it runs each on a small web and says
-//! what came of it. `scan FILE` scans a web over a shelf in memory, `merge FILE` writes its merged lines into memory. `store SHAPE
-//! COUNT STEP` gives a builder so many things and goes up to a step: `draw`, `give`, `finish` or `ask`. `out SHAPE COUNT STEP`
-//! builds a store and goes up to a step: `build`, `plan`, `expand` or `print`. What a step costs is that of two runs apart.
+//! Runs each layer of `ctangle` separately for measurements: a step costs the difference of two runs. Without arguments
+//! each runs on a small web. `scan FILE` scans a web in memory, `merge FILE` writes its merged lines into memory.
+//! `store SHAPE COUNT STEP` adds COUNT things to a builder, up to a step: `draw`, `give`, `finish` or `ask`.
+//! `out SHAPE COUNT STEP` builds a store, up to a step: `build`, `plan`, `expand` or `print`.
 #![tactic(auto)]
 
-// the merged lines of a web, and what a scan makes of them
+// the merged lines of a web, and its scan
 mod scan;
 
-// builders that know how many calls they had
+// builders that count their calls
 mod calls;
 
-// the stores of shapes
+// stores of a shape
 mod shapes;
 
-// what a store is given and asked
+// what is added to a store and asked of it
 mod store;
 
-// what is planned, expanded and printed of a store
+// plans, expansion and printing of a store
 mod outputs;
 
 use anyhow::{Context, Result, bail};
@@ -32,7 +32,7 @@ const SMALL_STORE: u32 = 500;
 
 const SMALL_OUTPUT: u32 = 60;
 
-// A layer, a shape, a count and a step.
+// Layer, shape, count and step.
 const SMALL: &[(&str, &str, u32, &str)] = &[
     ("store", "words", SMALL_STORE, "ask"),
     ("store", "distinct", SMALL_STORE, "ask"),
@@ -115,7 +115,6 @@ fn show_scanned(rt: &impl Print, alloc: Global, text: &[u8]) -> Result<()> {
     Ok(())
 }
 
-// A shelf with this web.
 fn shelf_of(alloc: Global, text: &[u8]) -> Result<MemoryShelf, AllocError> {
     let mut shelf = MemoryShelf::new(alloc);
     shelf.put(scan::WEB, text)?;

@@ -1,4 +1,4 @@
-// Stores whose names use one another, and how far their outputs are taken.
+// Stores whose names use one another, and the steps of their outputs.
 
 mod printing;
 
@@ -9,7 +9,7 @@ use cweb_files::{FileId, Place};
 use cweb_store::{How, NameRef, PartKind, Store, Token};
 use std::alloc::{AllocError, Global};
 
-// The parts of a web are spread over so many names.
+// The parts of a web are distributed over this many names.
 const SHARED: u32 = 500;
 
 /// How a web's names use one another.
@@ -62,7 +62,7 @@ impl shapes::Shape for Web {
     }
 }
 
-/// Goes up to a step with a store, and says what came out.
+/// Runs the steps up to this one with a store, and reports the result.
 pub fn show(rt: &impl Print, alloc: Global, shape: &str, count: u32, step: &str) -> Result<()> {
     match Web::of(shape) {
         Some(shape) => shapes::show(rt, alloc, &shape, count, step),
@@ -116,7 +116,7 @@ fn put_use(calls: &mut Calls, number: u32) -> Result<(), Refusal> {
     Ok(())
 }
 
-// What stands in each part: a `static`, since a constant is made anew at each look into it.
+// The tokens of each part. It is a `static` since a constant would be copied at each access.
 static STATEMENTS: [Token<'static>; 17] = [
     Token::Word(b"while"),
     Token::Punct(b"("),
@@ -137,7 +137,7 @@ static STATEMENTS: [Token<'static>; 17] = [
     Token::Literal(b"\"a literal\""),
 ];
 
-// Twenty tokens of a program's text.
+// Twenty tokens of C text.
 fn put_part_tokens(calls: &mut Calls, section: u32) -> Result<(), AllocError> {
     calls.push(Token::Head(section))?;
     calls.push(mark(section))?;

@@ -1,4 +1,4 @@
-// What there is of a web.
+// Scans and merges a web.
 
 use cweb_lines::{MemoryShelf, MemorySink, Merger, Stop, write_merged};
 use cweb_scan::{Scanned, scan};
@@ -9,7 +9,7 @@ use std::fmt::{Display, Formatter, Write};
 /// The name of the web in the shelf.
 pub const WEB: &str = "web.w";
 
-/// What a scan made.
+/// The numbers of a scan.
 #[derive(Clone, Copy)]
 pub struct Counts {
     sections: u32,
@@ -58,7 +58,7 @@ fn counted(
     }
 }
 
-/// Writes the merged lines of the web of a shelf, and says how many bytes they have with their line ends.
+/// Writes the merged lines of the web of a shelf. Returns the number of bytes, newlines included.
 pub fn merged(alloc: Global, shelf: &mut MemoryShelf, room: usize) -> Result<usize, Stop> {
     let mut merger = Merger::start(alloc, shelf, WEB, None, None, None)?;
     written(alloc, &mut merger, shelf, room)

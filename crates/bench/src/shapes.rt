@@ -1,16 +1,16 @@
-// The stores of shapes. One function holds a builder and one a store: each that does takes as long to prove as ten that borrow them.
+// Stores of a shape. Only two functions here own a builder or a store, since owning one makes verification slow.
 
 use crate::calls::{Calls, Refusal};
 use anyhow::Result;
 use cweb_store::Store;
 use std::alloc::Global;
 
-/// What a builder is given much of, and what is asked of its store.
+/// The contents of a builder, and the checks of its store.
 pub trait Shape {
-    /// Gives so many things.
+    /// Adds this many things.
     fn fill(&self, calls: &mut Calls, count: u32) -> Result<(), Refusal>;
 
-    /// Goes up to a step with the store of so many things, and says what there is then.
+    /// Runs the steps up to this one with the store of this many things, and reports the result.
     fn show<P: Print>(
         &self,
         rt: &P,
@@ -21,7 +21,7 @@ pub trait Shape {
     ) -> Result<()>;
 }
 
-/// Builds the store of so many things, and goes up to a step with it.
+/// Builds the store of this many things, and runs the steps up to this one.
 pub fn show<S: Shape>(
     rt: &impl Print,
     alloc: Global,
@@ -39,7 +39,7 @@ fn built<S: Shape>(alloc: Global, shape: &S, count: u32) -> Result<Store, Refusa
     Ok(calls.finish()?)
 }
 
-/// Gives so many things, and lets them go.
+/// Adds this many things, and drops the builder.
 pub fn fill<S: Shape>(alloc: Global, shape: &S, count: u32) -> Result<(), Refusal> {
     let mut calls = Calls::new(alloc);
     shape.fill(&mut calls, count)

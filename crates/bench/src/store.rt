@@ -1,4 +1,4 @@
-// Stores that are given much of one thing, and how far each goes.
+// Stores with many things of one kind, and their steps.
 
 mod answers;
 
@@ -8,10 +8,10 @@ use anyhow::{Result, bail};
 use cweb_store::{How, NameRef, PartKind, Store, Token};
 use std::alloc::{AllocError, Global};
 
-// So many Words are drawn from.
+// The size of the vocabulary.
 const WORDS: u32 = 1000;
 
-// Each has so many bytes.
+// The length of each Word.
 const LENGTH: usize = 8;
 
 /// What there is much of.
@@ -21,11 +21,11 @@ pub enum Filling {
     Words,
     /// Words that are all distinct.
     Distinct,
-    /// Words that are all distinct, but for which a table has one place.
+    /// Distinct Words that all belong into one slot of a hash table.
     Flood,
-    /// Names, with as many abbreviations.
+    /// Names, and as many abbreviations.
     Names,
-    /// Names that are all distinct, but alike in their first and last bytes.
+    /// Distinct names with equal first and last bytes.
     NameFlood,
     /// Parts of one name.
     Parts,
@@ -75,7 +75,7 @@ impl shapes::Shape for Filling {
     }
 }
 
-/// Goes up to a step, and says what there is then.
+/// Runs the steps up to this one, and reports the result.
 pub fn show(rt: &impl Print, alloc: Global, shape: &str, count: u32, step: &str) -> Result<()> {
     let Some(shape) = Filling::of(shape) else {
         bail!("no such shape");
@@ -102,7 +102,7 @@ fn show_store(rt: &impl Print, store: &Store) -> Result<()> {
     Ok(())
 }
 
-// The Words that are drawn from, one behind another.
+// The concatenated Words of the vocabulary.
 fn vocabulary(alloc: Global) -> Result<Vec<u8>, AllocError> {
     let mut all = Vec::new(alloc);
     for number in 0..WORDS {
@@ -112,7 +112,7 @@ fn vocabulary(alloc: Global) -> Result<Vec<u8>, AllocError> {
     Ok(all)
 }
 
-// The Word that is drawn with a number. Numbers that follow one another draw Words far apart.
+// The Word for a number. Consecutive numbers give Words that are far apart.
 fn drawn(vocabulary: &[u8], number: u32) -> &[u8] {
     let begin = (number.wrapping_mul(379) % WORDS) as usize * LENGTH;
     match vocabulary.get(begin..begin + LENGTH) {
@@ -121,7 +121,7 @@ fn drawn(vocabulary: &[u8], number: u32) -> &[u8] {
     }
 }
 
-// The bytes of so many Words that are drawn, added up.
+// The total length of the first `count` Words.
 fn drawn_bytes(vocabulary: &[u8], count: u32) -> u64 {
     let mut sum: u64 = 0;
     for number in 0..count {
@@ -140,7 +140,7 @@ fn push_words(calls: &mut Calls, vocabulary: &[u8], count: u32) -> Result<(), Re
     Ok(())
 }
 
-// The Words differ in their numbers alone. Behind a front a number stands in the middle, where a store's table doesn't look.
+// The Words differ only in a number in their middle, which the hash of a store's table ignores.
 fn push_numbered_words(calls: &mut Calls, front: &str, count: u32) -> Result<(), Refusal> {
     calls.open(PartKind::Unnamed)?;
     for number in 0..count {
@@ -150,7 +150,7 @@ fn push_numbered_words(calls: &mut Calls, front: &str, count: u32) -> Result<(),
     Ok(())
 }
 
-// One half of the abbreviations comes before the names, so that only `finish` can say what they stand for.
+// Half of the abbreviations come before the names, so that only `finish` can resolve them.
 fn add_names(calls: &mut Calls, count: u32) -> Result<(), Refusal> {
     let half = count / 2;
     add_occurrences(calls, 0, half, How::Prefix)?;
@@ -158,7 +158,7 @@ fn add_names(calls: &mut Calls, count: u32) -> Result<(), Refusal> {
     add_occurrences(calls, half, count, How::Prefix)
 }
 
-// The names differ in the middle alone, where neither the table of the latest ones nor the front of a sorted text looks.
+// The names differ only in their middle, which neither the cache of recent names nor the sort key has.
 fn add_colliding_names(calls: &mut Calls, count: u32) -> Result<(), Refusal> {
     for number in 0..count {
         let name = format!(in calls.alloc; "the name{number:08}the name")?;
@@ -183,7 +183,7 @@ fn add_parts(calls: &mut Calls, vocabulary: &[u8], count: u32) -> Result<(), Ref
     Ok(())
 }
 
-// Gives the name with a number, or its abbreviation.
+// Adds the name with a number, or its abbreviation.
 fn occur(calls: &mut Calls, number: u32, how: How) -> Result<NameRef, Refusal> {
     let name = match how {
         How::Full => format!(in calls.alloc; "{number:07} of many names")?,

@@ -15,12 +15,12 @@ use std::rt::{Env, Files};
 
 fn main(rt: HostRuntime) -> ExitCode {
     let read = FilesRead::new(rt.alloc());
-    // made before any other file is opened, so that no output takes the place of a standard stream that is closed
+    // Made before any other file is opened, so that no output gets the descriptor of a closed standard stream.
     let bins = FolderBins::new(rt.alloc(), &rt, &read);
     ExitCode::from(tangle(&rt, &read, bins, rt.stderr()))
 }
 
-/// Runs over the arguments, the environment and the files of the program, and answers its status.
+/// Runs with the arguments, the environment and the files of the program. Returns the exit status.
 fn tangle<R: Env + Files + AllocGlobal, B: Bins + Drop, L: Write + Drop>(
     rt: &R,
     read: &FilesRead,

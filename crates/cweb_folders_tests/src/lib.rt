@@ -1,4 +1,4 @@
-//! The tests of `cweb_tools` on real folders and streams.
+//! The tests of `cweb_tools` and `cweb_system` on real folders and streams.
 #![tactic(auto)]
 
 #[cfg(test)]

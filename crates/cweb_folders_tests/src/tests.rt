@@ -1,4 +1,4 @@
-// Files of real folders, and streams that take and give as much as they like.
+// Files in real folders, and streams that transfer as many bytes as they like.
 mod folder;
 mod puts;
 mod runs;

@@ -1,4 +1,4 @@
--- Texts that come one after another, gathered and written.
+-- Consecutive log output, buffered and written.
 use Rattle.cweb_log.proofs.Common.{◌≡◌, ◌<◌, ◌≤◌, ◌+◌, inl, inr, ℕ, suc, List, [], ◌∷◌, ◌++◌, length, map, take, drop, get_or, refl, sym, ◌∙◌, ap, subst, append_assoc, append-nil, arith, flat_map-append, flat_map-map, take-append-drop, take_all, take-suc, flat_map, IsTrue, Result, Ok, Err, OnOk, OnErr, IsErr, CountsFailure, WritesPrefix, Logs, WritesToStream, IsWrittenOrBuffered, AppendsToLog, LogItem, line, SinkModel}
 
 on_ok : {A E : Type 0} (r : Result A E) (P Q : Type 0) → (P → Q) → OnOk r P → OnOk r Q
@@ -14,7 +14,7 @@ counts_from : {A E : Type 0} (r : Result A E) (before mid after : ℕ)
 counts_from (Ok x) before mid after same counts = counts ∙ same
 counts_from (Err e) before mid after same counts = omega (arith, counts, same)
 
--- nothing more came yet
+-- Nothing was appended yet.
 pub gathers_none : {A E : Type 0} {stream : SinkModel} {held : List ℕ} (x : A)
     → AppendsToLog {A = A} {E = E} [] stream stream held held (Ok x)
 gathers_none {stream} {held} x = record {
@@ -25,7 +25,7 @@ gathers_none {stream} {held} x = record {
   front = λ tells first text begun. tt;
 }
 
--- what came behind that
+-- More was appended.
 pub gathers_on : {A E B F : Type 0}
     (x : A) {r : Result B F} {old more : List ℕ} {before mid after : SinkModel} {held between now : List ℕ}
     → AppendsToLog {A = A} {E = E} old before mid held between (Ok x)
@@ -41,11 +41,11 @@ gathers_on x {r} {old} {more} {before} {mid} {after} {now} came comes = record {
       (comes.front (subst IsTrue (sym came.tells) tells) first (text ++ old) (came.whole tells first text begun));
 }
 
--- a stream holds what it holds
+-- Nothing is pending at first.
 begins : {bytes : List ℕ} → IsWrittenOrBuffered bytes [] bytes []
 begins {bytes} = record { done = []; written_is = sym (append-nil bytes); whole = refl }
 
--- a front of what is pending is written behind what was
+-- A prefix of the pending bytes is written.
 behind : {old mid new text held : List ℕ} → IsWrittenOrBuffered old text mid held
     → WritesPrefix mid new held → WritesPrefix old new text
 behind {old} log_buffer front = record {
@@ -65,7 +65,7 @@ longer rest front = record {
   whole = ap (λ (t : List ℕ). t ++ rest) front.whole ∙ append_assoc front.front front.rest rest;
 }
 
--- a fault in a front of a text is one in the text
+-- A fault in a prefix is a fault in the whole.
 pub gathers_front : {A E B F : Type 0}
     (e : E) (r : Result B F) {text : List ℕ} (rest : List ℕ) {before after : SinkModel} {held now : List ℕ}
     → AppendsToLog {A = A} text before after held now (Err e)
@@ -79,7 +79,7 @@ gathers_front e (Err f) {text} rest {after} fails is = record {
       λ tells first old begun. rw (← (append_assoc old text rest)) (longer rest (fails.front tells first old begun));
 }
 
--- what a list's pieces come to with one more
+-- The concatenation up to one more element.
 pub joined_next : {X : Type 0} (f : X → List ℕ) (xs : List X) (i : ℕ) (d : X) → i < length xs
     → flat_map f (take (i + 1) xs) ≡ flat_map f (take i xs) ++ f (get_or xs i d)
 joined_next f xs i d lt =
@@ -88,12 +88,12 @@ joined_next f xs i d lt =
     ∙ flat_map-append f (take i xs) (get_or xs i d ∷ [])
     ∙ ap (λ (t : List ℕ). flat_map f (take i xs) ++ t) (append-nil (f (get_or xs i d)))
 
--- what a list's pieces come to, by those up to one and those behind
+-- The concatenation is that up to an element, followed by the rest.
 pub joined_split : {X : Type 0} (f : X → List ℕ) (xs : List X) (i : ℕ)
     → flat_map f xs ≡ flat_map f (take i xs) ++ flat_map f (drop i xs)
 joined_split f xs i = ap (flat_map f) (sym (take-append-drop i xs)) ∙ flat_map-append f (take i xs) (drop i xs)
 
--- a piece of a list fails: so does the whole
+-- A fault at an element is a fault of the list.
 pub gathers_failed : {A E B F X : Type 0} (f : X → List ℕ) (xs : List X)
     (i : ℕ) (d : X) (x : A) (e : E) {r : Result B F} {before mid after : SinkModel} {held between now : List ℕ}
     → i < length xs → AppendsToLog {A = A} {E = E} (flat_map f (take i xs)) before mid held between (Ok x)
@@ -103,7 +103,7 @@ gathers_failed f xs i d x e {r} {before} {after} {held} {now} lt came fails is =
     rw (joined_split f xs (i + 1) ∙ ap (λ (t : List ℕ). t ++ flat_map f (drop (i + 1) xs)) (joined_next f xs i d lt))
     (gathers_front e r (flat_map f (drop (i + 1) xs)) (gathers_on x came fails) is)
 
--- one more piece of a list came
+-- One more element was appended.
 pub gathers_next : {A E X : Type 0}
     (f : X → List ℕ) (xs : List X) (i : ℕ) (d : X) (x y : A) {before mid after : SinkModel}
     {held between now : List ℕ}
@@ -113,14 +113,14 @@ pub gathers_next : {A E X : Type 0}
 gathers_next {A = A} {E = E} f xs i d x y {before} {after} {held} {now} lt came comes =
     rw (joined_next f xs i d lt) (gathers_on x came comes)
 
--- all pieces of a list came
+-- All elements were appended.
 pub gathers_all : {A E X : Type 0}
     (f : X → List ℕ) (xs : List X) (i : ℕ) (x : A) {before after : SinkModel} {held now : List ℕ}
     → length xs ≤ i → AppendsToLog {A = A} {E = E} (flat_map f (take i xs)) before after held now (Ok x)
     → AppendsToLog {A = A} {E = E} (flat_map f xs) before after held now (Ok x)
 gathers_all f xs i x le came = rw take_all at came
 
--- nothing was gathered before, and what is gathered is written at last
+-- Nothing was buffered before, and the buffer is flushed at the end.
 pub writes_all : {A E B F : Type 0}
     (x : A) {r : Result B F} {text : List ℕ} {before mid after : SinkModel} {held : List ℕ}
     → AppendsToLog {A = A} {E = E} text before mid [] held (Ok x) → WritesToStream held mid after r
@@ -139,7 +139,7 @@ writes_all x {r} {text} {before} {mid} {after} {held} came writes =
           (writes.front (tells_mid tells));
     }
 
--- nothing was gathered before, and a part of the text fails
+-- Nothing was buffered before, and a part fails.
 pub writes_front : {A E B F : Type 0} (e : E) (r : Result B F) {text : List ℕ} {before after : SinkModel}
     {held : List ℕ} → AppendsToLog {A = A} text before after [] held (Err e) → IsErr r
     → WritesToStream text before after r
@@ -151,13 +151,13 @@ writes_front e (Err f) {before} fails is = record {
   front = λ tells. fails.front tells before.bytes [] (begins);
 }
 
--- the lines of a list of items
+-- The lines of a list of items.
 pub writes_items : {A E X : Type 0} (f : X → LogItem) (xs : List X) {before after : SinkModel} {r : Result A E}
     → WritesToStream (flat_map (λ (x : X). line (f x)) xs) before after r
     → WritesToStream (flat_map line (map f xs)) before after r
 writes_items f xs {before} {after} {r} writes = rw (flat_map-map line f xs) writes
 
--- what writing a text left is what logging it leaves
+-- Writing and logging have the same effect.
 pub logs_by : {A E : Type 0} (r : Result A E) {text : List ℕ} {before after : SinkModel}
     → WritesToStream text before after r → Logs text before after
 logs_by (Ok x) {text} writes = record {

@@ -1,4 +1,4 @@
--- The names that the proofs of this crate cite, passed on from one place. Declares nothing.
+-- Imports that the proofs of this crate share.
 pub use Rattle.std.proofs.Common.{◌≡◌, ◌↔◌, List, ℕ, Option, None, Some, Result, Ok, Err, Bor, false, refl, sym, ◌∙◌}
 pub use Rattle.std.proofs.Common.{ap, arith, ◌<◌, ◌≤◌, [], ◌∷◌, length, map, ◌+◌, inl, inr, suc, ◌++◌, take, drop}
 pub use Rattle.std.proofs.Common.{get_or, subst, append_assoc, append-nil, ◌≢◌, ◌-◌, true, not, eq-eqb, rules, decimal}

@@ -1,4 +1,4 @@
--- What a command line of `ctangle` asks for, by its option words and by those that name files.
+-- The parsed command line of `ctangle`, from its option words and its file words.
 use Rattle.cweb_log.proofs.Common.{◌≡◌, ◌↔◌, List, ℕ, Option, None, Some, Result, Ok, Err, Bor, false, refl, sym, ◌∙◌, ap, arith, option_copied, IfOk, IsErrOf, is_some, option_and_then, option_map, slice_get, Stop, Usage, OptionsModel, TangleNames, named_by, names_by, options_by, options_of, other_words, shown_by_default, words_shown, Options, Shown}
 use Rattle.cweb_log.proofs.Stems.{names_at}
 

@@ -1,7 +1,7 @@
--- Where the last byte of a kind stands in a path, and which words name files.
+-- The last byte of a kind in a path, and words that name files.
 use Rattle.cweb_log.proofs.Common.{◌≡◌, ◌≢◌, ◌<◌, ◌+◌, ◌-◌, ℕ, suc, true, false, not, List, [], ◌∷◌, length, take, drop, get_or, None, Some, refl, sym, ◌∙◌, ap, eq-eqb, arith, ne_eqb, list_any_at, suffix_len_is, after_last, before_last, list_any, suffix_len, slice_get, ◌==◌, if◌then◌else◌, named_by, names_by, stem, is_dot, is_slash, same_Some}
 
--- so many bytes stand behind the last one of a kind
+-- The number of bytes after the last one of a kind.
 behind : (c : ℕ) (bs : List ℕ) (k : ℕ) → k < length bs → get_or bs k 0 ≡ c
     → ((i : ℕ) → k < i → i < length bs → get_or bs i 0 ≢ c) → suffix_len (λ b. not (b == c)) bs ≡ length bs - (k + 1)
 behind c bs k within is none =

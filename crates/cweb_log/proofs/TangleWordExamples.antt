@@ -1,4 +1,4 @@
--- Command lines of `ctangle` and what they ask for.
+-- Worked examples: command lines of `ctangle`.
 use Rattle.cweb_log.proofs.Common.{◌≡◌, true, false, List, ℕ, [], ◌∷◌, None, Some, codes, TangleNames, names_by, options_by, words_shown, shown_by_default}
 
 abbrev names : List ℕ → List ℕ → List ℕ → TangleNames
@@ -23,7 +23,6 @@ record Computed : Type 0 where
         shown = record { banner = false; progress = false; closing = false; statistics = true };
         names = names (codes "a.w") (codes "a.web") (codes "a.c");
       })
-  -- later letters win
   later_letters : words_shown (codes "-b" ∷ codes "x" ∷ codes "+b" ∷ []) shown_by_default ≡ Some shown_by_default
 
 computed : Computed

@@ -1,11 +1,11 @@
--- The lines of the log for what is wrong with a web, computed.
+-- Worked examples: log lines for the faults of a web.
 use Rattle.cweb_log.proofs.Common.{◌≡◌, true, false, List, ℕ, [], ◌∷◌, ◌++◌, codes, Some, None, flat_map, Stored, Occurrence, id, Part, Name, NameRef, PartKind, Full, Prefix, Unnamed, Named, ScanFault, ScanKind, DoubleAtInLimbo, ImproperHexNumber, ReplacementTooLong, LetterOutsideLimbo, NameDidNotEnd, NamesDoNotNest, CommentDidNotEnd, StringDidNotEnd, DoubleAtInString, ControlTextDidNotEnd, FaultyConstant, IgnoredInCText, MissingAt, DefsInMacro, DefinitionDropped, bad_name, same_name, cycle, cycle_from, first_endless, program, line, name_items, refusal_message, scan_items}
 use Rattle.std.specs.Fmt.{digits}
 
 abbrev met : ScanKind → ℕ → ScanFault
 met kind number = record { kind = kind; place = record { file = record { 0 = 0 }; line = number } }
 
--- one of each kind
+-- One of each kind.
 abbrev faults : List ScanFault
 faults = met DoubleAtInLimbo 1 ∷ met
     ImproperHexNumber 2 ∷ met ReplacementTooLong 3 ∷ met LetterOutsideLimbo 4 ∷ met NameDidNotEnd 5 ∷ met NamesDoNotNest
@@ -21,7 +21,7 @@ short text = record { text = text; how = Prefix; is_file = false }
 abbrev file : List ℕ → Occurrence
 file text = record { text = text; how = Full; is_file = true }
 
--- an abbreviation of two names, one of none, a name that is a prefix of another, and a file's name without a part
+-- An ambiguous abbreviation, one without a match, a prefix of another name, and a file's name without a part.
 abbrev faulty : Stored
 faulty =
     record {
@@ -37,7 +37,7 @@ use_of n = record { 0 = n }
 abbrev part : PartKind → ℕ → Part
 part kind n = record { kind = kind; tokens = Name (use_of n) ∷ [] }
 
--- the program uses a name, which uses another one, which uses the first
+-- The program uses a name, and two names use each other.
 abbrev endless : Stored
 endless = record {
   occurrences = full (codes "A") ∷ full (codes "A") ∷ full (codes "B") ∷ full (codes "B") ∷ full (codes "A") ∷ [];
@@ -45,7 +45,7 @@ endless = record {
   replacements = [];
 }
 
--- a file's name that is the main file's, and outputs whose names no file can have
+-- A file's name that equals the main output's, and names that no file can have.
 abbrev one_file : Stored
 one_file =
     record {

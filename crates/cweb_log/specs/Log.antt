@@ -1,4 +1,4 @@
--- The lines of the log.
+-- The lines of the log that both programs write.
 use Rattle.std.specs.Prelude.{ℕ, List, [], ◌++◌, codes, slice_index_or}
 use Rattle.cweb_input.specs.declared.fault.SourceKind.{SourceKind}
 use Rattle.cweb_input.specs.declared.fault.SourceKind.TheVariants.{NoName, TooDeep, NotThere, MissingX, NoOldLines}
@@ -9,10 +9,11 @@ use Rattle.cweb_input.specs.declared.stop.Stop.TheVariants.{Usage, WebNotOpened,
 use Rattle.cweb_input.specs.declared.stop.Stop.TheVariants.{LineTooLong}
 use Rattle.cweb_input.specs.declared.stop.Stop.TheVariants.{TooMuchText, Memory, OutNotOpened, WriteFault, LogFault}
 
--- the name of a file by its number
+-- The name of a file by its index.
 abbrev pub file_name_at : List (List ℕ) → ℕ → List ℕ
 file_name_at names file = slice_index_or names file []
 
+-- The message of a fault of a web or change file.
 abbrev pub kind_message : SourceKind → List ℕ
 kind_message NoName = codes "Include file name not given"
 kind_message TooDeep = codes "Too many nested includes"
@@ -31,11 +32,11 @@ kind_message NoMatch = codes "Change entry did not match"
 abbrev pub located_line : List ℕ → List ℕ → List ℕ → List ℕ
 located_line file line text = file ++ (codes ":" ++ (line ++ (codes ": ! " ++ text)))
 
--- ! TEXT, which ends in a name where the text is about one
+-- ! MESSAGE, followed by a name if the message is about one.
 abbrev pub message_line : List ℕ → List ℕ → List ℕ
 message_line text name = codes "! " ++ (text ++ (name ++ codes "\n"))
 
--- the line of a stop that is about this name; a log that failed is told nothing
+-- The line of a stop that is about this name. A log that failed gets no line.
 abbrev pub stop_line : Stop → List ℕ → List ℕ
 stop_line Usage name = message_line (codes "Usage: ") name
 stop_line WebNotOpened name = message_line (codes "Cannot open web file ") name

@@ -1,4 +1,4 @@
--- The items of the log for what is wrong with a web: with its text, with its names, with its outputs.
+-- The items of the log for faults of a web: of its source, its names and its outputs.
 use Rattle.std.specs.Prelude.{ℕ, List, [], ◌++◌, codes, map, slice_index_or}
 use Rattle.std.specs.List.{flat_map}
 use Rattle.cweb_names.specs.Names.{Occurrence}
@@ -20,6 +20,7 @@ use Rattle.cweb_out.specs.Outputs.{Refusal, bad_name, same_name, cycle, output_n
 use Rattle.cweb_log.specs.Items.{LogItem, fault, located}
 use Rattle.cweb_log.specs.Log.{file_name_at}
 
+-- The message of a scan fault.
 abbrev pub scan_message : ScanKind → List ℕ
 scan_message DoubleAtInLimbo = codes "Double @ in limbo"
 scan_message ImproperHexNumber = codes "Improper hex number after @l"
@@ -37,36 +38,38 @@ scan_message MissingAt = codes "Missing @ before a named section"
 scan_message DefsInMacro = codes "@h is ignored in a macro"
 scan_message DefinitionDropped = codes "Definition dropped, no identifier"
 
--- a fault of a web's text, by the names of the files that were opened
+-- A scan fault, with the names of the opened files.
 abbrev pub scan_item : List (List ℕ) → ScanFault → LogItem
 scan_item files met = located (file_name_at files met.place.file.0) met.place.line (scan_message met.kind)
 
+-- The scan faults, in order.
 abbrev pub scan_items : List (List ℕ) → List ScanFault → List LogItem
 scan_items files faults = map (scan_item files) faults
 
--- a name stands between angle brackets, an abbreviation with its three dots
+-- A name is printed between angle brackets, an abbreviation with its three dots.
 abbrev pub name_message : NameKind → List ℕ → List ℕ
 name_message Ambiguous prefix = codes "Ambiguous prefix: <" ++ (prefix ++ codes "...>")
 name_message NeverFull prefix = codes "Never given in full: <" ++ (prefix ++ codes "...>")
 name_message PrefixOfAnother name = codes "Name is a prefix of another: <" ++ (name ++ codes ">")
 name_message NotPresent name = codes "Not present: <" ++ (name ++ codes ">")
 
--- the text with which an occurrence gave its name
+-- The bytes of an occurrence.
 abbrev pub occurrence_spelling : List Occurrence → ℕ → List ℕ
 occurrence_spelling occurrences number = slice_index_or (map (λ o. o.text) occurrences) number []
 
+-- A fault of a name.
 abbrev pub name_item : List Occurrence → NameFault → LogItem
 name_item occurrences met = fault (name_message met.kind (occurrence_spelling occurrences met.occurrence.0))
 
--- the faults of a web's names, in their order
+-- The faults of a web's names, in order.
 abbrev pub name_items : Stored → List LogItem
 name_items web = map (name_item web.occurrences) (store.faults web.occurrences web.parts)
 
--- a name of a cycle, behind the one that uses it
+-- A name of a cycle, after the one that uses it.
 abbrev pub cycle_step : Stored → NameId → List ℕ
 cycle_step web name = codes " <" ++ (outputs.name_spelling web name ++ codes ">")
 
--- why nothing is written, where the main file has this name
+-- Why nothing is written, for a main output of this name.
 abbrev pub refusal_message : Stored → List ℕ → Refusal → List ℕ
 refusal_message web main (cycle names) = codes "Cycle:" ++ flat_map (cycle_step web) names
 refusal_message web main (same_name name) =

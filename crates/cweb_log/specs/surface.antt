@@ -1,2 +1,2 @@
--- What public calls promise beside the headline.
+-- Definitions that public calls cite and the headline does not.
 pub mod Options

@@ -1,4 +1,4 @@
-// The lines of the log for the faults of webs and change files.
+// Log lines for the faults of webs and change files.
 ghost use Rattle.std.specs.Prelude.{◌≡◌, ◌<◌, ◌+◌, ◌^◌, ◌++◌, codes, length, All};
 ghost use Rattle.cweb_input.specs.surface.OpenedFileNames.{opened_file_names};
 ghost use Rattle.cweb_log.specs.inner.LogBuffer.{unwritten_bytes};
@@ -11,8 +11,7 @@ use crate::log_buffer::LogBuffer;
 use cweb_lines::{FileNames, Sink, SinkFault, SourceFault, SourceKind};
 use itoa::Buffer;
 
-/// Writes the lines of faults to the log in their order, each with the name of its file and its line number. They are
-/// gathered and written in large pieces, and take no memory.
+/// Writes the lines of faults in order, each with its file's name and line number. Buffers them, without allocation.
 #[inline(never)]
 pub fn write_faults<L: Sink>(
     log: &mut L,
@@ -63,7 +62,7 @@ fn add_fault<L: Sink>(
     add_located(log_buffer, log, file, line, text, "", "")
 }
 
-/// Adds a line on a place, which ends in a number where the fault has one.
+/// Appends a line with a place. It ends in a number if the fault has one.
 pub(crate) fn add_located<L: Sink>(
     log_buffer: &mut LogBuffer,
     log: &mut L,

@@ -1,4 +1,4 @@
-// The lines of the log of `ctangle` beside those of faults and stops. None of them takes memory.
+// Log lines of `ctangle` other than those of faults and stops. No function here allocates.
 ghost use Rattle.std.specs.Prelude.{◌≡◌, ◌<◌, ◌+◌, ◌^◌, ◌++◌, codes, decimal};
 ghost use Rattle.std.specs.List.{flat_map};
 ghost use Rattle.cweb_log.specs.inner.LogBuffer.{unwritten_bytes};
@@ -11,7 +11,7 @@ use crate::log_buffer::{LogBuffer, say};
 use cweb_lines::{Sink, SinkFault};
 use itoa::Buffer;
 
-/// Writes the banner.
+/// Writes the banner: the name and version of the program.
 pub fn write_banner<L: Sink>(log: &mut L) -> Result<(), SinkFault>
     requires { L.failed log.old + 1 < 2 ^ 64 }
     ensures { WritesToStream (line banner)
@@ -20,7 +20,7 @@ pub fn write_banner<L: Sink>(log: &mut L) -> Result<(), SinkFault>
     say(log, &[b"This is CTANGLE, profile of CWEB 3\n"])
 }
 
-/// Writes a star and the number of each section, on one line.
+/// Writes a star and the number of each section on one line.
 #[inline(never)]
 pub fn write_starred<L: Sink>(log: &mut L, numbers: &[u32]) -> Result<(), SinkFault>
     requires { L.failed log.old + 1 < 2 ^ 64 }
@@ -69,7 +69,7 @@ pub fn write_no_program<L: Sink>(log: &mut L) -> Result<(), SinkFault>
     say(log, &[b"! No program text\n"])
 }
 
-/// Writes that an output of this name is begun.
+/// Writes that an output is begun.
 pub fn write_writing<L: Sink>(log: &mut L, name: &str) -> Result<(), SinkFault>
     requires { L.failed log.old + 1 < 2 ^ 64 }
     ensures { WritesToStream (line (writing name.now))
@@ -78,7 +78,7 @@ pub fn write_writing<L: Sink>(log: &mut L, name: &str) -> Result<(), SinkFault>
     say(log, &[b"Writing ", name.as_bytes(), b"\n"])
 }
 
-/// Writes how many sections, names and macros a web has.
+/// Writes the numbers of sections, names and macros of a web.
 pub fn write_counts<L: Sink>(
     log: &mut L,
     sections: u32,
@@ -106,7 +106,7 @@ pub fn write_counts<L: Sink>(
     )
 }
 
-/// Writes the closing line, by the number of faults and whether there is no program text, which is a warning.
+/// Writes the closing line, from the number of faults. Missing program text is a warning.
 pub fn write_closing<L: Sink>(log: &mut L, count: u128, missing: bool) -> Result<(), SinkFault>
     requires { L.failed log.old + 1 < 2 ^ 64 }
     ensures { WritesToStream (line (closing count missing))

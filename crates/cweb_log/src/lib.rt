@@ -1,15 +1,15 @@
-//! What the command lines of the programs ask for, and the lines of their logs.
+//! The command lines of the programs, and the lines of their logs.
 #![tactic(auto)]
 
-// what words ask for
+// command lines
 mod options;
 mod shown;
 mod words;
 
-// lines of the log, gathered without memory
+// log lines, buffered without allocation
 mod log_buffer;
 
-// the lines of a run, of faults, and of what stopped it
+// the lines of runs, faults and stops
 mod faults;
 mod items;
 mod stops;

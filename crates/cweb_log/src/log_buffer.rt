@@ -1,4 +1,4 @@
-// Texts that are gathered in a small array and written in large pieces. They take no memory.
+// A log buffer in a small array. No function here allocates.
 ghost use Rattle.std.specs.Prelude.{◌≡◌, ◌≤◌, ◌<◌, ◌+◌, ◌^◌, ◌++◌, [], length, OnOk};
 ghost use Rattle.cweb_log.specs.inner.LogWriting.{WritesToStream, AppendsToLog, joined_line};
 ghost use Rattle.cweb_log.specs.declared.log_buffer.TheConstants.{ROOM};
@@ -6,10 +6,10 @@ ghost use Rattle.cweb_log.specs.DeviceModels.{sink_model};
 
 use cweb_lines::{Sink, SinkFault, write_all};
 
-/// The bytes that are gathered before they are written.
+/// The size of the buffer.
 const ROOM: usize = 4096;
 
-/// The bytes of a text that are not written yet.
+/// Log bytes that aren't written yet.
 #[derive(Drop)]
 pub(crate) struct LogBuffer {
     bytes: [u8; ROOM],
@@ -29,7 +29,7 @@ impl LogBuffer {
         }
     }
 
-    /// Adds the parts of a line one after another.
+    /// Appends the parts of a line.
     pub(crate) fn add_line<L: Sink>(
         &mut self,
         log: &mut L,
@@ -46,8 +46,7 @@ impl LogBuffer {
         Ok(())
     }
 
-    /// Adds a part. What was gathered is written where there is no room for the part, and so is a part that is longer than
-    /// the array.
+    /// Appends a part. If it doesn't fit, flushes the buffer first. A part longer than the array is written at once.
     pub(crate) fn add<L: Sink>(&mut self, log: &mut L, part: &[u8]) -> Result<(), SinkFault>
         requires { L.failed log.old + 1 < 2 ^ 64 }
         ensures { AppendsToLog part.now
@@ -64,7 +63,7 @@ impl LogBuffer {
         Ok(())
     }
 
-    /// Keeps a part for which there is room.
+    /// Stores a part that fits.
     fn keep(&mut self, part: &[u8])
         requires { self.old.len + length part.now ≤ ROOM }
         ensures { unwritten_bytes self.new ≡ unwritten_bytes self.old ++ part.now }
@@ -74,7 +73,7 @@ impl LogBuffer {
         self.len = end;
     }
 
-    /// Writes what was gathered.
+    /// Flushes the buffer.
     pub(crate) fn pass_on<L: Sink>(&mut self, log: &mut L) -> Result<(), SinkFault>
         requires { L.failed log.old + 1 < 2 ^ 64 }
         ensures writes { WritesToStream (unwritten_bytes self.old)
@@ -87,7 +86,7 @@ impl LogBuffer {
     }
 }
 
-/// Writes a line that is these parts, in one piece where it is not very long.
+/// Writes a line that consists of these parts. A line that fits the buffer takes one write.
 #[inline(never)]
 pub(crate) fn say<L: Sink>(log: &mut L, parts: &[&[u8]]) -> Result<(), SinkFault>
     requires { L.failed log.old + 1 < 2 ^ 64 }

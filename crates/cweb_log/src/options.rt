@@ -11,8 +11,8 @@ use crate::words::{MergeWords, can_name_file, extended, is_option, with_extensio
 use cweb_lines::Stop;
 use std::alloc::{AllocError, Global};
 
-/// What a command line of `ctangle` asks for: what the log shows beside faults, the name of the web, the name under which
-/// the web is sought where it is not there under the first, and those of the change file and the main output.
+/// The command line of `ctangle`: what the log has beside faults, and the names of the web, the change file and the
+/// main output. `second` is the name that is tried if there is no web of the first name.
 #[derive(Debug)]
 pub struct Options {
     pub banner: bool,
@@ -25,7 +25,7 @@ pub struct Options {
     pub main: String,
 }
 
-// It is let go by one call wherever it is held, not part by part.
+// One call frees it, not one per field.
 impl Drop for Options {
     fn drop(self) {
         let Options {
@@ -44,7 +44,7 @@ impl Drop for Options {
 impl Options {
     ghost use Rattle.cweb_log.specs.surface.Options.{options_of};
 
-    /// Reads the words, without the program's own name. They are judged before memory is taken.
+    /// Parses the arguments, without the program's own name. They are checked before anything is allocated.
     pub fn read(alloc: Global, words: &[&str]) -> Result<Options, Stop>
         ensures ok { IfOk result (λ read. options_by (map (λ word. word.now) words.now) ≡
             Some (options_of read)) }
@@ -70,21 +70,21 @@ impl Options {
         )
     }
 
-    /// The second name of the web, where there is one.
+    /// The second name of the web, if any.
     pub fn second(&self) -> Option<&str>
         ensures { option_copied result ≡ (options_of self.now).names.merge.second }
     {
         self.second.as_ref().map(|name| name.as_str())
     }
 
-    /// The name of the change file, where one is named.
+    /// The name of the change file, if any.
     pub fn change(&self) -> Option<&str>
         ensures { option_copied result ≡ (options_of self.now).names.merge.change }
     {
         self.change.as_ref().map(|name| name.as_str())
     }
 
-    /// What the log shows beside faults.
+    /// What the log has beside faults.
     pub fn shown(&self) -> Shown
         ensures { result ≡ (options_of self.now).shown }
     {
@@ -96,7 +96,7 @@ impl Options {
         }
     }
 
-    /// The options by the words for the web, the change file and the main output, which are judged here.
+    /// Checks the words for the web, the change file and the main output, and makes the options of them.
     fn named(
         alloc: Global,
         shown: Shown,
@@ -130,7 +130,7 @@ impl Options {
     }
 }
 
-/// The word of this number, counted from 0, among those that are no option words.
+/// The word at an index among those that are no option words.
 fn other_word<'a>(words: &[&'a str], number: usize) -> Option<&'a str>
     ensures { option_copied result
         ≡ slice_get (other_words (map (λ word. word.now) words.now)) number }
@@ -147,7 +147,7 @@ fn other_word<'a>(words: &[&'a str], number: usize) -> Option<&'a str>
     None
 }
 
-/// The main output's name, by its own word, which can name a file, or else by the web's.
+/// The main output's name: its own word, which must be able to name a file, or a name made from the web's.
 fn main_name(alloc: Global, web: &str, out: Option<&str>) -> Result<String, AllocError>
     requires { main_by web.now (option_copied out) ≢ None }
     ensures { IfOk result (λ name. main_by web.now (option_copied out.entry) ≡
@@ -159,7 +159,7 @@ fn main_name(alloc: Global, web: &str, out: Option<&str>) -> Result<String, Allo
     }
 }
 
-/// A path's last part, before its last dot where it has one.
+/// The last part of a path, without its extension: what follows its last dot, and the dot.
 fn stem(word: &str) -> &str
     ensures { result.now ≡ stem word.now }
 {
@@ -170,7 +170,7 @@ fn stem(word: &str) -> &str
     }
 }
 
-/// What stands behind a path's last slash.
+/// The bytes after the last slash.
 fn last_part(word: &str) -> &str
     ensures { result.now ≡ after_last is_slash word.now }
 {

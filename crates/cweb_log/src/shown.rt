@@ -5,7 +5,7 @@ ghost use Rattle.cweb_log.specs.Words.{is_option};
 
 use crate::words::is_option;
 
-/// What a run of `ctangle` shows in its log beside faults.
+/// What the log of a run of `ctangle` has beside faults.
 #[derive(Clone, Copy, Debug)]
 pub struct Shown {
     pub banner: bool,
@@ -18,8 +18,8 @@ impl Shown {
     ghost use Rattle.cweb_log.specs.Options.{letter_shown, letters_shown, shown_by_default};
     ghost use Rattle.cweb_log.specs.Options.{word_shown, words_shown};
 
-    /// What the option words among these words ask for: words of two bytes or more that begin with `-` or `+`, wherever
-    /// they stand. None where one of them has a byte that is no letter.
+    /// Parses the option words among these words: words of at least two bytes that begin with `-` or `+`, anywhere.
+    /// `None` if one of them has a byte that is no letter.
     pub fn read(words: &[&str]) -> Option<Shown>
         ensures { result ≡ words_shown (map (λ word. word.now) words.now) shown_by_default }
     {

@@ -1,4 +1,4 @@
-// The line of the log for what stopped a run.
+// The log line for what stopped a run.
 ghost use Rattle.std.specs.Prelude.{◌≡◌, ◌<◌, ◌+◌, ◌^◌};
 ghost use Rattle.cweb_log.specs.LogWriting.{Logs};
 ghost use Rattle.cweb_log.specs.inner.LogWriting.{WritesToStream};
@@ -8,7 +8,7 @@ ghost use Rattle.cweb_log.specs.DeviceModels.{sink_model};
 use crate::log_buffer::say;
 use cweb_lines::{Sink, SinkFault, Stop};
 
-/// Writes the line of a stop, which ends in a name, to the log. It takes no memory.
+/// Writes the line of a stop, which ends in a name. Allocates nothing.
 pub fn write_stop<L: Sink>(log: &mut L, stop: Stop, name: &str) -> Result<(), SinkFault>
     requires { L.failed log.old + 1 < 2 ^ 64 }
     ensures { WritesToStream (stop_line stop name.now)
@@ -28,7 +28,7 @@ pub fn write_stop<L: Sink>(log: &mut L, stop: Stop, name: &str) -> Result<(), Si
     }
 }
 
-/// Writes the line of what stopped a run to the log, and answers the status of such a run.
+/// Writes the line of a stop, and returns the exit status of such a run.
 pub fn log_stop<L: Sink>(log: &mut L, stop: Stop, name: &str) -> u8
     requires { L.failed log.old + 1 < 2 ^ 64 }
     ensures status { result ≡ 1 }

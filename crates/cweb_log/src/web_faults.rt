@@ -1,5 +1,4 @@
-// The lines of the log for what is wrong with a web: with its text, with its names, with its outputs. None of them takes
-// memory.
+// Log lines for the faults of a web: of its source, its names and its outputs. No function here allocates.
 ghost use Rattle.std.specs.Prelude.{◌≡◌, ◌<◌, ◌+◌, ◌^◌, ◌++◌, codes, length, map, All};
 ghost use Rattle.std.specs.List.{flat_map};
 ghost use Rattle.cweb_input.specs.surface.OpenedFileNames.{opened_file_names};
@@ -20,7 +19,7 @@ use cweb_rules::{ScanFault, ScanKind};
 use cweb_store::{NameFault, NameId, NameKind, Store};
 use itoa::Buffer;
 
-/// Writes the lines of the faults of a web's text in their order, each with the name of its file and its line number.
+/// Writes the lines of scan faults in order, each with the name of its file and its line number.
 #[inline(never)]
 pub fn write_scan_faults<L: Sink>(
     log: &mut L,
@@ -88,7 +87,7 @@ fn scan_message(kind: ScanKind) -> &'static str
     }
 }
 
-/// Writes the lines of the faults of a web's names in their order.
+/// Writes the lines of the faults of a web's names in order.
 #[inline(never)]
 pub fn write_name_faults<L: Sink>(log: &mut L, store: &Store) -> Result<(), SinkFault>
     requires { L.failed log.old + 1 < 2 ^ 64 }
@@ -130,7 +129,7 @@ fn add_name_fault<L: Sink>(
     }
 }
 
-/// Adds the line of a fault that ends in a name.
+/// Appends the line of a fault that ends in a name.
 fn add_named<L: Sink>(
     log_buffer: &mut LogBuffer,
     log: &mut L,
@@ -146,8 +145,7 @@ fn add_named<L: Sink>(
     log_buffer.add_line(log, &[b"! ", text.as_bytes(), name, end.as_bytes(), b"\n"])
 }
 
-/// Writes the line of the fault for which there is no plan of a web's outputs; want of memory has a line too, that of the
-/// stop.
+/// Writes the line of the fault for which there is no plan. `Memory` has the line of the stop.
 pub fn write_plan_fault<L: Sink>(
     log: &mut L,
     store: &Store,
@@ -227,7 +225,7 @@ fn add_step<L: Sink>(
     log_buffer.add_line(log, &[b" <", name_bytes(store, name), b">"])
 }
 
-/// The text of a name; none where the store has no such name.
+/// The bytes of a name, or none if the store has no such name.
 fn name_bytes(store: &Store, name: NameId) -> &[u8]
     ensures { result.now ≡ name_spelling store.now name }
 {
@@ -237,7 +235,6 @@ fn name_bytes(store: &Store, name: NameId) -> &[u8]
     &[]
 }
 
-/// The name of an output.
 fn output_name_bytes<'a>(store: &'a Store, main: &'a str, output: Option<NameId>) -> &'a [u8]
     ensures { result.now ≡ output_name store.now main.now output }
 {

@@ -1,4 +1,4 @@
-// The words of a command line of `wmerge`.
+// The command line of `wmerge`.
 ghost use Rattle.std.specs.Prelude.{◌≡◌, ◌↔◌, ◌⊎◌, ◌++◌, Some, None, map, codes, string_bytes};
 ghost use Rattle.std.specs.Prelude.{option_map, IfOk, IfErr, IsErrOf};
 ghost use Rattle.std.specs.Option.{option_copied};
@@ -10,8 +10,7 @@ ghost use Rattle.cweb_log.specs.Words.{has_extension, extended, second_try};
 use cweb_lines::Stop;
 use std::alloc::{AllocError, Global};
 
-/// The names that a command line of `wmerge` gives: the web's, the one under which the web is sought where it is not
-/// there under the first, and the change file's.
+/// The file names of a command line of `wmerge`. `second` is tried if there is no file of the web's name.
 #[derive(Debug, Drop)]
 pub struct MergeWords {
     pub web: String,
@@ -23,7 +22,7 @@ impl MergeWords {
     ghost use Rattle.cweb_log.specs.Options.{merge_by};
     ghost use Rattle.cweb_log.specs.inner.Words.{merge_word_names};
 
-    /// Reads the words, without the program's own name. They are judged before memory is taken.
+    /// Parses the arguments, without the program's own name. They are checked before anything is allocated.
     pub fn read(alloc: Global, words: &[&str]) -> Result<MergeWords, Stop>
         ensures ok { IfOk result (λ read. web_names_by (map (λ word. word.now) words.now) ≡
             Some (merge_word_names read)) }
@@ -38,7 +37,7 @@ impl MergeWords {
         }
     }
 
-    /// The names by the web's word and the change file's, which are judged here.
+    /// Checks the words for the web and the change file, and makes names of them.
     pub(crate) fn by(alloc: Global, web: &str, change: Option<&str>) -> Result<MergeWords, Stop>
         ensures ok { IfOk result (λ read. merge_by web.now (option_copied change.entry) ≡
             Some (merge_word_names read)) }
@@ -52,7 +51,7 @@ impl MergeWords {
         }
     }
 
-    /// The names by two words. A lone `-` in the second place stands for no change file.
+    /// The names from two words. A lone `-` as the second word means no change file.
     fn with_change(alloc: Global, web: &str, change: &str) -> Result<MergeWords, Stop>
         ensures ok { IfOk result (λ read. web_names_with web.now change.now
             ≡ Some (merge_word_names read)) }
@@ -68,7 +67,7 @@ impl MergeWords {
         MergeWords::named(alloc, web, Some(change))
     }
 
-    /// The names by the web's word, which is judged here, and the change file's.
+    /// The names from the web's word, which is checked here, and the change file's.
     fn named(alloc: Global, web: &str, change: Option<&str>) -> Result<MergeWords, Stop>
         ensures ok { IfOk result (λ read. web_names_for web.now (option_copied change.entry) ≡
             Some (merge_word_names read)) }
@@ -89,14 +88,14 @@ impl MergeWords {
         })
     }
 
-    /// The second name of the web, where there is one.
+    /// The second name of the web, if any.
     pub fn second(&self) -> Option<&str>
         ensures { option_copied result ≡ (merge_word_names self.now).second }
     {
         self.second.as_ref().map(|name| name.as_str())
     }
 
-    /// The name of the change file, where one is named.
+    /// The name of the change file, if any.
     pub fn change(&self) -> Option<&str>
         ensures { option_copied result ≡ (merge_word_names self.now).change }
     {
@@ -123,7 +122,7 @@ fn is_control(byte: u8) -> bool
     byte < 32 || byte == 127
 }
 
-/// A lone `-`, which stands for no change file.
+/// Whether the word is a lone `-`, which means no change file.
 fn is_dash(word: &[u8]) -> bool
     ensures { result ≡ is_dash word.now }
 {
@@ -133,7 +132,7 @@ fn is_dash(word: &[u8]) -> bool
     }
 }
 
-/// A word of two bytes or more that begins as an option does.
+/// Whether the word has at least two bytes and begins with `-` or `+`.
 pub(crate) fn is_option(word: &[u8]) -> bool
     ensures { result ≡ is_option word.now }
 {
@@ -177,7 +176,7 @@ fn second_try(alloc: Global, word: &str) -> Result<Option<String>, AllocError>
     Ok(Some(with_extension(alloc, word, ".web")?))
 }
 
-/// The name that a word gives: the word itself where it has an extension, else with this one.
+/// The file name of a word: the word itself if it has an extension, else with this one.
 pub(crate) fn extended(alloc: Global, word: &str, extension: &str) -> Result<String, AllocError>
     ensures { IfOk result (λ name. string_bytes name ≡ extended word.now extension.now) }
 {

@@ -1,4 +1,4 @@
--- Names that use one another in a circle have no rank.
+-- Names on a cycle have no rank.
 use Rattle.cweb_out.proofs.Common.{◌≡◌, ℕ, zero, suc, Bool, true, false, not, cond, ◌&&◌, List, [], ◌∷◌, ◌++◌, refl, sym, ◌∙◌, ap, inl, inr, subst, Option, Some, option_to_list, find, list_all, list_any, NameId, is_id, Token, Stored, joined, uses, ends_below, has_rank, first_endless, suffix, Frame, and_parts, or_cases, or_left, or_right}
 use Rattle.std.specs.Prelude.{◌⊎◌}
 use Rattle.cweb_out.specs.declared.outputs.search.Waiting.{Waiting}
@@ -6,7 +6,7 @@ use Rattle.cweb_out.specs.inner.Search.{Chain, IsScanned, path_next, path_of}
 use Rattle.cweb_out.proofs.Ranks.{id-same}
 use Rattle.cweb_out.proofs.Paths.{is-same}
 
--- each name of a path uses one of the path, where the last one uses the first again
+-- Each name of a path uses one of the path. The last one uses the first.
 abbrev UsesOne : Stored → List NameId → NameId → Type 0
 UsesOne w path n = (m : NameId) × (before : List NameId) ×
     (rest : List NameId) × (uses w (joined w n) ≡ before ++ (m ∷ rest)) × (list_any (is_id m) path ≡ true)
@@ -47,14 +47,13 @@ chain-uses w whole (f ∷ path) again n c a sub h =
       | inr e ↦ chain-uses w whole path again n c.1 a later e
     ]
 
--- a use without a rank below k
+-- A use without a rank below k.
 all-fails : (p : NameId → Bool) (before rest : List NameId) (m : NameId)
     → p m ≡ false → list_all p (before ++ (m ∷ rest)) ≡ false
 all-fails p [] rest m h = ap (λ b. b && list_all p rest) h
 all-fails p (x ∷ before) rest m h = elim (p x) as
     (λ b. (b && list_all p (before ++ (m ∷ rest))) ≡ false) [ true ↦ all-fails p before rest m h | false ↦ refl ]
 
--- names that use one another in a circle have no rank
 circle : (w : Stored) (whole : List NameId) → ((n : NameId) → list_any (is_id n) whole ≡ true → UsesOne w whole n)
     → (k : ℕ) (n : NameId) → list_any (is_id n) whole ≡ true → ends_below w k n ≡ false
 circle w whole next zero n h = refl

@@ -1,4 +1,4 @@
--- The names that the proofs of this crate cite, passed on from one place. Declares nothing.
+-- Imports that the proofs of this crate share.
 pub use Rattle.std.proofs.Common.{◌≡◌, ℕ, zero, suc, Bool, true, false, not, cond, ◌&&◌, ◌||◌, List, [], ◌∷◌, ◌++◌}
 pub use Rattle.std.proofs.Common.{refl, sym, ◌∙◌, ap, inl, inr, subst, Option, Some, map, ◌<◌, ◌+◌, arith, length}
 pub use Rattle.std.proofs.Common.{length-append, drop, None, ◌≤◌, take, get_or, append_assoc, append-nil, ◌-◌, ◌==◌}

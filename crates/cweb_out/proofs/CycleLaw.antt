@@ -1,4 +1,4 @@
--- The cycle that is reported is one: the walk goes on until a name comes twice, and each name uses the next one.
+-- The reported cycle is a cycle: the walk goes on until a name repeats, and each name uses the next one.
 use Rattle.cweb_out.proofs.Common.{◌≡◌, ◌<◌, ◌+◌, ℕ, zero, suc, Bool, true, false, not, cond, List, [], ◌∷◌, ◌++◌, refl, sym, ◌∙◌, ap, arith, length, length-append, inl, inr, drop, map, subst, Option, Some, None, All, Result, Ok, Err, find, filter, bytes_eq, list_any, position_or_len, NameId, is_id, has_part, has_defs_code, Stored, names, joined, program, uses, first_endless, has_rank, list_ends, cycle_from, walk, IsRoot, Planned, Refusal, bad_name, same_name, cycle, defs_first, file_outputs, has_no_program, is_good_name, name_spelling, output_name, output_of, outputs, planned, planned_apart, planned_ending, root_list, start_of, AreNew, EachUsesNext, IsCycle, not-true}
 use Rattle.cweb_names.specs.Names as spec
 use Rattle.cweb_store.proofs.BoundLemmas.{files-within}
@@ -6,9 +6,7 @@ use Rattle.cweb_out.proofs.Paths.{is-same, new-push, on-pushed, split-or}
 use Rattle.cweb_out.proofs.Ranks.{few}
 use Rattle.cweb_out.proofs.CycleUses.{uses-on, failing, Endless, text-endless, name-endless, each-drop, each-push, comes}
 
--- WALKS
-
--- the names that a walk came through before a name without a rank
+-- The names that a walk visited before a name without a rank.
 record Came (w : Stored) (before : List NameId) (n : NameId) : Type 0 where
   pub new : AreNew [] before
   pub within : (m : NameId) → list_any (is_id m) before ≡ true → m.0 < names w
@@ -62,9 +60,7 @@ walk-cycle : {w : Stored} (n : NameId) → has_rank w n ≡ false → n.0 < name
 walk-cycle {w} n h l = walks-in-a-cycle (suc (names w)) {before = []}
     (omega arith) (record { new = tt; within = λ m e. cc; each = tt; rankless = h; name = l })
 
--- OUTPUTS
-
--- an output that does not end
+-- An output whose expansion doesn't end.
 record Stuck (w : Stored) (o : Option NameId) : Type 0 where
   pub root : IsRoot w o
   pub ends : list_ends w (root_list w o) ≡ false

@@ -1,10 +1,8 @@
--- A name without a rank uses one without a rank, and each name of a way uses the next one.
+-- A name without a rank uses one without a rank, and each name of a path uses the next one.
 use Rattle.cweb_out.proofs.Common.{◌≡◌, ◌<◌, ◌+◌, ℕ, zero, suc, Bool, true, false, not, cond, ◌&&◌, ◌||◌, List, [], ◌∷◌, ◌++◌, refl, sym, ◌∙◌, ap, arith, inl, inr, drop, Option, Some, None, find, IfSome, option_to_list, list_all, list_any, position_or_len, list_any-append, NameId, is_id, Token, Name, Stored, names, joined, resolved_use, use_of, uses, has_rank, list_ends, EachUsesNext, false_from_ne_true, or_cases, or_left, or_right}
 use Rattle.cweb_store.proofs.BoundLemmas.{standing-within}
 use Rattle.cweb_out.proofs.Paths.{is-same}
 use Rattle.cweb_out.proofs.Ranks.{id-same, rank-grows, rank_by_uses}
-
--- USES
 
 option-on : (count : ℕ) (o : Option NameId) (m : NameId) → IfSome o (λ (k : NameId). k.0 < count)
     → list_any (is_id m) (option_to_list o) ≡ true → m.0 < count
@@ -15,7 +13,7 @@ use-on : (w : Stored) (t : Token) (m : NameId) → list_any (is_id m) (use_of w 
 use-on w (Name r) m h = option-on (names w) (resolved_use w r) m (standing-within w.occurrences r.0) h
 use-on w t m h = cc
 
--- a name that is used is one of the names
+-- A used name is one of the names.
 pub uses-on : (w : Stored) (ts : List Token) (m : NameId) → list_any (is_id m) (uses w ts) ≡ true → m.0 < names w
 uses-on w [] m h = cc
 uses-on w (t ∷ ts) m h = elim (or_cases (list_any (is_id m) (use_of w t)) (list_any (is_id m) (uses w ts))
@@ -24,7 +22,7 @@ uses-on w (t ∷ ts) m h = elim (or_cases (list_any (is_id m) (use_of w t)) (lis
       | inr e ↦ uses-on w ts m e
     ]
 
--- a first name that fails a test
+-- The first name that fails a test.
 pub record Failing (p : NameId → Bool) (ns : List NameId) : Type 0 where
   pub name : NameId
   pub first : find (λ n. not (p n)) ns ≡ Some name
@@ -52,7 +50,7 @@ failing {p} (n ∷ ns) h = by (p n) refl h (λ e. failing ns e)
       used = or_left (is_id n n) (list_any (is_id n) ns) (id-same n);
     }
 
--- a name without a rank that a list uses
+-- A name without a rank that a list uses.
 abbrev pub Endless : Stored → List Token → Type 0
 Endless w ts = Failing (has_rank w) (uses w ts)
 
@@ -66,8 +64,6 @@ text-endless w n l h = failing (uses w (joined w n)) (false_from_ne_true (list_e
 pub name-endless : (w : Stored) (n : NameId) → list_ends w (joined w n) ≡ false → has_rank w n ≡ false
 name-endless w n h = false_from_ne_true (has_rank w n)
     (λ e. different (list_ends w (joined w n)) (list_ends w (joined w n)) (rank-grows w (names w) n e) h refl)
-
--- EACH USES THE NEXT
 
 each-tail : (w : Stored) (n : NameId) (ns : List NameId) → EachUsesNext w (n ∷ ns) → EachUsesNext w ns
 each-tail w n [] h = tt
@@ -85,7 +81,7 @@ each-push w [] n m u h = (u, tt)
 each-push w (k ∷ []) n m u h = (h.0, (u, tt))
 each-push w (k ∷ j ∷ ns) n m u h = (h.0, each-push w (j ∷ ns) n m u h.1)
 
--- a list from the first coming of a name on begins with it
+-- A list from the first occurrence of a name on begins with it.
 pub comes : (n : NameId) (ns : List NameId) → list_any (is_id n) ns ≡ true
     → (rest : List NameId) × (drop (position_or_len (is_id n) ns) ns ≡ n ∷ rest)
 comes n [] h = cc

@@ -1,4 +1,4 @@
--- Tokens that lend their texts: no frame is put on top for them.
+-- Direct tokens need no frame.
 use Rattle.cweb_out.proofs.Common.{◌≡◌, ◌++◌, ◌∙◌, [], ◌∷◌, refl, ap, List, true, flat_map, list_all, NameId, Token, Name, Stored, use_of, uses, put, AreDirect, is_direct, and_parts}
 
 put-direct : (w : Stored) (text : NameId → List Token) (t : Token) → is_direct t ≡ true → put w text t ≡ t ∷ []
@@ -9,7 +9,7 @@ use-direct : (w : Stored) (t : Token) → is_direct t ≡ true → use_of w t �
 use-direct w (Name r) h = cc
 use-direct w _ h = refl
 
--- such tokens stay as they are
+-- Expansion keeps them.
 pub put-all-direct : (w : Stored) (text : NameId → List Token) (ts rest : List Token) → AreDirect ts
     → flat_map (put w text) (ts ++ rest) ≡ ts ++ flat_map (put w text) rest
 put-all-direct w text [] rest h = refl
@@ -18,7 +18,7 @@ put-all-direct w text (t ∷ ts) rest h = ap (λ (us : List Token). us ++ flat_m
     ∙ ap (λ (us : List Token). t ∷ us)
     (put-all-direct w text ts rest (and_parts (is_direct t) (list_all is_direct ts) h).1)
 
--- and use no name
+-- They use no name.
 pub uses-direct : (w : Stored) (ts rest : List Token) → AreDirect ts → uses w (ts ++ rest) ≡ uses w rest
 uses-direct w [] rest h = refl
 uses-direct w (t ∷ ts) rest h = ap

@@ -1,10 +1,10 @@
--- The definitions, computed on small webs.
+-- Worked examples of expansion and printing.
 use Rattle.cweb_out.proofs.Common.{ℕ, ◌≡◌, refl, [], ◌∷◌, ◌++◌, codes, true, false, id, Token, Word, Number, Punct, Blank, Newline, Join, Defs, Head, Tail, program, expand, IsCycle, Setting, print, file}
 use Rattle.std.specs.Fmt.{digits}
 use Rattle.cweb_out.proofs.PlanExamples.{two, twice}
 use Rattle.cweb_store.specs.Parts.{Mark}
 
--- the law of refused cycles, where it says which names use which
+-- Which names use which in the law of refused cycles.
 each_uses_the_other : IsCycle two (id 0 ∷ id 1 ∷ id 0 ∷ [])
 each_uses_the_other = record { first = id 0; between = id 1 ∷ []; closed = refl; each = (refl, (refl, tt)) }
 
@@ -20,7 +20,7 @@ plain = record { replaced = λ b. b ∷ []; files = codes "s.w" ∷ []; macros =
 abbrev at : ℕ → Token
 at line = Mark (record { file = record { 0 = 0 }; line = line })
 
--- `f(x) x+1`, `N`, and `two 1+` on two lines
+-- `f(x) x+1`, `N`, and `two 1+` on two lines.
 abbrev with_macros : Setting
 with_macros = record plain {
   macros = (Word (codes "f") ∷ Punct (codes "(") ∷ Word (codes "x") ∷ Punct

@@ -1,4 +1,4 @@
--- The outputs are one more than the names at most.
+-- There is at most one output more than names.
 use Rattle.cweb_out.proofs.Common.{◌≡◌, ◌≤◌, ◌<◌, ◌+◌, ℕ, suc, Bool, true, false, List, [], ◌∷◌, ◌++◌, refl, arith, length, Option, Some, None, inl, inr, All, list_any, length-map, NameId, is_id, Stored, names, file_outputs, outputs, AreNew, or_cases}
 use Rattle.std.specs.Prelude.{if◌then◌else◌}
 use Rattle.cweb_names.specs.Names.{Occurrence, Resolution, with_id, with_some, with_file, files_from, resolved_at}
@@ -30,7 +30,7 @@ files_from-new rs ns i [] a = a
 files_from-new rs ns i (o ∷ os) a =
     files_from-new rs (with_file rs ns i o) (i + 1) os (with_file-new rs ns i o.is_file a)
 
--- an element of a list where each passes
+-- An element of a list whose elements all pass.
 at-any : (count : ℕ) (ns : List NameId) (n : NameId)
     → All (λ (m : NameId). m.0 < count) ns → list_any (is_id n) ns ≡ true → n.0 < count
 at-any count [] n a h = cc

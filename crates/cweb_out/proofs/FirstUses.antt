@@ -1,4 +1,4 @@
--- What comes before the first use in a list, and in a frame's.
+-- The first use in a list and in a frame's suffix.
 use Rattle.cweb_out.proofs.Common.{◌≡◌, ◌<◌, ◌||◌, true, false, List, [], ◌∷◌, ◌++◌, length, refl, sym, ◌∙◌, ap, arith, append_assoc, length-append, list_any, list_any-append, flat_map-append, Part, Token, Stored, uses, use_of, defs_first, suffix, tokens_of_parts, Frame}
 use Rattle.cweb_store.specs.inner.Next.{is_name_use}
 use Rattle.cweb_out.specs.inner.Uses.{PassesNoUse}
@@ -18,7 +18,7 @@ pass-on {c} x y = record {
   same = x.same ∙ ap (λ ts. x.before ++ ts) y.same ∙ sym (append_assoc x.before y.before c);
 }
 
--- what a list uses does not change where no use is passed over
+-- A token that is no use adds no used name.
 not-used : (w : Stored) (t : Token) → is_name_use t ≡ false → use_of w t ≡ []
 not-used w (spec.Name name) h = cc
 not-used w _ h = refl
@@ -41,7 +41,7 @@ pub use-shorter : {old : List Token} (new : List Token) (t : Token) → PassesNo
     → length new < length old
 use-shorter new t x = omega (arith, ap length x.same, length-append x.before (t ∷ new))
 
--- a part without a use is passed, and a part up to its first use
+-- Skips a part without a use, and a part up to its first use.
 pub pass-part : (w : Stored) (f : Frame) (q : Part) (more : List Part) → f.defs ≡ false
     → list_any is_name_use (tokens_of_part w f.part) ≡ false → f.rest ≡ q ∷ more
     → PassesNoUse (suffix w f) (suffix w (record { owner = f.owner; defs = f.defs; part = q; rest = more }))

@@ -1,11 +1,9 @@
--- What holds of expansion and of print whatever the web is.
+-- The laws of expansion and printing.
 use Rattle.cweb_out.proofs.Common.{◌≡◌, ◌≤◌, ◌+◌, ◌-◌, ◌==◌, ◌&&◌, ℕ, zero, suc, Bool, true, false, cond, List, [], ◌∷◌, ◌++◌, refl, sym, ◌∙◌, ap, arith, append_assoc, append-nil, Option, None, Some, codes, decimal, fold, flat_map, option_to_list, list_all, flat_map-append, NameId, Token, Newline, Defs, Name, Stored, joined, resolved_use, uses, use_of, ends_below, expand, expanded_name, put, tokens_for, last_is, sep, Setting, begin_line, file, file_token_bytes, without_joined_layout, last_token, left_after, macro_line, macro_lines, mark_line, file_name, macro_token_bytes, is_layout, print, print_after, printed_tokens, quoted, starts_line, stays_joined, Class, class_of, separator, ReplacesUses, is_no_use, is_joined, print_following, is_whole_lines, and_parts}
 use Rattle.cweb_store.specs.Parts.{Mark}
 use Rattle.cweb_print.specs.declared.printer.class.Class.TheVariants as class
 use Rattle.cweb_out.proofs.Ranks.{all-append, all-parts, rank-grows, uses-weaker}
 use Rattle.cweb_print.proofs.Steps.{sep_by_class}
-
--- EXPANSION
 
 text_for-text : (f : NameId → List Token) (o : Option NameId)
     → ((n : NameId) → list_all is_no_use (f n) ≡ true) → list_all is_no_use (tokens_for f o) ≡ true
@@ -43,7 +41,7 @@ replaces_uses {w} {k} = record {
       e;
 }
 
--- names that pass a test have the same texts
+-- Names that pass a test have equal lists.
 abbrev AreSame : (NameId → Bool) → (NameId → List Token) → (NameId → List Token) → Type 0
 AreSame p f g = (n : NameId) → p n ≡ true → f n ≡ g n
 
@@ -91,8 +89,6 @@ depth_changes_nothing w k depth ts le h =
     let e : depth ≡ k + (depth - k) = omega (arith, le) in
     ap (λ j. expand w j ts) e ∙ expand-deeper w (depth - k) k ts h
 
--- PRINT
-
 kept-append : (joined : Bool) (xs ys : List Token)
     → without_joined_layout joined (xs ++ ys) ≡ without_joined_layout joined xs
     ++ without_joined_layout (fold stays_joined joined xs) ys
@@ -123,8 +119,6 @@ pub print_goes_on : (s : Setting) (before ts : List Token)
 print_goes_on s before ts = ap (print_after (file_token_bytes s) None) (kept-append false before ts)
     ∙ print_after-append (file_token_bytes s) None (without_joined_layout false before)
     (without_joined_layout (is_joined before) ts)
-
--- LINES
 
 abbrev is_ended : List ℕ → Bool
 is_ended bytes = last_is (λ x. x == 10) bytes
@@ -175,7 +169,7 @@ defs-whole s bytes false h = ap is_whole_lines (sym (append_assoc bytes newline 
     ∙ whole-append (bytes ++ newline) (macro_lines s)
     (whole-ended (bytes ++ newline) (ended-behind bytes newline refl)) (macros-whole s.replaced s.macros)
 
--- what is printed up to a token that begins a line has whole lines
+-- The output up to a token that begins a line consists of whole lines.
 token-whole : (s : Setting) (l : Option Token) (bytes : List ℕ) (t : Token)
     → (starts_line l ≡ true → is_whole_lines bytes ≡ true) → starts_line (Some t) ≡ true
     → is_whole_lines (bytes ++ (sep l t ++ file_token_bytes s l t)) ≡ true

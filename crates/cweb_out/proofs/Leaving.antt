@@ -1,10 +1,10 @@
--- The top frame of a stack passes tokens that lend their texts, and then takes a use, or comes to its end.
+-- The top frame passes direct tokens, and then takes a use or ends.
 use Rattle.cweb_out.proofs.Common.{◌≡◌, ◌≤◌, ◌<◌, ◌+◌, ◌-◌, ◌++◌, ◌∷◌, [], ℕ, List, length, refl, sym, ◌∙◌, ap, arith, subst, sum_by, set, length-set, get_or-set_same, set-set, take-set, sum_by-append, Token, Stored, names, use_of, expanded_name, put, Frame, suffix, left, level, work_of, list_work, name_work, token_work, RanksAreBelow, FrameIsWithin, IsFrameStack, UsesLower, AreDirect}
 use Rattle.cweb_out.proofs.TopAfterDirect.{top_passed}
 use Rattle.cweb_out.proofs.Stack.{work_of-push}
 use Rattle.cweb_out.proofs.Tops.{HasTop, lower, top_ended, TopMoved, top_moved, top_read, top_written}
 
--- a frame that was written is on top
+-- A frame that was written is on top.
 pub top_again : {n : ℕ} {fs : List Frame} {f g : Frame} → HasTop n fs f → HasTop n (set fs (n - 1) g) g
 top_again {n} {fs} {g} h =
     let c = h.count in
@@ -13,7 +13,7 @@ top_again {n} {fs} {g} h =
     let lt : n - 1 < length fs = omega arith in
     record { count = omega arith; some = omega arith; is = sym (get_or-set_same fs (n - 1) g g lt) }
 
--- there is less to do for what is still to come of the top
+-- Less work remains for the suffix of the top frame.
 work-passed : (w : Stored) {n : ℕ} {fs : List Frame} {f : Frame} (g : Frame) (ts : List Token) → HasTop n fs f
     → suffix w f ≡ ts ++ suffix w g → work_of w (names w) (set fs (n - 1) g) ≤ work_of w (names w) fs
 work-passed w {n} {fs} {f} g ts h s =
@@ -28,7 +28,7 @@ work-passed w {n} {fs} {f} g ts h s =
     ap (sum_by step) s ∙ sum_by-append step ts (suffix w g) in
     omega (arith, before, after, apart)
 
--- the top passed tokens and took a use
+-- The top frame passed tokens and took a use.
 pub record TopUsed (w : Stored) (fs new : List Frame) (ts : List Token) (t : Token) (room : ℕ) : Type 0 where
   pub stands : IsFrameStack w new room
   pub left : left w fs ≡ ts ++ (put w (expanded_name w (level w new)) t ++ left w new)
@@ -58,7 +58,7 @@ top_used {w} {n} {fs} {f} {g} {h} {ts} {t} {room} stands top s direct within own
       some = moved.advances.some;
     }
 
--- the top passed tokens and came to its end
+-- The top frame passed tokens and ended.
 pub record TopGone (w : Stored) (fs new : List Frame) (ts : List Token) (room : ℕ) : Type 0 where
   pub stands : IsFrameStack w new room
   pub left : left w fs ≡ ts ++ left w new

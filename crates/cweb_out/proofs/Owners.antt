@@ -1,4 +1,4 @@
--- The owners of frames: the ranks of their lists, and what of them was given.
+-- The owners of frames: the ranks of their lists, and the prefixes that were taken.
 use Rattle.cweb_out.proofs.Common.{◌≡◌, ◌≤◌, ◌<◌, ◌+◌, ◌-◌, ℕ, zero, suc, Bool, true, false, List, [], ◌∷◌, ◌++◌, refl, sym, ◌∙◌, ap, arith, append_assoc, subst, Option, Some, None, option_to_list, list_all, NameId, NameRef, Token, Name, Stored, names, use_of, uses, resolved_use, joined, ends_below, least, list_ends, name_rank, root_list, Frame, suffix, rank, top_rank, RanksAreBelow, AreOwned, IsOwned, UsesLower, and_parts}
 use Rattle.cweb_out.proofs.Ranks.{all-parts, grows-more}
 
@@ -21,18 +21,18 @@ least-holds test (suc n) h = by (test zero) refl (least-holds (λ i. test (suc i
     by true e later = e
     by false e later = later
 
--- a rank is below each number that it ends below
+-- A rank is below each number that bounds it.
 rank-below : (w : Stored) (k : ℕ) (n : NameId) → ends_below w k n ≡ true → name_rank w n < k
 rank-below w zero n h = cc
 rank-below w (suc k) n h = let le = least-le (λ j. ends_below w (suc j) n) (names w) k h in omega (arith, le)
 
--- the names that a list uses have ranks below that of its owner
+-- The names that a list uses have ranks below that of its owner.
 owner-below : (w : Stored) (o : Option NameId) → list_ends w (root_list w o) ≡ true
     → RanksAreBelow w (rank w o) (uses w (root_list w o))
 owner-below w None h = h
 owner-below w (Some n) h = least-holds (λ k. ends_below w (suc k) n) (names w) h
 
--- a frame that may come on top of others
+-- A frame that may be pushed onto others.
 pub record OnTop (w : Stored) (above : ℕ) (fs : List Frame) (f : Frame) : Type 0 where
   pub below : AreOwned w above fs
   pub owned : IsOwned w f
@@ -64,7 +64,7 @@ uses-append w [] ys = refl
 uses-append w (x ∷ xs) ys = ap (λ (ns : List NameId). use_of w x ++ ns) (uses-append w xs ys)
     ∙ sym (append_assoc (use_of w x) (uses w xs) (uses w ys))
 
--- a token of the list was given
+-- A token of the list was taken.
 pub OnTop-next : {w : Stored} {above : ℕ} {fs : List Frame} {f g : Frame} (t : Token) → suffix w f ≡ t ∷ suffix w g
     → g.owner ≡ f.owner → OnTop w above fs f → OnTop w above fs g × RanksAreBelow w (rank w g.owner) (use_of w t)
 OnTop-next {w} {above} {fs} {g} t s o h =
@@ -89,7 +89,7 @@ OnTop-next {w} {above} {fs} {g} t s o h =
           (all-parts test (uses w h.owned.given) (use_of w t ++ uses w (suffix w g)) split).1).0,
     )
 
--- the first frame
+-- The first frame.
 pub OnTop-first : {w : Stored} {f : Frame} → root_list w f.owner ≡ suffix w f
     → RanksAreBelow w (names w) (uses w (root_list w f.owner)) → OnTop w (names w + 1) [] f
 OnTop-first {w} {f} l b =
@@ -99,7 +99,7 @@ OnTop-first {w} {f} l b =
     within None h = omega arith
     within (Some n) h = let le = least-le (λ k. ends_below w (suc k) n) (names w) (names w) h in omega (arith, le)
 
--- the frame of a name that the top frame's list uses
+-- The frame of a name that the top frame's list uses.
 pub OnTop-entered : {w : Stored} {fs : List Frame} {g : Frame} (r : NameRef) (m : NameId) (k : ℕ)
     → AreOwned w (names w + 1) fs → k ≤ names w + 1 → ends_below w k m ≡ true → UsesLower w fs (Name r)
     → resolved_use w r ≡ Some m → g.owner ≡ Some m → joined w m ≡ suffix w g → OnTop w (names w + 1) fs g

@@ -1,4 +1,4 @@
--- Paths of names that wait, each in the text of the one before it.
+-- Paths of waiting names, each used by the one before it.
 use Rattle.cweb_out.proofs.Common.{◌≡◌, Bool, true, false, ◌||◌, List, [], ◌∷◌, ◌++◌, refl, sym, ◌∙◌, ap, inl, inr, append-nil, append_assoc, Option, Some, None, list_any, list_any-append, NameId, id, is_id, Stored, joined, has_rank, FrameIsWithin, AreNew}
 use Rattle.std.specs.Prelude.{◌⊎◌}
 use Rattle.std.proofs.lemmas.Bool.Decides.{eqb_tells}

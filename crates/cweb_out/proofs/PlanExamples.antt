@@ -1,4 +1,4 @@
--- The definitions, computed on small webs.
+-- Worked examples of plans.
 use Rattle.cweb_out.proofs.Common.{ℕ, ◌≡◌, List, [], ◌∷◌, Some, codes, true, false, Err, id, Token, Punct, Name, Stored, program, ends_below, list_ends, first_endless, name_rank, cycle_from, cycle, planned_ending}
 use Rattle.cweb_names.specs.declared.name.How.TheVariants.{Full}
 use Rattle.cweb_store.specs.declared.parts.PartKind.{PartKind}
@@ -18,7 +18,7 @@ of r = Named (record { 0 = r })
 abbrev use_ : ℕ → Token
 use_ r = Name (record { 0 = r })
 
--- A uses B, B uses A, and the program uses A
+-- A uses B, B uses A, and the program uses A.
 abbrev pub two : Stored
 two = record {
   occurrences = full (codes "A") ∷ full (codes "B") ∷ [];
@@ -26,7 +26,7 @@ two = record {
   replacements = [];
 }
 
--- A and B use the next name twice, and so does the program; the last occurrence stands for a name without parts
+-- A, B and the program use the next name twice. The last occurrence resolves to a name without parts.
 abbrev pub twice : Stored
 twice = record {
   occurrences = full (codes "A") ∷ full (codes "B") ∷ full (codes "C") ∷ full (codes "D") ∷ [];

@@ -1,4 +1,4 @@
--- What is due, by what was found.
+-- The expected plan, from the search results.
 use Rattle.cweb_out.proofs.Common.{◌≡◌, ◌<◌, ◌+◌, ℕ, Bool, true, false, not, ◌&&◌, List, [], ◌∷◌, ◌++◌, refl, sym, ◌∙◌, ap, arith, length, take, get_or, Option, Some, None, map, inl, inr, Ok, Err, find, list_all, list_any, take_more, length-map, NameId, Stored, cycle_from, has_no_program, is_good_name, output_name, output_of, outputs, start_of, false_from_ne_true}
 use Rattle.std.proofs.Common.{nat_eq}
 use Rattle.std.specs.Prelude.{option_map}
@@ -20,7 +20,7 @@ use Rattle.cweb_out.specs.declared.outputs.planned.Output.{Output}
 use Rattle.cweb_out.specs.declared.outputs.fault.PlanFault.TheVariants as fault
 use Rattle.cweb_out.proofs.Finds.{find-at}
 
--- the first output whose name is bad
+-- The first output with a bad name.
 pub names-err : (w : Stored) (main : List ℕ) (roots : List (Option NameId))
     (i : ℕ) (root d : Option NameId) (f : PlanFault) → i < length roots → root ≡ get_or roots i d
     → find (is_bad w main) (take i roots) ≡ None → NamesOne w main root (Err f) → NamesAll w main roots (Err f)
@@ -29,7 +29,7 @@ names-err w main roots i root d (fault.BadName other) l e h n =
 names-err w main roots i root d fault.Memory l e h n = tt
 names-err w main roots i root d _ l e h n = absurd n
 
--- an output more
+-- One more output.
 pub names-more : (w : Stored) (main : List ℕ) (roots : List (Option NameId)) (old new : List Output)
     (i : ℕ) (root d : Option NameId) (output : Output) → i < length roots → root ≡ get_or roots i d
     → NamesOne w main root (Ok output) → map output_in old ≡ map (output_of w main) (take i roots)
@@ -40,7 +40,7 @@ names-more w main roots old new i root d output l e n h p =
     ∙ sym (ap (map (output_of w main)) (take_more roots i d l)
     ∙ map-append (output_of w main) (take i roots) (get_or roots i d ∷ []))
 
--- the cycle of the first output whose expansion doesn't end
+-- The cycle of the first output whose expansion doesn't end.
 pub cycle-found : (w : Stored) (roots : List (Option NameId)) (i : ℕ) (root d : Option NameId) (names : List NameId)
     → i < length roots → root ≡ get_or roots i d → find (is_endless w) (take i roots) ≡ None
     → SettlesList w root (Some names) → first_cycle w roots ≡ Some names
@@ -62,7 +62,7 @@ unnamed-one w =
     by (p ∷ ps) true f g = refl
     by (p ∷ ps) false f g = sym (g (omega arith))
 
--- beside the main file there is no output
+-- There is no output but the main file.
 pub one-output : (w : Stored) (n : ℕ) → n ≡ length (outputs w) → nat_eq n 1 ≡ nat_eq (length (due.file_outputs w)) 0
 one-output w n e =
     let size = length-map (due.file_outputs w) (λ m. Some m) in

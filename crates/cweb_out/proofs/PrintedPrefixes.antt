@@ -1,4 +1,4 @@
--- Fronts of what is left that were printed one after another.
+-- Prefixes of the remaining tokens that were printed in order.
 use Rattle.cweb_out.proofs.Common.{◌≡◌, ◌++◌, ◌∙◌, [], refl, sym, ap, subst, append_assoc, ℕ, List, ◌&&◌, list_all, Token, Setting, print, AreDirect, is_direct, setting_of, PrintsPrefix}
 use Rattle.std.proofs.lemmas.List.Folds.{list_all-append}
 use Rattle.cweb_print.specs.surface.Classes.{left_after_tokens}
@@ -38,12 +38,12 @@ front_more {p} {c} {old} {mid} {new} same f g =
           };
     }
 
--- the same where what is left is told in other words
+-- Rewrites the remaining tokens along an equation.
 pub front_to : {p q : Printer} {a b c : List Token} {old new : List ℕ} → b ≡ c
     → PrintsPrefix p q a b old new → PrintsPrefix p q a c old new
 front_to {p} {q} {a} {old} {new} same f = rw (← same) f
 
--- what is left before and after, with tokens in front of the rest
+-- The remaining tokens before and after, with tokens before the rest.
 pub front_of : {p q : Printer} (a b : List Token) {c d : List Token} {old new : List ℕ}
     (f : PrintsPrefix p q a b old new) → c ≡ f.done ++ d → PrintsPrefix p q c d old new
 front_of a b f whole = record { done = f.done; whole = whole; direct = f.direct; moves = f.moves; prints = f.prints }

@@ -6,7 +6,7 @@ use Rattle.std.proofs.lemmas.Bool.{and_from, cases_lt, true_from_ne_false}
 use Rattle.std.proofs.lemmas.List.Folds.{list_all-append}
 use Rattle.cweb_store.proofs.BoundLemmas.{standing-within}
 
--- how many numbers below n pass a test
+-- How many numbers below n pass a test.
 abbrev pub counted : (ℕ → Bool) → ℕ → ℕ
 counted f zero = 0
 counted f (suc n) = cond (f n) 1 0 + counted f n
@@ -26,7 +26,7 @@ counted-grows f g zero w = omega arith
 counted-grows f g (suc n) w =
     omega (arith, bit-le (f n) (g n) (w n (omega arith)), counted-grows f g n (λ i l. w i (omega (arith, l))))
 
--- a weaker test that one number more passes
+-- A weaker test passes at least one number more.
 counted-more : (f g : ℕ → Bool) (n j : ℕ) → ((i : ℕ) → i < n → f i ≡ true → g i ≡ true)
     → j < n → f j ≡ false → g j ≡ true → counted f n < counted g n
 counted-more f g zero j w l a b = absurd (omega (arith, l))
@@ -60,7 +60,7 @@ pub all-parts : {X : Type 0} (p : X → Bool) (xs ys : List X)
     → list_all p (xs ++ ys) ≡ true → (list_all p xs ≡ true) × (list_all p ys ≡ true)
 all-parts p xs ys h = and_parts (list_all p xs) (list_all p ys) (sym (list_all-append p xs ys) ∙ h)
 
--- what holds of each name holds of the names that a list uses
+-- A property of names carries over to the names that a list uses.
 pub uses-weaker : (w : Stored) (p q : NameId → Bool) (ts : List Token)
     → ((m : NameId) → m.0 < names w → p m ≡ true → q m ≡ true)
     → list_all p (uses w ts) ≡ true → list_all q (uses w ts) ≡ true
@@ -68,7 +68,7 @@ uses-weaker w p q [] f h = refl
 uses-weaker w p q (t ∷ ts) f h = all-append q (use_of w t) (uses w ts) (use-weaker w p q t f
     (all-parts p (use_of w t) (uses w ts) h).0) (uses-weaker w p q ts f (all-parts p (use_of w t) (uses w ts) h).1)
 
--- what has a rank below k + 1 has one below k
+-- A rank below k + 1 is one below k.
 abbrev IsStill : Stored → ℕ → Type 0
 IsStill w k = (m : NameId) → m.0 < names w → ends_below w (suc k) m ≡ true → ends_below w k m ≡ true
 
@@ -80,18 +80,18 @@ rank-grows w (suc k) n h =
 still-next : (w : Stored) (k : ℕ) → IsStill w k → IsStill w (suc k)
 still-next w k s m l h = uses-weaker w (ends_below w (suc k)) (ends_below w k) (joined w m) s h
 
--- how many names have a rank below k
+-- How many names have a rank below k.
 abbrev ranked_below : Stored → ℕ → ℕ
 ranked_below w k = counted (λ i. ends_below w k (id i)) (names w)
 
--- where no name more has a rank, none has at any greater depth
+-- If no further name has a rank at one depth, none has at any greater depth.
 still-at : (w : Stored) (k : ℕ) → ranked_below w (suc k) ≤ ranked_below w k → IsStill w k
 still-at w k le m l b = true_from_ne_false (ends_below w k m) (λ a.
     let more = counted-more (λ i. ends_below w k (id i))
     (λ i. ends_below w (suc k) (id i)) (names w) m.0 (λ i j. rank-grows w k (id i)) l a b in
     omega (arith, le, more))
 
--- with each depth a name more has a rank, until none has
+-- Each depth ranks a further name, until none is left.
 reach : (w : Stored) (k : ℕ) → IsStill w k ⊎ (k < ranked_below w (suc k))
 reach w zero = elim (cases_lt (ranked_below w 0) (ranked_below w 1))
     [ inl h ↦ inr (omega (arith, h)) | inr h ↦ inl (still-at w zero h) ]
@@ -128,18 +128,18 @@ grows-more w (suc j) k n h =
     let e : suc j + k ≡ suc (j + k) = omega arith in
     ap (λ i. ends_below w i n) e ∙ rank-grows w (j + k) n (grows-more w j k n h)
 
--- a name whose rank is below any number has a rank that is below the number of names
+-- A bounded rank is below the number of names.
 pub rank_below_names : (w : Stored) (k : ℕ) (n : NameId) → n.0 < names w → ends_below w k n ≡ true → has_rank w n ≡ true
 rank_below_names w k n l h =
     let e : names w + k ≡ k + names w = omega arith in
     still-more w (names w) k (still w) n l (ap (λ i. ends_below w i n) (sym e) ∙ grows-more w (names w) k n h)
 
--- a name whose uses all have ranks has one
+-- A name whose uses all have ranks has one.
 pub rank_by_uses : (w : Stored) (n : NameId) → n.0 < names w
     → list_all (has_rank w) (uses w (joined w n)) ≡ true → has_rank w n ≡ true
 rank_by_uses w n l h = rank_below_names w (suc (names w)) n l h
 
--- the numbers of the names of a list
+-- The indices of the names of a list.
 abbrev on : List NameId → ℕ → Bool
 on ns i = list_any (is_id (id i)) ns
 
@@ -164,7 +164,7 @@ few-from count seen (n ∷ ns) a b =
     let rest = few-from count (seen ++ n ∷ []) ns a.1 (λ m h. b m (or_right (is_id m n) (list_any (is_id m) ns) h)) in
     omega (arith, less, rest)
 
--- new names are no more than names
+-- Distinct names are at most as many as there are names.
 pub few : (count : ℕ) (ns : List NameId) → AreNew [] ns
     → ((n : NameId) → list_any (is_id n) ns ≡ true → n.0 < count) → length ns ≤ count
 few count ns a b = let h = few-from count [] ns a b in omega (arith, h)

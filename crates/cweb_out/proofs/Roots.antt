@@ -1,17 +1,17 @@
--- In a plan that was made, the names that an output's list uses have ranks.
+-- In a plan, the names that an output's list uses have ranks.
 use Rattle.cweb_out.proofs.Common.{◌≡◌, ◌<◌, ℕ, zero, suc, Bool, true, false, not, List, [], ◌∷◌, refl, sym, ◌∙◌, ap, Option, Some, None, map, length, arith, cond, slice_index_or, Result, Ok, Err, find, bytes_eq, get_or-map, length-map, Stored, names, uses, list_ends, RanksAreBelow, Output, Planned, Refusal, bad_name, same_name, cycle, outputs, root_list, output_of, output_name, name_spelling, is_good_name, planned_apart, planned_ending, has_no_program, start_of, root_at, IsPlanOf, cycle_from}
 use Rattle.cweb_names.specs.Names as spec
 
 abbrev outcome : {A : Type 0} → Option A → (A → Refusal) → Result Planned Refusal → Result Planned Refusal
 outcome found why r = elim found [ Some x ↦ Err (why x) | None ↦ r ]
 
--- what was looked for was not found, where it would have been refused
+-- A search that would have caused a refusal found nothing.
 unrefused : {A : Type 0} (found : Option A) (why : A → Refusal) (r : Result Planned Refusal) (p : Planned)
     → outcome found why r ≡ Ok p → (found ≡ None) × (r ≡ Ok p)
 unrefused (Some x) why r p h = cc
 unrefused None why r p h = (refl, h)
 
--- where no element fails a test, each passes
+-- If no element fails a test, each passes.
 found_none : {A : Type 0} (test : A → Bool) (xs : List A) (i : ℕ) (d : A)
     → find (λ x. not (test x)) xs ≡ None → i < length xs → test (slice_index_or xs i d) ≡ true
 found_none test [] i d h lt = absurd (omega arith)

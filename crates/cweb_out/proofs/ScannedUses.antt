@@ -1,4 +1,4 @@
--- What of a list was looked at: the uses that were passed over, up to the next name without a rank.
+-- The progress of the search in a list: skipped uses, up to the next name without a rank.
 use Rattle.cweb_out.proofs.Common.{◌≡◌, ◌<◌, Bool, true, false, ◌&&◌, List, [], ◌∷◌, ◌++◌, refl, sym, ◌∙◌, ap, append-nil, append_assoc, Some, None, list_all, NameId, Token, Stored, names, uses, use_of, has_rank, suffix, Frame, and_parts}
 use Rattle.cweb_out.specs.inner.Uses.{PassesNoUse}
 use Rattle.cweb_out.specs.declared.outputs.search.Mark.{Mark}
@@ -16,7 +16,7 @@ passes-more {w} {marks} {new} t p e h = record {
   same = p.same ∙ ap (λ ts. p.before ++ uses w ts) e ∙ sym (append_assoc p.before (use_of w t) (uses w new));
 }
 
--- no use was passed over
+-- No use was skipped.
 pub passes-on : {w : Stored} {marks : List Mark} {old mid new : List Token}
     → SkipsRanked w marks old mid → PassesNoUse mid new → SkipsRanked w marks old new
 passes-on {w} p x = record {
@@ -41,7 +41,7 @@ pub passes-all : {w : Stored} {marks : List Mark} {old new : List Token}
 passes-all {marks} p e =
     ap (list_all (is_marked marks)) (p.same ∙ ap (λ ns. p.before ++ ns) e ∙ append-nil p.before) ∙ p.marked
 
--- marks that are ranked stand for ranks
+-- A ranked mark means that the name has a rank.
 marked-rank : (m : Mark) (b : Bool) → (m ≡ Ranked → b ≡ true) → is_ranked_mark m ≡ true → b ≡ true
 marked-rank Ranked b f h = f refl
 marked-rank _ b f h = cc
@@ -53,7 +53,7 @@ all-ranked {w} {marks} {path} (n ∷ ns) f h = ap (λ b. b && list_all (has_rank
     (has_rank w n) (f.ranked n) (and_parts (is_marked marks n) (list_all (is_marked marks) ns) h).0)
     ∙ all-ranked ns f (and_parts (is_marked marks n) (list_all (is_marked marks) ns) h).1
 
--- a list was looked at up to a name, and then as far as the next one
+-- A list was scanned up to a name, and then up to the next one.
 pub looked-more : {w : Stored}
     {list : List Token} {marks : List Mark} {path : List Waiting} {old new : Frame} {n : NameId}
     → MarksFitPath w marks path
@@ -64,7 +64,7 @@ looked-more {w} {new} {n} f l m = record {
   same = l.same ∙ ap (λ ns. l.before ++ ns) m.same ∙ sym (append_assoc l.before m.before (n ∷ uses w (suffix w new)));
 }
 
--- the next name has got a rank
+-- The next name got its rank.
 pub looked-on : {w : Stored} {list : List Token} {frame : Frame} (n : NameId)
     → has_rank w n ≡ true → IsScanned w list frame (Some n) → IsScanned w list frame None
 looked-on {w} {frame} n h l = record {
@@ -73,7 +73,7 @@ looked-on {w} {frame} n h l = record {
   same = l.same ∙ sym (append_assoc l.before (n ∷ []) (uses w (suffix w frame)));
 }
 
--- nothing is left to look at
+-- Nothing is left to scan.
 pub looked-all : {w : Stored} {list : List Token} {frame : Frame} {marks : List Mark} {path : List Waiting}
     → MarksFitPath w marks path → IsScanned w list frame None
     → list_all (is_marked marks) (uses w (suffix w frame)) ≡ true → list_all (has_rank w) (uses w list) ≡ true

@@ -1,4 +1,4 @@
--- The steps of the search, and what it answers of an output.
+-- The steps of the search, and its result for an output.
 use Rattle.cweb_out.proofs.Common.{◌≡◌, ◌<◌, suc, Bool, true, false, not, List, [], ◌∷◌, ◌++◌, refl, sym, ◌∙◌, ap, arith, length, subst, Option, Some, None, Result, Ok, Err, find, list_all, set, NameId, Token, Stored, defs_first, root_list, has_defs_code, names, program, uses, has_rank, cycle_from, FrameIsWithin, suffix, Frame}
 use Rattle.std.specs.Prelude.{IfOk, option_map}
 use Rattle.cweb_out.specs.declared.outputs.search.Mark.{Mark}
@@ -11,7 +11,7 @@ use Rattle.cweb_out.proofs.ScannedUses.{looked-all, looked-more}
 use Rattle.cweb_out.proofs.Paths.{begins-more, begins-pop, begins-push, chain-on, chain-pop, chain-push}
 use Rattle.cweb_out.proofs.Waits.{fits-pop, fits-swap, left-less, on-top, top-name}
 
--- the name that waited last has its rank
+-- The last waiting name gets its rank.
 pub goes-ranked : {w : Stored} {marks more : List Mark} {path : List Waiting} (f : Waiting) (text : Frame)
     → MarksFitPath w marks (path ++ f ∷ []) → Chain w (path ++ f ∷ []) None
     → list_all (is_marked marks) (uses w (suffix w f.text)) ≡ true
@@ -31,7 +31,7 @@ goes-ranked {w} {marks} {path} f text t c a m =
       less = λ e. rw m (left-less marks f.name Ranked lt one);
     }
 
--- it met a name that waits
+-- The step meets a waiting name.
 pub goes-back : {w : Stored} {marks : List Mark} (path : List Waiting) {after : List Waiting}
     (f g : Waiting) {n : NameId} → MarksFitPath w marks (path ++ f ∷ []) → Chain w (path ++ f ∷ []) None
     → g.name ≡ f.name → FrameIsWithin w g.text → FindsUnranked w marks (suffix w f.text) n (suffix w g.text)
@@ -49,7 +49,7 @@ goes-back {w} {marks} path f g {n} t c e i m p is =
       less = λ k. cc;
     }
 
--- it met a name that waits from now on
+-- The step meets a name that starts to wait.
 pub goes-on : {w : Stored} {marks more : List Mark} (path : List Waiting) {mid after : List Waiting}
     (f g : Waiting) {n : NameId} → MarksFitPath w marks (path ++ f ∷ []) → Chain w (path ++ f ∷ []) None
     → g.name ≡ f.name → FrameIsWithin w g.text → FindsUnranked w marks (suffix w f.text) n (suffix w g.text)
@@ -69,7 +69,7 @@ goes-on {w} path {after} f g {n} t c e i m p x =
       less = λ k. x.less;
     }
 
--- the list of an output
+-- The list of an output.
 uses-defs : (w : Stored) (b : Bool) (ts : List Token) → uses w (defs_first b ++ ts) ≡ uses w ts
 uses-defs w true ts = refl
 uses-defs w false ts = refl

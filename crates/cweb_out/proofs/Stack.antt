@@ -1,4 +1,4 @@
--- What a stack gives, and its bounds, as a frame is put on top and taken away.
+-- The model and invariant of a stack under push and pop.
 use Rattle.cweb_out.proofs.Common.{◌≡◌, ◌≤◌, ◌<◌, ◌+◌, ◌-◌, ℕ, zero, suc, [], ◌∷◌, ◌++◌, List, length, refl, sym, ◌∙◌, ap, arith, append_assoc, append-nil, length-append, true, subst, sum_by, list_all, sum_by-cons, NameId, Token, Stored, names, use_of, uses, joined, ends_below, expand, expanded_name, put, Frame, suffix, left_at_depth, work_of, list_work, AreOwned, AreRanked, RanksAreBelow, FrameIsWithin, IsFrameStack, UsesLower, Advances, left, level, name_work, token_work}
 use Rattle.cweb_out.proofs.Ranks.{all-parts}
 use Rattle.cweb_out.proofs.Owners.{OnTop, AreOwned-pop, AreOwned-push}
@@ -22,7 +22,7 @@ work_of-push w zero (g ∷ fs) f =
 work_of-push w (suc k) (g ∷ fs) f =
     let n : suc k - suc (length fs) ≡ k - length fs = omega arith in rw n (omega (arith, work_of-push w k fs f))
 
--- the top frame of a stack, and those below it
+-- The top frame of a stack, and those below it.
 pub record Top (w : Stored) (k : ℕ) (fs : List Frame) (f : Frame) : Type 0 where
   pub ranked : AreRanked w k fs
   pub within : FrameIsWithin w f
@@ -134,7 +134,7 @@ advances {w} fs {new} f g {t} e m s b u is =
       some = omega (arith, ap length is, length-append fs (g ∷ []));
     }
 
--- a frame that has come to its end
+-- A frame that has ended.
 pub left-ended : (w : Stored) (fs : List Frame) (f : Frame) → suffix w f ≡ [] → left w (fs ++ f ∷ []) ≡ left w fs
 left-ended w fs f e = left_of-push w (names w) fs f ∙ ap (λ ts. expand w (names w - length fs) ts ++ left w fs) e
 

@@ -1,9 +1,9 @@
--- What a stack gives behind a use of a name, and behind one that gives nothing.
+-- The model of a stack after a use of a name, and after one that expands to nothing.
 use Rattle.cweb_out.proofs.Common.{◌≡◌, ◌<◌, ◌+◌, ◌-◌, ℕ, zero, suc, [], ◌∷◌, ◌++◌, List, length, refl, sym, ◌∙◌, ap, arith, Some, true, false, ◌&&◌, subst, All, option_to_list, list_all, NameId, NameRef, Part, Name, all_tokens, Stored, names, use_of, uses, resolved_use, joined, ends_below, expand, expanded_name, put, tokens_for, root_list, Frame, suffix, tokens_of_parts, work_of, list_work, AreRanked, RanksAreBelow, PartIsWithin, FrameIsWithin, IsFrameStack, UsesLower, Enters, left, level, name_work, token_work, work_for, and_parts}
 use Rattle.cweb_out.proofs.Owners.{OnTop-entered, OnTop-first}
 use Rattle.cweb_out.proofs.Stack.{left_of-push, work_of-push, Top, AreBelow-at, Stands-push, rank-step}
 
--- a frame on top
+-- A frame was pushed.
 pub record Entered (w : Stored) (fs new : List Frame) (r : NameRef) (more : ℕ) : Type 0 where
   pub stands : IsFrameStack w new more
   pub enters : Enters w fs new r
@@ -47,12 +47,12 @@ entered {w} {fs} {new} {r} m q rest s grows b lower e text a is =
       };
     }
 
--- a use that gives nothing
+-- A use that expands to nothing.
 pub passed_none : {w : Stored} {fs : List Frame} {r : NameRef}
     → put w (expanded_name w (level w fs)) (Name r) ≡ [] → Enters w fs fs r
 passed_none {w} {fs} none = record { left = ap (λ ts. ts ++ left w fs) (sym none); work = omega arith }
 
--- a name without parts has no text
+-- A name without parts has an empty list.
 pub no_parts : (w : Stored) (fs : List Frame) (r : NameRef) (m : NameId)
     → resolved_use w r ≡ Some m → joined w m ≡ [] → put w (expanded_name w (level w fs)) (Name r) ≡ []
 no_parts w fs r m e none = ap (tokens_for (expanded_name w (level w fs))) e ∙ empty (level w fs)

@@ -1,4 +1,4 @@
--- How a frame's list goes on.
+-- The suffix of a list that a frame holds.
 use Rattle.cweb_out.proofs.Common.{◌≡◌, [], ◌≤◌, ◌<◌, ◌+◌, ◌∷◌, ◌++◌, List, Some, length, ℕ, sym, ◌∙◌, ap, arith, false, suc, subst, All, Part, Token, all_tokens, Stored, Frame, defs_first, suffix, PartIsWithin, FrameIsWithin, tokens_of_parts, append_assoc}
 use Rattle.std.proofs.Common.{◌≢◌, slice_range}
 use Rattle.std.specs.Prelude.{slice_get}
@@ -8,7 +8,7 @@ use Rattle.cweb_store.specs.Parts.{Defs}
 use Rattle.cweb_print.proofs.Ranges.{slice_get-or, slice_range-first}
 use Rattle.cweb_store.proofs.RangeLemmas.{range-none, range-split}
 
--- a frame that has a run begins with that run's first token
+-- A frame with a nonempty part begins with the part's first token.
 pub suffix-first : {w : Stored} {f : Frame} (t : Token) → f.defs ≡ false → f.part.first < f.part.after
     → FrameIsWithin w f → slice_get (all_tokens w.parts) f.part.first ≡ Some t → suffix w f ≡ t ∷ suffix w
     (record {
@@ -25,7 +25,7 @@ suffix-first {w} {f} t d n k e =
     ∙ ap (λ b. t ∷ (defs_first b
     ++ (slice_range (all_tokens w.parts) (f.part.first + 1) f.part.after ++ tokens_of_parts w f.rest))) (sym d)
 
--- so something of it is left
+-- Its suffix isn't empty.
 pub suffix-left : {w : Stored} {f : Frame} → f.defs ≡ false → f.part.first < f.part.after
     → FrameIsWithin w f → suffix w f ≢ []
 suffix-left {w} {f} d n k none =
@@ -47,7 +47,7 @@ IsWithin-next {w} q more e h =
     subst (All (PartIsWithin (length (all_tokens w.parts)))) e h.rest in
     (g 0 q (omega arith), λ k d l. g (suc k) d (omega arith))
 
--- the part goes on at a later token
+-- The part continues at a later token.
 pub suffix-passed : (w : Stored) (f : Frame) (n : ℕ) → f.defs ≡ false → f.part.first ≤ n → n ≤ f.part.after
     → suffix w f ≡ slice_range (all_tokens w.parts) f.part.first n
     ++ suffix w (record {

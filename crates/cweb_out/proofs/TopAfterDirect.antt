@@ -1,4 +1,4 @@
--- The top frame of a stack passes tokens that lend their texts.
+-- The top frame of a stack passes direct tokens.
 use Rattle.cweb_out.proofs.Common.{◌≡◌, ◌-◌, ◌++◌, ◌∷◌, [], ℕ, List, length, refl, sym, ◌∙◌, ap, append_assoc, set, Token, Stored, names, uses, expand, expanded_name, root_list, Frame, suffix, left, FrameIsWithin, IsFrameStack, AreDirect}
 use Rattle.cweb_out.proofs.Owners.{OnTop}
 use Rattle.cweb_out.proofs.DirectExpansion.{put-all-direct, uses-direct}
@@ -26,7 +26,7 @@ OnTop-passed {w} {above} {fs} {g} ts s o h = record {
   lower = rw o h.lower;
 }
 
--- the top passed tokens
+-- The top frame passed tokens.
 pub record TopPassed (w : Stored) (fs new : List Frame) (ts : List Token) (room : ℕ) : Type 0 where
   pub stands : IsFrameStack w new room
   pub left : left w fs ≡ ts ++ left w new

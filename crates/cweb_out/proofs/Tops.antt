@@ -3,11 +3,10 @@ use Rattle.cweb_out.proofs.Common.{◌≡◌, ◌<◌, ◌≤◌, ◌+◌, ◌-�
 use Rattle.cweb_out.proofs.Owners.{OnTop, OnTop-next, top_rank-push}
 use Rattle.cweb_out.proofs.Stack.{Top, Stands-pop, Stands-push, Top-next, advances, left-ended, work-ended}
 
--- the frames below it, of a stack of n
+-- The frames below the top of a stack of n.
 abbrev pub lower : ℕ → List Frame → List Frame
 lower n fs = take (n - 1) fs
 
--- a stack of n frames has f on top
 pub record HasTop (n : ℕ) (fs : List Frame) (f : Frame) : Type 0 where
   pub count : n ≡ length fs
   pub some : 0 < length fs
@@ -31,14 +30,14 @@ top_written {n} {fs} g h =
     let lt : n - 1 < length fs = omega arith in
     sym (take-length (set fs (n - 1) g)) ∙ ap (λ k. take k (set fs (n - 1) g)) all ∙ take_more_set fs (n - 1) g lt
 
--- a stack without its top, and what is known of the top
+-- A stack without its top, and the invariant of the top.
 pub stands_lower : {w : Stored} {n : ℕ} {fs : List Frame} {f : Frame} {room : ℕ} → IsFrameStack w fs room
     → HasTop n fs f
     → IsFrameStack w (lower n fs) room × Top w (names w) (lower n fs) f
     × (length (lower n fs) < names w + 1) × OnTop w (names w + 1) (lower n fs) f
 stands_lower s h = Stands-pop (top_read h) refl s
 
--- the top went on by a token
+-- The top frame advanced by a token.
 pub record TopMoved (w : Stored) (old new : List Frame) (t : Token) (room : ℕ) : Type 0 where
   pub stands : IsFrameStack w new room
   pub advances : Advances w old new t
@@ -60,7 +59,7 @@ top_moved {w} {n} {old} {fs} {f} {g} {t} s e m h goes i o =
           goes q.1 (rw top v.1) after;
     }
 
--- the top had come to its end
+-- The top frame had ended.
 pub record TopEnded (w : Stored) (fs new : List Frame) (room : ℕ) : Type 0 where
   pub stands : IsFrameStack w new room
   pub left : left w fs ≡ left w new

@@ -1,4 +1,4 @@
--- The marks of names, as they begin to wait and get their rank.
+-- The marks of names when they start to wait and get their rank.
 use Rattle.cweb_out.proofs.Common.{◌≡◌, ◌<◌, true, false, ◌||◌, List, [], ◌∷◌, ◌++◌, sym, ◌∙◌, ap, arith, length, inl, inr, subst, sum_by, list_any, set, get_or-set_same, length-set, NameId, is_id, Stored, names, joined, has_rank, FrameIsWithin, suffix, AreNew, false_from_ne_true, or_left, or_right, id}
 use Rattle.std.proofs.Common.{◌≢◌}
 use Rattle.std.proofs.lemmas.Bool.Decides.{eqb_tells}
@@ -13,7 +13,6 @@ use Rattle.cweb_out.proofs.Ranks.{on-front, on-last}
 use Rattle.cweb_out.proofs.ScannedUses.{looked-start}
 use Rattle.cweb_out.proofs.Paths.{new-pop, new-push, on-pushed, path-push, split-or, within-pop, within-push}
 
--- a name that waits no more, or one that waits from now on
 mark-same : (marks : List Mark) (n : NameId) (m : Mark) → n.0 < length marks → mark_of (set marks n.0 m) n ≡ m
 mark-same marks n m l = get_or-set_same marks n.0 m Unseen l
 
@@ -24,7 +23,7 @@ pub top-within : {w : Stored} {marks : List Mark} (path : List Waiting) (f : Wai
     → MarksFitPath w marks (path ++ f ∷ []) → FrameIsWithin w f.text
 top-within path f t = (within-pop path f t.within).1
 
--- a name begins to wait
+-- A name starts to wait.
 pub fits-push : {w : Stored} {marks : List Mark} {path : List Waiting} (f : Waiting)
     → MarksFitPath w marks path → mark_of marks f.name ≡ Unseen → f.name.0 < names w
     → FrameIsWithin w f.text → MarksFitPath w (set marks f.name.0 Waits) (path ++ f ∷ [])
@@ -63,7 +62,7 @@ fits-push {marks} {path} f t u l i =
       within = within-push path f t.within i;
     }
 
--- the name that waits last has got its rank
+-- The last waiting name gets its rank.
 pub fits-pop : {w : Stored} {marks : List Mark} {path : List Waiting} (f : Waiting)
     → MarksFitPath w marks (path ++ f ∷ [])
     → f.name.0 < names w → has_rank w f.name ≡ true → MarksFitPath w (set marks f.name.0 Ranked) path
@@ -100,7 +99,7 @@ fits-pop {w} {marks} {path} f t l r =
       within = (within-pop path f t.within).0;
     }
 
--- the name that waits last goes on in its text
+-- The last waiting name advances in its list.
 pub fits-swap : {w : Stored} {marks : List Mark} (path : List Waiting) (f g : Waiting) → g.name ≡ f.name
     → FrameIsWithin w g.text → MarksFitPath w marks (path ++ f ∷ []) → MarksFitPath w marks (path ++ g ∷ [])
 fits-swap path f g e i t =
@@ -115,7 +114,7 @@ fits-swap path f g e i t =
       within = within-push path g (within-pop path f t.within).0 i;
     }
 
--- a name that waits is one of the names
+-- A waiting name is one of the names.
 pub top-name : {w : Stored} {marks : List Mark} {path : List Waiting} (n : NameId)
     → MarksFitPath w marks path → list_any (is_id n) (path_of path) ≡ true → n.0 < names w
 top-name {w} {marks} n t h = elim (cases_lt n.0 (names w)) [
@@ -128,12 +127,12 @@ top-name {w} {marks} n t h = elim (cases_lt n.0 (names w)) [
 pub on-top : (path : List Waiting) (f : Waiting) → list_any (is_id f.name) (path_of (path ++ f ∷ [])) ≡ true
 on-top path f = ap (list_any (is_id f.name)) (path-push path f) ∙ on-last (path_of path) f.name
 
--- marking a name leaves less to mark
+-- Marking a name leaves less to mark.
 pub left-less : (marks : List Mark) (n : NameId) (m : Mark) → n.0 < length marks
     → marks_left m < marks_left (mark_of marks n) → sum_by marks_left (set marks n.0 m) < sum_by marks_left marks
 left-less marks n m l h = let e = sum_by-set marks_left marks n.0 m Unseen l in omega (arith, h, e)
 
--- what a name that waits looks like, first
+-- The state of a name that has just started to wait.
 pub waited-fits : {w : Stored} {marks more : List Mark} {path longer : List Waiting} {n : NameId} (f : Waiting)
     → MarksFitPath w marks path → mark_of marks n ≡ Unseen → n.0 < names w → f.name ≡ n → FrameIsWithin w f.text
     → suffix w f.text

@@ -1,4 +1,4 @@
--- The walk along a path that comes back to itself is its cycle.
+-- The walk along a path that closes is its cycle.
 use Rattle.cweb_out.proofs.Common.{◌≡◌, ◌≤◌, ◌<◌, ◌+◌, ℕ, zero, suc, Bool, true, false, not, cond, List, [], ◌∷◌, ◌++◌, refl, sym, ◌∙◌, ap, arith, length, inl, inr, append-nil, append_assoc, drop, take, subst, Some, get_or, list_any, position_or_len, length-map, take_more, NameId, is_id, Stored, names, joined, has_rank, first_endless, walk, cycle_from, AreNew, or_right, or_left}
 use Rattle.std.specs.Prelude.{◌⊎◌}
 use Rattle.cweb_out.specs.declared.outputs.search.Mark.{Mark}
@@ -9,7 +9,7 @@ use Rattle.cweb_out.proofs.Circles.{chain-endless, looked-endless, next-on, next
 use Rattle.cweb_out.proofs.Paths.{path-push}
 use Rattle.cweb_out.proofs.Waits.{top-name}
 
--- the walk along a path, and then back
+-- The walk along a path, and then back.
 walks : (w : Stored) (seen : List NameId) (path : List Waiting) (again : NameId) (k : ℕ) → length path ≤ k
     → Chain w path (Some again) → AreNew seen (path_of path) → list_any (is_id again) (seen ++ path_of path) ≡ true
     → ((n : NameId) → (n ≡ again) ⊎ (list_any (is_id n) (path_of path) ≡ true) → has_rank w n ≡ false)
@@ -58,7 +58,7 @@ walks w seen (f ∷ path) again (suc k) le c a h e =
     goes true g = cc
     goes false g = refl
 
--- where a path comes back to itself, that is the cycle of its first name
+-- A path that closes is the cycle of its first name.
 pub path-cycle : {w : Stored} {marks : List Mark} (path : List Waiting) {start : NameId} (again : NameId)
     → MarksFitPath w marks path → Chain w path (Some again) → list_any (is_id again) (path_of path) ≡ true
     → PathBegins w path start → IsEndless w start (back_to again path)
@@ -74,7 +74,7 @@ path-cycle {w} (f ∷ path) {start} again t c a b =
     (λ n o. elim o [ inl e ↦ ap (has_rank w) e ∙ none (names w) again a | inr h ↦ none (names w) n h ]) in
     record { endless = λ k. none k start on; walk = sym (ap (λ n. cycle_from w (Some n)) (sym b) ∙ steps) }
 
--- a list from the first coming of a name on
+-- A list from the first occurrence of a name on.
 abbrev pub from_first : NameId → List NameId → List NameId
 from_first n ns = drop (position_or_len (is_id n) ns) ns
 
@@ -99,7 +99,7 @@ from-push n (k ∷ ns) m =
     by true later = refl
     by false later = later
 
--- one name more of a path
+-- One more name of a path.
 pub from-more : (n : NameId) (path : List Waiting) (i : ℕ) (f : Waiting) → i < length path → f ≡ get_or path i f
     → from_first n (path_of (take (i + 1) path)) ≡ cycle_with_next n (from_first n (path_of (take i path))) f.name
 from-more n path i f l e =

@@ -1,4 +1,4 @@
--- The rank of a name: how deep the names that it uses lie within one another.
+-- The rank of a name: how deep its uses nest.
 use Rattle.std.specs.Prelude.{ℕ, suc, zero, Bool, false, not, List, Option, find}
 use Rattle.std.specs.List.{list_all}
 use Rattle.cweb_names.specs.declared.name.NameId.{NameId}
@@ -6,19 +6,19 @@ use Rattle.cweb_store.specs.Parts.{Token}
 use Rattle.cweb_store.specs.Calls.{Stored}
 use Rattle.cweb_out.specs.Uses.{names, joined, uses}
 
--- the rank is below k: each name that the text uses has a rank below k - 1
+-- The rank is below k: each name that the list uses has a rank below k - 1.
 abbrev pub ends_below : Stored → ℕ → NameId → Bool
 ends_below w zero n = false
 ends_below w (suc k) n = list_all (ends_below w k) (uses w (joined w n))
 
--- the expansion of the name ends: it has a rank, which is below the number of names, since names that use one another so deep are all different
+-- The name's expansion ends. Its rank is below the number of names, since all names on a path of uses differ then.
 abbrev pub has_rank : Stored → NameId → Bool
 has_rank w n = ends_below w (names w) n
 
--- each name that a list uses has a rank
+-- Each name that a list uses has a rank.
 abbrev pub list_ends : Stored → List Token → Bool
 list_ends w tokens = list_all (has_rank w) (uses w tokens)
 
--- the first name without a rank that a list uses
+-- The first name without a rank that a list uses.
 abbrev pub first_endless : Stored → List Token → Option NameId
 first_endless w tokens = find (λ n. not (has_rank w n)) (uses w tokens)

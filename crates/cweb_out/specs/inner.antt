@@ -1,4 +1,4 @@
--- What functions of this crate promise one another.
+-- Definitions that only the functions of this crate cite.
 pub mod Uses
 pub mod Outputs
 pub mod Plans

@@ -1,2 +1,2 @@
--- Theorems about the definitions.
+-- Definitions that only laws cite.
 pub mod Laws

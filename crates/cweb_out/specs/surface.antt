@@ -1,4 +1,4 @@
--- What public calls promise beside the headline.
+-- Definitions that public calls cite and the headline does not.
 pub mod Ranks
 pub mod Outputs
 pub mod FrameSuffixes

@@ -1,4 +1,4 @@
-// The stack machine that gives an output's tokens, with each name replaced by its text.
+// The stack machine that yields an output's tokens and expands each name.
 ghost use Rattle.std.specs.Prelude.{◌≡◌, ◌≤◌, ◌<◌, ◌+◌, ◌++◌, ◌∷◌, [], None, Some, length, IfOk};
 ghost use Rattle.std.specs.Prelude.{IfSome, option_map, vec_capacity};
 ghost use Rattle.cweb_store.specs.surface.TokenModels.{token_model};
@@ -19,8 +19,8 @@ use crate::outputs::planned::Plan;
 use cweb_store::{NameRef, Store, Token};
 use std::alloc::{AllocError, Global};
 
-/// Gives the tokens of an output one after another, each name replaced by its text. Beside the store and the plan it holds
-/// a stack of frames and nothing else; the last one is the top. The fields are for its own calls to write.
+/// Yields the tokens of an output, with each name expanded. Beside the store and the plan it holds only a stack of
+/// frames; the last frame is the top. Only this crate's calls write the fields.
 #[derive(Drop)]
 pub struct Expander<'a> {
     pub store: &'a Store,
@@ -29,8 +29,7 @@ pub struct Expander<'a> {
 }
 
 impl<'a> Expander<'a> {
-    /// An expander of the output with a number, for a plan that was made for the store. It reserves all frames that it
-    /// will ever have, and takes no memory after that.
+    /// An expander of an output of the store's plan. Reserves all frames that it will need; allocates nothing later.
     pub fn new(
         alloc: Global,
         store: &'a Store,
@@ -57,7 +56,7 @@ impl<'a> Expander<'a> {
         })
     }
 
-    /// Begins the output with a number, whatever was left of another. It takes no memory.
+    /// Restarts at an output, whatever was left of another. Allocates nothing.
     pub fn restart(&mut self, root: u32)
         requires root { root < length self.old.plan.now.outputs }
         requires made { IsPlanOf self.old.store.now self.old.plan.now }
@@ -76,7 +75,7 @@ impl<'a> Expander<'a> {
         self.put(frame);
     }
 
-    /// How many frames there are: one more than names at most.
+    /// The number of frames: at most the number of names plus one.
     pub fn depth(&self) -> u32
         requires { IsFrameStack self.now.store.now self.now.frames.items
             (vec_capacity self.now.frames) }
@@ -87,7 +86,7 @@ impl<'a> Expander<'a> {
         self.frames.len() as u32
     }
 
-    /// The next token: never a use of a name. Once it is none it stays so. It takes no memory.
+    /// The next token, which is never a use of a name. After the first `None` it stays `None`. Allocates nothing.
     #[inline(always)]
     pub fn next(&mut self) -> Option<Token<'a>>
         requires { IsFrameStack self.old.store.now self.old.frames.items
@@ -108,7 +107,7 @@ impl<'a> Expander<'a> {
         None
     }
 
-    // Takes the next token of the lists as they stand, and frames that have ended away.
+    // Takes the next unexpanded token, and pops the frames that have ended.
     fn advance(&mut self) -> Option<Token<'a>>
         requires { IsFrameStack self.old.store.now self.old.frames.items
             (vec_capacity self.old.frames) }
@@ -131,7 +130,7 @@ impl<'a> Expander<'a> {
         None
     }
 
-    // Puts the text of a name on top, where the occurrence stands for one that has a part.
+    // Pushes the frame of a name, if the occurrence resolves to one that has a part.
     fn enter(&mut self, name: NameRef)
         requires stands { IsFrameStack self.old.store.now
             self.old.frames.items (vec_capacity self.old.frames) }
@@ -163,7 +162,7 @@ impl<'a> Expander<'a> {
         });
     }
 
-    // Puts a frame on top. There is room for it.
+    // Pushes a frame. There is room for it.
     fn put(&mut self, frame: Frame<'a>)
         requires { length self.old.frames.items < vec_capacity self.old.frames }
         ensures frames { self.new.frames.items ≡ self.old.frames.items ++ frame.entry ∷ [] }

@@ -1,4 +1,4 @@
-// Frames: how far the list of an output or of a name was given out.
+// Frames: the progress in the list of an output or a name.
 ghost use Rattle.std.specs.Prelude.{◌≡◌, ◌∷◌, [], ◌<◌, false, Some, None, IfSome, length};
 ghost use Rattle.std.specs.List.{list_any};
 ghost use Rattle.cweb_store.specs.inner.Next.{is_name_use};
@@ -13,8 +13,8 @@ pub mod appending;
 
 use cweb_store::{NameId, NameRef, Part, Parts, Store, Token};
 
-/// The part of a list that is still to come: first Defs where `defs` says so, then the tokens of `part`, then those of
-/// `rest`. The list is the text of `owner`, or the main file's where that is none.
+/// The suffix of a list that is still to come: Defs if `defs` is set, then the tokens of `part`, then those of `rest`.
+/// The list belongs to the name `owner`, or to the main file if that is `None`.
 #[derive(Drop)]
 pub struct Frame<'a> {
     pub owner: Option<NameId>,
@@ -24,7 +24,7 @@ pub struct Frame<'a> {
 }
 
 impl<'a> Frame<'a> {
-    /// The whole list of an output: the text of its name, or the main file's list where that is none.
+    /// The whole list of an output. `None` is the main file.
     pub fn of_root(store: &'a Store, root: Option<NameId>) -> Frame<'a>
         ensures within { FrameIsWithin store.now result }
         ensures list { suffix store.now result ≡ root_list store.now root }
@@ -47,7 +47,7 @@ impl<'a> Frame<'a> {
         }
     }
 
-    /// Takes the next token of the list, as it stands; none where nothing is left. Once it is none it stays so.
+    /// Takes the next unexpanded token. After the first `None` it stays `None`.
     pub fn take(&mut self, store: &'a Store) -> Option<Token<'a>>
         requires { FrameIsWithin store.now self.old }
         ensures owner { self.new.owner ≡ self.old.owner }
@@ -70,7 +70,7 @@ impl<'a> Frame<'a> {
         Some(token)
     }
 
-    /// Takes the tokens of the list up to its next use, and that use too. Where there is none, what stays has none either.
+    /// Takes the tokens up to and including the next use. If there is no use, the suffix that stays has none either.
     pub(crate) fn take_use(&mut self, store: &'a Store) -> Option<NameRef>
         requires { FrameIsWithin store.now self.old }
         ensures owner { self.new.owner ≡ self.old.owner }
@@ -91,8 +91,7 @@ impl<'a> Frame<'a> {
     }
 }
 
-// Takes the tokens of a part up to its first use, and that use too. Where uses stand one behind the other no search is
-// needed.
+// Takes the tokens of a part up to and including its first use. Adjacent uses need no search.
 fn take_use_in(store: &Store, part: &mut Part) -> Option<NameRef>
     requires { PartIsWithin (length (all_tokens store.now.parts)) part.old }
     ensures within { PartIsWithin (length (all_tokens store.now.parts)) part.new }

@@ -1,32 +1,30 @@
-//! What holds of expansion, of print and of cycles whatever the web is. These functions do nothing: each is there for its contract.
+//! Laws of expansion, printing and cycles for any web. Each function exists for its contract and does nothing.
 
 ghost use Rattle.cweb_out.specs.laws.Laws.{DepthAboveTheRankChangesNothing, ExpansionReplacesUsesAlone};
 ghost use Rattle.cweb_out.specs.laws.Laws.{FilesHaveWholeLines, PrintGoesOn, RefusedCyclesAreCycles};
 
-/// An expansion has no use of a name. Each other token of a list stays, in order; each use becomes the expanded text of its
-/// name.
+/// An expansion has no use of a name. Other tokens stay, in order; each use becomes the expanded list of its name.
 pub fn expansion_replaces_uses_alone()
     ensures { ExpansionReplacesUsesAlone }
 {}
 
-/// However deep a list is expanded, from the ranks of its names on, its expansion is the same.
+/// From the ranks of its names on, the depth doesn't change the expansion of a list.
 pub fn depth_above_the_rank_changes_nothing()
     ensures { DepthAboveTheRankChangesNothing }
 {}
 
-/// Two lists one behind the other print what the first one prints, and then what the second one prints behind it. For that the
-/// last token that was printed counts, and whether a join is open.
+/// A concatenation prints the first list and then the second one. The second one's output depends only on the last
+/// printed token and on whether a join is open.
 pub fn print_goes_on()
     ensures { PrintGoesOn }
 {}
 
-/// The last byte of a file is a newline, unless the file is empty.
+/// A file is empty or ends in a newline.
 pub fn files_have_whole_lines()
     ensures { FilesHaveWholeLines }
 {}
 
-/// Where a plan is refused for a cycle, its names are one: at least two stand there, the last is the first again, and each
-/// one is used in the text of the one before it.
+/// The cycle of a refused plan is one: at least two names, the last equal to the first, each used by the one before it.
 pub fn refused_cycles_are_cycles()
     ensures { RefusedCyclesAreCycles }
 {}

@@ -1,7 +1,7 @@
 //! The outputs of a web: which there are, and the tokens of each, with all names expanded.
 #![tactic(auto)]
 
-// which outputs there are, or why there are none
+// the outputs, or why there is no plan
 mod outputs;
 
 // the suffix of a token list that is still to come
@@ -10,7 +10,7 @@ mod frame;
 // the tokens of one output
 mod expander;
 
-// what holds for any web
+// laws for any web
 pub mod laws;
 
 pub use cweb_files::{BinFault, BinFile, Bins, MemoryBins};

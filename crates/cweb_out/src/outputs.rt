@@ -1,6 +1,6 @@
-// Which outputs a web has: its plan, or the first fault that refuses it.
+// The plan of a web's outputs, or the first fault that refuses it.
 
-// the names that a file can have, and the list of outputs
+// names that a file can have, and the list of outputs
 mod file_name;
 mod output_list;
 

@@ -1,5 +1,4 @@
-// Webs written as text, and what becomes of them: their outputs, large webs, sinks that fail, memory that is refused. And places
-// that keep files.
+// Outputs of webs that are written as strings: small and large webs, failing sinks, failed allocations, and bins.
 mod bins;
 mod buffering;
 mod cases;

@@ -1,9 +1,9 @@
--- The table of blanks between tokens that lend their texts.
+-- The table of blanks between edges agrees with its definition.
 use Rattle.cweb_print.proofs.Common.{◌≡◌, ◌<◌, ◌+◌, ◌*◌, ◌/◌, ◌%◌, ℕ, Bool, true, false, List, [], ◌∷◌, ◌++◌, replicate, slice_index_or, refl, ◌∙◌, arith, tag_of, the_type, Edge, class_after_edge, edge_is_apart}
 use Rattle.cweb_files.proofs.ByteTables.{told_by_table}
 use Rattle.cweb_texts.specs.declared.edges.Edge.TheVariants as border
 
--- the answers of all rows, as runs of equal ones
+-- All rows, as spans of equal entries.
 abbrev pub apart_bits : List Bool
 apart_bits = replicate 3 true ++ replicate 13 false ++ replicate 3 true ++ replicate 7 false ++ replicate 3 true
     ++ replicate 3 false ++ replicate 2 true ++ replicate 53 false ++ replicate 6 true ++ replicate 4 false
@@ -11,7 +11,7 @@ apart_bits = replicate 3 true ++ replicate 13 false ++ replicate 3 true ++ repli
     ++ replicate 4 false ++ replicate 1 true ++ replicate 5 false ++ replicate 6 true ++ replicate 26 false ++ replicate
     6 true ++ replicate 4 false ++ replicate 1 true ++ replicate 5 false ++ replicate 6 true ++ replicate 51 false
 
--- borders by number
+-- Edges by number.
 abbrev pub border_at : ℕ → Edge
 border_at n = slice_index_or (
     border.Word ∷ border.Number ∷ border.Literal ∷ border.Glue ∷ border.PlainPlain

@@ -1,4 +1,4 @@
--- Bytes that are written as they are.
+-- Bytes that are written unchanged.
 use Rattle.cweb_print.proofs.Common.{arith, ◌≡◌, ℕ, Bool, true, false, ◌||◌, cond, List, [], ◌∷◌, ◌++◌, refl, ◌∙◌, ap, nat_le, list_any, word_bytes, wants_backslash, quoted}
 
 first_false : (a b : Bool) → (a || b) ≡ false → a ≡ false

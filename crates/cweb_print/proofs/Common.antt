@@ -1,4 +1,4 @@
--- The names that the proofs of this crate cite, passed on from one place. Declares nothing.
+-- Imports that the proofs of this crate share.
 pub use Rattle.std.proofs.Common.{◌≡◌, ◌<◌, ◌+◌, ◌*◌, ◌/◌, ◌%◌, ℕ, Bool, true, false, List, [], ◌∷◌, ◌++◌, replicate}
 pub use Rattle.std.proofs.Common.{slice_index_or, refl, ◌∙◌, arith, ◌==◌, cond, ◌||◌, ◌&&◌, not, Option, None, Some, ap}
 pub use Rattle.std.proofs.Common.{sym, codes, append_assoc, length, take, drop, suc, get_or, append-nil, ◌-◌, map, ◌≤◌}

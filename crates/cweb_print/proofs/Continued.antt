@@ -1,4 +1,4 @@
--- Tokens of a macro that lend their texts: what they add, and what is kept after them.
+-- Direct tokens of a macro: their output, and the state after them.
 use Rattle.cweb_print.proofs.Common.{arith, ◌≡◌, ◌++◌, ◌∙◌, ℕ, Bool, true, false, cond, List, [], Option, None, Some, ap, append_assoc, refl, sym, list_any, IfSome, Token, Word, Number, Literal, Verbatim, Punct, Blank, Newline, Edge, TokenBytesModel, first_is, is_numeric, direct_bytes, punctuator_edge, punctuator_edge_by, class_after_edge, continued_by, edge_ends_line, left_after_edge, edge_is_apart, added, continuation_bytes, left_after_token, macro_by, blank_where, is_high, plain_bytes, word_bytes}
 use Rattle.cweb_texts.specs.declared.edges.Edge.TheVariants as border
 use Rattle.cweb_texts.specs.Edges.{is_operator}
@@ -6,7 +6,7 @@ use Rattle.cweb_print.proofs.DirectEdges.{apart-direct, class-direct, string-dir
 use Rattle.cweb_print.proofs.Bytes.{ascii_word}
 use Rattle.cweb_print.proofs.DirectPrinting.{leaves-direct}
 
--- the text in an answer
+-- The bytes of an optional result.
 abbrev continued_in : Option TokenBytesModel → List ℕ
 continued_in None = []
 continued_in (Some l) = continued_by l
@@ -44,7 +44,7 @@ string-continued replaced Blank l h = ap continued_in h
 string-continued replaced Newline l h = ap continued_in h
 string-continued replaced _ l h = cc
 
--- what one adds behind a token with a border
+-- The output of such a token after one with an edge.
 pub added-continued : (replaced : ℕ → List ℕ) (last : Edge) (t : Token) (l : TokenBytesModel) → direct_bytes t ≡ Some l
     → added (macro_by replaced) (left_after_edge last) t
     ≡ blank_where (edge_is_apart (class_after_edge last) l.edge) ++ continued_by l
@@ -55,12 +55,12 @@ pub left-continued : (last : Edge) (t : Token) (l : TokenBytesModel) → direct_
 left-continued last t l h = leaves-direct (left_after_edge last) t l.string (string-direct t l h)
     ∙ (λ i. record { class = sym (class-direct t l h) i; joined = false })
 
--- what an answer says, in other words
+-- Weakens the property of an optional result.
 pub if_some : (P Q : ℕ → Type 0) (r : Option ℕ) → ((n : ℕ) → P n → Q n) → IfSome r P → IfSome r Q
 if_some P Q None f h = h
 if_some P Q (Some n) f h = f n h
 
--- three texts were put one behind the other
+-- Three strings were appended.
 pub three_put : (old mid next new a b c : List ℕ) → mid ≡ old ++ a → next ≡ mid ++ b → new ≡ next ++ c
     → new ≡ old ++ (a ++ (b ++ c))
 three_put old mid next new a b c f g h = cc (append_assoc (old ++ a) b c, append_assoc old a (b ++ c))

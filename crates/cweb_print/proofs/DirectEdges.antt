@@ -1,10 +1,10 @@
--- Tokens that lend their texts, told by their borders: what they lend, their classes, and the blanks before them.
+-- Direct tokens: their edges, classes, and the blanks before them.
 use Rattle.cweb_print.proofs.Common.{arith, ◌≡◌, ◌==◌, ◌++◌, ◌∙◌, ℕ, Bool, true, false, cond, ◌||◌, ◌&&◌, not, List, [], ◌∷◌, Option, None, Some, refl, ap, sym, option_map, list_any, eqb-true, Token, Word, Number, Literal, Verbatim, Punct, Blank, Newline, Edge, TokenBytesModel, first_is, is_numeric, last_is, direct_bytes, punctuator_edge, punctuator_edge_by, Class, class_after_edge, left_after_edge, edge_is_apart, class_by, class_is_glue, class_is_literal, class_is_number, class_is_operator, class_is_point, class_is_wordlike, class_of, is_apart, AppendsToken, blank_where, is_high, direct_unless_dropped}
 use Rattle.cweb_texts.specs.declared.edges.Edge.TheVariants as border
 use Rattle.cweb_texts.specs.Edges.{is_operator}
 use Rattle.cweb_print.specs.declared.printer.class.Class.TheVariants as class
 
--- the border in an answer
+-- The edge of an optional result.
 abbrev border_in : Option TokenBytesModel → Edge
 border_in None = border.Unknown
 border_in (Some l) = l.edge
@@ -65,7 +65,7 @@ line_end-apart : (c : Class) → is_apart c Newline ≡ edge_is_apart c border.L
 line_end-apart class.LineStart = refl
 line_end-apart _ = refl
 
--- whether a blank comes before a punctuator, by two tests of its first byte
+-- Whether a blank comes before a punctuator, from two tests of its first byte.
 abbrev before_sign : Class → Bool → Bool → Bool
 before_sign c s o = (class_is_wordlike c && false && not (class_is_literal c && false))
     || (class_is_number c && s)
@@ -103,7 +103,7 @@ numeric_is x false true r e f g h = ap is_operator (sym (eqb-true 43 x f))
 numeric_is x false false true e f g h = ap is_operator (sym (eqb-true 45 x g))
 numeric_is x false false false e f g h = cc
 
--- a byte that could go on in a number is an operator byte
+-- A byte that could continue a number is an operator byte.
 first-numeric : (b : List ℕ) → first_is is_numeric b ≡ true → first_is is_operator b ≡ true
 first-numeric [] h = h
 first-numeric (x ∷ b) h = numeric_is x (46 == x) (43 == x) (45 == x) refl refl refl h
@@ -127,7 +127,7 @@ apart-direct c Blank l h = blank-apart c ∙ ap (λ o. edge_is_apart c (border_i
 apart-direct c Newline l h = line_end-apart c ∙ ap (λ o. edge_is_apart c (border_in o)) h
 apart-direct c _ l h = cc
 
--- what a token lends was added behind one with a border
+-- The bytes of a token were appended after one with an edge.
 pub gathers-direct : (last : Edge) (t : Token) (l : TokenBytesModel) (old new : List ℕ) → direct_bytes t ≡ Some l
     → new ≡ old ++ (blank_where (edge_is_apart (class_after_edge last) l.edge) ++ l.string)
     → AppendsToken (left_after_edge last) t (left_after_edge l.edge) old new

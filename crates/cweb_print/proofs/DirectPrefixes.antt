@@ -1,9 +1,9 @@
--- Tokens that lend their texts: printing them one after another.
+-- Printing of consecutive direct tokens.
 use Rattle.cweb_print.proofs.Common.{arith, ◌≡◌, ◌++◌, ◌∙◌, [], ◌∷◌, refl, sym, subst, ap, append_assoc, append-nil, ℕ, List, true, ◌&&◌, None, Some, Option, is_some, option_map, list_all, Token, TokenBytesModel, direct_bytes, print, Left, Printer, is_apart, left_after_tokens, left_after_token, AreDirect, blank_where, is_direct, left_in_printer, setting_of, AppendsToken, MovesBy, PrintsBy, second_so}
 use Rattle.cweb_print.proofs.DirectPrinting.{leaves-direct, direct-open, print-direct}
 use Rattle.cweb_print.proofs.Steps.{leaves-push}
 
--- a token that is printed as the text that it lends, lends one
+-- A direct token has its bytes.
 some-direct : (o : Option TokenBytesModel) (string : List ℕ)
     → option_map (λ (l : TokenBytesModel). l.string) o ≡ Some string
     → is_some o ≡ true
@@ -14,7 +14,7 @@ direct-push : (ts : List Token) (t : Token) → AreDirect ts → is_direct t ≡
 direct-push [] t h e = ap (λ b. b && true) e
 direct-push (x ∷ xs) t h e = grind (arith, direct-push xs t (second_so (is_direct x) (list_all is_direct xs) h) e)
 
--- tokens were printed one after another, and this is kept after them
+-- Tokens were printed in order, and this is the state after them.
 pub record Passed (p : Printer) (ts : List Token) (left : Left) (old new : List ℕ) : Type 0 where
   pub direct : AreDirect ts
   pub moves : MovesBy (left_in_printer p) ts left
@@ -57,7 +57,7 @@ passed_more p ts left after t old mid new passed g =
           };
     }
 
--- the same where what was put is told in other words
+-- Rewrites the new bytes along an equation.
 pub passed_same : (p : Printer) (ts : List Token) (left : Left) (old new new' : List ℕ) → new' ≡ new
     → Passed p ts left old new → Passed p ts left old new'
 passed_same p ts left old new new' same passed = subst (λ (u : List ℕ). Passed p ts left old u) (sym same) passed

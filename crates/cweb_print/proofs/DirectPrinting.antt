@@ -1,16 +1,16 @@
--- Tokens that are printed as the text that they lend: what is kept of them, and what they add.
+-- Direct tokens: the state after them, and their output.
 use Rattle.cweb_print.proofs.Common.{◌≡◌, ◌++◌, ◌∙◌, ◌&&◌, refl, Bool, true, false, cond, ℕ, List, [], ◌∷◌, Option, Some, None, option_map, list_any, Token, Word, Punct, Blank, Newline, Join, Head, Tail, Mark, Setting, print, stays_joined, word_bytes, Class, Left, class_of, left_after_token, added, file_by, separator, is_apart, is_layout, left_after_tokens, is_high, direct_bytes, direct_unless_dropped, blank_where, Edge, TokenBytesModel, punctuator_edge}
 use Rattle.cweb_texts.specs.declared.edges.Edge.TheVariants as border
 use Rattle.cweb_print.proofs.Bytes.{ascii_word}
 use Rattle.cweb_print.proofs.Steps.{print-push}
 
--- what is told of an answer in two steps
+-- A conditional optional result.
 unless : {A : Type 0} → (dropped : Bool) (o : Option A) (x : A) → cond dropped None o ≡ Some x
     → (dropped ≡ false) × (o ≡ Some x)
 unless true o x h = cc
 unless false o x h = (refl, h)
 
--- the text that is lent, whether a join is open or not
+-- The bytes, whether a join is open or not.
 abbrev text_by : Option TokenBytesModel → Option (List ℕ)
 text_by o = option_map (λ (l : TokenBytesModel). l.string) o
 
@@ -63,7 +63,7 @@ added-direct : (s : Setting) (left : Left) (t : Token) (string : List ℕ)
 added-direct s left t string h =
     cc (keeps-direct left.joined t string h, file-direct s left.class t string (direct-open left.joined t string h))
 
--- one more token, which is lent
+-- One more direct token.
 pub print-direct : (s : Setting) (left : Left) (ts : List Token) (t : Token) (apart : Bool) (string : List ℕ)
     → left_after_tokens ts ≡ left → apart ≡ is_apart left.class t
     → direct_unless_dropped left.joined t ≡ Some string

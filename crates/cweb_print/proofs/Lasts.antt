@@ -8,7 +8,7 @@ pub punct-last : (bs : List ℕ) (x : ℕ) → slice_get bs (length bs - 1) ≡ 
 punct-last bs x h = ap (λ b. class_by b (last_is is_operator bs)) (last_is-at (λ x. x == 46) bs x h)
     ∙ ap (λ b. class_by (x == 46) b) (last_is-at is_operator bs x h)
 
--- a point is an operator byte
+-- A point is an operator byte.
 pub point-operator : (b : List ℕ) → last_is (λ x. x == 46) b ≡ true → last_is is_operator b ≡ true
 point-operator [] h = h
 point-operator (x ∷ []) h = ap is_operator (eqb-true x 46 h)

@@ -1,4 +1,4 @@
--- Macros as runs of token numbers.
+-- Macros as ranges of token indices.
 use Rattle.cweb_print.proofs.Common.{◌≡◌, ◌≤◌, ◌<◌, ◌+◌, ◌-◌, ℕ, suc, Bool, true, false, cond, List, [], ◌∷◌, ◌++◌, refl, sym, ◌∙◌, ap, map, take, drop, length, slice_range, arith, get_or, subst, append_assoc, append-nil, flat_map, filter, All, slice_get, Some, drop-drop, take_at, drop_at, take_more, get_or-drop, length-drop, take-add, Class, Left, added, all_added, at_start, begin_by, file_by, is_apart, left_after_tokens, left_after_token, PartKind, Token, Defs, all_tokens, is_macro, numbers_from, numbers_where, Stored, Setting, macro_line, macro_lines, macros, replaced_in, tokens_of_part, and-false, slice_get_within}
 use Rattle.cweb_print.specs.declared.printer.class.Class.TheVariants as class
 use Rattle.cweb_print.proofs.Steps.{added-append, added-push, leaves-push}
@@ -10,11 +10,11 @@ no_blank : (c : Class) → is_apart c Defs ≡ false
 no_blank class.LineStart = refl
 no_blank _ = refl
 
--- what stands in a file for all macros
+-- Defs prints the lines of all macros.
 pub defs-added : (s : Setting) (left : Left) → added (file_by s) left Defs ≡ begin_by left.class ++ macro_lines s
 defs-added s left = cc (and-false left.joined, no_blank left.class, append-nil (begin_by left.class ++ macro_lines s))
 
--- the lines of runs
+-- The lines of ranges.
 abbrev pub lines : Stored → List declared.Part → List ℕ
 lines w runs = flat_map (λ run. macro_line (replaced_in w) (tokens_of_part w run)) runs
 
@@ -46,7 +46,7 @@ lines_from w test (p ∷ ps) n h =
 pub lines_are : (w : Stored) → lines w (numbers_where is_macro w.parts) ≡ all_lines w
 lines_are w = lines_from w is_macro w.parts 0 refl
 
--- a run with one token more
+-- A range with one more token.
 pub range_more : (ts : List Token) (a n : ℕ) (t : Token) → a ≤ n
     → slice_get ts n ≡ Some t → slice_range ts a (n + 1) ≡ slice_range ts a n ++ t ∷ []
 range_more ts a n t le is =
@@ -76,7 +76,7 @@ range_split ts a n b t le lt within is =
       slice_get-or ts n t is,
     )
 
--- the tokens of a macro: those that were printed, the next one, and the rest
+-- The tokens of a macro: the printed ones, the next one, and the rest.
 pub tokens_at : (by : Class → Token → List ℕ) (ts : List Token) (a n b : ℕ) (t : Token) (left : Left)
     → a ≤ n → n < b → b ≤ length ts → slice_get ts n ≡ Some t
     → left ≡ left_after_tokens (slice_range ts a n) → all_added by at_start (slice_range ts a b) ≡ all_added

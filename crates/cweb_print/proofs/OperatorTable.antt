@@ -1,8 +1,8 @@
--- The table of the bytes of operators.
+-- The table of operator bytes agrees with its definition.
 use Rattle.cweb_print.proofs.Common.{◌≡◌, ◌<◌, ℕ, Bool, true, false, List, ◌++◌, replicate, slice_index_or, refl, is_operator}
 use Rattle.cweb_files.proofs.ByteTables.{told_by_table}
 
--- which bytes are of operators, as runs of equal answers
+-- The table as spans of equal entries.
 abbrev pub operator_bytes : List Bool
 operator_bytes = replicate 33 false ++ replicate 1 true ++ replicate 1 false ++ replicate 1 true
     ++ replicate 1 false ++ replicate 2 true ++ replicate 3 false ++ replicate 2 true ++ replicate 1 false

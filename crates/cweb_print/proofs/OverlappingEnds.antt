@@ -1,16 +1,16 @@
--- A text is its first bytes, up to where its last ones begin, and these.
+-- A string is covered by its first and last bytes if they overlap.
 use Rattle.cweb_print.proofs.Common.{◌≡◌, ◌≤◌, ◌+◌, ◌-◌, ◌++◌, ◌∙◌, ℕ, List, length, take, drop, sym, ap, arith, rules, length-drop, append_assoc, take_at}
 use Rattle.std.proofs.lemmas.List.{length-take-le, take-append-drop, take-append-le}
 use Rattle.std.proofs.lemmas.Slice.{between_is}
 use Rattle.std.proofs.Math.Seq.{take-append-add}
 
--- of the first bytes of a text those that are first
+-- A prefix of a prefix.
 pub taken_twice : (m n : ℕ) (text : List ℕ) → m ≤ n → n ≤ length text → take m (take n text) ≡ take m text
 taken_twice m n text below within =
     sym (take-append-le m (take n text) (drop n text) (omega (arith, below, length-take-le n text within)))
     ∙ ap (take m) (take-append-drop n text)
 
--- of what is behind the first bytes those up to a place
+-- A range between the used bytes and an index.
 taken_behind : (bytes : List ℕ) (used count : ℕ) → take (used - count) (drop count bytes) ≡ drop count (take used bytes)
 taken_behind bytes used count = search (rules, between_is)
 
@@ -19,24 +19,24 @@ pub overlapped : (before text : List ℕ) (n : ℕ) → n ≤ length text → le
 overlapped before text n least most =
     grind (arith, take-append-add before (take n text), taken_twice, append_assoc before, take-append-drop)
 
--- bytes that were turned round, of which the rest behind the first ones is now in front
+-- Bytes that were rotated: the suffix is now first.
 pub rest_in_front : (bytes : List ℕ) (used count : ℕ) → count ≤ used → used ≤ length bytes
     → take (used - count) (drop count bytes ++ take count bytes) ≡ drop count (take used bytes)
 rest_in_front bytes used count below within =
     take-append-le (used - count) (drop count bytes) (take count bytes) (omega (arith, within, length-drop count bytes))
     ∙ taken_behind bytes used count
 
--- bytes that were put in place of as many
+-- Bytes that were overwritten by as many.
 pub whole_again : (old new : List ℕ) (count : ℕ) → length new ≡ count → take count (new ++ drop (length new) old) ≡ new
 whole_again old new count is = take_at new (drop (length new) old) count is
 
--- bytes of which a longer front stays the same
+-- A shorter prefix is unchanged if a longer one is.
 pub front_within : (old new : List ℕ) (m n : ℕ) → m ≤ n → n ≤ length old → n ≤ length new
     → take n new ≡ take n old → take m new ≡ take m old
 front_within old new m n below within within' same =
     sym (taken_twice m n new below within') ∙ ap (take m) same ∙ taken_twice m n old below within
 
--- or to which something was put behind that front
+-- It is unchanged if bytes were written after the longer one.
 pub front_stays : (old new more : List ℕ) (used end : ℕ) → used ≤ end → used ≤ length old → end ≤ length new
     → take end new ≡ take used old ++ more → take used new ≡ take used old
 front_stays old new more used end below within within' is =

@@ -1,4 +1,4 @@
--- What a call of a printer adds, by what it wrote.
+-- The output of a printer's call, from the bytes that it wrote.
 use Rattle.cweb_print.proofs.Common.{arith, ◌≡◌, ◌++◌, List, ℕ, Result, Ok, Err, Wrote, AddsBy}
 
 pub adds_by : {A E : Type 0} (before after old new due : List ℕ) (r : Result A E)

@@ -7,7 +7,6 @@ slice_get-or [] i t h = cc
 slice_get-or (x ∷ ts) zero t h = cc
 slice_get-or (x ∷ ts) (suc i) t h = slice_get-or ts i t h
 
--- a run that is not empty begins with its first token
 pub slice_range-first : (ts : List Token) (a b : ℕ) (t : Token) → a < b → b ≤ length ts
     → t ≡ slice_index_or ts a t → slice_range ts a b ≡ t ∷ slice_range ts (a + 1) b
 slice_range-first ts a b t h k e = grind (arith, drop-cons ts a t, add-one a)

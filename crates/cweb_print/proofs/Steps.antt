@@ -1,9 +1,9 @@
--- Printing token by token: what each adds, by what was kept of those before it.
+-- Printing token by token: the output of each one follows from the printer's state.
 use Rattle.cweb_print.proofs.Common.{arith, ◌≡◌, ℕ, Bool, true, false, ◌&&◌, ◌||◌, not, cond, List, [], ◌∷◌, ◌++◌, refl, sym, ◌∙◌, ap, append_assoc, append-nil, Option, None, Some, codes, nat_eq, fold, Token, Word, Number, Literal, Verbatim, Punct, Blank, Newline, Join, Defs, Name, Head, Tail, Mark, is_operator, is_one_of, is_wordlike, is_literal, is_number, is_comment, begins_with, are_apart, sep, macro_token_bytes, printed_tokens, Setting, stays_joined, is_layout, without_joined_layout, print_after, print, file, file_token_bytes, last_token, left_after, starts_line, begin_line, macro_lines, mark_line, file_name, Class, Left, class_by, class_of, class_is_line_start, is_apart, separator, left_after_token, at_start, left_after_tokens, added, all_added, begin_by, file_by, macro_by, second_so}
 use Rattle.cweb_texts.specs.Edges.{last_is}
 use Rattle.cweb_print.proofs.Lasts.{point-operator}
 
--- the tests of a punctuator on the left, by its class
+-- The tests of a punctuator to the left agree with its class.
 punct_apart : (d o : Bool) (t : Token) → (d ≡ true → o ≡ true) →
     ((false && is_wordlike t && not (false && is_literal t))
     || (false && begins_with (is_one_of (codes ".+-")) t)
@@ -47,7 +47,7 @@ starts_by_class (Some (Mark p)) = refl
 pub begin_by_class : (l : Option Token) → begin_line l ≡ begin_by (class_of l)
 begin_by_class l = ap (λ b. cond b [] (codes "\n")) (starts_by_class l)
 
--- a text by the token to the left, and the same by its class
+-- The bytes of a token after the one to its left are those after its class.
 abbrev pub Agrees : (Option Token → Token → List ℕ) → (Class → Token → List ℕ) → Type 0
 Agrees text by = (l : Option Token) (t : Token) → text l t ≡ by (class_of l) t
 
@@ -68,7 +68,7 @@ layout_stays joined (Head n) h = refl
 layout_stays joined (Tail n) h = refl
 layout_stays joined _ h = cc
 
--- THE STEP: what is printed of a list after a token is what its tokens add, by what was kept
+-- The output of a list after a token is that of its tokens from the state.
 pub printed_by : (text : Option Token → Token → List ℕ) (by : Class → Token → List ℕ)
     → Agrees text by → (l : Option Token) (joined : Bool) (ts : List Token)
     → print_after text l (without_joined_layout joined ts)
@@ -86,7 +86,7 @@ printed_by text by agrees l joined (t ∷ ts) =
     cases later true e = cc (layout_stays joined t (second_so joined (is_layout t) e), later l joined)
     cases later false e = (λ i. (sep_by_class l t i ++ agrees l t i) ++ later (Some t) (stays_joined joined t) i)
 
--- the same of what is kept
+-- The state after the list.
 pub kept_by : (l : Option Token) (joined : Bool) (ts : List Token)
     → class_of (last_token l (without_joined_layout joined ts))
     ≡ (fold left_after_token (record { class = class_of l; joined = joined }) ts).class
@@ -117,7 +117,7 @@ fold-append : (left : Left) (xs ys : List Token)
 fold-append left [] ys = refl
 fold-append left (x ∷ xs) ys = fold-append (left_after_token left x) xs ys
 
--- one list is printed, and then another by what is kept of the first
+-- A concatenation prints the first list, and then the second one from the state after it.
 pub print-append : (s : Setting) (xs ys : List Token)
     → print s (xs ++ ys) ≡ print s xs ++ all_added (file_by s) (left_after_tokens xs) ys
 print-append s xs ys =
@@ -133,17 +133,17 @@ pub leaves-push : (ts : List Token) (t : Token)
     → left_after_tokens (ts ++ t ∷ []) ≡ left_after_token (left_after_tokens ts) t
 leaves-push ts t = fold-append at_start ts (t ∷ [])
 
--- one more token
+-- One more token.
 pub print-push : (s : Setting) (left : Left) (ts : List Token) (t : Token)
     → left_after_tokens ts ≡ left → print s (ts ++ t ∷ []) ≡ print s ts ++ added (file_by s) left t
 print-push s left ts t is = cc (print-append s ts (t ∷ []), append-nil (added (file_by s) (left_after_tokens ts) t))
 
--- the end of a file
+-- The end of a file.
 pub file-end : (s : Setting) (left : Left) (ts : List Token)
     → left_after_tokens ts ≡ left → file s ts ≡ print s ts ++ begin_by left.class
 file-end s left ts is = cc (begin_by_class (left_after ts), kept_by None false ts)
 
--- the tokens of a macro
+-- The tokens of a macro.
 pub macro-printed : (replaced : ℕ → List ℕ) (ts : List Token)
     → printed_tokens (λ left. macro_token_bytes replaced) ts ≡ all_added (macro_by replaced) at_start ts
 macro-printed replaced ts = grind (arith, printed_by, macro_agrees replaced)

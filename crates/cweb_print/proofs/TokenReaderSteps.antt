@@ -1,7 +1,7 @@
--- Tokens that lend their texts, by their numbers.
+-- Direct tokens, by index.
 use Rattle.cweb_print.proofs.Common.{arith, ◌≡◌, ℕ, List, Option, None, Some, map, refl, option_map, slice_get, slice_get-map, Token, TokenBytesModel, direct_bytes}
 
--- the token with a number lends this
+-- The token at an index has these bytes.
 pub record LendsAt (ts : List Token) (n : ℕ) (l : TokenBytesModel) : Type 0 where
   pub token : Token
   pub there : slice_get ts n ≡ Some token
@@ -12,7 +12,7 @@ lent_in : (ts : List Token) (n : ℕ) (l : TokenBytesModel) (o : Option Token) �
 lent_in ts n l None there h = cc
 lent_in ts n l (Some t) there h = record { token = t; there = there; direct = cc }
 
--- by what lends the texts of all tokens
+-- The reader of all tokens returns them.
 pub direct-at : (lenders : List (Option TokenBytesModel)) (ts : List Token) (n : ℕ) (l : TokenBytesModel)
     → lenders ≡ map direct_bytes ts
     → slice_get lenders n ≡ Some (Some l) → LendsAt ts n l

@@ -1,11 +1,11 @@
--- Texts of which a front was written.
+-- Strings of which a prefix was written.
 use Rattle.cweb_print.proofs.Common.{arith, refl, ◌≡◌, ◌<◌, ◌++◌, [], ◌∙◌, ap, sym, append_assoc, ℕ, List, length, take, drop, suc, get_or, append-nil, Result, Ok, Err, IsErr, flat_map, Wrote}
 use Rattle.std.proofs.Common.{Bor, drop-cons}
 use Rattle.std.proofs.lemmas.List.{take-append-drop}
 use Rattle.std.proofs.lemmas.List.Concat.{flat_map-append}
 use Rattle.cweb_files.specs.Frames.{WritesPrefix}
 
--- one text was written, and then another, or a front of it
+-- One string was written, and then another or a prefix of it.
 pub wrote_more : {A E : Type 0} (old mid new text more : List ℕ) (r : Result A E)
     → mid ≡ old ++ text → Wrote mid new more r → Wrote old new (text ++ more) r
 wrote_more old mid new text more (Ok x) is wrote = cc (append_assoc old text more)
@@ -16,14 +16,14 @@ wrote_more old mid new text more (Err e) is wrote = record {
   whole = ap (λ (t : List ℕ). text ++ t) wrote.whole ∙ sym (append_assoc text wrote.front wrote.rest);
 }
 
--- the same text under another name
+-- Rewrites the string along an equation.
 pub wrote_same : {A E : Type 0} (old new text other : List ℕ) (r : Result A E)
     → text ≡ other → Wrote old new text r → Wrote old new other r
 wrote_same old new text other (Ok x) same wrote = wrote ∙ ap (λ (t : List ℕ). old ++ t) same
 wrote_same old new text other (Err e) same wrote =
     record { front = wrote.front; rest = wrote.rest; written = wrote.written; whole = sym same ∙ wrote.whole }
 
--- the pieces before one, that one, and those behind it
+-- The chunks before one, that one, and those after it.
 pub pieces_at : (pieces : List (Bor (List ℕ))) (i : ℕ) (d : Bor (List ℕ)) → i < length pieces
     → flat_map (λ (p : Bor (List ℕ)). p.now) pieces
     ≡ (flat_map (λ (p : Bor (List ℕ)). p.now) (take i pieces) ++ (get_or pieces i d).now)
@@ -31,7 +31,7 @@ pub pieces_at : (pieces : List (Bor (List ℕ))) (i : ℕ) (d : Bor (List ℕ)) 
 pieces_at pieces i d lt =
     grind (arith, take-append-drop i pieces, flat_map-append, drop-cons pieces i d lt, append_assoc)
 
--- a front of one piece of a text was written after those before it
+-- A prefix of one chunk was written after the chunks before it.
 pub front_in : (old mid new before piece rest text : List ℕ) → text ≡ (before ++ piece) ++ rest
     → mid ≡ old ++ before → WritesPrefix mid new piece → WritesPrefix old new text
 front_in old mid new before piece rest text is written f = record {
@@ -46,7 +46,7 @@ pub wrote_err : {A E : Type 0} (old new text : List ℕ) (r : Result A E)
 wrote_err old new text (Ok x) is front = cc is
 wrote_err old new text (Err e) is front = front
 
--- some of a text was written, and the rest is to come
+-- A prefix of a string was written, and the rest is to come.
 pub record Written (old new text rest : List ℕ) : Type 0 where
   pub front : List ℕ
   pub written : new ≡ old ++ front
@@ -72,7 +72,7 @@ written_front old mid new text piece rest w f = record {
   whole = w.whole ∙ ap (λ (t : List ℕ). w.front ++ (t ++ rest)) f.whole ∙ simp append_assoc;
 }
 
--- the last piece of a text
+-- The last chunk of a string.
 pub written_last : {A E : Type 0} (old mid new text piece : List ℕ) (r : Result A E)
     → Written old mid text piece → Wrote mid new piece r → Wrote old new text r
 written_last old mid new text piece (Ok x) w wrote = cc (append_assoc old w.front piece)
@@ -96,7 +96,7 @@ flat_at f xs i d lt =
       f (get_or xs i d),
     )
 
--- a text of several pieces: the first failed, or the second, or the last one was written or failed
+-- A string of several chunks: a write failed at one of them, or all succeeded.
 pub first_failed : {A E : Type 0} (old new text piece rest : List ℕ) (r : Result A E)
     → text ≡ piece ++ rest → IsErr r → WritesPrefix old new piece → Wrote old new text r
 first_failed old new text piece rest r is err f = wrote_err old new text r err

@@ -8,7 +8,7 @@ use Rattle.cweb_store.specs.Layout.{is_layout}
 use Rattle.cweb_texts.specs.Edges.{is_one_of}
 use Rattle.cweb_print.specs.Spacing.{sep}
 
--- whether only layout and section comments stand between the last join and what comes after a token: `joined` says so before it
+-- Whether a join is open after a token: only layout and section comments follow it.
 abbrev pub stays_joined : Bool → Token → Bool
 stays_joined joined Join = true
 stays_joined joined Blank = joined
@@ -18,32 +18,34 @@ stays_joined joined (Head n) = joined
 stays_joined joined (Tail n) = joined
 stays_joined joined t = false
 
--- the tokens without the layout after a join
+-- The tokens without the layout after a join.
 abbrev pub without_joined_layout : Bool → List Token → List Token
 without_joined_layout joined [] = []
 without_joined_layout joined (t ∷ ts) = let rest = without_joined_layout (stays_joined joined t) ts in
     if joined && is_layout t then rest else t ∷ rest
 
--- the separators and texts of tokens, after a token: `text` says what a token is after the one to its left
+-- The separators and bytes of tokens after a token. `text` gives the bytes of a token after the one to its left.
 abbrev pub print_after : (Option Token → Token → List ℕ) → Option Token → List Token → List ℕ
 print_after text left [] = []
 print_after text left (t ∷ ts) = (sep left t ++ text left t) ++ print_after text (Some t) ts
 
+-- The separators and bytes of a list from a line start on, without the layout after joins.
 abbrev pub printed_tokens : (Option Token → Token → List ℕ) → List Token → List ℕ
 printed_tokens text ts = print_after text None (without_joined_layout false ts)
 
--- a byte of a word: `replaced` says what stands for a byte from 128
+-- A byte of a Word. `replaced` gives the bytes for a byte from 128 on.
 abbrev pub word_byte : (ℕ → List ℕ) → ℕ → List ℕ
 word_byte replaced b = if nat_le 128 b then replaced b else b ∷ []
 
+-- The bytes of a Word.
 abbrev pub word_bytes : (ℕ → List ℕ) → List ℕ → List ℕ
 word_bytes replaced bytes = flat_map (word_byte replaced) bytes
 
--- a section's number between two pieces of a comment
+-- A section's number between the two parts of a comment.
 abbrev pub numbered_comment : List ℕ → ℕ → List ℕ → List ℕ
 numbered_comment before n behind = before ++ (decimal n ++ behind)
 
--- the text of a token that looks the same whatever is to its left
+-- The bytes of a token that don't depend on the token to its left.
 abbrev pub plain_bytes : (ℕ → List ℕ) → Token → List ℕ
 plain_bytes replaced (Word b) = word_bytes replaced b
 plain_bytes replaced (Number b) = b
@@ -56,24 +58,26 @@ plain_bytes replaced (Head n) = numbered_comment (codes "/*") n (codes ":*/")
 plain_bytes replaced (Tail n) = numbered_comment (codes "/*:") n (codes "*/")
 plain_bytes replaced t = []
 
--- in a macro a line goes on after a backslash
+-- A newline in a macro is preceded by a backslash.
 abbrev pub macro_token_bytes : (ℕ → List ℕ) → Token → List ℕ
 macro_token_bytes replaced Newline = codes " \\\n"
 macro_token_bytes replaced t = plain_bytes replaced t
 
+-- The `#define` line of a macro.
 abbrev pub macro_line : (ℕ → List ℕ) → List Token → List ℕ
 macro_line replaced ts = codes "#define " ++ (printed_tokens (λ left. macro_token_bytes replaced) ts ++ codes "\n")
 
--- what printing reads beside the tokens: what stands for a byte from 128 in a word, the names of the files, the macros
+-- What printing reads beside tokens: replacements, file names and macros.
 pub record Setting : Type 0 where
   pub replaced : ℕ → List ℕ
   pub files : List (List ℕ)
   pub macros : List (List Token)
 
+-- The lines of all macros, in order.
 abbrev pub macro_lines : Setting → List ℕ
 macro_lines s = flat_map (macro_line s.replaced) s.macros
 
--- what comes after this token, or comes first, stands at the start of a line
+-- The next token begins a line.
 abbrev pub starts_line : Option Token → Bool
 starts_line None = true
 starts_line (Some Newline) = true
@@ -81,44 +85,49 @@ starts_line (Some (Mark p)) = true
 starts_line (Some Defs) = true
 starts_line (Some t) = false
 
--- a newline, unless at the start of a line
+-- A newline, or nothing at the start of a line.
 abbrev pub begin_line : Option Token → List ℕ
 begin_line left = if starts_line left then [] else codes "\n"
 
--- a quote or a backslash
+-- A quote or a backslash.
 abbrev pub wants_backslash : ℕ → Bool
 wants_backslash b = is_one_of (codes "\"\\") b
 
--- in a file name between quotes
+-- A byte of a quoted file name.
 abbrev pub quoted_byte : ℕ → List ℕ
 quoted_byte b = if wants_backslash b then 92 ∷ b ∷ [] else b ∷ []
 
+-- The bytes of a quoted file name.
 abbrev pub quoted : List ℕ → List ℕ
 quoted name = flat_map quoted_byte name
 
--- the line mark: what follows stands on this line of this file
+-- The line mark: the next source line is this one of this file.
 abbrev pub mark_line : List ℕ → ℕ → List ℕ
 mark_line name line = codes "#line " ++ (decimal line ++ (codes " \"" ++ (quoted name ++ codes "\"\n")))
 
+-- The file name of a line mark.
 abbrev pub file_name : Setting → Place → List ℕ
 file_name s p = slice_index_or s.files p.file.0 []
 
+-- The bytes of a token in a file, after the token to its left.
 abbrev pub file_token_bytes : Setting → Option Token → Token → List ℕ
 file_token_bytes s left (Mark p) = begin_line left ++ mark_line (file_name s p) p.line
 file_token_bytes s left Defs = begin_line left ++ macro_lines s
 file_token_bytes s left t = plain_bytes s.replaced t
 
+-- The bytes that a list of tokens prints.
 abbrev pub print : Setting → List Token → List ℕ
 print s ts = printed_tokens (file_token_bytes s) ts
 
+-- The last token of a list, or the one before it.
 abbrev pub last_token : Option Token → List Token → Option Token
 last_token left [] = left
 last_token left (t ∷ ts) = last_token (Some t) ts
 
--- the token to the left of what comes after a list
+-- The last printed token of a list.
 abbrev pub left_after : List Token → Option Token
 left_after ts = last_token None (without_joined_layout false ts)
 
--- all bytes of a file: its last line is ended
+-- All bytes of a file. Its last line is ended.
 abbrev pub file : Setting → List Token → List ℕ
 file s ts = print s ts ++ begin_line (left_after ts)

@@ -1,46 +1,50 @@
--- Whether a blank comes between two tokens that are printed one after the other.
+-- Whether a blank is printed between two adjacent tokens.
 use Rattle.std.specs.Prelude.{ℕ, Bool, true, false, ◌||◌, ◌&&◌, ◌==◌, not, List, [], codes, if◌then◌else◌, Option, Some}
 use Rattle.std.specs.Prelude.{None}
 use Rattle.cweb_texts.specs.Edges.{first_is, is_one_of, is_operator, last_is}
 use Rattle.cweb_store.specs.Parts.{Token, Word, Number, Literal, Verbatim, Punct, Join, Head, Tail}
 
+-- Words, numbers and literals.
 abbrev pub is_wordlike : Token → Bool
 is_wordlike (Word b) = true
 is_wordlike (Number b) = true
 is_wordlike (Literal b) = true
 is_wordlike t = false
 
+-- The token is a Literal.
 abbrev pub is_literal : Token → Bool
 is_literal (Literal b) = true
 is_literal t = false
 
+-- The token is a Number.
 abbrev pub is_number : Token → Bool
 is_number (Number b) = true
 is_number t = false
 
--- a section comment
+-- A section comment.
 abbrev pub is_comment : Token → Bool
 is_comment (Head n) = true
 is_comment (Tail n) = true
 is_comment t = false
 
+-- A Join or Verbatim bytes.
 abbrev pub is_join_or_verbatim : Token → Bool
 is_join_or_verbatim Join = true
 is_join_or_verbatim (Verbatim b) = true
 is_join_or_verbatim t = false
 
--- a punctuator whose first byte passes, and one whose last byte passes
+-- A punctuator whose first byte passes a test.
 abbrev pub begins_with : (ℕ → Bool) → Token → Bool
 begins_with test (Punct b) = first_is test b
 begins_with test t = false
 
+-- A punctuator whose last byte passes a test.
 abbrev pub ends_with : (ℕ → Bool) → Token → Bool
 ends_with test (Punct b) = last_is test b
 ends_with test t = false
 
--- A blank comes between words, numbers and literals, but not between two literals; between a number and what could go on in it;
--- between a point and a number; between two operators, or an operator and a section comment; before a section comment after a
--- join or a verbatim text.
+-- A blank separates: words, numbers and literals, except two literals; a number and what could continue it; a point and
+-- a number; two operators; an operator and a section comment; a join or verbatim bytes and a section comment.
 abbrev pub are_apart : Token → Token → Bool
 are_apart left right =
     (is_wordlike left && is_wordlike right && not (is_literal left && is_literal right))
@@ -49,7 +53,7 @@ are_apart left right =
     || (ends_with is_operator left && (begins_with is_operator right || is_comment right))
     || (is_join_or_verbatim left && is_comment right)
 
--- what is printed between a token and the token to its left, if there is one
+-- The bytes between a token and the one to its left, if any.
 abbrev pub sep : Option Token → Token → List ℕ
 sep None t = []
 sep (Some l) t = if are_apart l t then codes " " else []

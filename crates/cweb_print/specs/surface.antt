@@ -1,4 +1,4 @@
--- What public calls promise beside the headline.
+-- Definitions that public calls cite and the headline does not.
 pub mod TokenRanges
 pub mod Classes
 pub mod Printers

@@ -1,4 +1,4 @@
-// Printed bytes, gathered before a sink has them.
+// The output buffer in front of a sink.
 ghost use Rattle.std.specs.Prelude.{◌≡◌, ◌≤◌, ◌<◌, ◌+◌, ◌^◌, ◌++◌, [], length, take, drop, IfOk};
 ghost use Rattle.std.specs.Prelude.{IfErr, IsTrue, OnOk};
 ghost use Rattle.cweb_files.specs.Device.{CountsFailure};
@@ -13,19 +13,19 @@ use std::alloc::{AllocError, Global};
 use std::boxed::BoxedSlice;
 use std::marker::Model;
 
-/// So many bytes are gathered at most: where no short text fits behind them, they are more than the 65,536 that a sink may
-/// gather itself, so that it lets them pass uncopied.
+/// The size of the buffer. When no short string fits, it holds more than the 65,536 bytes that a sink may buffer
+/// itself, so such a sink writes them without a copy.
 pub const ROOM: usize = 65_792;
 
-/// A text of so many bytes is short, and so is one of fewer.
+/// The longest string that counts as short.
 pub const SHORT: usize = 256;
 
-/// What was printed and no sink has yet. Its buffer is made once and cannot grow.
+/// Printed bytes that no sink has yet. The buffer is allocated once and cannot grow.
 #[derive(Drop)]
 pub struct OutBuffer {
-    /// ROOM of them, of which the first ones are gathered.
+    /// ROOM bytes, whose first `used` ones are buffered.
     pub bytes: BoxedSlice<u8>,
-    /// How many of them are gathered: who puts bytes behind these counts them here.
+    /// The number of buffered bytes. Code that writes after them adds to it.
     pub used: usize,
 }
 
@@ -42,7 +42,7 @@ impl Model for OutBuffer {
 }
 
 impl OutBuffer {
-    /// Nothing is gathered.
+    /// An empty buffer.
     pub fn new(alloc: Global) -> Result<OutBuffer, AllocError>
         ensures { IfOk result (λ buffer. buffer ≡ []) }
     {
@@ -52,14 +52,14 @@ impl OutBuffer {
         })
     }
 
-    /// Forgets what is gathered.
+    /// Empties the buffer.
     pub fn clear(&mut self)
         ensures { self.new ≡ [] }
     {
         self.used = 0;
     }
 
-    /// Lets a sink have what is gathered. After a fault what the sink has not is still gathered.
+    /// Writes the buffered bytes to a sink. After a fault, the bytes that weren't written stay buffered.
     pub fn flush<W: Sink>(&mut self, out: &mut W) -> Result<(), SinkFault>
         requires { W.failed out.old + 1 < 2 ^ 64 }
         ensures tells { W.tells out.new ≡ W.tells out.old }
@@ -81,7 +81,7 @@ impl OutBuffer {
         }
     }
 
-    // Drops the first bytes.
+    // Removes the first bytes.
     fn drop_first(&mut self, count: usize)
         requires { count ≤ length self.old }
         ensures { self.new ≡ drop count self.old }
@@ -90,8 +90,7 @@ impl OutBuffer {
         self.used -= count;
     }
 
-    /// Lets a sink have what is gathered, unless there is room for a short text behind it. After a fault what the sink has not is
-    /// still gathered.
+    /// Flushes the buffer, unless a short string fits. After a fault, the bytes that weren't written stay buffered.
     pub fn make_room<W: Sink>(&mut self, out: &mut W) -> Result<(), SinkFault>
         requires { W.failed out.old + 1 < 2 ^ 64 }
         ensures tells { W.tells out.new ≡ W.tells out.old }
@@ -107,7 +106,7 @@ impl OutBuffer {
         self.flush(out)
     }
 
-    /// Adds a text for which there is room.
+    /// Appends a string. The caller has made room for it.
     #[inline(always)]
     pub fn add(&mut self, text: &[u8])
         requires { length self.old + length text.now ≤ ROOM }
@@ -117,7 +116,7 @@ impl OutBuffer {
     }
 }
 
-// Writes bytes: all of them, or so many as the error says.
+// Writes bytes. The error is the number of bytes that were written.
 fn write_counted<W: Sink>(out: &mut W, bytes: &[u8]) -> Result<(), usize>
     requires { W.failed out.old + 1 < 2 ^ 64 }
     ensures tells { W.tells out.new ≡ W.tells out.old }

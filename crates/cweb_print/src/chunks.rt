@@ -1,4 +1,4 @@
-// Pieces of text, written one after another.
+// Writes byte chunks in order.
 ghost use Rattle.std.specs.Prelude.{◌≡◌, ◌<◌, ◌+◌, ◌^◌, IsTrue, IfSome, flat_map};
 ghost use Rattle.cweb_files.specs.Device.{CountsFailure};
 ghost use Rattle.cweb_print.specs.inner.Writing.{Wrote};
@@ -6,10 +6,10 @@ ghost use Rattle.cweb_print.specs.inner.Writing.{Wrote};
 use arrayvec::ArrayVec;
 use cweb_files::{Sink, SinkFault, write_all};
 
-// So many bytes of short pieces are written at once.
+// Chunks of at most this total size are joined into one write.
 const ROOM: usize = 64;
 
-/// Writes a whole piece, in as many writes as it takes, or a front of it where one fails.
+/// Writes a whole chunk, in as many writes as needed. After a fault, a prefix of it is written.
 pub fn write_chunk<W: Sink>(out: &mut W, piece: &[u8]) -> Result<(), SinkFault>
     requires { W.failed out.old + 1 < 2 ^ 64 }
     ensures tells { W.tells out.new ≡ W.tells out.old }
@@ -21,7 +21,7 @@ pub fn write_chunk<W: Sink>(out: &mut W, piece: &[u8]) -> Result<(), SinkFault>
     write_all(out, piece)
 }
 
-/// Writes pieces: at once where they are short, and else one by one. Where a write fails, a front of them is written.
+/// Writes chunks, in one write if they are short. After a fault, a prefix of them is written.
 #[inline(always)]
 pub fn write_chunks<W: Sink>(out: &mut W, pieces: &[&[u8]]) -> Result<(), SinkFault>
     requires { W.failed out.old + 1 < 2 ^ 64 }
@@ -38,7 +38,7 @@ pub fn write_chunks<W: Sink>(out: &mut W, pieces: &[&[u8]]) -> Result<(), SinkFa
     }
 }
 
-// The bytes of pieces, where there is room for them.
+// The joined bytes of chunks, if they fit.
 #[inline(always)]
 fn concatenate(pieces: &[&[u8]]) -> Option<ArrayVec<u8, ROOM>>
     ensures { IfSome result
@@ -53,7 +53,6 @@ fn concatenate(pieces: &[&[u8]]) -> Option<ArrayVec<u8, ROOM>>
     Some(buffer)
 }
 
-// Writes pieces one by one.
 #[inline(never)]
 fn write_each<W: Sink>(out: &mut W, pieces: &[&[u8]]) -> Result<(), SinkFault>
     requires { W.failed out.old + 1 < 2 ^ 64 }

@@ -1,13 +1,13 @@
-//! How tokens are printed: the blanks between them, line marks and macros; and the buffer in front of a sink.
+//! Prints tokens: the blanks between them, line marks and macros. Has the output buffer in front of a sink.
 #![tactic(auto)]
 
-// bytes that a sink has not got yet
+// printed bytes before a sink has them
 mod buffer;
 
-// byte slices, written one after another
+// byte chunks, written in order
 mod chunks;
 
-// short byte strings in one array
+// short byte strings in an array
 mod short;
 
 // tokens, appended to a sink or to its buffer

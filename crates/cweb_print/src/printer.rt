@@ -1,4 +1,4 @@
-// The printer.
+// The printer of tokens.
 ghost use Rattle.std.specs.Prelude.{◌≡◌, ◌<◌, ◌+◌, ◌^◌, [], IsTrue, OnOk, OnErr};
 ghost use Rattle.cweb_files.specs.Device.{CountsFailure};
 ghost use Rattle.cweb_input.specs.surface.OpenedFileNames.{opened_file_names};
@@ -36,8 +36,7 @@ use cweb_files::{Sink, SinkFault};
 use cweb_input::FileNames;
 use cweb_store::{Store, Token};
 
-/// Prints tokens one after another. It keeps no text: only the class of the last token that it printed, and whether a join
-/// is open. After a fault it is called no more.
+/// Prints tokens in order. It stores the last token's class and whether a join is open. It isn't called after a fault.
 #[derive(Drop)]
 pub struct Printer<'a> {
     store: &'a Store,
@@ -46,8 +45,7 @@ pub struct Printer<'a> {
 }
 
 impl<'a> Printer<'a> {
-    /// A printer that has printed nothing. It reads the macros and replacements of the store, and the names of the files
-    /// that line marks are about.
+    /// A printer at the start of a file. It reads the store's macros and replacements, and `names` for line marks.
     pub fn new(store: &'a Store, names: &'a FileNames) -> Printer<'a>
         ensures setting { setting_of result
             ≡ setting store.entry.now (opened_file_names names.entry.now) }
@@ -60,8 +58,7 @@ impl<'a> Printer<'a> {
         }
     }
 
-    /// Prints a token: what the tokens so far and this one print as has this more than what those before it do. A use of a
-    /// name prints nothing. It takes no memory.
+    /// Prints a token: the suffix that it adds to the output so far. A use of a name prints nothing. Allocates nothing.
     #[inline]
     pub fn write<W: Sink>(&mut self, token: Token<'_>, out: &mut W) -> Result<(), SinkFault>
         requires count { W.failed out.old + 1 < 2 ^ 64 }
@@ -80,7 +77,7 @@ impl<'a> Printer<'a> {
         self.print(&token, out)
     }
 
-    /// Ends the last line of a file, and is then at the start of the next file. It takes no memory.
+    /// Ends the last line of a file and resets to the start of the next one. Allocates nothing.
     pub fn end<W: Sink>(&mut self, out: &mut W) -> Result<(), SinkFault>
         requires { W.failed out.old + 1 < 2 ^ 64 }
         ensures tells { W.tells out.new ≡ W.tells out.old }
@@ -122,7 +119,7 @@ impl<'a> Printer<'a> {
         Ok(())
     }
 
-    // Prints what isn't lent as it stands, or not in this place.
+    // Slow path of `write`: a token that isn't direct here.
     #[inline(never)]
     fn print_other<W: Sink>(&mut self, token: &Token<'_>, out: &mut W) -> Result<(), SinkFault>
         requires count { W.failed out.old + 1 < 2 ^ 64 }
@@ -162,7 +159,6 @@ impl<'a> Printer<'a> {
         write_plain(self.store, token, out)
     }
 
-    // A line mark or the macro lines.
     #[inline(always)]
     fn write_placed<W: Sink>(&self, token: &Token<'_>, out: &mut W) -> Result<(), SinkFault>
         requires count { W.failed out.old + 1 < 2 ^ 64 }
@@ -189,7 +185,7 @@ impl<'a> Printer<'a> {
         }
     }
 
-    // A newline, unless at the start of a line.
+    // A newline, or nothing at the start of a line.
     fn begin_line(&self) -> &'static [u8]
         ensures { result.now ≡ begin_by (left_in_printer self.now).class }
     {

@@ -1,4 +1,4 @@
-// Short texts in memory.
+// Short strings in an array.
 ghost use Rattle.std.specs.Prelude.{◌≡◌, ◌≤◌, [], length, true};
 ghost use Rattle.cweb_print.specs.declared.buffer.TheConstants.{SHORT};
 
@@ -6,7 +6,7 @@ use crate::buffer::SHORT;
 use arrayvec::ArrayVec;
 use cweb_files::{Sink, SinkFault};
 
-/// A short text that is written in memory. A piece for which there is no room is refused.
+/// A sink in memory of fixed size. A chunk that doesn't fit is refused.
 #[derive(Drop)]
 pub struct ShortBuffer {
     bytes: ArrayVec<u8, SHORT>,
@@ -14,7 +14,7 @@ pub struct ShortBuffer {
 }
 
 impl ShortBuffer {
-    /// Nothing was written.
+    /// An empty buffer.
     pub fn new() -> ShortBuffer
         ensures empty { result.bytes.items ≡ [] }
         ensures failed { result.failed ≡ 0 }
@@ -25,7 +25,7 @@ impl ShortBuffer {
         }
     }
 
-    /// What was written.
+    /// The written bytes.
     pub fn as_slice(&self) -> &[u8]
         ensures bytes { result.now ≡ self.now.bytes.items }
         ensures short { length result.now ≤ SHORT }

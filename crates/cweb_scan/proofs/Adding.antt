@@ -1,4 +1,4 @@
--- How much the moves of a scan add to what is kept.
+-- How much the moves of a scan add to a store's size.
 use Rattle.cweb_scan.proofs.Common.{◌≡◌, ◌≤◌, ℕ, List, [], ◌∷◌, refl, arith, Place, Token, Context, Limbo, Blank, Reading, ScanState, next_line, move_to, one, spelling_size, occurrence_size, replacement_size, owed_tokens, AddsAtMost}
 use Rattle.cweb_scan.proofs.Measures.{pushed-size, opened-size, closed-size, dropped-size}
 use Rattle.cweb_texts.proofs.WordLemmas.{total-append}

@@ -1,4 +1,4 @@
--- How lines are read before they are taken.
+-- Lines are read before they are taken.
 use Rattle.cweb_scan.proofs.Common.{◌≡◌, ◌≤◌, ◌<◌, ℕ, ◌+◌, ◌*◌, Bool, List, [], ◌∷◌, ◌++◌, length, Option, None, Some, refl, ap, sym, ◌∙◌, subst, arith, IsTrue, append_assoc, length-append, All-append, All-nil, All-push, LooksAhead, TakesLines, span_bytes, Line, Event, SoFar, so_far_of, opened_file_names, lines_next, with_newlines, top_of, Ahead, MergeState, OpenSource, ReaderModel, cost, read_after, web_size, read_lines, AreLinesBelow, HasTaken}
 use Rattle.cweb_lines.specs.surface.MergeProgress.{EmitsLines}
 use Rattle.cweb_lines.proofs.LinesInBuffer.{standing-append}
@@ -10,7 +10,7 @@ none : {R : Type 0} (slot : Option (OpenSource R)) → lines_next slot [] ≡ []
 none None = refl
 none (Some text) = refl
 
--- no line yet
+-- No line yet.
 pub read_nothing : {R : Type 0} (run : MergeState R) (held : ReaderModel) → ReadsLines run [] held held
 read_nothing run held = record {
   read = λ more. ap (λ (ls : List Line). read_after held (ls ++ more)) (sym (none (top_of run.stack)));
@@ -21,7 +21,7 @@ read_nothing run held = record {
   adds = omega arith;
 }
 
--- one more
+-- One more line.
 pub read_more : {R : Type 0} (run : MergeState R) (lines : List (List ℕ)) (ahead : Ahead) (old mid new : ReaderModel)
     → (looks : LooksAhead run lines ahead) → ReadsLines run lines old mid → ((more : List Line) →
     read_after new more ≡ read_after mid (record { bytes = span_bytes run ahead.line; place = ahead.line.place }
@@ -62,7 +62,7 @@ read_more run lines ahead old mid new looks first reads adds = record {
       length-append looks.raw (10 ∷ []),
     )
 
--- the lines that were read were taken
+-- The lines that were read are taken.
 pub read_taken : {R : Type 0} (old new : MergeState R) (lines : List (List ℕ)) (tells : Bool) (first : SoFar)
     (all now later : List Event) (held next : ReaderModel) → TakesLines lines old new → ReadsLines old lines held next
     → (IsTrue tells → EmitsLines (lines_next (top_of old.stack) lines) (so_far_of old) (so_far_of new) now later)

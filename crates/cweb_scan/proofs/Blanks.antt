@@ -1,4 +1,4 @@
--- Plain C text: a blank before a piece.
+-- C text outside directives: a blank before a lexeme.
 use Rattle.cweb_scan.proofs.Common.{◌≡◌, ◌≤◌, ℕ, ◌+◌, Bool, true, false, ◌==◌, List, [], ◌∷◌, ◌++◌, length, drop, refl, ap, sym, ◌∙◌, subst, arith, if◌then◌else◌, prefix_len, eqb-true, is_blank, IsLine, c_rule, ReaderModel, TakesPrefix, read_on, TakesPlain, ScanState}
 use Rattle.cweb_rules.specs.inner.Firsts.{past_blank}
 use Rattle.cweb_scan.specs.inner.Plain.{IsPlainC}
@@ -13,7 +13,7 @@ use Rattle.cweb_rules.proofs.FirstBytes.{if_true}
 blank_first : (includes : Bool) (b : ℕ) (t : List ℕ) → is_blank b ≡ true → rule.Blanks ≡ c_rule includes (b ∷ t)
 blank_first includes b t h = sym (if_true (is_blank b) rule.Blanks _ h)
 
--- a run of blanks, or none
+-- A possibly empty span of blanks.
 run_taken : (t : List ℕ) (s : ScanState) → IsLine t → IsPlainC s → TakesPlain (prefix_len is_blank t) t s s
 run_taken [] s line h = record { taken = λ g. takes_none [] (between s g) }
 run_taken (b ∷ t) s line h = (elim (is_blank b) as (λ v.
@@ -23,7 +23,7 @@ run_taken (b ∷ t) s line h = (elim (is_blank b) as (λ v.
       | false ↦ λ e. record { taken = λ g. takes_none (b ∷ t) (between s g) }
     ]) refl
 
--- the first byte of a run that gives nothing
+-- The first byte of a span that emits nothing.
 first_taken : (m : ℕ) (u : List ℕ) (a : ReaderModel) → 1 ≤ length u
     → TakesPrefix (1 + m) u a a → TakesPrefix m (drop 1 u) a a → TakesPrefix 1 u a a
 first_taken m u a some x y = record {

@@ -1,4 +1,4 @@
--- What is kept of a web has no more tokens, and no more bytes, than the web has bytes and lines.
+-- A store has at most as many tokens, and as many bytes, as the web has bytes plus lines.
 use Rattle.cweb_scan.proofs.Common.{◌≡◌, ◌≤◌, ℕ, List, [], ◌∷◌, ◌++◌, Option, Some, None, length, map, refl, arith, length-append, option_to_list, Line, Occurrence, Token, Word, Number, Literal, Verbatim, Punct, Part, all_tokens, Replacement, PartsSoFar, all_parts, finished, ScanState, leave, start_state, Reading, lex, newline_prefixed, read_lines, scanned, sum_over, one, spelling_size, occurrence_size, replacement_size, part_size, open_size, parts_size, token_number, stored_bytes, AddsAtMost, web_size, IsBounded}
 use Rattle.cweb_names.specs.surface.Names.{occurrence_text}
 use Rattle.cweb_store.specs.surface.TokenStrings.{token_size}
@@ -13,7 +13,7 @@ further-size : (lines : List Line) → length (newline_prefixed lines) ≡ web_s
 further-size [] = refl
 further-size (line ∷ lines) = omega (arith, further-size lines, length-append line.bytes (newline_prefixed lines))
 
--- the measures, over all parts at once
+-- The measures over all parts at once.
 
 total-tokens : (f : Token → ℕ) (ps : List Part) → sum_over f (all_tokens ps) ≡ sum_over (part_size f) ps
 total-tokens f [] = refl
@@ -36,7 +36,7 @@ length-total : (ts : List Token) → length ts ≡ sum_over one ts
 length-total [] = refl
 length-total (t ∷ ts) = omega (arith, length-total ts)
 
--- the bytes of texts, as the store counts them
+-- The bytes of strings, as the store counts them.
 
 token-bytes : (t : Token) → token_size t ≡ spelling_size t
 token-bytes (Word b) = omega arith

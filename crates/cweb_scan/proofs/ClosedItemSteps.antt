@@ -1,8 +1,6 @@
--- What is at the front of the rest of a line, once the code has seen its rule; and that taking it is right.
+-- Taking a lexeme that ends in its line, once the code knows its rule.
 use Rattle.cweb_scan.proofs.Common.{◌≡◌, ℕ, Bool, false, List, ◌∷◌, RuleMatch, IsLine, opens_in, Applies, is_head, TakesPrefix, next_match, ScanState}
 use Rattle.cweb_scan.proofs.FirstMatchTaken.{enter_same, between, staying_takes}
-
--- ITEMS THAT END IN THEIR LINE
 
 pub closed_takes : (s new : ScanState) (g : Bool) (n b : ℕ) (t : List ℕ) (f : RuleMatch) → IsLine (b ∷ t)
     → is_head s.context ≡ false → next_match s (b ∷ t) ≡ f → opens_in s.context (b ∷ t) ≡ false

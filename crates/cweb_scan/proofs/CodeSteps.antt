@@ -1,11 +1,9 @@
--- What is taken in one turn where no item is open: a code, and text before one.
+-- One step without an open item: a code, and the bytes before one.
 use Rattle.cweb_scan.proofs.Common.{◌≡◌, ◌≤◌, ℕ, Bool, true, false, ◌==◌, not, List, [], ◌∷◌, length, drop, get_or, refl, ap, sym, ◌∙◌, subst, arith, codes, prefix_len, eqb-true, begins, starts_section, match_in, effect_match, section_match, IsLine, opens_in, opens_effect, Context, Limbo, TeX, Definition, Effect, Named, is_c, effect_in, is_head, is_name_effect, is_skipped, reads_c, ReaderModel, TakesPrefix, MakesProgress, Between, and_parts}
 use Rattle.cweb_scan.proofs.SkippedRest.{is_text, skipped_takes}
 use Rattle.cweb_scan.proofs.FirstMatchTaken.{between}
 
--- CODES
-
--- `@` and a letter
+-- `@` and a letter.
 pub code_shape : (u : List ℕ) → starts_section u ≡ false
     → begins (codes "@") u ≡ true → 64 ∷ get_or u 1 0 ∷ drop 2 u ≡ u
 code_shape [] section at = cc
@@ -28,13 +26,13 @@ code_opens : (c : Context) (b : ℕ) (w : List ℕ) → is_head c ≡ false → 
 code_opens (Definition begun) b w head h = cc
 code_opens _ b w head h = rw h
 
--- a code that is no name's is one item, whether or not names take their sign
+-- A code that begins no name is one lexeme, whether or not names take their opener.
 plain_code : (e : Effect) (takes : Bool) (t : List ℕ) → is_name_effect e ≡ false
     → (effect_match e takes t ≡ effect_match e true t) × (opens_effect e t ≡ false)
 plain_code Named takes t h = cc
 plain_code _ takes t h = (refl, refl)
 
--- what a code's front is, and that it ends in its line
+-- The lexeme of a code, which ends in its line.
 pub plain_front : (c : Context) (includes : Bool) (u : List ℕ) → is_head c ≡ false
     → starts_section u ≡ false → begins (codes "@") u ≡ true → is_name_effect (effect_in c (get_or u 1 0)) ≡ false
     → (match_in c includes u ≡ effect_match (effect_in c (get_or u 1 0)) true u) × (opens_in c u ≡ false)
@@ -47,8 +45,6 @@ plain_front c includes u head section at plain =
     subst (λ (x : List ℕ). (match_in c includes x ≡ effect_match (effect_in c b) true x) × (opens_in c x ≡ false)) shape
     (code_is c includes b w head s ∙ p.0, code_opens c b w head s ∙ p.1)
 
--- LIMBO AND TEXT
-
 text_is : (c : Context) → reads_c c ≡ false → is_text c ≡ true
 text_is Limbo h = refl
 text_is TeX h = refl
@@ -58,7 +54,7 @@ pub text_head : (c : Context) → reads_c c ≡ false → is_head c ≡ false
 text_head (Definition begun) h = cc
 text_head _ h = refl
 
--- what stands before the next `@`
+-- The bytes before the next `@`.
 pub skipped_at : (n : ℕ) (u : List ℕ) (h : ReaderModel) → n ≡ prefix_len is_skipped u → 1 ≤ n
     → h.item ≡ Between → reads_c h.state.context ≡ false → IsLine u → MakesProgress n u h h
 skipped_at n u h is some none text line = subst (λ i. MakesProgress n u

@@ -1,4 +1,4 @@
--- What opens a comment or a name: what is read then is what is read with the item open.
+-- Openers of comments and names: reading on is reading with the item open.
 use Rattle.cweb_scan.proofs.Common.{◌≡◌, ℕ, suc, ◌+◌, Bool, true, false, List, [], ◌∷◌, take, drop, refl, ap, ◌∙◌, arith, if◌then◌else◌, codes, nat_lt, fold, Reading, on, each_line_end, enter_in, after_lexeme, blank, begins, is_line_end, reach_size, names_include, reads_c, reads_names, name_match, opener_after, comment_match, End, Comment, RuleMatch, InComment, InName, takes_opener, resume, match_in, lex, Context, Limbo, TeX, Definition, CText, ScanState, drop_definition}
 use Rattle.cweb_rules.specs.Items as items
 use Rattle.cweb_rules.specs.Kinds.{Occurrence}
@@ -8,7 +8,7 @@ use Rattle.cweb_scan.proofs.FirstLexeme.{pieces_first}
 abbrev with_front : Reading → List ℕ → RuleMatch → Reading
 with_front r t f = lex (after_lexeme r (record { kind = f.kind; bytes = take f.size t })) (drop f.size t)
 
--- what is read after what the rules name
+-- The reading after the next lexeme.
 pub run_as : (r : Reading) (b : ℕ) (t : List ℕ) (f : RuleMatch)
     → match_in r.state.context (names_include r.state) (b ∷ t) ≡ f → lex r (b ∷ t) ≡ with_front r (b ∷ t) f
 run_as r b t f h = ap (fold after_lexeme r) (pieces_first r b t (fair r.state b t).some) ∙ ap (with_front r (b ∷ t)) h
@@ -23,7 +23,6 @@ enter_comment : (c : Context) (how : End) (s : ScanState) → enter_in c (Commen
 enter_comment Limbo how s = refl
 enter_comment _ how s = refl
 
--- `/*`
 pub opened_comment : (r : Reading) (w : List ℕ) → reads_c r.state.context ≡ true
     → lex r (47 ∷ 42 ∷ w) ≡ resume (InComment r.state.here) w (on blank r)
 opened_comment r w h =
@@ -32,7 +31,7 @@ opened_comment r w h =
     run_as r 47 (42 ∷ w) (comment_match (47 ∷ 42 ∷ w)) (comment_front r.state.context (names_include r.state) w h)
     ∙ rw (e, enter_comment r.state.context m.how r.state) refl
 
--- what belongs to no head leaves it
+-- A lexeme that may not occur in a head ends it.
 abbrev pub leave_head_in : Context → ScanState → ScanState
 leave_head_in (Definition begun) s = drop_definition begun s
 leave_head_in _ s = s
@@ -75,7 +74,6 @@ name_size-two : (takes : Bool) (n sign : ℕ)
 name_size-two true n sign = omega arith
 name_size-two false n sign = omega arith
 
--- `@<`, `@(`
 opened_as : (r : Reading) (a : ℕ) (is_file : Bool) (w : List ℕ)
     → begins (codes "@(") (64 ∷ a ∷ w) ≡ is_file → is_line_end a ≡ false
     → match_in r.state.context (names_include r.state) (64 ∷ a ∷ w) ≡ name_match (takes_in r.state.context) (64 ∷ a ∷ w)

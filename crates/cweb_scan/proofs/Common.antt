@@ -1,4 +1,4 @@
--- The names that the proofs of this crate cite, passed on from one place. Declares nothing.
+-- Imports that the proofs of this crate share.
 pub use Rattle.std.proofs.Common.{◌≡◌, ◌≤◌, ◌<◌, ℕ, ◌+◌, ◌*◌, Bool, List, [], ◌∷◌, ◌++◌, length, Option, None, Some}
 pub use Rattle.std.proofs.Common.{refl, ap, sym, ◌∙◌, subst, arith, append_assoc, length-append, zero, suc, ◌-◌, take}
 pub use Rattle.std.proofs.Common.{map, true, false, ◌==◌, not, drop, get_or, ◌&&◌, ◌||◌, take-append-drop, cond, ◌/◌}

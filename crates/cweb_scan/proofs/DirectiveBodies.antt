@@ -1,4 +1,4 @@
--- The text of a directive that has come too far for an included name: what is told of it, and what its pieces make.
+-- The body of a directive past an included name: its state and its lexemes.
 use Rattle.cweb_scan.proofs.Common.{◌≡◌, ◌≤◌, ℕ, Bool, true, false, ◌&&◌, not, List, Option, Some, length, take, refl, ap, sym, ◌∙◌, subst, if◌then◌else◌, codes, option_map, prefix_len, part_with_token, Token, Punct, Part, is_blank, IsLine, c_rule, listed, longest, Context, CText, Rule, blank, punctuator, directive, in_directive, is_c, names_include, in_open_part, TakesPlain, ScanState, emit, tokens_of, and-false}
 use Rattle.cweb_scan.specs.DirectiveTokens.{directive_of, is_punct}
 use Rattle.std.specs.Option.{is_some}
@@ -13,8 +13,6 @@ use Rattle.cweb_scan.specs.declared.directive.Last.TheVariants as last
 use Rattle.cweb_scan.proofs.Plains.{rule_at, turn}
 use Rattle.cweb_scan.proofs.Steps.{include-seen, outside-seen}
 use Rattle.cweb_scan.proofs.TiedSteps.{tied_given}
-
--- WHAT IS TOLD
 
 c_and : (c : Context) (v : Bool) → (is_c c && v) ≡ true → (c ≡ CText) × (v ≡ true)
 c_and CText v h = (refl, h)
@@ -31,7 +29,7 @@ pub text_stage : (s : ScanState) → in_directive_body s ≡ true → stage_of (
 text_stage s h = stage_further
     (stage_of (directive s).tokens) (c_and s.context (is_further_stage (stage_of (directive s).tokens)) h).1
 
--- the directive is open, and no included name may follow
+-- The directive is open, and no included name may follow.
 text_open : (s : ScanState) → in_directive_body s ≡ true → in_directive s ≡ true
 text_open s h =
     ap (λ (c : Context). is_c c && is_some (directive s).tokens) (text_in_c s h)
@@ -43,8 +41,6 @@ text_rule s u r h is =
     let none : names_include s ≡ false =
     sym (include-seen (directive s).tokens) ∙ ap is_include_stage (text_stage s h) in
     is ∙ ap (λ v. c_rule v u) (sym (ap (λ v. is_c s.context && v) none ∙ and-false (is_c s.context)))
-
--- WHAT IS KEPT
 
 abbrev text : Directive
 text = record { stage = Further; last = last.Other }
@@ -72,8 +68,6 @@ tied_text d l c o t tied in_c part stage plain =
     subst (λ (e : Directive). IsTied e text c (option_map (part_with_token t) o)) stepped
     (subst (λ (e : Directive). IsTied (after_token d t) e c (option_map (part_with_token t) o))
     (ap (λ v. if v then l else after_token d t) plain.solid ∙ stepped) (tied_given d l c o t tied part))
-
--- PIECES
 
 pub text_blanks : (n : ℕ) (u : List ℕ) (s new : ScanState) → IsLine u → 1 ≤ length u → in_directive_body s ≡ true
     → rule.Blanks ≡ rule_at s u → n ≡ prefix_len is_blank u → new ≡ blank s → TakesPlain n u s new

@@ -1,4 +1,4 @@
--- Items that their line's end ends.
+-- Items that a line end ends.
 use Rattle.cweb_scan.proofs.Common.{◌≡◌, ℕ, zero, suc, ◌+◌, ◌-◌, true, false, List, [], ◌∷◌, length, take, drop, refl, ap, sym, ◌∙◌, if◌then◌else◌, Place, at_line_end, Reach, reach, reach_in, with_unit, reach_size, line_comment_match, look_in_comment, reached, End, Closed, Cut, Open, Reached, Look, Goes, Ends, Reading, next_line, each_line_end, comment_line_end, pass_comment, pass_control_text, blank, ended_as, Applies, ScanState}
 use Rattle.cweb_rules.specs.Matches.{control_text_match}
 use Rattle.cweb_rules.specs.Items.{look_in_control}
@@ -53,7 +53,7 @@ control_gives t r s new is made = record {
 abbrev pub nothing_later : ScanState → Reading
 nothing_later s = record { state = s; later = [] }
 
--- no line is to come within a line
+-- No newline is within a line.
 pub none_to_come : (f : Place → ScanState → ScanState) (t : List ℕ) (s : ScanState)
     → each_line_end f t (nothing_later s) ≡ nothing_later s
 none_to_come f [] s = refl

@@ -1,4 +1,4 @@
--- Short words for computed webs.
+-- Abbreviations for worked examples.
 use Rattle.cweb_scan.proofs.Common.{ℕ, suc, true, false, List, [], ◌∷◌, ◌++◌, codes, Place, Line, PartKind, Unnamed, Occurrence, Full, Prefix, Part, Token, Word, Number, Literal, Verbatim, Punct, Name, Head, Tail, Mark, Replacement, ScanFault, ScanKind, Scanned}
 use Prim.Native.String.{String}
 use Rattle.cweb_store.specs.declared.parts.PartKind.TheVariants.{Named, Macro}
@@ -13,11 +13,9 @@ abbrev lines_from : ℕ → List String → List Line
 lines_from n [] = []
 lines_from n (s ∷ ss) = line s (at 0 n) ∷ lines_from (suc n) ss
 
--- the lines of one file
+-- The lines of one file.
 abbrev pub web : List String → List Line
 web ss = lines_from 1 ss
-
--- TOKENS
 
 abbrev pub word : String → Token
 word s = Word (codes s)
@@ -37,11 +35,9 @@ punct s = Punct (codes s)
 abbrev pub named : ℕ → Token
 named n = Name (record { 0 = n })
 
--- a line of the first file
+-- A line of the first file.
 abbrev pub mark : ℕ → Token
 mark n = Mark (at 0 n)
-
--- OCCURRENCES AND PARTS
 
 abbrev pub name : String → Occurrence
 name s = record { text = codes s; how = Full; is_file = false }
@@ -55,7 +51,7 @@ file s = record { text = codes s; how = Full; is_file = true }
 abbrev pub macro : List Token → Part
 macro tokens = record { kind = Macro; tokens = tokens }
 
--- a part of C text, by its section and the line on which it begins
+-- A part of C text, by its section and the line of its start.
 abbrev c_part : PartKind → ℕ → ℕ → List Token → Part
 c_part kind n line tokens = record { kind = kind; tokens = Head n ∷ mark line ∷ tokens ++ Tail n ∷ [] }
 

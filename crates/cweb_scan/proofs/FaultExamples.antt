@@ -1,9 +1,9 @@
--- Webs with faults, computed.
+-- Worked examples: webs with faults.
 use Rattle.cweb_scan.proofs.Common.{◌≡◌, ℕ, zero, suc, List, [], ◌∷◌, ◌++◌, Token, Newline, DoubleAtInLimbo, ImproperHexNumber, ReplacementTooLong, LetterOutsideLimbo, NameDidNotEnd, NamesDoNotNest, CommentDidNotEnd, DoubleAtInString, ControlTextDidNotEnd, FaultyConstant, IgnoredInCText, MissingAt, DefsInMacro, DefinitionDropped, scanned}
 use Rattle.std.specs.Prelude.{replicate}
 use Rattle.cweb_scan.proofs.ExampleWords.{web, word, literal, punct, mark, named, name, macro, unnamed, fault, wanted}
 
--- uses of so many occurrences
+-- Uses of a range of occurrences.
 abbrev uses : ℕ → ℕ → List Token
 uses zero n = []
 uses (suc k) n = named n ∷ mark 1 ∷ uses k (suc n)

@@ -1,4 +1,4 @@
--- The first piece of a text, and the pieces behind it.
+-- The first lexeme of a source, and the lexemes after it.
 use Rattle.cweb_scan.proofs.Common.{◌≡◌, ℕ, ◌-◌, ◌<◌, suc, zero, List, [], ◌∷◌, take, drop, refl, ap, ◌∙◌, Lexeme, Reading, after_lexeme, next_match, lexemes, lexemes_in}
 use Rattle.cweb_rules.proofs.UnitNewlines.{drop-pred}
 
@@ -10,7 +10,7 @@ pieces_in-drop (suc k) r (b ∷ t) = pieces_in-drop k r t
 abbrev pub first : Reading → List ℕ → Lexeme
 first r t = record { kind = (next_match r.state t).kind; bytes = take (next_match r.state t).size t }
 
--- the pieces of a text are what stands at its front, and the pieces of the rest
+-- The lexemes of a source are the first one and those of the rest.
 pub pieces_first : (r : Reading) (b : ℕ) (t : List ℕ) → 0 < (next_match r.state (b ∷ t)).size → lexemes r (b ∷ t)
     ≡ first r (b ∷ t) ∷ lexemes (after_lexeme r (first r (b ∷ t))) (drop (next_match r.state (b ∷ t)).size (b ∷ t))
 pieces_first r b t h =

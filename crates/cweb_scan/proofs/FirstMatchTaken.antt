@@ -1,4 +1,4 @@
--- What is at the front of the rest of a line, once the code has seen its rule; and that taking it is right.
+-- Taking the next lexeme, once the code knows its rule.
 use Rattle.cweb_scan.proofs.Common.{◌≡◌, ℕ, Bool, true, false, ◌&&◌, List, [], ◌∷◌, ◌++◌, take, drop, refl, ap, sym, ◌∙◌, subst, arith, if◌then◌else◌, codes, length-take-le, begins, first_is, is_blank, is_word_byte, starts_section, starts_raw, starts_literal, starts_include, Kind, RuleMatch, IsLine, opens_in, opens_code, c_opens, c_rule, starts_number, Context, Definition, Effect, Rule, enter_in, item, names_include, Applies, is_head, IsPast, ReaderModel, TakesPrefix, Between, weight, next_match, lex, ScanState}
 use Rattle.cweb_rules.specs.inner.LineItems.{opens_comment, opens_raw, opens_literal}
 use Rattle.cweb_scan.specs.inner.MatchSteps.{after_match}
@@ -11,8 +11,6 @@ use Rattle.cweb_scan.proofs.Weights.{piece-weight}
 use Rattle.cweb_rules.proofs.Newlines.{told}
 use Rattle.cweb_rules.proofs.ByRules.{by_test}
 
--- ITEMS THAT END IN THEIR LINE
-
 pub enter_same : (c : Context) (k : Kind) (s : ScanState) → is_head c ≡ false → enter_in c k s ≡ s
 enter_same (Definition begun) k s h = cc
 enter_same _ k s h = refl
@@ -20,7 +18,7 @@ enter_same _ k s h = refl
 abbrev pub between : ScanState → Bool → ReaderModel
 between s g = record { state = s; item = Between; begun = g }
 
--- an item that leaves no head
+-- A lexeme that ends no head.
 pub staying_takes : (s new : ScanState) (g : Bool) (n b : ℕ) (t : List ℕ) (f : RuleMatch) → IsLine (b ∷ t)
     → enter_in s.context (next_match s (b ∷ t)).kind s ≡ s → next_match s (b ∷ t) ≡ f
     → opens_in s.context (b ∷ t) ≡ false
@@ -46,9 +44,7 @@ staying_takes s new g n b t f line stays is ends gives =
           ∙ sym (taken s later b t more line e ends);
     }
 
--- THE RULES OF C TEXT
-
--- whether the item that a rule names stays open
+-- Whether the lexeme of a rule leaves an item open.
 abbrev pub opens_by : (ℕ → Effect) → List ℕ → Rule → Bool
 opens_by effect t rule.Comment = opens_comment t
 opens_by effect t rule.Code = opens_code effect t
@@ -73,8 +69,6 @@ c_opens-by effect includes t =
     (by_test f (starts_raw t) rule.RawLiteral _ _ (by_test f (starts_literal t) rule.Literal _ _
     (rest_closed effect t (includes && starts_include t) (starts_number t) (first_is is_word_byte t)))))))))
 
--- WHAT A RULE SAYS OF THE TEXT
-
 pub told_if : {A : Type 0} (T : A → Type 0) (v : Bool) (x y : A) → (v ≡ true → T x) → (v ≡ false → T y)
     → T (if v then x else y)
 told_if T true x y f g = f refl
@@ -83,7 +77,7 @@ told_if T false x y f g = g refl
 pub neither : (is : Rule → Bool) (v : Bool) (x y : Rule) → is x ≡ false → is y ≡ false → is (if v then x else y) ≡ false
 neither is v x y f g = told_if (λ r. is r ≡ false) v x y (λ e. f) (λ e. g)
 
--- what is known of a text at whose front a rule is the first that fits
+-- What follows from a rule being the first that applies.
 abbrev pub IsSeen : List ℕ → Rule → Type 0
 IsSeen t rule.LineEnd = first_is is_line_end t ≡ true
 IsSeen t rule.Comment = begins (codes "/*") t ≡ true

@@ -1,4 +1,4 @@
--- Plain C text: literals that end in their line and have no `@`.
+-- C text outside directives: literals that end in their line and have no `@`.
 use Rattle.cweb_scan.proofs.Common.{◌≡◌, ◌≤◌, ℕ, ◌+◌, true, false, ◌&&◌, ◌==◌, not, List, [], ◌∷◌, ◌++◌, length, take, drop, refl, ap, sym, ◌∙◌, subst, arith, if◌then◌else◌, codes, bytes_eq, flat_map, fold, prefix_len, Literal, Reach, reach, body, reach_size, literal_match, literal_prefix, quote_of, look_in_literal, unit_bytes, unescaped, IsLine, is_unclosed, reached, c_rule, End, Closed, Cut, Open, Reached, Reading, each_line_end, emit_literal, literal_unit, Applies, TakesPlain, ScanState, emit, move_to}
 use Rattle.cweb_scan.specs.inner.Skipped.{is_skipped}
 use Rattle.cweb_scan.specs.inner.Plain.{IsPlainC}
@@ -7,8 +7,6 @@ use Rattle.cweb_rules.proofs.Looks.{ended_whole, ended_same, literal-local, lite
 use Rattle.cweb_rules.proofs.UnitNewlines.{quoted-bytes}
 use Rattle.cweb_scan.proofs.Ends.{none_to_come, nothing_later}
 use Rattle.cweb_scan.proofs.Furthers.{ended_turn}
-
--- NO `@`
 
 abbrev pub HasNone : List ℕ → Type 0
 HasNone [] = Unit {0}
@@ -47,8 +45,6 @@ units_told [] s h = refl
 units_told (u ∷ us) s h =
     let p = none_apart u (flat_map (λ u. u) us) h in
     ap (λ (q : Reading). fold literal_unit q us) (unit_told u s p.0) ∙ units_told us s p.1
-
--- LITERALS
 
 abbrev pub literal_reach : List ℕ → End → Reach
 literal_reach u e =

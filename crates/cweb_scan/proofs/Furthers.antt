@@ -1,4 +1,4 @@
--- Plain C text: the pieces that their first bytes don't tell.
+-- C text outside directives: lexemes that their first byte doesn't determine.
 use Rattle.cweb_scan.proofs.Common.{◌≡◌, ◌≤◌, ℕ, zero, suc, ◌+◌, Bool, false, ◌&&◌, ◌==◌, not, List, [], ◌∷◌, Option, Some, None, length, take, drop, refl, ap, sym, ◌∙◌, arith, if◌then◌else◌, codes, bytes_eq, Token, Number, Punct, Blank, begins, first_is, at_line_end, in_c, reach, reach_size, match_in, comment_match, look_in_comment, IsLine, is_unclosed, opens_in, reached, c_rule, c_match_by, listed, longest, number_len, Context, CText, End, Closed, Cut, Open, Reached, Look, Rule, Reading, blank, pass_comment, comment_line_end, punctuator, directive, is_c, names_include, Applies, ended_as, is_head, TakesPlain, ScanState, emit, and-false}
 use Rattle.cweb_scan.specs.DirectiveTokens.{some_include}
 use Rattle.std.specs.Option.{is_some}
@@ -17,13 +17,11 @@ use Rattle.cweb_scan.proofs.FirstMatchTaken.{between, opens_by}
 use Rattle.cweb_rules.proofs.Longest.{longest_pos}
 use Rattle.cweb_rules.proofs.PlainSpans.{turned}
 
--- RULES
-
 none_included : (o : Option (List Token)) → is_some o ≡ false → some_include o ≡ false
 none_included None h = refl
 none_included (Some ts) h = cc
 
--- where no directive is open no included name is a rule
+-- Outside directives an included name is no rule.
 rule_plain : (s : ScanState) (u : List ℕ) (r : Rule) → IsPlainC s → r ≡ c_rule false u → r ≡ rule_at s u
 rule_plain s u r h is = is
     ∙ ap (λ v. c_rule v u) (sym (ap (λ v. is_c s.context && v) (none_included (directive s).tokens (none_open s h))
@@ -37,7 +35,7 @@ ends_by CText includes u r h is ends = (
 )
 ends_by _ includes u r h is ends = cc
 
--- an item that may go over its line, and ends in it
+-- An item that may continue after its line, but ends in it.
 pub ended_turn : (n : ℕ) (u : List ℕ) (s new : ScanState) (r : Rule) → IsLine u → 1 ≤ length u → IsPlainC s → r
     ≡ c_rule false u → opens_by in_c u r ≡ false → Applies (c_match_by in_c false u r) u n s new → TakesPlain n u s new
 ended_turn n u s new r line some h is ends gives =
@@ -46,8 +44,6 @@ ended_turn n u s new r line some h is ends gives =
       taken = λ g. (closed_at n u (between s g) (between s g) new (c_match_by in_c false u r) refl refl
           (ap is_head h.in_c) line some f.0 f.1 gives).taken;
     }
-
--- NUMBERS, WORDS AND PUNCTUATORS
 
 pub numeral_turn : (n : ℕ) (u : List ℕ) (s new : ScanState) → IsLine u → 1 ≤ length u → s.context ≡ CText
     → rule.Number ≡ rule_at s u → n ≡ number_len 0 u → new ≡ emit (Number (take n u)) s → TakesPlain n u s new
@@ -89,8 +85,6 @@ pub operator_token : (n : ℕ) (u : List ℕ) → n ≡ longest listed u → 1 �
 operator_token n [] size some kept = absurd (omega (arith, some))
 operator_token zero (b ∷ t) size some kept = absurd (omega (arith, size, longest_pos listed (b ∷ t)))
 operator_token (suc n) (b ∷ t) size some kept = plain_punct n b t kept
-
--- COMMENTS
 
 blank_is : (s : ScanState) → IsPlainC s → blank s ≡ s
 blank_is s h = ap (λ v. if v && not (is_last_blank (directive s).last) then emit Blank s else s) h.outside

@@ -1,4 +1,4 @@
--- Blanks between two pieces of C text.
+-- Blanks between two lexemes of C text.
 use Rattle.cweb_scan.proofs.Common.{◌≡◌, ℕ, suc, Bool, true, false, ◌&&◌, List, [], ◌∷◌, drop, take, refl, ap, sym, ◌∙◌, arith, if◌then◌else◌, not, prefix_len, is_blank, match_in, Blanks, rule_match, Context, CText, Blank, Reading, after_lexeme, blank, enter_in, directive, in_directive, names_include, lex, ScanState, emit}
 use Rattle.cweb_scan.specs.DirectiveTokens as spec
 use Rattle.cweb_scan.proofs.CommentAndNameOpeners.{run_as}
@@ -14,7 +14,7 @@ longer_prefix b t e = grind (arith, e)
 no_blank : (s : ScanState) → in_directive s ≡ false → blank s ≡ s
 no_blank s h = ap (λ v. if v && not (spec.is_last_blank (directive s).last) then emit Blank s else s) h
 
--- blanks at the front of a text give nothing
+-- Leading blanks emit nothing.
 passed : (r : Reading) (b : ℕ) (t : List ℕ) → r.state.context ≡ CText → in_directive r.state ≡ false
     → is_blank b ≡ true → lex r (b ∷ t) ≡ lex r (drop (prefix_len is_blank t) t)
 passed r b t h d e =
@@ -26,7 +26,7 @@ passed r b t h d e =
     ∙ ap (λ c. lex (record { state = blank (enter_in c Blanks r.state); later = r.later }) (drop n t)) h
     ∙ ap (λ s. lex (record { state = s; later = r.later }) (drop n t)) (no_blank r.state d)
 
--- one blank more gives the same
+-- One blank more changes nothing.
 pub one_more : (r : Reading) (b : ℕ) (t : List ℕ) → r.state.context ≡ CText
     → in_directive r.state ≡ false → is_blank b ≡ true → lex r (b ∷ t) ≡ lex r t
 one_more r b [] h d e = passed r b [] h d e

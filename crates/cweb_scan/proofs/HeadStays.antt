@@ -1,4 +1,4 @@
--- What stays in a head in one turn.
+-- Lexemes that may occur in a head.
 use Rattle.cweb_scan.proofs.Common.{◌≡◌, ◌≤◌, ℕ, Bool, true, false, ◌&&◌, ◌||◌, ◌==◌, not, List, [], ◌∷◌, length, refl, ap, sym, ◌∙◌, subst, if◌then◌else◌, codes, prefix_len, eqb-true, Place, begins, is_blank, starts_section, in_tex, in_macro, match_in, head_match_of, head_match, Blanks, RuleMatch, rule_match, IsLine, opens_in, c_opens, opens_code, tex_opens, c_rule, c_match_by, Context, Definition, Rule, blank, enter_in, stays_in_head, directive, is_c, is_some, names_include, Applies, ReaderModel, MakesProgress, Between, next_match, ScanState, drop_definition, emit}
 use Rattle.cweb_rules.specs.declared.rule.Rule.TheVariants as rule
 use Rattle.cweb_scan.specs.DirectiveTokens as directives
@@ -6,8 +6,6 @@ use Rattle.cweb_scan.proofs.InLineItemSteps.{at_item, staying_at}
 use Rattle.cweb_scan.proofs.FirstMatchTaken.{opens_by, c_opens-by, neither}
 use Rattle.cweb_store.specs.Parts as parts
 use Rattle.cweb_scan.proofs.HeadSteps.{by_rule}
-
--- WHAT STAYS IN A HEAD
 
 no_at : (is : Rule → Bool) (u : List ℕ) → is rule.Section ≡ false
     → is rule.Code ≡ false → is (c_rule false u) ≡ true → begins (codes "@") u ≡ false
@@ -24,7 +22,7 @@ unless : (v x : Bool) → x ≡ false → (if v then false else x) ≡ false
 unless true x h = refl
 unless false x h = h
 
--- its item ends in its line
+-- The item ends in its line.
 head_closed : (is : Rule → Bool) (u : List ℕ) (r : Rule) → r ≡ c_rule false u → is r ≡ true → is rule.Section ≡ false
     → is rule.Code ≡ false → opens_by in_macro u r ≡ false → (c_opens in_macro u || tex_opens in_tex u) ≡ false
 head_closed is u r same fits s c ends =
@@ -44,7 +42,7 @@ head_is : (u : List ℕ) (r : Rule) → r ≡ c_rule false u
     → head_match u ≡ (let f = c_match_by in_macro true u r in head_match_of f.kind f u)
 head_is u r is = ap (λ (f : RuleMatch). head_match_of f.kind f u) (by_rule u r is)
 
--- an item that belongs to a head
+-- A lexeme that may occur in a head.
 pub head_passes : (n : ℕ) (u : List ℕ) (h v : ReaderModel) (new : ScanState) (begun : Place) (r : Rule) (f : RuleMatch)
     → v ≡ h
     → h.item ≡ Between → h.state.context ≡ Definition begun → IsLine u → 1 ≤ length u → r ≡ c_rule false u
@@ -61,7 +59,7 @@ head_passes n u h v new begun r f same none in_head line some is fits ends gives
     staying_at n u h v new f same none stayed line some rule_match
     (ap (λ (c : Context). opens_in c u) in_head ∙ head_closed stays u r is fits refl refl ends) gives
 
--- blanks give nothing
+-- Blanks emit nothing.
 pub blanks_pass : (n : ℕ) (u : List ℕ) (h : ReaderModel) (begun : Place) (r : Rule)
     → r ≡ rule.Blanks → h.item ≡ Between → h.state.context ≡ Definition begun → IsLine u
     → 1 ≤ length u → r ≡ c_rule false u → n ≡ prefix_len is_blank u → MakesProgress n u h h

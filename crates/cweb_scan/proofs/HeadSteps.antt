@@ -1,4 +1,4 @@
--- What leaves a head in one turn.
+-- Lexemes that end a head.
 use Rattle.cweb_scan.proofs.Common.{◌≡◌, ◌≤◌, ℕ, Bool, true, false, List, [], ◌∷◌, ◌++◌, Option, Some, None, length, drop, take, refl, ap, sym, ◌∙◌, subst, arith, if◌then◌else◌, codes, Place, begins, is_digit, starts_section, in_tex, in_macro, match_in, c_match, code_match, effect_match, head_match_of, head_match, found_letter_match, section_match, tex_match, Kind, Skipped, Section, Blanks, LineEnd, Comment, Defined, Identifier, RuleMatch, rule_match, AtLineEnd, c_rule, c_match_by, Transliteration, Context, Definition, Effect, Rule, enter_in, item, stays_in_head, names_include, ReaderModel, MakesProgress, Between, lex, ScanState, drop_definition}
 use Rattle.cweb_rules.specs.Constants.{letter}
 use Rattle.cweb_rules.specs.declared.effect.Effect.TheVariants as effect
@@ -12,9 +12,7 @@ use Rattle.cweb_scan.proofs.CommentAndNameOpeners.{run_as}
 use Rattle.cweb_scan.proofs.RuleSteps.{is_ended}
 use Rattle.cweb_scan.proofs.TakenItems.{reading}
 
--- WHAT LEAVES A HEAD
-
--- the kinds of what a head has not
+-- The kinds that may not occur in a head.
 abbrev pub is_foreign : Kind → Bool
 is_foreign Blanks = false
 is_foreign LineEnd = false
@@ -84,7 +82,7 @@ pub by_rule : (v : List ℕ) (r : Rule) → r ≡ c_rule false v
     → c_match in_macro true false v ≡ c_match_by in_macro true v r
 by_rule v r is = c_front-by in_macro true false v ∙ ap (c_match_by in_macro true v) (sym is)
 
--- which rule fits in a line doesn't depend on what comes after it
+-- The rule in a line doesn't depend on the bytes after it.
 rule_line : (b : ℕ) (t more : List ℕ) → AtLineEnd more → c_rule false (b ∷ t ++ more) ≡ c_rule false (b ∷ t)
 rule_line b t more e = rw (
   begins_line (codes "/*") (b ∷ t) more refl e,
@@ -96,7 +94,7 @@ rule_line b t more e = rw (
   starts_number_stop b t more (stops is_digit more refl e),
 )
 
--- what has left a head is what text makes of it, once the definition is dropped
+-- A lexeme that ends a head is read as in TeX, after the definition is dropped.
 dropped_run : (s : ScanState) (begun : Place) (later : List Place) (b : ℕ) (t : List ℕ)
     → s.context ≡ Definition begun → head_match (b ∷ t) ≡ tex_match in_tex (b ∷ t)
     → lex (reading (drop_definition begun s) later) (b ∷ t) ≡ lex (reading s later) (b ∷ t)

@@ -1,11 +1,9 @@
--- What is taken in one turn where no item is open: an item that ends in its line.
+-- One step without an open item: a lexeme that ends in its line.
 use Rattle.cweb_scan.proofs.Common.{◌≡◌, ◌≤◌, ℕ, Bool, false, List, [], ◌∷◌, length, refl, ap, sym, subst, arith, RuleMatch, rule_match, IsLine, opens_in, enter_in, Applies, is_head, ReaderModel, MakesProgress, Between, next_match, ScanState}
 use Rattle.cweb_scan.proofs.NextMatchPays.{fair}
 use Rattle.cweb_scan.proofs.FirstMatchTaken.{between, enter_same, staying_takes}
 
--- ITEMS THAT END IN THEIR LINE
-
--- what a reader between two items is after another state
+-- A reader between two items, with another state.
 abbrev pub at_item : ReaderModel → ScanState → ReaderModel
 at_item v s = record { state = s; item = v.item; begun = v.begun }
 
@@ -20,7 +18,7 @@ passed n (b ∷ t) s new g f stays line some is ends gives = record {
   taken = staying_takes s new g n b t f line stays is ends gives;
 }
 
--- an item that leaves no head
+-- A lexeme that ends no head.
 pub staying_at : (n : ℕ) (u : List ℕ) (h v : ReaderModel) (new : ScanState) (f : RuleMatch) → v ≡ h → h.item ≡ Between
     → enter_in h.state.context (next_match h.state u).kind h.state ≡ h.state → IsLine u → 1 ≤ length u
     → next_match h.state u ≡ f → opens_in h.state.context u ≡ false

@@ -1,13 +1,11 @@
--- What a rule of a macro or of C text names that ends in its line.
+-- Lexemes of macros and C text that end in their line.
 use Rattle.cweb_scan.proofs.Common.{◌≡◌, ℕ, Bool, true, false, ◌&&◌, List, refl, ap, sym, ◌∙◌, if◌then◌else◌, in_macro, in_c, match_in, opens_in, c_opens, c_rule, c_match_by, Context, Macro, CText, Effect, Rule, is_c, in_open_part}
 use Rattle.cweb_scan.specs.inner.FirstRule.{ends_macro_line}
 use Rattle.cweb_rules.specs.declared.rule.Rule.TheVariants as rule
 use Rattle.cweb_scan.proofs.RestByLexemes.{c_is, c_opens_is, macro_is}
 use Rattle.cweb_scan.proofs.FirstMatchTaken.{opens_by, c_opens-by}
 
--- RULES WHOSE ITEMS END IN THEIR LINE
-
--- those of `ends_in_line`, and section starts
+-- The rules of `ends_in_line`, and section starts.
 abbrev pub closes : Rule → Bool
 closes rule.Section = true
 closes rule.Blanks = true
@@ -18,7 +16,7 @@ closes rule.Punctuator = true
 closes rule.IncludedName = true
 closes r = false
 
--- the codes don't matter to them
+-- They don't depend on the codes' effects.
 closed_front : (e : ℕ → Effect) (takes : Bool) (u : List ℕ) (r : Rule) → closes r ≡ true
     → (c_match_by e takes u r ≡ c_match_by in_c false u r) × (opens_by e u r ≡ false)
 closed_front e takes u rule.LineEnd h = cc

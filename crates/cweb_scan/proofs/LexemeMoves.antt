@@ -1,4 +1,4 @@
--- What each piece of a scan keeps, where the moves keep it, and how much it gives at most.
+-- Each lexeme of a scan satisfies the relation of the moves, and how much it emits at most.
 use Rattle.cweb_scan.proofs.Common.{◌≡◌, ◌≤◌, ℕ, ◌+◌, ◌*◌, Bool, true, false, ◌&&◌, ◌==◌, List, [], ◌∷◌, Some, None, length, refl, ap, sym, ◌∙◌, arith, if◌then◌else◌, codes, bytes_eq, flat_map, fold, decimal, Place, Word, Number, Context, Limbo, Definition, unescaped, Kind, Lexeme, Skipped, Section, Code, Letter, ControlText, Constant, Blanks, LineEnd, Comment, Quoted, Defined, Identifier, Numeral, Punctuator, at_line_ends, Pays, Reading, on, next_line, each_line_end, literal_unit, stays_in_head, enter_in, enter, item, after_lexeme, comment_line_end, ScanState, move_to, report, drop_definition}
 use Rattle.cweb_rules.proofs.UnitNewlines.{Tells, none-ends, ends-append}
 use Rattle.cweb_rules.specs.Bytes.{is_line_end}
@@ -13,7 +13,7 @@ no_line_ends [] = refl
 no_line_ends (b ∷ t) = elim (is_line_end b) as (λ v. (if v then 0 + at_line_ends 0 t else at_line_ends 0 t) ≡ 0)
     [ true ↦ omega (arith, no_line_ends t) | false ↦ no_line_ends t ]
 
--- an `@` is no line end
+-- An `@` is no newline.
 sign-none : (u : List ℕ) → bytes_eq u (codes "@") ≡ true → at_line_ends 1 u ≡ 0
 sign-none [] h = refl
 sign-none (b ∷ []) h =
@@ -21,7 +21,7 @@ sign-none (b ∷ []) h =
 sign-none (b ∷ d ∷ u) h = (elim (b == 64) as
     (λ v. (v && false) ≡ true → at_line_ends 1 (b ∷ d ∷ u) ≡ 0) [ true ↦ λ k. cc | false ↦ λ k. cc ]) h
 
--- what pays before a head is left pays after it
+-- Tokens owed before a head ends are owed after it.
 enter-defined : (c : Context) (tight : Bool) (s : ScanState) → enter_in c (Defined tight) s ≡ s
 enter-defined Limbo tight s = refl
 enter-defined _ tight s = refl
@@ -31,7 +31,7 @@ pays_entered (Defined tight) bytes s pays =
     (pays.0, ap (λ (u : ScanState). owed_tokens u.context) (enter-defined s.context tight s) ∙ pays.1)
 pays_entered _ bytes s pays = pays
 
--- each byte adds three at most, a token and a byte of a text
+-- Each byte adds at most three: to the weight, the tokens and the bytes of strings.
 abbrev pub Costs : (ℕ → ℕ → ℕ → ℕ → Reading → Reading → Type 0) → List ℕ → Reading → Reading → Type 0
 Costs R bytes r m = R (at_line_ends 1 bytes) (3 * length bytes) (length bytes) (length bytes) r m
 
@@ -62,8 +62,6 @@ module _ {Ok : Place → Type 0} {R : ℕ → ℕ → ℕ → ℕ → Reading �
   units-walk [] r = w.nothing r
   units-walk (u ∷ us) r = w.within _ 0 0 0 (w.both (unit-walks r u) (units-walk us (literal_unit r u)))
       (omega (arith, ends-append u (flat_map (λ v. v) us)))
-
-  -- THE PIECES
 
   enter_in-walks : (c : Context) (k : Kind) (r : Reading) → OfHead Ok c → R 0 0 0 0 r (on (enter_in c k) r)
   enter_in-walks (Definition begun) k r ok = step.either w (stays_in_head k) r.state

@@ -1,9 +1,8 @@
--- The pieces of a text are the one list of what the rules name.
+-- The lexemes of a source are the only list that the rules allow.
 use Rattle.cweb_scan.proofs.Common.{◌≡◌, ℕ, ◌≤◌, suc, zero, List, [], ◌∷◌, ◌++◌, length, take, drop, refl, ap, sym, ◌∙◌, arith, take-append-drop, length-append, subst, take-append_seam, drop-append_seam, length-drop, length-take-le, Lexeme, Reading, after_lexeme, next_match, lexemes, AreLexemes}
 use Rattle.cweb_scan.proofs.NextMatchPays.{fair}
 use Rattle.cweb_scan.proofs.FirstLexeme.{first, pieces_first}
 
--- a list of pieces of a text is the pieces of the text
 pub ArePieces-unique : (r : Reading) (t : List ℕ) (ps : List Lexeme) → AreLexemes r t ps → ps ≡ lexemes r t
 ArePieces-unique r t [] h = sym (ap (lexemes r) h)
 ArePieces-unique r [] (p ∷ ps) h = absurd (omega (arith, ap length h.1, length-append p.bytes h.0, h.2))

@@ -1,4 +1,4 @@
--- Each piece is given the place of the line in which its first byte stands.
+-- Each lexeme has the place of the line of its first byte.
 use Rattle.cweb_scan.proofs.Common.{◌≡◌, ◌≤◌, ℕ, zero, suc, ◌+◌, List, [], ◌∷◌, ◌++◌, Some, length, drop, refl, ap, sym, ◌∙◌, subst, arith, flat_map-append, All, fold, slice_get, drop-nil, length-map, length-drop, All-head, All-tail, Place, Line, HasNoNewline, Lexeme, at_line_ends, Reading, after_lexeme, next_line, move_to, places, AreLexemes, newline_prefixed, source_start, newlines, LexemesKeepLines, ScanState}
 use Rattle.cweb_rules.proofs.UnitNewlines.{none-ends, ends-append, drop-sum}
 use Rattle.cweb_scan.specs.laws.LexemePlaces.{joined_lines}
@@ -8,11 +8,11 @@ use Rattle.cweb_scan.proofs.Walked.{bytes_in, joined, pieces-walk}
 use Rattle.cweb_scan.proofs.Moves.{Moves, Any, holds_any}
 use Rattle.cweb_scan.proofs.TakenItems.{reading}
 
--- the line on which a text goes on, and those that are still to come
+-- The current line, and the lines to come.
 abbrev places_in : Reading → List Place
 places_in r = r.state.here ∷ r.later
 
--- each line end moves the place, and nothing else does
+-- Each newline advances the place, and nothing else does.
 abbrev Stands : ℕ → ℕ → ℕ → ℕ → Reading → Reading → Type 0
 Stands n w t b r m = n ≤ length r.later → places_in m ≡ drop n (places_in r)
 
@@ -45,8 +45,6 @@ stands = record {
   folds = λ v r h. refl;
   numbers = λ n ns r e h. refl;
 }
-
--- THE WHOLE TEXT
 
 got : (ps : List Place) (k : ℕ) (p : Place) (later : List Place) → p ∷ later ≡ drop k ps → slice_get ps k ≡ Some p
 got [] k p later e = let wrong : length (p ∷ later) ≡ 0 = ap length (e ∙ drop-nil k) in absurd (omega (arith, wrong))

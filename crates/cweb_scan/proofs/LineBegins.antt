@@ -1,4 +1,4 @@
--- How a line begins behind what is held, and how the text ends there.
+-- The start of a line for any reader, and the end of the source.
 use Rattle.cweb_scan.proofs.Common.{◌≡◌, ◌≤◌, ℕ, ◌+◌, Bool, true, false, List, [], ◌∷◌, ◌++◌, take, drop, refl, ap, sym, ◌∙◌, subst, arith, ◌==◌, if◌then◌else◌, append-nil, Place, Line, Cut, reach_size, opener_after, Reading, on, each_line_end, emit_literal, occurrence, ReaderModel, begun_reader, after_line_end, read_on, read_after, source_ended, BeginsLine, TakesLineEnd, TakesBytes, cost, pending_cost, awaits_line_end, item_of, quote_byte, PendingItem, takes_opener, weight, lex, ScanState, move_to, AfterBackslash, Raw, Quote, Single, Double}
 use Rattle.cweb_rules.specs.Items as items
 use Rattle.cweb_scan.specs.inner.Resume as item
@@ -17,7 +17,7 @@ no_newline : (quote : Quote) → (quote_byte quote == 10) ≡ false
 no_newline Single = refl
 no_newline Double = refl
 
--- a line end, whatever is open
+-- A newline, with any item open.
 pub line_ends : (kind : Open) (d us : List ℕ) (q : Place) (s : ScanState)
     → TakesLineEnd q (begun_reader s (item_of kind d us)) (after_line_end q (item_of kind d us) s)
 line_ends Between d us q s = record { begun = refl; same = λ later t. sym (run-newline q s later t) }
@@ -45,12 +45,12 @@ after_line_end-cost (item.InLiteral begun quote text) q s =
     omega (arith, line_end-weight q (emit_literal text Cut begun s), literal-weight text Cut begun s)
 after_line_end-cost _ q s = omega arith
 
--- behind a line end no literal waits for one
+-- After a newline no literal waits for one.
 pub never_awaits : (i : PendingItem) (q : Place) (s : ScanState) → awaits_line_end (after_line_end q i s).item ≡ false
 never_awaits item.Between q s = refl
 never_awaits _ q s = refl
 
--- a line begins behind a line end
+-- A line begins after a newline.
 pub begins_next : (kind : Open) (d us : List ℕ) (s : ScanState) (begun : Bool) (place : Place) (new : ReaderModel)
     → begun ≡ true → new ≡ after_line_end place (item_of kind d us) s
     → BeginsLine place (record { state = s; item = item_of kind d us; begun = begun }) new
@@ -63,7 +63,7 @@ begins_next kind d us s true place new h is = record {
 }
 begins_next kind d us s false place new h is = absurd (cc h)
 
--- a line that has begun is taken once its bytes are
+-- A line that has begun is taken once its bytes are.
 pub line_taken : (old mid new : ReaderModel) (line : Line) (lines : List Line) → BeginsLine line.place old mid
     → TakesBytes line.bytes mid new → read_after new lines ≡ read_after old (line ∷ lines)
 line_taken old mid new line lines begins took = by old.begun refl
@@ -71,8 +71,6 @@ line_taken old mid new line lines begins took = by old.begun refl
     by : (b : Bool) → old.begun ≡ b → read_after new lines ≡ read_after old (line ∷ lines)
     by true h = next_taken old mid new line lines h (begins.next h) took
     by false h = first_taken old mid new line lines h (begins.first h) took
-
--- THE END OF THE TEXT
 
 abbrev sign_size : Bool → ℕ
 sign_size takes = let r = items.reach_of_name [] in
@@ -105,7 +103,7 @@ text_ended-weight (item.InLiteral begun quote text) s = literal-weight text Cut 
 text_ended-weight (item.AfterBackslash begun quote text) s = literal-weight (text ++ 92 ∷ []) Cut begun s
 text_ended-weight (item.InRaw begun delimiter text) s = literal-weight text Cut begun s
 
--- all was read once an item that is open has ended
+-- The whole source was read once the open item has ended.
 pub text_read : (kind : Open) (d us : List ℕ) (s : ScanState) (begun : Bool) → begun ≡ true
     → (read_after (record { state = s; item = item_of kind d us; begun = begun }) []).state
     ≡ source_ended (item_of kind d us) s

@@ -1,4 +1,4 @@
--- What a line end does to what is held, whatever item is open.
+-- The effect of a newline on a reader, for each open item.
 use Rattle.cweb_scan.proofs.Common.{◌≡◌, ℕ, suc, ◌+◌, ◌-◌, Bool, true, false, List, [], ◌∷◌, ◌++◌, take, drop, refl, ap, ◌∙◌, arith, append_assoc, ◌&&◌, ◌==◌, if◌then◌else◌, fold, Place, Context, Limbo, TeX, End, Closed, Cut, Goes, Ends, Reach, reach_size, with_unit, reach_in, match_in, opener_after, Kind, Skipped, LineEnd, RuleMatch, rule_match, Lexeme, ScanState, move_to, names_include, Reading, on, line_end_in, line_end, comment_line_end, each_line_end, pass_comment, enter_in, item, after_lexeme, lexemes_in, lex, InComment, InName, InLiteral, takes_opener, resume_literal, resume, resume_comment}
 use Rattle.cweb_rules.specs.Items as items
 use Rattle.cweb_scan.specs.inner.Resume.{AfterBackslash}
@@ -30,7 +30,7 @@ from_front r t f =
     let p : Lexeme = record { kind = f.kind; bytes = take f.size (10 ∷ t) } in
     fold after_lexeme (after_lexeme r p) (lexemes_in (f.size - 1) (after_lexeme r p) t)
 
--- between two items
+-- Between two items.
 pub run-newline : (q : Place) (s : ScanState) (later : List Place) (t : List ℕ)
     → lex (reading s (q ∷ later)) (10 ∷ t) ≡ lex (reading (line_end q s) later) t
 run-newline q s later t = ap (from_front (reading s (q ∷ later)) t) (front-newline s.context (names_include s) t)
@@ -48,7 +48,7 @@ abbrev sized_comment : Place → End → List ℕ → ℕ → Reading → Readin
 sized_comment begun how t n m =
     lex (on (pass_comment how begun) (each_line_end comment_line_end (take n t) m)) (drop n t)
 
--- in a comment
+-- In a comment.
 pub resume-comment : (begun q : Place) (s : ScanState) (later : List Place) (t : List ℕ)
     → resume (InComment begun) (10 ∷ t) (reading s (q ∷ later))
     ≡ resume (InComment begun) t (reading (comment_line_end q s) later)
@@ -58,7 +58,7 @@ resume-comment begun q s later t =
     ap (λ (v : Reach). resume_comment begun v (10 ∷ t) (reading s (q ∷ later))) (comment-newline t)
     ∙ ap (λ n. sized_comment begun r.how (10 ∷ t) n (reading s (q ∷ later))) e
 
--- in a name
+-- In a name.
 abbrev sign_size : ScanState → ℕ → ℕ
 sign_size s sign = if takes_opener s then sign else 0
 
@@ -73,7 +73,7 @@ resume-name begun is_file us q s later t =
     let f : suc (reach_size r) + sign_size s sign ≡ suc (reach_size r + sign_size s sign) = omega arith in
     rw (name-newline t, e, f, append_assoc us (10 ∷ []) (items.unescaped r.units)) refl
 
--- in a literal, behind its `\`
+-- In a literal, after `\`.
 literal-newline : (quote : ℕ) (t : List ℕ) → (quote == 92) ≡ false
     → items.reach_of_literal quote (92 ∷ 10 ∷ t) ≡ with_unit (92 ∷ 10 ∷ []) (items.reach_of_literal quote t)
 literal-newline quote t h = ap (λ v. elim (if v && true then Ends 1 Closed else Goes 2) as (λ w. Reach) [

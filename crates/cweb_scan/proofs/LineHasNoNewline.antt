@@ -1,9 +1,7 @@
--- The bytes of a line have no line end.
+-- The bytes of a line have no newline.
 use Rattle.cweb_scan.proofs.Common.{◌≡◌, ℕ, List, [], ◌∷◌, ◌++◌, refl, ap, sym, ◌∙◌, if◌then◌else◌, ne_eqb, Place, Reading, each_line_end, next_line, IsLine, ScanState}
 
--- LINE ENDS
-
--- no line end among the bytes of a line
+-- A line has no newline that could move the place.
 pub each-line : (f : Place → ScanState → ScanState) (t u : List ℕ) (m : Reading)
     → IsLine t → each_line_end f (t ++ u) m ≡ each_line_end f u m
 each-line f [] u m h = refl

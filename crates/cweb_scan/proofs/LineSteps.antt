@@ -1,4 +1,4 @@
--- The bytes of a line are taken turn by turn.
+-- The bytes of a line are taken step by step.
 use Rattle.cweb_rules.proofs.InLines.{IsLine-drop}
 use Rattle.cweb_scan.proofs.Common.{◌≡◌, ◌≤◌, ◌<◌, ℕ, ◌+◌, Bool, true, false, List, length, drop, refl, ap, sym, ◌∙◌, subst, arith, if◌then◌else◌, length-drop, IsLine, ReaderModel, TakesPrefix, awaits_line_end, TakesPending, item_of, PendingItem, MakesProgress, TakesStep, remaining_work}
 use Rattle.cweb_scan.specs.inner.PendingRest.{is_pending}
@@ -7,8 +7,6 @@ use Rattle.cweb_scan.specs.declared.reader.open.Open.{Open}
 use Rattle.cweb_scan.specs.declared.reader.open.Open.TheVariants.{Between}
 use Rattle.cweb_scan.proofs.RestByLexemes.{takes_both}
 use Rattle.cweb_rules.proofs.UnitNewlines.{drop-sum}
-
--- ONE TURN
 
 one : (v : Bool) → (if v then 1 else 0) ≤ 1
 one true = omega arith
@@ -38,15 +36,13 @@ open_turn n u h new opens p = record {
   last = p.last;
 }
 
--- what the code keeps open is open
+-- The item that the code stores as open is open in the model.
 pub kept_open : (kind : Open) (delimiter text : List ℕ)
     → (kind ≡ Between → ⊥) → is_pending (item_of kind delimiter text) ≡ true
 kept_open Between d t h = absurd (h refl)
 kept_open _ d t h = refl
 
--- ALL TURNS
-
--- what stands before the rest of a line was taken
+-- The bytes before the rest of a line were taken.
 pub record TakesFront (line rest : List ℕ) (old new : ReaderModel) : Type 0 where
   pub size : ℕ
   pub rest_is : rest ≡ drop size line

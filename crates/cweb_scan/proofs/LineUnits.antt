@@ -1,4 +1,4 @@
--- The units of a literal in one line: they leave the places of later lines as they are.
+-- The units of a literal in one line don't use the places of later lines.
 use Rattle.cweb_scan.proofs.Common.{◌≡◌, ℕ, true, false, List, [], ◌∷◌, refl, ap, ◌∙◌, if◌then◌else◌, codes, bytes_eq, fold, Place, DoubleAtInString, Reading, on, literal_unit, IsLine, unit_state, ScanState, report, move_to}
 use Rattle.cweb_rules.proofs.InLines.{AreLines}
 use Rattle.cweb_scan.proofs.LineHasNoNewline.{none-line}
@@ -13,7 +13,7 @@ one-unit s later u h = ap (λ (r : Reading). if bytes_eq u
     ∙ (elim (bytes_eq u (codes "@")) as (λ v. (if v then on (report DoubleAtInString) (reading s later)
     else reading s later) ≡ reading (if v then report DoubleAtInString s else s) later) [ true ↦ refl | false ↦ refl ])
 
--- within a line the units make of the state what they make, whatever lines follow
+-- Their effect on the state doesn't depend on the lines that follow.
 pub units_line : (s : ScanState) (later : List Place) (us : List (List ℕ)) → AreLines us
     → fold literal_unit (reading s later) us ≡ reading (fold unit_state s us) later
 units_line s later [] h = refl

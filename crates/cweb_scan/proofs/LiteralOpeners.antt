@@ -1,4 +1,4 @@
--- What opens a literal: what is read then is what is read with the literal open.
+-- Openers of literals: reading on is reading with the literal open.
 use Rattle.cweb_rules.proofs.InLines.{IsLine-take}
 use Rattle.cweb_scan.proofs.LineHasNoNewline.{none-line}
 use Rattle.cweb_scan.proofs.Common.{◌≡◌, ◌≤◌, ◌<◌, ℕ, zero, suc, ◌+◌, Bool, true, false, ◌&&◌, ◌==◌, List, [], ◌∷◌, ◌++◌, length, take, drop, refl, ap, sym, ◌∙◌, subst, arith, if◌then◌else◌, codes, bytes_eq, not, fold, take-append-le, drop-append-le, length-drop, Reading, on, each_line_end, literal_unit, enter_in, begins, at_line_end, Effect, in_macro, in_c, Look, reach, body, reach_size, names_include, reads_literals, IsPast, raw_prefix, delimiter, raw_match, literal_match, literal_prefix, quote_of, quoted_match, c_match, starts_raw, starts_literal, End, Cut, look_in_raw, look_in_literal, Skipped, Quoted, RuleMatch, rule_match, closer_of, InLiteral, InRaw, takes_opener, resume_literal, resume, IsLine, match_in, lex, Context, Macro, CText, ScanState, move_to, report, DoubleAtInString, AtLineEnd, and_parts, and-true}
@@ -7,8 +7,6 @@ use Rattle.cweb_rules.proofs.LineLiterals.{starts_literal_line, literal_with, li
 use Rattle.cweb_rules.proofs.LineDelimiters.{raw_from, raw_prefix-line, delimiter-line, sign-fits, has_delimiter-size, starts_raw_line}
 use Rattle.cweb_scan.proofs.CommentAndNameOpeners.{run_as}
 use Rattle.cweb_rules.proofs.UnitNewlines.{drop-sum}
-
--- LITERALS
 
 enter_quoted : (c : Context) (us : List (List ℕ)) (how : End) (s : ScanState)
     → reads_literals c ≡ true → enter_in c (Quoted us how) s ≡ s
@@ -20,12 +18,12 @@ opener-unit : (r : Reading) (u : List ℕ) → IsLine u → bytes_eq u (codes "@
 opener-unit r u line h =
     ap (λ v. if v then on (report DoubleAtInString) r else each_line_end move_to u r) h ∙ none-line move_to u r line
 
--- a unit that stands for itself, and is no lone `@`
+-- A unit of plain bytes, other than a lone `@`.
 pub record IsPlain (u : List ℕ) : Type 0 where
   pub single : bytes_eq u (codes "@") ≡ false
   pub double : bytes_eq u (codes "@@") ≡ false
 
--- a literal of either kind, whose first n bytes open it
+-- A literal of either kind with an opener of n bytes.
 pub opened_quoted : (look : List ℕ → Look) (r : Reading) (n b : ℕ) (t : List ℕ)
     → reads_literals r.state.context ≡ true → IsLine (take n (b ∷ t)) → IsPlain (take n (b ∷ t))
     → match_in r.state.context (names_include r.state) (b ∷ t)
@@ -86,7 +84,7 @@ plain (suc n) b t some h =
       double = ap (λ v. v && bytes_eq (take n t) (codes "@")) e;
     }
 
--- the same, before a line end
+-- Such a literal in a line, with more lines after it.
 opened_in_line : (look : List ℕ → Look) (r : Reading) (n b : ℕ) (t more : List ℕ)
     → 0 < n → n ≤ length (b ∷ t) → reads_literals r.state.context ≡ true → IsLine (b ∷ t)
     → begins (codes "@") (b ∷ t) ≡ false → match_in r.state.context (names_include r.state) (b ∷ t ++ more)
@@ -100,7 +98,6 @@ opened_in_line look r n b t more some fits c line code h =
     ∙ ap (λ v. resume_literal r.state.here v (reach look Cut (drop n (u ++ more))) (drop n (u ++ more)) r) first
     ∙ ap (λ v. resume_literal r.state.here (take n u) (reach look Cut v) v r) (drop-append-le n u more fits)
 
--- `R"(`
 pub opened_raw : (r : Reading) (b : ℕ) (t more : List ℕ) → AtLineEnd more → reads_literals r.state.context ≡ true
     → IsLine (b ∷ t) → IsPast (b ∷ t) → begins (codes "\\") (b ∷ t) ≡ false → starts_raw (b ∷ t) ≡ true
     → lex r (b ∷ t ++ more)
@@ -125,7 +122,7 @@ opened_raw r b t more e c line p back starts =
     (λ effect takes_opener includes. c_front_raw effect takes_opener includes
     (u ++ more) (past-line b t more e p) (starts_raw_line u more e ∙ starts) ∙ same))
 
--- a quote
+-- A quote.
 pub opened_literal : (r : Reading) (b : ℕ) (t more : List ℕ) → AtLineEnd more → reads_literals r.state.context ≡ true
     → IsLine (b ∷ t) → IsPast (b ∷ t) → begins (codes "\\") (b ∷ t) ≡ false → starts_raw (b ∷ t) ≡ false
     → starts_literal (b ∷ t) ≡ true → lex r (b ∷ t ++ more) ≡ (let n = literal_prefix (b ∷ t) in

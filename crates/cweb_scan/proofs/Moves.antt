@@ -1,5 +1,4 @@
--- What each step of a scan keeps, told once: a relation between what was read before a step and after it that the few
--- moves keep of which all steps are made.
+-- All steps of a scan are made of a few moves. A relation that holds for the moves holds for the steps.
 use Rattle.cweb_scan.proofs.Common.{◌≡◌, ◌≤◌, ℕ, ◌+◌, ◌-◌, Bool, true, false, ◌||◌, ◌&&◌, not, List, [], ◌∷◌, length, refl, arith, if◌then◌else◌, codes, Place, NameRef, PartKind, Token, Word, Number, Literal, Verbatim, Punct, Blank, Newline, Join, Defs, Name, Head, Tail, Mark, Occurrence, with_open, with_dropped, Context, Limbo, TeX, Definition, Macro, CText, Effect, Define, Format, Program, InsertDefs, Joins, EmitAt, Faulty, End, Closed, Cut, Nested, in_directive, directive, name_occurrence, Reading, on, next_line, ScanState, emit, add_name, move_to, begin_part, end_part, end_macro_in, end_macro, drop_definition, leave_in, begin_section, line_end_in, line_end, comment_line_end, blank, punctuator, apply_effect, pass_control_text, emit_verbatim, define, pass_comment, report_name_fault, use_name, open_name, name_in_context, occurrence, emit_literal}
 use Rattle.cweb_scan.specs.DirectiveTokens.{is_punct}
 use Rattle.cweb_rules.specs.laws.Pays.{owed_tokens}
@@ -14,7 +13,7 @@ use Rattle.cweb_store.specs.Calls.{with_closed, with_replacement}
 use Rattle.cweb_store.specs.Replacements.{Replacement}
 use Rattle.cweb_store.specs.declared.parts.PartKind.TheVariants as part
 
--- the bytes of a token's text
+-- The bytes of a token's string.
 abbrev pub size : Token → ℕ
 size (Word b) = length b
 size (Number b) = length b
@@ -22,8 +21,6 @@ size (Literal b) = length b
 size (Verbatim b) = length b
 size (Punct b) = length b
 size t = 0
-
--- WHAT IS KNOWN OF THE PLACES THAT ARE HELD
 
 abbrev pub OfMark : (Place → Type 0) → Token → Type 0
 OfMark Ok (Mark p) = Ok p
@@ -56,8 +53,8 @@ each_any (p ∷ ps) = (tt, each_any ps)
 pub holds_any : (p : Place) (c : Context) (ps : List Place) → Holds Any p c ps
 holds_any p c ps = record { here_is = tt; begun_is = of_any c; later_are = each_any ps }
 
--- The moves, with so many line ends, so much more weight, and so many tokens and bytes of texts at most. What a move
--- tells of a place holds of it if it holds of the places before.
+-- The relation holds for each move. R's numbers bound the newlines, the weight, and the tokens and bytes of strings
+-- that the move adds. `Ok` must hold of the new places if it holds of the old ones.
 pub record Moves (Ok : Place → Type 0) (R : ℕ → ℕ → ℕ → ℕ → Reading → Reading → Type 0) : Type 0 where
   pub nothing : (r : Reading) → R 0 0 0 0 r r
   pub both : {n w t b n' w' t' b' : ℕ} {r m k : Reading} → R n w t b r m → R n' w' t' b' m k
@@ -71,7 +68,7 @@ pub record Moves (Ok : Place → Type 0) (R : ℕ → ℕ → ℕ → ℕ → Re
   pub faults : (k : ScanKind) (p : Place) (r : Reading) → Ok p → R 0 0 0 0 r (on (report_at k p) r)
   pub enters : (c : Context) (r : Reading) → OfHead Ok c
       → R 0 0 (owed_tokens c - 1) 0 r (on (λ s. record s { context = c }) r)
-  -- a head has paid a token, which the macro gives
+  -- A head owes a token, which the macro emits.
   pub pays : (t : ℕ) {n w b : ℕ} {r m : Reading} → owed_tokens r.state.context ≡ 2
       → R n w (1 + t) b (on (λ s. record s { context = Macro }) r) m → R n w t b r m
   pub opens : (kind : PartKind) (r : Reading)
@@ -94,8 +91,6 @@ module _ {Ok : Place → Type 0} {R : ℕ → ℕ → ℕ → ℕ → Reading �
       → R n c t b r (reading x ps) → R n c t b r (reading y ps) → R n c t b r (reading (if v then x else y) ps)
   either true x y f g = f
   either false x y f g = g
-
-  -- PARTS AND SECTIONS
 
   mark : (r : Reading) → R 0 1 1 0 r (on (λ s. emit (Mark s.here) s) r)
   mark r = w.knowing (λ h. w.gives (Mark r.state.here) r h.here_is)
@@ -133,8 +128,6 @@ module _ {Ok : Place → Type 0} {R : ℕ → ℕ → ℕ → ℕ → Reading �
   begin_section-walks starred r = w.both (leave-walks r) (w.both (w.enters TeX _ tt)
       (w.numbers r.state.sections _ _ (leave-sections r.state.context r.state)))
 
-  -- LINE ENDS
-
   newline : (a b : Bool) (p : Place) (r : Reading) → Ok p
       → R 0 1 1 0 r (on (emit (if a then Newline else (if b then Mark p else Newline))) r)
   newline true b p r ok = w.gives Newline r tt
@@ -158,8 +151,6 @@ module _ {Ok : Place → Type 0} {R : ℕ → ℕ → ℕ → ℕ → Reading �
   comment_line_end-walks s [] = w.within 1 1 1 0 (w.advances (reading s [])) (omega arith)
   comment_line_end-walks s (p ∷ later) = either (in_directive s) (move_to p s) (line_end p s)
       (w.within 1 1 1 0 (w.advances (reading s (p ∷ later))) (omega arith)) (line_end-walks (reading s (p ∷ later)))
-
-  -- ITEMS
 
   pub blank-walks : (r : Reading) → R 0 1 1 0 r (on blank r)
   blank-walks r = either (in_directive r.state && not (is_last_blank (directive r.state).last))
@@ -191,7 +182,7 @@ module _ {Ok : Place → Type 0} {R : ℕ → ℕ → ℕ → ℕ → Reading �
   verbatim-walks text Cut r = w.within 0 1 1 (length text) (faults_here ControlTextDidNotEnd r) (omega arith)
   verbatim-walks text _ r = w.within 0 1 1 (length text) (w.nothing r) (omega arith)
 
-  -- the identifier of a head pays with what is due there
+  -- The identifier of a head pays with the owed token.
   pub define-walks : (bytes : List ℕ) (tight : Bool) (r : Reading) → owed_tokens r.state.context ≡ 2
       → R 0 3 1 (length bytes) r (on (define bytes tight) r)
   define-walks bytes true r h = w.within 0 3 1 (length bytes)

@@ -1,4 +1,4 @@
--- A name's text is no longer than what stands in the web.
+-- A name has at most as many bytes as its lexeme.
 use Rattle.cweb_scan.proofs.Common.{◌≤◌, ℕ, ◌+◌, ◌-◌, Bool, true, false, List, [], ◌∷◌, ◌++◌, length, take, arith, length-append, if◌then◌else◌, codes, is_white, as_occurrence, name_occurrence}
 use Rattle.cweb_names.specs.Squeezing.{squeezed_after, squeezed}
 use Rattle.cweb_rules.proofs.Sizes.{take-within}

@@ -1,4 +1,4 @@
--- What the rules name where a text goes on is fair.
+-- The bytes of the next lexeme pay for what it emits.
 use Rattle.cweb_scan.proofs.Common.{ℕ, List, ◌∷◌, names_include, next_match, ScanState}
 use Rattle.cweb_rules.specs.laws.Pays.{FitsAndPays}
 use Rattle.cweb_rules.proofs.MatchesPay.{front_in-fair}

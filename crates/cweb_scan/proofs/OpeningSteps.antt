@@ -1,4 +1,4 @@
--- What opens an item is taken as the code takes it.
+-- Openers are taken as the code takes them.
 use Rattle.cweb_scan.proofs.Common.{◌≡◌, ◌≤◌, ℕ, ◌+◌, Bool, true, false, ◌&&◌, ◌==◌, List, [], ◌∷◌, ◌++◌, length, take, drop, refl, ap, sym, ◌∙◌, subst, arith, codes, eqb-true, length-drop, begins, starts_raw, starts_literal, literal_prefix, quote_of, raw_prefix, delimiter, IsLine, Context, Definition, blank, is_head, ReaderModel, TakesPrefix, PendingItem, InComment, InName, InLiteral, InRaw, resume, lex, Place, ScanState, IsPast, reads_c, reads_names, reads_literals, and_parts}
 use Rattle.cweb_rules.proofs.LineLiterals.{is_quoted-size}
 use Rattle.cweb_rules.proofs.LineDelimiters.{sign-fits, has_delimiter-size}
@@ -12,7 +12,7 @@ use Rattle.cweb_scan.proofs.Weights.{blank-weight}
 abbrev pub opened : ScanState → Bool → PendingItem → ReaderModel
 opened s g item = record { state = s; item = item; begun = g }
 
--- a text that begins with two bytes
+-- A source that begins with two bytes.
 two : (x y : ℕ) (u : List ℕ) → begins (x ∷ y ∷ []) u ≡ true → (w : List ℕ) × (x ∷ y ∷ w ≡ u)
 two x y [] h = cc
 two x y (a ∷ []) h = let wrong : false ≡ true = (and_parts (x == a) false h).1 in cc
@@ -20,7 +20,6 @@ two x y (a ∷ b ∷ w) h =
     let p = and_parts (x == a) ((y == b) && true) h in
     (w, (λ i. eqb-true x a p.0 i ∷ eqb-true y b (and_parts (y == b) true p.1).0 i ∷ w))
 
--- `/*`
 pub comment_opens : (s : ScanState) (g : Bool) (u : List ℕ) → reads_c s.context ≡ true
     → begins (codes "/*") u ≡ true → TakesPrefix 2 u (between s g) (opened (blank s) g (InComment s.here))
 comment_opens s g u c h =
@@ -36,7 +35,6 @@ no_head : (c : Context) (s : ScanState) → is_head c ≡ false → leave_head_i
 no_head (Definition begun) s h = cc
 no_head _ s h = refl
 
--- `@<`, `@(`
 named : (s : ScanState) (g : Bool) (a : ℕ) (is_file : Bool) (u : List ℕ) → is_head s.context ≡ false
     → begins (64 ∷ a ∷ []) u ≡ true → ((later : List Place) (w : List ℕ) → lex (reading s later) (64 ∷ a ∷ w)
     ≡ resume (InName s.here is_file []) w (reading (leave_head s) later))
@@ -60,7 +58,7 @@ pub file_opens : (s : ScanState) (g : Bool) (u : List ℕ) → is_head s.context
     → begins (codes "@(") u ≡ true → TakesPrefix 2 u (between s g) (opened s g (InName s.here true []))
 file_opens s g u head c h = named s g 40 true u head h (λ later w. opened_file (reading s later) w c)
 
--- no literal begins with `\`
+-- No literal begins with `\`.
 not_back : (starts : List ℕ → Bool) (b : ℕ) (t : List ℕ) → starts (92 ∷ t) ≡ false → starts (b ∷ t) ≡ true
     → begins (codes "\\") (b ∷ t) ≡ false
 not_back starts b t none h = (elim (92 == b) as (λ v. (92 == b) ≡ v → (v && true) ≡ false) [
@@ -68,7 +66,6 @@ not_back starts b t none h = (elim (92 == b) as (λ v. (92 == b) ≡ v → (v &&
   | false ↦ λ e. refl
 ]) refl
 
--- a quote
 pub literal_opens : (s : ScanState) (g : Bool) (b : ℕ) (t : List ℕ) → reads_literals s.context ≡ true → IsLine (b ∷ t)
     → IsPast (b ∷ t) → starts_raw (b ∷ t) ≡ false → starts_literal (b ∷ t) ≡ true → (let n = literal_prefix (b ∷ t) in
     TakesPrefix
@@ -83,7 +80,6 @@ literal_opens s g b t c line past raw starts = record {
       starts);
 }
 
--- `R"(`
 pub raw_opens : (s : ScanState) (g : Bool) (b : ℕ) (t : List ℕ) → reads_literals s.context ≡ true
     → IsLine (b ∷ t) → IsPast (b ∷ t) → starts_raw (b ∷ t) ≡ true
     → (let m = raw_prefix (b ∷ t) + 2 in let d = delimiter (drop m (b ∷ t)) in let n = m + length d + 1 in
@@ -100,9 +96,7 @@ raw_opens s g b t c line past starts =
           (opened_raw (reading s later) b t more e c line past (not_back starts_raw b t refl starts) starts);
     }
 
--- THE CODE'S READER
-
--- what was between two items, seen by its fields
+-- A reader between two items, field by field.
 pub takes_at : (n : ℕ) (rest : List ℕ) (h v : ReaderModel) → v ≡ h → h.item ≡ item.Between → (new made : ReaderModel)
     → new ≡ made → TakesPrefix n rest (between v.state v.begun) new → TakesPrefix n rest h made
 takes_at n rest h v is none new made same takes =

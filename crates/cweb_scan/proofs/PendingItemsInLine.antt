@@ -1,4 +1,4 @@
--- An item or a comment that is open: what a line makes of it.
+-- An open item or comment over the rest of a line.
 use Rattle.cweb_scan.proofs.Common.{◌≡◌, ◌<◌, ℕ, zero, suc, ◌+◌, ◌-◌, true, false, List, [], ◌∷◌, ◌++◌, length, take, drop, refl, ap, sym, ◌∙◌, arith, length-append, take-append-drop, codes, flat_map, flat_map-append, take-append-le, drop-append-le, take-append-add, drop-append-add, Place, Reading, on, comment_line_end, pass_comment, begins, Look, Goes, Ends, Reach, reach, reach_in, body, reach_size, End, Cut, Open, look_in_comment, AtLineEnd, is_unclosed, InComment, resume, IsLine, lex}
 use Rattle.cweb_scan.proofs.Ends.{at_front}
 use Rattle.cweb_rules.specs.Items as items
@@ -9,13 +9,11 @@ use Rattle.cweb_rules.proofs.Seams.{begins_line}
 use Rattle.cweb_rules.proofs.Sizes.{reach-size, comment-within, begins-size}
 use Rattle.cweb_scan.proofs.LineHasNoNewline.{each-line, none-line}
 
--- AN ITEM THAT STAYS OPEN
-
 pub whole-end : (how : End) → IsEnd how → is_unclosed how ≡ false
 whole-end Open h = absurd h
 whole-end _ h = refl
 
--- its units are all bytes before the seam
+-- All units are within the bytes before the seam.
 body_at : (look : List ℕ → Look) (b : ℕ) (t : List ℕ) (v : Look)
     → (elim v as (λ w. Type 0) [ Goes n ↦ (0 < n) × IsWhole look (n - 1) t | Ends n how ↦ IsEnd how ])
     → ((k : ℕ) → IsWhole look k t → is_unclosed (reach_in look Open k t).how ≡ true → body (reach_in look Open k t)
@@ -63,12 +61,10 @@ pub sizes : (us : List (List ℕ)) (t : List ℕ) (m : Reach)
     → flat_map (λ u. u) us ≡ t → reach_size (after_units us m) ≡ length t + reach_size m
 sizes us t m h = omega (arith, size-open us t m h)
 
--- COMMENTS
-
 comment-sees : (more : List ℕ) → AtLineEnd more → IsLocal (look_in_comment (begins (codes "*/")) 2) more
 comment-sees more e = comment-local (begins (codes "*/")) 2 more e (λ b u. begins_line (codes "*/") (b ∷ u) more refl e)
 
--- a comment that goes on after the line
+-- A comment that continues after the line.
 pub comment_stays : (begun : Place) (t more : List ℕ) (m : Reading) → AtLineEnd more
     → IsLine t → is_unclosed (reach (look_in_comment (begins (codes "*/")) 2) Open t).how ≡ true
     → resume (InComment begun) (t ++ more) m ≡ resume (InComment begun) more m
@@ -84,7 +80,7 @@ comment_stays begun t more m e line h =
       drop-append-add t more n,
     ) refl
 
--- a comment that ends in the line
+-- A comment that ends in the line.
 pub comment_ends : (begun : Place) (t more : List ℕ) (m : Reading) → AtLineEnd more
     → IsLine t → is_unclosed (reach (look_in_comment (begins (codes "*/")) 2) Open t).how ≡ false
     → resume (InComment begun) (t ++ more) m

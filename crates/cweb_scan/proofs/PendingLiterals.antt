@@ -1,4 +1,4 @@
--- A literal that is open, raw ones too: what a line makes of it.
+-- An open literal, raw or not, over the rest of a line.
 use Rattle.cweb_scan.proofs.Common.{◌≡◌, ◌≤◌, ℕ, suc, ◌+◌, ◌-◌, ◌&&◌, true, false, ◌==◌, List, [], ◌∷◌, ◌++◌, length, take, drop, refl, ap, sym, ◌∙◌, arith, append_assoc, length-append, take-append-drop, if◌then◌else◌, fold, take-append-le, drop-append-le, length-drop, drop-append-add, Place, Reading, on, emit_literal, literal_unit, Look, Goes, Ends, Reach, reach, reach_in, with_unit, body, reach_size, Closed, Cut, Open, unit_bytes, unescaped, look_in_literal, AtLineEnd, is_unclosed, InLiteral, InRaw, resume_literal, closer_of, resume, lex, ScanState, move_to}
 use Rattle.cweb_scan.proofs.Ends.{at_front}
 use Rattle.cweb_rules.proofs.Ranges.{reach_in-drop}
@@ -8,12 +8,10 @@ use Rattle.cweb_rules.proofs.Looks.{reach_ends}
 use Rattle.cweb_rules.proofs.Sizes.{IsWithin, reach-size}
 use Rattle.cweb_scan.proofs.LineHasNoNewline.{append-nil'}
 
--- LITERALS, raw ones too: by what is seen in them
-
 abbrev closing : Reach → ℕ → List ℕ → List (List ℕ)
 closing r n t = r.units ++ take r.close (drop n t) ∷ []
 
--- one that ends in the line
+-- A literal that ends in the line.
 pub quoted_ends_in : (look : List ℕ → Look) (begun : Place) (us : List ℕ) (t more : List ℕ) (m : Reading)
     → IsWithin look → IsLocal look more → IsLocal look [] → IsWhole look 0 t
     → is_unclosed (reach look Open t).how ≡ false
@@ -33,7 +31,7 @@ quoted_ends_in look begun us t more m within local local0 w h =
     )
     refl
 
--- a literal that begins with a unit
+-- A literal that begins with a unit.
 pub unit_first : (begun : Place) (us u w : List ℕ) (r : Reach) (m : Reading)
     → resume_literal begun us (with_unit u r) (u ++ w) m
     ≡ resume_literal begun (us ++ unit_bytes u) r w (literal_unit m u)
@@ -49,7 +47,7 @@ unit_first begun us u w r m =
       append_assoc us (unit_bytes u) (unescaped rest),
     ) refl
 
--- a line end in a raw literal is a unit of it
+-- A newline in a raw literal is a unit of it.
 raw-newline : (d t : List ℕ)
     → items.reach_of_raw_literal (closer_of d) (10 ∷ t)
     ≡ with_unit (10 ∷ []) (items.reach_of_raw_literal (closer_of d) t)
@@ -65,7 +63,7 @@ raw_line_end begun d us q s later t =
     ∙ unit_first begun us (10 ∷ []) t (items.reach_of_raw_literal (closer_of d) t)
     (record { state = s; later = q ∷ later })
 
--- a literal that its line doesn't end, and doesn't continue
+-- A literal that the line neither ends nor continues.
 pub literal_cut : (begun : Place) (quote : ℕ) (us : List ℕ) (more : List ℕ) (m : Reading) → (quote == 10) ≡ false
     → AtLineEnd more → resume (InLiteral begun quote us) more m ≡ lex (on (emit_literal us Cut begun) m) more
 literal_cut begun quote us [] m h e = ap (λ x. lex (on (emit_literal x Cut begun) m) []) (append-nil' us)
@@ -77,7 +75,7 @@ literal_cut begun quote us (b ∷ more) m h e =
     ∙ same)
     ∙ ap (λ x. lex (on (emit_literal x Cut begun) m) (b ∷ more)) (append-nil' us)
 
--- one unit of a literal of either kind, whatever follows it
+-- One unit of a literal of either kind, whatever follows it.
 pub unit_passes : (look : List ℕ → Look) (begun : Place) (us : List ℕ) (n b : ℕ) (t : List ℕ) (m : Reading)
     → look (b ∷ t) ≡ Goes (suc n) → n ≤ length t → resume_literal begun us (reach look Cut (b ∷ t)) (b ∷ t) m
     ≡ resume_literal begun (us ++ unit_bytes (take (suc n) (b ∷ t)))

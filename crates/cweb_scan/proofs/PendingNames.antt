@@ -1,4 +1,4 @@
--- A name that is open: what a line makes of it.
+-- An open name over the rest of a line.
 use Rattle.cweb_scan.proofs.Common.{◌≡◌, ◌≤◌, ℕ, ◌+◌, Bool, true, false, List, [], ◌++◌, length, take, drop, refl, arith, if◌then◌else◌, nat_lt, take-append-le, drop-append-le, length-drop, Place, Reading, on, each_line_end, occurrence, reach, reach_size, opener_after, End, Cut, Open, unescaped, look_in_name, AtLineEnd, is_unclosed, InName, takes_opener, resume, IsLine, lex, move_to}
 use Rattle.cweb_rules.specs.Items as items
 use Rattle.cweb_rules.proofs.InLines.{IsLine-take}
@@ -6,8 +6,6 @@ use Rattle.cweb_rules.proofs.Looks.{reach_ends, whole, name-local, name-units}
 use Rattle.cweb_rules.proofs.Sizes.{reach-size, name-within, opener_after-size}
 use Rattle.cweb_rules.proofs.LineCodes.{opener_after-line}
 use Rattle.cweb_scan.proofs.LineHasNoNewline.{none-line}
-
--- NAMES
 
 abbrev pub named : Place → Bool → List ℕ → End → ℕ → ℕ → List ℕ → Reading → Reading
 named begun is_file us how sign n t m =
@@ -20,7 +18,7 @@ sign_size-fits : (m : Reading) (n : ℕ) → sign_size m n ≤ n
 sign_size-fits m n =
     elim (takes_opener m.state) as (λ v. (if v then n else 0) ≤ n) [ true ↦ omega arith | false ↦ omega arith ]
 
--- a name that ends in the line, with its opener sign
+-- A name that ends in the line, with its part opener.
 pub name_ends : (begun : Place) (is_file : Bool) (us : List ℕ) (t more : List ℕ) (m : Reading)
     → AtLineEnd more → IsLine t → is_unclosed (reach look_in_name Open t).how ≡ false
     → resume (InName begun is_file us) (t ++ more) m ≡ (let r = items.reach_of_name t in

@@ -1,4 +1,4 @@
--- The open item as the code keeps it: what a turn leaves of it, seen through the reader's fields.
+-- The open item as the code stores it, after each step.
 use Rattle.cweb_scan.proofs.Common.{◌≡◌, ℕ, Bool, true, false, List, ◌++◌, refl, ap, sym, ◌∙◌, subst, list_all, Place, delimiter, unit_bytes, Context, Look, ReaderModel, in_open_part, pending_bytes, with_pending_bytes, delimiter_of, literal_step, look_size, TakesPending, item_of, is_raw, HasRawCloser, PendingItem, Between, InComment, InName, InRaw, closer_of}
 use Rattle.cweb_rules.proofs.LineDelimiters.{closing_sign-in_line}
 use Rattle.cweb_rules.proofs.Seams.{in_line}
@@ -44,7 +44,7 @@ raw_kept : (o : Open) (d t : List ℕ) → is_raw_item (item_of o d t) ≡ true
 raw_kept (code.Raw begun) d t h = (refl, refl)
 raw_kept _ d t h = cc
 
--- the closing sign that the code keeps
+-- The stored closer.
 pub sign_kept : (o : Open) (c : Context) (d t sign : List ℕ) (h : ReaderModel) (begun : Place) → item_of o d t ≡ h.item
     → h.item ≡ InRaw begun (delimiter_of h.item) (pending_bytes h.item) → HasRawCloser o c d sign
     → (sign ≡ closer_of (delimiter_of h.item)) × (list_all in_line (closer_of (delimiter_of h.item)) ≡ true)
@@ -54,7 +54,7 @@ sign_kept o c d t sign h begun is item signed =
     ∙ ap closer_of (raw.1 ∙ ap delimiter_of is) in
     (same, ap (λ (x : List ℕ). list_all in_line x) (sym same) ∙ signed.clean raw.0)
 
--- a name whose text the code has made longer
+-- A name with more bytes.
 pub name_texted : (o : Open) (d t now : List ℕ) (h : ReaderModel) (begun : Place) (is_file : Bool) (unit : List ℕ)
     → item_of o d t ≡ h.item → h.item ≡ InName begun is_file (pending_bytes h.item) → now ≡ t ++ unit_bytes unit
     → item_of o d now ≡ InName begun is_file (pending_bytes h.item ++ unit_bytes unit)
@@ -63,7 +63,7 @@ name_texted o d t now h begun is_file unit is item longer =
     item_texted o d t now ∙ ap (with_pending_bytes now) (is ∙ item)
     ∙ ap (λ (x : List ℕ). InName begun is_file x) (longer ∙ ap (λ (x : List ℕ). x ++ unit_bytes unit) kept)
 
--- a literal's turn as the code takes it
+-- A step of a literal.
 pub turn_at : (n : ℕ) (look : Look) (begun : Place) (u : List ℕ) (h new : ReaderModel) (i : PendingItem)
     → h.item ≡ i → n ≡ look_size look → new ≡ literal_step look begun u h
     → TakesPending (look_size look) u (opened h.state h.begun i) (literal_step look begun u (opened h.state h.begun i))
@@ -74,7 +74,7 @@ turn_at n look begun u h new i item size made takes =
     (subst (λ (k : ReaderModel). TakesPending (look_size look) u h k)
     (sym made) (subst (λ (k : ReaderModel). TakesPending (look_size look) u k (literal_step look begun u k)) old takes))
 
--- a raw literal's closing sign as the code makes it
+-- The stored closer of a raw literal.
 pub raw_signed : (c : Context) (p : Place) (t d kept sign : List ℕ) → d ≡ delimiter t
     → kept ≡ d → sign ≡ closer_of d → in_open_part c ≡ true → HasRawCloser (code.Raw p) c kept sign
 raw_signed c p t d kept sign name same is part = record {

@@ -1,4 +1,4 @@
--- The rest of an item that is open: what a turn of it takes.
+-- Steps in the rest of an open item.
 use Rattle.cweb_scan.proofs.Common.{◌≡◌, ◌==◌, ◌≤◌, ◌<◌, ℕ, ◌+◌, ◌*◌, AtLineEnd, Between, PendingItem, awaits_line_end, Bool, true, false, List, [], ◌∷◌, ◌++◌, length, take, drop, refl, ap, sym, ◌∙◌, subst, arith, if◌then◌else◌, codes, bytes_eq, nat_lt, list_all, length-drop, drop_all, Place, begins, Reach, reach, reach_size, opener_after, unit_bytes, look_in_comment, look_in_name, look_in_literal, look_in_raw, IsLine, reached, MovesOn, End, Cut, Open, Reached, Look, Goes, Ends, DoubleAtInString, pass_comment, occurrence, ended_as, unit_state, literal_step, look_size, TakesPending, InComment, InName, InLiteral, InRaw, resume, closer_of, takes_opener, weight, lex, ScanState, report}
 use Rattle.cweb_rules.specs.inner.LineItems.{is_unclosed as stays}
 use Rattle.cweb_scan.specs.inner.ReaderModel.{pending_cost}
@@ -14,7 +14,7 @@ use Rattle.cweb_scan.proofs.FirstMatchTaken.{between}
 use Rattle.cweb_scan.proofs.UnitsTaken.{name_unit, name_end, quoted_unit, literal_end, raw_end}
 use Rattle.cweb_scan.proofs.Weights.{comment-weight, occurrence-weight, literal-weight}
 
--- the item goes on as another, or ends
+-- The item continues as another one, or ends.
 goes_with : (n : ℕ) (u : List ℕ) (s new : ScanState) (g : Bool) (i j : PendingItem) → awaits_line_end j ≡ false
     → (is_pending j ≡ true → 0 < n) → n ≤ length u → weight new + pending_cost j ≤ weight s + pending_cost i + 3 * n
     → ((later : List Place) (more : List ℕ) → AtLineEnd more → resume j (drop n u ++ more)
@@ -25,12 +25,10 @@ goes_with n u s new g i j within moves fits adds same = record {
   last = λ e. let wrong : false ≡ true = sym within ∙ e in cc;
 }
 
--- COMMENTS
-
 abbrev in_comment : List ℕ → Reach
 in_comment u = reach (look_in_comment (begins (codes "*/")) 2) Open u
 
--- one that the line doesn't end
+-- A comment that the line doesn't end.
 pub comment_goes : (s : ScanState) (g : Bool) (begun : Place) (u : List ℕ) (r : Reached)
     → IsLine u → 1 ≤ length u → r ≡ reached (in_comment u) → stays r.how ≡ true
     → TakesPending (length u) u (opened s g (InComment begun)) (opened s g (InComment begun))
@@ -43,7 +41,7 @@ ended_stays : (how : End) → stays how ≡ false → how ≡ ended_as Cut how
 ended_stays Open h = cc
 ended_stays _ h = refl
 
--- one that ends in the line
+-- A comment that ends in the line.
 pub comment_over : (s : ScanState) (g : Bool) (begun : Place) (u : List ℕ) (r : Reached)
     → IsLine u → r ≡ reached (in_comment u) → stays r.how ≡ false
     → TakesPending (r.size + r.close) u (opened s g (InComment begun)) (between (pass_comment r.how begun s) g)
@@ -58,8 +56,6 @@ comment_over s g begun u r line is ends =
     (λ i. lex (reading (pass_comment (how i) begun s) later) (drop (size i) u ++ more))
     ∙ sym (comment_ends begun u more (reading s later) e line (sym (ap (λ (v : Reached). stays v.how) is) ∙ ends)))
 
--- NAMES
-
 fits_as : (look : List ℕ → Look) (n b : ℕ) (t : List ℕ) → IsWithin (look (b ∷ t)) (length (b ∷ t))
     → look (b ∷ t) ≡ Goes n → (0 < n) × (n ≤ length (b ∷ t))
 fits_as look n b t within h = subst (λ (v : Look). IsWithin v (length (b ∷ t))) h within
@@ -68,7 +64,7 @@ ends_within : (look : List ℕ → Look) (n : ℕ) (how : End) (u : List ℕ)
     → end_size (look u) ≤ length u → look u ≡ Ends n how → n ≤ length u
 ends_within look n how u within h = subst (λ (v : Look). end_size v ≤ length u) h within
 
--- a unit of one
+-- A unit of a name.
 pub name_goes : (s : ScanState) (g : Bool) (begun : Place) (is_file : Bool) (us : List ℕ) (n : ℕ) (u : List ℕ)
     → IsLine u → 1 ≤ length u → look_in_name u ≡ Goes n → TakesPending
     n u (opened s g (InName begun is_file us)) (opened s g (InName begun is_file (us ++ unit_bytes (take n u))))
@@ -79,7 +75,7 @@ name_goes s g begun is_file us n (b ∷ t) line some h =
     (λ w. fits.0) fits.1 (omega arith)
     (λ later more e. sym (name_unit begun is_file us n b t more (reading s later) e line h fits.0 fits.1))
 
--- the end of one, with its opener sign
+-- The closer of a name, with its part opener.
 pub name_over : (s : ScanState) (g : Bool) (begun : Place) (is_file : Bool) (us : List ℕ) (n : ℕ)
     (how : End) (u : List ℕ) (sign taken : ℕ) (opens : Bool) → IsLine u → 1 ≤ length u → look_in_name u ≡ Ends n how
     → sign ≡ opener_after how (drop n u) → taken ≡ n + (if takes_opener s then sign else 0) → opens ≡ nat_lt 0 sign
@@ -98,8 +94,6 @@ name_over s g begun is_file us n how (b ∷ t) sign taken opens line some h is s
     (reading (occurrence is_file us how (nat_lt 0 (is i)) begun s) later)
     (drop (n + (if takes_opener s then is i else 0))
     u ++ more)) ∙ sym (name_end begun is_file us n b how t more (reading s later) e line h))
-
--- LITERALS
 
 unit-weight : (s : ScanState) (u : List ℕ) → weight (unit_state s u) ≤ weight s
 unit-weight s u = elim (bytes_eq u (codes "@")) as

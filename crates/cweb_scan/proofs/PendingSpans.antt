@@ -1,4 +1,4 @@
--- A run of bytes of an open item, each a unit of its own, is taken at once.
+-- A span of plain bytes of an open item is taken at once.
 use Rattle.cweb_scan.proofs.RestByLexemes.{takes_none, takes_both}
 use Rattle.cweb_scan.proofs.Common.{◌≡◌, ◌<◌, ℕ, suc, ◌+◌, Bool, true, false, cond, not, ◌&&◌, ◌==◌, List, [], ◌∷◌, ◌++◌, take, refl, ap, sym, ◌∙◌, subst, arith, append_assoc, if◌then◌else◌, codes, list_all, prefix_len, Place, unit_bytes, IsLine, is_plain, is_raw_special, is_special, DoubleAtInString, Goes, unit_state, ReaderModel, TakesPrefix, pending_bytes, with_pending_bytes, with_span, TakesPending, awaits_line_end, PendingItem, InName, InLiteral, InRaw, closer_of, ScanState, report, not-true}
 use Rattle.cweb_rules.specs.declared.items.Item.TheVariants.{Name, Literal}
@@ -9,11 +9,11 @@ use Rattle.cweb_scan.proofs.PendingReaders.{open_at}
 use Rattle.cweb_scan.proofs.PendingRests.{name_goes, literal_takes, raw_takes}
 use Rattle.cweb_scan.proofs.OpeningSteps.{opened}
 
--- an item with its text so far
+-- An item with its bytes so far.
 abbrev pub At : Type 0
 At = List ℕ → ReaderModel
 
--- each byte that is plain goes on with the item, and its text
+-- Each plain byte is appended to the item's bytes.
 abbrev pub GoesOn : (ℕ → Bool) → At → Type 0
 GoesOn p at =
     (us : List ℕ) (b : ℕ) (t : List ℕ) → IsLine (b ∷ t) → p b ≡ true → TakesPrefix 1 (b ∷ t) (at us) (at (us ++ b ∷ []))
@@ -37,9 +37,7 @@ run_taken p at goes us (b ∷ t) line = by (p b) refl (run_taken p at goes (us +
         subst (λ (v : List ℕ). TakesPrefix (1 + n) (b ∷ t) (at us) (at v))
         (append_assoc us (b ∷ []) (take n t) ∙ ap (λ k. us ++ take k (b ∷ t)) next) whole
 
--- NAMES AND LITERALS
-
--- a run of an item, each byte of which goes on with it
+-- A span of plain bytes.
 any_run : (p : ℕ → Bool) (s : ScanState) (g : Bool) (at : List ℕ → PendingItem)
     → ((us : List ℕ) → awaits_line_end (at us) ≡ false)
     → GoesOn p (λ us. opened s g (at us)) → (us : List ℕ) (n : ℕ) (u : List ℕ) → IsLine u → 0 < n → n ≡ prefix_len p u
@@ -51,7 +49,7 @@ any_run p s g at within goes us n u line some is = record {
   last = λ w. let wrong : false ≡ true = sym (within (us ++ take n u)) ∙ w in cc;
 }
 
--- a byte other than `@` stands for itself, and is no fault
+-- A byte other than `@` is its own unit, without a fault.
 plain-bytes : (b : ℕ) → (b == 64) ≡ false → unit_bytes (b ∷ []) ≡ b ∷ []
 plain-bytes b h = ap (λ v. if v && false then codes "@" else b ∷ []) h
 
@@ -72,7 +70,7 @@ pub name_run : (s : ScanState) (g : Bool) (begun : Place) (is_file : Bool) (us :
 name_run s g begun is_file us n u line some is = any_run (is_plain Name) s g (λ (v : List ℕ). InName begun is_file v)
     (λ v. refl) (name_goes_on s g begun is_file) us n u line some is
 
--- a unit of a literal of either kind that is one byte
+-- A unit of one byte, of a literal of either kind.
 literal_one : (s : ScanState) (g : Bool) (b : ℕ) (t : List ℕ) (at : List ℕ → PendingItem) (us : List ℕ)
     → (b == 64) ≡ false
     → TakesPrefix 1 (b ∷ t) (opened s g (at us)) (opened (unit_state s (b ∷ [])) g (at (us ++ unit_bytes (b ∷ []))))

@@ -1,4 +1,4 @@
--- Marks and faults stand where lines of the web stand.
+-- The places of Marks and faults are places of lines of the web.
 use Rattle.cweb_scan.proofs.Common.{◌≡◌, ◌≤◌, ℕ, Bool, true, false, List, [], ◌∷◌, ◌++◌, map, refl, ap, arith, if◌then◌else◌, All, All-nil, All-cons, All-head, All-tail, All-push, Place, Line, Token, Mark, all_tokens, all_parts, parts_size, sum_over, ScanFault, ScanState, start_state, leave, Reading, next_line, move_to, lex, newline_prefixed, scanned, MarkPasses, PlacesPass}
 use Rattle.cweb_scan.proofs.Bounds.{all-size}
 use Rattle.cweb_scan.proofs.Measures.{pushed-size, opened-size, closed-size, dropped-size}
@@ -6,7 +6,7 @@ use Rattle.cweb_scan.proofs.Walked.{run-walks}
 use Rattle.cweb_scan.proofs.Moves.{Moves, Holds, Each, OfMark, leave-walks}
 use Rattle.cweb_scan.proofs.TakenItems.{reading}
 
--- counts the Marks that stand elsewhere
+-- Counts the Marks with other places.
 abbrev strange : (Place → Bool) → Token → ℕ
 strange known (Mark place) = if known place then 0 else 1
 strange known t = 0
@@ -15,7 +15,7 @@ module _ (known : Place → Bool) where
   abbrev IsKnown : Place → Type 0
   IsKnown p = known p ≡ true
 
-  -- all places that are held are known
+  -- All stored places are known.
   abbrev AreKnown : Reading → Type 0
   AreKnown r = (parts_size (strange known) r.state.contents.parts ≤ 0) × All
       (λ (f : ScanFault). known f.place ≡ true) r.state.faults × Holds IsKnown r.state.here r.state.context r.later
@@ -56,8 +56,6 @@ module _ (known : Place → Bool) where
     numbers = λ n ns r e k. k;
   }
 
-  -- THE WHOLE WEB
-
   not_strange_is : (b : Bool) → (if b then 0 else 1) ≤ 0 → b ≡ true
   not_strange_is true h = refl
   not_strange_is false h = absurd (omega (arith, h))
@@ -79,7 +77,7 @@ module _ (known : Place → Bool) where
     places-known lines (All-tail (λ (l : Line). known l.place ≡ true) line lines h),
   )
 
-  -- what passes for all lines passes for all Marks and faults
+  -- A test that all lines pass is passed by all Marks and faults.
   pub scanned-pass : (lines : List Line) → All (λ (l : Line). known l.place ≡ true) lines
       → PlacesPass known (scanned lines)
   scanned-pass [] h =

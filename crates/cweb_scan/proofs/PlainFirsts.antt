@@ -1,4 +1,4 @@
--- Plain C text: what a first byte tells.
+-- C text outside directives: what a first byte determines.
 use Rattle.cweb_scan.proofs.FirstMatchTaken.{told_if}
 use Rattle.cweb_scan.proofs.Common.{◌≡◌, ◌≤◌, ℕ, Bool, true, false, ◌||◌, ◌==◌, List, [], ◌∷◌, length, take, refl, ap, sym, ◌∙◌, subst, arith, if◌then◌else◌, codes, eqb-true, Punct, first_is, is_blank, is_word_byte, c_rule, listed, longest}
 use Rattle.std.proofs.Common.{slice_index_or}
@@ -11,8 +11,6 @@ use Rattle.cweb_rules.specs.declared.rule.Rule.TheVariants as rule
 use Rattle.cweb_rules.proofs.FirstBytes.{if_true, settled-rule}
 use Rattle.cweb_rules.specs.declared.firsts.Plain.TheVariants as plain
 
--- FIRST BYTES
-
 abbrev Each : (ℕ → Type 0) → List ℕ → Type 0
 Each P [] = Unit {0}
 Each P (x ∷ xs) = P x × Each P xs
@@ -24,7 +22,7 @@ from_set P (x ∷ xs) all b h = (elim (x == b) as (λ v. (x == b) ≡ v → (v |
   | false ↦ λ e f. from_set P xs all.1 b f
 ]) refl h
 
--- a sign of one byte
+-- A punctuator of one byte.
 pub record IsSign (t : List ℕ) : Type 0 where
   pub size : longest listed t ≡ 1
   pub token : IsPlainToken (Punct (take 1 t))
@@ -32,7 +30,7 @@ pub record IsSign (t : List ℕ) : Type 0 where
 pub alone_sign : (b : ℕ) (t : List ℕ) → is_single_punctuator b ≡ true → IsSign (b ∷ t)
 alone_sign b t h = from_set (λ n. IsSign (n ∷ t)) (codes "()[]{};,?~") (search refl) b h
 
--- a digit begins a number, a quote a literal, and a `<` an operator
+-- A digit begins a number, a quote a literal, and a `<` an operator.
 figure_rule : (b : ℕ) (t : List ℕ) → is_figure b ≡ true → rule.Number ≡ c_rule false (b ∷ t)
 figure_rule b [] h = from_set (λ n. rule.Number ≡ c_rule false (n ∷ [])) (codes "0123456789") (search refl) b h
 figure_rule b (d ∷ u) h =
@@ -46,7 +44,7 @@ quote_rule : (b : ℕ) (t : List ℕ) → is_quote b ≡ true → rule.Literal �
 quote_rule b [] h = from_set (λ n. rule.Literal ≡ c_rule false (n ∷ [])) (codes "\"'") (search refl) b h
 quote_rule b (d ∷ u) h = from_set (λ n. rule.Literal ≡ c_rule false (n ∷ d ∷ u)) (codes "\"'") (search refl) b h
 
--- what a first byte tells; of the others, that they are not kept back
+-- The rule that a first byte determines, or that the fast path may take the lexeme.
 abbrev pub IsTold : Bool → List ℕ → Plain → Type 0
 IsTold includes t plain.Blank = (rule.Blanks ≡ c_rule includes t) × (first_is is_blank t ≡ true)
 IsTold includes t plain.Word = (rule.Identifier ≡ c_rule includes t) × (first_is is_word_byte t ≡ true)
@@ -57,7 +55,7 @@ IsTold includes t plain.Quote = rule.Literal ≡ c_rule false t
 IsTold includes t plain.Further = first_is stops_plain t ≡ false
 IsTold includes t plain.Stop = Unit {0}
 
--- a byte that begins no blank and none of the rules that look further
+-- A byte that begins no blank, and no lexeme that needs lookahead.
 settled_is : (b : ℕ) (includes word : Bool) (t : List ℕ) → is_settled b ≡ true → is_word_byte b ≡ word
     → c_rule includes (b ∷ t) ≡ (if word then rule.Identifier else rule.Punctuator)
 settled_is b includes word t settled is =

@@ -1,4 +1,4 @@
--- Plain C text: pieces one after another.
+-- C text outside directives: consecutive lexemes.
 use Rattle.cweb_rules.proofs.InLines.{IsLine-drop}
 use Rattle.cweb_scan.proofs.Common.{◌≡◌, ◌≤◌, ℕ, ◌+◌, ◌-◌, ◌*◌, false, List, Option, Some, None, length, drop, ap, sym, ◌∙◌, subst, arith, length-drop, IsLine, TakesPrefix, TakesPlain, weight, ScanState}
 use Rattle.cweb_scan.specs.inner.Plain.{taken_size}
@@ -6,9 +6,7 @@ use Rattle.cweb_scan.proofs.RestByLexemes.{takes_both}
 use Rattle.cweb_scan.proofs.FirstMatchTaken.{between}
 use Rattle.cweb_rules.proofs.UnitNewlines.{drop-sum}
 
--- ALL PIECES
-
--- what stands before the rest of the text was taken
+-- The bytes before the rest were taken.
 pub record TakesSome (text left : List ℕ) (old new : ScanState) : Type 0 where
   pub left_is : left ≡ drop (length text - length left) text
   pub taken : TakesPlain (length text - length left) text old new
@@ -38,7 +36,7 @@ piece_within n u a b t = (t.taken false).within
 pub left_line : (text left : List ℕ) (a b : ScanState) → IsLine text → TakesSome text left a b → IsLine left
 left_line text left a b line f = subst IsLine (sym f.left_is) (IsLine-drop (length text - length left) text line)
 
--- a piece of no bytes ends them
+-- An empty lexeme ends the run.
 pub some_ended : (text left : List ℕ) (a b c : ScanState) → TakesSome text left a b
     → TakesPlain 0 left b c → TakesPlain (length text - length left) text a c
 some_ended text left a b c f t =
@@ -51,7 +49,7 @@ some_ended text left a b c f t =
           subst (λ k. TakesPrefix k text (between a g) (between c g)) same all;
     }
 
--- a piece that was found, and none
+-- A lexeme that was found, or none.
 pub some_taken : (n : ℕ) (o : Option ℕ) (u : List ℕ) (a b : ScanState) → o ≡ Some n → TakesPlain (taken_size o) u a b
     → TakesPlain n u a b
 some_taken n o u a b is t = subst (λ p. TakesPlain (taken_size p) u a b) is t

@@ -1,9 +1,9 @@
--- What one item of the law makes of a reading.
+-- The effect of the law's lexemes on a reading.
 use Rattle.cweb_scan.proofs.Common.{◌≡◌, ℕ, Bool, true, false, cond, ◌&&◌, List, [], ◌∷◌, Some, None, refl, ap, sym, ◌∙◌, subst, fold, Token, Word, Number, Literal, Punct, Reading, after_lexeme, item, on, each_line_end, comment_line_end, blank, punctuator, emit_literal, literal_unit, next_line, line_end, enter_in, enter, Effect, EmitAt, in_directive, unescaped, Closed, Cut, Nested, Open, Kind, Lexeme, emit, InPlainC, HasReadTokens, significant, is_hash, is_clean, token_of, code_token, same_Some}
 use Rattle.cweb_rules.specs.Kinds as kind
 use Rattle.cweb_scan.proofs.PlainStates.{blank_gives, and_then, given, placed, line_ends, comment_line_ends, next_gives, each_gives, units_give}
 
--- a head is left by no item of C text
+-- There is no head that a lexeme could end.
 entered : (r : Reading) (k : Kind) → InPlainC r.state → on (enter k) r ≡ r
 entered r k h = ap (λ c. on (enter_in c k) r) h.in_c
 
@@ -62,7 +62,7 @@ item_gives r kind.LineEnd bytes t h plain e = cc
 item_gives r (kind.Comment how) bytes t h plain e = cc
 item_gives r (kind.Defined tight) bytes t h plain e = cc
 
--- an item that is a token gives it, and no fault
+-- A lexeme that is a token emits it, without a fault.
 pub token_gives : (r : Reading) (p : Lexeme) (t : Token) → InPlainC r.state → is_hash t ≡ false
     → token_of p.kind p.bytes ≡ Some t → HasReadTokens r.state (after_lexeme r p).state (significant (t ∷ []))
 token_gives r p t h plain e = subst (λ q. HasReadTokens r.state (item p.kind p.bytes q).state (significant (t ∷ [])))
@@ -73,7 +73,7 @@ pub line_end_gives : (r : Reading) (bytes : List ℕ) → InPlainC r.state
 line_end_gives r bytes h = subst (λ q. HasReadTokens r.state (next_line line_end q).state [])
     (sym (entered r kind.LineEnd h)) (next_gives line_end line_ends r h)
 
--- a comment that ended gives layout alone
+-- A comment that ended emits only layout.
 pub comment_gives : (r : Reading) (bytes : List ℕ) → InPlainC r.state
     → HasReadTokens r.state (after_lexeme r (record { kind = kind.Comment Closed; bytes = bytes })).state []
 comment_gives r bytes h =

@@ -1,4 +1,4 @@
--- What the items of the law make of a state in plain C text.
+-- The effect of the law's lexemes on a state.
 use Rattle.cweb_scan.proofs.Common.{◌≡◌, ℕ, Bool, true, false, cond, ◌&&◌, ◌||◌, not, List, [], ◌∷◌, ◌++◌, Some, None, refl, ap, sym, ◌∙◌, subst, append_assoc, codes, bytes_eq, option_map, fold, fold-append, filter-append, append-nil, Place, part_with_token, Token, Blank, Newline, Mark, Reading, next_line, each_line_end, line_end, line_end_in, line_end_token, comment_line_end, blank, literal_unit, is_next_line, is_line_end, directive, directive_of, directive_tokens, directive_after, in_directive, is_c, is_some, is_punct, ends_line, ScanState, emit, move_to, open_part_tokens, tokens_of, InPlainC, HasReadTokens, significant, is_insignificant, is_hash, is_clean, and-false, and_parts}
 use Rattle.cweb_scan.specs.DirectiveTokens.{is_last_blank}
 
@@ -16,7 +16,7 @@ and_then a b c us vs f g = record {
   faults = g.faults ∙ f.faults;
 }
 
--- a blank gives nothing
+-- A blank emits nothing.
 pub blank_gives : (s : ScanState) → InPlainC s → blank s ≡ s
 blank_gives s h = ap (λ v. cond (v && not (is_last_blank (directive s).last)) (emit Blank s) s) (no_directive s h)
 
@@ -45,7 +45,7 @@ given s t h plain =
       faults = refl;
     }
 
--- the place and the fold of a directive may change
+-- The place and the `folded` flag may change.
 pub placed : (s t : ScanState) (ts : List Token) (p : Place) (folded : Bool)
     → HasReadTokens s t ts → HasReadTokens s (record t { here = p; folded = folded }) ts
 placed s t ts p folded h = record {
@@ -63,7 +63,7 @@ placed s t ts p folded h = record {
 pub moves : (p : Place) (s : ScanState) → InPlainC s → HasReadTokens s (move_to p s) []
 moves p s h = placed s s [] p true (nothing s h)
 
--- a line end gives layout alone
+-- A newline emits only layout.
 ends : (p : Place) (s : ScanState) (here : Bool) → InPlainC s
     → HasReadTokens s (move_to p (emit (cond here (Mark p) Newline) s)) []
 ends p s true h = placed s (emit (Mark p) s) [] p true (given s (Mark p) h refl)

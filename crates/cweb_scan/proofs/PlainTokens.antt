@@ -1,4 +1,4 @@
--- What a run makes of a token's bytes and what follows.
+-- Reading a token's bytes and what follows them.
 use Rattle.cweb_scan.proofs.Common.{◌≡◌, ℕ, ◌+◌, ◌<◌, ◌/◌, ◌%◌, suc, zero, Bool, true, false, cond, ◌==◌, List, [], ◌∷◌, ◌++◌, Some, length, take, drop, refl, ap, ◌∙◌, arith, append_assoc, length-append, codes, decimal, digit_glyph, digits_onto, list_all, fold, take-append_seam, drop-append_seam, Token, Word, Number, Punct, first_is, JoinsAll, IsToken, is_token, is_quiet, begins_as, match_in, Kind, rule_match, CText, Effect, EmitAt, End, Closed, Reading, after_lexeme, some_include, names_include, next_match, lex, InPlainC, IsReadAs, ReadsAlone, doubled, significant, token_of, literal_token, spelling_of, is_hash, same_Some, and_from, nat_tests}
 use Rattle.std.specs.Fmt.{digits}
 use Rattle.cweb_rules.specs.laws.Follows as rules
@@ -8,8 +8,6 @@ use Rattle.cweb_rules.proofs.Tokens.{tokens_stay, tokens_begin}
 use Rattle.cweb_scan.proofs.FirstLexeme.{pieces_first}
 use Rattle.cweb_scan.specs.laws.Alone.{continues_token}
 use Rattle.cweb_scan.proofs.PlainReadings.{token_gives, line_end_gives, comment_gives}
-
--- ONE PIECE
 
 in_plain_c : (r : Reading) (t : List ℕ) → InPlainC r.state → next_match r.state t ≡ match_in CText false t
 in_plain_c r t h =
@@ -25,7 +23,7 @@ run_step r b x k n h is some =
     ap (fold after_lexeme r) (pieces_first r b x (omega (arith, some, size)))
     ∙ ap (λ f. lex (after_lexeme r (record { kind = f.kind; bytes = take f.size t })) (drop f.size t)) e
 
--- a piece that has these bytes, whatever follows
+-- A lexeme with these bytes, whatever follows.
 run_over : (r : Reading) (d more : List ℕ) (k : Kind) → InPlainC r.state
     → 0 < length d → match_in CText false (d ++ more) ≡ rule_match k (length d)
     → lex r (d ++ more) ≡ lex (after_lexeme r (record { kind = k; bytes = d })) more
@@ -60,8 +58,6 @@ comment_read r x rest quiet h =
       read = comment_gives r d h;
     }
 
--- NUMBERS OF SECTIONS
-
 glyph_quiet : (d : ℕ) → d < 10 → is_quiet (digit_glyph false d) ≡ true
 glyph_quiet d h = grind (arith, nat_tests)
 
@@ -81,9 +77,7 @@ pub quiet_decimal : (n : ℕ) → list_all is_quiet (decimal n) ≡ true
 unfolding digits
 quiet_decimal n = quiet_onto 64 n [] refl
 
--- TOKENS
-
--- the kind of a token, and what is known of it by its kind
+-- The kind of a token, and its properties.
 pub record Kinded (k : Kind) (d : List ℕ) (u : Token) : Type 0 where
   pub token : is_token k ≡ true
   pub goes : (joins : ℕ → ℕ → Bool) (more : List ℕ) → first_is (continues_token joins u) more ≡ false

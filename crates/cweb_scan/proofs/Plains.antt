@@ -1,4 +1,4 @@
--- Plain C text: that a piece that its first byte tells is taken rightly.
+-- C text outside directives: correctness of taking a lexeme that its first byte determines.
 use Rattle.cweb_scan.proofs.Common.{◌≡◌, ◌≤◌, ℕ, true, false, ◌&&◌, not, List, [], ◌∷◌, Option, Some, None, length, take, refl, ap, sym, ◌∙◌, subst, if◌then◌else◌, codes, option_map, prefix_len, part_with_token, Token, Word, Punct, Blank, Newline, Part, is_blank, is_word_byte, in_c, IsLine, c_rule, c_match_by, Context, CText, Rule, punctuator, directive, is_c, names_include, Applies, is_head, in_open_part, TakesPlain, ScanState, emit, tokens_of}
 use Rattle.std.proofs.lemmas.List.Sums.{fold-append}
 use Rattle.cweb_scan.specs.DirectiveTokens.{directive_of, directive_tokens, ends_line, is_punct, directive_after}
@@ -20,8 +20,6 @@ use Rattle.cweb_scan.proofs.InLineRules.{closes, rule_closed}
 use Rattle.cweb_scan.proofs.Steps.{outside-seen}
 use Rattle.cweb_scan.proofs.TiedSteps.{tied_given}
 use Rattle.cweb_scan.proofs.FirstMatchTaken.{between}
-
--- DIRECTIVES
 
 no_more : (o : Option Part) (t : Token) → is_some (directive_of (tokens_of o)).tokens ≡ false
     → is_punct (codes "#") (Some t) ≡ false
@@ -65,7 +63,7 @@ step_plain d t h plain =
           new_directive.last;
     }) plain.hash
 
--- what is kept after a plain token
+-- The directive's state after a plain token.
 pub tied_plain : (d l : Directive) (c : Context) (o : Option Part) (t : Token) → IsTied d l c o → is_c c ≡ true
     → in_open_part c ≡ true → is_some (directive_of (tokens_of o)).tokens ≡ false → IsPlainToken t
     → IsTied new_directive new_directive c (option_map (part_with_token t) o)
@@ -77,7 +75,7 @@ tied_plain d l c o t tied in_c part none plain =
     (subst (λ (e : Directive). IsTied (after_token d t) e c (option_map (part_with_token t) o))
     (ap (λ v. if v then l else after_token d t) plain.solid ∙ stepped) (tied_given d l c o t tied part))
 
--- what is kept after a line end where no directive is open
+-- The directive's state after a newline outside directives.
 step_newline : (d : Directive) → is_outside d.stage ≡ true
     → after_token d Newline ≡ record { stage = d.stage; last = last.LineEnd }
 step_newline d h = λ i. record { stage = (stays h ∙ sym (stage_outside d.stage h)) i; last = last.LineEnd }
@@ -96,9 +94,7 @@ tied_newline d l c o tied in_c part none =
     subst (λ (e : Directive). IsTied e l c (option_map (part_with_token Newline) o)) (step_newline d is_out)
     (tied_given d l c o Newline tied part)
 
--- PIECES
-
--- the rule that fits in C text where this was read before
+-- The rule that applies in C text in a state.
 abbrev pub rule_at : ScanState → List ℕ → Rule
 rule_at s u = c_rule (is_c s.context && names_include s) u
 

@@ -1,10 +1,8 @@
--- The rest of a line is taken piece by piece.
+-- The rest of a line is taken lexeme by lexeme.
 use Rattle.cweb_scan.proofs.Common.{◌≡◌, ℕ, ◌+◌, Bool, true, false, ◌&&◌, List, ◌++◌, drop, refl, ap, ◌∙◌, arith, if◌then◌else◌, codes, length-drop, begins, at_line_end, in_macro, in_c, match_in, c_match, Skipped, rule_match, opens_in, c_rule, c_match_by, Macro, CText, ReaderModel, read_on, TakesPrefix}
 use Rattle.cweb_rules.proofs.ByRules.{c_front-by}
 use Rattle.cweb_scan.proofs.FirstMatchTaken.{opens_by, c_opens-by}
 use Rattle.cweb_rules.proofs.UnitNewlines.{drop-sum}
-
--- ONE PIECE AND THEN ANOTHER
 
 pub takes_none : (u : List ℕ) (h : ReaderModel) → TakesPrefix 0 u h h
 takes_none u h = record { begun = refl; within = omega arith; adds = omega arith; same = λ later more e. refl }
@@ -18,8 +16,6 @@ takes_both n m u a b c x y = record {
   same = λ later more e.
       ap (λ (t : List ℕ). read_on c later (t ++ more)) (drop-sum n m u) ∙ y.same later more e ∙ x.same later more e;
 }
-
--- C TEXT AND MACROS, by the first rule that fits
 
 pub c_is : (includes : Bool) (u : List ℕ) → match_in CText includes u ≡ c_match_by in_c false u (c_rule includes u)
 c_is includes u = c_front-by in_c false includes u

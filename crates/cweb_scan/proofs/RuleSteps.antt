@@ -1,4 +1,4 @@
--- What is taken in one turn in a macro and in C text, by the first rule that fits.
+-- One step in a macro or C text, by the first rule that applies.
 use Rattle.cweb_scan.proofs.Common.{◌≡◌, ◌≤◌, ℕ, Bool, true, false, ◌&&◌, List, [], ◌∷◌, length, drop, take, refl, ap, sym, ◌∙◌, if◌then◌else◌, codes, ne_eqb, begins, first_is, is_line_end, at_line_end, in_macro, match_in, c_match, Skipped, rule_match, IsLine, opens_in, c_opens, c_rule, Context, Macro, CText, Rule, Reading, names_include, ends_in_line, is_head, needs_two, ReaderModel, MakesProgress, in_open_part, Between, move_to}
 use Rattle.cweb_rules.specs.declared.rule.Rule.TheVariants as rule
 use Rattle.cweb_rules.proofs.Sizes.{begins-size}
@@ -7,13 +7,11 @@ use Rattle.cweb_scan.proofs.Ends.{none_to_come}
 use Rattle.cweb_scan.proofs.FirstMatchTaken.{IsSeen, seen}
 use Rattle.cweb_scan.proofs.InLineRules.{closes}
 
--- in a part no head is open
+-- In a part no head is open.
 pub part_head : (c : Context) → in_open_part c ≡ true → is_head c ≡ false
 part_head Macro h = refl
 part_head CText h = refl
 part_head _ h = cc
-
--- RULES WHOSE ITEMS END IN THEIR LINE
 
 pub ends_closes : (r : Rule) → ends_in_line r ≡ true → closes r ≡ true
 ends_closes rule.LineEnd h = cc
@@ -24,8 +22,6 @@ ends_closes rule.RawLiteral h = cc
 ends_closes rule.Literal h = cc
 ends_closes _ h = refl
 
--- WHICH RULES FIT IN A LINE
-
 abbrev pub is_ended : Rule → Bool
 is_ended rule.LineEnd = true
 is_ended r = false
@@ -34,7 +30,7 @@ no_line_end : (u : List ℕ) → IsLine u → first_is is_line_end u ≡ false
 no_line_end [] h = refl
 no_line_end (b ∷ t) h = ne_eqb b 10 h.0
 
--- no line end stands in a line
+-- A line has no newline.
 pub rule_in_line : (includes : Bool) (u : List ℕ) → IsLine u → is_ended (c_rule includes u) ≡ false
 rule_in_line includes u line = by (c_rule includes u) (seen includes u _ refl)
   where
@@ -46,7 +42,7 @@ pub two_fit : (includes : Bool) (u : List ℕ) (r : Rule) → r ≡ c_rule inclu
 two_fit includes u rule.LineComment is h = begins-size (codes "//") u (seen includes u rule.LineComment (sym is))
 two_fit includes u _ is h = cc
 
--- what is left of the rules when those that open an item, sections and codes are told apart
+-- The rules other than those of openers, sections and codes.
 pub left_ends : (r : Rule) → (r ≡ rule.Comment → ⊥) → (r ≡ rule.Section → ⊥) → (r ≡ rule.Code → ⊥)
     → (r ≡ rule.RawLiteral → ⊥) → (r ≡ rule.Literal → ⊥) → is_ended r ≡ false → ends_in_line r ≡ true
 left_ends rule.LineEnd c s k w l e = cc
@@ -57,9 +53,7 @@ left_ends rule.RawLiteral c s k w l e = absurd (w refl)
 left_ends rule.Literal c s k w l e = absurd (l refl)
 left_ends _ c s k w l e = refl
 
--- MACROS
-
--- a `\` that ends its line is one byte that gives nothing
+-- A `\` at the end of a line is one byte that emits nothing.
 pub backslash_passes : (u : List ℕ) (h : ReaderModel) → h.item ≡ Between → h.state.context ≡ Macro → IsLine u
     → 1 ≤ length u → begins (codes "\\") u ≡ true → at_line_end (drop 1 u) ≡ true → MakesProgress 1 u h h
 backslash_passes u h none is line some sign ended =

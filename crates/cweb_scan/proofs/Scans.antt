@@ -1,4 +1,4 @@
--- How the lines that a merger gives out are scanned.
+-- Scanning the lines of a merger.
 use Rattle.cweb_scan.proofs.Common.{◌≡◌, ◌≤◌, ◌<◌, ℕ, ◌+◌, Bool, true, List, [], ◌∷◌, ◌++◌, length, refl, ap, sym, ◌∙◌, subst, arith, IsTrue, nat_lt, ltb-true, lt-ltb, append-nil, append_assoc, All-nil, All-push, All-weaker, Place, Line, HasNoNewline, Event, KeepsReported, SoFar, Stopped, StopsFor, blame, emitted_lines, EmitsLine, Grows, StopsThere, LINES, BYTES, Stop, ReadFault, LineTooLong, TooMuchText, Memory, Token, Mark, all_tokens, IsLine, ScanFault, Reading, ReaderModel, read_after, new_reader, IsBounded, MarkPasses, web_size, Scanned, read_lines, scanned, scanned_of, AreLinesBelow, IsScanBelow, IsMarkBelow, HasTaken, ScansWithinLimits, Scans, StopsAfter, ScanEndsEarly}
 use Rattle.cweb_lines.specs.surface.MergeProgress.{EmitsLines}
 use Rattle.cweb_lines.proofs.ReportsOnlyGrow.{told_then}
@@ -29,7 +29,7 @@ pub wider : (files more : ℕ) (lines : List Line) → files ≤ more → AreLin
 wider files more lines h below = All-weaker (λ (line : Line). line.place.file.0 < files)
     (λ line. line.place.file.0 < more) (λ line k. omega (arith, h, k)) lines below
 
--- one more line
+-- One more line.
 pub given_line_taken : (tells : Bool) (old so new : SoFar) (all now later : List Event) (held next : ReaderModel)
     (line : Line)
     → HasTaken tells old so all now held → EmitsLine line.place line.bytes so new
@@ -45,7 +45,7 @@ given_line_taken tells old so new all now later held next line taken given names
   gives = λ told. gives_both taken.lines (line ∷ []) old so new all now later (taken.gives told) (gives told);
 }
 
--- where all lines stand in the first files, all Marks and faults do
+-- If all lines are in the first files, so are all Marks and faults.
 abbrev among : ℕ → Place → Bool
 among files p = nat_lt p.file.0 files
 
@@ -65,7 +65,7 @@ scanned-below files lines below =
           (λ f h. ltb-true f.place.file.0 files h) (scanned lines).faults pass.faults;
     }
 
--- what all lines that were taken give
+-- The result of all lines that were taken.
 of_taken : (held : ReaderModel) (lines : List Line)
     → ((more : List Line) → read_after held more ≡ read_lines (lines ++ more))
     → scanned_of (read_after held []).state ≡ scanned lines
@@ -86,7 +86,7 @@ all_within tells old so new all now held s taken is names few_bytes few_lines =
       bounded = subst (λ (s : Scanned). IsBounded s.store (web_size taken.lines)) (sym same) (bounded taken.lines);
     }
 
--- no line is left
+-- No line is left.
 pub all_scanned : (old so new : SoFar) (all now later : List Event) (lines : List Line) (held : ReaderModel)
     (s : Scanned)
     → ((more : List Line) → read_after held more ≡ read_lines (lines ++ more))
@@ -108,7 +108,7 @@ all_scanned old so new all now later lines held s reads few gives is last none =
       });
     }
 
--- the merger stopped
+-- The merger stopped.
 pub ends_early : (stop : Stop) (old so new : SoFar) (all now : List Event) (lines : List Line)
     → EmitsLines lines old so all now → StopsThere stop so new now → ScanEndsEarly stop old new all
 ends_early stop old so new all now lines gives there = record {
@@ -127,13 +127,13 @@ ends_early stop old so new all now lines gives there = record {
     by Memory why = tt
     by stop why = absurd why
 
--- memory was refused
+-- An allocation failed.
 pub refused : (old so halted : SoFar) (all now : List Event) (lines : List Line)
     → halted ≡ so → EmitsLines lines old so all now → ScanEndsEarly Memory old halted all
 refused old so halted all now lines is gives =
     record { why = tt; told = tells_same old so halted all is (tells_some lines old so all now gives) }
 
--- what was told grows, also where a merger is halted behind it
+-- The events so far only grow, also when the merger is halted afterwards.
 pub grows_then : (a b c : SoFar) → KeepsReported a b → Grows b c → Grows a c
 grows_then a b c told grows =
     record { told = told_then a b c told grows.told; lines = grows.lines; bytes = grows.bytes }
@@ -141,7 +141,7 @@ grows_then a b c told grows =
 pub grows_to : (a b c : SoFar) → c ≡ b → Grows a b → Grows a c
 grows_to a b c same grows = subst (λ (s : SoFar). Grows a s) (sym same) grows
 
--- want of memory blames no file
+-- A failed allocation blames no file.
 pub none_blamed : (names before now : List (List ℕ)) (stop : Stop)
     → stop ≡ Memory → now ≡ before → now ≡ before ++ blame names stop
 none_blamed names before now stop is same =

@@ -1,4 +1,4 @@
--- A line of text that has no `@` gives nothing but its place.
+-- A line outside C text without `@` only changes the place.
 use Rattle.cweb_scan.proofs.Common.{◌≡◌, ℕ, true, false, List, [], ◌∷◌, ◌++◌, length, refl, ap, sym, ◌∙◌, subst, arith, prefix_len, drop-length, Place, Line, IsLine, Context, Macro, CText, line_end_in, is_skipped, reads_c, ReaderModel, begun_reader, after_line_end, read_on, gone_to, read_after, TakesBytes, TakesLineEnd, Between, ScanState, move_to}
 use Rattle.cweb_scan.specs.declared.reader.open.Open.TheVariants as kind
 use Rattle.cweb_scan.proofs.CodeSteps.{skipped_at}

@@ -1,4 +1,4 @@
--- The rest of a line: all of it, and text before the next `@`.
+-- The rest of a line: all of it, and the bytes before the next `@`.
 use Rattle.cweb_scan.proofs.Common.{◌≡◌, ℕ, ◌+◌, Bool, true, false, ◌==◌, not, List, [], ◌∷◌, refl, ap, sym, if◌then◌else◌, prefix_len, starts_section, match_in, Skipped, rule_match, IsLine, opens_in, Context, Limbo, TeX, Definition, Macro, CText, Reading, names_include, is_head, is_skipped, TakesPrefix, ScanState, move_to}
 use Rattle.cweb_scan.proofs.Ends.{none_to_come}
 use Rattle.cweb_scan.proofs.FirstMatchTaken.{between}
@@ -6,10 +6,6 @@ use Rattle.cweb_scan.proofs.ClosedItemSteps.{closed_takes}
 use Rattle.cweb_scan.proofs.RestByLexemes.{takes_none, takes_both}
 use Rattle.cweb_rules.proofs.TokensStay.{no_section}
 use Rattle.cweb_rules.proofs.PlainSpans.{turned}
-
--- ONE PIECE AND THEN ANOTHER
-
--- LIMBO AND TEXT
 
 abbrev pub is_text : Context → Bool
 is_text c = elim c [ Limbo ↦ true | TeX ↦ true | Definition begun ↦ false | Macro ↦ false | CText ↦ false ]
@@ -40,7 +36,7 @@ one_skipped s g b t c line h k =
       state = sym (ap (λ (r : Reading). r.state) (none_to_come move_to (b ∷ []) s));
     })
 
--- what stands before the first `@` is skipped
+-- The bytes before the first `@` are skipped.
 pub skipped_takes : (s : ScanState) (g : Bool) (u : List ℕ) → is_text s.context ≡ true
     → IsLine u → TakesPrefix (prefix_len is_skipped u) u (between s g) (between s g)
 skipped_takes s g [] c line = takes_none [] (between s g)

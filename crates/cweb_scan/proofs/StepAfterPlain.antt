@@ -1,9 +1,7 @@
--- Plain C text: the turn behind its pieces.
+-- The step after a run of C text outside directives.
 use Rattle.cweb_scan.proofs.Common.{◌≡◌, ◌≤◌, ◌<◌, ℕ, ◌+◌, ◌*◌, false, List, length, drop, ap, sym, ◌∙◌, subst, arith, length-drop, too_many, ReaderModel, cost, TakesPrefix, awaits_line_end, TakesPlain, PendingItem, Between, HasItemRoom, ScanState, MakesProgress}
 use Rattle.cweb_scan.proofs.InLineItemSteps.{at_item}
 use Rattle.cweb_scan.proofs.RestByLexemes.{takes_both}
-
--- THE READER
 
 pub plain_held : (n : ℕ) (u : List ℕ) (h v : ReaderModel) (new : ScanState) → v ≡ h → h.item ≡ Between
     → TakesPlain n u v.state new → TakesPrefix n u h (at_item v new)

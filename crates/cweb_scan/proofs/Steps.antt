@@ -1,4 +1,4 @@
--- The code's directive follows that of the tokens.
+-- The code's directive state follows the directive of the tokens.
 use Rattle.cweb_scan.proofs.Common.{◌≡◌, Bool, true, false, ◌&&◌, not, List, [], ◌∷◌, ◌++◌, Option, Some, None, refl, ap, sym, ◌∙◌, codes, bytes_eq, if◌then◌else◌, Token, Word, Number, Literal, Verbatim, Punct, Blank, Newline, Join, Defs, Name, Head, Tail, Mark}
 use Rattle.std.proofs.lemmas.List.Sums.{fold-append}
 use Rattle.cweb_scan.specs.declared.directive.Stage.{Stage}
@@ -99,8 +99,6 @@ step-seen d t = ap (λ (g : Stage). record { stage = g; last = last_kind t }) (s
 pub directive-pushed : (ts : List Token) (t : Token)
     → directive_model (directive_of (ts ++ t ∷ [])) ≡ after_token (directive_model (directive_of ts)) t
 directive-pushed ts t = ap directive_model (fold-append directive_after _ ts (t ∷ [])) ∙ step-seen (directive_of ts) t
-
--- INCLUDED NAMES
 
 bare_includes : (ts : List Token) → is_bare ts ≡ true → is_bare_include ts ≡ false
 bare_includes [] h = refl

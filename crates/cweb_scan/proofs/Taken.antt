@@ -1,4 +1,4 @@
--- A line is its line end and its bytes.
+-- Taking a line is taking its newline and its bytes.
 use Rattle.cweb_scan.proofs.Common.{◌≡◌, List, [], ◌∷◌, ◌++◌, true, false, refl, ap, sym, ◌∙◌, Line, Reading, AtLineEnd, newline_prefixed, read_lines, ReaderModel, read_on, places, read_after, reader_at, TakesLineEnd, TakesBytes}
 
 pub AtLineEnd-further : (lines : List Line) → AtLineEnd (newline_prefixed lines)

@@ -1,4 +1,4 @@
--- An item of a line that ends in it: the state after it, whatever lines follow.
+-- The state after a lexeme that ends in its line, whatever lines follow.
 use Rattle.cweb_scan.proofs.Common.{◌≡◌, ℕ, false, List, [], ◌∷◌, ◌++◌, take, drop, refl, ap, sym, ◌∙◌, Place, Reading, on, comment_line_end, pass_comment, blank, occurrence, emit_literal, enter, item, after_lexeme, unescaped, Kind, Skipped, LineEnd, Comment, Quoted, RuleMatch, Lexeme, AtLineEnd, opens_in, IsLine, next_match, lex, fold, take-append-le, drop-append-le, names_include, ScanState, move_to}
 use Rattle.cweb_rules.specs.Kinds.{Occurrence}
 use Rattle.cweb_rules.proofs.LineMatches.{front_line}
@@ -32,7 +32,7 @@ item_line _ bytes s later h = refl
 abbrev with_front : Reading → List ℕ → RuleMatch → Reading
 with_front r t f = lex (after_lexeme r (record { kind = f.kind; bytes = take f.size t })) (drop f.size t)
 
--- what is read after a whole item of a line, and what follows
+-- The reading after such a lexeme, and what follows.
 pub run_line_item : (r : Reading) (b : ℕ) (t more : List ℕ) → AtLineEnd more → opens_in r.state.context (b ∷ t) ≡ false
     → lex r (b ∷ t ++ more)
     ≡ lex (after_lexeme r (first r (b ∷ t))) (drop (next_match r.state (b ∷ t)).size (b ∷ t) ++ more)
@@ -45,7 +45,7 @@ run_line_item r b t more e h =
     (take-append-le f.size (b ∷ t) more fits)
     ∙ ap (λ u. lex (after_lexeme r (first r (b ∷ t))) u) (drop-append-le f.size (b ∷ t) more fits)
 
--- what is read after a whole item of a line, and what follows
+-- The state after such a lexeme.
 pub taken_item : (s : ScanState) (later : List Place) (b : ℕ) (t more : List ℕ) → AtLineEnd more
     → opens_in s.context (b ∷ t) ≡ false → InLine (next_match s (b ∷ t)).kind (take (next_match s (b ∷ t)).size (b ∷ t))
     → lex (reading s later) (b ∷ t ++ more) ≡
@@ -57,7 +57,7 @@ taken_item s later b t more e ends h =
     ∙ ap (λ (r : Reading). lex r (drop f.size (b ∷ t) ++ more))
     (item_line f.kind (take f.size (b ∷ t)) (enter f.kind s) later h)
 
--- an item that ends in its line
+-- An item that ends in its line.
 pub taken : (s : ScanState) (later : List Place) (b : ℕ) (t more : List ℕ)
     → IsLine (b ∷ t) → AtLineEnd more → opens_in s.context (b ∷ t) ≡ false → lex (reading s later) (b ∷ t ++ more) ≡
     lex (reading (state_after s (first (reading s []) (b ∷ t))) later) (drop (next_match s (b ∷ t)).size (b ∷ t)

@@ -1,4 +1,4 @@
--- A thousand openers of names, one after another: each but the last is ended by the next.
+-- A worked example: a thousand openers of names in a row. Each one ends the name before it.
 use Rattle.cweb_scan.proofs.Common.{◌≡◌, ℕ, zero, suc, List, [], ◌∷◌, ◌++◌, length, refl, codes, scanned}
 use Rattle.cweb_scan.proofs.ExampleWords.{at}
 

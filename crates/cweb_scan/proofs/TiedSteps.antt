@@ -1,13 +1,11 @@
--- What is tied to the tokens of the part that is open: the layout that is last.
+-- The invariant of the directive's state, and trailing layout.
 use Rattle.cweb_scan.proofs.Common.{◌≡◌, true, false, List, [], ◌∷◌, ◌++◌, Option, Some, None, refl, ap, sym, ◌∙◌, take, drop, option_map, if◌then◌else◌, Token, Part, part_with_token, Context, in_open_part, is_macro, is_layout, before_last, without_last, without_layout}
 use Rattle.cweb_scan.specs.declared.directive.Directive.{Directive}
 use Rattle.cweb_scan.specs.inner.Stages.{after_token, after_tokens}
 use Rattle.cweb_scan.specs.inner.DirectiveInvariant.{IsTied}
 use Rattle.cweb_scan.proofs.Steps.{directive-pushed}
 
--- LAYOUT THAT IS LAST
-
--- one more token that is layout
+-- One more token of layout.
 last_layout : (ts : List Token) (t : Token) → is_layout t ≡ true
     → without_last is_layout (ts ++ t ∷ []) ≡ without_last is_layout ts
 last_layout [] t h = ap (λ v. if v then [] else t ∷ []) h
@@ -17,7 +15,7 @@ before_some : (x : Token) (ts : List Token) (t : Token) → before_last is_layou
 before_some x [] t = refl
 before_some x (u ∷ ts) t = refl
 
--- one more token that is none
+-- One more token that isn't layout.
 last_solid : (ts : List Token) (t : Token) → is_layout t ≡ false → without_last is_layout (ts ++ t ∷ []) ≡ ts ++ t ∷ []
 last_solid [] t h = ap (λ v. if v then [] else t ∷ []) h
 last_solid (x ∷ ts) t h = ap (before_last is_layout x) (last_solid ts t h) ∙ before_some x ts t
@@ -34,8 +32,6 @@ before_twice x (u ∷ us) h = ap (before_last is_layout x) h
 last_twice : (ts : List Token) → without_last is_layout (without_last is_layout ts) ≡ without_last is_layout ts
 last_twice [] = refl
 last_twice (x ∷ ts) = before_twice x (without_last is_layout ts) (last_twice ts)
-
--- WHAT IS TIED
 
 solid_given : (d l : Directive) (ts : List Token) (t : Token)
     → d ≡ after_tokens ts → l ≡ after_tokens (without_last is_layout ts)

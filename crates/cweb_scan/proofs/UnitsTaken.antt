@@ -1,4 +1,4 @@
--- One unit of an item that is open, and the end of one, in a line.
+-- One unit of an open item, and its end, in a line.
 use Rattle.cweb_scan.proofs.Common.{◌≡◌, ◌≤◌, ◌<◌, ℕ, zero, suc, ◌+◌, ◌-◌, Bool, true, false, ◌==◌, List, [], ◌∷◌, ◌++◌, length, take, drop, refl, ap, sym, ◌∙◌, subst, arith, append_assoc, length-append, take-append-drop, nat_lt, fold, list_all, take-append-le, drop-append-le, take-append-add, drop-append-add, Place, Reach, reach, reach_in, with_unit, body, reach_size, opener_after, unit_bytes, unescaped, look_in_name, look_in_literal, look_in_raw, IsLine, AtLineEnd, is_unclosed, End, Cut, Open, Look, Goes, Ends, Reading, on, occurrence, emit_literal, literal_unit, unit_state, InName, InLiteral, InRaw, resume_name, resume_literal, closer_of, resume, lex, ScanState, move_to}
 use Rattle.cweb_scan.proofs.Ends.{at_front}
 use Rattle.cweb_rules.specs.Items as items
@@ -39,8 +39,6 @@ some_end : (look : List ℕ → Look) (how : End) (n b : ℕ) (t : List ℕ)
     → AllSome look → look (b ∷ t) ≡ Ends n how → IsEnd how
 some_end look how n b t some h = subst IsSome h (some b t)
 
--- NAMES
-
 name_after : (begun : Place) (is_file : Bool) (us t more : List ℕ) (m : Reading) → IsLine t
     → (let w = with_unit t (items.reach_of_name more) in
     resume_name begun is_file us w (opener_after w.how (drop (reach_size w) (t ++ more))) (t ++ more) m)
@@ -60,7 +58,7 @@ name_after begun is_file us t more m line =
       append_assoc us (unit_bytes t) (unescaped r.units),
     ) refl
 
--- a unit of a name
+-- A unit of a name.
 pub name_unit : (begun : Place) (is_file : Bool) (us : List ℕ) (k b : ℕ) (t more : List ℕ) (m : Reading)
     → AtLineEnd more → IsLine (b ∷ t) → look_in_name (b ∷ t) ≡ Goes k → 0 < k → k ≤ length (b ∷ t)
     → resume (InName begun is_file us) (b ∷ t ++ more) m
@@ -80,7 +78,7 @@ name_unit begun is_file us (suc n) b t more m e line h some fits =
     (cut i) m)
     ∙ name_after begun is_file us unit (drop (suc n) u ++ more) m (IsLine-take (suc n) u line)
 
--- a name's end
+-- The end of a name.
 pub name_end : (begun : Place) (is_file : Bool) (us : List ℕ) (n b : ℕ) (how : End) (t more : List ℕ) (m : Reading)
     → AtLineEnd more → IsLine (b ∷ t) → look_in_name (b ∷ t) ≡ Ends n how
     → resume (InName begun is_file us) (b ∷ t ++ more) m ≡ (let sign = opener_after how (drop n (b ∷ t)) in
@@ -90,8 +88,6 @@ name_end begun is_file us n b how t more m e line h =
     name_ends begun is_file us (b ∷ t) more m e line
     (end_closed look_in_name how n b t (within_end look_in_name how n b t name-units h) h)
     ∙ rw (reach_end look_in_name Cut how n b t h, z, append-nil' us) refl
-
--- LITERALS
 
 pub quoted_unit : (look : List ℕ → Look) (begun : Place) (us : List ℕ) (k b : ℕ) (t more : List ℕ)
     (s : ScanState) (later : List Place) → IsLocal look more → IsLine (b ∷ t) → look (b ∷ t) ≡ Goes k → 0 < k

@@ -1,4 +1,4 @@
--- Texts that are given as they stand, and included names.
+-- Verbatim bytes and included names.
 use Rattle.cweb_scan.proofs.Common.{◌≡◌, true, false, ℕ, ◌+◌, List, [], ◌∷◌, ◌++◌, length, take, drop, refl, ap, sym, ◌∙◌, append_assoc, codes, bytes_eq, if◌then◌else◌, fold, flat_map-append, Reach, reach, body, include_match, unit_bytes, unescaped, IsLine, reached, Cut, Open, Reached, emit_verbatim, emit_literal, literal_unit, ended_as, Applies, unit_state, DoubleAtInString, in_open_part, HasItemRoom, ScanState, report}
 use Rattle.cweb_rules.specs.Matches.{verbatim_match}
 use Rattle.cweb_rules.specs.Items.{look_in_control, look_in_include}
@@ -9,7 +9,6 @@ use Rattle.cweb_scan.proofs.Ends.{at_end, reach-at_end, size-at_end, how-at_end,
 use Rattle.cweb_scan.proofs.LineUnits.{units_line}
 use Rattle.cweb_scan.proofs.LineHasNoNewline.{append-nil'}
 
--- `@=`
 pub verbatim_gives : (t x : List ℕ) (r : Reached) (s new : ScanState)
     → r ≡ reached (reach look_in_control Open (drop 2 t))
     → x ≡ unescaped (reach look_in_control Open (drop 2 t)).units → new ≡ emit_verbatim x (ended_as Cut r.how) s
@@ -27,7 +26,7 @@ lines_last : (us : List (List ℕ)) (u : List ℕ) → AreLines us → IsLine u 
 lines_last [] u h k = (k, tt)
 lines_last (v ∷ us) u h k = (h.0, lines_last us u h.1 k)
 
--- an included name: its sign, its units and its closing sign, all in one line
+-- An included name with its units and delimiters, all in one line.
 pub include_gives : (t x : List ℕ) (r : Reached) (s new : ScanState)
     → IsLine t → r ≡ reached (reach look_in_include Open (drop 1 t))
     → x ≡ (unit_bytes (take 1 t) ++ unescaped (reach look_in_include Open (drop 1 t)).units) ++ unit_bytes
@@ -70,7 +69,7 @@ include_gives t x r s new line is text made =
           (fold literal_unit (nothing_later s) (given (sym end i))).state);
     }
 
--- a unit's fault leaves the part and the room as they are
+-- A unit's fault doesn't change the part and the room.
 pub record IsKept (old new : ScanState) : Type 0 where
   pub part : in_open_part old.context ≡ true → in_open_part new.context ≡ true
   pub room : HasItemRoom 1 old → HasItemRoom 1 new
@@ -102,7 +101,7 @@ units_kept : (us : List (List ℕ)) (s : ScanState) → IsKept s (fold unit_stat
 units_kept [] s = same_kept s
 units_kept (u ∷ us) s = both_kept s (unit_state s u) _ (unit_kept s u) (units_kept us (unit_state s u))
 
--- the same, after the faults of an included name
+-- The faults of an included name don't change the part and the room.
 pub name_kept : (s : ScanState) (a c : List ℕ) (us : List (List ℕ))
     → IsKept s (unit_state (fold unit_state (unit_state s a) us) c)
 name_kept s a c us =
@@ -110,7 +109,7 @@ name_kept s a c us =
     let v = fold unit_state t us in
     both_kept s t _ (unit_kept s a) (both_kept t v _ (units_kept us t) (unit_kept v c))
 
--- the faults of an included name as the code tells them
+-- The faults of an included name, as the code reports them.
 pub told : (s a b d : ScanState) (x l y f u z : List ℕ) → a ≡ unit_state s x
     → b ≡ fold unit_state a (reach look_in_include Open l).units → d ≡ unit_state b y → x ≡ f → l ≡ u → y ≡ z
     → d ≡ unit_state (fold unit_state (unit_state s f) (reach look_in_include Open u).units) z

@@ -1,4 +1,4 @@
--- What all pieces of a text keep, where the moves of a scan keep it.
+-- All lexemes of a source satisfy a relation that the moves satisfy.
 use Rattle.cweb_scan.proofs.Common.{◌≡◌, ◌<◌, ℕ, List, [], ◌∷◌, ◌++◌, length, take, ap, sym, ◌∙◌, subst, arith, length-append, append-nil, take-append_seam, flat_map, fold, Place, Kind, Lexeme, Pays, Reading, after_lexeme, AreLexemes, next_match, names_include, lexemes, lex}
 use Rattle.cweb_rules.proofs.Newlines.{told}
 use Rattle.cweb_rules.proofs.UnitNewlines.{Tells, ends-append}
@@ -10,7 +10,7 @@ use Rattle.cweb_scan.proofs.LexemesAreUnique.{are_pieces}
 abbrev pub bytes_in : List Lexeme → List ℕ
 bytes_in ps = flat_map (λ p. p.bytes) ps
 
--- what the rules name at the front of a text pays, and tells its line ends
+-- The next lexeme pays, and its newlines are counted.
 fits : (r : Reading) (t bytes rest : List ℕ) (k : Kind) → t ≡ bytes ++ rest → 0 < length bytes
     → k ≡ (next_match r.state t).kind → length bytes ≡ (next_match r.state t).size
     → Pays r.state.context k bytes × Tells k bytes
@@ -23,13 +23,13 @@ fits r (b ∷ t) bytes rest k e some same size =
     Pays r.state.context j (take f.size (b ∷ t)) × Tells j (take f.size (b ∷ t))) (sym same)
     ((fair r.state b t).pays, told r.state.context (names_include r.state) b t))
 
--- the bytes of the pieces are the text
+-- The lexemes concatenate to the source.
 pub joined : (r : Reading) (t : List ℕ) (ps : List Lexeme) → AreLexemes r t ps → bytes_in ps ≡ t
 joined r t [] h = sym h
 joined r t (p ∷ ps) h = ap (λ u. p.bytes ++ u) (joined (after_lexeme r p) h.0 ps h.4) ∙ sym h.1
 
 module _ {Ok : Place → Type 0} {R : ℕ → ℕ → ℕ → ℕ → Reading → Reading → Type 0} (w : Moves Ok R) where
-  -- the first pieces of a text
+  -- The first lexemes of a source.
   pub pieces-walk : (before more : List Lexeme) (r : Reading) (t : List ℕ) → AreLexemes r t (before ++ more)
       → Costs R (bytes_in before) r (fold after_lexeme r before)
   pieces-walk [] more r t h = w.nothing r

@@ -1,4 +1,4 @@
--- How much each step of a scan adds to the tokens, parts, occurrences and sections, taken together.
+-- How much each step adds to the weight: tokens, parts, occurrences and sections.
 use Rattle.cweb_scan.proofs.Common.{◌≤◌, ℕ, ◌+◌, ◌*◌, Bool, List, [], ◌∷◌, ◌++◌, Some, None, length, ap, arith, length-append, option_map, option_to_list, Place, PartKind, Token, Part, all_tokens, PartsSoFar, with_opened_part, with_pushed_token, part_with_token, Lexeme, Pays, End, Reading, next_line, ScanState, move_to, line_end, comment_line_end, blank, pass_comment, occurrence, emit_literal, after_lexeme, weight}
 use Rattle.std.proofs.Common.{append-nil}
 use Rattle.cweb_store.specs.surface.Growing.{token_count, part_count}
@@ -8,8 +8,6 @@ use Rattle.cweb_scan.proofs.Moves as step
 use Rattle.cweb_scan.proofs.Moves.{Moves, Any, holds_any}
 use Rattle.cweb_scan.proofs.LexemeMoves.{after-walks}
 use Rattle.cweb_scan.proofs.TakenItems.{reading}
-
--- PARTS AND TOKENS
 
 token_pushed : (t : Token) (v : PartsSoFar) → token_count (with_pushed_token t v) ≤ token_count v + 1
 token_pushed t v = elim v.current as
@@ -48,8 +46,6 @@ part_opened kind v =
       | Some p ↦ omega (arith, length-append v.closed ((empty_part kind) ∷ []), length-append v.closed (p ∷ []))
     ]
 
--- THE MOVES
-
 abbrev Weighs : ℕ → ℕ → ℕ → ℕ → Reading → Reading → Type 0
 Weighs n w t b r m = weight m.state ≤ weight r.state + w
 
@@ -80,8 +76,6 @@ weighs = record {
   numbers = λ n ns r e. omega (arith, e);
 }
 
--- THE STEPS THAT AN OPEN ITEM TAKES
-
 pub line_end-weight : (p : Place) (s : ScanState) → weight (line_end p s) ≤ weight s + 1
 line_end-weight p s = step.line_end-walks weighs (reading s (p ∷ []))
 
@@ -102,7 +96,7 @@ pub literal-weight : (text : List ℕ) (how : End) (p : Place) (s : ScanState)
     → weight (emit_literal text how p s) ≤ weight s + 1
 literal-weight text how p s = step.literal-walks weighs text how p (reading s []) tt
 
--- each byte of a piece adds at most three
+-- Each byte of a lexeme adds at most three.
 pub piece-weight : (r : Reading) (p : Lexeme) → 1 ≤ length p.bytes → Pays r.state.context p.kind p.bytes
     → Tells p.kind p.bytes → weight (after_lexeme r p).state ≤ weight r.state + 3 * length p.bytes
 piece-weight r p some pays tells = after-walks weighs r p some pays tells

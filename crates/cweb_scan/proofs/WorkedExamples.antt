@@ -1,4 +1,4 @@
--- Webs of all kinds, computed.
+-- Worked examples: webs of all kinds.
 use Rattle.cweb_scan.proofs.Common.{◌≡◌, [], ◌∷◌, Blank, Newline, Join, Defs, Mark, StringDidNotEnd, scanned}
 use Rattle.std.specs.Fmt.{digits}
 use Rattle.cweb_scan.proofs.ExampleWords.{web, line, at, word, number, literal, verbatim, punct, mark, named, name, file, prefix, macro, unnamed, named_part, repl, fault, wanted}

@@ -1,4 +1,4 @@
--- Theorems about the definitions.
+-- Definitions that only laws cite.
 pub mod ReaderModel
 pub mod Law
 pub mod Alone

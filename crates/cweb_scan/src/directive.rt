@@ -1,4 +1,4 @@
-// The directive that is open in a part.
+// Tracks the open directive of a part.
 ghost use Rattle.std.specs.Prelude.{◌≡◌, true, Some, codes};
 ghost use Rattle.cweb_store.specs.surface.TokenModels.{token_model};
 ghost use Rattle.cweb_scan.specs.DirectiveTokens.{is_punct};
@@ -8,7 +8,7 @@ ghost use Rattle.cweb_scan.specs.inner.Stages as spec;
 
 use cweb_store::Token;
 
-/// What the last token is, as far as directives ask.
+/// The last token, as far as directives depend on it.
 #[derive(Clone, Copy)]
 pub enum Last {
     LineEnd,
@@ -17,7 +17,7 @@ pub enum Last {
     Other,
 }
 
-/// How far the directive has come: none is open; nothing but blanks after its `#`; `include` and blanks; more.
+/// The progress of a directive: none is open; only blanks so far; `include` and blanks; more.
 #[derive(Clone, Copy)]
 pub enum Stage {
     Outside,
@@ -26,7 +26,7 @@ pub enum Stage {
     Further,
 }
 
-/// The directive that is open in a part, as far as it is asked for: its stage, and what the last token of the part is.
+/// The state of the open directive: its stage, and the last token of the part.
 #[derive(Clone, Copy)]
 pub struct Directive {
     pub stage: Stage,
@@ -51,7 +51,7 @@ fn last_kind(token: Token<'_>) -> Last
     }
 }
 
-// Whether an open directive goes on over the line end that a token is.
+// Whether a directive continues after this line end.
 #[inline(always)]
 fn continues_line(last: Last, token: Token<'_>) -> bool
     ensures { result ≡ spec.continues_line last (token_model token.entry) }
@@ -83,7 +83,6 @@ fn is_blank_token(token: Token<'_>) -> bool
     matches!(token, Token::Blank)
 }
 
-// The stage of an open directive after one more token.
 fn next_open_stage(stage: Stage, token: Token<'_>) -> Stage
     ensures { result ≡ spec.next_open_stage stage (token_model token.entry) }
 {
@@ -97,7 +96,7 @@ fn next_open_stage(stage: Stage, token: Token<'_>) -> Stage
 }
 
 impl Directive {
-    /// None is open: no token was given.
+    /// The state before any token: no directive is open.
     pub fn new() -> Directive
         ensures { result ≡ new_directive }
     {
@@ -123,7 +122,7 @@ impl Directive {
         next_open_stage(self.stage, token)
     }
 
-    /// The directive after one more token.
+    /// The state after one more token.
     #[inline(always)]
     pub fn after_token(self, token: Token<'_>) -> Directive
         ensures { result ≡ after_token self (token_model token.entry) }
@@ -134,14 +133,14 @@ impl Directive {
         }
     }
 
-    /// Whether `include` and blanks are all that it has.
+    /// Whether the directive consists of `include` and blanks.
     pub fn names_include(self) -> bool
         ensures { result ≡ is_include_stage self.stage }
     {
         matches!(self.stage, Stage::Include)
     }
 
-    /// Whether more stands in it than blanks and `include`.
+    /// Whether the directive has more than blanks and `include`.
     #[inline(always)]
     pub fn is_further(&self) -> bool
         ensures { result ≡ is_further_stage self.now.stage }

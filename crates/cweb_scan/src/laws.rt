@@ -1,4 +1,4 @@
-// What holds of the pieces of each text, and of what is kept of each web.
+// Laws of the lexemes of a source and of the store of a web.
 
 ghost use Rattle.std.specs.List.{list_all};
 ghost use Rattle.std.specs.Prelude.{◌≡◌, ◌∷◌, ◌++◌, [], All, Bool, List, ℕ, codes, true, false};
@@ -21,39 +21,38 @@ ghost use Rattle.cweb_scan.specs.Lexemes.{lexemes, lex, scanned};
 ghost use Rattle.cweb_scan.specs.laws.LexemePlaces.{LexemesKeepLines};
 ghost use Rattle.cweb_store.specs.Parts.{Token};
 
-/// The pieces of a text are the one list of what the rules name at the front of the rest, again and again.
+/// The lexemes of a source are the only list that the rules allow.
 pub fn lexemes_are_unique()
     ensures only { (r : Reading) (t : List ℕ) (ps : List Lexeme)
         → AreLexemes r t ps → ps ≡ lexemes r t }
     ensures are { (r : Reading) (t : List ℕ) → AreLexemes r t (lexemes r t) }
 {}
 
-/// What is kept of a web has no more tokens, and no more bytes, than the web has bytes and lines.
+/// A store has at most as many tokens, and as many bytes, as the web has bytes plus lines.
 pub fn store_is_bounded()
     ensures { (lines : List Line) → IsBounded (scanned lines).store (web_size lines) }
 {}
 
-/// Blanks between two pieces of C text outside directives change nothing: what is read after a text with one blank more is what
-/// is read after the text.
+/// Blanks between two lexemes of C text outside directives change nothing: one blank more leaves the result unchanged.
 pub fn blanks_change_nothing()
     ensures { (r : Reading) (b : ℕ) (t : List ℕ) → r.state.context ≡ CText
         → in_directive r.state ≡ false → is_blank b ≡ true → lex r (b ∷ t) ≡ lex r t }
 {}
 
-/// Marks and faults stand where lines of the web stand: what holds of the places of all lines holds of theirs.
+/// The places of Marks and faults are places of lines of the web.
 pub fn places_are_those_of_lines()
     ensures { (test : Place → Bool) (lines : List Line)
         → All (λ line. test line.place ≡ true) lines → PlacesPass test (scanned lines) }
 {}
 
-/// A piece's place is that of its first byte's line, wherever the piece ends and whatever the pieces before it are.
+/// The place of a lexeme is that of its first byte's line.
 pub fn lexemes_keep_their_lines()
     ensures { (line : Line) (lines : List Line)
         → All (λ l. HasNoNewline l.bytes) (line ∷ lines) → LexemesKeepLines line lines }
 {}
 
-/// A token that reads alone, but for the sign that begins a directive, is read as itself wherever a C part is open and no
-/// directive in it, whatever follows whose first byte may not go on with it. Layout, section comments and marks don't count here.
+/// A token that reads alone is read as itself in an open C part outside directives, if the next byte can't continue it.
+/// `#` is excepted, since it begins a directive. Layout, section comments and marks don't count here.
 pub fn tokens_are_read_again()
     ensures { (joins : ℕ → ℕ → Bool) (r : Reading) (token : Token) (rest : List ℕ)
         → JoinsAll joins → InPlainC r.state
@@ -62,8 +61,7 @@ pub fn tokens_are_read_again()
         → IsReadAs r (doubled (spelling_of token)) rest (significant (token ∷ [])) }
 {}
 
-/// There a comment with neither `*` nor `@` in it, and a line end, give no tokens but layout, section comments and marks, and no
-/// fault.
+/// A comment without `*` and `@`, or a newline, adds only layout, section comments and marks there, and no fault.
 pub fn comments_and_newlines_are_skipped()
     ensures comments { (r : Reading) (text rest : List ℕ)
         → list_all is_quiet text ≡ true → InPlainC r.state

@@ -1,17 +1,16 @@
-//! What a scan makes of the merged lines of a web: names and parts for the store, the faults, the sections. The CWEB manual,
-//! "Control codes".
+//! Scans the merged lines of a web for names, parts, faults and sections. See the CWEB manual, "Control codes".
 #![tactic(auto)]
 
 // the effect of each lexeme on the state
 mod scanner;
 
-// the directive that is open in a part
+// the open directive of a part
 mod directive;
 
 // whether a line is the next one of its file
 mod lines;
 
-// the bytes before an `@`
+// the prefix before an `@`
 mod skipped;
 
 // the lines, and the item that is open at the end of a line
@@ -20,7 +19,7 @@ mod reader;
 // the scan of all lines
 mod scanning;
 
-// what holds for any web
+// laws for any web
 pub mod laws;
 
 pub use cweb_rules::{ScanFault, ScanKind};

@@ -1,10 +1,10 @@
-// Lines, and the lines behind them.
+// Consecutive lines of a file.
 ghost use Rattle.std.specs.Prelude.{◌≡◌};
 ghost use Rattle.cweb_scan.specs.Lines as spec;
 
 use cweb_files::Place;
 
-/// Whether a line is the next one of the same file.
+/// Whether `next` is the line after `here` in the same file.
 pub fn is_next_line(here: Place, next: Place) -> bool
     ensures { result ≡ spec.is_next_line here next }
 {

@@ -1,4 +1,4 @@
-// The reader: the scanner with the item that is open.
+// The reader: the scanner and the item that is open at the end of a line.
 ghost use Rattle.std.specs.Prelude.{◌≡◌, ◌<◌, ◌≤◌, ◌+◌, ◌*◌, ◌∷◌, List, IfOk, OnOk, length};
 
 pub mod codes;
@@ -16,7 +16,7 @@ use cweb_files::{FileId, Place};
 use std::alloc::{AllocError, Global};
 use std::marker::Model;
 
-/// What was read of the lines so far: the state, and the item that goes on in the next line with its text so far.
+/// The lines so far: the scanner's state, and the open item with its bytes so far.
 pub struct Reader {
     pub(crate) alloc: Global,
     pub(crate) scanner: Scanner,
@@ -27,7 +27,7 @@ pub struct Reader {
     pub(crate) begun: bool,
 }
 
-// It is let go by one call wherever it is held, not part by part.
+// One call frees it, not one per field.
 impl Drop for Reader {
     fn drop(self) {
         let Reader {
@@ -61,7 +61,7 @@ impl Model for Reader {
 impl Reader {
     ghost use Rattle.cweb_scan.specs.inner.ReaderModel.{new_reader};
 
-    /// Before the first line.
+    /// A reader before the first line.
     pub fn new(alloc: Global) -> Reader
         ensures { result ≡ new_reader }
     {

@@ -1,4 +1,4 @@
-// What is made of the text so far, and the steps that serve many rules.
+// The scanner's state, and the steps that many rules share.
 ghost use Rattle.std.specs.Prelude.{◌≡◌, ◌<◌, ◌+◌, OnOk, OnErr, true, if◌then◌else◌};
 ghost use Rattle.cweb_store.specs.Layout as layout;
 ghost use Rattle.cweb_store.specs.surface.TokenModels.{token_model};
@@ -22,8 +22,7 @@ use cweb_store::{Builder, Token};
 use std::alloc::{AllocError, Global};
 use std::marker::Model;
 
-/// What is made of the text so far. The directive that is open in C text is kept besides, as far as it is asked for, and the
-/// one that is open once the layout that is last is dropped.
+/// The result of the source so far, and the directive's state. `solid` is that state without the trailing layout.
 pub struct Scanner {
     pub(crate) alloc: Global,
     pub(crate) context: Context,
@@ -37,7 +36,7 @@ pub struct Scanner {
     pub(crate) solid: Directive,
 }
 
-// It is let go by one call wherever it is held, not part by part.
+// One call frees it, not one per field.
 impl Drop for Scanner {
     fn drop(self) {
         let Scanner {
@@ -82,7 +81,7 @@ fn is_layout(token: Token<'_>) -> bool
     matches!(token, Token::Blank | Token::Newline | Token::Mark(_))
 }
 
-// The directive that is open once the layout that is last is dropped, after a token.
+// The directive's state after a token, if the part's trailing layout were dropped.
 fn solid_after(solid: Directive, next: Directive, token: Token<'_>) -> Directive
     ensures { result ≡ (if layout.is_layout (token_model token.entry) then solid else next) }
 {
@@ -98,7 +97,7 @@ impl Scanner {
     ghost use Rattle.cweb_scan.specs.State.{start_state, report_at, move_to};
     ghost use Rattle.cweb_scan.specs.State as spec;
 
-    /// Nothing was read; the text begins here.
+    /// The state at the start of a source.
     pub fn new(alloc: Global, here: Place) -> Scanner
         ensures { result ≡ start_state here }
     {
@@ -116,14 +115,14 @@ impl Scanner {
         }
     }
 
-    /// The line on which the text goes on.
+    /// The current line.
     pub fn here(&self) -> Place
         ensures { result ≡ self.now.here }
     {
         self.here
     }
 
-    /// What the text belongs to.
+    /// The current context.
     pub fn context(&self) -> Context
         ensures { result ≡ self.now.context }
     {
@@ -139,7 +138,7 @@ impl Scanner {
         Ok(())
     }
 
-    /// Adds a token to the open part. A refused call changes nothing.
+    /// Appends a token to the open part. A refused call changes nothing.
     #[inline(always)]
     pub fn emit(&mut self, token: Token<'_>) -> Result<(), AllocError>
         requires part { in_open_part self.old.context ≡ true }
@@ -154,7 +153,7 @@ impl Scanner {
         Ok(())
     }
 
-    /// The text goes on in another line.
+    /// Moves to another line, and sets `folded`.
     pub fn go_to(&mut self, place: Place)
         ensures { self.new ≡ move_to place self.old }
     {
@@ -177,7 +176,7 @@ impl Scanner {
         self.directive.names_include()
     }
 
-    /// Blanks and comments give one Blank in a directive.
+    /// Blanks or a comment. In a directive they emit one Blank.
     pub fn blank(&mut self) -> Result<(), AllocError>
         requires { token_count self.old.contents.parts + 1 < too_many }
         ensures { OnOk result (self.new ≡ after.blank self.old) }
@@ -188,7 +187,7 @@ impl Scanner {
         Ok(())
     }
 
-    /// A punctuator; the text of a directive begins with its `#`.
+    /// Emits a punctuator. A `#` may begin a directive.
     #[inline(always)]
     pub fn punctuator(&mut self, bytes: &[u8]) -> Result<(), AllocError>
         requires part { in_open_part self.old.context ≡ true }

@@ -1,4 +1,4 @@
-// The lines of a merger, scanned.
+// Scans all lines of a merger.
 ghost use Rattle.std.specs.Prelude.{◌≡◌, ℕ, List, Bool, Option, [], ◌<◌, ◌+◌, ◌*◌, ◌^◌, ◌≤◌};
 ghost use Rattle.std.specs.Prelude.{length, IsTrue, Err, IfErr, IfOk, IfSome, OnOk, None, Some};
 ghost use Rattle.cweb_files.specs.surface.Frames.{KeepsShelf};
@@ -24,7 +24,7 @@ use crate::scanner::scanned::Scanned;
 use cweb_lines::{Ahead, Merger, Shelf, Stop};
 use std::alloc::{AllocError, Global};
 
-// No line follows.
+// Ends the scan after the last line.
 fn finished(reader: Reader) -> Result<Scanned, AllocError>
     requires { cost reader + 8 < too_many }
     ensures { IfOk result (λ made. scanned_model made ≡ scanned_after reader) }
@@ -33,7 +33,7 @@ fn finished(reader: Reader) -> Result<Scanned, AllocError>
     scanner.scanned()
 }
 
-// Reads lines that come next where they lie, from the first on, and answers the last one, with all of them.
+// Reads the next lines in the merger's buffer, before they are taken. Returns the last one.
 #[inline(always)]
 fn read_ahead<S: Shelf>(
     merger: &Merger<S>,
@@ -56,7 +56,7 @@ fn read_ahead<S: Shelf>(
     Ok(ahead)
 }
 
-// Takes lines where they lie in what was read, as long as the merger lends them.
+// Fast path: takes lines in the merger's buffer, as long as they can be borrowed.
 fn take_borrowed<S: Shelf>(merger: &mut Merger<S>, reader: &mut Reader) -> Result<(), AllocError>
     requires { let so = (so_far merger.old).count in cost reader.old ≤ 3 * (so.bytes + so.lines) }
     ensures lent { BorrowsLines merger.old.run merger.new.run }
@@ -74,7 +74,7 @@ fn take_borrowed<S: Shelf>(merger: &mut Merger<S>, reader: &mut Reader) -> Resul
     Ok(())
 }
 
-// Takes all lines that are still to come, one after another in the room of a line.
+// Takes all remaining lines, copying each one that isn't borrowed.
 fn take_lines<S: Shelf>(
     merger: &mut Merger<S>,
     shelf: &mut S,
@@ -117,14 +117,14 @@ fn take_lines<S: Shelf>(
     }
 }
 
-/// Scans the lines that are still to come: what they give to a store, their faults, their sections. The web's text is these
-/// lines, joined by newlines. Where memory is refused the merger stops.
+/// Scans the remaining lines of a merger into a store, faults and sections. The source is these lines joined by
+/// newlines. If an allocation fails, the merger stops.
 pub fn scan<S: Shelf>(alloc: Global, merger: &mut Merger<S>, shelf: &mut S) -> Result<Scanned, Stop>
     requires { S.failed shelf.old + 1 < 2 ^ 64 }
     ensures keeps { KeepsShelf S.Shelf shelf.old shelf.new }
     ensures grows { Grows (so_far merger.old) (so_far merger.new) }
 
-    // all lines were scanned
+    // All lines were scanned.
     ensures scans { IsTrue (S.tells shelf.old) → IfOk result (λ made. Scans (scanned_model made)
         (so_far merger.old) (so_far merger.new) (to_come S.Shelf shelf.old merger.old)) }
     ensures within { IfOk result
@@ -133,7 +133,7 @@ pub fn scan<S: Shelf>(alloc: Global, merger: &mut Merger<S>, shelf: &mut S) -> R
         ((stop_in merger.new ≡ None) × HasEnded merger.new
         × (S.failed shelf.new ≡ S.failed shelf.old)) }
 
-    // why not all lines were scanned
+    // Why not all lines were scanned.
     ensures stops { IsTrue (S.tells shelf.old) → stop_in merger.old ≡ None →
         IfErr result (λ stop. ScanEndsEarly stop (so_far merger.old) (so_far merger.new) (to_come S.Shelf shelf.old merger.old)) }
     ensures blames { stop_in merger.old ≡ None →

@@ -1,4 +1,4 @@
-//! The tests of `cweb_scan`. They stand in a crate of their own, so that they are checked without proving it anew.
+//! The tests of `cweb_scan`, in a crate of their own, so that a change of them doesn't check `cweb_scan` again.
 #![tactic(auto)]
 
 #[cfg(test)]

@@ -1,4 +1,4 @@
-// What no clause says: webs and what is made of them, told as text; limits; memory that is refused.
+// What no clause states: reports on the scans of webs, limits, and failed allocations.
 
 mod c_text;
 mod cases;
@@ -28,7 +28,7 @@ use std::test::Fail;
 use trial::shelf_of;
 use wanted::*;
 
-/// This is told of what a scan made.
+/// The expected report on a scan.
 #[derive(Clone, Copy)]
 struct Rendering<'a> {
     text: &'a str,
@@ -43,7 +43,7 @@ impl Case<Fail> for Rendering<'_> {
     }
 }
 
-/// Of each web of one file is told what stands beside it.
+/// Checks the report on each web of one file.
 fn check_each(rt: &(impl AllocGlobal + Abort), rows: &[(&[u8], &str)]) -> Result<(), Fail> {
     for (web, text) in rows {
         check(rt, &[("a.w", *web)], None, &Rendering { text: *text })?;

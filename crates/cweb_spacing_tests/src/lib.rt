@@ -1,4 +1,4 @@
-//! The tests of the law of spacing: tokens are printed by `cweb_out`, and `cweb_scan` reads the text again.
+//! The tests of the law of blanks: tokens are printed by `cweb_print` and read again by `cweb_scan`.
 #![tactic(auto)]
 
 #[cfg(test)]

@@ -1,4 +1,4 @@
-// Tokens that are printed, and what is read of them again.
+// Tokens are printed and read again.
 ghost use Rattle.std.specs.Prelude.{◌≡◌, true};
 ghost use Rattle.cweb_input.specs.surface.OpenedFileNames.{opened_file_names};
 ghost use Rattle.cweb_store.specs.surface.TokenModels.{token_model};
@@ -13,10 +13,10 @@ use cweb_store::{Builder, Store, Token};
 use std::alloc::{AllocError, Global};
 use std::process::Abort;
 
-// More than the text of any row.
+// More bytes than any example has.
 const ROOM: usize = 1000;
 
-// Each question stands in a function of its own: a test that calls them is sooner proved than one that has their failures in it.
+// Assertions are small functions of their own, so that they and their callers verify quickly.
 fn holds(rt: &impl Abort, is_so: bool)
     ensures { is_so ≡ true }
 {
@@ -33,7 +33,6 @@ fn is_named(names: &FileNames, token: &Token<'_>) -> bool
     }
 }
 
-// Prints tokens.
 fn print(
     rt: &impl Abort,
     store: &Store,
@@ -49,7 +48,7 @@ fn print(
     }
 }
 
-// A web whose program part is a text, with each `@` twice.
+// A web whose program part has these bytes, with each `@` doubled.
 fn web_of(alloc: Global, text: &[u8]) -> Result<Vec<u8>, AllocError> {
     let mut web = Vec::new(alloc);
     web.extend_from_slice(b"@ @c ")?;
@@ -62,7 +61,7 @@ fn web_of(alloc: Global, text: &[u8]) -> Result<Vec<u8>, AllocError> {
     Ok(web)
 }
 
-// A token by its sign and its bytes; nothing of what may stand between tokens.
+// The kind and bytes of a token, or `None` for layout, section comments and marks.
 fn kind_and_spelling(token: Token<'_>) -> Option<(u8, &[u8])> {
     match token {
         Token::Word(bytes) => Some((b'w', bytes)),
@@ -74,7 +73,7 @@ fn kind_and_spelling(token: Token<'_>) -> Option<(u8, &[u8])> {
     }
 }
 
-// The first token of a store, from one on, of which something is told, or the end.
+// The index of the next significant token of a store, or the end.
 fn next_significant(store: &Store, first: u32) -> u32 {
     for number in first..store.tokens() {
         if kind_and_spelling(store.token(number)).is_some() {
@@ -84,7 +83,7 @@ fn next_significant(store: &Store, first: u32) -> u32 {
     store.tokens()
 }
 
-// Whether a store has these tokens, apart from what may stand between them.
+// Whether these are the significant tokens of a store.
 fn has_tokens(store: &Store, tokens: &[Token<'_>]) -> bool {
     let mut first = 0;
     for token in tokens {
@@ -101,7 +100,7 @@ fn has_tokens(store: &Store, tokens: &[Token<'_>]) -> bool {
     next_significant(store, first) >= store.tokens()
 }
 
-// A merger of a web, and the shelf in which it stands.
+// A merger of a web, and the shelf that has it.
 fn begun(alloc: Global, web: &[u8]) -> Result<(Merger<MemoryShelf>, MemoryShelf), Stop> {
     let mut shelf = MemoryShelf::new(alloc);
     shelf.put("a.w", web)?;
@@ -109,7 +108,6 @@ fn begun(alloc: Global, web: &[u8]) -> Result<(Merger<MemoryShelf>, MemoryShelf)
     Ok((merger, shelf))
 }
 
-// What is printed of tokens.
 fn printed(rt: &impl Abort, alloc: Global, tokens: &[Token<'_>]) -> MemorySink {
     let mut out = MemorySink::with_room(alloc, ROOM).expect(rt, "memory");
     let (merger, _) = begun(alloc, b"").expect(rt, "a web");
@@ -128,21 +126,21 @@ fn print_under(
     print(rt, &store, names, tokens, out);
 }
 
-// What a scan makes of C text.
+// The scan of C text.
 fn scanned(alloc: Global, text: &[u8]) -> Result<Scanned, Stop> {
     let web = web_of(alloc, text)?;
     let (mut merger, mut shelf) = begun(alloc, &web)?;
     scan(alloc, &mut merger, &mut shelf)
 }
 
-// Text is read as these tokens, without a fault.
+// The bytes are read as these tokens, without a fault.
 fn is_read(rt: &impl Abort, alloc: Global, text: &[u8], tokens: &[Token<'_>]) {
     let made = scanned(alloc, text).expect(rt, "a web");
     holds(rt, made.faults.is_empty());
     holds(rt, has_tokens(&made.store, tokens));
 }
 
-// Tokens are printed, and read again as the same tokens, without a fault. `text`, where there is one, is what is printed.
+// The tokens are printed, and read again as the same tokens without a fault. `text` is the expected output, if given.
 fn comes_back(rt: &impl Abort, alloc: Global, tokens: &[Token<'_>], text: Option<&[u8]>) {
     let out = printed(rt, alloc, tokens);
     holds(rt, out.bytes() == text.unwrap_or(out.bytes()));
@@ -180,7 +178,7 @@ fn examples_come_back(rt: HostRuntime) {
     }
 }
 
-// A raw literal that has a line end and an `@`, and a literal of two lines.
+// A raw literal with a newline and an `@`, and a literal of two lines.
 #[test]
 fn literals_of_more_lines_come_back(rt: HostRuntime) {
     const TOKENS: &[Token<'static>] = &[
@@ -241,7 +239,7 @@ static TOKENS: [Token<'static>; 44] = [
     Token::Tail(4_294_967_295),
 ];
 
-// A token comes back before each.
+// The token reads back before each of these.
 fn comes_back_before(rt: &impl Abort, alloc: Global, left: Token<'_>, tokens: &[Token<'_>]) {
     for right in tokens {
         comes_back(rt, alloc, &[left, *right], None);

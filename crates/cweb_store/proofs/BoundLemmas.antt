@@ -1,4 +1,4 @@
--- Names, files and faults are in range.
+-- Indices of names, files and faults are in range.
 use Rattle.cweb_store.proofs.Common.{◌≡◌, ℕ, zero, suc, ◌+◌, ◌≤◌, ◌<◌, Bool, List, [], ◌∷◌, ◌++◌, Some, None, Option, length, refl, ap, arith, length-append, Ok, Err, IfSome, All, bytes_eq, AllByRecursion, length-map, All-from_recursion, How, Full, Prefix, NameId, NameFault, NameKind, NeverFull, Occurrence, Name, Resolution, spellings, with_full_name, with_occurrence_name, names_from, names, beginning_from, the_one, resolved_among, resolutions_from, resolutions, resolved_at, with_some, with_file, files_from, files, Part, unresolved_faults_from, faults_from, faults}
 use Rattle.cweb_names.proofs.NameLemmas.{position-below}
 use Rattle.cweb_names.proofs.OccurrenceLemmas.{Grows, names_from-grows, with_text-has}
@@ -120,17 +120,16 @@ resolutions-length i before all [] = refl
 resolutions-length i before all (o ∷ os) =
     omega (arith, resolutions-length (i + 1) (with_occurrence_name i before o) all os)
 
--- an occurrence stands for one of the names
+-- Each resolution is one of the names.
 pub standing-within : (os : List Occurrence) (i : ℕ)
     → IfSome (resolved_at (resolutions os) i) (λ (n : NameId). n.0 < length (names os))
 standing-within os i = stands-below (length (names os)) (resolutions os) i (resolutions-below 0 [] os)
 
--- files are names
 pub files-within : (os : List Occurrence) → All (λ (n : NameId). n.0 < length (names os)) (files os)
 files-within os = All-from_recursion (Below (length (names os)))
     (files os) (files-below (length (names os)) (resolutions os) [] 0 os (resolutions-below 0 [] os) tt)
 
--- a fault is told at one of the occurrences
+-- The occurrence of each fault exists.
 pub faults-within : (os : List Occurrence) (ps : List Part)
     → All (λ (f : NameFault). f.occurrence.0 < length os) (faults os ps)
 faults-within os ps =

@@ -1,4 +1,4 @@
--- What a builder holds after one more call, by the answer to it.
+-- The contents of a builder after a call, by its result.
 use Rattle.cweb_store.proofs.Common.{◌≡◌, ◌+◌, refl, Bool, true, false, ℕ, List, [], ◌∷◌, ◌++◌, arith, length-append, map, map-append, if◌then◌else◌, Call, Occurs, Opens, Pushes, Drops, Closes, Transliterates, Contents, after_call, contents, empty, fold, call_model, accepted_calls, HoldsAtMost, Answered, AcceptsCall, AcceptsCalls, IsTrue, append-nil}
 use Rattle.cweb_store.proofs.CallerLemmas.{token_count_opened, token_count_pushed, part_count_opened, token_count_dropped, token_count_closed, part_count_pushed, part_count_dropped, part_count_closed}
 use Rattle.std.proofs.lemmas.List.Elements.{filter-append}

@@ -1,4 +1,4 @@
--- How many tokens and parts a builder holds after a call: what its callers need for its conditions.
+-- How many tokens and parts a builder holds after a call. Callers need it for their `requires`.
 use Rattle.cweb_store.proofs.Common.{◌≡◌, ◌≤◌, Bool, true, false, ◌+◌, List, [], ◌∷◌, ◌++◌, Some, None, length, ◌∙◌, ap, arith, append-nil, length-append, IsSome, IsNone, option_map, option_to_list, if◌then◌else◌, take-append-drop, flat_map-append, PartKind, Token, Part, all_tokens, is_macro, before_last, without_last, without_blank, without_layout, at_close, is_layout, is_newline, PartsSoFar, with_closed_part, with_dropped_layout, with_opened_part, with_pushed_token, part_count, token_count}
 
 pub tokens-last : (ps : List Part) (p : Part)

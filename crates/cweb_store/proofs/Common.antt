@@ -1,4 +1,4 @@
--- The names that the proofs of this crate cite, passed on from one place. Declares nothing.
+-- Imports that the proofs of this crate share.
 pub use Rattle.std.proofs.Common.{◌≡◌, ℕ, zero, suc, ◌+◌, ◌≤◌, ◌<◌, Bool, true, false, cond, not, ◌||◌, List, [], ◌∷◌}
 pub use Rattle.std.proofs.Common.{◌++◌, Some, None, Option, length, refl, ap, arith, length-append, map, take, drop}
 pub use Rattle.std.proofs.Common.{◌∙◌, append-nil, ◌&&◌, sym, append_assoc, subst, ◌-◌, get_or, length-drop, inl, inr}

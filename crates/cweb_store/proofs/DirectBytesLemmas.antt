@@ -1,11 +1,11 @@
--- What tokens lend whose texts have a border that is told.
+-- The bytes of tokens whose edge is stored.
 use Rattle.cweb_store.proofs.Common.{arith, ◌≡◌, ℕ, true, List, Option, Some, refl, list_any, Word, Punct, direct_bytes}
 use Rattle.cweb_texts.specs.declared.edges.Edge.{Edge}
 use Rattle.cweb_texts.specs.inner.Edges.{TokenBytesModel, IsStoredEdge, is_high, is_known_edge}
 use Rattle.cweb_texts.specs.declared.edges.Edge.TheVariants as border
 use Rattle.cweb_texts.proofs.EdgeLemmas.{told-ascii}
 
--- what a Word lends whose border is told, and what a punctuator does
+-- A Word with a stored edge, and a punctuator.
 pub word-lends : (t : List ℕ) (b : Edge) → IsStoredEdge t b → is_known_edge b ≡ true
     → Some (record { string = t; edge = border.Word }) ≡ direct_bytes (Word t)
 word-lends t b told some = cc (told-ascii t b (list_any is_high t) refl told some)

@@ -1,14 +1,13 @@
--- Faults of names, name by name.
+-- Faults of names, one by one.
 use Rattle.cweb_store.proofs.Common.{◌≡◌, ℕ, ◌+◌, ◌<◌, Bool, true, false, cond, List, [], ◌∷◌, ◌++◌, Some, map, length, drop, refl, arith, append_assoc, slice_get, option_map, list_any, NameId, NameKind, NameFault, Name, id, spellings, fault_of_name, fault_of_name_if, faults_from}
 use Rattle.cweb_names.proofs.NameLemmas.{front_at}
 
--- no fault where no name fails
 pub faults-none : (kind : NameKind) (fails : List ℕ → Bool) (i : ℕ) (ns : List Name)
     → list_any fails (spellings ns) ≡ false → faults_from i kind (λ n text. fails text) ns ≡ []
 faults-none kind fails i [] h = refl
 faults-none kind fails i (n ∷ ns) h = grind (arith, faults-none kind fails (i + 1) ns)
 
--- the faults from a name on are its own and those from the next on
+-- The faults from a name on are its own and those from the next one on.
 pub faults-step : (kind : NameKind) (fails : NameId → List ℕ → Bool) (ns : List Name) (i : ℕ) (b : Bool)
     (old new : List NameFault) → i < length ns → option_map (λ (n : Name). fails (id i) n.text) (slice_get ns i)
     ≡ Some b → option_map (λ (n : Name). old ++ fault_of_name_if b kind n.first) (slice_get ns i) ≡ Some new

@@ -1,4 +1,4 @@
--- What becomes of records that name texts where texts are added.
+-- Records remain valid when strings are added.
 use Rattle.cweb_store.proofs.Common.{◌≡◌, ℕ, zero, suc, ◌<◌, List, [], ◌∷◌, ◌++◌, Some, map, length, take, refl, ap, arith, length-append, slice_get, map-append}
 use Rattle.cweb_store.specs.declared.tokens.interned.InternedToken.{InternedToken}
 use Rattle.cweb_store.specs.declared.tokens.interned.InternedToken.TheVariants.{Number, Literal, Verbatim, Word, Punct}
@@ -39,7 +39,7 @@ pub interned-grow : (strings more : List (List ℕ)) (ps : List InternedToken) �
 interned-grow strings more [] h = tt
 interned-grow strings more (q ∷ ps) h = grind (arith, length-append strings more, interned-grow strings more ps h.1)
 
--- one more token
+-- One more token.
 pub packs-tokens : (old new : StringTableModel) (ps : List InternedToken) (t : spec.Token) (p : InternedToken)
     → StringsAreWithin old.strings ps
     → InternsToken old t p new
@@ -51,7 +51,6 @@ pub packs-all : (old new : StringTableModel) (ps : List InternedToken) (t : spec
     → StringsAreWithin old.strings ps → InternsToken old t p new → StringsAreWithin new.strings (ps ++ p ∷ [])
 packs-all old new ps t p all packs = grind (arith, ArePacked-grow old.strings packs.more ps p all)
 
--- a record at a place
 pub interned-at : (strings : List (List ℕ)) (ps : List InternedToken) (i : ℕ) (p : InternedToken)
     → StringsAreWithin strings ps → slice_get ps i
     ≡ Some p → StringIsWithin (length strings) p

@@ -2,7 +2,7 @@
 use Rattle.cweb_store.proofs.Common.{◌≡◌, ℕ, zero, suc, ◌+◌, Bool, true, false, List, [], ◌∷◌, ◌++◌, Some, None, Option, length, take, refl, sym, ◌∙◌, ap, arith, append_assoc, append-nil, Ok, Err, bytes_eq, if◌then◌else◌, nat_eq, slice_get, option_map, option_and_then, fold, filter_map, list_any, starts_with, position_or_len, map-append, bytes_eq-Decides, list_any-append, How, Full, Prefix, NameId, NeverFull, PartKind, Occurrence, Name, Resolution, id, spellings, with_full_name, with_occurrence_name, names_from, names, beginning_from, beginning, the_one, resolved_among, resolutions_from, resolutions, resolved_at, Part, joined_where, Call, Occurs, Opens, Pushes, Drops, Closes, Transliterates, Contents, after_call, empty, defines_with_prefix, AbbreviationsStay, EarlierNamesDecide, FullNamesResolveToThemselves, JoiningConcatenates, OccurrencesAreThoseOfCalls, occurrence_of_call, take-append_seam}
 use Rattle.cweb_names.proofs.OccurrenceLemmas.{Grows, names_from-grows, with_text-has}
 
--- what occurrence k stands for, by the names before it and all names
+-- The resolution of occurrence k, from the names before it and all names.
 pub resolutions-at : (i : ℕ) (before all : List Name) (os : List Occurrence) (k : ℕ) (o : Occurrence)
     → slice_get os k ≡ Some o
     → slice_get (resolutions_from i before all os) k ≡ Some (resolved_among (names_from i before (take k os)) all o)
@@ -44,7 +44,7 @@ beginning-with_name : (j : ℕ) (p : List ℕ) (ns : List Name) (text : List ℕ
 beginning-with_name j p ns text Full is_file h = beginning-with_text j p ns text h
 beginning-with_name j p ns text Prefix is_file h = refl
 
--- names that don't begin with a prefix change nothing for it
+-- Names that don't begin with a prefix don't change its matches.
 beginning-later : (j : ℕ) (p : List ℕ) (ns : List Name) (later : List Occurrence)
     → list_any (defines_with_prefix p) later ≡ false → beginning p (names_from j ns later) ≡ beginning p ns
 beginning-later j p ns [] h = refl
@@ -103,7 +103,7 @@ with_name-has : (i : ℕ) (ns : List Name) (text : List ℕ) (how : How) (is_fil
 with_name-has i ns text Full is_file h = with_text-has i ns text
 with_name-has i ns text Prefix is_file h = cc
 
--- a text that is given in full is a name
+-- The bytes of each full occurrence are a name.
 names-has : (i : ℕ) (ns : List Name) (os : List Occurrence) (k : ℕ) (o : Occurrence)
     → slice_get os k ≡ Some o → o.how ≡ Full → list_any (bytes_eq o.text) (spellings (names_from i ns os)) ≡ true
 names-has i ns [] k o h full = cc

@@ -1,4 +1,4 @@
--- Laws of the layout that is dropped, and of the tokens that stay.
+-- Laws of dropped layout and of the tokens that stay.
 use Rattle.cweb_store.proofs.Common.{arith, ◌≡◌, ℕ, zero, Bool, true, false, List, [], ◌∷◌, ◌++◌, take, drop, refl, ◌∙◌, ap, append_assoc, if◌then◌else◌, take-append-drop, Token, before_last, without_last, without_last_after, protected_count, is_layout, Macro, AllPass, IsTokenPrefix, DroppingKeepsThePrefix, MacrosKeepTwoTokens}
 
 before_last-front : (test : Token → Bool) (t : Token) (ts us rest : List Token)

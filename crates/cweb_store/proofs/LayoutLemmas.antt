@@ -1,4 +1,4 @@
--- Lists of tokens that lose their last ones.
+-- Lists of tokens without trailing ones.
 use Rattle.cweb_store.proofs.Common.{◌≡◌, ℕ, zero, suc, ◌+◌, ◌≤◌, Bool, true, false, List, [], ◌∷◌, ◌++◌, Some, length, take, drop, refl, ◌∙◌, ap, arith, slice_get, if◌then◌else◌, Token, before_last, without_last, without_last_after, without_blank, is_blank}
 
 before_last-some : (test : Token → Bool) (x : Token) (xs : List Token) (t : Token)
@@ -16,7 +16,7 @@ take-next [] k t h = cc
 take-next (x ∷ ts) zero t h = let same : x ≡ t = cc in ap (λ y. y ∷ []) same
 take-next (x ∷ ts) (suc k) t h = ap (λ us. x ∷ us) (take-next ts k t h)
 
--- one more token at the end
+-- One more token at the end.
 pub trim-next : (n : ℕ) (test : Token → Bool) (ts : List Token) (k : ℕ) (t : Token) → slice_get ts k ≡ Some t → n ≤ k →
     without_last_after n test (take (suc k) ts)
     ≡ (if test t then without_last_after n test (take k ts) else take (suc k) ts)
@@ -25,14 +25,14 @@ trim-next zero test (x ∷ ts) k t h le = cc (take-next (x ∷ ts) k t h, withou
 trim-next (suc n) test (x ∷ ts) zero t h le = absurd (let none : ⊥ = omega arith in none)
 trim-next (suc n) test (x ∷ ts) (suc k) t h le = grind (arith, trim-next n test ts k t h (omega arith), test t, suc k)
 
--- tokens that all stay
+-- If all tokens are protected, none is dropped.
 pub trim-none : (n : ℕ) (test : Token → Bool) (ts : List Token) → length ts ≤ n → without_last_after n test ts ≡ ts
 trim-none zero test [] h = refl
 trim-none (suc n) test [] h = refl
 trim-none zero test (t ∷ ts) h = absurd (let none : ⊥ = omega arith in none)
 trim-none (suc n) test (t ∷ ts) h = ap (λ us. t ∷ us) (trim-none n test ts (omega arith))
 
--- the tokens behind the first ones
+-- The tokens after the first ones.
 pub trim-drop : (first n : ℕ) (test : Token → Bool) (ts : List Token)
     → drop first (without_last_after (first + n) test ts) ≡ without_last_after n test (drop first ts)
 trim-drop zero n test ts = ap (λ k. without_last_after k test ts) (let same : zero + n ≡ n = omega arith in same)
@@ -70,7 +70,7 @@ blank-push (x ∷ y ∷ ys) t = ap (λ us. x ∷ us) (blank-push (y ∷ ys) t)
     ∙ (elim (is_blank t) as (λ b. x ∷ (if b then y ∷ ys else y ∷ ys ++ t ∷ [])
     ≡ (if b then x ∷ y ∷ ys else x ∷ y ∷ ys ++ t ∷ [])) [ true ↦ refl | false ↦ refl ])
 
--- the last token, where it is a Blank or not
+-- Whether the last token is a Blank.
 pub blank-dropped : (from : ℕ) (ts : List Token) (k : ℕ) (t : Token) → slice_get ts k ≡ Some t
     → from ≤ k → is_blank t ≡ true → drop from (take k ts) ≡ without_blank (drop from (take (suc k) ts))
 blank-dropped from ts k t h le blank = cc (drop-next from ts k t h le, blank-push (drop from (take k ts)) t)

@@ -1,4 +1,4 @@
--- The texts of tokens without the layout at their end.
+-- The strings of tokens without trailing layout.
 use Rattle.cweb_store.proofs.Common.{arith, ◌≡◌, ℕ, suc, true, false, List, [], ◌∷◌, ◌++◌, Some, take, drop, refl, sym, ◌∙◌, ap, append-nil, slice_get, filter, if◌then◌else◌, take-append-drop, Token, before_last, without_last, without_last_after, is_blank}
 use Rattle.std.proofs.lemmas.List.Elements.{filter-append}
 use Rattle.cweb_store.specs.declared.tokens.layout.Trailing.{Trailing}
@@ -8,7 +8,7 @@ use Rattle.cweb_store.specs.Parts as spec
 use Rattle.cweb_store.specs.declared.tokens.layout.Trailing.TheVariants as trailing
 use Rattle.cweb_store.proofs.LayoutLemmas.{take-next}
 
--- tokens that are dropped have no text
+-- Dropped tokens have no string.
 dropped-none : (t : Trailing) (token : Token) → is_trailing t token ≡ true → has_string token ≡ false
 dropped-none trailing.Layout (spec.Word b) h = cc
 dropped-none trailing.Layout (spec.Number b) h = cc

@@ -1,4 +1,4 @@
--- Who follows parts that are linked meets those that are wanted.
+-- Following the links visits exactly the wanted parts.
 use Rattle.cweb_store.proofs.Common.{◌≡◌, ℕ, zero, suc, ◌+◌, ◌-◌, ◌≤◌, Bool, true, false, List, [], ◌∷◌, Option, Some, length, drop, ◌++◌, get_or, refl, sym, ◌∙◌, ap, subst, arith, length-drop, slice_get, if◌then◌else◌, take_all, PartKind, Unnamed, Named, Macro, PartRange, Resolution, is_wanted, followed, AreLinked}
 use Rattle.std.proofs.Common.{reverse, drop-cons}
 use Rattle.std.specs.Prelude.{slice_range}
@@ -8,7 +8,7 @@ use Rattle.cweb_store.specs.declared.parts.iter.Wanted.TheVariants.{Program, OfN
 use Rattle.cweb_store.specs.declared.parts.links.Heads.{Heads}
 use Rattle.cweb_store.specs.inner.Links.{group_of, is_group, IsPut}
 
--- a part is wanted where its group is
+-- A part is wanted exactly if its group is.
 wanted-group : (rs : List Resolution) (w : Wanted) (kind : PartKind)
     → is_wanted rs w kind ≡ is_group w (group_of rs kind)
 wanted-group rs Program Unnamed = refl
@@ -23,13 +23,13 @@ put-within : (ranges n m : ℕ) (b : Bool) → n ≡ (if b then ranges + 1 else 
 put-within ranges n m true is le = omega arith
 put-within ranges n m false is le = omega arith
 
--- one more part in front
+-- One more part at the head.
 pub put-linked : (rs : List Resolution) (r : PartRange) (ranges : List PartRange)
     (skips : List ℕ) (old : Heads) (skip : ℕ) (new : Heads) → IsPut (group_of rs r.kind) (length ranges) old skip new
     → AreLinked rs ranges skips old → AreLinked rs (r ∷ ranges) (skip ∷ skips) new
 put-linked rs r ranges skips old skip new put linked = grind (arith, put-within (length ranges), wanted-group rs)
 
--- the first part that is met, and where the others are
+-- The first visited part, and the parts after it.
 pub followed-none : (ranges : List PartRange) (skips : List ℕ) (n : ℕ) → length ranges ≤ n
     → followed ranges skips n ≡ []
 followed-none [] skips n h = refl
@@ -64,7 +64,7 @@ pub followed-next : (ranges : List PartRange) (skips : List ℕ) (n : ℕ) (r : 
 followed-next ranges skips n r skip here there = followed-some ranges skips n r skip here there
     ∙ (λ i. r.part ∷ followed (range-end ranges n i) (range-end skips n i) skip)
 
--- one more part in front, where the links are gathered from the last part on
+-- One more part at the head, since links are built from the last part backwards.
 pub step-linked : (rs : List Resolution) (ranges : List PartRange) (i behind skip : ℕ) (d : PartRange)
     (kept more : List ℕ) (group : Option Wanted) (old new : Heads) → group ≡ group_of rs (get_or ranges i d).kind
     → suc i + behind ≡ length ranges → IsPut group behind old skip new → more ≡ kept ++ skip ∷ []

@@ -22,7 +22,6 @@ distinct-from i ns (o ∷ os) d = distinct-from (i + 1) (with_occurrence_name i 
 pub names_are_distinct : NamesAreDistinct
 names_are_distinct os = distinct-from 0 [] os tt
 
--- a name begins with a prefix
 abbrev Begins : List ℕ → List Name → NameId → Type 0
 Begins p ns n = option_map (λ (m : Name). starts_with nat_eq m.text p) (slice_get ns n.0) ≡ Some true
 

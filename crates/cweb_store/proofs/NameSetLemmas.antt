@@ -1,4 +1,4 @@
--- Which names are among those that are gathered from tokens and parts.
+-- Membership in the lists of used names and of names with a part.
 use Rattle.cweb_store.proofs.Common.{arith, ◌≡◌, ℕ, ◌+◌, true, false, ◌||◌, List, [], ◌∷◌, ◌++◌, Some, None, Option, length, refl, sym, ◌∙◌, ap, if◌then◌else◌, nat_eq, list_any, eqb-true, list_any-append, NameId, PartKind, Named, Resolution, resolved_at, is_id, with_id, with_some, Token, Part, joined_where, is_c_part, is_some_id, is_of, ranges_from, is_use, is_used, has_part, with_use, used_from, used_in, with_part, present_from, or-false}
 use Rattle.cweb_store.specs.Parts as spec
 
@@ -43,7 +43,7 @@ used-joined rs n ns (p ∷ ps) =
       used-joined rs n ns ps,
     )
 
--- a name is among those that parts of C text use where such a part uses it
+-- A name is in the list exactly if a part of C text uses it.
 pub any-used : (rs : List Resolution) (n : NameId) (ps : List Part)
     → list_any (is_id n) (used_in rs [] ps) ≡ is_used rs ps n
 any-used rs n ps = used-joined rs n [] ps
@@ -59,7 +59,7 @@ any-present_from rs n ns k [] = sym (or-false (list_any (is_id n) ns))
 any-present_from rs n ns k (p ∷ ps) =
     grind (arith, any-present_from rs n (with_part rs ns p.kind) (k + length p.tokens) ps, any-with_part rs n p.kind ns)
 
--- a name is among those that have a part where a part belongs to it
+-- A name is in the list exactly if a part belongs to it.
 pub any-present : (rs : List Resolution) (n : NameId) (ps : List Part)
     → list_any (is_id n) (present_from rs [] (ranges_from 0 ps)) ≡ has_part rs ps n
 any-present rs n ps = any-present_from rs n [] 0 ps

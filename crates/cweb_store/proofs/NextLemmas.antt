@@ -1,4 +1,4 @@
--- The first number that is noted from a part's first token on.
+-- The first index entry from a part's first token on.
 use Rattle.cweb_store.proofs.Common.{◌≡◌, ◌≤◌, ◌<◌, ◌+◌, ◌-◌, ℕ, zero, suc, Bool, true, false, ◌||◌, List, [], ◌∷◌, length, get_or, take, drop, refl, sym, ◌∙◌, ap, subst, arith, if◌then◌else◌, list_any, Token, IsNextNumber, token_numbers}
 use Rattle.std.proofs.Common.{drop-cons, drop_of_length-le}
 use Rattle.std.specs.Prelude.{nat_lt}
@@ -8,12 +8,12 @@ use Rattle.cweb_store.specs.inner.Next.{HasPassingToken}
 use Rattle.cweb_store.specs.declared.parts.Part.{Part}
 use Rattle.cweb_store.proofs.TokenIndexLemmas.{numbers-rise, numbers-cut}
 
--- the first of some numbers, if there is one, is no lower than a bound
+-- The first of the numbers, if there is one, is at least a bound.
 abbrev pub BeginsFrom : ℕ → List ℕ → Type 0
 BeginsFrom bound [] = Unit {0}
 BeginsFrom bound (x ∷ xs) = bound ≤ x
 
--- no token before the first number passes
+-- No token before the first number passes.
 none-before : (test : Token → Bool) (n k : ℕ) (ts : List Token)
     → BeginsFrom (n + k) (token_numbers test n ts) → list_any test (take k ts) ≡ false
 none-before test n zero ts from = refl
@@ -27,7 +27,7 @@ none-before test n (suc k) (t ∷ ts) from =
       | false ↦ λ low. none-before test (n + 1) k ts (subst (λ m. BeginsFrom m rest) next low)
     ]) from
 
--- the token at the first number passes
+-- The token at the first number passes.
 first-passes : (test : Token → Bool) (n m : ℕ) (ts : List Token) (xs : List ℕ)
     → token_numbers test n ts ≡ m ∷ xs → (n ≤ m) × HasPassingToken test ts (m - n)
 first-passes test n m [] xs is = cc
@@ -58,7 +58,7 @@ passes-behind test (t ∷ ts) (suc n) k p = grind (arith, passes-behind test ts 
 head-at : (xs : List ℕ) (i m : ℕ) → i < length xs → m ≡ get_or xs i m → drop i xs ≡ m ∷ drop (suc i) xs
 head-at xs i m less is = drop-cons xs i m less ∙ ap (λ x. x ∷ drop (suc i) xs) (sym is)
 
--- the noted numbers from that place on at which numbers are no longer below a part's first
+-- The entries from the first one that isn't below a part's first token.
 token_index-behind : (test : Token → Bool) (ts : List Token) (xs : List ℕ) (n i : ℕ) → xs ≡ token_numbers test 0 ts
     → (IsNonDecreasing xs → i ≡ prefix_len (λ x. nat_lt x n) xs) → drop i xs ≡ token_numbers test n (drop n ts)
 token_index-behind test ts xs n i are count =

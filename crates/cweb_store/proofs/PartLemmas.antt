@@ -1,10 +1,10 @@
--- Parts by the numbers of their tokens.
+-- Parts as ranges of token indices.
 use Rattle.cweb_store.proofs.Common.{◌≡◌, ℕ, ◌+◌, ◌≤◌, ◌<◌, Bool, true, false, cond, List, [], ◌∷◌, map, filter, length, drop, refl, ap, arith, length-append, All, AllByRecursion, list_any, take-append_seam, drop-append_seam, All-from_recursion, PartKind, PartRange, Token, Part, all_tokens, joined_where, numbers_where, tokens_at, ranges_from}
 use Rattle.std.proofs.lemmas.List.{drop-drop}
 use Rattle.cweb_store.specs.surface.Parts.{numbers_from}
 use Rattle.cweb_store.specs.declared.parts.Part as declared
 
--- the runs that a test keeps have the numbers of the parts that it keeps
+-- Filtering ranges gives the index ranges of the filtered parts.
 pub part-ranges : (test : PartKind → Bool) (n : ℕ) (ps : List Part)
     → map (λ (r : PartRange). r.part) (filter (λ (r : PartRange). test r.kind) (ranges_from n ps))
     ≡ numbers_from test n ps
@@ -31,7 +31,7 @@ text_from test (p ∷ parts) n ts h =
       text_from test parts,
     )
 
--- the tokens at the numbers of the parts that a test keeps are these parts joined
+-- The tokens of the filtered parts' ranges are these parts joined.
 pub tokens_at-numbers : (test : PartKind → Bool) (parts : List Part)
     → tokens_at (all_tokens parts) (numbers_where test parts) ≡ joined_where test parts
 tokens_at-numbers test parts = text_from test parts 0 (all_tokens parts) refl
@@ -48,7 +48,7 @@ within_from test (p ∷ parts) n end h =
     (cond b ((record { first = n; after = n + size }) ∷ numbers_from test (n + size) parts)
     (numbers_from test (n + size) parts))) [ true ↦ (omega arith, later) | false ↦ later ]
 
--- these numbers are those of tokens
+-- The ranges are within the tokens.
 pub numbers-within : (test : PartKind → Bool) (parts : List Part)
     → All (λ (p : declared.Part). p.after ≤ length (all_tokens parts)) (numbers_where test parts)
 numbers-within test parts = All-from_recursion (λ (p : declared.Part). p.after ≤ length (all_tokens parts))
@@ -69,7 +69,7 @@ some_from : (test : PartKind → Bool) (parts : List Part) (n : ℕ)
 some_from test [] n = (λ h. cc, λ h. absurd (let none : ⊥ = omega arith in none))
 some_from test (p ∷ parts) n = grind (arith, some_from test parts (n + length p.tokens), test p.kind)
 
--- there are numbers exactly where a part passes the test
+-- There is a range exactly if a part passes the test.
 pub numbers-some : (test : PartKind → Bool) (parts : List Part)
     → (list_any (λ (p : Part). test p.kind) parts ≡ true → 0 < length (numbers_where test parts))
     × (0 < length (numbers_where test parts) → list_any (λ (p : Part). test p.kind) parts ≡ true)

@@ -1,4 +1,4 @@
--- What becomes of parts that are runs of a list of tokens.
+-- Changes of parts that are ranges of one list of tokens.
 use Rattle.cweb_store.proofs.Common.{◌≡◌, ℕ, ◌+◌, ◌-◌, ◌≤◌, ◌<◌, List, [], ◌∷◌, ◌++◌, Some, None, Option, map, length, take, drop, refl, sym, ◌∙◌, ap, subst, arith, append_assoc, append-nil, length-append, length-drop, option_map, IsSome, take-append-drop, take_all, map-append, flat_map-append, PartKind, PartRange, Token, Part, all_tokens, all_parts, with_pushed_token, too_many, ranges_from, IsWhole, closed_in}
 use Rattle.std.specs.Prelude.{slice_range}
 use Rattle.std.proofs.Math.Seq.{drop-length, length-take-le}
@@ -6,7 +6,6 @@ use Rattle.std.proofs.lemmas.List.{drop-drop, drop-append-le, take-append-le, dr
 use Rattle.cweb_store.specs.declared.parts.Open.{Open}
 use Rattle.cweb_store.specs.inner.PartRanges.{last_range, open_in, parts_in, RangesFollow, ArePartRanges}
 
--- a range that ends within the first n tokens is a range of these
 slice_range-take : (ts : List Token) (n i j : ℕ) → j ≤ n → slice_range (take n ts) i j ≡ slice_range ts i j
 slice_range-take ts n i j h = grind (arith, drop-take i (n - i) ts, take-take (j - i) (n - i) (drop i ts) (omega arith))
 
@@ -14,7 +13,7 @@ pub Follow-le : (n end : ℕ) (ranges : List PartRange) → RangesFollow n range
 Follow-le n end [] h = omega arith
 Follow-le n end (r ∷ ranges) h = omega (arith, h.1, Follow-le r.part.after end ranges h.2)
 
--- parts within the first tokens stay where these tokens stay
+-- Parts within a prefix of the tokens depend on that prefix only.
 parts-add_string : (ranges : List PartRange) (ts us : List Token) (n end : ℕ) → RangesFollow n ranges end
     → take end ts ≡ take end us → map (closed_in ts) ranges ≡ map (closed_in us) ranges
 parts-add_string [] ts us n end h same = refl
@@ -27,7 +26,7 @@ parts-add_string (r ∷ ranges) ts us n end h same =
       parts-add_string ranges ts us r.part.after end h.2 same,
     )
 
--- the numbers of the parts are those of the runs
+-- The ranges of the parts.
 pub runs_from-parts : (ranges : List PartRange) (ts : List Token) (n end : ℕ)
     → RangesFollow n ranges end → end ≤ length ts → ranges_from n (map (closed_in ts) ranges) ≡ ranges
 runs_from-parts [] ts n end h within = refl
@@ -43,7 +42,7 @@ runs_from-parts (r ∷ ranges) ts n end h within =
 slice_range-drop : (ts : List Token) (n i j : ℕ) → i ≡ n → n ≤ j → slice_range ts i j ++ drop j ts ≡ drop n ts
 slice_range-drop ts n i j same le = grind (arith, drop-drop (j - i) i ts, take-append-drop (j - i) (drop i ts))
 
--- the tokens of the closed parts, followed by the others, are all tokens
+-- The tokens of the closed parts, followed by the others, are all tokens.
 closed-whole : (ranges : List PartRange) (ts : List Token) (n end : ℕ) → RangesFollow n ranges end
     → end ≤ length ts → all_tokens (map (closed_in ts) ranges) ++ drop end ts ≡ drop n ts
 closed-whole [] ts n end h within = ap (λ k. drop k ts) (sym h)
@@ -87,7 +86,7 @@ Follow-push : (n end after : ℕ) (ranges : List PartRange) (kind : PartKind) �
 Follow-push n end after [] kind h le = (sym h, omega arith, refl)
 Follow-push n end after (r ∷ ranges) kind h le = (h.0, h.1, Follow-push r.part.after end after ranges kind h.2 le)
 
--- the open part as it stands, closed
+-- The open part becomes closed, unchanged.
 pub close-parts : (ts : List Token) (ranges : List PartRange) (o : Open) (places : ℕ)
     → ArePartRanges ts ranges (Some o) places
     → parts_in ts (ranges ++ last_range o (length ts) ∷ []) None
@@ -113,7 +112,7 @@ close-are ts ranges o places more tied =
       length-append ranges (last_range o (length ts) ∷ []),
     )
 
--- the open part loses its last tokens
+-- The open part loses its last tokens.
 cut-closed : (ts : List Token) (ranges : List PartRange) (o : Open) (places n : ℕ)
     → ArePartRanges ts ranges (Some o) places
     → o.first ≤ n → map (closed_in (take n ts)) ranges ≡ map (closed_in ts) ranges
@@ -130,7 +129,7 @@ pub cut-are : (ts : List Token) (ranges : List PartRange) (o : Open) (places n :
     → o.first ≤ n → n ≤ length ts → ArePartRanges (take n ts) ranges (Some o) places
 cut-are ts ranges o places n tied le within = grind (arith, length-take-le n ts within)
 
--- the open part is closed when it has lost its last tokens
+-- The open part loses its last tokens and is closed.
 pub close-cut : (ts : List Token) (ranges : List PartRange) (o : Open) (places n : ℕ) (p : Part)
     → ArePartRanges ts ranges (Some o) places → o.first ≤ n → n ≤ length ts → open_in (take n ts) o ≡ p →
     parts_in (take n ts) (ranges ++ last_range o n ∷ []) None
@@ -150,7 +149,7 @@ close-cut-are ts ranges o places more n tied le within =
     subst (λ (k : ℕ). ArePartRanges (take n ts) (ranges ++ last_range o k ∷ []) None more) (length-take-le n ts within)
     (close-are (take n ts) ranges o places more (cut-are ts ranges o places n tied le within))
 
--- all tokens of parts that are all closed
+-- Closed parts cover all tokens.
 pub whole-tokens : (ts : List Token) (ranges : List PartRange) → IsWhole ts ranges
     → all_tokens (map (closed_in ts) ranges) ≡ ts
 whole-tokens ts ranges tied = sym (append-nil (all_tokens (map (closed_in ts) ranges)))

@@ -1,4 +1,4 @@
--- Records whose places are numbered in order.
+-- Records whose place indices are consecutive.
 use Rattle.cweb_store.proofs.Common.{◌≡◌, ℕ, zero, suc, ◌+◌, ◌≤◌, ◌<◌, true, false, cond, List, [], ◌∷◌, ◌++◌, Some, map, length, take, drop, refl, sym, subst, ap, arith, slice_get, map-append, take-append_seam, direct_bytes}
 use Rattle.cweb_files.specs.declared.place.Place.{Place}
 use Rattle.cweb_store.specs.declared.tokens.records.Record.{Record}
@@ -15,7 +15,6 @@ numbered-le n end (r ∷ rs) h = omega (arith, numbered-le (n + places_of r) end
 one-place : (r : Record) → places_of r ≤ 1
 one-place r = elim (has_place r) as (λ b. cond b 1 0 ≤ 1) [ true ↦ omega arith | false ↦ omega arith ]
 
--- there are no more places than records
 pub numbered-few : (n end : ℕ) (rs : List Record) → AreNumbered n rs end → end ≤ n + length rs
 numbered-few n end [] h = omega (arith, h)
 numbered-few n end (r ∷ rs) h = omega (arith, one-place r, numbered-few (n + places_of r) end rs h.1)
@@ -25,7 +24,7 @@ pub numbered-push : (n end : ℕ) (rs : List Record) (r : Record) → AreNumbere
 numbered-push n end [] r h at = (subst (λ k. PlaceHasNumber k r) (sym h) at, ap (λ k. k + places_of r) h)
 numbered-push n end (q ∷ rs) r h at = (h.0, numbered-push (n + places_of q) end rs r h.1 at)
 
--- the places of the first records, and of the others
+-- The places of the first records, and of the others.
 pub record Split (from : ℕ) (count : ℕ) (rs : List Record) (end : ℕ) : Type 0 where
   pub number : ℕ
   pub front : AreNumbered from (take count rs) number
@@ -51,14 +50,14 @@ interned-take : (places : List Place) (n from : ℕ) (r : Record) → PlaceHasNu
 interned-take places n from (record_of.Mark k) at h = ap packed.Mark (at-take places n k (omega (arith, at, h)))
 interned-take places n from _ at h = refl
 
--- the places behind those of records don't count
+-- Places after those of the records don't matter.
 pub cut : (places : List Place) (from n : ℕ) (rs : List Record) → AreNumbered from rs n
     → map (interned_of_record (take n places)) rs ≡ map (interned_of_record places) rs
 cut places from n [] h = refl
 cut places from n (r ∷ rs) h = λ i. interned-take places n from r h.0
     (numbered-le (from + places_of r) n rs h.1) i ∷ cut places (from + places_of r) n rs h.1 i
 
--- one more
+-- One more record.
 pub push-interned : (old new : List Place) (rs : List Record) (r : Record)
     → AreNumbered 0 rs (length old) → AddsPlace old r new
     → map (interned_of_record new) (rs ++ r ∷ []) ≡ map (interned_of_record old) rs ++ interned_of_record new r ∷ []
@@ -69,7 +68,6 @@ pub push-numbered : (old new : List Place) (rs : List Record) (r : Record)
     → AreNumbered 0 rs (length old) → AddsPlace old r new → AreNumbered 0 (rs ++ r ∷ []) (length new)
 push-numbered old new rs r all is = grind (arith, numbered-push 0 (length old) rs r all is.at)
 
--- a record at a number
 pub record-at : (places : List Place) (from end : ℕ) (rs : List Record) (i : ℕ) (r : Record) → AreNumbered from rs end
     → slice_get rs i ≡ Some r → PlaceIsWithin end r
     × (slice_get (map (interned_of_record places) rs) i ≡ Some (interned_of_record places r))
@@ -93,7 +91,7 @@ record-at places from end (q ∷ rs) zero r all h =
     within (record_of.Mark k) from end at h = omega (arith, at, h)
 record-at places from end (q ∷ rs) (suc i) r all h = record-at places (from + places_of q) end rs i r all.1 h
 
--- what a record lends is told without the places, and so is whether its text is among so many
+-- The bytes of a record, and whether its string is in the table, don't depend on the places.
 pub lends-alone : (strings : List (List ℕ)) (places : List Place) (r : Record)
     → direct_bytes (token_of_interned strings (interned_of_record [] r))
     ≡ direct_bytes (token_of_interned strings (interned_of_record places r))

@@ -1,4 +1,4 @@
--- The definitions, computed on small lists of calls.
+-- Worked examples of the definitions.
 use Rattle.cweb_store.proofs.Common.{◌≡◌, ℕ, List, [], ◌∷◌, ◌++◌, Some, None, map, true, false, codes, Ok, Err, How, Full, Prefix, NameFault, Ambiguous, NeverFull, PrefixOfAnother, NotPresent, NameRef, PartKind, Unnamed, Named, Macro, Occurrence, id, names, spellings, resolutions, files, Token, Word, Punct, Mark, Blank, Newline, joined_where, is_of, is_unnamed, is_macro, numbers_where, has_defs_code, is_defs, replacement, replacement_of, fault_of_name, faults, left_of_macro, is_name_use, token_numbers, uninterned_store_bytes, interned_store_bytes, Call, Occurs, Opens, Pushes, Drops, Closes, Transliterates, Stored, contents, finished, occurrence_of}
 use Rattle.cweb_store.specs.Parts.{Number, Name, Join, Defs}
 
@@ -36,22 +36,22 @@ abbrev prefixed : List Call
 prefixed = Occurs (occurrence_of (codes "ab") Full false) ∷ Opens (named 0) ∷ Pushes (Word (codes "x")) ∷ Closes
     ∷ Occurs (occurrence_of (codes "abc") Full false) ∷ Opens (named 1) ∷ Pushes (Word (codes "y")) ∷ Closes ∷ []
 
--- B is used by a part that belongs to no name
+-- The part that uses B has an unresolved name.
 abbrev of_no_name : List Call
 of_no_name =
     Occurs zz ∷ Opens (named 0) ∷ Occurs (occurrence_of (codes "B") Full false) ∷ Pushes (Name (ref 1)) ∷ Closes ∷ []
 
--- first what stands for nothing, then prefixes of others, then what is missed, each in order
+-- Unresolved occurrences, then prefixes of other names, then names without a part.
 abbrev in_order : List Call
 in_order = Occurs (header Full (codes "Glob")) ∷ Occurs (header Full (codes "Global")) ∷ Occurs zz ∷ Occurs glob ∷ []
 
--- a part of A, a part of the program, and a part of A that is still open
+-- A part of A, a part of the program, and an open part of A.
 abbrev joins : List Call
 joins = Occurs (occurrence_of (codes "A") Full false) ∷ Opens (named 0) ∷ Pushes (Word (codes "a")) ∷ Pushes Blank
     ∷ Closes ∷ Opens Unnamed ∷ Occurs (occurrence_of (codes "A") Full false) ∷ Pushes (Name (ref 1)) ∷ Closes ∷ Occurs
     (occurrence_of (codes "A") Full false) ∷ Opens (named 2) ∷ Pushes (Word (codes "b")) ∷ []
 
--- the tokens of a part of a kind that is given tokens, loses its last layout, and is closed
+-- The tokens of a part after its trailing layout is dropped and it is closed.
 abbrev dropped_of : PartKind → List Token → List Token
 dropped_of kind tokens = joined_where (λ k. true) (stored (Opens kind ∷ map Pushes tokens ++ Drops ∷ [])).parts
 
@@ -64,7 +64,7 @@ mark = Mark (record { file = record { 0 = 0 }; line = 1 })
 abbrev x : Token
 x = Word (codes "x")
 
--- a macro is no C text: its Defs and its uses don't count
+-- A macro is no C text: its Defs and uses don't count.
 abbrev in_a_macro : List Call
 in_a_macro = Occurs (occurrence_of (codes "A") Full false) ∷ Opens Macro ∷ Pushes Defs ∷ Pushes (Name (ref 0)) ∷ []
 
@@ -72,29 +72,29 @@ abbrev replaced : List Call
 replaced = Transliterates (replacement_of 196 (codes "Ae")) ∷ Transliterates
     (replacement_of 228 (codes "ae")) ∷ Transliterates (replacement_of 196 (codes "A")) ∷ []
 
--- equal Words are kept once, and a Number that is spelled like one besides
+-- Equal Words are stored once. A Number with the same bytes is stored separately.
 abbrev three_times : List Call
 three_times = Opens Unnamed ∷ Pushes x ∷ Pushes x ∷ Pushes x ∷ []
 
--- and so are punctuators, of which one may be spelled like a Word
+-- Punctuators are stored once too. One may have the bytes of a Word.
 abbrev arrow : Token
 arrow = Punct (codes "->")
 
--- what is noted of tokens
+-- Entries of the token index.
 abbrev noted : List Token
 noted = Blank ∷ Name (ref 0) ∷ Defs ∷ Name (ref 1) ∷ []
 
 record Computed : Type 0 where
-  -- an abbreviation before the only name that it fits stands for it
+  -- An abbreviation before the only name that matches.
   before_the_only_name : resolutions (glob ∷ variables ∷ []) ≡ Ok (id 0) ∷ Ok (id 0) ∷ []
   before_two_names : resolutions (glob ∷ variables ∷ types ∷ []) ≡ Err Ambiguous ∷ Ok (id 0) ∷ Ok (id 1) ∷ []
-  -- what comes later doesn't count where an earlier name fits
+  -- A later name doesn't count if an earlier one matches.
   between_two_names : resolutions (variables ∷ glob ∷ types ∷ []) ≡ Ok (id 0) ∷ Ok (id 0) ∷ Ok (id 1) ∷ []
   after_two_names : resolutions (variables ∷ types ∷ glob ∷ []) ≡ Ok (id 0) ∷ Ok (id 1) ∷ Err Ambiguous ∷ []
   never_in_full : resolutions (zz ∷ []) ≡ Err NeverFull ∷ []
   given_twice : spellings (names (variables ∷ types ∷ variables ∷ []))
       ≡ codes "Global variables" ∷ codes "Global types" ∷ []
-  -- a file name may be given in full elsewhere, and as a file's by an abbreviation
+  -- A file's name may be given in full elsewhere, and abbreviated as a file's.
   by_abbreviation : files (occurrence_of (codes "a.h") Full
       false ∷ header Full (codes "b.h") ∷ header Prefix (codes "a") ∷ header Full (codes "b.h") ∷ []) ≡ id 1 ∷ id 0 ∷ []
   a_prefix_of_another : faults_of prefixed ≡ fault_of_name PrefixOfAnother 0 ∷ []
@@ -109,14 +109,14 @@ record Computed : Type 0 where
       ≡ (record { first = 0; after = 2 }) ∷ (record { first = 3; after = 4 }) ∷ []
   layout_of_a_part : dropped_of Unnamed (Blank ∷ x ∷ Blank ∷ mark ∷ Newline ∷ []) ≡ Blank ∷ x ∷ []
   layout_alone : dropped_of Unnamed (Blank ∷ Newline ∷ []) ≡ []
-  -- layout stays where something else follows it
+  -- Layout before another token stays.
   layout_before_a_join : dropped_of Unnamed (Newline ∷ Join ∷ []) ≡ Newline ∷ Join ∷ []
   layout_of_a_macro_of_one : dropped_of Macro (Blank ∷ []) ≡ Blank ∷ []
   layout_of_a_macro_of_two : dropped_of Macro (x ∷ Blank ∷ []) ≡ x ∷ Blank ∷ []
   two_layout_tokens_of_a_macro : left_of_macro (Newline ∷ Blank ∷ Blank ∷ Newline ∷ []) ≡ Newline ∷ Blank ∷ []
   layout_of_a_macro_of_three : dropped_of Macro (x ∷ Blank ∷ Newline ∷ []) ≡ x ∷ Blank ∷ []
   end_of_a_macro : closed_of Macro (x ∷ Blank ∷ x ∷ Blank ∷ Blank ∷ Newline ∷ Newline ∷ []) ≡ x ∷ Blank ∷ x ∷ Blank ∷ []
-  -- a Blank is dropped once, and no Newline before it
+  -- One Blank is dropped, and no Newline before it.
   blank_of_a_macro : closed_of Macro (x ∷ Newline ∷ Blank ∷ []) ≡ x ∷ Newline ∷ []
   end_of_a_part : closed_of Unnamed (x ∷ Blank ∷ Newline ∷ []) ≡ x ∷ Blank ∷ Newline ∷ []
   defs_of_a_macro : has_defs_code (stored in_a_macro).parts ≡ false

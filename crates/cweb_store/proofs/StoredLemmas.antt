@@ -1,4 +1,4 @@
--- What a store stands for, by what it keeps: tokens, occurrences and names.
+-- The model of a store, from its tokens, occurrences and names.
 use Rattle.cweb_store.proofs.Common.{◌≡◌, ℕ, zero, suc, ◌+◌, ◌<◌, Bool, List, [], ◌∷◌, ◌++◌, Option, Some, map, length, drop, refl, sym, ◌∙◌, ap, subst, arith, length-append, append_assoc, append-nil, get_or, slice_get, option_map, length-map, drop-append_seam, NameId, NameFault, OccurrenceForm, PartRange, Links, Occurrence, Name, Resolution, with_full_name, with_occurrence_name, names_from, names, Token, Replacement, IsWhole, closed_in, stored, too_many, AreAnswers, AreLinked, occurrence_text, replacement_bytes, ClosedTokensModel, tokens_alone, with_strings, occurrence_form, occurrences_at, replacements_at, stored_in, AreLast, AreStored}
 use Rattle.cweb_store.proofs.RangeLemmas.{drop-here}
 
@@ -36,7 +36,7 @@ all_texts-are : (ts : List Token) (os : List Occurrence) (rs : List Replacement)
 all_texts-are ts os rs =
     grind (arith, with_texts-is (map occurrence_text os) (tokens_alone ts), with_texts-is (map replacement_bytes rs))
 
--- what is packed stands for what was given
+-- The representation has the model of what was added.
 pub stored-is : (ts : List Token) (ranges : List PartRange) (os : List Occurrence) (rs : List Replacement)
     → stored_in (all_texts ts os rs) ranges (map occurrence_form os) (map (λ r. r.byte) rs)
     ≡ stored os (map (closed_in ts) ranges) rs
@@ -80,7 +80,6 @@ stored-are ts ranges links os rs last_places firsts resolutions files faults has
     last_places firsts resolutions files faults has_defs)
     (sym (all_texts-are ts os rs)) flat
 
--- the texts of occurrences
 pub occurrence-text : (ts : List (List ℕ)) (gs : List OccurrenceForm) (k : ℕ) → k < length (occurrences_at ts gs)
     → option_map (λ (o : Occurrence). o.text) (slice_get (occurrences_at ts gs) k) ≡ slice_get ts k
 occurrence-text ts [] k h = absurd (let none : ⊥ = omega arith in none)
@@ -88,7 +87,7 @@ occurrence-text [] (g ∷ gs) k h = absurd (let none : ⊥ = omega arith in none
 occurrence-text (t ∷ ts) (g ∷ gs) zero h = refl
 occurrence-text (t ∷ ts) (g ∷ gs) (suc k) h = occurrence-text ts gs k (omega arith)
 
--- a name's text is that of the occurrence that first gave it
+-- The bytes of a name are those of its first occurrence.
 abbrev FirstGives : List Occurrence → Name → Type 0
 FirstGives os n = option_map (λ (o : Occurrence). o.text) (slice_get os n.first) ≡ Some n.text
 

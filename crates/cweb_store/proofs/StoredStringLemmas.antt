@@ -1,11 +1,11 @@
--- The texts of a store: what bytes are replaced by, and how many bytes all texts have.
+-- The strings of a store: replacements, and the number of bytes.
 use Rattle.cweb_store.proofs.Common.{◌≡◌, ℕ, suc, ◌+◌, ◌≤◌, ◌<◌, Bool, true, false, List, [], ◌∷◌, ◌++◌, Option, Some, None, map, length, drop, refl, sym, ◌∙◌, ap, subst, arith, flat_map, slice_get, option_and_then, nat_eq, if◌then◌else◌, OccurrenceForm, PartRange, Token, all_tokens, replaced_by, replacement, IsWhole, closed_in, Stored, total, token_strings, interned_token_bytes, occurrence_text, replacement_bytes, stored_strings, uninterned_store_bytes, interned_store_bytes, AreSpansOf, AreInOneList, ClosedTokensModel, occurrences_at, replacements_at, last_from, stored_in}
 use Rattle.cweb_store.proofs.RangeLemmas.{drop-here}
 use Rattle.cweb_store.proofs.WordLemmas.{kept-few}
 use Rattle.cweb_store.proofs.TokenStringLemmas.{all-drop, all-both}
 use Rattle.cweb_store.proofs.PartRangeLemmas.{whole-tokens}
 
--- the text for a byte is the last that was given for it
+-- The replacement of a byte is the last one.
 abbrev pub at_last : List (List ℕ) → Option ℕ → Option (List ℕ)
 at_last ts found = option_and_then (slice_get ts) found
 
@@ -40,7 +40,7 @@ last_from-within byte i n found (b ∷ bs) k early h is = last_from-within byte
 pub last-within : (byte : ℕ) (bs : List ℕ) (k : ℕ) → last_from byte None 0 bs ≡ Some k → k < length bs
 last-within byte bs k is = last_from-within byte 0 (length bs) None bs k (λ j e. cc) (omega arith) is
 
--- the texts of a store stand where its other texts stand
+-- The strings of occurrences are among the other strings.
 occurrences-stand : (bytes : List ℕ) (ts : List (List ℕ)) (gs : List OccurrenceForm)
     → AreSpansOf bytes ts → AreSpansOf bytes (map occurrence_text (occurrences_at ts gs))
 occurrences-stand bytes ts [] h = tt
@@ -78,7 +78,7 @@ store-strings n c ranges given replaced whole all =
           (map occurrence_text os ++ map replacement_bytes rs) tokens others;
     }
 
--- as many bytes as the other texts have
+-- The number of bytes of the other strings.
 replacements-total : (ts : List (List ℕ)) (bs : List ℕ) → length ts ≡ length bs
     → total length ts ≡ total length (map replacement_bytes (replacements_at ts bs))
 replacements-total [] [] h = refl
@@ -100,7 +100,7 @@ pub store-bytes : (c : ClosedTokensModel) (ranges : List PartRange) (given : Lis
 store-bytes c ranges given replaced whole size =
     cc (whole-tokens c.tokens ranges whole, others-total c.others given replaced size)
 
--- equal Words that are kept once make the bytes fewer
+-- Interning never needs more bytes.
 pub bytes-few : (s : Stored) → interned_store_bytes s ≤ uninterned_store_bytes s
 bytes-few s = omega (arith, kept-few (all_tokens s.parts))
 

@@ -1,17 +1,17 @@
--- The numbers of the tokens that pass a test: of more tokens, of the first ones, and of those behind.
+-- Indices of passing tokens: after an append, of a prefix, and of a suffix.
 use Rattle.cweb_store.proofs.Common.{◌≡◌, ◌≤◌, ◌<◌, ◌+◌, ℕ, zero, suc, Bool, true, false, cond, List, [], ◌∷◌, ◌++◌, length, take, drop, get_or, refl, sym, ◌∙◌, ap, subst, arith, append-nil, if◌then◌else◌, Token, token_numbers}
 use Rattle.std.proofs.Common.{ltb, lt-ltb, one-add}
 use Rattle.std.specs.Prelude.{nat_lt}
 use Rattle.std.specs.List.{prefix_len}
 use Rattle.std.specs.List.Sorted.{IsNonDecreasing, IsPartitionPoint}
 
--- one more token
+-- One more token.
 pub numbers-push : (test : Token → Bool) (n : ℕ) (ts : List Token) (t : Token)
     → token_numbers test n (ts ++ t ∷ []) ≡ token_numbers test n ts ++ (if test t then (n + length ts) ∷ [] else [])
 numbers-push test n [] t = grind arith
 numbers-push test n (u ∷ us) t = grind (arith, numbers-push test (n + 1) us t, test u)
 
--- the numbers rise from the first token's on
+-- The indices ascend from the first token's on.
 from-cons : (n : ℕ) (xs : List ℕ) (k d : ℕ)
     → ((j : ℕ) → j < length xs → n ≤ get_or xs j d) → k < length (n ∷ xs) → n ≤ get_or (n ∷ xs) k d
 from-cons n xs zero d later h = omega arith
@@ -31,7 +31,7 @@ pub numbers-rise : (test : Token → Bool) (n : ℕ) (ts : List Token) → IsNon
 numbers-rise test n [] = λ i j d le h. absurd (let none : ⊥ = omega arith in none)
 numbers-rise test n (t ∷ ts) = grind (arith, test t, numbers-from test (n + 1) ts, numbers-rise test (n + 1) ts)
 
--- where numbers that rise come to a bound
+-- The point at which ascending numbers reach a bound.
 pub point-is : (xs : List ℕ) (bound i : ℕ) → i ≤ length xs
     → IsPartitionPoint (λ x. ltb x bound ≡ true) (λ x. ltb x bound ≡ false) xs i
     → i ≡ prefix_len (λ x. nat_lt x bound) xs
@@ -48,7 +48,7 @@ none-below : (test : Token → Bool) (n bound : ℕ) (ts : List Token) → bound
 none-below test n bound [] le = refl
 none-below test n bound (t ∷ ts) le = grind (arith, test t, none-below test (n + 1) bound ts (omega arith))
 
--- the numbers below a bound are those of the first tokens, and the others are those of the rest
+-- Numbers below a bound belong to the prefix, the others to the suffix.
 pub record AreCut (test : Token → Bool) (n k bound : ℕ) (ts : List Token) : Type 0 where
   pub front : take (prefix_len (λ x. nat_lt x bound) (token_numbers test n ts)) (token_numbers test n ts)
       ≡ token_numbers test n (take k ts)
@@ -89,7 +89,7 @@ numbers-cut test n (suc k) bound (t ∷ ts) e =
           ];
     }
 
--- what is noted where one more token comes
+-- The index after one more token.
 abbrev pub with-number : List ℕ → Bool → ℕ → List ℕ
 with-number xs b k = xs ++ (if b then k ∷ [] else [])
 

@@ -1,4 +1,4 @@
--- The tokens of a builder's parts are those that were pushed, but for layout that was dropped.
+-- The tokens of a builder's parts are those that were pushed, less dropped layout.
 use Rattle.cweb_store.proofs.Common.{arith, ◌≡◌, inl, inr, Bool, true, false, List, [], ◌∷◌, ◌++◌, Some, None, refl, sym, ◌∙◌, ap, subst, append_assoc, append-nil, IsSome, IsNone, if◌then◌else◌, fold, filter_map, option_map, option_to_list, flat_map-append, PartKind, Token, Blank, Newline, Mark, Part, all_tokens, is_macro, without_last, without_blank, without_layout, at_close, is_layout, is_newline, is_blank, PartsSoFar, all_parts, with_opened_part, with_pushed_token, with_dropped_layout, with_closed_part, part_with_token, Call, Occurs, Opens, Pushes, Drops, Closes, Transliterates, Contents, after_call, empty, AllPass, IsTokenPrefix, AreInPlace, IsLeftOfTokens, TokensAreThosePushed}
 use Rattle.cweb_store.specs.laws.TokenLaws.{token_of_call}
 use Rattle.cweb_store.proofs.LayoutLawLemmas.{without_last-front, dropping_keeps_the_prefix}
@@ -73,7 +73,7 @@ left-closed p = elim (is_macro p.kind) as (λ b. IsLeftOfTokens p.tokens
 tokens-last : (ps : List Part) (p : Part) → all_tokens (ps ++ p ∷ []) ≡ all_tokens ps ++ p.tokens
 tokens-last ps p = simp (flat_map-append {X = Part} {A = Token}, append-nil)
 
--- the last part is changed
+-- A change of the last part.
 left-last : (ps : List Part) (p q : Part) → IsLeftOfTokens p.tokens q.tokens
     → IsLeftOfTokens (all_tokens (ps ++ p ∷ []) ++ []) (all_tokens (ps ++ q ∷ []))
 left-last ps p q h =

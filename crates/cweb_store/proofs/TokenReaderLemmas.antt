@@ -1,4 +1,4 @@
--- What tokens lend, told from their records and the texts.
+-- The bytes of tokens, from their records and strings.
 use Rattle.cweb_store.proofs.Common.{◌≡◌, ℕ, List, [], ◌∷◌, Some, map, length, ◌∙◌, ap, option_map, slice_get, slice_get-map, direct_bytes}
 use Rattle.cweb_files.specs.declared.place.Place.{Place}
 use Rattle.cweb_store.specs.declared.tokens.records.Record.{Record}
@@ -8,7 +8,7 @@ use Rattle.cweb_store.specs.inner.Records.{interned_of_record}
 use Rattle.cweb_store.proofs.InternedTokenLemmas.{interned-at}
 use Rattle.cweb_store.proofs.RecordLemmas.{lends-alone, within-alone}
 
--- what records lend is what their tokens do
+-- Records have the bytes of their tokens.
 pub direct-by : (strings : List (List ℕ)) (places : List Place) (rs : List Record)
     → direct_bytes_of_records strings rs
     ≡ map direct_bytes (map (token_of_interned strings) (map (interned_of_record places) rs))
@@ -21,7 +21,7 @@ interned-alone strings places [] all = tt
 interned-alone strings places (r ∷ rs) all =
     (within-alone (length strings) places r all.0, interned-alone strings places rs all.1)
 
--- the record with a number has its text, and lends this
+-- A record has its string in the table, and these bytes.
 pub record-within : (strings : List (List ℕ)) (rs : List Record) (n : ℕ) (r : Record)
     → RecordStringsAreWithin strings rs → slice_get rs n ≡ Some r
     → StringIsWithin (length strings) (interned_of_record [] r)

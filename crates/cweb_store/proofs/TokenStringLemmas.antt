@@ -1,4 +1,4 @@
--- Texts in one list of bytes, and how many bytes tokens and texts have.
+-- Strings in one list of bytes, and how many bytes tokens and strings have.
 use Rattle.cweb_store.proofs.Common.{◌≡◌, ℕ, zero, suc, ◌+◌, ◌<◌, ◌≤◌, Bool, List, [], ◌∷◌, ◌++◌, map, length, take, drop, refl, sym, ◌∙◌, ap, arith, length-append, append_assoc, flat_map, filter, bytes_eq, list_any, take-append-drop, Token, total, token_strings, interned_token_bytes, AreSpansOf, AreInOneList}
 use Rattle.std.proofs.lemmas.List.{drop-append-le, take-append-le, take-map}
 use Rattle.std.proofs.lemmas.List.Elements.{filter-append}
@@ -70,7 +70,7 @@ bytes-split own ts =
       total-append length (take own ts) (drop own ts),
     )
 
--- one more token
+-- One more token.
 pub packs-are : (old new : StringTableModel) (ps : List InternedToken) (t : Token) (p : InternedToken)
     → AreTokens old ps → InternsToken old t p new → AreTokens new (ps ++ p ∷ [])
 packs-are old new ps t p all packs =
@@ -112,7 +112,7 @@ packs-are old new ps t p all packs =
           );
     }
 
--- fewer tokens with the same texts
+-- Fewer tokens with unchanged strings.
 pub truncate-are : (kept : StringTableModel) (ps : List InternedToken) (n : ℕ) → AreTokens kept ps
     → filter has_string (take n (map (token_of_interned kept.strings) ps))
     ≡ filter has_string (map (token_of_interned kept.strings) ps)
@@ -130,12 +130,12 @@ pub filter-few : {A : Type 0} (p : A → Bool) (xs : List A) → length (filter 
 filter-few p [] = omega arith
 filter-few p (x ∷ xs) = grind (arith, p x, filter-few p xs)
 
--- there are no more texts than tokens
+-- There are no more strings than tokens.
 pub strings-few : (kept : StringTableModel) (ps : List InternedToken) → AreTokens kept ps
     → length kept.strings ≤ length (map (token_of_interned kept.strings) ps)
 strings-few kept ps all = omega (arith, all.few, filter-few has_string (map (token_of_interned kept.strings) ps))
 
--- one more of the other texts
+-- One more of the other strings.
 pub closed-add : (strings : List (List ℕ)) (t : List ℕ) (ps : List InternedToken) (own : ℕ)
     → AreClosed strings ps own → AreClosed (strings ++ t ∷ []) ps own
 closed-add strings t ps own all =
@@ -152,7 +152,7 @@ pub closed-added : (strings : List (List ℕ)) (t : List ℕ) (ps : List Interne
 closed-added strings t ps own all =
     cc (tokens-grow strings (t ∷ []) ps all.interned, drop-append-le own strings (t ∷ []) all.within)
 
--- all texts in one list of bytes
+-- All strings are in one list of bytes.
 pub all-strings : (strings : List (List ℕ)) (ps : List InternedToken) (own n : ℕ) → AreClosed strings ps own
     → n ≡ length (text_bytes strings)
     → AreInOneList n (flat_map token_strings (map (token_of_interned strings) ps) ++ drop own strings)

@@ -1,4 +1,4 @@
--- Words and punctuators that are kept once, and how many bytes of tokens are kept.
+-- Words and punctuators that are stored once, and how many bytes of tokens are stored.
 use Rattle.cweb_store.proofs.Common.{◌≡◌, ℕ, ◌+◌, ◌≤◌, cond, List, [], ◌∷◌, ◌++◌, length, refl, sym, ◌∙◌, ap, arith, bytes_eq, filter, fold, list_any, Token, Word, Punct, Blank, Newline, Mark, total, interned_token_bytes}
 use Rattle.std.proofs.lemmas.List.Sums.{fold-append}
 use Rattle.cweb_texts.specs.surface.StringTables.{with_word}
@@ -7,7 +7,7 @@ use Rattle.cweb_store.specs.surface.TokenStrings.{token_size, with_word_of, word
 use Rattle.cweb_store.specs.Parts.{Number, Literal, Verbatim, Join, Defs, Name, Head, Tail}
 use Rattle.cweb_texts.proofs.WordLemmas.{total-append, with-word-any}
 
--- where words are the same in some order, one more token makes the same of them
+-- One more token preserves that two lists of words are permutations of each other.
 pub same-more : (ws vs : List (List ℕ)) (t : Token)
     → ((q : List ℕ) → list_any (bytes_eq q) ws ≡ list_any (bytes_eq q) vs)
     → (q : List ℕ) → list_any (bytes_eq q) (with_word_of ws t) ≡ list_any (bytes_eq q) (with_word_of vs t)
@@ -19,7 +19,7 @@ word-bytes : (ws : List (List ℕ)) (w : List ℕ)
     → total length (with_word ws w) ≡ total length ws + cond (list_any (bytes_eq w) ws) 0 (length w)
 word-bytes ws w = grind (arith, total-append length ws (w ∷ []))
 
--- and as many bytes more
+-- It adds the same number of bytes to both.
 pub same-more-bytes : (ws vs : List (List ℕ)) (t : Token)
     → ((q : List ℕ) → list_any (bytes_eq q) ws ≡ list_any (bytes_eq q) vs)
     → total length (with_word_of ws t) + total length vs ≡ total length (with_word_of vs t) + total length ws
@@ -29,11 +29,10 @@ same-more-bytes ws vs (Punct b) same =
     omega (arith, word-bytes ws b, word-bytes vs b, ap (λ v. cond v 0 (length b)) (same b))
 same-more-bytes ws vs _ same = omega arith
 
--- one more token
 pub words-push : (ts : List Token) (t : Token) → words_of (ts ++ t ∷ []) ≡ with_word_of (words_of ts) t
 words-push ts t = fold-append with_word_of [] ts (t ∷ [])
 
--- tokens without a text add no word and no bytes
+-- Tokens without a string add no word and no bytes.
 words-strings : (ws : List (List ℕ)) (ts : List Token)
     → fold with_word_of ws (filter has_string ts) ≡ fold with_word_of ws ts
 words-strings ws [] = refl
@@ -75,7 +74,7 @@ pub same-bytes : (ts us : List Token) → filter has_string ts ≡ filter has_st
 same-bytes ts us same = omega
     (arith, ap (total length) (same-words ts us same), other-strings ts, other-strings us, ap (total other_bytes) same)
 
--- no more bytes are kept than were given
+-- Interning stores no more bytes than were added.
 word-few : (ws : List (List ℕ)) (b : List ℕ) → total length (with_word ws b) ≤ total length ws + length b
 word-few ws b = grind (arith, total-append length ws (b ∷ []))
 

@@ -1,4 +1,4 @@
--- The faults of names, and their order.
+-- The faults of names and their order.
 use Rattle.std.specs.Prelude.{ℕ, Bool, false, not, ◌&&◌, ◌||◌, List, ◌++◌, Option, Some, None, Ok, Err, map}
 use Rattle.std.specs.Prelude.{filter, filter_map}
 use Rattle.std.specs.List.{list_any, enumerate_from}
@@ -11,50 +11,53 @@ use Rattle.cweb_names.specs.Names.{Occurrence, Resolution, id, is_id, names, res
 use Rattle.cweb_names.specs.Names.{is_prefix_of_another}
 use Rattle.cweb_store.specs.Parts.{Token, Name, Part, joined_where, is_c_part, is_some_id, is_of}
 
+-- A fault of a name, reported at an occurrence.
 abbrev pub fault_of_name : NameKind → ℕ → NameFault
 fault_of_name kind i = record { kind = kind; occurrence = record { 0 = i } }
 
--- the fault of occurrence i, if it stands for no name
+-- The fault of occurrence i, if it resolves to no name.
 abbrev pub unresolved_fault : ℕ → Resolution → Option NameFault
 unresolved_fault i (Ok n) = None
 unresolved_fault i (Err kind) = Some (fault_of_name kind i)
 
--- the same of a list of occurrences, where the first is occurrence i
+-- The faults of resolutions that begin at occurrence i.
 abbrev pub unresolved_faults_from : ℕ → List Resolution → List NameFault
 unresolved_faults_from i rs = filter_map (λ (p : ℕ × Resolution). unresolved_fault p.0 p.1) (enumerate_from i rs)
 
--- the faults of occurrences that stand for no name, in order of occurrences
+-- The faults of unresolved occurrences, in order.
 abbrev pub unresolved_faults : List Resolution → List NameFault
 unresolved_faults rs = unresolved_faults_from 0 rs
 
--- a fault for each name that fails, at its first occurrence in full, where the first name has number n
+-- A fault for each failing name, at its first full occurrence. The first name of the list has number n.
 abbrev pub faults_from : ℕ → NameKind → (NameId → List ℕ → Bool) → List spec.Name → List NameFault
 faults_from n kind fails names =
     map (λ (p : ℕ × spec.Name). fault_of_name kind p.1.first)
     (filter (λ (p : ℕ × spec.Name). fails (id p.0) p.1.text) (enumerate_from n names))
 
+-- A fault for each name of a list that fails.
 abbrev pub faults_where : NameKind → (NameId → List ℕ → Bool) → List spec.Name → List NameFault
 faults_where kind fails names = faults_from 0 kind fails names
 
--- a token uses a name
+-- A token uses a name.
 abbrev pub is_use : List Resolution → NameId → Token → Bool
 is_use rs n (Name name) = is_some_id n (resolved_at rs name.0)
 is_use rs n token = false
 
--- some part of C text uses a name: a part counts also where the occurrence before it stands for no name
+-- A part of C text uses a name. The part counts even if its own name is unresolved.
 abbrev pub is_used : List Resolution → List Part → NameId → Bool
 is_used rs parts n = list_any (is_use rs n) (joined_where is_c_part parts)
 
+-- A part belongs to a name.
 abbrev pub has_part : List Resolution → List Part → NameId → Bool
 has_part rs parts n = list_any (λ p. is_of rs n p.kind) parts
 
--- a name that is used, or is a file's, and has no part
+-- A name that is used, or is a file's, has no part.
 abbrev pub is_missing : List Occurrence → List Part → NameId → Bool
 is_missing os parts n =
     let rs = resolutions os in
     (is_used rs parts n || list_any (is_id n) (files os)) && not (has_part rs parts n)
 
--- the faults: occurrences that stand for no name, then names that are proper prefixes of others, then names that are missed
+-- All faults: unresolved occurrences, then names that are proper prefixes of others, then names without a part.
 abbrev pub faults : List Occurrence → List Part → List NameFault
 faults os parts = unresolved_faults (resolutions os)
     ++ faults_where PrefixOfAnother (λ n text. is_prefix_of_another (names os) text) (names os)

@@ -1,35 +1,38 @@
--- Parts while they are given.
+-- The parts of a builder.
 use Rattle.std.specs.Prelude.{List, [], ◌∷◌, ◌++◌, Option, Some, None, option_map, option_to_list}
 use Rattle.cweb_store.specs.declared.parts.PartKind.{PartKind}
 use Rattle.cweb_store.specs.Parts.{Token, Part}
 use Rattle.cweb_store.specs.Layout.{without_layout, at_close}
 
--- the parts so far: those that are closed, and the one that is open
+-- The closed parts and the open one.
 pub record PartsSoFar : Type 0 where
   pub closed : List Part
   pub current : Option Part
 
+-- No part.
 abbrev pub no_parts : PartsSoFar
 no_parts = record { closed = []; current = None }
 
--- all parts, where one that is open counts as it stands
+-- All parts, the open one included.
 abbrev pub all_parts : PartsSoFar → List Part
 all_parts v = v.closed ++ option_to_list v.current
 
+-- A new part is open.
 abbrev pub with_opened_part : PartKind → PartsSoFar → PartsSoFar
 with_opened_part kind v = record v { current = Some (record { kind = kind; tokens = [] }) }
 
+-- A part with one more token.
 abbrev pub part_with_token : Token → Part → Part
 part_with_token t p = record p { tokens = p.tokens ++ t ∷ [] }
 
--- one more token in the part that is open
+-- The open part with one more token.
 abbrev pub with_pushed_token : Token → PartsSoFar → PartsSoFar
 with_pushed_token t v = record v { current = option_map (part_with_token t) v.current }
 
--- the part that is open without its last layout
+-- The open part without its trailing layout.
 abbrev pub with_dropped_layout : PartsSoFar → PartsSoFar
 with_dropped_layout v = record v { current = option_map without_layout v.current }
 
--- the part that is open is closed
+-- The open part is closed.
 abbrev pub with_closed_part : PartsSoFar → PartsSoFar
 with_closed_part v = record { closed = v.closed ++ option_to_list (option_map at_close v.current); current = None }

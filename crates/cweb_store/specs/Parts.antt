@@ -1,4 +1,4 @@
--- Parts and their tokens, and what the parts of a name join to.
+-- Parts, their tokens, and the joined parts of a name.
 use Rattle.std.specs.Prelude.{ℕ, Bool, true, false, not, List, Option, Some, None, filter, flat_map}
 use Rattle.std.specs.List.{list_any}
 use Rattle.cweb_files.specs.declared.place.Place.{Place}
@@ -8,7 +8,7 @@ use Rattle.cweb_store.specs.declared.parts.PartKind.{PartKind}
 use Rattle.cweb_store.specs.declared.parts.PartKind.TheVariants.{Unnamed, Named, Macro}
 use Rattle.cweb_names.specs.Names.{Resolution, resolved_at, is_id}
 
--- a token, with its bytes
+-- A token with its bytes.
 pub data Token : Type 0 where
   Word Number Literal Verbatim Punct : (bytes : List ℕ) → Token
   Blank Newline Join Defs : Token
@@ -16,41 +16,45 @@ pub data Token : Type 0 where
   Head Tail : (section : ℕ) → Token
   Mark : (place : Place) → Token
 
--- a part: what it belongs to, and its tokens
+-- A part: what it belongs to, and its tokens.
 pub record Part : Type 0 where
   pub kind : PartKind
   pub tokens : List Token
 
+-- The optional name is this one.
 abbrev pub is_some_id : NameId → Option NameId → Bool
 is_some_id n None = false
 is_some_id n (Some m) = is_id n m
 
+-- The part belongs to the program.
 abbrev pub is_unnamed : PartKind → Bool
 is_unnamed kind = elim kind [ Unnamed ↦ true | Named name ↦ false | Macro ↦ false ]
 
+-- The part is a macro definition.
 abbrev pub is_macro : PartKind → Bool
 is_macro kind = elim kind [ Unnamed ↦ false | Named name ↦ false | Macro ↦ true ]
 
--- a part of C text: not a macro
+-- Every part but a macro is C text.
 abbrev pub is_c_part : PartKind → Bool
 is_c_part kind = not (is_macro kind)
 
--- a part belongs to the name that the occurrence before it stands for
+-- A part belongs to a name if the occurrence at its start resolves to it.
 abbrev pub is_of : List Resolution → NameId → PartKind → Bool
 is_of rs n kind = elim kind [ Unnamed ↦ false | Named name ↦ is_some_id n (resolved_at rs name.0) | Macro ↦ false ]
 
--- the tokens of parts, one part after another
+-- The tokens of parts, concatenated.
 abbrev pub all_tokens : List Part → List Token
 all_tokens parts = flat_map (λ p. p.tokens) parts
 
--- the parts that a test keeps, joined in order of appearance
+-- The parts that pass a test, concatenated in order of appearance.
 abbrev pub joined_where : (PartKind → Bool) → List Part → List Token
 joined_where test parts = all_tokens (filter (λ p. test p.kind) parts)
 
+-- The token is a Defs.
 abbrev pub is_defs : Token → Bool
 is_defs Defs = true
 is_defs token = false
 
--- some part of C text asks where the macro definitions are to stand
+-- A part of C text asks for the macro definitions (`@h`).
 abbrev pub has_defs_code : List Part → Bool
 has_defs_code parts = list_any is_defs (joined_where is_c_part parts)

@@ -1,4 +1,4 @@
--- Theorems about the definitions.
+-- Definitions that only laws cite.
 pub mod Calls
 pub mod BuilderCalls
 pub mod Laws

@@ -1,4 +1,4 @@
-// The builder.
+// The builder: accepts what a scan finds, call by call, and makes the store.
 
 ghost use Rattle.std.specs.Prelude.{◌≡◌, ◌<◌, ◌≤◌, ◌+◌, length, IsSome, IsNone, is_some, IfOk};
 ghost use Rattle.std.specs.Prelude.{OnOk, OnErr};
@@ -18,8 +18,7 @@ use cweb_names::{How, NameRef, NameTable};
 use std::alloc::{AllocError, Global};
 use std::marker::Model;
 
-/// What a web has given so far: the occurrences of names, parts with their tokens, and replacements of bytes. A refused
-/// call changes nothing, and may be made again.
+/// The contents of a web so far: occurrences, parts with tokens, and transliterations. A refused call may be repeated.
 pub struct Builder {
     alloc: Global,
     names: NameTable,
@@ -27,7 +26,7 @@ pub struct Builder {
     replacements: Replacements,
 }
 
-// It is let go by one call wherever it is held, not part by part.
+// One call frees it, not one per field.
 impl Drop for Builder {
     fn drop(self) {
         let Builder {
@@ -51,7 +50,7 @@ impl Model for Builder {
 impl Builder {
     ghost use Rattle.cweb_store.specs.surface.TokenModels.{token_model};
 
-    /// A builder that was given nothing.
+    /// An empty builder.
     pub fn new(alloc: Global) -> Builder
         ensures { result ≡ empty }
     {
@@ -63,7 +62,7 @@ impl Builder {
         }
     }
 
-    /// Adds an occurrence of a name: its text, or the prefix of an abbreviation without the dots. Answers its number.
+    /// Adds an occurrence and returns its index. `name` is a full name, or an abbreviation's prefix without the dots.
     pub fn occurrence(
         &mut self,
         name: &[u8],
@@ -80,7 +79,6 @@ impl Builder {
         Ok(number)
     }
 
-    // Whether a part is open.
     pub(crate) fn is_open(&self) -> bool
         ensures { result ≡ is_some self.now.parts.current }
     {
@@ -98,7 +96,7 @@ impl Builder {
         Ok(())
     }
 
-    /// Adds a token to the open part.
+    /// Appends a token to the open part.
     #[inline(always)]
     pub fn push(&mut self, token: Token<'_>) -> Result<(), AllocError>
         requires open { IsSome self.old.parts.current }
@@ -110,8 +108,7 @@ impl Builder {
         Ok(())
     }
 
-    /// Drops the Blanks, Newlines and Marks that are last in the open part, but none of a macro's first two tokens. It
-    /// takes no memory.
+    /// Drops the open part's trailing Blanks, Newlines and Marks, but no macro's first two tokens. Allocates nothing.
     pub fn drop_layout(&mut self)
         requires { IsSome self.old.parts.current }
         ensures { self.new ≡ with_dropped self.old }
@@ -119,7 +116,7 @@ impl Builder {
         self.parts.drop_layout();
     }
 
-    /// Ends the open part. A macro loses its last Newlines, and then a Blank that is last. It takes no memory.
+    /// Ends the open part. A macro loses its trailing Newlines, and then a trailing Blank. Allocates nothing.
     pub fn close_part(&mut self)
         requires { IsSome self.old.parts.current }
         ensures { self.new ≡ with_closed self.old }
@@ -127,8 +124,7 @@ impl Builder {
         self.parts.close();
     }
 
-    /// Has a byte from 128 on replaced by a text in Words that are printed. A later call for the byte wins. The rule is
-    /// that of the CWEB manual's transliteration code.
+    /// Sets the replacement of a byte from 128 on in printed Words (CWEB manual, `@l`). The last call for a byte wins.
     pub fn transliterate(&mut self, byte: u8, new: &[u8]) -> Result<(), AllocError>
         requires { 128 ≤ byte }
         ensures ok { OnOk result
@@ -139,7 +135,7 @@ impl Builder {
         Ok(())
     }
 
-    /// The store of what was given. A part that is open counts as it stands. A refused call gives the builder up.
+    /// Makes the store. An open part ends here, without the drops of `close_part`. A failed call consumes the builder.
     pub fn finish(self) -> Result<Store, AllocError>
         ensures { IfOk result (λ store. store ≡ finished self) }
     {

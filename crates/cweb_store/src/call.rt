@@ -1,4 +1,4 @@
-// Calls of a builder, as values.
+// The calls of a builder as values.
 
 ghost use Rattle.std.specs.Prelude.{◌≡◌, ◌-◌, ◌↔◌, if◌then◌else◌, IsTrue, OnOk, OnErr};
 ghost use Rattle.cweb_store.specs.laws.Calls.{after_call};
@@ -12,10 +12,10 @@ use crate::tokens::Token;
 use cweb_names::How;
 use std::alloc::AllocError;
 
-/// A call of a builder. It lends its bytes.
+/// A call of a builder. It borrows its bytes.
 #[derive(Clone, Copy)]
 pub enum Call<'a> {
-    /// `occurrence`: a name's text or prefix, which of them it is, and whether it is a file's.
+    /// `occurrence`: the name or prefix, which of them it is, and whether it is a file's.
     Occurs(&'a [u8], How, bool),
     /// `open_part`.
     Opens(PartKind),
@@ -25,11 +25,11 @@ pub enum Call<'a> {
     Drops,
     /// `close_part`.
     Closes,
-    /// `transliterate`: a byte, and what stands for it.
+    /// `transliterate`: a byte and its replacement.
     Transliterates(u8, &'a [u8]),
 }
 
-/// A call, and whether it answered Ok.
+/// A call, and whether it returned `Ok`.
 #[derive(Clone, Copy)]
 pub struct Answered<'a> {
     pub call: Call<'a>,
@@ -37,7 +37,7 @@ pub struct Answered<'a> {
 }
 
 impl Call<'_> {
-    /// Makes the call if it is in its place, and answers whether it answered Ok. If not, nothing is changed.
+    /// Makes the call if the builder's state allows it; else nothing changes. Returns whether it returned `Ok`.
     pub(crate) fn make_in_place(self, builder: &mut Builder) -> bool
         requires { HoldsAtMost (too_many - 2) builder.old }
         ensures taken { IsTrue result → AcceptsCall builder.old (call_model self.entry) }
@@ -47,7 +47,7 @@ impl Call<'_> {
         self.is_in_place(builder) && self.make(builder).is_ok()
     }
 
-    // Whether a builder takes the call.
+    // Whether the builder's state allows the call.
     fn is_in_place(self, builder: &Builder) -> bool
         requires { HoldsAtMost (too_many - 2) builder.now }
         ensures { IsTrue result ↔ AcceptsCall builder.now (call_model self.entry) }
@@ -60,7 +60,7 @@ impl Call<'_> {
         }
     }
 
-    /// Makes the call. A refused one changes nothing.
+    /// Makes the call. A refused call changes nothing.
     pub fn make(self, builder: &mut Builder) -> Result<(), AllocError>
         requires { AcceptsCall builder.old (call_model self) }
         ensures ok { OnOk result (builder.new ≡ after_call builder.old (call_model self.entry)) }

@@ -1,4 +1,4 @@
-// The faults of names.
+// The faults of names: unresolved, prefixes of others, and names without a part.
 
 ghost use Rattle.std.specs.Prelude.{◌≡◌, ◌<◌, ◌^◌, ◌++◌, ◌&&◌, ◌||◌, not, [], length, slice_get};
 ghost use Rattle.std.specs.Prelude.{option_map, Some, IfOk, OnOk};
@@ -17,7 +17,7 @@ use cweb_names::{KnownNames, NameFault, NameId, NameKind, NameRef, NameTable, ad
 use indexmap::IndexSet;
 use std::alloc::{AllocError, Global};
 
-/// All faults of names, in their order.
+/// All faults of names, in the order of their reports.
 pub fn name_faults(
     alloc: Global,
     table: &NameTable,
@@ -37,7 +37,7 @@ pub fn name_faults(
     Ok(faults)
 }
 
-// Adds a fault for each name of the table that wants a part and has none.
+// Adds a fault for each name that needs a part and has none.
 fn add_faults_of_parts(
     alloc: Global,
     faults: &mut Vec<NameFault>,
@@ -61,7 +61,6 @@ fn add_faults_of_parts(
     add_missing_faults(faults, table.names(), &used, files, &present)
 }
 
-// The names that have a part.
 fn names_with_part(
     alloc: Global,
     ranges: &[PartRange],
@@ -78,7 +77,7 @@ fn names_with_part(
     Ok(present)
 }
 
-// Adds a fault for each occurrence that stands for no name.
+// Adds a fault for each occurrence that resolves to no name.
 fn add_unresolved_faults(
     faults: &mut Vec<NameFault>,
     resolutions: &[Result<NameId, NameKind>],
@@ -98,7 +97,6 @@ fn add_unresolved_faults(
     Ok(())
 }
 
-// Adds a fault for each name that is a proper prefix of another.
 fn add_prefix_faults(faults: &mut Vec<NameFault>, names: &KnownNames) -> Result<(), AllocError>
     requires { length names.now < 2 ^ 32 }
     ensures { OnOk result
@@ -162,7 +160,7 @@ fn is_missing(
     (used.contains(&id) || files.contains(&id)) && !present.contains(&id)
 }
 
-// Adds a fault of a name that fails, at its first occurrence in full.
+// Adds a fault of a name at its first full occurrence, if `fails`.
 fn add_fault_if(
     fails: bool,
     faults: &mut Vec<NameFault>,

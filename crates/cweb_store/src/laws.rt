@@ -1,5 +1,4 @@
-//! What holds of names and parts whatever calls a builder is given. Each function is there for its contract, and all but the
-//! first do nothing.
+//! Laws of names and parts for any calls of a builder. Each function exists for its contract; only the first runs code.
 
 ghost use Rattle.std.specs.Prelude.{◌≡◌, ◌<◌, length, map, IfOk};
 ghost use Rattle.cweb_store.specs.laws.Calls.{contents};
@@ -19,8 +18,7 @@ use crate::call::{Answered, Call};
 use crate::store::Store;
 use std::alloc::{AllocError, Global};
 
-/// Gives a builder any list of calls. Whichever of them are refused, the store is the one that the calls which answered Ok
-/// make, each in its place. A call out of its place is not made, and counts as refused.
+/// Makes the calls that the state allows, and counts the others as refused. The store is that of the calls with `Ok`.
 pub fn store_holds_calls_answered_ok<'a>(
     alloc: Global,
     calls: &[Call<'a>],
@@ -41,57 +39,57 @@ pub fn store_holds_calls_answered_ok<'a>(
     Ok((answers, store))
 }
 
-/// What an abbreviation stands for stays when names are added that don't begin with its prefix.
+/// Names that don't begin with an abbreviation's prefix don't change its resolution.
 pub fn abbreviations_stay()
     ensures { AbbreviationsStay }
 {}
 
-/// An abbreviation that only one of the names given before it fits stands for that name, whatever comes later.
+/// An abbreviation with only one match among the earlier names resolves to it, whatever comes later.
 pub fn earlier_names_decide()
     ensures { EarlierNamesDecide }
 {}
 
-/// A name given in full stands for itself.
+/// A full name resolves to itself.
 pub fn full_names_resolve_to_themselves()
     ensures { FullNamesResolveToThemselves }
 {}
 
-/// Joining is concatenation in order.
+/// The parts of a name join to their concatenation, in order.
 pub fn joining_concatenates()
     ensures { JoiningConcatenates }
 {}
 
-/// After any list of calls the occurrences are those of the calls, in order.
+/// The occurrences are those of the calls, in order.
 pub fn occurrences_are_those_of_calls()
     ensures { OccurrencesAreThoseOfCalls }
 {}
 
-/// No text is the name of two names.
+/// No two names have equal bytes.
 pub fn names_are_distinct()
     ensures { NamesAreDistinct }
 {}
 
-/// The name that an abbreviation stands for begins with its prefix.
+/// An abbreviation resolves to a name that begins with its prefix.
 pub fn abbreviations_begin_their_names()
     ensures { AbbreviationsBeginTheirNames }
 {}
 
-/// An occurrence stands for a name and has no fault of its own, or it stands for none and has just one.
+/// An occurrence resolves to a name without a fault of its own, or has exactly one fault.
 pub fn one_fault_for_no_name()
     ensures { OneFaultForNoName }
 {}
 
-/// Dropping layout changes nothing before it, and a macro keeps its first two tokens.
+/// Dropping layout keeps all tokens before it, and the first two of a macro.
 pub fn dropping_keeps_the_prefix()
     ensures { DroppingKeepsThePrefix }
 {}
 
-/// A macro keeps its first two tokens, whatever follows. What is dropped of it is layout at its end, and all of that behind the two.
+/// A macro keeps its first two tokens. After them, all trailing layout is dropped and nothing else.
 pub fn macros_keep_two_tokens()
     ensures { MacrosKeepTwoTokens }
 {}
 
-/// The tokens of the parts are those that were pushed, in their order, but for layout that was dropped.
+/// The tokens of the parts are those that were pushed, in order, less dropped layout.
 pub fn tokens_are_those_pushed()
     ensures { TokensAreThosePushed }
 {}

@@ -1,7 +1,7 @@
 //! The names, parts and tokens of a web: a builder that is called as a web is scanned, and the store that it makes.
 #![tactic(auto)]
 
-// the tokens of parts, and the bytes that they show
+// tokens of parts
 mod tokens;
 
 // parts as ranges of tokens, and the parts of each name
@@ -19,10 +19,10 @@ mod builder;
 // these calls as values
 mod call;
 
-// what the builder made
+// what the builder makes
 mod store;
 
-// what holds for any calls
+// laws for any calls
 pub mod laws;
 
 pub use builder::Builder;

@@ -1,4 +1,4 @@
-// Parts, as runs of token numbers.
+// Parts as ranges of token indices.
 
 ghost use Rattle.std.specs.Prelude.{◌≡◌};
 
@@ -14,16 +14,16 @@ pub mod list;
 pub enum PartKind {
     /// The program itself.
     Unnamed,
-    /// The name that this occurrence stands for.
+    /// The name that this occurrence resolves to.
     Named(NameRef),
-    /// A macro definition. It is no C text.
+    /// A macro definition. It is not C text.
     Macro,
 }
 
 impl PartKind {
     ghost use Rattle.cweb_store.specs.Parts.{is_macro};
 
-    /// Whether it is a macro definition, whose tokens are no C text.
+    /// Whether the part is a macro definition.
     pub fn is_macro(self) -> bool
         ensures { result ≡ is_macro self }
     {
@@ -34,21 +34,21 @@ impl PartKind {
     }
 }
 
-/// A part: the numbers of its tokens, from the first up to the one after its last.
+/// The token indices of a part: from `first` up to, but not including, `after`.
 #[derive(Clone, Copy, Debug, PartialEq, Eq)]
 pub struct Part {
     pub first: u32,
     pub after: u32,
 }
 
-/// A part that is closed, and what it belongs to.
+/// A closed part, and what it belongs to.
 #[derive(Clone, Copy)]
 pub struct PartRange {
     pub kind: PartKind,
     pub part: Part,
 }
 
-/// The part that is open, and the number of its first token.
+/// The open part, and the index of its first token.
 #[derive(Clone, Copy)]
 pub struct Open {
     pub kind: PartKind,

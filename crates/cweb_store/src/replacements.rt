@@ -1,4 +1,4 @@
-// What bytes are replaced by in Words that are printed.
+// Transliterations of bytes in printed Words.
 
 ghost use Rattle.std.specs.Prelude.{◌≡◌, ◌++◌, ◌∷◌, [], map, IfOk, OnOk, OnErr};
 ghost use Rattle.cweb_store.specs.surface.Replacements.{replacement_of};
@@ -10,14 +10,14 @@ use crate::tokens::closed::ClosedTokens;
 use std::alloc::{AllocError, Global};
 use std::marker::Model;
 
-/// A byte, and the text that stands for it.
+/// A byte and its replacement.
 #[derive(Drop)]
 pub struct Replaced {
     pub byte: u8,
     pub text: Vec<u8>,
 }
 
-/// The replacements of bytes, in the order in which they were given.
+/// Replacements in the order of the calls.
 #[derive(Drop)]
 pub struct Replacements {
     alloc: Global,
@@ -35,6 +35,7 @@ impl Model for Replacements {
 }
 
 impl Replacements {
+    /// An empty list.
     pub fn new(alloc: Global) -> Replacements
         ensures { result ≡ [] }
     {
@@ -44,7 +45,7 @@ impl Replacements {
         }
     }
 
-    /// Adds a replacement. A refused call changes nothing.
+    /// Appends a replacement. A refused call changes nothing.
     pub fn add(&mut self, byte: u8, text: &[u8]) -> Result<(), AllocError>
         ensures ok { OnOk result (self.new ≡ self.old ++ replacement_of byte text.now ∷ []) }
         ensures err { OnErr result (self.new ≡ self.old) }
@@ -54,7 +55,7 @@ impl Replacements {
         Ok(())
     }
 
-    /// Puts the replacements behind the texts of tokens, and answers their bytes.
+    /// Appends the replacements to the strings of the tokens, and returns the replaced bytes.
     pub fn close(self, tokens: &mut ClosedTokens) -> Result<Vec<u8>, AllocError>
         ensures bytes { IfOk result (λ bytes. bytes.items ≡ map (λ r. r.byte) self) }
         ensures strings { OnOk result
@@ -69,7 +70,7 @@ impl Replacements {
     }
 }
 
-/// For each byte the index of its last occurrence, if any. The table is on the heap, since a store is moved several times.
+/// For each byte, the index of its last occurrence. The table is on the heap because a store is moved several times.
 pub(crate) fn last_places(alloc: Global, bytes: &[u8]) -> Result<Vec<Option<usize>>, AllocError>
     ensures { IfOk result (λ places. AreLast places.items bytes.now) }
 {

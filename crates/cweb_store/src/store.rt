@@ -1,4 +1,4 @@
-// The store.
+// The store of a finished web.
 
 pub(crate) mod answers;
 mod parts_wanted;
@@ -31,7 +31,7 @@ use indexmap::IndexSet;
 use std::alloc::{AllocError, Global};
 use std::marker::Model;
 
-/// What a web has given, for good: what each occurrence of a name stands for, the parts of each name, and the faults.
+/// A finished web: the resolution of each occurrence, the parts of each name, and the faults.
 pub struct Store {
     tokens: ClosedTokens,
     ranges: Vec<PartRange>,
@@ -46,7 +46,7 @@ pub struct Store {
     has_defs_code: bool,
 }
 
-// It is let go by one call wherever it is held, not part by part.
+// One call frees it, not one per field.
 impl Drop for Store {
     fn drop(self) {
         let Store {
@@ -82,7 +82,6 @@ impl Model for Store {
 impl Store {
     ghost use Rattle.cweb_store.specs.surface.TokenModels.{token_model};
 
-    /// The store of occurrences, parts and replacements.
     pub(crate) fn new(
         alloc: Global,
         table: NameTable,
@@ -124,7 +123,7 @@ impl Store {
         Ok(store)
     }
 
-    /// The token with a number.
+    /// The token at an index.
     #[inline(always)]
     pub fn token(&self, number: u32) -> Token<'_>
         requires { number < length (all_tokens self.now.parts) }
@@ -133,8 +132,7 @@ impl Store {
         self.tokens.token(number as usize)
     }
 
-    /// The number of the first use of a name among the tokens of a part, or of a stretch of it; where there is none, the
-    /// number after the last one.
+    /// The index of the first use of a name in a part or a range of it, or `part.after` if there is none.
     pub fn next_use(&self, part: Part) -> u32
         requires { part.first ≤ part.after }
         ensures { IsNextNumber is_name_use (all_tokens self.now.parts) part result }
@@ -142,7 +140,7 @@ impl Store {
         self.tokens.next_use(part)
     }
 
-    /// The name that an occurrence stands for, if any.
+    /// The name that an occurrence resolves to, if any.
     pub fn standing(&self, name: NameRef) -> Option<NameId>
         ensures name { result ≡ spec.resolved_at (spec.resolutions self.now.occurrences) name.0 }
         ensures within { IfSome result (λ id. id.0 < length (spec.names self.now.occurrences)) }
@@ -150,7 +148,7 @@ impl Store {
         resolved_at(self.resolutions.as_slice(), name.0 as usize)
     }
 
-    /// How many names there are.
+    /// The number of names.
     pub fn names(&self) -> u32
         ensures count { result ≡ length (spec.names self.now.occurrences) }
         ensures few { result < too_many }
@@ -158,7 +156,7 @@ impl Store {
         self.firsts.len() as u32
     }
 
-    /// The text of a name.
+    /// The bytes of a name.
     pub fn name_text(&self, name: NameId) -> &[u8]
         requires { name.0 < length (spec.names self.now.occurrences) }
         ensures { option_map (λ n. n.text) (slice_get (spec.names self.now.occurrences) name.0)
@@ -167,7 +165,7 @@ impl Store {
         self.tokens.other(self.firsts[name.0 as usize] as usize)
     }
 
-    /// The text that an occurrence was given with: of an abbreviation, the prefix without the dots.
+    /// The bytes of an occurrence. For an abbreviation, these are its prefix without the dots.
     pub fn occurrence_text(&self, name: NameRef) -> &[u8]
         requires { name.0 < length self.now.occurrences }
         ensures { option_map (λ o. o.text) (slice_get self.now.occurrences name.0)
@@ -176,7 +174,7 @@ impl Store {
         self.tokens.other(name.0 as usize)
     }
 
-    /// The file names, in order of their first occurrence as a file's.
+    /// The file names, ordered by their first occurrence as a file's.
     pub fn files(&self) -> &[NameId]
         ensures files { result.now ≡ spec.files self.now.occurrences }
         ensures within { All (λ id. id.0 < length (spec.names self.now.occurrences)) result.now }
@@ -184,14 +182,14 @@ impl Store {
         self.files.as_slice()
     }
 
-    /// Whether a part of C text has a Defs. A `const fn` takes no memory.
+    /// Whether a part of C text has a Defs. A `const fn` allocates nothing.
     pub const fn has_defs_code(&self) -> bool
         ensures { result ≡ has_defs_code self.now.parts }
     {
         self.has_defs_code
     }
 
-    /// The text that stands for a byte in Words that are printed, if any.
+    /// The transliteration of a byte, if any.
     pub fn replacement(&self, byte: u8) -> Option<&[u8]>
         ensures { option_map (λ text. text.now) result ≡ replacement self.now.replacements byte }
     {
@@ -201,7 +199,7 @@ impl Store {
         Some(self.tokens.other(self.given.len() + number))
     }
 
-    /// The faults of names, in their order.
+    /// The faults of names, in the order of their reports.
     pub fn name_faults(&self) -> &[NameFault]
         ensures faults { result.now ≡ faults self.now.occurrences self.now.parts }
         ensures within { All
@@ -210,8 +208,8 @@ impl Store {
         self.faults.as_slice()
     }
 
-    /// How many bytes the texts have, of tokens, names and replacements. They stand in one list of that many bytes, in
-    /// which equal texts of Words and punctuators are kept once.
+    /// The number of bytes of all strings: of tokens, names and replacements. They are in one list of that many bytes.
+    /// Equal strings of Words and punctuators are stored once.
     pub fn text_bytes(&self) -> u64
         ensures strings { AreInOneList result (stored_strings self.now) }
         ensures once { result ≡ interned_store_bytes self.now }

@@ -1,4 +1,4 @@
-// Tokens, as they are handed in and lent out.
+// Tokens that borrow their bytes.
 
 pub mod closed;
 pub mod interned;
@@ -11,16 +11,16 @@ pub mod token_reader;
 use cweb_files::Place;
 use cweb_names::NameRef;
 
-/// A token of a part. It lends its bytes.
+/// A token of a part. It borrows its bytes.
 #[derive(Clone, Copy, Debug, PartialEq, Eq)]
 pub enum Token<'a> {
     /// An identifier.
     Word(&'a [u8]),
     /// A number.
     Number(&'a [u8]),
-    /// A string, a character or an include name.
+    /// A string, a character constant or an include name.
     Literal(&'a [u8]),
-    /// Text that is printed as it stands.
+    /// Bytes that are printed unchanged.
     Verbatim(&'a [u8]),
     /// A punctuator.
     Punct(&'a [u8]),
@@ -28,16 +28,16 @@ pub enum Token<'a> {
     Blank,
     /// The end of a line.
     Newline,
-    /// What stands on both sides is printed without a space between.
+    /// No space is printed between the tokens before and after it (`@&`).
     Join,
-    /// The macro definitions stand here.
+    /// The place of the macro definitions (`@h`).
     Defs,
     /// A use of a name.
     Name(NameRef),
-    /// The beginning of a section's text.
+    /// The start of section N's code, printed as `/*N:*/`.
     Head(u32),
-    /// The end of a section's text.
+    /// The end of section N's code, printed as `/*:N*/`.
     Tail(u32),
-    /// The line that the next token stands on.
+    /// The source line of the next token.
     Mark(Place),
 }

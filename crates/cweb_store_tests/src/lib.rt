@@ -1,4 +1,4 @@
-//! The tests of `cweb_store`. They stand in a crate of their own, so that they are checked without proving it anew.
+//! The tests of `cweb_store`, in a crate of their own, so that a change of them doesn't check `cweb_store` again.
 #![tactic(auto)]
 
 #[cfg(test)]

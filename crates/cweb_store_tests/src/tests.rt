@@ -1,4 +1,4 @@
-// What stores answer, of rows of builder calls that are written as text.
+// Stores of builder calls that are written as strings.
 
 mod calls;
 mod direct_bytes;
@@ -21,7 +21,7 @@ use std::alloc::{AllocError, Global};
 use std::process::Abort;
 use std::test::Fail;
 
-// What a test asks stands in functions of its own, which hold little: they are proved soon, and what calls them is too.
+// Assertions are small functions of their own, so that they and their callers verify quickly.
 fn holds(rt: &impl Abort, is_so: bool)
     ensures { is_so ≡ true }
 {
@@ -36,41 +36,40 @@ fn same_token(rt: &impl Abort, got: Token<'_>, want: Token<'_>) {
     assert!(rt; got == want);
 }
 
-// A store has this token with a number; the number of the next one.
+// The token at an index is this one. Returns the next index.
 fn next_is(rt: &impl Abort, store: &Store, number: u32, token: Token<'_>) -> u32 {
     holds(rt, number < store.tokens());
     same_token(rt, store.token(number), token);
     number + 1
 }
 
-// A store tells its names and parts like this.
 fn shows_names_and_parts(rt: &impl Abort, store: &Store, text: &str) {
     let mut expected = Expected::new(text);
     expected.compare_store(store);
     is_met(rt, &expected, text);
 }
 
-// A store tells its counts, its Defs and its replacements like this.
+// The store's counts, Defs and replacements.
 fn shows_counts(rt: &impl Abort, store: &Store, text: &str) {
     let mut expected = Expected::new(text);
     expected.compare_counts(store);
     is_met(rt, &expected, text);
 }
 
-// What is asked of the store of a row of calls.
+// What is checked of a store.
 #[derive(Clone, Copy)]
 enum Aspect {
-    // its names and parts
+    // names and parts
     Names,
-    // its counts, its Defs and its replacements
+    // counts, Defs and replacements
     Counts,
-    // what its first three occurrences stand for
+    // the resolutions of the first three occurrences
     Standings,
-    // the first uses of some stretches
+    // the first uses of some ranges
     Uses,
 }
 
-// A row of calls, and what its store tells.
+// Calls, and the expected report on their store.
 #[derive(Clone, Copy)]
 struct ShownStore<'a> {
     example: &'a str,
@@ -93,7 +92,6 @@ impl Case for ShownStore<'_> {
     }
 }
 
-// The store of a row of calls tells its names and parts like this.
 fn example_shows(rt: &impl Abort, alloc: Global, example: &str, text: &str) -> Result<(), Fail> {
     let aspect = Aspect::Names;
     check(
@@ -107,7 +105,6 @@ fn example_shows(rt: &impl Abort, alloc: Global, example: &str, text: &str) -> R
     )
 }
 
-// The store of a row of calls tells its counts, its Defs and its replacements like this.
 fn counts(rt: &impl Abort, alloc: Global, example: &str, text: &str) -> Result<(), Fail> {
     let aspect = Aspect::Counts;
     check(

@@ -1,4 +1,4 @@
--- Whether a file is among those of a set.
+-- Membership in a set of file keys.
 use Rattle.std.proofs.Common.{◌≡◌, ◌↔◌, Bool, true, List, Contains, IsTrue, slice_index_or, sym, ◌∙◌, refl, ap, subst, nat_cmp}
 use Rattle.std.specs.declared.cmp.Ordering.{Ordering}
 use Rattle.std.specs.declared.cmp.Ordering.TheVariants.{Less, Equal, Greater}
@@ -33,7 +33,7 @@ found : (file : FileKey) (keys : List FileKey) → Any (λ k. is_at (compare_key
 found file keys (n, k, within, at, equal) =
     (n, within, subst (λ (key : FileKey). slice_index_or keys n key ≡ key) (same file k (both_equal _ _ equal)) at)
 
--- a set has a file where it is said to have one of its key
+-- A set contains a file exactly if it has an equal key.
 pub among : (file : FileKey) (keys : List FileKey) (has : Bool) → has ≡ list_any (is_at (compare_keys file)) keys
     → IsTrue has ↔ Contains keys file
 among file keys has is = (

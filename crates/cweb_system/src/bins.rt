@@ -1,4 +1,4 @@
-// The files of the system's folders, as bins. No contract sees their bytes.
+// The files of the system as bins. Contracts say nothing about their bytes.
 ghost use Rattle.std.specs.Prelude.{◌≡◌, ◌≤◌, ◌<◌, ◌+◌, ◌^◌, [], false, length, option_and_then};
 ghost use Rattle.std.specs.Prelude.{take, IfOk, IfErr, OnOk, OnErr, IfSome, IsSome};
 ghost use Rattle.std.specs.Io.KnownBytes.{Appends};
@@ -19,24 +19,21 @@ use std::fs::OpenFile;
 use std::io::Write;
 use std::rt::Files;
 
-/// The files of the system, by their paths. A draft has its file's name, followed by byte 127, which no output's name has.
-/// A commit renames the draft. It is deleted when it is given up or can't be renamed; if that fails, it stays.
+/// Files of the system, under their paths. An output is written to a draft, whose name is the file's name and byte 127;
+/// no output's name has that byte. A commit renames the draft. An abandoned draft is deleted; if that fails, it stays.
 ///
-/// A name that was committed here may be begun again, as in the next run: its file is replaced. A file that was committed
-/// under another name is refused.
+/// A name that was committed here may be begun again; its file is replaced. A file under another name is refused.
 ///
-/// Bytes are gathered and written in large pieces, so a write may fail for bytes that were taken earlier. The output is given
-/// up then: one that lost bytes is never committed.
+/// Bytes are buffered, so a write may fail for earlier bytes. The output is abandoned then, and never committed.
 #[derive(Drop)]
 pub struct FolderBins<'a, R: Files<File: LockableFile> + Drop> {
     alloc: Global,
     files: R,
-    /// Files that fill the descriptors of closed standard streams, so that no draft gets one. They are open for reading
-    /// only: to write to such a stream still fails.
+    /// Read-only files on the descriptors of closed standard streams, so that no draft gets one. Writing to them fails.
     streams: [Option<R::File>; 3],
     /// The files that the run has read.
     read: &'a FilesRead,
-    /// The files that it has begun or committed.
+    /// The files that the run has begun or committed.
     written: FilesWritten,
     output: Option<Target<R::File>>,
     failed: u64,
@@ -45,7 +42,7 @@ pub struct FolderBins<'a, R: Files<File: LockableFile> + Drop> {
 impl<'a, R: Files<File: LockableFile> + Drop> FolderBins<'a, R> {
     ghost use Rattle.cweb_system.specs.inner.Devices.{bins_failures, output_bytes, BeginsOutput, IsBegun};
 
-    /// Call it before any other file is opened. No output replaces a file that is noted as read.
+    /// Call it before any other file is opened. No output replaces a file in `read`.
     pub fn new(alloc: Global, files: R, read: &'a FilesRead) -> Self
         ensures { bins_failures result ≡ 0 }
     {
@@ -65,7 +62,7 @@ impl<'a, R: Files<File: LockableFile> + Drop> FolderBins<'a, R> {
         }
     }
 
-    /// Gives up the output that is open, and begins one.
+    /// Abandons an open output, and begins a new one.
     fn start(&mut self, name: &str) -> Result<(), BinFault>
         requires { bins_failures self.old + 1 < 2 ^ 64 }
         ensures failed { CountsDeviceFailure (bins_failures self.old)
@@ -88,7 +85,7 @@ impl<'a, R: Files<File: LockableFile> + Drop> FolderBins<'a, R> {
         }
     }
 
-    /// Begins an output of a name. The run reads no file meanwhile.
+    /// Begins an output. The run reads no file meanwhile.
     fn begin(&mut self, name: &str) -> Result<Target<R::File>, BinFault>
         ensures failed { bins_failures self.new ≡ bins_failures self.old }
         ensures output { self.new.output ≡ self.old.output }
@@ -100,7 +97,7 @@ impl<'a, R: Files<File: LockableFile> + Drop> FolderBins<'a, R> {
         begun
     }
 
-    /// Begins an output of a name, by what is under it, in a run that has read some files.
+    /// Begins an output according to the entry under its name and the files that were read.
     fn begin_beside(
         &mut self,
         name: &str,
@@ -122,7 +119,7 @@ impl<'a, R: Files<File: LockableFile> + Drop> FolderBins<'a, R> {
         }
     }
 
-    /// Whether this file was written under another name, or a standard stream is the target of this link.
+    /// Whether this file was written under another name, or this link leads to a standard stream.
     fn is_own(&self, name: &str, path_entry: PathEntry) -> bool {
         match path_entry {
             PathEntry::File(file, _) => self.written.has_other_name(&self.files, name, file),
@@ -131,7 +128,7 @@ impl<'a, R: Files<File: LockableFile> + Drop> FolderBins<'a, R> {
         }
     }
 
-    /// Begins a draft, and notes its file as one that this run writes.
+    /// Begins a draft, and records its file as written.
     fn begin_draft(
         &mut self,
         name: &str,
@@ -150,7 +147,7 @@ impl<'a, R: Files<File: LockableFile> + Drop> FolderBins<'a, R> {
         Ok(Target::Draft(draft))
     }
 
-    /// Adds bytes to the output, in their order: none is lost and none is added. After a fault the output is given up.
+    /// Appends bytes to the output; none is lost or added. After a fault the output is abandoned.
     fn add(&mut self, piece: &[u8]) -> Result<usize, SinkFault>
         requires { bins_failures self.old + 1 < 2 ^ 64 }
         ensures failed { CountsFailure (bins_failures self.old) (bins_failures self.new) result }
@@ -169,7 +166,7 @@ impl<'a, R: Files<File: LockableFile> + Drop> FolderBins<'a, R> {
         taken
     }
 
-    /// Gives up the output that is open.
+    /// Abandons an open output.
     fn abandon(&mut self)
         ensures failed { bins_failures self.new ≡ bins_failures self.old }
         ensures gone { IsBegun self.new → ⊥ }
@@ -179,7 +176,7 @@ impl<'a, R: Files<File: LockableFile> + Drop> FolderBins<'a, R> {
         }
     }
 
-    /// Commits the output that is open.
+    /// Commits the open output.
     fn commit(&mut self) -> Result<(), BinFault>
         ensures failed { bins_failures self.new ≡ bins_failures self.old }
         ensures device { IfErr result (λ fault. fault ≡ BinFault.Device) }
@@ -194,7 +191,7 @@ impl<'a, R: Files<File: LockableFile> + Drop> FolderBins<'a, R> {
     }
 }
 
-/// Adds bytes to an output, where one is open.
+/// Appends bytes to an output, if one is open.
 fn write_to<F: Write + OpenFile + LockableFile + Drop>(
     output: &mut Option<Target<F>>,
     piece: &[u8],

@@ -1,4 +1,4 @@
-// The files of the system's folders and its standard streams, as a shelf and as sinks. They tell no bytes.
+// Files and standard streams of the system as a shelf and as sinks. Their bytes are not observable in contracts.
 ghost use Rattle.std.specs.Prelude.{◌≡◌, ◌≤◌, ◌<◌, ◌+◌, ◌^◌, [], None, false, length, IfOk};
 ghost use Rattle.std.specs.Io.KnownBytes.{WriteAppends, ReadConsumes};
 ghost use Rattle.cweb_files.specs.Device.{CountsFailure};
@@ -11,11 +11,11 @@ use std::io::{ErrorKind, Read, Write};
 use std::rt::Files;
 use std::{fs, io};
 
-/// The files of the system, under their paths. A folder can be opened as a file can, and its first read fails.
+/// Files of the system, under their paths. A folder can be opened like a file; its first read fails.
 #[derive(Drop)]
 pub struct FolderShelf<'a, R: Files + Drop> {
     files: R,
-    /// Where each file that is opened is noted, if anywhere.
+    /// Records each file that is opened, if present.
     read: Option<&'a FilesRead>,
     failed: u64,
 }
@@ -23,6 +23,7 @@ pub struct FolderShelf<'a, R: Files + Drop> {
 impl<'a, R: Files + Drop> FolderShelf<'a, R> {
     ghost use Rattle.cweb_system.specs.inner.Devices.{shelf_failures};
 
+    /// A shelf that doesn't record what it opens.
     pub fn new(files: R) -> Self
         ensures { shelf_failures result ≡ 0 }
     {
@@ -33,7 +34,7 @@ impl<'a, R: Files + Drop> FolderShelf<'a, R> {
         }
     }
 
-    /// A shelf that notes each file that it opens, so that no output takes its place.
+    /// A shelf that records each file that it opens, so that no output replaces it.
     pub fn noting(files: R, read: &'a FilesRead) -> Self
         ensures { shelf_failures result ≡ 0 }
     {
@@ -44,7 +45,7 @@ impl<'a, R: Files + Drop> FolderShelf<'a, R> {
         }
     }
 
-    /// Opens a file, and notes it. One that the system doesn't tell apart from others is an error.
+    /// Opens a file and records it. It is an error if the system has no identity for the file.
     fn opened(&self, name: &str) -> io::Result<R::File> {
         let file = fs::open(&self.files, name)?;
         if let Some(read) = self.read {
@@ -53,7 +54,7 @@ impl<'a, R: Files + Drop> FolderShelf<'a, R> {
         Ok(file)
     }
 
-    /// The bytes that it answers are the next ones of the file, as the system gives them: it loses and adds none.
+    /// Returns the next bytes of the file as the system reads them; none is lost or added.
     fn next_bytes(&mut self, reader: &mut R::File, piece: &mut [u8]) -> Result<usize, ShelfFault>
         requires { shelf_failures self.old + 1 < 2 ^ 64 }
         ensures failed { CountsFailure (shelf_failures self.old) (shelf_failures self.new) result }
@@ -82,7 +83,7 @@ impl<R: Files + Drop> Shelf for FolderShelf<'_, R> {
 
     ghost failed = { shelf_failures };
 
-    /// A file that the system does not open, for whatever cause but want of memory, is not there.
+    /// Any error but a failed allocation means that the file is not there.
     fn fetch(&mut self, name: &str) -> Result<Option<R::File>, AllocError> {
         match self.opened(name) {
             Ok(file) => Ok(Some(file)),
@@ -102,7 +103,7 @@ impl<R: Files + Drop> Shelf for FolderShelf<'_, R> {
     }
 }
 
-/// One read of a file, begun anew where a signal broke it off: the bytes that it answers are the next ones of the file.
+/// Reads the next bytes of a file once. The read is repeated if a signal interrupts it.
 pub fn read_once<F: Read>(file: &mut F, piece: &mut [u8]) -> Result<usize, ShelfFault>
     ensures within { IfOk result (λ n. n ≤ length piece.new) }
     ensures passes { ReadConsumes (F.remaining file.old) (F.remaining file.new) result piece.new }
@@ -119,7 +120,7 @@ pub fn read_once<F: Read>(file: &mut F, piece: &mut [u8]) -> Result<usize, Shelf
     Err(ShelfFault)
 }
 
-/// A stream to write to, as standard output. Each piece goes to the system at once: nothing is kept here.
+/// A stream to write to, such as standard output. It isn't buffered.
 #[derive(Drop)]
 pub struct StdSink<W: Write + Drop> {
     stream: W,
@@ -129,6 +130,7 @@ pub struct StdSink<W: Write + Drop> {
 impl<W: Write + Drop> StdSink<W> {
     ghost use Rattle.cweb_system.specs.inner.Devices.{sink_failures};
 
+    /// A sink without failures so far.
     pub fn new(stream: W) -> Self
         ensures { sink_failures result ≡ 0 }
     {
@@ -145,7 +147,7 @@ impl<W: Write + Drop> Sink for StdSink<W> {
 
     ghost failed = { sink_failures };
 
-    /// The bytes that it takes go to the stream, in their order: it loses and adds none.
+    /// The bytes go to the stream in order; none is lost or added.
     fn write(&mut self, piece: &[u8]) -> Result<usize, SinkFault>
         requires { sink_failures self.old + 1 < 2 ^ 64 }
         ensures failed { CountsFailure (sink_failures self.old) (sink_failures self.new) result }
@@ -166,7 +168,7 @@ impl<W: Write + Drop> Sink for StdSink<W> {
     }
 }
 
-/// One write, begun anew where a signal broke it off. A stream that takes nothing of a piece that has bytes has failed.
+/// One write, repeated if a signal interrupts it. It is a failure if the stream takes nothing of a nonempty chunk.
 pub(crate) fn write_once<W: Write>(stream: &mut W, piece: &[u8]) -> Result<usize, SinkFault>
     ensures within { IfOk result (λ n. n ≤ length piece.now) }
     ensures some { 0 < length piece.now → IfOk result (λ n. 0 < n) }

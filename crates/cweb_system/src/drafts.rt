@@ -1,4 +1,4 @@
-// Drafts of files of the system.
+// Drafts: files that become outputs when they are renamed.
 ghost use Rattle.std.specs.Prelude.{◌≡◌, ◌++◌, [], ◌∷◌, string_bytes, IfOk, IfErr, IsErr, OnOk};
 ghost use Rattle.std.specs.Io.Buffered.{writer_buffer};
 ghost use Rattle.std.specs.IoError.{error_kind};
@@ -15,35 +15,35 @@ use std::os::unix::fs::{OpenOptionsExt, PermissionsExt};
 use std::rt::Files;
 use std::{fs, io};
 
-/// What a draft's name has after its file's: byte 127.
+/// The suffix of a draft's name: byte 127.
 const DRAFT_SUFFIX: &str = "\u{7f}";
 
-/// The bytes that are gathered before they are written.
+/// The size of the buffer before a file.
 pub(crate) const BUFFER_SIZE: usize = 65536;
 
-/// How often a run tries to create a draft while others interfere.
+/// How often a run tries to create a draft while other runs interfere.
 const TURNS: u32 = 100_000;
 
-/// A draft's owner may read and write it, whatever the file's permissions, so that other runs can wait for its lock.
+/// The owner may always read and write a draft, so that other runs can wait for its lock.
 const OWNERS: u32 = 0o600;
 
-/// A draft that is open for writing. It was created by this run, and holds the system's lock.
+/// A draft that this run has created, locked, and opened for writing.
 #[derive(Drop)]
 pub(crate) struct Draft<F: Write + Drop> {
-    /// The name of the file that it is to become.
+    /// The name of the file that it becomes.
     pub(crate) name: String,
     /// The draft's own name.
     path: String,
-    /// The file that it is, and will be.
+    /// The identity of the draft, and later of the file.
     pub(crate) file: FileKey,
     pub(crate) out: BufWriter<F>,
 }
 
-/// A draft that was just created: the file, and by what it is known.
+/// A draft that was just created, and its identity.
 type Created<F> = (F, FileKey);
 
 impl<F: Write + OpenFile + LockableFile + Drop> Draft<F> {
-    /// Begins an empty draft of a name. It is no more open to others than the file that it replaces, if there is one.
+    /// Begins an empty draft. It grants others no more access than the file that it replaces, if there is one.
     pub(crate) fn begin<R: Files<File = F>>(
         alloc: Global,
         files: &R,
@@ -82,8 +82,7 @@ impl<F: Write + OpenFile + LockableFile + Drop> Draft<F> {
         })
     }
 
-    /// Writes what was gathered, and renames the draft to its file's name. It is an error if another file has the draft's path
-    /// by now: that file would be renamed.
+    /// Flushes and renames the draft. It is an error if another file has its path by now: that one would be renamed.
     pub(crate) fn put_in_place<R: Files<File = F>>(&mut self, files: &R) -> io::Result<()>
         ensures flushed { OnOk result (writer_buffer self.new.out ≡ []) }
     {
@@ -107,7 +106,7 @@ impl<F: Write + OpenFile + LockableFile + Drop> Draft<F> {
         Ok(())
     }
 
-    /// Deletes it; what was gathered isn't written. Another file that has its path by now stays.
+    /// Deletes the draft, without a flush. Another file that has its path by now stays.
     pub(crate) fn delete<R: Files<File = F>>(self, files: &R) {
         let Draft {
             name: _,
@@ -115,7 +114,7 @@ impl<F: Write + OpenFile + LockableFile + Drop> Draft<F> {
             file,
             out,
         } = self;
-        // the lock is held until it is deleted
+        // Holds the lock until the draft is deleted.
         let _held = out.into_parts();
         if may_be_at(files, path.as_str(), file) {
             let _ = fs::remove_file(files, path.as_str());
@@ -123,7 +122,7 @@ impl<F: Write + OpenFile + LockableFile + Drop> Draft<F> {
     }
 }
 
-/// Clears a draft's path, and creates the draft.
+/// Clears the draft's path and creates the draft.
 fn created<R: Files<File: LockableFile>>(
     files: &R,
     path: &str,
@@ -138,7 +137,7 @@ fn created<R: Files<File: LockableFile>>(
     Err(Error::from(ErrorKind::AlreadyExists))
 }
 
-/// Tries once to create a draft. None: its path was taken and is cleared now, or another run removed the new draft.
+/// Tries once to create a draft. `None`: its path was taken and is cleared now, or another run removed the new draft.
 fn created_now<R: Files<File: LockableFile>>(
     files: &R,
     path: &str,
@@ -157,13 +156,13 @@ fn created_now<R: Files<File: LockableFile>>(
     }
 }
 
-/// Locks a draft that was just created. Another run may have locked and removed it first, as one that was left.
+/// Locks a draft that was just created. Another run may have locked and removed it first, as a leftover.
 fn taken<R: Files<File: LockableFile>>(
     files: &R,
     path: &str,
     file: R::File,
 ) -> io::Result<Option<Created<R::File>>> {
-    // where the system has no locks, without one
+    // A system without locks is no error.
     let _ = file.lock();
     match key_at(files, path, &file) {
         Ok(Some(key)) => Ok(Some((file, key))),
@@ -175,13 +174,13 @@ fn taken<R: Files<File: LockableFile>>(
     }
 }
 
-/// The key of an open file, if a path names that file.
+/// The identity of an open file, if a path names that file.
 fn key_at<R: Files>(files: &R, path: &str, file: &R::File) -> io::Result<Option<FileKey>> {
     let file = FileKey::of_open(file)?;
     Ok(metadata_if_same_file(files, path, file)?.map(|_| file))
 }
 
-/// Removes what was left at a draft's path. A folder stays, and so does what the run has read: either is an error.
+/// Removes a leftover at the draft's path. It is an error if a folder is there, or a file that the run has read.
 fn clear<R: Files<File: LockableFile>>(
     files: &R,
     path: &str,
@@ -202,8 +201,7 @@ fn clear<R: Files<File: LockableFile>>(
     }
 }
 
-/// Waits until no run holds a draft, and removes it if it is still there: a run that was killed left it. One that may not be
-/// opened can't be waited for.
+/// Waits until no run holds a draft, and removes it if it is still there. If it may not be opened, there is no wait.
 fn clear_file<R: Files<File: LockableFile>>(
     files: &R,
     path: &str,
@@ -225,7 +223,6 @@ fn clear_file<R: Files<File: LockableFile>>(
     }
 }
 
-/// The name of a file's draft.
 fn draft_path(alloc: Global, name: &str) -> Result<String, AllocError>
     ensures { IfOk result (λ path. string_bytes path ≡ name.now ++ 127 ∷ []) }
 {
@@ -234,7 +231,7 @@ fn draft_path(alloc: Global, name: &str) -> Result<String, AllocError>
     Ok(path)
 }
 
-/// Out of memory is the only refusal of the system that has a fault of its own.
+/// Maps an error to a fault. Only "out of memory" has a fault of its own.
 pub(crate) fn start_fault(error: &Error) -> BinFault
     ensures memory { error_kind error.now ≡ ErrorKind.OutOfMemory → result ≡ BinFault.Memory }
     ensures device { (error_kind error.now ≡ ErrorKind.OutOfMemory → ⊥) → result ≡ BinFault.Device }

@@ -1,10 +1,10 @@
-// The files that a run has read. No output replaces one.
+// The files that a run has read. No output replaces one of them.
 use crate::system::FileKey;
 use std::alloc::{AllocError, Global};
 use std::cell::Cell;
 use std::collections::BTreeSet;
 
-/// The files that a run has read. A shelf notes each file that it opens, and bins look at them when an output begins.
+/// The files that a run has read. A shelf records each file that it opens; bins check them when an output begins.
 #[derive(Drop)]
 pub struct FilesRead {
     alloc: Global,
@@ -12,6 +12,7 @@ pub struct FilesRead {
 }
 
 impl FilesRead {
+    /// An empty set.
     pub fn new(alloc: Global) -> Self {
         FilesRead {
             alloc,
@@ -19,7 +20,7 @@ impl FilesRead {
         }
     }
 
-    /// Takes the keys out, to look at them. The caller puts them back.
+    /// Takes the keys out of the cell to inspect them. The caller puts them back.
     pub(crate) fn take(&self) -> BTreeSet<FileKey> {
         self.keys.replace(BTreeSet::new(self.alloc))
     }
@@ -28,7 +29,7 @@ impl FilesRead {
         self.keys.set(keys);
     }
 
-    /// Notes a file that is read.
+    /// Records a file that is read.
     pub(crate) fn note(&self, file: FileKey) -> Result<(), AllocError> {
         let mut keys = self.take();
         let noted = keys.insert(file);

@@ -23,7 +23,7 @@ impl FilesWritten {
         }
     }
 
-    /// Notes a file and its name.
+    /// Records a file and its name.
     pub(crate) fn note(&mut self, file: FileKey, name: &str) -> Result<(), AllocError>
         ensures { OnOk result (written_name self.new file ≡ Some name.now) }
     {
@@ -32,8 +32,8 @@ impl FilesWritten {
         Ok(())
     }
 
-    /// Whether a file was written under another name. If that name no longer leads to it, another run has replaced it, and the
-    /// system may have given its key to another file.
+    /// Whether a file was written under another name. It isn't if that name now leads elsewhere: another run has
+    /// replaced the file, and the system may have reused its key.
     pub(crate) fn has_other_name<R: Files>(&self, files: &R, name: &str, file: FileKey) -> bool
         ensures same { written_name self.now file ≡ Some name.now → result ≡ false }
         ensures none { written_name self.now file ≡ None → result ≡ false }

@@ -1,20 +1,20 @@
-//! The files and the streams of the system, as a shelf, a sink and a place that keeps files.
+//! Files and streams of the system as a shelf, as sinks and as bins.
 #![tactic(auto)]
 
 // the shelf and the streams
 mod devices;
 mod files_read;
 
-// the place that keeps files
+// the bins
 mod bins;
 mod files_written;
 
-// what is under an output's name, and what the output is then written to
+// the entry under an output's name, and what the output is written to
 mod drafts;
 mod path_entry;
 mod target;
 
-// what is asked of the system
+// calls to the system
 mod system;
 
 pub use bins::FolderBins;

@@ -1,4 +1,4 @@
-// How an output is to be written, by what is under its name.
+// How an output is written, by the entry under its name.
 ghost use Rattle.std.specs.Prelude.{◌≡◌, ◌↔◌, Some, Contains, IsTrue};
 ghost use Rattle.cweb_system.specs.inner.WaysToWrite.{IsDevice, IsDeviceFound, IsFileOf, IsReadOrOwn};
 ghost use Rattle.cweb_system.specs.inner.WaysToWrite.{IsReadByRun, permission_bits, way_over};
@@ -11,16 +11,16 @@ use std::os::unix::fs::MetadataExt;
 use std::rt::Files;
 use std::{fs, io};
 
-/// Who may read, write and run a file; the bits above (setuid, setgid, sticky) aren't kept.
+/// The permission bits of a file. The bits above (setuid, setgid, sticky) aren't preserved.
 const PERMISSIONS: u32 = 0o777;
 
-/// What is under a path.
+/// The entry under a path.
 #[derive(Clone, Copy)]
 pub(crate) enum PathEntry {
     Nothing,
     /// A regular file and its permissions.
     File(FileKey, u32),
-    /// A link to a file or a folder, with that one's key; or a link that can't be followed.
+    /// A link with the key of its target file or folder, or `None` if it can't be followed.
     Link(Option<FileKey>),
     Folder,
     /// A device, a FIFO or a socket, or a link to one.
@@ -30,15 +30,14 @@ pub(crate) enum PathEntry {
 /// How an output is written.
 #[derive(Clone, Copy)]
 pub(crate) enum Way {
-    /// By a draft that replaces what is there: a file with these permissions, if it is one.
+    /// To a draft that replaces the entry. If that is a file, it has these permissions.
     Draft(Option<u32>),
-    /// To this device.
     Device(FileKey),
     Refused,
 }
 
 impl PathEntry {
-    /// What is under a path, now.
+    /// Looks up the entry under a path.
     pub(crate) fn of<R: Files>(files: &R, path: &str) -> io::Result<PathEntry> {
         let Some(found) = metadata_at(files, path)? else {
             return Ok(PathEntry::Nothing);
@@ -52,7 +51,7 @@ impl PathEntry {
         })
     }
 
-    /// What was found, which is no link.
+    /// The entry for an object that isn't a link.
     fn of_found(found: &Metadata) -> PathEntry
         ensures file { IsFile (file_type found.now) → IsFileOf (permission_bits found.now) result }
         ensures folder { IsDir (file_type found.now) → result ≡ PathEntry.Folder }
@@ -68,7 +67,7 @@ impl PathEntry {
         }
     }
 
-    /// A link to something of this type and key. A link to a device counts as the device.
+    /// A link to an object of this type and key. A link to a device counts as the device.
     fn of_link(kind: FileType, target: FileKey) -> PathEntry
         ensures device { IsDevice kind → result ≡ PathEntry.Device target }
         ensures other { (IsDevice kind → ⊥) → result ≡ PathEntry.Link (Some target) }
@@ -80,8 +79,7 @@ impl PathEntry {
         }
     }
 
-    /// How an output of this name is written, in a run that has read some files. The flag says that the file or the link's
-    /// target is the run's own.
+    /// How an output is written, given the files that were read. `is_own`: the run owns the file or the link's target.
     pub(crate) fn way(self, read: &BTreeSet<FileKey>, is_own: bool) -> Way
         ensures of_run { IsReadOrOwn read.now.keys is_own self → result ≡ Way.Refused }
         ensures other { (IsReadOrOwn read.now.keys is_own self → ⊥) → result ≡ way_over self }
@@ -97,7 +95,7 @@ impl PathEntry {
         }
     }
 
-    /// Whether an output would replace what the run has read, or what is its own.
+    /// Whether an output would replace a file that the run has read or owns.
     fn is_read_or_own(self, read: &BTreeSet<FileKey>, is_own: bool) -> bool
         ensures { IsTrue result ↔ IsReadOrOwn read.now.keys is_own self }
     {
@@ -108,7 +106,7 @@ impl PathEntry {
         }
     }
 
-    /// Whether the run has read it, under whatever name.
+    /// Whether the run has read it, under any name.
     pub(crate) fn is_read(self, read: &BTreeSet<FileKey>) -> bool
         ensures { IsTrue result ↔ IsReadByRun read.now.keys self }
     {
@@ -127,7 +125,7 @@ fn is_among(files: &BTreeSet<FileKey>, file: FileKey) -> bool
     files.contains(&file)
 }
 
-/// Who may read, write and run what was found.
+/// The permission bits.
 pub(crate) fn permissions(found: &Metadata) -> u32
     ensures { result ≡ permission_bits found.now }
 {

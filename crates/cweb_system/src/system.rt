@@ -1,4 +1,4 @@
-// What the system knows of files, beyond what `Files` asks.
+// Calls to the system beyond those of `Files`.
 use std::fs::{File, Metadata, OpenFile};
 use std::io::ErrorKind;
 use std::os::fd::AsRawFd;
@@ -6,16 +6,16 @@ use std::os::unix::fs::MetadataExt;
 use std::rt::Files;
 use std::{fs, io};
 
-/// The descriptor of standard error, the last one of the standard streams.
+/// The descriptor of standard error, the last standard stream.
 const LAST_STREAM: i32 = 2;
 
-/// A folder that can be opened for reading anywhere.
+/// A folder that can be opened for reading on every system.
 const ROOT: &str = "/";
 
-/// Links of the system to the files that are the standard streams.
+/// The system's links to the standard streams.
 const STREAMS: [&str; 3] = ["/proc/self/fd/0", "/proc/self/fd/1", "/proc/self/fd/2"];
 
-/// A file by its device and its number there: it is the same one under all its names.
+/// The identity of a file: its device and inode number. It is the same under all names of the file.
 #[derive(Clone, Copy, Debug, PartialEq, Eq, PartialOrd, Ord)]
 pub(crate) struct FileKey {
     device: u64,
@@ -30,7 +30,6 @@ impl FileKey {
         }
     }
 
-    /// The key of an open file.
     pub(crate) fn of_open<F: OpenFile>(file: &F) -> io::Result<FileKey> {
         Ok(FileKey::of(&file.metadata()?))
     }
@@ -38,16 +37,15 @@ impl FileKey {
 
 /// An open file that can be locked, and whose descriptor is known.
 pub trait LockableFile {
-    /// Waits until no other opening of the file holds its lock, and takes it until this one is closed. An error where the
-    /// system has no locks for the file.
+    /// Waits for the file's lock, which is held until this opening is closed. Fails if the system has no such locks.
     fn lock(&self) -> io::Result<()>;
 
-    /// Whether it has the descriptor of a standard stream, which was closed before.
+    /// Whether it has the descriptor of a standard stream, which must have been closed.
     fn is_stream(&self) -> bool;
 }
 
 impl LockableFile for File {
-    /// Over a network the lock of one alone may take a file that is open for writing; to wait, a shared one serves.
+    /// Over a network an exclusive lock may require a file open for writing. A shared lock suffices to wait.
     fn lock(&self) -> io::Result<()> {
         match File::lock(self) {
             Ok(()) => Ok(()),
@@ -72,7 +70,7 @@ pub(crate) fn is_stream<R: Files>(files: &R, file: FileKey) -> bool {
     false
 }
 
-/// What is under a path, if anything. A link isn't followed.
+/// The metadata of the entry under a path, if any. Links aren't followed.
 pub(crate) fn metadata_at<R: Files>(files: &R, path: &str) -> io::Result<Option<Metadata>> {
     match fs::symlink_metadata(files, path) {
         Ok(found) => Ok(Some(found)),
@@ -83,7 +81,7 @@ pub(crate) fn metadata_at<R: Files>(files: &R, path: &str) -> io::Result<Option<
     }
 }
 
-/// What is under a path, if it is this very file.
+/// The metadata of the entry under a path, if it is this very file.
 pub(crate) fn metadata_if_same_file<R: Files>(
     files: &R,
     path: &str,
@@ -100,7 +98,7 @@ pub(crate) fn may_be_at<R: Files>(files: &R, path: &str, file: FileKey) -> bool 
     !matches!(metadata_if_same_file(files, path, file), Ok(None))
 }
 
-/// Removes what is under a path, if anything.
+/// Removes the entry under a path, if any.
 pub(crate) fn remove<R: Files>(files: &R, path: &str) -> io::Result<()> {
     match fs::remove_file(files, path) {
         Ok(()) => Ok(()),
@@ -111,7 +109,7 @@ pub(crate) fn remove<R: Files>(files: &R, path: &str) -> io::Result<()> {
     }
 }
 
-/// Takes the descriptor of a standard stream that is closed, if there is one.
+/// Opens a file on the descriptor of a closed standard stream, if there is one.
 pub(crate) fn fill_closed_stream<R: Files<File: LockableFile>>(files: &R) -> Option<R::File> {
     match fs::open(files, ROOT) {
         Ok(folder) if folder.is_stream() => Some(folder),

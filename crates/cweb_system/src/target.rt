@@ -1,4 +1,4 @@
-// What an output of the system's folders is written to.
+// What an output is written to.
 ghost use Rattle.std.specs.Prelude.{◌≡◌, ◌≤◌, ◌<◌, [], length, take, IfOk, IfErr, OnOk};
 ghost use Rattle.std.specs.Io.KnownBytes.{Appends};
 
@@ -12,10 +12,8 @@ use std::io;
 use std::io::{BufWriter, Error, ErrorKind, Write};
 use std::rt::Files;
 
-/// What an output is written to.
 #[derive(Drop)]
 pub(crate) enum Target<F: Write + Drop> {
-    /// A draft of a file.
     Draft(Draft<F>),
     /// A device or a FIFO, which is written without a draft.
     Device(BufWriter<F>),
@@ -24,7 +22,7 @@ pub(crate) enum Target<F: Write + Drop> {
 impl<F: Write + OpenFile + LockableFile + Drop> Target<F> {
     ghost use Rattle.cweb_system.specs.inner.Devices.{target_bytes, buffered_output_bytes, IsDeviceOpen};
 
-    /// Opens a device for writing, if it still is the one that was seen.
+    /// Opens a device for writing, if it still is the one that was looked up.
     pub(crate) fn open_device<R: Files<File = F>>(
         alloc: Global,
         files: &R,
@@ -44,7 +42,7 @@ impl<F: Write + OpenFile + LockableFile + Drop> Target<F> {
         }
     }
 
-    /// Adds bytes, in their order: none is lost and none is added.
+    /// Appends bytes; none is lost or added.
     pub(crate) fn write(&mut self, piece: &[u8]) -> Result<usize, SinkFault>
         ensures within { IfOk result (λ n. n ≤ length piece.now) }
         ensures some { 0 < length piece.now → IfOk result (λ n. 0 < n) }
@@ -57,7 +55,7 @@ impl<F: Write + OpenFile + LockableFile + Drop> Target<F> {
         }
     }
 
-    /// Writes what was gathered, and renames a draft to its file's name. If either fails, the output is given up.
+    /// Flushes, and renames a draft. If either fails, the output is abandoned.
     pub(crate) fn commit<R: Files<File = F>>(mut self, files: &R) -> Result<(), BinFault>
         ensures { IfErr result (λ fault. fault ≡ BinFault.Device) }
     {
@@ -77,7 +75,7 @@ impl<F: Write + OpenFile + LockableFile + Drop> Target<F> {
         }
     }
 
-    /// Deletes a draft, and closes a device. What was gathered isn't written.
+    /// Deletes a draft, or closes a device. Buffered bytes aren't written.
     pub(crate) fn abandon<R: Files<File = F>>(self, files: &R) {
         match self {
             Target::Draft(draft) => draft.delete(files),
@@ -88,8 +86,7 @@ impl<F: Write + OpenFile + LockableFile + Drop> Target<F> {
     }
 }
 
-/// Opens a device for writing, through links too. If the name leads to something else by now, that is an error, and nothing
-/// is changed.
+/// Opens a device for writing, also through links. If the name leads elsewhere by now, it fails and changes nothing.
 fn opened<R: Files>(files: &R, name: &str, device: FileKey) -> io::Result<R::File> {
     let file = OpenOptions::new().write(true).open(files, name)?;
     if FileKey::of_open(&file)? == device {

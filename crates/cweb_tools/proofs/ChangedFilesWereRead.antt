@@ -1,35 +1,35 @@
--- Where a run changed the files, all was read.
+-- A run that changed the files has read everything.
 use Rattle.cweb_tools.proofs.Common.{◌≡◌, ◌≢◌, inl, inr, ℕ, ◌+◌, Bool, false, List, [], ◌∷◌, ◌++◌, ◌∙◌, ap, Some, add-zero, Stop, ReadFault, LogItem, banner, fault_count, Shown, DeviceState, Act, says, opens, reads, writes, after_act, ending, Breaks, PerformsActs, TangleEnds, completes, stops, when, TangleCourse, unread, not_there, change_not_there, tangling, script, web_acts, planned_acts, closing_acts, Planning, refused, planned, Web, ActsKeepLimits, TangleKeepsLimits, ReadAll}
 use Rattle.cweb_tools.proofs.Leaving.{broken, stop_logged}
 use Rattle.cweb_tools.proofs.WebActs.{when_on, said_on, starred_on, outputs_on, closing_on}
 use Rattle.cweb_tools.proofs.Endings.{counts_all, limits_all}
 
--- nothing is read in these acts
+-- These acts read nothing.
 abbrev ReadsNone : List Act → Type 0
 ReadsNone [] = Unit {0}
 ReadsNone (reads names events ∷ acts) = ⊥
 ReadsNone (_ ∷ acts) = ReadsNone acts
 
--- nothing is read once a file is written
+-- Nothing is read after the first file is written.
 abbrev ReadsFirst : List Act → Type 0
 ReadsFirst [] = Unit {0}
 ReadsFirst (writes name text ∷ acts) = ReadsNone acts
 ReadsFirst (_ ∷ acts) = ReadsFirst acts
 
--- acts that read nothing read nothing once a file is written
+-- Acts that read nothing also read nothing after the first file is written.
 reads_first : (acts : List Act) → ReadsNone acts → ReadsFirst acts
 reads_first [] none = tt
 reads_first (reads names events ∷ acts) none = absurd none
 reads_first (writes name text ∷ acts) none = none
 reads_first (act ∷ acts) none = reads_first acts none
 
--- acts that read nothing keep the limits and raise no count of the shelf
+-- Acts that read nothing keep the limits and don't increase the shelf's failure count.
 keeps_none : (acts : List Act) → ReadsNone acts → ActsKeepLimits acts
 keeps_none [] none = tt
 keeps_none (reads names events ∷ acts) none = absurd none
 keeps_none (act ∷ acts) none = (tt, keeps_none acts none)
 
--- no act but reading is stopped by the shelf
+-- The shelf stops only acts of reading.
 shelf_stays : (act : Act) (stop : Stop) (about : List ℕ) (old new : DeviceState) → ReadsNone (act ∷ [])
     → Breaks act (ending stop about) old new → new.shelf_failed ≡ old.shelf_failed
 shelf_stays (reads names events) stop about old new none broke = absurd none
@@ -44,7 +44,7 @@ shelf_none (act ∷ acts) stop about old new none (inl run) =
     shelf_none acts stop about (after_act act old) new none run.1
 shelf_none (act ∷ acts) stop about old new none (inr here) = shelf_stays act stop about old new tt here
 
--- any item may be logged
+-- Any item may be logged.
 abbrev Any : LogItem → Type 0
 Any item = Unit {0}
 
@@ -68,7 +68,7 @@ reads_first-banner : (shown : Shown) (acts : List Act) → ReadsFirst acts → R
 reads_first-banner shown acts first =
     when_on (λ item. Unit {0}) ReadsFirst (λ item acts said rest. rest) shown.banner banner acts tt first
 
--- a script reads nothing once a file is written
+-- A script reads nothing after the first file is written.
 script_reads_first : (shown : Shown) (course : TangleCourse) → ReadsFirst (script shown course)
 script_reads_first shown unread = tt
 script_reads_first shown (not_there web) = reads_first-banner shown (opens ∷ says _ ∷ []) tt
@@ -76,7 +76,7 @@ script_reads_first shown (change_not_there change) = reads_first-banner shown (o
 script_reads_first shown (tangling files events web) = reads_first-banner shown
     (opens ∷ reads files events ∷ web_acts shown web) (reads_first (web_acts shown web) (reads_none-web shown web))
 
--- and keeps the limits where its merge does
+-- A script keeps the limits if its merge does.
 keeps-banner : (shown : Shown) (acts : List Act) → ActsKeepLimits acts
     → ActsKeepLimits (when shown.banner banner ++ acts)
 keeps-banner shown acts keeps =

@@ -1,4 +1,4 @@
--- The names that the proofs of this crate cite, passed on from one place. Declares nothing.
+-- Imports that the proofs of this crate share.
 pub use Rattle.std.proofs.Common.{◌≡◌, inl, inr, List, [], ◌∷◌, ◌++◌, sym, ◌∙◌, ap, append-nil, append_assoc, ◌+◌, ℕ}
 pub use Rattle.std.proofs.Common.{refl, add-zero, false, Bool, subst, arith, ◌≤◌, ◌⊎◌, ◌<◌, zero, suc, true, cond}
 pub use Rattle.std.proofs.Common.{length, map, length-append, not, ◌≢◌, take, drop, get_or, drop-cons, ◌&&◌, ◌||◌}

@@ -1,8 +1,8 @@
--- Calls one after another, and what they leave in the devices.
+-- The effect of consecutive calls on the devices.
 use Rattle.cweb_tools.proofs.Common.{◌≡◌, inl, inr, ◌+◌, ℕ, List, [], ◌∷◌, ◌++◌, refl, sym, ◌∙◌, ap, add-zero, arith, false, Option, Some, None, IsErr, IsTrue, Result, Ok, Err, Beside, always_open, read_failures_of, LogFault, SinkModel, Devices, ShelfModel, Act, Breaks, Ending, ending, DeviceState, PerformsActs, after_act, says, AgreesWith, Closes, ClosesLog, Does, DoesInBins, DoesInBoth, DoesInLog, bins_blame, done, halted, log_blame, rise, log_ending}
 use Rattle.cweb_tools.proofs.Running.{runs_on, stops_in}
 
--- nothing was done that the devices show
+-- Nothing observable was done.
 pub quietly : {acts : List Act} {why : Option Ending} {seen : Devices} → rise read_failures_of why ≡ 0
     → rise bins_blame why
     ≡ 0 → rise log_blame why ≡ 0 → ((now : DeviceState) → PerformsActs acts why now now) → Does acts why seen seen
@@ -19,7 +19,7 @@ quietly no_read no_bins no_log runs = record {
 pub does_none : {seen : Devices} → Does [] None seen seen
 does_none = quietly refl refl refl (λ now. refl)
 
--- the first acts were done, and then the others
+-- The first acts were done, and then the others.
 pub does_on : {xs ys : List Act} {why : Option Ending} {before mid after : Devices}
     → Does xs None before mid → Does ys why mid after → Does (xs ++ ys) why before after
 does_on {xs} {ys} {why} {before} first then = record {
@@ -39,7 +39,7 @@ does_on {xs} {ys} {why} {before} first then = record {
       };
 }
 
--- acts do what others do that leave the same
+-- Acts that lead to equal states have the same effect.
 does_as : {xs ys : List Act} {why other : Option Ending} {before after : Devices}
     → rise read_failures_of other ≡ rise read_failures_of why → rise bins_blame other ≡ rise bins_blame why
     → rise log_blame other ≡ rise log_blame why
@@ -57,18 +57,18 @@ does_as {before} shelf bins log runs does = record {
       record { left = lead.left; told = lead.told; runs = runs now lead.left lead.runs };
 }
 
--- something stopped the first acts
+-- Something stopped the first acts.
 pub does_in : {xs : List Act} (ys : List Act) {why : Ending} {before after : Devices}
     → Does xs (Some why) before after → Does (xs ++ ys) (Some why) before after
 does_in {xs} ys {why} first = does_as refl refl refl (stops_in xs ys why) first
 
--- the first acts were done, and the run ended in the others
+-- The first acts were done, and the run ended in the others.
 pub closes_on : {xs ys : List Act} {due : ℕ} {before mid after : Devices} {status : ℕ}
     → Does xs None before mid → Closes ys due mid after status → Closes (xs ++ ys) due before after status
 closes_on first (done does answered) = done (does_on first does) answered
 closes_on first (halted why then does logs answered) = halted why then (does_on first does) logs answered
 
--- something stopped the first acts, and that was logged
+-- Something stopped the first acts, and it was logged.
 pub closes_in : {xs : List Act} (ys : List Act) {due : ℕ} {why : Ending} {before then after : Devices}
     {status : ℕ}
     → Does xs (Some why) before then → ClosesLog why then after → status ≡ 1 → Closes (xs ++ ys) due before after status
@@ -80,18 +80,18 @@ no_shelf = record { tells = false; failed = 0; texts = λ name. None; blamed = [
 abbrev no_bins : SinkModel
 no_bins = record { tells = false; failed = 0; bytes = []; beside = always_open }
 
--- what happened to the count of a log alone
+-- The log's failure count.
 pub log_counted : {acts : List Act} {why : Option Ending} {old new : SinkModel}
     → DoesInLog acts why old new → new.failed ≡ old.failed + rise log_blame why
 log_counted does = (does no_shelf no_bins).log
 
--- the log failed in the first acts
+-- The log failed in the first acts.
 pub log_fails : {E B F : Type 0} (e : E) (r : Result B F) {xs : List Act} (ys : List Act) {old new : SinkModel}
     → DoesInLog xs (log_ending {A = Unit {0}} (Err e)) old new → IsErr r → DoesInLog (xs ++ ys) (log_ending r) old new
 log_fails e (Ok x) ys does is = absurd (cc)
 log_fails e (Err f) ys does is = λ shelf bins. does_in ys (does shelf bins)
 
--- what a stop of the log is about plays no part
+-- The name of a log fault doesn't matter.
 break_about : (act : Act) (a b : List ℕ) (old new : DeviceState)
     → Breaks act (ending LogFault a) old new → Breaks act (ending LogFault b) old new
 break_about (says item) a b old new broke = broke
@@ -107,7 +107,7 @@ pub does_about : {acts : List Act} {a b : List ℕ} {before after : Devices}
     → Does acts (Some (ending LogFault a)) before after → Does acts (Some (ending LogFault b)) before after
 does_about {acts} {a} {b} does = does_as refl refl refl (log_about acts a b) does
 
--- what happened to the counts of both
+-- The failure counts of bins and log.
 pub bins_counted : {acts : List Act} {why : Option Ending} {a b : SinkModel} {k l : SinkModel}
     → DoesInBoth acts why a b k l → b.failed ≡ a.failed + rise bins_blame why
 bins_counted does = (does no_shelf).bins
@@ -116,11 +116,11 @@ pub logs_counted : {acts : List Act} {why : Option Ending} {a b : SinkModel} {k 
     → DoesInBoth acts why a b k l → l.failed ≡ k.failed + rise log_blame why
 logs_counted does = (does no_shelf).log
 
--- what stands beside the bytes of a draft
+-- The bins' state beside the bytes of a draft.
 abbrev pub beside_of : DeviceState → Beside
 beside_of now = record { files = now.files; draft = now.draft; refused = now.refused }
 
--- what the devices hold where the bins alone have changed: by what they held before and a change of it
+-- The state after a change of the bins only.
 abbrev pub with_bins : DeviceState → ℕ → Beside → DeviceState
 with_bins now count beside =
     record now { bins_failed = count; files = beside.files; draft = beside.draft; refused = beside.refused }
@@ -150,7 +150,7 @@ bins_told {now} count shelf a d log change log_ending tells beside counted =
       log = log_ending.log;
     }
 
--- acts that change the bins alone
+-- Acts that change only the bins.
 pub does_in_bins : {acts : List Act} {why : Option Ending} (more : ℕ → ℕ) (change : Beside → Beside) {a d : SinkModel}
     → rise read_failures_of why ≡ 0 → rise log_blame why ≡ 0 → ((n : ℕ) → more n ≡ n + rise bins_blame why)
     → d.tells ≡ a.tells → d.failed ≡ more a.failed → (IsTrue a.tells → d.beside ≡ change a.beside)

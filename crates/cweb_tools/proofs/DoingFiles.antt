@@ -1,8 +1,8 @@
--- A file that was begun, printed and committed, and how a run ends behind calls.
+-- A file that is begun, printed and committed, and the end of a run after calls.
 use Rattle.cweb_tools.proofs.Common.{◌≡◌, inl, inr, ◌+◌, ℕ, Bool, List, [], ◌∷◌, ◌++◌, refl, sym, ◌∙◌, ap, subst, add-zero, Option, Some, None, IsTrue, Result, Ok, Err, Beside, committed, with_draft, without_draft, WriteFault, Stop, LogFault, Memory, stop_line, Logs, SinkModel, Shown, Act, Breaks, Ending, ending, DeviceState, plans, reserves, writes, Does, Closes, Devices, ShelfModel, ClosesInLog, DoesInBins, DoesInLog, done, halted, log_blame, log_ending, Numbers, closing_acts}
 use Rattle.cweb_tools.proofs.Doing.{closes_in, does_in_bins, quietly}
 
--- a file was begun, printed and committed
+-- A file was begun, printed and committed.
 pub file_done : (name text : List ℕ) {a : SinkModel} (b c : SinkModel) {d : SinkModel}
     → b.tells ≡ a.tells → b.failed ≡ a.failed → (IsTrue a.tells → b.beside ≡ with_draft name a.beside)
     → (IsTrue a.tells → b.bytes ≡ []) → c.tells ≡ b.tells → c.failed ≡ b.failed → (IsTrue b.tells → c.beside ≡ b.beside)
@@ -16,14 +16,14 @@ file_done name text b c tells failed begun empty tells' failed' beside printed t
     commits tell-c ∙ (λ i. committed ((beside tell-b ∙ begun tell) i)
     ((printed tell-b ∙ ap (λ (t : List ℕ). t ++ text) (empty tell)) i))) (λ now. inl (tt, refl))
 
--- a file was begun, and could not be printed or committed
+-- A file was begun, and could not be printed or committed.
 pub not_written : (name text : List ℕ) {a d : SinkModel} → d.tells ≡ a.tells → d.failed ≡ a.failed + 1
     → (IsTrue a.tells → d.beside ≡ without_draft (with_draft name a.beside))
     → DoesInBins (writes name text ∷ []) (Some (ending WriteFault name)) a d
 not_written name text tells failed beside = does_in_bins (λ n. n + 1) (λ (b : Beside).
     without_draft (with_draft name b)) refl refl (λ n. refl) tells failed beside (λ now. inr (refl, refl))
 
--- the log failed, and so the run ends
+-- The log failed, which ends the run.
 pub log_halts_all : {acts : List Act} {due status : ℕ} {before after : Devices}
     → Does acts (Some (ending LogFault [])) before after → status ≡ 1 → Closes acts due before after status
 log_halts_all does one = halted (ending LogFault []) _ does (record { shelf = refl; bins = refl; log = refl }) one
@@ -32,20 +32,20 @@ pub log_halts : {xs : List Act} (ys : List Act) {due status : ℕ} {before after
     → Does xs (Some (ending LogFault [])) before after → status ≡ 1 → Closes (xs ++ ys) due before after status
 log_halts ys does one = closes_in ys does (record { shelf = refl; bins = refl; log = refl }) one
 
--- a run that ends in a call that logs, whatever that answers
+-- A run that ends in a call that logs, whatever its result.
 pub closes_told : {A E : Type 0} (r : Result A E) {acts : List Act} {due status : ℕ} {old new : SinkModel}
     → DoesInLog acts (log_ending r) old new → status ≡ due → status ≡ 1 → ClosesInLog acts due old new status
 closes_told (Ok x) does is one = λ shelf bins. done (does shelf bins) is
 closes_told (Err e) does is one = λ shelf bins. log_halts_all (does shelf bins) one
 
--- acts that show nothing in the devices
+-- Acts without observable effect.
 pub does_plan : {seen : Devices} → Does (plans ∷ []) None seen seen
 does_plan = quietly refl refl refl (λ now. inl (tt, refl))
 
 pub does_reserve : {seen : Devices} → Does (reserves ∷ []) None seen seen
 does_reserve = quietly refl refl refl (λ now. inl (tt, refl))
 
--- memory was refused at an act, and that was logged
+-- An allocation failed within an act, and it was logged.
 pub memory_halts : (act : Act) (acts : List Act) {due status : ℕ} {shelf : ShelfModel} {bins : SinkModel}
     {old new : SinkModel} → ((now : DeviceState) → Breaks act (ending Memory []) now now)
     → Logs (stop_line Memory []) old new
@@ -54,7 +54,7 @@ pub memory_halts : (act : Act) (acts : List Act) {due status : ℕ} {shelf : She
 memory_halts act acts breaks logs one = halted (ending Memory []) _
     (quietly refl refl refl (λ now. inr (breaks now))) (record { shelf = refl; bins = refl; log = logs }) one
 
--- what comes last, by equal numbers
+-- The closing acts, rewritten along equal numbers.
 pub closing_on : (shown : Shown)
     {n n' : Numbers} {count count' : ℕ} {missing missing' : Bool} {why : Option Ending} {old new : SinkModel}
     → n ≡ n' → count ≡ count' → missing ≡ missing' → DoesInLog (closing_acts shown n count missing) why old new
@@ -62,7 +62,7 @@ pub closing_on : (shown : Shown)
 closing_on shown {why} {old} {new} of_web of_faults of_text does = subst (λ (acts :
     List Act). DoesInLog acts why old new) (λ i. closing_acts shown (of_web i) (of_faults i) (of_text i)) does
 
--- a stop that isn't the log's doesn't raise its count
+-- Only a log fault increases the log's failure count.
 pub not_of_log : (stop : Stop) → (stop ≡ LogFault → ⊥) → log_blame stop ≡ 0
 not_of_log LogFault never = absurd (never refl)
 not_of_log stop never = refl

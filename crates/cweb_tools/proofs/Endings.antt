@@ -1,4 +1,4 @@
--- What the promises of a run say of its endings.
+-- The consequences of a run's promises for its endings.
 use Rattle.cweb_tools.proofs.Common.{taken_lines, ◌≡◌, ◌≢◌, ◌++◌, flat_map, LogItem, line, stop_line, inl, inr, ℕ, List, [], ◌∷◌, refl, ap, arith, Some, None, Stop, Usage, WebNotOpened, ChangeNotOpened, ReadFault, LineTooLong, TooMuchText, Memory, OutNotOpened, WriteFault, LogFault, DeviceState, Act, judges, reads, after_act, ending, Breaks, PerformsActs, TangleEnds, completes, stops, DoesAll, IsStopped, IsEnded, ActsKeepLimits}
 use Rattle.cweb_tools.proofs.AllDone.{files_all, log_all}
 use Rattle.cweb_tools.proofs.Limits.{beyond}
@@ -32,7 +32,7 @@ ends_so (completes run answered) = inl (does_all run answered)
 ends_so {acts} {old} {new} (stops (ending stop about) then run logs answered) =
     inr (stop, about, is_stopped acts then run logs, answered)
 
--- stops that want of memory and devices don't make
+-- Stops other than failed allocations and devices.
 abbrev Cause : Stop → Type 0 → Type 0
 Cause (LineTooLong file) within = ¬ within
 Cause TooMuchText within = ¬ within
@@ -41,7 +41,7 @@ Cause WebNotOpened within = ⊥
 Cause ChangeNotOpened within = ⊥
 Cause stop within = Unit {0}
 
--- the cause holds of more acts
+-- The cause carries over to more acts.
 cause_more : (stop : Stop) (within more : Type 0) → (more → within) → Cause stop within → Cause stop more
 cause_more (LineTooLong file) within more part cause = λ all. cause (part all)
 cause_more TooMuchText within more part cause = λ all. cause (part all)
@@ -71,7 +71,7 @@ cause_of (act ∷ acts) stop about old new (inl run) = cause_more stop
     (cause_of acts stop about (after_act act old) new run.1)
 cause_of (act ∷ acts) stop about old new (inr here) = cause_at act acts stop about old new here
 
--- no device failed, the limits were kept, and the run's text in the log doesn't end in the line on refused memory
+-- No device failed, the limits were kept, and the run's log doesn't end in the line on a failed allocation.
 pub record RunsFreely (acts : List Act) (old new : DeviceState) : Type 0 where
   pub shelf : new.shelf_failed ≡ old.shelf_failed
   pub bins : new.bins_failed ≡ old.bins_failed
@@ -79,7 +79,7 @@ pub record RunsFreely (acts : List Act) (old new : DeviceState) : Type 0 where
   pub within : ActsKeepLimits acts
   pub memory : (items : List LogItem) → new.log ≢ old.log ++ (flat_map line items ++ stop_line Memory [])
 
--- a run that something stopped did not run freely
+-- A run that something stopped did not run freely.
 not_free : {acts : List Act} (stop : Stop) {about : List ℕ} {old new : DeviceState}
     → Cause stop (ActsKeepLimits acts) → IsStopped acts stop about old new → RunsFreely acts old new → ⊥
 not_free (ReadFault file) cause is free = absurd (omega (arith, is.shelf, free.shelf))

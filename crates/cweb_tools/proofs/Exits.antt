@@ -1,4 +1,4 @@
--- How the exits of a run that come before it writes are its ends.
+-- The early exits of `wmerge` are ends of a run.
 use Rattle.cweb_tools.proofs.Common.{◌≤◌, ◌≡◌, ◌⊎◌, inl, inr, ℕ, List, [], ◌∷◌, ◌++◌, refl, sym, ◌∙◌, ap, subst, append-nil, append_assoc, arith, Option, Some, None, IsTrue, names_found, World, Found, Line, Event, SoFar, EmitsLines, begun_with, ReportsPrefix, blame, StartStops, files_named, read_failures_of, emitted_lines, reported_faults, openings, taken_lines, IsWithinLimits, BeginsMerge, StopsAtStart, StopsWriting, WritingStops, WritesPrefix, write_failures_of, LINES, BYTES, Stop, Usage, WebNotOpened, ChangeNotOpened, ReadFault, LineTooLong, TooMuchText, Memory, WriteFault, Logs, stop_line, start_subject, subject, Devices, SinkModel, WebNames, Course, merging, merge_course, change_name, found_course, usage, about, AreOpened, CanStop, Comes, EndsMerge, Merges, RefusesArgs}
 use Rattle.cweb_tools.proofs.Limits.{breaks_limit}
 use Rattle.cweb_lines.proofs.EmittedLinesAddUp.{openings-append}
@@ -17,7 +17,7 @@ none_opened (merging first events) = (first ++ openings events, refl)
 some_none : (names : WebNames) → Some names ≡ None → ⊥
 some_none names is = cc
 
--- why a merge could not begin
+-- Why a merge could not begin.
 start_cause : (world : World) (names : WebNames) (found : Option Found) (changes : Option (Option Found)) (stop : Stop)
     → StopsAtStart stop found changes → CanStop stop (found_course world names found changes)
 start_cause world names None changes WebNotOpened why = tt
@@ -28,13 +28,13 @@ start_cause world names (Some web) (Some change) ChangeNotOpened why = absurd (c
 start_cause world names found changes Memory why = tt
 start_cause world names found changes stop why = absurd why
 
--- the course of a run that begins a merge
+-- The course of a run that begins a merge.
 pub begins_course : (world : World) (names : WebNames) (found : Option Found) (changes : Option (Option Found))
     {first : SoFar} {all : List Event} (begins : BeginsMerge world found changes first all)
     → found_course world names found changes ≡ merging (begins.name ∷ names_found begins.change) all
 begins_course world names found changes begins = rw (begins.there, begins.changes_there, begins.whole) refl
 
--- a run that stops before it writes
+-- A run that stops before it writes.
 module _ (before after : Devices) (status : ℕ) (read : after.shelf.failed ≡ before.shelf.failed)
     (blamed : IsTrue before.shelf.tells → after.shelf.blamed ≡ before.shelf.blamed)
     (same : after.out ≡ before.out) (answered : status ≡ 1) where
@@ -74,7 +74,7 @@ module _ (before after : Devices) (status : ℕ) (read : after.shelf.failed ≡ 
   out_of_memory names course stop is logs = not_begun names course Memory tt (omega arith) refl refl refl
       (λ tells. tt) (subst (λ (s : Stop). Logs (stop_line s usage) before.log after.log) is logs)
 
-  -- the words can't be read, or memory was wanting for their names
+  -- The words can't be read, or an allocation for their names failed.
   pub words_stopped : (world : World) (asked : Option WebNames) (stop : Stop) → (stop ≡ Usage) ⊎ (stop ≡ Memory)
       → (stop ≡ Usage → asked ≡ None) → (asked ≡ None → stop ≡ Usage) → Logs (stop_line stop usage) before.log after.log
       → EndsMerge world asked before after status
@@ -82,7 +82,7 @@ module _ (before after : Devices) (status : ℕ) (read : after.shelf.failed ≡ 
   words_stopped world (Some names) stop why none_by is_usage logs = out_of_memory names (merge_course world
       (Some names)) stop (elim why [ inl is ↦ absurd (some_none names (none_by is)) | inr is ↦ is ]) logs
 
-  -- a merge could not begin
+  -- A merge could not begin.
   pub start_stopped : (world : World) (names : WebNames) (found : Option Found) (changes : Option (Option Found))
       (stop : Stop) → StartStops stop → (IsTrue before.shelf.tells → StopsAtStart stop found changes)
       → Logs (stop_line stop (start_subject names.web (change_name names.change) stop)) before.log after.log
@@ -95,7 +95,7 @@ module _ (before after : Devices) (status : ℕ) (read : after.shelf.failed ≡ 
       not_begun names _ Memory tt (omega arith) refl refl refl (λ tells. tt) logs
   start_stopped world names found changes stop comes why logs = absurd comes
 
--- the names that a merge has told when it stops are among those that it opens in all
+-- The opened names so far are among those of the whole merge.
 pub opened_by : (first : List (List ℕ)) {old new : SoFar} {events : List Event}
     → old ≡ begun_with first → ReportsPrefix old new events
     → (files : List (List ℕ)) → files ≡ new.names → (rest : List (List ℕ)) × (first ++ openings events ≡ files ++ rest)
@@ -108,7 +108,7 @@ opened_by first {events} began front files is = (
       (sym (is ∙ front.names ∙ ap (λ (s : SoFar). s.names ++ openings front.events) began)),
 )
 
--- what a merge told, where it began with these files and all of it came
+-- The events of a merge that began with these files.
 module _ (first : List (List ℕ)) (all : List Event) (old new : SoFar)
     (began : old ≡ begun_with first) (gives : EmitsLines (emitted_lines all) old new all []) where
   came : gives.events ≡ all

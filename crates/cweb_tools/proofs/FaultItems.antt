@@ -1,9 +1,9 @@
--- The faults of a web as items: how many there are, and that they are written.
+-- The faults of a web as items: their number and their lines.
 use Rattle.cweb_tools.proofs.Common.{◌≡◌, ◌<◌, ◌+◌, ℕ, zero, suc, Bool, true, false, cond, List, [], ◌∷◌, ◌++◌, length, map, refl, sym, ◌∙◌, ap, subst, append_assoc, arith, length-append, flat_map-append, length-map, sum_by-append, sum_by-cons, flat_map, IsTrue, IsErr, None, Result, Ok, Err, count_by, decimal, codes, SourceFault, SourceKind, Unequal, Part, is_macro, numbers_from, numbers_where, PartKind, Scanned, WritesToStream, LogItem, fault_count, is_fault, line, source_item, fault_lines, SinkModel, name_item, name_items, scan_item, scan_items, says, DoesInLog, log_ending, fault_items}
 use Rattle.cweb_store.specs.Faults as store
 use Rattle.cweb_tools.proofs.Logging.{said_all, said_none}
 
--- items that are all faults
+-- A list of items that are all faults.
 all_count : {X : Type 0} (f : X → LogItem) (xs : List X)
     → ((x : X) → is_fault (f x) ≡ true) → fault_count (map f xs) ≡ length xs
 all_count f [] is = refl
@@ -27,7 +27,7 @@ all_counted files faults made =
     ∙ (λ i. first i + (sum_by-append (λ (item : LogItem). cond (is_fault item) 1 0)
     (scan_items files made.faults) (name_items made.store) ∙ (λ j. next j + last j)) i)
 
--- all of them count
+-- The fault count is the number of items.
 pub counted_all : (files : List (List ℕ)) (faults : List SourceFault) (made : Scanned)
     → fault_count (fault_items files faults made) ≡ length (fault_items files faults made)
 counted_all files faults made =
@@ -46,7 +46,7 @@ pub some_from : (n : ℕ) → (n ≡ 0 → ⊥) → 0 < n
 some_from zero never = absurd (never refl)
 some_from (suc n) never = omega arith
 
--- where no fault is counted there is nothing to log
+-- Without faults nothing is logged.
 pub none_said : (items : List LogItem) {stream : SinkModel}
     → length items ≡ 0 → DoesInLog (map says items) None stream stream
 none_said [] {stream} none = said_none
@@ -57,7 +57,7 @@ pub some_said : {A E : Type 0} {r : Result A E} (items : List LogItem) {old new 
 some_said [] some writes = absurd (omega (arith, some))
 some_said {r} (item ∷ items) {old} {new} some writes = said_all r item items writes
 
--- one text was written behind another
+-- Consecutive writes.
 pub writes_on : {A E B F : Type 0} (x : A) (r : Result B F) {a b : List ℕ} {old mid new : SinkModel}
     → WritesToStream {E = E} a old mid (Ok x) → WritesToStream b mid new r → WritesToStream (a ++ b) old new r
 writes_on x (Ok y) {a} {b} {old} first then = record {
@@ -100,7 +100,7 @@ same_lines : (files : List (List ℕ)) (faults : List SourceFault)
 same_lines files [] = refl
 same_lines files (met ∷ faults) = ap (λ (t : List ℕ). line (source_item files met) ++ t) (same_lines files faults)
 
--- the lines of all faults of a web are those of its files, of its text and of its names
+-- The lines of a web's faults are those of its files, its source and its names.
 pub fault_text : (files : List (List ℕ)) (faults : List SourceFault) (made : Scanned)
     → flat_map line (fault_items files faults made) ≡
     fault_lines files faults ++ (flat_map line (scan_items files made.faults) ++ flat_map line (name_items made.store))
@@ -109,7 +109,7 @@ fault_text files faults made =
     ∙ (λ i.
     sym (same_lines files faults) i ++ flat_map-append line (scan_items files made.faults) (name_items made.store) i)
 
--- how many parts are macros
+-- The number of macros.
 numbers_counted : (test : PartKind → Bool) (parts : List Part) (n : ℕ)
     → length (numbers_from test n parts) ≡ count_by (λ (part : Part). test part.kind) parts
 numbers_counted test [] n = refl

@@ -1,10 +1,8 @@
--- Files and drafts behind a run, act by act.
+-- The files and drafts after a run, act by act.
 use Rattle.cweb_tools.proofs.Common.{◌≡◌, inl, inr, ℕ, ◌+◌, false, List, [], ◌∷◌, ◌++◌, refl, sym, ◌∙◌, ap, subst, add-zero, arith, Option, Some, None, read_failures_of, bins_blame, File, Event, Stop, ReadFault, LineTooLong, TooMuchText, Memory, OutNotOpened, WriteFault, LogFault, LogItem, fault_count, Shown, DeviceState, Act, says, reads, writes, after_act, Ending, ending, Breaks, PerformsActs, LogsStop, TangleEnds, completes, stops, LeavesFiles, put_files, refused, Web, written_files, script, tangling}
 use Rattle.cweb_tools.proofs.WebActs.{when_on, said_on, starred_on, closing_on}
 
--- what stops an act changes no file and leaves no draft; the count of the device rises whose stop it is, and only
--- the log's stop
--- changes the log
+-- A stop changes no file and leaves no draft. The failure count of its device rises. Only a log fault changes the log.
 pub record Broken (stop : Stop) (old new : DeviceState) : Type 0 where
   pub files : new.files ≡ old.files
   pub draft : old.draft ≡ None → new.draft ≡ None
@@ -12,7 +10,7 @@ pub record Broken (stop : Stop) (old new : DeviceState) : Type 0 where
   pub bins : new.bins_failed ≡ old.bins_failed + bins_blame stop
   pub log : (stop ≡ LogFault → ⊥) → (new.log ≡ old.log) × (new.log_failed ≡ old.log_failed)
 
--- nothing changed
+-- Nothing changed.
 quiet : {stop : Stop} {old new : DeviceState} → read_failures_of stop ≡ 0 → bins_blame stop ≡ 0 → new ≡ old
     → Broken stop old new
 quiet {stop} {old} no_read no_bins is = subst (Broken stop old) (sym is) (record {
@@ -23,7 +21,7 @@ quiet {stop} {old} no_read no_bins is = subst (Broken stop old) (sym is) (record
   log = λ never. (refl, refl);
 })
 
--- a file is not written
+-- A file is not written.
 unwritten : {stop : Stop} {old new : DeviceState} (left : DeviceState) → new ≡ left → left.files ≡ old.files
     → left.draft ≡ None
     → left.shelf_failed ≡ old.shelf_failed + read_failures_of stop
@@ -61,11 +59,11 @@ broken (says item) Memory about old new broke = absurd broke
 broken act Memory about old new broke = quiet refl refl broke
 broken act stop about old new broke = absurd broke
 
--- nothing was put in
+-- Nothing was committed.
 none_done : {due old new : List File} → new ≡ old → LeavesFiles due old new
 none_done {due} same = record { done = []; undone = due; whole = refl; is = same }
 
--- the files and the draft behind acts
+-- The files and the draft after acts.
 abbrev Leaves : List Act → DeviceState → DeviceState → Type 0
 Leaves acts old new = LeavesFiles (written_files acts) old.files new.files × (old.draft ≡ None → new.draft ≡ None)
 
@@ -91,7 +89,7 @@ runs_left (act ∷ acts) (Some (ending stop about)) old new (inr broke) =
     let left = broken act stop about old new broke in
     (none_done left.files, left.draft)
 
--- the line of a stop changes the log alone
+-- The line of a stop changes only the log.
 abbrev LogAlone : DeviceState → DeviceState → Type 0
 LogAlone old new = new ≡ record old { log_failed = new.log_failed; log = new.log }
 
@@ -116,7 +114,7 @@ pub ends_draft : {acts : List Act} {due : ℕ} {old new : DeviceState} {status :
     → old.draft ≡ None → TangleEnds acts due old new status → new.draft ≡ None
 ends_draft none ends = (ends_left ends).1 none
 
--- acts that only log write no file
+-- Acts that only log write no file.
 refused_files : (shown : Shown) (names : List (List ℕ)) (events : List Event) (web : Web) (text : List ℕ)
     → web.plan ≡ refused text → written_files (script shown (tangling names events web)) ≡ []
 refused_files shown names events web text is =
@@ -128,7 +126,7 @@ refused_files shown names events web text is =
     (starred_on Any None-in said shown.progress web.starred _ (λ ns. tt) (said_on Any None-in said web.faults _
     (λ item. tt) (rw is (closing_on Any None-in said shown web.numbers (fault_count web.faults + 1) false tt tt refl))))
 
--- of no files none is put in
+-- If no files are expected, none is committed.
 none_due : {due old new : List File} → due ≡ [] → LeavesFiles due old new → new ≡ old
 none_due {old} {new} none leaves = nothing leaves.done leaves.undone (sym none ∙ leaves.whole) leaves.is
   where

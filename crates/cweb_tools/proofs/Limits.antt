@@ -7,7 +7,7 @@ use Rattle.cweb_lines.specs.EventsByKind.{size_of_lines}
 use Rattle.cweb_lines.proofs.AddedEvents.{taken-took}
 use Rattle.cweb_lines.proofs.EmittedLinesAddUp.{size-append, short-append, taken-append}
 
--- a line that is taken among others has no more bytes than it may
+-- Each taken line is within the limit of its length.
 short_at : (before after : List SourceLine) (line : SourceLine) → AreShort (before ++ line ∷ after) →
     line.length ≤ LINE_LENGTH
 short_at [] after line short = short.0
@@ -21,7 +21,7 @@ taken-step : (lines raws : List SourceLine) (faults : List SourceFault) (later :
     taken_lines (step_events lines raws faults later) ≡ lines ++ (raws ++ taken_lines later)
 taken-step lines raws faults later = simp (taken-append, taken-took, taken-faults)
 
--- a merge that begins with these files comes to a line that breaks a limit
+-- A merge that begins with these files comes to a line that breaks a limit.
 module _ {stop : Stop} {first : List (List ℕ)} {emitted : List Line} {old new : SoFar} {events : List Event}
     (began : old ≡ begun_with first) (few : new.count.lines ≤ LINES) (small : new.count.bytes ≤ BYTES)
     (b : StopsAfterLines emitted stop old new events) where

@@ -1,8 +1,8 @@
--- Items that are logged are acts that are done.
+-- Logging of items is the doing of acts.
 use Rattle.cweb_tools.proofs.Common.{◌≡◌, ◌<◌, ◌+◌, ◌⊎◌, inl, inr, ℕ, zero, suc, List, [], ◌∷◌, ◌++◌, map, refl, sym, ◌∙◌, ap, append_assoc, append-nil, add-zero, length, arith, flat_map, ◌==◌, Bool, true, false, IsTrue, Option, None, Some, Logs, Ending, read_failures_of, bins_blame, log_blame, rise, Act, Result, Ok, Err, WritesPrefix, LogFault, WritesToStream, LogItem, line, starred, SinkModel, Devices, ShelfModel, ending, DeviceState, PerformsActs, after_act, says, AgreesWith, DoesInLog, log_ending, starred_acts, when}
 use Rattle.cweb_tools.proofs.Doing.{does_none}
 
--- two ways to cut a text in two: the first front ends within the second's, or the second's within it
+-- Two ways to split a list of bytes: one prefix is a prefix of the other.
 abbrev Cuts : List ℕ → List ℕ → List ℕ → List ℕ → Type 0
 Cuts a b front rest =
     ((more : List ℕ) × (a ≡ front ++ more)) ⊎ ((more : List ℕ) × (front ≡ a ++ more) × (b ≡ more ++ rest))
@@ -17,7 +17,7 @@ cuts (x ∷ a) b (y ∷ front) rest is =
       | inr cut ↦ inr (cut.0, (λ i. sym same i ∷ cut.1 i), cut.2)
     ]
 
--- a front of the lines of items was logged, and the log failed: at one of the items, with those before it logged
+-- A prefix of the lines of items was logged, and the log failed within one of them.
 front_stops : (item : LogItem) (items : List LogItem) (front rest : List ℕ) (old : DeviceState)
     → flat_map line (item ∷ items) ≡ front ++ rest → PerformsActs (map says (item ∷ items))
     (Some (ending LogFault [])) old (record old { log_failed = old.log_failed + 1; log = old.log ++ front })
@@ -33,7 +33,7 @@ front_stops item (next ∷ items) front rest old is =
       )
     ]
 
--- all lines were logged
+-- All lines were logged.
 all_said : (items : List LogItem) (old : DeviceState)
     → PerformsActs (map says items) None old (record old { log = old.log ++ flat_map line items })
 all_said [] old = λ i. record old { log = append-nil old.log i }
@@ -45,7 +45,7 @@ all_said (item ∷ items) old = inl (
 abbrev pub at : ShelfModel → SinkModel → SinkModel → Devices
 at shelf bins log = record { shelf = shelf; out = bins; log = log }
 
--- a front of a text was written, and where it is told this is the one
+-- A prefix was written. If it is observable, it is this one.
 record FrontTold (tells : Bool) (old new text : List ℕ) : Type 0 where
   pub front : List ℕ
   pub rest : List ℕ
@@ -59,7 +59,7 @@ front_told true {old} {new} {text} writes =
     record { front = front.front; rest = front.rest; whole = front.whole; written = λ tell. front.written }
 front_told false {text} writes = record { front = []; rest = text; whole = refl; written = λ tell. absurd (cc) }
 
--- what the devices hold where the log alone has changed
+-- The state after a change of the log only.
 log_told : {now : DeviceState} (count : ℕ) (text : List ℕ) (shelf : ShelfModel) (bins : SinkModel)
     (old new : SinkModel)
     → AgreesWith now (at shelf bins old) → count ≡ new.failed → (IsTrue new.tells → text ≡ new.bytes)
@@ -75,7 +75,7 @@ log_told count text shelf bins old new log_ending counted bytes = record {
   log = bytes;
 }
 
--- acts that log a text
+-- Acts that log these bytes.
 does_logged : {acts : List Act} {why : Option Ending} (more : ℕ → ℕ) (text : List ℕ) {old new : SinkModel}
     → rise read_failures_of why ≡ 0 → rise bins_blame why ≡ 0 → ((n : ℕ) → more n ≡ n + rise log_blame why)
     → new.tells ≡ old.tells → new.failed ≡ more old.failed → (IsTrue old.tells → new.bytes ≡ old.bytes ++ text)
@@ -98,7 +98,7 @@ does_logged more text {old} {new} no_read no_bins rises tells count bytes runs =
   };
 }
 
--- writing the lines of items, of which there are some, is logging them
+-- Writing the lines of a nonempty list of items is logging them.
 pub said_all : {A E : Type 0} (r : Result A E) (item : LogItem) (items : List LogItem) {old new : SinkModel}
     → WritesToStream (flat_map line (item ∷ items)) old new r
     → DoesInLog (map says (item ∷ items)) (log_ending r) old new
@@ -109,12 +109,12 @@ said_all (Err e) item items {old} writes =
     does_logged (λ n. n + 1) front.front refl refl (λ n. refl) writes.tells
     writes.counts front.written (λ now. front_stops item items front.front front.rest now front.whole)
 
--- a line
+-- One line.
 pub said : {A E : Type 0} {r : Result A E} (item : LogItem) {old new : SinkModel}
     → WritesToStream (line item) old new r → DoesInLog (says item ∷ []) (log_ending r) old new
 said {r} item {old} {new} writes = said_all r item [] (rw (append-nil (line item)) writes)
 
--- what was logged, or a front of it, was written
+-- The logged bytes, or a prefix of them, were written.
 pub logs_write : {text : List ℕ} {old new : SinkModel}
     → Logs text old new → (r : Result (Unit {0}) (Unit {0})) × WritesToStream text old new r
 logs_write logs = elim logs.once [
@@ -125,28 +125,28 @@ logs_write logs = elim logs.once [
   | inr rose ↦ (Err tt, record { tells = logs.tells; counts = rose; whole = λ tell. tt; front = logs.front })
 ]
 
--- nothing was to be logged
+-- Nothing was to be logged.
 pub said_none : {stream : SinkModel} → DoesInLog [] None stream stream
 said_none = λ shelf bins. does_none
 
--- a line that is asked for
+-- A line that is wanted.
 pub said_when : {A E : Type 0} {r : Result A E} (asked : Bool) (item : LogItem) {old new : SinkModel}
     → asked ≡ true → WritesToStream (line item) old new r → DoesInLog (when asked item) (log_ending r) old new
 said_when true item is writes = said item writes
 said_when false item is writes = absurd (cc)
 
--- and one that isn't
+-- A line that isn't wanted.
 pub said_not : (asked : Bool) (item : LogItem) {stream : SinkModel} → asked ≡ false
     → DoesInLog (when asked item) None stream stream
 said_not true item is = absurd (cc)
 said_not false item is = said_none
 
--- a list that isn't empty has elements
+-- A list of nonzero length has elements.
 pub some_by : (n : ℕ) → (n == 0) ≡ false → 0 < n
 some_by zero is = absurd (cc)
 some_by (suc n) is = omega arith
 
--- the numbers of starred sections, of which there are some
+-- The numbers of a nonempty list of starred sections.
 pub said_starred : {A E : Type 0} {r : Result A E} (progress : Bool) (numbers : List ℕ) {old new : SinkModel}
     → progress ≡ true → 0 < length numbers
     → WritesToStream (line (starred numbers)) old new r

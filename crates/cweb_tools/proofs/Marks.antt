@@ -1,10 +1,10 @@
--- Line marks: those of an expansion are among those of the parts.
+-- The line marks of an expansion are among those of the parts.
 use Rattle.cweb_tools.proofs.Common.{ℕ, zero, suc, Bool, true, false, cond, not, List, [], ◌∷◌, ◌++◌, length, All-nil, All-cons, All-head, All-tail, All-append, All, Option, None, Some, Stored, Token, Mark, Name, Defs, Part, all_tokens, is_of, is_unnamed, NameId, PartKind, IsMarkBelow, expand, expanded_name, put, tokens_for, defs_first, root_list, MarkFileIsNamed, Setting, joined, names, program, resolved_use}
 use Rattle.std.specs.Prelude.{flat_map}
 use Rattle.cweb_store.specs.Parts as parts
 use Rattle.cweb_names.specs.Names as spec
 
--- the file of a mark has a name
+-- The file of a mark has a name.
 pub mark_named : (s : Setting) (t : Token) → IsMarkBelow (length s.files) t → MarkFileIsNamed s t
 mark_named s (Mark place) below = below
 mark_named s t below = tt
@@ -18,7 +18,7 @@ pub all_back : {X : Type 0} (P : X → Type 0) (xs ys : List X) → All P (xs ++
 all_back P [] ys all = all
 all_back P (x ∷ xs) ys all = all_back P xs ys (All-tail P x (xs ++ ys) all)
 
--- what holds of the tokens of all parts
+-- A property of the tokens of all parts.
 module _ (P : Token → Type 0) where
   kept : (b : Bool) (p : Part) (ps : List Part) → All P p.tokens
       → All P (all_tokens ps) → All P (all_tokens (cond b (p ∷ ps) ps))

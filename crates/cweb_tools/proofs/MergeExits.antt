@@ -1,9 +1,9 @@
--- How the exits of a run that begins a merge are its ends.
+-- The exits of `wmerge` after its merge began are ends of a run.
 use Rattle.cweb_tools.proofs.Common.{◌≤◌, ◌≡◌, ◌≢◌, ◌+◌, ℕ, List, [], ◌∷◌, ◌++◌, length, sym, ◌∙◌, ap, Option, IsTrue, names_found, World, Found, Event, SoFar, EmitsLines, ReportsPrefix, blame, files_named, read_failures_of, emitted_lines, BeginsMerge, written_lines, StopsWriting, WritingStops, WritesPrefix, write_failures_of, SourceFault, LINES, BYTES, Stop, Logs, fault_lines, stop_line, subject, Devices, WebNames, merging, found_course, fault_status, merged, Merges}
 use Rattle.cweb_tools.specs.MergePromises.{completes, stops}
 use Rattle.cweb_tools.proofs.Exits.{begins_course, opened_by, names_told, faults_told, limits_kept, writing_cause, writing_comes, writing_about}
 
--- a run that begins a merge, of which all this comes
+-- A run that begins a merge with these events.
 module _ (world : World) (names : WebNames) (found : Option Found) (changes : Option (Option Found))
     (before after : Devices) (status : ℕ) (old : SoFar) (all : List Event)
     (begins : IsTrue before.shelf.tells → BeginsMerge world found changes old all) where

@@ -1,11 +1,11 @@
--- What the ends of a run come to, in the words of its promises.
+-- The ends of a run of `wmerge` keep its promises.
 use Rattle.cweb_tools.proofs.Common.{taken_lines, ◌≤◌, ◌≡◌, inl, inr, ℕ, ◌+◌, List, [], ◌∷◌, ◌++◌, refl, sym, ◌∙◌, ap, append-nil, arith, Option, Some, None, IsTrue, FileId, World, Found, web_at, change_at, read_failures_of, WritesPrefix, write_failures_of, SourceFault, Stop, Usage, WebNotOpened, ChangeNotOpened, ReadFault, LineTooLong, TooMuchText, Memory, WriteFault, Logs, fault_lines, stop_line, Devices, SinkModel, AreObservable, WebNames, Course, merging, merge_course, fault_status, found_course, merged, MergeKeepsLimits, about, BlamesDevice, CanStop, Completes, EndsMerge, MergeFailsOnce, HasMerged, IsMerge, MergesFreely, Merges, LeavesMerge, MergeRanFreely, MergeReportsFaults, PrintsMerged, MergeEnds, subst}
 use Rattle.cweb_tools.specs.laws.RunEffects.{EveryMergeLeavesOutput}
 use Rattle.cweb_tools.proofs.Courses.{merge_only, ends_by}
 use Rattle.cweb_tools.specs.MergePromises.{completes, stops}
 use Rattle.cweb_tools.proofs.Limits.{beyond}
 
--- a course that a limit stops does not stay within them
+-- A course that a limit stops is not within the limits.
 course_long : (course : Course) (file : FileId) → CanStop (LineTooLong file) course → MergeKeepsLimits course → ⊥
 course_long (merging first events) file why within = beyond (LineTooLong file) (taken_lines events) why within
 course_long course file why within = absurd why
@@ -18,7 +18,7 @@ no_front : (front rest : List ℕ) → [] ≡ front ++ rest → front ≡ []
 no_front [] rest whole = refl
 no_front (b ∷ front) rest whole = absurd (cc)
 
--- a front of nothing is nothing
+-- A prefix of nothing is nothing.
 front_of_nothing : {old new : List ℕ} → WritesPrefix old new [] → new ≡ old ++ []
 front_of_nothing {old} front =
     front.written ∙ ap (λ (t : List ℕ). old ++ t) (no_front front.front front.rest front.whole)
@@ -36,7 +36,7 @@ module _ (world : World) (names : WebNames) (before after : Devices) (status : �
   }
   freely_merged course whole all free = absurd all
 
-  -- a run that did not run freely but for its words and files
+  -- A run that did not run freely, except for its words and files.
   freely_stopped : (found : Option Found) (changes : Option (Option Found)) (stop : Stop) (files : List (List ℕ))
       → CanStop stop (found_course world names found changes) → BlamesDevice stop before after → Logs
       (stop_line stop (about names files stop)) before.log after.log → WritesPrefix before.out.bytes after.out.bytes

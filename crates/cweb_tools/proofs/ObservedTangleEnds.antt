@@ -1,14 +1,14 @@
--- What the devices hold at the end of a run of `ctangle`, as far as they tell it.
+-- The observable state at the end of a run of `ctangle`.
 use Rattle.cweb_tools.proofs.Common.{◌≡◌, inl, inr, ℕ, List, refl, ◌∙◌, ap, Some, Stop, LogFault, LogItem, line, stopped, stop_line, log_ending, says, Result, Ok, Err, [], ◌∷◌, Logs, SinkModel, Devices, Act, ending, DeviceState, EndsIn, LogsLine, PerformsActs, completes, stops, AgreesWith, Closes, ClosesLog, LogsEnding, done, halted}
 use Rattle.cweb_tools.proofs.Logging.{at, logs_write, said}
 
--- what the devices hold behind a line of the log, as far as they tell it
+-- The observable state after a line of the log.
 record LineLeft (text : List ℕ) (now : DeviceState) (after : Devices) : Type 0 where
   pub left : DeviceState
   pub told : AgreesWith left after
   pub is : LogsLine text now left
 
--- the other devices were left alone
+-- The other devices are unchanged.
 beside_told : {left : DeviceState} (then : Devices) {after : Devices} → after.shelf ≡ then.shelf
     → after.out ≡ then.out → AgreesWith left (at then.shelf then.out after.log) → AgreesWith left after
 beside_told {left} then {after} shelf bins log_ending = rw bins (rw shelf log_ending)
@@ -20,7 +20,7 @@ line_by (Err e) item old new (inr fails) = inr fails
 line_by (Ok x) item old new (inr never) = absurd never
 line_by (Err e) item old new (inl run) = absurd run.1
 
--- the line of a stop was logged behind a run
+-- The line of a stop was logged after a run.
 line_left : (stop : Stop) (about : List ℕ) {then after : Devices} → after.shelf ≡ then.shelf
     → after.out ≡ then.out
     → Logs (stop_line stop about) then.log after.log → (now : DeviceState) → AgreesWith now then
@@ -34,7 +34,7 @@ line_left stop about {then} shelf bins logs now held =
       is = line_by writes.0 (stopped stop about) now lead.left lead.runs;
     }
 
--- how a run ends in the devices, as far as they tell it
+-- The end of a run as an observable state.
 stop_ends : (stop : Stop) (about : List ℕ) {acts : List Act}
     {due : ℕ} {first now : DeviceState} {then after : Devices} {status : ℕ}
     → PerformsActs acts (Some (ending stop about)) first now
@@ -62,7 +62,7 @@ tangle_ends (halted (ending stop about) then does logs answered) now log_ending 
     let lead = does.runs now log_ending in
     stop_ends stop about lead.runs lead.told logs answered
 
--- a log and bins that tell go on telling
+-- An observable log and observable bins stay observable.
 ending_tells : (stop : Stop) (about : List ℕ) (old new : SinkModel)
     → LogsEnding (ending stop about) old new → new.tells ≡ old.tells
 ending_tells LogFault about old new logs = ap (λ (l : SinkModel). l.tells) logs

@@ -1,7 +1,7 @@
--- The acts of outputs, one after another.
+-- The acts of consecutive outputs.
 use Rattle.cweb_tools.proofs.Common.{◌≡◌, ◌<◌, ◌≤◌, ◌+◌, ℕ, suc, Bool, List, [], ◌∷◌, ◌++◌, length, map, take, drop, get_or, sym, ◌∙◌, ap, append-nil, drop-cons, flat_map-append, take-append-drop, take_more, take_all, map-append, File, Act, output_acts, outputs_acts}
 
--- outputs with the file of each
+-- Outputs with the file of each.
 module _ {X : Type 0} (file : X → File) (progress : Bool) where
   abbrev pub acts : List X → List Act
   acts xs = outputs_acts progress (map file xs)
@@ -10,14 +10,14 @@ module _ {X : Type 0} (file : X → File) (progress : Bool) where
   joined xs ys = ap (outputs_acts progress) (map-append file xs ys)
       ∙ flat_map-append (output_acts progress) (map file xs) (map file ys)
 
-  -- the acts of the outputs before one, of that one, and of those behind it
+  -- The acts of the outputs before one, of that one, and of those after it.
   pub acts_at : (xs : List X) (i : ℕ) (d : X) → i < length xs
       → acts xs ≡ acts (take i xs) ++ (output_acts progress (file (get_or xs i d)) ++ acts (drop (suc i) xs))
   acts_at xs i d lt =
       ap acts (sym (take-append-drop i xs)) ∙ joined (take i xs) (drop i xs)
       ∙ ap (λ (ys : List X). acts (take i xs) ++ acts ys) (drop-cons xs i d lt)
 
-  -- one output more
+  -- One more output.
   pub acts_more : (xs : List X) (i : ℕ) (d : X) → i < length xs
       → acts (take (i + 1) xs) ≡ acts (take i xs) ++ output_acts progress (file (get_or xs i d))
   acts_more xs i d lt =

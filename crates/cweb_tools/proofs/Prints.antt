@@ -1,11 +1,11 @@
--- Tokens of an expander that are printed, one after another.
+-- Tokens of an expander that are printed in order.
 use Rattle.cweb_tools.proofs.Common.{◌≡◌, ℕ, List, [], ◌∷◌, ◌++◌, length, sym, ◌∙◌, ap, subst, append_assoc, append-nil, All-head, Bor, All, IsTrue, OnOk, Result, Ok, Err, Stored, Token, IsMarkBelow, left, PrintsPrefix, AddsBytes, Moves, PrintsToken, left_in_printer, setting_of, MarkFileIsNamed, setting, Setting, file, print, Expander, Printer, PrintsSoFar, StaysReady, left_in}
 use Rattle.cweb_files.specs.declared.device.Sink.{Ghosts as Sink}
 use Rattle.cweb_print.specs.surface.Printed.{EndsFile}
 use Rattle.cweb_tools.proofs.Marks.{all_back, mark_named}
 use Rattle.cweb_tools.proofs.ReadyExpanders.{stays_on}
 
--- the marks of what is left are named where those of all were
+-- The files of the remaining marks have names if those of all marks do.
 pub next_named : {W : Type 0}
     {sink : Sink W} {files : List (List ℕ)} {first now : Expander} {printer : Printer} {old new : W} {buffer : List ℕ}
     (so_far : PrintsSoFar sink files first now printer old new buffer) (t : Token) (rest : List Token)
@@ -17,7 +17,7 @@ next_named {files = files} {first = first} {now = now} so_far t rest all gives =
     All-head (IsMarkBelow (length files)) t rest (subst (All (IsMarkBelow (length files))) gives behind) in
     rw so_far.setting_is (mark_named (setting first.store.now files) t here)
 
--- what is written and gathered, with what was added to it
+-- The written and buffered bytes, with the new ones appended.
 more_written : (old : List ℕ) {new new' : List ℕ} (s s' : Setting) (done more : List Token)
     → s ≡ s' → new ≡ old ++ print s' done
     → AddsBytes (print s done) (print s (done ++ more)) new new' → new' ≡ old ++ print s' (done ++ more)
@@ -27,7 +27,7 @@ more_written old s s' done more same written adds =
     ∙ append_assoc old (print s done) adds.bytes
     ∙ ap (λ (b : List ℕ). old ++ b) (sym adds.due) ∙ ap (λ (s : Setting). old ++ print s (done ++ more)) same
 
--- some more were printed to where bytes are gathered
+-- More tokens were printed into the buffer.
 pub prints_front : {W : Type 0} {sink : Sink W} {files : List (List ℕ)}
     {first mid : Expander} {printer printer' : Printer} {old new : W} {buffer buffer' : List ℕ} {now : Expander}
     → PrintsSoFar sink files first mid printer old new buffer
@@ -61,7 +61,7 @@ prints_front {sink = sink} {files = files} {first = first} {mid = mid} {printer 
       written = ap (λ (t : List ℕ). mid ++ t) adds.written ∙ sym (append_assoc mid old adds.bytes);
     }
 
--- one more was printed
+-- One more token was printed.
 pub prints_more : {W : Type 0} {sink : Sink W} {files : List (List ℕ)} {first : Expander}
     {mid now : Expander} {printer printer' : Printer} {old new new' : W} {buffer buffer' : List ℕ} (t : Token)
     → PrintsSoFar sink files first mid printer old new buffer → StaysReady mid now
@@ -90,7 +90,7 @@ prints_more {sink} {files} {first} {mid} {now} {printer} {old} {new}
           (so_far.written told) (prints (tell told) so_far.done so_far.kept);
     }
 
--- nothing is left, and the last line was ended
+-- Nothing remains, and the last line was ended.
 pub prints_all : {A E W : Type 0} {sink : Sink W} {files : List (List ℕ)} {first now : Expander} {printer : Printer}
     {old new : W} {buffer : List ℕ} (new' : W) (buffer' : List ℕ) (r : Result A E)
     → PrintsSoFar sink files first now printer old new buffer → left_in now ≡ []

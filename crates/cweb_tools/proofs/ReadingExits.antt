@@ -1,4 +1,4 @@
--- How the exits of a run of `ctangle` that has begun its merge are its ends.
+-- The exits of `ctangle` after its merge began are ends of a run.
 use Rattle.cweb_tools.proofs.Common.{◌≤◌, ◌≡◌, ◌+◌, inl, inr, ℕ, List, [], ◌∷◌, ◌++◌, length, refl, sym, ◌∙◌, ap, IsTrue, Option, Some, None, names_found, World, Found, Event, SoFar, blame, StopsReading, files_named, read_failures_of, emitted_lines, reported_faults, openings, taken_lines, IsWithinLimits, BeginsMerge, SourceFault, LINES, BYTES, Stop, Scanned, scanned, ScanEndsEarly, Scans, stop_line, subject, OptionsModel, Logs, SinkModel, Devices, ShelfModel, Act, Breaks, ending, DeviceState, opens, reads, Course, found_course, merging, Closes, Does, halted, TangleCourse, tangling, web_acts, course_acts, course_status, tangled, web_of, web_status}
 use Rattle.cweb_tools.proofs.Doing.{closes_on}
 use Rattle.cweb_tools.proofs.Exits.{begins_course, faults_told, limits_kept, names_told, opened_by}
@@ -6,7 +6,7 @@ use Rattle.cweb_tools.proofs.Logging.{at}
 use Rattle.cweb_tools.proofs.TangleExits.{either, can_come, EndsAs, looks, course}
 use Rattle.cweb_tools.proofs.ReadingStops.{left_by, left_told, reads_broke, read_by, silent_broke, reading_ends, reading_only, nothing_passes}
 
--- a run that begins a merge, of which all this comes
+-- A run that begins a merge with these events.
 module _ (asked : OptionsModel) (world : World) (found : Option Found) (changes : Option (Option Found))
     (shelf shelf' : ShelfModel) (tells : shelf'.tells ≡ shelf.tells)
     (bins : SinkModel) (l : SinkModel) (status : ℕ) (old new : SoFar) (all : List Event)
@@ -17,7 +17,7 @@ module _ (asked : OptionsModel) (world : World) (found : Option Found) (changes 
   begun : (told : IsTrue shelf.tells) → merged ≡ merging ((begins told).name ∷ names_found (begins told).change) all
   begun told = begins_course world asked.names.merge found changes (begins told)
 
-  -- files were opened, and reading them broke: those that were opened by then are named
+  -- Files were opened, and reading them failed. The files that were opened until then have names.
   breaks_so : (stop : Stop) (opened files : List (List ℕ)) (events : List Event) (acts : List Act) → StopsReading stop
       → shelf'.failed ≡ shelf.failed + read_failures_of stop → (IsTrue shelf.tells → shelf'.blamed ≡ shelf.blamed
       ++ blame opened stop) → ((now : DeviceState) → Breaks (reads files events) (ending stop (subject opened stop)) now
@@ -44,7 +44,7 @@ module _ (asked : OptionsModel) (world : World) (found : Option Found) (changes 
   halts stop about l' course kind logs answered does = halted (ending stop about) (at shelf' bins l) does
       (record { shelf = refl; bins = refl; log = reading_ends stop about kind logs }) answered
 
-  -- reading ended before its end
+  -- Reading ended early.
   pub read_stops : (stop : Stop) (opened : List (List ℕ)) (l' : SinkModel) → opened ≡ new.names → StopsReading stop
       → (IsTrue shelf.tells → ScanEndsEarly stop old new all) → shelf'.failed ≡ shelf.failed + read_failures_of stop
       → (IsTrue shelf.tells → shelf'.blamed ≡ shelf.blamed ++ blame new.names stop)
@@ -77,14 +77,14 @@ module _ (asked : OptionsModel) (world : World) (found : Option Found) (changes 
             }
       ]
 
-  -- all was read
+  -- Everything was read.
   reads_so : (files : List (List ℕ)) (events : List Event) → IsWithinLimits (taken_lines events)
       → shelf'.failed ≡ shelf.failed → (IsTrue shelf.tells → shelf'.blamed ≡ shelf.blamed)
       → Does (opens ∷ reads files events ∷ []) None (at shelf bins l) (at shelf' bins l)
   reads_so files events within failed blamed = looks shelf shelf' tells failed blamed bins l l
       (opens ∷ reads files events ∷ []) None refl refl refl (λ now. inl (tt, inl (within, refl)))
 
-  -- and the run went on with what it holds
+  -- Everything was read, and the run continued with the web.
   pub read_whole : (files : List (List ℕ)) (faults : List SourceFault) (made : Scanned) (after : Devices) → files
       ≡ new.names → faults ≡ new.faults → (IsTrue shelf.tells → Scans made old new all) → new.count.lines ≤ LINES
       → new.count.bytes ≤ BYTES → shelf'.failed ≡ shelf.failed → (IsTrue shelf.tells → shelf'.blamed ≡ shelf.blamed)

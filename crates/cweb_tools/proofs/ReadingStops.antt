@@ -1,11 +1,11 @@
--- What a stop of reading leaves, and why reading ended before its end.
+-- The state after a stop of reading, and its cause.
 use Rattle.cweb_tools.proofs.Common.{◌≤◌, ◌≡◌, ◌+◌, inl, inr, ℕ, List, [], ◌∷◌, ◌++◌, length, length-append, refl, sym, ◌∙◌, ap, add-zero, append-nil, arith, get_or-append, IsTrue, FileId, SourceLine, Event, took, SoFar, BreaksLimit, counts_of, begun_with, blame, StopsFor, StopsReading, files_named, read_failures_of, openings, IsWithinLimits, LINE_LENGTH, LINES, BYTES, Stop, ReadFault, LineTooLong, TooMuchText, Memory, OutNotOpened, WriteFault, LogFault, StopsAfter, file_name_at, stop_line, subject, Logs, SinkModel, ShelfModel, Breaks, ending, DeviceState, IsOfFile, reads, read_fails, AgreesWith, LogsEnding, bins_blame, log_blame}
 use Rattle.cweb_input.specs.OpenSources.{RefusesLine}
 use Rattle.cweb_tools.proofs.Limits.{breaks_limit}
 use Rattle.cweb_tools.proofs.Logging.{at}
 use Rattle.cweb_tools.proofs.TangleExits.{looked, shelf_told}
 
--- the file that a stop names is among those that are opened in all
+-- The file of a stop is among those that the whole merge opens.
 of_file : (files opened rest : List (List ℕ)) (file : ℕ) → files ≡ opened ++ rest
     → file + 1 ≤ length opened → IsOfFile files file (file_name_at opened file)
 of_file files opened rest file are known = record {
@@ -14,7 +14,7 @@ of_file files opened rest file are known = record {
       ∙ ap (λ (ns : List (List ℕ)). file_name_at ns file) (sym are);
 }
 
--- what a stop of reading leaves that is about this
+-- The state after a stop of reading with this name.
 abbrev pub left_by : Stop → List ℕ → DeviceState → DeviceState
 left_by (ReadFault file) about now = read_fails about now
 left_by stop about now = now
@@ -31,7 +31,7 @@ left_told (ReadFault file) files {now} shelf shelf' bins l kind told tells blame
 left_told stop files {now} shelf shelf' bins l kind told tells blames blamed = looked shelf shelf' tells
     (blames ∙ add-zero shelf.failed) (λ tell. blamed tell ∙ append-nil shelf.blamed) bins l l now told
 
--- why reading ended before its end
+-- Why reading ended early.
 pub reads_broke : (stop : Stop) (first opened rest : List (List ℕ)) (old new : SoFar) (all : List Event)
     (now : DeviceState) → old ≡ begun_with first → new.count.lines ≤ LINES → new.count.bytes ≤ BYTES → StopsReading stop
     → StopsFor (StopsAfter stop old new all) stop → first ++ openings all ≡ opened ++ rest
@@ -49,12 +49,12 @@ reads_broke TooMuchText first opened rest old new all now began few small kind w
 reads_broke Memory first opened rest old new all now began few small kind why names known = refl
 reads_broke stop first opened rest old new all now began few small kind why names known = absurd kind
 
--- a line that is too long, and one that is too much text
+-- A line that is too long, and a line beyond the total limit.
 abbrev line_of : FileId → ℕ → ℕ → SourceLine
 line_of file length size =
     record { line = record { bytes = []; place = record { file = file; line = 0 } }; length = length; size = size }
 
--- what may have been read of a shelf that tells nothing, where this stopped the reading
+-- Events that an unobservable shelf may have had before this stop.
 abbrev pub read_by : Stop → List Event
 read_by (LineTooLong file) = took (line_of file (LINE_LENGTH + 1) 0) ∷ []
 read_by TooMuchText = took (line_of (record { 0 = 0 }) 0 (BYTES + 1)) ∷ []
@@ -63,7 +63,7 @@ read_by stop = []
 pub nothing_passes : IsWithinLimits []
 nothing_passes = record { short = tt; few = omega arith; small = omega arith }
 
--- the first line breaks a limit
+-- The first line breaks a limit.
 breaks_first : (stop : Stop) (line : SourceLine) → RefusesLine stop (counts_of []) line → BreaksLimit stop (line ∷ [])
 breaks_first stop line why = record {
   before = [];
@@ -101,7 +101,7 @@ pub reading_ends : (stop : Stop) (about : List ℕ) {l l' : SinkModel} → Stops
 reading_ends LogFault about kind logs = absurd kind
 reading_ends stop about kind logs = logs
 
--- reading fails no other device
+-- Reading fails no other device.
 pub reading_only : (stop : Stop) (n : ℕ) → StopsReading stop → (n ≡ n + bins_blame stop) × (n ≡ n + log_blame stop)
 reading_only OutNotOpened n kind = absurd kind
 reading_only WriteFault n kind = absurd kind

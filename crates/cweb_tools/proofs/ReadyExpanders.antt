@@ -1,4 +1,4 @@
--- An expander that goes on with its store and its plan.
+-- An expander between outputs, with its store and its plan.
 use Rattle.cweb_tools.proofs.Common.{◌≡◌, ℕ, Bool, List, length, map, refl, sym, ◌∙◌, ap, subst, Bor, All, Result, File, opened_file_names, FileNames, Stop, Stored, Token, IsMarkBelow, expand, left, Planned, output_name_at, output_at, root_at, root_list, setting, file, names, Expander, SinkModel, ending_of, DoesInBoth, AreMarksBelow, IsReady, StaysReady, output_ending, file_at, planned_files, left_in, output_acts, outputs_acts, output_file, Failed}
 use Rattle.cweb_tools.proofs.Marks.{expansion_all}
 
@@ -8,11 +8,11 @@ stays ready = record { store = refl; plan = refl; stands = ready.stands }
 pub stays_on : {a b c : Expander} → StaysReady a b → StaysReady b c → StaysReady a c
 stays_on first then = record { store = then.store ∙ first.store; plan = then.plan ∙ first.plan; stands = then.stands }
 
--- the file of an output stays the same
+-- The file of an output is unchanged.
 pub file_on : (files : FileNames) {a b : Expander} (n : ℕ) → StaysReady a b → file_at files b n ≡ file_at files a n
 file_on files n on = λ i. output_file (on.store i).now (opened_file_names files) (output_at (on.plan i).now.outputs n)
 
--- the marks of an output are about files with names
+-- The marks of an output are about files with names.
 pub root_known : (files : FileNames) (e : Expander) (n : ℕ) → AreMarksBelow files e → All (IsMarkBelow (length
     (opened_file_names files)))
     (expand e.store.now (names e.store.now) (root_list e.store.now (root_at e.plan.now.outputs n)))
@@ -26,7 +26,7 @@ pub left_known : (files : FileNames) (a b : Expander) (n : ℕ) → AreMarksBelo
 left_known files a b n known same gives = subst (All (IsMarkBelow (length (opened_file_names files))))
     (sym (ap (λ (s : Bor Stored). left s.now b.frames.items) same ∙ gives)) (root_known files a n known)
 
--- what is printed of the tokens of an output is its file
+-- Printing the tokens of an output gives its file.
 pub text_on : (files : FileNames) (a b : Expander) (ts : List Token)
     → b.store ≡ a.store → left a.store.now b.frames.items ≡ ts
     → file (setting b.store.now (opened_file_names files)) (left_in b)
@@ -35,7 +35,7 @@ text_on files a b ts same gives =
     ap (λ (s : Bor Stored). file (setting s.now (opened_file_names files)) (left s.now b.frames.items)) same
     ∙ ap (λ (ts : List Token). file (setting a.store.now (opened_file_names files)) ts) gives
 
--- the acts of an output are those of the expander at first
+-- The acts of an output are those of the initial expander.
 pub output_on : {A : Type 0} (progress : Bool) (files : FileNames) {a b : Expander}
     (n : ℕ) (r : Result A Stop) {x y : SinkModel} {k l : SinkModel} → StaysReady a b
     → DoesInBoth (output_acts progress (file_at files b n)) (ending_of (output_name_at b.plan.now.outputs n) r) x y k l
@@ -45,7 +45,7 @@ output_on progress files {a} {b} n r {x} {y} {k} {l} on does = subst (λ (f : Fi
     DoesInBoth (output_acts progress (file_at files b n)) (ending_of (output_name_at p.now.outputs n) r) x y k l)
     on.plan does)
 
--- the acts of all outputs are those of the store and the plan that the expander was made for
+-- The acts of all outputs are those of the store and the plan.
 pub all_on : {A : Type 0} (progress : Bool) (files : FileNames) (e : Expander) {store : Stored} {plan : Planned}
     (r : Result A Failed) {x y : SinkModel} {k l : SinkModel} → e.store.now ≡ store → e.plan.now ≡ plan
     → DoesInBoth (outputs_acts progress (planned_files files e)) (output_ending e.plan.now.outputs r) x y k l

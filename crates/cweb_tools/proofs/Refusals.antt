@@ -1,4 +1,4 @@
--- Plans that are refused, and those that are made.
+-- Plans and refusals.
 use Rattle.cweb_tools.proofs.Common.{◌≡◌, ℕ, List, refl, ap, subst, IfSome, Option, None, Some, Ok, Err, Stored, Planned, Refusal, bad_name, same_name, cycle, IsExpectedFault, PlanFault, Cycle, SameName, BadName, fault, line, plan_item, refusal_message, refused, plan_made, planning, planning_by, refusal_in}
 use Rattle.cweb_out.specs.Outputs as out
 use Rattle.cweb_out.specs.declared.outputs.fault.PlanFault.TheVariants.{Memory}
@@ -10,7 +10,7 @@ each_some (Some x) P each = each x refl
 pub of_some : {A : Type 0} (o : Option A) (x : A) (P : A → Type 0) → o ≡ Some x → IfSome o P → P x
 of_some {A = A} o x P is holds = let whole : IfSome (Some x) P = subst (λ (o : Option A). IfSome o P) is holds in whole
 
--- the line of a fault that tells of a refusal
+-- The line of a fault that is a refusal.
 pub refusal_line : (w : Stored) (main : List ℕ) (f : PlanFault) (r : Refusal)
     → refusal_in f ≡ Some r → line (plan_item w main f) ≡ line (fault (refusal_message w main r))
 refusal_line w main (Cycle names) r is =
@@ -21,7 +21,7 @@ refusal_line w main (BadName output) r is =
     let same : bad_name output ≡ r = cc in ap (λ (r : Refusal). line (fault (refusal_message w main r))) same
 refusal_line w main Memory r is = absurd (cc)
 
--- the refusal of a fault that isn't want of memory is the one that is due
+-- A fault other than a failed allocation is the expected refusal.
 pub record IsRefused (w : Stored) (main : List ℕ) (f : PlanFault) : Type 0 where
   pub refusal : Refusal
   pub told : refusal_in f ≡ Some refusal

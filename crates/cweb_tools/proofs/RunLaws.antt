@@ -1,4 +1,4 @@
--- What follows from the promises of a run of `ctangle`.
+-- The laws of a run of `ctangle`.
 use Rattle.cweb_tools.proofs.Common.{◌≡◌, ◌+◌, ◌⊎◌, inl, inr, ℕ, List, ◌++◌, refl, sym, ◌∙◌, arith, flat_map, IsTrue, Option, World, read_failures_of, Stop, ReadFault, OutNotOpened, WriteFault, line, stop_line, OptionsModel, Devices, Shown, Act, ending, DeviceState, TangleEnds, completes, stops, AgreesWith, bins_blame, observed_state, TangleCourse, logged_items, script, tangle_status, shown_by, TangleFailsOnce, TangleReportsFaults, IsEnded, LogEnds, RisesOnce, TanglePromises, LeavesDevices, LeavesStates, cut, said}
 use Rattle.cweb_tools.proofs.Endings.{counts_all, ends_so, ends_within}
 use Rattle.cweb_tools.proofs.Leaving.{ends_files}
@@ -11,7 +11,7 @@ pub leave_states : (shown : Shown) (course : TangleCourse) (due : ℕ) (old new 
 leave_states shown course due old new status ends =
     record { ended = ends_so ends; read = ends_read shown course ends; limits = ends_within ends }
 
--- a count that a stop raises by one at most
+-- A count that a stop increases by at most one.
 blamed_once : (old new n : ℕ) → new ≡ old + n → (n ≡ 0) ⊎ (n ≡ 1) → RisesOnce old new
 blamed_once old new n is (inl none) = inl (omega (arith, is, none))
 blamed_once old new n is (inr one) = inr (omega (arith, is, one))
@@ -25,7 +25,7 @@ bins_once OutNotOpened = inr refl
 bins_once WriteFault = inr refl
 bins_once stop = inl refl
 
--- how the counts of failures and the status go together
+-- The relation of failure counts and the status.
 record Counts (old new : DeviceState) (status : ℕ) : Type 0 where
   shelf : RisesOnce old.shelf_failed new.shelf_failed
   bins : RisesOnce old.bins_failed new.bins_failed
@@ -66,7 +66,7 @@ faults_show before agrees (inl same) = record {
 faults_show before agrees (inr answered) =
     record { read = λ failed. answered; written = λ failed. answered; logged = λ failed. answered }
 
--- what a log that tells has at a run's end
+-- The observable log at the end of a run.
 log_ends : (acts : List Act) {due : ℕ} (before : Devices) {after : Devices} {status : ℕ} {new : DeviceState}
     → AgreesWith new after → IsTrue after.log.tells → IsEnded acts due (observed_state before) new status
     → LogEnds (logged_items acts) due before.log after.log status

@@ -1,19 +1,19 @@
--- The scripts of some runs of `ctangle`: what they log, which files they write, and how they end.
+-- Worked examples: scripts of `ctangle`, with log, files and end.
 use Rattle.cweb_tools.proofs.Common.{◌≡◌, true, false, List, ℕ, [], ◌∷◌, ◌++◌, codes, File, LogItem, fault, located, shown_by_default, Shown, Planning, TangleCourse, change_not_there, not_there, planned, refused, tangling, tangle_files, tangle_log, tangle_status, unread}
 use Rattle.std.specs.Fmt.{digits}
 
--- no options, and -bph
+-- The options `-bph`.
 abbrev quiet : Shown
 quiet = record { banner = false; progress = false; closing = false; statistics = false }
 
--- all of them
+-- All options on.
 abbrev all_shown : Shown
 all_shown = record { banner = true; progress = true; closing = true; statistics = true }
 
 abbrev file : List ℕ → List ℕ → File
 file name bytes = record { name = name; bytes = bytes }
 
--- a web of so many sections and names, with these starred sections, faults and plan
+-- A web with these numbers of sections and names, starred sections, faults and plan.
 abbrev course : ℕ → ℕ → List ℕ → List LogItem → Planning → TangleCourse
 course sections names stars faults plan = tangling [] []
     (record {
@@ -23,19 +23,19 @@ course sections names stars faults plan = tangling [] []
       plan = plan;
     })
 
--- two sections, one of them starred, and one output
+-- Two sections, one of them starred, and one output.
 abbrev plain : TangleCourse
 plain = course 2 1 (1 ∷ []) [] (planned (file (codes "hello.c") (codes "x\n") ∷ []) false)
 
--- no program text is a warning, and the main file is written all the same
+-- Without program text there is a warning, and the main output is still written.
 abbrev textless : TangleCourse
 textless = course 0 0 [] [] (planned (file (codes "empty.c") [] ∷ []) true)
 
--- a cycle is a fault more, and no file is written
+-- A cycle is one more fault, and no file is written.
 abbrev endless : TangleCourse
 endless = course 3 2 [] [] (refused (codes "Cycle: <A> <B> <A>"))
 
--- a fault of the scan and one of a name; two outputs
+-- A scan fault, a fault of a name, and two outputs.
 abbrev faulty : TangleCourse
 faulty = course 1 0 [] (located (codes "f.w") 3 (codes "String did not end") ∷ fault (codes "Not present: <Q>") ∷ [])
     (planned (file (codes "f.c") (codes "M\n") ∷ file (codes "a.h") (codes "A\n") ∷ []) true)
@@ -57,7 +57,7 @@ record Computed : Type 0 where
       ≡ codes "This is CTANGLE, profile of CWEB 3\nf.w:3: ! String did not end\n! Not present: <Q>\n"
       ++ codes "! No program text\nWriting f.c\nWriting a.h\n(Faults: 2.)\n"
   faulty_files : tangle_files quiet faulty ≡ file (codes "f.c") (codes "M\n") ∷ file (codes "a.h") (codes "A\n") ∷ []
-  -- words that can't be read are told alone, and a web that isn't there behind the banner
+  -- Words that can't be read give only one line. A missing web is reported after the banner.
   unread_log : tangle_log shown_by_default unread
       ≡ codes "! Usage: ctangle [options] webfile[.w] [{changefile[.ch]|-} [outfile[.c]]]\n"
   gone_log : tangle_log shown_by_default (not_there (codes "gone.w"))

@@ -1,4 +1,4 @@
--- Rows of the spacing law, computed, and tokens that meet its premise.
+-- Worked examples of the law of blanks, and tokens that satisfy its premise.
 use Rattle.cweb_tools.proofs.Common.{◌++◌, ◌≡◌, List, [], ◌∷◌, refl, codes, empty, with_open, Token, Word, Number, Literal, Punct, Head, Quoted, Numeral, Punctuator, Code, CText, EmitAt, Closed, Reading, ReadsAlone, InPlainC, doubled, start_state, open_part_tokens, Setting, print}
 use Rattle.std.specs.Fmt.{digits}
 use Rattle.cweb_store.specs.declared.parts.PartKind.TheVariants as part
@@ -30,7 +30,7 @@ abbrev signs : List Token
 signs = Punct (codes "@") ∷ Word
     (codes "d") ∷ Punct (codes "-") ∷ Punct (codes "->") ∷ Punct (codes ".") ∷ Punct (codes "...") ∷ []
 
--- tokens that read alone
+-- Tokens that read alone.
 number : ReadsAlone (Number (codes "0xe+"))
 number = record { kind = Numeral; whole = refl; token = refl }
 
@@ -51,7 +51,7 @@ two_lines =
       token = refl;
     }
 
--- a raw literal that holds a line end and an `@`
+-- A raw literal with a newline and an `@`.
 raw : ReadsAlone (Literal (codes "R\"(" ++ 10 ∷ 64 ∷ codes ")\""))
 raw =
     record {

@@ -1,4 +1,4 @@
--- The spacing law, by induction on the list.
+-- The law of blanks, by induction on the tokens.
 use Rattle.cweb_tools.proofs.Common.{◌≡◌, ℕ, Bool, true, false, cond, ◌==◌, not, List, [], ◌∷◌, ◌++◌, Option, Some, None, All, refl, ap, sym, ◌∙◌, append_assoc, codes, if◌then◌else◌, nat_le, decimal, list_all, flat_map-append, All-head, All-tail, list_all-append, Token, Word, Number, Literal, Punct, Blank, Newline, Join, Head, Tail, first_is, is_quiet, Reading, InPlainC, HasReadTokens, IsReadAs, ReadsAlone, significant, is_insignificant, doubled, at_doubled, is_hash, spelling_of, continues_token, Setting, print_after, file_token_bytes, word_bytes, without_joined_layout, sep, are_apart, IsPlain, Spacing, is_ascii, and_parts, and_from, not-true}
 use Rattle.cweb_rules.proofs.Joins.{unlike}
 use Rattle.cweb_scan.specs.Lexemes.{lex}
@@ -7,8 +7,6 @@ use Rattle.cweb_scan.proofs.PlainStates.{nothing, and_then, no_directive}
 use Rattle.cweb_scan.proofs.PlainTokens.{newline_read, comment_read, comment_of, token_read, quiet_decimal}
 use Rattle.cweb_tools.proofs.SpacingStarts.{First, first_of, joins, operators_join}
 use Rattle.cweb_tools.proofs.SpacingSeam.{seam, blank_after}
-
--- THE TEXT OF A TOKEN
 
 ascii_text : (s : Setting) (b : List ℕ) → is_ascii b ≡ true → word_bytes s.replaced b ≡ b
 ascii_text s [] h = refl
@@ -41,7 +39,7 @@ quiet_head : (n : ℕ) → list_all is_quiet (decimal n ++ 58 ∷ []) ≡ true
 quiet_head n = list_all-append is_quiet (decimal n) (58 ∷ [])
     ∙ and_from (list_all is_quiet (decimal n)) true (quiet_decimal n) refl
 
--- the first byte of a token's text
+-- The first byte of a printed token.
 text_first : (s : Setting) (left : Option Token) (u : Token) → IsPlain u → First u (doubled (file_token_bytes s left u))
 text_first s left Blank h = record { byte = 32; rest = []; is = refl; starts = refl }
 text_first s left Newline h = record { byte = 10; rest = []; is = refl; starts = refl }
@@ -55,8 +53,6 @@ text_first s left (Literal b) h = first_of h
 text_first s left (Punct b) h = first_of h.2
 text_first s left _ h = absurd h
 
--- ONE TOKEN
-
 pub run_blank : (r : Reading) (x : List ℕ) → InPlainC r.state → lex r (32 ∷ x) ≡ lex r x
 run_blank r x h = one_more r 32 x h.in_c (no_directive r.state h) refl
 
@@ -64,7 +60,7 @@ solid_read : {r : Reading} {u : Token} {rest : List ℕ} → ReadsAlone u → is
     → first_is (continues_token joins u) rest ≡ false → IsReadAs r (doubled (spelling_of u)) rest (significant (u ∷ []))
 solid_read {r} {u} {rest} h plain in_plain goes = token_read joins r u rest operators_join in_plain h plain goes
 
--- what is read of a token's text, whatever follows that can't go on with it
+-- Reading a printed token, if the next byte can't continue it.
 step : (s : Setting) (left : Option Token) {r : Reading} (u : Token) {rest : List ℕ} → IsPlain u → InPlainC r.state
     → first_is (continues_token joins u) rest ≡ false
     → IsReadAs r (doubled (file_token_bytes s left u)) rest (significant (u ∷ []))
@@ -80,8 +76,6 @@ step s left (Number b) h plain goes = solid_read h refl plain goes
 step s left (Literal b) h plain goes = solid_read h refl plain goes
 step s left (Punct b) h plain goes = solid_read h.2 h.0 plain goes
 step s left _ h plain goes = absurd h
-
--- THE LIST
 
 abbrev Plains : List Token → Type 0
 Plains [] = Unit {0}
@@ -141,7 +135,7 @@ law_from s left (t ∷ ts) h r plain =
     after_sep r left t text more plain ∙ one.goes_on in
     rw is (rw (← (solid_first t ts)) whole)
 
--- without a Join no layout is deleted
+-- Without a Join no layout is dropped.
 all_kept : (ts : List Token) → Plains ts → without_joined_layout false ts ≡ ts
 all_kept [] h = refl
 all_kept (Join ∷ ts) h = absurd h.0

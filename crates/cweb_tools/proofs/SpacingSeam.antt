@@ -1,10 +1,8 @@
--- The first byte of what is printed can't go on with the token before.
+-- The first byte after a token can't continue it.
 use Rattle.cweb_tools.proofs.Common.{◌≡◌, ℕ, Bool, true, false, ◌&&◌, ◌||◌, ◌==◌, not, List, [], ◌∷◌, refl, ap, sym, ◌∙◌, codes, nat_le, Token, Word, Number, Literal, Verbatim, Punct, Blank, Newline, Join, Defs, Name, Mark, is_one_of, is_digit, is_letter, is_word_byte, after_word, after_number, joins_last, continues_token, is_operator, last_is, are_apart, and-false, or_parts, and-true, or-false}
 use Rattle.cweb_rules.proofs.Stays.{begins_number}
 use Rattle.cweb_texts.specs.Edges as print
 use Rattle.cweb_tools.proofs.SpacingStarts.{joins, Starts, none_of}
-
--- THE SEAM
 
 not_both : (b : List ℕ) (c : ℕ) → is_digit c ≡ false
     → (last_is is_operator b && is_operator c) ≡ false → joins_last joins b c ≡ false
@@ -50,7 +48,7 @@ before_comment b c apart h =
     let f = or_parts (last && false) (op && (false || true)) e.0 in
     ap (joins_last joins b) h ∙ not_both b 47 refl f.1
 
--- where the rules put no blank, the byte that follows doesn't go on with the token
+-- If the rules put no blank, the next byte doesn't continue the token.
 pub seam : (left right : Token) (c : ℕ) → are_apart left right ≡ false → Starts right c
     → continues_token joins left c ≡ false
 seam (Word b) (Word d) c apart h = cc
@@ -96,7 +94,7 @@ seam (Number b) _ c apart h = ap after_number h
 seam (Punct b) _ c apart h = before_comment b c apart h
 seam _ right c apart h = refl
 
--- a blank goes on with no token
+-- A blank continues no token.
 pub blank_after : (left : Token) → continues_token joins left 32 ≡ false
 blank_after (Punct b) = never b 32 refl refl
 blank_after _ = refl

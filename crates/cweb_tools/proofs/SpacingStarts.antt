@@ -1,11 +1,11 @@
--- The first byte of what is printed of a token.
+-- The first byte of each printed token.
 use Rattle.cweb_tools.proofs.Common.{◌≡◌, ℕ, Bool, true, false, cond, ◌&&◌, ◌||◌, ◌==◌, not, List, [], ◌∷◌, Some, None, refl, ap, sym, ◌∙◌, codes, list_all, Token, Word, Number, Literal, Punct, Blank, Newline, Head, Tail, is_one_of, is_digit, is_word_byte, is_white, first_is, JoinsAll, after_word, begins_as, unescaped, Kind, Effect, EmitAt, End, Closed, ReadsAlone, doubled, token_of, spelling_of, literal_token, is_clean, is_operator, and_parts, or_parts, same_Some, not-true}
 use Rattle.cweb_rules.specs.Kinds as kind
 use Rattle.cweb_rules.proofs.Joins.{unlike}
 use Rattle.cweb_rules.proofs.Stays.{begins_number}
 use Rattle.cweb_scan.proofs.PlainTokens.{begins, text_of}
 
--- operator bytes, but `.` only after `.`; or `.` and a digit
+-- Operator bytes, but `.` only after `.`; or `.` and a digit.
 abbrev pub joins : ℕ → ℕ → Bool
 joins x y = ((x == 46) && is_digit y) || (is_operator x && is_operator y && (not (y == 46) || (x == 46)))
 
@@ -17,7 +17,7 @@ operators_join = record {
   number = λ digit h. ap (λ v. v || (is_operator digit && (not (digit == 46) || true))) h;
 }
 
--- what is known of a token's first byte
+-- The possible first bytes of a token.
 abbrev pub Starts : Token → ℕ → Type 0
 Starts (Word b) c = (is_word_byte c ≡ true) × (is_digit c ≡ false)
 Starts (Number b) c = begins_number c ≡ true
@@ -42,7 +42,7 @@ none_of p (x ∷ set) c h e =
     let q = and_parts (not (p x)) (list_all (λ x. not (p x)) set) h in
     ap (λ v. v || is_one_of set c) (unlike p x c true e (not-true (p x) q.0)) ∙ none_of p set c q.1 e
 
--- no byte of a set passes a test
+-- No byte of a set passes a test.
 passes_none : (p : ℕ → Bool) (set : List ℕ) (c : ℕ)
     → list_all (λ x. not (p x)) set ≡ true → is_one_of set c ≡ true → p c ≡ false
 passes_none p set c h e =
@@ -96,6 +96,6 @@ first_in : (k : Kind) (d : List ℕ) {u : Token} → first_is (begins_as k) d �
 first_in k [] h t is = cc
 first_in k (b ∷ d) h t is = first_by k b d h t is
 
--- the first byte of a token that reads alone
+-- The first byte of a token that reads alone.
 pub first_of : {u : Token} → ReadsAlone u → First u (text_of u)
 first_of {u} h = first_in h.kind (text_of u) (begins u h) h.token refl

@@ -2,7 +2,7 @@
 use Rattle.cweb_tools.proofs.Common.{◌≡◌, ◌<◌, ◌+◌, ℕ, Bool, true, false, cond, ◌||◌, List, [], ◌∷◌, ◌++◌, map, refl, sym, ◌∙◌, ap, arith, nat_tests, sum_by-cons, or-true, or-false, list_any-append, ◌==◌, count_by, if◌then◌else◌, list_any, WebNotOpened, ChangeNotOpened, LogItem, banner, fault_count, faults, is_fault, no_errors, no_text, see_warning, stopped, Shown, Act, opens, reads, says, Numbers, Planning, TangleCourse, logged_items, planned, planned_acts, refused, tangle_status, tangling, unread, not_there, change_not_there, web_acts, when, course_status, status_by}
 use Rattle.cweb_tools.proofs.WebActs.{when_on, starred_on, outputs_on, closing_on}
 
--- whether acts log a fault
+-- Whether acts log a fault.
 abbrev has_fault : List Act → Bool
 has_fault acts = list_any is_fault (logged_items acts)
 
@@ -19,7 +19,7 @@ fault-said : (items : List LogItem) (acts : List Act)
 fault-said items acts =
     ap (list_any is_fault) (items_in-said items acts) ∙ list_any-append is_fault items (logged_items acts)
 
--- an item that is no fault
+-- The item is no fault.
 abbrev IsQuiet : LogItem → Type 0
 IsQuiet item = is_fault item ≡ false
 
@@ -35,7 +35,7 @@ shuts true true count = refl
 shuts true false count = refl
 shuts false missing count = refl
 
--- a refused plan alone has a fault of its own
+-- Only a refused plan has a fault of its own.
 abbrev is_refused : Planning → Bool
 is_refused (refused text) = true
 is_refused (planned files missing) = false

@@ -1,8 +1,8 @@
--- What is logged where something stops a run, and which counts rise.
+-- The log after a stop, and the failure counts that rise.
 use Rattle.cweb_tools.proofs.Common.{◌≡◌, inl, inr, ℕ, List, [], ◌∷◌, ◌++◌, refl, sym, ◌∙◌, ap, append-nil, append_assoc, WritesPrefix, arith, add-zero, Some, flat_map, Stop, LogFault, stop_line, LogItem, line, DeviceState, Act, says, after_act, ending, Breaks, PerformsActs, LogsLine, LogsStop, logged_items, IsStopped, RisesOnce}
 use Rattle.cweb_tools.proofs.Leaving.{broken, stop_logged}
 
--- a line was logged, or the log failed at it
+-- A line was logged, or the log failed within it.
 line_front : {text : List ℕ} (old new : DeviceState) → LogsLine text old new
     → WritesPrefix old.log new.log text × (new.log_failed ≡ old.log_failed → new.log ≡ old.log ++ text)
 line_front {text} old new (inl is) =
@@ -23,8 +23,7 @@ line_once : {text : List ℕ} (old new : DeviceState) → LogsLine text old new 
 line_once old new (inl is) = inl (ap (λ (d : DeviceState). d.log_failed) is)
 line_once old new (inr fails) = inr (ap (λ (d : DeviceState). d.log_failed) fails.is)
 
--- a run that was stopped at its first act: the stop's line was logged, or the log failed at it, or at the act's own
--- line
+-- A stop at the first act: its line was logged, or the log failed within that line or within the act's own.
 stopped_at : (act : Act) (stop : Stop) {about : List ℕ} {old : DeviceState} (mid : DeviceState) {new : DeviceState}
     → Breaks act (ending stop about) old mid
     → LogsStop (ending stop about) mid new → (acts : List Act) → IsStopped (act ∷ acts) stop about old new
@@ -67,7 +66,7 @@ stopped_at act stop {about} {old} mid {new} broke logs acts =
       log_once = rw (← (left.log never).1) (line_once mid new logs);
     }
 
--- one more line was logged before that
+-- One more line was logged before that.
 said_before : (item : LogItem) {acts : List Act} {stop : Stop} {about : List ℕ} {old new : DeviceState}
     → IsStopped acts stop about (after_act (says item) old) new → IsStopped (says item ∷ acts) stop about old new
 said_before item {stop} {about} {old} rest = record {

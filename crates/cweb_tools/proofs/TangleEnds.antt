@@ -1,11 +1,11 @@
--- How a whole run of `ctangle` ends, by what became of its words.
+-- How a whole run of `ctangle` ends, by the result of parsing its words.
 use Rattle.cweb_tools.proofs.Common.{◌≡◌, ◌⊎◌, inl, inr, ℕ, List, [], ◌∷◌, ◌++◌, refl, sym, subst, Option, Some, None, World, Stop, Usage, Memory, LogFault, banner, stopped, stop_line, OptionsModel, Logs, SinkModel, Devices, ShelfModel, Act, ending, judges, says, Closes, Does, DoesInLog, FollowsCourse, halted, TangleCourse, change_not_there, not_there, script, tangle_status, tangle_usage, tangling, unread, when, CanCome, course_acts, shown_by, tangle_course}
 use Rattle.cweb_tools.proofs.Doing.{closes_on, does_in, does_on, quietly}
 use Rattle.cweb_tools.proofs.Logging.{at}
 use Rattle.cweb_tools.proofs.Statuses.{status_is}
 use Rattle.cweb_tools.proofs.TangleExits.{told_last, can_come, EndsAs}
 
--- the acts of a run whose words could be read
+-- The acts of a run whose words can be read.
 script_is : (asked : OptionsModel) (course : TangleCourse) → CanCome (Some asked) course
     → script asked.shown course ≡ judges ∷ (when asked.shown.banner banner ++ course_acts asked.shown course)
 script_is asked unread can = absurd can
@@ -13,11 +13,10 @@ script_is asked (not_there web) can = refl
 script_is asked (change_not_there change) can = refl
 script_is asked (tangling names events web) can = refl
 
--- the words were read
+-- The words were parsed.
 judged : {seen : Devices} → Does (judges ∷ []) None seen seen
 judged = quietly refl refl refl (λ now. inl (tt, refl))
 
--- how a whole run ends
 abbrev EndsRun : World → Option OptionsModel → Devices → Devices → ℕ → Type 0
 EndsRun world asked before after status = FollowsCourse (script (shown_by asked))
     (tangle_status (shown_by asked)) (CanCome asked) (tangle_course world asked) before after status
@@ -30,7 +29,7 @@ memory_is : (asked : OptionsModel) (stop : Stop) → (stop ≡ Usage) ⊎ (stop 
 memory_is asked stop (inl is) none_by = absurd (some_none asked (none_by is))
 memory_is asked stop (inr is) none_by = is
 
--- the words can't be read, or memory was wanting for their names
+-- The words can't be read, or an allocation for their names failed.
 pub words_end : (world : World) (asked : Option OptionsModel) (stop : Stop)
     (shelf : ShelfModel) (bins : SinkModel) {l l' : SinkModel} (status : ℕ) → (stop ≡ Usage) ⊎ (stop ≡ Memory)
     → (stop ≡ Usage → asked ≡ None) → (asked ≡ None → stop ≡ Usage) → Logs (stop_line stop tangle_usage) l l'
@@ -60,7 +59,7 @@ words_end world (Some asked) stop shelf bins {l} {l'} status why none_by is_usag
           answered;
     }
 
--- the banner could not be logged
+-- The banner could not be logged.
 pub banner_ends : (world : World) (asked : OptionsModel) (shelf : ShelfModel) (bins : SinkModel) {l l' : SinkModel}
     → DoesInLog (when asked.shown.banner banner) (Some (ending LogFault [])) l l'
     → EndsRun world (Some asked) (at shelf bins l) (at shelf bins l') 1
@@ -74,7 +73,7 @@ banner_ends world asked shelf bins {l} {l'} does =
           (record { shelf = refl; bins = refl; log = refl }) refl;
     }
 
--- the run went on behind the banner
+-- The run continued after the banner.
 pub named_ends : (world : World) (asked : OptionsModel) (shelf : ShelfModel) (bins : SinkModel) {l l' : SinkModel}
     (after : Devices) (status : ℕ) → DoesInLog (when asked.shown.banner banner) None l l'
     → EndsAs asked (tangle_course world (Some asked)) (at shelf bins l') after status

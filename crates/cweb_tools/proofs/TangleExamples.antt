@@ -1,11 +1,11 @@
--- Whole runs of `ctangle`, computed: from texts and words to log, files and status.
+-- Worked examples: whole runs of `ctangle`, from files and words to log, files and status.
 use Rattle.cweb_tools.proofs.Common.{◌≡◌, ℕ, List, [], ◌∷◌, ◌++◌, Option, Some, None, refl, ap, ◌∙◌, cond, codes, bytes_eq, File, World, Event, MergeStateModel, run_steps, started, merge, merge-run_steps, OptionsModel, options_by, TangleCourse, tangle_files, tangle_log, tangle_status, shown_by, tangle_course, tangled}
 use Rattle.std.specs.Fmt.{digits}
 use Rattle.std.specs.Str.{is_utf8, chars}
 use lib.Utf8.{encode}
 use Rattle.cweb_tools.specs.Course as course
 
--- what a run leaves
+-- The effect of a run.
 record Left : Type 0 where
   log : List ℕ
   files : List File
@@ -19,7 +19,7 @@ left_of asked course =
       status = tangle_status (shown_by asked) course;
     }
 
--- what it leaves over these texts, by its words
+-- The effect for these files and words.
 abbrev left_by : World → List (List ℕ) → Left
 left_by there words = left_of (options_by words) (tangle_course there (options_by words))
 
@@ -29,20 +29,20 @@ file name bytes = record { name = name; bytes = bytes }
 abbrev text_in : List ℕ → List ℕ → List ℕ → Option (List ℕ)
 text_in name text sought = cond (bytes_eq sought name) (Some text) None
 
--- a folder with a web alone
+-- A folder with only a web.
 abbrev one_web : List ℕ → List ℕ → World
 one_web name text = record { texts = text_in name text; inputs = None }
 
--- what a merge that has ended gives
+-- The events of a merge that has ended.
 abbrev events_of : Option (List Event) → List Event
 events_of None = []
 events_of (Some events) = events
 
--- the course of a run whose merge begins so, with these files open; its steps are few
+-- The course of a run whose merge begins with these files open. Its steps are few.
 abbrev merging : World → MergeStateModel → List (List ℕ) → List ℕ → TangleCourse
 merging there begun files main = tangled main (course.merging files (events_of (run_steps 40 there begun)))
 
--- a run whose merge begins so leaves what its lines come to
+-- The effect of such a run follows from its lines.
 runs_to : (there : World) (begun : MergeStateModel) (files : List (List ℕ)) (main : List ℕ) (words : List (List ℕ))
     (left : Left)
     → tangle_course there (options_by words) ≡ tangled main (course.merging files (merge there begun))
@@ -53,7 +53,7 @@ runs_to there begun files main words left is few computed = ap (left_of (options
     (merge-run_steps 40 there begun _ few))
     ∙ computed
 
--- two sections: the name of the second one is used in the first
+-- Two sections. The first uses the name of the second.
 abbrev hello_text : List ℕ
 hello_text =
     codes "@ Hello.\n@c\n#include <stdio.h>\nint main(void) { @<Greet@> return 0; }\n@ @<Greet@>=\nputs(\"hi\");\n"
@@ -69,7 +69,7 @@ unfolding digits is_utf8 chars encode
 hello_run = runs_to (one_web (codes "hello.w") hello_text) (started hello_text None) (codes "hello.w" ∷ [])
     (codes "hello.c") (codes "hello" ∷ []) _ refl refl refl
 
--- a macro, a file of its own, and a literal that doesn't end: two outputs and a fault
+-- A macro, a file of its own, and a literal that doesn't end: two outputs and a fault.
 abbrev two_text : List ℕ
 two_text = codes "@ @d M 1\n@(a.h@>=\nint m=\"x\n"
 
@@ -83,7 +83,7 @@ unfolding digits is_utf8 chars encode
 two_run = runs_to (one_web (codes "f.w") two_text) (started two_text None) (codes "f.w" ∷ []) (codes "f.c")
     (codes "-bph" ∷ codes "f" ∷ []) _ refl refl refl
 
--- names that use each other: nothing is written
+-- Names that use each other: nothing is written.
 abbrev cycle_text : List ℕ
 cycle_text = codes "@ @c @<A@>\n@ @<A@>= @<B@>\n@ @<B@>= @<A@>\n"
 
@@ -96,7 +96,7 @@ unfolding digits is_utf8 chars encode
 cycle_run = runs_to (one_web (codes "c.w") cycle_text) (started cycle_text None) (codes "c.w" ∷ []) (codes "c.c")
     (codes "c" ∷ []) _ refl refl refl
 
--- a line that a change file replaces, with marks to where each line stands
+-- A line that a change file replaces, with marks for the place of each line.
 abbrev changed_texts : List ℕ → Option (List ℕ)
 changed_texts sought = cond (bytes_eq sought (codes "v.w"))
     (Some (codes "@ @c\na;\nb;\nc;\n")) (text_in (codes "v.ch") (codes "@x\nb;\n@y\nB;\n@z\n") sought)

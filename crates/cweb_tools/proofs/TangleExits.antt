@@ -1,22 +1,22 @@
--- How the exits of a run of `ctangle` that come before its web is read are its ends.
+-- The early exits of `ctangle`, before its web is read, are ends of a run.
 use Rattle.cweb_tools.proofs.Common.{◌≡◌, ◌⊎◌, inl, inr, ℕ, List, [], ◌∷◌, refl, sym, ◌∙◌, Bool, true, false, IsTrue, Option, Some, None, contents_found, World, Found, Event, started, StartStops, emitted_lines, reported_faults, merge, StopsAtStart, Stop, WebNotOpened, ChangeNotOpened, Memory, scanned, LogItem, line, stopped, start_subject, stop_line, OptionsModel, Logs, SinkModel, Devices, ShelfModel, Act, Ending, PerformsActs, rise, read_failures_of, bins_blame, log_blame, arith, ending, DeviceState, opens, says, change_name, found_course, AgreesWith, Closes, Does, FollowsCourse, halted, TangleCourse, change_not_there, not_there, CanCome, course_acts, course_status, tangled}
 use Rattle.cweb_tools.proofs.Doing.{closes_on}
 use Rattle.cweb_tools.proofs.DoingFiles.{closes_told}
 use Rattle.cweb_tools.proofs.Logging.{at, logs_write, said}
 
--- a device tells or it doesn't
+-- A device is observable or not.
 pub either : (tells : Bool) → IsTrue tells ⊎ (IsTrue tells → ⊥)
 either true = inl refl
 either false = inr (λ is. cc)
 
--- a line that says what ended the run was logged, or the log failed at it
+-- The line of what ended the run was logged, or the log failed within it.
 pub told_last : (item : LogItem) (shelf : ShelfModel) (bins : SinkModel) {l l' : SinkModel} → Logs (line item) l l'
     → Closes (says item ∷ []) 1 (at shelf bins l) (at shelf bins l') 1
 told_last item shelf bins logs =
     let writes = logs_write logs in
     closes_told writes.0 (said item writes.1) refl refl shelf bins
 
--- what the devices hold where the shelf alone was read
+-- The state after only the shelf was read.
 pub shelf_told : {now : DeviceState}
     (count : ℕ) (blames : List (List ℕ)) (shelf shelf' : ShelfModel) (bins : SinkModel) (l : SinkModel)
     → AgreesWith now (at shelf bins l) → count ≡ shelf'.failed → (IsTrue shelf'.tells → blames ≡ shelf'.blamed)
@@ -32,7 +32,7 @@ shelf_told count blames shelf shelf' bins l told counted blamed = record {
   log = told.log;
 }
 
--- a run whose words ask for this can come to the course that its shelf's texts give
+-- The course of the shelf's files is possible for the words.
 pub can_come : (asked : OptionsModel) (world : World) (found : Option Found) (changes : Option (Option Found))
     → CanCome (Some asked) (tangled asked.names.main (found_course world asked.names.merge found changes))
 can_come asked world None changes = refl
@@ -41,12 +41,12 @@ can_come asked world (Some web) (Some change) =
     let events : List Event = merge world (started web.1 (contents_found change)) in
     record { faults = reported_faults events; made = scanned (emitted_lines events); is = refl }
 
--- how the last part of a run ends, behind its words
+-- The end of the part of a run after its words are parsed.
 abbrev pub EndsAs : OptionsModel → TangleCourse → Devices → Devices → ℕ → Type 0
 EndsAs asked course before after status =
     FollowsCourse (course_acts asked.shown) course_status (CanCome (Some asked)) course before after status
 
--- the shelf was looked at, and nothing else was done
+-- The shelf was searched, and nothing else was done.
 module _ (shelf shelf' : ShelfModel) (tells : shelf'.tells ≡ shelf.tells)
     (failed : shelf'.failed ≡ shelf.failed) (blamed : IsTrue shelf.tells → shelf'.blamed ≡ shelf.blamed)
     (bins : SinkModel) (l l' : SinkModel) where
@@ -67,7 +67,7 @@ module _ (shelf shelf' : ShelfModel) (tells : shelf'.tells ≡ shelf.tells)
     runs = λ now told. record { left = now; told = looked now told; runs = runs now };
   }
 
-  -- memory was refused there
+  -- An allocation failed there.
   not_opened : (acts : List Act) → Does (opens ∷ acts) (Some (ending Memory [])) (at shelf bins l) (at shelf' bins l)
   not_opened acts = looks (opens ∷ acts) (Some (ending Memory [])) refl refl refl (λ now. inr refl)
 
@@ -100,7 +100,7 @@ module _ (shelf shelf' : ShelfModel) (tells : shelf'.tells ≡ shelf.tells)
     memory_out (Some web) None = not_opened _
     memory_out (Some web) (Some change) = not_opened _
 
-    -- a merge could not begin
+    -- A merge could not begin.
     pub start_ends : (found : Option Found) (changes : Option (Option Found)) (stop : Stop)
         → StartStops stop → (IsTrue shelf.tells → StopsAtStart stop found changes)
         → Logs (stop_line stop (start_subject asked.names.merge.web (change_name asked.names.merge.change) stop)) l l'

@@ -1,11 +1,11 @@
--- What a run of `ctangle` promises, by how it ends.
+-- A run of `ctangle` keeps its promises, by how it ends.
 use Rattle.cweb_tools.proofs.Common.{◌≡◌, ℕ, ◌++◌, refl, sym, ◌∙◌, ap, IsTrue, Option, World, OptionsModel, Devices, Shown, AgreesWith, FollowsCourse, observed_state, script, tangle_status, CanCome, shown_by, tangle_course, IsTangleCourse, subst, TanglePromises, TanglesFreely, put_files, tangle_files, tangle_log}
 use Rattle.cweb_tools.proofs.Courses.{tangle_comes, tangle_only}
 use Rattle.cweb_tools.proofs.Endings.{ends_freely}
 use Rattle.cweb_tools.proofs.ChangedFilesWereRead.{keeps_limits}
 use Rattle.cweb_tools.proofs.ObservedTangleEnds.{tangle_ends, log_tells, bins_tell}
 
--- devices hold what they show
+-- The state of the observable devices agrees with them.
 pub shown_told : {seen : Devices} → AgreesWith (observed_state seen) seen
 shown_told =
     record {
@@ -19,7 +19,7 @@ shown_told =
       log = λ tells. refl;
     }
 
--- a run whose acts are those of its script keeps its promises
+-- A run whose acts are those of its script keeps its promises.
 pub promised : {world : World} {asked : Option OptionsModel} {before after : Devices} {status : ℕ}
     → FollowsCourse (script (shown_by asked)) (tangle_status (shown_by asked))
     (CanCome asked) (tangle_course world asked) before after status → TanglePromises world asked before after status
@@ -32,7 +32,7 @@ promised {world} {asked} follows = record {
   log_tells = log_tells follows.closes;
 }
 
--- what devices that tell leave, where nothing stopped a run
+-- The effect on observable devices of a run that nothing stopped.
 pub tangled_freely : (world : World) (asked : Option OptionsModel) {before after : Devices} {status : ℕ}
     → TanglePromises world asked before after status → TanglesFreely world asked before after status
 tangled_freely world asked {before} {after} {status} run tell course free_course free =

@@ -1,5 +1,4 @@
--- What holds of no acts, and goes on holding where an item is logged or a file is written, holds of what is done
--- with a web.
+-- A property of acts that holds of none, and is preserved by logging and writing, holds of the acts for a web.
 use Rattle.cweb_tools.proofs.Common.{ℕ, Bool, true, false, List, [], ◌∷◌, ◌++◌, map, subst, append-nil, File, LogItem, closing, starred, Shown, Act, says, writes, Numbers, closing_acts, outputs_acts, starred_acts, when}
 use Rattle.cweb_log.specs.Items.{counts, writing}
 

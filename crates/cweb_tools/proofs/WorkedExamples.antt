@@ -1,21 +1,21 @@
--- Worked examples, computed from the definitions.
+-- Worked examples of command lines and merges.
 use Rattle.cweb_tools.proofs.Common.{◌≡◌, ℕ, List, [], ◌∷◌, Option, Some, None, refl, ap, cond, codes, bytes_eq, Place, NotThere, Unequal, Usage, WebNotOpened, ChangeNotOpened, LineTooLong, WriteFault, Memory, World, Event, MergeStateModel, run_steps, started, merge-run_steps, line, source_item, fault_lines, stop_line, subject, web_names_by, Course, merging, course_of, merged, merge_log, merge_status, usage}
 use Rattle.std.specs.Fmt.{digits}
 use Rattle.cweb_tools.specs.Course.{unread, change_not_there}
 
--- a lone `-` as second word means no change file
+-- A lone `-` as the second word means no change file.
 dash_second : (web : List ℕ) → web_names_by (web ∷ codes "-" ∷ []) ≡ web_names_by (web ∷ [])
 dash_second web = refl
 
--- lines of the log
+-- Lines of the log.
 abbrev place : ℕ → ℕ → Place
 place file line = record { file = record { 0 = file }; line = line }
 
--- a folder that holds one web alone
+-- A folder with only one web.
 abbrev one_web : List ℕ → Option (List ℕ)
 one_web name = cond (bytes_eq name (codes "m.web")) (Some (codes "A\n")) None
 
--- a folder with a web and a change file, of whose entries the first replaces a line and the second matches none
+-- A web and a change file. Its first entry replaces a line, its second one matches none.
 abbrev web_and_change : List ℕ → Option (List ℕ)
 web_and_change name = cond (bytes_eq name (codes "m.w")) (Some (codes "A\nB\n"))
     (cond (bytes_eq name (codes "c.ch")) (Some (codes "@x\nA\n@y\nN\n@z\n@x\nZ\n@y\n@z\n")) None)
@@ -38,12 +38,12 @@ changed_run = ap (λ (events : List Event). merging (codes "m.w" ∷ codes "c.ch
     (merge-run_steps 20 there begun (events_of (run_steps 20 there begun)) refl)
 
 record Computed : Type 0 where
-  -- a word without a dot in its last path part is given `.w`, and `.web` as a second try
+  -- A word without a dot in its last path part gets `.w`, and `.web` as a second try.
   web_without_extension : web_names_by (codes "lib.d/hello" ∷ [])
       ≡ Some (record { web = codes "lib.d/hello.w"; second = Some (codes "lib.d/hello.web"); change = None })
   web_with_extension : web_names_by (codes "lib/a.tex" ∷ [])
       ≡ Some (record { web = codes "lib/a.tex"; second = None; change = None })
-  -- a lone `+` is an ordinary word
+  -- A lone `+` is an ordinary word.
   lone_plus : web_names_by (codes "+" ∷ [])
       ≡ Some (record { web = codes "+.w"; second = Some (codes "+.web"); change = None })
   no_words : web_names_by [] ≡ None
@@ -51,7 +51,7 @@ record Computed : Type 0 where
   lone_dash : web_names_by (codes "-" ∷ []) ≡ None
   option_word : web_names_by (codes "+x" ∷ []) ≡ None
   control_byte : web_names_by ((97 ∷ 127 ∷ []) ∷ []) ≡ None
-  -- a change file is given `.ch`, and there is no second try
+  -- A change file gets `.ch`, and there is no second try.
   change_without_extension : web_names_by (codes "m.w" ∷ codes "d.d/c" ∷ [])
       ≡ Some (record { web = codes "m.w"; second = None; change = Some (codes "d.d/c.ch") })
   change_with_extension : web_names_by (codes "m" ∷ codes "d/c.x" ∷ [])
@@ -78,14 +78,14 @@ record Computed : Type 0 where
       (subject (codes "m.w" ∷ codes "c.ch" ∷ []) (LineTooLong (record { 0 = 1 }))) ≡ codes "! Line too long in c.ch\n"
   write_line : stop_line WriteFault (subject [] WriteFault) ≡ codes "! Write fault on standard output\n"
   change_missing : course_of one_web (codes "m" ∷ codes "gone" ∷ []) None ≡ change_not_there (codes "gone.ch")
-  -- where both are missing the line is about the web, by the name that was tried first
+  -- If both are missing, the line is about the web, by its first name.
   both_missing : merge_log (course_of one_web (codes "n" ∷ codes "gone" ∷ []) None)
       ≡ codes "! Cannot open web file n.w\n"
   misread : course_of one_web (codes "-" ∷ codes "m" ∷ []) None ≡ unread
   changed_text : merged changed_course ≡ codes "N\nB\n"
   changed_log : merge_log changed_course ≡ codes "c.ch:6: ! Change entry did not match\n"
   changed_status : merge_status changed_course ≡ 1
-  -- with a lone `-` the change file is left alone
+  -- A lone `-` leaves the change file unread.
   unchanged_run : course_of web_and_change (codes "m" ∷ codes "-" ∷ []) None
       ≡ course_of web_and_change (codes "m" ∷ []) None
 

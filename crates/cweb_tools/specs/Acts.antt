@@ -1,4 +1,4 @@
--- What a run of `ctangle` does, act by act, and what it leaves where something stops it.
+-- The acts of a run of `ctangle`, and the state after each, also if something stops the run.
 use Rattle.std.specs.Prelude.{◌≡◌, ◌<◌, ◌⊎◌, ℕ, ◌+◌, length, List, [], ◌∷◌, ◌++◌, Option, Some, None}
 use Rattle.cweb_files.specs.Files.{File, Refused, no_device, no_memory, put_file}
 use Rattle.cweb_lines.specs.Merge.{Event}
@@ -10,80 +10,81 @@ use Rattle.cweb_input.specs.declared.stop.Stop.TheVariants.{WriteFault, LogFault
 use Rattle.cweb_log.specs.Items.{LogItem, line}
 use Rattle.cweb_log.specs.Log.{file_name_at, stop_line}
 
--- what the devices of a run hold, and how often each has failed
+-- The contents of a run's devices, and how often each has failed.
 pub record DeviceState : Type 0 where
   pub shelf_failed : ℕ
-  -- the names of the files of which a read has failed
+  -- The names of the files whose reads failed.
   pub blamed : List (List ℕ)
   pub bins_failed : ℕ
   pub log_failed : ℕ
   pub files : List File
   pub draft : Option (List ℕ)
-  -- why the bins refused to begin the last file, if they did
+  -- Why the bins refused to begin the last file, if they did.
   pub refused : Option Refused
   pub log : List ℕ
 
+-- An act of a run.
 pub data Act : Type 0 where
-  -- the words are read
+  -- The words are parsed.
   judges : Act
-  -- a line is logged
+  -- A line is logged.
   says : LogItem → Act
-  -- the web and its change file are opened
+  -- The web and its change file are opened.
   opens : Act
-  -- files of these names are read, and this comes of them
+  -- Files of these names are read, with these events.
   reads : List (List ℕ) → List Event → Act
-  -- the outputs are planned
+  -- The outputs are planned.
   plans : Act
-  -- room is set aside for the expansions
+  -- Memory for the expansions is allocated.
   reserves : Act
-  -- a draft of this name is begun, printed with this text, and committed
+  -- A draft of this name is begun, these bytes are printed to it, and it is committed.
   writes : List ℕ → List ℕ → Act
 
--- what the devices hold after an act
+-- The contents of the devices after an act.
 abbrev pub after_act : Act → DeviceState → DeviceState
 after_act (says item) now = record now { log = now.log ++ line item }
 after_act (writes name text) now =
     record now { files = put_file now.files (record { name = name; bytes = text }); draft = None; refused = None }
 after_act _ now = now
 
--- what an act that was done shows
+-- If an act of reading is done, its lines are within the limits.
 abbrev pub ActKeepsLimits : Act → Type 0
 ActKeepsLimits (reads names events) = IsWithinLimits (taken_lines events)
 ActKeepsLimits _ = Unit {0}
 
--- what stopped a run, and what that is about
+-- What stopped a run, and the name that its line ends in.
 pub data Ending : Type 0 where
   ending : Stop → List ℕ → Ending
 
--- a front of a line was logged, and the log failed
+-- A prefix of a line was logged, and the log failed.
 pub record FailsLog (text : List ℕ) (old new : DeviceState) : Type 0 where
   pub front : List ℕ
   pub rest : List ℕ
   pub whole : text ≡ front ++ rest
   pub is : new ≡ record old { log_failed = old.log_failed + 1; log = old.log ++ front }
 
--- a file could not be begun: the files are as they were, there is no draft, and the bins know why
+-- A file could not be begun. The files are unchanged, there is no draft, and the bins have the reason.
 abbrev pub begin_fails : Refused → DeviceState → DeviceState
 begin_fails why now = record now { draft = None; refused = Some why }
 
--- the bins failed
+-- The bins failed.
 abbrev pub bins_fail : DeviceState → DeviceState
 bins_fail now = record now { bins_failed = now.bins_failed + 1 }
 
--- what was written of a file that had begun is lost: the files are as they were, and no draft is left
+-- A file that was begun is lost. The files are unchanged, and there is no draft.
 abbrev pub abandon_draft : DeviceState → DeviceState
 abandon_draft now = record now { draft = None; refused = None }
 
--- a stop of reading is about one of the files that are read, and ends in its name
+-- A stop of reading is about one of the files that are read, and its line ends in that file's name.
 pub record IsOfFile (names : List (List ℕ)) (file : ℕ) (about : List ℕ) : Type 0 where
   pub known : file < length names
   pub named : about ≡ file_name_at names file
 
--- a read of the file of this name failed
+-- A read of the file of this name failed.
 abbrev pub read_fails : List ℕ → DeviceState → DeviceState
 read_fails name now = record now { shelf_failed = now.shelf_failed + 1; blamed = now.blamed ++ name ∷ [] }
 
--- what a stop leaves at an act: each act has stops of its own
+-- The state after a stop within an act. Each act has its own stops.
 abbrev pub Breaks : Act → Ending → DeviceState → DeviceState → Type 0
 Breaks judges (ending Memory about) old new = new ≡ old
 Breaks (says item) (ending LogFault about) old new = FailsLog (line item) old new
@@ -103,30 +104,32 @@ Breaks (writes name text) (ending OutNotOpened about) old new = (about ≡ name)
 Breaks (writes name text) (ending WriteFault about) old new = (about ≡ name) × (new ≡ bins_fail (abandon_draft old))
 Breaks _ _ old new = ⊥
 
+-- A stop within an act, if there is one.
 abbrev pub StopsAt : Act → Option Ending → DeviceState → DeviceState → Type 0
 StopsAt act None old new = ⊥
 StopsAt act (Some why) old new = Breaks act why old new
 
+-- Nothing stopped the run, and nothing more changes.
 abbrev pub Ended : Option Ending → DeviceState → DeviceState → Type 0
 Ended None old new = new ≡ old
 Ended (Some why) old new = ⊥
 
--- the acts are done in their order, all of them or up to one that something stops
+-- The acts are done in order: all of them, or up to one within which something stops the run.
 abbrev pub PerformsActs : List Act → Option Ending → DeviceState → DeviceState → Type 0
 PerformsActs [] why old new = Ended why old new
 PerformsActs (act ∷ acts) why old new = (ActKeepsLimits act × PerformsActs acts why (after_act act old) new)
     ⊎ StopsAt act why old new
 
--- a line is logged, or the log fails at it
+-- A line is logged, or the log fails within it.
 abbrev pub LogsLine : List ℕ → DeviceState → DeviceState → Type 0
 LogsLine text old new = (new ≡ record old { log = old.log ++ text }) ⊎ FailsLog text old new
 
--- the line of what stopped a run comes last; a log that failed is told nothing
+-- The line of a stop is logged last. A log that failed gets no line.
 abbrev pub LogsStop : Ending → DeviceState → DeviceState → Type 0
 LogsStop (ending LogFault about) old new = new ≡ old
 LogsStop (ending stop about) old new = LogsLine (stop_line stop about) old new
 
--- how a run ends: all its acts were done and this is its status, or something stopped it and that is logged last
+-- The end of a run: all acts are done and the status is `due`, or something stopped it, which is logged last.
 pub data TangleEnds (acts : List Act) (due : ℕ) (before after : DeviceState) (status : ℕ) : Type 0 where
   completes : PerformsActs acts None before after → status ≡ due → TangleEnds acts due before after status
   stops : (why : Ending) (then : DeviceState) → PerformsActs acts (Some why) before then → LogsStop why then after

@@ -1,4 +1,4 @@
--- What a run of `wmerge` writes and answers, as functions of the texts, the words and the folder of included files.
+-- The output, log and status of `wmerge`, as functions of the files, the words and the folder of included files.
 use Rattle.std.specs.Prelude.{◌≡◌, ℕ, List, [], ◌∷◌, ◌++◌, codes, Option, None, Some}
 use Rattle.cweb_input.specs.Finding.{names_found, contents_found}
 use Rattle.cweb_input.specs.Include.{World, Found, web_at, change_at}
@@ -11,24 +11,25 @@ use Rattle.cweb_log.specs.Items.{fault_lines}
 use Rattle.cweb_log.specs.Log.{stop_line}
 use Rattle.cweb_log.specs.Words.{WebNames}
 
+-- The usage line of `wmerge`.
 abbrev pub usage : List ℕ
 usage = codes "wmerge webfile[.w] [{changefile[.ch]|-}]"
 
--- the folder in which included files are sought too; an empty one counts as none
+-- The folder in which included files are also searched. An empty one counts as none.
 abbrev pub folder_of : Option (List ℕ) → Option (List ℕ)
 folder_of None = None
 folder_of (Some []) = None
 folder_of (Some (b ∷ bs)) = Some (b ∷ bs)
 
--- how a run goes: its words can't be read, its web is not there under its name, its web is there and its change file isn't, or a
--- merge begins with these files open and all this comes
+-- The course of a run: the words can't be read; the web isn't there; its change file isn't there; or a merge begins
+-- with these open files and has these events.
 pub data Course : Type 0 where
   unread : Course
   not_there : List ℕ → Course
   change_not_there : List ℕ → Course
   merging : List (List ℕ) → List Event → Course
 
--- the change file's name, and no bytes where none is named
+-- The change file's name, or no bytes if none is named.
 abbrev pub change_name : Option (List ℕ) → List ℕ
 change_name None = []
 change_name (Some name) = name
@@ -47,32 +48,33 @@ IsMergeCourse world None course = course ≡ unread
 IsMergeCourse world (Some names) course =
     IsFoundCourse world names (web_at world.texts names.web names.second) (change_at world.texts names.change) course
 
--- the texts of a shelf, with the folder in which included files are sought too
+-- The files of a shelf, with the folder of included files.
 abbrev pub world_of : (List ℕ → Option (List ℕ)) → Option (List ℕ) → World
 world_of texts inputs = record { texts = texts; inputs = folder_of inputs }
 
--- the merged lines, each with a newline
+-- The merged lines, each with a newline.
 abbrev pub merged : Course → List ℕ
 merged (merging names events) = written_lines (emitted_lines events)
 merged course = []
 
--- the faults in their order, or the line of what stopped the run
+-- The lines of faults in order, or the line of what stopped the run.
 abbrev pub merge_log : Course → List ℕ
 merge_log unread = stop_line Usage usage
 merge_log (not_there web) = stop_line WebNotOpened web
 merge_log (change_not_there change) = stop_line ChangeNotOpened change
 merge_log (merging names events) = fault_lines (names ++ openings events) (reported_faults events)
 
--- 0 where there is no fault
+-- The status is 0 if there is no fault, else 1.
 abbrev pub fault_status : List SourceFault → ℕ
 fault_status [] = 0
 fault_status (fault ∷ faults) = 1
 
+-- The status of a course.
 abbrev pub merge_status : Course → ℕ
 merge_status (merging names events) = fault_status (reported_faults events)
 merge_status course = 1
 
--- no line that the merge takes breaks the limits
+-- No line that the merge takes breaks a limit.
 abbrev pub MergeKeepsLimits : Course → Type 0
 MergeKeepsLimits (merging names events) = IsWithinLimits (taken_lines events)
 MergeKeepsLimits course = Unit {0}

@@ -1,12 +1,10 @@
--- Acts that calls do in the devices of a run: what they leave in each device that tells what it holds, and which device failed
--- over all devices.
+-- A state of the devices, and what is observable of it.
 use Rattle.std.specs.Prelude.{◌≡◌, IsTrue}
 use Rattle.cweb_log.specs.DeviceModels.{Devices}
 use Rattle.cweb_tools.specs.Acts.{DeviceState}
 
--- What devices hold, as far as they tell it: how often each has failed is always known; a log that tells has these bytes, bins
--- that tell have these files, this draft and this answer to the last beginning, and a shelf that tells says of whose files reads
--- have failed. Whatever tells nothing may hold anything.
+-- The state agrees with the devices. Failure counts are always observable, and so are an observable log's bytes,
+-- observable bins' files, draft and refusal, and the files whose reads failed in an observable shelf.
 pub record AgreesWith (now : DeviceState) (seen : Devices) : Type 0 where
   pub shelf_failed : now.shelf_failed ≡ seen.shelf.failed
   pub bins_failed : now.bins_failed ≡ seen.out.failed

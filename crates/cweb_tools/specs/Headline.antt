@@ -1,5 +1,5 @@
--- The headline of both programs: where no device fails, memory suffices and the web stays within the limits, what a run leaves is a
--- function of the texts, the words and the folder of included files.
+-- The headline theorem of both programs: if no device and no allocation fails and the web is within the limits, a run's
+-- effect is a function of the files, the words and the folder of included files.
 use Rattle.std.specs.Prelude.{◌≡◌, ◌≢◌, ℕ, List, [], ◌++◌, Option, IsTrue}
 use Rattle.std.specs.List.{flat_map}
 use Rattle.cweb_input.specs.Include.{World}
@@ -16,7 +16,7 @@ use Rattle.cweb_tools.specs.Leaves.{put_files}
 use Rattle.cweb_tools.specs.Script.{TangleCourse, tangling, tangle_files, tangle_log, tangle_status}
 use Rattle.cweb_tools.specs.Tangle.{shown_by, IsTangleCourse}
 
--- no device failed, the limits were kept, and the log's new text is not the line on refused memory alone
+-- No device failed, the limits were kept, and the log's new bytes aren't just the line on a failed allocation.
 pub record MergeRanFreely (course : Course) (before after : Devices) : Type 0 where
   pub read : after.shelf.failed ≡ before.shelf.failed
   pub printed : after.out.failed ≡ before.out.failed
@@ -24,24 +24,24 @@ pub record MergeRanFreely (course : Course) (before after : Devices) : Type 0 wh
   pub within : MergeKeepsLimits course
   pub memory : after.log.bytes ≢ before.log.bytes ++ stop_line Memory []
 
--- the output has the merged lines, the log has the faults, and this is the status
+-- The output has the merged lines, the log has the faults, and the status is that of the course.
 pub record IsMerge (course : Course) (before after : Devices) (status : ℕ) : Type 0 where
   pub written : after.out.bytes ≡ before.out.bytes ++ merged course
   pub logged : after.log.bytes ≡ before.log.bytes ++ merge_log course
   pub answered : status ≡ merge_status course
 
--- the headline of `wmerge`
+-- The headline theorem of `wmerge`.
 abbrev pub MergesFreely : World → Option WebNames → Devices → Devices → ℕ → Type 0
 MergesFreely world asked before after status = AreObservable before
     → (course : Course) → IsMergeCourse world asked course → MergeRanFreely course before after
     → IsMerge course before after status
 
--- no line that the merge takes breaks a limit
+-- No line that the merge takes breaks a limit.
 abbrev pub TangleKeepsLimits : TangleCourse → Type 0
 TangleKeepsLimits (tangling names events web) = IsWithinLimits (taken_lines events)
 TangleKeepsLimits course = Unit {0}
 
--- no device failed, the limits were kept, and the log's new text doesn't end in the line on refused memory
+-- No device failed, the limits were kept, and the log's new bytes don't end in the line on a failed allocation.
 pub record TangleRanFreely (course : TangleCourse) (before after : Devices) : Type 0 where
   pub read : after.shelf.failed ≡ before.shelf.failed
   pub filed : after.out.failed ≡ before.out.failed
@@ -50,13 +50,13 @@ pub record TangleRanFreely (course : TangleCourse) (before after : Devices) : Ty
   pub memory : (items : List LogItem)
       → after.log.bytes ≢ before.log.bytes ++ (flat_map line items ++ stop_line Memory [])
 
--- the bins have the files of the web, the log has its lines, and this is the status
+-- The bins have the files of the web, the log has its lines, and the status is that of the course.
 pub record IsTangle (shown : Shown) (course : TangleCourse) (before after : Devices) (status : ℕ) : Type 0 where
   pub written : after.out.beside.files ≡ put_files before.out.beside.files (tangle_files shown course)
   pub logged : after.log.bytes ≡ before.log.bytes ++ tangle_log shown course
   pub answered : status ≡ tangle_status shown course
 
--- the headline of `ctangle`
+-- The headline theorem of `ctangle`.
 abbrev pub TanglesFreely : World → Option OptionsModel → Devices → Devices → ℕ → Type 0
 TanglesFreely world asked before after status = AreObservable before
     → (course : TangleCourse) → IsTangleCourse world asked course → TangleRanFreely course before after

@@ -1,4 +1,4 @@
--- What a run of `wmerge` leaves in its devices. Each sentence asks only of the devices it speaks of that they tell what they hold.
+-- The effect of a run of `wmerge`. Each statement about a device assumes only that this device is observable.
 use Rattle.std.specs.Prelude.{◌≡◌, ◌≢◌, ◌≤◌, ℕ, ◌+◌, length, List, [], ◌++◌, codes, Option, None, Some, IsTrue}
 use Rattle.cweb_input.specs.Include.{World}
 use Rattle.cweb_input.specs.ReaderNames.{blame}
@@ -20,7 +20,7 @@ use Rattle.cweb_log.specs.Words.{WebNames}
 use Rattle.cweb_tools.specs.Course.{Course, not_there, change_not_there, merging, IsMergeCourse, change_name}
 use Rattle.cweb_tools.specs.Course.{fault_status, merged, usage}
 
--- the words can't be read: the log alone is written to
+-- The words can't be read: only the log changes.
 pub record RefusesArgs (before after : Devices) (status : ℕ) : Type 0 where
   pub read : after.shelf.failed ≡ before.shelf.failed
   pub printed : after.out.failed ≡ before.out.failed
@@ -28,13 +28,13 @@ pub record RefusesArgs (before after : Devices) (status : ℕ) : Type 0 where
   pub logged : Logs (stop_line Usage usage) before.log after.log
   pub answered : status ≡ 1
 
--- all of a course was merged: these files were opened, these faults were met, and the limits were kept
+-- A course was merged to its end: these files were opened, these are its faults, and the limits were kept.
 abbrev pub HasMerged : Course → List (List ℕ) → List SourceFault → Type 0
 HasMerged (merging first events) files faults = (files ≡ first ++ openings events) × (faults ≡ reported_faults events)
     × IsWithinLimits (taken_lines events)
 HasMerged course files faults = ⊥
 
--- the run went its whole course
+-- The run finished its course.
 pub record Completes (course : Course) (before after : Devices) (status : ℕ) : Type 0 where
   pub files : List (List ℕ)
   pub faults : List SourceFault
@@ -48,7 +48,7 @@ pub record Completes (course : Course) (before after : Devices) (status : ℕ) :
   pub answered : after.log.failed ≡ before.log.failed → status ≡ fault_status faults
   pub failed : after.log.failed ≢ before.log.failed → status ≡ 1
 
--- A stop to which a course can come. A limit that it names is the first that the course breaks.
+-- A stop that the course can come to. A limit is the first one that the course breaks.
 abbrev pub CanStop : Stop → Course → Type 0
 CanStop WebNotOpened (not_there web) = Unit {0}
 CanStop ChangeNotOpened (change_not_there change) = Unit {0}
@@ -59,7 +59,7 @@ CanStop WriteFault (merging first events) = Unit {0}
 CanStop Memory course = Unit {0}
 CanStop stop course = ⊥
 
--- the stops that come once the words were read
+-- The stops that are possible once the words are parsed.
 abbrev pub Comes : Stop → Type 0
 Comes WebNotOpened = Unit {0}
 Comes ChangeNotOpened = Unit {0}
@@ -70,7 +70,7 @@ Comes WriteFault = Unit {0}
 Comes Memory = Unit {0}
 Comes stop = ⊥
 
--- what the line of a stop is about, by the names that the words ask for and those of the files that were opened
+-- The name that the line of a stop ends in, from the names of the words and those of the opened files.
 abbrev pub about : WebNames → List (List ℕ) → Stop → List ℕ
 about names files WebNotOpened = names.web
 about names files ChangeNotOpened = change_name names.change
@@ -79,39 +79,39 @@ about names files (LineTooLong file) = file_name_at files file.0
 about names files WriteFault = codes "standard output"
 about names files stop = []
 
--- a device failed where the stop is its own, once, and no other did
+-- Exactly the device of the stop failed, once.
 pub record BlamesDevice (stop : Stop) (before after : Devices) : Type 0 where
   pub shelf : after.shelf.failed ≡ before.shelf.failed + read_failures_of stop
   pub out : after.out.failed ≡ before.out.failed + write_failures_of stop
 
--- names of files that a course opens, in their order, as far as it went
+-- The names of the files that a course has opened so far, in order.
 abbrev pub AreOpened : List (List ℕ) → Course → Type 0
 AreOpened files (merging first events) = (rest : List (List ℕ)) × (first ++ openings events ≡ files ++ rest)
 AreOpened files course = files ≡ []
 
--- something stopped the run: a front of the merged lines is written, and the log has the stop's line alone
+-- Something stopped the run: a prefix of the merged lines is written, and the log has only the stop's line.
 pub record Stops (names : WebNames) (course : Course) (before after : Devices) (status : ℕ) : Type 0 where
   pub stop : Stop
   pub comes : Comes stop
   pub cause : IsTrue before.shelf.tells → CanStop stop course
-  -- the files that were opened by then, with that of the stop
+  -- The files that were opened until then, including that of the stop.
   pub files : List (List ℕ)
   pub named : files_named stop ≤ length files
   pub opened : IsTrue before.shelf.tells → AreOpened files course
   pub blames : BlamesDevice stop before after
-  -- a read fault is one of the very file that it names
+  -- A read fault belongs to the very file that it names.
   pub blamed : IsTrue before.shelf.tells → after.shelf.blamed ≡ before.shelf.blamed ++ blame files stop
   pub written : IsTrue before.shelf.tells → IsTrue before.out.tells
       → WritesPrefix before.out.bytes after.out.bytes (merged course)
   pub logged : Logs (stop_line stop (about names files stop)) before.log after.log
   pub answered : status ≡ 1
 
--- how a run ends whose words could be read
+-- The end of a run whose words can be read.
 pub data Merges (names : WebNames) (course : Course) (before after : Devices) (status : ℕ) : Type 0 where
   completes : Completes course before after status → Merges names course before after status
   stops : Stops names course before after status → Merges names course before after status
 
--- how a run ends
+-- The end of a run.
 abbrev pub MergeEnds : World → Option WebNames → Devices → Devices → ℕ → Type 0
 MergeEnds world None before after status = RefusesArgs before after status
 MergeEnds world (Some names) before after status =

@@ -1,4 +1,4 @@
--- What is printed of C text is read as the tokens that were printed.
+-- Printed C text reads back as the tokens that were printed.
 use Rattle.std.specs.Prelude.{◌≡◌, Bool, true, false, nat_le, not, List, codes, Some, All}
 use Rattle.std.specs.Prelude.{ℕ}
 use Rattle.std.specs.List.{list_all}
@@ -9,14 +9,15 @@ use Rattle.cweb_scan.specs.Lexemes.{lex}
 use Rattle.cweb_scan.specs.Alone.{ReadsAlone, InPlainC, HasReadTokens, doubled, significant, is_hash}
 use Rattle.cweb_print.specs.Printing.{Setting, print}
 
+-- All bytes are below 128.
 abbrev pub is_ascii : List ℕ → Bool
 is_ascii bytes = list_all (λ b. not (nat_le 128 b)) bytes
 
+-- The token is `##`.
 abbrev pub is_double_hash : Token → Bool
 is_double_hash token = is_punct (codes "##") (Some token)
 
--- what the law speaks of: layout, section comments, and all words of bytes below 128, numbers, literals and punctuators that read
--- alone; `#` and `##` belong to directives
+-- Layout, section comments, ASCII words, numbers, literals and punctuators that read alone, except `#` and `##`.
 abbrev pub IsPlain : Token → Type 0
 IsPlain Blank = Unit {0}
 IsPlain Newline = Unit {0}
@@ -29,7 +30,7 @@ IsPlain (Punct bytes) = (is_hash (Punct bytes) ≡ false) × (is_double_hash (Pu
     × ReadsAlone (Punct bytes)
 IsPlain token = ⊥
 
--- printed, with each `@` doubled, they are read as these tokens again, wherever a C part is open and no directive in it
+-- Printed tokens, with each `@` doubled, read back as these tokens in an open C part outside directives.
 abbrev pub Spacing : Type 0
 Spacing = (setting : Setting) (tokens : List Token) → All IsPlain tokens → (r : Reading) → InPlainC r.state →
     HasReadTokens r.state (lex r (doubled (print setting tokens))).state (significant tokens)

@@ -1,4 +1,4 @@
--- What a web holds by its lines and its faults, and how a run of `ctangle` goes by texts, words and folder.
+-- The course of a run of `ctangle`, from the files, the words and the folder of included files.
 use Rattle.std.specs.Prelude.{◌≡◌, ℕ, List, ◌++◌, map, count_by, Option, None, Some, Result, Ok, Err}
 use Rattle.cweb_files.specs.Files.{File}
 use Rattle.cweb_input.specs.Include.{World}
@@ -22,23 +22,25 @@ use Rattle.cweb_tools.specs.Course.{Course, IsMergeCourse, change_name}
 use Rattle.cweb_tools.specs.Script.{Numbers, Planning, TangleCourse, Web, unread, not_there, change_not_there, tangling}
 use Rattle.cweb_tools.specs.Script.{refused, planned}
 
--- an output with all names replaced by their texts, as it is printed; marks name these files
+-- An output as printed, with all names expanded. Line marks name these files.
 abbrev pub output_file : Stored → List (List ℕ) → Output → File
 output_file web files output =
     record { name = output.name; bytes = file (setting web files) (expand web (names web) (root_list web output.root)) }
 
--- the outputs of a plan
+-- The outputs of a plan, as files.
 abbrev pub plan_made : Stored → List (List ℕ) → Planned → Planning
 plan_made web files plan = planned (map (output_file web files) plan.outputs) plan.no_text
 
+-- The result of planning, from a plan or a refusal.
 abbrev pub planning_by : Stored → List (List ℕ) → List ℕ → Result Planned Refusal → Planning
 planning_by web files main (Ok plan) = plan_made web files plan
 planning_by web files main (Err refusal) = refused (refusal_message web main refusal)
 
--- the plan of a web whose main file has this name
+-- The result of planning for a main output of this name.
 abbrev pub planning : Stored → List (List ℕ) → List ℕ → Planning
 planning web files main = planning_by web files main (out.planned web main)
 
+-- The numbers of a web.
 abbrev pub numbers_of : Scanned → Numbers
 numbers_of made = record {
   sections = made.sections;
@@ -46,13 +48,12 @@ numbers_of made = record {
   macros = count_by (λ (part : Part). is_macro part.kind) made.store.parts;
 }
 
--- the faults of the files, of the text and of the names
+-- The faults of the files, the source and the names.
 abbrev pub fault_items : List (List ℕ) → List SourceFault → Scanned → List LogItem
 fault_items files faults made =
     map (source_item files) faults ++ (scan_items files made.faults ++ name_items made.store)
 
--- a web that was read: the names of its files, the faults of web and change file, what the scan made of its lines, and the
--- name of its main file
+-- A scanned web, from its file names, the faults of web and change file, the scan, and the main output's name.
 abbrev pub web_of : List (List ℕ) → List SourceFault → Scanned → List ℕ → Web
 web_of files faults made main = record {
   starred = made.starred;
@@ -61,7 +62,7 @@ web_of files faults made main = record {
   plan = planning made.store files main;
 }
 
--- a run that merges files goes on with what their lines hold
+-- The course of `ctangle` continues that of the merge with the web of its lines.
 abbrev pub tangled : List ℕ → Course → TangleCourse
 tangled main course.unread = unread
 tangled main (course.not_there web) = not_there web
@@ -76,13 +77,13 @@ IsTangleCourse world None course = course ≡ unread
 IsTangleCourse world (Some asked) course =
     (merge : Course) × IsMergeCourse world (Some asked.names.merge) merge × (course ≡ tangled asked.names.main merge)
 
--- what some web holds that was read, with files of these names and a main file of this one
+-- A scanned web with files of these names and a main output of this name.
 pub record IsWebOf (files : List (List ℕ)) (main : List ℕ) (web : Web) : Type 0 where
   pub faults : List SourceFault
   pub made : Scanned
   pub is : web ≡ web_of files faults made main
 
--- a course to which a run can come whose words ask for this, whatever its shelf gives
+-- A course that is possible for these words, for some shelf.
 abbrev pub CanCome : Option OptionsModel → TangleCourse → Type 0
 CanCome None unread = Unit {0}
 CanCome (Some asked) (not_there web) = web ≡ asked.names.merge.web
@@ -90,7 +91,7 @@ CanCome (Some asked) (change_not_there change) = change ≡ change_name asked.na
 CanCome (Some asked) (tangling files events web) = IsWebOf files asked.names.main web
 CanCome asked course = ⊥
 
--- what its log shows
+-- The log options of the words.
 abbrev pub shown_by : Option OptionsModel → Shown
 shown_by None = shown_by_default
 shown_by (Some asked) = asked.shown

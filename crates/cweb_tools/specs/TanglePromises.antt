@@ -1,4 +1,4 @@
--- What is promised of a run of `ctangle`, also where something stops it.
+-- The effect of a run of `ctangle`, also if something stops it.
 use Rattle.std.specs.Prelude.{◌≡◌, ℕ, List, Option, IsTrue}
 use Rattle.cweb_input.specs.Include.{World}
 use Rattle.cweb_log.specs.Options.{OptionsModel}
@@ -8,22 +8,22 @@ use Rattle.cweb_tools.specs.Does.{AgreesWith}
 use Rattle.cweb_tools.specs.Script.{TangleCourse, script, tangle_status}
 use Rattle.cweb_tools.specs.Tangle.{CanCome, shown_by, IsTangleCourse}
 
--- a run with these acts and this status ends in a state that agrees with what its devices show
+-- A run with these acts and this status ends in a state that agrees with its observable devices.
 pub record EndsIn (acts : List Act) (due : ℕ) (old : DeviceState) (after : Devices) (status : ℕ) : Type 0 where
   pub new : DeviceState
   pub agrees : AgreesWith new after
   pub ends : TangleEnds acts due old new status
 
--- the acts of a course are done in their order, all of them or up to one that something stops, and that is logged last
+-- The acts of the course are done in order: all of them, or up to a stop within one, which is logged last.
 pub record TanglePromises (world : World) (asked : Option OptionsModel) (before after : Devices)
     (status : ℕ) : Type 0 where
-  -- the course of the texts and the words; over a shelf that shows no texts one to which the words can lead
+  -- The course of the files and the words. For an unobservable shelf, some course that the words allow.
   pub course : TangleCourse
   pub can : CanCome asked course
   pub is : IsTrue before.shelf.tells → IsTangleCourse world asked course
-  -- whatever is in the devices that show nothing
+  -- For all contents of the devices that aren't observable.
   pub ends : (old : DeviceState) → AgreesWith old before
       → EndsIn (script (shown_by asked) course) (tangle_status (shown_by asked) course) old after status
-  -- a device that shows what it has goes on to show it
+  -- An observable device stays observable.
   pub bins_tell : after.out.tells ≡ before.out.tells
   pub log_tells : after.log.tells ≡ before.log.tells

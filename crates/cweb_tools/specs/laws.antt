@@ -1,3 +1,3 @@
--- Theorems about the definitions.
+-- Definitions that only laws cite.
 pub mod Leaves
 pub mod RunEffects

@@ -1,5 +1,4 @@
-//! What follows from the definition of a run, whichever device fails and wherever memory is refused; and that printed C text is
-//! read as it was meant.
+//! Laws of whole runs, for all device failures and failed allocations, and the law of blanks between tokens.
 ghost use Rattle.std.specs.Prelude.{◌≡◌, ℕ, List, None};
 ghost use Rattle.cweb_lines.specs.Merge.{Event};
 ghost use Rattle.cweb_log.specs.declared.shown.Shown.{Shown};
@@ -10,7 +9,7 @@ ghost use Rattle.cweb_tools.specs.Script.{TangleCourse, Web, refused, script, ta
 ghost use Rattle.cweb_tools.specs.Script.{tangling};
 ghost use Rattle.cweb_tools.specs.Spacing.{Spacing};
 
-/// The files that were committed are the first of those that are due, in their order, each whole; all others are as before.
+/// The committed files are the first of the expected ones, in order, each whole. All other files are unchanged.
 pub fn committed_files_are_a_prefix()
     ensures { (shown : Shown) (course : TangleCourse) (due : ℕ) (old new : DeviceState)
         (status : ℕ) →
@@ -18,7 +17,7 @@ pub fn committed_files_are_a_prefix()
         LeavesFiles (tangle_files shown course) old.files new.files }
 {}
 
-/// A plan that is refused leaves all files as they were.
+/// A refused plan changes no file.
 pub fn refused_plans_write_no_file()
     ensures { (shown : Shown) (names : List (List ℕ)) (events : List Event) (web : Web)
         (text : List ℕ) → web.plan ≡ refused text →
@@ -27,7 +26,7 @@ pub fn refused_plans_write_no_file()
         new.files ≡ old.files }
 {}
 
-/// Where there was no draft before a run, there is none behind it.
+/// If there was no draft before a run, there is none after it.
 pub fn no_draft_remains()
     ensures { (shown : Shown) (course : TangleCourse) (due : ℕ) (old new : DeviceState)
         (status : ℕ) →
@@ -35,26 +34,26 @@ pub fn no_draft_remains()
         TangleEnds (script shown course) due old new status → new.draft ≡ None }
 {}
 
-/// A run of `ctangle` does all that is due, or its log says what stopped it and its status is 1. If it committed a file, it read
-/// all of the web within the limits. A web that breaks the limits never has status 0.
+/// A run of `ctangle` does all its acts, or logs what stopped it and returns 1. If it committed a file, it has read the
+/// whole web within the limits. A web that breaks the limits never gives status 0.
 pub fn every_run_leaves_states()
     ensures { EveryRunLeavesStates }
 {}
 
-/// A log or bins that show what they hold have what is due, whatever the other devices are. No device fails twice, and a device
-/// that failed makes the status 1.
+/// An observable log has the expected lines and observable bins the expected files, whatever the other devices are. No
+/// device fails twice, and a failed device makes the status 1.
 pub fn every_run_leaves_devices()
     ensures { EveryRunLeavesDevices }
 {}
 
-/// A run of `wmerge` prints a prefix of the merged lines, and all of them if its status is 0. Neither a failed device nor a broken
-/// limit is passed over, and no device fails twice.
+/// A run of `wmerge` prints a prefix of the merged lines, and all of them if its status is 0. No failed device and no
+/// broken limit goes unreported, and no device fails twice.
 pub fn every_merge_leaves_output()
     ensures { EveryMergeLeavesOutput }
 {}
 
-/// Tokens of C text that are printed one after another, and read again with each `@` doubled, are the same tokens, and no fault
-/// comes: a blank stands wherever two of them would be read as another.
+/// Printed tokens of C text, with each `@` doubled, read back as the same tokens without a fault. Blanks separate all
+/// tokens that would otherwise read differently.
 pub fn spacing()
     ensures { Spacing }
 {}

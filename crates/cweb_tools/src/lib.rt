@@ -1,23 +1,22 @@
-//! The runs of the programs, and what else these stand on: command lines and messages (`cweb_log`), the files and streams of the system
-//! (`cweb_system`).
+//! The runs of `ctangle` and `wmerge`, over any devices. Command lines and messages are in `cweb_log`.
 #![tactic(auto)]
 
 // the runs
 mod tangle;
 mod wmerge;
 
-// a web that was read, and its outputs
+// a scanned web and its outputs
 mod outputs;
 mod web;
 
-// the lines of the log that are wanted, and what a stop is about
+// log lines by option, and the subjects of stops
 mod saying;
 mod subjects;
 
 // what both programs do before their run
 mod program;
 
-// what follows from the definition of a run
+// laws of runs
 pub mod laws;
 
 pub use cweb_log::{

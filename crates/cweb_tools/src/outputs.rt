@@ -1,4 +1,4 @@
-// The outputs of a run, one after another.
+// Writes the outputs of a run in order.
 ghost use Rattle.std.specs.Prelude.{◌≡◌, ◌<◌, ◌+◌, ◌^◌, ◌++◌, ◌∷◌, [], length, All, IsTrue, IfErr};
 ghost use Rattle.std.specs.Prelude.{OnOk};
 ghost use Rattle.cweb_files.specs.Device.{CountsFailure};
@@ -20,14 +20,14 @@ use crate::saying::say_writing;
 use cweb_lines::{FileNames, Sink, SinkFault, Stop};
 use cweb_out::{BinFault, Bins, Expander, OutBuffer, Printer};
 
-/// What stopped the writing of the outputs, and at which.
+/// Why the writing of outputs stopped, and at which output.
 #[derive(Clone, Copy)]
 pub(crate) struct Failed {
     pub(crate) stop: Stop,
     pub(crate) output: u32,
 }
 
-/// Writes all outputs in their order, up to one that something stops.
+/// Writes all outputs in order, up to the first failure.
 pub(crate) fn write_outputs<B: Bins, L: Sink>(
     progress: bool,
     names: &FileNames,
@@ -118,7 +118,7 @@ fn write_file<B: Bins>(
     Ok(())
 }
 
-/// Prints the tokens that are left of an output, as a whole file, gathered in pieces. What was left of another is forgotten.
+/// Prints the remaining tokens of an output as a whole file, through the buffer, which is cleared first.
 fn print_all<W: Sink>(
     names: &FileNames,
     expander: &mut Expander<'_>,

@@ -1,4 +1,4 @@
-// What both programs do before their run: they read their arguments and one variable of the environment.
+// Arguments and environment of both programs.
 ghost use Rattle.std.specs.Prelude.{◌≡◌, IfOk, map, string_bytes};
 
 use cweb_lines::Stop;
@@ -10,10 +10,10 @@ use std::env::VarError;
 use std::io::{ErrorKind, Write};
 use std::rt::Env;
 
-/// The variable that names the folder in which included files are sought too.
+/// The variable that names the folder in which included files are also searched.
 const INPUTS: &str = "CWEBINPUTS";
 
-/// The arguments after the program's name. If one is not UTF-8 there are none, so that the run refuses them.
+/// The arguments after the program's name. If one isn't UTF-8, the list is empty, so that the run refuses it.
 pub fn read_args<R: Env + AllocGlobal>(rt: &R) -> Result<Vec<String>, AllocError> {
     let mut words = Vec::new(rt.alloc());
     match env::args(rt) {
@@ -31,7 +31,7 @@ pub fn read_args<R: Env + AllocGlobal>(rt: &R) -> Result<Vec<String>, AllocError
     Ok(words)
 }
 
-/// The arguments as a run takes them.
+/// The arguments as slices.
 pub fn as_slices<'a>(alloc: Global, words: &'a [String]) -> Result<Vec<&'a str>, AllocError>
     ensures { IfOk result (λ slices. map (λ slice. slice.now) slices.items ≡ map string_bytes words.now) }
 {
@@ -42,7 +42,7 @@ pub fn as_slices<'a>(alloc: Global, words: &'a [String]) -> Result<Vec<&'a str>,
     Ok(slices)
 }
 
-/// The folder of included files. A value that is not UTF-8 counts as none.
+/// The folder of included files. A value that isn't UTF-8 counts as none.
 pub fn read_inputs<R: Env + AllocGlobal>(rt: &R) -> Result<Option<String>, AllocError> {
     match env::var(rt, INPUTS) {
         Ok(folder) => Ok(Some(folder)),
@@ -51,7 +51,7 @@ pub fn read_inputs<R: Env + AllocGlobal>(rt: &R) -> Result<Option<String>, Alloc
     }
 }
 
-/// Logs that there was no memory for the arguments, and answers the status.
+/// Logs that there was no memory for the arguments, and returns the exit status.
 pub fn out_of_memory<L: Write + Drop>(log: L) -> u8
     ensures { result ≡ 1 }
 {

@@ -1,4 +1,4 @@
-// The items of the log of `ctangle`, each where it is asked for.
+// Log items of `ctangle` that depend on its options.
 ghost use Rattle.std.specs.Prelude.{◌<◌, ◌+◌, ◌^◌};
 ghost use Rattle.cweb_log.specs.Items.{banner, closing, counts, no_text, starred, writing};
 ghost use Rattle.cweb_log.specs.DeviceModels.{sink_model};
@@ -24,7 +24,7 @@ pub(crate) fn say_banner<L: Sink>(shown: bool, log: &mut L) -> Result<(), SinkFa
     write_banner(log)
 }
 
-/// The numbers of the starred sections, where progress is shown and there are any.
+/// Logs the numbers of the starred sections if progress is wanted and there are any.
 pub(crate) fn say_starred<L: Sink>(
     progress: bool,
     numbers: &[u32],
@@ -51,7 +51,7 @@ pub(crate) fn say_no_program_text<L: Sink>(missing: bool, log: &mut L) -> Result
     write_no_program(log)
 }
 
-/// That an output is begun, where progress is shown.
+/// Logs that an output is begun, if progress is wanted.
 pub(crate) fn say_writing<L: Sink>(progress: bool, name: &str, log: &mut L) -> Result<(), SinkFault>
     requires { L.failed log.old + 1 < 2 ^ 64 }
     ensures { DoesInLog (when progress (writing name.now)) (log_ending result)
@@ -63,7 +63,7 @@ pub(crate) fn say_writing<L: Sink>(progress: bool, name: &str, log: &mut L) -> R
     write_writing(log, name)
 }
 
-/// What comes after the outputs: the numbers of the web, and the closing line.
+/// Logs what comes after the outputs: the statistics and the closing line.
 pub(crate) fn say_end<L: Sink>(
     shown: Shown,
     numbers: Numbers,

@@ -1,4 +1,4 @@
-// What the runs share: the folder of included files, and what a stop is about.
+// What both runs share: the folder of included files, and the name that a stop's line ends in.
 ghost use Rattle.std.specs.Prelude.{◌≡◌, ◌≤◌, length};
 ghost use Rattle.std.specs.Option.{option_copied};
 ghost use Rattle.cweb_input.specs.surface.OpenedFileNames as spec;
@@ -8,7 +8,7 @@ ghost use Rattle.cweb_tools.specs.Course.{folder_of};
 
 use cweb_lines::{FileNames, Stop};
 
-/// The folder in which included files are sought too. An empty one counts as none.
+/// The folder in which included files are also searched. An empty one counts as none.
 pub(crate) fn folder(inputs: Option<&str>) -> Option<&str>
     ensures { option_copied result ≡ folder_of (option_copied inputs.entry) }
 {
@@ -18,7 +18,7 @@ pub(crate) fn folder(inputs: Option<&str>) -> Option<&str>
     }
 }
 
-/// What a stop within a merge is about.
+/// The name that the line of a stop within a merge ends in.
 pub(crate) fn subject(names: &FileNames, stop: Stop) -> &str
     requires { files_named stop ≤ length (spec.opened_file_names names.now) }
     ensures { result.now ≡ subject (spec.opened_file_names names.now) stop }

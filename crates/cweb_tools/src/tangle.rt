@@ -40,8 +40,7 @@ use std::alloc::Global;
 
 const USAGE: &str = "ctangle [options] webfile[.w] [{changefile[.ch]|-} [outfile[.c]]]";
 
-/// Writes the C files of the web that the words name to the bins, and what there is to say to the log, and answers the
-/// program's status.
+/// Runs `ctangle`: writes C files to the bins and messages to the log. `words` are the arguments. Returns the status.
 pub fn run_ctangle<S: Shelf, B: Bins, L: Sink>(
     alloc: Global,
     words: &[&str],
@@ -77,7 +76,7 @@ pub fn run_ctangle<S: Shelf, B: Bins, L: Sink>(
     tangle_named(alloc, &options, inputs, shelf, bins, log)
 }
 
-/// Opens the web and its change file, and goes on with the merge that begins.
+/// Opens the web and its change file, and continues with the merge.
 fn tangle_named<S: Shelf, B: Bins, L: Sink>(
     alloc: Global,
     options: &Options,
@@ -110,7 +109,7 @@ fn tangle_named<S: Shelf, B: Bins, L: Sink>(
     }
 }
 
-/// Logs what is wrong with a web that was read, plans its outputs, and goes on with the plan.
+/// Logs the faults of a scanned web, plans its outputs, and continues with the plan.
 fn tangle_web<B: Bins, L: Sink>(
     alloc: Global,
     shown: Shown,
@@ -139,7 +138,7 @@ fn tangle_web<B: Bins, L: Sink>(
     }
 }
 
-/// The faults of the files, of the text and of the names.
+/// Logs the faults of the files, the source and the names.
 fn say_faults<L: Sink>(web: Web<'_>, log: &mut L) -> Result<(), SinkFault>
     requires known { IsKnown web }
     requires count { L.failed log.old + 1 < 2 ^ 64 }
@@ -163,8 +162,7 @@ fn write_web_faults<L: Sink>(web: Web<'_>, log: &mut L) -> Result<(), SinkFault>
     write_name_faults(log, web.store())
 }
 
-/// Writes the outputs and ends the run. All room for the expansions, and for what is printed of them, is set aside before the
-/// first output begins.
+/// Writes the outputs and ends the run. Allocates all memory for expansion and printing before the first output.
 fn tangle_planned<B: Bins, L: Sink>(
     alloc: Global,
     shown: Shown,
@@ -212,14 +210,14 @@ fn tangle_planned<B: Bins, L: Sink>(
     status(count)
 }
 
-/// The status of a run with so many faults that nothing stopped.
+/// The exit status of a run with this number of faults that nothing stopped.
 fn status(count: u128) -> u8
     ensures { result ≡ (if count == 0 then 0 else 1) }
 {
     if count == 0 { 0 } else { 1 }
 }
 
-/// Logs what stopped the writing of the outputs; a log that failed is told nothing.
+/// Logs what stopped the writing of the outputs. A log that failed gets no line.
 fn log_failed<L: Sink>(log: &mut L, stop: Stop, name: &str) -> u8
     requires { stop ≢ Stop.LogFault → L.failed log.old + 1 < 2 ^ 64 }
     ensures status { result ≡ 1 }
@@ -232,7 +230,7 @@ fn log_failed<L: Sink>(log: &mut L, stop: Stop, name: &str) -> u8
     log_stop(log, stop, name)
 }
 
-/// What a stop at the start of a merge is about.
+/// The name that the line of a stop at the start of a merge ends in.
 fn start_subject(options: &Options, stop: Stop) -> &str
     ensures { result.now ≡
         start_subject (options_of options.now).names.merge.web

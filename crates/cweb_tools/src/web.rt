@@ -1,4 +1,4 @@
-// A web that was read, and how much it holds.
+// A scanned web and its numbers.
 ghost use Rattle.std.specs.Prelude.{◌≡◌, ◌<◌, ◌^◌, length};
 ghost use Rattle.cweb_scan.specs.surface.ScannedModel.{scanned_model};
 ghost use Rattle.cweb_log.specs.Items.{fault_count};
@@ -9,7 +9,7 @@ use cweb_lines::{FileNames, SourceFault};
 use cweb_scan::Scanned;
 use cweb_store::{Parts, Store};
 
-/// How many sections, names and macros a web has.
+/// The numbers of sections, names and macros of a web.
 #[derive(Clone, Copy)]
 pub(crate) struct Numbers {
     pub(crate) sections: u32,
@@ -29,7 +29,7 @@ impl Numbers {
     }
 }
 
-/// A web that was read: the files that were opened, the faults of web and change file, and what the scan made of the lines.
+/// A scanned web: the opened files, the faults of web and change file, and the result of the scan.
 #[derive(Clone, Copy)]
 pub(crate) struct Web<'a> {
     pub(crate) names: &'a FileNames,
@@ -44,7 +44,7 @@ impl<'a> Web<'a> {
         &self.scanned.store
     }
 
-    /// How many faults of files, text and names there are.
+    /// The number of faults of files, source and names.
     pub(crate) fn fault_count(self) -> u128
         ensures count { result ≡ fault_count (faults_of self.entry) }
         ensures few { result < 2 ^ 127 }

@@ -23,13 +23,12 @@ use cweb_lines::{FileNames, Merger, Shelf, Sink, SourceFault, Stop, write_merged
 use cweb_log::{MergeWords, log_stop, write_faults};
 use std::alloc::Global;
 
-/// The bytes that are gathered before they are written.
+/// The size of the output buffer.
 const CHUNK_SIZE: usize = 65536;
 
 const USAGE: &str = "wmerge webfile[.w] [{changefile[.ch]|-}]";
 
-/// Writes the merged lines of the web that the words name to the output, then the faults to the log, and answers the
-/// program's status.
+/// Runs `wmerge`: merged lines go to the output, faults to the log. `words` are the arguments. Returns the status.
 pub fn run_wmerge<S: Shelf, W: Sink, L: Sink>(
     alloc: Global,
     words: &[&str],
@@ -90,7 +89,7 @@ fn merge_web<S: Shelf, W: Sink, L: Sink>(
     }
 }
 
-/// Writes the merged lines of the web whose merge has begun.
+/// Writes the merged lines of a merge that has begun.
 fn merge_begun<S: Shelf, W: Sink, L: Sink>(
     merger: &mut Merger<S>,
     shelf: &mut S,
@@ -111,7 +110,7 @@ fn merge_begun<S: Shelf, W: Sink, L: Sink>(
     }
 }
 
-/// What a stop at the start of a merge is about.
+/// The name that the line of a stop at the start of a merge ends in.
 fn start_subject(asked: &MergeWords, stop: Stop) -> &str
     ensures { result.now ≡
         start_subject (merge_word_names asked.now).web (change_name (merge_word_names asked.now).change) stop }
@@ -123,7 +122,7 @@ fn start_subject(asked: &MergeWords, stop: Stop) -> &str
     }
 }
 
-/// Logs the faults of a merge, and answers the status of a run that ends so.
+/// Logs the faults of a merge that has ended, and returns the exit status.
 fn log_faults<L: Sink>(log: &mut L, names: &FileNames, faults: &[SourceFault]) -> u8
     requires count { L.failed log.old + 1 < 2 ^ 64 }
     requires known { All

@@ -1,4 +1,4 @@
-//! Tests of `cweb_tools`. They stand in a crate of their own, so that they are checked without proving it anew.
+//! The tests of `cweb_tools`, in a crate of their own, so that a change of them doesn't check `cweb_tools` again.
 #![tactic(auto)]
 
 #[cfg(test)]

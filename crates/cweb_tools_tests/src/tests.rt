@@ -1,5 +1,5 @@
-// Runs of `ctangle` and `wmerge` over texts in memory and over devices that fail. What a run of `ctangle` leaves is told as text:
-// its log, each file behind its name, its status.
+// Runs of `ctangle` and `wmerge` over files in memory and failing devices. The effect of a run of `ctangle` is one
+// string: its log, each file after its name, and its status.
 mod changes;
 mod command_line;
 mod devices;

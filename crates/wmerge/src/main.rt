@@ -12,7 +12,7 @@ fn main(rt: HostRuntime) -> ExitCode {
     ExitCode::from(merge(&rt, rt.stdout(), rt.stderr()))
 }
 
-/// Runs over the arguments, the environment and the files of the program, and answers its status.
+/// Runs with the arguments, the environment and the files of the program. Returns the exit status.
 fn merge<R: Env + Files + AllocGlobal, W: Write + Drop, L: Write + Drop>(
     rt: &R,
     out: W,

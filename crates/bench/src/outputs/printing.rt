@@ -1,4 +1,4 @@
-// What is expanded and printed of a store.
+// Expansion and printing of a store.
 ghost use Rattle.std.specs.Prelude.{◌≡◌, ◌<◌, length, vec_capacity, true};
 ghost use Rattle.cweb_input.specs.surface.OpenedFileNames.{opened_file_names};
 ghost use Rattle.cweb_store.specs.surface.TokenModels.{token_model};
@@ -16,10 +16,10 @@ use std::alloc::Global;
 
 const WEB: &str = "web.w";
 
-// The room of the sink: a token has at most so many bytes here.
+// The room of the sink per token: no token has more bytes here.
 const TOKEN_ROOM: usize = 32;
 
-/// Plans a store, and where the step says so, expands or prints its main file.
+/// Plans a store, and then expands or prints its main output if the step asks for it.
 pub fn show(rt: &impl Print, alloc: Global, store: &Store, step: &str) -> Result<()> {
     match plan(alloc, store, "web.c") {
         Ok(plan) => show_planned(rt, alloc, store, &plan, step),
@@ -54,7 +54,7 @@ fn show_expanded(rt: &impl Print, expander: &mut Expander<'_>) -> Result<()>
     Ok(())
 }
 
-// Prints what an expander gives, and says how much that is.
+// Prints the output of an expander, and reports its size.
 fn show_printed(rt: &impl Print, alloc: Global, expander: &mut Expander<'_>) -> Result<()>
     requires { IsFrameStack expander.old.store.now
         expander.old.frames.items (vec_capacity expander.old.frames) }
@@ -64,7 +64,7 @@ fn show_printed(rt: &impl Print, alloc: Global, expander: &mut Expander<'_>) -> 
     Ok(())
 }
 
-// How many bytes are printed of what an expander gives.
+// The number of bytes of an expander's output.
 fn printed(alloc: Global, expander: &mut Expander<'_>) -> Result<usize>
     requires { IsFrameStack expander.old.store.now
         expander.old.frames.items (vec_capacity expander.old.frames) }
@@ -97,7 +97,7 @@ fn room(store: &Store) -> usize {
     store.tokens() as usize * TOKEN_ROOM
 }
 
-// How many tokens an expander gives.
+// The number of tokens of an expander's output.
 fn expand(expander: &mut Expander<'_>) -> u32
     requires { IsFrameStack expander.old.store.now
         expander.old.frames.items (vec_capacity expander.old.frames) }
@@ -122,7 +122,7 @@ fn is_named(names: &FileNames, token: &Token<'_>) -> bool
     }
 }
 
-// Prints what an expander gives, or says why not.
+// Prints the output of an expander, or reports the failure.
 fn print(
     expander: &mut Expander<'_>,
     names: &FileNames,

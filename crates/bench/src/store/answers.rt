@@ -1,10 +1,9 @@
-// What stores are asked.
+// Queries of stores.
 
 use crate::store::Filling;
 use cweb_store::{NameId, NameRef, Store, Token};
 
-/// How much a store answers of what it was given much of: the bytes of all its Words, the occurrences that stand for a name,
-/// or the parts of the name.
+/// The size of a store's answer: the bytes of all Words, the resolved occurrences, or the parts of the name.
 pub fn of(store: &Store, shape: Filling, count: u32) -> u64 {
     match shape {
         Filling::Words | Filling::Distinct | Filling::Flood => bytes_of_words(store),
@@ -24,7 +23,7 @@ fn bytes_of_words(store: &Store) -> u64 {
     bytes
 }
 
-// One half of the abbreviations comes before the names, the other half behind them.
+// Half of the abbreviations come before the names, the other half after them.
 fn resolved_abbreviations(store: &Store, count: u32) -> u64 {
     let half = count / 2;
     let late = half.saturating_add(count);

@@ -1,5 +1,4 @@
-// Files of a real folder, which are replaced whole. One function holds its path and one the bins: each that does takes long to
-// prove.
+// Bins of a real folder. Only one function owns the path and one the bins, since owning one makes verification slow.
 use super::puts::*;
 use super::runs::tangle_twice;
 use super::wanted::holds;
@@ -9,7 +8,7 @@ use std::process::Abort;
 use std::rt::{Env, Files};
 use std::{env, fs};
 
-/// A new folder, by its path.
+/// Creates a folder and returns its path.
 fn new_folder(rt: &(impl Abort + Files + Env + AllocGlobal)) -> String {
     let top = env::temp_dir(rt).expect(rt, "a folder of temporary files");
     new_folder_in(rt, top.as_str()).expect(rt, "a name that is free")
@@ -25,7 +24,7 @@ fn new_folder_in(rt: &(impl Abort + Files + AllocGlobal), top: &str) -> Option<S
     None
 }
 
-/// What is done with the bins of a folder.
+/// A step with the bins of a folder.
 #[derive(Drop)]
 enum Step {
     PutFiles,
@@ -38,7 +37,7 @@ enum Step {
     PutWhatWasRead,
     OpenWhatIsClosed,
     TangleTwice,
-    // they have failed so often
+    // the expected failure count
     HasFailed(u64),
 }
 
@@ -66,7 +65,7 @@ impl Step {
     }
 }
 
-/// Steps with bins of their own, while those that took the steps before still stand.
+/// Runs steps with bins of their own, while the bins of the earlier steps still exist.
 fn run_after(
     host: &HostRuntime,
     rt: &(impl Abort + Env + Files<File: LockableFile> + AllocGlobal),
@@ -103,7 +102,7 @@ fn run<B: Bins>(
     }
 }
 
-/// Runs in a new folder.
+/// Runs the steps in a new folder.
 fn check(
     host: &HostRuntime,
     rt: &(impl Abort + Env + Files<File: LockableFile> + AllocGlobal),

@@ -1,4 +1,4 @@
-// Texts that are put into files of a folder, and what is left there.
+// Writes files in a folder and checks the result.
 use super::wanted::*;
 use cweb_lines::{Shelf, write_all};
 use cweb_out::{BinFault, Bins};
@@ -8,7 +8,7 @@ use std::os::unix::fs::PermissionsExt;
 use std::process::Abort;
 use std::rt::Files;
 
-/// Writes a draft. If a write fails, it is given up.
+/// Writes a draft. If a write fails, it is abandoned.
 fn write_draft<B: Bins>(bins: &mut B, name: &str, text: &[u8]) -> Result<(), BinFault> {
     if bins.failures() > 1000 {
         return Err(BinFault::Memory);
@@ -24,7 +24,7 @@ fn write_draft<B: Bins>(bins: &mut B, name: &str, text: &[u8]) -> Result<(), Bin
     Ok(())
 }
 
-/// Writes a whole file, or gives it up.
+/// Writes and commits a file, or abandons it.
 fn put<B: Bins>(bins: &mut B, name: &str, text: &[u8]) -> Result<(), BinFault> {
     write_draft(bins, name, text)?;
     if bins.failures() > 1000 {
@@ -33,20 +33,19 @@ fn put<B: Bins>(bins: &mut B, name: &str, text: &[u8]) -> Result<(), BinFault> {
     bins.commit_file()
 }
 
-/// A file holds this, or isn't there.
+/// The file has these contents, or isn't there.
 fn check_left(rt: &(impl Abort + Files + AllocGlobal), path: &str, left: Option<&[u8]>) {
     let held = fs::read(rt, path).ok();
     holds_of(rt, held.as_deref() == left, path);
 }
 
-/// No draft of a file is there.
+/// The file has no draft.
 fn check_draft(rt: &(impl Abort + Files + AllocGlobal), path: &str) {
     let draft = joined(rt, &[path, "\u{7f}"]);
     holds_of(rt, fs::symlink_metadata(rt, draft.as_str()).is_err(), path);
 }
 
-/// Puts a text into a file of a folder, and sees what is left there: the text of the file, and no draft. It is put there just
-/// where that text is left.
+/// Puts a file into a folder. It must succeed exactly if the contents are then `text`, and leave no draft.
 fn check_put<B: Bins>(
     rt: &(impl Abort + Files + AllocGlobal),
     bins: &mut B,
@@ -72,7 +71,7 @@ fn check_put_at<B: Bins>(
     check_draft(rt, path);
 }
 
-/// A text that is longer than what is gathered at one time.
+/// Contents that are longer than the buffer.
 fn large_contents(rt: &(impl Abort + AllocGlobal)) -> String {
     "x".repeat(rt.alloc(), 200_000).expect(rt, "memory")
 }
@@ -90,7 +89,7 @@ pub fn put_files<B: Bins>(rt: &(impl Abort + Files + AllocGlobal), bins: &mut B,
     );
 }
 
-/// The file's folder isn't there; a folder stands in the file's place.
+/// The file's folder isn't there, or a folder has the file's name.
 pub fn put_on_impossible_paths<B: Bins>(
     rt: &(impl Abort + Files + AllocGlobal),
     bins: &mut B,
@@ -102,7 +101,7 @@ pub fn put_on_impossible_paths<B: Bins>(
     check_put(rt, bins, folder, "d", b"d", None);
 }
 
-/// A draft that is given up is deleted, and its file stays as it was.
+/// An abandoned draft is deleted, and its file is unchanged.
 pub fn abandon_draft<B: Bins>(rt: &(impl Abort + Files + AllocGlobal), bins: &mut B, folder: &str) {
     let path = joined(rt, &[folder, "/a.c"]);
     holds(rt, write_draft(bins, path.as_str(), b"lost").is_ok());
@@ -111,7 +110,7 @@ pub fn abandon_draft<B: Bins>(rt: &(impl Abort + Files + AllocGlobal), bins: &mu
     check_draft(rt, path.as_str());
 }
 
-/// A device is written as it is. A full one says so at the end of a small text and within a large one.
+/// A device is written directly. A full one fails at the end of small contents and within large ones.
 pub fn put_on_a_full_device<B: Bins>(rt: &(impl Abort + AllocGlobal), bins: &mut B) {
     let large = large_contents(rt);
     put_on_devices(rt, bins, large.as_bytes());
@@ -134,7 +133,7 @@ pub fn put_over_left_draft<B: Bins>(
     check_put(rt, bins, folder, "a.c", b"newer", Some(b"newer"));
 }
 
-/// In the place of the draft of `c.c` stands a link to `b.c`.
+/// Puts a link to `b.c` at the path of the draft of `c.c`.
 fn link_draft(rt: &(impl Abort + Files + AllocGlobal), folder: &str) {
     let kept = joined(rt, &[folder, "/b.c"]);
     let link = joined(rt, &[folder, "/c.c\u{7f}"]);
@@ -142,7 +141,7 @@ fn link_draft(rt: &(impl Abort + Files + AllocGlobal), folder: &str) {
         .expect(rt, "a link");
 }
 
-/// What such a link leads to is not written.
+/// The target of such a link is not written.
 pub fn put_over_linked_draft<B: Bins>(
     rt: &(impl Abort + Files + AllocGlobal),
     bins: &mut B,
@@ -155,7 +154,7 @@ pub fn put_over_linked_draft<B: Bins>(
     check_left(rt, kept.as_str(), Some(large.as_bytes()));
 }
 
-/// A file that was committed is replaced under its own name, and refused under other names.
+/// A committed file is replaced under its own name, and refused under other names.
 pub fn put_again<B: Bins>(rt: &(impl Abort + Files + AllocGlobal), bins: &mut B, folder: &str) {
     check_put(rt, bins, folder, "a.c", b"again", Some(b"again"));
     check_put(rt, bins, folder, "./c.c", b"lost", Some(b"c"));
@@ -164,21 +163,21 @@ pub fn put_again<B: Bins>(rt: &(impl Abort + Files + AllocGlobal), bins: &mut B,
     check_put(rt, bins, folder, "a.c", b"last", Some(b"last"));
 }
 
-/// `further.c` becomes a further name of `a.c`.
+/// Makes `further.c` another name of `a.c`.
 fn link_file(rt: &(impl Abort + Files + AllocGlobal), folder: &str) {
     let file = joined(rt, &[folder, "/a.c"]);
     let further = joined(rt, &[folder, "/further.c"]);
     fs::hard_link(rt, file.as_str(), further.as_str()).expect(rt, "a further name");
 }
 
-/// Writes a text into a file of a folder, whose path this is.
+/// Writes a file in a folder and returns its path.
 fn written(rt: &(impl Abort + Files + AllocGlobal), folder: &str, name: &str) -> String {
     let path = joined(rt, &[folder, "/", name]);
     fs::write(rt, path.as_str(), "x").expect(rt, "a file");
     path
 }
 
-/// A file that was read is kept.
+/// A file that was read is not replaced.
 pub fn put_what_was_read<B: Bins>(
     rt: &(impl Abort + Files<File: LockableFile> + AllocGlobal),
     read: &FilesRead,
@@ -194,14 +193,14 @@ pub fn put_what_was_read<B: Bins>(
     check_put(rt, bins, folder, "b.w", b"y", Some(b"y"));
 }
 
-/// An opening that the system refuses, for whatever cause, is a file that isn't there.
+/// Any error on opening means that the file isn't there.
 pub fn open_what_is_closed(
     rt: &(impl Abort + Files<File: LockableFile> + AllocGlobal),
     folder: &str,
 ) {
     let path = written(rt, folder, "closed.w");
     fs::set_permissions(rt, path.as_str(), fs::Permissions::from_mode(0)).expect(rt, "a mode");
-    // the superuser may read it all the same
+    // The superuser may read it anyway.
     let may_read = fs::open(rt, path.as_str()).is_ok();
     opens_if(rt, &mut FolderShelf::new(rt), path.as_str(), may_read);
 }

@@ -1,4 +1,4 @@
-// Runs of `ctangle` over the bins of one folder.
+// Runs of `ctangle` with the bins of one folder.
 use super::wanted::{holds, joined, same_bytes};
 use cweb_lines::{MemoryShelf, MemorySink, Shelf, Sink};
 use cweb_out::Bins;
@@ -8,7 +8,7 @@ use std::fs;
 use std::process::Abort;
 use std::rt::Files;
 
-/// Runs `ctangle` over a web of this text. Answers its status, or what the allocator refused.
+/// Runs `ctangle` over a web. Returns its status, or the failed allocation.
 fn tangle<B: Bins>(alloc: Global, bins: &mut B, web: &[u8], path: &str) -> Result<u8, AllocError> {
     let mut shelf = MemoryShelf::new(alloc);
     shelf.put("a.w", web)?;
@@ -33,7 +33,7 @@ fn tangles<B: Bins>(
     same_bytes(rt, &held, text);
 }
 
-/// The second run replaces what the first one wrote.
+/// The second run replaces the file of the first one.
 pub fn tangle_twice<B: Bins>(rt: &(impl Abort + Files + AllocGlobal), bins: &mut B, folder: &str) {
     let path = joined(rt, &[folder, "/a.c"]);
     let path = path.as_str();

@@ -1,4 +1,4 @@
-// Streams and files of the system, and streams that take and give a part, or are broken off.
+// Streams and files of the system, and streams that transfer parts or are interrupted.
 use super::wanted::*;
 use cweb_lines::{Shelf, ShelfFault, Sink, write_all};
 use cweb_tools::{FolderShelf, StdSink, read_once};
@@ -6,7 +6,7 @@ use std::io;
 use std::io::{Error, ErrorKind, Read, Write};
 use std::process::Abort;
 
-/// Takes two bytes at most, and each other call of it is broken off by a signal.
+/// Takes at most two bytes. Every other call is interrupted by a signal.
 #[derive(Drop)]
 struct Dripping {
     taken: Vec<u8>,
@@ -31,7 +31,7 @@ impl Write for Dripping {
     }
 }
 
-/// Two bytes are taken of the first three, and all that is written whole.
+/// A write of three bytes takes two, and a whole write takes all.
 fn takes_parts<S: Sink>(rt: &impl Abort, sink: &mut S) {
     holds(rt, sink.failures() == 0);
     holds(rt, sink.write(b"abc") == Ok(2));
@@ -50,7 +50,7 @@ fn a_stream_that_takes_parts_loses_nothing(rt: HostRuntime) {
     same_bytes(&rt, &dripping.taken, b"abcdefg");
 }
 
-/// Gives three bytes at most, and each other call of it is broken off by a signal.
+/// Returns at most three bytes. Every other call is interrupted by a signal.
 #[derive(Drop)]
 struct Trickling<'a> {
     left: &'a [u8],
@@ -71,7 +71,7 @@ impl Read for Trickling<'_> {
     }
 }
 
-/// So many bytes are given, and then the piece holds these.
+/// A read returns this many bytes, and the chunk then has these contents.
 fn reads_part<F: Read>(rt: &impl Abort, file: &mut F, piece: &mut [u8], count: usize, held: &[u8]) {
     holds(rt, read_once(file, piece) == Ok(count));
     same_bytes(rt, piece, held);
@@ -90,7 +90,7 @@ fn a_file_read_in_parts_loses_nothing(rt: HostRuntime) {
     }
 }
 
-/// Takes nothing, and says so.
+/// Takes nothing and returns 0.
 #[derive(Drop)]
 struct Full;
 
@@ -104,7 +104,7 @@ impl Write for Full {
     }
 }
 
-/// No byte is taken, and one that should be is a failure.
+/// An empty write succeeds, and any other one fails.
 fn takes_nothing<S: Sink>(rt: &impl Abort, sink: &mut S) {
     holds(rt, sink.failures() == 0);
     holds(rt, sink.write(b"") == Ok(0));
@@ -118,7 +118,7 @@ fn a_stream_that_takes_nothing_has_failed(rt: HostRuntime) {
     takes_nothing(&rt, &mut StdSink::new(Full));
 }
 
-/// A file can be opened, and its first read gives so many bytes or fails.
+/// A file can be opened. Its first read returns this many bytes or fails.
 fn first_read_answers<S: Shelf>(
     rt: &impl Abort,
     shelf: &mut S,
@@ -135,7 +135,7 @@ fn first_read_answers<S: Shelf>(
 fn reads_the_system<S: Shelf>(rt: &impl Abort, shelf: &mut S) {
     holds(rt, !opens(rt, shelf, "/no/such/file"));
     holds(rt, !opens(rt, shelf, ""));
-    // a folder can be opened, and its first read fails
+    // A folder can be opened, and its first read fails.
     first_read_answers(rt, shelf, "/", Err(ShelfFault));
     holds(rt, shelf.failures() == 1);
     first_read_answers(rt, shelf, "/dev/zero", Ok(8));

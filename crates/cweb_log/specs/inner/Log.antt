@@ -1,4 +1,4 @@
--- The lines of the log.
+-- The names that the lines of stops end in.
 use Rattle.std.specs.Prelude.{ℕ, List, [], codes}
 use Rattle.cweb_input.specs.declared.stop.Stop.{Stop}
 use Rattle.cweb_input.specs.declared.stop.Stop.TheVariants.{WebNotOpened, ChangeNotOpened, ReadFault}
@@ -6,13 +6,13 @@ use Rattle.cweb_input.specs.declared.stop.Stop.TheVariants.{LineTooLong}
 use Rattle.cweb_input.specs.declared.stop.Stop.TheVariants.{WriteFault}
 use Rattle.cweb_log.specs.Log.{file_name_at}
 
--- what a stop at the start of a merge is about, by the names of the web and of the change file
+-- For a stop at the start of a merge, from the names of the web and of the change file.
 abbrev pub start_subject : List ℕ → List ℕ → Stop → List ℕ
 start_subject web change WebNotOpened = web
 start_subject web change ChangeNotOpened = change
 start_subject web change _ = []
 
--- what a stop within a merge is about, by the names of the files that were opened
+-- For a stop within a merge, from the names of the opened files.
 abbrev pub subject : List (List ℕ) → Stop → List ℕ
 subject names (ReadFault file) = file_name_at names file.0
 subject names (LineTooLong file) = file_name_at names file.0

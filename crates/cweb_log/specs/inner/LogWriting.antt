@@ -1,4 +1,4 @@
--- What writing a text leaves in a stream, at once or gathered in a piece.
+-- Buffered and direct writes to a log.
 use Rattle.std.specs.Prelude.{◌≡◌, ℕ, List, ◌++◌, IsTrue, Result, OnOk, OnErr}
 use Rattle.std.specs.Borrow.{Bor}
 use Rattle.std.specs.List.{flat_map}
@@ -6,7 +6,7 @@ use Rattle.cweb_files.specs.Device.{CountsFailure}
 use Rattle.cweb_files.specs.Frames.{WritesPrefix}
 use Rattle.cweb_log.specs.DeviceModels.{SinkModel}
 
--- a text is written, or after a fault a front of it
+-- All bytes were written, or a prefix of them if a write failed.
 pub record WritesToStream {A E : Type 0} (text : List ℕ) (before after : SinkModel)
     (result : Result A E) : Type 0 where
   pub tells : after.tells ≡ before.tells
@@ -14,13 +14,13 @@ pub record WritesToStream {A E : Type 0} (text : List ℕ) (before after : SinkM
   pub whole : IsTrue before.tells → OnOk result (after.bytes ≡ before.bytes ++ text)
   pub front : IsTrue before.tells → OnErr result (WritesPrefix before.bytes after.bytes text)
 
--- a text came behind what a stream held at first: all of it is written but what is pending
+-- Of `first` followed by `text`, all is written except what is pending.
 pub record IsWrittenOrBuffered (first text written pending : List ℕ) : Type 0 where
   pub done : List ℕ
   pub written_is : written ≡ first ++ done
   pub whole : text ≡ done ++ pending
 
--- more comes behind any text: it is written or pending, or after a fault a front is written
+-- `more` is appended: it is written or pending, or a prefix of the log is written if a write failed.
 pub record AppendsToLog {A E : Type 0} (more : List ℕ) (before after : SinkModel) (old new : List ℕ)
     (result : Result A E) : Type 0 where
   pub tells : after.tells ≡ before.tells
@@ -30,6 +30,6 @@ pub record AppendsToLog {A E : Type 0} (more : List ℕ) (before after : SinkMod
   pub front : IsTrue before.tells → (first text : List ℕ) → IsWrittenOrBuffered first text before.bytes old
       → OnErr result (WritesPrefix first after.bytes (text ++ more))
 
--- the parts of a line, one after another
+-- The parts of a line, concatenated.
 abbrev pub joined_line : List (Bor (List ℕ)) → List ℕ
 joined_line parts = flat_map (λ (part : Bor (List ℕ)). part.now) parts

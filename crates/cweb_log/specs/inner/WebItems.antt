@@ -1,4 +1,4 @@
--- The items of the log for what is wrong with a web: with its text, with its names, with its outputs.
+-- The item of the log if there is no plan.
 use Rattle.std.specs.Prelude.{ℕ, List, []}
 use Rattle.cweb_input.specs.declared.stop.Stop.TheVariants as stop
 use Rattle.cweb_store.specs.Calls.{Stored}
@@ -8,7 +8,7 @@ use Rattle.cweb_out.specs.declared.outputs.fault.PlanFault.TheVariants as plan
 use Rattle.cweb_log.specs.Items.{LogItem, fault, stopped}
 use Rattle.cweb_log.specs.WebItems.{refusal_message}
 
--- what there is instead of a plan: its fault, or want of memory, which stops the run
+-- A fault of the plan, or a failed allocation, which stops the run.
 abbrev pub plan_item : Stored → List ℕ → PlanFault → LogItem
 plan_item web main (plan.Cycle names) = fault (refusal_message web main (cycle names.items))
 plan_item web main (plan.SameName name) = fault (refusal_message web main (same_name name))

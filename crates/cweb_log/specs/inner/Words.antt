@@ -1,4 +1,4 @@
--- The words of a command line of `wmerge`, and the names that they stand for.
+-- Models of `wmerge`'s parsed words.
 use Rattle.std.specs.Prelude.{option_map, string_bytes}
 use Rattle.cweb_log.specs.declared.words.MergeWords.{MergeWords}
 use Rattle.cweb_log.specs.Words.{WebNames}

@@ -1,9 +1,8 @@
--- The words of a command line of `ctangle`, and what they ask for.
+-- The model of `ctangle`'s parsed options.
 use Rattle.std.specs.Prelude.{option_map, string_bytes}
 use Rattle.cweb_log.specs.declared.options.Options.{Options}
 use Rattle.cweb_log.specs.Options.{OptionsModel}
 
--- what options that were read hold
 abbrev pub options_of : Options → OptionsModel
 options_of options = record {
   shown = record {

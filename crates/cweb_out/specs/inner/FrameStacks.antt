@@ -1,4 +1,4 @@
--- What a stack of frames still has to give.
+-- Steps of a stack of frames.
 use Rattle.std.specs.Prelude.{ℕ, ◌≤◌, ◌<◌, ◌≡◌, ◌+◌, ◌-◌, suc, zero, List, [], ◌∷◌, ◌++◌, Option, Some, None}
 use Rattle.std.specs.Prelude.{length, sum_by}
 use Rattle.cweb_names.specs.declared.name.NameId.{NameId}
@@ -11,16 +11,16 @@ use Rattle.cweb_out.specs.surface.FrameSuffixes.{suffix}
 use Rattle.cweb_out.specs.declared.frame.Frame.{Frame}
 use Rattle.cweb_out.specs.surface.FrameStacks.{RanksAreBelow, rank, left}
 
--- the rank of the top frame's owner, or a number where there is no frame
+-- The rank of the top frame's owner, or a bound if there is no frame.
 abbrev pub top_rank : Stored → ℕ → List Frame → ℕ
 top_rank w above [] = above
 top_rank w above (f ∷ fs) = top_rank w (rank w f.owner) fs
 
--- each name that a token uses has a rank below that of the top frame's owner
+-- Each name that a token uses has a rank below that of the top frame's owner.
 abbrev pub UsesLower : Stored → List Frame → Token → Type 0
 UsesLower w fs t = RanksAreBelow w (top_rank w (names w + 1) fs) (use_of w t)
 
--- how many tokens are met in what a name and a token give, k deep, and how many frames are taken away
+-- The number of steps for a name or a token at depth k: tokens taken plus frames popped.
 abbrev pub work_for : (NameId → ℕ) → Option NameId → ℕ
 work_for f None = 0
 work_for f (Some n) = f n
@@ -41,11 +41,11 @@ work_of w k [] = 0
 work_of w zero (f ∷ fs) = work_of w zero fs + list_work w zero (suffix w f)
 work_of w (suc k) (f ∷ fs) = work_of w k fs + list_work w (suc k) (suffix w f)
 
--- the depth that the top frame is expanded to
+-- The depth to which the top frame is expanded.
 abbrev pub level : Stored → List Frame → ℕ
 level w fs = names w + 1 - length fs
 
--- a token of the top frame was taken
+-- A token of the top frame was taken.
 pub record Advances (w : Stored) (old new : List Frame) (t : Token) : Type 0 where
   pub left : left w old ≡ put w (expanded_name w (level w new)) t ++ left w new
   pub below : RanksAreBelow w (level w new) (use_of w t)
@@ -53,7 +53,7 @@ pub record Advances (w : Stored) (old new : List Frame) (t : Token) : Type 0 whe
   pub work : token_work w (name_work w (level w new)) t + work_of w (names w) new ≤ work_of w (names w) old
   pub some : 0 < length new
 
--- a frame was put on top for a use, or none where the use gives nothing
+-- A frame was pushed for a use, or none if the use expands to nothing.
 pub record Enters (w : Stored) (old new : List Frame) (r : NameRef) : Type 0 where
   pub left : left w new ≡ put w (expanded_name w (level w old)) (Name r) ++ left w old
   pub work : work_of w (names w) new < token_work w (name_work w (level w old)) (Name r) + work_of w (names w) old

@@ -1,4 +1,4 @@
--- A plan as callers see it.
+-- The model of a plan.
 use Rattle.std.specs.Prelude.{Bool, List, map, string_bytes}
 use Rattle.cweb_out.specs.Outputs as spec
 use Rattle.cweb_out.specs.Outputs.{Planned}

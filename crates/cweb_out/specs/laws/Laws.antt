@@ -1,4 +1,4 @@
--- What holds of expansion, of print and of cycles whatever the web is.
+-- Laws of expansion, printing and cycles for any web.
 use Rattle.std.specs.Prelude.{◌≡◌, ◌≤◌, ◌==◌, ℕ, suc, Bool, true, false, List, [], ◌∷◌, ◌++◌, Some, Err, fold}
 use Rattle.std.specs.List.{list_all, list_any}
 use Rattle.cweb_names.specs.declared.name.NameId.{NameId}
@@ -14,13 +14,12 @@ use Rattle.cweb_texts.specs.Edges.{last_is}
 use Rattle.cweb_print.specs.Printing.{Setting, file, file_token_bytes, without_joined_layout, left_after, print}
 use Rattle.cweb_print.specs.Printing.{print_after, stays_joined}
 
--- any token but the use of a name
 abbrev pub is_no_use : Token → Bool
 is_no_use (Name r) = false
 is_no_use t = true
 
--- no use remains; any other token stays between the expansions of what stands before and behind it; and a use that stands for
--- a name becomes the expansion of that name's text, one less deep
+-- No use remains. Any other token stays between the expansions of what is before and after it. A resolved use becomes
+-- the expansion of its name's list, at one depth less.
 pub record ReplacesUses (w : Stored) (k : ℕ) : Type 0 where
   pub no_use : (ts : List Token) → list_all is_no_use (expand w k ts) ≡ true
   pub kept : (before behind : List Token) (t : Token) → is_no_use t ≡ true
@@ -32,26 +31,26 @@ pub record ReplacesUses (w : Stored) (k : ℕ) : Type 0 where
 abbrev pub ExpansionReplacesUsesAlone : Type 0
 ExpansionReplacesUsesAlone = (w : Stored) (k : ℕ) → ReplacesUses w k
 
--- where each name that a list uses has a rank below k, its expansion is the same for every depth from k on
+-- If each name that a list uses has a rank below k, the expansion is equal at every depth from k on.
 abbrev pub DepthAboveTheRankChangesNothing : Type 0
 DepthAboveTheRankChangesNothing = (w : Stored) (k depth : ℕ) (ts : List Token) → k ≤ depth
     → list_all (ends_below w k) (uses w ts) ≡ true → expand w depth ts ≡ expand w k ts
 
--- whether only layout and section comments stand behind the last join of a list
+-- Whether a join is open after a list.
 abbrev pub is_joined : List Token → Bool
 is_joined ts = fold stays_joined false ts
 
--- what a list prints behind another, by the last token of that one that was printed and by its open join
+-- The bytes that a list prints after another one, from the last printed token of that one and its open join.
 abbrev pub print_following : Setting → List Token → List Token → List ℕ
 print_following s before ts =
     print_after (file_token_bytes s) (left_after before) (without_joined_layout (is_joined before) ts)
 
--- print of two lists is print of the one and then of the other
+-- A concatenation prints the first list and then the second one.
 abbrev pub PrintGoesOn : Type 0
 PrintGoesOn = (s : Setting) (before ts : List Token)
     → print s (before ++ ts) ≡ print s before ++ print_following s before ts
 
--- no bytes, or bytes whose last one is a newline
+-- Empty, or the last byte is a newline.
 abbrev pub is_whole_lines : List ℕ → Bool
 is_whole_lines [] = true
 is_whole_lines (b ∷ bytes) = last_is (λ x. x == 10) (b ∷ bytes)
@@ -59,13 +58,13 @@ is_whole_lines (b ∷ bytes) = last_is (λ x. x == 10) (b ∷ bytes)
 abbrev pub FilesHaveWholeLines : Type 0
 FilesHaveWholeLines = (s : Setting) (ts : List Token) → is_whole_lines (file s ts) ≡ true
 
--- each name of a list but the last one uses the next one in its text
+-- Each name of a list but the last uses the next one.
 abbrev pub EachUsesNext : Stored → List NameId → Type 0
 EachUsesNext w [] = Unit {0}
 EachUsesNext w (n ∷ []) = Unit {0}
 EachUsesNext w (n ∷ m ∷ ns) = (list_any (is_id m) (uses w (joined w n)) ≡ true) × EachUsesNext w (m ∷ ns)
 
--- names that use one another in a circle: at least two stand there, and the last one is the first again
+-- A cycle of names: at least two entries, and the last equals the first.
 pub record IsCycle (w : Stored) (ns : List NameId) : Type 0 where
   pub first : NameId
   pub between : List NameId

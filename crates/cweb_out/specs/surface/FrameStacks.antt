@@ -1,4 +1,4 @@
--- What a stack of frames still has to give.
+-- The model and invariant of a stack of frames.
 use Rattle.std.specs.Prelude.{ℕ, ◌≤◌, ◌<◌, ◌≡◌, ◌+◌, suc, zero, List, [], ◌∷◌, ◌++◌, true, Option, Some, None}
 use Rattle.std.specs.Prelude.{length}
 use Rattle.std.specs.List.{list_all}
@@ -13,50 +13,50 @@ use Rattle.cweb_out.specs.Outputs.{root_list}
 use Rattle.cweb_out.specs.surface.FrameSuffixes.{FrameIsWithin, suffix}
 use Rattle.cweb_out.specs.declared.frame.Frame.{Frame}
 
--- the suffixes, the top frame's first, each expanded, joined; the bottom frame comes first in the list, and is expanded k deep
+-- The expanded suffixes of all frames, top frame first. The bottom frame is first in the list and is expanded k deep.
 abbrev pub left_at_depth : Stored → ℕ → List Frame → List Token
 left_at_depth w k [] = []
 left_at_depth w zero (f ∷ fs) = left_at_depth w zero fs ++ expand w zero (suffix w f)
 left_at_depth w (suc k) (f ∷ fs) = left_at_depth w k fs ++ expand w (suc k) (suffix w f)
 
--- each name in the list has a rank that is below k
+-- Each name of the list has a rank below k.
 abbrev pub RanksAreBelow : Stored → ℕ → List NameId → Type 0
 RanksAreBelow w k ns = list_all (ends_below w k) ns ≡ true
 
--- each frame lies within the tokens, and uses names alone whose ranks are below its depth, which falls from frame to frame
+-- Each frame is within the tokens and uses only names with ranks below its depth. The depth falls from frame to frame.
 abbrev pub AreRanked : Stored → ℕ → List Frame → Type 0
 AreRanked w k [] = Unit {0}
 AreRanked w zero (f ∷ fs) = FrameIsWithin w f × RanksAreBelow w zero (uses w (suffix w f)) × AreRanked w zero fs
 AreRanked w (suc k) (f ∷ fs) = FrameIsWithin w f × RanksAreBelow w (suc k) (uses w (suffix w f)) × AreRanked w k fs
 
--- some front of the owner's list was given, and the frame's suffix is what is still to come; all names that the list uses have ranks
+-- The frame holds a suffix of its owner's list. All names that the list uses have ranks.
 pub record IsOwned (w : Stored) (f : Frame) : Type 0 where
   pub given : List Token
   pub list : root_list w f.owner ≡ given ++ suffix w f
   pub ends : list_ends w (root_list w f.owner) ≡ true
 
--- the rank of the owner of a list: the main file stands above all names
+-- The rank of a list's owner. The main file is above all names.
 abbrev pub rank : Stored → Option NameId → ℕ
 rank w None = names w
 rank w (Some n) = name_rank w n
 
--- each frame is of its owner's list, and the ranks of the owners fall strictly from frame to frame, the first one below a number
+-- Each frame is of its owner's list. The ranks of the owners decrease strictly from a bound.
 abbrev pub AreOwned : Stored → ℕ → List Frame → Type 0
 AreOwned w above [] = Unit {0}
 AreOwned w above (f ∷ fs) = IsOwned w f × (rank w f.owner < above) × AreOwned w (rank w f.owner) fs
 
--- a stack that an expander may have, and the room for it, which is never more nor less
+-- A stack that an expander may have. Its capacity is constant.
 pub record IsFrameStack (w : Stored) (fs : List Frame) (capacity : ℕ) : Type 0 where
   pub owned : AreOwned w (names w + 1) fs
   pub ranked : AreRanked w (names w) fs
   pub depth : length fs ≤ names w + 1
   pub room : capacity ≡ names w + 1
 
--- what an expander still has to give
+-- The tokens that an expander will still yield.
 abbrev pub left : Stored → List Frame → List Token
 left w fs = left_at_depth w (names w) fs
 
--- the first token of what is left, and the rest; none exactly where nothing is left
+-- The first remaining token and the rest, or `None` exactly if nothing remains.
 abbrev pub YieldsNext : List Token → Option Token → List Token → Type 0
 YieldsNext old None new = (old ≡ []) × (new ≡ [])
 YieldsNext old (Some t) new = old ≡ t ∷ new

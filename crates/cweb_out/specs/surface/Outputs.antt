@@ -1,4 +1,4 @@
--- The outputs of a web, their names, and what keeps them from being written.
+-- Plans by output number.
 use Rattle.std.specs.Prelude.{ℕ, ◌≡◌, List, []}
 use Rattle.std.specs.Prelude.{Option, None, Ok}
 use Rattle.std.specs.Prelude.{slice_index_or}
@@ -6,7 +6,7 @@ use Rattle.cweb_names.specs.declared.name.NameId.{NameId}
 use Rattle.cweb_store.specs.Calls.{Stored}
 use Rattle.cweb_out.specs.Outputs.{outputs, Output, Planned, planned}
 
--- an output by its number
+-- An output by its number.
 abbrev pub output_at : List Output → ℕ → Output
 output_at outputs number = slice_index_or outputs number (record { name = []; root = None })
 
@@ -16,6 +16,6 @@ root_at outputs number = (output_at outputs number).root
 abbrev pub output_name_at : List Output → ℕ → List ℕ
 output_name_at outputs number = (output_at outputs number).name
 
--- the plan of a store, for some main file
+-- The plan of a store for some main file.
 abbrev pub IsPlanOf : Stored → Planned → Type 0
 IsPlanOf w p = (main : List ℕ) × (planned w main ≡ Ok p)

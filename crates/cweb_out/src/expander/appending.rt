@@ -1,4 +1,4 @@
-// Tokens that lend their texts, printed at once from the lists that give them.
+// Fast path of an expander: prints runs of direct tokens.
 ghost use Rattle.std.specs.Prelude.{◌≡◌, vec_capacity};
 ghost use Rattle.cweb_out.specs.surface.FrameStacks.{IsFrameStack, left};
 ghost use Rattle.cweb_print.specs.inner.BufferedPrinting.{PrintsPrefix};
@@ -8,8 +8,7 @@ use crate::expander::Expander;
 use cweb_print::{OutBuffer, Printer};
 
 impl<'a> Expander<'a> {
-    /// Prints tokens that come next to where bytes are gathered, up to one that lends no text, or for whose text there is no
-    /// room. It takes no memory.
+    /// Prints the next tokens into the buffer, up to one that isn't direct or doesn't fit. No allocation.
     pub fn append(&mut self, printer: &mut Printer<'_>, buffer: &mut OutBuffer)
         requires { IsFrameStack self.old.store.now self.old.frames.items
             (vec_capacity self.old.frames) }

@@ -1,4 +1,4 @@
-// Tokens that lend their texts, printed at once from the list that gives them.
+// Fast path of a frame: prints runs of direct tokens.
 ghost use Rattle.std.specs.Prelude.{◌≡◌, ◌≢◌, ◌∷◌, [], None, IfSome, true, false};
 ghost use Rattle.cweb_store.specs.Parts.{Name};
 ghost use Rattle.cweb_out.specs.surface.FrameSuffixes.{FrameIsWithin, suffix};
@@ -10,8 +10,7 @@ use cweb_print::{OutBuffer, Printer};
 use cweb_store::{NameRef, Store, Token};
 
 impl<'a> Frame<'a> {
-    /// Prints the tokens of the list that lend their texts, up to one that lends none, or for whose text there is no room,
-    /// and answers whether the list has come to its end.
+    /// Prints tokens up to one that isn't direct or doesn't fit. Returns whether the list has ended.
     pub fn append(
         &mut self,
         store: &'a Store,
@@ -59,7 +58,7 @@ impl<'a> Frame<'a> {
         }
     }
 
-    /// Takes the next token of the part, where that is a use of a name, and else nothing.
+    /// Takes the next token of the part if it is a use of a name, else nothing.
     pub fn take_name(&mut self, store: &Store) -> Option<NameRef>
         requires { FrameIsWithin store.now self.old }
         ensures owner { self.new.owner ≡ self.old.owner }

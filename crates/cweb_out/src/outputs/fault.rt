@@ -1,19 +1,18 @@
-// Why nothing is to be written.
+// Why there is no plan.
 ghost use Rattle.std.specs.Prelude.{◌≡◌};
 ghost use Rattle.cweb_out.specs.declared.outputs.fault.PlanFault.TheVariants.{Memory};
 
 use cweb_store::NameId;
 use std::alloc::AllocError;
 
-/// Why there is no plan.
+/// The first fault, in the order in which `plan` looks for them.
 #[derive(Drop)]
 pub enum PlanFault {
-    /// The first output whose expansion doesn't end comes to this cycle: each name uses the next one, and the last name is
-    /// the first again.
+    /// The cycle of the first output whose expansion doesn't end. Each name uses the next; the last equals the first.
     Cycle(Vec<NameId>),
-    /// This file name is the main file's name.
+    /// This file name equals the main file's name.
     SameName(NameId),
-    /// No file can have the name of this output; none is the main file.
+    /// No file can have this output's name. `None` is the main file.
     BadName(Option<NameId>),
     Memory,
 }

@@ -4,7 +4,7 @@ ghost use Rattle.std.specs.List.{after_last, list_all};
 ghost use Rattle.cweb_out.specs.Outputs.{is_control, is_slash, names_no_file};
 ghost use Rattle.cweb_out.specs.inner.Planning.{is_good_path};
 
-/// Whether a name has no control byte, and its last path part names a file.
+/// Whether a name has no control byte, and its last path part names a file: it isn't empty, `.` or `..`.
 pub(crate) fn is_good_path(name: &[u8]) -> bool
     ensures { result ≡ is_good_path name.now }
 {
@@ -17,7 +17,7 @@ fn has_no_control(name: &[u8]) -> bool
     name.iter().all(|byte| *byte >= 32 && *byte != 127)
 }
 
-// What stands after the last slash.
+// The bytes after the last slash.
 fn last_part(name: &[u8]) -> &[u8]
     ensures { result.now ≡ after_last is_slash name.now }
 {

@@ -1,4 +1,4 @@
-// Which outputs there are.
+// The list of outputs.
 ghost use Rattle.std.specs.Prelude.{◌≡◌, ◌<◌, ◌^◌, length, All, IfOk};
 ghost use Rattle.cweb_names.specs.Names as spec;
 ghost use Rattle.cweb_store.specs.Faults.{has_part};
@@ -14,7 +14,7 @@ fn has_part(store: &Store, name: NameId) -> bool
     store.parts(name).next().is_some()
 }
 
-/// The outputs: the main file, which is none of the names, and then the file names that have a part.
+/// The outputs: the main file as `None`, then the file names that have a part.
 pub(crate) fn roots(alloc: Global, store: &Store) -> Result<Vec<Option<NameId>>, AllocError>
     ensures roots { IfOk result (λ roots. roots.items ≡ outputs store.now) }
     ensures within { IfOk result (λ roots. All (IsRoot store.now) roots.items) }

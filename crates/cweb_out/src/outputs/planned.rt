@@ -1,4 +1,4 @@
-// What is to be written: the outputs of a web, in their order.
+// A plan: the outputs of a web, in order.
 ghost use Rattle.std.specs.Prelude.{◌≡◌, ◌<◌, ◌^◌, length};
 ghost use Rattle.cweb_out.specs.Outputs.{Planned};
 ghost use Rattle.cweb_out.specs.surface.Outputs.{output_name_at, root_at};
@@ -7,14 +7,14 @@ ghost use Rattle.cweb_out.specs.inner.Plans.{planned_of};
 use cweb_store::NameId;
 use std::marker::Model;
 
-/// A file that is to be written.
+/// A file to write.
 #[derive(Drop)]
 pub struct Output {
     pub name: String,
     pub root: Option<NameId>,
 }
 
-/// The outputs of a web: the main file and then the files of names, in order of their first occurrence as a file's. Each
+/// The outputs of a web: the main file, then the files of names in order of their first occurrence as a file's. Each
 /// name is one that a file can have, and each expansion ends.
 #[derive(Drop)]
 pub struct Plan {
@@ -31,7 +31,7 @@ impl Model for Plan {
 }
 
 impl Plan {
-    /// How many outputs there are: at least the main file, which has number 0.
+    /// The number of outputs. Output 0 is the main file.
     pub fn outputs(&self) -> u32
         ensures { result ≡ length self.now.outputs }
     {
@@ -46,14 +46,14 @@ impl Plan {
         self.outputs[number as usize].name.as_str()
     }
 
-    /// Whether the web has no unnamed part and no file but the main file.
+    /// Whether the web has no unnamed part and no output but the main file.
     pub fn no_text(&self) -> bool
         ensures { result ≡ self.now.no_text }
     {
         self.no_text
     }
 
-    /// The name whose text an output is; none for the main file.
+    /// The name whose list is this output, or `None` for the main file.
     pub fn root(&self, number: u32) -> Option<NameId>
         requires { number < length self.now.outputs }
         ensures { result ≡ root_at self.now.outputs number }

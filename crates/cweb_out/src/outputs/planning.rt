@@ -1,4 +1,4 @@
-// The plan of a store.
+// Makes the plan of a store.
 ghost use Rattle.std.specs.Prelude.{◌≡◌, ◌<◌, ◌^◌, All, find, length, bytes_eq, OnOk, ◌++◌, ◌∷◌};
 ghost use Rattle.std.specs.Prelude.{[]};
 ghost use Rattle.std.specs.List.{list_any};
@@ -19,9 +19,8 @@ use crate::outputs::search::first_cycle;
 use cweb_store::{NameId, Parts, Store};
 use std::alloc::{AllocError, Global};
 
-/// The plan of a store whose main file has this name, or why there is none. First come names that no file can have, in the
-/// order of the outputs; then a file name that is the main file's name; then a cycle that an output reaches. Want of
-/// memory may come at any point.
+/// The plan of a store, or why there is none. Faults come in this order: names that no file can have, by order of the
+/// outputs; a file name equal to the main file's; a cycle that an output reaches. `Memory` may come at any point.
 pub fn plan(alloc: Global, store: &Store, main: &str) -> Result<Plan, PlanFault>
     ensures { IsExpectedPlan (planned store.now main.now) result }
 {
@@ -82,7 +81,7 @@ fn is_main(store: &Store, main: &str, name: NameId) -> bool
     name_bytes(store, main, Some(name)) == main.as_bytes()
 }
 
-// The first file name that is the main file's name.
+// The first file name that equals the main file's.
 fn first_same(store: &Store, main: &str) -> Option<NameId>
     ensures { result
         ≡ find (λ n. bytes_eq (name_spelling store.now n) main.now)

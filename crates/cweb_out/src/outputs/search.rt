@@ -1,4 +1,4 @@
-// The search for a cycle of names that use one another.
+// Depth-first search for a cycle of names that use one another.
 ghost use Rattle.std.specs.Prelude.{◌≡◌, ◌≤◌, ◌<◌, ◌+◌, ◌++◌, ◌∷◌, [], true, false, None, Some};
 ghost use Rattle.std.specs.Prelude.{length, map, sum_by, option_map, All, IfOk, IfSome, OnOk};
 ghost use Rattle.std.specs.List.{list_all};
@@ -14,16 +14,16 @@ use crate::frame::Frame;
 use cweb_store::{NameId, Store};
 use std::alloc::{AllocError, Global};
 
-/// What is known of a name.
+/// The state of a name in the search.
 #[derive(Clone, Copy)]
 pub(crate) enum Mark {
     Unseen,
-    /// It waits until each name that it uses has a rank.
+    /// Waits until each name that it uses has a rank.
     Waits,
     Ranked,
 }
 
-/// A name that waits, and what of its text was not looked at yet.
+/// A waiting name, and the part of its list that is still to be scanned.
 #[derive(Drop)]
 pub(crate) struct Waiting<'a> {
     pub name: NameId,
@@ -46,7 +46,7 @@ fn is_waiting(marks: &[Mark], name: NameId) -> bool
     matches!(marks[name.0 as usize], Mark::Waits)
 }
 
-// Passes over names that have a rank, up to one that has none yet.
+// Skips names that have a rank, up to the first one without.
 fn next_unranked<'a>(store: &'a Store, marks: &[Mark], text: &mut Frame<'a>) -> Option<NameId>
     requires marks { length marks.now ≡ names store.now }
     requires within { FrameIsWithin store.now text.old }
@@ -68,7 +68,7 @@ fn next_unranked<'a>(store: &'a Store, marks: &[Mark], text: &mut Frame<'a>) -> 
     None
 }
 
-// Adds a name, if it is the one from which on names are wanted, or comes after it.
+// Appends a name if it is `first` or comes after it.
 fn add_from(names: &mut Vec<NameId>, first: NameId, name: NameId) -> Result<(), AllocError>
     ensures { OnOk result (names.new.items ≡ cycle_with_next first names.old.items name) }
 {
@@ -78,7 +78,7 @@ fn add_from(names: &mut Vec<NameId>, first: NameId, name: NameId) -> Result<(), 
     Ok(())
 }
 
-/// A search through the names that outputs use, one after another.
+/// A search through the names that outputs use, output by output.
 #[derive(Drop)]
 pub(crate) struct Search<'a> {
     alloc: Global,
@@ -88,7 +88,7 @@ pub(crate) struct Search<'a> {
 }
 
 impl<'a> Search<'a> {
-    /// A search that has seen no name.
+    /// A search in which no name is marked.
     pub fn new(alloc: Global, store: &'a Store) -> Result<Search<'a>, AllocError>
         ensures store { IfOk result (λ s. s.store ≡ store.entry) }
         ensures fits { IfOk result (λ s. MarksFitPath store.now s.marks.items []) }
@@ -103,8 +103,8 @@ impl<'a> Search<'a> {
         })
     }
 
-    /// Looks through the text of a name, and so through the texts of the names that it uses, until each has a rank, or one
-    /// uses a name that waits for it: then that cycle is answered.
+    /// Scans the list of a name, and depth-first those of the names that it uses, until each has a rank. Returns a
+    /// cycle if one of them uses a waiting name.
     pub fn settle(&mut self, name: NameId) -> Result<Option<Vec<NameId>>, AllocError>
         requires name { name.0 < names self.old.store.now }
         requires fits { MarksFitPath self.old.store.now self.old.marks.items [] }
@@ -128,7 +128,7 @@ impl<'a> Search<'a> {
         Ok(None)
     }
 
-    /// Settles the names that the list of an output uses, one after another.
+    /// Settles the names that the list of an output uses, in order.
     pub fn settle_list(&mut self, root: Option<NameId>) -> Result<Option<Vec<NameId>>, AllocError>
         requires root { IsRoot self.old.store.now root }
         requires fits { MarksFitPath self.old.store.now self.old.marks.items [] }
@@ -166,7 +166,7 @@ impl<'a> Search<'a> {
         Ok(None)
     }
 
-    // A name waits from now on.
+    // Pushes a name onto the waiting path.
     fn wait(&mut self, name: NameId) -> Result<(), AllocError>
         requires name { name.0 < names self.old.store.now }
         requires fits { MarksFitPath self.old.store.now self.old.marks.items self.old.waiting.items }
@@ -184,8 +184,8 @@ impl<'a> Search<'a> {
         Ok(())
     }
 
-    // Looks on in the text of the name that waited last, up to a name without a rank. That one waits from now on, or it is
-    // answered where it waits already. Where there is none the name has a rank.
+    // Scans on in the list of the last waiting name, up to a name without a rank. That name starts to wait, or is
+    // returned if it waits already. Without such a name, the last waiting name gets its rank.
     fn go_on(&mut self, top: Waiting<'a>) -> Result<Option<NameId>, AllocError>
         requires name { top.name.0 < names self.old.store.now }
         requires fits { MarksFitPath self.old.store.now self.old.marks.items
@@ -210,7 +210,7 @@ impl<'a> Search<'a> {
         Ok(None)
     }
 
-    // The names that wait, from one of them on, and then that one again.
+    // The waiting names from one of them on, and then that one again.
     fn back_to(&self, again: NameId) -> Result<Vec<NameId>, AllocError>
         ensures { IfOk result (λ cycle. cycle.items ≡ back_to again self.now.waiting.items) }
     {
@@ -223,7 +223,7 @@ impl<'a> Search<'a> {
     }
 }
 
-/// The cycle of the first output whose expansion doesn't end, if there is one.
+/// The cycle of the first output whose expansion doesn't end, if any.
 pub(crate) fn first_cycle(
     alloc: Global,
     store: &Store,

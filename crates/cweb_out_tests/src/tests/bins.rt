@@ -1,10 +1,10 @@
-// Places that keep files.
+// Bins in memory.
 use super::wanted::{holds, same_number};
 use cweb_files::Sink;
 use cweb_out::{BinFault, BinFile, Bins, MemoryBins};
 use std::process::Abort;
 
-// A file is begun, written in pieces and committed or given up; false where a call failed.
+// Begins a file, writes chunks, and commits or abandons it. Returns false if a call failed.
 fn put<B: Bins>(bins: &mut B, name: &str, chunks: &[&[u8]], commits: bool) -> bool {
     if bins.failures() >= 1000 || bins.start_file(name).is_err() {
         return false;
@@ -38,7 +38,7 @@ fn is_file(file: &BinFile, name: &str, bytes: &[u8]) -> bool {
     file.name.as_str() == name && file.bytes.as_slice() == bytes
 }
 
-// Puts files, and looks at what is there then.
+// A file is replaced, and others stay.
 fn replaces(rt: &impl Abort, bins: &mut MemoryBins) {
     holds(rt, put(bins, "a.c", &[b"old"], true));
     holds(rt, put(bins, "b.c", &[], true));
@@ -58,7 +58,7 @@ fn abandons(rt: &impl Abort, bins: &mut MemoryBins) {
     holds(rt, has_files(bins, &[("a.c", b"old")]));
 }
 
-// A draft that was left open is given up too.
+// An open draft is abandoned when another one begins.
 fn leaves_open(rt: &impl Abort, bins: &mut MemoryBins) {
     if bins.failures() < 1000 {
         holds(rt, bins.start_file("b.c").is_ok());
@@ -92,7 +92,7 @@ fn without_a_draft_writes_and_commits_fail(rt: HostRuntime) {
     fails_without_a_draft(&rt, &mut bins);
 }
 
-// Whether a file is the one of its name, and whole.
+// Whether a file is the expected one of its name.
 fn is_whole(file: &BinFile, has_a: bool, has_b: bool) -> bool {
     match file.name.as_str() {
         "a.c" => has_a && file.bytes.as_slice() == b"old".as_slice(),
@@ -108,7 +108,7 @@ fn are_whole(rt: &impl Abort, bins: &MemoryBins, has_a: bool, has_b: bool) {
     }
 }
 
-// Nothing is lost or cut where memory ends: each call succeeds, or the files are as they were.
+// If an allocation fails, each call succeeds or changes no file.
 #[test]
 fn a_refused_growth_leaves_the_files(rt: HostRuntime) {
     let mut bins = MemoryBins::with_room(rt.alloc(), 0, 0).expect(&rt, "memory");

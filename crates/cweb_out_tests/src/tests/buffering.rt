@@ -1,4 +1,4 @@
-// Files whose bytes are gathered in pieces: those that are written token by token, in few writes.
+// Buffered printing writes the same bytes as printing token by token, in few writes.
 ghost use Rattle.std.specs.Prelude.{◌<◌, length, vec_capacity};
 ghost use Rattle.cweb_out.specs.surface.FrameStacks.{IsFrameStack};
 ghost use Rattle.cweb_out.specs.surface.Outputs.{IsPlanOf};
@@ -15,10 +15,10 @@ use std::alloc::{AllocError, Global};
 use std::process::Abort;
 use trial::TrialSink;
 
-// So many bytes are gathered.
+// The size of the buffer.
 const ROOM: usize = 65_792;
 
-/// Prints what an expander still has to give, as a file whose bytes are gathered.
+/// Prints the remaining tokens of an expander through a buffer.
 fn print_file_buffered<W: Sink>(
     rt: &impl Abort,
     expander: &mut Expander<'_>,
@@ -43,7 +43,7 @@ fn print_file_buffered<W: Sink>(
     printer.finish(buffered, out)
 }
 
-/// The same, with a piece of its own.
+/// Prints them through a buffer of its own.
 pub fn print_all_buffered<W: Sink>(
     rt: &impl Abort,
     alloc: Global,
@@ -58,7 +58,7 @@ pub fn print_all_buffered<W: Sink>(
     Ok(print_file_buffered(rt, expander, names, &mut buffered, out))
 }
 
-// The bytes of the file of a web, and the writes that it takes, gathered: its bytes are those that are written token by token.
+// The number of bytes and writes of a buffered file. The bytes must equal those that are printed token by token.
 #[derive(Drop)]
 struct Sizes {
     bytes: usize,
@@ -92,7 +92,7 @@ fn printed(
     same_number(rt, chunks.writes, sizes.writes);
 }
 
-// The first output of a plan, gathered.
+// The first output of a plan, buffered.
 fn buffered(
     rt: &impl Abort,
     alloc: Global,
@@ -110,7 +110,7 @@ fn buffered(
     chunks
 }
 
-// The same, written token by token.
+// The first output of a plan, token by token.
 fn token_by_token(
     rt: &impl Abort,
     alloc: Global,
@@ -130,12 +130,12 @@ fn token_by_token(
     tokens
 }
 
-// The file of a web has so many bytes, and takes so many writes.
+// The number of bytes and writes of a web's file.
 fn takes(rt: &impl Abort, alloc: Global, web: &[u8], bytes: usize, writes: u64) {
     check(rt, alloc, web, &Sizes { bytes, writes });
 }
 
-// The file of a web of so many words has so many bytes, and takes so many writes.
+// The number of bytes and writes for a web of repeated words.
 fn takes_repeated(
     rt: &impl Abort,
     alloc: Global,
@@ -147,7 +147,7 @@ fn takes_repeated(
     takes(rt, alloc, web.as_bytes(), bytes, writes);
 }
 
-// A short word is gathered in one move or two, by its length. Each of its letters is another one than those beside it.
+// A short Word is copied in one or two moves, depending on its length. Adjacent letters of it differ.
 #[test]
 fn a_word_of_each_length(rt: HostRuntime) {
     const LETTERS: &str = "abcdefghijklmnopqrstuvwxyzabcdefghijklm";
@@ -157,8 +157,7 @@ fn a_word_of_each_length(rt: HostRuntime) {
     }
 }
 
-// The newline at the end is gathered behind the text, unless there is no room for a short text. A text that has no room is
-// written behind what is gathered.
+// The last newline is buffered, unless no short string fits. A string that doesn't fit is written after the buffer.
 #[test]
 fn a_word_at_the_end_of_the_room(rt: HostRuntime) {
     const EXAMPLES: &[(usize, u64)] = &[
@@ -174,47 +173,47 @@ fn a_word_at_the_end_of_the_room(rt: HostRuntime) {
     }
 }
 
-// Words of two bytes, with a blank between them.
+// Words of two bytes with a blank between them.
 #[test]
 fn words_across_the_end_of_the_room(rt: HostRuntime) {
     takes_repeated(&rt, rt.alloc(), (":", " wab", 50_000, ""), 150_000, 3);
 }
 
-// Section comments of six bytes, a word and a newline.
+// Section comments of six bytes, a Word and a Newline.
 #[test]
 fn comments_across_the_end_of_the_room(rt: HostRuntime) {
     let web = (":", " [7 wx ]7 $", 10_000, "");
     takes_repeated(&rt, rt.alloc(), web, 140_000, 3);
 }
 
-// Names that give nothing, and a name of two parts.
+// Names that expand to nothing, and a name with two parts.
 #[test]
 fn names_without_tokens_and_names_of_two_parts(rt: HostRuntime) {
     takes(&rt, rt.alloc(), b": <A <B p; <A =A wx <B =C =A wy <C", 8, 1);
 }
 
-// A name of two bytes, which is used so often.
+// A name of two bytes that is used many times.
 #[test]
 fn uses_across_the_end_of_the_room(rt: HostRuntime) {
     let web = (":", " <A", 50_000, " =A wx p;");
     takes_repeated(&rt, rt.alloc(), web, 100_001, 2);
 }
 
-// Names of one token, of which each uses the next one behind it.
+// Names of one token, each of which uses the next one after it.
 #[test]
 fn a_chain_across_the_end_of_the_room(rt: HostRuntime) {
     let web = chain(rt.alloc(), 9_999, 1, " wabcdefghi", " p;").expect(&rt, "memory");
     takes(&rt, rt.alloc(), web.as_bytes(), 99_991, 2);
 }
 
-// Section comments behind operators, with a blank before each.
+// Section comments after operators, with a blank before each.
 #[test]
 fn comments_after_operators(rt: HostRuntime) {
     let web = (":", " p+ [7 p- ]7 $", 10_000, "");
     takes_repeated(&rt, rt.alloc(), web, 170_000, 3);
 }
 
-// Line marks of 14 bytes, a word and a newline; and marks behind a join, which are dropped.
+// Line marks of 14 bytes, a Word and a Newline. Marks after a join are dropped.
 #[test]
 fn marks_across_the_end_of_the_room(rt: HostRuntime) {
     let web = (":", " m7 wx $", 10_000, "");

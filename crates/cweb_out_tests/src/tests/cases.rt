@@ -1,5 +1,5 @@
-// What is asked of the stores of webs. No other function of these tests holds a store or a merger: each that does takes as long to
-// prove as ten that borrow them. What memory was refused for is made once more, since it is refused only once.
+// Test cases over the store of a web. Only functions here own a store or a merger, since owning one makes verification
+// slow. After a failed allocation they try once more.
 use super::webs::store_of;
 use cweb_files::MemoryShelf;
 use cweb_lines::{FileNames, Merger, Stop};
@@ -8,20 +8,20 @@ use std::alloc::{AllocError, Global};
 use std::process::Abort;
 use trial::shelf_of;
 
-/// What is asked of a store, whose line marks are about files of these names.
+/// The checks of a store. The files of its line marks have these names.
 pub trait Case {
     fn look<A: Abort>(&self, rt: &A, alloc: Global, store: &Store, names: &FileNames);
 }
 
-/// The names of the files that line marks are about.
+/// The names of the files of line marks.
 pub const FILES: (&str, Option<&str>) = ("s.w", Some("a\\b\".ch"));
 
-/// Asks this of the store of a web.
+/// Checks the store of a web.
 pub fn check<C: Case>(rt: &impl Abort, alloc: Global, web: &[u8], case: &C) {
     check_files(rt, alloc, FILES, web, case);
 }
 
-/// The same, where the files have these names.
+/// Checks the store of a web whose files have these names.
 pub fn check_files<C: Case>(
     rt: &impl Abort,
     alloc: Global,

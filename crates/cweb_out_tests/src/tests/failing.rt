@@ -1,4 +1,4 @@
-// Sinks that fail, and memory that is refused.
+// Failing sinks and allocations.
 ghost use Rattle.cweb_out.specs.surface.Outputs.{IsPlanOf};
 
 use super::buffering::print_all_buffered;
@@ -15,14 +15,14 @@ use trial::TrialSink;
 
 const NAME: &str = "s\".w";
 
-// A web with tokens of every kind, and what is printed of it.
+// A web with tokens of every kind, and its expected output.
 const FILE: &[u8] =
     b"# wM _ n1 $ l\"x\" # wN : [1 m1 $ wx\xc3 p- p- n10 v@ & _ wa h <A m12345 p; $ ]1 =A [2 wb <B ]2 =B l'c'";
 
 const PRINTED: &[u8] =
     b"/*1:*/\n#line 1 \"s\\\".w\"\n\nxXC3- -10@a\n#define M 1 \\\n\"x\"\n#define N\n/*2:*/b 'c'/*:2*/\n#line 12345 \"s\\\".w\"\n;\n/*:1*/\n";
 
-// Prints the web's main file, token by token or gathered, to a sink that fails behind so many good writes; whether all was printed.
+// Prints the web's main file to a sink that fails after `good` writes. Returns whether all was printed.
 fn print(
     rt: &impl Abort,
     alloc: Global,
@@ -59,7 +59,7 @@ fn print_plan(
     Ok(is_whole(rt, printed, &out))
 }
 
-// What a sink holds that was printed to: all, or a front where a write failed; whether it is all.
+// The sink has all bytes, or a prefix of them if a write failed. Returns whether it has all.
 fn is_whole(rt: &impl Abort, printed: Result<(), SinkFault>, out: &TrialSink) -> bool {
     if printed.is_ok() {
         same_bytes(rt, out.bytes(), PRINTED);
@@ -72,7 +72,7 @@ fn is_whole(rt: &impl Abort, printed: Result<(), SinkFault>, out: &TrialSink) ->
     false
 }
 
-// The same, once more where memory was refused.
+// Prints again if an allocation failed.
 fn prints_all(
     rt: &impl Abort,
     alloc: Global,
@@ -88,7 +88,7 @@ fn prints_all(
     printed.expect(rt, "memory, or a plan")
 }
 
-// How many writes fail, each in turn, before all is printed.
+// The number of writes that fail, each in turn, until all is printed.
 fn faults_of(
     rt: &impl Abort,
     alloc: Global,
@@ -106,7 +106,7 @@ fn faults_of(
     faults
 }
 
-// Token by token, more writes fail than pieces of two bytes are printed.
+// Token by token, there are more failing writes than chunks of two bytes.
 #[derive(Drop)]
 struct TokenByToken;
 
@@ -118,13 +118,13 @@ impl Case for TokenByToken {
     }
 }
 
-// Run by `rt try --test --fail-alloc N` too, which refuses the Nth growth: then no token changes.
+// Also run by `rt try --test --fail-alloc N`, which fails the Nth growth. No token changes then.
 #[test]
 fn a_prefix_is_written_up_to_a_fault(rt: HostRuntime) {
     check_files(&rt, rt.alloc(), (NAME, None), FILE, &TokenByToken);
 }
 
-// Gathered, all is one piece, of which the sink takes two bytes a write.
+// Buffered, all is one chunk, of which the sink takes two bytes per write.
 #[derive(Drop)]
 struct InOneFlush;
 
@@ -140,7 +140,7 @@ fn a_prefix_of_the_buffer_is_written(rt: HostRuntime) {
     check_files(&rt, rt.alloc(), (NAME, None), FILE, &InOneFlush);
 }
 
-// A file is begun, where memory is refused once more, and the bins are as they were.
+// Begins a file, again after a failed allocation, which must not change the bins.
 fn start(rt: &impl Abort, bins: &mut MemoryBins, name: &str) {
     holds(rt, bins.failures() == 0);
     if let Err(fault) = bins.start_file(name) {
@@ -151,7 +151,7 @@ fn start(rt: &impl Abort, bins: &mut MemoryBins, name: &str) {
     }
 }
 
-// A file is written byte by byte.
+// Writes a file byte by byte.
 fn write_each(rt: &impl Abort, bins: &mut MemoryBins, bytes: &[u8]) {
     for byte in bytes {
         holds(rt, bins.failures() == 0);
@@ -168,7 +168,7 @@ fn is_committed(rt: &impl Abort, bins: &mut MemoryBins) {
     }
 }
 
-// Bins with room for one text, and for no file.
+// Bins with room for one string and no file.
 fn small_bins(alloc: Global) -> Result<MemoryBins, AllocError> {
     match MemoryBins::with_room(alloc, 0, PRINTED.len()) {
         Ok(bins) => Ok(bins),

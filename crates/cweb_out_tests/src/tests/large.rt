@@ -13,8 +13,7 @@ use cweb_store::{NameId, Store, Token};
 use std::alloc::Global;
 use std::process::Abort;
 
-// How many times an expander gives the word x in so many calls behind the first, which gives Defs, and its greatest depth.
-// Other tokens are not given.
+// Counts the Words `x` in this many calls after the first, which returns Defs. Returns the greatest depth, too.
 fn counted(rt: &impl Abort, expander: &mut Expander<'_>, calls: u32) -> (u32, u32)
     requires { IsFrameStack expander.old.store.now expander.old.frames.items
         (vec_capacity expander.old.frames) }
@@ -35,7 +34,7 @@ fn counted(rt: &impl Abort, expander: &mut Expander<'_>, calls: u32) -> (u32, u3
     (count, depth)
 }
 
-// What is counted of the main file of a web in so many calls.
+// The expected counts of the main file of a web.
 #[derive(Drop)]
 struct Counts {
     calls: u32,
@@ -62,7 +61,7 @@ fn count_plan(rt: &impl Abort, alloc: Global, store: &Store, plan: &Plan, counts
     holds(rt, depth == counts.depth);
 }
 
-// A web whose names use the next ones so often is counted so.
+// Checks the counts of a chain of names, each of which uses the next one this often.
 fn counts_chain(rt: &impl Abort, alloc: Global, last: u32, uses: u32, wanted: &Counts) {
     let web = chain(alloc, last, uses, "", " wx").expect(rt, "memory");
     check(rt, alloc, web.as_bytes(), wanted);
@@ -97,7 +96,7 @@ fn a_chain_of_ten_thousand_names(rt: HostRuntime) {
     web_outputs_are(&rt, rt.alloc(), web.as_bytes(), b"s.c: x\n");
 }
 
-// A cycle of so many names, in their order, with the first once more at the end.
+// A cycle of this many names in order, with the first one repeated at the end.
 #[derive(Drop)]
 struct Cycle(usize);
 

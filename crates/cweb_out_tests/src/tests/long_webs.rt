@@ -1,7 +1,7 @@
-// Long webs, as text.
+// Long webs as strings.
 use std::alloc::{AllocError, Global};
 
-/// A web of so many words between others.
+/// A web that repeats a word between a prefix and a suffix.
 pub fn repeated(
     alloc: Global,
     front: &str,
@@ -18,7 +18,7 @@ fn add(web: &mut String, alloc: Global, sign: &str, name: u32) -> Result<(), All
     web.push_str(word.as_str())
 }
 
-// So many uses of a name, and the name with this text.
+// Uses of a name, and then a part of that name with these contents.
 fn add_link(
     web: &mut String,
     alloc: Global,
@@ -33,8 +33,7 @@ fn add_link(
     web.push_str(text)
 }
 
-/// A web whose program uses name 0 so often, and where each name has a text and uses the next one so often, up to a last name,
-/// whose text is another.
+/// A web whose program uses name 0 `uses` times, and in which each name but the last uses the next one `uses` times.
 pub fn chain(
     alloc: Global,
     last: u32,

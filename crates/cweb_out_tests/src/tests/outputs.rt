@@ -1,4 +1,4 @@
-// Webs and what is written of them. The main file is s.c, unless a row says another name.
+// Webs and their outputs. The main file is s.c, unless an example says otherwise.
 use super::cases::{Case, check};
 use super::reports::report_outputs;
 use super::wanted::same_bytes;
@@ -8,7 +8,7 @@ use std::alloc::Global;
 use std::process::Abort;
 use trial::TrialSink;
 
-/// The name of a main file, and what is told of a web with it.
+/// The name of a main file, and the expected report on a web with it.
 #[derive(Drop)]
 pub struct Outputs<'a> {
     pub main: &'a str,
@@ -29,7 +29,7 @@ fn outputs_are(rt: &impl Abort, alloc: Global, examples: &[(&str, &str)]) {
     }
 }
 
-/// This is told of a web whose main file is s.c.
+/// Checks the report on a web whose main file is s.c.
 pub fn web_outputs_are(rt: &impl Abort, alloc: Global, web: &[u8], text: &[u8]) {
     check(rt, alloc, web, &Outputs { main: "s.c", text });
 }
@@ -45,7 +45,7 @@ fn blanks_between_tokens(rt: HostRuntime) {
             "s.c: / /*1:*/a/*2:*/: /*:2*/;/*:1*/\n",
         ),
         (": vx wa vy [3 n1 vz ]3", "s.c: xay /*3:*/1z /*:3*/\n"),
-        // a line of program text, where a name is used right behind a sign
+        // a line of program text with a use right after a punctuator
         (
             ": [1 m1 $ wx p= p- n1 p; wa p* p- wb p; wy p= n0xe p+ n1 p; wq p= wa p/ <X m2 p; $ ]1 =X [2 m3 wb ]2",
             "s.c: /*1:*/\n#line 1 \"s.w\"\n\nx= -1;a* -b;y=0xe +1;q=a/ /*2:*/\n#line 3 \"s.w\"\nb/*:2*/\n#line 2 \"s.w\"\n;\n/*:1*/\n",
@@ -71,7 +71,7 @@ fn macro_lines(rt: HostRuntime) {
             "# wf p( wx p) wx p+ n1 # wg _ p( wx p) # wN # wtwo _ n1 p+ $ n2 : [1 m7 $ wf p( n3 p) ]1",
             "s.c: #define f(x)x+1\n#define g (x)\n#define N\n#define two 1 + \\\n2\n/*1:*/\n#line 7 \"s.w\"\n\nf(3)/*:1*/\n",
         ),
-        // where a part says so they stand there
+        // a part places the macro lines
         (
             "# wN _ n1 : [1 m7 $ h m8 wf ]1",
             "s.c: /*1:*/\n#line 7 \"s.w\"\n\n#define N 1\n#line 8 \"s.w\"\nf/*:1*/\n",
@@ -86,7 +86,7 @@ fn macro_lines(rt: HostRuntime) {
     outputs_are(&rt, rt.alloc(), EXAMPLES);
 }
 
-// A byte from 128 on is replaced in words, and nowhere else.
+// A byte from 128 on is replaced in Words only.
 #[test]
 fn replaced_bytes(rt: HostRuntime) {
     const EXAMPLES: &[(&str, &str)] = &[
@@ -117,7 +117,7 @@ fn names_are_replaced_by_their_parts(rt: HostRuntime) {
             "s.c: /*1:*/\n#line 1 \"s.w\"\n/*2:*/\n#line 2 \"s.w\"\na;\n/*:2*//*3:*/\n#line 3 \"s.w\"\nb;/*:3*/\n#line 1 \"s.w\"\n\n/*:1*/\n",
         ),
         (": <A wx <A =A wa <B wa =B wb", "s.c: a b a x a b a\n"),
-        // names without a part, and a use that stands for no name, give nothing
+        // names without a part and unresolved uses expand to nothing
         (
             ": [1 m1 <Q m1 ]1",
             "s.c: /*1:*/\n#line 1 \"s.w\"\n#line 1 \"s.w\"\n/*:1*/\n",
@@ -144,7 +144,7 @@ fn outputs_and_their_order(rt: HostRuntime) {
     outputs_are(&rt, rt.alloc(), EXAMPLES);
 }
 
-// A cycle is a fault where an output reaches it. A file's walk begins with its own name.
+// A cycle is a fault if an output reaches it. A file's walk begins at its own name.
 #[test]
 fn cycles(rt: HostRuntime) {
     const EXAMPLES: &[(&str, &str)] = &[
@@ -160,7 +160,7 @@ fn cycles(rt: HostRuntime) {
     outputs_are(&rt, rt.alloc(), EXAMPLES);
 }
 
-// Names that no file can have come first, in the order of the outputs, then the main file's name, then cycles.
+// Bad names come first, in the order of the outputs, then the main file's name, then cycles.
 #[test]
 fn the_first_fault_is_reported(rt: HostRuntime) {
     const EXAMPLES: &[(&str, &str)] = &[
@@ -174,7 +174,7 @@ fn the_first_fault_is_reported(rt: HostRuntime) {
     outputs_are(&rt, rt.alloc(), EXAMPLES);
 }
 
-// The main file has none of these names.
+// The main file may have none of these names.
 fn refuses_main(rt: &impl Abort, alloc: Global, names: &[&str]) {
     for name in names {
         let outputs = Outputs {
@@ -200,7 +200,7 @@ fn no_file_has_these_names(rt: HostRuntime) {
         ("(a\n wx", "bad name <a\n>"),
         ("(\u{1f} wx", "bad name <\u{1f}>"),
         ("(\u{7f}/b wx", "bad name <\u{7f}/b>"),
-        // these are taken
+        // These names are accepted.
         ("(... wx", "s.c: ...: x\n"),
         ("(.a wx", "s.c: .a: x\n"),
         ("(a. wx", "s.c: a.: x\n"),
@@ -209,6 +209,6 @@ fn no_file_has_these_names(rt: HostRuntime) {
     ];
     refuses_main(&rt, rt.alloc(), REFUSED);
     outputs_are(&rt, rt.alloc(), EXAMPLES);
-    // a name that isn't UTF-8
+    // A name that isn't UTF-8.
     web_outputs_are(&rt, rt.alloc(), b"(a\xff wx", b"bad name <a\xff>");
 }

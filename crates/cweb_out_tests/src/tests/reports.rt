@@ -1,4 +1,4 @@
-// What becomes of a store, told as one text: the name and the bytes of each output, or why there is none.
+// Reports on a store as one string: the name and the bytes of each output, or why there is no plan.
 ghost use Rattle.std.specs.Prelude.{◌≡◌, ◌<◌, ◌+◌, ◌^◌, length, vec_capacity, true};
 ghost use Rattle.cweb_input.specs.surface.OpenedFileNames.{opened_file_names};
 ghost use Rattle.cweb_store.specs.surface.TokenModels.{token_model};
@@ -16,7 +16,7 @@ use std::alloc::Global;
 use std::process::Abort;
 use trial::TrialSink;
 
-// Tests have fewer tokens than this.
+// More tokens than any test has.
 pub const MANY: u32 = 1_000_000;
 
 fn report(rt: &impl Abort, out: &mut TrialSink, piece: &[u8]) {
@@ -34,7 +34,7 @@ pub fn is_named(names: &FileNames, token: &Token<'_>) -> bool
     }
 }
 
-/// Prints what an expander still has to give, as a file.
+/// Prints the remaining tokens of an expander as a file.
 pub fn print_file<W: Sink>(
     rt: &impl Abort,
     expander: &mut Expander<'_>,
@@ -112,7 +112,7 @@ fn report_planned(
     }
 }
 
-/// Tells the outputs of a store, whose main file has this name.
+/// Reports the outputs of a store for a main file of this name.
 pub fn report_outputs(
     rt: &impl Abort,
     alloc: Global,

@@ -1,10 +1,9 @@
-// Stores of webs that are written as text: words with blanks between them, each begun by a sign.
+// Stores of webs that are written as strings: words with blanks between them. The first byte of a word is its kind.
 //
-// Parts: `:` is a part of the program, `=NAME` of a name, `(NAME` of a file's name, `#` a macro; a part ends where the next
-// begins. `@NAME` is a file's name without a part, `%ctext` gives a text for the byte 128 + c.
-// Tokens: `wx` a Word, `n1` a Number, `l"s"` a Literal, `vx` a Verbatim, `p+` a Punct, `_` a Blank, `$` a Newline, `&` a Join,
-// `h` Defs, `[1` and `]1` a Head and a Tail, `m7` and `M7` a Mark of line 7 of file 0 and 1, `<NAME` a use, `?NAME` a use
-// by an abbreviation.
+// Parts: `:` begins a part of the program, `=NAME` of a name, `(NAME` of a file's name, `#` a macro. A part ends at the
+// next one. `@NAME` is a file's name without a part. `%cBYTES` sets the replacement of the byte 128 + c. Tokens: `wx`
+// Word, `n1` Number, `l"s"` Literal, `vx` Verbatim, `p+` Punct, `_` Blank, `$` Newline, `&` Join, `h` Defs, `[1` and
+// `]1` Head and Tail, `m7` and `M7` a Mark of line 7 of file 0 and 1, `<NAME` a use, `?NAME` a use by abbreviation.
 ghost use Rattle.std.specs.Prelude.{◌≡◌, ◌≤◌, ◌+◌, length, is_some, IfOk, IsOk, OnOk};
 ghost use Rattle.cweb_store.specs.surface.Growing.{part_count, token_count};
 
@@ -14,7 +13,7 @@ use cweb_store::{Builder, How, NameRef, PartKind, Store, Token};
 use std::alloc::{AllocError, Global};
 use std::process::Abort;
 
-// A builder that knows how many calls it had, and whether a part is open.
+// A builder that counts its calls, and knows whether a part is open.
 #[derive(Drop)]
 struct ExampleBuilder {
     builder: Builder,
@@ -132,7 +131,7 @@ impl ExampleBuilder {
     }
 }
 
-// The decimal number that digits give, as far as it is below a million.
+// The decimal number of these digits, if it is below a million.
 fn number(digits: &[u8]) -> u32 {
     let mut number: u32 = 0;
     for digit in digits {
@@ -166,7 +165,6 @@ fn token(sign: u8, rest: &[u8]) -> Token<'_> {
     }
 }
 
-/// The store of a web.
 pub fn store_of(rt: &impl Abort, alloc: Global, web: &[u8]) -> Result<Store, AllocError> {
     let mut example = ExampleBuilder::new(alloc);
     example.read_all(rt, web)?;

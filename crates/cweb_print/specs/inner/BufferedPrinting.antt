@@ -1,4 +1,4 @@
--- Tokens that are printed one after another to where bytes are gathered for a sink.
+-- Tokens that are printed in order into the buffer of a sink.
 use Rattle.std.specs.Prelude.{◌≡◌, ℕ, false, List, ◌++◌, Some}
 use Rattle.cweb_store.specs.Parts.{Token}
 use Rattle.cweb_print.specs.inner.Flushing.{blank_where}
@@ -10,7 +10,7 @@ use Rattle.cweb_print.specs.surface.Printed.{AddsBytes, left_in_printer, setting
 use Rattle.cweb_print.specs.declared.printer.left.Left.{Left}
 use Rattle.cweb_print.specs.declared.printer.Printer.{Printer}
 
--- what a token lends was added, and this is kept after it
+-- The token's bytes were appended, and the state after it is `after`.
 pub record AppendsToken (left : Left) (t : Token) (after : Left) (old new : List ℕ) : Type 0 where
   pub string : List ℕ
   pub direct : direct_unless_dropped left.joined t ≡ Some string
@@ -18,16 +18,16 @@ pub record AppendsToken (left : Left) (t : Token) (after : Left) (old new : List
   pub closed : after.joined ≡ false
   pub added : new ≡ old ++ (blank_where (is_apart left.class t) ++ string)
 
--- every list that leaves the one leaves the other with these tokens
+-- Each list that leads to the old state leads to the new one with these tokens appended.
 abbrev pub MovesBy : Left → List Token → Left → Type 0
 MovesBy old ts new = (done : List Token) → left_after_tokens done ≡ old → left_after_tokens (done ++ ts) ≡ new
 
--- for every list that leaves what the printer keeps: what `print` of the list with these tokens has after `print` of the list is added
+-- For each list that leads to the printer's state, the suffix that these tokens add to its `print` is appended.
 abbrev pub PrintsBy : Printer → List Token → List ℕ → List ℕ → Type 0
 PrintsBy p ts old new = (done : List Token) → left_after_tokens done ≡ left_in_printer p
     → AddsBytes (print (setting_of p) done) (print (setting_of p) (done ++ ts)) old new
 
--- of the tokens that are left a front was printed, of tokens that lend their text
+-- A prefix of the remaining tokens was printed. All its tokens are direct.
 pub record PrintsPrefix (before after : Printer) (left left' : List Token) (old new : List ℕ) : Type 0 where
   pub done : List Token
   pub whole : left ≡ done ++ left'

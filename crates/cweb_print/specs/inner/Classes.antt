@@ -1,4 +1,4 @@
--- What a printer keeps of the tokens that it has printed: enough to say what comes before the next one.
+-- Printing from a printer's state, token by token.
 use Rattle.std.specs.Prelude.{ℕ, Bool, true, false, ◌&&◌, ◌||◌, not, List, [], ◌∷◌, ◌++◌}
 use Rattle.std.specs.Prelude.{codes, if◌then◌else◌}
 use Rattle.cweb_store.specs.Parts.{Token, Newline, Defs}
@@ -43,7 +43,7 @@ abbrev pub class_is_line_start : Class → Bool
 class_is_line_start class.LineStart = true
 class_is_line_start c = false
 
--- whether a blank comes between a token of the class and this one
+-- Whether a blank comes between a token of the class and this one.
 abbrev pub is_apart : Class → Token → Bool
 is_apart left right =
     (class_is_wordlike left && is_wordlike right && not (class_is_literal left && is_literal right))
@@ -55,30 +55,30 @@ is_apart left right =
 abbrev pub separator : Class → Token → List ℕ
 separator left t = if is_apart left t then codes " " else []
 
--- what a token adds to what is printed, where `text` says what a token is after one of a class
+-- The bytes that a token adds. `text` gives its bytes after a token of a class.
 abbrev pub added : (Class → Token → List ℕ) → Left → Token → List ℕ
 added text left t = if is_dropped left t then [] else separator left.class t ++ text left.class t
 
--- what a list of tokens adds
+-- The bytes that a list of tokens adds.
 abbrev pub all_added : (Class → Token → List ℕ) → Left → List Token → List ℕ
 all_added text left [] = []
 all_added text left (t ∷ ts) = added text left t ++ all_added text (left_after_token left t) ts
 
--- a newline, unless at the start of a line
+-- A newline, or nothing at the start of a line.
 abbrev pub begin_by : Class → List ℕ
 begin_by left = if class_is_line_start left then [] else codes "\n"
 
--- a line mark, or the macro lines: what begins a line of its own
+-- A line mark or the macro lines, from a line start on.
 abbrev pub own_line_bytes : Setting → Class → Token → List ℕ
 own_line_bytes s left (Mark p) = begin_by left ++ mark_line (file_name s p) p.line
 own_line_bytes s left Defs = begin_by left ++ macro_lines s
 own_line_bytes s left t = []
 
--- the text of a token in a file, after one of a class
+-- The bytes of a token in a file, after one of a class.
 abbrev pub file_by : Setting → Class → Token → List ℕ
 file_by s left t = own_line_bytes s left t ++ plain_bytes s.replaced t
 
--- in a macro a line goes on after a backslash
+-- A newline in a macro is preceded by a backslash.
 abbrev pub continuation_bytes : Token → List ℕ
 continuation_bytes Newline = codes " \\"
 continuation_bytes t = []

@@ -1,4 +1,4 @@
--- The tokens that are printed as the text that they lend, whatever stands to their left.
+-- Direct tokens after an open join.
 use Rattle.std.specs.Prelude.{◌≡◌, ℕ, Bool, true, ◌&&◌, List, Option, None, is_some, option_map, if◌then◌else◌}
 use Rattle.std.specs.List.{list_all}
 use Rattle.cweb_texts.specs.inner.Edges.{TokenBytesModel}
@@ -6,7 +6,7 @@ use Rattle.cweb_store.specs.inner.DirectBytes.{direct_bytes}
 use Rattle.cweb_store.specs.Parts.{Token}
 use Rattle.cweb_store.specs.Layout.{is_layout}
 
--- the text that a token lends, where it isn't dropped; `joined` says whether a join is open
+-- The bytes of a token, unless it is dropped. `joined` says whether a join is open.
 abbrev pub direct_unless_dropped : Bool → Token → Option (List ℕ)
 direct_unless_dropped joined t =
     if joined && is_layout t then None else option_map (λ (l : TokenBytesModel). l.string) (direct_bytes t)

@@ -1,4 +1,4 @@
--- Whether a blank comes between two tokens that lend their texts, told by their borders.
+-- Blanks between direct tokens, from their edges.
 use Rattle.std.specs.Prelude.{ℕ, List, Bool, true, false, ◌||◌, ◌&&◌, not, codes, if◌then◌else◌}
 use Rattle.cweb_texts.specs.inner.Edges.{TokenBytesModel}
 use Rattle.cweb_texts.specs.declared.edges.Edge.{Edge}
@@ -9,7 +9,7 @@ use Rattle.cweb_print.specs.declared.printer.class.Class.{Class}
 use Rattle.cweb_print.specs.declared.printer.class.Class.TheVariants as class
 use Rattle.cweb_print.specs.declared.printer.left.Left.{Left}
 
--- the class of a token with a border, for what comes behind it
+-- The class of a token with an edge.
 abbrev pub class_after_edge : Edge → Class
 class_after_edge border.Word = class.Word
 class_after_edge border.Number = class.Number
@@ -28,11 +28,11 @@ class_after_edge border.Blank = class.Other
 class_after_edge border.LineEnd = class.LineStart
 class_after_edge border.Unknown = class.Other
 
--- what is kept after a token with a border
+-- The state after a token with an edge.
 abbrev pub left_after_edge : Edge → Left
 left_after_edge b = record { class = class_after_edge b; joined = false }
 
--- whether a blank comes between a token of the class and one with a border
+-- Whether a blank comes between a token of the class and one with an edge.
 abbrev pub edge_is_apart : Class → Edge → Bool
 edge_is_apart left border.Word = class_is_wordlike left
 edge_is_apart left border.Number = class_is_wordlike left || class_is_point left
@@ -45,11 +45,11 @@ edge_is_apart left border.NumericOperator = class_is_number left || class_is_ope
 edge_is_apart left border.NumericPoint = class_is_number left || class_is_operator left
 edge_is_apart left b = false
 
--- whether a token with the border ends a line
+-- A token with the edge ends a line.
 abbrev pub edge_ends_line : Edge → Bool
 edge_ends_line border.LineEnd = true
 edge_ends_line b = false
 
--- the text in a macro, where a line goes on after a backslash
+-- The bytes in a macro, where a newline is preceded by a backslash.
 abbrev pub continued_by : TokenBytesModel → List ℕ
 continued_by l = if edge_ends_line l.edge then codes " \\\n" else l.string

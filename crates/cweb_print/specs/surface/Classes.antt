@@ -1,4 +1,4 @@
--- What a printer keeps of the tokens that it has printed: enough to say what comes before the next one.
+-- A printer's state: the class of the last printed token, and whether a join is open.
 use Rattle.std.specs.Prelude.{ℕ, ◌==◌, Bool, false, ◌&&◌, List, Option, None, Some}
 use Rattle.std.specs.Prelude.{if◌then◌else◌, fold}
 use Rattle.cweb_store.specs.Parts.{Token, Word, Number, Literal, Verbatim, Punct, Blank, Newline, Join, Defs, Name}
@@ -10,14 +10,14 @@ use Rattle.cweb_print.specs.declared.printer.class.Class.{Class}
 use Rattle.cweb_print.specs.declared.printer.class.Class.TheVariants as class
 use Rattle.cweb_print.specs.declared.printer.left.Left.{Left}
 
--- the class of a punctuator by two tests of its last byte: it is a point, it is an operator byte
+-- The class of a punctuator, from two tests of its last byte: for a point and for an operator byte.
 abbrev pub class_by : Bool → Bool → Class
 class_by is_point is_operator = if is_point then class.Point else (if is_operator then class.Operator else class.Other)
 
 abbrev pub punct_class : List ℕ → Class
 punct_class b = class_by (last_is (λ x. x == 46) b) (last_is is_operator b)
 
--- the class of the token to the left
+-- The class of the token to the left, if any.
 abbrev pub class_of : Option Token → Class
 class_of None = class.LineStart
 class_of (Some (Word b)) = class.Word
@@ -34,16 +34,16 @@ class_of (Some (Head n)) = class.Other
 class_of (Some (Tail n)) = class.Other
 class_of (Some (Mark p)) = class.LineStart
 
--- layout after a join is dropped
+-- Layout after a join is dropped.
 abbrev pub is_dropped : Left → Token → Bool
 is_dropped left t = left.joined && is_layout t
 
--- what is kept after one more token
+-- The state after one more token.
 abbrev pub left_after_token : Left → Token → Left
 left_after_token left t =
     if is_dropped left t then left else record { class = class_of (Some t); joined = stays_joined left.joined t }
 
--- what is kept before the first token, and after a list of tokens
+-- The state before the first token.
 abbrev pub at_start : Left
 at_start = record { class = class.LineStart; joined = false }
 

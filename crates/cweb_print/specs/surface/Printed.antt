@@ -1,4 +1,4 @@
--- What a printer's calls add to a sink.
+-- The bytes that a printer's calls add to a sink.
 use Rattle.std.specs.Prelude.{ℕ, ◌≡◌, List, [], ◌∷◌, ◌++◌, Result, Ok, Err}
 use Rattle.cweb_input.specs.surface.OpenedFileNames.{opened_file_names}
 use Rattle.cweb_store.specs.Parts.{Token}
@@ -8,20 +8,20 @@ use Rattle.cweb_print.specs.Printers.{setting}
 use Rattle.cweb_print.specs.declared.printer.left.Left.{Left}
 use Rattle.cweb_print.specs.declared.printer.Printer.{Printer}
 
--- what a printer reads, and what it keeps of the tokens that were printed
+-- The setting of a printer.
 abbrev pub setting_of : Printer → Setting
 setting_of p = setting p.store.now (opened_file_names p.names.now)
 
 abbrev pub left_in_printer : Printer → Left
 left_in_printer p = p.left
 
--- the second text has these bytes more than the first
+-- `new` has the suffix over `old` that `after` has over `before`.
 pub record AddsBytes (before after old new : List ℕ) : Type 0 where
   pub bytes : List ℕ
   pub due : after ≡ before ++ bytes
   pub written : new ≡ old ++ bytes
 
--- of what the second text has more than the first, a front
+-- `new` has a prefix of that suffix.
 pub record AddsPrefix (before after old new : List ℕ) : Type 0 where
   pub front : List ℕ
   pub rest : List ℕ
@@ -32,16 +32,16 @@ abbrev pub AddsBy : {A E : Type 0} → List ℕ → List ℕ → List ℕ → Li
 AddsBy before after old new (Ok x) = AddsBytes before after old new
 AddsBy before after old new (Err fault) = AddsPrefix before after old new
 
--- for every list that leaves what the printer keeps: what `print` of the list with the token has after `print` of the list is added
+-- For each list that leads to the printer's state, the suffix that the token adds to its `print` is written.
 abbrev pub PrintsToken : {A E : Type 0} → Printer → Token → List ℕ → List ℕ → Result A E → Type 0
 PrintsToken p t old new result = (ts : List Token) → left_after_tokens ts ≡ left_in_printer p
     → AddsBy (print (setting_of p) ts) (print (setting_of p) (ts ++ t ∷ [])) old new result
 
--- and what `file` of the list has after `print` of it
+-- For each list that leads to the printer's state, the suffix of `file` over `print` is written.
 abbrev pub EndsFile : {A E : Type 0} → Printer → List ℕ → List ℕ → Result A E → Type 0
 EndsFile p old new result = (ts : List Token) → left_after_tokens ts ≡ left_in_printer p
     → AddsBy (print (setting_of p) ts) (file (setting_of p) ts) old new result
 
--- every list that leaves the one leaves the other with the token
+-- Each list that leads to the old state leads to the new one with the token appended.
 abbrev pub Moves : Left → Token → Left → Type 0
 Moves old t new = (ts : List Token) → left_after_tokens ts ≡ old → left_after_tokens (ts ++ t ∷ []) ≡ new

@@ -1,11 +1,11 @@
--- The tokens that stand in runs of numbers.
+-- Ranges of tokens.
 use Rattle.std.specs.Prelude.{List, slice_range}
 use Rattle.cweb_store.specs.declared.parts.Part.{Part}
 use Rattle.cweb_store.specs.Parts.{Token, all_tokens}
 use Rattle.cweb_store.specs.surface.Parts.{tokens_at}
 use Rattle.cweb_store.specs.Calls.{Stored}
 
--- the tokens of a run of numbers
+-- The tokens of a part.
 abbrev pub tokens_of_part : Stored → Part → List Token
 tokens_of_part w part = slice_range (all_tokens w.parts) part.first part.after
 

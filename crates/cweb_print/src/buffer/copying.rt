@@ -1,4 +1,4 @@
-// Texts, put behind the first bytes of a list of bytes in place of those that stand there.
+// Copies strings into a buffer, after its used bytes.
 ghost use Rattle.std.specs.Prelude.{◌≡◌, ◌≤◌, ◌<◌, ◌+◌, ◌++◌, ◌∷◌, [], length, take, nat_lt};
 ghost use Rattle.std.specs.Prelude.{is_some, IfSome};
 ghost use Rattle.cweb_print.specs.inner.Flushing.{blank_where};
@@ -6,8 +6,7 @@ ghost use Rattle.cweb_print.specs.declared.buffer.TheConstants.{ROOM};
 
 use crate::buffer::ROOM;
 
-/// Puts a text behind so many of ROOM bytes, and a blank before it or none, where there is room for both, and answers how many
-/// are the first ones then. Those before them stay as they are.
+/// Writes an optional blank and a string after the first `used` bytes, if both fit. Returns the new `used`.
 #[inline(always)]
 pub fn put_if_fits(bytes: &mut [u8], used: usize, is_apart: bool, text: &[u8]) -> Option<usize>
     requires size { length bytes.old ≡ ROOM }
@@ -26,7 +25,6 @@ pub fn put_if_fits(bytes: &mut [u8], used: usize, is_apart: bool, text: &[u8]) -
     Some(put_slice(bytes, begin, text))
 }
 
-// Puts a blank where one is wanted.
 #[inline(always)]
 fn put_blank(bytes: &mut [u8], used: usize, is_wanted: bool) -> usize
     requires { used < length bytes.old }
@@ -38,7 +36,7 @@ fn put_blank(bytes: &mut [u8], used: usize, is_wanted: bool) -> usize
     if is_wanted { used + 1 } else { used }
 }
 
-/// Puts a text for which there is room. Most are short, and then no call copies them.
+/// Writes a string that fits. Most strings are short and are copied without a call.
 #[inline(always)]
 pub(crate) fn put_slice(bytes: &mut [u8], used: usize, text: &[u8]) -> usize
     requires { used + length text.now ≤ length bytes.old }
@@ -78,8 +76,8 @@ fn put_bytes(bytes: &mut [u8], used: usize, text: &[u8]) -> usize
     }
 }
 
-// Puts a text of so many bytes to twice as many in two moves: its first bytes, and from where they reach over its last
-// ones these. All are read before one is put, so that no question comes of which list they stand in.
+// Copies a string of N to 2N bytes in two overlapping moves: its first N bytes and its last N. Both are read before
+// either is written, so the lists need not be distinct.
 #[inline(always)]
 fn put_ends<const N: usize>(bytes: &mut [u8], used: usize, text: &[u8]) -> usize
     requires room { used + length text.now ≤ length bytes.old }
@@ -112,7 +110,7 @@ fn put_chunk<const N: usize>(bytes: &mut [u8], used: usize, chunk: [u8; N]) -> u
     end
 }
 
-// Puts bytes in place of as many.
+// Overwrites N bytes.
 #[inline(always)]
 fn replace_all<const N: usize>(bytes: &mut [u8], chunk: [u8; N])
     requires { length bytes.old ≡ N }
@@ -124,7 +122,7 @@ fn replace_all<const N: usize>(bytes: &mut [u8], chunk: [u8; N])
     *place = chunk;
 }
 
-// Puts a text of any length.
+// Writes a string of any length.
 #[cold]
 #[inline(never)]
 fn put_any(bytes: &mut [u8], used: usize, text: &[u8]) -> usize

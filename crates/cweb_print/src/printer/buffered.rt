@@ -1,4 +1,4 @@
-// Printing to where bytes are gathered for a sink.
+// Prints into the buffer of a sink.
 ghost use Rattle.std.specs.Prelude.{◌≡◌, ◌≤◌, ◌<◌, ◌+◌, ◌^◌, ◌++◌, length, IsTrue, OnOk, OnErr};
 ghost use Rattle.cweb_files.specs.Device.{CountsFailure};
 ghost use Rattle.cweb_store.specs.Parts.{Defs};
@@ -15,8 +15,8 @@ use cweb_files::{Sink, SinkFault};
 use cweb_store::Token;
 
 impl<'a> Printer<'a> {
-    /// Prints a token as `write` does, behind what is gathered: what the sink has and what is gathered for it, taken
-    /// together, are what the sink alone has after `write`. A text that isn't short goes to the sink at once.
+    /// Prints a token as `write` does, but after the buffered bytes. The sink's bytes followed by the buffered ones are
+    /// what `write` would have put into the sink. A long string goes to the sink at once.
     pub fn append<W: Sink>(
         &mut self,
         token: Token<'_>,
@@ -45,8 +45,7 @@ impl<'a> Printer<'a> {
         self.append_other(&token, buffer, out)
     }
 
-    // Prints what is seldom printed, by way of a short text. It is a function of its own, since room is made for the short text
-    // wherever it is called.
+    // Slow path of `append`. A function of its own, as its frame holds a ShortBuffer.
     #[inline(never)]
     fn append_other<W: Sink>(
         &mut self,
@@ -76,7 +75,7 @@ impl<'a> Printer<'a> {
         self.print(token, out)
     }
 
-    // Prints the macro lines, where there is room for a short text.
+    // Prints the macro lines. A short string fits the buffer.
     fn append_defs<W: Sink>(&mut self, buffer: &mut OutBuffer, out: &mut W) -> Result<(), SinkFault>
         requires count { W.failed out.old + 1 < 2 ^ 64 }
         requires room { length buffer.old + SHORT ≤ ROOM }

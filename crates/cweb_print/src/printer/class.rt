@@ -1,4 +1,4 @@
-// Classes of tokens: what decides whether a blank comes between two of them.
+// Classes of tokens, which decide on the blanks between tokens.
 ghost use Rattle.std.specs.Prelude.{◌≡◌, ◌==◌, Some};
 ghost use Rattle.cweb_store.specs.surface.TokenModels.{token_model};
 ghost use Rattle.cweb_texts.specs.Edges.{is_operator, is_one_of, first_is};
@@ -8,26 +8,26 @@ ghost use Rattle.std.specs.Prelude.{codes};
 
 use cweb_store::Token;
 
-/// What a printer keeps of the token to the left.
+/// What a printer stores about the previous token.
 #[derive(Clone, Copy)]
 pub(crate) enum Class {
-    /// Nothing, or a token that ends a line.
+    /// No token, or a token that ends a line.
     LineStart,
     Word,
     Number,
     Literal,
-    /// A punctuator that ends in a point.
+    /// A punctuator that ends in `.`.
     Point,
     /// A punctuator that ends in another operator byte.
     Operator,
-    /// A join or a verbatim text.
+    /// A join or verbatim bytes.
     Glue,
     Other,
 }
 
 impl Class {
-    /// The class of a token.
     #[inline(always)]
+    /// The class of a token.
     pub fn of(token: &Token<'_>) -> Class
         ensures { result ≡ class_of (Some (token_model token.now)) }
     {
@@ -42,7 +42,7 @@ impl Class {
         }
     }
 
-    /// Whether a blank comes between a token of this class and the one that follows it.
+    /// Whether a blank is printed between a token of this class and the next one.
     #[inline(always)]
     pub fn is_apart(self, token: &Token<'_>) -> bool
         ensures { result ≡ is_apart self (token_model token.now) }
@@ -67,7 +67,7 @@ impl Class {
     }
 }
 
-// The class of a punctuator, by its last byte.
+// The class of a punctuator, from its last byte.
 fn of_punctuator(bytes: &[u8]) -> Class
     ensures { result ≡ punct_class bytes.now }
 {
@@ -89,7 +89,7 @@ fn of_last(last: u8) -> Class
     }
 }
 
-// Which bytes may join with one another to a longer operator: one look a byte.
+// The bytes that may combine with others to a longer operator. One lookup per byte.
 const OPERATOR_BYTES: [bool; 256] = [
     false, false, false, false, false, false, false, false, false, false, false, false, false,
     false, false, false, false, false, false, false, false, false, false, false, false, false,
@@ -128,7 +128,7 @@ fn begins_with_operator(bytes: &[u8]) -> bool
     }
 }
 
-// What could go on in a number that stands before it.
+// Whether the first byte could continue a number before it.
 fn goes_on_in_number(bytes: &[u8]) -> bool
     ensures { result ≡ first_is (is_one_of (codes ".+-")) bytes.now }
 {

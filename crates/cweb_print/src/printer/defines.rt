@@ -1,4 +1,4 @@
-// Macro lines, printed to where bytes are gathered for a sink.
+// Prints macro lines into the buffer of a sink.
 ghost use Rattle.std.specs.Prelude.{◌≡◌, ◌≤◌, ◌<◌, ◌+◌, ◌^◌, ◌++◌, flat_map, length, take, true};
 ghost use Rattle.std.specs.Prelude.{false, IfSome, IsTrue};
 ghost use Rattle.cweb_files.specs.Device.{CountsFailure};
@@ -20,7 +20,7 @@ use crate::printer::macros::write_macro;
 use cweb_files::{Sink, SinkFault};
 use cweb_store::{Edge, Part, Store, TokenBytes};
 
-/// Prints the lines of all macros, in their order, behind what is gathered.
+/// Prints the lines of all macros, in order, after the buffered bytes.
 #[inline(never)]
 pub(crate) fn append_macros<W: Sink>(
     store: &Store,
@@ -42,7 +42,7 @@ pub(crate) fn append_macros<W: Sink>(
     Ok(())
 }
 
-// Prints the line of a macro. One that does not fit, or has a token that lends no text, goes to the sink at once.
+// Prints the line of a macro. If it doesn't fit, or has a token that isn't direct, it goes to the sink at once.
 fn append_macro<W: Sink>(
     store: &Store,
     part: Part,
@@ -66,7 +66,7 @@ fn append_macro<W: Sink>(
     write_macro(store, part, out)
 }
 
-// Adds the line of a macro, where there is room for it and each of its tokens lends its text, and answers whether it has.
+// Fast path: appends the line if it fits and all its tokens are direct. Returns whether it was appended.
 fn add_macro(store: &Store, part: Part, buffer: &mut OutBuffer) -> bool
     requires ordered { part.first ≤ part.after }
     requires within { part.after ≤ length (all_tokens store.now.parts) }
@@ -83,7 +83,7 @@ fn add_macro(store: &Store, part: Part, buffer: &mut OutBuffer) -> bool
     }
 }
 
-// Puts it behind the first bytes, which stay as they are, and answers how many are the first ones then.
+// Writes the line after the first `used` bytes. Returns the new number of used bytes, or `None` if it doesn't fit.
 fn put_macro(store: &Store, part: Part, bytes: &mut [u8], used: usize) -> Option<usize>
     requires ordered { part.first ≤ part.after }
     requires within { part.after ≤ length (all_tokens store.now.parts) }
@@ -123,7 +123,7 @@ fn put_macro_tokens(store: &Store, part: Part, bytes: &mut [u8], used: usize) ->
     Some(reached)
 }
 
-// In a macro a line goes on after a backslash.
+// A newline in a macro becomes a backslash and a newline.
 #[inline(always)]
 fn bytes_in_macro(direct: TokenBytes<'_>) -> &[u8]
     ensures { result.now ≡ continued_by (token_bytes_model direct.entry) }

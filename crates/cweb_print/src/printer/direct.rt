@@ -1,4 +1,4 @@
-// Tokens that are printed as the text that they lend.
+// Direct tokens: those that are printed as their own bytes.
 ghost use Rattle.std.specs.Prelude.{◌≡◌, ◌<◌, ◌+◌, ◌^◌, ◌++◌, IfSome, IsTrue, Some};
 ghost use Rattle.cweb_files.specs.Device.{CountsFailure};
 ghost use Rattle.cweb_store.specs.surface.TokenModels.{token_model};
@@ -15,7 +15,7 @@ use crate::printer::plain::has_high_byte;
 use cweb_files::{Sink, SinkFault};
 use cweb_store::Token;
 
-/// What most tokens print: a text, behind a blank or not. The class is that of the token.
+/// The output of most tokens: an optional blank and the token's bytes. `class` is the token's class.
 #[derive(Clone, Copy)]
 pub(crate) struct DirectToken<'a> {
     pub is_apart: bool,
@@ -24,8 +24,7 @@ pub(crate) struct DirectToken<'a> {
 }
 
 impl<'a> DirectToken<'a> {
-    /// What a token lends behind what was kept of those before it, if it does. Each kind has an arm of its own, so that none
-    /// is looked at again for the blank and the class.
+    /// The output of a token after `left`, if it is direct. One arm per kind decides on both blank and class.
     #[inline(always)]
     pub fn of(left: Left, token: &Token<'a>) -> Option<DirectToken<'a>>
         ensures apart { IfSome result
@@ -63,7 +62,7 @@ impl<'a> DirectToken<'a> {
         }
     }
 
-    /// Writes the blank and the text.
+    /// Writes the blank and the bytes.
     #[inline(always)]
     pub fn write<W: Sink>(self, out: &mut W) -> Result<(), SinkFault>
         requires { W.failed out.old + 1 < 2 ^ 64 }

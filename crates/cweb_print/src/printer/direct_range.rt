@@ -1,4 +1,4 @@
-// Stored tokens that lend their texts, printed in one loop.
+// Prints stored tokens in one loop, as long as they are direct.
 ghost use Rattle.std.specs.Prelude.{◌≤◌, ◌≡◌, false, length, slice_range, take};
 ghost use Rattle.cweb_store.specs.Parts.{all_tokens};
 ghost use Rattle.cweb_print.specs.declared.buffer.TheConstants.{ROOM};
@@ -14,7 +14,7 @@ use crate::printer::edges::{class_after_edge, edge_is_apart, edge_of_class};
 use crate::printer::left::Left;
 use cweb_store::{Edge, Part, Store};
 
-// How far a run was printed: the number of the next token, the border of the last one, and how many bytes are used.
+// The progress in a range: the next token, the edge of the last one, and the number of used bytes.
 #[derive(Clone, Copy)]
 struct Reached {
     number: u32,
@@ -23,8 +23,7 @@ struct Reached {
 }
 
 impl<'a> Printer<'a> {
-    /// Prints tokens of a run to where bytes are gathered, up to one that lends no text, or for whose text there is no room,
-    /// and answers its number. Behind a join it prints none.
+    /// Prints a range's tokens up to one that isn't direct or doesn't fit. Returns its index. Prints none after a join.
     pub fn append_range(&mut self, store: &Store, part: Part, buffer: &mut OutBuffer) -> u32
         requires ordered { part.first ≤ part.after }
         requires within { part.after ≤ length (all_tokens store.now.parts) }
@@ -51,8 +50,7 @@ impl<'a> Printer<'a> {
         reached.number
     }
 
-    // Prints them behind the first bytes. All that the loop reads stands in locals, so that no byte that is put makes it
-    // read anything again.
+    // The loop reads locals only, so that the writes to `bytes` force no reloads.
     #[inline(always)]
     fn put_range(&self, store: &Store, part: Part, bytes: &mut [u8], used: usize) -> Reached
         requires open { (left_in_printer self.now).joined ≡ false }

@@ -1,11 +1,11 @@
-// Blanks between tokens that lend their texts.
+// Blanks between direct tokens.
 ghost use Rattle.std.specs.Prelude.{◌≡◌};
 ghost use Rattle.cweb_print.specs.inner.EdgeSpacing.{class_after_edge, edge_is_apart};
 
 use crate::printer::class::Class;
 use cweb_store::Edge;
 
-// Whether a blank comes between two tokens that lend their texts: a row of sixteen for each border to the left.
+// Whether a blank comes between two edges: a row of sixteen for each left edge.
 const APART: [bool; 256] = [
     true, true, true, false, false, false, false, false, false, false, false, false, false, false,
     false, false, true, true, true, false, false, false, false, false, false, false, true, true,
@@ -28,7 +28,7 @@ const APART: [bool; 256] = [
     false, false, false, false, false, false, false, false, false, false, false, false, false,
 ];
 
-/// Whether a blank comes between a token with a border and one with another behind it.
+/// Whether a blank comes between tokens with these edges.
 #[inline(always)]
 pub(crate) fn edge_is_apart(left: Edge, right: Edge) -> bool
     ensures { result ≡ edge_is_apart (class_after_edge left) right }
@@ -36,7 +36,7 @@ pub(crate) fn edge_is_apart(left: Edge, right: Edge) -> bool
     APART[16 * left as usize + right as usize]
 }
 
-/// A border that a token of a class has.
+/// An edge whose tokens have the class.
 pub(crate) fn edge_of_class(class: Class) -> Edge
     ensures { class_after_edge result ≡ class }
 {
@@ -52,7 +52,7 @@ pub(crate) fn edge_of_class(class: Class) -> Edge
     }
 }
 
-/// The class of a token with a border.
+/// The class of tokens with an edge.
 pub(crate) fn class_after_edge(edge: Edge) -> Class
     ensures { result ≡ class_after_edge edge }
 {

@@ -1,4 +1,4 @@
-// The end of a file whose bytes are gathered.
+// The end of a buffered file.
 ghost use Rattle.std.specs.Prelude.{◌≡◌, ◌<◌, ◌+◌, ◌^◌, ◌++◌, [], IsTrue, OnOk, OnErr};
 ghost use Rattle.cweb_files.specs.Device.{CountsFailure};
 ghost use Rattle.cweb_print.specs.surface.Classes.{left_after_tokens};
@@ -10,7 +10,7 @@ use crate::printer::left::Left;
 use cweb_files::{Sink, SinkFault};
 
 impl<'a> Printer<'a> {
-    /// Ends the last line of a file, lets the sink have all of it, and is then at the start of the next file.
+    /// Ends the last line of a file, flushes the buffer, and resets to the start of the next file.
     pub fn finish<W: Sink>(&mut self, buffer: &mut OutBuffer, out: &mut W) -> Result<(), SinkFault>
         requires { W.failed out.old + 1 < 2 ^ 64 }
         ensures tells { W.tells out.new ≡ W.tells out.old }

@@ -1,4 +1,4 @@
-// What a printer keeps of the tokens that it has printed.
+// A printer's state after the tokens so far.
 ghost use Rattle.std.specs.Prelude.{◌≡◌, ◌&&◌};
 ghost use Rattle.cweb_store.specs.surface.TokenModels.{token_model};
 ghost use Rattle.cweb_print.specs.Printing.{stays_joined};
@@ -9,8 +9,7 @@ ghost use Rattle.cweb_print.specs.inner.Classes.{separator};
 use crate::printer::class::Class;
 use cweb_store::Token;
 
-/// The class of the last token that was printed, and whether only layout and section comments stand between the last join
-/// and what comes next.
+/// The class of the last printed token, and whether a join is open: only layout and section comments followed it.
 #[derive(Clone, Copy)]
 pub(crate) struct Left {
     pub class: Class,
@@ -18,7 +17,7 @@ pub(crate) struct Left {
 }
 
 impl Left {
-    /// No token was printed.
+    /// The state at the start of a file.
     pub fn start() -> Left
         ensures { result ≡ at_start }
     {
@@ -28,14 +27,14 @@ impl Left {
         }
     }
 
-    /// Layout after a join is not printed.
+    /// Whether the token is layout after a join, which isn't printed.
     pub fn drops(self, token: &Token<'_>) -> bool
         ensures { result ≡ is_dropped self (token_model token.now) }
     {
         self.joined && is_layout(token)
     }
 
-    /// What is printed before a token.
+    /// The blank before a token, or nothing.
     pub fn separator(self, token: &Token<'_>) -> &'static [u8]
         ensures { result.now ≡ separator self.class (token_model token.now) }
     {
@@ -46,7 +45,7 @@ impl Left {
         }
     }
 
-    /// What is kept after a token.
+    /// The state after a token.
     pub fn after(self, token: &Token<'_>) -> Left
         ensures { result ≡ left_after_token self (token_model token.now) }
     {

@@ -1,4 +1,4 @@
-// Macro lines.
+// Writes macro lines to a sink.
 ghost use Rattle.std.specs.Prelude.{◌≡◌, ◌≤◌, ◌<◌, ◌+◌, ◌^◌, ◌++◌, IsTrue, length, slice_range};
 ghost use Rattle.cweb_files.specs.Device.{CountsFailure};
 ghost use Rattle.cweb_store.specs.surface.TokenModels.{token_model};
@@ -18,7 +18,7 @@ use crate::printer::plain::write_plain;
 use cweb_files::{Sink, SinkFault};
 use cweb_store::{Part, Store, Token};
 
-/// Writes the lines of all macros, in their order.
+/// Writes the lines of all macros, in order.
 #[inline(never)]
 pub(crate) fn write_macros<W: Sink>(store: &Store, out: &mut W) -> Result<(), SinkFault>
     requires { W.failed out.old + 1 < 2 ^ 64 }
@@ -36,7 +36,6 @@ pub(crate) fn write_macros<W: Sink>(store: &Store, out: &mut W) -> Result<(), Si
     Ok(())
 }
 
-/// Writes the line of a macro.
 pub(crate) fn write_macro<W: Sink>(store: &Store, part: Part, out: &mut W) -> Result<(), SinkFault>
     requires count { W.failed out.old + 1 < 2 ^ 64 }
     requires ordered { part.first ≤ part.after }
@@ -96,7 +95,7 @@ fn write_macro_token<W: Sink>(
     write_plain(store, token, out)
 }
 
-// In a macro a line goes on after a backslash.
+// A newline in a macro needs a backslash before it.
 fn continued(token: &Token<'_>) -> &'static [u8]
     ensures { result.now ≡ continuation_bytes (token_model token.now) }
 {

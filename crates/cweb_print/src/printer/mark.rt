@@ -1,4 +1,4 @@
-// Line marks.
+// Line marks (`#line`).
 ghost use Rattle.std.specs.Prelude.{◌≡◌, ◌<◌, ◌+◌, ◌^◌, ◌++◌, IsTrue};
 ghost use Rattle.std.specs.List.{list_any};
 ghost use Rattle.cweb_files.specs.Device.{CountsFailure};
@@ -9,7 +9,7 @@ use crate::chunks::{write_chunk, write_chunks};
 use cweb_files::{Sink, SinkFault};
 use itoa::Buffer;
 
-/// Writes what begins the line, and the mark of a line of a file.
+/// Writes `begin` and then a line mark.
 #[inline(never)]
 pub(crate) fn write_mark<W: Sink>(
     begin: &[u8],
@@ -42,7 +42,7 @@ pub(crate) fn write_mark<W: Sink>(
     )
 }
 
-// The same for a name with a quote or a backslash, which few files have.
+// Writes a mark whose file name has a quote or a backslash, which is rare.
 #[inline(never)]
 fn write_quoted_mark<W: Sink>(
     begin: &[u8],

@@ -1,4 +1,4 @@
-// The texts of tokens that look the same whatever is to their left.
+// The bytes of tokens that don't depend on the previous token.
 ghost use Rattle.std.specs.Prelude.{◌≡◌, ◌<◌, ◌+◌, ◌^◌, IsTrue, nat_le};
 ghost use Rattle.std.specs.List.{list_any};
 ghost use Rattle.cweb_files.specs.Device.{CountsFailure};
@@ -19,7 +19,7 @@ fn hex_digit(n: u8) -> u8
     b"0123456789ABCDEF"[n as usize]
 }
 
-// What stands for a byte from 128: what was given for it, or `X` and its two hexadecimal digits.
+// The replacement of a byte from 128 on: the store's, or `X` and two hexadecimal digits.
 fn write_replaced<W: Sink>(store: &Store, byte: u8, out: &mut W) -> Result<(), SinkFault>
     requires { W.failed out.old + 1 < 2 ^ 64 }
     ensures tells { W.tells out.new ≡ W.tells out.old }
@@ -50,7 +50,7 @@ fn write_word_byte<W: Sink>(store: &Store, byte: u8, out: &mut W) -> Result<(), 
     }
 }
 
-// Words are mostly ASCII, and then written at once.
+// Most Words are ASCII and need only one write.
 fn write_word<W: Sink>(store: &Store, bytes: &[u8], out: &mut W) -> Result<(), SinkFault>
     requires { W.failed out.old + 1 < 2 ^ 64 }
     ensures tells { W.tells out.new ≡ W.tells out.old }
@@ -108,7 +108,7 @@ fn write_numbered<W: Sink>(
     write_chunks(out, &[before, digits.format(section).as_bytes(), behind])
 }
 
-/// Writes the text of a token; that of a use, Defs or a line mark is nothing here.
+/// Writes the bytes of a token. A use, Defs or line mark has none here.
 #[inline(always)]
 pub(crate) fn write_plain<W: Sink>(
     store: &Store,

@@ -1,4 +1,4 @@
-// Section comments and line marks, printed straight to where bytes are gathered.
+// Prints section comments and line marks directly into the buffer.
 ghost use Rattle.std.specs.Prelude.{◌≡◌, ◌≤◌, ◌+◌, ◌++◌, length, true, false};
 ghost use Rattle.cweb_store.specs.surface.TokenModels.{token_model};
 ghost use Rattle.cweb_print.specs.declared.buffer.TheConstants.{ROOM, SHORT};
@@ -14,12 +14,12 @@ use crate::printer::mark::has_quotable;
 use cweb_store::Token;
 use itoa::Buffer;
 
-// A file name of so many bytes is long.
+// File names from this length on are long.
 const LONG: usize = 128;
 
 impl<'a> Printer<'a> {
-    /// Prints a section comment, or a line mark whose file has a short name that needs no quoting, where there is room for a
-    /// short text, and answers whether it has.
+    /// Fast path for a section comment, or a line mark with a short file name that needs no quoting. Returns whether it
+    /// was printed. A short string fits the buffer.
     pub(crate) fn append_rare(&mut self, token: &Token<'_>, buffer: &mut OutBuffer) -> bool
         requires room { length buffer.old + SHORT ≤ ROOM }
         requires named { MarkFileIsNamed (setting_of self.old) (token_model token.now) }
@@ -39,7 +39,7 @@ impl<'a> Printer<'a> {
         true
     }
 
-    // Adds the text of one that is not dropped.
+    // Appends the bytes of a token that isn't dropped.
     fn add_rare(&self, token: &Token<'_>, buffer: &mut OutBuffer) -> bool
         requires room { length buffer.old + SHORT ≤ ROOM }
         requires named { MarkFileIsNamed (setting_of self.now) (token_model token.now) }
@@ -72,7 +72,7 @@ impl<'a> Printer<'a> {
     }
 }
 
-// Adds a section's number between two pieces of a comment.
+// Appends a section's number between the two parts of a comment.
 fn add_numbered(before: &[u8], section: u32, behind: &[u8], buffer: &mut OutBuffer)
     requires room { length buffer.old + (length before.now + (length behind.now + 40)) ≤ ROOM }
     ensures { buffer.new ≡ buffer.old ++ numbered_comment before.now section behind.now }
@@ -83,7 +83,7 @@ fn add_numbered(before: &[u8], section: u32, behind: &[u8], buffer: &mut OutBuff
     buffer.add(behind);
 }
 
-// Adds what begins the line, and the mark of a line of a file whose name needs no quoting.
+// Appends `begin`, and the mark of a line in a file whose name needs no quoting.
 fn add_mark(begin: &[u8], name: &[u8], line: u32, buffer: &mut OutBuffer)
     requires room { length buffer.old + (length begin.now + (length name.now + 60)) ≤ ROOM }
     requires plain { quoted name.now ≡ name.now }

@@ -1,4 +1,4 @@
--- Lines that come next were read where they lie, before they are taken.
+-- Lines that are read in the merger's buffer before they are taken.
 use Rattle.std.specs.Prelude.{◌≡◌, ◌≤◌, ◌<◌, ◌+◌, ◌*◌, ℕ, List, ◌++◌, length}
 use Rattle.cweb_lines.specs.inner.Ahead.{IsAhead}
 use Rattle.cweb_input.specs.Lines.{Line}
@@ -10,7 +10,7 @@ use Rattle.cweb_scan.specs.inner.ReaderModel.{ReaderModel, cost, read_after}
 use Rattle.cweb_scan.specs.surface.Law.{web_size}
 use Rattle.cweb_scan.specs.surface.Scan.{AreLinesBelow}
 
--- lines of the deepest text were read
+-- The reader has read lines of the innermost file.
 pub record ReadsLines {R : Type 0} (run : MergeState R) (lines : List (List ℕ)) (old new : ReaderModel) : Type 0 where
   pub read : (more : List Line) →
       read_after new more ≡ read_after old (lines_next (top_of run.stack) lines ++ more)
@@ -18,7 +18,7 @@ pub record ReadsLines {R : Type 0} (run : MergeState R) (lines : List (List ℕ)
   pub few : web_size (lines_next (top_of run.stack) lines) ≤ length (with_newlines lines) + length lines
   pub adds : cost new ≤ cost old + 3 * (length (with_newlines lines) + length lines)
 
--- they are all that come next up to the last that was looked at
+-- They are all lines up to the last one that was looked at.
 pub record ReadsAhead {R : Type 0} (run : MergeState R) (lines : List (List ℕ)) (ahead : Ahead)
     (old new : ReaderModel) : Type 0 where
   pub comes : ComesNext run ahead.stretch lines

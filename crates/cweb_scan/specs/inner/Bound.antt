@@ -1,4 +1,4 @@
--- How much a store keeps: its tokens, and the bytes of their texts, of the names and of the replacements.
+-- The size of a store: its tokens, and the bytes of all its strings.
 use Rattle.std.specs.Prelude.{◌≤◌, ℕ, ◌+◌, List, [], ◌∷◌, Option, Some, None, length}
 use Rattle.cweb_names.specs.Names.{Occurrence}
 use Rattle.cweb_store.specs.Parts.{Token, Word, Number, Literal, Verbatim, Punct, Blank, Newline, Join, Defs, Name}
@@ -47,16 +47,16 @@ occurrence_size o = length o.text
 abbrev pub replacement_size : Replacement → ℕ
 replacement_size r = length r.text
 
--- how many tokens there are
+-- The number of tokens.
 abbrev pub token_number : Contents → ℕ
 token_number c = parts_size one c.parts
 
--- the bytes of all texts, each counted as often as it is given
+-- The bytes of all strings, each counted as often as it occurs.
 abbrev pub stored_bytes : Contents → ℕ
 stored_bytes c = parts_size spelling_size c.parts +
     (sum_over occurrence_size c.occurrences + sum_over replacement_size c.replacements)
 
--- at most so many tokens, given or due, and at most so many bytes of texts are added
+-- A step adds at most so many tokens (emitted or owed) and so many bytes of strings.
 pub record AddsAtMost (tokens bytes : ℕ) (old new : ScanState) : Type 0 where
   pub tokens_are : token_number new.contents + owed_tokens new.context ≤ token_number old.contents + owed_tokens
       old.context + tokens

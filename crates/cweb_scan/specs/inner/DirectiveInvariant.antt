@@ -1,4 +1,4 @@
--- How what the code keeps of a directive is tied to the tokens.
+-- The invariant of the code's directive state.
 use Rattle.std.specs.Prelude.{◌≡◌, Bool, true, false, Option, Some, None}
 use Rattle.cweb_store.specs.Parts.{Part, is_macro}
 use Rattle.cweb_store.specs.Layout.{is_layout, without_last}
@@ -17,12 +17,12 @@ abbrev pub is_open_macro : Option Part → Bool
 is_open_macro None = false
 is_open_macro (Some p) = is_macro p.kind
 
--- a macro and a C part are parts of the store
+-- A macro and a C part are parts of the store.
 abbrev pub in_open_part : Context → Bool
 in_open_part c = elim c [ Limbo ↦ false | TeX ↦ false | Definition begun ↦ false | Macro ↦ true | CText ↦ true ]
 
--- what is kept besides: a part is open just in a macro and in C text; in C text the directive is that of the part's tokens, and
--- `solid` that of the tokens without the layout that is last
+-- A part is open exactly in a macro and in C text. In C text, `directive` is that of the part's tokens, and `solid`
+-- that of the tokens without trailing layout.
 pub record IsTied (directive solid : Directive) (context : Context) (part : Option Part) : Type 0 where
   pub part_is_open : is_part_open part ≡ in_open_part context
   pub is_no_macro : is_c context ≡ true → is_open_macro part ≡ false

@@ -1,4 +1,4 @@
--- Which rule fits first at the front of the rest of a line in a macro and in C text.
+-- The first rule that applies in a macro or in C text.
 use Rattle.std.specs.Prelude.{ℕ, Bool, false, ◌&&◌, List, drop, codes}
 use Rattle.cweb_rules.specs.Bytes.{begins, at_line_end}
 use Rattle.cweb_rules.specs.inner.Rules.{c_rule}
@@ -8,7 +8,7 @@ use Rattle.cweb_rules.specs.declared.rule.Rule.{Rule}
 use Rattle.cweb_scan.specs.CurrentDirective.{is_c, names_include}
 use Rattle.cweb_scan.specs.State.{ScanState}
 
--- a `\` that ends its line gives nothing in a macro
+-- A `\` at the end of a line emits nothing in a macro.
 abbrev pub ends_macro_line : Context → List ℕ → Bool
 ends_macro_line c t =
     elim c [
@@ -20,6 +20,6 @@ ends_macro_line c t =
       | CText ↦ false
     ]
 
--- only C text has included names
+-- Only C text has included names.
 abbrev pub rule_in : ScanState → List ℕ → Rule
 rule_in s t = c_rule (is_c s.context && names_include s) t

@@ -1,4 +1,4 @@
--- What the front of the rest of a line makes of a state, where its item ends in the line and no head is open.
+-- The state after the next lexeme, if it ends in its line and no head is open.
 use Rattle.std.specs.Prelude.{◌≡◌, ℕ, Bool, true, false, not, List, [], take, codes, bytes_eq, if◌then◌else◌}
 use Rattle.cweb_rules.specs.Bytes.{begins, first_is, is_blank, is_line_end, starts_section}
 use Rattle.cweb_rules.specs.Codes.{in_limbo, in_tex, in_macro, in_c}
@@ -20,12 +20,12 @@ use Rattle.cweb_scan.specs.State.{ScanState, report}
 abbrev pub after_match : RuleMatch → List ℕ → ScanState → ScanState
 after_match f t s = (item f.kind (take f.size t) (record { state = s; later = [] })).state
 
--- so many bytes were taken, and the state is what they make of it
+-- A lexeme was taken, and the state is the one after it.
 pub record Applies (f : RuleMatch) (t : List ℕ) (n : ℕ) (old new : ScanState) : Type 0 where
   pub size : n ≡ f.size
   pub state : new ≡ after_match f t old
 
--- what a code does in a context
+-- The effect of a code in a context.
 abbrev pub effect_in : Context → ℕ → Effect
 effect_in Limbo b = in_limbo b
 effect_in TeX b = in_tex b
@@ -33,7 +33,7 @@ effect_in (Definition begun) b = in_tex b
 effect_in Macro b = in_macro b
 effect_in CText b = in_c b
 
--- no code gives a token where no part is open, or opens a part in C text
+-- No code emits a token outside parts, or begins a part in C text.
 abbrev pub may_do : Context → Effect → Bool
 may_do c effect.InsertDefs = in_open_part c
 may_do c effect.Joins = in_open_part c
@@ -44,14 +44,14 @@ may_do c effect.Define = not (is_c c)
 may_do c effect.Program = not (is_c c)
 may_do c e = true
 
--- an item that is open at its line's end has ended so
+-- How an item ended: `at_end` if it ended at the line's end.
 abbrev pub ended_as : End → End → End
 ended_as at_end Closed = Closed
 ended_as at_end Cut = Cut
 ended_as at_end Nested = Nested
 ended_as at_end Open = at_end
 
--- the rules of C text whose items end in their line, but for codes and sections
+-- The rules of C text whose lexemes end in their line, except codes and sections.
 abbrev pub ends_in_line : Rule → Bool
 ends_in_line rule.Blanks = true
 ends_in_line rule.LineComment = true
@@ -64,7 +64,7 @@ ends_in_line r = false
 abbrev pub is_head : Context → Bool
 is_head c = elim c [ Limbo ↦ false | TeX ↦ false | Definition begun ↦ true | Macro ↦ false | CText ↦ false ]
 
--- C text, a macro and a head
+-- C text, a macro or a head.
 abbrev pub reads_c : Context → Bool
 reads_c Limbo = false
 reads_c TeX = false
@@ -72,7 +72,7 @@ reads_c (Definition begun) = true
 reads_c Macro = true
 reads_c CText = true
 
--- names stand outside limbo
+-- Names occur outside limbo.
 abbrev pub reads_names : Context → Bool
 reads_names Limbo = false
 reads_names TeX = true
@@ -80,7 +80,7 @@ reads_names (Definition begun) = true
 reads_names Macro = true
 reads_names CText = true
 
--- in a head no literal is named
+-- A head has no literals.
 abbrev pub reads_literals : Context → Bool
 reads_literals Limbo = false
 reads_literals TeX = false
@@ -88,7 +88,7 @@ reads_literals (Definition begun) = false
 reads_literals Macro = true
 reads_literals CText = true
 
--- no rule before the literals fits
+-- No rule before the literals applies.
 pub record IsPast (t : List ℕ) : Type 0 where
   pub blank : first_is is_blank t ≡ false
   pub line_end : first_is is_line_end t ≡ false
@@ -97,11 +97,11 @@ pub record IsPast (t : List ℕ) : Type 0 where
   pub section : starts_section t ≡ false
   pub code : begins (codes "@") t ≡ false
 
--- what an `@` in a literal makes of the state, where it isn't doubled
+-- The state after a unit of a literal. An `@` that isn't doubled is a fault.
 abbrev pub unit_state : ScanState → List ℕ → ScanState
 unit_state s u = if bytes_eq u (codes "@") then report DoubleAtInString s else s
 
--- literals are in parts
+-- Literals occur in parts.
 pub literals_in_part : (c : Context) → reads_literals c ≡ true → in_open_part c ≡ true
 literals_in_part Limbo h = h
 literals_in_part TeX h = h
@@ -109,12 +109,12 @@ literals_in_part (Definition begun) h = h
 literals_in_part Macro h = h
 literals_in_part CText h = h
 
--- a line comment begins with two bytes
+-- The lexeme of a line comment has at least two bytes.
 abbrev pub needs_two : Rule → Bool
 needs_two rule.LineComment = true
 needs_two r = false
 
--- a name's code
+-- The code of a name.
 abbrev pub is_name_effect : Effect → Bool
 is_name_effect effect.Named = true
 is_name_effect e = false

@@ -1,4 +1,4 @@
--- The open item as the code keeps it: what is open, its text so far, and the delimiter of a raw literal.
+-- The open item as the code stores it: its kind, its bytes so far, and the delimiter of a raw literal.
 use Rattle.std.specs.Prelude.{◌≡◌, ℕ, Bool, true, false, not, List}
 use Rattle.std.specs.List.{list_all}
 use Rattle.cweb_rules.specs.Bytes.{is_line_end}
@@ -39,7 +39,7 @@ is_quoted_item kind =
       | Raw begun ↦ true
     ]
 
--- in a raw literal the closing sign is that of the delimiter, and holds no line end; literals are open only in parts
+-- The stored closer of a raw literal is that of its delimiter and has no newline. Literals are open only in parts.
 pub record HasRawCloser (kind : Open) (context : Context) (delimiter sign : List ℕ) : Type 0 where
   pub signed : is_raw kind ≡ true → sign ≡ closer_of delimiter
   pub clean : is_raw kind ≡ true → list_all (λ b. not (is_line_end b)) sign ≡ true

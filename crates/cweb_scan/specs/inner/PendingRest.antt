@@ -1,4 +1,4 @@
--- What a turn takes of the rest of an item that is open.
+-- One step in the rest of an open item.
 use Rattle.std.specs.Prelude.{◌≡◌, ◌<◌, ℕ, Bool, true, false, List, [], ◌++◌, length, take}
 use Rattle.cweb_files.specs.declared.place.Place.{Place}
 use Rattle.cweb_rules.specs.Items.{unit_bytes}
@@ -11,7 +11,7 @@ use Rattle.cweb_rules.specs.inner.Quotes.{quote_byte}
 use Rattle.cweb_rules.specs.declared.quote.Quote.{Quote}
 use Rattle.cweb_scan.specs.inner.Resume.{PendingItem, Between, InComment, InName, InLiteral, AfterBackslash, InRaw}
 
--- an item's text so far; a comment has none
+-- An item's bytes so far. A comment has none.
 abbrev pub pending_bytes : PendingItem → List ℕ
 pending_bytes Between = []
 pending_bytes (InComment begun) = []
@@ -36,7 +36,7 @@ delimiter_of (InLiteral begun quote text) = []
 delimiter_of (AfterBackslash begun quote text) = []
 delimiter_of (InRaw begun delimiter text) = delimiter
 
--- a literal, and a raw one, with the text so far of an item
+-- A literal with the bytes so far of an item.
 abbrev pub literal_item : Place → Quote → PendingItem → PendingItem
 literal_item begun quote i = InLiteral begun (quote_byte quote) (pending_bytes i)
 
@@ -53,7 +53,7 @@ is_pending i = elim i [
   | InRaw begun delimiter text ↦ true
 ]
 
--- a literal of either kind, within its line
+-- A literal of either kind, within its line.
 abbrev pub is_pending_literal : PendingItem → Bool
 is_pending_literal i =
     elim i [
@@ -66,7 +66,7 @@ is_pending_literal i =
       | InRaw begun delimiter text ↦ true
     ]
 
--- a literal that goes on in the next line, behind a `\`
+-- A literal whose line ended in `\`.
 abbrev pub awaits_line_end : PendingItem → Bool
 awaits_line_end i = elim i [
   | Between ↦ false
@@ -77,8 +77,7 @@ awaits_line_end i = elim i [
   | InRaw begun delimiter text ↦ false
 ]
 
--- The first n bytes of the rest of a line belong to the item that is open. Where it stays open there is one at least; a literal
--- that goes on in the next line has taken the whole rest.
+-- The first n bytes belong to the open item, one at least if it stays open. A literal to be continued takes them all.
 pub record TakesPending (n : ℕ) (rest : List ℕ) (old new : ReaderModel) : Type 0 where
   pub takes : TakesPrefix n rest old new
   pub moves : is_pending new.item ≡ true → 0 < n
@@ -88,7 +87,7 @@ abbrev pub look_size : Look → ℕ
 look_size (Goes n) = n
 look_size (Ends n how) = n
 
--- a literal after what was seen at the front of its rest: a unit, or its end
+-- A literal after a unit or its closer.
 abbrev pub literal_step : Look → Place → List ℕ → ReaderModel → ReaderModel
 literal_step (Goes n) begun t h =
     let unit = take n t in
@@ -107,7 +106,7 @@ literal_step (Ends n how) begun t h =
       begun = h.begun;
     }
 
--- an item that goes on with the next n bytes, each of which stands for itself
+-- An item with the next n plain bytes.
 abbrev pub with_span : ℕ → List ℕ → ReaderModel → ReaderModel
 with_span n u h = record {
   state = h.state;

@@ -1,4 +1,4 @@
--- Plain C text: pieces that their first bytes tell, where no directive is open.
+-- Lexemes of C text that their first byte determines, outside directives.
 use Rattle.std.specs.Prelude.{◌≡◌, ℕ, Bool, ◌&&◌, false, List, codes, Option, Some, None}
 use Rattle.cweb_store.specs.Parts.{Token}
 use Rattle.cweb_store.specs.Layout.{is_layout}
@@ -11,27 +11,27 @@ use Rattle.cweb_scan.specs.inner.ReaderModel.{TakesPrefix}
 use Rattle.cweb_scan.specs.inner.Resume.{Between}
 use Rattle.cweb_scan.specs.State.{ScanState}
 
--- how many bytes were taken, if any
+-- The number of bytes that were taken, if any.
 abbrev pub taken_size : Option ℕ → ℕ
 taken_size None = 0
 taken_size (Some n) = n
 
--- C text in which no directive is open
+-- C text without an open directive.
 pub record IsPlainC (s : ScanState) : Type 0 where
   pub in_c : s.context ≡ CText
   pub outside : in_directive s ≡ false
 
--- C text in which a directive is open that has come too far for an included name: more stands in it than blanks and an `include`
+-- C text in a directive that is past an included name: it has more than blanks and `include`.
 abbrev pub in_directive_body : ScanState → Bool
 in_directive_body s = is_c s.context && is_further_stage (stage_of (directive s).tokens)
 
--- a token that is no layout and neither a `#` nor a `\`
+-- A token that is neither layout nor `#` nor `\`.
 pub record IsPlainToken (t : Token) : Type 0 where
   pub hash : is_punct (codes "#") (Some t) ≡ false
   pub last : last_kind t ≡ last.Other
   pub solid : is_layout t ≡ false
 
--- the first n bytes of the rest of a line were taken, where no item is open
+-- The first n bytes of the rest of a line were taken, and no item is open.
 pub record TakesPlain (n : ℕ) (rest : List ℕ) (old new : ScanState) : Type 0 where
   pub taken : (begun : Bool)
       → TakesPrefix n rest (record { state = old; item = Between; begun = begun })

@@ -1,4 +1,4 @@
--- What is held between two lines: the state, and an item that goes on in the next line.
+-- The model of a reader: the state, and an item that is open at the end of a line.
 use Rattle.std.specs.Prelude.{◌≡◌, ◌≤◌, ℕ, ◌+◌, ◌*◌, Bool, true, false, List, [], ◌∷◌, ◌++◌, length, drop}
 use Rattle.cweb_files.specs.declared.place.Place.{Place}
 use Rattle.cweb_input.specs.Lines.{Line}
@@ -15,17 +15,17 @@ use Rattle.cweb_scan.specs.laws.ReaderModel.{places}
 pub record ReaderModel : Type 0 where
   pub state : ScanState
   pub item : PendingItem
-  -- whether a line was taken
+  -- Whether a line was taken.
   pub begun : Bool
 
--- before the first line
+-- The reader before the first line.
 abbrev pub new_reader : ReaderModel
 new_reader = record { state = start_state no_place; item = Between; begun = false }
 
 abbrev pub begun_reader : ScanState → PendingItem → ReaderModel
 begun_reader s item = record { state = s; item = item; begun = true }
 
--- what a line end does to what is held: it is taken once the next line's place is known
+-- The reader after a newline, whose effect depends on the next line's place.
 abbrev pub after_line_end : Place → PendingItem → ScanState → ReaderModel
 after_line_end q Between s = begun_reader (line_end q s) Between
 after_line_end q (InComment begun) s = begun_reader (comment_line_end q s) (InComment begun)
@@ -35,32 +35,32 @@ after_line_end q (AfterBackslash begun quote text) s =
     begun_reader (move_to q s) (InLiteral begun quote (text ++ 92 ∷ 10 ∷ []))
 after_line_end q (InRaw begun delimiter text) s = begun_reader (move_to q s) (InRaw begun delimiter (text ++ 10 ∷ []))
 
--- what is read after the rest of a line and the lines after it
+-- The reading after the rest of a line and the lines after it.
 abbrev pub read_on : ReaderModel → List Place → List ℕ → Reading
 read_on h later t = resume h.item t (record { state = h.state; later = later })
 
 abbrev pub reader_at : Place → ReaderModel
 reader_at place = begun_reader (start_state place) Between
 
--- what is read after the lines that are still to come
+-- The reading after the remaining lines.
 abbrev pub read_after : ReaderModel → List Line → Reading
 read_after h lines = elim h.begun [
   | false ↦ read_lines lines
   | true ↦ read_on h (places lines) (newline_prefixed lines)
 ]
 
--- the line end before a line at a place was taken
+-- The newline before a line was taken.
 pub record TakesLineEnd (place : Place) (old new : ReaderModel) : Type 0 where
   pub begun : new.begun ≡ true
   pub same : (later : List Place) (t : List ℕ) → read_on new later t ≡ read_on old (place ∷ later) (10 ∷ t)
 
--- the bytes of a line were taken; what follows is a line end or nothing
+-- The bytes of a line were taken. A newline or nothing follows.
 pub record TakesBytes (line : List ℕ) (old new : ReaderModel) : Type 0 where
   pub begun : new.begun ≡ old.begun
   pub same : (later : List Place) (more : List ℕ) → AtLineEnd more
       → read_on new later more ≡ read_on old later (line ++ more)
 
--- what an open item still adds to what is kept when it ends
+-- What an open item will add to the weight when it ends.
 abbrev pub pending_cost : PendingItem → ℕ
 pending_cost Between = 0
 pending_cost (InComment begun) = 0
@@ -69,11 +69,11 @@ pending_cost (InLiteral begun quote text) = 1
 pending_cost (AfterBackslash begun quote text) = 1
 pending_cost (InRaw begun delimiter text) = 1
 
--- what is kept, and what is owed
+-- The weight so far, including the open item's.
 abbrev pub cost : ReaderModel → ℕ
 cost h = weight h.state + pending_cost h.item
 
--- the first n bytes of the rest of a line were taken; each byte adds three at most
+-- The first n bytes of the rest of a line were taken. Each byte adds at most three to the cost.
 pub record TakesPrefix (n : ℕ) (rest : List ℕ) (old new : ReaderModel) : Type 0 where
   pub begun : new.begun ≡ old.begun
   pub within : n ≤ length rest
@@ -81,17 +81,17 @@ pub record TakesPrefix (n : ℕ) (rest : List ℕ) (old new : ReaderModel) : Typ
   pub same : (later : List Place) (more : List ℕ) → AtLineEnd more
       → read_on new later (drop n rest ++ more) ≡ read_on old later (rest ++ more)
 
--- a line at a place begins: the first, or one behind a line end
+-- A line begins: the first one, or one after a newline.
 pub record BeginsLine (place : Place) (old new : ReaderModel) : Type 0 where
   pub first : old.begun ≡ false → new ≡ reader_at place
   pub next : old.begun ≡ true → TakesLineEnd place old new
   pub adds : cost new ≤ cost old + 3
 
--- text goes on in another line
+-- Moves to another line outside C text.
 abbrev pub gone_to : Place → ReaderModel → ReaderModel
 gone_to place h = record h { state = move_to place h.state }
 
--- the state once no line follows: an item that is open ends
+-- The state at the end of the source, which ends an open item.
 abbrev pub source_ended : PendingItem → ScanState → ScanState
 source_ended Between s = s
 source_ended (InComment begun) s = pass_comment Cut begun s

@@ -1,4 +1,4 @@
--- An item that is open, and what is read after the rest of a text where one is.
+-- An open item, and the reading after the rest of it.
 use Rattle.std.specs.Prelude.{ℕ, ◌+◌, Bool, true, false, List, [], ◌∷◌, ◌++◌, take, drop, nat_lt, length, codes}
 use Rattle.std.specs.Prelude.{if◌then◌else◌}
 use Rattle.std.specs.List.{fold}
@@ -12,8 +12,8 @@ use Rattle.cweb_scan.specs.After.{Reading, on, each_line_end, comment_line_end, 
 use Rattle.cweb_scan.specs.After.{emit_literal, literal_unit}
 use Rattle.cweb_scan.specs.Lexemes.{lex}
 
--- nothing; a comment; a name with its text so far; a literal with its quote and its text so far, one whose line ended in `\`,
--- and a raw one with its delimiter
+-- No item, a comment, a name with its bytes so far, or a literal with its quote and bytes so far. A literal may wait
+-- for a newline after `\`, or be raw with its delimiter.
 pub data PendingItem : Type 0 where
   Between : PendingItem
   InComment : (begun : Place) → PendingItem
@@ -22,7 +22,7 @@ pub data PendingItem : Type 0 where
   AfterBackslash : (begun : Place) (quote : ℕ) (text : List ℕ) → PendingItem
   InRaw : (begun : Place) (delimiter text : List ℕ) → PendingItem
 
--- in C text an opener sign is scanned as C text
+-- In C text a part opener is read as C text.
 abbrev pub takes_opener : ScanState → Bool
 takes_opener s = elim s.context [ Limbo ↦ true | TeX ↦ true | Definition begun ↦ true | Macro ↦ true | CText ↦ false ]
 
@@ -46,7 +46,7 @@ resume_literal begun text r t m =
 abbrev pub closer_of : List ℕ → List ℕ
 closer_of delimiter = codes ")" ++ delimiter ++ codes "\""
 
--- what is read after the rest of a text, where an item may be open
+-- The reading after the rest of a source, in which an item may be open.
 abbrev pub resume : PendingItem → List ℕ → Reading → Reading
 resume Between t m = lex m t
 resume (InComment begun) t m = resume_comment begun (items.reach_of_comment t) t m

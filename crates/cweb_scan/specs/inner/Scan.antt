@@ -1,4 +1,4 @@
--- What a scan makes of a merger's lines, and what holds of that whatever the lines are.
+-- The invariant of a scan of a merger's lines.
 use Rattle.std.specs.Prelude.{◌≡◌, ◌≤◌, ◌+◌, List, [], ◌++◌, length, Bool, IsTrue}
 use Rattle.cweb_input.specs.Lines.{Line}
 use Rattle.cweb_lines.specs.Merge.{Event}
@@ -8,11 +8,11 @@ use Rattle.cweb_scan.specs.surface.Law.{web_size}
 use Rattle.cweb_scan.specs.Lexemes.{Scanned, read_lines, scanned_of}
 use Rattle.cweb_scan.specs.surface.Scan.{AreLinesBelow}
 
--- what is made of what was read, where no line follows
+-- The result of a scan if no line follows.
 abbrev pub scanned_after : ReaderModel → Scanned
 scanned_after held = scanned_of (read_after held []).state
 
--- lines were given out and taken: what is held makes of further lines what all of them give
+-- The reader has taken the merger's lines so far: more lines give what all lines together give.
 pub record HasTaken (tells : Bool) (old told : SoFar) (all now : List Event) (held : ReaderModel) : Type 0 where
   pub lines : List Line
   pub read_is : (more : List Line) → read_after held more ≡ read_lines (lines ++ more)

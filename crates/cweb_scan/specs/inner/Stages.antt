@@ -1,4 +1,4 @@
--- What the code keeps of a directive, and what each token makes of it.
+-- The code's directive state after each token.
 use Rattle.std.specs.Prelude.{Bool, true, false, ◌&&◌, not, List, Option, Some, None, codes, if◌then◌else◌, bytes_eq}
 use Rattle.cweb_store.specs.Parts.{Token, Word, Punct, Blank, Newline, Mark}
 use Rattle.cweb_scan.specs.declared.directive.Last.{Last}
@@ -57,7 +57,7 @@ abbrev pub is_blank_token : Token → Bool
 is_blank_token Blank = true
 is_blank_token t = false
 
--- the stage of an open directive after one more token
+-- The stage of an open directive after one more token.
 abbrev pub next_open_stage : Stage → Token → Stage
 next_open_stage g t =
     if is_blank_token t then g else (if is_include_word t && is_bare_stage g then Include else Further)
@@ -74,6 +74,6 @@ after_token d t = record { stage = next_stage d t; last = last_kind t }
 abbrev pub new_directive : Directive
 new_directive = record { stage = Outside; last = last.Other }
 
--- what a directive is after a part's tokens, as far as the code asks
+-- The code's directive state after a part's tokens.
 abbrev pub after_tokens : List Token → Directive
 after_tokens ts = directive_model (spec.directive_of ts)

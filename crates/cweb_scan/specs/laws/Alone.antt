@@ -1,4 +1,4 @@
--- C text that is one token and nothing else, and what reading it gives.
+-- Reading of a token that stands alone, within more C text.
 use Rattle.std.specs.Prelude.{◌≡◌, ℕ, Bool, false, List, ◌++◌}
 use Rattle.cweb_store.specs.Parts.{Token, Word, Number, Punct}
 use Rattle.cweb_rules.specs.laws.Follows.{after_word, after_number, joins_last}
@@ -6,14 +6,14 @@ use Rattle.cweb_scan.specs.After.{Reading}
 use Rattle.cweb_scan.specs.Lexemes.{lex}
 use Rattle.cweb_scan.specs.Alone.{HasReadTokens}
 
--- a byte that may go on with a token
+-- A byte that may continue a token.
 abbrev pub continues_token : (ℕ → ℕ → Bool) → Token → ℕ → Bool
 continues_token joins (Word bytes) b = after_word b
 continues_token joins (Number bytes) b = after_number b
 continues_token joins (Punct bytes) b = joins_last joins bytes b
 continues_token joins token b = false
 
--- a text is read as these tokens, and what follows it is read after them
+-- Bytes are read as these tokens, and the rest is read after them.
 pub record IsReadAs (r : Reading) (text rest : List ℕ) (ts : List Token) : Type 0 where
   pub next : Reading
   pub goes_on : lex r (text ++ rest) ≡ lex next rest

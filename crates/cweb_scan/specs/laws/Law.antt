@@ -1,4 +1,4 @@
--- What holds of the pieces of each text, and of what is kept of each web.
+-- Laws of the lexemes of a source.
 use Rattle.std.specs.Prelude.{◌≡◌, ◌<◌, ℕ, Bool, true, List, [], ◌∷◌, ◌++◌, length, All}
 use Rattle.cweb_files.specs.declared.place.Place.{Place}
 use Rattle.cweb_store.specs.Parts.{Token, Mark, all_tokens}
@@ -6,12 +6,12 @@ use Rattle.cweb_rules.specs.Kinds.{Lexeme}
 use Rattle.cweb_scan.specs.After.{Reading, after_lexeme}
 use Rattle.cweb_scan.specs.Lexemes.{next_match, Scanned}
 
--- the piece stands at the front of a text, and is what the rules name there
+-- The lexeme is a prefix of the source, and the one that the rules determine.
 pub record IsRuleMatch (r : Reading) (t : List ℕ) (p : Lexeme) : Type 0 where
   pub kind : p.kind ≡ (next_match r.state t).kind
   pub size : length p.bytes ≡ (next_match r.state t).size
 
--- each piece is what the rules name at the front of the whole remaining text, in the context that the pieces before it left
+-- Each lexeme is the one that the rules determine in the context after the lexemes before it.
 abbrev pub AreLexemes : Reading → List ℕ → List Lexeme → Type 0
 AreLexemes r t [] = t ≡ []
 AreLexemes r t (p ∷ ps) = (rest : List ℕ) × (t ≡ p.bytes ++ rest) × (0 < length p.bytes) × IsRuleMatch r t p
@@ -21,7 +21,7 @@ abbrev pub MarkPasses : (Place → Bool) → Token → Type 0
 MarkPasses test (Mark place) = test place ≡ true
 MarkPasses test t = Unit {0}
 
--- the places of all Marks and of all faults pass a test
+-- The places of all Marks and faults pass a test.
 pub record PlacesPass (test : Place → Bool) (s : Scanned) : Type 0 where
   pub marks : All (MarkPasses test) (all_tokens s.store.parts)
   pub faults : All (λ f. test f.place ≡ true) s.faults

@@ -1,4 +1,4 @@
--- Where the pieces of a web's text stand.
+-- The places of lexemes.
 use Rattle.std.specs.Prelude.{◌≡◌, ℕ, List, ◌∷◌, ◌++◌, Some}
 use Rattle.std.specs.List.{flat_map, fold, slice_get}
 use Rattle.cweb_files.specs.declared.place.Place.{Place}
@@ -10,24 +10,23 @@ use Rattle.cweb_scan.specs.laws.ReaderModel.{places}
 use Rattle.cweb_scan.specs.Lexemes.{newline_prefixed, lexemes}
 use Rattle.cweb_scan.specs.State.{start_state}
 
--- before the first piece of the text of some lines
+-- The reading before the first lexeme of some lines.
 abbrev pub source_start : Line → List Line → Reading
 source_start line lines = record { state = start_state line.place; later = places lines }
 
--- the lines joined by newlines
+-- The lines joined by newlines.
 abbrev pub joined_lines : Line → List Line → List ℕ
 joined_lines line lines = line.bytes ++ newline_prefixed lines
 
--- the place that the next piece is given
+-- The place of the next lexeme.
 abbrev pub place_after : Reading → List Lexeme → Place
 place_after r before = (fold after_lexeme r before).state.here
 
--- how many newlines some pieces have, one behind the other
+-- The number of newlines in some lexemes.
 abbrev pub newlines : List Lexeme → ℕ
 newlines before = at_line_ends 1 (flat_map (λ p. p.bytes) before)
 
--- Each piece of the text of some lines, none of which has a newline, is given the place of the line in which its first byte
--- stands: the line before which there are as many lines as newlines before the piece.
+-- Each lexeme has the place of the line of its first byte, whose index is the number of newlines before the lexeme.
 abbrev pub LexemesKeepLines : Line → List Line → Type 0
 LexemesKeepLines line lines =
     (before : List Lexeme) (p : Lexeme) (behind : List Lexeme)

@@ -1,4 +1,4 @@
--- What is held between two lines: the state, and an item that goes on in the next line.
+-- The places of lines.
 use Rattle.std.specs.Prelude.{List, map}
 use Rattle.cweb_files.specs.declared.place.Place.{Place}
 use Rattle.cweb_input.specs.Lines.{Line}

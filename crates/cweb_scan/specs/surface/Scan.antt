@@ -1,4 +1,4 @@
--- What a scan makes of a merger's lines, and what holds of that whatever the lines are.
+-- The result of a scan, and how a scan ends early.
 use Rattle.std.specs.Prelude.{◌≡◌, ◌<◌, ◌≤◌, ◌+◌, ℕ, List, [], length, All, Option, Some}
 use Rattle.cweb_input.specs.Lines.{Line}
 use Rattle.cweb_lines.specs.Merge.{Event}
@@ -17,17 +17,17 @@ abbrev pub IsMarkBelow : ℕ → Token → Type 0
 IsMarkBelow files (Mark place) = place.file.0 < files
 IsMarkBelow files t = Unit {0}
 
--- all Marks and all faults stand in the first so many files
+-- All Marks and faults are in the first `files` files.
 pub record IsScanBelow (files : ℕ) (s : Scanned) : Type 0 where
   pub marks : All (IsMarkBelow files) (all_tokens s.store.parts)
   pub faults : All (λ f. f.place.file.0 < files) s.faults
 
--- all lines stand in the first so many files
+-- All lines are in the first `files` files.
 abbrev pub AreLinesBelow : ℕ → List Line → Type 0
 AreLinesBelow files lines = All (λ line. line.place.file.0 < files) lines
 
--- Some lines of opened files were scanned, no more than the limits let a merger take. All Marks and faults stand in opened
--- files, and no more is kept than these lines have bytes, with a newline each.
+-- Some lines of opened files were scanned, within the merger's limits. All Marks and faults are in opened files. The
+-- store has at most as many tokens and bytes as these lines have bytes, newlines included.
 pub record ScansWithinLimits (told : SoFar) (s : Scanned) : Type 0 where
   pub lines : List Line
   pub made : s ≡ scanned lines
@@ -36,23 +36,23 @@ pub record ScansWithinLimits (told : SoFar) (s : Scanned) : Type 0 where
   pub below : IsScanBelow (length told.names) s
   pub bounded : IsBounded s.store (web_size lines)
 
--- all lines that are to come were given out and scanned, and no more is kept than was taken, in bytes and lines
+-- All remaining lines were taken and scanned. The store is bounded by the bytes and lines taken.
 pub record Scans (s : Scanned) (old new : SoFar) (all : List Event) : Type 0 where
   pub made : s ≡ scanned (emitted_lines all)
   pub gives : EmitsLines (emitted_lines all) old new all []
   pub small : IsBounded s.store (new.count.bytes + new.count.lines)
 
--- behind some lines comes one that can't be taken
+-- After some lines comes one that can't be taken.
 pub record StopsAfter (stop : Stop) (old new : SoFar) (all : List Event) : Type 0 where
   pub lines : List Line
   pub stops : StopsAfterLines lines stop old new all
 
--- why a scan ended before its end, and that what was told by then is a front of all that is to be told
+-- Why a scan ended early. The events so far are a prefix of all events.
 pub record ScanEndsEarly (stop : Stop) (old new : SoFar) (all : List Event) : Type 0 where
   pub why : StopsFor (StopsAfter stop old new all) stop
   pub told : ReportsPrefix old new all
 
--- what a stop leaves over every shelf: the count of failures rose where a read failed, and the merger keeps the stop
+-- After a stop: a read failure raised the shelf's count, and the merger stores the stop.
 pub record LeavesStop (stop : Stop) (before now : ℕ) (in_merger : Option Stop) : Type 0 where
   pub kind : StopsReading stop
   pub failed : now ≡ before + read_failures_of stop

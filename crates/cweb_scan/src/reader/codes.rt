@@ -1,4 +1,4 @@
-// Control codes: what each does in a context, and which are those of names.
+// Control codes: the effect of each in a context, and which ones begin a name.
 ghost use Rattle.std.specs.Prelude.{◌≡◌, true};
 ghost use Rattle.cweb_scan.specs.inner.MatchSteps.{effect_in, may_do};
 ghost use Rattle.cweb_scan.specs.inner.MatchSteps as fronted;
@@ -6,7 +6,7 @@ ghost use Rattle.cweb_scan.specs.inner.MatchSteps as fronted;
 use cweb_rules::codes::{in_c, in_limbo, in_macro, in_tex};
 use cweb_rules::{Context, Effect};
 
-/// What a code does in a context.
+/// The effect of a code in a context.
 pub fn effect_of(context: Context, letter: u8) -> Effect
     ensures value { result ≡ effect_in context letter }
     ensures may { may_do context result ≡ true }
@@ -19,7 +19,7 @@ pub fn effect_of(context: Context, letter: u8) -> Effect
     }
 }
 
-/// Whether a code is that of a name.
+/// Whether a code begins a name.
 pub fn is_name_effect(effect: Effect) -> bool
     ensures { result ≡ fronted.is_name_effect effect }
 {

@@ -1,4 +1,4 @@
-// The bytes of a line are taken turn by turn.
+// Takes the bytes of a line, step by step.
 ghost use Rattle.std.specs.Prelude.{◌≡◌, ◌≤◌, ◌<◌, ◌+◌, ◌*◌, IfOk, OnOk, length, false};
 ghost use Rattle.cweb_names.specs.surface.Names.{too_many};
 
@@ -12,7 +12,7 @@ impl Reader {
     ghost use Rattle.cweb_scan.specs.inner.PendingRest.{awaits_line_end};
     ghost use Rattle.cweb_scan.specs.inner.ReaderSteps.{TakesStep};
 
-    // One turn: the plain C text at the front of the rest of a line and the piece behind it, or a part of the item that is open.
+    // One step: a run of plain C text and the lexeme after it, or a unit of the open item. Returns its size.
     fn take_step(&mut self, rest: &[u8]) -> Result<usize, AllocError>
         requires within { awaits_line_end self.old.item ≡ false }
         requires line { IsLine rest.now }
@@ -37,7 +37,7 @@ impl Reader {
         }
     }
 
-    /// Takes the bytes of a line; the line end behind them is taken where the next line begins.
+    /// Takes the bytes of a line. Its newline is taken when the next line begins.
     pub(crate) fn take_bytes(&mut self, line: &[u8]) -> Result<(), AllocError>
         requires clean { IsLine line.now }
         requires within { awaits_line_end self.old.item ≡ false }

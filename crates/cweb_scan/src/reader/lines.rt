@@ -1,4 +1,4 @@
-// How lines are read, one after another.
+// Takes lines in order.
 ghost use Rattle.std.specs.Prelude.{◌≡◌, ◌≤◌, ◌<◌, ◌+◌, ◌*◌, ◌∷◌, List, [], IfOk, OnOk, length};
 ghost use Rattle.cweb_names.specs.surface.Names.{too_many};
 
@@ -23,7 +23,7 @@ impl Reader {
     ghost use Rattle.cweb_scan.specs.inner.Resume.{Between};
     ghost use Rattle.cweb_scan.specs.inner.Room.{weight};
 
-    // The line end before a line that stands at a place: it is passed once that place is known.
+    // Takes the newline before a line, now that the line's place is known.
     fn end_line(&mut self, next: Place) -> Result<(), AllocError>
         requires begun { self.old.begun ≡ true }
         requires room { cost self.old + 8 < too_many }
@@ -51,7 +51,7 @@ impl Reader {
         }
     }
 
-    // A line begins: the first, or one behind a line end.
+    // Begins a line: the first one, or one after a newline.
     fn begin_line(&mut self, place: Place) -> Result<(), AllocError>
         requires { cost self.old + 8 < too_many }
         ensures begins { OnOk result (BeginsLine place self.old self.new) }
@@ -67,7 +67,7 @@ impl Reader {
         Ok(())
     }
 
-    // Whether a line behind others is text that has no `@`.
+    // Whether a line outside C text has no `@`, and is not the first.
     #[inline(always)]
     fn passes_by(&self, line: &[u8]) -> bool
         ensures text { IsTrue result → reads_c self.now.state.context ≡ false }
@@ -83,7 +83,7 @@ impl Reader {
         }
     }
 
-    // Text goes on in another line.
+    // Moves to another line outside C text.
     #[inline(always)]
     fn go_to(&mut self, place: Place)
         ensures { self.new ≡ gone_to place self.old }
@@ -91,7 +91,7 @@ impl Reader {
         self.scanner.go_to(place);
     }
 
-    /// Takes the next line, which stands at a place. Text that has no `@` gives nothing but its place.
+    /// Takes the next line and its place. Fast path: a line outside C text without `@` only changes the place.
     #[inline(always)]
     pub fn take_line(&mut self, place: Place, line: &[u8]) -> Result<(), AllocError>
         requires clean { IsLine line.now }
@@ -107,7 +107,7 @@ impl Reader {
         self.take_any_line(place, line)
     }
 
-    // The same, whatever the line is.
+    // Slow path of `take_line`, for any line.
     #[inline(never)]
     fn take_any_line(&mut self, place: Place, line: &[u8]) -> Result<(), AllocError>
         requires clean { IsLine line.now }
@@ -121,7 +121,7 @@ impl Reader {
         Ok(())
     }
 
-    // The text ends, and with it the item that is open.
+    // Ends the source, and the open item with it.
     fn end_source(&mut self) -> Result<(), AllocError>
         requires { cost self.old + 8 < too_many }
         ensures { OnOk result (self.new.state ≡ source_ended self.old.item self.old.state) }
@@ -144,7 +144,7 @@ impl Reader {
         }
     }
 
-    /// No line follows.
+    /// Ends the source after the last line.
     pub fn finish(mut self) -> Result<Scanner, AllocError>
         requires { cost self + 8 < too_many }
         ensures made { IfOk result (λ s. s ≡ (read_after self []).state) }

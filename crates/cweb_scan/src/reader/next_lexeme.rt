@@ -1,4 +1,4 @@
-// One turn in a line where no item is open: what stands at the front is taken.
+// One step in a line without an open item: takes the next lexeme.
 ghost use Rattle.std.specs.Prelude.{◌≡◌, ◌≤◌, IfOk, codes, length, true, false};
 
 use crate::reader::Reader;
@@ -23,7 +23,7 @@ impl Reader {
     ghost use Rattle.cweb_scan.specs.inner.DirectiveInvariant.{in_open_part};
     ghost use Rattle.cweb_scan.specs.inner.FirstRule.{ends_macro_line, rule_in};
 
-    // A code at the front, which is no section start.
+    // Takes a control code that begins no section.
     #[inline(never)]
     fn take_code(&mut self, rest: &[u8]) -> Result<usize, AllocError>
         requires between { self.old.item ≡ Between }
@@ -45,7 +45,7 @@ impl Reader {
         Ok(size)
     }
 
-    // In limbo and text: what stands before the next `@`, a section start or a code.
+    // In limbo and TeX: takes the bytes before the next `@`, a section start or a code.
     fn take_tex(&mut self, rest: &[u8]) -> Result<usize, AllocError>
         requires between { self.old.item ≡ Between }
         requires text { reads_c self.old.state.context ≡ false }
@@ -65,7 +65,7 @@ impl Reader {
         self.take_code(rest)
     }
 
-    // In a macro and in C text: what the first rule that fits names.
+    // In a macro and in C text: takes the lexeme of the first rule that applies.
     #[inline(always)]
     fn take_by(&mut self, rule: Rule, rest: &[u8]) -> Result<usize, AllocError>
         requires between { self.old.item ≡ Between }
@@ -93,7 +93,7 @@ impl Reader {
         }
     }
 
-    // In a macro: a `\` that ends its line gives nothing.
+    // In a macro: a `\` at the end of a line emits nothing.
     fn take_macro(&mut self, rest: &[u8]) -> Result<usize, AllocError>
         requires between { self.old.item ≡ Between }
         requires in_macro { self.old.state.context ≡ context.Macro }
@@ -127,7 +127,7 @@ impl Reader {
         Ok(size)
     }
 
-    // In a head: blanks, comments and the identifier. With anything else the definition is dropped, and text goes on.
+    // In a head: takes blanks, comments or the identifier. Anything else drops the definition, and TeX continues.
     fn take_head(&mut self, begun: Place, rest: &[u8]) -> Result<usize, AllocError>
         requires between { self.old.item ≡ Between }
         requires in_head { self.old.state.context ≡ context.Definition begun }
@@ -153,7 +153,7 @@ impl Reader {
         }
     }
 
-    // In C text an included name may be a rule.
+    // In C text, where an included name may be the next lexeme.
     fn take_c(&mut self, rest: &[u8]) -> Result<usize, AllocError>
         requires between { self.old.item ≡ Between }
         requires in_c { self.old.state.context ≡ context.CText }
@@ -166,7 +166,7 @@ impl Reader {
         self.take_by(rule, rest)
     }
 
-    /// What stands at the front of the rest of a line where no item is open. Answers how many bytes it has.
+    /// Takes the next lexeme of a line without an open item. Returns its size.
     pub(crate) fn take_between(&mut self, rest: &[u8]) -> Result<usize, AllocError>
         requires between { self.old.item ≡ Between }
         requires line { IsLine rest.now }

@@ -1,4 +1,4 @@
-// The item that is open, in the rest of a line.
+// How an open item ends in the rest of a line.
 ghost use Rattle.std.specs.Prelude.{◌≡◌, ◌≤◌, length};
 ghost use Rattle.cweb_rules.specs.Matches as rules;
 ghost use Rattle.cweb_rules.specs.inner.LineItems.{is_unclosed};
@@ -6,14 +6,14 @@ ghost use Rattle.cweb_rules.specs.inner.LineItems.{is_unclosed};
 use cweb_rules::End;
 use cweb_rules::items::opener_len;
 
-/// Whether an item goes on behind its line.
+/// Whether an item continues after its line.
 pub fn is_unclosed(how: End) -> bool
     ensures { result ≡ is_unclosed how }
 {
     matches!(how, End::Open)
 }
 
-/// How many bytes the opener sign behind a name has: only one that ended by its end sign has one.
+/// The number of bytes of the part opener after a name. Only a name that ended at its closer has one.
 pub fn opener_after(how: End, rest: &[u8]) -> usize
     ensures value { result ≡ rules.opener_after how rest.now }
     ensures within { result ≤ length rest.now }

@@ -1,4 +1,4 @@
-// Pieces of a line, where no item is open: what opens one.
+// Openers: lexemes that begin an item.
 ghost use Rattle.std.specs.Prelude.{◌≡◌, IfOk, codes, true, false};
 
 use crate::reader::Reader;
@@ -18,7 +18,7 @@ impl Reader {
     ghost use Rattle.cweb_scan.specs.inner.Resume.{Between};
     ghost use Rattle.cweb_scan.specs.inner.Room.{HasItemRoom};
 
-    /// `/*`
+    /// `/*`. Like the functions below, it returns the number of bytes taken.
     #[inline(never)]
     pub(crate) fn open_comment(&mut self, rest: &[u8]) -> Result<usize, AllocError>
         requires between { self.old.item ≡ Between }
@@ -65,7 +65,7 @@ impl Reader {
         2
     }
 
-    /// A quote, with a prefix or without.
+    /// A quote with an optional prefix.
     #[inline(never)]
     pub(crate) fn open_literal(&mut self, rest: &[u8]) -> Result<usize, AllocError>
         requires between { self.old.item ≡ Between }
@@ -89,7 +89,7 @@ impl Reader {
         Ok(prefix + 1)
     }
 
-    /// `R"`, with a prefix or without, a delimiter and `(`.
+    /// `R"` with an optional prefix, a delimiter and `(`.
     #[inline(never)]
     pub(crate) fn open_raw(&mut self, rest: &[u8]) -> Result<usize, AllocError>
         requires between { self.old.item ≡ Between }

@@ -1,4 +1,4 @@
-// The rest of an item that is open, a unit a turn; of a comment all that stands in the line.
+// The rest of an open item: one unit per step, but the whole rest of a comment in its line.
 ghost use Rattle.std.specs.Prelude.{◌≡◌, ◌≤◌, ◌<◌, ◌+◌, IfOk, OnOk, length, true, false};
 ghost use Rattle.cweb_names.specs.surface.Names.{too_many};
 
@@ -19,7 +19,7 @@ impl Reader {
     ghost use Rattle.cweb_scan.specs.inner.PendingRest.{TakesPending};
     ghost use Rattle.cweb_scan.specs.inner.Resume.{InComment, InName};
 
-    // A comment, up to its end or that of the line.
+    // Takes a comment up to its end or that of the line.
     fn take_comment(&mut self, begun: Place, rest: &[u8]) -> Result<usize, AllocError>
         requires open { self.old.item ≡ InComment begun }
         requires line { IsLine rest.now }
@@ -35,7 +35,7 @@ impl Reader {
         Ok(reached.size + reached.close)
     }
 
-    // Bytes of an item's text, each of which stands for itself.
+    // Appends plain bytes of an item.
     fn take_span(&mut self, size: usize, rest: &[u8]) -> Result<(), AllocError>
         requires { size ≤ length rest.now }
         ensures { OnOk result (self.new ≡ with_span size rest.now self.old) }
@@ -44,7 +44,7 @@ impl Reader {
         Ok(())
     }
 
-    // A run or a unit of a name, or its end with the opener sign behind it: in C text that sign is C text.
+    // Takes a span or a unit of a name, or its closer and the part opener after it. In C text that opener is C text.
     fn take_name(&mut self, begun: Place, is_file: bool, rest: &[u8]) -> Result<usize, AllocError>
         requires open { self.old.item ≡ InName begun is_file (pending_bytes self.old.item) }
         requires line { IsLine rest.now }
@@ -75,7 +75,7 @@ impl Reader {
         }
     }
 
-    // A unit of a literal of either kind, or its end.
+    // Takes a unit of any literal, or its closer.
     fn take_literal_unit(
         &mut self,
         look: Look,
@@ -107,7 +107,7 @@ impl Reader {
         }
     }
 
-    // A literal: a `\` that is last in its line takes the line end with it.
+    // Takes a unit of a literal. A `\` at the end of the line takes the newline with it.
     fn take_literal(&mut self, begun: Place, quote: Quote, rest: &[u8]) -> Result<usize, AllocError>
         requires open { self.old.item ≡ literal_item begun quote self.old.item }
         requires line { IsLine rest.now }
@@ -130,7 +130,7 @@ impl Reader {
         Ok(size)
     }
 
-    // A raw literal.
+    // Takes a unit of a raw literal.
     fn take_raw(&mut self, begun: Place, rest: &[u8]) -> Result<usize, AllocError>
         requires open { self.old.item ≡ raw_item begun self.old.item }
         requires line { IsLine rest.now }
@@ -148,7 +148,7 @@ impl Reader {
         Ok(size)
     }
 
-    /// A part of the item that is open, which ends with it or goes on. Answers how many bytes it has.
+    /// Takes a unit or span of the open item, or its end. Returns the number of bytes.
     #[inline(never)]
     pub(crate) fn take_open(&mut self, rest: &[u8]) -> Result<usize, AllocError>
         requires open { is_pending self.old.item ≡ true }

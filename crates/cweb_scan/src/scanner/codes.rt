@@ -1,4 +1,4 @@
-// Control codes: what each does, and the items that they begin and that end in their line.
+// Control codes, and the items that they begin within a line.
 ghost use Rattle.std.specs.Prelude.{◌≡◌, ◌≤◌, IfOk, OnOk, length, true, false};
 ghost use Rattle.cweb_scan.specs.inner.MatchSteps.{may_do, ended_as, Applies};
 ghost use Rattle.cweb_scan.specs.inner.MatchSteps as fronted;
@@ -11,7 +11,7 @@ use cweb_rules::{Context, Effect, End, ScanKind};
 use cweb_store::{PartKind, Token};
 use std::alloc::AllocError;
 
-/// How an item ended that a line end ends so.
+/// How an item ended: `at_end` if it ended at the line's end.
 pub fn ended(at_end: End, how: End) -> End
     ensures { result ≡ ended_as at_end how }
 {
@@ -29,7 +29,7 @@ impl Scanner {
     ghost use Rattle.cweb_scan.specs.inner.DirectiveInvariant.{in_open_part};
     ghost use Rattle.cweb_scan.specs.inner.Room.{HasItemRoom};
 
-    /// A section start.
+    /// A section start. Like the functions below, it returns the number of bytes taken.
     #[inline(never)]
     pub fn take_section(&mut self, rest: &[u8]) -> Result<usize, AllocError>
         requires { HasItemRoom 1 self.old }
@@ -43,7 +43,7 @@ impl Scanner {
         Ok(1)
     }
 
-    /// A code that begins no item.
+    /// Applies a code that begins no item.
     pub fn apply_effect(&mut self, effect: Effect) -> Result<(), AllocError>
         requires may { may_do self.old.context effect ≡ true }
         requires room { HasItemRoom 2 self.old }
@@ -70,7 +70,7 @@ impl Scanner {
         }
     }
 
-    // `@^`, `@.`, `@:`, `@t` and `@q`: a text that gives nothing.
+    // `@^`, `@.`, `@:`, `@t` and `@q`: a control text, which emits nothing.
     fn take_control_text(&mut self, rest: &[u8]) -> Result<usize, AllocError>
         requires { 2 ≤ length rest.now }
         ensures { IfOk result
@@ -99,7 +99,7 @@ impl Scanner {
         Ok(2 + found.size)
     }
 
-    // `@l`: a byte and its replacement.
+    // `@l`: a byte and its transliteration.
     fn take_letter(&mut self, rest: &[u8]) -> Result<usize, AllocError>
         requires { 2 ≤ length rest.now }
         ensures { IfOk result (λ n. Applies (letter_match rest.now) rest.now n self.old self.new) }
@@ -118,7 +118,7 @@ impl Scanner {
         Ok(2 + (found.start + found.size))
     }
 
-    /// A code, but for those of names.
+    /// Takes any code that begins no name.
     pub fn take_item(&mut self, effect: Effect, rest: &[u8]) -> Result<usize, AllocError>
         requires two { 2 ≤ length rest.now }
         requires may { may_do self.old.context effect ≡ true }
@@ -139,7 +139,7 @@ impl Scanner {
         }
     }
 
-    /// `//`: a comment that lasts to the line's end.
+    /// `//`: a comment up to the end of the line.
     #[inline(never)]
     pub fn take_line_comment(&mut self, rest: &[u8]) -> Result<usize, AllocError>
         requires two { 2 ≤ length rest.now }

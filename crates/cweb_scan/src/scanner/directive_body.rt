@@ -1,4 +1,4 @@
-// The text of a directive that has come too far for an included name: the pieces that their first bytes tell, one after another.
+// Fast path for the body of a directive, once it is too late for an included name.
 ghost use Rattle.std.specs.Prelude.{◌≡◌, ◌≤◌, ◌<◌, ◌+◌, ◌*◌, IfOk, IfSome, OnOk, OnErr, length};
 ghost use Rattle.std.specs.Prelude.{true};
 ghost use Rattle.cweb_names.specs.surface.Names.{too_many};
@@ -21,7 +21,7 @@ impl Scanner {
     ghost use Rattle.cweb_scan.specs.inner.Room.{weight};
     ghost use Rattle.cweb_scan.specs.State as spec;
 
-    // Whether a directive is open that has come too far for an included name.
+    // Whether a directive is open that is past an included name.
     #[inline(always)]
     fn in_directive_body(&self) -> bool
         ensures { result ≡ in_directive_body self.now }
@@ -29,7 +29,7 @@ impl Scanner {
         matches!(self.context, Context::CText) && self.directive.is_further()
     }
 
-    // A token behind which the directive goes on. A refused call changes nothing.
+    // Emits a token that leaves the directive open. A refused call changes nothing.
     #[inline(always)]
     fn emit_in_directive(&mut self, token: Token<'_>) -> Result<(), AllocError>
         requires within { in_directive_body self.old ≡ true }
@@ -48,7 +48,7 @@ impl Scanner {
         Ok(())
     }
 
-    // The piece at the front of the rest of a line, where its first byte tells it; a `#` and a `\` are left.
+    // Takes the next lexeme, if its first byte determines its rule, and it isn't `#` or `\`.
     #[inline(always)]
     fn take_directive_lexeme(&mut self, rest: &[u8]) -> Result<Option<usize>, AllocError>
         requires within { in_directive_body self.old ≡ true }
@@ -86,8 +86,7 @@ impl Scanner {
         }
     }
 
-    /// Takes the pieces at the front of the rest of a line that their first bytes tell, where a directive is open that has
-    /// come too far for an included name. Answers how many bytes they have.
+    /// Takes lexemes that their first byte determines, in a directive past an included name. Returns their size.
     #[inline(never)]
     pub(crate) fn take_directive_body(&mut self, rest: &[u8]) -> Result<usize, AllocError>
         requires line { IsLine rest.now }

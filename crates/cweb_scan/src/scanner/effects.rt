@@ -1,4 +1,4 @@
-// What control codes and items give.
+// The effects of control codes and items.
 ghost use Rattle.std.specs.Prelude.{◌≡◌, ◌≤◌, OnOk, true, false};
 
 use crate::scanner::Scanner;
@@ -17,7 +17,7 @@ impl Scanner {
     ghost use Rattle.cweb_scan.specs.inner.Room.{HasPartRoom, HasItemRoom};
     ghost use Rattle.cweb_scan.specs.State as spec;
 
-    /// `@d`: a definition begins.
+    /// `@d`: begins a macro definition.
     pub fn begin_definition(&mut self)
         requires { in_open_part (spec.end_macro self.old).context ≡ false }
         ensures { self.new ≡ apply_effect effect.Define self.old }
@@ -26,7 +26,7 @@ impl Scanner {
         self.context = Context::Definition(self.here);
     }
 
-    /// `@h`: the macros' lines.
+    /// `@h`: emits Defs, the place of the macro lines.
     pub fn insert_definitions(&mut self) -> Result<(), AllocError>
         requires part { in_open_part self.old.context ≡ true }
         requires room { HasItemRoom 2 self.old }
@@ -37,7 +37,7 @@ impl Scanner {
         Ok(())
     }
 
-    /// `@&`: a join, before which no layout stays.
+    /// `@&`: emits a Join, and drops the layout before it.
     pub fn join(&mut self) -> Result<(), AllocError>
         requires part { in_open_part self.old.context ≡ true }
         requires room { HasItemRoom 1 self.old }
@@ -49,7 +49,7 @@ impl Scanner {
         Ok(())
     }
 
-    /// `@l`: what stands for a byte in Words.
+    /// `@l`: sets the transliteration of a byte in Words.
     pub fn set_letter(&mut self, byte: u8, text: &[u8]) -> Result<(), AllocError>
         requires { 128 ≤ byte }
         ensures { OnOk result (self.new ≡ after.set_letter byte (Some text.now) self.old) }
@@ -58,7 +58,7 @@ impl Scanner {
         Ok(())
     }
 
-    /// `@'`: the code of a character, in decimal.
+    /// `@'`: emits the code of a character, in decimal.
     pub fn emit_constant(&mut self, value: u8) -> Result<(), AllocError>
         requires part { in_open_part self.old.context ≡ true }
         requires room { HasItemRoom 1 self.old }
@@ -69,7 +69,7 @@ impl Scanner {
         Ok(())
     }
 
-    /// A control text that was passed over.
+    /// Reports a control text that didn't end.
     pub fn pass_control_text(&mut self, how: End) -> Result<(), AllocError>
         ensures { OnOk result (self.new ≡ after.pass_control_text how self.old) }
     {
@@ -79,7 +79,7 @@ impl Scanner {
         }
     }
 
-    /// `@=`: a text that is given as it stands.
+    /// `@=`: emits verbatim bytes.
     pub fn emit_verbatim(&mut self, text: &[u8], how: End) -> Result<(), AllocError>
         requires part { in_open_part self.old.context ≡ true }
         requires room { HasItemRoom 1 self.old }
@@ -92,7 +92,7 @@ impl Scanner {
         }
     }
 
-    /// A comment that began at a place was passed over.
+    /// Reports a comment that didn't end.
     pub fn pass_comment(&mut self, how: End, begun: Place) -> Result<(), AllocError>
         ensures { OnOk result (self.new ≡ after.pass_comment how begun self.old) }
     {
@@ -102,7 +102,7 @@ impl Scanner {
         }
     }
 
-    /// A name that began at a place ended otherwise than by its end sign.
+    /// Reports a name that didn't end at its closer.
     pub fn report_name_fault(&mut self, how: End, begun: Place) -> Result<(), AllocError>
         ensures { OnOk result (self.new ≡ after.report_name_fault how begun self.old) }
     {
@@ -113,7 +113,7 @@ impl Scanner {
         }
     }
 
-    /// In C text a name is a use, and an opener sign behind it is a fault.
+    /// In C text a name is a use. A part opener after it is a fault.
     pub fn use_name(&mut self, name: NameRef, opens: bool, begun: Place) -> Result<(), AllocError>
         requires part { in_open_part self.old.context ≡ true }
         requires room { HasPartRoom self.old }
@@ -127,7 +127,7 @@ impl Scanner {
         Ok(())
     }
 
-    /// In text a name with an opener sign opens a part.
+    /// Outside C text a name with a part opener begins a part.
     pub fn open_name(&mut self, name: NameRef, opens: bool) -> Result<(), AllocError>
         requires closed { in_open_part (spec.end_macro self.old).context ≡ false }
         requires room { HasPartRoom (spec.end_macro self.old) }
@@ -140,7 +140,7 @@ impl Scanner {
         Ok(())
     }
 
-    /// A literal that began at a place.
+    /// Emits a literal that began at `begun`.
     pub fn emit_literal(&mut self, text: &[u8], how: End, begun: Place) -> Result<(), AllocError>
         requires part { in_open_part self.old.context ≡ true }
         requires room { HasItemRoom 1 self.old }

@@ -1,4 +1,4 @@
-// Plain C text: the pieces that their first bytes don't tell, where they stand whole in their line and nothing is to be told.
+// Fast path for C text outside directives: whole lexemes that their first byte doesn't determine.
 ghost use Rattle.std.specs.Prelude.{◌≡◌, ◌≤◌, ◌<◌, ◌+◌, IfOk, OnOk, false, length};
 ghost use Rattle.cweb_names.specs.surface.Names.{too_many};
 ghost use Rattle.cweb_scan.specs.inner.Plain.{IsPlainC, TakesPlain};
@@ -23,7 +23,6 @@ impl Scanner {
     ghost use Rattle.cweb_rules.specs.declared.rule.Rule.TheVariants as rule;
     ghost use Rattle.cweb_scan.specs.inner.Room.{weight};
 
-    // A number.
     #[inline(always)]
     pub(crate) fn take_number(&mut self, rest: &[u8]) -> Result<usize, AllocError>
         requires in_c { IsPlainC self.old }
@@ -39,7 +38,7 @@ impl Scanner {
         Ok(size)
     }
 
-    // A word that may have begun a literal.
+    // Takes a Word that looked like a literal's prefix.
     #[inline(always)]
     fn take_word(&mut self, rest: &[u8]) -> Result<usize, AllocError>
         requires in_c { IsPlainC self.old }
@@ -55,7 +54,7 @@ impl Scanner {
         Ok(size)
     }
 
-    // A punctuator that no directive asks for.
+    // Takes a punctuator other than `#` and `\`.
     #[inline(always)]
     pub(crate) fn take_operator(&mut self, rest: &[u8]) -> Result<usize, AllocError>
         requires in_c { IsPlainC self.old }
@@ -73,7 +72,7 @@ impl Scanner {
         Ok(size)
     }
 
-    // How many bytes a comment has that ends in its line; it gives nothing.
+    // The size of a comment that ends in its line, or 0.
     fn comment_len(&self, rest: &[u8]) -> usize
         requires in_c { IsPlainC self.now }
         requires line { IsLine rest.now }
@@ -90,7 +89,7 @@ impl Scanner {
         }
     }
 
-    // How many bytes a comment has that lasts to the line's end.
+    // The size of a comment up to the end of the line, or 0 if something in it ends it before.
     fn line_comment_len(&self, rest: &[u8]) -> usize
         requires in_c { IsPlainC self.now }
         requires line { IsLine rest.now }
@@ -107,7 +106,7 @@ impl Scanner {
         }
     }
 
-    // A literal that ends in its line and has no `@`.
+    // Takes a literal that ends in its line and has no `@`.
     pub(crate) fn take_whole_literal(&mut self, rest: &[u8]) -> Result<usize, AllocError>
         requires in_c { IsPlainC self.old }
         requires line { IsLine rest.now }
@@ -133,8 +132,8 @@ impl Scanner {
         }
     }
 
-    /// The piece at the front of the rest of a line, by the first rule that fits; nothing where it doesn't stand whole in the
-    /// line, where a directive asks for it, and where a code, a section or a fault may stand in it.
+    /// Takes the next lexeme by the first rule that applies. Returns 0 for the slow path: the lexeme doesn't end in the
+    /// line, may concern a directive, or may have a code, a section start or a fault in it.
     #[inline(always)]
     pub fn take_further(&mut self, rest: &[u8]) -> Result<usize, AllocError>
         requires in_c { IsPlainC self.old }

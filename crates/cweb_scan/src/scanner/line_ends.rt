@@ -1,4 +1,4 @@
-// Line ends.
+// Newlines.
 ghost use Rattle.std.specs.Prelude.{◌≡◌, ◌<◌, ◌+◌, OnOk, true};
 
 use crate::directive::Last;
@@ -18,7 +18,7 @@ impl Scanner {
     ghost use Rattle.cweb_store.specs.Parts.{Newline};
     ghost use Rattle.cweb_scan.specs.State as spec;
 
-    // What a line end before a line at a place gives in C text.
+    // Emits the token of a newline in C text.
     fn emit_line_end(&mut self, next: Place) -> Result<(), AllocError>
         requires in_c { is_c self.old.context ≡ true }
         requires few { token_count self.old.contents.parts + 1 < too_many }
@@ -36,7 +36,7 @@ impl Scanner {
         Ok(())
     }
 
-    // A Newline where no directive is open: none is open behind it.
+    // Emits a Newline outside directives. It opens none.
     #[inline(always)]
     fn emit_newline(&mut self) -> Result<(), AllocError>
         requires in_c { IsPlainC self.old }
@@ -48,8 +48,7 @@ impl Scanner {
         Ok(())
     }
 
-    /// The line end before a line that stands at a place. Most stand in C text outside directives, between lines that follow
-    /// one another: those give a Newline at once.
+    /// Takes the newline before a line. Fast path: a Newline between consecutive lines of C text outside directives.
     #[inline(always)]
     pub fn end_line(&mut self, next: Place) -> Result<(), AllocError>
         requires { token_count self.old.contents.parts + 1 < too_many }
@@ -66,7 +65,7 @@ impl Scanner {
         self.end_any_line(next)
     }
 
-    // The same, whatever it gives.
+    // Slow path of `end_line`.
     #[inline(never)]
     fn end_any_line(&mut self, next: Place) -> Result<(), AllocError>
         requires { token_count self.old.contents.parts + 1 < too_many }
@@ -81,7 +80,7 @@ impl Scanner {
         Ok(())
     }
 
-    /// A line end in a comment, which gives nothing in a directive.
+    /// A newline in a comment. In a directive it emits nothing.
     pub fn end_comment_line(&mut self, next: Place) -> Result<(), AllocError>
         requires { token_count self.old.contents.parts + 1 < too_many }
         ensures { OnOk result (self.new ≡ comment_line_end next self.old) }

@@ -1,4 +1,4 @@
-// Occurrences of names, and what they give where they stand.
+// Occurrences of names, and their effects by context.
 ghost use Rattle.std.specs.Prelude.{◌≡◌, IfOk, OnOk, if◌then◌else◌, length, false};
 
 use crate::scanner::Scanner;
@@ -15,7 +15,7 @@ impl Scanner {
     ghost use Rattle.cweb_scan.specs.inner.Room.{HasItemRoom};
     ghost use Rattle.cweb_scan.specs.State.{add_name};
 
-    // The occurrence that a name gives as it is spelled. Answers its number.
+    // Adds the occurrence of a name as it is spelled, and returns its index.
     fn add_spelled(&mut self, is_file: bool, name: &[u8]) -> Result<NameRef, AllocError>
         requires { HasItemRoom 2 self.old }
         ensures number { IfOk result (λ name. name.0 ≡ length self.old.contents.occurrences) }
@@ -30,7 +30,7 @@ impl Scanner {
         Ok(number)
     }
 
-    // The occurrence that a name's text gives. Answers its number.
+    // Adds the occurrence of a name after its blanks are squeezed, and returns its index.
     fn add_occurrence(&mut self, is_file: bool, text: &[u8]) -> Result<NameRef, AllocError>
         requires { HasItemRoom 2 self.old }
         ensures number { IfOk result (λ name. name.0 ≡ length self.old.contents.occurrences) }
@@ -43,7 +43,7 @@ impl Scanner {
         self.add_spelled(is_file, &name)
     }
 
-    /// A name that began at a place ended, with an opener sign behind it or without.
+    /// Ends a name that began at `begun`. `opens` says whether a part opener follows.
     pub fn end_name(
         &mut self,
         is_file: bool,
@@ -65,7 +65,7 @@ impl Scanner {
         }
     }
 
-    /// How many bytes of an opener sign belong to the name before it: in C text none.
+    /// How many bytes of a part opener belong to the name before it: none in C text.
     pub fn opener_taken(&self, sign: usize) -> usize
         ensures { result ≡ (if takes_opener self.now then sign else 0) }
     {

@@ -1,4 +1,4 @@
-// Plain C text, where no item and no directive is open: the pieces that their first bytes tell, one after another.
+// Fast path for C text outside items and directives: lexemes whose rule is determined by their first byte.
 ghost use Rattle.std.specs.Prelude.{◌≡◌, ◌≤◌, ◌<◌, ◌+◌, ◌*◌, IfOk, IfSome, OnOk, OnErr, length};
 ghost use Rattle.cweb_names.specs.surface.Names.{too_many};
 ghost use Rattle.cweb_store.specs.surface.TokenModels.{token_model};
@@ -11,7 +11,7 @@ use cweb_rules::{Context, Plain, first_byte_class, past_blank};
 use cweb_store::Token;
 use std::alloc::AllocError;
 
-// A piece of no bytes is none.
+// `None` for an empty lexeme.
 #[inline(always)]
 pub(crate) fn nonempty_len(size: usize) -> Option<usize>
     ensures size { taken_size result ≡ size }
@@ -26,7 +26,7 @@ impl Scanner {
     ghost use Rattle.cweb_scan.specs.inner.Room.{weight};
     ghost use Rattle.cweb_scan.specs.State as spec;
 
-    // A token that leaves no directive open. A refused call changes nothing.
+    // Emits a token that opens no directive. A refused call changes nothing.
     #[inline(always)]
     pub(crate) fn emit_plain(&mut self, token: Token<'_>) -> Result<(), AllocError>
         requires in_c { IsPlainC self.old }
@@ -42,7 +42,7 @@ impl Scanner {
         Ok(())
     }
 
-    // The piece at the front of the rest of a line, where its first byte tells it; else nothing.
+    // Takes the next lexeme if its first byte determines its rule.
     #[inline(always)]
     fn take_lexeme(&mut self, rest: &[u8]) -> Result<Option<usize>, AllocError>
         requires in_c { IsPlainC self.old }
@@ -73,8 +73,7 @@ impl Scanner {
         }
     }
 
-    /// Takes the pieces at the front of the rest of a line that their first bytes tell, in C text. Answers how many bytes they
-    /// have.
+    /// Takes lexemes of C text whose rule is determined by their first byte. Returns the number of bytes.
     pub fn take_plain(&mut self, rest: &[u8]) -> Result<usize, AllocError>
         requires line { IsLine rest.now }
         requires room { weight self.old + 3 * length rest.now + 8 < too_many }

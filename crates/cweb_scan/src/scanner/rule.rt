@@ -1,4 +1,4 @@
-// Pieces of a line, where no item is open: which rule fits, and what it does.
+// Applies a rule of C text to the next lexeme.
 ghost use Rattle.std.specs.Prelude.{◌≡◌, ◌≤◌, IfOk, length, true, false};
 
 use crate::scanner::Scanner;
@@ -17,7 +17,7 @@ impl Scanner {
     ghost use Rattle.cweb_scan.specs.inner.DirectiveInvariant.{in_open_part};
     ghost use Rattle.cweb_scan.specs.inner.Room.{HasItemRoom};
 
-    /// What a rule of C text names, where it ends in its line and is no code.
+    /// Takes the lexeme of a rule, if it ends in its line and is no code. Returns its size.
     #[inline(always)]
     pub fn take_rule(&mut self, rule: Rule, rest: &[u8]) -> Result<usize, AllocError>
         requires line { IsLine rest.now }

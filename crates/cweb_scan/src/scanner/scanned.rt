@@ -1,4 +1,4 @@
-// What a scan gives.
+// The result of a scan.
 ghost use Rattle.std.specs.Prelude.{◌≡◌, IfOk};
 ghost use Rattle.cweb_scan.specs.inner.Room.{HasItemRoom};
 ghost use Rattle.cweb_scan.specs.Lexemes.{scanned_of};
@@ -9,8 +9,7 @@ use cweb_rules::ScanFault;
 use cweb_store::Store;
 use std::alloc::AllocError;
 
-/// What a scan makes of the merged lines of a web: its parts, names and replacements, the faults in the order of the items
-/// that have them, how many sections there are, and the numbers of the starred ones.
+/// The result of a scan. Faults are in the order of their items. `starred` has the numbers of the starred sections.
 pub struct Scanned {
     pub store: Store,
     pub faults: Vec<ScanFault>,
@@ -18,7 +17,7 @@ pub struct Scanned {
     pub starred: Vec<u32>,
 }
 
-// It is let go by one call wherever it is held, not part by part.
+// One call frees it, not one per field.
 impl Drop for Scanned {
     fn drop(self) {
         let Scanned {
@@ -31,7 +30,7 @@ impl Drop for Scanned {
 }
 
 impl Scanner {
-    /// What was made of the whole text.
+    /// The result for the whole source.
     pub fn scanned(mut self) -> Result<Scanned, AllocError>
         requires { HasItemRoom 1 self }
         ensures { IfOk result (λ made. scanned_model made ≡ scanned_of self) }

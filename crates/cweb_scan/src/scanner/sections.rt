@@ -1,4 +1,4 @@
-// How sections, parts and macros begin and end.
+// Starts and ends of sections, parts and macros.
 ghost use Rattle.std.specs.Prelude.{◌≡◌, ◌<◌, ◌+◌, OnOk, true, false};
 
 use crate::directive::Directive;
@@ -15,7 +15,7 @@ impl Scanner {
     ghost use Rattle.cweb_scan.specs.inner.Room.{HasPartRoom, HasItemRoom};
     ghost use Rattle.cweb_scan.specs.State as spec;
 
-    /// Begins a part, whose opener ends here.
+    /// Begins a part after its opener, with a Head and a Mark.
     pub fn begin_part(&mut self, kind: PartKind) -> Result<(), AllocError>
         requires closed { in_open_part self.old.context ≡ false }
         requires in_c { is_macro kind ≡ false }
@@ -41,7 +41,7 @@ impl Scanner {
         self.context = Context::TeX;
     }
 
-    /// A macro ends where a further definition or a part begins.
+    /// Ends an open macro, before another definition or a part.
     pub fn end_macro(&mut self)
         ensures { self.new ≡ spec.end_macro self.old }
     {
@@ -50,7 +50,7 @@ impl Scanner {
         }
     }
 
-    /// A definition that has no identifier is dropped.
+    /// Drops a definition without an identifier, and reports it.
     pub fn drop_definition(&mut self, begun: Place) -> Result<(), AllocError>
         requires { in_open_part self.old.context ≡ false }
         ensures { OnOk result (self.new ≡ spec.drop_definition begun self.old) }
@@ -60,7 +60,7 @@ impl Scanner {
         Ok(())
     }
 
-    /// A section start and the end of the text end every context.
+    /// Ends the context, at a section start or at the end of the source.
     pub fn leave(&mut self) -> Result<(), AllocError>
         requires { HasItemRoom 1 self.old }
         ensures { OnOk result (self.new ≡ spec.leave self.old) }
@@ -80,7 +80,7 @@ impl Scanner {
         }
     }
 
-    /// A section begins.
+    /// Begins a section.
     pub fn begin_section(&mut self, starred: bool) -> Result<(), AllocError>
         requires { HasItemRoom 1 self.old }
         ensures { OnOk result (self.new ≡ spec.begin_section starred self.old) }
@@ -95,7 +95,7 @@ impl Scanner {
         Ok(())
     }
 
-    /// The identifier behind `@d` begins a macro, with a Blank unless `(` follows.
+    /// Begins a macro with the identifier after `@d`. A Blank follows, unless `(` follows directly.
     pub fn define(&mut self, name: &[u8], tight: bool) -> Result<(), AllocError>
         requires closed { in_open_part self.old.context ≡ false }
         requires room { HasItemRoom 2 self.old }

@@ -1,4 +1,4 @@
-// Units of the items that last to an end sign.
+// Units of delimited items, and their faults.
 ghost use Rattle.std.specs.Prelude.{◌≡◌, ◌≤◌, ◌<◌, ◌+◌, IfOk, OnErr, OnOk, length, fold, true};
 ghost use Rattle.cweb_rules.specs.Cut as cut;
 ghost use Rattle.cweb_rules.specs.inner.Looks.{look_of, reached};
@@ -18,7 +18,7 @@ impl Scanner {
     ghost use Rattle.cweb_scan.specs.inner.DirectiveInvariant.{in_open_part};
     ghost use Rattle.cweb_scan.specs.inner.Room.{HasItemRoom};
 
-    /// A unit of a literal: an `@` that isn't doubled is a fault. A refused call changes nothing.
+    /// Reports an `@` that isn't doubled in a literal's unit. A refused call changes nothing.
     pub fn check_unit(&mut self, unit: &[u8]) -> Result<(), AllocError>
         ensures ok { OnOk result (self.new ≡ unit_state self.old unit.now) }
         ensures err { OnErr result (self.new ≡ self.old) }
@@ -29,7 +29,7 @@ impl Scanner {
         Ok(())
     }
 
-    /// The faults of a literal's units in a line.
+    /// Reports the faults of a literal's units in a line.
     pub fn check_units(&mut self, item: Item<'_>, line: &[u8]) -> Result<(), AllocError>
         ensures { OnOk result
             (self.new
@@ -48,7 +48,7 @@ impl Scanner {
         Ok(())
     }
 
-    /// `@=`: a text up to `@>` that is given as it stands.
+    /// `@=`: takes verbatim bytes up to `@>`. Returns the number of bytes.
     pub fn take_verbatim(&mut self, rest: &[u8]) -> Result<usize, AllocError>
         requires two { 2 ≤ length rest.now }
         requires part { in_open_part self.old.context ≡ true }
@@ -64,7 +64,7 @@ impl Scanner {
         Ok(2 + (reached.size + reached.close))
     }
 
-    /// An included name in a directive, with its signs.
+    /// Takes an included name in a directive, delimiters included. Returns the number of bytes.
     #[inline(never)]
     pub fn take_included_name(&mut self, rest: &[u8]) -> Result<usize, AllocError>
         requires line { IsLine rest.now }

@@ -1,14 +1,13 @@
-// What is asked of scans. No other function of these tests holds a merger or what a scan made: each that does takes as long to prove
-// as ten that borrow them.
+// Test cases over a scan. Only functions here own a merger or a scan's result, since that slows verification.
 use super::*;
 use cweb_lines::{MemoryShelf, Shelf, Stop};
 
-/// What is asked of what a scan made.
+/// The checks of a scan's result.
 pub trait Case<E> {
     fn look<A: AllocGlobal + Abort>(&self, rt: &A, made: &Scanned) -> Result<(), E>;
 }
 
-/// Asks this of a scan of the web `a.w` of these files, with a change file or without.
+/// Scans the web `a.w` of these files, with or without a change file, and checks the result.
 pub fn check<E: From<Stop> + From<AllocError>, C: Case<E>>(
     rt: &(impl AllocGlobal + Abort),
     files: &[(&str, &[u8])],
@@ -29,7 +28,7 @@ fn check_over<E: From<Stop>, C: Case<E>>(
     check_scan(rt, &mut merger, shelf, case)
 }
 
-// The merger keeps the stop of a scan that didn't end.
+// If the scan ends early, the merger stores the stop.
 fn check_scan<E: From<Stop>, C: Case<E>>(
     rt: &(impl AllocGlobal + Abort),
     merger: &mut Merger<MemoryShelf>,

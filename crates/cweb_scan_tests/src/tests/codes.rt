@@ -1,4 +1,4 @@
-// The codes of C text.
+// Control codes in C text.
 use super::*;
 
 const CODES_OF_C_TEXT: &[(&[u8], &str)] = &[
@@ -10,7 +10,7 @@ const CODES_OF_C_TEXT: &[(&[u8], &str)] = &[
         b"@ @c x @H y",
         "[program] head:1 at:1 w:x defs at:1 w:y tail:1 ",
     ),
-    // a join takes the layout before it away
+    // a join drops the layout before it
     (
         b"@ @c a @& b\n\n@&\nc",
         "[program] head:1 at:1 w:a & w:b & / w:c tail:1 ",
@@ -45,7 +45,7 @@ const CONTROL_TEXTS: &[(&[u8], &str)] = &[
         b"@ @c @ta\nb@>c",
         "[program] head:1 at:1 / w:b w:c tail:1 ControlTextDidNotEnd 1 ",
     ),
-    // the text of `@=` is kept
+    // `@=` emits its bytes
     (
         b"@ @c @=a@@ b@>@=@>",
         "[program] head:1 at:1 v:a@ b v: tail:1 ",
@@ -70,7 +70,7 @@ const CHARACTER_CONSTANTS: &[(&[u8], &str)] = &[
         b"@ @c @'a'@'@@'@' '@'\"'@'\\0'@'\\17'@'\\377'@'\\a'@'\\b'@'\\f'@'\\n'@'\\r'@'\\t'@'\\v'@'\\\\'@'\\''@'\\\"'@'\\?'",
         "[program] head:1 at:1 n:97 n:64 n:32 n:34 n:0 n:15 n:255 n:7 n:8 n:12 n:10 n:13 n:9 n:11 n:92 n:39 n:34 n:63 tail:1 ",
     ),
-    // a fault ends with the next quote, or at the line's end
+    // a faulty constant ends at the next quote, or at the end of the line
     (
         b"@ @c @''x",
         "[program] head:1 at:1 w:x tail:1 FaultyConstant 1 ",
@@ -103,7 +103,7 @@ const CHARACTER_CONSTANTS: &[(&[u8], &str)] = &[
         b"@ @c @'a",
         "[program] head:1 at:1 tail:1 FaultyConstant 1 ",
     ),
-    // no section starts in it
+    // no section begins in it
     (
         b"@ @c @'@ 'x",
         "[program] head:1 at:1 w:x tail:1 FaultyConstant 1 ",

@@ -1,4 +1,4 @@
-// Texts that end in each item, and an `@` that is last.
+// Sources that end in each item, and an `@` at the end.
 use super::*;
 
 const WEBS_THAT_END_IN_AN_ITEM: &[(&[u8], &str)] = &[
@@ -39,7 +39,7 @@ fn webs_that_end_in_an_item(rt: HostRuntime) -> Result<(), Fail> {
     check_each(&rt, WEBS_THAT_END_IN_AN_ITEM)
 }
 
-// An `@` that is last in its line begins a section, but in literals.
+// An `@` at the end of a line begins a section, except in literals.
 const LAST_AT_OF_A_LINE: &[(&[u8], &str)] = &[
     (b"x@\n@c y", "[program] head:1 at:2 w:y tail:1 "),
     (

@@ -1,4 +1,4 @@
-// Memory that is refused in the midst of a scan.
+// Failed allocations in a scan.
 use super::*;
 use cweb_lines::Stop;
 
@@ -8,7 +8,7 @@ const MACROS: &[u8] = b"@l fc ue\n@* @d f(x) R\"(a\nb)\" @'a'\n@d g @=v@>\n@c @h
 
 const FAULTS: &[u8] = b"@x\n@ @d 1\n@c @^a\n@<A@<B\n@* @c \"x@y\n/* z\n";
 
-// A scan makes so many tokens and faults of the text.
+// The number of tokens and faults of a scan.
 #[derive(Clone, Copy)]
 struct Sizes {
     tokens: u32,
@@ -23,13 +23,13 @@ impl Case<Stop> for Sizes {
     }
 }
 
-// The same where memory may be refused: nothing else stops the scan.
+// Scans a web. A failed allocation is the only accepted stop.
 fn refuse_memory(rt: &(impl AllocGlobal + Abort), web: &[u8], tokens: u32, faults: usize) {
     let ended = check(rt, &[("a.w", web)], None, &Sizes { tokens, faults });
     holds(rt, matches!(ended, Ok(()) | Err(Stop::Memory)));
 }
 
-// Run by `tests/refusals`, which refuses each allocation of the scans in turn, one a run.
+// Also run by `tests/refusals`, which fails each allocation of the scans in turn, one per run.
 #[test]
 fn memory_that_is_refused(rt: HostRuntime) {
     refuse_memory(&rt, NAMES, 21, 0);

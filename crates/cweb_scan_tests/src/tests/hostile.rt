@@ -1,8 +1,8 @@
-// Webs of a thousand nested names, of long lines, of many lines, and of every byte.
+// Webs with a thousand nested names, long lines, many lines, and every byte.
 use super::*;
 use cweb_rules::{ScanFault, ScanKind};
 
-// A text again and again.
+// Bytes repeated `times` times.
 fn repeated(alloc: Global, text: &[u8], times: usize) -> Result<Vec<u8>, AllocError> {
     let mut whole = Vec::new(alloc);
     for _ in 0..times {
@@ -11,7 +11,7 @@ fn repeated(alloc: Global, text: &[u8], times: usize) -> Result<Vec<u8>, AllocEr
     Ok(whole)
 }
 
-// A web of a front, a middle that comes again and again, and a back.
+// A web of a prefix, a repeated middle and a suffix.
 fn long_web(
     alloc: Global,
     front: &[u8],
@@ -26,7 +26,7 @@ fn long_web(
     Ok(web)
 }
 
-// A scan makes so many tokens and faults and so many bytes of text of a web with this front.
+// The number of tokens, faults and bytes of strings of a web with this prefix.
 #[derive(Clone, Copy)]
 struct Sizes<'a> {
     front: &'a [u8],
@@ -42,7 +42,7 @@ impl Case<Fail> for Sizes<'_> {
     }
 }
 
-// All but the last of the faults are of names in names.
+// All faults but the last one are of nested names.
 fn names_nest(rt: &impl Abort, faults: &[ScanFault]) {
     holds(rt, faults.len() == 1000);
     for (number, fault) in faults.iter().enumerate() {
@@ -55,7 +55,7 @@ fn names_nest(rt: &impl Abort, faults: &[ScanFault]) {
     }
 }
 
-// A thousand names in one another.
+// A thousand nested names.
 #[derive(Clone, Copy)]
 struct Nested;
 
@@ -75,10 +75,10 @@ fn a_thousand_nested_names(rt: HostRuntime) -> Result<(), Fail> {
     check(&rt, &[("a.w", &web)], None, &Nested)
 }
 
-// The longest line that a merger takes.
+// The length of the longest line that a merger accepts.
 const LONGEST: usize = 1_048_575;
 
-// A line's front, what comes again and again behind it, how often, and its back; tokens, faults and bytes of text.
+// A line's prefix, repeated middle, count and suffix; the expected tokens, faults and bytes of strings.
 type LongLine = (
     &'static [u8],
     &'static [u8],
@@ -117,7 +117,7 @@ const LONG_LINES: &[LongLine] = &[
     (b"@ @d m ", b"x", LONGEST - 7, b"", 3, 0, LONGEST - 6),
 ];
 
-// A scan of such a web makes so much; the length of the web.
+// Checks the sizes of such a web. Returns its length.
 fn check_sizes(rt: &(impl AllocGlobal + Abort), line: &LongLine) -> Result<usize, Fail> {
     let (front, middle, times, back, tokens, faults, bytes) = *line;
     let web = long_web(rt.alloc(), front, middle, times, back)?;
@@ -135,7 +135,7 @@ fn lines_of_a_million_bytes(rt: HostRuntime) -> Result<(), Fail> {
     Ok(())
 }
 
-// What stands in front of a million empty lines; tokens, faults and bytes of text.
+// The prefix of a million empty lines; the expected tokens, faults and bytes of strings.
 const EMPTY_LINES: &[LongLine] = &[
     (b"", b"\n", 1_000_000, b"", 0, 0, 0),
     (b"@ @c", b"\n", 1_000_000, b"", 1_000_002, 0, 0),
@@ -154,7 +154,7 @@ fn many_empty_lines(rt: HostRuntime) -> Result<(), Fail> {
     Ok(())
 }
 
-// Bytes 0 and from 128 in each item.
+// Byte 0 and bytes from 128 on, in each item.
 const NUL_AND_HIGH_BYTES: &[(&[u8], &str)] = &[
     (b"\x00\xff@q\x00\xff@>@ \x00\xff@\x00@\xff", ""),
     (b"@\x00@\xff", "DoubleAtInLimbo 1 DoubleAtInLimbo 1 "),

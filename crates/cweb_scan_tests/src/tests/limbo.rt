@@ -1,11 +1,11 @@
-// Limbo, and the codes of text.
+// Limbo, and the codes of TeX parts.
 use super::*;
 
 const CODES_BEFORE_THE_FIRST_SECTION: &[(&[u8], &str)] = &[
     (b"x @@ @f @s @F @S @q a@@b@> y", ""),
     (b"@<a@>", "DoubleAtInLimbo 1 DoubleAtInLimbo 1 "),
     (b"@d x\n@C", "DoubleAtInLimbo 1 DoubleAtInLimbo 2 "),
-    // control texts that did not end
+    // control texts that don't end
     (
         b"@q a\n@q b@x\n@qc@@d",
         "ControlTextDidNotEnd 1 ControlTextDidNotEnd 2 DoubleAtInLimbo 2 ControlTextDidNotEnd 3 ",
@@ -24,7 +24,7 @@ const LETTERS: &[(&[u8], &str)] = &[
     (b"@l fc .", "fc= "),
     (b"@l fc a\n@l e4 b\n@l fc c", "e4=b fc=c "),
     (b"@l fc x@c", "fc=x DoubleAtInLimbo 1 "),
-    // no letter
+    // faulty hexadecimal numbers
     (b"@l 7f x", "ImproperHexNumber 1 "),
     (b"@l fcx", "ImproperHexNumber 1 "),
     (b"@l f x", "ImproperHexNumber 1 "),
@@ -34,9 +34,9 @@ const LETTERS: &[(&[u8], &str)] = &[
     (b"@l fc \n", "ImproperHexNumber 1 "),
     (b"@l 8", "ImproperHexNumber 1 "),
     (b"@l", "ImproperHexNumber 1 "),
-    // the pair alone is passed over
+    // only `@@` is skipped
     (b"@l @x", "ImproperHexNumber 1 DoubleAtInLimbo 1 "),
-    // 31 letters, and 32, with which nothing is set
+    // 31 letters, and 32, which set nothing
     (
         b"@l fc 0123456789abcdefghijklmnopqrstu",
         "fc=0123456789abcdefghijklmnopqrstu ",
@@ -59,7 +59,7 @@ const CODES_OF_TEX_PARTS: &[(&[u8], &str)] = &[
     ),
     (b"@ text @c x", "[program] head:1 at:1 w:x tail:1 "),
     (b"@ @Px", "[program] head:1 at:1 w:x tail:1 "),
-    // a name without an opener sign is an occurrence alone
+    // a name without a part opener is only an occurrence
     (
         b"@ @<Ab@> @<Ac@> @c @<A...@>",
         "[program] head:1 at:1 <?> at:1 tail:1 Ambiguous <A> ",

@@ -1,4 +1,4 @@
-// Line ends, and lines of several files.
+// Newlines, and lines of several files.
 use super::*;
 
 const LINE_ENDS_OF_MACROS: &[(&[u8], &str)] = &[
@@ -33,18 +33,18 @@ const LINES_OF_FILES: &[(&[u8], &str)] = &[
         b"@ @c a\n@i gone\n\ne\n",
         "[program] head:1 at:1 w:a at:3 / w:e tail:1 ",
     ),
-    // in a comment too
+    // also in a comment
     (
         b"@ @c a/*\n@i d\n*/e\n",
         "[program] head:1 at:1 w:a at:2.1 / at:3 w:e tail:1 ",
     ),
-    // in a directive the line behind a `\` has none
+    // in a directive, the line after a `\` has none
     (
         b"@ @c\n#a \\\n@i d\ne\n",
         "[program] head:1 at:1 / p:# w:a _ p:\\ / w:x at:2.2 w:y at:4 w:e tail:1 ",
     ),
     (b"@ @d m a\n@i d\n", "[macro] w:m _ w:a / w:x / w:y "),
-    // literals and names keep their line ends; the line behind them follows theirs
+    // literals and names keep their newlines; the line after them follows theirs
     (
         b"@ @c \"a\\\nb;\nc\"\n\"a\\\n@i d\n",
         "[program] head:1 at:1 l:\"a\\{0a}B; at:3 w:c l:\" / l:\"a\\{0a}x / w:y tail:1 StringDidNotEnd 1 StringDidNotEnd 3 StringDidNotEnd 4 ",
@@ -53,7 +53,7 @@ const LINES_OF_FILES: &[(&[u8], &str)] = &[
         b"@ @c @<a\nb;\nc@>\nd\n",
         "[program] head:1 at:1 <a B; c> at:3 / w:d tail:1 NotPresent <a B; c> ",
     ),
-    // a fault of a line that the change file gave
+    // a fault in a line of the change file
     (
         b"@ @c\nb;\n@<\n",
         "[program] head:1 at:1 at:1.4 w:B p:; at:3 <> at:3 tail:1 NameDidNotEnd 3 NotPresent <> ",

@@ -1,4 +1,4 @@
-// Literals, with raw ones.
+// Literals, raw ones included.
 use super::*;
 
 const LITERALS: &[(&[u8], &str)] = &[
@@ -22,7 +22,7 @@ const LITERALS: &[(&[u8], &str)] = &[
         b"@ @c \"a\\",
         "[program] head:1 at:1 l:\"a\\ tail:1 StringDidNotEnd 1 ",
     ),
-    // `@@` stands for `@`, and another one is a fault
+    // `@@` is an `@`, and a lone `@` is a fault
     (b"@ @c \"a@@b\"", "[program] head:1 at:1 l:\"a@b\" tail:1 "),
     (
         b"@ @c \"\\@@x\"",
@@ -32,7 +32,7 @@ const LITERALS: &[(&[u8], &str)] = &[
         b"@ @c \"\\@x\"",
         "[program] head:1 at:1 l:\"\\@x\" tail:1 DoubleAtInString 1 ",
     ),
-    // no section starts in it
+    // no section begins in it
     (
         b"@ @c \"a@b@ c\"d",
         "[program] head:1 at:1 l:\"a@b@ c\" w:d tail:1 DoubleAtInString 1 DoubleAtInString 1 ",
@@ -61,7 +61,7 @@ const RAW_LITERALS: &[(&[u8], &str)] = &[
         b"@ @c R\"(a\\\")\"b",
         "[program] head:1 at:1 l:R\"(a\\\")\" w:b tail:1 ",
     ),
-    // line ends belong to it
+    // newlines belong to it
     (
         b"@ @c R\"(a \n  b)\"c\nd",
         "[program] head:1 at:1 l:R\"(a{0a}  b)\" w:c / w:d tail:1 ",
@@ -74,7 +74,7 @@ const RAW_LITERALS: &[(&[u8], &str)] = &[
         b"@ @c R\"(a@@b\nc@d)\"",
         "[program] head:1 at:1 l:R\"(a@b{0a}c@d)\" tail:1 DoubleAtInString 2 ",
     ),
-    // delimiters of 16 bytes and of 17
+    // delimiters of 16 and of 17 bytes
     (
         b"@ @c R\"0123456789abcdef(a)0123456789abcdef\"",
         "[program] head:1 at:1 l:R\"0123456789abcdef(a)0123456789abcdef\" tail:1 ",
@@ -87,7 +87,7 @@ const RAW_LITERALS: &[(&[u8], &str)] = &[
         b"@ @c R\"a b(c)a b\" R\"@@(x)@@\" R\"\\(x)\\\"",
         "[program] head:1 at:1 w:R l:\"a b(c)a b\" w:R l:\"@(x)@\" w:R l:\"\\(x)\\\" tail:1 StringDidNotEnd 1 ",
     ),
-    // a section start and the end of the text end it
+    // a section start and the end of the source end it
     (
         b"@ @c R\"(a@ b",
         "[program] head:1 at:1 l:R\"(a tail:1 StringDidNotEnd 1 ",

@@ -7,7 +7,7 @@ const DEFINITIONS_AND_MACROS: &[(&[u8], &str)] = &[
         b"@ @d $a_1\xe4(b)c @D d",
         "[macro] w:$a_1{e4} p:( w:b p:) w:c [macro] w:d ",
     ),
-    // what is no identifier drops the definition, and text goes on there
+    // any other lexeme than an identifier drops the definition, and TeX continues
     (b"@ @d 1 @d n", "[macro] w:n DefinitionDropped 1 "),
     (
         b"@ @d\n@c x",

@@ -1,11 +1,11 @@
-// Names of sections, and the signs behind them.
+// Names of sections, and the part openers after them.
 use super::*;
 
 const OPENERS_AFTER_NAMES: &[(&[u8], &str)] = &[
     (b"@ @<A@>=x", "[<A>] head:1 at:1 w:x tail:1 "),
     (b"@ @<A@> \t +=x", "[<A>] head:1 at:1 w:x tail:1 "),
     (b"@ @<A@>= =x", "[<A>] head:1 at:1 p:= w:x tail:1 "),
-    // no opener signs
+    // no part openers
     (b"@ @<A@>==x", ""),
     (b"@ @<A@>+==x", ""),
     (b"@ @<A@>+x", ""),
@@ -40,7 +40,7 @@ const SPELLING: &[(&[u8], &str)] = &[
         b"@ @<  a \t b\x0bc\n d @>=x",
         "[<a b c d>] head:1 at:2 w:x tail:1 ",
     ),
-    // blanks as they stand, and too many
+    // blanks are squeezed
     (b"@ @<a b c@>=x", "[<a b c>] head:1 at:1 w:x tail:1 "),
     (b"@ @<a b  c@>=x", "[<a b c>] head:1 at:1 w:x tail:1 "),
     (b"@ @<a\tb@>=x", "[<a b>] head:1 at:1 w:x tail:1 "),
@@ -88,7 +88,7 @@ const NAMES_THAT_DID_NOT_END: &[(&[u8], &str)] = &[
         b"@ @c @<A\nb@ x",
         "[program] head:1 at:1 <A b> at:2 tail:1 NameDidNotEnd 1 NotPresent <A b> ",
     ),
-    // an opener sign belongs to no such name
+    // no part opener belongs to such a name
     (
         b"@ @<A@ @<B@>=x",
         "[<B>] head:2 at:1 w:x tail:2 NameDidNotEnd 1 ",

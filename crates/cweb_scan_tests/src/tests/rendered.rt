@@ -1,11 +1,10 @@
-// What a scan made, as text: the tokens, each part behind its kind; the bytes that have a replacement; the names of files;
-// the faults of the text and of names.
+// Renders a scan: the tokens, each part after its kind; transliterated bytes; file names; faults of source and names.
 use super::*;
 use cweb_files::Place;
 use cweb_rules::ScanFault;
 use cweb_store::{NameId, NameRef, Parts, Store, Token};
 
-// Bytes; those that aren't printed as they stand, by their numbers in braces.
+// Appends bytes. Unprintable ones are numbers in braces.
 fn render_bytes(told: &mut String, bytes: &[u8]) -> Result<(), AllocError> {
     for byte in bytes {
         if matches!(*byte, b' '..=b'~') {
@@ -17,7 +16,7 @@ fn render_bytes(told: &mut String, bytes: &[u8]) -> Result<(), AllocError> {
     Ok(())
 }
 
-// A place by its line, and by its file where that isn't the web.
+// Appends a place: its line, and its file if that isn't the web.
 fn render_place(told: &mut String, place: Place) -> Result<(), AllocError> {
     if place.file.0 > 0 {
         write!(told, "{}.", place.file.0)?;
@@ -25,7 +24,7 @@ fn render_place(told: &mut String, place: Place) -> Result<(), AllocError> {
     write!(told, "{}", place.line)
 }
 
-// Bytes between a front and a back.
+// Appends bytes between a prefix and a suffix.
 fn render_between(
     told: &mut String,
     front: &str,
@@ -37,12 +36,12 @@ fn render_between(
     told.push_str(back)
 }
 
-// A name in angle brackets.
+// Appends a name in angle brackets.
 fn render_name(told: &mut String, name: &[u8]) -> Result<(), AllocError> {
     render_between(told, "<", name, ">")
 }
 
-// A use, by the name that it stands for.
+// Appends a use by the name that it resolves to.
 fn render_use(told: &mut String, store: &Store, name: NameRef) -> Result<(), AllocError> {
     match store.standing(name) {
         Some(id) => render_name(told, store.name_text(id)),
@@ -55,7 +54,7 @@ fn render_mark(told: &mut String, place: Place) -> Result<(), AllocError> {
     render_place(told, place)
 }
 
-// The letter of a kind of token, and the bytes of the token.
+// Appends the letter of a token's kind and the token's bytes.
 fn render_spelling(told: &mut String, letter: &str, bytes: &[u8]) -> Result<(), AllocError> {
     told.push_str(letter)?;
     render_bytes(told, bytes)
@@ -79,7 +78,7 @@ fn render_token(told: &mut String, store: &Store, token: Token<'_>) -> Result<()
     }
 }
 
-// The kind of each of these parts that begins with a token, between a front and a back.
+// Appends the kind of each of these parts that begins with this token, between a prefix and a suffix.
 fn render_parts(
     told: &mut String,
     parts: Parts<'_>,
@@ -95,7 +94,7 @@ fn render_parts(
     Ok(())
 }
 
-// The kind of the part that begins with a token, in brackets.
+// Appends the kind of the part that begins with this token, in brackets.
 fn render_kind(told: &mut String, store: &Store, number: u32) -> Result<(), AllocError> {
     render_parts(told, store.macros(), number, b"macro", ("[", "] "))?;
     render_parts(told, store.unnamed(), number, b"program", ("[", "] "))?;
@@ -107,7 +106,7 @@ fn render_kind(told: &mut String, store: &Store, number: u32) -> Result<(), Allo
     Ok(())
 }
 
-// The tokens, each with a blank behind it.
+// Appends the tokens, each followed by a blank.
 fn render_tokens(told: &mut String, store: &Store) -> Result<(), AllocError> {
     for number in 0..store.tokens() {
         render_kind(told, store, number)?;
@@ -143,7 +142,7 @@ fn render_faults(told: &mut String, faults: &[ScanFault]) -> Result<(), AllocErr
     Ok(())
 }
 
-// The faults of names, each with the name or the prefix that shows it.
+// Appends the faults of names, each with its name or prefix.
 fn render_name_faults(told: &mut String, store: &Store) -> Result<(), AllocError> {
     for fault in store.name_faults() {
         write!(told, "{:?}", fault.kind)?;
@@ -152,7 +151,7 @@ fn render_name_faults(told: &mut String, store: &Store) -> Result<(), AllocError
     Ok(())
 }
 
-/// All of it, each piece with a blank behind it.
+/// Appends all of it, each item followed by a blank.
 pub fn render(told: &mut String, made: &Scanned) -> Result<(), AllocError> {
     render_tokens(told, &made.store)?;
     render_replacements(told, &made.store)?;

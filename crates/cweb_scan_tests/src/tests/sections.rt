@@ -1,7 +1,7 @@
 // Sections and their numbers.
 use super::*;
 
-// How many sections there are, and the numbers of the starred ones.
+// Appends the number of sections, and the numbers of the starred ones.
 fn render_sections(told: &mut String, sections: u32, starred: &[u32]) -> Result<(), AllocError> {
     write!(told, "{sections}")?;
     for number in starred {
@@ -10,7 +10,7 @@ fn render_sections(told: &mut String, sections: u32, starred: &[u32]) -> Result<
     Ok(())
 }
 
-// A web has these sections.
+// A web and its expected sections.
 #[derive(Clone, Copy)]
 struct Sections<'a> {
     web: &'a [u8],
@@ -34,7 +34,7 @@ const SECTION_STARTS: &[(&[u8], &str)] = &[
     (b"@\tx@ y", "2"),
     (b"@*x", "1 *1"),
     (b"@ a@*b@ c@*", "4 *2 *4"),
-    // other white bytes begin none, but at a line's end they are dropped
+    // other white bytes begin none, but are dropped at the end of a line
     (b"@\x0bx", "0"),
     (b"@\x0b\nx", "1"),
     // inside each item

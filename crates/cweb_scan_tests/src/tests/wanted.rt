@@ -1,5 +1,4 @@
-// What was found is what is wanted. Each question stands in a function of its own: a test that calls them is sooner proved than one
-// that has their failures in it.
+// Assertions. Each is a function of its own, so that its callers have no failure branches and verify quickly.
 use std::process::Abort;
 
 pub fn holds(rt: &impl Abort, is_so: bool) {
@@ -10,12 +9,12 @@ pub fn same_string(rt: &impl Abort, got: &str, want: &str) {
     assert_eq!(rt; got, want);
 }
 
-/// The same of a web.
+/// Compares the reports on a web.
 pub fn same_string_of(rt: &impl Abort, got: &str, want: &str, web: &[u8]) {
     assert_eq!(rt; got, want, "of {web:?}");
 }
 
-/// Tokens, faults and bytes of text of a web with this front.
+/// Compares the tokens, faults and bytes of strings of a web with this prefix.
 pub fn same_sizes(rt: &impl Abort, got: (u32, usize, u64), want: (u32, usize, u64), front: &[u8]) {
     assert_eq!(rt; got, want, "behind {front:?}");
 }

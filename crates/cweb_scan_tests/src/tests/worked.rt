@@ -1,4 +1,4 @@
-// Worked webs.
+// Worked examples of webs.
 use super::*;
 
 const PARTS_AND_NAMES: &[(&[u8], &str)] = &[
@@ -79,7 +79,7 @@ fn operators_macros_and_directives(rt: HostRuntime) -> Result<(), Fail> {
     check_each(&rt, OPERATORS_MACROS_AND_DIRECTIVES)
 }
 
-// Each kind of fault, in the order of the items that have them.
+// Each kind of fault, in the order of the items.
 const FAULTS_IN_THE_ORDER_OF_THEIR_ITEMS: &[(&[u8], &str)] = &[
     (
         b"me@@x @c\n@ @c int a; @d @l b @'ab' \"x@y\"\n",
@@ -89,7 +89,7 @@ const FAULTS_IN_THE_ORDER_OF_THEIR_ITEMS: &[(&[u8], &str)] = &[
         b"@l 7f x\n@l e4 xxxxxxxxxxxxxxxxxxxxxxxxxxxxxxxx\n@ @d 1\n@d m @h @l\n@c @t ab\n@<A@<B@> =b\n",
         "[macro] w:m [program] head:1 at:5 / <A> at:6 <B> at:6 p:= w:b tail:1 ImproperHexNumber 1 ReplacementTooLong 2 DefinitionDropped 3 DefsInMacro 4 LetterOutsideLimbo 4 ControlTextDidNotEnd 5 NamesDoNotNest 6 MissingAt 6 NotPresent <A> NotPresent <B> ",
     ),
-    // the places of a comment, a name and a literal are those where they begin, and that of an `@` its own
+    // comments, names and literals have the place of their start, an `@` has its own
     (
         b"@ @c /*\na\n@ @c @<b\nc\n@ @c \"d\\\ne@f\\\ng\nR\"(\nh@i\n",
         "[program] head:1 at:1 / / tail:1 [program] head:2 at:3 <b c> at:5 tail:2 [program] head:3 at:5 l:\"d\\{0a}e@f\\{0a}g / l:R\"({0a}h@i tail:3 CommentDidNotEnd 1 NameDidNotEnd 3 DoubleAtInString 6 StringDidNotEnd 5 DoubleAtInString 9 StringDidNotEnd 8 NotPresent <b c> ",

@@ -1,4 +1,4 @@
--- What a store keeps besides the occurrences and the parts.
+-- What a store computes from its occurrences and parts.
 use Rattle.std.specs.Prelude.{◌≡◌, Bool, List}
 use Rattle.cweb_names.specs.declared.name.NameId.{NameId}
 use Rattle.cweb_names.specs.declared.name.NameFault.{NameFault}

@@ -1,4 +1,4 @@
--- Tokens to which none comes, and other texts behind theirs.
+-- Finished tokens, followed by other strings.
 use Rattle.std.specs.Prelude.{◌≡◌, ◌≤◌, ℕ, List, [], ◌∷◌, ◌++◌, map, length, take, drop, filter, bytes_eq}
 use Rattle.std.specs.List.{list_any}
 use Rattle.cweb_store.specs.Parts.{Token}
@@ -13,24 +13,22 @@ pub record ClosedTokensModel : Type 0 where
   pub tokens : List Token
   pub others : List (List ℕ)
 
--- the tokens that records stand for, and the texts behind the first ones
+-- The tokens of the records. The strings after the first `own` ones are the other strings.
 abbrev pub closed_tokens_model : List (List ℕ) → List InternedToken → ℕ → ClosedTokensModel
 closed_tokens_model strings records own =
     record { tokens = map (token_of_interned strings) records; others = drop own strings }
 
--- tokens with no other texts
 abbrev pub tokens_alone : List Token → ClosedTokensModel
 tokens_alone tokens = record { tokens = tokens; others = [] }
 
 abbrev pub with_string : List ℕ → ClosedTokensModel → ClosedTokensModel
 with_string string c = record c { others = c.others ++ string ∷ [] }
 
--- more texts, one after another
 abbrev pub with_strings : List (List ℕ) → ClosedTokensModel → ClosedTokensModel
 with_strings [] c = c
 with_strings (t ∷ ts) c = with_strings ts (with_string t c)
 
--- the records have their texts, of which the equal words and punctuators of tokens are kept once; no text is without a token
+-- The table has exactly the strings of the records. Equal Words and punctuators are stored once.
 pub record AreTokens (kept : StringTableModel) (records : List InternedToken) : Type 0 where
   pub interned : StringsAreWithin kept.strings records
   pub words : (q : List ℕ)
@@ -38,7 +36,7 @@ pub record AreTokens (kept : StringTableModel) (records : List InternedToken) : 
   pub bytes : length (text_bytes kept.strings) ≡ interned_token_bytes (map (token_of_interned kept.strings) records)
   pub few : length kept.strings ≤ length (filter has_string (map (token_of_interned kept.strings) records))
 
--- the same of the first texts, where others stand behind them
+-- The first `own` strings are those of the records; other strings may follow.
 pub record AreClosed (strings : List (List ℕ)) (records : List InternedToken) (own : ℕ) : Type 0 where
   pub interned : StringsAreWithin strings records
   pub within : own ≤ length strings

@@ -1,11 +1,11 @@
--- What a token lends that is printed as its text stands.
+-- Direct tokens: those that are printed as their own bytes, whatever is to their left.
 use Rattle.std.specs.Prelude.{Option, None, Some, codes, if◌then◌else◌}
 use Rattle.std.specs.List.{list_any}
 use Rattle.cweb_store.specs.Parts.{Token, Word, Number, Literal, Verbatim, Punct, Blank, Newline}
 use Rattle.cweb_texts.specs.declared.edges.Edge.TheVariants as border
 use Rattle.cweb_texts.specs.inner.Edges.{TokenBytesModel, is_high, punctuator_edge}
 
--- what a token lends that is printed as a text stands, if it is one
+-- The bytes of a direct token, or `None`.
 abbrev pub direct_bytes : Token → Option TokenBytesModel
 direct_bytes (Word b) = if list_any is_high b then None else Some (record { string = b; edge = border.Word })
 direct_bytes (Number b) = Some (record { string = b; edge = border.Number })

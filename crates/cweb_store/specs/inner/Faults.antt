@@ -1,4 +1,4 @@
--- The faults of names, and their order.
+-- Faults of names, one by one.
 use Rattle.std.specs.Prelude.{◌∷◌, [], ℕ, Bool, List}
 use Rattle.std.specs.Prelude.{if◌then◌else◌}
 use Rattle.cweb_names.specs.declared.name.NameKind.{NameKind}

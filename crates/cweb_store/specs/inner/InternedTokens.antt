@@ -1,4 +1,4 @@
--- Tokens of fixed size, which have their texts by number.
+-- Tokens of fixed size with string indices.
 use Rattle.std.specs.Prelude.{◌≡◌, ℕ, ◌<◌, ◌≤◌, ◌+◌, List, [], ◌∷◌, ◌++◌, length, filter, bytes_eq}
 use Rattle.std.specs.List.{list_any}
 use Rattle.cweb_store.specs.Parts as spec
@@ -12,7 +12,6 @@ use Rattle.cweb_store.specs.declared.tokens.interned.InternedToken.TheVariants.{
 use Rattle.cweb_store.specs.declared.tokens.interned.InternedToken.TheVariants.{Blank, Newline, Join, Defs, Name, Head}
 use Rattle.cweb_store.specs.declared.tokens.interned.InternedToken.TheVariants.{Tail, Mark}
 
--- the token that a record stands for
 abbrev pub token_of_interned : List (List ℕ) → InternedToken → spec.Token
 token_of_interned strings (Word number) = spec.Word (string_at strings number)
 token_of_interned strings (Number number) = spec.Number (string_at strings number)
@@ -28,7 +27,7 @@ token_of_interned strings (Head section) = spec.Head section
 token_of_interned strings (Tail section) = spec.Tail section
 token_of_interned strings (Mark place) = spec.Mark place
 
--- the text of a record, if it has one, is among so many
+-- The string index of a record, if it has one, is below n.
 abbrev pub StringIsWithin : ℕ → InternedToken → Type 0
 StringIsWithin n (Word number) = number < n
 StringIsWithin n (Number number) = number < n
@@ -41,7 +40,7 @@ abbrev pub StringsAreWithin : List (List ℕ) → List InternedToken → Type 0
 StringsAreWithin strings [] = Unit {0}
 StringsAreWithin strings (p ∷ ps) = StringIsWithin (length strings) p × StringsAreWithin strings ps
 
--- the texts that were there stay, and the record stands for the token
+-- All old strings are unchanged, and the record resolves to the token.
 pub record InternsToken (old : StringTableModel) (token : spec.Token) (interned : InternedToken)
     (new : StringTableModel) : Type 0 where
   pub more : List (List ℕ)

@@ -1,4 +1,4 @@
--- Where the next token of a kind stands.
+-- The next token of a kind.
 use Rattle.std.specs.Prelude.{◌≡◌, ◌≤◌, ◌<◌, ℕ, Bool, true, false, List, Some, slice_get, slice_range}
 use Rattle.std.specs.List.{list_any}
 use Rattle.cweb_store.specs.declared.parts.Part.{Part}
@@ -8,13 +8,13 @@ abbrev pub is_name_use : Token → Bool
 is_name_use (Name name) = true
 is_name_use token = false
 
--- the token at a number passes a test
+-- The token at an index passes a test.
 pub record HasPassingToken (test : Token → Bool) (tokens : List Token) (number : ℕ) : Type 0 where
   pub token : Token
   pub here : slice_get tokens number ≡ Some token
   pub passes : test token ≡ true
 
--- the number of the first token of a part that passes a test, or the one after the part where none does
+-- The index of the first passing token of a part, or the end of the part if there is none.
 pub record IsNextNumber (test : Token → Bool) (tokens : List Token) (part : Part) (next : ℕ) : Type 0 where
   pub begins : part.first ≤ next
   pub within : next ≤ part.after

@@ -1,4 +1,4 @@
--- Parts as runs of one list of tokens.
+-- Parts as ranges of one list of tokens.
 use Rattle.std.specs.Prelude.{◌≡◌, ℕ, ◌+◌, ◌≤◌, ◌<◌, List, [], ◌∷◌, Option, Some, None, map, length, drop, slice_range}
 use Rattle.std.specs.Prelude.{option_map, option_to_list, IsSome}
 use Rattle.cweb_store.specs.declared.parts.PartRange.{PartRange}
@@ -17,17 +17,17 @@ open_in ts o = record { kind = o.kind; tokens = drop o.first ts }
 abbrev pub parts_in : List Token → List PartRange → Option Open → PartsSoFar
 parts_in ts ranges current = record { closed = map (closed_in ts) ranges; current = option_map (open_in ts) current }
 
--- where the tokens of the closed parts end
+-- The end of the closed parts' tokens.
 abbrev pub closed_end : List Token → Option Open → ℕ
 closed_end ts None = length ts
 closed_end ts (Some o) = o.first
 
--- from n up to an end, each run begins where the one before it ended
+-- From n to `end`, each range begins at the end of the previous one.
 abbrev pub RangesFollow : ℕ → List PartRange → ℕ → Type 0
 RangesFollow n [] end = n ≡ end
 RangesFollow n (r ∷ rs) end = (r.part.first ≡ n) × (n ≤ r.part.after) × RangesFollow r.part.after rs end
 
--- the closed parts follow one another up to the open one, and while a part is open there is a place for its run
+-- The closed parts are contiguous up to the open one. While a part is open, room for its range is reserved.
 pub record ArePartRanges (ts : List Token) (ranges : List PartRange) (current : Option Open) (places : ℕ) : Type 0 where
   pub follow : RangesFollow 0 ranges (closed_end ts current)
   pub within : closed_end ts current ≤ length ts
@@ -35,24 +35,24 @@ pub record ArePartRanges (ts : List Token) (ranges : List PartRange) (current : 
   pub few_tokens : length ts < too_many
   pub few_parts : length ranges + length (option_to_list current) < too_many
 
--- closed parts that follow one another through all tokens
+-- Contiguous closed parts cover all tokens.
 pub record IsWhole (ts : List Token) (ranges : List PartRange) : Type 0 where
   pub follow : RangesFollow 0 ranges (length ts)
   pub few_tokens : length ts < too_many
   pub few_parts : length ranges < too_many
 
--- the same, where no other texts stand behind those of the tokens
+-- Contiguous closed parts cover all tokens, and there are no other strings.
 pub record AreClosedRanges (c : ClosedTokensModel) (ranges : List PartRange) : Type 0 where
   pub whole : IsWhole c.tokens ranges
   pub alone : c ≡ tokens_alone c.tokens
 
--- parts as runs, where the first token has number n
+-- The ranges of parts if the first token has index n.
 abbrev pub ranges_from : ℕ → List Part → List PartRange
 ranges_from n [] = []
 ranges_from n (p ∷ ps) =
     let after = n + length p.tokens in
     record { kind = p.kind; part = record { first = n; after = after } } ∷ ranges_from after ps
 
--- the run of the open part, where its tokens end
+-- The range of the open part if it ends at `after`.
 abbrev pub last_range : Open → ℕ → PartRange
 last_range o after = record { kind = o.kind; part = record { first = o.first; after = after } }

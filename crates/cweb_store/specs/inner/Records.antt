@@ -1,4 +1,4 @@
--- Tokens by number in records, and the places of Marks beside them.
+-- Tokens as records, and the places of Marks beside them.
 use Rattle.std.specs.Prelude.{◌≡◌, ◌<◌, ℕ, ◌+◌, Bool, true, false, cond, List, [], ◌∷◌, ◌++◌, length, slice_index_or}
 use Rattle.cweb_files.specs.declared.place.Place.{Place}
 use Rattle.cweb_store.specs.inner.InternedTokens.{InternsToken}
@@ -9,7 +9,7 @@ use Rattle.cweb_store.specs.declared.tokens.interned.InternedToken.TheVariants a
 use Rattle.cweb_store.specs.declared.tokens.records.Record.{Record}
 use Rattle.cweb_store.specs.declared.tokens.records.Record.TheVariants as record_of
 
--- tokens, for how many there is room, how many places there are, and for how many there is room
+-- Tokens and places, and the room for each.
 pub record RecordsModel : Type 0 where
   pub interned : List InternedToken
   pub room : ℕ
@@ -19,7 +19,6 @@ pub record RecordsModel : Type 0 where
 abbrev pub place_at : List Place → ℕ → Place
 place_at places number = slice_index_or places number (record { file = record { 0 = 0 }; line = 0 })
 
--- the token that a record stands for
 abbrev pub interned_of_record : List Place → Record → InternedToken
 interned_of_record places (record_of.Word n) = packed.Word n
 interned_of_record places (record_of.Number n) = packed.Number n
@@ -39,33 +38,33 @@ abbrev pub has_place : Record → Bool
 has_place (record_of.Mark n) = true
 has_place r = false
 
--- the place of a record, if it has one, has the number
+-- The place index of a record, if it has one, is `number`.
 abbrev pub PlaceHasNumber : ℕ → Record → Type 0
 PlaceHasNumber number (record_of.Mark n) = n ≡ number
 PlaceHasNumber number r = Unit {0}
 
--- the place of a record, if it has one, is among so many
+-- The place index of a record, if it has one, is below `count`.
 abbrev pub PlaceIsWithin : ℕ → Record → Type 0
 PlaceIsWithin count (record_of.Mark n) = n < count
 PlaceIsWithin count r = Unit {0}
 
--- how many places a record has
+-- The number of places of a record: 0 or 1.
 abbrev pub places_of : Record → ℕ
 places_of r = cond (has_place r) 1 0
 
--- the places of records are numbered in order, from one number up to another
+-- The place indices of records are consecutive, from `number` up to `end`.
 abbrev pub AreNumbered : ℕ → List Record → ℕ → Type 0
 AreNumbered number [] end = number ≡ end
 AreNumbered number (r ∷ rs) end = PlaceHasNumber number r × AreNumbered (number + places_of r) rs end
 
--- the record's place, if it has one, is added behind the others
+-- The place of a record, if it has one, is appended.
 pub record AddsPlace (old : List Place) (r : Record) (new : List Place) : Type 0 where
   pub more : List Place
   pub grows : new ≡ old ++ more
   pub at : PlaceHasNumber (length old) r
   pub count : length new ≡ length old + places_of r
 
--- a token is added behind the others, and its text is kept
+-- A token is appended and its string is stored.
 pub record AppendsRecord (old : StringTableModel) (tokens : List InternedToken) (token : spec.Token)
     (new : StringTableModel)
     (grown : List InternedToken) : Type 0 where
@@ -77,7 +76,7 @@ abbrev pub is_mark : spec.Token → Bool
 is_mark (spec.Mark place) = true
 is_mark token = false
 
--- there is room for one more token, and for its place, if it has one
+-- There is room for one more token and its place.
 pub record RecordHasRoom (token : spec.Token) (r : RecordsModel) : Type 0 where
   pub room : length r.interned < r.room
   pub place : is_mark token ≡ true → r.places < r.place_room

@@ -1,4 +1,4 @@
--- A replacement as it is kept.
+-- A replacement as the builder stores it.
 use Rattle.cweb_store.specs.declared.replacements.Replaced.{Replaced}
 use Rattle.cweb_store.specs.Replacements.{Replacement}
 

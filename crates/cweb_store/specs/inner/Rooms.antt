@@ -1,26 +1,25 @@
--- Tokens and parts while they are given, and for how many of them memory is set aside.
+-- Tokens and parts of a builder, with the room reserved for them.
 use Rattle.std.specs.Prelude.{ℕ, List}
 use Rattle.cweb_store.specs.Parts.{Token}
 use Rattle.cweb_store.specs.Growing.{PartsSoFar}
 
--- for how many tokens there is room, and among them for how many places of Marks, uses and Defs
+-- The room for tokens, and for the places of Marks, uses and Defs among them.
 pub record TokenRooms : Type 0 where
   pub for_records : ℕ
   pub for_places : ℕ
   pub for_uses : ℕ
   pub for_defs : ℕ
 
--- tokens, and what there is room for
 pub record TokenListModel : Type 0 where
   pub tokens : List Token
   pub rooms : TokenRooms
 
--- the room for tokens, and for how many closed parts there is room
+-- The room for tokens and for closed parts.
 pub record Rooms : Type 0 where
   pub for_tokens : TokenRooms
   pub for_parts : ℕ
 
--- the parts so far, and what there is room for
+-- The parts so far, and the room for more.
 pub record PartListModel : Type 0 where
   pub parts : PartsSoFar
   pub rooms : Rooms

@@ -1,4 +1,4 @@
--- What a store keeps, and what it stands for.
+-- The representation of a store, and its model.
 use Rattle.std.specs.Prelude.{◌≡◌, ◌<◌, ℕ, ◌+◌, Bool, List, [], ◌∷◌, Option, Some, None, map, length, drop, slice_get}
 use Rattle.std.specs.Prelude.{nat_eq, if◌then◌else◌}
 use Rattle.cweb_names.specs.declared.name.NameId.{NameId}
@@ -17,22 +17,22 @@ use Rattle.cweb_store.specs.inner.ClosedTokens.{ClosedTokensModel}
 use Rattle.cweb_store.specs.Calls.{Stored, stored}
 use Rattle.cweb_store.specs.inner.Answers.{AreAnswers}
 
--- the replacements of bytes by texts, one after another
+-- Replacements from their strings and bytes.
 abbrev pub replacements_at : List (List ℕ) → List ℕ → List Replacement
 replacements_at strings [] = []
 replacements_at [] (b ∷ bs) = []
 replacements_at (t ∷ ts) (b ∷ bs) = replacement_of b t ∷ replacements_at ts bs
 
--- where a byte stands last in a list, where the first byte has number i
+-- The index of the last occurrence of a byte in a list whose first entry has index i.
 abbrev pub last_from : ℕ → Option ℕ → ℕ → List ℕ → Option ℕ
 last_from byte found i [] = found
 last_from byte found i (b ∷ bs) = last_from byte (if nat_eq b byte then Some i else found) (i + 1) bs
 
--- a table of where each byte stands last in a list
+-- A table of the last occurrence of each byte in a list.
 abbrev pub AreLast : List (Option ℕ) → List ℕ → Type 0
 AreLast places bytes = (byte : ℕ) → byte < 256 → slice_get places byte ≡ Some (last_from byte None 0 bytes)
 
--- the texts of occurrences come first behind those of the tokens, then the replacements
+-- After the tokens' strings come those of the occurrences, then those of the replacements.
 abbrev pub stored_in : ClosedTokensModel → List PartRange → List OccurrenceForm → List ℕ → Stored
 stored_in c ranges given replaced =
     stored (occurrences_at c.others given) (map (closed_in c.tokens) ranges)

@@ -1,4 +1,4 @@
--- The texts of tokens, and how many bytes they have.
+-- Helpers that count the bytes of tokens' strings.
 use Rattle.std.specs.Prelude.{Bool, true, false, [], ◌∷◌}
 use Rattle.cweb_store.specs.Parts.{Token}
 use Rattle.cweb_store.specs.surface.TokenStrings.{token_strings}

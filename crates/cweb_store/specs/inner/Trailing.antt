@@ -1,4 +1,4 @@
--- Which last tokens are dropped.
+-- The tokens that each kind of trimming drops.
 use Rattle.std.specs.Prelude.{Bool}
 use Rattle.cweb_store.specs.declared.tokens.layout.Trailing.{Trailing}
 use Rattle.cweb_store.specs.declared.tokens.layout.Trailing.TheVariants as trailing

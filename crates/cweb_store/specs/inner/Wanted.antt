@@ -1,4 +1,4 @@
--- Which parts are wanted.
+-- The parts that an iterator visits.
 use Rattle.std.specs.Prelude.{Bool, List, map, filter}
 use Rattle.cweb_store.specs.declared.parts.PartKind.{PartKind}
 use Rattle.cweb_store.specs.declared.parts.Part.{Part}
@@ -13,7 +13,6 @@ is_wanted rs Program kind = is_unnamed kind
 is_wanted rs (OfName n) kind = is_of rs n kind
 is_wanted rs Macros kind = is_macro kind
 
--- the parts that are wanted, in order
 abbrev pub wanted_in : List Resolution → Wanted → List PartRange → List Part
 wanted_in rs wanted ranges =
     map (λ (r : PartRange). r.part) (filter (λ (r : PartRange). is_wanted rs wanted r.kind) ranges)

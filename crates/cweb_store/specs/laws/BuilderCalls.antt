@@ -1,4 +1,4 @@
--- Calls that are to be made, which of them a builder takes, and which answered Ok.
+-- Calls as values: when a builder accepts them, and which returned `Ok`.
 use Rattle.std.specs.Prelude.{◌+◌, ◌<◌, ◌≤◌, List, [], ◌∷◌, filter, length, map, IsSome, IsNone}
 use Rattle.cweb_store.specs.declared.call.Answered.{Answered}
 use Rattle.cweb_store.specs.declared.call.Call.{Call}
@@ -11,7 +11,7 @@ use Rattle.cweb_store.specs.laws.Calls.{after_call}
 use Rattle.cweb_names.specs.surface.Names.{occurrence_of, too_many}
 use Rattle.cweb_store.specs.surface.TokenModels.{token_model}
 
--- what a call gives that is to be made
+-- The model of a call.
 abbrev pub call_model : Call → spec.Call
 call_model (made.Occurs name how is_file) = spec.Occurs (occurrence_of name.now how is_file)
 call_model (made.Opens kind) = spec.Opens kind
@@ -20,7 +20,7 @@ call_model made.Drops = spec.Drops
 call_model made.Closes = spec.Closes
 call_model (made.Transliterates byte new) = spec.Transliterates (replacement_of byte new.now)
 
--- a part begins while none is open, a token, `drop_layout` and `close_part` come while one is, and there are few of each
+-- `open_part` needs no open part; `push`, `drop_layout` and `close_part` need one. No count reaches its bound.
 abbrev pub AcceptsCall : Contents → spec.Call → Type 0
 AcceptsCall c (spec.Occurs o) = length c.occurrences + 1 < too_many
 AcceptsCall c (spec.Opens kind) = IsNone c.parts.current × (part_count c.parts + 1 < too_many)
@@ -29,11 +29,11 @@ AcceptsCall c spec.Drops = IsSome c.parts.current
 AcceptsCall c spec.Closes = IsSome c.parts.current
 AcceptsCall c (spec.Transliterates r) = 128 ≤ r.byte
 
--- it takes calls one after another
+-- The builder accepts each call after the ones before it.
 abbrev pub AcceptsCalls : Contents → List spec.Call → Type 0
 AcceptsCalls c [] = Unit {0}
 AcceptsCalls c (call ∷ calls) = AcceptsCall c call × AcceptsCalls (after_call c call) calls
 
--- what the calls give that answered Ok
+-- The calls that returned `Ok`.
 abbrev pub accepted_calls : List Answered → List spec.Call
 accepted_calls answers = map (λ a. call_model a.call) (filter (λ a. a.is_ok) answers)

@@ -1,4 +1,4 @@
--- What a builder holds, and what each call makes of it.
+-- The contents of a builder after each call.
 use Rattle.std.specs.Prelude.{List, fold}
 use Rattle.cweb_store.specs.declared.parts.PartKind.{PartKind}
 use Rattle.cweb_names.specs.Names.{Occurrence}
@@ -7,7 +7,7 @@ use Rattle.cweb_store.specs.Replacements.{Replacement}
 use Rattle.cweb_store.specs.Calls.{Contents, empty, with_occurrence, with_open, with_token, with_dropped, with_closed}
 use Rattle.cweb_store.specs.Calls.{with_replacement}
 
--- a call that was not refused
+-- A call that was accepted.
 pub data Call : Type 0 where
   Occurs : (occurrence : Occurrence) → Call
   Opens : (kind : PartKind) → Call
@@ -15,7 +15,6 @@ pub data Call : Type 0 where
   Drops Closes : Call
   Transliterates : (replacement : Replacement) → Call
 
--- the contents after a call
 abbrev pub after_call : Contents → Call → Contents
 after_call c (Occurs o) = with_occurrence o c
 after_call c (Opens kind) = with_open kind c
@@ -24,6 +23,6 @@ after_call c Drops = with_dropped c
 after_call c Closes = with_closed c
 after_call c (Transliterates r) = with_replacement r c
 
--- the contents after a list of calls
+-- The contents after a list of calls.
 abbrev pub contents : List Call → Contents
 contents calls = fold after_call empty calls

@@ -1,4 +1,4 @@
--- What else holds of names, faults, layout and tokens whatever the calls are.
+-- Laws of names, faults and dropped layout for any calls.
 use Rattle.std.specs.Prelude.{◌≡◌, ℕ, Bool, true, nat_eq, List, [], ◌∷◌, ◌++◌, Some, take, slice_get, filter}
 use Rattle.std.specs.Prelude.{option_to_list}
 use Rattle.std.specs.List.{starts_with}
@@ -12,11 +12,11 @@ use Rattle.cweb_store.specs.Faults.{unresolved_fault, unresolved_faults}
 use Rattle.cweb_names.specs.laws.Found.{Distinct}
 use Rattle.cweb_store.specs.laws.Laws.{resolved_spelling}
 
--- no text is the name of two names
+-- No two names have equal bytes.
 abbrev pub NamesAreDistinct : Type 0
 NamesAreDistinct = (os : List Occurrence) → Distinct (spellings (names os))
 
--- the name that an abbreviation stands for begins with its prefix
+-- An abbreviation resolves to a name that begins with its prefix.
 abbrev pub AbbreviationsBeginTheirNames : Type 0
 AbbreviationsBeginTheirNames = (os : List Occurrence) (i : ℕ) (o : Occurrence) (text : List ℕ) → slice_get os i ≡ Some o
     → o.how ≡ Prefix → resolved_spelling os i ≡ Some text → starts_with nat_eq text o.text ≡ true
@@ -24,7 +24,7 @@ AbbreviationsBeginTheirNames = (os : List Occurrence) (i : ℕ) (o : Occurrence)
 abbrev pub is_at : ℕ → NameFault → Bool
 is_at i fault = nat_eq fault.occurrence.0 i
 
--- an occurrence stands for a name and has no fault of its own, or it stands for none and has just one
+-- An occurrence resolves to a name without a fault of its own, or has exactly one fault.
 abbrev pub OneFaultForNoName : Type 0
 OneFaultForNoName = (rs : List Resolution) (i : ℕ) (r : Resolution) → slice_get rs i ≡ Some r
     → filter (is_at i) (unresolved_faults rs) ≡ option_to_list (unresolved_fault i r)
@@ -33,13 +33,13 @@ abbrev pub AllPass : (Token → Bool) → List Token → Type 0
 AllPass test [] = Unit {0}
 AllPass test (t ∷ ts) = (test t ≡ true) × AllPass test ts
 
--- some tokens are the first ones of others, and the rest of these passes a test
+-- `front` is a prefix of `whole`, and all other tokens pass a test.
 pub record IsTokenPrefix (test : Token → Bool) (whole front : List Token) : Type 0 where
   pub rest : List Token
   pub splits : whole ≡ front ++ rest
   pub passes : AllPass test rest
 
--- what stands before the layout that is dropped stays as it is, and a macro keeps its first two tokens
+-- Dropping layout removes only layout, and keeps the first two tokens of a macro.
 pub record KeepsPrefix (p : Part) : Type 0 where
   pub front : IsTokenPrefix is_layout p.tokens (without_layout p).tokens
   pub firsts : take (protected_count p.kind) (without_layout p).tokens ≡ take (protected_count p.kind) p.tokens
@@ -47,11 +47,11 @@ pub record KeepsPrefix (p : Part) : Type 0 where
 abbrev pub DroppingKeepsThePrefix : Type 0
 DroppingKeepsThePrefix = (p : Part) → KeepsPrefix p
 
--- what is left of a macro's tokens where its last layout is dropped
+-- The tokens of a macro without trailing layout.
 abbrev pub left_of_macro : List Token → List Token
 left_of_macro ts = (without_layout (record { kind = Macro; tokens = ts })).tokens
 
--- a macro keeps its first two tokens, whatever follows; only layout at its end is dropped, and behind the two all of it
+-- A macro keeps its first two tokens. After them, all trailing layout is dropped and nothing else.
 pub record MacrosKeepTwoTokens : Type 0 where
   pub firsts : (ts : List Token) → take 2 (left_of_macro ts) ≡ take 2 ts
   pub fronts : (ts : List Token) → IsTokenPrefix is_layout ts (left_of_macro ts)

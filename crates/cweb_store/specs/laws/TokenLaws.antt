@@ -10,7 +10,7 @@ abbrev pub token_of_call : Call → Option Token
 token_of_call (Pushes token) = Some token
 token_of_call call = None
 
--- a token comes while a part is open, and a part begins while none is
+-- `push` needs an open part, `open_part` needs none.
 abbrev pub IsInPlace : Contents → Call → Type 0
 IsInPlace c (Opens kind) = IsNone c.parts.current
 IsInPlace c (Pushes token) = IsSome c.parts.current
@@ -20,13 +20,13 @@ abbrev pub AreInPlace : Contents → List Call → Type 0
 AreInPlace c [] = Unit {0}
 AreInPlace c (call ∷ calls) = IsInPlace c call × AreInPlace (after_call c call) calls
 
--- tokens are what is left of others, in their order, where some of their Blanks, Newlines and Marks are dropped
+-- The second list is the first one without some of its Blanks, Newlines and Marks.
 abbrev pub IsLeftOfTokens : List Token → List Token → Type 0
 IsLeftOfTokens [] ts = ts ≡ []
 IsLeftOfTokens (u ∷ us) ts = ((is_layout u ≡ true) × IsLeftOfTokens us ts)
     ⊎ ((rest : List Token) × (ts ≡ u ∷ rest) × IsLeftOfTokens us rest)
 
--- after any list of calls the tokens of the parts are those that were pushed, in order, but for layout that was dropped
+-- The tokens of the parts are the pushed ones, in order, less dropped layout.
 abbrev pub TokensAreThosePushed : Type 0
 TokensAreThosePushed = (calls : List Call) → AreInPlace empty calls
     → IsLeftOfTokens (filter_map token_of_call calls) (all_tokens (all_parts (contents calls).parts))

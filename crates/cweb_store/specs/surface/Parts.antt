@@ -1,11 +1,11 @@
--- Parts and their tokens, and what the parts of a name join to.
+-- Parts as ranges of token indices.
 use Rattle.std.specs.Prelude.{ℕ, ◌+◌, Bool, List, [], ◌∷◌, flat_map}
 use Rattle.std.specs.Prelude.{length, slice_range, if◌then◌else◌}
 use Rattle.cweb_store.specs.declared.parts.PartKind.{PartKind}
 use Rattle.cweb_store.specs.declared.parts.Part as declared
 use Rattle.cweb_store.specs.Parts.{Token, Part}
 
--- the tokens of a store have numbers: here those of the parts that a test keeps, where the first token has number n
+-- The index ranges of the parts that pass a test, if the first token has index n.
 abbrev pub numbers_from : (PartKind → Bool) → ℕ → List Part → List declared.Part
 numbers_from test n [] = []
 numbers_from test n (p ∷ ps) =
@@ -13,10 +13,10 @@ numbers_from test n (p ∷ ps) =
     let rest = numbers_from test after ps in
     if test p.kind then (record { first = n; after = after }) ∷ rest else rest
 
--- the numbers of the parts that a test keeps
+-- The index ranges of the parts that pass a test.
 abbrev pub numbers_where : (PartKind → Bool) → List Part → List declared.Part
 numbers_where test parts = numbers_from test 0 parts
 
--- the tokens at the numbers of parts, joined
+-- The tokens of index ranges, concatenated.
 abbrev pub tokens_at : List Token → List declared.Part → List Token
 tokens_at tokens numbers = flat_map (λ (p : declared.Part). slice_range tokens p.first p.after) numbers

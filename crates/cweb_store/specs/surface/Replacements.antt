@@ -1,4 +1,4 @@
--- What bytes are replaced by in Words that are printed.
+-- A replacement from its byte and bytes.
 use Rattle.std.specs.Prelude.{ℕ, List}
 use Rattle.cweb_store.specs.Replacements.{Replacement}
 

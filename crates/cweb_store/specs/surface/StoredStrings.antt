@@ -1,4 +1,4 @@
--- The texts that a store answers, and how many bytes they have.
+-- The strings of a store, and how many bytes they have.
 use Rattle.std.specs.Prelude.{ℕ, ◌+◌, List, ◌++◌, map, flat_map, length}
 use Rattle.cweb_texts.specs.surface.StringTables.{total}
 use Rattle.cweb_names.specs.surface.Names.{occurrence_text}
@@ -10,18 +10,18 @@ use Rattle.cweb_store.specs.Calls.{Stored}
 abbrev pub replacement_bytes : Replacement → List ℕ
 replacement_bytes r = r.text
 
--- the texts of tokens, those of occurrences, and the replacements of bytes
+-- The strings of tokens, occurrences and replacements.
 abbrev pub stored_strings : Stored → List (List ℕ)
 stored_strings s = flat_map token_strings (all_tokens s.parts)
     ++ (map occurrence_text s.occurrences ++ map replacement_bytes s.replacements)
 
--- the bytes of all texts, where a text counts as often as it was given
+-- The number of bytes of all strings, each counted as often as it occurs.
 abbrev pub uninterned_store_bytes : Stored → ℕ
 uninterned_store_bytes s =
     total token_size (all_tokens s.parts) +
     (total length (map occurrence_text s.occurrences) + total length (map replacement_bytes s.replacements))
 
--- the bytes of all texts, where equal ones of Words and Puncts count once and any other text as often as it was given
+-- The number of bytes of all strings. Equal strings of Words and Puncts count once, others as often as they occur.
 abbrev pub interned_store_bytes : Stored → ℕ
 interned_store_bytes s =
     interned_token_bytes (all_tokens s.parts) +

@@ -1,9 +1,8 @@
--- What a token is that is handed in or lent out.
+-- The model of a token that borrows its bytes.
 use Rattle.cweb_store.specs.Parts as spec
 use Rattle.cweb_store.specs.declared.tokens.Token.{Token}
 use Rattle.cweb_store.specs.declared.tokens.Token.TheVariants as lent
 
--- a token that is handed in or lent out
 abbrev pub token_model : Token → spec.Token
 token_model (lent.Word string) = spec.Word string.now
 token_model (lent.Number string) = spec.Number string.now

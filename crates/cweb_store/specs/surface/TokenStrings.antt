@@ -1,9 +1,9 @@
--- The texts of tokens, and how many bytes they have.
+-- The strings of tokens, and how many bytes they have.
 use Rattle.std.specs.Prelude.{◌≡◌, ℕ, ◌+◌, List, [], ◌∷◌, ◌++◌, fold, length}
 use Rattle.cweb_texts.specs.surface.StringTables.{total, with_word}
 use Rattle.cweb_store.specs.Parts.{Token, Word, Number, Literal, Verbatim, Punct}
 
--- the text of a token, if it has one
+-- The string of a token, if it has one.
 abbrev pub token_strings : Token → List (List ℕ)
 token_strings (Word b) = b ∷ []
 token_strings (Number b) = b ∷ []
@@ -12,7 +12,6 @@ token_strings (Verbatim b) = b ∷ []
 token_strings (Punct b) = b ∷ []
 token_strings token = []
 
--- how many bytes the text of a token has
 abbrev pub token_size : Token → ℕ
 token_size token = total length (token_strings token)
 
@@ -21,21 +20,21 @@ with_word_of words (Word b) = with_word words b
 with_word_of words (Punct b) = with_word words b
 with_word_of words token = words
 
--- the distinct texts of Words and Puncts among tokens
+-- The distinct strings of Words and Puncts.
 abbrev pub words_of : List Token → List (List ℕ)
 words_of ts = fold with_word_of [] ts
 
--- how many bytes the text of a token has that is neither Word nor Punct
+-- The number of bytes of a token that is neither Word nor Punct.
 abbrev pub other_bytes : Token → ℕ
 other_bytes (Word b) = 0
 other_bytes (Punct b) = 0
 other_bytes token = token_size token
 
--- the bytes of the texts of tokens, where equal ones of Words and Puncts count once
+-- The number of bytes of all tokens. Equal strings of Words and Puncts count once.
 abbrev pub interned_token_bytes : List Token → ℕ
 interned_token_bytes ts = total length (words_of ts) + total other_bytes ts
 
--- a text is a run of bytes of a list
+-- A string is a contiguous range of a list of bytes.
 abbrev pub IsSpanOf : List ℕ → List ℕ → Type 0
 IsSpanOf bytes string = (before : List ℕ) × (after : List ℕ) × (bytes ≡ before ++ (string ++ after))
 
@@ -43,7 +42,7 @@ abbrev pub AreSpansOf : List ℕ → List (List ℕ) → Type 0
 AreSpansOf bytes [] = Unit {0}
 AreSpansOf bytes (t ∷ ts) = IsSpanOf bytes t × AreSpansOf bytes ts
 
--- the texts are runs of bytes of one list, which has n bytes
+-- The strings are contiguous ranges of one list of n bytes.
 pub record AreInOneList (n : ℕ) (strings : List (List ℕ)) : Type 0 where
   pub bytes : List ℕ
   pub count : length bytes ≡ n

@@ -1,4 +1,4 @@
-// Parts that are all given.
+// Finished parts.
 
 ghost use Rattle.std.specs.Prelude.{◌≡◌, ◌<◌, [], length, map, IfOk};
 ghost use Rattle.cweb_names.specs.surface.Names.{too_many};
@@ -14,7 +14,7 @@ use indexmap::IndexSet;
 use std::alloc::{AllocError, Global};
 use std::marker::Model;
 
-/// Parts: the tokens of all of them in one list, and where each part begins and ends in it.
+/// Finished parts: all tokens in one list, and the range of each part in it.
 #[derive(Drop)]
 pub struct ClosedParts {
     pub(crate) tokens: ClosedTokens,
@@ -35,7 +35,7 @@ impl Model for ClosedParts {
 }
 
 impl ClosedParts {
-    /// The parts in order, as runs of token numbers.
+    /// The ranges of the parts, in order.
     pub fn ranges(&self) -> &[PartRange]
         ensures ranges { result.now ≡ ranges_from 0 self.now }
         ensures few { length result.now < too_many }
@@ -43,7 +43,7 @@ impl ClosedParts {
         self.ranges.as_slice()
     }
 
-    /// The tokens of all parts, behind whose texts others may come, and the parts as runs of their numbers.
+    /// The tokens of all parts, to which other strings may be appended, and the ranges of the parts.
     pub fn take_apart(self) -> (ClosedTokens, Vec<PartRange>)
         ensures alone { result.0 ≡ tokens_alone result.0.tokens }
         ensures whole { IsWhole result.0.tokens result.1.items }
@@ -53,7 +53,7 @@ impl ClosedParts {
         (tokens, ranges)
     }
 
-    /// The names that the parts of C text use.
+    /// The names that the parts of C text use, without duplicates.
     pub fn uses(
         &self,
         alloc: Global,

@@ -1,4 +1,4 @@
-// The parts of a name, those of the program, or the macros, one after another.
+// Iterates over the parts of a name, the program or the macros.
 
 ghost use Rattle.std.specs.Prelude.{◌≡◌};
 ghost use Rattle.cweb_store.specs.inner.Links.{followed};
@@ -18,8 +18,7 @@ pub enum Wanted {
     Macros,
 }
 
-/// The parts that are still to come, in order of appearance. Each tells how many stand between it and the next one, so
-/// that no other is visited.
+/// The remaining parts, in order of appearance. The iterator follows the links, and visits no part of another group.
 #[derive(Drop)]
 pub struct Parts<'a> {
     ranges: &'a [PartRange],
@@ -39,7 +38,7 @@ impl<'a> Model for Parts<'a> {
 }
 
 impl<'a> Parts<'a> {
-    /// The parts from the one behind `skip` others, where `skips` tells of each how many stand between it and the next.
+    /// The parts after the first `skip` ones. `skips[i]` parts are between part `i` and the next of its group.
     pub fn new(ranges: &'a [PartRange], skips: &'a [u32], skip: u32) -> Parts<'a>
         ensures { result ≡ followed ranges.entry.now skips.entry.now skip }
     {

@@ -1,4 +1,4 @@
-// Parts that tell where the next part of the same name stands.
+// Links from each part to the next part of its group.
 
 ghost use Rattle.std.specs.Prelude.{◌≡◌, ◌<◌, ◌≤◌, ℕ, [], length, IfOk, IfSome};
 ghost use Rattle.cweb_names.specs.Names.{resolved_at};
@@ -10,7 +10,7 @@ use crate::parts::{PartKind, PartRange};
 use cweb_names::{NameId, NameKind, resolved_at};
 use std::alloc::{AllocError, Global};
 
-/// For the program, the macros and each name: how many parts there are from its first one on, or 0 where it has none.
+/// For the program, the macros and each name: the number of parts from its first one to the end, or 0 if it has none.
 #[derive(Drop)]
 pub struct Heads {
     pub program: u32,
@@ -18,7 +18,7 @@ pub struct Heads {
     pub names: Vec<u32>,
 }
 
-/// For each part how many stand between it and the next one of its name, of the program or of the macros.
+/// For each part, the number of parts before the next one of its group: a name, the program or the macros.
 #[derive(Drop)]
 pub struct Links {
     pub skips: Vec<u32>,
@@ -26,7 +26,6 @@ pub struct Links {
 }
 
 impl Heads {
-    /// Where there is no part.
     fn none(alloc: Global, names: usize) -> Result<Heads, AllocError>
         ensures linked { IfOk result (λ heads. AreLinked [] [] [] heads) }
         ensures names { IfOk result (λ heads. length heads.names.items ≡ names) }
@@ -38,7 +37,7 @@ impl Heads {
         })
     }
 
-    /// How many parts there are from the first one that is wanted on, or 0 where there is none.
+    /// The number of parts from the first one of the group to the last of all, or 0 for an empty group.
     pub fn get(&self, wanted: Wanted) -> u32
         ensures { result ≡ head_of self.now wanted }
     {
@@ -52,7 +51,7 @@ impl Heads {
         }
     }
 
-    /// Puts a part before others. Answers how many of them stand between it and the next one of its group.
+    /// Prepends a part to `behind` others. Returns how many of them are before the next one of its group.
     fn put(&mut self, group: Option<Wanted>, behind: u32) -> u32
         requires among { IsAmong (length self.old.names.items) group }
         requires within { IfSome group (λ wanted. head_of self.old wanted ≤ behind) }
@@ -73,7 +72,7 @@ impl Heads {
 }
 
 impl Links {
-    /// The links of parts, where so many names are known.
+    /// The links of the parts, for a number of known names.
     pub fn new(
         alloc: Global,
         ranges: &[PartRange],
@@ -97,7 +96,7 @@ impl Links {
     }
 }
 
-// What a part belongs to, if to anything.
+// The group that a part belongs to, if any.
 fn group_of(resolutions: &[Result<NameId, NameKind>], kind: PartKind) -> Option<Wanted>
     ensures { result ≡ group_of resolutions.now kind }
 {

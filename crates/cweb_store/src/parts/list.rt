@@ -1,4 +1,4 @@
-// Parts while they are given.
+// Parts while they are added.
 
 ghost use Rattle.std.specs.Prelude.{◌≡◌, ◌<◌, ◌+◌, IsSome, IsNone, is_some, OnOk, OnErr};
 ghost use Rattle.cweb_store.specs.Growing.{with_closed_part, all_parts, with_dropped_layout};
@@ -17,7 +17,7 @@ use crate::tokens::list::TokenList;
 use std::alloc::{AllocError, Global};
 use std::marker::Model;
 
-/// Parts: the tokens of all of them in one list, and where each part begins and ends in it.
+/// Parts under construction: all tokens in one list, and the range of each part in it.
 #[derive(Drop)]
 pub struct PartList {
     tokens: TokenList,
@@ -43,7 +43,7 @@ impl Model for PartList {
 impl PartList {
     ghost use Rattle.cweb_store.specs.surface.TokenModels.{token_model};
 
-    /// Parts of which none is given yet.
+    /// An empty list.
     pub fn new(alloc: Global) -> PartList
         ensures { result.parts ≡ no_parts }
     {
@@ -61,21 +61,21 @@ impl PartList {
         self.current.is_some()
     }
 
-    /// Begins a part. A refused call leaves the parts as they were.
+    /// Begins a part. A refused call changes nothing.
     pub fn open(&mut self, kind: PartKind) -> Result<(), AllocError>
         requires closed { IsNone self.old.parts.current }
         requires few { part_count self.old.parts + 1 < too_many }
         ensures ok { OnOk result (self.new.parts ≡ with_opened_part kind self.old.parts) }
         ensures err { OnErr result (self.new.parts ≡ self.old.parts) }
     {
-        // room for the part, so that `close` cannot fail
+        // Reserves the range, so that `close` cannot fail.
         self.ranges.reserve(1)?;
         let first = self.tokens.len() as u32;
         self.current = Some(Open { kind, first });
         Ok(())
     }
 
-    /// Adds a token to the open part. A refused call leaves the parts as they were.
+    /// Appends a token to the open part. A refused call changes nothing.
     #[inline(always)]
     pub fn push(&mut self, token: Token<'_>) -> Result<(), AllocError>
         requires open { IsSome self.old.parts.current }
@@ -88,7 +88,7 @@ impl PartList {
         Ok(())
     }
 
-    /// Drops the last layout of the open part. It takes no memory.
+    /// Drops the trailing layout of the open part. Allocates nothing.
     pub fn drop_layout(&mut self)
         requires { IsSome self.old.parts.current }
         ensures parts { self.new.parts ≡ with_dropped_layout self.old.parts }
@@ -101,7 +101,7 @@ impl PartList {
         self.tokens.truncate(end);
     }
 
-    /// Ends the open part. It takes no memory.
+    /// Ends the open part. Allocates nothing.
     pub fn close(&mut self)
         requires { IsSome self.old.parts.current }
         ensures parts { self.new.parts ≡ with_closed_part self.old.parts }
@@ -117,7 +117,7 @@ impl PartList {
         self.ranges.push_reserved(range);
     }
 
-    /// The parts, where one that is open counts as it stands.
+    /// The finished parts. An open part ends here, without the drops of `close`.
     pub fn finish(self) -> ClosedParts
         ensures { result ≡ all_parts self.parts }
     {
@@ -136,7 +136,7 @@ impl PartList {
     }
 }
 
-// The run of a part whose tokens end before a number.
+// The range of the open part if it ends before token `after`.
 fn closed_range(current: Open, after: u32) -> PartRange
     ensures { result ≡ last_range current after }
 {

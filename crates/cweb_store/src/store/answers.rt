@@ -1,4 +1,4 @@
-// What comes of the names and the parts once all of them are given.
+// Results that need all names and parts.
 
 ghost use Rattle.std.specs.Prelude.{◌≡◌, ◌<◌, length, map, IfOk, OnOk};
 ghost use Rattle.cweb_store.specs.inner.Answers.{AreAnswers};
@@ -14,8 +14,7 @@ use cweb_names::{NameFault, NameId, NameKind, NameTable};
 use indexmap::IndexSet;
 use std::alloc::{AllocError, Global};
 
-/// What each occurrence stands for, which names are files', their faults, where each name was first given in full, and the
-/// parts of each.
+/// Resolutions, file names, faults, the first full occurrence of each name, and the links of the parts.
 #[derive(Drop)]
 pub(crate) struct Answers {
     pub resolutions: Vec<Result<NameId, NameKind>>,
@@ -27,7 +26,7 @@ pub(crate) struct Answers {
 }
 
 impl Answers {
-    /// The answers of a web's names and parts.
+    /// Computes the answers for a web's names and parts.
     pub fn of(alloc: Global, table: &NameTable, parts: &ClosedParts) -> Result<Answers, AllocError>
         ensures answers { IfOk result (λ all. AreAnswers table.now parts.now
             all.resolutions.items all.files.keys all.faults.items all.has_defs_code) }

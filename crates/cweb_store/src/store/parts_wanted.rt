@@ -1,4 +1,4 @@
-// The parts of a store: the program, those of a name, the macros.
+// The parts of a store: of the program, of a name, and of the macros.
 
 ghost use Rattle.std.specs.Prelude.{◌≡◌, ◌<◌, ◌≤◌, ◌↔◌, length, IsTrue, All};
 ghost use Rattle.cweb_names.specs.Names as spec;
@@ -25,7 +25,7 @@ impl Store {
         self.wanted(Wanted::Program)
     }
 
-    /// The parts of a name. There is one exactly where the name has a part.
+    /// The parts of a name. The iterator is empty exactly if the name has no part.
     pub fn parts(&self, name: NameId) -> Parts<'_>
         ensures numbers { result
             ≡ numbers_where (is_of (spec.resolutions self.now.occurrences) name) self.now.parts }
@@ -39,7 +39,7 @@ impl Store {
         self.wanted(Wanted::OfName(name))
     }
 
-    /// The macros.
+    /// The macro definitions.
     pub fn macros(&self) -> Parts<'_>
         ensures numbers { result ≡ numbers_where is_macro self.now.parts }
         ensures text { tokens_at (all_tokens self.now.parts) result
@@ -51,7 +51,6 @@ impl Store {
         self.wanted(Wanted::Macros)
     }
 
-    // The parts that are wanted.
     fn wanted(&self, wanted: Wanted) -> Parts<'_>
         ensures value { result
             ≡ wanted_in (spec.resolutions self.now.occurrences) wanted

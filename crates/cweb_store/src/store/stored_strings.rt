@@ -1,4 +1,4 @@
-// All texts of a store.
+// All strings of a store.
 
 ghost use Rattle.std.specs.Prelude.{◌≡◌, map, IfOk, OnOk};
 ghost use Rattle.cweb_store.specs.inner.ClosedTokens.{with_strings};
@@ -11,8 +11,7 @@ use crate::tokens::closed::ClosedTokens;
 use cweb_names::{NameTable, OccurrenceForm};
 use std::alloc::AllocError;
 
-/// Tokens with the texts of occurrences and then of replacements behind theirs, how each occurrence is given, and the
-/// bytes that are replaced.
+/// Tokens, followed by the strings of occurrences and replacements; the form of each occurrence; the replaced bytes.
 #[derive(Drop)]
 pub(crate) struct StoredStrings {
     pub tokens: ClosedTokens,
@@ -21,7 +20,7 @@ pub(crate) struct StoredStrings {
 }
 
 impl StoredStrings {
-    /// Puts the texts of occurrences and replacements behind those of tokens.
+    /// Appends the strings of occurrences and replacements to those of the tokens.
     pub fn of(
         mut tokens: ClosedTokens,
         table: NameTable,
@@ -44,7 +43,7 @@ impl StoredStrings {
     }
 }
 
-// Puts the texts of the occurrences behind those of tokens, and answers how each is given.
+// Appends the strings of the occurrences to those of the tokens, and returns the form of each occurrence.
 fn put_names(table: NameTable, tokens: &mut ClosedTokens) -> Result<Vec<OccurrenceForm>, AllocError>
     ensures given { IfOk result (λ all. all.items ≡ map occurrence_form table) }
     ensures strings { OnOk result

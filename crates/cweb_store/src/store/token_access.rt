@@ -1,4 +1,4 @@
-// A store's tokens: how many there are, and what they lend.
+// A store's tokens: their number and their bytes.
 
 ghost use Rattle.std.specs.Prelude.{◌≡◌, ◌<◌, length, map, option_map, slice_get, Some};
 ghost use Rattle.cweb_store.specs.inner.DirectBytes.{direct_bytes};
@@ -11,7 +11,7 @@ use crate::tokens::token_reader::TokenReader;
 use cweb_texts::TokenBytes;
 
 impl Store {
-    /// How many tokens there are, of all parts and macros.
+    /// The number of tokens of all parts, macros included.
     pub fn tokens(&self) -> u32
         ensures count { result ≡ length (all_tokens self.now.parts) }
         ensures few { result < too_many }
@@ -19,7 +19,7 @@ impl Store {
         self.tokens.len() as u32
     }
 
-    /// What the token with a number lends, where it is printed as a text stands.
+    /// The bytes of a direct token: one that is printed as its own bytes, whatever is to its left. `None` for others.
     #[inline(always)]
     pub fn direct(&self, number: u32) -> Option<TokenBytes<'_>>
         requires { number < length (all_tokens self.now.parts) }
@@ -29,7 +29,7 @@ impl Store {
         self.token_reader().direct(number)
     }
 
-    /// What lends the texts of all tokens, for a loop that prints many of them.
+    /// A reader of all tokens, for a loop that prints many of them.
     #[inline(always)]
     pub fn token_reader(&self) -> TokenReader<'_>
         ensures { result ≡ map direct_bytes (all_tokens self.now.parts) }

@@ -1,4 +1,4 @@
-// Tokens to which none comes, and the other texts of a store.
+// Finished tokens, and the other strings of a store.
 
 ghost use Rattle.std.specs.Prelude.{◌≡◌, ◌<◌, ◌≤◌, ◌+◌, length, slice_get, slice_range, flat_map};
 ghost use Rattle.std.specs.Prelude.{Some, OnOk, OnErr};
@@ -22,8 +22,7 @@ use indexmap::IndexSet;
 use std::alloc::AllocError;
 use std::marker::Model;
 
-/// Tokens as records, of which uses and Defs are noted. Their texts, and other texts behind these, stand in
-/// one list of bytes.
+/// Finished tokens as records, with an index of uses and Defs. All strings share one list of bytes.
 pub struct ClosedTokens {
     pub(crate) strings: StringList,
     pub(crate) records: Records,
@@ -31,7 +30,7 @@ pub struct ClosedTokens {
     pub(crate) token_index: TokenIndex,
 }
 
-// It is let go by one call wherever it is held, not part by part.
+// One call frees it, not one per field.
 impl Drop for ClosedTokens {
     fn drop(self) {
         let ClosedTokens {
@@ -59,7 +58,7 @@ impl ClosedTokens {
     ghost use Rattle.cweb_store.specs.inner.DirectBytes.{direct_bytes};
     ghost use Rattle.cweb_store.specs.surface.TokenModels.{token_model};
 
-    /// Adds another text. It takes the next number, from 0. A refused call changes nothing.
+    /// Appends another string. Other strings are numbered from 0. A refused call changes nothing.
     pub fn add(&mut self, string: &[u8]) -> Result<(), AllocError>
         ensures ok { OnOk result (self.new ≡ with_string string.now self.old) }
         ensures err { OnErr result (self.new ≡ self.old) }
@@ -68,7 +67,7 @@ impl ClosedTokens {
         Ok(())
     }
 
-    /// The token with a number.
+    /// The token at an index.
     #[inline(always)]
     pub fn token(&self, number: usize) -> Token<'_>
         requires { number < length self.now.tokens }
@@ -78,7 +77,7 @@ impl ClosedTokens {
         token_of_interned(&self.strings, interned)
     }
 
-    /// What lends the texts of the tokens.
+    /// A reader of the tokens' bytes.
     #[inline(always)]
     pub fn token_reader(&self) -> TokenReader<'_>
         ensures { result ≡ map direct_bytes self.now.tokens }
@@ -89,14 +88,14 @@ impl ClosedTokens {
         }
     }
 
-    /// How many tokens there are. The other texts do not count.
+    /// The number of tokens. Other strings don't count.
     pub fn len(&self) -> usize
         ensures { result ≡ length self.now.tokens }
     {
         self.records.len()
     }
 
-    /// The number of the first use in a range of numbers, or the one after the range where there is none.
+    /// The index of the first use of a name in a range, or the end of the range if there is none.
     pub fn next_use(&self, part: Part) -> u32
         requires { part.first ≤ part.after }
         ensures { IsNextNumber is_name_use self.now.tokens part result }
@@ -104,7 +103,7 @@ impl ClosedTokens {
         next_in_range(self.token_index.uses.as_slice(), part)
     }
 
-    /// Adds the names that tokens use, in a range of numbers, to distinct names.
+    /// Adds the names that the tokens of a range use to a list of distinct names.
     pub(crate) fn add_uses(
         &self,
         part: Part,
@@ -132,7 +131,7 @@ impl ClosedTokens {
         Ok(())
     }
 
-    /// Whether there is a Defs in a range of numbers.
+    /// Whether there is a Defs in a range.
     pub(crate) fn has_defs(&self, part: Part) -> bool
         requires ordered { part.first ≤ part.after }
         requires within { part.after ≤ length self.now.tokens }
@@ -141,7 +140,7 @@ impl ClosedTokens {
         next_in_range(self.token_index.defs.as_slice(), part) < part.after
     }
 
-    /// The other text with a number.
+    /// The other string with a number.
     pub fn other(&self, number: usize) -> &[u8]
         requires { number < length self.now.others }
         ensures { slice_get self.now.others number ≡ Some result.now }
@@ -149,7 +148,7 @@ impl ClosedTokens {
         self.strings.string_after(self.own, number)
     }
 
-    /// How many bytes all texts have.
+    /// The number of bytes of all strings.
     pub fn text_bytes(&self) -> usize
         ensures strings { AreInOneList result
             (flat_map token_strings self.now.tokens ++ self.now.others) }

@@ -1,4 +1,4 @@
-// Tokens that have their texts by number.
+// Tokens with string indices.
 
 ghost use Rattle.std.specs.Prelude.{◌≡◌, length};
 ghost use Rattle.cweb_store.specs.inner.InternedTokens.{StringIsWithin, token_of_interned};
@@ -9,7 +9,7 @@ use cweb_files::Place;
 use cweb_names::NameRef;
 use cweb_texts::StringList;
 
-/// A token that has its text by number.
+/// A token that holds a string index instead of bytes.
 #[derive(Clone, Copy)]
 pub enum InternedToken {
     Word(u32),
@@ -27,7 +27,7 @@ pub enum InternedToken {
     Mark(Place),
 }
 
-/// The token of a record, which lends its text.
+/// The token of a record. It borrows its bytes from the string table.
 #[inline(always)]
 pub fn token_of_interned(strings: &StringList, interned: InternedToken) -> Token<'_>
     requires { StringIsWithin (length strings.now) interned }

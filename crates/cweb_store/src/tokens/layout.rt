@@ -1,4 +1,4 @@
-// The layout at the end of a part, and where the tokens before it end.
+// Finds the end of a part without its trailing layout.
 
 ghost use Rattle.std.specs.Prelude.{◌≡◌, ◌≤◌, ℕ, filter, length, take, drop};
 ghost use Rattle.cweb_store.specs.Layout.{at_close, is_blank, without_blank, without_last_after};
@@ -12,7 +12,7 @@ use crate::parts::Open;
 use crate::tokens::Token;
 use crate::tokens::list::TokenList;
 
-/// Which last tokens are dropped.
+/// Which trailing tokens are dropped.
 #[derive(Clone, Copy)]
 pub enum Trailing {
     /// Blanks, Newlines and Marks.
@@ -21,8 +21,7 @@ pub enum Trailing {
     Newlines,
 }
 
-/// The number after the last token of an open part that isn't layout. A macro's first two tokens are kept, whatever they are:
-/// the second may be the Blank after its name.
+/// The end of an open part without its trailing layout. A macro keeps two tokens: the second may be a needed Blank.
 pub fn end_before_layout(tokens: &TokenList, current: Open) -> usize
     requires { current.first ≤ length tokens.now.tokens }
     ensures part { open_in (take result tokens.now.tokens) current
@@ -36,7 +35,7 @@ pub fn end_before_layout(tokens: &TokenList, current: Open) -> usize
     end_before(tokens, current.first as usize + kept, Trailing::Layout)
 }
 
-/// The number after the last token that an open part has when it is closed.
+/// The end of an open part when it is closed.
 pub fn end_at_close(tokens: &TokenList, current: Open) -> usize
     requires { current.first ≤ length tokens.now.tokens }
     ensures part { open_in (take result tokens.now.tokens) current
@@ -54,7 +53,7 @@ pub fn end_at_close(tokens: &TokenList, current: Open) -> usize
     end_before_blank(tokens, first, end)
 }
 
-// The number after the last token that isn't dropped, of those from a number on.
+// The end of the tokens without the trailing ones that are dropped. Tokens before `from` stay.
 fn end_before(tokens: &TokenList, from: usize, trailing: Trailing) -> usize
     ensures kept { take result tokens.now.tokens
         ≡ without_last_after from (is_trailing trailing) tokens.now.tokens }
@@ -81,7 +80,7 @@ fn is_trailing(token: Token<'_>, trailing: Trailing) -> bool
     }
 }
 
-// The end of tokens, less a Blank that is the last of them, from a number on.
+// The end of the tokens without a trailing Blank. Tokens before `from` stay.
 fn end_before_blank(tokens: &TokenList, from: usize, end: usize) -> usize
     requires begins { from ≤ end }
     requires within { end ≤ length tokens.now.tokens }

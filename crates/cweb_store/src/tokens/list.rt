@@ -1,4 +1,4 @@
-// Tokens in order.
+// Tokens while they are added.
 
 ghost use Rattle.std.specs.Prelude.{◌≡◌, ◌<◌, ◌+◌, ◌++◌, ◌∷◌, [], filter, length, take, Some};
 ghost use Rattle.std.specs.Prelude.{slice_get, OnOk, OnErr};
@@ -15,14 +15,14 @@ use cweb_texts::StringTable;
 use std::alloc::{AllocError, Global};
 use std::marker::Model;
 
-/// Tokens as records, and their texts. Uses and Defs are noted beside them.
+/// Tokens as records, their strings, and an index of uses and Defs.
 pub struct TokenList {
     strings: StringTable,
     records: Records,
     token_index: TokenIndex,
 }
 
-// It is let go by one call wherever it is held, not part by part.
+// One call frees it, not one per field.
 impl Drop for TokenList {
     fn drop(self) {
         let TokenList {
@@ -59,6 +59,7 @@ impl Model for TokenList {
 impl TokenList {
     ghost use Rattle.cweb_store.specs.surface.TokenModels.{token_model};
 
+    /// An empty list.
     pub fn new(alloc: Global) -> TokenList
         ensures { result.tokens ≡ [] }
     {
@@ -69,13 +70,14 @@ impl TokenList {
         }
     }
 
+    /// The number of tokens.
     pub fn len(&self) -> usize
         ensures { result ≡ length self.now.tokens }
     {
         self.records.len()
     }
 
-    /// Adds a token. A refused call leaves the tokens as they were.
+    /// Appends a token. A refused call changes nothing.
     #[inline(always)]
     pub fn push(&mut self, token: Token<'_>) -> Result<(), AllocError>
         requires few { length self.old.tokens + 1 < too_many }
@@ -91,6 +93,7 @@ impl TokenList {
         Ok(())
     }
 
+    /// The token at an index.
     pub fn token(&self, number: usize) -> Token<'_>
         requires { number < length self.now.tokens }
         ensures { slice_get self.now.tokens number ≡ Some (token_model result) }
@@ -99,7 +102,7 @@ impl TokenList {
         token_of_interned(self.strings.strings(), interned)
     }
 
-    /// Keeps the first `count` tokens. The others have no text. It takes no memory.
+    /// Truncates to the first `count` tokens. The dropped ones have no string. Allocates nothing.
     pub fn truncate(&mut self, count: usize)
         requires { filter has_string (take count self.old.tokens)
             ≡ filter has_string self.old.tokens }
@@ -110,7 +113,7 @@ impl TokenList {
         self.token_index.truncate(count);
     }
 
-    /// The same tokens, to which none comes. Behind their texts others may come.
+    /// The finished tokens. Other strings may follow theirs.
     pub fn close(self) -> ClosedTokens
         ensures { result ≡ tokens_alone self.tokens }
     {

@@ -1,4 +1,4 @@
-// Tokens that have their texts by number, in order. A Mark has its place by number too.
+// Tokens as records of 8 bytes. A record holds an index of its string, or of its place if it is a Mark.
 
 ghost use Rattle.std.specs.Prelude.{◌≡◌, ◌<◌, ◌+◌, [], List, ℕ, true, length, take, Some};
 ghost use Rattle.std.specs.Prelude.{slice_get, map, IfOk, OnOk, OnErr};
@@ -18,7 +18,7 @@ use cweb_texts::StringTable;
 use std::alloc::{AllocError, Global};
 use std::marker::Model;
 
-/// A token whose text, or whose place, is kept elsewhere.
+/// A token whose string or place is stored elsewhere.
 #[derive(Clone, Copy)]
 pub enum Record {
     Word(u32),
@@ -36,10 +36,10 @@ pub enum Record {
     Mark(u32),
 }
 
-// a record for each token of a web is what a store takes most memory for
+// Records take most of a store's memory.
 const _: () = prove!(size_of::<Record>() == 8);
 
-/// Records in order, and the places of the Marks among them, in order too.
+/// Records, and the places of the Marks among them, in order.
 #[derive(Drop)]
 pub struct Records {
     items: Vec<Record>,
@@ -64,6 +64,7 @@ impl Model for Records {
 }
 
 impl Records {
+    /// An empty list.
     pub fn new(alloc: Global) -> Records
         ensures { result.interned ≡ [] }
     {
@@ -73,13 +74,14 @@ impl Records {
         }
     }
 
+    /// The number of records.
     pub fn len(&self) -> usize
         ensures { result ≡ length self.now.interned }
     {
         self.items.len()
     }
 
-    /// Sets room aside for a token. The records stay as they are, also where that is refused.
+    /// Reserves room for a token. The records don't change.
     #[inline(always)]
     pub fn reserve(&mut self, token: Token<'_>) -> Result<(), AllocError>
         ensures room { OnOk result (RecordHasRoom (token_model token.entry) self.new) }
@@ -92,7 +94,7 @@ impl Records {
         Ok(())
     }
 
-    /// Adds a token for which there is room, and keeps its text. A refused call changes nothing.
+    /// Appends a token within the reserved room, and interns its string. A refused call changes nothing.
     #[inline(always)]
     pub fn put(&mut self, strings: &mut StringTable, token: Token<'_>) -> Result<(), AllocError>
         requires room { RecordHasRoom (token_model token) self.old }
@@ -108,7 +110,7 @@ impl Records {
         Ok(())
     }
 
-    /// The token with a number.
+    /// The token at an index.
     #[inline(always)]
     pub fn get(&self, number: usize) -> InternedToken
         requires { number < length self.now.interned }
@@ -117,7 +119,7 @@ impl Records {
         interned_of_record(self.places.as_slice(), self.items[number])
     }
 
-    /// The records.
+    /// The records, in order.
     #[inline(always)]
     pub fn as_slice(&self) -> &[Record]
         ensures { (places : List Place)
@@ -126,7 +128,7 @@ impl Records {
         self.items.as_slice()
     }
 
-    /// Keeps the first `count` tokens. It takes no memory.
+    /// Truncates to the first `count` tokens. Allocates nothing.
     pub fn truncate(&mut self, count: usize)
         ensures interned { self.new.interned ≡ take count self.old.interned }
         ensures room { self.new.room ≡ self.old.room }
@@ -141,7 +143,7 @@ impl Records {
     }
 }
 
-// The record of a token. Its text is kept, and its place, if it has one, is put behind the others. A refused call changes nothing.
+// The record of a token. Interns its string, or appends its place. A refused call changes nothing.
 #[inline(always)]
 fn record_of(
     strings: &mut StringTable,
@@ -178,7 +180,7 @@ fn record_of(
     }
 }
 
-// The token that a record stands for.
+// The token of a record.
 #[inline(always)]
 fn interned_of_record(places: &[Place], item: Record) -> InternedToken
     requires { PlaceIsWithin (length places.now) item }
@@ -201,7 +203,7 @@ fn interned_of_record(places: &[Place], item: Record) -> InternedToken
     }
 }
 
-// The number of the first place that the last records have, or how many places there are.
+// The index of the first place of these last records, or the number of places if they have none.
 fn first_place(records: &[Record], all: usize) -> usize
     ensures { (number : ℕ) → AreNumbered number records.now all → result ≡ number }
 {

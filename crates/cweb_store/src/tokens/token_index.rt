@@ -1,4 +1,4 @@
-// The numbers of tokens that are looked for again.
+// The indices of tokens that are searched for later.
 
 ghost use Rattle.std.specs.Prelude.{◌≡◌, ◌≤◌, ◌++◌, ◌∷◌, [], ℕ, Bool, List, length, nat_lt, take};
 ghost use Rattle.std.specs.Prelude.{vec_capacity, OnOk};
@@ -13,7 +13,7 @@ use crate::parts::Part;
 use crate::tokens::Token;
 use std::alloc::{AllocError, Global};
 
-/// The numbers of the tokens that use a name, and of those that are Defs, in order.
+/// The indices of the tokens that use a name, and of the Defs, in ascending order.
 #[derive(Drop)]
 pub struct TokenIndex {
     pub uses: Vec<usize>,
@@ -21,6 +21,7 @@ pub struct TokenIndex {
 }
 
 impl TokenIndex {
+    /// An empty index.
     pub fn new(alloc: Global) -> TokenIndex
         ensures { IsTokenIndex result [] }
     {
@@ -30,7 +31,7 @@ impl TokenIndex {
         }
     }
 
-    /// Sets room aside for the note of a token. What is noted stays as it is, also where that is refused.
+    /// Reserves room for an entry. The index doesn't change.
     pub fn reserve(&mut self, token: Token<'_>) -> Result<(), AllocError>
         ensures room { OnOk result (IndexHasRoom (token_model token.entry) self.new) }
         ensures token_index { (tokens : List spec.Token) → IsTokenIndex self.old tokens
@@ -44,7 +45,7 @@ impl TokenIndex {
         Ok(())
     }
 
-    /// Notes a token that comes behind others.
+    /// Adds a token that comes after all others.
     pub fn add_number(&mut self, number: usize, token: Token<'_>)
         requires { IndexHasRoom (token_model token) self.old }
         ensures { (tokens : List spec.Token) → length tokens ≡ number → IsTokenIndex self.old tokens
@@ -57,7 +58,7 @@ impl TokenIndex {
         }
     }
 
-    /// Keeps what is noted of the first `count` tokens. It takes no memory.
+    /// Keeps the entries of the first `count` tokens. Allocates nothing.
     pub fn truncate(&mut self, count: usize)
         ensures token_index { (tokens : List spec.Token) → IsTokenIndex self.old tokens
             → IsTokenIndex self.new (take count tokens) }
@@ -71,7 +72,7 @@ impl TokenIndex {
     }
 }
 
-/// The first of the noted numbers that is in a part, or the number after the part where none is.
+/// The first of `numbers` that is in a part, or the end of the part if there is none.
 pub fn next_in_range(numbers: &[usize], part: Part) -> u32
     requires { part.first ≤ part.after }
     ensures { (test : spec.Token → Bool) → (tokens : List spec.Token)
@@ -86,7 +87,7 @@ pub fn next_in_range(numbers: &[usize], part: Part) -> u32
     part.after
 }
 
-// How many of the first numbers are below a bound, where none of those behind them is.
+// The number of entries below a bound. The entries are sorted.
 fn count_below(numbers: &[usize], bound: usize) -> usize
     ensures { IsNonDecreasing numbers.now
         → result ≡ prefix_len (λ number. nat_lt number bound) numbers.now }

@@ -1,4 +1,4 @@
-// The lists that the texts of tokens stand in, as slices.
+// The lists of a token's bytes as slices.
 
 ghost use Rattle.std.specs.Prelude.{◌≡◌, ◌<◌, ◌+◌, List, ℕ, [], length, option_map, slice_get};
 ghost use Rattle.std.specs.Prelude.{Some};
@@ -13,7 +13,7 @@ use crate::tokens::records::Record;
 use cweb_texts::{Edge, StringSlices, TokenBytes, has_high_byte, punctuator_edge};
 use std::marker::Model;
 
-/// What lends the texts of tokens. A loop that holds it reads no list of the store again for where its items stand.
+/// A reader of tokens' bytes. A loop that holds it doesn't reload the pointers of the store's lists.
 #[derive(Drop)]
 pub struct TokenReader<'a> {
     pub(crate) records: &'a [Record],
@@ -34,7 +34,7 @@ impl<'a> Model for TokenReader<'a> {
 }
 
 impl<'a> TokenReader<'a> {
-    /// What the token with a number lends.
+    /// The bytes of a direct token, or `None`.
     #[inline(always)]
     pub fn direct(&self, number: u32) -> Option<TokenBytes<'a>>
         requires { number < length self.now }
@@ -44,7 +44,7 @@ impl<'a> TokenReader<'a> {
     }
 }
 
-// What a record lends. No byte is looked at where the border of the text is kept.
+// The bytes of a record's token. The bytes aren't inspected if the string table stores their edge.
 #[inline(always)]
 fn direct<'a>(strings: &StringSlices<'a>, item: Record) -> Option<TokenBytes<'a>>
     requires { StringIsWithin (length strings.now) (interned_of_record [] item) }

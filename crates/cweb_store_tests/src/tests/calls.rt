@@ -1,8 +1,7 @@
-// Calls of a builder that are written as text: a call is a word and what it is given.
+// Parses builder calls: a word and its argument.
 use super::*;
 use cweb_files::{FileId, Place};
 
-/// A call of a builder.
 #[derive(Clone, Copy)]
 pub enum Call<'a> {
     Occurs(&'a str, How, bool),
@@ -13,7 +12,6 @@ pub enum Call<'a> {
     Transliterates(u8, &'a str),
 }
 
-/// The call that a text says.
 pub fn known<'a>(rt: &impl Abort, text: &'a str) -> Call<'a> {
     match read(text) {
         Some(call) => call,

@@ -1,7 +1,7 @@
-// What tokens lend.
+// Direct tokens, and their edges.
 use super::*;
 
-// The token with a number lends a text, and has a border.
+// The token at an index has these bytes and this edge.
 fn has_direct_bytes(rt: &impl Abort, store: &Store, number: u32, string: &[u8], edge: Edge) {
     holds(rt, number < store.tokens());
     let direct = store.direct(number).expect(rt, "the token lends a text");
@@ -9,7 +9,6 @@ fn has_direct_bytes(rt: &impl Abort, store: &Store, number: u32, string: &[u8], 
     holds(rt, direct.edge as u8 == edge as u8);
 }
 
-// The tokens lend these texts, and have these borders.
 fn have_direct_bytes(rt: &impl Abort, store: &Store) {
     has_direct_bytes(rt, store, 0, b"foo", Edge::Word);
     has_direct_bytes(rt, store, 1, b"12", Edge::Number);
@@ -20,7 +19,7 @@ fn have_direct_bytes(rt: &impl Abort, store: &Store) {
     has_direct_bytes(rt, store, 6, b"foo", Edge::Word);
 }
 
-// Tokens of each border.
+// Tokens with each edge.
 #[derive(Clone, Copy)]
 struct DirectTokens;
 
@@ -40,7 +39,7 @@ fn direct_bytes_and_edges(rt: HostRuntime) -> Result<(), Fail> {
     check(&rt, rt.alloc(), &DirectTokens)
 }
 
-// So many tokens lend nothing.
+// None of the first `tokens` tokens is direct.
 fn have_no_direct_bytes(rt: &impl Abort, store: &Store, tokens: u32) {
     holds(rt, store.tokens() == tokens);
     for number in 0..tokens {
@@ -48,7 +47,7 @@ fn have_no_direct_bytes(rt: &impl Abort, store: &Store, tokens: u32) {
     }
 }
 
-// Tokens that lend nothing.
+// Tokens that aren't direct.
 #[derive(Clone, Copy)]
 struct IndirectTokens;
 

@@ -1,5 +1,5 @@
-// Rows of builder calls. A call is a word and what it is given; between two calls stand `;` and a blank. Each call that
-// is refused is made again, so that the rows pass too where an allocation fails.
+// Builder calls as strings: a word and its argument, with `; ` between two calls. A refused call is repeated, so that
+// the examples also pass if an allocation fails.
 
 ghost use Rattle.std.specs.Prelude.{◌≡◌, ◌≤◌, length, is_some};
 ghost use Rattle.cweb_store.specs.surface.Growing.{part_count, token_count};
@@ -8,7 +8,7 @@ use super::*;
 use calls::{Call, known};
 use std::alloc::AllocError;
 
-/// A builder that knows how many calls it had, and whether a part is open.
+/// A builder that counts its calls, and knows whether a part is open.
 #[derive(Drop)]
 pub struct ExampleBuilder {
     builder: Builder,
@@ -29,7 +29,7 @@ impl ExampleBuilder {
         }
     }
 
-    /// Makes calls one after another, and one that is refused once more.
+    /// Makes calls in order. A refused one is repeated.
     pub fn make_all(&mut self, rt: &impl Abort, calls: &str) -> Result<(), AllocError> {
         for text in calls.split("; ") {
             self.make_again(rt, known(rt, text))?;
@@ -37,7 +37,7 @@ impl ExampleBuilder {
         Ok(())
     }
 
-    /// Pushes a token, once more where the call is refused.
+    /// Pushes a token. A refused call is repeated.
     pub fn push(&mut self, rt: &impl Abort, token: Token<'_>) -> Result<(), AllocError> {
         self.make_again(rt, Call::Pushes(token))
     }
@@ -129,15 +129,14 @@ impl ExampleBuilder {
     }
 }
 
-/// What a row is given, and what is asked of its store.
+/// The calls of a test case, and the checks of its store.
 pub trait Case {
     fn fill<A: Abort>(&self, rt: &A, example: &mut ExampleBuilder) -> Result<(), AllocError>;
 
     fn look<A: Abort>(&self, rt: &A, store: &Store);
 }
 
-/// Makes the store of a case, once more where memory was refused, and looks at it. No other function of these tests holds a store,
-/// as each that does takes as long to prove as ten that borrow one.
+/// Makes and checks the store of a case, again after a failed allocation. Only this function owns one, as that is slow.
 pub fn check<C: Case>(rt: &impl Abort, alloc: Global, case: &C) -> Result<(), Fail> {
     let store = filled_again(rt, alloc, case)?;
     case.look(rt, &store);

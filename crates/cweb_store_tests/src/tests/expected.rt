@@ -1,11 +1,11 @@
-// What a store answers, told piece by piece.
+// Compares reports with expected strings, without allocation.
 
 ghost use Rattle.std.specs.Prelude.{◌<◌, ◌≤◌, length, All};
 ghost use Rattle.cweb_store.specs.Parts.{all_tokens};
 
 use super::*;
 
-/// What is still expected of a text that is told in pieces. To tell it takes no memory.
+/// The rest of an expected string that is compared in parts.
 #[derive(Drop)]
 pub struct Expected<'a> {
     rest: &'a [u8],
@@ -31,7 +31,7 @@ impl<'a> Expected<'a> {
         }
     }
 
-    // In tests a number has three digits at most.
+    // Numbers in tests have at most three digits.
     fn compare_number(&mut self, number: u32) {
         if number >= 100 {
             self.compare_last_digit(number / 100);
@@ -74,7 +74,7 @@ impl<'a> Expected<'a> {
         }
     }
 
-    /// The names that the first three occurrences stand for.
+    /// The resolutions of the first three occurrences.
     pub fn compare_resolutions(&mut self, store: &Store) {
         for number in 0..3 {
             match store.standing(NameRef(number)) {
@@ -84,7 +84,7 @@ impl<'a> Expected<'a> {
         }
     }
 
-    /// How many tokens and bytes of texts there are, Defs in the program, and replacements.
+    /// The numbers of tokens and bytes, Defs in the program, and replacements.
     pub fn compare_counts(&mut self, store: &Store) {
         self.compare(b"tokens ");
         self.compare_number(store.tokens());
@@ -108,7 +108,7 @@ impl<'a> Expected<'a> {
         self.compare(text);
     }
 
-    /// The first use in a stretch of tokens.
+    /// The first use in a range of tokens.
     pub fn compare_next_use(&mut self, store: &Store, first: u32, after: u32)
         requires { first ≤ after }
     {
@@ -124,7 +124,7 @@ impl<'a> Expected<'a> {
         }
     }
 
-    // The parts of an iterator, each behind a sign of its own.
+    // The parts of an iterator, each after a separator.
     fn compare_parts<'b>(&mut self, store: &'b Store, parts: Parts<'b>)
         requires { All (λ p. p.after ≤ length (all_tokens store.now.parts)) parts }
     {

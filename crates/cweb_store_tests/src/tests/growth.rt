@@ -1,7 +1,7 @@
-// What is asked of whole stores: Defs, replacements, counts, and one store that is larger than each step of growth.
+// Defs, replacements and counts of whole stores, and a store that outgrows each buffer.
 use super::*;
 
-// The store of each row tells what stands beside it.
+// The store of each example has the expected counts.
 fn count_each(rt: &impl Abort, alloc: Global, examples: &[(&str, &str)]) -> Result<(), Fail> {
     for (example, text) in examples {
         counts(rt, alloc, *example, *text)?;
@@ -51,7 +51,7 @@ fn many_replacements_of_a_byte(rt: HostRuntime) -> Result<(), Fail> {
     check(&rt, rt.alloc(), &ReplacedOften)
 }
 
-// An equal Word or Punct is kept once; each other text as often as it is given.
+// Equal Words and Puncts are stored once, other strings as often as they occur.
 #[test]
 fn bytes_of_strings(rt: HostRuntime) -> Result<(), Fail> {
     const EXAMPLES: &[(&str, &str)] = &[
@@ -89,7 +89,7 @@ fn bytes_of_strings(rt: HostRuntime) -> Result<(), Fail> {
     count_each(&rt, rt.alloc(), EXAMPLES)
 }
 
-// A part of its own for each of 200 uses of a name.
+// 200 uses of a name, each in its own part.
 #[derive(Clone, Copy)]
 struct ManyParts;
 
@@ -108,7 +108,7 @@ impl Case for ManyParts {
     }
 }
 
-// A part of the token with a number alone; the number of the next one.
+// The part has only the token at an index. Returns the next index.
 fn part_is(rt: &impl Abort, part: Part, number: u32) -> u32 {
     holds(rt, number < 200);
     let next = number + 1;
@@ -116,7 +116,7 @@ fn part_is(rt: &impl Abort, part: Part, number: u32) -> u32 {
     next
 }
 
-// So many parts of the first name have a token each, in order.
+// The first name has this many parts of one token each, in order.
 fn has_parts(rt: &impl Abort, store: &Store, parts: u32) {
     let mut count: u32 = 0;
     for part in store.parts(NameId(0)) {

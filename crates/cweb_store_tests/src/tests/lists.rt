@@ -1,8 +1,8 @@
-// A builder of a list of calls.
+// Builder calls as a list of values.
 use super::*;
 
-// The store of a list that has each kind of call, and two calls out of their place. The other seven answer Ok, unless memory
-// is refused. A refused call may put a later one in its place.
+// A list with each kind of call, two of them not allowed by the state. The other seven return `Ok`, unless an
+// allocation fails. A refused call may make a later one disallowed or allowed.
 fn listed(alloc: Global) -> Result<Store, AllocError> {
     const CALLS: &[Call] = &[
         Call::Closes,
@@ -25,7 +25,7 @@ fn listed(alloc: Global) -> Result<Store, AllocError> {
     Ok(store)
 }
 
-// The same, once more where memory was refused.
+// Makes the store again if an allocation failed.
 fn listed_again(alloc: Global) -> Result<Store, AllocError> {
     match listed(alloc) {
         Ok(store) => Ok(store),

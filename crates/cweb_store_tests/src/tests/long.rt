@@ -1,10 +1,10 @@
-// Texts around the length of 65,536 bytes: words are kept once, literals each time.
+// Strings of about 65,536 bytes. Words are stored once, literals each time.
 use super::*;
 
-// The longest text, of one letter.
+// The length of the longest string, which repeats one letter.
 const LONGEST: usize = 65_537;
 
-// A word and a literal of each of four lengths.
+// A Word and a Literal of each of four lengths.
 fn push_long(
     rt: &impl Abort,
     example: &mut ExampleBuilder,
@@ -19,7 +19,7 @@ fn push_long(
     Ok(())
 }
 
-// A part of such words and literals, and of them once more.
+// A part of these Words and Literals, each twice.
 #[derive(Clone, Copy)]
 struct Long<'a>(&'a [u8]);
 
@@ -37,7 +37,7 @@ impl Case for Long<'_> {
     }
 }
 
-// The token with a number, from 0, in such a part.
+// The expected token at an index of this part.
 fn long_token(letters: &[u8], number: u32) -> Token<'_> {
     let text = letters.get((number / 2 % 4) as usize..).unwrap_or(b"");
     if number % 2 == 0 {
@@ -47,7 +47,7 @@ fn long_token(letters: &[u8], number: u32) -> Token<'_> {
     }
 }
 
-// The longest text.
+// The longest string.
 fn longest(alloc: Global) -> Result<Vec<u8>, AllocError> {
     match vec![in alloc; b'x'; LONGEST] {
         Ok(letters) => Ok(letters),
@@ -55,7 +55,7 @@ fn longest(alloc: Global) -> Result<Vec<u8>, AllocError> {
     }
 }
 
-// The store has each text as often as it is kept, and the tokens in their order.
+// The store has the expected strings and tokens.
 fn has_long_strings(rt: &impl Abort, store: &Store, letters: &[u8]) {
     holds(
         rt,

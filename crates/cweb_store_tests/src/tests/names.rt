@@ -1,7 +1,7 @@
-// Names, abbreviations, files, and what is wrong with them.
+// Names, abbreviations, files and their faults.
 use super::*;
 
-// What three occurrences stand for.
+/// The resolutions of three occurrences.
 pub fn shows_resolutions(rt: &impl Abort, store: &Store, text: &str) {
     let mut expected = Expected::new(text);
     expected.compare_resolutions(store);
@@ -54,7 +54,7 @@ fn an_abbreviation_of_two_names(rt: HostRuntime) -> Result<(), Fail> {
     )
 }
 
-// The part belongs to no name, and still its tokens use one.
+// The part's own name is unresolved, and its tokens still use a name.
 #[test]
 fn an_abbreviation_of_no_name(rt: HostRuntime) -> Result<(), Fail> {
     example_shows(

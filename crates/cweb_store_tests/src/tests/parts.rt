@@ -32,7 +32,7 @@ fn dropped_layout_of_a_part(rt: HostRuntime) -> Result<(), Fail> {
     )
 }
 
-// A Mark has its own place, also behind some that were dropped and in the next part.
+// A Mark keeps its place after others were dropped, and in the next part.
 #[test]
 fn places_after_dropped_marks(rt: HostRuntime) -> Result<(), Fail> {
     example_shows(
@@ -43,7 +43,7 @@ fn places_after_dropped_marks(rt: HostRuntime) -> Result<(), Fail> {
     )
 }
 
-// Of a macro the first two tokens stay.
+// A macro keeps its first two tokens.
 #[test]
 fn dropped_layout_of_macros(rt: HostRuntime) -> Result<(), Fail> {
     example_shows(
@@ -54,7 +54,7 @@ fn dropped_layout_of_macros(rt: HostRuntime) -> Result<(), Fail> {
     )
 }
 
-// A macro loses its last Newlines, and then one Blank.
+// A macro loses its trailing Newlines, and then one Blank.
 #[test]
 fn ends_of_macros(rt: HostRuntime) -> Result<(), Fail> {
     example_shows(
@@ -65,7 +65,7 @@ fn ends_of_macros(rt: HostRuntime) -> Result<(), Fail> {
     )
 }
 
-// The first uses of these stretches.
+/// The first uses of these ranges.
 pub fn has_uses(rt: &impl Abort, store: &Store, text: &str) {
     let mut expected = Expected::new(text);
     expected.compare_next_use(store, 0, 5);
@@ -75,7 +75,7 @@ pub fn has_uses(rt: &impl Abort, store: &Store, text: &str) {
     is_met(rt, &expected, text);
 }
 
-// Of a part with two uses, of what stands behind the first of them and before it, and of a part without.
+// A part with two uses, the ranges after and before the first use, and a part without uses.
 #[test]
 fn first_uses(rt: HostRuntime) -> Result<(), Fail> {
     const CASE: ShownStore = ShownStore {

@@ -1,7 +1,7 @@
-// Punctuators are kept once, of each byte and of two.
+// Punctuators of each byte and of two bytes are stored once.
 use super::*;
 
-// A byte as a punctuator, and of each other byte one of two.
+// A punctuator of this byte, and for every other byte one of two bytes.
 fn push_punctuator(
     rt: &impl Abort,
     example: &mut ExampleBuilder,
@@ -14,7 +14,7 @@ fn push_punctuator(
     Ok(())
 }
 
-// A part of each byte as a punctuator, and of two-byte ones among them, and of all once more.
+// A part of these punctuators for each byte, twice.
 #[derive(Clone, Copy)]
 struct EachPunctuator;
 
@@ -36,7 +36,7 @@ impl Case for EachPunctuator {
     }
 }
 
-// A store has what was pushed of a byte from this token on; the number of the next one.
+// The store has the punctuators of a byte from an index on. Returns the next index.
 fn has_punctuator(rt: &impl Abort, store: &Store, number: u32, byte: u8) -> u32 {
     let next = next_is(rt, store, number, Token::Punct(&[byte]));
     if byte % 2 == 0 {

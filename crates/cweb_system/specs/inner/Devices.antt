@@ -1,4 +1,4 @@
--- How often a device of the system has failed, and the stream under it.
+-- Failure counts of the system's devices, and the streams under them.
 use Rattle.std.specs.Prelude.{◌≡◌, ⊤, ℕ, List, [], Option, Some, option_and_then, string_bytes, IsSome}
 use Rattle.std.specs.Io.Buffered.{writer_buffer, writer_contents}
 use Rattle.cweb_system.specs.inner.Written.{written_name}
@@ -19,12 +19,12 @@ stream_of sink = sink.stream
 abbrev pub bins_failures : {R File Dir : Type 0} → FolderBins R File Dir → ℕ
 bins_failures bins = bins.failed
 
--- the bytes of an output, written and gathered, where its file's are known
+-- The bytes of an output, buffered ones included, if those of its file are known.
 abbrev pub target_bytes : {F : Type 0} → (F → Option (List ℕ)) → Target F → Option (List ℕ)
 target_bytes contents (Target.Draft draft) = writer_contents contents draft.out
 target_bytes contents (Target.Device out) = writer_contents contents out
 
--- the bytes of an output that are not yet written
+-- The bytes of an output that are still buffered.
 abbrev pub buffered_output_bytes : {F : Type 0} → Target F → List ℕ
 buffered_output_bytes (Target.Draft draft) = writer_buffer draft.out
 buffered_output_bytes (Target.Device out) = writer_buffer out
@@ -33,7 +33,7 @@ abbrev pub IsDeviceOpen : {F : Type 0} → Target F → Type 0
 IsDeviceOpen (Target.Device out) = ⊤
 IsDeviceOpen (Target.Draft draft) = ⊥
 
--- an empty output of a name was begun, and the file of a draft is noted under it
+-- An empty output was begun, and the file of a draft is recorded under its name.
 abbrev pub BeginsOutput : {R File Dir : Type 0} → List ℕ → FolderBins R File Dir → Target File → Type 0
 BeginsOutput name bins (Target.Draft draft) =
     (string_bytes draft.name ≡ name) × (writer_buffer draft.out ≡ [])
@@ -43,6 +43,6 @@ BeginsOutput name bins (Target.Device out) = writer_buffer out ≡ []
 abbrev pub output_bytes : {R File Dir : Type 0} → (File → Option (List ℕ)) → FolderBins R File Dir → Option (List ℕ)
 output_bytes contents bins = option_and_then (target_bytes contents) bins.output
 
--- an output is open
+-- An output is open.
 abbrev pub IsBegun : {R File Dir : Type 0} → FolderBins R File Dir → Type 0
 IsBegun bins = IsSome bins.output

@@ -1,4 +1,4 @@
--- How an output is written, and its draft's path cleared, by what is under a path.
+-- How an output is written and its draft's path cleared, by the entry under a path.
 use Rattle.std.specs.Prelude.{◌≡◌, ◌⊎◌, ⊤, ℕ, Bool, IsTrue, List, Some, None, Contains, bit_and}
 use Rattle.std.specs.declared.fs.attrs.FileType.{FileType}
 use Rattle.std.specs.declared.fs.attrs.Metadata.{Metadata}
@@ -7,26 +7,24 @@ use Rattle.cweb_system.specs.declared.path_entry.PathEntry.{PathEntry}
 use Rattle.cweb_system.specs.declared.path_entry.Way.{Way}
 use Rattle.cweb_system.specs.declared.system.FileKey.{FileKey}
 
--- a device, a FIFO or a socket: all that is neither a file nor a folder
+-- A device, a FIFO or a socket: neither a file nor a folder.
 abbrev pub IsDevice : FileType → Type 0
 IsDevice kind = (IsFile kind → ⊥) × (IsDir kind → ⊥)
 
--- the nine bits that say who may read, write and run a file
+-- The nine permission bits of a file.
 abbrev pub permission_bits : Metadata → ℕ
 permission_bits found = bit_and (metadata_mode found) 0o777
 
--- a regular file with these permissions
+-- A regular file with these permissions.
 abbrev pub IsFileOf : ℕ → PathEntry → Type 0
 IsFileOf permissions (PathEntry.File file kept) = kept ≡ permissions
 IsFileOf permissions _ = ⊥
 
--- a device, of whatever key
 abbrev pub IsDeviceFound : PathEntry → Type 0
 IsDeviceFound (PathEntry.Device device) = ⊤
 IsDeviceFound _ = ⊥
 
--- the run has read this file, or the target of this link; or the file or link is the run's own: it has written the file under
--- another name, or a standard stream is the target
+-- The run has read this file or link target, or wrote the file under another name, or the link is a standard stream.
 abbrev pub IsReadOrOwn : List FileKey → Bool → PathEntry → Type 0
 IsReadOrOwn read own (PathEntry.File file permissions) = Contains read file ⊎ IsTrue own
 IsReadOrOwn read own (PathEntry.Link (Some target)) = Contains read target ⊎ IsTrue own
@@ -35,7 +33,7 @@ IsReadOrOwn read own PathEntry.Nothing = ⊥
 IsReadOrOwn read own PathEntry.Folder = ⊥
 IsReadOrOwn read own (PathEntry.Device device) = ⊥
 
--- a file or link is replaced, and a file's permissions are kept; a device is written to, and a folder is refused
+-- A file or link is replaced, with a file's permissions preserved. A device is written to. A folder is refused.
 abbrev pub way_over : PathEntry → Way
 way_over PathEntry.Nothing = Way.Draft None
 way_over (PathEntry.Link target) = Way.Draft None
@@ -43,7 +41,7 @@ way_over (PathEntry.File file permissions) = Way.Draft (Some permissions)
 way_over (PathEntry.Device device) = Way.Device device
 way_over PathEntry.Folder = Way.Refused
 
--- the run has read this file or device, or the target of this link
+-- The run has read this file or device, or the target of this link.
 abbrev pub IsReadByRun : List FileKey → PathEntry → Type 0
 IsReadByRun read (PathEntry.File file permissions) = Contains read file
 IsReadByRun read (PathEntry.Link (Some target)) = Contains read target

@@ -6,10 +6,10 @@ use Rattle.std.specs.declared.cmp.Ordering.{Ordering}
 use Rattle.cweb_system.specs.declared.files_written.FilesWritten.{FilesWritten}
 use Rattle.cweb_system.specs.declared.system.FileKey.{FileKey}
 
--- how the keys of files compare: by device, then by number
+-- File keys are ordered by device, then by inode number.
 abbrev pub compare_keys : FileKey → FileKey → Ordering
 compare_keys a b = ordering_then (nat_cmp a.device b.device) (nat_cmp a.number b.number)
 
--- the name under which a file was written
+-- The name under which a file was written.
 abbrev pub written_name : FilesWritten → FileKey → Option (List ℕ)
 written_name files file = option_map string_bytes (get_by (compare_keys file) files.names)

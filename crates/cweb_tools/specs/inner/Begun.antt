@@ -1,4 +1,4 @@
--- A run whose merge has begun.
+-- Runs whose merge has begun.
 use Rattle.std.specs.Prelude.{◌≡◌, ℕ, Option, Some, IsTrue}
 use Rattle.cweb_files.specs.declared.device.Shelf.{Ghosts as Shelf}
 use Rattle.cweb_input.specs.Include.{World, Found}
@@ -13,7 +13,7 @@ use Rattle.cweb_tools.specs.MergePromises.{Merges}
 use Rattle.cweb_tools.specs.Tangle.{CanCome, tangled}
 use Rattle.cweb_tools.specs.inner.Tangle.{course_acts, course_status}
 
--- The shelf was looked at since it was seen first, and no more: the merge of what was found there begins.
+-- Since its first state the shelf has only been searched. The merge of the files found there begins.
 pub record MergeHasBegun {S R : Type 0} (shelf : Shelf S R) (first : ShelfModel) (now : S) (merger : Merger S R)
     (world : World) (found : Option Found) (changes : Option (Option Found)) : Type 0 where
   pub tells : shelf.tells now ≡ first.tells
@@ -22,7 +22,7 @@ pub record MergeHasBegun {S R : Type 0} (shelf : Shelf S R) (first : ShelfModel)
   pub begins : IsTrue first.tells → BeginsMerge world found changes (so_far merger) (to_come shelf now merger)
   pub known : IsTrue first.tells → KnowsReaders shelf now merger
 
--- Whatever was found, a run of `ctangle` ends as its course does,
+-- Whatever was found, a run of `ctangle` ends as its course does.
 abbrev pub EndsBegun : {S R : Type 0} → Shelf S R → OptionsModel → S → Merger S R → SinkModel → SinkModel
     → Devices → ℕ → Type 0
 EndsBegun shelf asked now merger bins log after status =
@@ -32,7 +32,7 @@ EndsBegun shelf asked now merger bins log after status =
     (tangled asked.names.main (found_course world asked.names.merge found changes))
     (record { shelf = first; out = bins; log = log }) after status
 
--- and a run of `wmerge`.
+-- Whatever was found, a run of `wmerge` ends as its course does.
 abbrev pub MergesBegun : {S R : Type 0} → Shelf S R → S → Merger S R → SinkModel → SinkModel → Devices → ℕ
     → Type 0
 MergesBegun shelf now merger out log after status =

@@ -1,4 +1,4 @@
--- The way that a run goes, as a function.
+-- The course of `wmerge`, from its words.
 use Rattle.std.specs.Prelude.{ℕ, List, ◌∷◌, Option, None, Some}
 use Rattle.cweb_input.specs.Finding.{names_found, contents_found}
 use Rattle.cweb_input.specs.Include.{World, Found, web_at, change_at}

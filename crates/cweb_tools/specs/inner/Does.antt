@@ -1,5 +1,4 @@
--- Acts that calls do in the devices of a run: what they leave in each device that tells what it holds, and which device failed
--- over all devices.
+-- The effect of calls as acts: on each observable device, and on the failure counts of all devices.
 use Rattle.std.specs.Prelude.{◌≡◌, ℕ, ◌+◌, List, [], Option, Some, None, Result, Ok, Err, IsTrue}
 use Rattle.cweb_input.specs.OpenSources.{read_failures_of}
 use Rattle.cweb_input.specs.declared.stop.Stop.{Stop}
@@ -12,13 +11,13 @@ use Rattle.cweb_tools.specs.Script.{TangleCourse}
 use Rattle.cweb_tools.specs.Does.{AgreesWith}
 use Rattle.cweb_tools.specs.laws.Leaves.{bins_blame}
 
--- acts that begin with this in the devices leave something in them, as far as they tell it
+-- Acts that begin in this state end in one that agrees with the devices.
 pub record LeadTo (acts : List Act) (why : Option Ending) (now : DeviceState) (after : Devices) : Type 0 where
   pub left : DeviceState
   pub told : AgreesWith left after
   pub runs : PerformsActs acts why now left
 
--- what devices show that tell it
+-- The state of the observable devices.
 abbrev pub observed_state : Devices → DeviceState
 observed_state seen = record {
   shelf_failed = seen.shelf.failed;
@@ -35,12 +34,12 @@ abbrev pub log_blame : Stop → ℕ
 log_blame LogFault = 1
 log_blame _ = 0
 
--- by how much a count of failures rises, where this is by how much it does with a stop
+-- The increase of a failure count, if `blame` is its increase at each stop.
 abbrev pub rise : (Stop → ℕ) → Option Ending → ℕ
 rise blame None = 0
 rise blame (Some (ending stop about)) = blame stop
 
--- the acts were done, all of them or up to one that something stopped; the device failed whose stop that is, once, and no other
+-- The acts were done, all or up to a stop. Exactly the device of the stop failed, once.
 pub record Does (acts : List Act) (why : Option Ending) (before after : Devices) : Type 0 where
   pub shelf_tells : after.shelf.tells ≡ before.shelf.tells
   pub bins_tells : after.out.tells ≡ before.out.tells
@@ -50,58 +49,58 @@ pub record Does (acts : List Act) (why : Option Ending) (before after : Devices)
   pub log : after.log.failed ≡ before.log.failed + rise log_blame why
   pub runs : (now : DeviceState) → AgreesWith now before → LeadTo acts why now after
 
--- acts of a call that has the log alone, whatever the other devices hold
+-- Acts of a call that has only the log, whatever the other devices contain.
 abbrev pub DoesInLog : List Act → Option Ending → SinkModel → SinkModel → Type 0
 DoesInLog acts why old new = (shelf : ShelfModel) (bins : SinkModel)
     → Does acts why (record { shelf = shelf; out = bins; log = old })
     (record { shelf = shelf; out = bins; log = new })
 
--- of one that has the bins alone
+-- Acts of a call that has only the bins.
 abbrev pub DoesInBins : List Act → Option Ending → SinkModel → SinkModel → Type 0
 DoesInBins acts why old new = (shelf : ShelfModel) (log : SinkModel)
     → Does acts why (record { shelf = shelf; out = old; log = log }) (record { shelf = shelf; out = new; log = log })
 
--- of one that has the bins and the log
+-- Acts of a call that has the bins and the log.
 abbrev pub DoesInBoth : List Act → Option Ending → SinkModel → SinkModel → SinkModel → SinkModel → Type 0
 DoesInBoth acts why old new log log' = (shelf : ShelfModel)
     → Does acts why (record { shelf = shelf; out = old; log = log }) (record { shelf = shelf; out = new; log = log' })
 
--- how a call ended that logs
+-- The end of a call that logs.
 abbrev pub log_ending : {A E : Type 0} → Result A E → Option Ending
 log_ending (Ok x) = None
 log_ending (Err fault) = Some (ending LogFault [])
 
--- the line of what stopped a run comes last; a log that failed is told nothing
+-- The line of a stop is logged last. A log that failed gets no line.
 abbrev pub LogsEnding : Ending → SinkModel → SinkModel → Type 0
 LogsEnding (ending LogFault about) old new = new ≡ old
 LogsEnding (ending stop about) old new = Logs (stop_line stop about) old new
 
--- and the other devices are left alone
+-- The line of a stop is logged last, and the other devices are unchanged.
 pub record ClosesLog (why : Ending) (old new : Devices) : Type 0 where
   pub shelf : new.shelf ≡ old.shelf
   pub bins : new.out ≡ old.out
   pub log : LogsEnding why old.log new.log
 
--- how a run, or its last part, ends: all its acts were done and this is its status, or something stopped it and that is logged
+-- The end of a run or its last part: all acts were done and the status is `due`, or a stop was logged.
 pub data Closes (acts : List Act) (due : ℕ) (before after : Devices) (status : ℕ) : Type 0 where
   done : Does acts None before after → status ≡ due → Closes acts due before after status
   halted : (why : Ending) (then : Devices) → Does acts (Some why) before then → ClosesLog why then after
       → status ≡ 1 → Closes acts due before after status
 
--- of a part that has the log alone
+-- The end of a part that has only the log.
 abbrev pub ClosesInLog : List Act → ℕ → SinkModel → SinkModel → ℕ → Type 0
 ClosesInLog acts due old new status = (shelf : ShelfModel) (bins : SinkModel)
     → Closes acts due (record { shelf = shelf; out = bins; log = old })
     (record { shelf = shelf; out = bins; log = new }) status
 
--- of a part that has the bins and the log
+-- The end of a part that has the bins and the log.
 abbrev pub ClosesInBoth : List Act → ℕ → SinkModel → SinkModel → SinkModel → SinkModel → ℕ → Type 0
 ClosesInBoth acts due old new log log' status = (shelf : ShelfModel)
     → Closes acts due (record { shelf = shelf; out = old; log = log })
     (record { shelf = shelf; out = new; log = log' }) status
 
--- how a run, or its last part, ends whose acts and status are these for each course: it takes this course where the shelf tells
--- its texts, and else one to which it can come
+-- The end of a run or its last part, for acts and a status that depend on the course. An observable shelf determines
+-- the course; otherwise some possible one is taken.
 pub record FollowsCourse (acts : TangleCourse → List Act) (due : TangleCourse → ℕ) (CanBe : TangleCourse
     → Type 0) (course : TangleCourse)
     (before after : Devices) (status : ℕ) : Type 0 where

@@ -1,4 +1,4 @@
--- What an expander goes on with, and the files of its plan.
+-- The state of an expander between outputs, and the files of its plan.
 use Rattle.std.specs.Prelude.{◌≡◌, ℕ, List, ◌++◌, IsTrue, All, length, map, vec_capacity, Option, Some, None, Result}
 use Rattle.std.specs.Prelude.{Ok, Err}
 use Rattle.cweb_files.specs.Files.{File}
@@ -20,7 +20,7 @@ use Rattle.cweb_tools.specs.Acts.{Ending, ending}
 use Rattle.cweb_tools.specs.Tangle.{output_file}
 use Rattle.cweb_tools.specs.declared.outputs.Failed.{Failed}
 
--- its plan is one of its store, and it has a stack of frames that it may have
+-- Its plan is one of its store, and its stack of frames is valid.
 pub record IsReady (e : Expander) : Type 0 where
   pub made : IsPlanOf e.store.now e.plan.now
   pub stands : IsFrameStack e.store.now e.frames.items (vec_capacity e.frames)
@@ -30,28 +30,28 @@ pub record StaysReady (old new : Expander) : Type 0 where
   pub plan : new.plan ≡ old.plan
   pub stands : IsFrameStack new.store.now new.frames.items (vec_capacity new.frames)
 
--- the tokens that it has still to give
+-- The tokens that it will still yield.
 abbrev pub left_in : Expander → List Token
 left_in e = left e.store.now e.frames.items
 
--- all line marks of its store are about files that have names
+-- All line marks of its store are about files with names.
 abbrev pub AreMarksBelow : FileNames → Expander → Type 0
 AreMarksBelow names e = All (IsMarkBelow (length (opened_file_names names))) (all_tokens e.store.now.parts)
 
--- the file of an output, by its number
+-- The file of an output, by index.
 abbrev pub file_at : FileNames → Expander → ℕ → File
 file_at names e number = output_file e.store.now (opened_file_names names) (output_at e.plan.now.outputs number)
 
--- the files of the plan
+-- The files of the plan.
 abbrev pub planned_files : FileNames → Expander → List File
 planned_files names e = map (output_file e.store.now (opened_file_names names)) e.plan.now.outputs
 
--- how the writing of the outputs ended
+-- The end of writing the outputs.
 abbrev pub output_ending : {A : Type 0} → List Output → Result A Failed → Option Ending
 output_ending outputs (Ok x) = None
 output_ending outputs (Err failed) = Some (ending failed.stop (output_name_at outputs failed.output))
 
--- of what an expander had to give some tokens are printed; a sink has a front of their text, and the rest of it is gathered
+-- Some of the remaining tokens are printed. The sink has a prefix of their bytes, and the buffer the rest.
 pub record PrintsSoFar {W : Type 0} (sink : Sink W) (files : List (List ℕ)) (first now : Expander) (printer : Printer)
     (old new : W) (buffer : List ℕ) : Type 0 where
   pub ready : StaysReady first now

@@ -1,4 +1,4 @@
--- What a web holds by its lines and its faults, and how a run of `ctangle` goes by texts, words and folder.
+-- The acts and status of a run after its words are parsed.
 use Rattle.std.specs.Prelude.{ℕ, ◌==◌, List, [], ◌∷◌, Option, None, Some, if◌then◌else◌}
 use Rattle.cweb_input.specs.Include.{World}
 use Rattle.cweb_input.specs.declared.stop.Stop.TheVariants.{WebNotOpened, ChangeNotOpened}
@@ -12,7 +12,7 @@ use Rattle.cweb_tools.specs.Script.{refused, planned, web_acts}
 use Rattle.cweb_tools.specs.Tangle.{tangled}
 use Rattle.cweb_tools.specs.inner.Course.{merge_course}
 
--- the status of a run with so many faults that nothing stopped: a plan that is refused is a fault
+-- The status of a run with this number of faults that nothing stopped. A refused plan is a fault.
 abbrev pub status_by : ℕ → Planning → ℕ
 status_by count (refused text) = 1
 status_by count (planned files missing) = if count == 0 then 0 else 1
@@ -20,7 +20,7 @@ status_by count (planned files missing) = if count == 0 then 0 else 1
 abbrev pub web_status : Web → ℕ
 web_status web = status_by (fault_count web.faults) web.plan
 
--- what is done once the words are read and the banner is logged
+-- The acts after the words are parsed and the banner is logged.
 abbrev pub course_acts : Shown → TangleCourse → List Act
 course_acts shown unread = []
 course_acts shown (not_there web) = opens ∷ says (stopped WebNotOpened web) ∷ []

@@ -1,4 +1,4 @@
--- A web that was read, as the code holds it.
+-- The model of a scanned web.
 use Rattle.std.specs.Prelude.{ℕ, List, All, ◌<◌, length, map, Option, Some, None}
 use Rattle.cweb_input.specs.surface.OpenedFileNames.{opened_file_names}
 use Rattle.cweb_scan.specs.surface.ScannedModel.{scanned_model}
@@ -16,27 +16,27 @@ use Rattle.cweb_tools.specs.declared.web.Web.{Web}
 abbrev pub counted : Numbers → script.Numbers
 counted numbers = record { sections = numbers.sections; names = numbers.names; macros = numbers.macros }
 
--- the names of its files
+-- The names of its files.
 abbrev pub files_of : Web → List (List ℕ)
 files_of web = opened_file_names web.names.now
 
 abbrev pub faults_of : Web → List LogItem
 faults_of web = fault_items (files_of web) web.faults.now (scanned_model web.scanned.now)
 
--- what it holds, where its main file has this name
+-- The model, for a main output of this name.
 abbrev pub web_in : Web → List ℕ → script.Web
 web_in web main = web_of (files_of web) web.faults.now (scanned_model web.scanned.now) main
 
--- its faults and line marks stand in files that have names
+-- The files of its faults and line marks have names.
 pub record IsKnown (web : Web) : Type 0 where
   pub faults : All (λ fault. fault.place.file.0 < length (files_of web)) web.faults.now
   pub below : IsScanBelow (length (files_of web)) (scanned_model web.scanned.now)
 
--- they are logged, one after another
+-- Its faults are logged in order.
 abbrev pub said_faults : Web → List Act
 said_faults web = map says (faults_of web)
 
--- the refusal of a plan that a fault tells of; want of memory is none
+-- The refusal of a plan's fault, if the fault isn't a failed allocation.
 abbrev pub refusal_in : PlanFault → Option Refusal
 refusal_in (fault.Cycle names) = Some (cycle names.items)
 refusal_in (fault.SameName name) = Some (same_name name)

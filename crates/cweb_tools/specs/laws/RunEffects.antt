@@ -1,4 +1,4 @@
--- What follows from the promises of a run: laws, since each is proved from the definition of how a run ends.
+-- Laws of whole runs. Each follows from the definition of how a run ends.
 use Rattle.std.specs.Prelude.{◌≡◌, ◌≢◌, ◌≤◌, ◌⊎◌, ℕ, ◌+◌, List, [], ◌∷◌, ◌++◌, Option, IsTrue}
 use Rattle.std.specs.List.{flat_map}
 use Rattle.cweb_files.specs.Frames.{WritesPrefix}
@@ -21,18 +21,18 @@ use Rattle.cweb_tools.specs.Tangle.{shown_by}
 use Rattle.cweb_tools.specs.TanglePromises.{TanglePromises}
 use Rattle.cweb_tools.specs.laws.Leaves.{LeavesFiles, bins_blame}
 
--- no line that the acts take breaks the limits
+-- No line that the acts take breaks a limit.
 abbrev pub ActsKeepLimits : List Act → Type 0
 ActsKeepLimits [] = Unit {0}
 ActsKeepLimits (act ∷ acts) = ActKeepsLimits act × ActsKeepLimits acts
 
--- all that is due was done: its files were committed one after another, its items logged, and this is its status
+-- All acts were done: the files were committed, the items logged, and the status is `due`.
 pub record DoesAll (acts : List Act) (due : ℕ) (old new : DeviceState) (status : ℕ) : Type 0 where
   pub files : new.files ≡ put_files old.files (written_files acts)
   pub log : new.log ≡ old.log ++ flat_map line (logged_items acts)
   pub answered : status ≡ due
 
--- the items up to some place were logged and then the stop's line; where the log failed, a front of that
+-- The first items were logged and then the stop's line, or a prefix of that if the log failed.
 pub record LogsUpTo (items : List LogItem) (stop : Stop) (about : List ℕ) (old new : DeviceState) : Type 0 where
   pub before : List LogItem
   pub later : List LogItem
@@ -40,11 +40,11 @@ pub record LogsUpTo (items : List LogItem) (stop : Stop) (about : List ℕ) (old
   pub front : WritesPrefix old.log new.log (flat_map line before ++ stop_line stop about)
   pub all : new.log_failed ≡ old.log_failed → new.log ≡ old.log ++ (flat_map line before ++ stop_line stop about)
 
--- a count rose by no more than one
+-- A count rose by at most one.
 abbrev pub RisesOnce : ℕ → ℕ → Type 0
 RisesOnce old new = (new ≡ old) ⊎ (new ≡ old + 1)
 
--- this stopped the run: what its log has, and which device failed
+-- A stop ended the run: the log's contents, and the device that failed.
 pub record IsStopped (acts : List Act) (stop : Stop) (about : List ℕ) (old new : DeviceState) : Type 0 where
   pub log : LogsUpTo (logged_items acts) stop about old new
   pub shelf : new.shelf_failed ≡ old.shelf_failed + read_failures_of stop
@@ -52,30 +52,29 @@ pub record IsStopped (acts : List Act) (stop : Stop) (about : List ℕ) (old new
   pub log_fails : stop ≡ LogFault → new.log_failed ≡ old.log_failed + 1
   pub log_once : RisesOnce old.log_failed new.log_failed
 
--- all that is due was done, or something stopped the run
+-- All acts were done, or something stopped the run.
 abbrev pub IsEnded : List Act → ℕ → DeviceState → DeviceState → ℕ → Type 0
 IsEnded acts due old new status = DoesAll acts due old new status
     ⊎ ((stop : Stop) × (about : List ℕ) × IsStopped acts stop about old new × (status ≡ 1))
 
--- no read failed, and the limits were kept
+-- No read failed, and the limits were kept.
 pub record ReadAll (acts : List Act) (old new : DeviceState) : Type 0 where
   pub shelf : new.shelf_failed ≡ old.shelf_failed
   pub within : ActsKeepLimits acts
 
--- no device failed twice
+-- No device failed twice.
 pub record TangleFailsOnce (before after : Devices) : Type 0 where
   pub shelf : RisesOnce before.shelf.failed after.shelf.failed
   pub bins : RisesOnce before.out.failed after.out.failed
   pub log : RisesOnce before.log.failed after.log.failed
 
--- a device that failed makes the status 1
+-- A device that failed makes the status 1.
 pub record TangleReportsFaults (before after : Devices) (status : ℕ) : Type 0 where
   pub read : after.shelf.failed ≢ before.shelf.failed → status ≡ 1
   pub written : after.out.failed ≢ before.out.failed → status ≡ 1
   pub logged : after.log.failed ≢ before.log.failed → status ≡ 1
 
--- what a log has that tells: all items that are due, or the items up to a place and then the line of what stopped the run,
--- where the log failed a front of that
+-- The end of an observable log: all items, or the first ones and the stop's line, or a prefix if the log failed.
 pub data LogEnds (items : List LogItem) (due : ℕ) (old new : SinkModel) (status : ℕ) : Type 0 where
   said : new.bytes ≡ old.bytes ++ flat_map line items → status ≡ due → LogEnds items due old new status
   cut : (stop : Stop) (about : List ℕ) (before later : List LogItem) → items ≡ before ++ later
@@ -83,20 +82,20 @@ pub data LogEnds (items : List LogItem) (due : ℕ) (old new : SinkModel) (statu
       → (new.failed ≡ old.failed → new.bytes ≡ old.bytes ++ (flat_map line before ++ stop_line stop about))
       → status ≡ 1 → LogEnds items due old new status
 
--- what a run leaves in devices, by their states
+-- The effect of a run on the state.
 pub record LeavesStates (acts : List Act) (due : ℕ) (old new : DeviceState) (status : ℕ) : Type 0 where
-  -- all that is due was done, or the log has the items up to a place and then the line of what stopped the run, and the status is 1
+  -- All acts were done; or the log has the first items and the line of the stop, and the status is 1.
   pub ended : IsEnded acts due old new status
-  -- if a file was committed, no read failed and the limits were kept
+  -- If a file was committed, no read failed and the limits were kept.
   pub read : new.files ≢ old.files → ReadAll acts old new
-  -- a web that breaks the limits is never answered by 0
+  -- A web that breaks the limits never gives status 0.
   pub limits : ¬ ActsKeepLimits acts → status ≡ 1
 
--- what it leaves in devices, by what they show
+-- The effect of a run on the observable devices.
 pub record LeavesDevices (acts : List Act) (due : ℕ) (before after : Devices) (status : ℕ) : Type 0 where
-  -- a log that shows its bytes has the lines that are due, or those up to the line of a stop, whatever shelf and bins are
+  -- An observable log has the expected lines, or the first ones and the line of a stop, whatever shelf and bins are.
   pub logged : IsTrue before.log.tells → LogEnds (logged_items acts) due before.log after.log status
-  -- bins that show their files have the first of those that are due, each whole, whatever shelf and log are
+  -- Observable bins have the first expected files, each whole, whatever shelf and log are.
   pub filed : IsTrue before.out.tells
       → LeavesFiles (written_files acts) before.out.beside.files after.out.beside.files
   pub once : TangleFailsOnce before after
@@ -111,27 +110,27 @@ EveryRunLeavesDevices = (world : World) (asked : Option OptionsModel) (before af
     → (run : TanglePromises world asked before after status)
     → LeavesDevices (script (shown_by asked) run.course) (tangle_status (shown_by asked) run.course) before after status
 
--- a prefix of the merged lines was printed, and all of them where the status is 0
+-- A prefix of the merged lines was printed, and all of them if the status is 0.
 pub record PrintsMerged (course : Course) (before after : Devices) (status : ℕ) : Type 0 where
   pub front : WritesPrefix before.out.bytes after.out.bytes (merged course)
   pub whole : status ≡ 0 → after.out.bytes ≡ before.out.bytes ++ merged course
 
--- no device failed more than once, and not both the shelf and the output
+-- No device failed more than once, and shelf and output didn't both fail.
 pub record MergeFailsOnce (before after : Devices) : Type 0 where
   pub one : after.shelf.failed + after.out.failed ≤ before.shelf.failed + before.out.failed + 1
   pub log : after.log.failed ≤ before.log.failed + 1
 
--- a device that failed makes the status 1
+-- A device that failed makes the status 1.
 pub record MergeReportsFaults (before after : Devices) (status : ℕ) : Type 0 where
   pub read : after.shelf.failed ≢ before.shelf.failed → status ≡ 1
   pub printed : after.out.failed ≢ before.out.failed → status ≡ 1
   pub logged : after.log.failed ≢ before.log.failed → status ≡ 1
 
--- what a run of `wmerge` leaves, however it ends
+-- The effect of a run of `wmerge`, however it ends.
 pub record LeavesMerge (course : Course) (before after : Devices) (status : ℕ) : Type 0 where
-  -- the output is never anything else than a prefix of the merged lines, and the status is 0 only if it is all of them
+  -- The output is a prefix of the merged lines. The status is 0 only if it is all of them.
   pub prints : IsTrue before.shelf.tells → IsTrue before.out.tells → PrintsMerged course before after status
-  -- a web that breaks the limits is never answered by 0
+  -- A web that breaks the limits never gives status 0.
   pub limits : IsTrue before.shelf.tells → ¬ MergeKeepsLimits course → status ≡ 1
   pub once : MergeFailsOnce before after
   pub faults : MergeReportsFaults before after status

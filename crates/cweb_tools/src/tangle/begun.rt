@@ -1,4 +1,4 @@
-// A run of `ctangle` behind the start of its merge.
+// A run of `ctangle` after the start of its merge.
 ghost use Rattle.std.specs.Prelude.{◌≡◌, ◌<◌, ◌+◌, ◌^◌, None, length};
 ghost use Rattle.cweb_lines.specs.surface.MergerCalls.{so_far, stop_in};
 ghost use Rattle.cweb_scan.specs.surface.ScannedModel.{scanned_model};
@@ -20,7 +20,7 @@ use cweb_out::Bins;
 use cweb_scan::{Scanned, scan};
 use std::alloc::Global;
 
-/// Reads the web whose merge has begun, and goes on with what it holds.
+/// Scans the web of a merge that has begun, and continues with the result.
 pub fn tangle_begun<S: Shelf, B: Bins, L: Sink>(
     alloc: Global,
     options: &Options,
@@ -43,7 +43,7 @@ pub fn tangle_begun<S: Shelf, B: Bins, L: Sink>(
     }
 }
 
-/// Goes on with what the scan made of the merged lines.
+/// Continues with the result of the scan.
 fn tangle_scanned<S: Shelf, B: Bins, L: Sink>(
     alloc: Global,
     options: &Options,

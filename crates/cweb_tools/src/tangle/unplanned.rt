@@ -1,4 +1,4 @@
-// How a run of `ctangle` ends whose outputs can't be planned.
+// The end of a run of `ctangle` without a plan.
 ghost use Rattle.std.specs.Prelude.{◌≡◌, ◌<◌, ◌+◌, ◌^◌, ◌∷◌, IfSome};
 ghost use Rattle.cweb_scan.specs.surface.ScannedModel.{scanned_model};
 ghost use Rattle.cweb_out.specs.Outputs.{planned};
@@ -19,7 +19,7 @@ use cweb_lines::{Sink, Stop};
 use cweb_log::{Shown, log_stop, write_plan_fault};
 use cweb_out::PlanFault;
 
-/// Ends a run whose outputs could not be planned: memory was refused, or there is no such plan.
+/// Ends a run whose outputs could not be planned: an allocation failed, or the plan was refused.
 pub fn tangle_unplanned<L: Sink>(
     shown: Shown,
     main: &str,
@@ -36,7 +36,7 @@ pub fn tangle_unplanned<L: Sink>(
         (status_by (fault_count (faults_of web.entry))
         (planning web.entry.scanned.now.store (files_of web.entry) main.now))
         (sink_model L.Sink log.old) (sink_model L.Sink log.new) result }
-    // What isn't want of memory is told as what it is.
+    // Any fault but a failed allocation is reported as such.
     ensures told { IfSome (refusal_in fault) (λ refusal. ClosesInLog
         (planned_acts shown
         (numbers_of (scanned_model web.entry.scanned.now)) (fault_count (faults_of web.entry))
@@ -49,7 +49,7 @@ pub fn tangle_unplanned<L: Sink>(
     tangle_refused(shown, main, web, fault, log)
 }
 
-/// Logs why there is no plan, which is a fault more, and ends the run: nothing is written.
+/// Logs why there is no plan, which is one more fault, and ends the run. Nothing is written.
 fn tangle_refused<L: Sink>(
     shown: Shown,
     main: &str,

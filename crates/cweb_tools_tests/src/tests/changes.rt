@@ -5,10 +5,10 @@ use super::merging::{
 use super::wanted::holds;
 use std::process::Abort;
 
-/// The texts of `m.w`, `c.ch` and `inc.w`, and what a run over them has to write and to log.
+/// The contents of `m.w`, `c.ch` and `inc.w`, and the expected output and log.
 type Change<'a> = (&'a str, &'a str, &'a str, &'a str, &'a str);
 
-/// One run over `m.w`, `c.ch` and `inc.w`, and what it has to leave.
+/// Checks one run over `m.w`, `c.ch` and `inc.w`.
 fn check_change(rt: &(impl Abort + AllocGlobal), change: &Change) {
     let texts: Sources = &[
         ("m.w", change.0.as_bytes()),
@@ -28,7 +28,7 @@ fn check_changes(rt: &(impl Abort + AllocGlobal), changes: &[Change]) {
 #[test]
 fn changes_that_match(rt: HostRuntime) {
     const CHANGES: &[Change] = &[
-        // an include line is compared before it is obeyed
+        // an include line is compared before it is executed
         (
             "A\n@i gone.w\nB\n",
             "@x\n@i gone.w\n@y\nnew\n@z\n",
@@ -36,7 +36,7 @@ fn changes_that_match(rt: HostRuntime) {
             "A\nnew\nB\n",
             "",
         ),
-        // a new line may include a file, and its lines do not match
+        // a new line may include a file, whose lines don't match
         (
             "A\nB\n",
             "@x\nA\n@y\n@i inc.w\n@z\n@x\nB\n@y\nC\n@z\n",
@@ -54,7 +54,7 @@ fn changes_that_match(rt: HostRuntime) {
 #[test]
 fn faults_of_change_files(rt: HostRuntime) {
     const CHANGES: &[Change] = &[
-        // old lines over the end of an included file
+        // old lines across the end of an included file
         (
             "@i inc.w\nL2\nL3\n",
             "@x\nI2\nLX\n@y\nN\n@z\n",
@@ -156,7 +156,7 @@ const SOURCES: Sources = &[
     ("c.ch", b"@x\ntwo\n@y\n2\n@z\n@x\nfour\n@y\n@z\n"),
 ];
 
-/// The run in which something fails, and what it leaves where nothing does.
+/// The run in which something fails, and its effect without failures.
 const RUN: Run = (
     &["m", "c"],
     None,
@@ -166,7 +166,7 @@ const RUN: Run = (
     1,
 );
 
-// Run with each allocation failing in turn, it holds each time.
+// Also run with each allocation failing in turn.
 #[test]
 fn memory_refused_in_a_change(rt: HostRuntime) {
     check_refused(&rt, &RUN);

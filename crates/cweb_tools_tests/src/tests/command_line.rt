@@ -1,10 +1,10 @@
-// What the words of a command line ask for.
+// The command line of `wmerge`.
 use super::merging::{Run, check_run};
 use super::wanted::{same_name, same_string};
 use cweb_tools::MergeWords;
 use std::process::Abort;
 
-/// Words, and the names that they stand for: the web's first and second, the change file's.
+/// Words, and the expected names: the web's first and second, and the change file's.
 type Example<'a> = (&'a [&'a str], &'a str, Option<&'a str>, Option<&'a str>);
 
 fn check_words(rt: &(impl Abort + AllocGlobal), row: &Example) {
@@ -21,7 +21,7 @@ fn names_of_words(rt: HostRuntime) {
         (&["m.w"], "m.w", None, None),
         (&["m", "c"], "m.w", Some("m.web"), Some("c.ch")),
         (&["m.w", "c.x"], "m.w", None, Some("c.x")),
-        // a dot counts in the last part of a path alone
+        // only a dot in the last part of a path counts
         (&["a/m.x", "d.d/c"], "a/m.x", None, Some("d.d/c.ch")),
         (&["m.w", "d/c."], "m.w", None, Some("d/c.")),
         (&["m.w", "d.d/"], "m.w", None, Some("d.d/.ch")),
@@ -62,7 +62,7 @@ fn words_that_are_refused(rt: HostRuntime) {
     }
 }
 
-// A file under the name `-`, or `-.ch`, is no change file.
+// A file named `-` or `-.ch` is no change file.
 #[test]
 fn a_dash_opens_nothing(rt: HostRuntime) {
     const CHANGE: &[u8] = b"@x\nA\n@y\n@z\n";

@@ -1,5 +1,4 @@
-// Runs over devices that fail, each call in turn: of the runs one after the other, those that leave what the run before left are
-// told once.
+// Runs over failing devices, with each call failing in turn. Consecutive runs with the same effect are listed once.
 use super::expected::Expected;
 use super::failing::FailingBins;
 use super::tangling::Tangle;
@@ -9,23 +8,22 @@ use std::alloc::{AllocError, Global};
 use std::process::Abort;
 use std::slice;
 
-/// Two outputs, and a fault; and a change file without entries.
+/// Two outputs and a fault, and a change file without entries.
 const SOURCES: &[(&str, &[u8])] = &[("f.w", b"@ @d M 1\n@(a.h@>=\nint m=\"x\n"), ("i.ch", b"")];
 
 /// More calls than a run makes.
 const CALLS: u64 = 400;
 
-/// The device that fails.
 #[derive(Clone, Copy)]
 enum Device {
     Bins,
-    /// Bins with an old file of the main file's name.
+    /// Bins that already have a file of the main output's name.
     OldBins,
     Shelf,
     Log,
 }
 
-/// A device of a run fails behind so many good calls.
+/// Makes a device fail after `good` calls.
 fn weaken(run: &mut Tangle, device: Device, good: u64) {
     match device {
         Device::Bins => run.bins.good = good,
@@ -51,7 +49,7 @@ fn put_old_file(bins: &mut FailingBins) {
     }
 }
 
-/// What a run leaves whose device fails behind so many good calls.
+/// The effect of a run whose device fails after `good` calls.
 fn left(alloc: Global, words: &[&str], device: Device, good: u64) -> Result<Tangle, AllocError> {
     let mut run = Tangle::over(alloc, SOURCES)?;
     weaken(&mut run, device, good);
@@ -59,7 +57,7 @@ fn left(alloc: Global, words: &[&str], device: Device, good: u64) -> Result<Tang
     Ok(run)
 }
 
-/// Whether a run left this. The log is told where neither it nor an old file is what the runs are about.
+/// Whether a run had this effect. The log is not compared if it is the failing device, or if there is an old file.
 fn has_left(run: &Tangle, device: Device, text: &str) -> bool {
     let mut told = Expected::new(text.as_bytes());
     if matches!(device, Device::Bins | Device::Shelf) {
@@ -69,7 +67,7 @@ fn has_left(run: &Tangle, device: Device, text: &str) -> bool {
     told.is_met()
 }
 
-/// What a run left: what the one before did, or what comes next.
+/// The effect of a run: that of the previous one, or the next in the list.
 fn next_left<'a>(
     rt: &impl Abort,
     run: &Tangle,
@@ -85,7 +83,7 @@ fn next_left<'a>(
     next
 }
 
-/// The runs leave these texts, one after the other.
+/// Checks that the runs have these effects in order.
 fn check_left(rt: &(impl Abort + AllocGlobal), words: &[&str], device: Device, texts: &[&str]) {
     let mut last = "";
     let mut to_come = texts.iter();

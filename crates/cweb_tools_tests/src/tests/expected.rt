@@ -1,6 +1,6 @@
-// A text that is told in pieces.
+// Compares consecutive strings with an expected one.
 
-/// What is still expected of a text. To tell it takes no memory.
+/// The rest of an expected string. Comparing allocates nothing.
 #[derive(Drop)]
 pub struct Expected<'a> {
     pub rest: &'a [u8],

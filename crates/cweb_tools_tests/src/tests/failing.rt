@@ -1,10 +1,10 @@
-// A place of files in memory that fails once, at a chosen call.
+// Bins in memory that fail once, at a chosen call.
 ghost use Rattle.std.specs.Prelude.{[], false};
 
 use cweb_lines::{Sink, SinkFault};
 use cweb_out::{BinFault, Bins, MemoryBins};
 
-/// Fails once, behind so many good calls that begin, write and commit.
+/// Fails once, after this many successful calls that begin, write and commit.
 #[derive(Drop)]
 pub struct FailingBins {
     pub bins: MemoryBins,
@@ -13,7 +13,7 @@ pub struct FailingBins {
 }
 
 impl FailingBins {
-    /// Bins that don't fail, unless they are told to.
+    /// Bins that don't fail until they are set to.
     pub fn new(bins: MemoryBins) -> Self {
         FailingBins {
             bins,

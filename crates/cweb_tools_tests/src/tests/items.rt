@@ -1,4 +1,4 @@
-// The lines of the log of `ctangle` that are no faults.
+// Log lines of `ctangle` that are no faults.
 ghost use Rattle.std.specs.Prelude.{◌≡◌};
 
 use super::wanted::{holds, same_bytes};

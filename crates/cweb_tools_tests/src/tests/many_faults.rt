@@ -1,18 +1,18 @@
-// Many faults: their lines come in large pieces.
+// Many faults: their lines are written in large chunks.
 use super::expected::Expected;
 use super::merging::{Failing, Merge, merged};
 use super::wanted::holds;
 use std::alloc::{AllocError, Global};
 use std::process::Abort;
 
-/// A run over a web of so many include lines without a name.
+/// A run over a web of this many include lines without a name.
 fn merged_lines(alloc: Global, name: &str, lines: usize) -> Result<Merge, AllocError> {
     let web = "@i\n".repeat(alloc, lines)?;
     let texts = [(name, web.as_bytes())];
     merged(alloc, &(&[name], None, &texts, "", "", 1), Failing::Nothing)
 }
 
-/// Tells the line of a fault in a line of a web.
+/// Compares the line of a fault in a line of a web.
 fn feed_fault(log: &mut Expected, name: &str, line: usize) {
     log.feed(name.as_bytes());
     log.feed(b":");
@@ -20,7 +20,7 @@ fn feed_fault(log: &mut Expected, name: &str, line: usize) {
     log.feed(b": ! Include file name not given\n");
 }
 
-/// Whether a log has the line of a fault in each of so many lines of a web, and nothing else.
+/// Whether a log consists of the line of a fault for each line of a web.
 fn has_faults(log: &[u8], name: &str, lines: usize) -> bool {
     let mut log = Expected::new(log);
     for line in 0..lines {
@@ -33,7 +33,7 @@ fn check_faults(rt: &(impl Abort + AllocGlobal), name: &str, lines: usize) {
     let left = merged_lines(rt.alloc(), name, lines).expect(rt, "memory");
     holds(rt, left.status == 1);
     holds(rt, has_faults(left.log.bytes(), name, lines));
-    // some forty bytes a line, and 4,096 a piece
+    // about 40 bytes per line, and 4,096 per write
     holds(rt, left.log.writes < 12);
 }
 

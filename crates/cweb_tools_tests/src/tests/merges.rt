@@ -1,4 +1,4 @@
-// Runs of `wmerge` over texts in memory, and over devices that fail.
+// Runs of `wmerge` over files in memory and over failing devices.
 use super::merging::{
     Run, Sources, check_log_fails, check_read, check_refused, check_run, check_runs, check_write,
 };
@@ -13,10 +13,10 @@ const USAGE: &str = "! Usage: wmerge webfile[.w] [{changefile[.ch]|-}]\n";
 #[test]
 fn merged_lines_and_their_log(rt: HostRuntime) {
     const RUNS: &[Run] = &[
-        // blanks at line ends are dropped, and a last line may lack its newline
+        // blanks at line ends are dropped, and the last line may lack its newline
         (&["a"], None, &[("a.w", b"x \r\n\ny\t")], "x\n\ny\n", "", 0),
         (&["a"], None, &[("a.w", b"")], "", "", 0),
-        // the second name is tried where the first is not there, and not where the word has an extension
+        // the second name is tried if the first isn't there and the word has no extension
         (&["a"], None, &[("a.web", b"x\n")], "x\n", "", 0),
         (
             &["a.w"],
@@ -56,7 +56,7 @@ fn included_files(rt: HostRuntime) {
             "a.w:4: ! Cannot open include file\na.w:5: ! Include file name not given\n",
             1,
         ),
-        // no folder is sought in where the folder's name is empty
+        // an empty folder name means that no folder is searched
         (
             &["a"],
             Some(""),
@@ -116,7 +116,7 @@ fn lines_of_stops(rt: HostRuntime) {
     }
 }
 
-/// The run in which something fails, and what it leaves where nothing does.
+/// The run in which something fails, and its effect without failures.
 const RUN: Run = (
     &["a"],
     Some("lib"),
@@ -129,7 +129,7 @@ const RUN: Run = (
     1,
 );
 
-// Run with each allocation failing in turn, it holds each time.
+// Also run with each allocation failing in turn.
 #[test]
 fn memory_refused(rt: HostRuntime) {
     check_refused(&rt, &RUN);

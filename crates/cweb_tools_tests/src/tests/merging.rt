@@ -1,4 +1,4 @@
-// Runs of `wmerge` over texts, and what each has to leave.
+// Runs of `wmerge` over files in memory, with their expected effects.
 use super::tangling::ROOM;
 use super::wanted::{holds, same_bytes};
 use cweb_tools::run_wmerge;
@@ -6,10 +6,10 @@ use std::alloc::{AllocError, Global};
 use std::process::Abort;
 use trial::{TrialShelf, TrialSink, shelf_of};
 
-/// Texts under their names.
+/// Files: names and contents.
 pub type Sources<'a> = &'a [(&'a str, &'a [u8])];
 
-/// The words of a run, the folder of its includes and its texts, and what it has to write, to log and to answer.
+/// The words of a run, the folder of includes and the files; the expected output, log and status.
 pub type Run<'a> = (
     &'a [&'a str],
     Option<&'a str>,
@@ -19,7 +19,7 @@ pub type Run<'a> = (
     u8,
 );
 
-/// What fails in a run, behind so many good calls.
+/// What fails in a run, after this many successful calls.
 #[derive(Drop)]
 pub enum Failing {
     Nothing,
@@ -28,7 +28,7 @@ pub enum Failing {
     Log(u64),
 }
 
-/// The devices of a run, and what it answers.
+/// The devices of a run, and its status.
 #[derive(Drop)]
 pub struct Merge {
     pub shelf: TrialShelf,
@@ -68,7 +68,7 @@ impl Merge {
         }
     }
 
-    /// Runs over the devices, whose failures are counted from here on.
+    /// Runs over the devices. Failures are counted from here on.
     fn run(&mut self, alloc: Global, words: &[&str], inputs: Option<&str>) {
         self.shelf.failed = 0;
         self.out.failed = 0;
@@ -92,7 +92,7 @@ impl Merge {
     }
 }
 
-/// A run over texts in memory.
+/// A run over files in memory.
 pub fn merged(alloc: Global, run: &Run, failing: Failing) -> Result<Merge, AllocError> {
     let mut merge = Merge::over(alloc, run.2)?;
     merge.weaken(failing);
@@ -100,7 +100,7 @@ pub fn merged(alloc: Global, run: &Run, failing: Failing) -> Result<Merge, Alloc
     Ok(merge)
 }
 
-/// A run leaves what it has to.
+/// Checks the effect of a run.
 fn check_left(rt: &impl Abort, left: &Merge, run: &Run) {
     same_bytes(rt, left.log.bytes(), run.4.as_bytes());
     same_bytes(rt, left.out.bytes(), run.3.as_bytes());
@@ -118,7 +118,7 @@ pub fn check_runs(rt: &(impl Abort + AllocGlobal), runs: &[Run]) {
     }
 }
 
-/// A run in which memory may be refused, but then nothing else is wrong.
+/// A run in which an allocation may fail, but nothing else.
 pub fn check_refused(rt: &(impl Abort + AllocGlobal), run: &Run) {
     if let Ok(left) = merged(rt.alloc(), run, Failing::Nothing) {
         check_left_refused(rt, &left, run);
@@ -135,8 +135,8 @@ fn check_left_refused(rt: &impl Abort, left: &Merge, run: &Run) {
     }
 }
 
-/// A run of which a read fails behind so many good ones: it leaves all where none did, and else a front and the line of one of two
-/// files. Where one failed, whether it was one of the first file.
+/// A run in which a read fails after `good` ones: the output is a prefix, and the log has the line of one of two files.
+/// Returns whether it was the first file, if a read failed.
 pub fn check_read(
     rt: &(impl Abort + AllocGlobal),
     run: &Run,
@@ -164,7 +164,7 @@ fn check_left_of_read(
     Some(is_of_first)
 }
 
-/// A run of which a write fails behind so many good ones, or one that writes all; whether a write failed.
+/// A run in which a write fails after `good` ones. Returns whether one failed.
 pub fn check_write(rt: &(impl Abort + AllocGlobal), run: &Run, good: u64) -> bool {
     let left = merged(rt.alloc(), run, Failing::Write(good)).expect(rt, "memory");
     check_left_of_write(rt, &left, run)
@@ -181,7 +181,7 @@ fn check_left_of_write(rt: &impl Abort, left: &Merge, run: &Run) -> bool {
     true
 }
 
-/// Runs whose log fails behind more and more good writes: each writes all, and a front of the lines.
+/// Runs whose log fails after more and more writes. Each writes the whole output, and a prefix of the log.
 pub fn check_log_fails(rt: &(impl Abort + AllocGlobal), run: &Run) {
     for good in 0..10 {
         let left = merged(rt.alloc(), run, Failing::Log(good)).expect(rt, "memory");

@@ -1,11 +1,11 @@
-// The words of a command line of `ctangle`.
+// The command line of `ctangle`.
 use super::wanted::{holds, same_name, same_string};
 use cweb_lines::Stop;
 use cweb_tools::{Options, Shown, as_slices};
 use std::alloc::Global;
 use std::process::Abort;
 
-/// What the option words show: banner, progress, closing line and statistics.
+/// The options for the log: banner, progress, closing line and statistics.
 fn shown(words: &[&str]) -> Option<[bool; 4]> {
     let shown = Shown::read(words)?;
     Some([
@@ -26,7 +26,7 @@ fn options_anywhere_last_letter_wins(rt: HostRuntime) {
         (&["-zQ", "a"], Some([true, true, true, false])),
         (&["a"], Some([true, true, true, false])),
         (&["-b-", "a"], None),
-        // words of one byte, and those that begin otherwise, are no option words
+        // words of one byte, and words without a sign first, are no option words
         (&["-", "+", "b-", ""], Some([true, true, true, false])),
     ];
     for (words, want) in EXAMPLES {
@@ -34,7 +34,7 @@ fn options_anywhere_last_letter_wins(rt: HostRuntime) {
     }
 }
 
-/// Words, and the names that they stand for: the web's first and second, the change file's, the main output's.
+/// Words, and the expected names: the web's first and second, the change file's, and the main output's.
 type Example<'a> = (
     &'a [&'a str],
     &'a str,
@@ -54,7 +54,7 @@ fn check_names(rt: &(impl Abort + AllocGlobal), row: &Example) {
 #[test]
 fn names_of_webs_and_outputs(rt: HostRuntime) {
     const EXAMPLES: &[Example] = &[
-        // the main output is named after the last part of the web's path, before its last dot
+        // the main output is named after the last part of the web's path, up to its last dot
         (
             &["x.y/web"],
             "x.y/web.w",

@@ -1,4 +1,4 @@
-// Runs of `ctangle` over texts. What a run leaves is told as text: its log, each file behind its name, its status.
+// Runs of `ctangle` over files in memory. A run's effect is one string: the log, each file after its name, the status.
 use super::expected::Expected;
 use super::failing::FailingBins;
 use super::wanted::{holds, same_bytes};
@@ -8,13 +8,13 @@ use std::alloc::{AllocError, Global};
 use std::process::Abort;
 use trial::{TrialShelf, TrialSink, shelf_of};
 
-/// The room of a log and of each file: more than any text of these tests.
+/// The room for a log and for each file: more than any test needs.
 pub const ROOM: usize = 4096;
 
-/// So many files have room.
+/// The number of files that have room.
 const FILES: usize = 8;
 
-/// The devices of a run, and what it answers. No device fails, unless it is told to.
+/// The devices of a run, and its status. No device fails unless it is set to.
 #[derive(Drop)]
 pub struct Tangle {
     pub shelf: TrialShelf,
@@ -36,7 +36,7 @@ impl Tangle {
         })
     }
 
-    /// Runs over the devices, whose failures are counted from here on.
+    /// Runs over the devices. Failures are counted from here on.
     pub fn run(&mut self, alloc: Global, words: &[&str]) {
         self.shelf.failed = 0;
         self.bins.failed = 0;
@@ -51,7 +51,7 @@ impl Tangle {
         );
     }
 
-    /// Tells the files and the status.
+    /// Compares the files and the status.
     pub fn feed_files(&self, told: &mut Expected) {
         for file in self.bins.bins.files() {
             feed_file(file, told);
@@ -71,17 +71,17 @@ fn feed_file(file: &BinFile, told: &mut Expected) {
     told.feed(&file.bytes);
 }
 
-/// What a run over texts in memory leaves.
+/// The effect of a run over files in memory.
 fn tangled(alloc: Global, words: &[&str], texts: &[(&str, &[u8])]) -> Result<Tangle, AllocError> {
     let mut run = Tangle::over(alloc, texts)?;
     run.run(alloc, words);
     Ok(run)
 }
 
-/// The words of a run, its texts, and what it leaves.
+/// The words of a run, its files, and its expected effect.
 pub type Run<'a> = (&'a [&'a str], &'a [(&'a str, &'a [u8])], &'a str);
 
-/// A run leaves just this: where it doesn't, what stands in this text from there on is shown.
+/// Checks the effect of a run. On failure the rest of the expected string is printed.
 fn check_left(rt: &impl Abort, run: &Tangle, text: &str) {
     let mut told = Expected::new(text.as_bytes());
     told.feed(run.log.bytes());

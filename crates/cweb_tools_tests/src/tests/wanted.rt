@@ -1,5 +1,4 @@
-// What was found is what is wanted. Each question stands in a function of its own: a test that calls them is sooner proved than one
-// that has their failures in it.
+// Assertions. Each is a function of its own, so that its callers have no failure branches and verify quickly.
 ghost use Rattle.std.specs.Prelude.{◌≡◌, true};
 
 use std::process::Abort;

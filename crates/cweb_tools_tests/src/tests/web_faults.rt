@@ -1,4 +1,4 @@
-// The lines of what is wrong with a web's lines and with its text.
+// Log lines for the faults of a web's files and source.
 use super::wanted::{holds, same_bytes};
 use cweb_lines::{FileId, FileNames, MemoryShelf, Merger, Place, SourceFault, SourceKind, Stop};
 use cweb_rules::{ScanFault, ScanKind};

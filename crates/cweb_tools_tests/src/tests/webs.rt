@@ -1,4 +1,4 @@
-// Webs, and what a run over each leaves.
+// Webs, and the effect of a run over each.
 use super::tangling::{Run, check_run, check_runs};
 
 const USAGE: &str =

@@ -2,7 +2,7 @@ use Rattle.cweb_scan.proofs.Common.{◌≡◌, ◌∷◌, ◌++◌, [], List, �
 use Rattle.cweb_scan.proofs.Aheads.{read_more, read_nothing}
 use Rattle.cweb_scan.proofs.scanning.read_ahead.Goals as goal
 
--- a line is read by its bytes
+-- A line is read by its bytes.
 read_as : (old new : ReaderModel) (p : Place) (lent bytes : List ℕ) → lent ≡ bytes
     → ((more : List Line) → read_after new more ≡ read_after old (record { bytes = lent; place = p } ∷ more))
     → (more : List Line) → read_after new more ≡ read_after old (record { bytes = bytes; place = p } ∷ more)

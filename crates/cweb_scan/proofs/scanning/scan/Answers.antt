@@ -2,7 +2,7 @@ use Rattle.cweb_scan.proofs.Common.{sym, subst, so_far, to_come, Stop, Scanned, 
 use Rattle.cweb_scan.proofs.Scans.{grows_to, none_blamed, refused}
 use Rattle.cweb_scan.proofs.scanning.scan.Goals as goal
 
--- no line is left
+-- No line is left.
 pub returns-in-Ok-clause-scans : goal.returns-in-Ok-clause-scans
 returns-in-Ok-clause-scans g c =
     λ tells. subst (λ (s : Scanned). Scans s (so_far c.args.merger.now) (so_far c.take_lines.new.merger) (to_come
@@ -12,7 +12,7 @@ pub returns-in-Ok-clause-within : goal.returns-in-Ok-clause-within
 returns-in-Ok-clause-within g c = subst (λ (s : Scanned). ScansWithinLimits (so_far c.take_lines.new.merger) s)
     (sym c.in-Ok.ensures) c.in_default-take_lines.ensures.within
 
--- memory was refused for the store
+-- The allocation of the store failed.
 pub returns-clause-grows : goal.returns-clause-grows
 returns-clause-grows g c = grows_to _ _ _ c.halt.ensures.so_far c.in_default-take_lines.ensures.grows
 

@@ -26,7 +26,7 @@ pub returns-in-Err-take_line-clause-grows : goal.returns-in-Err-take_line-clause
 returns-in-Err-take_line-clause-grows g c =
     grows_to _ _ _ c.halt.ensures.so_far (grows_then _ _ _ c.lines.invariant.told c.in-Ok.ensures.grows)
 
--- memory was refused for a line that was lent
+-- An allocation for a borrowed line failed.
 pub returns-in-Err-take_borrowed-clause-grows : goal.returns-in-Err-take_borrowed-clause-grows
 returns-in-Err-take_borrowed-clause-grows g c =
     grows_to _ _ _ c.halt-in-Err-take_borrowed.ensures.so_far (grows_then _ _ _
@@ -51,7 +51,7 @@ returns-in-Err-take_borrowed-clause-blamed g c = λ tells known.
     ((c.in-Ok.ensures.known (keeps_told g.S.Shelf _ _ inv.keeps tells) (inv.readers tells known)).blamed inv.running
     ∙ inv.blamed tells known)
 
--- the merger stopped
+-- The merger stopped.
 pub returns-in-Err-clause-stops : goal.returns-in-Err-clause-stops
 returns-in-Err-clause-stops g c = λ tells. ends_early _ _ _ _ _ _ _ (c.lines.invariant.taken.gives tells)
     (c.in-Err.ensures.stops (keeps_told g.S.Shelf _ _ c.lines.invariant.keeps tells) c.lines.invariant.running)
@@ -65,7 +65,7 @@ returns-in-Err-clause-blames g c =
       kept = c.in-Err.ensures.leaves.kept;
     }
 
--- memory was refused for a line
+-- An allocation for a line failed.
 pub returns-in-Err-take_line-clause-stops : goal.returns-in-Err-take_line-clause-stops
 returns-in-Err-take_line-clause-stops g c = λ tells.
     let next = rw c.in-Some.is at (c.in-Ok.ensures.next (keeps_told g.S.Shelf _ _ c.lines.invariant.keeps tells)) in
@@ -73,7 +73,7 @@ returns-in-Err-take_line-clause-stops g c = λ tells.
     (to_come g.S.Shelf c.args.shelf.now c.args.merger.now)) (sym (c.halt.ensures.stop c.in-Ok.ensures.leaves.running))
     (refused _ _ _ _ _ _ c.halt.ensures.so_far (gives_both _ _ _ _ _ _ _ _ (c.lines.invariant.taken.gives tells) next))
 
--- lines were lent
+-- Lines were borrowed.
 after_lent : {S R : Type 0} (shelf : Shelf S R) (before now : S) (old merger new : Merger S R)
     (reader next : ReaderModel)
     → HasScanned shelf before now old merger reader → BorrowsLines merger.run new.run → ((tells : Bool) (first : SoFar)
@@ -125,7 +125,7 @@ lines-preserved g c =
           );
     }) lent.lent lent.taken lent.cost
 
--- whom a stop blames
+-- The file that a stop blames.
 pub returns-in-Err-clause-blamed : goal.returns-in-Err-clause-blamed
 returns-in-Err-clause-blamed g c = λ tells known.
     let inv = c.lines.invariant in
@@ -139,16 +139,14 @@ returns-in-Err-take_line-clause-blamed g c = λ tells known.
     none_blamed _ _ _ _ (c.halt.ensures.stop c.in-Ok.ensures.leaves.running) ((c.in-Ok.ensures.known
     (keeps_told g.S.Shelf _ _ inv.keeps tells) (inv.readers tells known)).blamed inv.running ∙ inv.blamed tells known)
 
--- no line is left
--- memory was refused for the store
--- a line at least was taken
+-- At least one line was taken.
 pub lines-smaller : goal.lines-smaller
 lines-smaller g c =
     let given = rw c.in-Some.is at c.in-Ok.ensures.given in
     let lent = c.in_default-take_borrowed.ensures.lent in
     omega (arith, given.lines, (lent.gives (λ _. None) (λ _. [])).1.lines_are, c.next_line.new.self.run.limits.few)
 
--- no line is left
+-- No line is left.
 pub returns-in_default-clause-scans : goal.returns-in_default-clause-scans
 returns-in_default-clause-scans g c = λ tells.
     let next = rw c.in_default.is at (c.in-Ok.ensures.next (keeps_told g.S.Shelf _ _ c.lines.invariant.keeps tells)) in

@@ -2,7 +2,7 @@ use Rattle.cweb_scan.proofs.Common.{◌≡◌, ◌≤◌, ◌+◌, ◌*◌, ◌-
 use Rattle.cweb_files.specs.declared.device.Shelf.{Ghosts as Shelf}
 use Rattle.cweb_scan.proofs.scanning.take_lines.Given as goal
 
--- lines were taken, and nothing stopped
+-- Lines were taken, and nothing stopped.
 pub record HasScanned {S R : Type 0} (shelf : Shelf S R) (was now : S) (old merger : Merger S R)
     (reader : ReaderModel) : Type 0 where
   pub keeps : KeepsShelf shelf was now

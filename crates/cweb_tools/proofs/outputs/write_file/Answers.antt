@@ -9,7 +9,7 @@ pub print_all-requires-clause-left : goal.print_all-requires-clause-left
 print_all-requires-clause-left g c = left_known c.args.names.now
     c.args.expander.now c.restart.new.self c.args.output c.requires.known c.restart.ensures.store c.restart.ensures.left
 
--- the file could not be begun
+-- The file could not be begun.
 pub returns-in-Err-Memory-clause-does : goal.returns-in-Err-Memory-clause-does
 returns-in-Err-Memory-clause-does g c =
     let began = c.in-Err-Memory.ensures in
@@ -24,7 +24,7 @@ returns-in-Err-Device-clause-does g c =
     began.tells (rw c.in-Err-Device.field-0-is at began.failed)
     (λ tell. rw c.in-Err-Device.field-0-is at (began.err tell)) (λ now. inr (refl, refl))
 
--- it was begun, and printing it failed
+-- It was begun, and printing it failed.
 pub returns-in-Err-clause-does : goal.returns-in-Err-clause-does
 returns-in-Err-clause-does g c =
     let name : List ℕ = output_name_at c.args.expander.now.plan.now.outputs c.args.output in
@@ -37,7 +37,7 @@ returns-in-Err-clause-does g c =
     gone.gone (printed.tells ∙ told)
     ∙ ap without_draft (printed.beside told ∙ (rw c.output_name.ensures at began.begun) tell))
 
--- it was printed, and could not be committed
+-- It was printed, and could not be committed.
 pub returns-in-Err-commit_file-clause-does : goal.returns-in-Err-commit_file-clause-does
 returns-in-Err-commit_file-clause-does g c =
     let name : List ℕ = output_name_at c.args.expander.now.plan.now.outputs c.args.output in

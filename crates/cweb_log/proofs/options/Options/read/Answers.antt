@@ -3,7 +3,7 @@ use Rattle.std.specs.Option.{option_map}
 use Rattle.cweb_log.proofs.RequestedOptions.{asks, copied_none, ok_from, usage_from}
 use Rattle.cweb_log.proofs.options.Options.read.Goals as goal
 
--- the words are those of the options that are named
+-- The file words, by index, give the options of all words.
 asked : (c : goal.After-named) → options_by (map (λ word. word.now) c.args.words.now)
     ≡ option_map (λ (names : TangleNames). record { shown = c.in-Some.shown; names = names })
     (named_by c.in-Some-other_word.web.now (option_copied c.other_word-3.result) (option_copied c.other_word-4.result))

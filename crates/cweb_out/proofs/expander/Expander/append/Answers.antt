@@ -90,7 +90,7 @@ frames-preserved c =
           ((used c).left ∙ ap (λ (ts : List Token). c.append.ensures.prints.done ++ ts) (sym entered)));
     }
 
--- where no use comes next
+-- No use comes next.
 abbrev passed : (c : In_default-take_name)
     → TopPassed c.args.self.now.store.now c.frames.self.frames.items (slice_set c.frames.self.frames.items (vec_len
     c.frames.self.frames - 1) c.take_name.new.self) c.append.ensures.prints.done (vec_capacity c.frames.self.frames)

@@ -3,7 +3,7 @@ use Rattle.cweb_print.proofs.WrittenPrefixes.{wrote_same}
 use Rattle.cweb_print.proofs.Bytes.{plain_name}
 use Rattle.cweb_print.proofs.printer.mark.write_mark.Goals as goal
 
--- the text in its six pieces
+-- The mark as its six chunks.
 in_six : (begin name digits : List ℕ) (line : ℕ) → digits ≡ decimal line → quoted name ≡ name →
     begin ++ (codes "#line " ++ (digits ++ (codes " \"" ++ (name ++ codes "\"\n")))) ≡ begin ++ mark_line name line
 in_six begin name digits line is plain =

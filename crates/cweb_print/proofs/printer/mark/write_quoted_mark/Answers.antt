@@ -2,7 +2,7 @@ use Rattle.cweb_print.proofs.Common.{◌≡◌, ◌++◌, [], ◌∙◌, ap, sym
 use Rattle.cweb_print.proofs.WrittenPrefixes.{Written, written_none, written_more, written_front, written_last, wrote_err}
 use Rattle.cweb_print.proofs.printer.mark.write_quoted_mark.Goals as goal
 
--- the text in its three pieces
+-- The mark as its three chunks.
 in_three : (begin name digits : List ℕ) (line : ℕ) → digits ≡ decimal line → begin ++ mark_line name line
     ≡ (begin ++ (codes "#line " ++ (digits ++ (codes " \"" ++ [])))) ++ (quoted name ++ codes "\"\n")
 in_three begin name digits line is =

@@ -3,7 +3,7 @@ use Rattle.cweb_names.specs.Names as spec
 use Rattle.cweb_store.proofs.PartRangeLemmas.{stored-ranges}
 use Rattle.cweb_store.proofs.store.Store.wanted.Goals as goal
 
--- the parts by the runs and the standings of the store
+-- The parts that the iterator visits, from the ranges and resolutions of the store.
 met : (c : goal.After-new)
     → c.new.result ≡ wanted_in c.self.inside.resolutions.items c.args.wanted c.self.inside.ranges.items
 met c =

@@ -14,7 +14,7 @@ use Rattle.cweb_store.specs.declared.tokens.interned.InternedToken.TheVariants a
 use Rattle.cweb_texts.proofs.StringListLemmas.{get-string}
 use Rattle.cweb_store.proofs.tokens.records.record_of.Goals as goal
 
--- a text that is kept, and the record that has its number
+-- A stored string, and the record with its index.
 kept-packs : {old new : StringTableModel} {string : List ℕ} {number : ℕ} (token : spec.Token) (item : InternedToken)
     → AddsString old string number new → (number < length new.strings → StringIsWithin (length new.strings) item)
     → (string_at new.strings number ≡ string → token_of_interned new.strings item ≡ token)
@@ -30,7 +30,7 @@ kept-packs {new} {string} {number} token item keeps within stands no_word bytes 
   few = omega (arith, keeps.few, one);
 }
 
--- the same of a word
+-- The record of a Word or punctuator.
 word-packs : {old new : StringTableModel} {word : List ℕ} {number : ℕ} (token : spec.Token) (item : InternedToken)
     → InternsWord old word number new → (number < length new.strings → StringIsWithin (length new.strings) item)
     → (string_at new.strings number ≡ word → token_of_interned new.strings item ≡ token)

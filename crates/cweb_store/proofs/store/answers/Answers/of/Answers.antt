@@ -21,7 +21,7 @@ returns-clause-linked c =
 pub returns-clause-firsts : goal.returns-clause-firsts
 returns-clause-firsts c = c.in_ok-firsts.ensures ∙ ap (map (λ (n : Name). n.first)) c.names.ensures.names
 
--- each name that stands somewhere is one of those that there are
+-- Each resolution is one of the names.
 pub new-requires-clause-known : goal.new-requires-clause-known
 new-requires-clause-known c = λ i.
     let os = c.args.table.now in
