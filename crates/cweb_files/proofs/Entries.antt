@@ -3,7 +3,7 @@ use Rattle.std.proofs.Common.{◌≡◌, ◌≤◌, ◌+◌, ◌-◌, ℕ, Bool,
 use Rattle.std.proofs.lemmas.List.{take_at, drop-drop, take_more, length-take-le, length-drop}
 use Rattle.std.proofs.lemmas.Option.{slice_get_read}
 use Rattle.std.proofs.lemmas.Slice.Eq.{bytes_eq-Decides}
-use Rattle.cweb_files.specs.Device.{Finds}
+use Rattle.cweb_files.specs.Bins.{Finds}
 use Rattle.cweb_files.specs.declared.memory.MemoryReader.{MemoryReader}
 use Rattle.std.specs.Prelude.{slice_get}
 use Rattle.std.specs.Str.{bytes_eq}

@@ -1,8 +1,7 @@
 // The trait of a device that stores named files.
 ghost use Rattle.std.specs.Prelude.{◌≡◌, ◌<◌, ◌+◌, ◌^◌, [], IsTrue, IsSome, IfErr, OnOk, OnErr};
-ghost use Rattle.cweb_files.specs.Device.{CountsFailure};
+ghost use Rattle.cweb_files.specs.Bins.{CountsFailure, CountsDeviceFailure, refused_with};
 ghost use Rattle.cweb_files.specs.Files.{committed, with_draft, without_draft};
-ghost use Rattle.cweb_files.specs.Bins.{CountsDeviceFailure, refused_with};
 
 pub mod memory;
 

@@ -1,8 +1,7 @@
 // Writes of whole slices.
 ghost use Rattle.std.specs.Prelude.{◌≡◌, ◌<◌, ◌+◌, ◌^◌, IsTrue, OnOk, OnErr, length};
-ghost use Rattle.cweb_files.specs.Device.{CountsFailure};
+ghost use Rattle.cweb_files.specs.Bins.{CountsFailure, WritesPrefix};
 ghost use Rattle.cweb_files.specs.surface.Frames.{KeepsPlace, Writes};
-ghost use Rattle.cweb_files.specs.Frames.{WritesPrefix};
 
 use crate::device::{Sink, SinkFault};
 

@@ -19,8 +19,7 @@ pub use Rattle.std.specs.Simd.Lanes.{mask_l, zip2, top}
 pub use Rattle.cweb_input.specs.Include.{name_after_spaces, until_name_end}
 pub use Rattle.cweb_input.specs.Lines.{CutLine, onto_first, cut_lines}
 pub use Rattle.cweb_input.specs.surface.Lines.{HasNoNewline}
-pub use Rattle.cweb_input.specs.inner.Lines.{SplitsAt}
-pub use Rattle.cweb_input.specs.inner.Lines.{IsNewlineAt}
+pub use Rattle.cweb_input.specs.inner.Lines.{SplitsAt, IsNewlineAt}
 pub use Rattle.cweb_input.specs.inner.Source.{IsLongerThan, TakesRawLine, TakesFromBuffer, bytes_left}
 pub use Rattle.cweb_input.specs.surface.Source.{buffered}
 pub use Rattle.cweb_input.specs.declared.limits.TheConstants.{LINE_LENGTH}

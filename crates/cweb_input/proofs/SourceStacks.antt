@@ -4,8 +4,7 @@ use Rattle.std.specs.Prelude.{nat_eq}
 use Rattle.std.proofs.Common.{set, get_or-set_same, get_or-set_other}
 use Rattle.std.proofs.Math.Nat.{le-max_left, le-max_right, max-le}
 use Rattle.std.proofs.lemmas.List.{get_or_default}
-use Rattle.cweb_input.specs.Lines.{SourceLine}
-use Rattle.cweb_input.specs.Things.{Thing, raw, raws}
+use Rattle.cweb_input.specs.Lines.{SourceLine, Thing, raw, raws}
 use Rattle.cweb_input.specs.OpenSources.{TakenCountersModel}
 use Rattle.cweb_input.specs.surface.OpenSources.{things_at, things_over, matches_at, source_depth, lines_at, number_or_zero, StopsFor}
 use Rattle.cweb_input.specs.inner.OpenSources.{DeepAt, gap_at, StaysBelow, Pushes, TakesNextLine, TakesFirst, FirstStops, TopStops, AreDeep, files_up_to, line_number, line_number_at, maximum_of, gaps_from}

@@ -78,3 +78,13 @@ web_at texts web (Some second) = first_found (found_under web (texts web)) (foun
 abbrev pub change_at : (List ℕ → Option (List ℕ)) → Option (List ℕ) → Option (Option Found)
 change_at texts None = Some None
 change_at texts (Some name) = option_map (λ found. Some found) (found_under name (texts name))
+
+-- The name of a file that was found, as a list.
+abbrev pub names_found : Option Found → List (List ℕ)
+names_found None = []
+names_found (Some found) = found.0 ∷ []
+
+-- The contents of a file that was found.
+abbrev pub contents_found : Option Found → Option (List ℕ)
+contents_found None = None
+contents_found (Some found) = Some found.1

@@ -1,9 +1,6 @@
-pub mod Finding
-pub mod ReaderNames
-pub mod OpenSources
-pub mod Things
 pub mod Include
 pub mod Lines
+pub mod OpenSources
 pub mod surface
 pub mod laws
 pub mod inner

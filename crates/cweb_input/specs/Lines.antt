@@ -1,7 +1,10 @@
--- The lines of a file.
-use Rattle.std.specs.Prelude.{ℕ, ◌+◌, Bool, ◌||◌, ◌==◌, List, [], ◌∷◌, length}
-use Rattle.std.specs.Prelude.{if◌then◌else◌}
+-- The lines of a file, what a merge still has to process, and which reader a stop blames.
+use Rattle.std.specs.Prelude.{ℕ, ◌+◌, Bool, ◌||◌, ◌==◌, List, [], ◌∷◌, length, if◌then◌else◌, slice_index_or}
 use Rattle.cweb_files.specs.declared.place.Place.{Place}
+use Rattle.cweb_files.specs.declared.place.FileId.{FileId}
+use Rattle.cweb_input.specs.declared.stop.Stop.{Stop}
+use Rattle.cweb_input.specs.declared.stop.Stop.TheVariants.{ReadFault}
+use Rattle.cweb_input.specs.declared.fault.SourceFault.{SourceFault}
 
 -- A raw line: its bytes without the newline, and its size with the newline, if it has one.
 pub record CutLine : Type 0 where
@@ -57,3 +60,33 @@ numbered_lines file number (line ∷ lines) =
 -- The lines of a file, numbered from 1.
 abbrev pub lines_in : ℕ → List ℕ → List SourceLine
 lines_in file text = numbered_lines file 1 (cut_lines text)
+
+-- The name of a file, among those of all opened files.
+abbrev pub name_of_file : List (List ℕ) → FileId → List ℕ
+name_of_file names file = slice_index_or names file.0 []
+
+-- A read fault blames its file's reader. Any other stop blames none.
+abbrev pub blame : List (List ℕ) → Stop → List (List ℕ)
+blame names (ReadFault file) = name_of_file names file ∷ []
+blame names _ = []
+
+-- A line that a change may still replace, or that is obeyed or emitted.
+pub record RawLine : Type 0 where
+  pub source : SourceLine
+  -- 1 for the web's own lines, one more in each included file
+  pub depth : ℕ
+  -- whether it may match a change entry
+  pub may_match : Bool
+
+-- What is still to come: a search for an entry, a raw line, a fault of a change's new side, or a code line to skip.
+pub data Thing : Type 0 where
+  seek : Thing
+  raw : RawLine → Thing
+  told : SourceFault → Thing
+  passed : SourceLine → Thing
+
+-- The lines of a source as raw lines.
+abbrev pub raws : ℕ → Bool → List SourceLine → List Thing
+raws depth may_match [] = []
+raws depth may_match (line ∷ lines) =
+    raw (record { source = line; depth = depth; may_match = may_match }) ∷ raws depth may_match lines

@@ -2,11 +2,9 @@
 use Rattle.std.specs.Prelude.{◌≡◌, ℕ, ◌+◌, ◌≤◌, ◌<◌, ◌⊎◌}
 use Rattle.cweb_files.specs.declared.place.FileId.{FileId}
 use Rattle.cweb_input.specs.Lines.{SourceLine}
-use Rattle.cweb_input.specs.declared.limits.TheConstants.{LINES, BYTES}
-use Rattle.cweb_input.specs.declared.limits.TheConstants.{LINE_LENGTH}
+use Rattle.cweb_input.specs.declared.limits.TheConstants.{LINES, BYTES, LINE_LENGTH}
 use Rattle.cweb_input.specs.declared.stop.Stop.{Stop}
-use Rattle.cweb_input.specs.declared.stop.Stop.TheVariants.{ReadFault, LineTooLong}
-use Rattle.cweb_input.specs.declared.stop.Stop.TheVariants.{TooMuchText}
+use Rattle.cweb_input.specs.declared.stop.Stop.TheVariants.{ReadFault, LineTooLong, TooMuchText}
 
 -- The number of lines and bytes that were taken so far.
 pub record TakenCountersModel : Type 0 where

@@ -9,9 +9,8 @@ pub use Rattle.std.proofs.Math.Seq.{take-add}
 pub use Rattle.std.proofs.lemmas.Bool.{or_parts}
 pub use Rattle.std.proofs.lemmas.Bool.Decides.{nat_tests}
 pub use Rattle.std.proofs.lemmas.Grind.{common_steps}
-pub use Rattle.std.proofs.lemmas.List.{append-nil, append_assoc, append_cancel_right, length-map, map-append}
-pub use Rattle.std.proofs.lemmas.List.{get_or_default, length-take, length-drop, drop-drop, take-take, take_all}
-pub use Rattle.std.proofs.lemmas.List.{get_or_push}
+pub use Rattle.std.proofs.lemmas.List.{append_cancel_right, get_or_default, append_assoc, length-take, length-drop}
+pub use Rattle.std.proofs.lemmas.List.{get_or_push, append-nil, length-map, map-append, drop-drop, take-take, take_all}
 pub use Rattle.std.proofs.lemmas.Slice.Eq.{bytes_eq-Decides}
 pub use Rattle.std.specs.List.{AllByRecursion, list_any}
 pub use Rattle.std.specs.Option.{is_some, option_copied}
@@ -22,44 +21,32 @@ pub use denote.Enum.Bare.{sameb}
 pub use Rattle.cweb_files.specs.surface.Frames.{KeepsPlace, Writes, KeepsShelf}
 pub use Rattle.cweb_files.specs.declared.place.Place.{Place}
 pub use Rattle.cweb_input.specs.Include.{World, Found, found_at, include_name, is_include_line, change_at}
-pub use Rattle.cweb_input.specs.Lines.{Line, SourceLine, CutLine, numbered_lines, trimmed, lines_in}
-pub use Rattle.cweb_input.specs.surface.Lines.{IsOneLine}
-pub use Rattle.cweb_input.specs.surface.Lines.{HasNoNewline}
-pub use Rattle.cweb_input.specs.Lines.{before_blanks, is_blank, onto_first, cut_lines}
+pub use Rattle.cweb_input.specs.Lines.{Line, SourceLine, CutLine, numbered_lines, trimmed, lines_in, before_blanks}
+pub use Rattle.cweb_input.specs.Lines.{is_blank, onto_first, cut_lines, RawLine, Thing, passed, raw, raws, seek, told}
+pub use Rattle.cweb_input.specs.Lines.{blame}
+pub use Rattle.cweb_input.specs.surface.Lines.{IsOneLine, HasNoNewline}
 pub use Rattle.cweb_input.specs.laws.Lines.{lines}
 pub use Rattle.cweb_input.specs.inner.Lines.{SplitsAt}
 pub use Rattle.cweb_input.specs.surface.Source.{buffered}
-pub use Rattle.cweb_input.specs.declared.limits.TheConstants.{LINE_LENGTH}
+pub use Rattle.cweb_input.specs.declared.limits.TheConstants.{LINE_LENGTH, LINES, OPEN_FILES, BYTES}
 pub use Rattle.cweb_input.specs.surface.Counters.{counters_of}
 pub use Rattle.cweb_input.specs.surface.Finding.{optional_string_bytes, world_in}
-pub use Rattle.cweb_input.specs.inner.Finding.{lines_found}
-pub use Rattle.cweb_input.specs.Finding.{names_found, contents_found}
-pub use Rattle.cweb_input.specs.inner.Finding.{found_as}
-pub use Rattle.cweb_input.specs.Things.{RawLine, Thing, passed, raw, raws, seek, told}
+pub use Rattle.cweb_input.specs.inner.Finding.{lines_found, found_as}
+pub use Rattle.cweb_input.specs.Include.{names_found, contents_found}
 pub use Rattle.cweb_input.specs.surface.OpenedFileNames.{opened_file_names}
 pub use Rattle.cweb_input.specs.surface.ReaderNames.{AreReadersNamed, IsReaderNamed}
-pub use Rattle.cweb_input.specs.ReaderNames.{blame}
-pub use Rattle.cweb_input.specs.OpenSources.{TakenCountersModel}
-pub use Rattle.cweb_input.specs.inner.OpenSources.{CountsLine, files_up_to, raw_thing}
-pub use Rattle.cweb_input.specs.surface.OpenSources.{StopsFor}
-pub use Rattle.cweb_input.specs.surface.OpenSources.{matches_at, number_or_zero, source_depth}
-pub use Rattle.cweb_input.specs.OpenSources.{RefusesLine, read_failures_of}
-pub use Rattle.cweb_input.specs.inner.OpenSources.{TopStops, FirstStops}
-pub use Rattle.cweb_input.specs.surface.OpenSources.{things_above}
-pub use Rattle.cweb_input.specs.surface.OpenSources.{things_over}
-pub use Rattle.cweb_input.specs.inner.OpenSources.{StaysBelow}
-pub use Rattle.cweb_input.specs.surface.OpenSources.{lines_at, lines_left}
-pub use Rattle.cweb_input.specs.inner.OpenSources.{OpensSource, StopsAbove, TakesAbove, TakesFirst}
-pub use Rattle.cweb_input.specs.surface.OpenSources.{StopsReading}
-pub use Rattle.cweb_input.specs.inner.OpenSources.{Counted, line_number}
-pub use Rattle.cweb_input.specs.OpenSources.{files_named}
+pub use Rattle.cweb_input.specs.OpenSources.{TakenCountersModel, RefusesLine, read_failures_of, files_named}
+pub use Rattle.cweb_input.specs.inner.OpenSources.{CountsLine, files_up_to, raw_thing, TopStops, FirstStops, StaysBelow}
+pub use Rattle.cweb_input.specs.inner.OpenSources.{OpensSource, StopsAbove, TakesAbove, TakesFirst, Counted}
+pub use Rattle.cweb_input.specs.inner.OpenSources.{line_number}
+pub use Rattle.cweb_input.specs.surface.OpenSources.{StopsFor, matches_at, number_or_zero, source_depth, things_above}
+pub use Rattle.cweb_input.specs.surface.OpenSources.{things_over, lines_at, lines_left, StopsReading}
 pub use Rattle.cweb_input.specs.declared.fault.SourceFault.{SourceFault}
 pub use Rattle.cweb_input.specs.declared.fault.SourceKind.{SourceKind}
 pub use Rattle.cweb_input.specs.declared.fault.SourceKind.TheVariants.{NoName, NotThere, TooDeep, WantsZ, EndedBeforeY}
 pub use Rattle.cweb_input.specs.declared.fault.SourceKind.TheVariants.{Unequal, WebEnded, NoMatch, EndedBeforeZ, WantsY}
 pub use Rattle.cweb_input.specs.declared.fault.SourceKind.TheVariants.{MissingX, NoOldLines}
 pub use Rattle.cweb_input.specs.declared.counters.TakenCounters.{TakenCounters}
-pub use Rattle.cweb_input.specs.declared.limits.TheConstants.{LINES, OPEN_FILES, BYTES}
 pub use Rattle.cweb_input.specs.declared.stop.Stop.{Stop}
 pub use Rattle.cweb_input.specs.declared.stop.Stop.TheVariants.{ReadFault, Memory, LineTooLong, TooMuchText, WriteFault}
 pub use Rattle.cweb_input.specs.declared.open_source.LineAt.{LineAt}
@@ -68,8 +55,7 @@ pub use Rattle.cweb_input.specs.declared.open_source.stack.Stack.{Stack}
 pub use Rattle.cweb_lines.specs.inner.Ahead.{FitsLimits, FitsLimitsAt, IsAhead, LooksAhead, LooksAheadIn}
 pub use Rattle.cweb_lines.specs.inner.StepCalls.{OnlyOpens}
 pub use Rattle.cweb_lines.specs.Change.{WaitingEntry, at_place, OldSide, change_code, old_at, old_code, old_lines}
-pub use Rattle.cweb_lines.specs.Change.{Sought}
-pub use Rattle.cweb_lines.specs.Change.{after_x, outside, sought, old_line, passing}
+pub use Rattle.cweb_lines.specs.Change.{Sought, after_x, outside, sought, old_line, passing}
 pub use Rattle.cweb_lines.specs.laws.Laws.{file_with_change, ChangeFilesWithoutEntriesChangeNothing, is_change_code}
 pub use Rattle.cweb_lines.specs.laws.Laws.{IncludeLinesAreReplaced, Includes, LinesComeApart, IncludesMergeAsWebs}
 pub use Rattle.cweb_lines.specs.laws.Laws.{is_too_deep, IsPlainSplice, Splice, spliced, web_lines}
@@ -80,34 +66,24 @@ pub use Rattle.cweb_lines.specs.Merge.{Event, took, fault, Next, MergeStateModel
 pub use Rattle.cweb_lines.specs.Merge.{open_include}
 pub use Rattle.cweb_lines.specs.Merge.{opening, past, plain, run_steps, taking, NewSide, new_at, new_things, compared}
 pub use Rattle.cweb_lines.specs.Merge.{Compared, after_old, at_entry, change_events, fault_event_if, new_lines, started}
-pub use Rattle.cweb_lines.specs.surface.MergeProgress.{SoFar, EmitsLines, AddsFaultsAndLines}
-pub use Rattle.cweb_lines.specs.surface.MergeProgress.{ReportsPrefix}
-pub use Rattle.cweb_lines.specs.inner.MergeProgress.{ReportsSomeFaults}
-pub use Rattle.cweb_lines.specs.surface.MergeProgress.{HasBegunStep}
-pub use Rattle.cweb_lines.specs.surface.MergeProgress.{Stopped, pending_of}
-pub use Rattle.cweb_lines.specs.surface.MergeProgress.{so_far_of, IsPrefix, KeepsReported, change_lines, events_to_come}
-pub use Rattle.cweb_lines.specs.inner.MergeProgress.{events_after_line}
-pub use Rattle.cweb_lines.specs.surface.MergeProgress.{things_of}
-pub use Rattle.cweb_lines.specs.surface.MergeProgress.{NothingLeft}
-pub use Rattle.cweb_lines.specs.inner.MergeProgress.{EmitsAfterLine, turns_left, turn_lines}
-pub use Rattle.cweb_lines.specs.surface.MergeProgress.{StopsAfterLines}
-pub use Rattle.cweb_lines.specs.surface.MergeProgress.{StopsIn, step_events}
-pub use Rattle.cweb_lines.specs.inner.MergeProgress.{EndsStep}
+pub use Rattle.cweb_lines.specs.surface.MergeProgress.{SoFar, EmitsLines, AddsFaultsAndLines, ReportsPrefix}
+pub use Rattle.cweb_lines.specs.surface.MergeProgress.{HasBegunStep, Stopped, pending_of, so_far_of, IsPrefix}
+pub use Rattle.cweb_lines.specs.surface.MergeProgress.{KeepsReported, change_lines, events_to_come, things_of}
+pub use Rattle.cweb_lines.specs.surface.MergeProgress.{NothingLeft, StopsAfterLines, StopsIn, step_events}
 pub use Rattle.cweb_lines.specs.surface.MergeProgress.{ReadFailsAfterLines, TakesBeforeEmitting}
-pub use Rattle.cweb_lines.specs.EventsByKind.{ComesFirst}
+pub use Rattle.cweb_lines.specs.inner.MergeProgress.{ReportsSomeFaults, events_after_line, EmitsAfterLine, turns_left}
+pub use Rattle.cweb_lines.specs.inner.MergeProgress.{turn_lines, EndsStep}
+pub use Rattle.cweb_lines.specs.Events.{ComesFirst, emitted_lines, reported_faults, openings, taken_lines}
+pub use Rattle.cweb_lines.specs.Events.{size_of_lines, AreShort, written_lines, write_failures_of}
 pub use Rattle.cweb_lines.specs.surface.MergeReaderNames.{AreReadersKnown}
 pub use Rattle.cweb_lines.specs.inner.MergeReaderNames.{KeepsReaders}
 pub use Rattle.cweb_lines.specs.inner.Passing.{ComesNext, EmitsBufferedLines, HasRoomFor, IsStretch, Reaches}
-pub use Rattle.cweb_lines.specs.inner.Passing.{IsStretchAt}
-pub use Rattle.cweb_lines.specs.inner.Passing.{IsStretchOf}
-pub use Rattle.cweb_lines.specs.inner.Passing.{line_with_newline, lines_next, top_of, AppendsPassedLines, BuffersLines}
-pub use Rattle.cweb_lines.specs.inner.Passing.{AllPassThrough, trimmed_with_newlines}
+pub use Rattle.cweb_lines.specs.inner.Passing.{IsStretchAt, IsStretchOf, line_with_newline, lines_next, top_of}
+pub use Rattle.cweb_lines.specs.inner.Passing.{AppendsPassedLines, BuffersLines, AllPassThrough, trimmed_with_newlines}
 pub use Rattle.cweb_lines.specs.inner.Passing.{sources_next, with_newlines, stretch_bytes, PassesThrough, buffer_of}
-pub use Rattle.cweb_lines.specs.inner.Passing.{PassesTop, KeepsLevel}
-pub use Rattle.cweb_lines.specs.inner.Passing.{PassesSlot}
+pub use Rattle.cweb_lines.specs.inner.Passing.{PassesTop, KeepsLevel, PassesSlot}
 pub use Rattle.cweb_lines.specs.inner.Replacing.{Compares, IsReplaced, Replaces, lines_replaced, taken_away}
-pub use Rattle.cweb_lines.specs.inner.Replacing.{closing_faults}
-pub use Rattle.cweb_lines.specs.inner.Replacing.{faults_replaced, IsChanged, fault_list_if}
+pub use Rattle.cweb_lines.specs.inner.Replacing.{closing_faults, faults_replaced, IsChanged, fault_list_if}
 pub use Rattle.cweb_lines.specs.inner.Seeking.{ReportsFaultPrefix, Searched, SeeksTo, search_after, BegunKnown}
 pub use Rattle.cweb_lines.specs.laws.MergeOutcome.{fault_renumbered, line_renumbered, renumbered, outcome_of_events}
 pub use Rattle.cweb_lines.specs.laws.MergeOutcome.{followed_by, only_lines}
@@ -116,20 +92,15 @@ pub use Rattle.cweb_lines.specs.inner.Stages.{IsSettled, floor_of, begun_by}
 pub use Rattle.cweb_lines.specs.surface.Stages.{change_in, pending_in, things_below, things_in}
 pub use Rattle.cweb_lines.specs.inner.Stages.{begun_stage, files_begun, stage_for, IsOutside}
 pub use Rattle.cweb_lines.specs.inner.Steps.{OnlyTakes, OnlyReports}
-pub use Rattle.cweb_lines.specs.EventsByKind.{emitted_lines, reported_faults, openings, taken_lines, size_of_lines}
-pub use Rattle.cweb_lines.specs.EventsByKind.{AreShort}
 pub use Rattle.cweb_lines.specs.surface.Halting.{halts}
 pub use Rattle.cweb_lines.specs.surface.Total.{merge}
 pub use Rattle.cweb_lines.specs.inner.Total.{merge_yields, merge_next, merge-run_steps, merge_end}
 pub use Rattle.cweb_lines.specs.surface.MergerCalls.{Grows, to_come, so_far, stop_in}
-pub use Rattle.cweb_lines.specs.Writing.{written_lines}
-pub use Rattle.cweb_files.specs.Frames.{WritesPrefix}
+pub use Rattle.cweb_files.specs.Bins.{WritesPrefix}
 pub use Rattle.cweb_lines.specs.inner.Writing.{HasWritten, FailsAmong}
-pub use Rattle.cweb_lines.specs.surface.Writing.{LosesLine, StopsWriting}
-pub use Rattle.cweb_lines.specs.surface.Writing.{WritingStops, FailureCounts, LeavesDevices, KeepsStop}
-pub use Rattle.cweb_lines.specs.Writing.{write_failures_of}
-pub use Rattle.cweb_lines.specs.surface.Writing.{WritesAll, WritesSome}
-pub use Rattle.cweb_lines.specs.surface.Writing.{WritesRead, WritesUpTo, StopsWritingEarly}
+pub use Rattle.cweb_lines.specs.surface.Writing.{LosesLine, StopsWriting, WritingStops, FailureCounts, LeavesDevices}
+pub use Rattle.cweb_lines.specs.surface.Writing.{KeepsStop, WritesAll, WritesSome, WritesRead, WritesUpTo}
+pub use Rattle.cweb_lines.specs.surface.Writing.{StopsWritingEarly}
 pub use Rattle.cweb_lines.specs.contracts.change.code.Code.{the_type}
 pub use Rattle.cweb_lines.specs.declared.change.Change.{Change}
 pub use Rattle.cweb_lines.specs.declared.change.Stage.{Stage}

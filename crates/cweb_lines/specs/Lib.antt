@@ -1,15 +1,12 @@
 pub mod Change
 pub mod Merge
-pub mod EventsByKind
-pub mod Writing
+pub mod Events
 pub mod surface
 pub mod laws
 pub mod inner
 pub use Rattle.cweb_input.specs.surface.Counters
-pub use Rattle.cweb_input.specs.Finding
 pub use Rattle.cweb_input.specs.Include
 pub use Rattle.cweb_input.specs.Lines
 pub use Rattle.cweb_input.specs.surface.OpenedFileNames
 pub use Rattle.cweb_input.specs.surface.Source
 pub use Rattle.cweb_input.specs.OpenSources
-pub use Rattle.cweb_input.specs.Things

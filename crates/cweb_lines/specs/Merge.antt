@@ -3,9 +3,8 @@ use Rattle.std.specs.Prelude.{◌≡◌, ℕ, zero, suc, ◌+◌, Bool, true, fa
 use Rattle.std.specs.Prelude.{None, Some, if◌then◌else◌}
 use Rattle.std.specs.Str.{bytes_eq}
 use Rattle.cweb_files.specs.declared.place.Place.{Place}
-use Rattle.cweb_input.specs.Lines.{Line, SourceLine, lines_in}
+use Rattle.cweb_input.specs.Lines.{Line, SourceLine, lines_in, RawLine, Thing, seek, raw, told, passed, raws}
 use Rattle.cweb_input.specs.Include.{World, Found, is_include_line, include_name, found_at}
-use Rattle.cweb_input.specs.Things.{RawLine, Thing, seek, raw, told, passed, raws}
 use Rattle.cweb_lines.specs.Change.{change_code, at_place, WaitingEntry, sought, OldSide, old_lines}
 use Rattle.cweb_input.specs.declared.limits.TheConstants.{OPEN_FILES}
 use Rattle.cweb_lines.specs.declared.change.code.Code.{Code}

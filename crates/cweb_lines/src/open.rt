@@ -3,15 +3,13 @@ ghost use Rattle.std.specs.Prelude.{◌≡◌, ◌≤◌, ◌++◌, ◌∷◌, �
 ghost use Rattle.std.specs.Prelude.{IfErr, OnOk, true};
 ghost use Rattle.std.specs.Option.{option_copied};
 ghost use Rattle.cweb_input.specs.surface.Finding.{optional_string_bytes};
-ghost use Rattle.cweb_input.specs.inner.Finding.{found_as};
-ghost use Rattle.cweb_input.specs.Finding.{names_found};
-ghost use Rattle.cweb_input.specs.inner.Finding.{lines_found, IsOpened};
+ghost use Rattle.cweb_input.specs.inner.Finding.{found_as, lines_found, IsOpened};
+ghost use Rattle.cweb_input.specs.Include.{names_found};
 ghost use Rattle.cweb_input.specs.Lines.{lines_in};
 ghost use Rattle.cweb_input.specs.surface.OpenedFileNames.{opened_file_names};
 ghost use Rattle.cweb_lines.specs.inner.Stages.{stage_for, begun_stage};
 ghost use Rattle.cweb_input.specs.surface.OpenSources.{lines_left, lines_at, number_or_zero};
-ghost use Rattle.cweb_input.specs.inner.OpenSources.{line_number};
-ghost use Rattle.cweb_input.specs.inner.OpenSources.{files_up_to};
+ghost use Rattle.cweb_input.specs.inner.OpenSources.{line_number, files_up_to};
 ghost use Rattle.cweb_input.specs.surface.ReaderNames.{IsReaderNamed};
 
 use crate::change::Stage;

@@ -14,43 +14,34 @@ pub use Rattle.std.specs.List.{flat_map, after_last, before_last, list_any, suff
 pub use Rattle.std.specs.Option.{option_copied}
 pub use Rattle.std.specs.Prelude.{IfOk, IsErrOf, is_some, option_and_then, option_map, slice_get, IsTrue, OnOk, OnErr}
 pub use Rattle.std.specs.Prelude.{IsErr, ◌==◌, if◌then◌else◌, codes, slice_range}
-pub use Rattle.cweb_files.specs.Device.{CountsFailure}
+pub use Rattle.cweb_files.specs.Bins.{CountsFailure, WritesPrefix}
 pub use Rattle.cweb_files.specs.declared.device.SinkFault.{SinkFault}
 pub use Rattle.cweb_input.specs.surface.OpenedFileNames.{opened_file_names}
-pub use Rattle.cweb_files.specs.Frames.{WritesPrefix}
 pub use Rattle.cweb_input.specs.declared.fault.SourceFault.{SourceFault}
 pub use Rattle.cweb_input.specs.declared.stop.Stop.{Stop}
 pub use Rattle.cweb_input.specs.declared.stop.Stop.TheVariants.{Usage}
 pub use Rattle.cweb_log.specs.inner.LogBuffer.{unwritten_bytes}
-pub use Rattle.cweb_log.specs.LogWriting.{Logs}
+pub use Rattle.cweb_log.specs.Log.{Logs}
 pub use Rattle.cweb_log.specs.inner.LogWriting.{WritesToStream, IsWrittenOrBuffered, AppendsToLog, joined_line}
-pub use Rattle.cweb_log.specs.Items.{LogItem, line, star}
-pub use Rattle.cweb_log.specs.Items.{fault_lines, line, source_item}
-pub use Rattle.cweb_log.specs.Options.{OptionsModel, TangleNames, named_by, names_by, options_by}
+pub use Rattle.cweb_log.specs.Items.{LogItem, line, star, fault_lines, source_item, name_items, refusal_message}
+pub use Rattle.cweb_log.specs.Items.{scan_items, cycle_step, scan_item, occurrence_spelling, name_item}
+pub use Rattle.cweb_log.specs.CommandLine.{OptionsModel, TangleNames, named_by, names_by, options_by, other_words}
+pub use Rattle.cweb_log.specs.CommandLine.{shown_by_default, words_shown, stem, letters_shown, web_names_by, is_dot}
+pub use Rattle.cweb_log.specs.CommandLine.{has_extension}
 pub use Rattle.cweb_log.specs.surface.Options.{options_of}
-pub use Rattle.cweb_log.specs.Options.{other_words}
-pub use Rattle.cweb_log.specs.Options.{shown_by_default, words_shown, stem, letters_shown}
 pub use Rattle.cweb_log.specs.DeviceModels.{SinkModel, sink_model}
-pub use Rattle.cweb_log.specs.WebItems.{name_items, refusal_message, scan_items, cycle_step, scan_item}
-pub use Rattle.cweb_log.specs.WebItems.{occurrence_spelling}
-pub use Rattle.cweb_log.specs.WebItems.{name_item}
-pub use Rattle.cweb_log.specs.Words.{web_names_by, is_dot, has_extension}
-pub use Rattle.cweb_out.specs.Outputs.{is_slash}
+pub use Rattle.cweb_out.specs.Outputs.{is_slash, bad_name, same_name, cycle}
 pub use Rattle.cweb_log.specs.declared.options.Options.{Options}
 pub use Rattle.cweb_log.specs.declared.shown.Shown.{Shown}
-pub use Rattle.cweb_out.specs.Cycles.{cycle_from}
-pub use Rattle.cweb_out.specs.Outputs.{bad_name, same_name, cycle}
-pub use Rattle.cweb_out.specs.Ranks.{first_endless}
-pub use Rattle.cweb_out.specs.Uses.{program}
+pub use Rattle.cweb_out.specs.Expansion.{cycle_from, first_endless, program}
 pub use Rattle.cweb_rules.specs.declared.fault.ScanFault.{ScanFault}
 pub use Rattle.cweb_rules.specs.declared.fault.ScanKind.{ScanKind}
-pub use Rattle.cweb_rules.specs.declared.fault.ScanKind.TheVariants.{DoubleAtInLimbo, ImproperHexNumber}
-pub use Rattle.cweb_rules.specs.declared.fault.ScanKind.TheVariants.{ReplacementTooLong, LetterOutsideLimbo}
-pub use Rattle.cweb_rules.specs.declared.fault.ScanKind.TheVariants.{NameDidNotEnd, NamesDoNotNest, CommentDidNotEnd}
-pub use Rattle.cweb_rules.specs.declared.fault.ScanKind.TheVariants.{StringDidNotEnd, DoubleAtInString}
-pub use Rattle.cweb_rules.specs.declared.fault.ScanKind.TheVariants.{ControlTextDidNotEnd, FaultyConstant}
-pub use Rattle.cweb_rules.specs.declared.fault.ScanKind.TheVariants.{IgnoredInCText, MissingAt, DefsInMacro}
-pub use Rattle.cweb_rules.specs.declared.fault.ScanKind.TheVariants.{DefinitionDropped}
+pub use Rattle.cweb_rules.specs.declared.fault.ScanKind.TheVariants.{ControlTextDidNotEnd, ReplacementTooLong}
+pub use Rattle.cweb_rules.specs.declared.fault.ScanKind.TheVariants.{LetterOutsideLimbo, ImproperHexNumber}
+pub use Rattle.cweb_rules.specs.declared.fault.ScanKind.TheVariants.{DefinitionDropped, CommentDidNotEnd}
+pub use Rattle.cweb_rules.specs.declared.fault.ScanKind.TheVariants.{DoubleAtInString, DoubleAtInLimbo, StringDidNotEnd}
+pub use Rattle.cweb_rules.specs.declared.fault.ScanKind.TheVariants.{NamesDoNotNest, FaultyConstant, IgnoredInCText}
+pub use Rattle.cweb_rules.specs.declared.fault.ScanKind.TheVariants.{NameDidNotEnd, DefsInMacro, MissingAt}
 pub use Rattle.cweb_store.specs.Calls.{Stored}
 pub use Rattle.cweb_names.specs.Names.{Occurrence, id}
 pub use Rattle.cweb_store.specs.Parts.{Part, Name}

@@ -1,9 +1,6 @@
-pub mod LogWriting
-pub mod Items
 pub mod Log
-pub mod Options
+pub mod Items
+pub mod CommandLine
 pub mod DeviceModels
-pub mod WebItems
-pub mod Words
 pub mod surface
 pub mod inner

@@ -3,7 +3,7 @@ ghost use Rattle.std.specs.Prelude.{◌≡◌, ◌≢◌, ◌↔◌, ◌⊎◌, 
 ghost use Rattle.std.specs.Prelude.{IfOk, IfErr, IsErrOf};
 ghost use Rattle.std.specs.List.{after_last};
 ghost use Rattle.std.specs.Option.{option_copied};
-ghost use Rattle.cweb_log.specs.Options.{main_by, named_by, options_by, other_words, stem};
+ghost use Rattle.cweb_log.specs.CommandLine.{main_by, named_by, options_by, other_words, stem};
 ghost use Rattle.cweb_out.specs.Outputs.{is_slash};
 
 use crate::shown::Shown;

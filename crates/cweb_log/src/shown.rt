@@ -1,7 +1,7 @@
 // The option words of a command line of `ctangle`.
 ghost use Rattle.std.specs.Prelude.{◌≡◌, map};
 ghost use Rattle.cweb_rules.specs.Bytes.{is_letter};
-ghost use Rattle.cweb_log.specs.Words.{is_option};
+ghost use Rattle.cweb_log.specs.CommandLine.{is_option};
 
 use crate::words::is_option;
 
@@ -15,8 +15,8 @@ pub struct Shown {
 }
 
 impl Shown {
-    ghost use Rattle.cweb_log.specs.Options.{letter_shown, letters_shown, shown_by_default};
-    ghost use Rattle.cweb_log.specs.Options.{word_shown, words_shown};
+    ghost use Rattle.cweb_log.specs.CommandLine.{letter_shown, letters_shown, shown_by_default};
+    ghost use Rattle.cweb_log.specs.CommandLine.{word_shown, words_shown};
 
     /// Parses the option words among these words: words of at least two bytes that begin with `-` or `+`, anywhere.
     /// `None` if one of them has a byte that is no letter.

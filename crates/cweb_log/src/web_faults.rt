@@ -5,11 +5,10 @@ ghost use Rattle.cweb_input.specs.surface.OpenedFileNames.{opened_file_names};
 ghost use Rattle.cweb_out.specs.Outputs.{name_spelling, output_name};
 ghost use Rattle.cweb_log.specs.inner.LogBuffer.{unwritten_bytes};
 ghost use Rattle.cweb_log.specs.inner.LogWriting.{WritesToStream, AppendsToLog};
-ghost use Rattle.cweb_log.specs.Items.{line, fault};
+ghost use Rattle.cweb_log.specs.Items.{line, fault, cycle_step, name_item, name_items, scan_item};
+ghost use Rattle.cweb_log.specs.Items.{scan_items, scan_message};
 ghost use Rattle.cweb_log.specs.DeviceModels.{sink_model};
-ghost use Rattle.cweb_log.specs.WebItems.{cycle_step, name_item, name_items, scan_item};
 ghost use Rattle.cweb_log.specs.inner.WebItems.{plan_item};
-ghost use Rattle.cweb_log.specs.WebItems.{scan_items, scan_message};
 
 use crate::faults::add_located;
 use crate::log_buffer::{LogBuffer, say};

@@ -2,10 +2,10 @@
 ghost use Rattle.std.specs.Prelude.{◌≡◌, ◌↔◌, ◌⊎◌, ◌++◌, Some, None, map, codes, string_bytes};
 ghost use Rattle.std.specs.Prelude.{option_map, IfOk, IfErr, IsErrOf};
 ghost use Rattle.std.specs.Option.{option_copied};
-ghost use Rattle.cweb_log.specs.Words.{web_names_by, web_names_with, web_names_for};
+ghost use Rattle.cweb_log.specs.CommandLine.{web_names_by, web_names_with, web_names_for};
 ghost use Rattle.cweb_out.specs.Outputs.{is_control};
-ghost use Rattle.cweb_log.specs.Words.{is_dash, is_option, has_control, can_name_file};
-ghost use Rattle.cweb_log.specs.Words.{has_extension, extended, second_try};
+ghost use Rattle.cweb_log.specs.CommandLine.{is_dash, is_option, has_control, can_name_file};
+ghost use Rattle.cweb_log.specs.CommandLine.{has_extension, extended, second_try};
 
 use cweb_lines::Stop;
 use std::alloc::{AllocError, Global};
@@ -19,7 +19,7 @@ pub struct MergeWords {
 }
 
 impl MergeWords {
-    ghost use Rattle.cweb_log.specs.Options.{merge_by};
+    ghost use Rattle.cweb_log.specs.CommandLine.{merge_by};
     ghost use Rattle.cweb_log.specs.inner.Words.{merge_word_names};
 
     /// Parses the arguments, without the program's own name. They are checked before anything is allocated.

@@ -22,20 +22,17 @@ pub use Rattle.std.specs.Prelude.{Err, bytes_eq, if◌then◌else◌, nat_eq, fi
 pub use Rattle.std.specs.declared.cmp.Ordering.{Ordering}
 pub use Rattle.std.specs.declared.cmp.Ordering.TheVariants.{Less, Equal, Greater}
 pub use Rattle.cweb_names.specs.inner.Found.{found_of, is_several, NameEntry, compare_bytes, entry_has_prefix}
+pub use Rattle.cweb_names.specs.inner.Found.{IsNameMap, id_of_spelling, next_begins, any_next, ids_with_prefix}
 pub use Rattle.cweb_names.specs.laws.Found.{Distinct}
-pub use Rattle.cweb_names.specs.inner.Found.{IsNameMap, id_of_spelling}
-pub use Rattle.cweb_names.specs.inner.Found.{next_begins, any_next, ids_with_prefix}
 pub use Rattle.cweb_names.specs.inner.SortPrefixes.{sort_prefix_of}
 pub use Rattle.cweb_names.specs.inner.OccurrenceTables.{IsOccurrenceTable, resolve, resolve_all, occurrence_form}
 pub use Rattle.cweb_names.specs.inner.OccurrenceTables.{occurrences_at}
 pub use Rattle.cweb_names.specs.inner.Known.{early, earlies_from, by_found, has_spelling_at, known_names_model}
 pub use Rattle.cweb_names.specs.inner.Known.{known_name_model}
-pub use Rattle.cweb_names.specs.surface.Names.{occurrence_of, too_many}
-pub use Rattle.cweb_names.specs.Names.{is_prefix_of_another, Occurrence, Name, Resolution, id}
-pub use Rattle.cweb_names.specs.Names.{spellings, with_full_name, with_occurrence_name, names_from, names}
-pub use Rattle.cweb_names.specs.Names.{beginning_from, the_one}
+pub use Rattle.cweb_names.specs.surface.Names.{occurrence_of, too_many, occurrence_text}
+pub use Rattle.cweb_names.specs.Names.{is_prefix_of_another, Occurrence, Name, Resolution, id, spellings}
+pub use Rattle.cweb_names.specs.Names.{with_full_name, with_occurrence_name, names_from, names, beginning_from, the_one}
 pub use Rattle.cweb_names.specs.Names.{resolved_among, resolutions_from, resolutions, files_from, beginning}
-pub use Rattle.cweb_names.specs.surface.Names.{occurrence_text}
 pub use Rattle.cweb_names.specs.declared.found.Found.{Found}
 pub use Rattle.cweb_names.specs.declared.found.Found.TheVariants.{Nothing, One, Several}
 pub use Rattle.cweb_names.specs.declared.known.KnownName.{KnownName}

@@ -4,7 +4,7 @@ use Rattle.std.proofs.Common.{◌==◌}
 use Rattle.std.specs.Prelude.{codes}
 use Rattle.cweb_rules.specs.Bytes.{is_white}
 use Rattle.cweb_names.specs.inner.Squeezing.{is_squeezed, is_squeezed_after}
-use Rattle.cweb_names.specs.Squeezing.{squeezed, squeezed_after}
+use Rattle.cweb_names.specs.Names.{squeezed, squeezed_after}
 use Rattle.std.proofs.lemmas.Bool.{and_parts}
 
 abbrev pub is_some : List ℕ → Bool

@@ -1,4 +1,3 @@
-pub mod Squeezing
 pub mod Names
 pub mod surface
 pub mod laws

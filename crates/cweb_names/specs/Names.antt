@@ -1,12 +1,13 @@
--- Occurrences of names, the names that they resolve to, and the names of files.
+-- Occurrences of names, the names that they resolve to, and how section names are spelled.
 use Rattle.std.specs.Prelude.{ℕ, ◌+◌, Bool, not, ◌&&◌, nat_eq, List, [], ◌∷◌, ◌++◌, Option, Some, None, Result, Ok, Err}
-use Rattle.std.specs.Prelude.{map, slice_get, bytes_eq, if◌then◌else◌}
-use Rattle.std.specs.List.{starts_with, list_any, position_or_len}
+use Rattle.std.specs.Prelude.{map, slice_get, bytes_eq, if◌then◌else◌, true, false, nat_lt, length, codes}
+use Rattle.std.specs.List.{starts_with, list_any, position_or_len, ends_with}
 use Rattle.cweb_names.specs.declared.name.How.{How}
 use Rattle.cweb_names.specs.declared.name.How.TheVariants.{Full, Prefix}
 use Rattle.cweb_names.specs.declared.name.NameId.{NameId}
 use Rattle.cweb_names.specs.declared.name.NameKind.{NameKind}
 use Rattle.cweb_names.specs.declared.name.NameKind.TheVariants.{Ambiguous, NeverFull}
+use Rattle.cweb_rules.specs.Bytes.{is_white}
 
 -- An occurrence: its spelling, or the prefix of an abbreviation, and whether it names a file.
 pub record Occurrence : Type 0 where
@@ -117,3 +118,19 @@ files_from rs files i (o ∷ os) = files_from rs (with_file rs files i o) (i + 1
 -- The names of files, in order of their first occurrence as a file.
 abbrev pub files : List Occurrence → List NameId
 files os = files_from (resolutions os) [] 0 os
+
+-- Replaces spans of white space by one space and trims. `gap` is the space that comes before the next other byte.
+abbrev pub squeezed_after : Bool → List ℕ → List ℕ → List ℕ
+squeezed_after begun gap [] = []
+squeezed_after begun gap (b ∷ t) = elim (is_white b) [
+  | true ↦ squeezed_after begun (if begun then codes " " else []) t
+  | false ↦ gap ++ b ∷ squeezed_after true [] t
+]
+
+-- The spelling of a name.
+abbrev pub squeezed : List ℕ → List ℕ
+squeezed t = squeezed_after false [] t
+
+-- An abbreviation is longer than three bytes and ends in `...`.
+abbrev pub is_abbreviation : List ℕ → Bool
+is_abbreviation text = nat_lt 3 (length text) && ends_with nat_eq text (codes "...")

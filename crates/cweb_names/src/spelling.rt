@@ -1,9 +1,9 @@
 // The spelling of section names (CWEB manual, "Section names").
 ghost use Rattle.std.specs.Prelude.{◌≡◌, IfOk};
 ghost use Rattle.cweb_rules.specs.Bytes as bytes;
-ghost use Rattle.cweb_names.specs.Squeezing.{is_abbreviation};
+ghost use Rattle.cweb_names.specs.Names.{is_abbreviation};
 ghost use Rattle.cweb_names.specs.inner.Squeezing as spec;
-ghost use Rattle.cweb_names.specs.Squeezing as base;
+ghost use Rattle.cweb_names.specs.Names as base;
 
 use std::alloc::{AllocError, Global};
 

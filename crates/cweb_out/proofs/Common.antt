@@ -14,48 +14,40 @@ pub use Rattle.std.proofs.lemmas.List.Sums.{sum_by-append, sum_by-cons}
 pub use Rattle.std.specs.List.{list_all, list_any, position_or_len}
 pub use Rattle.std.specs.Prelude.{option_to_list, find, filter, bytes_eq, All, Result, Ok, Err, IfSome, fold, flat_map}
 pub use Rattle.std.specs.Prelude.{sum_by, vec_len, slice_set}
-pub use Rattle.cweb_out.specs.Expansion.{expand, expanded_name, put, tokens_for}
-pub use Rattle.cweb_out.specs.surface.FrameStacks.{left, RanksAreBelow}
-pub use Rattle.cweb_out.specs.inner.FrameStacks.{level, work_of, list_work, name_work, token_work}
-pub use Rattle.cweb_out.specs.surface.FrameStacks.{IsFrameStack}
-pub use Rattle.cweb_out.specs.inner.FrameStacks.{UsesLower, top_rank}
-pub use Rattle.cweb_out.specs.surface.FrameStacks.{rank, AreOwned, IsOwned, left_at_depth, AreRanked}
-pub use Rattle.cweb_out.specs.inner.FrameStacks.{Advances}
-pub use Rattle.cweb_out.specs.inner.FrameStacks.{Enters, work_for}
+pub use Rattle.cweb_out.specs.Expansion.{expand, expanded_name, put, tokens_for, cycle_from, walk, ends_below, has_rank}
+pub use Rattle.cweb_out.specs.Expansion.{first_endless, list_ends, joined, uses, names, program, resolved_use, use_of}
+pub use Rattle.cweb_out.specs.surface.FrameStacks.{left, RanksAreBelow, IsFrameStack, rank, AreOwned, IsOwned}
+pub use Rattle.cweb_out.specs.surface.FrameStacks.{left_at_depth, AreRanked}
+pub use Rattle.cweb_out.specs.inner.FrameStacks.{level, work_of, list_work, name_work, token_work, UsesLower, top_rank}
+pub use Rattle.cweb_out.specs.inner.FrameStacks.{Advances, Enters, work_for}
 pub use Rattle.cweb_out.specs.laws.Laws.{EachUsesNext, IsCycle, ReplacesUses, is_no_use, is_joined, print_following}
 pub use Rattle.cweb_out.specs.laws.Laws.{is_whole_lines}
-pub use Rattle.cweb_out.specs.Cycles.{cycle_from, walk}
 pub use Rattle.cweb_out.specs.surface.FrameSuffixes.{suffix, FrameIsWithin, PartIsWithin}
 pub use Rattle.cweb_print.specs.surface.TokenRanges.{tokens_of_parts}
 pub use Rattle.cweb_out.specs.inner.Outputs.{IsRoot}
 pub use Rattle.cweb_out.specs.Outputs.{Planned, Refusal, bad_name, same_name, cycle, defs_first, file_outputs}
 pub use Rattle.cweb_out.specs.Outputs.{has_no_program, is_good_name, name_spelling, output_name, output_of, outputs}
-pub use Rattle.cweb_out.specs.Outputs.{planned}
-pub use Rattle.cweb_out.specs.Outputs.{planned_apart, planned_ending, root_list, start_of, Output}
+pub use Rattle.cweb_out.specs.Outputs.{planned, planned_apart, planned_ending, root_list, start_of, Output}
 pub use Rattle.cweb_out.specs.surface.Outputs.{root_at, IsPlanOf}
-pub use Rattle.cweb_out.specs.Ranks.{ends_below, has_rank, first_endless, list_ends}
 pub use Rattle.cweb_out.specs.surface.Ranks.{least, name_rank}
 pub use Rattle.cweb_out.specs.inner.Search.{AreNew}
-pub use Rattle.cweb_out.specs.Uses.{joined, uses, names, program, resolved_use, use_of}
 pub use Rattle.cweb_out.specs.declared.frame.Frame.{Frame}
 pub use Rattle.cweb_print.specs.surface.Classes.{class_of}
 pub use Rattle.cweb_print.specs.inner.Classes.{separator}
 pub use Rattle.cweb_print.specs.inner.BufferedPrinting.{PrintsPrefix}
 pub use Rattle.cweb_print.specs.inner.DirectTokens.{AreDirect, is_direct}
 pub use Rattle.cweb_print.specs.surface.Printed.{setting_of}
-pub use Rattle.cweb_print.specs.Printing.{Setting, print, begin_line, file, file_token_bytes, without_joined_layout}
-pub use Rattle.cweb_print.specs.Printing.{last_token, left_after}
-pub use Rattle.cweb_print.specs.Printing.{macro_line, macro_lines, mark_line, file_name, macro_token_bytes}
-pub use Rattle.cweb_store.specs.Layout.{is_layout}
-pub use Rattle.cweb_print.specs.Printing.{print_after, printed_tokens, quoted, starts_line, stays_joined}
+pub use Rattle.cweb_print.specs.Printing.{without_joined_layout, macro_token_bytes, file_token_bytes, printed_tokens}
+pub use Rattle.cweb_print.specs.Printing.{stays_joined, macro_lines, print_after, starts_line, begin_line, last_token}
+pub use Rattle.cweb_print.specs.Printing.{left_after, macro_line, mark_line, file_name, Setting, quoted, print, file}
+pub use Rattle.cweb_store.specs.Parts.{is_layout, Token, has_defs_code, Name, all_tokens, Newline, Defs, Word, Number}
+pub use Rattle.cweb_store.specs.Parts.{Punct, Blank, Join, Head, Tail}
 pub use Rattle.cweb_texts.specs.Edges.{last_is}
 pub use Rattle.cweb_print.specs.Spacing.{sep}
 pub use Rattle.cweb_print.specs.declared.printer.class.Class.{Class}
 pub use Rattle.cweb_store.specs.Calls.{Stored}
 pub use Rattle.cweb_store.specs.Faults.{has_part}
 pub use Rattle.cweb_names.specs.Names.{is_id, id}
-pub use Rattle.cweb_store.specs.Parts.{Token, has_defs_code, Name, all_tokens, Newline, Defs, Word, Number, Punct}
-pub use Rattle.cweb_store.specs.Parts.{Blank, Join, Head, Tail}
 pub use Rattle.cweb_store.specs.surface.TokenModels.{token_model}
 pub use Rattle.cweb_names.specs.declared.name.NameId.{NameId}
 pub use Rattle.cweb_names.specs.declared.name.NameRef.{NameRef}

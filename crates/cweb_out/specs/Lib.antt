@@ -1,8 +1,5 @@
-pub mod Uses
-pub mod Ranks
-pub mod Cycles
-pub mod Outputs
 pub mod Expansion
+pub mod Outputs
 pub mod surface
 pub mod laws
 pub mod inner

@@ -1,7 +1,6 @@
 -- The outputs of a web, their names, and the reasons to refuse them.
-use Rattle.std.specs.Prelude.{ℕ, Bool, true, false, not, ◌&&◌, ◌||◌, ◌==◌, nat_lt, List, [], ◌∷◌, ◌++◌, map}
-use Rattle.std.specs.Prelude.{filter, find, codes, bytes_eq, length, Option, Some, None, Result, Ok, Err}
-use Rattle.std.specs.Prelude.{slice_index_or}
+use Rattle.std.specs.Prelude.{ℕ, Bool, true, false, not, ◌&&◌, ◌||◌, ◌==◌, nat_lt, List, [], ◌∷◌, ◌++◌, map, filter}
+use Rattle.std.specs.Prelude.{find, codes, bytes_eq, length, Option, Some, None, Result, Ok, Err, slice_index_or}
 use Rattle.std.specs.List.{list_all, list_any, after_last}
 use Rattle.std.specs.Str.{is_utf8}
 use Rattle.cweb_names.specs.declared.name.NameId.{NameId}
@@ -10,9 +9,7 @@ use Rattle.cweb_store.specs.Parts.{Token, Defs, has_defs_code, is_unnamed}
 use Rattle.cweb_store.specs.Parts as parts
 use Rattle.cweb_store.specs.Faults.{has_part}
 use Rattle.cweb_store.specs.Calls.{Stored}
-use Rattle.cweb_out.specs.Uses.{program, joined}
-use Rattle.cweb_out.specs.Ranks.{list_ends, first_endless}
-use Rattle.cweb_out.specs.Cycles.{cycle_from}
+use Rattle.cweb_out.specs.Expansion.{program, joined, list_ends, first_endless, cycle_from}
 
 -- The file names that have a part, in order of their first occurrence as a file's.
 abbrev pub file_outputs : Stored → List NameId

@@ -3,14 +3,11 @@ ghost use Rattle.std.specs.Prelude.{◌≡◌, ◌≤◌, ◌<◌, ◌+◌, ◌+
 ghost use Rattle.std.specs.Prelude.{IfSome, option_map, vec_capacity};
 ghost use Rattle.cweb_store.specs.surface.TokenModels.{token_model};
 ghost use Rattle.cweb_store.specs.Parts.{Name};
-ghost use Rattle.cweb_out.specs.Uses.{names, use_of};
-ghost use Rattle.cweb_out.specs.Expansion.{expand};
+ghost use Rattle.cweb_out.specs.Expansion.{names, use_of, expand};
 ghost use Rattle.cweb_out.specs.surface.Outputs.{IsPlanOf, root_at};
 ghost use Rattle.cweb_out.specs.Outputs.{root_list};
-ghost use Rattle.cweb_out.specs.inner.FrameStacks.{Advances, Enters};
-ghost use Rattle.cweb_out.specs.surface.FrameStacks.{RanksAreBelow, YieldsNext};
-ghost use Rattle.cweb_out.specs.surface.FrameStacks.{IsFrameStack, left};
-ghost use Rattle.cweb_out.specs.inner.FrameStacks.{UsesLower, level};
+ghost use Rattle.cweb_out.specs.inner.FrameStacks.{Advances, Enters, UsesLower, level};
+ghost use Rattle.cweb_out.specs.surface.FrameStacks.{RanksAreBelow, YieldsNext, IsFrameStack, left};
 
 pub mod appending;
 

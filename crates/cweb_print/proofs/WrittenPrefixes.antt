@@ -3,7 +3,7 @@ use Rattle.cweb_print.proofs.Common.{arith, refl, ◌≡◌, ◌<◌, ◌++◌, 
 use Rattle.std.proofs.Common.{Bor, drop-cons}
 use Rattle.std.proofs.lemmas.List.{take-append-drop}
 use Rattle.std.proofs.lemmas.List.Concat.{flat_map-append}
-use Rattle.cweb_files.specs.Frames.{WritesPrefix}
+use Rattle.cweb_files.specs.Bins.{WritesPrefix}
 
 -- One string was written, and then another or a prefix of it.
 pub wrote_more : {A E : Type 0} (old mid new text more : List ℕ) (r : Result A E)

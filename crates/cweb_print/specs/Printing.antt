@@ -1,12 +1,13 @@
--- How a list of tokens is printed.
+-- How a list of tokens is printed, and the settings of a printer.
 use Rattle.std.specs.Prelude.{slice_index_or, ℕ, Bool, true, false, ◌&&◌, nat_le, List, [], ◌∷◌, ◌++◌, codes, decimal}
-use Rattle.std.specs.Prelude.{if◌then◌else◌, Option, Some, None, flat_map}
+use Rattle.std.specs.Prelude.{if◌then◌else◌, Option, Some, None, flat_map, ◌/◌, ◌%◌, map, filter, slice_index}
 use Rattle.cweb_files.specs.declared.place.Place.{Place}
 use Rattle.cweb_store.specs.Parts.{Token, Word, Number, Literal, Verbatim, Punct, Blank, Newline, Join, Defs, Head}
-use Rattle.cweb_store.specs.Parts.{Tail, Mark}
-use Rattle.cweb_store.specs.Layout.{is_layout}
+use Rattle.cweb_store.specs.Parts.{Tail, Mark, is_layout, is_macro}
 use Rattle.cweb_texts.specs.Edges.{is_one_of}
 use Rattle.cweb_print.specs.Spacing.{sep}
+use Rattle.cweb_store.specs.Parts as parts
+use Rattle.cweb_store.specs.Calls.{Stored, replacement}
 
 -- Whether a join is open after a token: only layout and section comments follow it.
 abbrev pub stays_joined : Bool → Token → Bool
@@ -131,3 +132,28 @@ left_after ts = last_token None (without_joined_layout false ts)
 -- All bytes of a file. Its last line is ended.
 abbrev pub file : Setting → List Token → List ℕ
 file s ts = print s ts ++ begin_line (left_after ts)
+
+-- The ASCII code of a hexadecimal digit.
+abbrev pub hex_digit : ℕ → ℕ
+hex_digit n = slice_index (codes "0123456789ABCDEF") n
+
+-- The default replacement of a byte from 128 on: `X` and two hexadecimal digits.
+abbrev pub default_replacement : ℕ → List ℕ
+default_replacement b = 88 ∷ hex_digit (b / 16) ∷ hex_digit (b % 16) ∷ []
+
+-- Optional bytes, or a default.
+abbrev pub bytes_or : List ℕ → Option (List ℕ) → List ℕ
+bytes_or default None = default
+bytes_or default (Some text) = text
+
+-- The replacement of a byte in a store.
+abbrev pub replaced_in : Stored → ℕ → List ℕ
+replaced_in w b = bytes_or (default_replacement b) (replacement w.replacements b)
+
+-- The tokens of each macro, in order.
+abbrev pub macros : Stored → List (List Token)
+macros w = map (λ (p : parts.Part). p.tokens) (filter (λ (p : parts.Part). is_macro p.kind) w.parts)
+
+-- The setting of a store and the names of the files of its line marks.
+abbrev pub setting : Stored → List (List ℕ) → Setting
+setting w files = record { replaced = replaced_in w; files = files; macros = macros w }

@@ -1,7 +1,7 @@
 // The output buffer in front of a sink.
 ghost use Rattle.std.specs.Prelude.{◌≡◌, ◌≤◌, ◌<◌, ◌+◌, ◌^◌, ◌++◌, [], length, take, drop, IfOk};
 ghost use Rattle.std.specs.Prelude.{IfErr, IsTrue, OnOk};
-ghost use Rattle.cweb_files.specs.Device.{CountsFailure};
+ghost use Rattle.cweb_files.specs.Bins.{CountsFailure};
 ghost use Rattle.cweb_print.specs.inner.Flushing.{FlushesPrefix};
 ghost use Rattle.cweb_print.specs.declared.buffer.TheConstants.{ROOM, SHORT};
 

@@ -1,6 +1,6 @@
 // Writes byte chunks in order.
 ghost use Rattle.std.specs.Prelude.{◌≡◌, ◌<◌, ◌+◌, ◌^◌, IsTrue, IfSome, flat_map};
-ghost use Rattle.cweb_files.specs.Device.{CountsFailure};
+ghost use Rattle.cweb_files.specs.Bins.{CountsFailure};
 ghost use Rattle.cweb_print.specs.inner.Writing.{Wrote};
 
 use arrayvec::ArrayVec;

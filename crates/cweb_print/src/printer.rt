@@ -1,14 +1,13 @@
 // The printer of tokens.
 ghost use Rattle.std.specs.Prelude.{◌≡◌, ◌<◌, ◌+◌, ◌^◌, [], IsTrue, OnOk, OnErr};
-ghost use Rattle.cweb_files.specs.Device.{CountsFailure};
+ghost use Rattle.cweb_files.specs.Bins.{CountsFailure};
 ghost use Rattle.cweb_input.specs.surface.OpenedFileNames.{opened_file_names};
 ghost use Rattle.cweb_store.specs.surface.TokenModels.{token_model};
 ghost use Rattle.cweb_print.specs.inner.Writing.{Wrote};
-ghost use Rattle.cweb_print.specs.inner.Classes.{added, begin_by, file_by};
+ghost use Rattle.cweb_print.specs.inner.Classes.{added, begin_by, file_by, own_line_bytes};
 ghost use Rattle.cweb_print.specs.surface.Classes.{left_after_tokens};
-ghost use Rattle.cweb_print.specs.inner.Classes.{own_line_bytes};
 ghost use Rattle.cweb_print.specs.surface.Printers.{MarkFileIsNamed};
-ghost use Rattle.cweb_print.specs.Printers.{setting};
+ghost use Rattle.cweb_print.specs.Printing.{setting};
 ghost use Rattle.cweb_print.specs.surface.Printed.{EndsFile, Moves, PrintsToken, left_in_printer};
 ghost use Rattle.cweb_print.specs.surface.Printed.{setting_of};
 

@@ -28,40 +28,32 @@ pub use Rattle.cweb_rules.specs.Codes.{in_c, CodeEntry, code_table, entry_for, i
 pub use Rattle.cweb_rules.specs.Constants.{letter, constant, character, escapes, escaped, octal_value, octal}
 pub use Rattle.cweb_rules.specs.Constants.{after_backslash, is_plain_character, character_at, faulty_size, constant_of}
 pub use Rattle.cweb_rules.specs.Constants.{hex_value, hex_at, letter_with, letter_after, ends_faulty}
-pub use Rattle.cweb_rules.specs.Cut.{Reach, reach_in, with_unit, reach_size, body, reach}
+pub use Rattle.cweb_rules.specs.Items.{Reach, reach_in, with_unit, reach_size, body, reach, reach_of_literal}
+pub use Rattle.cweb_rules.specs.Items.{look_in_literal, look_in_comment, reach_of_control_text, reach_of_name}
+pub use Rattle.cweb_rules.specs.Items.{reach_of_included_name, look_in_control, look_in_name, look_in_include}
+pub use Rattle.cweb_rules.specs.Items.{look_in_raw, reach_of_raw_literal, reach_of_comment, reach_of_line_comment}
+pub use Rattle.cweb_rules.specs.Items.{opener_len, unit_bytes, unescaped}
 pub use Rattle.cweb_rules.specs.laws.Follows.{is_quiet, JoinsAll, IsToken, all_join, after_word, after_number}
-pub use Rattle.cweb_rules.specs.laws.Follows.{joins_last}
-pub use Rattle.cweb_rules.specs.laws.Follows.{continues_lexeme, emits_at, is_token, begins_as}
+pub use Rattle.cweb_rules.specs.laws.Follows.{joins_last, continues_lexeme, emits_at, is_token, begins_as}
 pub use Rattle.cweb_rules.specs.Matches.{c_match, tex_match, starts_raw, starts_literal, starts_include, section_match}
 pub use Rattle.cweb_rules.specs.Matches.{found_letter_match, effect_match, code_match, comment_match}
-pub use Rattle.cweb_rules.specs.Matches.{line_comment_match, literal_match, raw_match}
-pub use Rattle.cweb_rules.specs.Matches.{quoted_match, has_quote_at, literal_prefix, quote_of, control_text_match}
-pub use Rattle.cweb_rules.specs.Matches.{verbatim_match}
-pub use Rattle.cweb_rules.specs.Matches.{constant_match, letter_match, opener_after, name_match, raw_prefix}
-pub use Rattle.cweb_rules.specs.Matches.{has_delimiter}
-pub use Rattle.cweb_rules.specs.Matches.{delimiter, raw_closer, include_match, macro_match, head_match_of, match_in}
-pub use Rattle.cweb_rules.specs.Matches.{is_closed}
-pub use Rattle.cweb_rules.specs.Matches.{head_match}
-pub use Rattle.cweb_rules.specs.Items.{reach_of_literal, look_in_literal, look_in_comment, reach_of_control_text}
-pub use Rattle.cweb_rules.specs.Items.{reach_of_name, reach_of_included_name}
-pub use Rattle.cweb_rules.specs.Items.{look_in_control, look_in_name, look_in_include, look_in_raw}
-pub use Rattle.cweb_rules.specs.Items.{reach_of_raw_literal}
-pub use Rattle.cweb_rules.specs.Items.{reach_of_comment, reach_of_line_comment, opener_len, unit_bytes, unescaped}
-pub use Rattle.cweb_rules.specs.Kinds.{RuleMatch, Kind, Code, Section, Blanks, LineEnd, Quoted, Identifier, Numeral}
-pub use Rattle.cweb_rules.specs.Kinds.{Punctuator, rule_match, Comment, Skipped, Letter, ControlText, Verbatim}
-pub use Rattle.cweb_rules.specs.Kinds.{Constant}
-pub use Rattle.cweb_rules.specs.Kinds.{Occurrence, Defined}
+pub use Rattle.cweb_rules.specs.Matches.{line_comment_match, literal_match, raw_match, quoted_match, has_quote_at}
+pub use Rattle.cweb_rules.specs.Matches.{literal_prefix, quote_of, control_text_match, verbatim_match, constant_match}
+pub use Rattle.cweb_rules.specs.Matches.{letter_match, opener_after, name_match, raw_prefix, has_delimiter, delimiter}
+pub use Rattle.cweb_rules.specs.Matches.{raw_closer, include_match, macro_match, head_match_of, match_in, is_closed}
+pub use Rattle.cweb_rules.specs.Matches.{head_match, RuleMatch, Kind, Code, Section, Blanks, LineEnd, Quoted}
+pub use Rattle.cweb_rules.specs.Matches.{Identifier, Numeral, Punctuator, rule_match, Comment, Skipped, Letter}
+pub use Rattle.cweb_rules.specs.Matches.{ControlText, Verbatim, Constant, Occurrence, Defined}
 pub use Rattle.cweb_rules.specs.inner.Leads.{rule_after_dot, rule_after_slash, lead}
 pub use Rattle.cweb_rules.specs.inner.LineItems.{opens_effect, opens_code, opens_comment, opens_raw, opens_literal}
-pub use Rattle.cweb_rules.specs.inner.LineItems.{c_opens}
-pub use Rattle.cweb_rules.specs.inner.LineItems.{tex_opens, IsLine, AtLineEnd, opens_name, macro_opens, opens_in}
-pub use Rattle.cweb_rules.specs.inner.LineItems.{is_unclosed}
+pub use Rattle.cweb_rules.specs.inner.LineItems.{c_opens, tex_opens, IsLine, AtLineEnd, opens_name, macro_opens}
+pub use Rattle.cweb_rules.specs.inner.LineItems.{opens_in, is_unclosed}
 pub use Rattle.cweb_rules.specs.inner.Looks.{look_of, reached}
 pub use Rattle.cweb_rules.specs.laws.Pays.{at_line_ends, Pays, FitsAndPays}
 pub use Rattle.cweb_rules.specs.inner.PlainBytes.{is_raw_special, is_special, is_plain}
 pub use Rattle.cweb_rules.specs.inner.Rules.{c_rule, c_match_by, tex_rule, tex_match_by, is_settled}
 pub use Rattle.cweb_rules.specs.inner.PrefixTables.{first_len, descends, second_is}
-pub use Rattle.cweb_rules.specs.Tables.{starts_number, listed, longest, number_len, continues_number}
+pub use Rattle.cweb_rules.specs.Bytes.{starts_number, listed, longest, number_len, continues_number}
 pub use Rattle.cweb_rules.specs.inner.Tables.{seconds}
 pub use Rattle.cweb_rules.specs.declared.constants.Character.{Character}
 pub use Rattle.cweb_rules.specs.declared.constants.Transliteration.{Transliteration}

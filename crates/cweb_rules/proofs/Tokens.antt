@@ -1,7 +1,7 @@
 -- A token of C text ends by itself, and which bytes begin it.
 use Rattle.cweb_rules.proofs.Common.{◌≡◌, ℕ, Bool, true, false, ◌&&◌, ◌==◌, not, List, [], ◌∷◌, ◌++◌, Option, Some, None, length, drop, refl, ap, sym, ◌∙◌, subst, arith, codes, eqb-true, is_one_of, is_digit, is_word_byte, first_is, starts_section, in_c, letter, Transliteration, Effect, EmitAt, End, Closed, JoinsAll, IsToken, joins_last, continues_lexeme, emits_at, is_token, begins_as, c_match, effect_match, found_letter_match, is_closed, has_quote_at, starts_raw, Kind, rule_match, starts_number, and_parts, or_parts, and-true, not-false}
 use Rattle.cweb_rules.specs.declared.effect.Effect.TheVariants as effect
-use Rattle.cweb_rules.specs.Kinds as kind
+use Rattle.cweb_rules.specs.Matches as kind
 use Rattle.cweb_rules.proofs.Chosen.{Passed, Coded, Opens, Facts, rule_of, chosen}
 use Rattle.cweb_rules.proofs.ClosedLiterals.{raw_stays_whole, literal_stays_whole}
 use Rattle.cweb_rules.proofs.Joins.{seam_joins}

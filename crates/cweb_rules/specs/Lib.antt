@@ -1,10 +1,7 @@
 pub mod Bytes
-pub mod Tables
 pub mod Codes
-pub mod Cut
 pub mod Items
 pub mod Constants
-pub mod Kinds
 pub mod Matches
 pub mod laws
 pub mod inner

@@ -1,29 +1,57 @@
--- The next lexeme in each context.
-use Rattle.std.specs.Prelude.{ℕ, ◌+◌, Bool, true, false, ◌||◌, ◌&&◌, nat_le, nat_lt, List, [], ◌∷◌, ◌++◌, length, take}
-use Rattle.std.specs.Prelude.{drop, codes, if◌then◌else◌, Option, Some, None}
+-- The kinds of lexemes, and the next lexeme in each context.
+use Rattle.std.specs.Prelude.{ℕ, Bool, List, Option, ◌+◌, true, false, ◌||◌, ◌&&◌, nat_le, nat_lt, [], ◌∷◌, ◌++◌}
+use Rattle.std.specs.Prelude.{length, take, drop, codes, if◌then◌else◌, Some, None}
 use Rattle.std.specs.List.{prefix_len}
+use Rattle.cweb_rules.specs.declared.effect.Effect.{Effect}
+use Rattle.cweb_rules.specs.declared.end.End.{End}
 use Rattle.cweb_rules.specs.declared.fault.ScanKind.TheVariants.{ImproperHexNumber}
 use Rattle.cweb_rules.specs.Bytes.{is_blank, is_line_end, is_word_byte, is_delimiter, begins, first_is, at_line_end}
-use Rattle.cweb_rules.specs.Bytes.{starts_section}
-use Rattle.cweb_rules.specs.declared.effect.Effect.{Effect}
-use Rattle.cweb_rules.specs.declared.effect.Effect.TheVariants.{Named}
-use Rattle.cweb_rules.specs.declared.effect.Effect.TheVariants.{Faulty}
+use Rattle.cweb_rules.specs.Bytes.{starts_section, listed, longest, number_len, starts_number}
+use Rattle.cweb_rules.specs.declared.effect.Effect.TheVariants.{Named, Faulty}
 use Rattle.cweb_rules.specs.declared.context.Context.{Context}
 use Rattle.cweb_rules.specs.declared.context.Context.TheVariants.{Limbo, TeX, Definition, Macro, CText}
 use Rattle.cweb_rules.specs.Codes.{in_limbo, in_tex, in_macro, in_c}
 use Rattle.cweb_rules.specs.declared.effect.Effect.TheVariants as effect
 use Rattle.cweb_rules.specs.Constants.{constant, letter}
 use Rattle.cweb_rules.specs.declared.constants.Transliteration.{Transliteration}
-use Rattle.cweb_rules.specs.Cut.{Reach, body, reach_size}
-use Rattle.cweb_rules.specs.declared.end.End.{End}
-use Rattle.cweb_rules.specs.declared.end.End.TheVariants.{Closed}
-use Rattle.cweb_rules.specs.Items.{reach_of_control_text, reach_of_name, opener_len, reach_of_comment}
-use Rattle.cweb_rules.specs.Items.{reach_of_line_comment, reach_of_literal, reach_of_included_name}
+use Rattle.cweb_rules.specs.Items.{Reach, body, reach_size, reach_of_control_text, reach_of_name, opener_len}
+use Rattle.cweb_rules.specs.Items.{reach_of_comment, reach_of_line_comment, reach_of_literal, reach_of_included_name}
 use Rattle.cweb_rules.specs.Items.{reach_of_raw_literal}
-use Rattle.cweb_rules.specs.Kinds.{Kind, Skipped, Section, Code, Letter, ControlText, Verbatim, Constant, Occurrence}
-use Rattle.cweb_rules.specs.Kinds.{Blanks, LineEnd, Comment, Quoted, Defined, Identifier, Numeral, Punctuator}
-use Rattle.cweb_rules.specs.Kinds.{RuleMatch, rule_match}
-use Rattle.cweb_rules.specs.Tables.{listed, longest, number_len, starts_number}
+use Rattle.cweb_rules.specs.declared.end.End.TheVariants.{Closed}
+
+-- A kind of lexeme, with what the parser needs of its bytes.
+pub data Kind : Type 0 where
+  Skipped : Kind
+  Section : (starred : Bool) → Kind
+  -- a control code of two bytes that begins no longer item
+  Code : (effect : Effect) → Kind
+  -- `@l` in the right form: a byte and its replacement, or none if that is too long
+  Letter : (byte : ℕ) (text : Option (List ℕ)) → Kind
+  ControlText : (how : End) → Kind
+  Verbatim : (units : List (List ℕ)) (how : End) → Kind
+  Constant : (value : Option ℕ) → Kind
+  -- a name, and whether the opener of a part follows it
+  Occurrence : (is_file : Bool) (units : List (List ℕ)) (how : End) (opens : Bool) → Kind
+  Blanks LineEnd : Kind
+  Comment : (how : End) → Kind
+  Quoted : (units : List (List ℕ)) (how : End) → Kind
+  -- the identifier that begins a macro, and whether `(` follows it
+  Defined : (tight : Bool) → Kind
+  Identifier Numeral Punctuator : Kind
+
+-- The kind and the size of the next lexeme.
+pub record RuleMatch : Type 0 where
+  pub kind : Kind
+  pub size : ℕ
+
+-- A match of this kind and size.
+abbrev pub rule_match : Kind → ℕ → RuleMatch
+rule_match k n = record { kind = k; size = n }
+
+-- A lexeme with its bytes.
+pub record Lexeme : Type 0 where
+  pub kind : Kind
+  pub bytes : List ℕ
 
 -- A section start: `@*`, or `@` alone.
 abbrev pub section_match : List ℕ → RuleMatch

@@ -3,7 +3,6 @@ ghost use Rattle.std.specs.Prelude.{◌≡◌, ◌≤◌, ◌<◌, ◌+◌, leng
 ghost use Rattle.cweb_rules.specs.Items as spec;
 ghost use Rattle.cweb_rules.specs.inner.Looks.{look_of, reached, MovesOn};
 ghost use Rattle.cweb_rules.specs.declared.end.End.TheVariants as how;
-ghost use Rattle.cweb_rules.specs.Cut as cut;
 
 use crate::bytes::{Class, at_line_end, begins, span_len, starts_section};
 use crate::end::End;
@@ -153,7 +152,7 @@ impl Item<'_> {
 
 // Skips spans of single-byte units at once, and takes other units one by one.
 fn reach_by_units(item: Item<'_>, text: &[u8]) -> Reached
-    ensures value { result ≡ reached (cut.reach (look_of item.entry) how.Open text.now) }
+    ensures value { result ≡ reached (spec.reach (look_of item.entry) how.Open text.now) }
     ensures within { result.size ≤ length text.now }
 {
     let mut rest = text;
@@ -183,7 +182,7 @@ fn reach_by_units(item: Item<'_>, text: &[u8]) -> Reached
 
 /// The extent of an item within a source that may end before the item does.
 pub fn reach(item: Item<'_>, text: &[u8]) -> Reached
-    ensures value { result ≡ reached (cut.reach (look_of item.entry) how.Open text.now) }
+    ensures value { result ≡ reached (spec.reach (look_of item.entry) how.Open text.now) }
     ensures within { result.size + result.close ≤ length text.now }
 {
     reach_by_units(item, text)

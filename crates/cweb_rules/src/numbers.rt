@@ -1,6 +1,6 @@
 // Numbers of C text, like the preprocessing numbers of the C standard.
 ghost use Rattle.std.specs.Prelude.{◌≡◌, ◌≤◌, length};
-ghost use Rattle.cweb_rules.specs.Tables as spec;
+ghost use Rattle.cweb_rules.specs.Bytes as spec;
 
 use crate::bytes::{is_digit, is_word_byte};
 

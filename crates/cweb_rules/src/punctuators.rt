@@ -1,8 +1,7 @@
 // Punctuators of C text.
 ghost use Rattle.std.specs.Prelude.{◌≡◌, false, map};
-ghost use Rattle.cweb_rules.specs.Bytes.{is_one_of};
+ghost use Rattle.cweb_rules.specs.Bytes.{is_one_of, listed, longest};
 ghost use Rattle.cweb_rules.specs.Bytes as spec;
-ghost use Rattle.cweb_rules.specs.Tables.{listed, longest};
 ghost use Rattle.cweb_rules.specs.inner.Tables.{seconds};
 ghost use Rattle.cweb_rules.specs.inner.PrefixTables.{first_len, second_is};
 

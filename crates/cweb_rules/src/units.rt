@@ -1,6 +1,5 @@
 // The bytes that units of delimited items emit.
 ghost use Rattle.std.specs.Prelude.{◌≡◌, ◌++◌, OnOk};
-ghost use Rattle.cweb_rules.specs.Cut as cut;
 ghost use Rattle.cweb_rules.specs.Items as items;
 ghost use Rattle.cweb_rules.specs.inner.Looks.{look_of};
 ghost use Rattle.cweb_rules.specs.declared.end.End.TheVariants as how;
@@ -26,7 +25,7 @@ pub fn push_units(text: &mut Vec<u8>, item: Item<'_>, line: &[u8]) -> Result<(),
     ensures { OnOk result
         (text.new.items
         ≡ text.old.items
-        ++ items.unescaped (cut.reach (look_of item.entry) how.Open line.now).units) }
+        ++ items.unescaped (items.reach (look_of item.entry) how.Open line.now).units) }
 {
     let mut rest = line;
     'units: while !rest.is_empty() {

@@ -1,7 +1,7 @@
 -- Openers of comments and names: reading on is reading with the item open.
 use Rattle.cweb_scan.proofs.Common.{◌≡◌, ℕ, suc, ◌+◌, Bool, true, false, List, [], ◌∷◌, take, drop, refl, ap, ◌∙◌, arith, if◌then◌else◌, codes, nat_lt, fold, Reading, on, each_line_end, enter_in, after_lexeme, blank, begins, is_line_end, reach_size, names_include, reads_c, reads_names, name_match, opener_after, comment_match, End, Comment, RuleMatch, InComment, InName, takes_opener, resume, match_in, lex, Context, Limbo, TeX, Definition, CText, ScanState, drop_definition}
 use Rattle.cweb_rules.specs.Items as items
-use Rattle.cweb_rules.specs.Kinds.{Occurrence}
+use Rattle.cweb_rules.specs.Matches.{Occurrence}
 use Rattle.cweb_scan.proofs.NextMatchPays.{fair}
 use Rattle.cweb_scan.proofs.FirstLexeme.{pieces_first}
 

@@ -21,17 +21,15 @@ pub use Rattle.cweb_files.specs.surface.Frames.{KeepsShelf}
 pub use Rattle.cweb_files.specs.declared.place.Place.{Place}
 pub use Rattle.cweb_lines.specs.inner.Ahead.{LooksAhead, TakesLines}
 pub use Rattle.cweb_lines.specs.inner.LineSpans.{span_bytes, BorrowsLines}
-pub use Rattle.cweb_input.specs.Lines.{Line}
+pub use Rattle.cweb_input.specs.Lines.{Line, blame}
 pub use Rattle.cweb_input.specs.surface.Lines.{HasNoNewline}
 pub use Rattle.cweb_lines.specs.Merge.{Event}
-pub use Rattle.cweb_lines.specs.surface.MergeProgress.{SoFar}
-pub use Rattle.cweb_lines.specs.surface.MergeProgress.{so_far_of, KeepsReported, Stopped, events_to_come}
+pub use Rattle.cweb_lines.specs.surface.MergeProgress.{SoFar, so_far_of, KeepsReported, Stopped, events_to_come}
 pub use Rattle.cweb_input.specs.surface.OpenedFileNames.{opened_file_names}
-pub use Rattle.cweb_input.specs.ReaderNames.{blame}
 pub use Rattle.cweb_lines.specs.inner.Passing.{lines_next, with_newlines, top_of}
 pub use Rattle.cweb_input.specs.surface.OpenSources.{StopsFor}
 pub use Rattle.cweb_input.specs.OpenSources.{read_failures_of}
-pub use Rattle.cweb_lines.specs.EventsByKind.{emitted_lines}
+pub use Rattle.cweb_lines.specs.Events.{emitted_lines}
 pub use Rattle.cweb_lines.specs.surface.MergerCalls.{EmitsLine, Grows, StopsThere, so_far, to_come, KnowsReaders}
 pub use Rattle.cweb_lines.specs.surface.MergerCalls.{stop_in}
 pub use Rattle.cweb_input.specs.declared.limits.TheConstants.{LINES, BYTES}
@@ -42,30 +40,24 @@ pub use Rattle.cweb_input.specs.declared.stop.Stop.{Stop}
 pub use Rattle.cweb_input.specs.declared.stop.Stop.TheVariants.{ReadFault, LineTooLong, TooMuchText, Memory}
 pub use Rattle.cweb_input.specs.declared.open_source.OpenSource.{OpenSource}
 pub use Rattle.cweb_rules.specs.Bytes.{begins, starts_section, is_blank, is_line_end, is_digit, is_word_byte, first_is}
-pub use Rattle.cweb_rules.specs.Bytes.{at_line_end, is_white}
+pub use Rattle.cweb_rules.specs.Bytes.{at_line_end, is_white, listed, longest, number_len, starts_number}
 pub use Rattle.cweb_rules.specs.Codes.{in_limbo, in_tex, in_macro, in_c}
-pub use Rattle.cweb_rules.specs.Cut.{reach_size, Reach, body, with_unit, reach_in, reach}
+pub use Rattle.cweb_rules.specs.Items.{reach_size, Reach, body, with_unit, reach_in, reach, unescaped, look_in_raw}
+pub use Rattle.cweb_rules.specs.Items.{look_in_literal, look_in_comment, unit_bytes, look_in_name}
 pub use Rattle.cweb_rules.specs.laws.Follows.{JoinsAll, IsToken, is_token, is_quiet, begins_as}
 pub use Rattle.cweb_rules.specs.Matches.{match_in, code_match, effect_match, section_match, head_match_of, head_match}
-pub use Rattle.cweb_rules.specs.Matches.{c_match}
-pub use Rattle.cweb_rules.specs.Matches.{found_letter_match, tex_match, opener_after, raw_prefix, delimiter}
-pub use Rattle.cweb_rules.specs.Matches.{comment_match}
-pub use Rattle.cweb_rules.specs.Matches.{line_comment_match, raw_match, literal_match, literal_prefix, quote_of}
-pub use Rattle.cweb_rules.specs.Matches.{quoted_match}
-pub use Rattle.cweb_rules.specs.Matches.{starts_raw, starts_literal, starts_include, include_match, name_match}
-pub use Rattle.cweb_rules.specs.Items.{unescaped, look_in_raw, look_in_literal, look_in_comment, unit_bytes}
-pub use Rattle.cweb_rules.specs.Items.{look_in_name}
-pub use Rattle.cweb_rules.specs.Kinds.{Lexeme, Skipped, rule_match, Blanks, RuleMatch, Kind, Section, Code, Letter}
-pub use Rattle.cweb_rules.specs.Kinds.{ControlText}
-pub use Rattle.cweb_rules.specs.Kinds.{Constant, LineEnd, Comment, Quoted, Defined, Identifier, Numeral, Punctuator}
+pub use Rattle.cweb_rules.specs.Matches.{c_match, found_letter_match, tex_match, opener_after, raw_prefix, delimiter}
+pub use Rattle.cweb_rules.specs.Matches.{comment_match, line_comment_match, raw_match, literal_match, literal_prefix}
+pub use Rattle.cweb_rules.specs.Matches.{quote_of, quoted_match, starts_raw, starts_literal, starts_include}
+pub use Rattle.cweb_rules.specs.Matches.{include_match, name_match, Lexeme, Skipped, rule_match, Blanks, RuleMatch}
+pub use Rattle.cweb_rules.specs.Matches.{Kind, Section, Code, Letter, ControlText, Constant, LineEnd, Comment, Quoted}
+pub use Rattle.cweb_rules.specs.Matches.{Defined, Identifier, Numeral, Punctuator}
 pub use Rattle.cweb_rules.specs.inner.LineItems.{IsLine, opens_in, opens_code, opens_effect, c_opens, tex_opens}
-pub use Rattle.cweb_rules.specs.inner.LineItems.{AtLineEnd}
-pub use Rattle.cweb_rules.specs.inner.LineItems.{is_unclosed}
+pub use Rattle.cweb_rules.specs.inner.LineItems.{AtLineEnd, is_unclosed}
 pub use Rattle.cweb_rules.specs.inner.Looks.{reached, MovesOn}
 pub use Rattle.cweb_rules.specs.laws.Pays.{owed_tokens, at_line_ends, Pays}
 pub use Rattle.cweb_rules.specs.inner.PlainBytes.{is_plain, is_raw_special, is_special}
 pub use Rattle.cweb_rules.specs.inner.Rules.{c_rule, c_match_by}
-pub use Rattle.cweb_rules.specs.Tables.{listed, longest, number_len, starts_number}
 pub use Rattle.cweb_rules.specs.declared.constants.Transliteration.{Transliteration}
 pub use Rattle.cweb_rules.specs.declared.context.Context.{Context}
 pub use Rattle.cweb_rules.specs.declared.context.Context.TheVariants.{Limbo, TeX, Definition, Macro, CText}
@@ -88,12 +80,12 @@ pub use Rattle.cweb_rules.specs.declared.look.Look.TheVariants.{Goes, Ends}
 pub use Rattle.cweb_rules.specs.declared.rule.Rule.{Rule}
 pub use Rattle.cweb_scan.specs.inner.Ahead.{ReadsAhead}
 pub use Rattle.cweb_scan.specs.Alone.{HasReadTokens, InPlainC, significant, is_hash, is_clean, token_of, code_token}
-pub use Rattle.cweb_scan.specs.Alone.{is_insignificant}
+pub use Rattle.cweb_scan.specs.Alone.{is_insignificant, ReadsAlone, doubled, literal_token, spelling_of, read_lines}
+pub use Rattle.cweb_scan.specs.Alone.{next_match, lexemes_in, lex, newline_prefixed, scanned, lexemes, scanned_of}
+pub use Rattle.cweb_scan.specs.Alone.{Scanned}
 pub use Rattle.cweb_scan.specs.laws.Alone.{IsReadAs}
-pub use Rattle.cweb_scan.specs.Alone.{ReadsAlone, doubled, literal_token, spelling_of}
 pub use Rattle.cweb_scan.specs.inner.Bound.{sum_over, one, spelling_size, occurrence_size, replacement_size, part_size}
-pub use Rattle.cweb_scan.specs.inner.Bound.{open_size}
-pub use Rattle.cweb_scan.specs.inner.Bound.{parts_size, token_number, stored_bytes, AddsAtMost}
+pub use Rattle.cweb_scan.specs.inner.Bound.{open_size, parts_size, token_number, stored_bytes, AddsAtMost}
 pub use Rattle.cweb_scan.specs.surface.Law.{web_size, IsBounded}
 pub use Rattle.cweb_scan.specs.laws.Law.{AreLexemes, MarkPasses, PlacesPass}
 pub use Rattle.cweb_scan.specs.inner.PendingItems.{item_of, is_raw, HasRawCloser}
@@ -103,62 +95,44 @@ pub use Rattle.cweb_scan.specs.surface.Scan.{StopsAfter, ScanEndsEarly}
 pub use Rattle.cweb_scan.specs.laws.LexemePlaces.{source_start, newlines, LexemesKeepLines}
 pub use Rattle.cweb_scan.specs.declared.reader.open.Open.TheVariants.{AfterBackslash, Raw}
 pub use Rattle.cweb_scan.specs.After.{Reading, after_lexeme, blank, enter_in, stays_in_head, set_letter, item}
-pub use Rattle.cweb_scan.specs.After.{punctuator, apply_effect}
-pub use Rattle.cweb_scan.specs.After.{pass_control_text, emit_verbatim, define, pass_comment, report_name_fault}
-pub use Rattle.cweb_scan.specs.After.{use_name, open_name}
-pub use Rattle.cweb_scan.specs.After.{name_in_context, emit_literal, on, each_line_end, occurrence, line_end_in}
-pub use Rattle.cweb_scan.specs.After.{line_end}
-pub use Rattle.cweb_scan.specs.After.{comment_line_end, literal_unit, next_line, enter, emit_constant}
-pub use Rattle.cweb_scan.specs.After.{line_end_token}
-pub use Rattle.cweb_scan.specs.Lines.{is_next_line}
-pub use Rattle.cweb_scan.specs.CurrentDirective.{is_c, directive, in_directive, names_include}
-pub use Rattle.cweb_scan.specs.DirectiveTokens.{directive_of}
-pub use Rattle.std.specs.Option.{is_some}
-pub use Rattle.cweb_scan.specs.DirectiveTokens.{directive_tokens, directive_after, is_punct, ends_line}
+pub use Rattle.cweb_scan.specs.After.{punctuator, apply_effect, pass_control_text, emit_verbatim, define, pass_comment}
+pub use Rattle.cweb_scan.specs.After.{report_name_fault, use_name, open_name, name_in_context, emit_literal, on}
+pub use Rattle.cweb_scan.specs.After.{each_line_end, occurrence, line_end_in, line_end, comment_line_end, literal_unit}
+pub use Rattle.cweb_scan.specs.After.{next_line, enter, emit_constant, line_end_token}
+pub use Rattle.cweb_scan.specs.State.{is_next_line, is_c, directive, in_directive, names_include, name_occurrence, full}
+pub use Rattle.cweb_scan.specs.State.{prefix, as_occurrence, ScanState, leave, start_state, emit, drop_definition}
+pub use Rattle.cweb_scan.specs.State.{end_macro, move_to, report, add_name, begin_section, open_part_tokens, tokens_of}
+pub use Rattle.cweb_scan.specs.State.{end_macro_in, leave_in, report_at, begin_part, end_part}
+pub use Rattle.cweb_scan.specs.DirectiveTokens.{directive_of, directive_tokens, directive_after, is_punct, ends_line}
 pub use Rattle.cweb_scan.specs.DirectiveTokens.{some_include}
-pub use Rattle.cweb_scan.specs.inner.MatchSteps.{Applies, effect_in, is_head, is_name_effect, reads_c}
-pub use Rattle.cweb_scan.specs.inner.Skipped.{is_skipped}
-pub use Rattle.cweb_scan.specs.inner.MatchSteps.{reads_literals}
+pub use Rattle.std.specs.Option.{is_some}
+pub use Rattle.cweb_scan.specs.inner.MatchSteps.{Applies, effect_in, is_head, is_name_effect, reads_c, reads_literals}
 pub use Rattle.cweb_scan.specs.inner.MatchSteps.{IsPast, ended_as, unit_state, reads_names, ends_in_line, needs_two}
 pub use Rattle.cweb_scan.specs.inner.MatchSteps.{literals_in_part}
+pub use Rattle.cweb_scan.specs.inner.Skipped.{is_skipped}
 pub use Rattle.cweb_scan.specs.inner.ReaderModel.{ReaderModel, cost, read_after, TakesPrefix, begun_reader}
-pub use Rattle.cweb_scan.specs.inner.ReaderModel.{after_line_end}
-pub use Rattle.cweb_scan.specs.inner.ReaderModel.{read_on, source_ended}
-pub use Rattle.cweb_scan.specs.inner.ReaderModel.{BeginsLine, TakesLineEnd, TakesBytes, pending_cost, new_reader}
+pub use Rattle.cweb_scan.specs.inner.ReaderModel.{after_line_end, read_on, source_ended, BeginsLine, TakesLineEnd}
+pub use Rattle.cweb_scan.specs.inner.ReaderModel.{TakesBytes, pending_cost, new_reader, reader_at, gone_to}
 pub use Rattle.cweb_scan.specs.laws.ReaderModel.{places}
-pub use Rattle.cweb_scan.specs.inner.ReaderModel.{reader_at, gone_to}
 pub use Rattle.cweb_scan.specs.inner.DirectiveInvariant.{in_open_part}
-pub use Rattle.cweb_scan.specs.NameOccurrences.{name_occurrence, full}
-pub use Rattle.cweb_names.specs.Squeezing.{squeezed_after, squeezed, is_abbreviation}
-pub use Rattle.cweb_scan.specs.NameOccurrences.{prefix, as_occurrence}
+pub use Rattle.cweb_names.specs.Names.{squeezed_after, squeezed, is_abbreviation, Occurrence}
 pub use Rattle.cweb_scan.specs.inner.PendingRest.{awaits_line_end, TakesPending, pending_bytes, with_pending_bytes}
-pub use Rattle.cweb_scan.specs.inner.PendingRest.{delimiter_of, literal_step}
-pub use Rattle.cweb_scan.specs.inner.PendingRest.{look_size, with_span}
+pub use Rattle.cweb_scan.specs.inner.PendingRest.{delimiter_of, literal_step, look_size, with_span}
 pub use Rattle.cweb_scan.specs.inner.Plain.{TakesPlain}
 pub use Rattle.cweb_rules.specs.inner.Quotes.{quote_byte}
 pub use Rattle.cweb_scan.specs.inner.Resume.{Between, PendingItem, takes_opener, InComment, InName, InLiteral, InRaw}
-pub use Rattle.cweb_scan.specs.inner.Resume.{resume_literal}
-pub use Rattle.cweb_scan.specs.inner.Resume.{resume, resume_comment, resume_name, closer_of}
+pub use Rattle.cweb_scan.specs.inner.Resume.{resume_literal, resume, resume_comment, resume_name, closer_of}
 pub use Rattle.cweb_scan.specs.inner.Room.{weight, HasItemRoom}
-pub use Rattle.cweb_scan.specs.Lexemes.{read_lines, next_match, lexemes_in, lex, newline_prefixed, scanned, lexemes}
-pub use Rattle.cweb_scan.specs.Lexemes.{scanned_of, Scanned}
-pub use Rattle.cweb_scan.specs.State.{ScanState, leave, start_state, emit, drop_definition, end_macro, move_to}
-pub use Rattle.cweb_scan.specs.State.{report}
-pub use Rattle.cweb_scan.specs.State.{add_name, begin_section, open_part_tokens, tokens_of, end_macro_in, leave_in}
-pub use Rattle.cweb_scan.specs.State.{report_at, begin_part, end_part}
 pub use Rattle.cweb_scan.specs.inner.ReaderSteps.{MakesProgress, TakesStep, remaining_work}
 pub use Rattle.cweb_rules.specs.declared.quote.Quote.{Quote}
 pub use Rattle.cweb_rules.specs.declared.quote.Quote.TheVariants.{Single, Double}
-pub use Rattle.cweb_store.specs.Calls.{finished, with_dropped, with_occurrence, with_open}
+pub use Rattle.cweb_store.specs.Calls.{finished, with_dropped, with_occurrence, with_open, PartsSoFar, all_parts}
+pub use Rattle.cweb_store.specs.Calls.{with_opened_part, with_pushed_token, part_with_token, with_dropped_layout}
+pub use Rattle.cweb_store.specs.Calls.{with_closed_part, Replacement}
 pub use Rattle.cweb_names.specs.surface.Names.{too_many}
-pub use Rattle.cweb_store.specs.Growing.{PartsSoFar, all_parts, with_opened_part, with_pushed_token, part_with_token}
-pub use Rattle.cweb_store.specs.Growing.{with_dropped_layout, with_closed_part}
-pub use Rattle.cweb_store.specs.Layout.{before_last, without_last, without_blank, without_layout, protected_count}
-pub use Rattle.cweb_store.specs.Layout.{is_newline, is_layout, at_close}
-pub use Rattle.cweb_names.specs.Names.{Occurrence}
-pub use Rattle.cweb_store.specs.Parts.{Token, Word, Number, Literal, Verbatim, Punct, Blank, Newline, Join, Defs, Name}
-pub use Rattle.cweb_store.specs.Parts.{Head, Tail, Mark, Part, all_tokens, is_macro}
-pub use Rattle.cweb_store.specs.Replacements.{Replacement}
+pub use Rattle.cweb_store.specs.Parts.{before_last, without_last, without_blank, without_layout, protected_count}
+pub use Rattle.cweb_store.specs.Parts.{is_newline, is_layout, at_close, Token, Word, Number, Literal, Verbatim, Punct}
+pub use Rattle.cweb_store.specs.Parts.{Blank, Newline, Join, Defs, Name, Head, Tail, Mark, Part, all_tokens, is_macro}
 pub use Rattle.cweb_names.specs.declared.name.How.{How}
 pub use Rattle.cweb_names.specs.declared.name.How.TheVariants.{Full, Prefix}
 pub use Rattle.cweb_names.specs.declared.name.NameRef.{NameRef}

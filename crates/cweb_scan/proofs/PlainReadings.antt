@@ -1,6 +1,6 @@
 -- The effect of the law's lexemes on a reading.
 use Rattle.cweb_scan.proofs.Common.{◌≡◌, ℕ, Bool, true, false, cond, ◌&&◌, List, [], ◌∷◌, Some, None, refl, ap, sym, ◌∙◌, subst, fold, Token, Word, Number, Literal, Punct, Reading, after_lexeme, item, on, each_line_end, comment_line_end, blank, punctuator, emit_literal, literal_unit, next_line, line_end, enter_in, enter, Effect, EmitAt, in_directive, unescaped, Closed, Cut, Nested, Open, Kind, Lexeme, emit, InPlainC, HasReadTokens, significant, is_hash, is_clean, token_of, code_token, same_Some}
-use Rattle.cweb_rules.specs.Kinds as kind
+use Rattle.cweb_rules.specs.Matches as kind
 use Rattle.cweb_scan.proofs.PlainStates.{blank_gives, and_then, given, placed, line_ends, comment_line_ends, next_gives, each_gives, units_give}
 
 -- There is no head that a lexeme could end.

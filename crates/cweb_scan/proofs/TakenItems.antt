@@ -1,6 +1,6 @@
 -- The state after a lexeme that ends in its line, whatever lines follow.
 use Rattle.cweb_scan.proofs.Common.{◌≡◌, ℕ, false, List, [], ◌∷◌, ◌++◌, take, drop, refl, ap, sym, ◌∙◌, Place, Reading, on, comment_line_end, pass_comment, blank, occurrence, emit_literal, enter, item, after_lexeme, unescaped, Kind, Skipped, LineEnd, Comment, Quoted, RuleMatch, Lexeme, AtLineEnd, opens_in, IsLine, next_match, lex, fold, take-append-le, drop-append-le, names_include, ScanState, move_to}
-use Rattle.cweb_rules.specs.Kinds.{Occurrence}
+use Rattle.cweb_rules.specs.Matches.{Occurrence}
 use Rattle.cweb_rules.proofs.LineMatches.{front_line}
 use Rattle.cweb_rules.proofs.InLines.{InLine, stands}
 use Rattle.cweb_scan.proofs.NextMatchPays.{fair}

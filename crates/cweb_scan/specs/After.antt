@@ -16,17 +16,14 @@ use Rattle.cweb_rules.specs.Bytes.{is_line_end}
 use Rattle.cweb_rules.specs.declared.effect.Effect.{Effect}
 use Rattle.cweb_rules.specs.declared.effect.Effect.TheVariants.{Define, Format, Program, InsertDefs}
 use Rattle.cweb_rules.specs.declared.effect.Effect.TheVariants.{Joins, EmitAt, Faulty}
-use Rattle.cweb_scan.specs.Lines.{is_next_line}
-use Rattle.cweb_scan.specs.CurrentDirective.{in_directive, directive}
+use Rattle.cweb_scan.specs.State.{is_next_line, in_directive, directive, name_occurrence, ScanState, emit, add_name}
+use Rattle.cweb_scan.specs.State.{report_at, report, move_to, begin_part, end_macro, drop_definition, begin_section}
 use Rattle.cweb_scan.specs.DirectiveTokens.{is_punct, is_last_blank}
 use Rattle.cweb_rules.specs.declared.end.End.{End}
 use Rattle.cweb_rules.specs.declared.end.End.TheVariants.{Closed, Cut, Nested}
 use Rattle.cweb_rules.specs.Items.{unescaped}
-use Rattle.cweb_rules.specs.Kinds.{Kind, Lexeme}
-use Rattle.cweb_rules.specs.Kinds as kind
-use Rattle.cweb_scan.specs.NameOccurrences.{name_occurrence}
-use Rattle.cweb_scan.specs.State.{ScanState, emit, add_name, report_at, report, move_to, begin_part, end_macro}
-use Rattle.cweb_scan.specs.State.{drop_definition, begin_section}
+use Rattle.cweb_rules.specs.Matches.{Kind, Lexeme}
+use Rattle.cweb_rules.specs.Matches as kind
 use Rattle.cweb_rules.specs.declared.context.Context.{Context}
 use Rattle.cweb_rules.specs.declared.context.Context.TheVariants.{TeX, Definition, Macro, CText}
 

@@ -1,10 +1,6 @@
 pub mod DirectiveTokens
-pub mod Lines
-pub mod NameOccurrences
 pub mod State
-pub mod CurrentDirective
 pub mod After
-pub mod Lexemes
 pub mod Alone
 pub mod surface
 pub mod laws

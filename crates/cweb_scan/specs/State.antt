@@ -1,15 +1,19 @@
--- The state of a scan.
-use Rattle.std.specs.Prelude.{ℕ, ◌+◌, Bool, true, false, List, [], ◌∷◌, ◌++◌, Option, Some, None, if◌then◌else◌}
+-- The state of a scan: what it has made of the text so far, and the directive that is open.
+use Rattle.std.specs.Prelude.{ℕ, ◌+◌, Bool, true, false, List, [], ◌∷◌, ◌++◌, Option, Some, None, if◌then◌else◌, ◌&&◌}
+use Rattle.std.specs.Prelude.{◌-◌, length, take, ◌==◌}
+use Rattle.std.specs.Option.{is_some}
 use Rattle.cweb_files.specs.declared.place.Place.{Place}
 use Rattle.cweb_store.specs.declared.parts.PartKind.{PartKind}
 use Rattle.cweb_store.specs.Parts.{Token, Head, Tail, Mark, Part}
-use Rattle.cweb_names.specs.Names.{Occurrence}
+use Rattle.cweb_names.specs.Names.{Occurrence, squeezed, is_abbreviation}
 use Rattle.cweb_store.specs.Calls.{Contents, empty, with_token, with_open, with_closed, with_occurrence}
 use Rattle.cweb_rules.specs.declared.context.Context.{Context}
 use Rattle.cweb_rules.specs.declared.context.Context.TheVariants.{Limbo, TeX, Definition, Macro, CText}
 use Rattle.cweb_rules.specs.declared.fault.ScanFault.{ScanFault}
 use Rattle.cweb_rules.specs.declared.fault.ScanKind.{ScanKind}
 use Rattle.cweb_rules.specs.declared.fault.ScanKind.TheVariants.{DefinitionDropped}
+use Rattle.cweb_scan.specs.DirectiveTokens.{Directive, directive_of, some_include}
+use Rattle.cweb_names.specs.declared.name.How.TheVariants.{Full, Prefix}
 
 -- The result of the source so far, as far as the rest of the scan depends on it.
 pub record ScanState : Type 0 where
@@ -104,3 +108,40 @@ abbrev pub begin_section : Bool → ScanState → ScanState
 begin_section starred s =
     let n = s.sections + 1 in
     record (leave s) { context = TeX; sections = n; starred = s.starred ++ (if starred then n ∷ [] else []) }
+
+-- The directive of the open part.
+abbrev pub directive : ScanState → Directive
+directive s = directive_of (open_part_tokens s)
+
+-- The context is C text.
+abbrev pub is_c : Context → Bool
+is_c c = elim c [ Limbo ↦ false | TeX ↦ false | Definition begun ↦ false | Macro ↦ false | CText ↦ true ]
+
+-- A directive of C text is open.
+abbrev pub in_directive : ScanState → Bool
+in_directive s = is_c s.context && is_some (directive s).tokens
+
+-- The next lexeme of the directive may be an included name.
+abbrev pub names_include : ScanState → Bool
+names_include s = some_include (directive s).tokens
+
+-- A full name.
+abbrev pub full : Bool → List ℕ → Occurrence
+full is_file text = record { text = text; how = Full; is_file = is_file }
+
+-- The prefix of an abbreviation.
+abbrev pub prefix : Bool → List ℕ → Occurrence
+prefix is_file text = record { text = text; how = Prefix; is_file = is_file }
+
+-- An abbreviation gives its prefix, and any other name its bytes.
+abbrev pub as_occurrence : Bool → List ℕ → Occurrence
+as_occurrence is_file text =
+    if is_abbreviation text then prefix is_file (take (length text - 3) text) else full is_file text
+
+-- The occurrence of a name's bytes, with blanks squeezed.
+abbrev pub name_occurrence : Bool → List ℕ → Occurrence
+name_occurrence is_file text = as_occurrence is_file (squeezed text)
+
+-- The second place is the line after the first one in the same file.
+abbrev pub is_next_line : Place → Place → Bool
+is_next_line p q = (p.file.0 == q.file.0) && (p.line + 1 == q.line)

@@ -1,6 +1,6 @@
 // Consecutive lines of a file.
 ghost use Rattle.std.specs.Prelude.{◌≡◌};
-ghost use Rattle.cweb_scan.specs.Lines as spec;
+ghost use Rattle.cweb_scan.specs.State as spec;
 
 use cweb_files::Place;
 

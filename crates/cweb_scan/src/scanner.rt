@@ -1,6 +1,6 @@
 // The scanner's state, and the steps that many rules share.
 ghost use Rattle.std.specs.Prelude.{◌≡◌, ◌<◌, ◌+◌, OnOk, OnErr, true, if◌then◌else◌};
-ghost use Rattle.cweb_store.specs.Layout as layout;
+ghost use Rattle.cweb_store.specs.Parts as layout;
 ghost use Rattle.cweb_store.specs.surface.TokenModels.{token_model};
 
 pub mod codes;
@@ -92,7 +92,7 @@ impl Scanner {
     ghost use Rattle.cweb_names.specs.surface.Names.{too_many};
     ghost use Rattle.cweb_store.specs.surface.Growing.{token_count};
     ghost use Rattle.cweb_scan.specs.After as after;
-    ghost use Rattle.cweb_scan.specs.CurrentDirective.{in_directive, is_c, names_include};
+    ghost use Rattle.cweb_scan.specs.State.{in_directive, is_c, names_include};
     ghost use Rattle.cweb_scan.specs.inner.DirectiveInvariant.{in_open_part};
     ghost use Rattle.cweb_scan.specs.State.{start_state, report_at, move_to};
     ghost use Rattle.cweb_scan.specs.State as spec;

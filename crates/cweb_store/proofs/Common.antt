@@ -19,13 +19,11 @@ pub use Rattle.std.specs.Prelude.{option_map, option_to_list, slice_get, option_
 pub use Rattle.std.specs.Prelude.{IsTrue}
 pub use Rattle.cweb_names.specs.laws.Found.{Distinct}
 pub use Rattle.cweb_names.specs.inner.OccurrenceTables.{occurrence_form, occurrences_at}
-pub use Rattle.cweb_names.specs.surface.Names.{occurrence_of, too_many}
-pub use Rattle.cweb_names.specs.Names.{is_prefix_of_another, Occurrence, Name, Resolution, id}
-pub use Rattle.cweb_names.specs.Names.{spellings, with_full_name, with_occurrence_name, names_from, names}
-pub use Rattle.cweb_names.specs.Names.{beginning_from, the_one}
+pub use Rattle.cweb_names.specs.surface.Names.{occurrence_of, too_many, occurrence_text}
+pub use Rattle.cweb_names.specs.Names.{is_prefix_of_another, Occurrence, Name, Resolution, id, spellings}
+pub use Rattle.cweb_names.specs.Names.{with_full_name, with_occurrence_name, names_from, names, beginning_from, the_one}
 pub use Rattle.cweb_names.specs.Names.{resolved_among, resolutions_from, resolutions, resolved_at, with_some, with_file}
 pub use Rattle.cweb_names.specs.Names.{files_from, files, is_id, beginning, with_id}
-pub use Rattle.cweb_names.specs.surface.Names.{occurrence_text}
 pub use Rattle.cweb_names.specs.declared.name.How.{How}
 pub use Rattle.cweb_names.specs.declared.name.How.TheVariants.{Full, Prefix}
 pub use Rattle.cweb_names.specs.declared.name.NameFault.{NameFault}
@@ -36,23 +34,19 @@ pub use Rattle.cweb_names.specs.declared.name.NameRef.{NameRef}
 pub use Rattle.cweb_names.specs.declared.table.OccurrenceForm.{OccurrenceForm}
 pub use Rattle.cweb_store.specs.inner.ClosedTokens.{ClosedTokensModel, tokens_alone, with_strings}
 pub use Rattle.cweb_store.specs.inner.NameUses.{with_use, used_from, used_in}
-pub use Rattle.cweb_store.specs.Growing.{PartsSoFar, with_closed_part, with_dropped_layout, with_opened_part}
-pub use Rattle.cweb_store.specs.Growing.{with_pushed_token, part_with_token}
-pub use Rattle.cweb_store.specs.surface.Growing.{part_count}
-pub use Rattle.cweb_store.specs.surface.Growing.{token_count}
-pub use Rattle.cweb_store.specs.Growing.{all_parts}
-pub use Rattle.cweb_store.specs.Layout.{before_last, without_last, without_blank, without_layout, at_close}
-pub use Rattle.cweb_store.specs.Layout.{protected_count}
-pub use Rattle.cweb_store.specs.Layout.{is_layout, is_newline, is_blank, without_last_after}
+pub use Rattle.cweb_store.specs.Calls.{PartsSoFar, with_closed_part, with_dropped_layout, with_opened_part}
+pub use Rattle.cweb_store.specs.Calls.{with_pushed_token, part_with_token, all_parts, Contents, empty, Stored, finished}
+pub use Rattle.cweb_store.specs.Calls.{stored, replacement, Replacement, replaced_by}
+pub use Rattle.cweb_store.specs.surface.Growing.{part_count, token_count}
+pub use Rattle.cweb_store.specs.Parts.{before_last, without_last, without_blank, without_layout, at_close}
+pub use Rattle.cweb_store.specs.Parts.{protected_count, is_layout, is_newline, is_blank, without_last_after, Part}
+pub use Rattle.cweb_store.specs.Parts.{Token, all_tokens, is_macro, joined_where, is_c_part, is_some_id, is_of, Word}
+pub use Rattle.cweb_store.specs.Parts.{Punct, Blank, Newline, Mark, is_unnamed, has_defs_code, is_defs}
 pub use Rattle.cweb_store.specs.inner.DirectBytes.{direct_bytes}
 pub use Rattle.cweb_store.specs.inner.Links.{followed, AreLinked}
 pub use Rattle.cweb_store.specs.inner.Next.{IsNextNumber, is_name_use}
 pub use Rattle.cweb_store.specs.inner.TokenIndexes.{token_numbers}
-pub use Rattle.cweb_store.specs.Parts.{Part, Token, all_tokens, is_macro, joined_where, is_c_part, is_some_id, is_of}
-pub use Rattle.cweb_store.specs.Parts.{Word}
-pub use Rattle.cweb_store.specs.Parts.{Punct, Blank, Newline, Mark, is_unnamed, has_defs_code}
 pub use Rattle.cweb_store.specs.surface.Parts.{numbers_where, tokens_at}
-pub use Rattle.cweb_store.specs.Parts.{is_defs}
 pub use Rattle.cweb_store.specs.inner.PartRanges.{ranges_from, IsWhole, closed_in}
 pub use Rattle.cweb_store.specs.surface.TokenStrings.{token_strings, interned_token_bytes, AreSpansOf, AreInOneList}
 pub use Rattle.cweb_store.specs.inner.Wanted.{is_wanted, wanted_in}
@@ -62,18 +56,14 @@ pub use Rattle.cweb_store.specs.declared.parts.PartRange.{PartRange}
 pub use Rattle.cweb_store.specs.declared.parts.links.Links.{Links}
 pub use Rattle.cweb_store.specs.inner.Answers.{AreAnswers}
 pub use Rattle.cweb_store.specs.laws.Calls.{Call, Occurs, Opens, Pushes, Drops, Closes, Transliterates, after_call}
-pub use Rattle.cweb_store.specs.Calls.{Contents}
-pub use Rattle.cweb_store.specs.Calls.{empty, Stored, finished, stored}
 pub use Rattle.cweb_store.specs.laws.Calls.{contents}
 pub use Rattle.cweb_store.specs.Faults.{fault_of_name, unresolved_faults_from, unresolved_faults, faults_from}
-pub use Rattle.cweb_store.specs.Faults.{faults_where, faults}
-pub use Rattle.cweb_store.specs.Faults.{is_missing, is_use, is_used, has_part, unresolved_fault}
+pub use Rattle.cweb_store.specs.Faults.{faults_where, faults, is_missing, is_use, is_used, has_part, unresolved_fault}
 pub use Rattle.cweb_store.specs.inner.Faults.{fault_of_name_if}
 pub use Rattle.cweb_store.specs.inner.NamesWithParts.{with_part, present_from}
 pub use Rattle.cweb_store.specs.laws.Laws.{defines_with_prefix, AbbreviationsStay, EarlierNamesDecide}
 pub use Rattle.cweb_store.specs.laws.Laws.{FullNamesResolveToThemselves, JoiningConcatenates}
-pub use Rattle.cweb_store.specs.laws.Laws.{OccurrencesAreThoseOfCalls}
-pub use Rattle.cweb_store.specs.laws.Laws.{occurrence_of_call}
+pub use Rattle.cweb_store.specs.laws.Laws.{OccurrencesAreThoseOfCalls, occurrence_of_call}
 pub use Rattle.cweb_store.specs.laws.BuilderCalls.{call_model, accepted_calls, AcceptsCall, AcceptsCalls}
 pub use Rattle.cweb_store.specs.inner.BuilderCalls.{HoldsAtMost}
 pub use Rattle.cweb_store.specs.declared.call.Answered.{Answered}
@@ -81,7 +71,6 @@ pub use Rattle.cweb_store.specs.laws.MoreLaws.{AllPass, IsTokenPrefix, DroppingK
 pub use Rattle.cweb_store.specs.laws.MoreLaws.{NamesAreDistinct, AbbreviationsBeginTheirNames, OneFaultForNoName}
 pub use Rattle.cweb_store.specs.laws.MoreLaws.{left_of_macro}
 pub use Rattle.cweb_store.specs.inner.Replaced.{replacement_in}
-pub use Rattle.cweb_store.specs.Replacements.{replacement, Replacement, replaced_by}
 pub use Rattle.cweb_store.specs.surface.Replacements.{replacement_of}
 pub use Rattle.cweb_store.specs.inner.Stored.{replacements_at, stored_in, AreLast, AreStored, last_from}
 pub use Rattle.cweb_store.specs.surface.StoredStrings.{uninterned_store_bytes, interned_store_bytes, replacement_bytes}

@@ -1,11 +1,56 @@
--- The contents of a builder, and the store that it makes.
-use Rattle.std.specs.Prelude.{List, [], ◌∷◌, ◌++◌}
+-- The state of a builder, what each call changes in it, and replacements.
+use Rattle.std.specs.Prelude.{List, [], ◌∷◌, ◌++◌, Option, Some, None, option_map, option_to_list, ℕ, nat_eq}
+use Rattle.std.specs.Prelude.{if◌then◌else◌}
 use Rattle.cweb_store.specs.declared.parts.PartKind.{PartKind}
+use Rattle.cweb_store.specs.Parts.{Token, Part, without_layout, at_close}
 use Rattle.cweb_names.specs.Names.{Occurrence}
-use Rattle.cweb_store.specs.Parts.{Token, Part}
-use Rattle.cweb_store.specs.Growing.{PartsSoFar, no_parts, all_parts, with_opened_part, with_pushed_token}
-use Rattle.cweb_store.specs.Growing.{with_dropped_layout, with_closed_part}
-use Rattle.cweb_store.specs.Replacements.{Replacement}
+
+-- The closed parts and the open one.
+pub record PartsSoFar : Type 0 where
+  pub closed : List Part
+  pub current : Option Part
+
+-- No part.
+abbrev pub no_parts : PartsSoFar
+no_parts = record { closed = []; current = None }
+
+-- All parts, the open one included.
+abbrev pub all_parts : PartsSoFar → List Part
+all_parts v = v.closed ++ option_to_list v.current
+
+-- A new part is open.
+abbrev pub with_opened_part : PartKind → PartsSoFar → PartsSoFar
+with_opened_part kind v = record v { current = Some (record { kind = kind; tokens = [] }) }
+
+-- A part with one more token.
+abbrev pub part_with_token : Token → Part → Part
+part_with_token t p = record p { tokens = p.tokens ++ t ∷ [] }
+
+-- The open part with one more token.
+abbrev pub with_pushed_token : Token → PartsSoFar → PartsSoFar
+with_pushed_token t v = record v { current = option_map (part_with_token t) v.current }
+
+-- The open part without its trailing layout.
+abbrev pub with_dropped_layout : PartsSoFar → PartsSoFar
+with_dropped_layout v = record v { current = option_map without_layout v.current }
+
+-- The open part is closed.
+abbrev pub with_closed_part : PartsSoFar → PartsSoFar
+with_closed_part v = record { closed = v.closed ++ option_to_list (option_map at_close v.current); current = None }
+
+-- A byte and its replacement.
+pub record Replacement : Type 0 where
+  pub byte : ℕ
+  pub text : List ℕ
+
+-- The replacement of a byte after more calls: the last one wins.
+abbrev pub replaced_by : ℕ → Option (List ℕ) → List Replacement → Option (List ℕ)
+replaced_by byte text [] = text
+replaced_by byte text (r ∷ rs) = replaced_by byte (if nat_eq r.byte byte then Some r.text else text) rs
+
+-- The last replacement of a byte, if any.
+abbrev pub replacement : List Replacement → ℕ → Option (List ℕ)
+replacement rs byte = replaced_by byte None rs
 
 -- The occurrences of names, parts and replacements so far. Occurrences, parts and tokens stay below `too_many` each.
 pub record Contents : Type 0 where

@@ -1,9 +1,6 @@
 pub mod Parts
-pub mod Layout
-pub mod Growing
-pub mod Replacements
-pub mod Faults
 pub mod Calls
+pub mod Faults
 pub mod surface
 pub mod laws
 pub mod inner

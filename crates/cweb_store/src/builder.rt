@@ -4,10 +4,9 @@ ghost use Rattle.std.specs.Prelude.{◌≡◌, ◌<◌, ◌≤◌, ◌+◌, leng
 ghost use Rattle.std.specs.Prelude.{OnOk, OnErr};
 ghost use Rattle.cweb_store.specs.surface.Growing.{part_count, token_count};
 ghost use Rattle.cweb_store.specs.surface.Replacements.{replacement_of};
-ghost use Rattle.cweb_store.specs.Calls.{empty, finished, with_closed};
+ghost use Rattle.cweb_store.specs.Calls.{empty, finished, with_closed, with_dropped};
+ghost use Rattle.cweb_store.specs.Calls.{with_occurrence, with_open, with_replacement, with_token};
 ghost use Rattle.cweb_names.specs.surface.Names.{occurrence_of, too_many};
-ghost use Rattle.cweb_store.specs.Calls.{with_dropped, with_occurrence, with_open};
-ghost use Rattle.cweb_store.specs.Calls.{with_replacement, with_token};
 
 use crate::parts::PartKind;
 use crate::parts::list::PartList;

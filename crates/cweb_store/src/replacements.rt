@@ -26,7 +26,7 @@ pub struct Replacements {
 
 impl Model for Replacements {
     ghost use Rattle.std.specs.Prelude.{List, map};
-    ghost use Rattle.cweb_store.specs.Replacements.{Replacement};
+    ghost use Rattle.cweb_store.specs.Calls.{Replacement};
     ghost use Rattle.cweb_store.specs.inner.Replaced.{replacement_in};
 
     ghost Value = { List Replacement };

@@ -2,8 +2,7 @@
 ghost use Rattle.std.specs.Prelude.{◌≡◌, ◌≤◌, ◌<◌, ◌+◌, ◌^◌, [], false, length, option_and_then};
 ghost use Rattle.std.specs.Prelude.{take, IfOk, IfErr, OnOk, OnErr, IfSome, IsSome};
 ghost use Rattle.std.specs.Io.KnownBytes.{Appends};
-ghost use Rattle.cweb_files.specs.Device.{CountsFailure};
-ghost use Rattle.cweb_files.specs.Bins.{CountsDeviceFailure};
+ghost use Rattle.cweb_files.specs.Bins.{CountsFailure, CountsDeviceFailure};
 ghost use Rattle.cweb_system.specs.inner.Devices.{target_bytes};
 
 use crate::drafts::{Draft, start_fault};

@@ -1,7 +1,7 @@
 // Files and standard streams of the system as a shelf and as sinks. Their bytes are not observable in contracts.
 ghost use Rattle.std.specs.Prelude.{◌≡◌, ◌≤◌, ◌<◌, ◌+◌, ◌^◌, [], None, false, length, IfOk};
 ghost use Rattle.std.specs.Io.KnownBytes.{WriteAppends, ReadConsumes};
-ghost use Rattle.cweb_files.specs.Device.{CountsFailure};
+ghost use Rattle.cweb_files.specs.Bins.{CountsFailure};
 
 use crate::files_read::FilesRead;
 use crate::system::FileKey;

@@ -26,24 +26,18 @@ pub use Rattle.std.specs.Prelude.{Ok, Err, IfOk, OnErr, nat_eq, filter, fold}
 pub use Rattle.std.specs.declared.alloc.Global.{Global}
 pub use Rattle.std.specs.declared.cmp.Ordering.TheVariants.{Less, Equal, Greater}
 pub use Rattle.cweb_texts.specs.inner.Edges.{AreStoredEdges, TokenBytesModel, IsStoredEdge, is_high, is_numeric}
-pub use Rattle.cweb_texts.specs.Edges.{first_is}
-pub use Rattle.cweb_texts.specs.Edges.{is_operator}
-pub use Rattle.cweb_texts.specs.inner.Edges.{is_known_edge}
-pub use Rattle.cweb_texts.specs.Edges.{last_is}
-pub use Rattle.cweb_texts.specs.inner.Edges.{punctuator_edge, punctuator_edge_by}
+pub use Rattle.cweb_texts.specs.inner.Edges.{is_known_edge, punctuator_edge, punctuator_edge_by}
+pub use Rattle.cweb_texts.specs.Edges.{first_is, is_operator, last_is}
 pub use Rattle.cweb_texts.specs.inner.Keys.{AreBytes, short_key, middle_key, long_key}
 pub use Rattle.cweb_texts.specs.inner.StringLists.{strings_from, AreEnds, string_start, IsFromStart, text_bytes}
 pub use Rattle.cweb_texts.specs.inner.StringLists.{string_at}
 pub use Rattle.cweb_texts.specs.inner.ByteIds.{IsByteId, AreByteIds}
 pub use Rattle.cweb_texts.specs.inner.Slots.{Entries, DescribesString, FindsWordString, FillsWordSlot, IsInserted}
-pub use Rattle.cweb_texts.specs.inner.Slots.{IsTable}
-pub use Rattle.cweb_texts.specs.inner.Slots.{slot_has_word, slot_string}
-pub use Rattle.cweb_texts.specs.inner.Slots.{probe_window, entry_word, compare_vecs, AreMapped, SlotsDescribeStrings}
-pub use Rattle.cweb_texts.specs.inner.Slots.{AreSlots, FillsSlot, free_slot}
-pub use Rattle.cweb_texts.specs.inner.Slots.{is_occupied, slot_matches_key, slot_words, table_has_word}
+pub use Rattle.cweb_texts.specs.inner.Slots.{IsTable, slot_has_word, slot_string, probe_window, entry_word}
+pub use Rattle.cweb_texts.specs.inner.Slots.{compare_vecs, AreMapped, SlotsDescribeStrings, AreSlots, FillsSlot}
+pub use Rattle.cweb_texts.specs.inner.Slots.{free_slot, is_occupied, slot_matches_key, slot_words, table_has_word}
 pub use Rattle.cweb_texts.specs.surface.StringTables.{total, with_word}
-pub use Rattle.cweb_texts.specs.inner.StringTables.{StringTableModel, InternsWord, has_word, table_model}
-pub use Rattle.cweb_texts.specs.inner.StringTables.{AddsString}
+pub use Rattle.cweb_texts.specs.inner.StringTables.{StringTableModel, InternsWord, has_word, table_model, AddsString}
 pub use Rattle.cweb_texts.specs.declared.edges.Edge.{Edge}
 pub use Rattle.cweb_texts.specs.declared.words.key.Key.{Key}
 pub use Rattle.cweb_texts.specs.declared.words.slot.Slot.{Slot}

@@ -1,5 +1,5 @@
 -- The early exits of `wmerge` are ends of a run.
-use Rattle.cweb_tools.proofs.Common.{◌≤◌, ◌≡◌, ◌⊎◌, inl, inr, ℕ, List, [], ◌∷◌, ◌++◌, refl, sym, ◌∙◌, ap, subst, append-nil, append_assoc, arith, Option, Some, None, IsTrue, names_found, World, Found, Line, Event, SoFar, EmitsLines, begun_with, ReportsPrefix, blame, StartStops, files_named, read_failures_of, emitted_lines, reported_faults, openings, taken_lines, IsWithinLimits, BeginsMerge, StopsAtStart, StopsWriting, WritingStops, WritesPrefix, write_failures_of, LINES, BYTES, Stop, Usage, WebNotOpened, ChangeNotOpened, ReadFault, LineTooLong, TooMuchText, Memory, WriteFault, Logs, stop_line, start_subject, subject, Devices, SinkModel, WebNames, Course, merging, merge_course, change_name, found_course, usage, about, AreOpened, CanStop, Comes, EndsMerge, Merges, RefusesArgs}
+use Rattle.cweb_tools.proofs.Common.{◌≤◌, ◌≡◌, ◌⊎◌, inl, inr, ℕ, List, [], ◌∷◌, ◌++◌, refl, sym, ◌∙◌, ap, subst, append-nil, append_assoc, arith, Option, Some, None, IsTrue, names_found, World, Found, Event, SoFar, EmitsLines, begun_with, ReportsPrefix, blame, StartStops, files_named, read_failures_of, emitted_lines, reported_faults, openings, taken_lines, IsWithinLimits, BeginsMerge, StopsAtStart, StopsWriting, WritingStops, WritesPrefix, write_failures_of, LINES, BYTES, Stop, Usage, WebNotOpened, ChangeNotOpened, ReadFault, LineTooLong, TooMuchText, Memory, WriteFault, Logs, stop_line, start_subject, subject, Devices, SinkModel, WebNames, Course, merging, merge_course, change_name, found_course, usage, about, AreOpened, CanStop, Comes, EndsMerge, Merges, RefusesArgs}
 use Rattle.cweb_tools.proofs.Limits.{breaks_limit}
 use Rattle.cweb_lines.proofs.EmittedLinesAddUp.{openings-append}
 use Rattle.cweb_tools.specs.Course.{unread, not_there, change_not_there}

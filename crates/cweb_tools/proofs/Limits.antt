@@ -1,9 +1,9 @@
 -- A merge that breaks a limit is not within the limits.
-use Rattle.cweb_tools.proofs.Common.{◌≡◌, ◌≤◌, ◌<◌, ◌+◌, ◌⊎◌, inl, inr, List, [], ◌∷◌, ◌++◌, refl, ◌∙◌, ap, subst, sym, arith, length, length-append, append_assoc, map, ℕ, SourceLine, Event, SoFar, Line, BreaksLimit, ComesFirst, counts_of, StopsAfterLines, begun_with, AreShort, IsWithinLimits, taken_lines, LINE_LENGTH, LINES, BYTES, SourceFault, Stop, LineTooLong, TooMuchText}
+use Rattle.cweb_tools.proofs.Common.{◌≡◌, ◌≤◌, ◌<◌, ◌+◌, ◌⊎◌, inl, inr, List, [], ◌∷◌, ◌++◌, refl, ◌∙◌, ap, subst, arith, length, length-append, append_assoc, map, ℕ, SourceLine, Event, SoFar, Line, BreaksLimit, ComesFirst, counts_of, StopsAfterLines, begun_with, AreShort, IsWithinLimits, taken_lines, LINE_LENGTH, LINES, BYTES, SourceFault, Stop, LineTooLong, TooMuchText}
 use Rattle.cweb_input.specs.OpenSources.{RefusesLine, TakenCountersModel}
 use Rattle.cweb_lines.specs.Merge.{fault}
 use Rattle.cweb_lines.specs.surface.MergeProgress.{step_events}
-use Rattle.cweb_lines.specs.EventsByKind.{size_of_lines}
+use Rattle.cweb_lines.specs.Events.{size_of_lines}
 use Rattle.cweb_lines.proofs.AddedEvents.{taken-took}
 use Rattle.cweb_lines.proofs.EmittedLinesAddUp.{size-append, short-append, taken-append}
 

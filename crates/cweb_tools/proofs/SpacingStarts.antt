@@ -1,6 +1,6 @@
 -- The first byte of each printed token.
 use Rattle.cweb_tools.proofs.Common.{◌≡◌, ℕ, Bool, true, false, cond, ◌&&◌, ◌||◌, ◌==◌, not, List, [], ◌∷◌, Some, None, refl, ap, sym, ◌∙◌, codes, list_all, Token, Word, Number, Literal, Punct, Blank, Newline, Head, Tail, is_one_of, is_digit, is_word_byte, is_white, first_is, JoinsAll, after_word, begins_as, unescaped, Kind, Effect, EmitAt, End, Closed, ReadsAlone, doubled, token_of, spelling_of, literal_token, is_clean, is_operator, and_parts, or_parts, same_Some, not-true}
-use Rattle.cweb_rules.specs.Kinds as kind
+use Rattle.cweb_rules.specs.Matches as kind
 use Rattle.cweb_rules.proofs.Joins.{unlike}
 use Rattle.cweb_rules.proofs.Stays.{begins_number}
 use Rattle.cweb_scan.proofs.PlainTokens.{begins, text_of}

@@ -1,14 +1,14 @@
--- The acts of a run of `ctangle`, and the state after each, also if something stops the run.
-use Rattle.std.specs.Prelude.{◌≡◌, ◌<◌, ◌⊎◌, ℕ, ◌+◌, length, List, [], ◌∷◌, ◌++◌, Option, Some, None}
+-- The acts of a run of `ctangle`, and what they leave in its devices.
+use Rattle.std.specs.Prelude.{◌≡◌, ◌<◌, ◌⊎◌, ℕ, ◌+◌, length, List, [], ◌∷◌, ◌++◌, Option, Some, None, IsTrue}
 use Rattle.cweb_files.specs.Files.{File, Refused, no_device, no_memory, put_file}
 use Rattle.cweb_lines.specs.Merge.{Event}
-use Rattle.cweb_lines.specs.EventsByKind.{IsWithinLimits, taken_lines}
-use Rattle.cweb_lines.specs.EventsByKind.{BreaksLimit}
+use Rattle.cweb_lines.specs.Events.{IsWithinLimits, taken_lines, BreaksLimit}
 use Rattle.cweb_input.specs.declared.stop.Stop.{Stop}
 use Rattle.cweb_input.specs.declared.stop.Stop.TheVariants.{ReadFault, LineTooLong, TooMuchText, Memory, OutNotOpened}
 use Rattle.cweb_input.specs.declared.stop.Stop.TheVariants.{WriteFault, LogFault}
 use Rattle.cweb_log.specs.Items.{LogItem, line}
 use Rattle.cweb_log.specs.Log.{file_name_at, stop_line}
+use Rattle.cweb_log.specs.DeviceModels.{Devices}
 
 -- The contents of a run's devices, and how often each has failed.
 pub record DeviceState : Type 0 where
@@ -134,3 +134,15 @@ pub data TangleEnds (acts : List Act) (due : ℕ) (before after : DeviceState) (
   completes : PerformsActs acts None before after → status ≡ due → TangleEnds acts due before after status
   stops : (why : Ending) (then : DeviceState) → PerformsActs acts (Some why) before then → LogsStop why then after
       → status ≡ 1 → TangleEnds acts due before after status
+
+-- The state agrees with the devices. Failure counts are always observable, and so are an observable log's bytes,
+-- observable bins' files, draft and refusal, and the files whose reads failed in an observable shelf.
+pub record AgreesWith (now : DeviceState) (seen : Devices) : Type 0 where
+  pub shelf_failed : now.shelf_failed ≡ seen.shelf.failed
+  pub bins_failed : now.bins_failed ≡ seen.out.failed
+  pub log_failed : now.log_failed ≡ seen.log.failed
+  pub blamed : IsTrue seen.shelf.tells → now.blamed ≡ seen.shelf.blamed
+  pub files : IsTrue seen.out.tells → now.files ≡ seen.out.beside.files
+  pub draft : IsTrue seen.out.tells → now.draft ≡ seen.out.beside.draft
+  pub refused : IsTrue seen.out.tells → now.refused ≡ seen.out.beside.refused
+  pub log : IsTrue seen.log.tells → now.log ≡ seen.log.bytes

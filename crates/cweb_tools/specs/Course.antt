@@ -1,15 +1,14 @@
 -- The output, log and status of `wmerge`, as functions of the files, the words and the folder of included files.
 use Rattle.std.specs.Prelude.{◌≡◌, ℕ, List, [], ◌∷◌, ◌++◌, codes, Option, None, Some}
-use Rattle.cweb_input.specs.Finding.{names_found, contents_found}
-use Rattle.cweb_input.specs.Include.{World, Found, web_at, change_at}
+use Rattle.cweb_input.specs.Include.{names_found, contents_found, World, Found, web_at, change_at}
 use Rattle.cweb_lines.specs.Merge.{Event, started, Yields}
-use Rattle.cweb_lines.specs.EventsByKind.{emitted_lines, reported_faults, openings, taken_lines, IsWithinLimits}
-use Rattle.cweb_lines.specs.Writing.{written_lines}
+use Rattle.cweb_lines.specs.Events.{emitted_lines, reported_faults, openings, taken_lines, IsWithinLimits}
+use Rattle.cweb_lines.specs.Events.{written_lines}
 use Rattle.cweb_input.specs.declared.fault.SourceFault.{SourceFault}
 use Rattle.cweb_input.specs.declared.stop.Stop.TheVariants.{Usage, WebNotOpened, ChangeNotOpened}
 use Rattle.cweb_log.specs.Items.{fault_lines}
 use Rattle.cweb_log.specs.Log.{stop_line}
-use Rattle.cweb_log.specs.Words.{WebNames}
+use Rattle.cweb_log.specs.CommandLine.{WebNames}
 
 -- The usage line of `wmerge`.
 abbrev pub usage : List ℕ

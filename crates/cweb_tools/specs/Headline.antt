@@ -1,18 +1,17 @@
 -- The headline theorem of both programs: if no device and no allocation fails and the web is within the limits, a run's
 -- effect is a function of the files, the words and the folder of included files.
-use Rattle.std.specs.Prelude.{◌≡◌, ◌≢◌, ℕ, List, [], ◌++◌, Option, IsTrue}
+use Rattle.std.specs.Prelude.{◌≡◌, ◌≢◌, ℕ, List, [], ◌++◌, Option}
 use Rattle.std.specs.List.{flat_map}
 use Rattle.cweb_input.specs.Include.{World}
-use Rattle.cweb_lines.specs.EventsByKind.{taken_lines, IsWithinLimits}
+use Rattle.cweb_lines.specs.Events.{taken_lines, IsWithinLimits}
 use Rattle.cweb_input.specs.declared.stop.Stop.TheVariants.{Memory}
 use Rattle.cweb_log.specs.Items.{LogItem, line}
 use Rattle.cweb_log.specs.Log.{stop_line}
-use Rattle.cweb_log.specs.Options.{OptionsModel}
+use Rattle.cweb_log.specs.CommandLine.{OptionsModel, WebNames}
 use Rattle.cweb_log.specs.DeviceModels.{Devices, AreObservable}
-use Rattle.cweb_log.specs.Words.{WebNames}
 use Rattle.cweb_log.specs.declared.shown.Shown.{Shown}
 use Rattle.cweb_tools.specs.Course.{Course, IsMergeCourse, merge_log, merge_status, merged, MergeKeepsLimits}
-use Rattle.cweb_tools.specs.Leaves.{put_files}
+use Rattle.cweb_tools.specs.MergePromises.{put_files}
 use Rattle.cweb_tools.specs.Script.{TangleCourse, tangling, tangle_files, tangle_log, tangle_status}
 use Rattle.cweb_tools.specs.Tangle.{shown_by, IsTangleCourse}
 

@@ -1,12 +1,9 @@
 pub mod Acts
 pub mod Course
-pub mod Does
 pub mod Headline
-pub mod Leaves
 pub mod MergePromises
 pub mod Script
 pub mod Tangle
-pub mod TanglePromises
 pub mod Spacing
 pub mod laws
 pub mod inner

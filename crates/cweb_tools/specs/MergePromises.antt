@@ -1,24 +1,22 @@
--- The effect of a run of `wmerge`. Each statement about a device assumes only that this device is observable.
-use Rattle.std.specs.Prelude.{◌≡◌, ◌≢◌, ◌≤◌, ℕ, ◌+◌, length, List, [], ◌++◌, codes, Option, None, Some, IsTrue}
+-- What a run of `wmerge` leaves in its devices, and the files that a run leaves in bins.
+use Rattle.std.specs.Prelude.{◌≡◌, ◌≢◌, ◌≤◌, ℕ, ◌+◌, length, List, [], ◌++◌, codes, Option, None, Some, IsTrue, ◌∷◌}
 use Rattle.cweb_input.specs.Include.{World}
-use Rattle.cweb_input.specs.ReaderNames.{blame}
+use Rattle.cweb_input.specs.Lines.{blame}
 use Rattle.cweb_input.specs.OpenSources.{files_named, read_failures_of}
-use Rattle.cweb_lines.specs.EventsByKind.{reported_faults, openings, taken_lines, IsWithinLimits}
-use Rattle.cweb_lines.specs.EventsByKind.{BreaksLimit}
-use Rattle.cweb_lines.specs.Writing.{write_failures_of}
-use Rattle.cweb_files.specs.Frames.{WritesPrefix}
+use Rattle.cweb_lines.specs.Events.{reported_faults, openings, taken_lines, IsWithinLimits, BreaksLimit}
+use Rattle.cweb_lines.specs.Events.{write_failures_of}
+use Rattle.cweb_files.specs.Bins.{WritesPrefix}
 use Rattle.cweb_input.specs.declared.fault.SourceFault.{SourceFault}
 use Rattle.cweb_input.specs.declared.stop.Stop.{Stop}
 use Rattle.cweb_input.specs.declared.stop.Stop.TheVariants.{Usage, WebNotOpened, ChangeNotOpened, ReadFault}
-use Rattle.cweb_input.specs.declared.stop.Stop.TheVariants.{LineTooLong}
-use Rattle.cweb_input.specs.declared.stop.Stop.TheVariants.{TooMuchText, Memory, WriteFault}
-use Rattle.cweb_log.specs.LogWriting.{Logs}
+use Rattle.cweb_input.specs.declared.stop.Stop.TheVariants.{LineTooLong, TooMuchText, Memory, WriteFault}
+use Rattle.cweb_log.specs.Log.{Logs, stop_line, file_name_at}
 use Rattle.cweb_log.specs.Items.{fault_lines}
-use Rattle.cweb_log.specs.Log.{stop_line, file_name_at}
 use Rattle.cweb_log.specs.DeviceModels.{Devices}
-use Rattle.cweb_log.specs.Words.{WebNames}
+use Rattle.cweb_log.specs.CommandLine.{WebNames}
 use Rattle.cweb_tools.specs.Course.{Course, not_there, change_not_there, merging, IsMergeCourse, change_name}
 use Rattle.cweb_tools.specs.Course.{fault_status, merged, usage}
+use Rattle.cweb_files.specs.Files.{File, put_file}
 
 -- The words can't be read: only the log changes.
 pub record RefusesArgs (before after : Devices) (status : ℕ) : Type 0 where
@@ -116,3 +114,8 @@ abbrev pub MergeEnds : World → Option WebNames → Devices → Devices → ℕ
 MergeEnds world None before after status = RefusesArgs before after status
 MergeEnds world (Some names) before after status =
     (course : Course) × IsMergeCourse world (Some names) course × Merges names course before after status
+
+-- Files are put into bins in order.
+abbrev pub put_files : List File → List File → List File
+put_files files [] = files
+put_files files (file ∷ more) = put_files (put_file files file) more

@@ -1,12 +1,10 @@
 -- Printed C text reads back as the tokens that were printed.
-use Rattle.std.specs.Prelude.{◌≡◌, Bool, true, false, nat_le, not, List, codes, Some, All}
-use Rattle.std.specs.Prelude.{ℕ}
+use Rattle.std.specs.Prelude.{◌≡◌, Bool, true, false, nat_le, not, List, codes, Some, All, ℕ}
 use Rattle.std.specs.List.{list_all}
 use Rattle.cweb_store.specs.Parts.{Token, Word, Number, Literal, Punct, Blank, Newline, Head, Tail}
 use Rattle.cweb_scan.specs.After.{Reading}
 use Rattle.cweb_scan.specs.DirectiveTokens.{is_punct}
-use Rattle.cweb_scan.specs.Lexemes.{lex}
-use Rattle.cweb_scan.specs.Alone.{ReadsAlone, InPlainC, HasReadTokens, doubled, significant, is_hash}
+use Rattle.cweb_scan.specs.Alone.{lex, ReadsAlone, InPlainC, HasReadTokens, doubled, significant, is_hash}
 use Rattle.cweb_print.specs.Printing.{Setting, print}
 
 -- All bytes are below 128.

@@ -1,26 +1,25 @@
--- The course of a run of `ctangle`, from the files, the words and the folder of included files.
-use Rattle.std.specs.Prelude.{◌≡◌, ℕ, List, ◌++◌, map, count_by, Option, None, Some, Result, Ok, Err}
+-- How a run of `ctangle` goes, and what it promises also where something stops it.
+use Rattle.std.specs.Prelude.{◌≡◌, ℕ, List, ◌++◌, map, count_by, Option, None, Some, Result, Ok, Err, IsTrue}
 use Rattle.cweb_files.specs.Files.{File}
 use Rattle.cweb_input.specs.Include.{World}
-use Rattle.cweb_lines.specs.EventsByKind.{emitted_lines, reported_faults, openings}
+use Rattle.cweb_lines.specs.Events.{emitted_lines, reported_faults, openings}
 use Rattle.cweb_input.specs.declared.fault.SourceFault.{SourceFault}
 use Rattle.cweb_store.specs.Calls.{Stored}
 use Rattle.cweb_store.specs.Parts.{Part, is_macro}
-use Rattle.cweb_scan.specs.Lexemes.{Scanned, scanned}
-use Rattle.cweb_out.specs.Expansion.{expand}
+use Rattle.cweb_scan.specs.Alone.{Scanned, scanned}
+use Rattle.cweb_out.specs.Expansion.{expand, names}
 use Rattle.cweb_out.specs.Outputs as out
 use Rattle.cweb_out.specs.Outputs.{Output, Planned, Refusal, root_list}
-use Rattle.cweb_print.specs.Printers.{setting}
-use Rattle.cweb_print.specs.Printing.{file}
-use Rattle.cweb_out.specs.Uses.{names}
-use Rattle.cweb_log.specs.Items.{LogItem, source_item}
-use Rattle.cweb_log.specs.Options.{OptionsModel, shown_by_default}
-use Rattle.cweb_log.specs.WebItems.{name_items, refusal_message, scan_items}
+use Rattle.cweb_print.specs.Printing.{setting, file}
+use Rattle.cweb_log.specs.Items.{LogItem, source_item, name_items, refusal_message, scan_items}
+use Rattle.cweb_log.specs.CommandLine.{OptionsModel, shown_by_default}
 use Rattle.cweb_log.specs.declared.shown.Shown.{Shown}
 use Rattle.cweb_tools.specs.Course as course
 use Rattle.cweb_tools.specs.Course.{Course, IsMergeCourse, change_name}
 use Rattle.cweb_tools.specs.Script.{Numbers, Planning, TangleCourse, Web, unread, not_there, change_not_there, tangling}
-use Rattle.cweb_tools.specs.Script.{refused, planned}
+use Rattle.cweb_tools.specs.Script.{refused, planned, script, tangle_status}
+use Rattle.cweb_log.specs.DeviceModels.{Devices}
+use Rattle.cweb_tools.specs.Acts.{Act, DeviceState, TangleEnds, AgreesWith}
 
 -- An output as printed, with all names expanded. Line marks name these files.
 abbrev pub output_file : Stored → List (List ℕ) → Output → File
@@ -95,3 +94,23 @@ CanCome asked course = ⊥
 abbrev pub shown_by : Option OptionsModel → Shown
 shown_by None = shown_by_default
 shown_by (Some asked) = asked.shown
+
+-- A run with these acts and this status ends in a state that agrees with its observable devices.
+pub record EndsIn (acts : List Act) (due : ℕ) (old : DeviceState) (after : Devices) (status : ℕ) : Type 0 where
+  pub new : DeviceState
+  pub agrees : AgreesWith new after
+  pub ends : TangleEnds acts due old new status
+
+-- The acts of the course are done in order: all of them, or up to a stop within one, which is logged last.
+pub record TanglePromises (world : World) (asked : Option OptionsModel) (before after : Devices)
+    (status : ℕ) : Type 0 where
+  -- The course of the files and the words. For an unobservable shelf, some course that the words allow.
+  pub course : TangleCourse
+  pub can : CanCome asked course
+  pub is : IsTrue before.shelf.tells → IsTangleCourse world asked course
+  -- For all contents of the devices that aren't observable.
+  pub ends : (old : DeviceState) → AgreesWith old before
+      → EndsIn (script (shown_by asked) course) (tangle_status (shown_by asked) course) old after status
+  -- An observable device stays observable.
+  pub bins_tell : after.out.tells ≡ before.out.tells
+  pub log_tells : after.log.tells ≡ before.log.tells

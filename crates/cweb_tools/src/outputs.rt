@@ -1,13 +1,12 @@
 // Writes the outputs of a run in order.
 ghost use Rattle.std.specs.Prelude.{◌≡◌, ◌<◌, ◌+◌, ◌^◌, ◌++◌, ◌∷◌, [], length, All, IsTrue, IfErr};
 ghost use Rattle.std.specs.Prelude.{OnOk};
-ghost use Rattle.cweb_files.specs.Device.{CountsFailure};
+ghost use Rattle.cweb_files.specs.Bins.{CountsFailure};
 ghost use Rattle.cweb_input.specs.surface.OpenedFileNames.{opened_file_names};
 ghost use Rattle.cweb_store.specs.Parts.{all_tokens};
 ghost use Rattle.cweb_scan.specs.surface.Scan.{IsMarkBelow};
 ghost use Rattle.cweb_out.specs.surface.Outputs.{output_name_at};
-ghost use Rattle.cweb_print.specs.Printers.{setting};
-ghost use Rattle.cweb_print.specs.Printing.{file};
+ghost use Rattle.cweb_print.specs.Printing.{setting, file};
 ghost use Rattle.cweb_log.specs.DeviceModels.{sink_model};
 ghost use Rattle.cweb_tools.specs.inner.Acts.{ending_of};
 ghost use Rattle.cweb_tools.specs.Acts.{writes};

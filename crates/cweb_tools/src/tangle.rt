@@ -8,7 +8,7 @@ ghost use Rattle.cweb_out.specs.surface.Outputs.{IsPlanOf};
 ghost use Rattle.cweb_log.specs.inner.LogWriting.{WritesToStream};
 ghost use Rattle.cweb_log.specs.Items.{fault_count, line};
 ghost use Rattle.cweb_log.specs.inner.Log.{start_subject};
-ghost use Rattle.cweb_log.specs.Options.{options_by};
+ghost use Rattle.cweb_log.specs.CommandLine.{options_by};
 ghost use Rattle.cweb_log.specs.surface.Options.{options_of};
 ghost use Rattle.cweb_log.specs.DeviceModels.{sink_model, devices};
 ghost use Rattle.cweb_tools.specs.Acts.{ending, plans};
@@ -17,11 +17,9 @@ ghost use Rattle.cweb_tools.specs.inner.Does.{ClosesInBoth, DoesInLog, FollowsCo
 ghost use Rattle.cweb_tools.specs.inner.Does.{log_ending};
 ghost use Rattle.cweb_tools.specs.Headline.{TanglesFreely};
 ghost use Rattle.cweb_tools.specs.Script.{planned_acts, web_acts};
-ghost use Rattle.cweb_tools.specs.Tangle.{CanCome, numbers_of};
+ghost use Rattle.cweb_tools.specs.Tangle.{CanCome, numbers_of, plan_made, TanglePromises};
 ghost use Rattle.cweb_tools.specs.inner.Tangle.{course_acts, course_status, tangle_course};
-ghost use Rattle.cweb_tools.specs.Tangle.{plan_made};
 ghost use Rattle.cweb_tools.specs.inner.Tangle.{status_by, web_status};
-ghost use Rattle.cweb_tools.specs.TanglePromises.{TanglePromises};
 ghost use Rattle.cweb_tools.specs.inner.Web.{IsKnown, faults_of, files_of, said_faults, web_in};
 
 mod begun;

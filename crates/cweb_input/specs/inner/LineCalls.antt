@@ -3,9 +3,8 @@ use Rattle.std.specs.Prelude.{◌≡◌, ◌≤◌, ◌<◌, ◌+◌, ℕ, List,
 use Rattle.std.specs.Prelude.{IfSome, OnSome, OnErr}
 use Rattle.cweb_input.specs.inner.OpenSources.{AreDeep, Counted, DepthAfter, NamesFiles, StaysBelow}
 use Rattle.cweb_input.specs.OpenSources.{TakenCountersModel}
-use Rattle.cweb_input.specs.surface.OpenSources.{StopsReading, matches_at}
+use Rattle.cweb_input.specs.surface.OpenSources.{StopsReading, matches_at, number_or_zero, source_depth}
 use Rattle.cweb_input.specs.inner.OpenSources.{files_up_to, line_number, maximum_of, line_number_at}
-use Rattle.cweb_input.specs.surface.OpenSources.{number_or_zero, source_depth}
 use Rattle.cweb_input.specs.surface.Lines.{IsOneLine}
 use Rattle.cweb_input.specs.declared.stop.Stop.{Stop}
 use Rattle.cweb_input.specs.declared.open_source.LineAt.{LineAt}

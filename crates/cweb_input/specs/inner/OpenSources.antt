@@ -3,8 +3,7 @@ use Rattle.std.specs.Prelude.{◌≡◌, ℕ, suc, ◌+◌, ◌-◌, ◌≤◌, 
 use Rattle.std.specs.Prelude.{None, Some, Result, Ok, Err, slice_index_or}
 use Rattle.cweb_files.specs.declared.place.FileId.{FileId}
 use Rattle.cweb_files.specs.declared.place.Place.{Place}
-use Rattle.cweb_input.specs.Lines.{SourceLine, lines_in}
-use Rattle.cweb_input.specs.Things.{RawLine, Thing, raw, raws}
+use Rattle.cweb_input.specs.Lines.{SourceLine, lines_in, RawLine, Thing, raw, raws}
 use Rattle.cweb_input.specs.declared.limits.TheConstants.{LINE_LENGTH}
 use Rattle.cweb_input.specs.declared.source.LineFault.{LineFault}
 use Rattle.cweb_input.specs.declared.source.LineFault.TheVariants.{Read, TooLong, Memory as NoMemory}
@@ -12,8 +11,7 @@ use Rattle.cweb_input.specs.declared.source.LineTermination.{LineTermination}
 use Rattle.cweb_input.specs.declared.source.LineTermination.TheVariants.{Ended, Last, Full}
 use Rattle.cweb_input.specs.declared.open_source.stack.Stack.{Stack}
 use Rattle.cweb_input.specs.declared.stop.Stop.{Stop}
-use Rattle.cweb_input.specs.declared.stop.Stop.TheVariants.{ReadFault, LineTooLong}
-use Rattle.cweb_input.specs.declared.stop.Stop.TheVariants.{Memory}
+use Rattle.cweb_input.specs.declared.stop.Stop.TheVariants.{ReadFault, LineTooLong, Memory}
 use Rattle.cweb_input.specs.declared.open_source.LineAt.{LineAt}
 use Rattle.cweb_input.specs.declared.open_source.OpenSource.{OpenSource}
 use Rattle.cweb_input.specs.surface.OpenSources.{number_or_zero, things_at, things_over, things_above}

@@ -1,6 +1,5 @@
 -- What a source has left, and how taking a line changes that.
-use Rattle.std.specs.Prelude.{◌≡◌, ℕ, ◌+◌, ◌<◌, List, [], ◌∷◌, ◌++◌, length, Bool, true, false}
-use Rattle.std.specs.Prelude.{Result, Ok, Err}
+use Rattle.std.specs.Prelude.{◌≡◌, ℕ, ◌+◌, ◌<◌, List, [], ◌∷◌, ◌++◌, length, Bool, true, false, Result, Ok, Err}
 use Rattle.cweb_input.specs.surface.Lines.{HasNoNewline}
 use Rattle.cweb_input.specs.declared.source.Source.{Source}
 use Rattle.cweb_input.specs.declared.source.LineFault.{LineFault}

@@ -1,8 +1,7 @@
 -- What open sources have left, and which stops taking a line has.
 use Rattle.std.specs.Prelude.{◌≡◌, ℕ, zero, suc, ◌+◌, ◌-◌, Bool, false, List, [], ◌++◌, Option}
 use Rattle.std.specs.Prelude.{None, Some, Result, Ok, Err, slice_index_or}
-use Rattle.cweb_input.specs.Lines.{SourceLine, numbered_lines, cut_lines}
-use Rattle.cweb_input.specs.Things.{Thing, raws}
+use Rattle.cweb_input.specs.Lines.{SourceLine, numbered_lines, cut_lines, Thing, raws}
 use Rattle.cweb_input.specs.surface.Source.{buffered}
 use Rattle.cweb_input.specs.declared.open_source.stack.Stack.{Stack}
 use Rattle.cweb_input.specs.declared.stop.Stop.{Stop}

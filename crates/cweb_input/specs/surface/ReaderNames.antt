@@ -2,7 +2,7 @@
 use Rattle.std.specs.Prelude.{◌≡◌, ◌++◌, ℕ, List, Option, None, Some, Result, Ok, Err, slice_index_or}
 use Rattle.cweb_input.specs.declared.stop.Stop.{Stop}
 use Rattle.cweb_input.specs.declared.open_source.OpenSource.{OpenSource}
-use Rattle.cweb_input.specs.ReaderNames.{name_of_file, blame}
+use Rattle.cweb_input.specs.Lines.{name_of_file, blame}
 
 -- The reader of a slot's source was opened under the name of its file.
 abbrev pub IsReaderNamed : {R : Type 0} → (R → List ℕ) → List (List ℕ) → Option (OpenSource R) → Type 0

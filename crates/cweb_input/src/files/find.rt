@@ -3,9 +3,8 @@ ghost use Rattle.std.specs.Prelude.{◌≡◌, ◌∷◌, ◌++◌, ℕ, List, I
 ghost use Rattle.std.specs.Option.{option_copied};
 ghost use Rattle.cweb_files.specs.surface.Frames.{KeepsShelf};
 ghost use Rattle.cweb_input.specs.Include.{found_at, found_under, web_at, change_at};
-ghost use Rattle.cweb_input.specs.inner.Finding.{found_as, changes_found, IsChangeOpened};
+ghost use Rattle.cweb_input.specs.inner.Finding.{found_as, changes_found, IsChangeOpened, IsOpened};
 ghost use Rattle.cweb_input.specs.surface.Finding.{world_in};
-ghost use Rattle.cweb_input.specs.inner.Finding.{IsOpened};
 
 use cweb_files::Shelf;
 use std::alloc::{AllocError, Global};

@@ -5,8 +5,7 @@ use Rattle.cweb_lines.specs.inner.LineSpans.{BorrowsLines, IsSpanIn, span_bytes}
 use Rattle.cweb_input.specs.surface.Lines.{IsOneLine}
 use Rattle.cweb_input.specs.surface.OpenedFileNames.{opened_file_names}
 use Rattle.cweb_lines.specs.inner.Passing.{ComesNext, EmitsBufferedLines, IsStretchAt, lines_next, buffer_of}
-use Rattle.cweb_lines.specs.inner.Passing.{with_newlines}
-use Rattle.cweb_lines.specs.inner.Passing.{top_of}
+use Rattle.cweb_lines.specs.inner.Passing.{with_newlines, top_of}
 use Rattle.cweb_input.specs.inner.OpenSources.{files_up_to}
 use Rattle.cweb_input.specs.surface.OpenSources.{number_or_zero}
 use Rattle.cweb_input.specs.declared.counters.TakenCounters.{TakenCounters}

@@ -1,8 +1,7 @@
 -- Lines that are borrowed from the buffer.
 use Rattle.std.specs.Prelude.{◌≡◌, ℕ, ◌+◌, ◌≤◌, ◌<◌, List, [], ◌∷◌, length, slice_range, Option, None, Some}
 use Rattle.cweb_input.specs.Lines.{Line}
-use Rattle.cweb_lines.specs.surface.MergeProgress.{EmitsLines}
-use Rattle.cweb_lines.specs.surface.MergeProgress.{so_far_of, events_to_come}
+use Rattle.cweb_lines.specs.surface.MergeProgress.{EmitsLines, so_far_of, events_to_come}
 use Rattle.cweb_lines.specs.surface.MergeReaderNames.{AreReadersKnown}
 use Rattle.cweb_lines.specs.inner.Passing.{buffer_of, top_of}
 use Rattle.cweb_lines.specs.surface.MergerCalls.{EmitsLine, Grows}

@@ -2,9 +2,8 @@
 use Rattle.std.specs.Prelude.{◌≡◌, ◌+◌, ◌||◌, ℕ, Bool, nat_lt, List, [], ◌∷◌, ◌++◌, if◌then◌else◌}
 use Rattle.cweb_files.specs.declared.place.Place.{Place}
 use Rattle.cweb_lines.specs.Change.{WaitingEntry, at_place, old_lines}
-use Rattle.cweb_input.specs.Lines.{SourceLine}
+use Rattle.cweb_input.specs.Lines.{SourceLine, Thing}
 use Rattle.cweb_lines.specs.Merge.{Compared, after_old, compared}
-use Rattle.cweb_input.specs.Things.{Thing}
 use Rattle.cweb_lines.specs.surface.MergeProgress.{SoFar, AddsFaultsAndLines}
 use Rattle.cweb_lines.specs.inner.Stages.{IsSettled}
 use Rattle.cweb_lines.specs.surface.Stages.{change_in, pending_in}

@@ -10,7 +10,7 @@ use Rattle.cweb_input.specs.Include.{World, found_at, include_name, is_include_l
 use Rattle.cweb_lines.specs.Change.{at_place, change_code}
 use Rattle.cweb_lines.specs.laws.MergeOutcome.{followed_by, only_fault, only_lines, only_name, placed, renumbered}
 use Rattle.cweb_lines.specs.laws.MergeOutcome.{MergeOutcome, outcome_of_lines, merge_outcome}
-use Rattle.cweb_lines.specs.Writing.{written_lines}
+use Rattle.cweb_lines.specs.Events.{written_lines}
 use Rattle.cweb_lines.specs.declared.change.code.Code.TheVariants.{EndSide as end_side, NewSide as new_side}
 use Rattle.cweb_lines.specs.declared.change.code.Code.TheVariants.{OldSide as old_side}
 use Rattle.cweb_input.specs.declared.fault.SourceKind.{SourceKind}

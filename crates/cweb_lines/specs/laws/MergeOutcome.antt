@@ -1,13 +1,12 @@
 -- The outcome of a merge for an author.
 use Rattle.std.specs.Prelude.{ℕ, ◌+◌, true, List, [], ◌∷◌, ◌++◌, map, Option, None}
 use Rattle.cweb_files.specs.declared.place.Place.{Place}
-use Rattle.cweb_input.specs.Lines.{Line, SourceLine}
+use Rattle.cweb_input.specs.Lines.{Line, SourceLine, raws}
 use Rattle.cweb_input.specs.laws.Lines.{lines}
 use Rattle.cweb_input.specs.Include.{World}
 use Rattle.cweb_lines.specs.Change.{at_place}
 use Rattle.cweb_lines.specs.Merge.{Event, started}
-use Rattle.cweb_input.specs.Things.{raws}
-use Rattle.cweb_lines.specs.EventsByKind.{emitted_lines, reported_faults, openings}
+use Rattle.cweb_lines.specs.Events.{emitted_lines, reported_faults, openings}
 use Rattle.cweb_lines.specs.surface.Total.{merge}
 use Rattle.cweb_input.specs.declared.fault.SourceFault.{SourceFault}
 use Rattle.cweb_input.specs.declared.fault.SourceKind.{SourceKind}

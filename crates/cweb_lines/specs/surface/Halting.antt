@@ -5,7 +5,7 @@ use Rattle.std.specs.Prelude.{nat_lt}
 use Rattle.std.specs.Str.{bytes_eq}
 use Rattle.std.proofs.lemmas.Bool.Decides.{nat_tests}
 use Rattle.cweb_files.specs.declared.place.Place.{Place}
-use Rattle.cweb_input.specs.Lines.{SourceLine, lines_in}
+use Rattle.cweb_input.specs.Lines.{SourceLine, lines_in, RawLine, Thing, seek, raw, told, passed, raws}
 use Rattle.cweb_input.specs.Include.{World, Found, include_name, is_include_line, found_at}
 use Rattle.cweb_lines.specs.Change.{change_code, WaitingEntry, Sought, sought, outside, after_x, OldSide, old_at}
 use Rattle.cweb_lines.specs.Change.{old_lines}
@@ -13,11 +13,9 @@ use Rattle.cweb_input.specs.declared.limits.TheConstants.{OPEN_FILES}
 use Rattle.cweb_lines.specs.declared.change.code.Code.{Code}
 use Rattle.cweb_lines.specs.declared.change.code.Code.TheVariants.{OldSide as old_side, NewSide as new_side}
 use Rattle.cweb_lines.specs.declared.change.code.Code.TheVariants.{EndSide as end_side}
-use Rattle.cweb_input.specs.Things.{RawLine, Thing, seek, raw, told, passed}
 use Rattle.cweb_lines.specs.Merge.{Event, MergeStateModel, NewSide, new_at}
 use Rattle.cweb_lines.specs.Merge.{new_lines, compared, after_old, Next, obeyed, open_include, included, plain}
 use Rattle.cweb_lines.specs.Merge.{at_entry, at_raw, step, onto, step_then_run, run_steps}
-use Rattle.cweb_input.specs.Things.{raws}
 
 -- A number of steps that is enough, and the events.
 pub record Halts (world : World) (s : MergeStateModel) : Type 0 where

@@ -1,14 +1,13 @@
 -- How far a merger is, and why it stops.
 use Rattle.std.specs.Prelude.{◌≡◌, ◌+◌, ◌⊎◌, ℕ, length, map, List, ◌∷◌, ◌++◌, [], Option}
-use Rattle.cweb_input.specs.Lines.{Line, SourceLine}
+use Rattle.cweb_input.specs.Lines.{Line, SourceLine, Thing}
 use Rattle.cweb_lines.specs.Merge.{Event, took, fault, MergeStateModel, given}
-use Rattle.cweb_lines.specs.EventsByKind.{emitted_lines, reported_faults, openings, taken_lines, size_of_lines}
-use Rattle.cweb_lines.specs.EventsByKind.{AreShort, ComesFirst}
+use Rattle.cweb_lines.specs.Events.{emitted_lines, reported_faults, openings, taken_lines, size_of_lines}
+use Rattle.cweb_lines.specs.Events.{AreShort, ComesFirst}
 use Rattle.cweb_input.specs.OpenSources.{TakenCountersModel, RefusesLine}
 use Rattle.cweb_input.specs.declared.fault.SourceFault.{SourceFault}
 use Rattle.cweb_input.specs.declared.stop.Stop.{Stop}
 use Rattle.cweb_lines.specs.Change.{WaitingEntry}
-use Rattle.cweb_input.specs.Things.{Thing}
 use Rattle.cweb_lines.specs.surface.Total.{merge}
 use Rattle.cweb_input.specs.surface.Counters.{counters_of}
 use Rattle.cweb_input.specs.surface.Finding.{world_in}

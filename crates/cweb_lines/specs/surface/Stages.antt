@@ -1,8 +1,7 @@
 -- What is to come at a stage of a merger.
 use Rattle.std.specs.Prelude.{ℕ, List, [], ◌∷◌, ◌++◌, Option, None, Some}
 use Rattle.cweb_lines.specs.Change.{WaitingEntry}
-use Rattle.cweb_input.specs.Lines.{SourceLine}
-use Rattle.cweb_input.specs.Things.{Thing, seek}
+use Rattle.cweb_input.specs.Lines.{SourceLine, Thing, seek}
 use Rattle.cweb_lines.specs.Merge.{new_lines}
 use Rattle.cweb_input.specs.surface.OpenSources.{things_over, things_above}
 use Rattle.cweb_input.specs.declared.open_source.stack.Stack.{Stack}

@@ -1,15 +1,14 @@
 -- How far the output of a merge is, and why it stops.
 use Rattle.std.specs.Prelude.{◌≡◌, ◌≤◌, ◌+◌, ℕ, List, [], ◌∷◌, ◌++◌, Option, None, Some}
-use Rattle.cweb_files.specs.Frames.{WritesPrefix}
+use Rattle.cweb_files.specs.Bins.{WritesPrefix}
 use Rattle.cweb_input.specs.Lines.{Line}
 use Rattle.cweb_lines.specs.Merge.{Event}
 use Rattle.cweb_lines.specs.surface.MergeProgress.{SoFar, EmitsLines, StopsAfterLines}
 use Rattle.cweb_lines.specs.surface.MergeProgress.{ReadFailsAfterLines, ReportsPrefix}
 use Rattle.cweb_input.specs.OpenSources.{read_failures_of, files_named}
-use Rattle.cweb_lines.specs.EventsByKind.{emitted_lines}
+use Rattle.cweb_lines.specs.Events.{emitted_lines, written_lines, write_failures_of}
 use Rattle.cweb_input.specs.declared.stop.Stop.{Stop}
 use Rattle.cweb_input.specs.declared.stop.Stop.TheVariants.{ReadFault, LineTooLong, TooMuchText, Memory, WriteFault}
-use Rattle.cweb_lines.specs.Writing.{written_lines, write_failures_of}
 
 -- All lines were emitted and written.
 pub record WritesAll (old new : SoFar) (all : List Event) (Wrote : List ℕ → Type 0) : Type 0 where

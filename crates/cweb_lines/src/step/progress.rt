@@ -8,11 +8,9 @@ ghost use Rattle.cweb_input.specs.surface.Lines.{IsOneLine};
 ghost use Rattle.cweb_lines.specs.surface.MergeProgress.{NothingLeft, change_lines};
 ghost use Rattle.cweb_input.specs.surface.OpenedFileNames.{opened_file_names};
 ghost use Rattle.cweb_lines.specs.inner.Stages.{floor_of};
-ghost use Rattle.cweb_input.specs.surface.OpenSources.{CountsReadStop};
-ghost use Rattle.cweb_input.specs.inner.OpenSources.{Counted, NamesFiles, TakesNextLine};
-ghost use Rattle.cweb_input.specs.inner.OpenSources.{TakesAbove, FirstStops};
-ghost use Rattle.cweb_input.specs.surface.OpenSources.{StopsFor, StopsReading};
-ghost use Rattle.cweb_input.specs.inner.OpenSources.{StopsAbove, StaysBelow};
+ghost use Rattle.cweb_input.specs.surface.OpenSources.{CountsReadStop, StopsFor, StopsReading};
+ghost use Rattle.cweb_input.specs.inner.OpenSources.{TakesNextLine, NamesFiles, TakesAbove};
+ghost use Rattle.cweb_input.specs.inner.OpenSources.{FirstStops, StopsAbove, StaysBelow, Counted};
 ghost use Rattle.cweb_lines.specs.inner.Steps.{OnlyTakes, OnlyReports};
 ghost use Rattle.cweb_lines.specs.inner.MergeReaderNames.{BlamesReaders, KeepsReaders};
 

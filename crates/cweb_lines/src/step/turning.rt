@@ -3,13 +3,11 @@ ghost use Rattle.std.specs.Prelude.{◌≡◌, ◌≤◌, ◌<◌, ◌+◌, ◌^
 ghost use Rattle.std.specs.Prelude.{OnErr};
 ghost use Rattle.cweb_files.specs.surface.Frames.{KeepsShelf};
 ghost use Rattle.cweb_lines.specs.inner.StepCalls.{Turns};
-ghost use Rattle.cweb_lines.specs.surface.MergeProgress.{EmitsLines};
-ghost use Rattle.cweb_lines.specs.surface.MergeProgress.{KeepsReported, Stopped, ReportsPrefix};
-ghost use Rattle.cweb_lines.specs.surface.MergeProgress.{NothingLeft};
+ghost use Rattle.cweb_lines.specs.surface.MergeProgress.{EmitsLines, KeepsReported, Stopped};
+ghost use Rattle.cweb_lines.specs.surface.MergeProgress.{ReportsPrefix, NothingLeft};
+ghost use Rattle.cweb_lines.specs.surface.MergeProgress.{events_to_come, so_far_of};
 ghost use Rattle.cweb_lines.specs.inner.MergeProgress.{TurnLine, TurnGains, TurnCounts};
 ghost use Rattle.cweb_lines.specs.inner.MergeProgress.{TurnEnds, TurnKnown, turn_lines};
-ghost use Rattle.cweb_lines.specs.surface.MergeProgress.{events_to_come};
-ghost use Rattle.cweb_lines.specs.surface.MergeProgress.{so_far_of};
 ghost use Rattle.cweb_input.specs.surface.OpenedFileNames.{opened_file_names};
 ghost use Rattle.cweb_lines.specs.inner.Stages.{IsSettled, begun_by, floor_of};
 ghost use Rattle.cweb_lines.specs.surface.Stages.{pending_in};

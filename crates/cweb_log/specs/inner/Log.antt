@@ -1,8 +1,7 @@
 -- The names that the lines of stops end in.
 use Rattle.std.specs.Prelude.{ℕ, List, [], codes}
 use Rattle.cweb_input.specs.declared.stop.Stop.{Stop}
-use Rattle.cweb_input.specs.declared.stop.Stop.TheVariants.{WebNotOpened, ChangeNotOpened, ReadFault}
-use Rattle.cweb_input.specs.declared.stop.Stop.TheVariants.{LineTooLong}
+use Rattle.cweb_input.specs.declared.stop.Stop.TheVariants.{WebNotOpened, ChangeNotOpened, ReadFault, LineTooLong}
 use Rattle.cweb_input.specs.declared.stop.Stop.TheVariants.{WriteFault}
 use Rattle.cweb_log.specs.Log.{file_name_at}
 

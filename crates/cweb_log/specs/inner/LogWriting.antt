@@ -2,8 +2,7 @@
 use Rattle.std.specs.Prelude.{◌≡◌, ℕ, List, ◌++◌, IsTrue, Result, OnOk, OnErr}
 use Rattle.std.specs.Borrow.{Bor}
 use Rattle.std.specs.List.{flat_map}
-use Rattle.cweb_files.specs.Device.{CountsFailure}
-use Rattle.cweb_files.specs.Frames.{WritesPrefix}
+use Rattle.cweb_files.specs.Bins.{CountsFailure, WritesPrefix}
 use Rattle.cweb_log.specs.DeviceModels.{SinkModel}
 
 -- All bytes were written, or a prefix of them if a write failed.

@@ -5,8 +5,7 @@ use Rattle.cweb_store.specs.Calls.{Stored}
 use Rattle.cweb_out.specs.Outputs.{bad_name, same_name, cycle}
 use Rattle.cweb_out.specs.declared.outputs.fault.PlanFault.{PlanFault}
 use Rattle.cweb_out.specs.declared.outputs.fault.PlanFault.TheVariants as plan
-use Rattle.cweb_log.specs.Items.{LogItem, fault, stopped}
-use Rattle.cweb_log.specs.WebItems.{refusal_message}
+use Rattle.cweb_log.specs.Items.{LogItem, fault, stopped, refusal_message}
 
 -- A fault of the plan, or a failed allocation, which stops the run.
 abbrev pub plan_item : Stored → List ℕ → PlanFault → LogItem

@@ -1,7 +1,7 @@
 -- The model of `ctangle`'s parsed options.
 use Rattle.std.specs.Prelude.{option_map, string_bytes}
 use Rattle.cweb_log.specs.declared.options.Options.{Options}
-use Rattle.cweb_log.specs.Options.{OptionsModel}
+use Rattle.cweb_log.specs.CommandLine.{OptionsModel}
 
 abbrev pub options_of : Options → OptionsModel
 options_of options = record {

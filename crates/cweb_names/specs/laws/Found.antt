@@ -1,6 +1,5 @@
 -- Lists without duplicates.
-use Rattle.std.specs.Prelude.{◌≡◌, ℕ, false, List, [], ◌∷◌}
-use Rattle.std.specs.Prelude.{bytes_eq}
+use Rattle.std.specs.Prelude.{◌≡◌, ℕ, false, List, [], ◌∷◌, bytes_eq}
 use Rattle.std.specs.List.{list_any}
 
 abbrev pub Distinct : List (List ℕ) → Type 0

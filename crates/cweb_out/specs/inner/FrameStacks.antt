@@ -5,8 +5,7 @@ use Rattle.cweb_names.specs.declared.name.NameId.{NameId}
 use Rattle.cweb_names.specs.declared.name.NameRef.{NameRef}
 use Rattle.cweb_store.specs.Parts.{Token, Name}
 use Rattle.cweb_store.specs.Calls.{Stored}
-use Rattle.cweb_out.specs.Uses.{names, joined, use_of, resolved_use}
-use Rattle.cweb_out.specs.Expansion.{expanded_name, put}
+use Rattle.cweb_out.specs.Expansion.{names, joined, use_of, resolved_use, expanded_name, put}
 use Rattle.cweb_out.specs.surface.FrameSuffixes.{suffix}
 use Rattle.cweb_out.specs.declared.frame.Frame.{Frame}
 use Rattle.cweb_out.specs.surface.FrameStacks.{RanksAreBelow, rank, left}

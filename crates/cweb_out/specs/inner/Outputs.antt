@@ -1,9 +1,8 @@
 -- Valid outputs.
-use Rattle.std.specs.Prelude.{◌<◌}
-use Rattle.std.specs.Prelude.{Option, Some, None}
+use Rattle.std.specs.Prelude.{◌<◌, Option, Some, None}
 use Rattle.cweb_names.specs.declared.name.NameId.{NameId}
 use Rattle.cweb_store.specs.Calls.{Stored}
-use Rattle.cweb_out.specs.Uses.{names}
+use Rattle.cweb_out.specs.Expansion.{names}
 
 -- An output is the main file or belongs to one of the names.
 abbrev pub IsRoot : Stored → Option NameId → Type 0

@@ -5,8 +5,7 @@ use Rattle.std.specs.List.{list_all, after_last}
 use Rattle.cweb_names.specs.declared.name.NameId.{NameId}
 use Rattle.cweb_store.specs.declared.parts.Part.{Part}
 use Rattle.cweb_store.specs.Calls.{Stored}
-use Rattle.cweb_out.specs.Cycles.{cycle_from}
-use Rattle.cweb_out.specs.Ranks.{list_ends}
+use Rattle.cweb_out.specs.Expansion.{cycle_from, list_ends}
 use Rattle.cweb_out.specs.Outputs.{is_control, is_good_name, is_slash}
 use Rattle.cweb_out.specs.Outputs.{names_no_file, output_name, output_of, root_list, start_of}
 use Rattle.cweb_out.specs.inner.Plans.{output_in}

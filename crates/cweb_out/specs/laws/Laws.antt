@@ -6,9 +6,7 @@ use Rattle.cweb_names.specs.declared.name.NameRef.{NameRef}
 use Rattle.cweb_names.specs.Names.{is_id}
 use Rattle.cweb_store.specs.Parts.{Token, Name}
 use Rattle.cweb_store.specs.Calls.{Stored}
-use Rattle.cweb_out.specs.Uses.{joined, resolved_use, uses}
-use Rattle.cweb_out.specs.Ranks.{ends_below}
-use Rattle.cweb_out.specs.Expansion.{expand}
+use Rattle.cweb_out.specs.Expansion.{joined, resolved_use, uses, ends_below, expand}
 use Rattle.cweb_out.specs.Outputs.{cycle, planned}
 use Rattle.cweb_texts.specs.Edges.{last_is}
 use Rattle.cweb_print.specs.Printing.{Setting, file, file_token_bytes, without_joined_layout, left_after, print}

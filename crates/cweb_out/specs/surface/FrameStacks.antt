@@ -1,14 +1,11 @@
 -- The model and invariant of a stack of frames.
-use Rattle.std.specs.Prelude.{ℕ, ◌≤◌, ◌<◌, ◌≡◌, ◌+◌, suc, zero, List, [], ◌∷◌, ◌++◌, true, Option, Some, None}
-use Rattle.std.specs.Prelude.{length}
+use Rattle.std.specs.Prelude.{ℕ, ◌≤◌, ◌<◌, ◌≡◌, ◌+◌, suc, zero, List, [], ◌∷◌, ◌++◌, true, Option, Some, None, length}
 use Rattle.std.specs.List.{list_all}
 use Rattle.cweb_names.specs.declared.name.NameId.{NameId}
 use Rattle.cweb_store.specs.Parts.{Token}
 use Rattle.cweb_store.specs.Calls.{Stored}
-use Rattle.cweb_out.specs.Uses.{names, uses}
-use Rattle.cweb_out.specs.Ranks.{ends_below, list_ends}
+use Rattle.cweb_out.specs.Expansion.{names, uses, ends_below, list_ends, expand}
 use Rattle.cweb_out.specs.surface.Ranks.{name_rank}
-use Rattle.cweb_out.specs.Expansion.{expand}
 use Rattle.cweb_out.specs.Outputs.{root_list}
 use Rattle.cweb_out.specs.surface.FrameSuffixes.{FrameIsWithin, suffix}
 use Rattle.cweb_out.specs.declared.frame.Frame.{Frame}

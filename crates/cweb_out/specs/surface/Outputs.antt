@@ -1,7 +1,5 @@
 -- Plans by output number.
-use Rattle.std.specs.Prelude.{ℕ, ◌≡◌, List, []}
-use Rattle.std.specs.Prelude.{Option, None, Ok}
-use Rattle.std.specs.Prelude.{slice_index_or}
+use Rattle.std.specs.Prelude.{ℕ, ◌≡◌, List, [], Option, None, Ok, slice_index_or}
 use Rattle.cweb_names.specs.declared.name.NameId.{NameId}
 use Rattle.cweb_store.specs.Calls.{Stored}
 use Rattle.cweb_out.specs.Outputs.{outputs, Output, Planned, planned}

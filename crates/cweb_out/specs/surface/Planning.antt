@@ -1,6 +1,5 @@
 -- The results of `plan`.
-use Rattle.std.specs.Prelude.{◌≡◌}
-use Rattle.std.specs.Prelude.{Result, Ok, Err}
+use Rattle.std.specs.Prelude.{◌≡◌, Result, Ok, Err}
 use Rattle.cweb_out.specs.Outputs.{Planned, Refusal, bad_name, same_name, cycle}
 use Rattle.cweb_out.specs.declared.outputs.fault.PlanFault.{PlanFault}
 use Rattle.cweb_out.specs.declared.outputs.fault.PlanFault.TheVariants as fault

@@ -2,8 +2,7 @@
 use Rattle.std.specs.Prelude.{ℕ, suc, zero, Bool, true, false}
 use Rattle.cweb_names.specs.declared.name.NameId.{NameId}
 use Rattle.cweb_store.specs.Calls.{Stored}
-use Rattle.cweb_out.specs.Uses.{names}
-use Rattle.cweb_out.specs.Ranks.{ends_below}
+use Rattle.cweb_out.specs.Expansion.{names, ends_below}
 
 -- The least number below n that passes a test, or n.
 abbrev pub least : (ℕ → Bool) → ℕ → ℕ

@@ -2,7 +2,7 @@
 ghost use Rattle.std.specs.Prelude.{◌≡◌, ◌≤◌, ◌<◌, ◌+◌, ◌++◌, ◌∷◌, [], true, false, None, Some};
 ghost use Rattle.std.specs.Prelude.{length, map, sum_by, option_map, All, IfOk, IfSome, OnOk};
 ghost use Rattle.std.specs.List.{list_all};
-ghost use Rattle.cweb_out.specs.Uses.{names, uses};
+ghost use Rattle.cweb_out.specs.Expansion.{names, uses};
 ghost use Rattle.cweb_out.specs.surface.FrameSuffixes.{FrameIsWithin, suffix};
 ghost use Rattle.cweb_out.specs.inner.Outputs.{IsRoot};
 ghost use Rattle.cweb_out.specs.inner.Planning.{first_cycle};

@@ -3,8 +3,7 @@ use Rattle.std.specs.Prelude.{◌≡◌, ℕ, Bool, true, ◌&&◌, List, Option
 use Rattle.std.specs.List.{list_all}
 use Rattle.cweb_texts.specs.inner.Edges.{TokenBytesModel}
 use Rattle.cweb_store.specs.inner.DirectBytes.{direct_bytes}
-use Rattle.cweb_store.specs.Parts.{Token}
-use Rattle.cweb_store.specs.Layout.{is_layout}
+use Rattle.cweb_store.specs.Parts.{Token, is_layout}
 
 -- The bytes of a token, unless it is dropped. `joined` says whether a join is open.
 abbrev pub direct_unless_dropped : Bool → Token → Option (List ℕ)

@@ -1,11 +1,9 @@
 -- A printer's state: the class of the last printed token, and whether a join is open.
-use Rattle.std.specs.Prelude.{ℕ, ◌==◌, Bool, false, ◌&&◌, List, Option, None, Some}
-use Rattle.std.specs.Prelude.{if◌then◌else◌, fold}
+use Rattle.std.specs.Prelude.{ℕ, ◌==◌, Bool, false, ◌&&◌, List, Option, None, Some, if◌then◌else◌, fold}
 use Rattle.cweb_store.specs.Parts.{Token, Word, Number, Literal, Verbatim, Punct, Blank, Newline, Join, Defs, Name}
-use Rattle.cweb_store.specs.Parts.{Head, Tail, Mark}
+use Rattle.cweb_store.specs.Parts.{Head, Tail, Mark, is_layout}
 use Rattle.cweb_texts.specs.Edges.{last_is, is_operator}
 use Rattle.cweb_print.specs.Printing.{stays_joined}
-use Rattle.cweb_store.specs.Layout.{is_layout}
 use Rattle.cweb_print.specs.declared.printer.class.Class.{Class}
 use Rattle.cweb_print.specs.declared.printer.class.Class.TheVariants as class
 use Rattle.cweb_print.specs.declared.printer.left.Left.{Left}

@@ -2,9 +2,8 @@
 use Rattle.std.specs.Prelude.{ℕ, ◌≡◌, List, [], ◌∷◌, ◌++◌, Result, Ok, Err}
 use Rattle.cweb_input.specs.surface.OpenedFileNames.{opened_file_names}
 use Rattle.cweb_store.specs.Parts.{Token}
-use Rattle.cweb_print.specs.Printing.{Setting, print, file}
+use Rattle.cweb_print.specs.Printing.{Setting, print, file, setting}
 use Rattle.cweb_print.specs.surface.Classes.{left_after_tokens}
-use Rattle.cweb_print.specs.Printers.{setting}
 use Rattle.cweb_print.specs.declared.printer.left.Left.{Left}
 use Rattle.cweb_print.specs.declared.printer.Printer.{Printer}
 

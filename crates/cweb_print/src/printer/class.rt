@@ -1,10 +1,9 @@
 // Classes of tokens, which decide on the blanks between tokens.
-ghost use Rattle.std.specs.Prelude.{◌≡◌, ◌==◌, Some};
+ghost use Rattle.std.specs.Prelude.{◌≡◌, ◌==◌, Some, codes};
 ghost use Rattle.cweb_store.specs.surface.TokenModels.{token_model};
 ghost use Rattle.cweb_texts.specs.Edges.{is_operator, is_one_of, first_is};
 ghost use Rattle.cweb_print.specs.surface.Classes.{class_by, class_of, punct_class};
 ghost use Rattle.cweb_print.specs.inner.Classes.{is_apart};
-ghost use Rattle.std.specs.Prelude.{codes};
 
 use cweb_store::Token;
 

@@ -1,7 +1,7 @@
 // Prints macro lines into the buffer of a sink.
 ghost use Rattle.std.specs.Prelude.{◌≡◌, ◌≤◌, ◌<◌, ◌+◌, ◌^◌, ◌++◌, flat_map, length, take, true};
 ghost use Rattle.std.specs.Prelude.{false, IfSome, IsTrue};
-ghost use Rattle.cweb_files.specs.Device.{CountsFailure};
+ghost use Rattle.cweb_files.specs.Bins.{CountsFailure};
 ghost use Rattle.cweb_texts.specs.inner.Edges.{token_bytes_model};
 ghost use Rattle.cweb_store.specs.Parts.{all_tokens};
 ghost use Rattle.cweb_print.specs.inner.Writing.{Wrote};
@@ -10,8 +10,7 @@ ghost use Rattle.cweb_print.specs.inner.EdgeSpacing.{continued_by};
 ghost use Rattle.cweb_print.specs.inner.Classes.{all_added, macro_by};
 ghost use Rattle.cweb_print.specs.surface.Classes.{at_start};
 ghost use Rattle.cweb_print.specs.surface.TokenRanges.{tokens_of_part};
-ghost use Rattle.cweb_print.specs.Printers.{macros, replaced_in};
-ghost use Rattle.cweb_print.specs.Printing.{macro_line};
+ghost use Rattle.cweb_print.specs.Printing.{macros, replaced_in, macro_line};
 
 use crate::buffer::OutBuffer;
 use crate::buffer::copying::put_if_fits;

@@ -1,6 +1,6 @@
 // Direct tokens: those that are printed as their own bytes.
 ghost use Rattle.std.specs.Prelude.{◌≡◌, ◌<◌, ◌+◌, ◌^◌, ◌++◌, IfSome, IsTrue, Some};
-ghost use Rattle.cweb_files.specs.Device.{CountsFailure};
+ghost use Rattle.cweb_files.specs.Bins.{CountsFailure};
 ghost use Rattle.cweb_store.specs.surface.TokenModels.{token_model};
 ghost use Rattle.cweb_print.specs.inner.Flushing.{blank_where};
 ghost use Rattle.cweb_print.specs.inner.Writing.{Wrote};

@@ -1,6 +1,6 @@
 // The end of a buffered file.
 ghost use Rattle.std.specs.Prelude.{◌≡◌, ◌<◌, ◌+◌, ◌^◌, ◌++◌, [], IsTrue, OnOk, OnErr};
-ghost use Rattle.cweb_files.specs.Device.{CountsFailure};
+ghost use Rattle.cweb_files.specs.Bins.{CountsFailure};
 ghost use Rattle.cweb_print.specs.surface.Classes.{left_after_tokens};
 ghost use Rattle.cweb_print.specs.surface.Printed.{EndsFile, left_in_printer, setting_of};
 

@@ -2,7 +2,7 @@
 ghost use Rattle.std.specs.Prelude.{◌≡◌, ◌&&◌};
 ghost use Rattle.cweb_store.specs.surface.TokenModels.{token_model};
 ghost use Rattle.cweb_print.specs.Printing.{stays_joined};
-ghost use Rattle.cweb_store.specs.Layout.{is_layout};
+ghost use Rattle.cweb_store.specs.Parts.{is_layout};
 ghost use Rattle.cweb_print.specs.surface.Classes.{at_start, is_dropped, left_after_token};
 ghost use Rattle.cweb_print.specs.inner.Classes.{separator};
 

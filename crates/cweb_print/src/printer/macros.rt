@@ -1,14 +1,12 @@
 // Writes macro lines to a sink.
 ghost use Rattle.std.specs.Prelude.{◌≡◌, ◌≤◌, ◌<◌, ◌+◌, ◌^◌, ◌++◌, IsTrue, length, slice_range};
-ghost use Rattle.cweb_files.specs.Device.{CountsFailure};
+ghost use Rattle.cweb_files.specs.Bins.{CountsFailure};
 ghost use Rattle.cweb_store.specs.surface.TokenModels.{token_model};
 ghost use Rattle.cweb_store.specs.Parts.{all_tokens};
 ghost use Rattle.cweb_print.specs.inner.Writing.{Wrote};
-ghost use Rattle.cweb_print.specs.Printing.{macro_line};
-ghost use Rattle.cweb_print.specs.inner.Classes.{added, all_added, continuation_bytes};
+ghost use Rattle.cweb_print.specs.Printing.{macro_line, macros, replaced_in};
+ghost use Rattle.cweb_print.specs.inner.Classes.{added, all_added, continuation_bytes, macro_by};
 ghost use Rattle.cweb_print.specs.surface.Classes.{at_start};
-ghost use Rattle.cweb_print.specs.inner.Classes.{macro_by};
-ghost use Rattle.cweb_print.specs.Printers.{macros, replaced_in};
 ghost use Rattle.cweb_print.specs.surface.TokenRanges.{tokens_of_part};
 ghost use Rattle.std.specs.Prelude.{flat_map};
 

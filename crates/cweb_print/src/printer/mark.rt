@@ -1,7 +1,7 @@
 // Line marks (`#line`).
 ghost use Rattle.std.specs.Prelude.{◌≡◌, ◌<◌, ◌+◌, ◌^◌, ◌++◌, IsTrue};
 ghost use Rattle.std.specs.List.{list_any};
-ghost use Rattle.cweb_files.specs.Device.{CountsFailure};
+ghost use Rattle.cweb_files.specs.Bins.{CountsFailure};
 ghost use Rattle.cweb_print.specs.inner.Writing.{Wrote};
 ghost use Rattle.cweb_print.specs.Printing.{mark_line, quoted, quoted_byte, wants_backslash};
 

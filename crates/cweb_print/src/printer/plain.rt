@@ -1,11 +1,11 @@
 // The bytes of tokens that don't depend on the previous token.
 ghost use Rattle.std.specs.Prelude.{◌≡◌, ◌<◌, ◌+◌, ◌^◌, IsTrue, nat_le};
 ghost use Rattle.std.specs.List.{list_any};
-ghost use Rattle.cweb_files.specs.Device.{CountsFailure};
+ghost use Rattle.cweb_files.specs.Bins.{CountsFailure};
 ghost use Rattle.cweb_store.specs.surface.TokenModels.{token_model};
 ghost use Rattle.cweb_print.specs.inner.Writing.{Wrote};
 ghost use Rattle.cweb_print.specs.Printing.{numbered_comment, plain_bytes, word_byte, word_bytes};
-ghost use Rattle.cweb_print.specs.Printers.{default_replacement, hex_digit, replaced_in};
+ghost use Rattle.cweb_print.specs.Printing.{default_replacement, hex_digit, replaced_in};
 
 use crate::chunks::{write_chunk, write_chunks};
 use cweb_files::{Sink, SinkFault};

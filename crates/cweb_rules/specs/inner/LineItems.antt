@@ -5,10 +5,9 @@ use Rattle.cweb_rules.specs.Bytes.{is_blank, is_line_end, begins, first_is, at_l
 use Rattle.cweb_rules.specs.declared.effect.Effect.{Effect}
 use Rattle.cweb_rules.specs.declared.effect.Effect.TheVariants.{Named}
 use Rattle.cweb_rules.specs.Codes.{in_limbo, in_tex, in_macro, in_c}
-use Rattle.cweb_rules.specs.Cut.{reach}
+use Rattle.cweb_rules.specs.Items.{reach, look_in_comment, look_in_name, look_in_literal, look_in_raw}
 use Rattle.cweb_rules.specs.declared.end.End.{End}
 use Rattle.cweb_rules.specs.declared.end.End.TheVariants.{Closed, Cut, Nested, Open}
-use Rattle.cweb_rules.specs.Items.{look_in_comment, look_in_name, look_in_literal, look_in_raw}
 use Rattle.cweb_rules.specs.Matches.{literal_prefix, quote_of, starts_literal, raw_prefix, delimiter, raw_closer}
 use Rattle.cweb_rules.specs.Matches.{starts_raw}
 use Rattle.cweb_rules.specs.declared.context.Context.{Context}

@@ -1,9 +1,8 @@
 -- Delimited items of the type `Item`, and their extent.
 use Rattle.std.specs.Prelude.{◌<◌, ℕ, List, codes, length}
 use Rattle.cweb_rules.specs.Bytes.{begins, at_line_end}
-use Rattle.cweb_rules.specs.Cut.{Reach, body}
-use Rattle.cweb_rules.specs.Items.{look_in_control, look_in_name, look_in_comment, look_in_literal, look_in_include}
-use Rattle.cweb_rules.specs.Items.{look_in_raw}
+use Rattle.cweb_rules.specs.Items.{Reach, body, look_in_control, look_in_name, look_in_comment, look_in_literal}
+use Rattle.cweb_rules.specs.Items.{look_in_include, look_in_raw}
 use Rattle.cweb_rules.specs.declared.items.Item.{Item}
 use Rattle.cweb_rules.specs.declared.items.Item.TheVariants.{ControlText, Name, Comment, LineComment, Literal}
 use Rattle.cweb_rules.specs.declared.items.Item.TheVariants.{IncludedName, RawLiteral}

@@ -3,9 +3,9 @@ use Rattle.std.specs.Prelude.{◌≡◌, ◌≤◌, ◌<◌, ℕ, ◌+◌, List,
 use Rattle.std.specs.Fmt.{decimal}
 use Rattle.cweb_rules.specs.Bytes.{is_line_end}
 use Rattle.cweb_rules.specs.Items.{unescaped}
-use Rattle.cweb_rules.specs.Kinds.{Kind, Skipped, Section, Code, Letter, ControlText, Verbatim, Constant, Occurrence}
-use Rattle.cweb_rules.specs.Kinds.{Blanks, LineEnd, Comment, Quoted, Defined, Identifier, Numeral, Punctuator}
-use Rattle.cweb_rules.specs.Kinds.{RuleMatch}
+use Rattle.cweb_rules.specs.Matches.{Kind, Skipped, Section, Code, Letter, ControlText, Verbatim, Constant, Occurrence}
+use Rattle.cweb_rules.specs.Matches.{Blanks, LineEnd, Comment, Quoted, Defined, Identifier, Numeral, Punctuator}
+use Rattle.cweb_rules.specs.Matches.{RuleMatch}
 use Rattle.cweb_rules.specs.declared.context.Context.{Context}
 use Rattle.cweb_rules.specs.declared.context.Context.TheVariants.{Limbo, TeX, Definition, Macro, CText}
 

@@ -3,9 +3,7 @@ use Rattle.std.specs.Prelude.{◌≤◌, ℕ, ◌+◌, List, [], ◌∷◌, Opti
 use Rattle.cweb_names.specs.Names.{Occurrence}
 use Rattle.cweb_store.specs.Parts.{Token, Word, Number, Literal, Verbatim, Punct, Blank, Newline, Join, Defs, Name}
 use Rattle.cweb_store.specs.Parts.{Head, Tail, Mark, Part}
-use Rattle.cweb_store.specs.Growing.{PartsSoFar}
-use Rattle.cweb_store.specs.Calls.{Contents}
-use Rattle.cweb_store.specs.Replacements.{Replacement}
+use Rattle.cweb_store.specs.Calls.{PartsSoFar, Contents, Replacement}
 use Rattle.cweb_rules.specs.laws.Pays.{owed_tokens}
 use Rattle.cweb_scan.specs.State.{ScanState}
 

@@ -1,13 +1,11 @@
 -- The invariant of the code's directive state.
 use Rattle.std.specs.Prelude.{◌≡◌, Bool, true, false, Option, Some, None}
-use Rattle.cweb_store.specs.Parts.{Part, is_macro}
-use Rattle.cweb_store.specs.Layout.{is_layout, without_last}
+use Rattle.cweb_store.specs.Parts.{Part, is_macro, is_layout, without_last}
 use Rattle.cweb_rules.specs.declared.context.Context.{Context}
 use Rattle.cweb_rules.specs.declared.context.Context.TheVariants.{Limbo, TeX, Definition, Macro, CText}
 use Rattle.cweb_scan.specs.inner.Stages.{after_tokens}
 use Rattle.cweb_scan.specs.declared.directive.Directive.{Directive}
-use Rattle.cweb_scan.specs.CurrentDirective.{is_c}
-use Rattle.cweb_scan.specs.State.{tokens_of}
+use Rattle.cweb_scan.specs.State.{is_c, tokens_of}
 
 abbrev pub is_part_open : Option Part → Bool
 is_part_open None = false

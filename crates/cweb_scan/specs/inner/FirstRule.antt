@@ -5,8 +5,7 @@ use Rattle.cweb_rules.specs.inner.Rules.{c_rule}
 use Rattle.cweb_rules.specs.declared.context.Context.{Context}
 use Rattle.cweb_rules.specs.declared.context.Context.TheVariants.{Limbo, TeX, Definition, Macro, CText}
 use Rattle.cweb_rules.specs.declared.rule.Rule.{Rule}
-use Rattle.cweb_scan.specs.CurrentDirective.{is_c, names_include}
-use Rattle.cweb_scan.specs.State.{ScanState}
+use Rattle.cweb_scan.specs.State.{is_c, names_include, ScanState}
 
 -- A `\` at the end of a line emits nothing in a macro.
 abbrev pub ends_macro_line : Context → List ℕ → Bool

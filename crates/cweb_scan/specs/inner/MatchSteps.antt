@@ -2,7 +2,7 @@
 use Rattle.std.specs.Prelude.{◌≡◌, ℕ, Bool, true, false, not, List, [], take, codes, bytes_eq, if◌then◌else◌}
 use Rattle.cweb_rules.specs.Bytes.{begins, first_is, is_blank, is_line_end, starts_section}
 use Rattle.cweb_rules.specs.Codes.{in_limbo, in_tex, in_macro, in_c}
-use Rattle.cweb_rules.specs.Kinds.{RuleMatch}
+use Rattle.cweb_rules.specs.Matches.{RuleMatch}
 use Rattle.cweb_rules.specs.declared.context.Context.{Context}
 use Rattle.cweb_rules.specs.declared.context.Context.TheVariants.{Limbo, TeX, Definition, Macro, CText}
 use Rattle.cweb_rules.specs.declared.effect.Effect.{Effect}
@@ -13,9 +13,8 @@ use Rattle.cweb_rules.specs.declared.fault.ScanKind.TheVariants.{DoubleAtInStrin
 use Rattle.cweb_rules.specs.declared.rule.Rule.{Rule}
 use Rattle.cweb_rules.specs.declared.rule.Rule.TheVariants as rule
 use Rattle.cweb_scan.specs.After.{item}
-use Rattle.cweb_scan.specs.CurrentDirective.{is_c}
+use Rattle.cweb_scan.specs.State.{is_c, ScanState, report}
 use Rattle.cweb_scan.specs.inner.DirectiveInvariant.{in_open_part}
-use Rattle.cweb_scan.specs.State.{ScanState, report}
 
 abbrev pub after_match : RuleMatch → List ℕ → ScanState → ScanState
 after_match f t s = (item f.kind (take f.size t) (record { state = s; later = [] })).state

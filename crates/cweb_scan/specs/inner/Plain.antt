@@ -1,15 +1,13 @@
 -- Lexemes of C text that their first byte determines, outside directives.
 use Rattle.std.specs.Prelude.{◌≡◌, ℕ, Bool, ◌&&◌, false, List, codes, Option, Some, None}
-use Rattle.cweb_store.specs.Parts.{Token}
-use Rattle.cweb_store.specs.Layout.{is_layout}
+use Rattle.cweb_store.specs.Parts.{Token, is_layout}
 use Rattle.cweb_rules.specs.declared.context.Context.TheVariants.{CText}
 use Rattle.cweb_scan.specs.inner.Stages.{is_further_stage, last_kind, stage_of}
 use Rattle.cweb_scan.specs.declared.directive.Last.TheVariants as last
-use Rattle.cweb_scan.specs.CurrentDirective.{directive, in_directive, is_c}
+use Rattle.cweb_scan.specs.State.{directive, in_directive, is_c, ScanState}
 use Rattle.cweb_scan.specs.DirectiveTokens.{is_punct}
 use Rattle.cweb_scan.specs.inner.ReaderModel.{TakesPrefix}
 use Rattle.cweb_scan.specs.inner.Resume.{Between}
-use Rattle.cweb_scan.specs.State.{ScanState}
 
 -- The number of bytes that were taken, if any.
 abbrev pub taken_size : Option ℕ → ℕ

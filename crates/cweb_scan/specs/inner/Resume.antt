@@ -3,14 +3,14 @@ use Rattle.std.specs.Prelude.{ℕ, ◌+◌, Bool, true, false, List, [], ◌∷�
 use Rattle.std.specs.Prelude.{if◌then◌else◌}
 use Rattle.std.specs.List.{fold}
 use Rattle.cweb_files.specs.declared.place.Place.{Place}
-use Rattle.cweb_rules.specs.Cut.{Reach, body, reach_size}
+use Rattle.cweb_rules.specs.Items.{Reach, body, reach_size}
 use Rattle.cweb_rules.specs.Matches.{opener_after}
 use Rattle.cweb_rules.specs.Items as items
 use Rattle.cweb_scan.specs.State.{ScanState, move_to}
 use Rattle.cweb_rules.specs.declared.context.Context.TheVariants.{Limbo, TeX, Definition, Macro, CText}
 use Rattle.cweb_scan.specs.After.{Reading, on, each_line_end, comment_line_end, pass_comment, occurrence}
 use Rattle.cweb_scan.specs.After.{emit_literal, literal_unit}
-use Rattle.cweb_scan.specs.Lexemes.{lex}
+use Rattle.cweb_scan.specs.Alone.{lex}
 
 -- No item, a comment, a name with its bytes so far, or a literal with its quote and bytes so far. A literal may wait
 -- for a newline after `\`, or be raw with its delimiter.

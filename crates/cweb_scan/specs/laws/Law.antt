@@ -2,9 +2,9 @@
 use Rattle.std.specs.Prelude.{◌≡◌, ◌<◌, ℕ, Bool, true, List, [], ◌∷◌, ◌++◌, length, All}
 use Rattle.cweb_files.specs.declared.place.Place.{Place}
 use Rattle.cweb_store.specs.Parts.{Token, Mark, all_tokens}
-use Rattle.cweb_rules.specs.Kinds.{Lexeme}
+use Rattle.cweb_rules.specs.Matches.{Lexeme}
 use Rattle.cweb_scan.specs.After.{Reading, after_lexeme}
-use Rattle.cweb_scan.specs.Lexemes.{next_match, Scanned}
+use Rattle.cweb_scan.specs.Alone.{next_match, Scanned}
 
 -- The lexeme is a prefix of the source, and the one that the rules determine.
 pub record IsRuleMatch (r : Reading) (t : List ℕ) (p : Lexeme) : Type 0 where

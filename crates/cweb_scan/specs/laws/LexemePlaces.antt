@@ -3,11 +3,11 @@ use Rattle.std.specs.Prelude.{◌≡◌, ℕ, List, ◌∷◌, ◌++◌, Some}
 use Rattle.std.specs.List.{flat_map, fold, slice_get}
 use Rattle.cweb_files.specs.declared.place.Place.{Place}
 use Rattle.cweb_input.specs.Lines.{Line}
-use Rattle.cweb_rules.specs.Kinds.{Lexeme}
+use Rattle.cweb_rules.specs.Matches.{Lexeme}
 use Rattle.cweb_rules.specs.laws.Pays.{at_line_ends}
 use Rattle.cweb_scan.specs.After.{Reading, after_lexeme}
 use Rattle.cweb_scan.specs.laws.ReaderModel.{places}
-use Rattle.cweb_scan.specs.Lexemes.{newline_prefixed, lexemes}
+use Rattle.cweb_scan.specs.Alone.{newline_prefixed, lexemes}
 use Rattle.cweb_scan.specs.State.{start_state}
 
 -- The reading before the first lexeme of some lines.

@@ -2,16 +2,15 @@
 use Rattle.std.specs.Prelude.{◌≡◌, ◌<◌, ◌≤◌, ◌+◌, ℕ, List, [], length, All, Option, Some}
 use Rattle.cweb_input.specs.Lines.{Line}
 use Rattle.cweb_lines.specs.Merge.{Event}
-use Rattle.cweb_lines.specs.surface.MergeProgress.{SoFar, EmitsLines, StopsAfterLines}
-use Rattle.cweb_lines.specs.surface.MergeProgress.{ReportsPrefix}
+use Rattle.cweb_lines.specs.surface.MergeProgress.{SoFar, EmitsLines, StopsAfterLines, ReportsPrefix}
 use Rattle.cweb_input.specs.surface.OpenSources.{StopsFor, StopsReading}
 use Rattle.cweb_input.specs.OpenSources.{read_failures_of}
-use Rattle.cweb_lines.specs.EventsByKind.{emitted_lines}
+use Rattle.cweb_lines.specs.Events.{emitted_lines}
 use Rattle.cweb_input.specs.declared.limits.TheConstants.{LINES, BYTES}
 use Rattle.cweb_input.specs.declared.stop.Stop.{Stop}
 use Rattle.cweb_store.specs.Parts.{Token, Mark, all_tokens}
 use Rattle.cweb_scan.specs.surface.Law.{IsBounded, web_size}
-use Rattle.cweb_scan.specs.Lexemes.{Scanned, scanned}
+use Rattle.cweb_scan.specs.Alone.{Scanned, scanned}
 
 abbrev pub IsMarkBelow : ℕ → Token → Type 0
 IsMarkBelow files (Mark place) = place.file.0 < files

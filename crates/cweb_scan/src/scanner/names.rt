@@ -10,10 +10,9 @@ use std::alloc::AllocError;
 
 impl Scanner {
     ghost use Rattle.cweb_scan.specs.After as spec;
-    ghost use Rattle.cweb_scan.specs.NameOccurrences.{as_occurrence, name_occurrence};
+    ghost use Rattle.cweb_scan.specs.State.{as_occurrence, name_occurrence, add_name};
     ghost use Rattle.cweb_scan.specs.inner.Resume.{takes_opener};
     ghost use Rattle.cweb_scan.specs.inner.Room.{HasItemRoom};
-    ghost use Rattle.cweb_scan.specs.State.{add_name};
 
     // Adds the occurrence of a name as it is spelled, and returns its index.
     fn add_spelled(&mut self, is_file: bool, name: &[u8]) -> Result<NameRef, AllocError>

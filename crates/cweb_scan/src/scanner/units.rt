@@ -1,6 +1,6 @@
 // Units of delimited items, and their faults.
 ghost use Rattle.std.specs.Prelude.{◌≡◌, ◌≤◌, ◌<◌, ◌+◌, IfOk, OnErr, OnOk, length, fold, true};
-ghost use Rattle.cweb_rules.specs.Cut as cut;
+ghost use Rattle.cweb_rules.specs.Items as cut;
 ghost use Rattle.cweb_rules.specs.inner.Looks.{look_of, reached};
 ghost use Rattle.cweb_rules.specs.declared.end.End.TheVariants as how;
 ghost use Rattle.cweb_scan.specs.inner.MatchSteps.{unit_state};

@@ -1,6 +1,5 @@
 -- Faults of names, one by one.
-use Rattle.std.specs.Prelude.{◌∷◌, [], ℕ, Bool, List}
-use Rattle.std.specs.Prelude.{if◌then◌else◌}
+use Rattle.std.specs.Prelude.{◌∷◌, [], ℕ, Bool, List, if◌then◌else◌}
 use Rattle.cweb_names.specs.declared.name.NameKind.{NameKind}
 use Rattle.cweb_names.specs.declared.name.NameFault.{NameFault}
 use Rattle.cweb_store.specs.Faults.{fault_of_name}

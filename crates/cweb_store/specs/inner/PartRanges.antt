@@ -4,7 +4,7 @@ use Rattle.std.specs.Prelude.{option_map, option_to_list, IsSome}
 use Rattle.cweb_store.specs.declared.parts.PartRange.{PartRange}
 use Rattle.cweb_store.specs.declared.parts.Open.{Open}
 use Rattle.cweb_store.specs.Parts.{Token, Part}
-use Rattle.cweb_store.specs.Growing.{PartsSoFar}
+use Rattle.cweb_store.specs.Calls.{PartsSoFar}
 use Rattle.cweb_names.specs.surface.Names.{too_many}
 use Rattle.cweb_store.specs.inner.ClosedTokens.{ClosedTokensModel, tokens_alone}
 

@@ -1,7 +1,7 @@
 -- Tokens and parts of a builder, with the room reserved for them.
 use Rattle.std.specs.Prelude.{ℕ, List}
 use Rattle.cweb_store.specs.Parts.{Token}
-use Rattle.cweb_store.specs.Growing.{PartsSoFar}
+use Rattle.cweb_store.specs.Calls.{PartsSoFar}
 
 -- The room for tokens, and for the places of Marks, uses and Defs among them.
 pub record TokenRooms : Type 0 where

@@ -9,12 +9,11 @@ use Rattle.cweb_store.specs.declared.parts.links.Links.{Links}
 use Rattle.cweb_names.specs.Names.{Resolution, names}
 use Rattle.cweb_names.specs.surface.Names.{too_many}
 use Rattle.cweb_names.specs.inner.OccurrenceTables.{occurrences_at}
-use Rattle.cweb_store.specs.Replacements.{Replacement}
+use Rattle.cweb_store.specs.Calls.{Replacement, Stored, stored}
 use Rattle.cweb_store.specs.surface.Replacements.{replacement_of}
 use Rattle.cweb_store.specs.inner.PartRanges.{IsWhole, closed_in}
 use Rattle.cweb_store.specs.inner.Links.{AreLinked}
 use Rattle.cweb_store.specs.inner.ClosedTokens.{ClosedTokensModel}
-use Rattle.cweb_store.specs.Calls.{Stored, stored}
 use Rattle.cweb_store.specs.inner.Answers.{AreAnswers}
 
 -- Replacements from their strings and bytes.

@@ -2,8 +2,7 @@
 use Rattle.std.specs.Prelude.{Bool}
 use Rattle.cweb_store.specs.declared.tokens.layout.Trailing.{Trailing}
 use Rattle.cweb_store.specs.declared.tokens.layout.Trailing.TheVariants as trailing
-use Rattle.cweb_store.specs.Parts.{Token}
-use Rattle.cweb_store.specs.Layout.{is_layout, is_newline}
+use Rattle.cweb_store.specs.Parts.{Token, is_layout, is_newline}
 
 abbrev pub is_trailing : Trailing → Token → Bool
 is_trailing trailing.Layout token = is_layout token

@@ -3,9 +3,8 @@ use Rattle.std.specs.Prelude.{List, fold}
 use Rattle.cweb_store.specs.declared.parts.PartKind.{PartKind}
 use Rattle.cweb_names.specs.Names.{Occurrence}
 use Rattle.cweb_store.specs.Parts.{Token}
-use Rattle.cweb_store.specs.Replacements.{Replacement}
-use Rattle.cweb_store.specs.Calls.{Contents, empty, with_occurrence, with_open, with_token, with_dropped, with_closed}
-use Rattle.cweb_store.specs.Calls.{with_replacement}
+use Rattle.cweb_store.specs.Calls.{Replacement, Contents, empty, with_occurrence, with_open, with_token, with_dropped}
+use Rattle.cweb_store.specs.Calls.{with_closed, with_replacement}
 
 -- A call that was accepted.
 pub data Call : Type 0 where

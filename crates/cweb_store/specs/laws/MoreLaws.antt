@@ -6,8 +6,7 @@ use Rattle.cweb_names.specs.declared.name.How.TheVariants.{Prefix}
 use Rattle.cweb_names.specs.declared.name.NameFault.{NameFault}
 use Rattle.cweb_store.specs.declared.parts.PartKind.TheVariants.{Macro}
 use Rattle.cweb_names.specs.Names.{Occurrence, Resolution, spellings, names}
-use Rattle.cweb_store.specs.Parts.{Token, Part}
-use Rattle.cweb_store.specs.Layout.{is_layout, protected_count, without_layout}
+use Rattle.cweb_store.specs.Parts.{Token, Part, is_layout, protected_count, without_layout}
 use Rattle.cweb_store.specs.Faults.{unresolved_fault, unresolved_faults}
 use Rattle.cweb_names.specs.laws.Found.{Distinct}
 use Rattle.cweb_store.specs.laws.Laws.{resolved_spelling}

@@ -1,6 +1,5 @@
 -- Parts as ranges of token indices.
-use Rattle.std.specs.Prelude.{ℕ, ◌+◌, Bool, List, [], ◌∷◌, flat_map}
-use Rattle.std.specs.Prelude.{length, slice_range, if◌then◌else◌}
+use Rattle.std.specs.Prelude.{ℕ, ◌+◌, Bool, List, [], ◌∷◌, flat_map, length, slice_range, if◌then◌else◌}
 use Rattle.cweb_store.specs.declared.parts.PartKind.{PartKind}
 use Rattle.cweb_store.specs.declared.parts.Part as declared
 use Rattle.cweb_store.specs.Parts.{Token, Part}

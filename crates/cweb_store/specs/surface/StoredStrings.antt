@@ -4,8 +4,7 @@ use Rattle.cweb_texts.specs.surface.StringTables.{total}
 use Rattle.cweb_names.specs.surface.Names.{occurrence_text}
 use Rattle.cweb_store.specs.Parts.{all_tokens}
 use Rattle.cweb_store.specs.surface.TokenStrings.{token_strings, token_size, interned_token_bytes}
-use Rattle.cweb_store.specs.Replacements.{Replacement}
-use Rattle.cweb_store.specs.Calls.{Stored}
+use Rattle.cweb_store.specs.Calls.{Replacement, Stored}
 
 abbrev pub replacement_bytes : Replacement → List ℕ
 replacement_bytes r = r.text

@@ -1,11 +1,9 @@
 // Parts while they are added.
 
 ghost use Rattle.std.specs.Prelude.{◌≡◌, ◌<◌, ◌+◌, IsSome, IsNone, is_some, OnOk, OnErr};
-ghost use Rattle.cweb_store.specs.Growing.{with_closed_part, all_parts, with_dropped_layout};
-ghost use Rattle.cweb_store.specs.Growing.{no_parts, with_opened_part};
-ghost use Rattle.cweb_store.specs.surface.Growing.{part_count};
-ghost use Rattle.cweb_store.specs.Growing.{with_pushed_token};
-ghost use Rattle.cweb_store.specs.surface.Growing.{token_count};
+ghost use Rattle.cweb_store.specs.Calls.{with_closed_part, all_parts, with_dropped_layout};
+ghost use Rattle.cweb_store.specs.Calls.{no_parts, with_opened_part, with_pushed_token};
+ghost use Rattle.cweb_store.specs.surface.Growing.{part_count, token_count};
 ghost use Rattle.cweb_names.specs.surface.Names.{too_many};
 ghost use Rattle.cweb_store.specs.inner.PartRanges.{last_range};
 

@@ -1,8 +1,8 @@
 // Finds the end of a part without its trailing layout.
 
 ghost use Rattle.std.specs.Prelude.{◌≡◌, ◌≤◌, ℕ, filter, length, take, drop};
-ghost use Rattle.cweb_store.specs.Layout.{at_close, is_blank, without_blank, without_last_after};
-ghost use Rattle.cweb_store.specs.Layout.{without_layout};
+ghost use Rattle.cweb_store.specs.Parts.{at_close, is_blank, without_blank, without_last_after};
+ghost use Rattle.cweb_store.specs.Parts.{without_layout};
 ghost use Rattle.cweb_store.specs.inner.PartRanges.{open_in};
 ghost use Rattle.cweb_store.specs.inner.Trailing.{is_trailing};
 ghost use Rattle.cweb_store.specs.inner.TokenStrings.{has_string};

@@ -1,8 +1,7 @@
 // Tokens as records of 8 bytes. A record holds an index of its string, or of its place if it is a Mark.
 
 ghost use Rattle.std.specs.Prelude.{◌≡◌, ◌<◌, ◌+◌, [], List, ℕ, true, length, take, Some};
-ghost use Rattle.std.specs.Prelude.{slice_get, map, IfOk, OnOk, OnErr};
-ghost use Rattle.std.specs.Prelude.{vec_capacity, vec_len};
+ghost use Rattle.std.specs.Prelude.{slice_get, map, IfOk, OnOk, OnErr, vec_capacity, vec_len};
 ghost use Rattle.cweb_files.specs.declared.place.Place.{Place};
 ghost use Rattle.cweb_names.specs.surface.Names.{too_many};
 ghost use Rattle.cweb_store.specs.inner.Records.{AreNumbered, RecordHasRoom, AddsPlace, PlaceIsWithin};

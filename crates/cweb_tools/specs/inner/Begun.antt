@@ -4,9 +4,8 @@ use Rattle.cweb_files.specs.declared.device.Shelf.{Ghosts as Shelf}
 use Rattle.cweb_input.specs.Include.{World, Found}
 use Rattle.cweb_lines.specs.surface.MergerCalls.{BeginsMerge, KnowsReaders, so_far, to_come}
 use Rattle.cweb_lines.specs.declared.merger.Merger.{Merger}
-use Rattle.cweb_log.specs.Options.{OptionsModel}
+use Rattle.cweb_log.specs.CommandLine.{OptionsModel, WebNames}
 use Rattle.cweb_log.specs.DeviceModels.{Devices, SinkModel, ShelfModel}
-use Rattle.cweb_log.specs.Words.{WebNames}
 use Rattle.cweb_tools.specs.inner.Course.{found_course}
 use Rattle.cweb_tools.specs.inner.Does.{FollowsCourse}
 use Rattle.cweb_tools.specs.MergePromises.{Merges}

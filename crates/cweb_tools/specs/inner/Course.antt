@@ -1,11 +1,10 @@
 -- The course of `wmerge`, from its words.
 use Rattle.std.specs.Prelude.{ℕ, List, ◌∷◌, Option, None, Some}
-use Rattle.cweb_input.specs.Finding.{names_found, contents_found}
-use Rattle.cweb_input.specs.Include.{World, Found, web_at, change_at}
+use Rattle.cweb_input.specs.Include.{names_found, contents_found, World, Found, web_at, change_at}
 use Rattle.cweb_lines.specs.Merge.{started}
 use Rattle.cweb_lines.specs.surface.Total.{merge}
 use Rattle.cweb_log.specs.DeviceModels.{Devices}
-use Rattle.cweb_log.specs.Words.{WebNames, web_names_by}
+use Rattle.cweb_log.specs.CommandLine.{WebNames, web_names_by}
 use Rattle.cweb_tools.specs.Course.{Course, unread, not_there, change_not_there, merging, change_name, world_of}
 use Rattle.cweb_tools.specs.MergePromises.{Merges, RefusesArgs}
 

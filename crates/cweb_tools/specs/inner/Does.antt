@@ -3,12 +3,10 @@ use Rattle.std.specs.Prelude.{◌≡◌, ℕ, ◌+◌, List, [], Option, Some, N
 use Rattle.cweb_input.specs.OpenSources.{read_failures_of}
 use Rattle.cweb_input.specs.declared.stop.Stop.{Stop}
 use Rattle.cweb_input.specs.declared.stop.Stop.TheVariants.{LogFault}
-use Rattle.cweb_log.specs.Log.{stop_line}
-use Rattle.cweb_log.specs.LogWriting.{Logs}
+use Rattle.cweb_log.specs.Log.{stop_line, Logs}
 use Rattle.cweb_log.specs.DeviceModels.{SinkModel, Devices, ShelfModel}
-use Rattle.cweb_tools.specs.Acts.{Act, Ending, ending, DeviceState, PerformsActs}
+use Rattle.cweb_tools.specs.Acts.{Act, Ending, ending, DeviceState, PerformsActs, AgreesWith}
 use Rattle.cweb_tools.specs.Script.{TangleCourse}
-use Rattle.cweb_tools.specs.Does.{AgreesWith}
 use Rattle.cweb_tools.specs.laws.Leaves.{bins_blame}
 
 -- Acts that begin in this state end in one that agrees with the devices.

@@ -12,8 +12,7 @@ use Rattle.cweb_out.specs.surface.FrameStacks.{IsFrameStack, left}
 use Rattle.cweb_out.specs.surface.Outputs.{IsPlanOf, output_name_at, output_at}
 use Rattle.cweb_out.specs.Outputs.{Output}
 use Rattle.cweb_print.specs.surface.Printed.{left_in_printer, setting_of}
-use Rattle.cweb_print.specs.Printers.{setting}
-use Rattle.cweb_print.specs.Printing.{print}
+use Rattle.cweb_print.specs.Printing.{setting, print}
 use Rattle.cweb_out.specs.declared.expander.Expander.{Expander}
 use Rattle.cweb_print.specs.declared.printer.Printer.{Printer}
 use Rattle.cweb_tools.specs.Acts.{Ending, ending}

@@ -2,9 +2,9 @@
 use Rattle.std.specs.Prelude.{ℕ, ◌==◌, List, [], ◌∷◌, Option, None, Some, if◌then◌else◌}
 use Rattle.cweb_input.specs.Include.{World}
 use Rattle.cweb_input.specs.declared.stop.Stop.TheVariants.{WebNotOpened, ChangeNotOpened}
-use Rattle.cweb_out.specs.Uses.{names}
+use Rattle.cweb_out.specs.Expansion.{names}
 use Rattle.cweb_log.specs.Items.{fault_count, stopped}
-use Rattle.cweb_log.specs.Options.{OptionsModel}
+use Rattle.cweb_log.specs.CommandLine.{OptionsModel}
 use Rattle.cweb_log.specs.declared.shown.Shown.{Shown}
 use Rattle.cweb_tools.specs.Acts.{Act, opens, reads, says}
 use Rattle.cweb_tools.specs.Script.{Planning, TangleCourse, Web, unread, not_there, change_not_there, tangling}

@@ -3,7 +3,7 @@ use Rattle.std.specs.Prelude.{◌≡◌, ℕ, List, ◌++◌}
 use Rattle.cweb_files.specs.Files.{File}
 use Rattle.cweb_input.specs.declared.stop.Stop.{Stop}
 use Rattle.cweb_input.specs.declared.stop.Stop.TheVariants.{OutNotOpened, WriteFault}
-use Rattle.cweb_tools.specs.Leaves.{put_files}
+use Rattle.cweb_tools.specs.MergePromises.{put_files}
 
 -- The first of the expected files were committed, in order, each whole. All others are unchanged.
 pub record LeavesFiles (due old new : List File) : Type 0 where

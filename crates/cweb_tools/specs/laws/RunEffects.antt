@@ -1,24 +1,21 @@
 -- Laws of whole runs. Each follows from the definition of how a run ends.
 use Rattle.std.specs.Prelude.{◌≡◌, ◌≢◌, ◌≤◌, ◌⊎◌, ℕ, ◌+◌, List, [], ◌∷◌, ◌++◌, Option, IsTrue}
 use Rattle.std.specs.List.{flat_map}
-use Rattle.cweb_files.specs.Frames.{WritesPrefix}
+use Rattle.cweb_files.specs.Bins.{WritesPrefix}
 use Rattle.cweb_input.specs.Include.{World}
 use Rattle.cweb_input.specs.OpenSources.{read_failures_of}
 use Rattle.cweb_input.specs.declared.stop.Stop.{Stop}
 use Rattle.cweb_input.specs.declared.stop.Stop.TheVariants.{LogFault}
 use Rattle.cweb_log.specs.Items.{LogItem, line}
 use Rattle.cweb_log.specs.Log.{stop_line}
-use Rattle.cweb_log.specs.Options.{OptionsModel}
-use Rattle.cweb_log.specs.Words.{WebNames}
+use Rattle.cweb_log.specs.CommandLine.{OptionsModel, WebNames}
 use Rattle.cweb_log.specs.DeviceModels.{Devices, SinkModel}
 use Rattle.cweb_log.specs.declared.shown.Shown.{Shown}
 use Rattle.cweb_tools.specs.Acts.{Act, DeviceState, ActKeepsLimits, TangleEnds}
 use Rattle.cweb_tools.specs.Course.{Course, IsMergeCourse, merged, MergeKeepsLimits}
-use Rattle.cweb_tools.specs.Leaves.{put_files}
-use Rattle.cweb_tools.specs.MergePromises.{MergeEnds}
+use Rattle.cweb_tools.specs.MergePromises.{put_files, MergeEnds}
 use Rattle.cweb_tools.specs.Script.{TangleCourse, written_files, logged_items, script, tangle_status}
-use Rattle.cweb_tools.specs.Tangle.{shown_by}
-use Rattle.cweb_tools.specs.TanglePromises.{TanglePromises}
+use Rattle.cweb_tools.specs.Tangle.{shown_by, TanglePromises}
 use Rattle.cweb_tools.specs.laws.Leaves.{LeavesFiles, bins_blame}
 
 -- No line that the acts take breaks a limit.

@@ -1,4 +1,4 @@
-use Rattle.std.proofs.Common.{◌≡◌, ◌++◌, ◌∙◌, ap, sym, subst, append_assoc, codes, decimal, List, ℕ}
+use Rattle.std.proofs.Common.{◌++◌, ◌∙◌, ap, sym, subst, append_assoc, codes, decimal, List, ℕ}
 use Rattle.cweb_input.specs.declared.fault.SourceKind.{SourceKind}
 use Rattle.cweb_log.specs.inner.LogWriting.{AppendsToLog}
 use Rattle.cweb_log.specs.Items.{message_with_count}

@@ -1,6 +1,6 @@
 use Rattle.cweb_names.proofs.Common.{◌≡◌, ◌++◌, drop, if◌then◌else◌, []}
 use Rattle.std.specs.Prelude.{codes}
-use Rattle.cweb_names.specs.Squeezing.{squeezed, squeezed_after}
+use Rattle.cweb_names.specs.Names.{squeezed, squeezed_after}
 use Rattle.cweb_names.proofs.Squeezing.{is_some}
 use Rattle.cweb_names.proofs.spelling.squeezed.Given as goal
 

@@ -1,6 +1,6 @@
 use Rattle.std.proofs.Common.{◌<◌, length, take}
 use Rattle.std.specs.Prelude.{IfSome, slice_get}
-use Rattle.cweb_files.specs.Device.{Finds, IsOpenedAs}
+use Rattle.cweb_files.specs.Bins.{Finds, IsOpenedAs}
 use Rattle.cweb_files.specs.surface.MemoryDevices.{contents_in_entries, contents_from, entry_name}
 use Rattle.cweb_files.proofs.memory.MemoryShelfShelf.fetch.Given as goal
 

@@ -1,6 +1,6 @@
 use Rattle.cweb_input.proofs.Common.{◌≡◌, ◌≤◌, List, ℕ, IsTrue}
 use Rattle.cweb_input.specs.surface.Counters.{counters_of}
-use Rattle.cweb_input.specs.Things.{Thing}
+use Rattle.cweb_input.specs.Lines.{Thing}
 use Rattle.cweb_input.specs.surface.ReaderNames.{AreReadersNamed}
 use Rattle.cweb_input.specs.inner.ReaderNames.{KeepsReaderNames}
 use Rattle.cweb_input.specs.inner.OpenSources.{AreDeep, StaysBelow, files_up_to, line_number, maximum_of}

@@ -9,7 +9,7 @@ use Rattle.cweb_lines.proofs.Codes.{is_new, is_faulty}
 use Rattle.cweb_lines.proofs.Stops.{told_stays, told_uncounted}
 use Rattle.cweb_lines.proofs.change.old_side.replace.Given as given
 use Rattle.cweb_lines.proofs.change.old_side.replace.Goals as goal
-use Rattle.cweb_lines.proofs.change.old_side.replace.Goals.{In-Ok, In-Some}
+use Rattle.cweb_lines.proofs.change.old_side.replace.Goals.{In-Ok}
 
 pub lines-init : goal.lines-init
 lines-init g c = record {

@@ -1,12 +1,12 @@
--- The events of a merge by kind, and the limits.
+-- The events of a merge by kind, the limits on the lines that it takes, and the written lines.
 use Rattle.std.specs.Prelude.{◌≡◌, ◌⊎◌, ℕ, ◌+◌, ◌≤◌, List, [], ◌∷◌, ◌++◌, length}
 use Rattle.cweb_input.specs.OpenSources.{TakenCountersModel, RefusesLine}
 use Rattle.cweb_input.specs.declared.stop.Stop.{Stop}
 use Rattle.cweb_input.specs.Lines.{Line, SourceLine}
 use Rattle.cweb_lines.specs.Merge.{Event, took, given, fault, opening}
 use Rattle.cweb_input.specs.declared.fault.SourceFault.{SourceFault}
-use Rattle.cweb_input.specs.declared.limits.TheConstants.{LINES, BYTES}
-use Rattle.cweb_input.specs.declared.limits.TheConstants.{LINE_LENGTH}
+use Rattle.cweb_input.specs.declared.limits.TheConstants.{LINES, BYTES, LINE_LENGTH}
+use Rattle.cweb_input.specs.declared.stop.Stop.TheVariants.{WriteFault}
 
 -- The lines that are emitted.
 abbrev pub emitted_lines : List Event → List Line
@@ -69,3 +69,13 @@ pub record BreaksLimit (stop : Stop) (lines : List SourceLine) : Type 0 where
   pub line : SourceLine
   pub next : ComesFirst line old_rest ⊎ ComesFirst line raw_rest
   pub why : RefusesLine stop (counts_of (before ++ (olds ++ raws))) line
+
+-- The lines as they are written, each with a newline.
+abbrev pub written_lines : List Line → List ℕ
+written_lines [] = []
+written_lines (line ∷ lines) = line.bytes ++ 10 ∷ written_lines lines
+
+-- By how much a stop raises the failure count of a sink.
+abbrev pub write_failures_of : Stop → ℕ
+write_failures_of WriteFault = 1
+write_failures_of _ = 0
