@@ -1,6 +1,5 @@
 -- Readers stay opened under the names of their files, and what is blamed.
-use Rattle.cweb_input.proofs.Common.{◌≡◌, ◌≤◌, ◌<◌, ℕ, zero, suc, List, [], ◌∷◌, ◌++◌, Option, Some, None, sym, ◌∙◌, ap, subst, arith, length, get_or, replicate, Err, append-nil}
-use Rattle.std.proofs.Common.{set}
+use Rattle.cweb_input.proofs.Common.{◌≡◌, ◌≤◌, ◌<◌, ℕ, zero, suc, List, [], ◌∷◌, ◌++◌, Option, Some, None, sym, ◌∙◌, ap, subst, arith, length, get_or, replicate, Err, append-nil, set, Stop}
 use Rattle.std.specs.Prelude.{Result, Ok, IfErr}
 use Rattle.std.proofs.lemmas.List.{get_or_default, get_or_append_left}
 use Rattle.cweb_files.specs.declared.place.FileId.{FileId}
@@ -14,7 +13,6 @@ use Rattle.cweb_input.specs.surface.OpenSources.{number_or_zero}
 use Rattle.cweb_input.specs.OpenSources.{read_failures_of}
 use Rattle.cweb_input.specs.declared.source.LineFault.{LineFault}
 use Rattle.cweb_input.specs.declared.source.LineFault.TheVariants.{Read}
-use Rattle.cweb_input.specs.declared.stop.Stop.{Stop}
 use Rattle.cweb_input.specs.declared.stop.Stop.TheVariants.{ReadFault, Memory}
 use Rattle.cweb_input.specs.declared.open_source.OpenSource.{OpenSource}
 use Rattle.cweb_files.specs.declared.device.Shelf.{Ghosts as Shelf}

@@ -1,5 +1,5 @@
 -- The stack of open sources in an array.
-use Rattle.cweb_input.proofs.Common.{Bool, true, false, nat_tests, append_assoc, ◌≡◌, ◌≢◌, ◌≤◌, ◌<◌, ◌+◌, ◌-◌, ℕ, zero, suc, List, [], ◌∷◌, ◌++◌, Option, Some, None, refl, sym, ◌∙◌, ap, subst, arith, length, get_or}
+use Rattle.cweb_input.proofs.Common.{Bool, true, false, nat_tests, append_assoc, ◌≡◌, ◌≢◌, ◌≤◌, ◌<◌, ◌+◌, ◌-◌, ℕ, zero, suc, List, [], ◌∷◌, ◌++◌, Option, Some, None, refl, sym, ◌∙◌, ap, subst, arith, length, get_or, Stop}
 use Rattle.std.specs.Prelude.{nat_eq}
 use Rattle.std.proofs.Common.{set, get_or-set_same, get_or-set_other}
 use Rattle.std.proofs.Math.Nat.{le-max_left, le-max_right, max-le}
@@ -10,7 +10,6 @@ use Rattle.cweb_input.specs.surface.OpenSources.{things_at, things_over, matches
 use Rattle.cweb_input.specs.inner.OpenSources.{DeepAt, gap_at, StaysBelow, Pushes, TakesNextLine, TakesFirst, FirstStops, TopStops, AreDeep, files_up_to, line_number, line_number_at, maximum_of, gaps_from}
 use Rattle.cweb_input.specs.inner.LineCalls.{KeepsStack}
 use Rattle.cweb_input.specs.declared.open_source.stack.Stack.{Stack}
-use Rattle.cweb_input.specs.declared.stop.Stop.{Stop}
 use Rattle.cweb_input.specs.declared.stop.Stop.TheVariants.{ReadFault, LineTooLong, TooMuchText, Memory}
 use Rattle.cweb_input.specs.declared.open_source.LineAt.{LineAt}
 use Rattle.cweb_input.specs.declared.open_source.OpenSource.{OpenSource}

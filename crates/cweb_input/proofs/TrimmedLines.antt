@@ -1,5 +1,5 @@
 -- Trimmed lines, and what taking a line leaves.
-use Rattle.cweb_input.proofs.Common.{Bool, ◌≡◌, ◌≢◌, ◌+◌, ◌≤◌, ℕ, true, false, cond, List, [], ◌∷◌, ◌++◌, refl, sym, ◌∙◌, ap, subst, arith, ◌<◌, length, get_or, take, Some, HasNoNewline, cut_lines, TakesRawLine, IsLongerThan, LINE_LENGTH, TooLong, Full}
+use Rattle.cweb_input.proofs.Common.{Bool, ◌≡◌, ◌≢◌, ◌+◌, ◌≤◌, ℕ, true, false, cond, List, [], ◌∷◌, ◌++◌, refl, sym, ◌∙◌, ap, subst, arith, ◌<◌, length, get_or, take, Some, HasNoNewline, cut_lines, TakesRawLine, IsLongerThan, LINE_LENGTH, TooLong, Full, Stop}
 use Rattle.std.proofs.Common.{◌⊎◌}
 use Rattle.std.proofs.lemmas.List.{take_more}
 use Rattle.cweb_files.specs.declared.place.FileId.{FileId}
@@ -14,7 +14,6 @@ use Rattle.cweb_input.specs.declared.source.LineFault.{LineFault}
 use Rattle.cweb_input.specs.declared.source.LineFault.TheVariants.{Read, Memory as NoMemory}
 use Rattle.cweb_input.specs.declared.source.LineTermination.{LineTermination}
 use Rattle.cweb_input.specs.declared.source.LineTermination.TheVariants.{Last, Ended}
-use Rattle.cweb_input.specs.declared.stop.Stop.{Stop}
 use Rattle.cweb_input.specs.declared.stop.Stop.TheVariants.{LineTooLong, TooMuchText}
 use Rattle.cweb_input.proofs.Newlines.{text_lines-full, text_lines-last, longer_first}
 

@@ -2,80 +2,83 @@
 pub use Rattle.std.proofs.Common.{◌≡◌, ◌+◌, ℕ, List, [], ◌∷◌, ◌++◌, refl, sym, ◌∙◌, ap, subst, arith, length}
 pub use Rattle.std.proofs.Common.{length-append, map, ◌≤◌, ◌<◌, ◌-◌, Option, None, Some, zero, suc, Bool, true, false}
 pub use Rattle.std.proofs.Common.{◌||◌, if◌then◌else◌, ◌≢◌, ◌==◌, ◌&&◌, cond, ◌⊎◌, inl, inr, Err, get_or, take, drop}
-pub use Rattle.std.proofs.Common.{take-append-drop, get_or-set_same, rules, string_bytes, Vec, Global}
+pub use Rattle.std.proofs.Common.{get_or-set_same, rules, string_bytes, Vec, Global}
 pub use Rattle.std.proofs.Math.Bool.{or-true, or-false}
 pub use Rattle.std.proofs.Math.Nat.{le-max_left, le-max_right, max-le}
 pub use Rattle.std.proofs.Math.Seq.{take-add}
 pub use Rattle.std.proofs.lemmas.Bool.{or_parts}
 pub use Rattle.std.proofs.lemmas.Bool.Decides.{nat_tests}
 pub use Rattle.std.proofs.lemmas.Grind.{common_steps}
-pub use Rattle.std.proofs.lemmas.List.{append_cancel_right, get_or_default, append_assoc, length-take, length-drop}
-pub use Rattle.std.proofs.lemmas.List.{get_or_push, append-nil, length-map, map-append, drop-drop, take-take, take_all}
+pub use Rattle.std.proofs.lemmas.List.{append_cancel_right, get_or_default, append_assoc, length-take, get_or_push}
+pub use Rattle.std.proofs.lemmas.List.{append-nil, length-map, map-append, drop-drop, take-take, take_all}
 pub use Rattle.std.proofs.lemmas.Slice.Eq.{bytes_eq-Decides}
 pub use Rattle.std.specs.List.{AllByRecursion, list_any}
 pub use Rattle.std.specs.Option.{is_some, option_copied}
 pub use Rattle.std.specs.Prelude.{slice_range, unwrap_or, IfSome, OnSome, nat_lt, IsTrue, Result, Ok, IfOk, OnOk, OnErr}
 pub use Rattle.std.specs.Prelude.{codes, option_map, IfErr, is_ok}
 pub use Rattle.std.specs.Str.{bytes_eq}
-pub use denote.Enum.Bare.{sameb}
-pub use Rattle.cweb_files.specs.surface.Frames.{KeepsPlace, Writes, KeepsShelf}
+pub use Rattle.cweb_files.specs.Bins.{WritesPrefix}
 pub use Rattle.cweb_files.specs.declared.place.Place.{Place}
-pub use Rattle.cweb_input.specs.Include.{World, Found, found_at, include_name, is_include_line, change_at}
+pub use Rattle.cweb_files.specs.surface.Frames.{KeepsPlace, Writes, KeepsShelf}
+pub use Rattle.cweb_input.proofs.ReadersStayNamed.{stop_after, blames_none, blames_memory}
+pub use Rattle.cweb_input.proofs.SourceStacks.{over-none}
+pub use Rattle.cweb_input.specs.Include.{World, Found, found_at, include_name, is_include_line, change_at, names_found}
+pub use Rattle.cweb_input.specs.Include.{contents_found}
 pub use Rattle.cweb_input.specs.Lines.{Line, SourceLine, CutLine, numbered_lines, trimmed, lines_in, before_blanks}
 pub use Rattle.cweb_input.specs.Lines.{is_blank, onto_first, cut_lines, RawLine, Thing, passed, raw, raws, seek, told}
 pub use Rattle.cweb_input.specs.Lines.{blame}
-pub use Rattle.cweb_input.specs.surface.Lines.{IsOneLine, HasNoNewline}
-pub use Rattle.cweb_input.specs.laws.Lines.{lines}
-pub use Rattle.cweb_input.specs.inner.Lines.{SplitsAt}
-pub use Rattle.cweb_input.specs.surface.Source.{buffered}
-pub use Rattle.cweb_input.specs.declared.limits.TheConstants.{LINE_LENGTH, LINES, OPEN_FILES, BYTES}
-pub use Rattle.cweb_input.specs.surface.Counters.{counters_of}
-pub use Rattle.cweb_input.specs.surface.Finding.{optional_string_bytes, world_in}
-pub use Rattle.cweb_input.specs.inner.Finding.{lines_found, found_as}
-pub use Rattle.cweb_input.specs.Include.{names_found, contents_found}
-pub use Rattle.cweb_input.specs.surface.OpenedFileNames.{opened_file_names}
-pub use Rattle.cweb_input.specs.surface.ReaderNames.{AreReadersNamed, IsReaderNamed}
 pub use Rattle.cweb_input.specs.OpenSources.{TakenCountersModel, RefusesLine, read_failures_of, files_named}
-pub use Rattle.cweb_input.specs.inner.OpenSources.{CountsLine, files_up_to, raw_thing, TopStops, FirstStops, StaysBelow}
-pub use Rattle.cweb_input.specs.inner.OpenSources.{OpensSource, StopsAbove, TakesAbove, TakesFirst, Counted}
-pub use Rattle.cweb_input.specs.inner.OpenSources.{line_number}
-pub use Rattle.cweb_input.specs.surface.OpenSources.{StopsFor, matches_at, number_or_zero, source_depth, things_above}
-pub use Rattle.cweb_input.specs.surface.OpenSources.{things_over, lines_at, lines_left, StopsReading}
+pub use Rattle.cweb_input.specs.declared.counters.TakenCounters.{TakenCounters}
 pub use Rattle.cweb_input.specs.declared.fault.SourceFault.{SourceFault}
 pub use Rattle.cweb_input.specs.declared.fault.SourceKind.{SourceKind}
 pub use Rattle.cweb_input.specs.declared.fault.SourceKind.TheVariants.{NoName, NotThere, TooDeep, WantsZ, EndedBeforeY}
 pub use Rattle.cweb_input.specs.declared.fault.SourceKind.TheVariants.{Unequal, WebEnded, NoMatch, EndedBeforeZ, WantsY}
 pub use Rattle.cweb_input.specs.declared.fault.SourceKind.TheVariants.{MissingX, NoOldLines}
-pub use Rattle.cweb_input.specs.declared.counters.TakenCounters.{TakenCounters}
-pub use Rattle.cweb_input.specs.declared.stop.Stop.{Stop}
-pub use Rattle.cweb_input.specs.declared.stop.Stop.TheVariants.{ReadFault, Memory, LineTooLong, TooMuchText, WriteFault}
+pub use Rattle.cweb_input.specs.declared.limits.TheConstants.{LINE_LENGTH, LINES, OPEN_FILES, BYTES}
 pub use Rattle.cweb_input.specs.declared.open_source.LineAt.{LineAt}
 pub use Rattle.cweb_input.specs.declared.open_source.OpenSource.{OpenSource}
 pub use Rattle.cweb_input.specs.declared.open_source.stack.Stack.{Stack}
-pub use Rattle.cweb_lines.specs.inner.Ahead.{FitsLimits, FitsLimitsAt, IsAhead, LooksAhead, LooksAheadIn}
-pub use Rattle.cweb_lines.specs.inner.StepCalls.{OnlyOpens}
+pub use Rattle.cweb_input.specs.declared.stop.Stop.{Stop}
+pub use Rattle.cweb_input.specs.declared.stop.Stop.TheVariants.{ReadFault, Memory, LineTooLong, TooMuchText, WriteFault}
+pub use Rattle.cweb_input.specs.inner.Finding.{lines_found, found_as}
+pub use Rattle.cweb_input.specs.inner.Lines.{SplitsAt}
+pub use Rattle.cweb_input.specs.inner.OpenSources.{CountsLine, files_up_to, raw_thing, TopStops, FirstStops, StaysBelow}
+pub use Rattle.cweb_input.specs.inner.OpenSources.{OpensSource, StopsAbove, TakesAbove, TakesFirst, Counted}
+pub use Rattle.cweb_input.specs.inner.OpenSources.{line_number}
+pub use Rattle.cweb_input.specs.laws.Lines.{lines}
+pub use Rattle.cweb_input.specs.surface.Counters.{counters_of}
+pub use Rattle.cweb_input.specs.surface.Finding.{optional_string_bytes, world_in}
+pub use Rattle.cweb_input.specs.surface.Lines.{IsOneLine, HasNoNewline}
+pub use Rattle.cweb_input.specs.surface.OpenSources.{StopsFor, matches_at, number_or_zero, source_depth, things_above}
+pub use Rattle.cweb_input.specs.surface.OpenSources.{things_over, lines_at, lines_left, StopsReading}
+pub use Rattle.cweb_input.specs.surface.OpenedFileNames.{opened_file_names}
+pub use Rattle.cweb_input.specs.surface.ReaderNames.{AreReadersNamed, IsReaderNamed}
+pub use Rattle.cweb_input.specs.surface.Source.{buffered}
+pub use denote.Enum.Bare.{sameb}
 pub use Rattle.cweb_lines.specs.Change.{WaitingEntry, at_place, OldSide, change_code, old_at, old_code, old_lines}
 pub use Rattle.cweb_lines.specs.Change.{Sought, after_x, outside, sought, old_line, passing}
-pub use Rattle.cweb_lines.specs.laws.Laws.{file_with_change, ChangeFilesWithoutEntriesChangeNothing, is_change_code}
-pub use Rattle.cweb_lines.specs.laws.Laws.{IncludeLinesAreReplaced, Includes, LinesComeApart, IncludesMergeAsWebs}
-pub use Rattle.cweb_lines.specs.laws.Laws.{is_too_deep, IsPlainSplice, Splice, spliced, web_lines}
-pub use Rattle.cweb_lines.specs.laws.Laws.{UnmatchedEntriesAreReported, PrintedMergesComeAgain, ChangesSplice}
-pub use Rattle.cweb_lines.specs.laws.Laws.{WebsWithoutIncludesAreTheirOwnLines}
-pub use Rattle.cweb_lines.specs.inner.LineSpans.{BorrowsLines, line_span_at, BorrowsLine, span_bytes}
+pub use Rattle.cweb_lines.specs.Events.{emitted_lines, reported_faults, openings, taken_lines, size_of_lines, AreShort}
+pub use Rattle.cweb_lines.specs.Events.{written_lines, write_failures_of}
 pub use Rattle.cweb_lines.specs.Merge.{Event, took, fault, Next, MergeStateModel, at_raw, given, included, obeyed, onto}
-pub use Rattle.cweb_lines.specs.Merge.{open_include}
-pub use Rattle.cweb_lines.specs.Merge.{opening, past, plain, run_steps, taking, NewSide, new_at, new_things, compared}
-pub use Rattle.cweb_lines.specs.Merge.{Compared, after_old, at_entry, change_events, fault_event_if, new_lines, started}
-pub use Rattle.cweb_lines.specs.surface.MergeProgress.{SoFar, EmitsLines, AddsFaultsAndLines, ReportsPrefix}
-pub use Rattle.cweb_lines.specs.surface.MergeProgress.{HasBegunStep, Stopped, pending_of, so_far_of, IsPrefix}
-pub use Rattle.cweb_lines.specs.surface.MergeProgress.{KeepsReported, change_lines, events_to_come, things_of}
-pub use Rattle.cweb_lines.specs.surface.MergeProgress.{NothingLeft, StopsAfterLines, StopsIn, step_events}
-pub use Rattle.cweb_lines.specs.surface.MergeProgress.{ReadFailsAfterLines, TakesBeforeEmitting}
+pub use Rattle.cweb_lines.specs.Merge.{open_include, opening, past, plain, run_steps, taking, NewSide, new_at}
+pub use Rattle.cweb_lines.specs.Merge.{new_things, compared, Compared, after_old, at_entry, change_events}
+pub use Rattle.cweb_lines.specs.Merge.{fault_event_if, new_lines, started}
+pub use Rattle.cweb_lines.specs.contracts.change.code.Code.{the_type}
+pub use Rattle.cweb_lines.specs.declared.change.Change.{Change}
+pub use Rattle.cweb_lines.specs.declared.change.Stage.{Stage}
+pub use Rattle.cweb_lines.specs.declared.change.Stage.TheVariants.{Changing, Done, Seeking, Waiting}
+pub use Rattle.cweb_lines.specs.declared.change.code.Code.{Code}
+pub use Rattle.cweb_lines.specs.declared.change.old_side.Replaced.{Replaced}
+pub use Rattle.cweb_lines.specs.declared.merge_state.MergeState.{MergeState}
+pub use Rattle.cweb_lines.specs.declared.merger.ahead.Ahead.{Ahead}
+pub use Rattle.cweb_lines.specs.declared.passing.line_span.LineSpan.{LineSpan}
+pub use Rattle.cweb_lines.specs.declared.passing.stretch.Stretch.{Stretch}
+pub use Rattle.cweb_lines.specs.declared.step.Turn.{Turn}
+pub use Rattle.cweb_lines.specs.declared.step.Turn.TheVariants.{Emitted, On, Ended}
+pub use Rattle.cweb_lines.specs.inner.Ahead.{FitsLimits, FitsLimitsAt, IsAhead, LooksAhead, LooksAheadIn}
+pub use Rattle.cweb_lines.specs.inner.LineSpans.{BorrowsLines, line_span_at, BorrowsLine, span_bytes}
 pub use Rattle.cweb_lines.specs.inner.MergeProgress.{ReportsSomeFaults, events_after_line, EmitsAfterLine, turns_left}
 pub use Rattle.cweb_lines.specs.inner.MergeProgress.{turn_lines, EndsStep}
-pub use Rattle.cweb_lines.specs.Events.{ComesFirst, emitted_lines, reported_faults, openings, taken_lines}
-pub use Rattle.cweb_lines.specs.Events.{size_of_lines, AreShort, written_lines, write_failures_of}
-pub use Rattle.cweb_lines.specs.surface.MergeReaderNames.{AreReadersKnown}
 pub use Rattle.cweb_lines.specs.inner.MergeReaderNames.{KeepsReaders}
 pub use Rattle.cweb_lines.specs.inner.Passing.{ComesNext, EmitsBufferedLines, HasRoomFor, IsStretch, Reaches}
 pub use Rattle.cweb_lines.specs.inner.Passing.{IsStretchAt, IsStretchOf, line_with_newline, lines_next, top_of}
@@ -85,31 +88,29 @@ pub use Rattle.cweb_lines.specs.inner.Passing.{PassesTop, KeepsLevel, PassesSlot
 pub use Rattle.cweb_lines.specs.inner.Replacing.{Compares, IsReplaced, Replaces, lines_replaced, taken_away}
 pub use Rattle.cweb_lines.specs.inner.Replacing.{closing_faults, faults_replaced, IsChanged, fault_list_if}
 pub use Rattle.cweb_lines.specs.inner.Seeking.{ReportsFaultPrefix, Searched, SeeksTo, search_after, BegunKnown}
-pub use Rattle.cweb_lines.specs.laws.MergeOutcome.{fault_renumbered, line_renumbered, renumbered, outcome_of_events}
-pub use Rattle.cweb_lines.specs.laws.MergeOutcome.{followed_by, only_lines}
-pub use Rattle.cweb_lines.specs.laws.MergeOutcome.{MergeOutcome, outcome_of_lines, placed, placed_line, only_fault}
-pub use Rattle.cweb_lines.specs.inner.Stages.{IsSettled, floor_of, begun_by}
-pub use Rattle.cweb_lines.specs.surface.Stages.{change_in, pending_in, things_below, things_in}
-pub use Rattle.cweb_lines.specs.inner.Stages.{begun_stage, files_begun, stage_for, IsOutside}
+pub use Rattle.cweb_lines.specs.inner.Stages.{IsSettled, floor_of, begun_by, begun_stage, files_begun, stage_for}
+pub use Rattle.cweb_lines.specs.inner.Stages.{IsOutside}
+pub use Rattle.cweb_lines.specs.inner.StepCalls.{OnlyOpens}
 pub use Rattle.cweb_lines.specs.inner.Steps.{OnlyTakes, OnlyReports}
-pub use Rattle.cweb_lines.specs.surface.Halting.{halts}
-pub use Rattle.cweb_lines.specs.surface.Total.{merge}
 pub use Rattle.cweb_lines.specs.inner.Total.{merge_yields, merge_next, merge-run_steps, merge_end}
-pub use Rattle.cweb_lines.specs.surface.MergerCalls.{Grows, to_come, so_far, stop_in}
-pub use Rattle.cweb_files.specs.Bins.{WritesPrefix}
 pub use Rattle.cweb_lines.specs.inner.Writing.{HasWritten, FailsAmong}
+pub use Rattle.cweb_lines.specs.laws.Laws.{file_with_change, ChangeFilesWithoutEntriesChangeNothing, is_change_code}
+pub use Rattle.cweb_lines.specs.laws.Laws.{IncludeLinesAreReplaced, Includes, LinesComeApart, IncludesMergeAsWebs}
+pub use Rattle.cweb_lines.specs.laws.Laws.{is_too_deep, IsPlainSplice, Splice, spliced, web_lines}
+pub use Rattle.cweb_lines.specs.laws.Laws.{UnmatchedEntriesAreReported, PrintedMergesComeAgain, ChangesSplice}
+pub use Rattle.cweb_lines.specs.laws.Laws.{WebsWithoutIncludesAreTheirOwnLines}
+pub use Rattle.cweb_lines.specs.laws.MergeOutcome.{fault_renumbered, line_renumbered, renumbered, outcome_of_events}
+pub use Rattle.cweb_lines.specs.laws.MergeOutcome.{followed_by, only_lines, MergeOutcome, outcome_of_lines, placed}
+pub use Rattle.cweb_lines.specs.laws.MergeOutcome.{placed_line, only_fault}
+pub use Rattle.cweb_lines.specs.surface.Halting.{halts}
+pub use Rattle.cweb_lines.specs.surface.MergeProgress.{SoFar, EmitsLines, AddsFaultsAndLines, ReportsPrefix}
+pub use Rattle.cweb_lines.specs.surface.MergeProgress.{HasBegunStep, Stopped, pending_of, so_far_of, IsPrefix}
+pub use Rattle.cweb_lines.specs.surface.MergeProgress.{KeepsReported, change_lines, events_to_come, things_of}
+pub use Rattle.cweb_lines.specs.surface.MergeProgress.{NothingLeft, StopsAfterLines, StopsIn, step_events}
+pub use Rattle.cweb_lines.specs.surface.MergeProgress.{ReadFailsAfterLines, TakesBeforeEmitting}
+pub use Rattle.cweb_lines.specs.surface.MergeReaderNames.{AreReadersKnown}
+pub use Rattle.cweb_lines.specs.surface.MergerCalls.{Grows, to_come, so_far, stop_in}
+pub use Rattle.cweb_lines.specs.surface.Stages.{change_in, pending_in, things_below, things_in}
+pub use Rattle.cweb_lines.specs.surface.Total.{merge}
 pub use Rattle.cweb_lines.specs.surface.Writing.{LosesLine, StopsWriting, WritingStops, FailureCounts, LeavesDevices}
-pub use Rattle.cweb_lines.specs.surface.Writing.{KeepsStop, WritesAll, WritesSome, WritesRead, WritesUpTo}
-pub use Rattle.cweb_lines.specs.surface.Writing.{StopsWritingEarly}
-pub use Rattle.cweb_lines.specs.contracts.change.code.Code.{the_type}
-pub use Rattle.cweb_lines.specs.declared.change.Change.{Change}
-pub use Rattle.cweb_lines.specs.declared.change.Stage.{Stage}
-pub use Rattle.cweb_lines.specs.declared.change.Stage.TheVariants.{Changing, Done, Seeking, Waiting}
-pub use Rattle.cweb_lines.specs.declared.change.code.Code.{Code}
-pub use Rattle.cweb_lines.specs.declared.change.old_side.Replaced.{Replaced}
-pub use Rattle.cweb_lines.specs.declared.merger.ahead.Ahead.{Ahead}
-pub use Rattle.cweb_lines.specs.declared.passing.line_span.LineSpan.{LineSpan}
-pub use Rattle.cweb_lines.specs.declared.passing.stretch.Stretch.{Stretch}
-pub use Rattle.cweb_lines.specs.declared.merge_state.MergeState.{MergeState}
-pub use Rattle.cweb_lines.specs.declared.step.Turn.{Turn}
-pub use Rattle.cweb_lines.specs.declared.step.Turn.TheVariants.{Emitted, On, Ended}
+pub use Rattle.cweb_lines.specs.surface.Writing.{KeepsStop, WritesAll, WritesSome, WritesUpTo}

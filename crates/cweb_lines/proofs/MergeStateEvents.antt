@@ -1,8 +1,7 @@
 -- The events to come of a merger, by its stack, stage, files and faults.
-use Rattle.cweb_lines.proofs.Common.{OnlyOpens, OnlyReports, append-nil, Some, Bool, true, false, if◌then◌else◌, ◌≡◌, ◌≤◌, ◌<◌, ◌+◌, ◌-◌, ℕ, zero, suc, get_or, List, [], ◌∷◌, ◌++◌, Option, None, refl, sym, ◌∙◌, ap, arith, length, length-append, le-max_left, le-max_right, max-le, Place, WaitingEntry, at_place, Found, World, lines_found, names_found, contents_found, optional_string_bytes, SourceLine, lines_in, Event, Thing, fault, raws, seek, new_lines, started, EmitsLines, NothingLeft, events_to_come, so_far_of, things_of, opened_file_names, IsSettled, begun_stage, change_in, files_begun, stage_for, floor_of, pending_in, things_below, things_in, TakenCountersModel, OpensSource, StaysBelow, StopsAbove, TakesAbove, TakesFirst, TopStops, lines_at, lines_left, things_above, things_over, merge, merge_end, merge_next, SourceFault, NoMatch, MergeState, Stack, Change, Stage, Seeking, Waiting, Changing, Stop, LineAt, OpenSource, counters_of}
+use Rattle.cweb_lines.proofs.Common.{OnlyOpens, OnlyReports, append-nil, Some, Bool, true, false, if◌then◌else◌, ◌≡◌, ◌≤◌, ◌<◌, ◌+◌, ◌-◌, ℕ, zero, suc, get_or, List, [], ◌∷◌, ◌++◌, Option, None, refl, sym, ◌∙◌, ap, arith, length, length-append, le-max_left, le-max_right, max-le, Place, WaitingEntry, at_place, Found, World, lines_found, names_found, contents_found, optional_string_bytes, SourceLine, lines_in, Event, Thing, fault, raws, seek, new_lines, started, EmitsLines, NothingLeft, events_to_come, so_far_of, things_of, opened_file_names, IsSettled, begun_stage, change_in, files_begun, stage_for, floor_of, pending_in, things_below, things_in, TakenCountersModel, OpensSource, StaysBelow, StopsAbove, TakesAbove, TakesFirst, TopStops, lines_at, lines_left, things_above, things_over, merge, merge_end, merge_next, SourceFault, NoMatch, MergeState, Stack, Change, Stage, Seeking, Waiting, Changing, Stop, LineAt, OpenSource, counters_of, over-none}
 use Rattle.cweb_lines.specs.inner.Faults.{files_of_faults}
 use Rattle.cweb_lines.proofs.Merges.{state, gives_fault}
-use Rattle.cweb_input.proofs.SourceStacks.{over-none}
 
 pub files_in-push : (faults : List SourceFault) (one : SourceFault) (files : ℕ) → files_of_faults faults ≤ files →
     one.place.file.0 < files → files_of_faults (faults ++ one ∷ []) ≤ files

@@ -1,11 +1,10 @@
 -- The new side of a change, line by line.
-use Rattle.cweb_lines.proofs.Common.{AddsFaultsAndLines, OnlyTakes, OnlyReports, lines_at, ◌≡◌, ◌-◌, ℕ, false, List, [], ◌∷◌, ◌++◌, Some, None, Option, refl, sym, ◌∙◌, ap, arith, length, sameb, Place, at_place, change_code, world_in, World, Line, SourceLine, Event, NewSide, Thing, fault, new_at, new_lines, passed, raw, seek, told, took, EmitsLines, SoFar, Stopped, change_lines, events_to_come, events_after_line, things_of, so_far_of, counters_of, opened_file_names, change_in, pending_in, things_below, things_in, FirstStops, StopsFor, CountsLine, raw_thing, things_above, things_over, merge, merge_next, the_type, Code, EndedBeforeZ, WantsZ, MergeState, Change, Changing, Stack, Stop, LineAt}
+use Rattle.cweb_lines.proofs.Common.{AddsFaultsAndLines, OnlyTakes, OnlyReports, lines_at, ◌≡◌, ◌-◌, ℕ, false, List, [], ◌∷◌, ◌++◌, Some, None, Option, refl, sym, ◌∙◌, ap, arith, length, sameb, Place, at_place, change_code, world_in, World, Line, SourceLine, Event, NewSide, Thing, fault, new_at, new_lines, passed, raw, seek, told, took, EmitsLines, SoFar, Stopped, change_lines, events_to_come, events_after_line, things_of, so_far_of, counters_of, opened_file_names, change_in, pending_in, things_below, things_in, FirstStops, StopsFor, CountsLine, raw_thing, things_above, things_over, merge, merge_next, the_type, Code, EndedBeforeZ, WantsZ, MergeState, Change, Changing, Stack, Stop, LineAt, over-none}
 use Rattle.cweb_lines.specs.declared.change.code.Code.TheVariants.{OldSide as old_side, NewSide as new_side, EndSide as end_side}
 use Rattle.cweb_lines.proofs.AddedEvents.{adds_faults, adds_one, gives_adds}
 use Rattle.cweb_lines.proofs.ReportsOnlyGrow.{took_faults, took_names}
 use Rattle.cweb_lines.proofs.Merges.{gives_fault, merge_takes, state}
 use Rattle.cweb_lines.proofs.Stops.{stopped_first, takes_next}
-use Rattle.cweb_input.proofs.SourceStacks.{over-none}
 use Rattle.cweb_lines.proofs.Codes.{is_faulty_new}
 
 -- The events of the remaining new lines, the next search and the sources below.

@@ -1,8 +1,7 @@
 -- Steps in which no read fails: readers keep their names, none is blamed, and reports only grow.
-use Rattle.cweb_lines.proofs.Common.{◌≡◌, ◌++◌, ℕ, List, refl, sym, ◌∙◌, ap, subst, IsTrue, KeepsShelf, KeepsReported, so_far_of, opened_file_names, AreReadersKnown, KeepsReaders, blame, OnlyReports, SourceFault, MergeState, Stop}
+use Rattle.cweb_lines.proofs.Common.{◌≡◌, ◌++◌, ℕ, List, refl, sym, ◌∙◌, ap, subst, IsTrue, KeepsShelf, KeepsReported, so_far_of, opened_file_names, AreReadersKnown, KeepsReaders, blame, OnlyReports, SourceFault, MergeState, Stop, stop_after}
 use Rattle.cweb_files.specs.declared.device.Shelf.{Ghosts as Shelf}
 use Rattle.cweb_lines.proofs.ReportsOnlyGrow.{told_behind, told_same, told_then}
-use Rattle.cweb_input.proofs.ReadersStayNamed.{stop_after}
 use Rattle.cweb_lines.proofs.MergeReadersStayNamed.{knows_only, knows_same}
 
 module _ {S R : Type 0} (shelf : Shelf S R) where

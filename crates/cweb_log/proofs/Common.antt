@@ -16,24 +16,16 @@ pub use Rattle.std.specs.Prelude.{IfOk, IsErrOf, is_some, option_and_then, optio
 pub use Rattle.std.specs.Prelude.{IsErr, ◌==◌, if◌then◌else◌, codes, slice_range}
 pub use Rattle.cweb_files.specs.Bins.{CountsFailure, WritesPrefix}
 pub use Rattle.cweb_files.specs.declared.device.SinkFault.{SinkFault}
-pub use Rattle.cweb_input.specs.surface.OpenedFileNames.{opened_file_names}
 pub use Rattle.cweb_input.specs.declared.fault.SourceFault.{SourceFault}
 pub use Rattle.cweb_input.specs.declared.stop.Stop.{Stop}
 pub use Rattle.cweb_input.specs.declared.stop.Stop.TheVariants.{Usage}
-pub use Rattle.cweb_log.specs.inner.LogBuffer.{unwritten_bytes}
-pub use Rattle.cweb_log.specs.Log.{Logs}
-pub use Rattle.cweb_log.specs.inner.LogWriting.{WritesToStream, IsWrittenOrBuffered, AppendsToLog, joined_line}
-pub use Rattle.cweb_log.specs.Items.{LogItem, line, star, fault_lines, source_item, name_items, refusal_message}
-pub use Rattle.cweb_log.specs.Items.{scan_items, cycle_step, scan_item, occurrence_spelling, name_item}
-pub use Rattle.cweb_log.specs.CommandLine.{OptionsModel, TangleNames, named_by, names_by, options_by, other_words}
-pub use Rattle.cweb_log.specs.CommandLine.{shown_by_default, words_shown, stem, letters_shown, web_names_by, is_dot}
-pub use Rattle.cweb_log.specs.CommandLine.{has_extension}
-pub use Rattle.cweb_log.specs.surface.Options.{options_of}
-pub use Rattle.cweb_log.specs.DeviceModels.{SinkModel, sink_model}
-pub use Rattle.cweb_out.specs.Outputs.{is_slash, bad_name, same_name, cycle}
-pub use Rattle.cweb_log.specs.declared.options.Options.{Options}
-pub use Rattle.cweb_log.specs.declared.shown.Shown.{Shown}
+pub use Rattle.cweb_input.specs.surface.OpenedFileNames.{opened_file_names}
+pub use Rattle.cweb_names.specs.Names.{Occurrence, id}
+pub use Rattle.cweb_names.specs.declared.name.How.TheVariants.{Full, Prefix}
+pub use Rattle.cweb_names.specs.declared.name.NameFault.{NameFault}
+pub use Rattle.cweb_names.specs.declared.name.NameRef.{NameRef}
 pub use Rattle.cweb_out.specs.Expansion.{cycle_from, first_endless, program}
+pub use Rattle.cweb_out.specs.Outputs.{is_slash, bad_name, same_name, cycle}
 pub use Rattle.cweb_rules.specs.declared.fault.ScanFault.{ScanFault}
 pub use Rattle.cweb_rules.specs.declared.fault.ScanKind.{ScanKind}
 pub use Rattle.cweb_rules.specs.declared.fault.ScanKind.TheVariants.{ControlTextDidNotEnd, ReplacementTooLong}
@@ -43,10 +35,18 @@ pub use Rattle.cweb_rules.specs.declared.fault.ScanKind.TheVariants.{DoubleAtInS
 pub use Rattle.cweb_rules.specs.declared.fault.ScanKind.TheVariants.{NamesDoNotNest, FaultyConstant, IgnoredInCText}
 pub use Rattle.cweb_rules.specs.declared.fault.ScanKind.TheVariants.{NameDidNotEnd, DefsInMacro, MissingAt}
 pub use Rattle.cweb_store.specs.Calls.{Stored}
-pub use Rattle.cweb_names.specs.Names.{Occurrence, id}
 pub use Rattle.cweb_store.specs.Parts.{Part, Name}
-pub use Rattle.cweb_names.specs.declared.name.How.TheVariants.{Full, Prefix}
-pub use Rattle.cweb_names.specs.declared.name.NameFault.{NameFault}
-pub use Rattle.cweb_names.specs.declared.name.NameRef.{NameRef}
 pub use Rattle.cweb_store.specs.declared.parts.PartKind.{PartKind}
 pub use Rattle.cweb_store.specs.declared.parts.PartKind.TheVariants.{Unnamed, Named}
+pub use Rattle.cweb_log.specs.CommandLine.{OptionsModel, TangleNames, named_by, names_by, options_by, other_words}
+pub use Rattle.cweb_log.specs.CommandLine.{shown_by_default, words_shown, stem, letters_shown, web_names_by, is_dot}
+pub use Rattle.cweb_log.specs.CommandLine.{has_extension}
+pub use Rattle.cweb_log.specs.DeviceModels.{SinkModel, sink_model}
+pub use Rattle.cweb_log.specs.Items.{LogItem, line, star, fault_lines, source_item, name_items, refusal_message}
+pub use Rattle.cweb_log.specs.Items.{scan_items, cycle_step, scan_item, occurrence_spelling, name_item}
+pub use Rattle.cweb_log.specs.Log.{Logs}
+pub use Rattle.cweb_log.specs.declared.options.Options.{Options}
+pub use Rattle.cweb_log.specs.declared.shown.Shown.{Shown}
+pub use Rattle.cweb_log.specs.inner.LogBuffer.{unwritten_bytes}
+pub use Rattle.cweb_log.specs.inner.LogWriting.{WritesToStream, IsWrittenOrBuffered, AppendsToLog, joined_line}
+pub use Rattle.cweb_log.specs.surface.Options.{options_of}

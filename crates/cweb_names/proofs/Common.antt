@@ -21,15 +21,7 @@ pub use Rattle.std.specs.Ordering.{nat_cmp, ordering_then, match_ordering, is_eq
 pub use Rattle.std.specs.Prelude.{Err, bytes_eq, if◌then◌else◌, nat_eq, filter, option_map, slice_get, unwrap_or}
 pub use Rattle.std.specs.declared.cmp.Ordering.{Ordering}
 pub use Rattle.std.specs.declared.cmp.Ordering.TheVariants.{Less, Equal, Greater}
-pub use Rattle.cweb_names.specs.inner.Found.{found_of, is_several, NameEntry, compare_bytes, entry_has_prefix}
-pub use Rattle.cweb_names.specs.inner.Found.{IsNameMap, id_of_spelling, next_begins, any_next, ids_with_prefix}
-pub use Rattle.cweb_names.specs.laws.Found.{Distinct}
-pub use Rattle.cweb_names.specs.inner.SortPrefixes.{sort_prefix_of}
-pub use Rattle.cweb_names.specs.inner.OccurrenceTables.{IsOccurrenceTable, resolve, resolve_all, occurrence_form}
-pub use Rattle.cweb_names.specs.inner.OccurrenceTables.{occurrences_at}
-pub use Rattle.cweb_names.specs.inner.Known.{early, earlies_from, by_found, has_spelling_at, known_names_model}
-pub use Rattle.cweb_names.specs.inner.Known.{known_name_model}
-pub use Rattle.cweb_names.specs.surface.Names.{occurrence_of, too_many, occurrence_text}
+pub use Rattle.cweb_texts.specs.inner.Keys.{AreBytes}
 pub use Rattle.cweb_names.specs.Names.{is_prefix_of_another, Occurrence, Name, Resolution, id, spellings}
 pub use Rattle.cweb_names.specs.Names.{with_full_name, with_occurrence_name, names_from, names, beginning_from, the_one}
 pub use Rattle.cweb_names.specs.Names.{resolved_among, resolutions_from, resolutions, files_from, beginning}
@@ -41,4 +33,12 @@ pub use Rattle.cweb_names.specs.declared.name.How.TheVariants.{Full, Prefix}
 pub use Rattle.cweb_names.specs.declared.name.NameId.{NameId}
 pub use Rattle.cweb_names.specs.declared.name.NameKind.TheVariants.{NeverFull}
 pub use Rattle.cweb_names.specs.declared.table.OccurrenceForm.{OccurrenceForm}
-pub use Rattle.cweb_texts.specs.inner.Keys.{AreBytes}
+pub use Rattle.cweb_names.specs.inner.Found.{found_of, is_several, NameEntry, compare_bytes, entry_has_prefix}
+pub use Rattle.cweb_names.specs.inner.Found.{IsNameMap, id_of_spelling, next_begins, any_next, ids_with_prefix}
+pub use Rattle.cweb_names.specs.inner.Known.{early, earlies_from, by_found, has_spelling_at, known_names_model}
+pub use Rattle.cweb_names.specs.inner.Known.{known_name_model}
+pub use Rattle.cweb_names.specs.inner.OccurrenceTables.{IsOccurrenceTable, resolve, resolve_all, occurrence_form}
+pub use Rattle.cweb_names.specs.inner.OccurrenceTables.{occurrences_at}
+pub use Rattle.cweb_names.specs.inner.SortPrefixes.{sort_prefix_of}
+pub use Rattle.cweb_names.specs.laws.Found.{Distinct}
+pub use Rattle.cweb_names.specs.surface.Names.{occurrence_of, too_many, occurrence_text}

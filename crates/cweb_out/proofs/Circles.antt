@@ -1,7 +1,5 @@
 -- Names on a cycle have no rank.
-use Rattle.cweb_out.proofs.Common.{◌≡◌, ℕ, zero, suc, Bool, true, false, not, cond, ◌&&◌, List, [], ◌∷◌, ◌++◌, refl, sym, ◌∙◌, ap, inl, inr, subst, Option, Some, option_to_list, find, list_all, list_any, NameId, is_id, Token, Stored, joined, uses, ends_below, has_rank, first_endless, suffix, Frame, and_parts, or_cases, or_left, or_right}
-use Rattle.std.specs.Prelude.{◌⊎◌}
-use Rattle.cweb_out.specs.declared.outputs.search.Waiting.{Waiting}
+use Rattle.cweb_out.proofs.Common.{◌≡◌, ℕ, zero, suc, Bool, true, false, not, cond, ◌&&◌, List, [], ◌∷◌, ◌++◌, refl, sym, ◌∙◌, ap, inl, inr, subst, Option, Some, option_to_list, find, list_all, list_any, NameId, is_id, Token, Stored, joined, uses, ends_below, has_rank, first_endless, suffix, Frame, and_parts, or_cases, or_left, or_right, ◌⊎◌, Waiting}
 use Rattle.cweb_out.specs.inner.Search.{Chain, IsScanned, path_next, path_of}
 use Rattle.cweb_out.proofs.Ranks.{id-same}
 use Rattle.cweb_out.proofs.Paths.{is-same}

@@ -1,8 +1,5 @@
 -- Paths of waiting names, each used by the one before it.
-use Rattle.cweb_out.proofs.Common.{◌≡◌, Bool, true, false, ◌||◌, List, [], ◌∷◌, ◌++◌, refl, sym, ◌∙◌, ap, inl, inr, append-nil, append_assoc, Option, Some, None, list_any, list_any-append, NameId, id, is_id, Stored, joined, has_rank, FrameIsWithin, AreNew}
-use Rattle.std.specs.Prelude.{◌⊎◌}
-use Rattle.std.proofs.lemmas.Bool.Decides.{eqb_tells}
-use Rattle.cweb_out.specs.declared.outputs.search.Waiting.{Waiting}
+use Rattle.cweb_out.proofs.Common.{◌≡◌, Bool, true, false, ◌||◌, List, [], ◌∷◌, ◌++◌, refl, sym, ◌∙◌, ap, inl, inr, append-nil, append_assoc, Option, Some, None, list_any, list_any-append, NameId, id, is_id, Stored, joined, has_rank, FrameIsWithin, AreNew, ◌⊎◌, eqb_tells, Waiting}
 use Rattle.cweb_out.specs.inner.Search.{PathIsWithin, PathBegins, Chain, IsScanned, path_of}
 use Rattle.cweb_out.proofs.ScannedUses.{looked-on}
 

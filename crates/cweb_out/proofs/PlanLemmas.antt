@@ -1,11 +1,10 @@
 -- The expected plan, from the search results.
-use Rattle.cweb_out.proofs.Common.{◌≡◌, ◌<◌, ◌+◌, ℕ, Bool, true, false, not, ◌&&◌, List, [], ◌∷◌, ◌++◌, refl, sym, ◌∙◌, ap, arith, length, take, get_or, Option, Some, None, map, inl, inr, Ok, Err, find, list_all, list_any, take_more, length-map, NameId, Stored, cycle_from, has_no_program, is_good_name, output_name, output_of, outputs, start_of, false_from_ne_true}
+use Rattle.cweb_out.proofs.Common.{◌≡◌, ◌<◌, ◌+◌, ℕ, Bool, true, false, not, ◌&&◌, List, [], ◌∷◌, ◌++◌, refl, sym, ◌∙◌, ap, arith, length, take, get_or, Option, Some, None, map, inl, inr, Ok, Err, find, list_all, list_any, take_more, length-map, NameId, Stored, cycle_from, has_no_program, is_good_name, output_name, output_of, outputs, start_of, false_from_ne_true, eqb_tells}
 use Rattle.std.proofs.Common.{nat_eq}
 use Rattle.std.specs.Prelude.{option_map}
 use Rattle.std.specs.List.{after_last}
 use Rattle.std.specs.Str.{IsUtf8, is_utf8}
 use Rattle.std.proofs.lemmas.Str.{IsUtf8-from_is_utf8, is_utf8-from_IsUtf8}
-use Rattle.std.proofs.lemmas.Bool.Decides.{eqb_tells}
 use Rattle.std.proofs.lemmas.List.{map-append}
 use Rattle.cweb_out.specs.Outputs.{is_control, is_slash, names_no_file}
 use Rattle.cweb_out.specs.inner.Plans.{output_in}

@@ -1,7 +1,5 @@
 -- More depth changes nothing: a rank is below the number of names.
-use Rattle.cweb_out.proofs.Common.{◌≡◌, ◌≤◌, ◌<◌, ◌+◌, ℕ, zero, suc, Bool, true, false, cond, ◌||◌, List, [], ◌∷◌, ◌++◌, refl, sym, ◌∙◌, ap, arith, length, inl, inr, Option, Some, None, IfSome, option_to_list, list_all, list_any, list_any-append, NameId, id, is_id, Token, Name, Stored, names, joined, uses, use_of, resolved_use, ends_below, has_rank, AreNew, and_parts, or_left, or_right}
-use Rattle.std.specs.Prelude.{◌⊎◌}
-use Rattle.std.proofs.lemmas.Bool.Decides.{eqb_tells}
+use Rattle.cweb_out.proofs.Common.{◌≡◌, ◌≤◌, ◌<◌, ◌+◌, ℕ, zero, suc, Bool, true, false, cond, ◌||◌, List, [], ◌∷◌, ◌++◌, refl, sym, ◌∙◌, ap, arith, length, inl, inr, Option, Some, None, IfSome, option_to_list, list_all, list_any, list_any-append, NameId, id, is_id, Token, Name, Stored, names, joined, uses, use_of, resolved_use, ends_below, has_rank, AreNew, and_parts, or_left, or_right, ◌⊎◌, eqb_tells}
 use Rattle.std.proofs.lemmas.Bool.{and_from, cases_lt, true_from_ne_false}
 use Rattle.std.proofs.lemmas.List.Folds.{list_all-append}
 use Rattle.cweb_store.proofs.BoundLemmas.{standing-within}

@@ -1,9 +1,7 @@
 -- The progress of the search in a list: skipped uses, up to the next name without a rank.
-use Rattle.cweb_out.proofs.Common.{◌≡◌, ◌<◌, Bool, true, false, ◌&&◌, List, [], ◌∷◌, ◌++◌, refl, sym, ◌∙◌, ap, append-nil, append_assoc, Some, None, list_all, NameId, Token, Stored, names, uses, use_of, has_rank, suffix, Frame, and_parts}
-use Rattle.cweb_out.specs.inner.Uses.{PassesNoUse}
+use Rattle.cweb_out.proofs.Common.{◌≡◌, ◌<◌, Bool, true, false, ◌&&◌, List, [], ◌∷◌, ◌++◌, refl, sym, ◌∙◌, ap, append-nil, append_assoc, Some, None, list_all, NameId, Token, Stored, names, uses, use_of, has_rank, suffix, Frame, and_parts, PassesNoUse, Waiting}
 use Rattle.cweb_out.specs.declared.outputs.search.Mark.{Mark}
 use Rattle.cweb_out.specs.declared.outputs.search.Mark.TheVariants.{Ranked}
-use Rattle.cweb_out.specs.declared.outputs.search.Waiting.{Waiting}
 use Rattle.cweb_out.specs.inner.Search.{MarksFitPath, IsScanned, FindsUnranked, SkipsRanked, is_marked, is_ranked_mark, mark_of}
 use Rattle.cweb_out.proofs.FirstUses.{same-uses}
 use Rattle.cweb_out.proofs.Ranks.{all-append}

@@ -1,9 +1,8 @@
 -- The steps of the search, and its result for an output.
-use Rattle.cweb_out.proofs.Common.{◌≡◌, ◌<◌, suc, Bool, true, false, not, List, [], ◌∷◌, ◌++◌, refl, sym, ◌∙◌, ap, arith, length, subst, Option, Some, None, Result, Ok, Err, find, list_all, set, NameId, Token, Stored, defs_first, root_list, has_defs_code, names, program, uses, has_rank, cycle_from, FrameIsWithin, suffix, Frame}
+use Rattle.cweb_out.proofs.Common.{◌≡◌, ◌<◌, suc, Bool, true, false, not, List, [], ◌∷◌, ◌++◌, refl, sym, ◌∙◌, ap, arith, length, subst, Option, Some, None, Result, Ok, Err, find, list_all, set, NameId, Token, Stored, defs_first, root_list, has_defs_code, names, program, uses, has_rank, cycle_from, FrameIsWithin, suffix, Frame, Waiting}
 use Rattle.std.specs.Prelude.{IfOk, option_map}
 use Rattle.cweb_out.specs.declared.outputs.search.Mark.{Mark}
 use Rattle.cweb_out.specs.declared.outputs.search.Mark.TheVariants.{Waits, Ranked}
-use Rattle.cweb_out.specs.declared.outputs.search.Waiting.{Waiting}
 use Rattle.cweb_out.specs.inner.Search.{Chain, MarksFitPath, Goes, IsEndless, Settles, SettlesList, Waited, IsScanned, FindsUnranked, is_marked, mark_of, marks_left}
 use Rattle.cweb_out.proofs.Ranks.{rank-grows, rank_by_uses}
 use Rattle.cweb_out.proofs.Circles.{looked-endless}

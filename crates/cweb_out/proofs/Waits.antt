@@ -1,12 +1,10 @@
 -- The marks of names when they start to wait and get their rank.
-use Rattle.cweb_out.proofs.Common.{◌≡◌, ◌<◌, true, false, ◌||◌, List, [], ◌∷◌, ◌++◌, sym, ◌∙◌, ap, arith, length, inl, inr, subst, sum_by, list_any, set, get_or-set_same, length-set, NameId, is_id, Stored, names, joined, has_rank, FrameIsWithin, suffix, AreNew, false_from_ne_true, or_left, or_right, id}
+use Rattle.cweb_out.proofs.Common.{◌≡◌, ◌<◌, true, false, ◌||◌, List, [], ◌∷◌, ◌++◌, sym, ◌∙◌, ap, arith, length, inl, inr, subst, sum_by, list_any, set, get_or-set_same, length-set, NameId, is_id, Stored, names, joined, has_rank, FrameIsWithin, suffix, AreNew, false_from_ne_true, or_left, or_right, id, eqb_tells, Waiting}
 use Rattle.std.proofs.Common.{◌≢◌}
-use Rattle.std.proofs.lemmas.Bool.Decides.{eqb_tells}
 use Rattle.std.proofs.lemmas.List.{get_or-set_other, get_or_past}
 use Rattle.std.proofs.lemmas.List.Sums.{sum_by-set}
 use Rattle.cweb_out.specs.declared.outputs.search.Mark.{Mark}
 use Rattle.cweb_out.specs.declared.outputs.search.Mark.TheVariants.{Unseen, Waits, Ranked}
-use Rattle.cweb_out.specs.declared.outputs.search.Waiting.{Waiting}
 use Rattle.cweb_out.specs.inner.Search.{MarksFitPath, Waited, mark_of, marks_left, path_of}
 use Rattle.std.proofs.lemmas.Bool.{cases_lt}
 use Rattle.cweb_out.proofs.Ranks.{on-front, on-last}

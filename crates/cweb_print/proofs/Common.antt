@@ -7,47 +7,47 @@ pub use Rattle.std.proofs.Math.Bool.{and-false}
 pub use Rattle.std.proofs.Math.Seq.{take-add}
 pub use Rattle.std.proofs.lemmas.Bool.{eqb-true}
 pub use Rattle.std.proofs.lemmas.Grind.{common_steps}
-pub use Rattle.std.proofs.lemmas.List.{drop-drop, take_at, drop_at, take_more, get_or-drop, length-map}
+pub use Rattle.std.proofs.lemmas.List.{drop-drop, take_at, drop_at, take_more, get_or-drop, length-map, length-take-le}
 pub use Rattle.std.proofs.lemmas.Option.{slice_get-map, slice_get_within}
 pub use Rattle.std.specs.Cmp.{second_so}
 pub use Rattle.std.specs.List.{list_any, list_all}
 pub use Rattle.std.specs.Prelude.{option_map, nat_le, IfSome, Result, Ok, Err, IsErr, flat_map, slice_get, filter, All}
 pub use Rattle.std.specs.Prelude.{IsOk, is_some, fold, IsTrue}
+pub use Rattle.cweb_store.specs.Calls.{Stored}
+pub use Rattle.cweb_store.specs.Parts.{is_layout, Token, Word, Number, Literal, Verbatim, Punct, Blank, Newline, Join}
+pub use Rattle.cweb_store.specs.Parts.{Defs, Name, Head, Tail, Mark, all_tokens, is_macro}
+pub use Rattle.cweb_store.specs.declared.parts.Part.{Part}
+pub use Rattle.cweb_store.specs.declared.parts.PartKind.{PartKind}
+pub use Rattle.cweb_store.specs.inner.DirectBytes.{direct_bytes}
+pub use Rattle.cweb_store.specs.surface.Parts.{numbers_from, numbers_where}
+pub use Rattle.cweb_store.specs.surface.TokenModels.{token_model}
+pub use Rattle.cweb_texts.specs.Edges.{is_operator, is_one_of, first_is, last_is}
+pub use Rattle.cweb_texts.specs.contracts.edges.Edge.{the_type}
+pub use Rattle.cweb_texts.specs.declared.edges.Edge.{Edge}
+pub use Rattle.cweb_texts.specs.inner.Edges.{TokenBytesModel, is_high, is_numeric, punctuator_edge, punctuator_edge_by}
+pub use Rattle.cweb_texts.specs.inner.Edges.{token_bytes_model}
 pub use denote.Enum.Declared.{tag_of}
-pub use Rattle.cweb_print.specs.inner.Flushing.{blank_where}
-pub use Rattle.cweb_print.specs.inner.Writing.{Wrote}
-pub use Rattle.cweb_print.specs.declared.buffer.TheConstants.{ROOM}
-pub use Rattle.cweb_print.specs.inner.EdgeSpacing.{class_after_edge, edge_is_apart, left_after_edge, continued_by}
-pub use Rattle.cweb_print.specs.inner.EdgeSpacing.{edge_ends_line}
-pub use Rattle.cweb_print.specs.surface.Classes.{class_by, class_of, left_after_token, punct_class, is_dropped}
-pub use Rattle.cweb_print.specs.surface.Classes.{left_after_tokens, at_start}
-pub use Rattle.cweb_print.specs.inner.Classes.{class_is_glue, class_is_literal, class_is_number, class_is_operator}
-pub use Rattle.cweb_print.specs.inner.Classes.{class_is_point, class_is_wordlike, is_apart, added, continuation_bytes}
-pub use Rattle.cweb_print.specs.inner.Classes.{macro_by, file_by, separator, all_added, begin_by, class_is_line_start}
-pub use Rattle.cweb_print.specs.inner.Classes.{own_line_bytes}
-pub use Rattle.cweb_print.specs.inner.BufferedPrinting.{AppendsToken, MovesBy, PrintsBy}
-pub use Rattle.cweb_print.specs.inner.DirectTokens.{direct_unless_dropped, AreDirect, is_direct}
-pub use Rattle.cweb_print.specs.surface.Printed.{AddsBytes, AddsBy, left_in_printer, setting_of, PrintsToken}
 pub use Rattle.cweb_print.specs.Printing.{macros, replaced_in, word_bytes, wants_backslash, quoted, plain_bytes}
 pub use Rattle.cweb_print.specs.Printing.{Setting, print, stays_joined, macro_line, macro_lines, macro_token_bytes}
 pub use Rattle.cweb_print.specs.Printing.{printed_tokens, without_joined_layout, print_after, file, file_token_bytes}
 pub use Rattle.cweb_print.specs.Printing.{last_token, left_after, starts_line, begin_line, mark_line, file_name}
 pub use Rattle.cweb_print.specs.Printing.{quoted_byte, word_byte}
-pub use Rattle.cweb_store.specs.Parts.{is_layout, Token, Word, Number, Literal, Verbatim, Punct, Blank, Newline, Join}
-pub use Rattle.cweb_store.specs.Parts.{Defs, Name, Head, Tail, Mark, all_tokens, is_macro}
-pub use Rattle.cweb_print.specs.surface.TokenRanges.{tokens_of_part}
-pub use Rattle.cweb_texts.specs.Edges.{is_operator, is_one_of, first_is, last_is}
 pub use Rattle.cweb_print.specs.Spacing.{is_wordlike, is_literal, is_number, is_comment, begins_with, are_apart, sep}
+pub use Rattle.cweb_print.specs.declared.buffer.TheConstants.{ROOM}
 pub use Rattle.cweb_print.specs.declared.printer.Printer.{Printer}
 pub use Rattle.cweb_print.specs.declared.printer.class.Class.{Class}
 pub use Rattle.cweb_print.specs.declared.printer.left.Left.{Left}
-pub use Rattle.cweb_store.specs.inner.DirectBytes.{direct_bytes}
-pub use Rattle.cweb_texts.specs.inner.Edges.{TokenBytesModel, is_high, is_numeric, punctuator_edge, punctuator_edge_by}
-pub use Rattle.cweb_texts.specs.inner.Edges.{token_bytes_model}
-pub use Rattle.cweb_store.specs.Calls.{Stored}
-pub use Rattle.cweb_store.specs.surface.Parts.{numbers_from, numbers_where}
-pub use Rattle.cweb_store.specs.surface.TokenModels.{token_model}
-pub use Rattle.cweb_texts.specs.contracts.edges.Edge.{the_type}
-pub use Rattle.cweb_store.specs.declared.parts.Part.{Part}
-pub use Rattle.cweb_store.specs.declared.parts.PartKind.{PartKind}
-pub use Rattle.cweb_texts.specs.declared.edges.Edge.{Edge}
+pub use Rattle.cweb_print.specs.inner.BufferedPrinting.{AppendsToken, MovesBy, PrintsBy}
+pub use Rattle.cweb_print.specs.inner.Classes.{class_is_glue, class_is_literal, class_is_number, class_is_operator}
+pub use Rattle.cweb_print.specs.inner.Classes.{class_is_point, class_is_wordlike, is_apart, added, continuation_bytes}
+pub use Rattle.cweb_print.specs.inner.Classes.{macro_by, file_by, separator, all_added, begin_by, class_is_line_start}
+pub use Rattle.cweb_print.specs.inner.Classes.{own_line_bytes}
+pub use Rattle.cweb_print.specs.inner.DirectTokens.{direct_unless_dropped, AreDirect, is_direct}
+pub use Rattle.cweb_print.specs.inner.EdgeSpacing.{class_after_edge, edge_is_apart, left_after_edge, continued_by}
+pub use Rattle.cweb_print.specs.inner.EdgeSpacing.{edge_ends_line}
+pub use Rattle.cweb_print.specs.inner.Flushing.{blank_where}
+pub use Rattle.cweb_print.specs.inner.Writing.{Wrote}
+pub use Rattle.cweb_print.specs.surface.Classes.{class_by, class_of, left_after_token, punct_class, is_dropped}
+pub use Rattle.cweb_print.specs.surface.Classes.{left_after_tokens, at_start}
+pub use Rattle.cweb_print.specs.surface.Printed.{AddsBytes, AddsBy, left_in_printer, setting_of, PrintsToken}
+pub use Rattle.cweb_print.specs.surface.TokenRanges.{tokens_of_part}

@@ -1,7 +1,6 @@
 -- Direct tokens: their edges, classes, and the blanks before them.
-use Rattle.cweb_print.proofs.Common.{arith, ◌≡◌, ◌==◌, ◌++◌, ◌∙◌, ℕ, Bool, true, false, cond, ◌||◌, ◌&&◌, not, List, [], ◌∷◌, Option, None, Some, refl, ap, sym, option_map, list_any, eqb-true, Token, Word, Number, Literal, Verbatim, Punct, Blank, Newline, Edge, TokenBytesModel, first_is, is_numeric, last_is, direct_bytes, punctuator_edge, punctuator_edge_by, Class, class_after_edge, left_after_edge, edge_is_apart, class_by, class_is_glue, class_is_literal, class_is_number, class_is_operator, class_is_point, class_is_wordlike, class_of, is_apart, AppendsToken, blank_where, is_high, direct_unless_dropped}
+use Rattle.cweb_print.proofs.Common.{arith, ◌≡◌, ◌==◌, ◌++◌, ◌∙◌, ℕ, Bool, true, false, cond, ◌||◌, ◌&&◌, not, List, [], ◌∷◌, Option, None, Some, refl, ap, sym, option_map, list_any, eqb-true, Token, Word, Number, Literal, Verbatim, Punct, Blank, Newline, Edge, TokenBytesModel, first_is, is_numeric, last_is, direct_bytes, punctuator_edge, punctuator_edge_by, Class, class_after_edge, left_after_edge, edge_is_apart, class_by, class_is_glue, class_is_literal, class_is_number, class_is_operator, class_is_point, class_is_wordlike, class_of, is_apart, AppendsToken, blank_where, is_high, direct_unless_dropped, is_operator}
 use Rattle.cweb_texts.specs.declared.edges.Edge.TheVariants as border
-use Rattle.cweb_texts.specs.Edges.{is_operator}
 use Rattle.cweb_print.specs.declared.printer.class.Class.TheVariants as class
 
 -- The edge of an optional result.

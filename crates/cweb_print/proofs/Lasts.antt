@@ -1,7 +1,6 @@
 -- The last byte of a punctuator.
-use Rattle.cweb_print.proofs.Common.{◌≡◌, ◌==◌, ◌-◌, ℕ, true, List, [], ◌∷◌, Some, ◌∙◌, ap, length, slice_get, eqb-true, is_operator, class_by, punct_class}
+use Rattle.cweb_print.proofs.Common.{◌≡◌, ◌==◌, ◌-◌, ℕ, true, List, [], ◌∷◌, Some, ◌∙◌, ap, length, slice_get, eqb-true, is_operator, class_by, punct_class, last_is}
 use Rattle.cweb_texts.proofs.EdgeLemmas.{last_is-at}
-use Rattle.cweb_texts.specs.Edges.{last_is}
 
 pub punct-last : (bs : List ℕ) (x : ℕ) → slice_get bs (length bs - 1) ≡ Some x
     → punct_class bs ≡ class_by (x == 46) (is_operator x)

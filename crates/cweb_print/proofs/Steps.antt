@@ -1,6 +1,5 @@
 -- Printing token by token: the output of each one follows from the printer's state.
-use Rattle.cweb_print.proofs.Common.{arith, ◌≡◌, ℕ, Bool, true, false, ◌&&◌, ◌||◌, not, cond, List, [], ◌∷◌, ◌++◌, refl, sym, ◌∙◌, ap, append_assoc, append-nil, Option, None, Some, codes, nat_eq, fold, Token, Word, Number, Literal, Verbatim, Punct, Blank, Newline, Join, Defs, Name, Head, Tail, Mark, is_operator, is_one_of, is_wordlike, is_literal, is_number, is_comment, begins_with, are_apart, sep, macro_token_bytes, printed_tokens, Setting, stays_joined, is_layout, without_joined_layout, print_after, print, file, file_token_bytes, last_token, left_after, starts_line, begin_line, macro_lines, mark_line, file_name, Class, Left, class_by, class_of, class_is_line_start, is_apart, separator, left_after_token, at_start, left_after_tokens, added, all_added, begin_by, file_by, macro_by, second_so}
-use Rattle.cweb_texts.specs.Edges.{last_is}
+use Rattle.cweb_print.proofs.Common.{arith, ◌≡◌, ℕ, Bool, true, false, ◌&&◌, ◌||◌, not, cond, List, [], ◌∷◌, ◌++◌, refl, sym, ◌∙◌, ap, append_assoc, append-nil, Option, None, Some, codes, nat_eq, fold, Token, Word, Number, Literal, Verbatim, Punct, Blank, Newline, Join, Defs, Name, Head, Tail, Mark, is_operator, is_one_of, is_wordlike, is_literal, is_number, is_comment, begins_with, are_apart, sep, macro_token_bytes, printed_tokens, Setting, stays_joined, is_layout, without_joined_layout, print_after, print, file, file_token_bytes, last_token, left_after, starts_line, begin_line, macro_lines, mark_line, file_name, Class, Left, class_by, class_of, class_is_line_start, is_apart, separator, left_after_token, at_start, left_after_tokens, added, all_added, begin_by, file_by, macro_by, second_so, last_is}
 use Rattle.cweb_print.proofs.Lasts.{point-operator}
 
 -- The tests of a punctuator to the left agree with its class.

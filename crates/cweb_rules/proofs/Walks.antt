@@ -1,6 +1,5 @@
 -- The units of an item, one after another.
-use Rattle.cweb_rules.proofs.Common.{◌≡◌, ◌≤◌, ◌<◌, ℕ, zero, suc, Bool, true, false, ◌==◌, ◌-◌, List, [], ◌∷◌, length, take, drop, ap, sym, ◌∙◌, arith, drop_min, Reach, reach, reach_in, with_unit, End, Look, Goes, Ends, listed, longest}
-use Rattle.std.proofs.Common.{min}
+use Rattle.cweb_rules.proofs.Common.{◌≡◌, ◌≤◌, ◌<◌, ℕ, zero, suc, Bool, true, false, ◌==◌, ◌-◌, List, [], ◌∷◌, length, take, drop, ap, sym, ◌∙◌, arith, drop_min, Reach, reach, reach_in, with_unit, End, Look, Goes, Ends, listed, longest, min}
 use Rattle.cweb_rules.proofs.Ranges.{reach_in-drop}
 use Rattle.cweb_rules.proofs.TokenSizes.{longest-size}
 

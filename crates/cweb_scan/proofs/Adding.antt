@@ -1,7 +1,6 @@
 -- How much the moves of a scan add to a store's size.
-use Rattle.cweb_scan.proofs.Common.{◌≡◌, ◌≤◌, ℕ, List, [], ◌∷◌, refl, arith, Place, Token, Context, Limbo, Blank, Reading, ScanState, next_line, move_to, one, spelling_size, occurrence_size, replacement_size, owed_tokens, AddsAtMost}
+use Rattle.cweb_scan.proofs.Common.{◌≡◌, ◌≤◌, ℕ, List, [], ◌∷◌, refl, arith, Place, Token, Context, Limbo, Blank, Reading, ScanState, next_line, move_to, one, spelling_size, occurrence_size, replacement_size, owed_tokens, AddsAtMost, total-append}
 use Rattle.cweb_scan.proofs.Measures.{pushed-size, opened-size, closed-size, dropped-size}
-use Rattle.cweb_texts.proofs.WordLemmas.{total-append}
 use Rattle.cweb_scan.proofs.Moves.{Moves, Any, holds_any, size}
 use Rattle.cweb_scan.proofs.TakenItems.{reading}
 

@@ -1,14 +1,11 @@
 -- C text outside directives: a blank before a lexeme.
-use Rattle.cweb_scan.proofs.Common.{◌≡◌, ◌≤◌, ℕ, ◌+◌, Bool, true, false, ◌==◌, List, [], ◌∷◌, ◌++◌, length, drop, refl, ap, sym, ◌∙◌, subst, arith, if◌then◌else◌, prefix_len, eqb-true, is_blank, IsLine, c_rule, ReaderModel, TakesPrefix, read_on, TakesPlain, ScanState}
+use Rattle.cweb_scan.proofs.Common.{◌≡◌, ◌≤◌, ℕ, ◌+◌, Bool, true, false, ◌==◌, List, [], ◌∷◌, ◌++◌, length, drop, refl, ap, sym, ◌∙◌, subst, arith, if◌then◌else◌, prefix_len, eqb-true, is_blank, IsLine, c_rule, ReaderModel, TakesPrefix, read_on, TakesPlain, ScanState, IsPlainC, drop-sum, if_true}
 use Rattle.cweb_rules.specs.inner.Firsts.{past_blank}
-use Rattle.cweb_scan.specs.inner.Plain.{IsPlainC}
 use Rattle.cweb_rules.specs.declared.rule.Rule.TheVariants as rule
 use Rattle.cweb_scan.proofs.PlainLexemes.{left_line, some_goes_on, TakesSome}
 use Rattle.cweb_scan.proofs.Plains.{blanks_turn}
 use Rattle.cweb_scan.proofs.RestByLexemes.{takes_none}
 use Rattle.cweb_scan.proofs.FirstMatchTaken.{between}
-use Rattle.cweb_rules.proofs.UnitNewlines.{drop-sum}
-use Rattle.cweb_rules.proofs.FirstBytes.{if_true}
 
 blank_first : (includes : Bool) (b : ℕ) (t : List ℕ) → is_blank b ≡ true → rule.Blanks ≡ c_rule includes (b ∷ t)
 blank_first includes b t h = sym (if_true (is_blank b) rule.Blanks _ h)

@@ -16,35 +16,48 @@ pub use Rattle.std.proofs.lemmas.List.Elements.{filter-append, All-weaker}
 pub use Rattle.std.proofs.lemmas.Option.{same_Some}
 pub use Rattle.std.specs.Fmt.{decimal, digit_glyph, digits_onto}
 pub use Rattle.std.specs.List.{fold, prefix_len, flat_map, list_all, slice_get}
+pub use Rattle.std.specs.Option.{is_some}
 pub use Rattle.std.specs.Prelude.{IsTrue, option_to_list, if◌then◌else◌, codes, nat_lt, bytes_eq, option_map, All}
-pub use Rattle.cweb_files.specs.surface.Frames.{KeepsShelf}
 pub use Rattle.cweb_files.specs.declared.place.Place.{Place}
-pub use Rattle.cweb_lines.specs.inner.Ahead.{LooksAhead, TakesLines}
-pub use Rattle.cweb_lines.specs.inner.LineSpans.{span_bytes, BorrowsLines}
+pub use Rattle.cweb_files.specs.surface.Frames.{KeepsShelf}
 pub use Rattle.cweb_input.specs.Lines.{Line, blame}
-pub use Rattle.cweb_input.specs.surface.Lines.{HasNoNewline}
-pub use Rattle.cweb_lines.specs.Merge.{Event}
-pub use Rattle.cweb_lines.specs.surface.MergeProgress.{SoFar, so_far_of, KeepsReported, Stopped, events_to_come}
-pub use Rattle.cweb_input.specs.surface.OpenedFileNames.{opened_file_names}
-pub use Rattle.cweb_lines.specs.inner.Passing.{lines_next, with_newlines, top_of}
-pub use Rattle.cweb_input.specs.surface.OpenSources.{StopsFor}
 pub use Rattle.cweb_input.specs.OpenSources.{read_failures_of}
-pub use Rattle.cweb_lines.specs.Events.{emitted_lines}
-pub use Rattle.cweb_lines.specs.surface.MergerCalls.{EmitsLine, Grows, StopsThere, so_far, to_come, KnowsReaders}
-pub use Rattle.cweb_lines.specs.surface.MergerCalls.{stop_in}
 pub use Rattle.cweb_input.specs.declared.limits.TheConstants.{LINES, BYTES}
-pub use Rattle.cweb_lines.specs.declared.merger.Merger.{Merger}
-pub use Rattle.cweb_lines.specs.declared.merger.ahead.Ahead.{Ahead}
-pub use Rattle.cweb_lines.specs.declared.merge_state.MergeState.{MergeState}
+pub use Rattle.cweb_input.specs.declared.open_source.OpenSource.{OpenSource}
 pub use Rattle.cweb_input.specs.declared.stop.Stop.{Stop}
 pub use Rattle.cweb_input.specs.declared.stop.Stop.TheVariants.{ReadFault, LineTooLong, TooMuchText, Memory}
-pub use Rattle.cweb_input.specs.declared.open_source.OpenSource.{OpenSource}
+pub use Rattle.cweb_input.specs.surface.Lines.{HasNoNewline}
+pub use Rattle.cweb_input.specs.surface.OpenSources.{StopsFor}
+pub use Rattle.cweb_input.specs.surface.OpenedFileNames.{opened_file_names}
+pub use Rattle.cweb_lines.proofs.EmittedLinesAddUp.{gives_both}
+pub use Rattle.cweb_lines.specs.Events.{emitted_lines}
+pub use Rattle.cweb_lines.specs.Merge.{Event}
+pub use Rattle.cweb_lines.specs.declared.merge_state.MergeState.{MergeState}
+pub use Rattle.cweb_lines.specs.declared.merger.Merger.{Merger}
+pub use Rattle.cweb_lines.specs.declared.merger.ahead.Ahead.{Ahead}
+pub use Rattle.cweb_lines.specs.inner.Ahead.{LooksAhead, TakesLines}
+pub use Rattle.cweb_lines.specs.inner.LineSpans.{span_bytes, BorrowsLines}
+pub use Rattle.cweb_lines.specs.inner.Passing.{lines_next, with_newlines, top_of}
+pub use Rattle.cweb_lines.specs.surface.MergeProgress.{SoFar, so_far_of, KeepsReported, Stopped, events_to_come}
+pub use Rattle.cweb_lines.specs.surface.MergerCalls.{EmitsLine, Grows, StopsThere, so_far, to_come, KnowsReaders}
+pub use Rattle.cweb_lines.specs.surface.MergerCalls.{stop_in}
+pub use Rattle.cweb_names.specs.Names.{squeezed_after, squeezed, is_abbreviation, Occurrence}
+pub use Rattle.cweb_names.specs.declared.name.How.TheVariants.{Full, Prefix}
+pub use Rattle.cweb_names.specs.declared.name.NameRef.{NameRef}
+pub use Rattle.cweb_names.specs.surface.Names.{too_many}
+pub use Rattle.cweb_rules.proofs.FirstBytes.{if_true}
+pub use Rattle.cweb_rules.proofs.InLines.{IsLine-drop, IsLine-take}
+pub use Rattle.cweb_rules.proofs.LineLiterals.{is_quoted-size}
+pub use Rattle.cweb_rules.proofs.Looks.{comment-units, reach_ends}
+pub use Rattle.cweb_rules.proofs.Reaches.{IsEnd, IsLocal}
+pub use Rattle.cweb_rules.proofs.Seams.{begins_line, in_line, stops}
+pub use Rattle.cweb_rules.proofs.UnitNewlines.{drop-sum, Tells, ends-append}
+pub use Rattle.cweb_rules.proofs.Walks.{punctuator_fits}
 pub use Rattle.cweb_rules.specs.Bytes.{begins, starts_section, is_blank, is_line_end, is_digit, is_word_byte, first_is}
 pub use Rattle.cweb_rules.specs.Bytes.{at_line_end, is_white, listed, longest, number_len, starts_number}
-pub use Rattle.cweb_rules.specs.Codes.{in_limbo, in_tex, in_macro, in_c}
+pub use Rattle.cweb_rules.specs.Codes.{in_tex, in_macro, in_c}
 pub use Rattle.cweb_rules.specs.Items.{reach_size, Reach, body, with_unit, reach_in, reach, unescaped, look_in_raw}
-pub use Rattle.cweb_rules.specs.Items.{look_in_literal, look_in_comment, unit_bytes, look_in_name}
-pub use Rattle.cweb_rules.specs.laws.Follows.{JoinsAll, IsToken, is_token, is_quiet, begins_as}
+pub use Rattle.cweb_rules.specs.Items.{look_in_literal, look_in_comment, unit_bytes, look_in_name, look_in_control}
 pub use Rattle.cweb_rules.specs.Matches.{match_in, code_match, effect_match, section_match, head_match_of, head_match}
 pub use Rattle.cweb_rules.specs.Matches.{c_match, found_letter_match, tex_match, opener_after, raw_prefix, delimiter}
 pub use Rattle.cweb_rules.specs.Matches.{comment_match, line_comment_match, raw_match, literal_match, literal_prefix}
@@ -52,18 +65,12 @@ pub use Rattle.cweb_rules.specs.Matches.{quote_of, quoted_match, starts_raw, sta
 pub use Rattle.cweb_rules.specs.Matches.{include_match, name_match, Lexeme, Skipped, rule_match, Blanks, RuleMatch}
 pub use Rattle.cweb_rules.specs.Matches.{Kind, Section, Code, Letter, ControlText, Constant, LineEnd, Comment, Quoted}
 pub use Rattle.cweb_rules.specs.Matches.{Defined, Identifier, Numeral, Punctuator}
-pub use Rattle.cweb_rules.specs.inner.LineItems.{IsLine, opens_in, opens_code, opens_effect, c_opens, tex_opens}
-pub use Rattle.cweb_rules.specs.inner.LineItems.{AtLineEnd, is_unclosed}
-pub use Rattle.cweb_rules.specs.inner.Looks.{reached, MovesOn}
-pub use Rattle.cweb_rules.specs.laws.Pays.{owed_tokens, at_line_ends, Pays}
-pub use Rattle.cweb_rules.specs.inner.PlainBytes.{is_plain, is_raw_special, is_special}
-pub use Rattle.cweb_rules.specs.inner.Rules.{c_rule, c_match_by}
 pub use Rattle.cweb_rules.specs.declared.constants.Transliteration.{Transliteration}
 pub use Rattle.cweb_rules.specs.declared.context.Context.{Context}
 pub use Rattle.cweb_rules.specs.declared.context.Context.TheVariants.{Limbo, TeX, Definition, Macro, CText}
 pub use Rattle.cweb_rules.specs.declared.effect.Effect.{Effect}
-pub use Rattle.cweb_rules.specs.declared.effect.Effect.TheVariants.{Nothing, Define, Format, Program, Named, InsertDefs}
-pub use Rattle.cweb_rules.specs.declared.effect.Effect.TheVariants.{Joins, EmitAt, Faulty}
+pub use Rattle.cweb_rules.specs.declared.effect.Effect.TheVariants.{Define, Format, Program, Named, InsertDefs, Joins}
+pub use Rattle.cweb_rules.specs.declared.effect.Effect.TheVariants.{EmitAt, Faulty}
 pub use Rattle.cweb_rules.specs.declared.end.End.{End}
 pub use Rattle.cweb_rules.specs.declared.end.End.TheVariants.{Closed, Cut, Nested, Open}
 pub use Rattle.cweb_rules.specs.declared.fault.ScanFault.{ScanFault}
@@ -77,64 +84,71 @@ pub use Rattle.cweb_rules.specs.declared.fault.ScanKind.TheVariants.{DefinitionD
 pub use Rattle.cweb_rules.specs.declared.items.Reached.{Reached}
 pub use Rattle.cweb_rules.specs.declared.look.Look.{Look}
 pub use Rattle.cweb_rules.specs.declared.look.Look.TheVariants.{Goes, Ends}
+pub use Rattle.cweb_rules.specs.declared.quote.Quote.{Quote}
+pub use Rattle.cweb_rules.specs.declared.quote.Quote.TheVariants.{Single, Double}
 pub use Rattle.cweb_rules.specs.declared.rule.Rule.{Rule}
-pub use Rattle.cweb_scan.specs.inner.Ahead.{ReadsAhead}
+pub use Rattle.cweb_rules.specs.inner.LineItems.{IsLine, opens_in, opens_code, opens_effect, c_opens, tex_opens}
+pub use Rattle.cweb_rules.specs.inner.LineItems.{AtLineEnd, is_unclosed}
+pub use Rattle.cweb_rules.specs.inner.Looks.{reached, MovesOn}
+pub use Rattle.cweb_rules.specs.inner.PlainBytes.{is_plain, is_raw_special, is_special}
+pub use Rattle.cweb_rules.specs.inner.Quotes.{quote_byte}
+pub use Rattle.cweb_rules.specs.inner.Rules.{c_rule, c_match_by}
+pub use Rattle.cweb_rules.specs.laws.Follows.{JoinsAll, IsToken, is_token, is_quiet, begins_as}
+pub use Rattle.cweb_rules.specs.laws.Pays.{owed_tokens, at_line_ends, Pays}
+pub use Rattle.cweb_store.specs.Calls.{finished, with_dropped, with_open, PartsSoFar, all_parts, with_opened_part}
+pub use Rattle.cweb_store.specs.Calls.{with_pushed_token, part_with_token, with_dropped_layout, with_closed_part}
+pub use Rattle.cweb_store.specs.Calls.{Replacement, Contents}
+pub use Rattle.cweb_store.specs.Parts.{before_last, without_last, without_blank, without_layout, protected_count}
+pub use Rattle.cweb_store.specs.Parts.{is_newline, is_layout, at_close, Token, Word, Number, Literal, Verbatim, Punct}
+pub use Rattle.cweb_store.specs.Parts.{Blank, Newline, Join, Defs, Name, Head, Tail, Mark, Part, all_tokens, is_macro}
+pub use Rattle.cweb_store.specs.declared.parts.PartKind.{PartKind}
+pub use Rattle.cweb_store.specs.declared.parts.PartKind.TheVariants.{Unnamed}
+pub use Rattle.cweb_store.specs.surface.TokenModels.{token_model}
+pub use Rattle.cweb_texts.proofs.WordLemmas.{total-append}
+pub use Rattle.cweb_scan.specs.After.{Reading, after_lexeme, blank, enter_in, stays_in_head, item, punctuator}
+pub use Rattle.cweb_scan.specs.After.{apply_effect, pass_control_text, emit_verbatim, define, pass_comment}
+pub use Rattle.cweb_scan.specs.After.{report_name_fault, use_name, open_name, name_in_context, emit_literal, on}
+pub use Rattle.cweb_scan.specs.After.{each_line_end, occurrence, line_end_in, line_end, comment_line_end, literal_unit}
+pub use Rattle.cweb_scan.specs.After.{next_line, enter, line_end_token}
 pub use Rattle.cweb_scan.specs.Alone.{HasReadTokens, InPlainC, significant, is_hash, is_clean, token_of, code_token}
 pub use Rattle.cweb_scan.specs.Alone.{is_insignificant, ReadsAlone, doubled, literal_token, spelling_of, read_lines}
 pub use Rattle.cweb_scan.specs.Alone.{next_match, lexemes_in, lex, newline_prefixed, scanned, lexemes, scanned_of}
 pub use Rattle.cweb_scan.specs.Alone.{Scanned}
-pub use Rattle.cweb_scan.specs.laws.Alone.{IsReadAs}
-pub use Rattle.cweb_scan.specs.inner.Bound.{sum_over, one, spelling_size, occurrence_size, replacement_size, part_size}
-pub use Rattle.cweb_scan.specs.inner.Bound.{open_size, parts_size, token_number, stored_bytes, AddsAtMost}
-pub use Rattle.cweb_scan.specs.surface.Law.{web_size, IsBounded}
-pub use Rattle.cweb_scan.specs.laws.Law.{AreLexemes, MarkPasses, PlacesPass}
-pub use Rattle.cweb_scan.specs.inner.PendingItems.{item_of, is_raw, HasRawCloser}
-pub use Rattle.cweb_scan.specs.surface.Scan.{AreLinesBelow, IsScanBelow, IsMarkBelow, ScansWithinLimits, Scans}
-pub use Rattle.cweb_scan.specs.inner.Scan.{HasTaken}
-pub use Rattle.cweb_scan.specs.surface.Scan.{StopsAfter, ScanEndsEarly}
-pub use Rattle.cweb_scan.specs.laws.LexemePlaces.{source_start, newlines, LexemesKeepLines}
-pub use Rattle.cweb_scan.specs.declared.reader.open.Open.TheVariants.{AfterBackslash, Raw}
-pub use Rattle.cweb_scan.specs.After.{Reading, after_lexeme, blank, enter_in, stays_in_head, set_letter, item}
-pub use Rattle.cweb_scan.specs.After.{punctuator, apply_effect, pass_control_text, emit_verbatim, define, pass_comment}
-pub use Rattle.cweb_scan.specs.After.{report_name_fault, use_name, open_name, name_in_context, emit_literal, on}
-pub use Rattle.cweb_scan.specs.After.{each_line_end, occurrence, line_end_in, line_end, comment_line_end, literal_unit}
-pub use Rattle.cweb_scan.specs.After.{next_line, enter, emit_constant, line_end_token}
+pub use Rattle.cweb_scan.specs.DirectiveTokens.{directive_of, directive_tokens, directive_after, is_punct, ends_line}
+pub use Rattle.cweb_scan.specs.DirectiveTokens.{some_include, is_last_blank}
 pub use Rattle.cweb_scan.specs.State.{is_next_line, is_c, directive, in_directive, names_include, name_occurrence, full}
 pub use Rattle.cweb_scan.specs.State.{prefix, as_occurrence, ScanState, leave, start_state, emit, drop_definition}
 pub use Rattle.cweb_scan.specs.State.{end_macro, move_to, report, add_name, begin_section, open_part_tokens, tokens_of}
 pub use Rattle.cweb_scan.specs.State.{end_macro_in, leave_in, report_at, begin_part, end_part}
-pub use Rattle.cweb_scan.specs.DirectiveTokens.{directive_of, directive_tokens, directive_after, is_punct, ends_line}
-pub use Rattle.cweb_scan.specs.DirectiveTokens.{some_include}
-pub use Rattle.std.specs.Option.{is_some}
+pub use Rattle.cweb_scan.specs.declared.directive.Directive.{Directive}
+pub use Rattle.cweb_scan.specs.declared.directive.Stage.{Stage}
+pub use Rattle.cweb_scan.specs.declared.directive.Stage.TheVariants.{Outside, Bare, Further}
+pub use Rattle.cweb_scan.specs.declared.reader.open.Open.TheVariants.{AfterBackslash, Raw}
+pub use Rattle.cweb_scan.specs.inner.Ahead.{ReadsAhead}
+pub use Rattle.cweb_scan.specs.inner.Bound.{sum_over, one, spelling_size, occurrence_size, replacement_size, part_size}
+pub use Rattle.cweb_scan.specs.inner.Bound.{open_size, parts_size, token_number, stored_bytes, AddsAtMost}
+pub use Rattle.cweb_scan.specs.inner.DirectiveInvariant.{in_open_part, IsTied}
 pub use Rattle.cweb_scan.specs.inner.MatchSteps.{Applies, effect_in, is_head, is_name_effect, reads_c, reads_literals}
 pub use Rattle.cweb_scan.specs.inner.MatchSteps.{IsPast, ended_as, unit_state, reads_names, ends_in_line, needs_two}
 pub use Rattle.cweb_scan.specs.inner.MatchSteps.{literals_in_part}
-pub use Rattle.cweb_scan.specs.inner.Skipped.{is_skipped}
+pub use Rattle.cweb_scan.specs.inner.PendingItems.{item_of, is_raw, HasRawCloser}
+pub use Rattle.cweb_scan.specs.inner.PendingRest.{awaits_line_end, TakesPending, pending_bytes, with_pending_bytes}
+pub use Rattle.cweb_scan.specs.inner.PendingRest.{delimiter_of, literal_step, look_size, with_span, is_pending}
+pub use Rattle.cweb_scan.specs.inner.Plain.{TakesPlain, IsPlainC, IsPlainToken}
 pub use Rattle.cweb_scan.specs.inner.ReaderModel.{ReaderModel, cost, read_after, TakesPrefix, begun_reader}
 pub use Rattle.cweb_scan.specs.inner.ReaderModel.{after_line_end, read_on, source_ended, BeginsLine, TakesLineEnd}
 pub use Rattle.cweb_scan.specs.inner.ReaderModel.{TakesBytes, pending_cost, new_reader, reader_at, gone_to}
-pub use Rattle.cweb_scan.specs.laws.ReaderModel.{places}
-pub use Rattle.cweb_scan.specs.inner.DirectiveInvariant.{in_open_part}
-pub use Rattle.cweb_names.specs.Names.{squeezed_after, squeezed, is_abbreviation, Occurrence}
-pub use Rattle.cweb_scan.specs.inner.PendingRest.{awaits_line_end, TakesPending, pending_bytes, with_pending_bytes}
-pub use Rattle.cweb_scan.specs.inner.PendingRest.{delimiter_of, literal_step, look_size, with_span}
-pub use Rattle.cweb_scan.specs.inner.Plain.{TakesPlain}
-pub use Rattle.cweb_rules.specs.inner.Quotes.{quote_byte}
+pub use Rattle.cweb_scan.specs.inner.ReaderSteps.{MakesProgress, TakesStep, remaining_work}
 pub use Rattle.cweb_scan.specs.inner.Resume.{Between, PendingItem, takes_opener, InComment, InName, InLiteral, InRaw}
 pub use Rattle.cweb_scan.specs.inner.Resume.{resume_literal, resume, resume_comment, resume_name, closer_of}
-pub use Rattle.cweb_scan.specs.inner.Room.{weight, HasItemRoom}
-pub use Rattle.cweb_scan.specs.inner.ReaderSteps.{MakesProgress, TakesStep, remaining_work}
-pub use Rattle.cweb_rules.specs.declared.quote.Quote.{Quote}
-pub use Rattle.cweb_rules.specs.declared.quote.Quote.TheVariants.{Single, Double}
-pub use Rattle.cweb_store.specs.Calls.{finished, with_dropped, with_occurrence, with_open, PartsSoFar, all_parts}
-pub use Rattle.cweb_store.specs.Calls.{with_opened_part, with_pushed_token, part_with_token, with_dropped_layout}
-pub use Rattle.cweb_store.specs.Calls.{with_closed_part, Replacement}
-pub use Rattle.cweb_names.specs.surface.Names.{too_many}
-pub use Rattle.cweb_store.specs.Parts.{before_last, without_last, without_blank, without_layout, protected_count}
-pub use Rattle.cweb_store.specs.Parts.{is_newline, is_layout, at_close, Token, Word, Number, Literal, Verbatim, Punct}
-pub use Rattle.cweb_store.specs.Parts.{Blank, Newline, Join, Defs, Name, Head, Tail, Mark, Part, all_tokens, is_macro}
-pub use Rattle.cweb_names.specs.declared.name.How.{How}
-pub use Rattle.cweb_names.specs.declared.name.How.TheVariants.{Full, Prefix}
-pub use Rattle.cweb_names.specs.declared.name.NameRef.{NameRef}
-pub use Rattle.cweb_store.specs.declared.parts.PartKind.{PartKind}
-pub use Rattle.cweb_store.specs.declared.parts.PartKind.TheVariants.{Unnamed}
+pub use Rattle.cweb_scan.specs.inner.Room.{weight, HasItemRoom, HasPartRoom}
+pub use Rattle.cweb_scan.specs.inner.Scan.{HasTaken}
+pub use Rattle.cweb_scan.specs.inner.Skipped.{is_skipped}
+pub use Rattle.cweb_scan.specs.inner.Stages.{after_token, stage_of, is_include_stage}
+pub use Rattle.cweb_scan.specs.laws.Alone.{IsReadAs}
+pub use Rattle.cweb_scan.specs.laws.Law.{AreLexemes, MarkPasses, PlacesPass}
+pub use Rattle.cweb_scan.specs.laws.LexemePlaces.{source_start, newlines, LexemesKeepLines}
+pub use Rattle.cweb_scan.specs.laws.ReaderModel.{places}
+pub use Rattle.cweb_scan.specs.surface.Law.{web_size, IsBounded}
+pub use Rattle.cweb_scan.specs.surface.Scan.{AreLinesBelow, IsScanBelow, IsMarkBelow, ScansWithinLimits, Scans}
+pub use Rattle.cweb_scan.specs.surface.Scan.{StopsAfter, ScanEndsEarly}

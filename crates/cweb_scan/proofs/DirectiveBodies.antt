@@ -1,12 +1,7 @@
 -- The body of a directive past an included name: its state and its lexemes.
-use Rattle.cweb_scan.proofs.Common.{◌≡◌, ◌≤◌, ℕ, Bool, true, false, ◌&&◌, not, List, Option, Some, length, take, refl, ap, sym, ◌∙◌, subst, if◌then◌else◌, codes, option_map, prefix_len, part_with_token, Token, Punct, Part, is_blank, IsLine, c_rule, listed, longest, Context, CText, Rule, blank, punctuator, directive, in_directive, is_c, names_include, in_open_part, TakesPlain, ScanState, emit, tokens_of, and-false}
-use Rattle.cweb_scan.specs.DirectiveTokens.{directive_of, is_punct}
-use Rattle.std.specs.Option.{is_some}
+use Rattle.cweb_scan.proofs.Common.{◌≡◌, ◌≤◌, ℕ, Bool, true, false, ◌&&◌, not, List, Option, Some, length, take, refl, ap, sym, ◌∙◌, subst, if◌then◌else◌, codes, option_map, prefix_len, part_with_token, Token, Punct, Part, is_blank, IsLine, c_rule, listed, longest, Context, CText, Rule, blank, punctuator, directive, in_directive, is_c, names_include, in_open_part, TakesPlain, ScanState, emit, tokens_of, and-false, directive_of, is_punct, is_some, IsTied, Directive, Stage}
 use Rattle.cweb_scan.specs.inner.Stages.{next_open_stage, continues_line, is_blank_token, is_further_stage, is_include_stage, is_include_word, is_after_line_end, is_outside, stage_of, after_token}
-use Rattle.cweb_scan.specs.inner.DirectiveInvariant.{IsTied}
 use Rattle.cweb_scan.specs.inner.Plain.{in_directive_body, IsPlainToken}
-use Rattle.cweb_scan.specs.declared.directive.Directive.{Directive}
-use Rattle.cweb_scan.specs.declared.directive.Stage.{Stage}
 use Rattle.cweb_scan.specs.declared.directive.Stage.TheVariants.{Outside, Bare, Include, Further}
 use Rattle.cweb_rules.specs.declared.rule.Rule.TheVariants as rule
 use Rattle.cweb_scan.specs.declared.directive.Last.TheVariants as last

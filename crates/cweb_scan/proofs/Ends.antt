@@ -1,9 +1,6 @@
 -- Items that a line end ends.
-use Rattle.cweb_scan.proofs.Common.{◌≡◌, ℕ, zero, suc, ◌+◌, ◌-◌, true, false, List, [], ◌∷◌, length, take, drop, refl, ap, sym, ◌∙◌, if◌then◌else◌, Place, at_line_end, Reach, reach, reach_in, with_unit, reach_size, line_comment_match, look_in_comment, reached, End, Closed, Cut, Open, Reached, Look, Goes, Ends, Reading, next_line, each_line_end, comment_line_end, pass_comment, pass_control_text, blank, ended_as, Applies, ScanState}
+use Rattle.cweb_scan.proofs.Common.{◌≡◌, ℕ, zero, suc, ◌+◌, ◌-◌, true, false, List, [], ◌∷◌, length, take, drop, refl, ap, sym, ◌∙◌, if◌then◌else◌, Place, at_line_end, Reach, reach, reach_in, with_unit, reach_size, line_comment_match, look_in_comment, reached, End, Closed, Cut, Open, Reached, Look, Goes, Ends, Reading, next_line, each_line_end, comment_line_end, pass_comment, pass_control_text, blank, ended_as, Applies, ScanState, look_in_control, is_line_end, IsEnd}
 use Rattle.cweb_rules.specs.Matches.{control_text_match}
-use Rattle.cweb_rules.specs.Items.{look_in_control}
-use Rattle.cweb_rules.specs.Bytes.{is_line_end}
-use Rattle.cweb_rules.proofs.Reaches.{IsEnd}
 use Rattle.cweb_rules.proofs.Looks.{IsWithin, AllWithin, control-units, comment-units}
 pub use Rattle.cweb_rules.proofs.Walks.{at_front}
 

@@ -1,8 +1,7 @@
 -- Taking the next lexeme, once the code knows its rule.
-use Rattle.cweb_scan.proofs.Common.{◌≡◌, ℕ, Bool, true, false, ◌&&◌, List, [], ◌∷◌, ◌++◌, take, drop, refl, ap, sym, ◌∙◌, subst, arith, if◌then◌else◌, codes, length-take-le, begins, first_is, is_blank, is_word_byte, starts_section, starts_raw, starts_literal, starts_include, Kind, RuleMatch, IsLine, opens_in, opens_code, c_opens, c_rule, starts_number, Context, Definition, Effect, Rule, enter_in, item, names_include, Applies, is_head, IsPast, ReaderModel, TakesPrefix, Between, weight, next_match, lex, ScanState}
+use Rattle.cweb_scan.proofs.Common.{◌≡◌, ℕ, Bool, true, false, ◌&&◌, List, [], ◌∷◌, ◌++◌, take, drop, refl, ap, sym, ◌∙◌, subst, arith, if◌then◌else◌, codes, length-take-le, begins, first_is, is_blank, is_word_byte, starts_section, starts_raw, starts_literal, starts_include, Kind, RuleMatch, IsLine, opens_in, opens_code, c_opens, c_rule, starts_number, Context, Definition, Effect, Rule, enter_in, item, names_include, Applies, is_head, IsPast, ReaderModel, TakesPrefix, Between, weight, next_match, lex, ScanState, is_line_end}
 use Rattle.cweb_rules.specs.inner.LineItems.{opens_comment, opens_raw, opens_literal}
 use Rattle.cweb_scan.specs.inner.MatchSteps.{after_match}
-use Rattle.cweb_rules.specs.Bytes.{is_line_end}
 use Rattle.cweb_rules.specs.declared.rule.Rule.TheVariants as rule
 use Rattle.cweb_scan.proofs.NextMatchPays.{fair}
 use Rattle.cweb_scan.proofs.FirstLexeme.{first}

@@ -1,7 +1,5 @@
 -- C text outside directives: literals that end in their line and have no `@`.
-use Rattle.cweb_scan.proofs.Common.{◌≡◌, ◌≤◌, ℕ, ◌+◌, true, false, ◌&&◌, ◌==◌, not, List, [], ◌∷◌, ◌++◌, length, take, drop, refl, ap, sym, ◌∙◌, subst, arith, if◌then◌else◌, codes, bytes_eq, flat_map, fold, prefix_len, Literal, Reach, reach, body, reach_size, literal_match, literal_prefix, quote_of, look_in_literal, unit_bytes, unescaped, IsLine, is_unclosed, reached, c_rule, End, Closed, Cut, Open, Reached, Reading, each_line_end, emit_literal, literal_unit, Applies, TakesPlain, ScanState, emit, move_to}
-use Rattle.cweb_scan.specs.inner.Skipped.{is_skipped}
-use Rattle.cweb_scan.specs.inner.Plain.{IsPlainC}
+use Rattle.cweb_scan.proofs.Common.{◌≡◌, ◌≤◌, ℕ, ◌+◌, true, false, ◌&&◌, ◌==◌, not, List, [], ◌∷◌, ◌++◌, length, take, drop, refl, ap, sym, ◌∙◌, subst, arith, if◌then◌else◌, codes, bytes_eq, flat_map, fold, prefix_len, Literal, Reach, reach, body, reach_size, literal_match, literal_prefix, quote_of, look_in_literal, unit_bytes, unescaped, IsLine, is_unclosed, reached, c_rule, End, Closed, Cut, Open, Reached, Reading, each_line_end, emit_literal, literal_unit, Applies, TakesPlain, ScanState, emit, move_to, is_skipped, IsPlainC}
 use Rattle.cweb_rules.specs.declared.rule.Rule.TheVariants as rule
 use Rattle.cweb_rules.proofs.Looks.{ended_whole, ended_same, literal-local, literal-some}
 use Rattle.cweb_rules.proofs.UnitNewlines.{quoted-bytes}

@@ -1,10 +1,7 @@
 -- Each lexeme of a scan satisfies the relation of the moves, and how much it emits at most.
-use Rattle.cweb_scan.proofs.Common.{◌≡◌, ◌≤◌, ℕ, ◌+◌, ◌*◌, Bool, true, false, ◌&&◌, ◌==◌, List, [], ◌∷◌, Some, None, length, refl, ap, sym, ◌∙◌, arith, if◌then◌else◌, codes, bytes_eq, flat_map, fold, decimal, Place, Word, Number, Context, Limbo, Definition, unescaped, Kind, Lexeme, Skipped, Section, Code, Letter, ControlText, Constant, Blanks, LineEnd, Comment, Quoted, Defined, Identifier, Numeral, Punctuator, at_line_ends, Pays, Reading, on, next_line, each_line_end, literal_unit, stays_in_head, enter_in, enter, item, after_lexeme, comment_line_end, ScanState, move_to, report, drop_definition}
+use Rattle.cweb_scan.proofs.Common.{◌≡◌, ◌≤◌, ℕ, ◌+◌, ◌*◌, Bool, true, false, ◌&&◌, ◌==◌, List, [], ◌∷◌, Some, None, length, refl, ap, sym, ◌∙◌, arith, if◌then◌else◌, codes, bytes_eq, flat_map, fold, decimal, Place, Word, Number, Context, Limbo, Definition, unescaped, Kind, Lexeme, Skipped, Section, Code, Letter, ControlText, Constant, Blanks, LineEnd, Comment, Quoted, Defined, Identifier, Numeral, Punctuator, at_line_ends, Pays, Reading, on, next_line, each_line_end, literal_unit, stays_in_head, enter_in, enter, item, after_lexeme, comment_line_end, ScanState, move_to, report, drop_definition, is_line_end, owed_tokens, ReplacementTooLong, FaultyConstant, DoubleAtInString}
 use Rattle.cweb_rules.proofs.UnitNewlines.{Tells, none-ends, ends-append}
-use Rattle.cweb_rules.specs.Bytes.{is_line_end}
 use Rattle.cweb_rules.specs.Matches.{Occurrence, Verbatim}
-use Rattle.cweb_rules.specs.laws.Pays.{owed_tokens}
-use Rattle.cweb_rules.specs.declared.fault.ScanKind.TheVariants.{ReplacementTooLong, FaultyConstant, DoubleAtInString}
 use Rattle.cweb_scan.proofs.Moves.{Moves, OfHead}
 use Rattle.cweb_scan.proofs.Moves as step
 

@@ -1,12 +1,9 @@
 -- The bytes of a line are taken step by step.
-use Rattle.cweb_rules.proofs.InLines.{IsLine-drop}
-use Rattle.cweb_scan.proofs.Common.{◌≡◌, ◌≤◌, ◌<◌, ℕ, ◌+◌, Bool, true, false, List, length, drop, refl, ap, sym, ◌∙◌, subst, arith, if◌then◌else◌, length-drop, IsLine, ReaderModel, TakesPrefix, awaits_line_end, TakesPending, item_of, PendingItem, MakesProgress, TakesStep, remaining_work}
-use Rattle.cweb_scan.specs.inner.PendingRest.{is_pending}
+use Rattle.cweb_scan.proofs.Common.{◌≡◌, ◌≤◌, ◌<◌, ℕ, ◌+◌, Bool, true, false, List, length, drop, refl, ap, sym, ◌∙◌, subst, arith, if◌then◌else◌, length-drop, IsLine, ReaderModel, TakesPrefix, awaits_line_end, TakesPending, item_of, PendingItem, MakesProgress, TakesStep, remaining_work, IsLine-drop, is_pending, drop-sum}
 use Rattle.cweb_scan.specs.inner.Resume as item
 use Rattle.cweb_scan.specs.declared.reader.open.Open.{Open}
 use Rattle.cweb_scan.specs.declared.reader.open.Open.TheVariants.{Between}
 use Rattle.cweb_scan.proofs.RestByLexemes.{takes_both}
-use Rattle.cweb_rules.proofs.UnitNewlines.{drop-sum}
 
 one : (v : Bool) → (if v then 1 else 0) ≤ 1
 one true = omega arith

@@ -1,12 +1,10 @@
 -- Openers of literals: reading on is reading with the literal open.
-use Rattle.cweb_rules.proofs.InLines.{IsLine-take}
+use Rattle.cweb_scan.proofs.Common.{◌≡◌, ◌≤◌, ◌<◌, ℕ, zero, suc, ◌+◌, Bool, true, false, ◌&&◌, ◌==◌, List, [], ◌∷◌, ◌++◌, length, take, drop, refl, ap, sym, ◌∙◌, subst, arith, if◌then◌else◌, codes, bytes_eq, not, fold, take-append-le, drop-append-le, length-drop, Reading, on, each_line_end, literal_unit, enter_in, begins, at_line_end, Effect, in_macro, in_c, Look, reach, body, reach_size, names_include, reads_literals, IsPast, raw_prefix, delimiter, raw_match, literal_match, literal_prefix, quote_of, quoted_match, c_match, starts_raw, starts_literal, End, Cut, look_in_raw, look_in_literal, Skipped, Quoted, RuleMatch, rule_match, closer_of, InLiteral, InRaw, takes_opener, resume_literal, resume, IsLine, match_in, lex, Context, Macro, CText, ScanState, move_to, report, DoubleAtInString, AtLineEnd, and_parts, and-true, IsLine-take, drop-sum}
 use Rattle.cweb_scan.proofs.LineHasNoNewline.{none-line}
-use Rattle.cweb_scan.proofs.Common.{◌≡◌, ◌≤◌, ◌<◌, ℕ, zero, suc, ◌+◌, Bool, true, false, ◌&&◌, ◌==◌, List, [], ◌∷◌, ◌++◌, length, take, drop, refl, ap, sym, ◌∙◌, subst, arith, if◌then◌else◌, codes, bytes_eq, not, fold, take-append-le, drop-append-le, length-drop, Reading, on, each_line_end, literal_unit, enter_in, begins, at_line_end, Effect, in_macro, in_c, Look, reach, body, reach_size, names_include, reads_literals, IsPast, raw_prefix, delimiter, raw_match, literal_match, literal_prefix, quote_of, quoted_match, c_match, starts_raw, starts_literal, End, Cut, look_in_raw, look_in_literal, Skipped, Quoted, RuleMatch, rule_match, closer_of, InLiteral, InRaw, takes_opener, resume_literal, resume, IsLine, match_in, lex, Context, Macro, CText, ScanState, move_to, report, DoubleAtInString, AtLineEnd, and_parts, and-true}
 use Rattle.cweb_rules.proofs.Seams.{differs, begins_line, drop_line, starts_section_line}
 use Rattle.cweb_rules.proofs.LineLiterals.{starts_literal_line, literal_with, literal_prefix-line, is_quoted-size}
 use Rattle.cweb_rules.proofs.LineDelimiters.{raw_from, raw_prefix-line, delimiter-line, sign-fits, has_delimiter-size, starts_raw_line}
 use Rattle.cweb_scan.proofs.CommentAndNameOpeners.{run_as}
-use Rattle.cweb_rules.proofs.UnitNewlines.{drop-sum}
 
 enter_quoted : (c : Context) (us : List (List ℕ)) (how : End) (s : ScanState)
     → reads_literals c ≡ true → enter_in c (Quoted us how) s ≡ s

@@ -1,6 +1,5 @@
 -- How the calls of a builder change its size.
-use Rattle.cweb_scan.proofs.Common.{◌≤◌, ℕ, ◌+◌, Bool, true, false, List, [], ◌∷◌, ◌++◌, Option, Some, None, take, drop, ap, arith, take-append-drop, option_map, option_to_list, if◌then◌else◌, PartKind, Token, Blank, Part, is_macro, PartsSoFar, with_opened_part, with_pushed_token, part_with_token, with_dropped_layout, with_closed_part, before_last, without_last, without_blank, without_layout, protected_count, is_newline, is_layout, at_close, sum_over, part_size, open_size, parts_size}
-use Rattle.cweb_texts.proofs.WordLemmas.{total-append}
+use Rattle.cweb_scan.proofs.Common.{◌≤◌, ℕ, ◌+◌, Bool, true, false, List, [], ◌∷◌, ◌++◌, Option, Some, None, take, drop, ap, arith, take-append-drop, option_map, option_to_list, if◌then◌else◌, PartKind, Token, Blank, Part, is_macro, PartsSoFar, with_opened_part, with_pushed_token, part_with_token, with_dropped_layout, with_closed_part, before_last, without_last, without_blank, without_layout, protected_count, is_newline, is_layout, at_close, sum_over, part_size, open_size, parts_size, total-append}
 
 module _ (f : Token → ℕ) where
   open_pushed : (t : Token) (o : Option Part) → open_size f (option_map (part_with_token t) o) ≤ open_size f o + f t

@@ -1,12 +1,7 @@
 -- All steps of a scan are made of a few moves. A relation that holds for the moves holds for the steps.
-use Rattle.cweb_scan.proofs.Common.{◌≡◌, ◌≤◌, ℕ, ◌+◌, ◌-◌, Bool, true, false, ◌||◌, ◌&&◌, not, List, [], ◌∷◌, length, refl, arith, if◌then◌else◌, codes, Place, NameRef, PartKind, Token, Word, Number, Literal, Verbatim, Punct, Blank, Newline, Join, Defs, Name, Head, Tail, Mark, Occurrence, with_open, with_dropped, Context, Limbo, TeX, Definition, Macro, CText, Effect, Define, Format, Program, InsertDefs, Joins, EmitAt, Faulty, End, Closed, Cut, Nested, in_directive, directive, name_occurrence, Reading, on, next_line, ScanState, emit, add_name, move_to, begin_part, end_part, end_macro_in, end_macro, drop_definition, leave_in, begin_section, line_end_in, line_end, comment_line_end, blank, punctuator, apply_effect, pass_control_text, emit_verbatim, define, pass_comment, report_name_fault, use_name, open_name, name_in_context, occurrence, emit_literal}
-use Rattle.cweb_scan.specs.DirectiveTokens.{is_punct, is_last_blank}
-use Rattle.cweb_rules.specs.laws.Pays.{owed_tokens}
-use Rattle.cweb_rules.specs.declared.fault.ScanKind.{ScanKind}
-use Rattle.cweb_rules.specs.declared.fault.ScanKind.TheVariants.{NameDidNotEnd, NamesDoNotNest, CommentDidNotEnd, StringDidNotEnd, ControlTextDidNotEnd, MissingAt, DefinitionDropped}
+use Rattle.cweb_scan.proofs.Common.{◌≡◌, ◌≤◌, ℕ, ◌+◌, ◌-◌, Bool, true, false, ◌||◌, ◌&&◌, not, List, [], ◌∷◌, length, refl, arith, if◌then◌else◌, codes, Place, NameRef, PartKind, Token, Word, Number, Literal, Verbatim, Punct, Blank, Newline, Join, Defs, Name, Head, Tail, Mark, Occurrence, with_open, with_dropped, Context, Limbo, TeX, Definition, Macro, CText, Effect, Define, Format, Program, InsertDefs, Joins, EmitAt, Faulty, End, Closed, Cut, Nested, in_directive, directive, name_occurrence, Reading, on, next_line, ScanState, emit, add_name, move_to, begin_part, end_part, end_macro_in, end_macro, drop_definition, leave_in, begin_section, line_end_in, line_end, comment_line_end, blank, punctuator, apply_effect, pass_control_text, emit_verbatim, define, pass_comment, report_name_fault, use_name, open_name, name_in_context, occurrence, emit_literal, is_punct, is_last_blank, owed_tokens, ScanKind, NameDidNotEnd, NamesDoNotNest, CommentDidNotEnd, StringDidNotEnd, ControlTextDidNotEnd, MissingAt, DefinitionDropped, is_next_line, report_at, leave}
 use Rattle.cweb_scan.proofs.NameSizes.{occurrence-size}
 use Rattle.cweb_scan.proofs.TakenItems.{reading}
-use Rattle.cweb_scan.specs.State.{is_next_line, report_at, leave}
 use Rattle.cweb_store.specs.Calls.{with_closed, with_replacement, Replacement}
 use Rattle.cweb_store.specs.declared.parts.PartKind.TheVariants as part
 

@@ -1,8 +1,6 @@
 -- A name has at most as many bytes as its lexeme.
-use Rattle.cweb_scan.proofs.Common.{◌≤◌, ℕ, ◌+◌, ◌-◌, Bool, true, false, List, [], ◌∷◌, ◌++◌, length, take, arith, length-append, if◌then◌else◌, codes, is_white, as_occurrence, name_occurrence}
-use Rattle.cweb_names.specs.Names.{squeezed_after, squeezed, is_abbreviation}
+use Rattle.cweb_scan.proofs.Common.{◌≤◌, ℕ, ◌+◌, ◌-◌, Bool, true, false, List, [], ◌∷◌, ◌++◌, length, take, arith, length-append, if◌then◌else◌, codes, is_white, as_occurrence, name_occurrence, squeezed_after, squeezed, is_abbreviation, full, prefix}
 use Rattle.cweb_rules.proofs.Sizes.{take-within}
-use Rattle.cweb_scan.specs.State.{full, prefix}
 
 gap-size : (begun : Bool) → length (if begun then codes " " else []) ≤ 1
 gap-size true = omega arith

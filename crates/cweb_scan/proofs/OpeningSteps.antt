@@ -1,6 +1,5 @@
 -- Openers are taken as the code takes them.
-use Rattle.cweb_scan.proofs.Common.{◌≡◌, ◌≤◌, ℕ, ◌+◌, Bool, true, false, ◌&&◌, ◌==◌, List, [], ◌∷◌, ◌++◌, length, take, drop, refl, ap, sym, ◌∙◌, subst, arith, codes, eqb-true, length-drop, begins, starts_raw, starts_literal, literal_prefix, quote_of, raw_prefix, delimiter, IsLine, Context, Definition, blank, is_head, ReaderModel, TakesPrefix, PendingItem, InComment, InName, InLiteral, InRaw, resume, lex, Place, ScanState, IsPast, reads_c, reads_names, reads_literals, and_parts}
-use Rattle.cweb_rules.proofs.LineLiterals.{is_quoted-size}
+use Rattle.cweb_scan.proofs.Common.{◌≡◌, ◌≤◌, ℕ, ◌+◌, Bool, true, false, ◌&&◌, ◌==◌, List, [], ◌∷◌, ◌++◌, length, take, drop, refl, ap, sym, ◌∙◌, subst, arith, codes, eqb-true, length-drop, begins, starts_raw, starts_literal, literal_prefix, quote_of, raw_prefix, delimiter, IsLine, Context, Definition, blank, is_head, ReaderModel, TakesPrefix, PendingItem, InComment, InName, InLiteral, InRaw, resume, lex, Place, ScanState, IsPast, reads_c, reads_names, reads_literals, and_parts, is_quoted-size}
 use Rattle.cweb_rules.proofs.LineDelimiters.{sign-fits, has_delimiter-size}
 use Rattle.cweb_scan.specs.inner.Resume as item
 use Rattle.cweb_scan.proofs.CommentAndNameOpeners.{leave_head_in, leave_head, opened_comment, opened_name, opened_file}

@@ -1,10 +1,9 @@
 -- An open literal, raw or not, over the rest of a line.
-use Rattle.cweb_scan.proofs.Common.{◌≡◌, ◌≤◌, ℕ, suc, ◌+◌, ◌-◌, ◌&&◌, true, false, ◌==◌, List, [], ◌∷◌, ◌++◌, length, take, drop, refl, ap, sym, ◌∙◌, arith, append_assoc, length-append, take-append-drop, if◌then◌else◌, fold, take-append-le, drop-append-le, length-drop, drop-append-add, Place, Reading, on, emit_literal, literal_unit, Look, Goes, Ends, Reach, reach, reach_in, with_unit, body, reach_size, Closed, Cut, Open, unit_bytes, unescaped, look_in_literal, AtLineEnd, is_unclosed, InLiteral, InRaw, resume_literal, closer_of, resume, lex, ScanState, move_to}
+use Rattle.cweb_scan.proofs.Common.{◌≡◌, ◌≤◌, ℕ, suc, ◌+◌, ◌-◌, ◌&&◌, true, false, ◌==◌, List, [], ◌∷◌, ◌++◌, length, take, drop, refl, ap, sym, ◌∙◌, arith, append_assoc, length-append, take-append-drop, if◌then◌else◌, fold, take-append-le, drop-append-le, length-drop, drop-append-add, Place, Reading, on, emit_literal, literal_unit, Look, Goes, Ends, Reach, reach, reach_in, with_unit, body, reach_size, Closed, Cut, Open, unit_bytes, unescaped, look_in_literal, AtLineEnd, is_unclosed, InLiteral, InRaw, resume_literal, closer_of, resume, lex, ScanState, move_to, reach_ends}
 use Rattle.cweb_scan.proofs.Ends.{at_front}
 use Rattle.cweb_rules.proofs.Ranges.{reach_in-drop}
 use Rattle.cweb_rules.specs.Items as items
 use Rattle.cweb_rules.proofs.Reaches.{IsLocal, IsWhole}
-use Rattle.cweb_rules.proofs.Looks.{reach_ends}
 use Rattle.cweb_rules.proofs.Sizes.{IsWithin, reach-size}
 use Rattle.cweb_scan.proofs.LineHasNoNewline.{append-nil'}
 

@@ -1,7 +1,6 @@
 -- An open name over the rest of a line.
-use Rattle.cweb_scan.proofs.Common.{◌≡◌, ◌≤◌, ℕ, ◌+◌, Bool, true, false, List, [], ◌++◌, length, take, drop, refl, arith, if◌then◌else◌, nat_lt, take-append-le, drop-append-le, length-drop, Place, Reading, on, each_line_end, occurrence, reach, reach_size, opener_after, End, Cut, Open, unescaped, look_in_name, AtLineEnd, is_unclosed, InName, takes_opener, resume, IsLine, lex, move_to}
+use Rattle.cweb_scan.proofs.Common.{◌≡◌, ◌≤◌, ℕ, ◌+◌, Bool, true, false, List, [], ◌++◌, length, take, drop, refl, arith, if◌then◌else◌, nat_lt, take-append-le, drop-append-le, length-drop, Place, Reading, on, each_line_end, occurrence, reach, reach_size, opener_after, End, Cut, Open, unescaped, look_in_name, AtLineEnd, is_unclosed, InName, takes_opener, resume, IsLine, lex, move_to, IsLine-take}
 use Rattle.cweb_rules.specs.Items as items
-use Rattle.cweb_rules.proofs.InLines.{IsLine-take}
 use Rattle.cweb_rules.proofs.Looks.{reach_ends, whole, name-local, name-units}
 use Rattle.cweb_rules.proofs.Sizes.{reach-size, name-within, opener_after-size}
 use Rattle.cweb_rules.proofs.LineCodes.{opener_after-line}

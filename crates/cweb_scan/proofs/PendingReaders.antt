@@ -1,7 +1,6 @@
 -- The open item as the code stores it, after each step.
-use Rattle.cweb_scan.proofs.Common.{◌≡◌, ℕ, Bool, true, false, List, ◌++◌, refl, ap, sym, ◌∙◌, subst, list_all, Place, delimiter, unit_bytes, Context, Look, ReaderModel, in_open_part, pending_bytes, with_pending_bytes, delimiter_of, literal_step, look_size, TakesPending, item_of, is_raw, HasRawCloser, PendingItem, Between, InComment, InName, InRaw, closer_of}
+use Rattle.cweb_scan.proofs.Common.{◌≡◌, ℕ, Bool, true, false, List, ◌++◌, refl, ap, sym, ◌∙◌, subst, list_all, Place, delimiter, unit_bytes, Context, Look, ReaderModel, in_open_part, pending_bytes, with_pending_bytes, delimiter_of, literal_step, look_size, TakesPending, item_of, is_raw, HasRawCloser, PendingItem, Between, InComment, InName, InRaw, closer_of, in_line}
 use Rattle.cweb_rules.proofs.LineDelimiters.{closing_sign-in_line}
-use Rattle.cweb_rules.proofs.Seams.{in_line}
 use Rattle.cweb_scan.specs.declared.reader.open.Open.{Open}
 use Rattle.cweb_scan.specs.declared.reader.open.Open.TheVariants as code
 use Rattle.cweb_scan.proofs.OpeningSteps.{opened}

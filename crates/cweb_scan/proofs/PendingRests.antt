@@ -1,11 +1,8 @@
 -- Steps in the rest of an open item.
-use Rattle.cweb_scan.proofs.Common.{◌≡◌, ◌==◌, ◌≤◌, ◌<◌, ℕ, ◌+◌, ◌*◌, AtLineEnd, Between, PendingItem, awaits_line_end, Bool, true, false, List, [], ◌∷◌, ◌++◌, length, take, drop, refl, ap, sym, ◌∙◌, subst, arith, if◌then◌else◌, codes, bytes_eq, nat_lt, list_all, length-drop, drop_all, Place, begins, Reach, reach, reach_size, opener_after, unit_bytes, look_in_comment, look_in_name, look_in_literal, look_in_raw, IsLine, reached, MovesOn, End, Cut, Open, Reached, Look, Goes, Ends, DoubleAtInString, pass_comment, occurrence, ended_as, unit_state, literal_step, look_size, TakesPending, InComment, InName, InLiteral, InRaw, resume, closer_of, takes_opener, weight, lex, ScanState, report}
+use Rattle.cweb_scan.proofs.Common.{◌≡◌, ◌==◌, ◌≤◌, ◌<◌, ℕ, ◌+◌, ◌*◌, AtLineEnd, Between, PendingItem, awaits_line_end, Bool, true, false, List, [], ◌∷◌, ◌++◌, length, take, drop, refl, ap, sym, ◌∙◌, subst, arith, if◌then◌else◌, codes, bytes_eq, nat_lt, list_all, length-drop, drop_all, Place, begins, Reach, reach, reach_size, opener_after, unit_bytes, look_in_comment, look_in_name, look_in_literal, look_in_raw, IsLine, reached, MovesOn, End, Cut, Open, Reached, Look, Goes, Ends, DoubleAtInString, pass_comment, occurrence, ended_as, unit_state, literal_step, look_size, TakesPending, InComment, InName, InLiteral, InRaw, resume, closer_of, takes_opener, weight, lex, ScanState, report, pending_cost, is_pending, in_line, stops}
 use Rattle.cweb_rules.specs.inner.LineItems.{is_unclosed as stays}
-use Rattle.cweb_scan.specs.inner.ReaderModel.{pending_cost}
-use Rattle.cweb_scan.specs.inner.PendingRest.{is_pending}
 use Rattle.cweb_rules.proofs.Looks.{literal-local, raw-local, IsWithin, comment-units, name-units, raw-units}
 use Rattle.cweb_rules.proofs.Sizes.{end_size, name-within, raw-within, comment-within, begins-size, reach-size, opener_after-size}
-use Rattle.cweb_rules.proofs.Seams.{in_line, stops}
 use Rattle.cweb_scan.proofs.Ends.{size-at_end, how-at_end}
 use Rattle.cweb_scan.proofs.PendingItemsInLine.{comment_stays, comment_ends}
 use Rattle.cweb_scan.proofs.OpeningSteps.{opened}

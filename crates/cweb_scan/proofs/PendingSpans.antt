@@ -1,9 +1,8 @@
 -- A span of plain bytes of an open item is taken at once.
 use Rattle.cweb_scan.proofs.RestByLexemes.{takes_none, takes_both}
-use Rattle.cweb_scan.proofs.Common.{◌≡◌, ◌<◌, ℕ, suc, ◌+◌, Bool, true, false, cond, not, ◌&&◌, ◌==◌, List, [], ◌∷◌, ◌++◌, take, refl, ap, sym, ◌∙◌, subst, arith, append_assoc, if◌then◌else◌, codes, list_all, prefix_len, Place, unit_bytes, IsLine, is_plain, is_raw_special, is_special, DoubleAtInString, Goes, unit_state, ReaderModel, TakesPrefix, pending_bytes, with_pending_bytes, with_span, TakesPending, awaits_line_end, PendingItem, InName, InLiteral, InRaw, closer_of, ScanState, report, not-true}
+use Rattle.cweb_scan.proofs.Common.{◌≡◌, ◌<◌, ℕ, suc, ◌+◌, Bool, true, false, cond, not, ◌&&◌, ◌==◌, List, [], ◌∷◌, ◌++◌, take, refl, ap, sym, ◌∙◌, subst, arith, append_assoc, if◌then◌else◌, codes, list_all, prefix_len, Place, unit_bytes, IsLine, is_plain, is_raw_special, is_special, DoubleAtInString, Goes, unit_state, ReaderModel, TakesPrefix, pending_bytes, with_pending_bytes, with_span, TakesPending, awaits_line_end, PendingItem, InName, InLiteral, InRaw, closer_of, ScanState, report, not-true, in_line}
 use Rattle.cweb_rules.specs.declared.items.Item.TheVariants.{Name, Literal}
 use Rattle.cweb_rules.proofs.PlainSpans.{plain_goes, raw_goes, no_at_in_literal, no_at_in_raw}
-use Rattle.cweb_rules.proofs.Seams.{in_line}
 use Rattle.cweb_scan.proofs.LineHasNoNewline.{append-nil'}
 use Rattle.cweb_scan.proofs.PendingReaders.{open_at}
 use Rattle.cweb_scan.proofs.PendingRests.{name_goes, literal_takes, raw_takes}

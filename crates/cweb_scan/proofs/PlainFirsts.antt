@@ -1,11 +1,10 @@
 -- C text outside directives: what a first byte determines.
 use Rattle.cweb_scan.proofs.FirstMatchTaken.{told_if}
-use Rattle.cweb_scan.proofs.Common.{◌≡◌, ◌≤◌, ℕ, Bool, true, false, ◌||◌, ◌==◌, List, [], ◌∷◌, length, take, refl, ap, sym, ◌∙◌, subst, arith, if◌then◌else◌, codes, eqb-true, Punct, first_is, is_blank, is_word_byte, c_rule, listed, longest}
+use Rattle.cweb_scan.proofs.Common.{◌≡◌, ◌≤◌, ℕ, Bool, true, false, ◌||◌, ◌==◌, List, [], ◌∷◌, length, take, refl, ap, sym, ◌∙◌, subst, arith, if◌then◌else◌, codes, eqb-true, Punct, first_is, is_blank, is_word_byte, c_rule, listed, longest, IsPlainToken}
 use Rattle.std.proofs.Common.{slice_index_or}
 use Rattle.cweb_rules.specs.Bytes.{is_one_of}
 use Rattle.cweb_rules.specs.inner.Rules.{is_settled}
 use Rattle.cweb_rules.specs.inner.Firsts.{is_single_punctuator, is_figure, stops_plain, is_less, is_quote, first_byte_class}
-use Rattle.cweb_scan.specs.inner.Plain.{IsPlainToken}
 use Rattle.cweb_rules.specs.declared.firsts.Plain.{Plain}
 use Rattle.cweb_rules.specs.declared.rule.Rule.TheVariants as rule
 use Rattle.cweb_rules.proofs.FirstBytes.{if_true, settled-rule}

@@ -1,10 +1,8 @@
 -- C text outside directives: consecutive lexemes.
-use Rattle.cweb_rules.proofs.InLines.{IsLine-drop}
-use Rattle.cweb_scan.proofs.Common.{◌≡◌, ◌≤◌, ℕ, ◌+◌, ◌-◌, ◌*◌, false, List, Option, Some, None, length, drop, ap, sym, ◌∙◌, subst, arith, length-drop, IsLine, TakesPrefix, TakesPlain, weight, ScanState}
+use Rattle.cweb_scan.proofs.Common.{◌≡◌, ◌≤◌, ℕ, ◌+◌, ◌-◌, ◌*◌, false, List, Option, Some, None, length, drop, ap, sym, ◌∙◌, subst, arith, length-drop, IsLine, TakesPrefix, TakesPlain, weight, ScanState, IsLine-drop, drop-sum}
 use Rattle.cweb_scan.specs.inner.Plain.{taken_size}
 use Rattle.cweb_scan.proofs.RestByLexemes.{takes_both}
 use Rattle.cweb_scan.proofs.FirstMatchTaken.{between}
-use Rattle.cweb_rules.proofs.UnitNewlines.{drop-sum}
 
 -- The bytes before the rest were taken.
 pub record TakesSome (text left : List ℕ) (old new : ScanState) : Type 0 where

@@ -1,6 +1,5 @@
 -- The effect of the law's lexemes on a state.
-use Rattle.cweb_scan.proofs.Common.{◌≡◌, ℕ, Bool, true, false, cond, ◌&&◌, ◌||◌, not, List, [], ◌∷◌, ◌++◌, Some, None, refl, ap, sym, ◌∙◌, subst, append_assoc, codes, bytes_eq, option_map, fold, fold-append, filter-append, append-nil, Place, part_with_token, Token, Blank, Newline, Mark, Reading, next_line, each_line_end, line_end, line_end_in, line_end_token, comment_line_end, blank, literal_unit, is_next_line, is_line_end, directive, directive_of, directive_tokens, directive_after, in_directive, is_c, is_some, is_punct, ends_line, ScanState, emit, move_to, open_part_tokens, tokens_of, InPlainC, HasReadTokens, significant, is_insignificant, is_hash, is_clean, and-false, and_parts}
-use Rattle.cweb_scan.specs.DirectiveTokens.{is_last_blank}
+use Rattle.cweb_scan.proofs.Common.{◌≡◌, ℕ, Bool, true, false, cond, ◌&&◌, ◌||◌, not, List, [], ◌∷◌, ◌++◌, Some, None, refl, ap, sym, ◌∙◌, subst, append_assoc, codes, bytes_eq, option_map, fold, fold-append, filter-append, append-nil, Place, part_with_token, Token, Blank, Newline, Mark, Reading, next_line, each_line_end, line_end, line_end_in, line_end_token, comment_line_end, blank, literal_unit, is_next_line, is_line_end, directive, directive_of, directive_tokens, directive_after, in_directive, is_c, is_some, is_punct, ends_line, ScanState, emit, move_to, open_part_tokens, tokens_of, InPlainC, HasReadTokens, significant, is_insignificant, is_hash, is_clean, and-false, and_parts, is_last_blank}
 
 pub no_directive : (s : ScanState) → InPlainC s → in_directive s ≡ false
 no_directive s h = ap (λ o. is_c s.context && is_some o) h.no_directive ∙ and-false (is_c s.context)

@@ -1,8 +1,7 @@
 -- The rest of a line is taken lexeme by lexeme.
-use Rattle.cweb_scan.proofs.Common.{◌≡◌, ℕ, ◌+◌, Bool, true, false, ◌&&◌, List, ◌++◌, drop, refl, ap, ◌∙◌, arith, if◌then◌else◌, codes, length-drop, begins, at_line_end, in_macro, in_c, match_in, c_match, Skipped, rule_match, opens_in, c_rule, c_match_by, Macro, CText, ReaderModel, read_on, TakesPrefix}
+use Rattle.cweb_scan.proofs.Common.{◌≡◌, ℕ, ◌+◌, Bool, true, false, ◌&&◌, List, ◌++◌, drop, refl, ap, ◌∙◌, arith, if◌then◌else◌, codes, length-drop, begins, at_line_end, in_macro, in_c, match_in, c_match, Skipped, rule_match, opens_in, c_rule, c_match_by, Macro, CText, ReaderModel, read_on, TakesPrefix, drop-sum}
 use Rattle.cweb_rules.proofs.ByRules.{c_front-by}
 use Rattle.cweb_scan.proofs.FirstMatchTaken.{opens_by, c_opens-by}
-use Rattle.cweb_rules.proofs.UnitNewlines.{drop-sum}
 
 pub takes_none : (u : List ℕ) (h : ReaderModel) → TakesPrefix 0 u h h
 takes_none u h = record { begun = refl; within = omega arith; adds = omega arith; same = λ later more e. refl }

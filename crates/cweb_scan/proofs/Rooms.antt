@@ -1,6 +1,5 @@
 -- Room after a macro ends and after a faulty name.
-use Rattle.cweb_scan.proofs.Common.{arith, Context, Macro, End, Closed, Place, Occurrence, report_name_fault, HasItemRoom, ScanState, end_macro_in, end_macro, add_name}
-use Rattle.cweb_scan.specs.inner.Room.{HasPartRoom}
+use Rattle.cweb_scan.proofs.Common.{arith, Context, Macro, End, Closed, Place, Occurrence, report_name_fault, HasItemRoom, ScanState, end_macro_in, end_macro, add_name, HasPartRoom}
 use Rattle.cweb_store.proofs.CallerLemmas.{token_count_closed, part_count_closed}
 
 macro_room : (c : Context) (s : ScanState) → HasPartRoom s → HasPartRoom (end_macro_in c s)

@@ -1,12 +1,9 @@
 -- One unit of an open item, and its end, in a line.
-use Rattle.cweb_scan.proofs.Common.{◌≡◌, ◌≤◌, ◌<◌, ℕ, zero, suc, ◌+◌, ◌-◌, Bool, true, false, ◌==◌, List, [], ◌∷◌, ◌++◌, length, take, drop, refl, ap, sym, ◌∙◌, subst, arith, append_assoc, length-append, take-append-drop, nat_lt, fold, list_all, take-append-le, drop-append-le, take-append-add, drop-append-add, Place, Reach, reach, reach_in, with_unit, body, reach_size, opener_after, unit_bytes, unescaped, look_in_name, look_in_literal, look_in_raw, IsLine, AtLineEnd, is_unclosed, End, Cut, Open, Look, Goes, Ends, Reading, on, occurrence, emit_literal, literal_unit, unit_state, InName, InLiteral, InRaw, resume_name, resume_literal, closer_of, resume, lex, ScanState, move_to}
+use Rattle.cweb_scan.proofs.Common.{◌≡◌, ◌≤◌, ◌<◌, ℕ, zero, suc, ◌+◌, ◌-◌, Bool, true, false, ◌==◌, List, [], ◌∷◌, ◌++◌, length, take, drop, refl, ap, sym, ◌∙◌, subst, arith, append_assoc, length-append, take-append-drop, nat_lt, fold, list_all, take-append-le, drop-append-le, take-append-add, drop-append-add, Place, Reach, reach, reach_in, with_unit, body, reach_size, opener_after, unit_bytes, unescaped, look_in_name, look_in_literal, look_in_raw, IsLine, AtLineEnd, is_unclosed, End, Cut, Open, Look, Goes, Ends, Reading, on, occurrence, emit_literal, literal_unit, unit_state, InName, InLiteral, InRaw, resume_name, resume_literal, closer_of, resume, lex, ScanState, move_to, IsLine-take, IsLocal, IsEnd, in_line, stops}
 use Rattle.cweb_scan.proofs.Ends.{at_front}
 use Rattle.cweb_rules.specs.Items as items
-use Rattle.cweb_rules.proofs.InLines.{IsLine-take}
 use Rattle.cweb_rules.proofs.Ranges.{reach_in-drop}
-use Rattle.cweb_rules.proofs.Reaches.{IsLocal, IsEnd}
 use Rattle.cweb_rules.proofs.Looks.{ended_whole, whole, IsWithin, AllWithin, AllSome, IsSome, name-local, name-units, raw-local, raw-units, literal-local, literal-some}
-use Rattle.cweb_rules.proofs.Seams.{in_line, stops}
 use Rattle.cweb_scan.proofs.LineUnits.{one-unit}
 use Rattle.cweb_scan.proofs.LineHasNoNewline.{append-nil', each-line}
 use Rattle.cweb_scan.proofs.PendingItemsInLine.{whole-end, sizes}

@@ -1,8 +1,7 @@
 -- Verbatim bytes and included names.
-use Rattle.cweb_scan.proofs.Common.{◌≡◌, true, false, ℕ, ◌+◌, List, [], ◌∷◌, ◌++◌, length, take, drop, refl, ap, sym, ◌∙◌, append_assoc, codes, bytes_eq, if◌then◌else◌, fold, flat_map-append, Reach, reach, body, include_match, unit_bytes, unescaped, IsLine, reached, Cut, Open, Reached, emit_verbatim, emit_literal, literal_unit, ended_as, Applies, unit_state, DoubleAtInString, in_open_part, HasItemRoom, ScanState, report}
+use Rattle.cweb_scan.proofs.Common.{◌≡◌, true, false, ℕ, ◌+◌, List, [], ◌∷◌, ◌++◌, length, take, drop, refl, ap, sym, ◌∙◌, append_assoc, codes, bytes_eq, if◌then◌else◌, fold, flat_map-append, Reach, reach, body, include_match, unit_bytes, unescaped, IsLine, reached, Cut, Open, Reached, emit_verbatim, emit_literal, literal_unit, ended_as, Applies, unit_state, DoubleAtInString, in_open_part, HasItemRoom, ScanState, report, fold-append}
 use Rattle.cweb_rules.specs.Matches.{verbatim_match}
 use Rattle.cweb_rules.specs.Items.{look_in_control, look_in_include}
-use Rattle.std.proofs.lemmas.Grind.{fold-append}
 use Rattle.cweb_rules.proofs.InLines.{AreLines, IsLine-take, IsLine-drop, units-lines}
 use Rattle.cweb_rules.proofs.Looks.{control-units, include-units}
 use Rattle.cweb_scan.proofs.Ends.{at_end, reach-at_end, size-at_end, how-at_end, nothing_later}

@@ -1,7 +1,6 @@
 -- All lexemes of a source satisfy a relation that the moves satisfy.
-use Rattle.cweb_scan.proofs.Common.{◌≡◌, ◌<◌, ℕ, List, [], ◌∷◌, ◌++◌, length, take, ap, sym, ◌∙◌, subst, arith, length-append, append-nil, take-append_seam, flat_map, fold, Place, Kind, Lexeme, Pays, Reading, after_lexeme, AreLexemes, next_match, names_include, lexemes, lex}
+use Rattle.cweb_scan.proofs.Common.{◌≡◌, ◌<◌, ℕ, List, [], ◌∷◌, ◌++◌, length, take, ap, sym, ◌∙◌, subst, arith, length-append, append-nil, take-append_seam, flat_map, fold, Place, Kind, Lexeme, Pays, Reading, after_lexeme, AreLexemes, next_match, names_include, lexemes, lex, Tells, ends-append}
 use Rattle.cweb_rules.proofs.Newlines.{told}
-use Rattle.cweb_rules.proofs.UnitNewlines.{Tells, ends-append}
 use Rattle.cweb_scan.proofs.NextMatchPays.{fair}
 use Rattle.cweb_scan.proofs.Moves.{Moves}
 use Rattle.cweb_scan.proofs.LexemeMoves.{Costs, after-walks}

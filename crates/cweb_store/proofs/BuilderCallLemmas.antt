@@ -1,7 +1,6 @@
 -- The contents of a builder after a call, by its result.
-use Rattle.cweb_store.proofs.Common.{◌≡◌, ◌+◌, refl, Bool, true, false, ℕ, List, [], ◌∷◌, ◌++◌, arith, length-append, map, map-append, if◌then◌else◌, Call, Occurs, Opens, Pushes, Drops, Closes, Transliterates, Contents, after_call, contents, empty, fold, call_model, accepted_calls, HoldsAtMost, Answered, AcceptsCall, AcceptsCalls, IsTrue, append-nil}
+use Rattle.cweb_store.proofs.Common.{◌≡◌, ◌+◌, refl, Bool, true, false, ℕ, List, [], ◌∷◌, ◌++◌, arith, length-append, map, map-append, if◌then◌else◌, Call, Occurs, Opens, Pushes, Drops, Closes, Transliterates, Contents, after_call, contents, empty, fold, call_model, accepted_calls, HoldsAtMost, Answered, AcceptsCall, AcceptsCalls, IsTrue, append-nil, filter-append}
 use Rattle.cweb_store.proofs.CallerLemmas.{token_count_opened, token_count_pushed, part_count_opened, token_count_dropped, token_count_closed, part_count_pushed, part_count_dropped, part_count_closed}
-use Rattle.std.proofs.lemmas.List.Elements.{filter-append}
 use Rattle.std.proofs.lemmas.List.Sums.{fold-append}
 
 given-one : (answers : List Answered) (a : Answered)

@@ -2,13 +2,14 @@
 pub use Rattle.std.proofs.Common.{◌≡◌, ℕ, zero, suc, ◌+◌, ◌≤◌, ◌<◌, Bool, true, false, cond, not, ◌||◌, List, [], ◌∷◌}
 pub use Rattle.std.proofs.Common.{◌++◌, Some, None, Option, length, refl, ap, arith, length-append, map, take, drop}
 pub use Rattle.std.proofs.Common.{◌∙◌, append-nil, ◌&&◌, sym, append_assoc, subst, ◌-◌, get_or, length-drop, inl, inr}
-pub use Rattle.std.proofs.Common.{eq-eqb, flat_map, rules, ◌↔◌}
+pub use Rattle.std.proofs.Common.{eq-eqb, flat_map, rules, ◌↔◌, reverse}
 pub use Rattle.std.proofs.Math.Bool.{or-false}
 pub use Rattle.std.proofs.Math.Seq.{drop-append_seam, take-append_seam}
 pub use Rattle.std.proofs.lemmas.Bool.{eqb-true}
 pub use Rattle.std.proofs.lemmas.Grind.{flat_map-append, common_steps}
 pub use Rattle.std.proofs.lemmas.List.{length-map, take-append-drop, map-append, take_all, drop_all, get_or-replicate}
-pub use Rattle.std.proofs.lemmas.List.Elements.{All-from_recursion}
+pub use Rattle.std.proofs.lemmas.List.{drop-drop, take-map}
+pub use Rattle.std.proofs.lemmas.List.Elements.{All-from_recursion, filter-append}
 pub use Rattle.std.proofs.lemmas.List.Folds.{list_any-append}
 pub use Rattle.std.proofs.lemmas.List.Sums.{length-filter, count_by-le-length}
 pub use Rattle.std.proofs.lemmas.Option.{slice_get-map, get_or_from_slice_get, slice_get-get_or}
@@ -16,10 +17,9 @@ pub use Rattle.std.proofs.lemmas.Slice.Eq.{bytes_eq-Decides}
 pub use Rattle.std.specs.List.{AllByRecursion, list_any, starts_with, position_or_len}
 pub use Rattle.std.specs.Prelude.{Ok, Err, IfSome, All, bytes_eq, if◌then◌else◌, nat_eq, filter, IsSome, IsNone}
 pub use Rattle.std.specs.Prelude.{option_map, option_to_list, slice_get, option_and_then, fold, filter_map, codes, OnOk}
-pub use Rattle.std.specs.Prelude.{IsTrue}
-pub use Rattle.cweb_names.specs.laws.Found.{Distinct}
-pub use Rattle.cweb_names.specs.inner.OccurrenceTables.{occurrence_form, occurrences_at}
-pub use Rattle.cweb_names.specs.surface.Names.{occurrence_of, too_many, occurrence_text}
+pub use Rattle.std.specs.Prelude.{IsTrue, slice_range, nat_lt, vec_capacity}
+pub use Rattle.cweb_files.specs.declared.place.Place.{Place}
+pub use Rattle.cweb_names.proofs.NameLemmas.{front_at}
 pub use Rattle.cweb_names.specs.Names.{is_prefix_of_another, Occurrence, Name, Resolution, id, spellings}
 pub use Rattle.cweb_names.specs.Names.{with_full_name, with_occurrence_name, names_from, names, beginning_from, the_one}
 pub use Rattle.cweb_names.specs.Names.{resolved_among, resolutions_from, resolutions, resolved_at, with_some, with_file}
@@ -32,48 +32,62 @@ pub use Rattle.cweb_names.specs.declared.name.NameKind.{NameKind}
 pub use Rattle.cweb_names.specs.declared.name.NameKind.TheVariants.{NeverFull, PrefixOfAnother, NotPresent, Ambiguous}
 pub use Rattle.cweb_names.specs.declared.name.NameRef.{NameRef}
 pub use Rattle.cweb_names.specs.declared.table.OccurrenceForm.{OccurrenceForm}
-pub use Rattle.cweb_store.specs.inner.ClosedTokens.{ClosedTokensModel, tokens_alone, with_strings}
-pub use Rattle.cweb_store.specs.inner.NameUses.{with_use, used_from, used_in}
+pub use Rattle.cweb_names.specs.inner.OccurrenceTables.{occurrence_form, occurrences_at}
+pub use Rattle.cweb_names.specs.laws.Found.{Distinct}
+pub use Rattle.cweb_names.specs.surface.Names.{occurrence_of, too_many, occurrence_text}
+pub use Rattle.cweb_texts.proofs.StringListLemmas.{get-string}
+pub use Rattle.cweb_texts.specs.inner.Edges.{is_known_edge}
+pub use Rattle.cweb_texts.specs.inner.StringLists.{string_at}
+pub use Rattle.cweb_texts.specs.surface.StringTables.{total}
 pub use Rattle.cweb_store.specs.Calls.{PartsSoFar, with_closed_part, with_dropped_layout, with_opened_part}
 pub use Rattle.cweb_store.specs.Calls.{with_pushed_token, part_with_token, all_parts, Contents, empty, Stored, finished}
 pub use Rattle.cweb_store.specs.Calls.{stored, replacement, Replacement, replaced_by}
-pub use Rattle.cweb_store.specs.surface.Growing.{part_count, token_count}
+pub use Rattle.cweb_store.specs.Faults.{fault_of_name, unresolved_faults_from, unresolved_faults, faults_from}
+pub use Rattle.cweb_store.specs.Faults.{faults_where, faults, is_missing, is_use, is_used, has_part, unresolved_fault}
 pub use Rattle.cweb_store.specs.Parts.{before_last, without_last, without_blank, without_layout, at_close}
 pub use Rattle.cweb_store.specs.Parts.{protected_count, is_layout, is_newline, is_blank, without_last_after, Part}
 pub use Rattle.cweb_store.specs.Parts.{Token, all_tokens, is_macro, joined_where, is_c_part, is_some_id, is_of, Word}
 pub use Rattle.cweb_store.specs.Parts.{Punct, Blank, Newline, Mark, is_unnamed, has_defs_code, is_defs}
-pub use Rattle.cweb_store.specs.inner.DirectBytes.{direct_bytes}
-pub use Rattle.cweb_store.specs.inner.Links.{followed, AreLinked}
-pub use Rattle.cweb_store.specs.inner.Next.{IsNextNumber, is_name_use}
-pub use Rattle.cweb_store.specs.inner.TokenIndexes.{token_numbers}
-pub use Rattle.cweb_store.specs.surface.Parts.{numbers_where, tokens_at}
-pub use Rattle.cweb_store.specs.inner.PartRanges.{ranges_from, IsWhole, closed_in}
-pub use Rattle.cweb_store.specs.surface.TokenStrings.{token_strings, interned_token_bytes, AreSpansOf, AreInOneList}
-pub use Rattle.cweb_store.specs.inner.Wanted.{is_wanted, wanted_in}
+pub use Rattle.cweb_store.specs.declared.call.Answered.{Answered}
+pub use Rattle.cweb_store.specs.declared.parts.Open.{Open}
 pub use Rattle.cweb_store.specs.declared.parts.PartKind.{PartKind}
 pub use Rattle.cweb_store.specs.declared.parts.PartKind.TheVariants.{Unnamed, Named, Macro}
 pub use Rattle.cweb_store.specs.declared.parts.PartRange.{PartRange}
 pub use Rattle.cweb_store.specs.declared.parts.links.Links.{Links}
+pub use Rattle.cweb_store.specs.declared.tokens.interned.InternedToken.{InternedToken}
+pub use Rattle.cweb_store.specs.declared.tokens.records.Record.{Record}
 pub use Rattle.cweb_store.specs.inner.Answers.{AreAnswers}
+pub use Rattle.cweb_store.specs.inner.BuilderCalls.{HoldsAtMost}
+pub use Rattle.cweb_store.specs.inner.ClosedTokens.{ClosedTokensModel, tokens_alone, with_strings}
+pub use Rattle.cweb_store.specs.inner.DirectBytes.{direct_bytes}
+pub use Rattle.cweb_store.specs.inner.Faults.{fault_of_name_if}
+pub use Rattle.cweb_store.specs.inner.InternedTokens.{token_of_interned, StringIsWithin, StringsAreWithin, InternsToken}
+pub use Rattle.cweb_store.specs.inner.Links.{followed, AreLinked}
+pub use Rattle.cweb_store.specs.inner.NameUses.{with_use, used_from, used_in}
+pub use Rattle.cweb_store.specs.inner.NamesWithParts.{with_part, present_from}
+pub use Rattle.cweb_store.specs.inner.Next.{IsNextNumber, is_name_use}
+pub use Rattle.cweb_store.specs.inner.PartRanges.{ranges_from, IsWhole, closed_in, ArePartRanges, parts_in}
+pub use Rattle.cweb_store.specs.inner.Records.{interned_of_record, AreNumbered}
+pub use Rattle.cweb_store.specs.inner.Replaced.{replacement_in}
+pub use Rattle.cweb_store.specs.inner.Stored.{replacements_at, stored_in, AreLast, AreStored, last_from}
+pub use Rattle.cweb_store.specs.inner.TokenIndexes.{token_numbers, IsTokenIndex}
+pub use Rattle.cweb_store.specs.inner.TokenStrings.{has_string}
+pub use Rattle.cweb_store.specs.inner.Trailing.{is_trailing}
+pub use Rattle.cweb_store.specs.inner.Wanted.{is_wanted, wanted_in}
+pub use Rattle.cweb_store.specs.laws.BuilderCalls.{call_model, accepted_calls, AcceptsCall, AcceptsCalls}
 pub use Rattle.cweb_store.specs.laws.Calls.{Call, Occurs, Opens, Pushes, Drops, Closes, Transliterates, after_call}
 pub use Rattle.cweb_store.specs.laws.Calls.{contents}
-pub use Rattle.cweb_store.specs.Faults.{fault_of_name, unresolved_faults_from, unresolved_faults, faults_from}
-pub use Rattle.cweb_store.specs.Faults.{faults_where, faults, is_missing, is_use, is_used, has_part, unresolved_fault}
-pub use Rattle.cweb_store.specs.inner.Faults.{fault_of_name_if}
-pub use Rattle.cweb_store.specs.inner.NamesWithParts.{with_part, present_from}
 pub use Rattle.cweb_store.specs.laws.Laws.{defines_with_prefix, AbbreviationsStay, EarlierNamesDecide}
 pub use Rattle.cweb_store.specs.laws.Laws.{FullNamesResolveToThemselves, JoiningConcatenates}
 pub use Rattle.cweb_store.specs.laws.Laws.{OccurrencesAreThoseOfCalls, occurrence_of_call}
-pub use Rattle.cweb_store.specs.laws.BuilderCalls.{call_model, accepted_calls, AcceptsCall, AcceptsCalls}
-pub use Rattle.cweb_store.specs.inner.BuilderCalls.{HoldsAtMost}
-pub use Rattle.cweb_store.specs.declared.call.Answered.{Answered}
 pub use Rattle.cweb_store.specs.laws.MoreLaws.{AllPass, IsTokenPrefix, DroppingKeepsThePrefix, MacrosKeepTwoTokens}
 pub use Rattle.cweb_store.specs.laws.MoreLaws.{NamesAreDistinct, AbbreviationsBeginTheirNames, OneFaultForNoName}
 pub use Rattle.cweb_store.specs.laws.MoreLaws.{left_of_macro}
-pub use Rattle.cweb_store.specs.inner.Replaced.{replacement_in}
+pub use Rattle.cweb_store.specs.laws.TokenLaws.{AreInPlace, IsLeftOfTokens, TokensAreThosePushed}
+pub use Rattle.cweb_store.specs.surface.Growing.{part_count, token_count}
+pub use Rattle.cweb_store.specs.surface.Parts.{numbers_where, tokens_at}
 pub use Rattle.cweb_store.specs.surface.Replacements.{replacement_of}
-pub use Rattle.cweb_store.specs.inner.Stored.{replacements_at, stored_in, AreLast, AreStored, last_from}
 pub use Rattle.cweb_store.specs.surface.StoredStrings.{uninterned_store_bytes, interned_store_bytes, replacement_bytes}
 pub use Rattle.cweb_store.specs.surface.StoredStrings.{stored_strings}
-pub use Rattle.cweb_store.specs.laws.TokenLaws.{AreInPlace, IsLeftOfTokens, TokensAreThosePushed}
-pub use Rattle.cweb_texts.specs.surface.StringTables.{total}
+pub use Rattle.cweb_store.specs.surface.TokenModels.{token_model}
+pub use Rattle.cweb_store.specs.surface.TokenStrings.{token_strings, interned_token_bytes, AreSpansOf, AreInOneList}

@@ -1,6 +1,5 @@
 -- Faults of names, one by one.
-use Rattle.cweb_store.proofs.Common.{◌≡◌, ℕ, ◌+◌, ◌<◌, Bool, true, false, cond, List, [], ◌∷◌, ◌++◌, Some, map, length, drop, refl, arith, append_assoc, slice_get, option_map, list_any, NameId, NameKind, NameFault, Name, id, spellings, fault_of_name, fault_of_name_if, faults_from}
-use Rattle.cweb_names.proofs.NameLemmas.{front_at}
+use Rattle.cweb_store.proofs.Common.{◌≡◌, ℕ, ◌+◌, ◌<◌, Bool, true, false, cond, List, [], ◌∷◌, ◌++◌, Some, map, length, drop, refl, arith, append_assoc, slice_get, option_map, list_any, NameId, NameKind, NameFault, Name, id, spellings, fault_of_name, fault_of_name_if, faults_from, front_at}
 
 pub faults-none : (kind : NameKind) (fails : List ℕ → Bool) (i : ℕ) (ns : List Name)
     → list_any fails (spellings ns) ≡ false → faults_from i kind (λ n text. fails text) ns ≡ []

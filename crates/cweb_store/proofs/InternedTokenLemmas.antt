@@ -1,10 +1,7 @@
 -- Records remain valid when strings are added.
-use Rattle.cweb_store.proofs.Common.{◌≡◌, ℕ, zero, suc, ◌<◌, List, [], ◌∷◌, ◌++◌, Some, map, length, take, refl, ap, arith, length-append, slice_get, map-append}
-use Rattle.cweb_store.specs.declared.tokens.interned.InternedToken.{InternedToken}
+use Rattle.cweb_store.proofs.Common.{◌≡◌, ℕ, zero, suc, ◌<◌, List, [], ◌∷◌, ◌++◌, Some, map, length, take, refl, ap, arith, length-append, slice_get, map-append, InternedToken, string_at, token_of_interned, StringIsWithin, StringsAreWithin, InternsToken}
 use Rattle.cweb_store.specs.declared.tokens.interned.InternedToken.TheVariants.{Number, Literal, Verbatim, Word, Punct}
 use Rattle.cweb_texts.specs.inner.StringTables.{StringTableModel}
-use Rattle.cweb_texts.specs.inner.StringLists.{string_at}
-use Rattle.cweb_store.specs.inner.InternedTokens.{token_of_interned, StringIsWithin, StringsAreWithin, InternsToken}
 use Rattle.cweb_store.specs.Parts as spec
 
 at-grow : (strings more : List (List ℕ)) (n : ℕ) → n < length strings

@@ -1,9 +1,6 @@
 -- The strings of tokens without trailing layout.
-use Rattle.cweb_store.proofs.Common.{arith, ◌≡◌, ℕ, suc, true, false, List, [], ◌∷◌, ◌++◌, Some, take, drop, refl, sym, ◌∙◌, ap, append-nil, slice_get, filter, if◌then◌else◌, take-append-drop, Token, before_last, without_last, without_last_after, is_blank}
-use Rattle.std.proofs.lemmas.List.Elements.{filter-append}
+use Rattle.cweb_store.proofs.Common.{arith, ◌≡◌, ℕ, suc, true, false, List, [], ◌∷◌, ◌++◌, Some, take, drop, refl, sym, ◌∙◌, ap, append-nil, slice_get, filter, if◌then◌else◌, take-append-drop, Token, before_last, without_last, without_last_after, is_blank, filter-append, is_trailing, has_string}
 use Rattle.cweb_store.specs.declared.tokens.layout.Trailing.{Trailing}
-use Rattle.cweb_store.specs.inner.Trailing.{is_trailing}
-use Rattle.cweb_store.specs.inner.TokenStrings.{has_string}
 use Rattle.cweb_store.specs.Parts as spec
 use Rattle.cweb_store.specs.declared.tokens.layout.Trailing.TheVariants as trailing
 use Rattle.cweb_store.proofs.LayoutLemmas.{take-next}

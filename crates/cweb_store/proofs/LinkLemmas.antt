@@ -1,7 +1,6 @@
 -- Following the links visits exactly the wanted parts.
-use Rattle.cweb_store.proofs.Common.{◌≡◌, ℕ, zero, suc, ◌+◌, ◌-◌, ◌≤◌, Bool, true, false, List, [], ◌∷◌, Option, Some, length, drop, ◌++◌, get_or, refl, sym, ◌∙◌, ap, subst, arith, length-drop, slice_get, if◌then◌else◌, take_all, PartKind, Unnamed, Named, Macro, PartRange, Resolution, is_wanted, followed, AreLinked}
+use Rattle.cweb_store.proofs.Common.{◌≡◌, ℕ, zero, suc, ◌+◌, ◌-◌, ◌≤◌, Bool, true, false, List, [], ◌∷◌, Option, Some, length, drop, ◌++◌, get_or, refl, sym, ◌∙◌, ap, subst, arith, length-drop, slice_get, if◌then◌else◌, take_all, PartKind, Unnamed, Named, Macro, PartRange, Resolution, is_wanted, followed, AreLinked, slice_range}
 use Rattle.std.proofs.Common.{reverse, drop-cons}
-use Rattle.std.specs.Prelude.{slice_range}
 use Rattle.std.proofs.lemmas.List.{reverse-append}
 use Rattle.cweb_store.specs.declared.parts.iter.Wanted.{Wanted}
 use Rattle.cweb_store.specs.declared.parts.iter.Wanted.TheVariants.{Program, OfName, Macros}

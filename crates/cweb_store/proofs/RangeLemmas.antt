@@ -1,10 +1,9 @@
 -- Ranges of lists.
-use Rattle.cweb_store.proofs.Common.{◌≡◌, ℕ, zero, suc, ◌+◌, ◌-◌, ◌≤◌, ◌<◌, List, [], ◌∷◌, ◌++◌, Some, take, drop, ap, arith, length, slice_get, PartRange, Token}
+use Rattle.cweb_store.proofs.Common.{◌≡◌, ℕ, zero, suc, ◌+◌, ◌-◌, ◌≤◌, ◌<◌, List, [], ◌∷◌, ◌++◌, Some, take, drop, ap, arith, length, slice_get, PartRange, Token, drop-drop}
 use Rattle.std.proofs.Common.{add-one}
 use Rattle.std.specs.Prelude.{slice_range, slice_index_or}
 use Rattle.cweb_store.specs.inner.PartRanges.{RangesFollow}
 use Rattle.std.proofs.Math.Seq.{take-add}
-use Rattle.std.proofs.lemmas.List.{drop-drop}
 use Rattle.cweb_store.proofs.PartRangeLemmas.{Follow-le}
 
 pub range-split : {X : Type 0} (xs : List X) (i j k : ℕ) → i ≤ j → j ≤ k

@@ -1,8 +1,5 @@
 -- Records whose place indices are consecutive.
-use Rattle.cweb_store.proofs.Common.{◌≡◌, ℕ, zero, suc, ◌+◌, ◌≤◌, ◌<◌, true, false, cond, List, [], ◌∷◌, ◌++◌, Some, map, length, take, drop, refl, sym, subst, ap, arith, slice_get, map-append, take-append_seam, direct_bytes}
-use Rattle.cweb_files.specs.declared.place.Place.{Place}
-use Rattle.cweb_store.specs.declared.tokens.records.Record.{Record}
-use Rattle.cweb_store.specs.inner.InternedTokens.{token_of_interned}
+use Rattle.cweb_store.proofs.Common.{◌≡◌, ℕ, zero, suc, ◌+◌, ◌≤◌, ◌<◌, true, false, cond, List, [], ◌∷◌, ◌++◌, Some, map, length, take, drop, refl, sym, subst, ap, arith, slice_get, map-append, take-append_seam, direct_bytes, Place, Record, token_of_interned}
 use Rattle.cweb_store.specs.inner.Records.{interned_of_record, has_place, place_at, PlaceHasNumber, places_of, AreNumbered, AddsPlace, PlaceIsWithin}
 use Rattle.cweb_store.specs.declared.tokens.interned.InternedToken.TheVariants as packed
 use Rattle.cweb_store.specs.declared.tokens.records.Record.TheVariants as record_of

@@ -1,10 +1,6 @@
 -- The bytes of tokens, from their records and strings.
-use Rattle.cweb_store.proofs.Common.{◌≡◌, ℕ, List, [], ◌∷◌, Some, map, length, ◌∙◌, ap, option_map, slice_get, slice_get-map, direct_bytes}
-use Rattle.cweb_files.specs.declared.place.Place.{Place}
-use Rattle.cweb_store.specs.declared.tokens.records.Record.{Record}
+use Rattle.cweb_store.proofs.Common.{◌≡◌, ℕ, List, [], ◌∷◌, Some, map, length, ◌∙◌, ap, option_map, slice_get, slice_get-map, direct_bytes, Place, Record, StringsAreWithin, StringIsWithin, token_of_interned, interned_of_record}
 use Rattle.cweb_store.specs.inner.TokenReaders.{RecordStringsAreWithin, direct_bytes_of_record, direct_bytes_of_records}
-use Rattle.cweb_store.specs.inner.InternedTokens.{StringsAreWithin, StringIsWithin, token_of_interned}
-use Rattle.cweb_store.specs.inner.Records.{interned_of_record}
 use Rattle.cweb_store.proofs.InternedTokenLemmas.{interned-at}
 use Rattle.cweb_store.proofs.RecordLemmas.{lends-alone, within-alone}
 

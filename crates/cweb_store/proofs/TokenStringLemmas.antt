@@ -1,13 +1,9 @@
 -- Strings in one list of bytes, and how many bytes tokens and strings have.
-use Rattle.cweb_store.proofs.Common.{◌≡◌, ℕ, zero, suc, ◌+◌, ◌<◌, ◌≤◌, Bool, List, [], ◌∷◌, ◌++◌, map, length, take, drop, refl, sym, ◌∙◌, ap, arith, length-append, append_assoc, flat_map, filter, bytes_eq, list_any, take-append-drop, Token, total, token_strings, interned_token_bytes, AreSpansOf, AreInOneList}
+use Rattle.cweb_store.proofs.Common.{◌≡◌, ℕ, zero, suc, ◌+◌, ◌<◌, ◌≤◌, Bool, List, [], ◌∷◌, ◌++◌, map, length, take, drop, refl, sym, ◌∙◌, ap, arith, length-append, append_assoc, flat_map, filter, bytes_eq, list_any, take-append-drop, Token, total, token_strings, interned_token_bytes, AreSpansOf, AreInOneList, filter-append, InternedToken, token_of_interned, StringIsWithin, StringsAreWithin, InternsToken, has_string}
 use Rattle.std.proofs.lemmas.List.{drop-append-le, take-append-le, take-map}
-use Rattle.std.proofs.lemmas.List.Elements.{filter-append}
-use Rattle.cweb_store.specs.declared.tokens.interned.InternedToken.{InternedToken}
 use Rattle.cweb_store.specs.declared.tokens.interned.InternedToken.TheVariants.{Number, Literal, Verbatim, Word, Punct}
 use Rattle.cweb_texts.specs.inner.StringLists.{text_bytes, string_at}
 use Rattle.cweb_texts.specs.inner.StringTables.{StringTableModel, has_word}
-use Rattle.cweb_store.specs.inner.InternedTokens.{token_of_interned, StringIsWithin, StringsAreWithin, InternsToken}
-use Rattle.cweb_store.specs.inner.TokenStrings.{has_string}
 use Rattle.cweb_store.specs.surface.TokenStrings.{words_of, other_bytes, IsSpanOf}
 use Rattle.cweb_store.specs.inner.ClosedTokens.{closed_tokens_model, AreTokens, AreClosed, with_string}
 use Rattle.cweb_store.proofs.InternedTokenLemmas.{packs-tokens, packs-all, interned-take, interned-grow, tokens-grow}

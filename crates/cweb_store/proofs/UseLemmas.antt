@@ -1,6 +1,5 @@
 -- The names that tokens use, and whether any token passes, from the index of the next passing token.
-use Rattle.cweb_store.proofs.Common.{arith, ◌≡◌, ◌<◌, ◌+◌, ℕ, Bool, true, false, ◌||◌, List, [], ◌∷◌, ◌++◌, Some, refl, sym, ◌∙◌, ap, slice_get, list_any, list_any-append, NameId, Resolution, Token, with_use, used_from, is_name_use, IsNextNumber}
-use Rattle.std.specs.Prelude.{nat_lt, slice_range}
+use Rattle.cweb_store.proofs.Common.{arith, ◌≡◌, ◌<◌, ◌+◌, ℕ, Bool, true, false, ◌||◌, List, [], ◌∷◌, ◌++◌, Some, refl, sym, ◌∙◌, ap, slice_get, list_any, list_any-append, NameId, Resolution, Token, with_use, used_from, is_name_use, IsNextNumber, nat_lt, slice_range}
 use Rattle.cweb_store.specs.declared.parts.Part.{Part}
 use Rattle.cweb_store.specs.Parts as spec
 use Rattle.cweb_store.proofs.RangeLemmas.{range-split, range-head}

@@ -1,6 +1,5 @@
 -- What a call to keep a word does, by where the word is found or put.
-use Rattle.cweb_texts.proofs.Common.{◌≡◌, ℕ, true, false, ◌||◌, ◌&&◌, List, [], ◌∷◌, ◌++◌, map, length, Some, None, refl, sym, ◌∙◌, ap, arith, length-append, append-nil, slice_get, bytes_eq, Vec, list_any, lookup, is_eq, nat_cmp, slice_cmp, Global, Slot, Entries, DescribesString, FindsWordString, FillsWordSlot, IsInserted, IsTable, slot_has_word, slot_string, probe_window, entry_word, StringTableModel, InternsWord, has_word, table_model}
-use Rattle.cweb_texts.specs.inner.Keys.{key_of}
+use Rattle.cweb_texts.proofs.Common.{◌≡◌, ℕ, true, false, ◌||◌, ◌&&◌, List, [], ◌∷◌, ◌++◌, map, length, Some, None, refl, sym, ◌∙◌, ap, arith, length-append, append-nil, slice_get, bytes_eq, Vec, list_any, lookup, is_eq, nat_cmp, slice_cmp, Global, Slot, Entries, DescribesString, FindsWordString, FillsWordSlot, IsInserted, IsTable, slot_has_word, slot_string, probe_window, entry_word, StringTableModel, InternsWord, has_word, table_model, key_of}
 use Rattle.cweb_texts.proofs.ListLemmas.{or-assoc, or-last}
 use Rattle.cweb_texts.proofs.StringListLemmas.{get-last, get-string}
 use Rattle.cweb_texts.proofs.WordLemmas.{total-append, with-word-any}

@@ -1,6 +1,5 @@
 -- Words in the slots of a table.
-use Rattle.cweb_texts.proofs.Common.{◌≡◌, ℕ, zero, suc, ◌+◌, ◌-◌, ◌<◌, Bool, true, false, ◌||◌, ◌&&◌, List, [], ◌∷◌, ◌++◌, map, length, drop, replicate, Some, refl, sym, ◌∙◌, ap, arith, slice_get, bytes_eq, nat_eq, list_any, length-set, list_any-append, bytes_decides, eqb-true, Key, Slot, Entries, DescribesString, SlotsDescribeStrings, AreSlots, FindsWordString, FillsSlot, free_slot, is_occupied, slot_matches_key, slot_string, slot_has_word, slot_words, table_has_word, probe_window, entry_word, has_word, table_model, any_passes_from_place}
-use Rattle.cweb_texts.specs.inner.Keys.{key_of, home_bucket_of}
+use Rattle.cweb_texts.proofs.Common.{◌≡◌, ℕ, zero, suc, ◌+◌, ◌-◌, ◌<◌, Bool, true, false, ◌||◌, ◌&&◌, List, [], ◌∷◌, ◌++◌, map, length, drop, replicate, Some, refl, sym, ◌∙◌, ap, arith, slice_get, bytes_eq, nat_eq, list_any, length-set, list_any-append, bytes_decides, eqb-true, Key, Slot, Entries, DescribesString, SlotsDescribeStrings, AreSlots, FindsWordString, FillsSlot, free_slot, is_occupied, slot_matches_key, slot_string, slot_has_word, slot_words, table_has_word, probe_window, entry_word, has_word, table_model, any_passes_from_place, key_of, home_bucket_of}
 use Rattle.cweb_texts.proofs.ListLemmas.{and-both, get-drop, get-take, take-get, any-some, any-set, get-set}
 use Rattle.cweb_texts.proofs.StringListLemmas.{get-grow, get-string}
 

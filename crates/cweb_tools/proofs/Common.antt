@@ -18,6 +18,7 @@ pub use Rattle.std.specs.Option.{option_copied}
 pub use Rattle.std.specs.Prelude.{None, Option, Some, IsErr, IsTrue, Result, Ok, Err, count_by, decimal, codes, ◌==◌}
 pub use Rattle.std.specs.Prelude.{All, OnOk, IfSome, if◌then◌else◌, nat_le}
 pub use Rattle.std.specs.Str.{bytes_eq}
+pub use Rattle.cweb_files.specs.Bins.{WritesPrefix}
 pub use Rattle.cweb_files.specs.Files.{Beside, always_open, committed, with_draft, File, no_device, no_memory}
 pub use Rattle.cweb_files.specs.Files.{without_draft}
 pub use Rattle.cweb_files.specs.declared.device.SinkFault.{SinkFault}
@@ -25,21 +26,8 @@ pub use Rattle.cweb_files.specs.declared.place.FileId.{FileId}
 pub use Rattle.cweb_files.specs.declared.place.Place.{Place}
 pub use Rattle.cweb_input.specs.Include.{names_found, contents_found, World, Found, web_at, change_at}
 pub use Rattle.cweb_input.specs.Lines.{Line, SourceLine, blame}
-pub use Rattle.cweb_lines.specs.Merge.{Event, took, given, opening, MergeStateModel, run_steps, started}
-pub use Rattle.cweb_lines.specs.surface.MergeProgress.{SoFar, EmitsLines, StopsAfterLines, ReportsPrefix}
-pub use Rattle.cweb_lines.specs.inner.MergeProgress.{begun_with}
-pub use Rattle.cweb_input.specs.surface.OpenedFileNames.{opened_file_names}
-pub use Rattle.cweb_input.specs.OpenSources.{read_failures_of, TakenCountersModel, files_named}
-pub use Rattle.cweb_input.specs.surface.OpenSources.{StartStops, StopsReading, StopsFor}
-pub use Rattle.cweb_lines.specs.Events.{emitted_lines, reported_faults, openings, taken_lines, IsWithinLimits, AreShort}
-pub use Rattle.cweb_lines.specs.Events.{write_failures_of, written_lines, BreaksLimit, ComesFirst, counts_of}
-pub use Rattle.cweb_lines.specs.surface.Total.{merge}
-pub use Rattle.cweb_lines.specs.inner.Total.{merge-run_steps}
-pub use Rattle.cweb_lines.specs.surface.MergerCalls.{BeginsMerge, StopsAtStart, so_far}
-pub use Rattle.cweb_lines.specs.surface.Writing.{StopsWriting, WritingStops}
-pub use Rattle.cweb_files.specs.Bins.{WritesPrefix}
+pub use Rattle.cweb_input.specs.OpenSources.{read_failures_of, files_named}
 pub use Rattle.cweb_input.specs.declared.fault.SourceFault.{SourceFault}
-pub use Rattle.cweb_input.specs.declared.fault.SourceKind.{SourceKind}
 pub use Rattle.cweb_input.specs.declared.fault.SourceKind.TheVariants.{Unequal, NotThere}
 pub use Rattle.cweb_input.specs.declared.files.FileNames.{FileNames}
 pub use Rattle.cweb_input.specs.declared.limits.TheConstants.{LINES, BYTES, LINE_LENGTH}
@@ -47,84 +35,95 @@ pub use Rattle.cweb_input.specs.declared.stop.Stop.{Stop}
 pub use Rattle.cweb_input.specs.declared.stop.Stop.TheVariants.{LogFault, Memory, Usage, WebNotOpened, ChangeNotOpened}
 pub use Rattle.cweb_input.specs.declared.stop.Stop.TheVariants.{ReadFault, LineTooLong, TooMuchText, OutNotOpened}
 pub use Rattle.cweb_input.specs.declared.stop.Stop.TheVariants.{WriteFault}
-pub use Rattle.cweb_log.specs.Log.{Logs, stop_line, kind_message, located_line, file_name_at}
-pub use Rattle.cweb_log.specs.inner.LogWriting.{WritesToStream}
+pub use Rattle.cweb_input.specs.surface.OpenSources.{StartStops, StopsReading, StopsFor}
+pub use Rattle.cweb_input.specs.surface.OpenedFileNames.{opened_file_names}
+pub use Rattle.cweb_lines.specs.Events.{emitted_lines, reported_faults, openings, taken_lines, IsWithinLimits, AreShort}
+pub use Rattle.cweb_lines.specs.Events.{write_failures_of, written_lines, BreaksLimit, ComesFirst, counts_of}
+pub use Rattle.cweb_lines.specs.Merge.{Event, took, MergeStateModel, run_steps, started}
+pub use Rattle.cweb_lines.specs.inner.MergeProgress.{begun_with}
+pub use Rattle.cweb_lines.specs.inner.Total.{merge-run_steps}
+pub use Rattle.cweb_lines.specs.surface.MergeProgress.{SoFar, EmitsLines, StopsAfterLines, ReportsPrefix}
+pub use Rattle.cweb_lines.specs.surface.MergerCalls.{BeginsMerge, StopsAtStart, so_far}
+pub use Rattle.cweb_lines.specs.surface.Total.{merge}
+pub use Rattle.cweb_lines.specs.surface.Writing.{StopsWriting, WritingStops}
+pub use Rattle.cweb_log.specs.CommandLine.{OptionsModel, options_by, shown_by_default, WebNames, web_names_by}
+pub use Rattle.cweb_log.specs.DeviceModels.{SinkModel, Devices, ShelfModel, AreObservable, sink_model, shelf_model}
+pub use Rattle.cweb_log.specs.DeviceModels.{devices}
 pub use Rattle.cweb_log.specs.Items.{line, LogItem, fault_lines, fault_count, is_fault, source_item, fault, starred}
 pub use Rattle.cweb_log.specs.Items.{located, banner, closing, faults, no_errors, no_text, see_warning, stopped}
 pub use Rattle.cweb_log.specs.Items.{name_item, name_items, scan_item, scan_items, refusal_message}
-pub use Rattle.cweb_log.specs.inner.Log.{start_subject, subject}
-pub use Rattle.cweb_log.specs.CommandLine.{OptionsModel, options_by, shown_by_default, WebNames, web_names_by}
-pub use Rattle.cweb_log.specs.surface.Options.{options_of}
-pub use Rattle.cweb_log.specs.DeviceModels.{SinkModel, Devices, ShelfModel, AreObservable, sink_model, shelf_model}
-pub use Rattle.cweb_log.specs.DeviceModels.{devices}
-pub use Rattle.cweb_log.specs.inner.WebItems.{plan_item}
+pub use Rattle.cweb_log.specs.Log.{Logs, stop_line, file_name_at}
 pub use Rattle.cweb_log.specs.declared.shown.Shown.{Shown}
+pub use Rattle.cweb_log.specs.inner.Log.{start_subject, subject}
+pub use Rattle.cweb_log.specs.inner.LogWriting.{WritesToStream}
+pub use Rattle.cweb_log.specs.inner.WebItems.{plan_item}
+pub use Rattle.cweb_log.specs.surface.Options.{options_of}
+pub use Rattle.cweb_names.specs.declared.name.NameId.{NameId}
 pub use Rattle.cweb_out.specs.Expansion.{expand, expanded_name, put, tokens_for, joined, names, program, resolved_use}
-pub use Rattle.cweb_out.specs.surface.FrameStacks.{left}
-pub use Rattle.cweb_print.specs.inner.BufferedPrinting.{PrintsPrefix}
 pub use Rattle.cweb_out.specs.Outputs.{defs_first, root_list, Planned, Refusal, bad_name, same_name, cycle, Output}
-pub use Rattle.cweb_out.specs.surface.Outputs.{IsPlanOf, output_name_at, output_at, root_at}
-pub use Rattle.cweb_out.specs.surface.Planning.{IsExpectedFault}
-pub use Rattle.cweb_print.specs.surface.Printed.{AddsBytes, Moves, PrintsToken, left_in_printer, setting_of}
-pub use Rattle.cweb_print.specs.surface.Printers.{MarkFileIsNamed}
-pub use Rattle.cweb_print.specs.Printing.{setting, Setting, file, print, print_after, file_token_bytes, word_bytes}
-pub use Rattle.cweb_print.specs.Printing.{without_joined_layout}
-pub use Rattle.cweb_print.specs.Spacing.{sep, are_apart}
-pub use Rattle.cweb_texts.specs.Edges.{is_operator, last_is}
 pub use Rattle.cweb_out.specs.declared.expander.Expander.{Expander}
 pub use Rattle.cweb_out.specs.declared.outputs.fault.PlanFault.{PlanFault}
 pub use Rattle.cweb_out.specs.declared.outputs.fault.PlanFault.TheVariants.{Cycle, SameName, BadName}
+pub use Rattle.cweb_out.specs.surface.FrameStacks.{left}
+pub use Rattle.cweb_out.specs.surface.Outputs.{output_name_at, output_at, root_at}
+pub use Rattle.cweb_out.specs.surface.Planning.{IsExpectedFault}
+pub use Rattle.cweb_print.specs.Printing.{setting, Setting, file, print, print_after, file_token_bytes, word_bytes}
+pub use Rattle.cweb_print.specs.Printing.{without_joined_layout}
+pub use Rattle.cweb_print.specs.Spacing.{sep, are_apart}
 pub use Rattle.cweb_print.specs.declared.printer.Printer.{Printer}
+pub use Rattle.cweb_print.specs.inner.BufferedPrinting.{PrintsPrefix}
+pub use Rattle.cweb_print.specs.surface.Printed.{AddsBytes, Moves, PrintsToken, left_in_printer, setting_of}
+pub use Rattle.cweb_print.specs.surface.Printers.{MarkFileIsNamed}
 pub use Rattle.cweb_rules.specs.Bytes.{first_is, is_one_of, is_digit, is_letter, is_word_byte, is_white}
-pub use Rattle.cweb_rules.specs.laws.Follows.{is_quiet, after_word, after_number, joins_last, JoinsAll, begins_as}
 pub use Rattle.cweb_rules.specs.Items.{unescaped}
 pub use Rattle.cweb_rules.specs.Matches.{Quoted, Numeral, Punctuator, Code, Kind}
 pub use Rattle.cweb_rules.specs.declared.context.Context.TheVariants.{CText}
 pub use Rattle.cweb_rules.specs.declared.effect.Effect.{Effect}
-pub use Rattle.cweb_rules.specs.declared.effect.Effect.TheVariants.{EmitAt, Nothing, Define, Format, Program, Named}
-pub use Rattle.cweb_rules.specs.declared.effect.Effect.TheVariants.{InsertDefs, Joins, Faulty}
+pub use Rattle.cweb_rules.specs.declared.effect.Effect.TheVariants.{EmitAt}
 pub use Rattle.cweb_rules.specs.declared.end.End.{End}
-pub use Rattle.cweb_rules.specs.declared.end.End.TheVariants.{Closed, Cut, Nested, Open}
+pub use Rattle.cweb_rules.specs.declared.end.End.TheVariants.{Closed}
+pub use Rattle.cweb_rules.specs.laws.Follows.{is_quiet, after_word, after_number, joins_last, JoinsAll, begins_as}
 pub use Rattle.cweb_scan.specs.After.{Reading}
 pub use Rattle.cweb_scan.specs.Alone.{InPlainC, HasReadTokens, ReadsAlone, significant, is_insignificant, doubled}
 pub use Rattle.cweb_scan.specs.Alone.{at_doubled, is_hash, spelling_of, token_of, literal_token, is_clean, Scanned}
 pub use Rattle.cweb_scan.specs.Alone.{scanned}
-pub use Rattle.cweb_scan.specs.laws.Alone.{IsReadAs, continues_token}
-pub use Rattle.cweb_scan.specs.surface.ScannedModel.{scanned_model}
-pub use Rattle.cweb_scan.specs.surface.Scan.{IsMarkBelow, ScanEndsEarly, Scans, StopsAfter}
 pub use Rattle.cweb_scan.specs.State.{start_state, open_part_tokens}
+pub use Rattle.cweb_scan.specs.laws.Alone.{IsReadAs, continues_token}
+pub use Rattle.cweb_scan.specs.surface.Scan.{IsMarkBelow, ScanEndsEarly, Scans, StopsAfter}
+pub use Rattle.cweb_scan.specs.surface.ScannedModel.{scanned_model}
 pub use Rattle.cweb_store.specs.Calls.{Stored, empty, with_open}
 pub use Rattle.cweb_store.specs.Parts.{Part, is_macro, Token, Mark, Name, Defs, all_tokens, is_of, is_unnamed, Word}
 pub use Rattle.cweb_store.specs.Parts.{Number, Literal, Verbatim, Punct, Blank, Newline, Join, Head, Tail}
-pub use Rattle.cweb_store.specs.surface.Parts.{numbers_from, numbers_where}
-pub use Rattle.cweb_names.specs.declared.name.NameId.{NameId}
 pub use Rattle.cweb_store.specs.declared.parts.PartKind.{PartKind}
+pub use Rattle.cweb_store.specs.surface.Parts.{numbers_from, numbers_where}
+pub use Rattle.cweb_texts.specs.Edges.{is_operator, last_is}
 pub use Rattle.cweb_tools.specs.Acts.{DeviceState, Act, judges, says, opens, reads, plans, reserves, writes, after_act}
 pub use Rattle.cweb_tools.specs.Acts.{PerformsActs, Breaks, Ending, ending, TangleEnds, completes, stops, LogsLine}
-pub use Rattle.cweb_tools.specs.Acts.{LogsStop, IsOfFile, read_fails, FailsLog, bins_fail, abandon_draft, begin_fails}
-pub use Rattle.cweb_tools.specs.Acts.{AgreesWith}
-pub use Rattle.cweb_tools.specs.inner.Acts.{ending_of}
-pub use Rattle.cweb_tools.specs.Course.{Course, merging, IsMergeCourse, change_name, merged, usage}
-pub use Rattle.cweb_tools.specs.inner.Course.{found_course, merge_course, EndsMerge, course_of}
-pub use Rattle.cweb_tools.specs.Course.{fault_status, MergeKeepsLimits, merge_log, merge_status, world_of}
-pub use Rattle.cweb_tools.specs.inner.Does.{Closes, ClosesLog, Does, DoesInBins, DoesInBoth, DoesInLog, done, halted}
-pub use Rattle.cweb_tools.specs.inner.Does.{log_blame, rise, log_ending, ClosesInBoth, ClosesInLog, LogsEnding}
-pub use Rattle.cweb_tools.specs.inner.Does.{FollowsCourse, observed_state}
-pub use Rattle.cweb_tools.specs.laws.Leaves.{LeavesFiles, bins_blame}
-pub use Rattle.cweb_tools.specs.inner.Expanders.{PrintsSoFar, StaysReady, left_in, AreMarksBelow, IsReady}
-pub use Rattle.cweb_tools.specs.inner.Expanders.{output_ending, file_at, planned_files}
+pub use Rattle.cweb_tools.specs.Acts.{LogsStop, IsOfFile, read_fails, AgreesWith}
+pub use Rattle.cweb_tools.specs.Course.{Course, merging, IsMergeCourse, change_name, merged, usage, fault_status}
+pub use Rattle.cweb_tools.specs.Course.{MergeKeepsLimits, merge_log, merge_status, world_of}
+pub use Rattle.cweb_tools.specs.Headline.{IsMerge, TangleKeepsLimits, MergesFreely, MergeRanFreely, TanglesFreely}
 pub use Rattle.cweb_tools.specs.MergePromises.{put_files, about, AreOpened, CanStop, Comes, MergeEnds, Merges}
 pub use Rattle.cweb_tools.specs.MergePromises.{RefusesArgs, HasMerged, BlamesDevice, Completes}
-pub use Rattle.cweb_tools.specs.Headline.{IsMerge, IsTangle, TangleKeepsLimits, MergesFreely, MergeRanFreely}
-pub use Rattle.cweb_tools.specs.Headline.{TangleRanFreely, TanglesFreely}
-pub use Rattle.cweb_tools.specs.laws.RunEffects.{LeavesDevices, LeavesMerge, LeavesStates, MergeFailsOnce, MergeReportsFaults, PrintsMerged, ActsKeepLimits, DoesAll, IsEnded, IsStopped, LogEnds, LogsUpTo, ReadAll, RisesOnce, TangleFailsOnce, TangleReportsFaults, cut, said}
 pub use Rattle.cweb_tools.specs.Script.{written_files, logged_items, Numbers, closing_acts, unread, not_there}
 pub use Rattle.cweb_tools.specs.Script.{change_not_there, Planning, refused, Web, planned_acts, script, starred_acts}
 pub use Rattle.cweb_tools.specs.Script.{tangle_files, tangling, when, output_acts, outputs_acts, TangleCourse}
 pub use Rattle.cweb_tools.specs.Script.{tangle_status, web_acts, planned, tangle_log, tangle_usage}
 pub use Rattle.cweb_tools.specs.Spacing.{IsPlain, Spacing, is_ascii}
 pub use Rattle.cweb_tools.specs.Tangle.{fault_items, CanCome, shown_by, IsTangleCourse, output_file, tangled, web_of}
-pub use Rattle.cweb_tools.specs.Tangle.{plan_made, planning, planning_by, numbers_of, EndsIn, TanglePromises}
+pub use Rattle.cweb_tools.specs.Tangle.{plan_made, planning, planning_by, EndsIn, TanglePromises}
+pub use Rattle.cweb_tools.specs.declared.outputs.Failed.{Failed}
+pub use Rattle.cweb_tools.specs.inner.Acts.{ending_of}
+pub use Rattle.cweb_tools.specs.inner.Course.{found_course, merge_course, EndsMerge, course_of}
+pub use Rattle.cweb_tools.specs.inner.Does.{Closes, ClosesLog, Does, DoesInBins, DoesInBoth, DoesInLog, done, halted}
+pub use Rattle.cweb_tools.specs.inner.Does.{log_blame, rise, log_ending, ClosesInLog, LogsEnding, FollowsCourse}
+pub use Rattle.cweb_tools.specs.inner.Does.{observed_state}
+pub use Rattle.cweb_tools.specs.inner.Expanders.{PrintsSoFar, StaysReady, left_in, AreMarksBelow, IsReady}
+pub use Rattle.cweb_tools.specs.inner.Expanders.{output_ending, file_at, planned_files}
 pub use Rattle.cweb_tools.specs.inner.Tangle.{tangle_course, course_acts, course_status, web_status, status_by}
 pub use Rattle.cweb_tools.specs.inner.Web.{refusal_in, files_of, faults_of}
-pub use Rattle.cweb_tools.specs.declared.outputs.Failed.{Failed}
+pub use Rattle.cweb_tools.specs.laws.Leaves.{LeavesFiles, bins_blame}
+pub use Rattle.cweb_tools.specs.laws.RunEffects.{LeavesDevices, LeavesMerge, LeavesStates, MergeFailsOnce}
+pub use Rattle.cweb_tools.specs.laws.RunEffects.{MergeReportsFaults, PrintsMerged, ActsKeepLimits, DoesAll, IsEnded}
+pub use Rattle.cweb_tools.specs.laws.RunEffects.{IsStopped, LogEnds, ReadAll, RisesOnce, TangleFailsOnce}
+pub use Rattle.cweb_tools.specs.laws.RunEffects.{TangleReportsFaults, cut, said}

@@ -1,7 +1,5 @@
 -- The way that a run goes exists, and there is no other.
-use Rattle.cweb_tools.proofs.Common.{◌≡◌, ◌∙◌, ℕ, Option, Some, None, refl, sym, ap, subst, World, Found, Devices, WebNames, OptionsModel, Course, merging, IsMergeCourse, found_course, merge_course, merge-run_steps, contents_found, EndsMerge, MergeEnds, Merges, TangleCourse, IsTangleCourse, tangle_course, tangled}
-use Rattle.cweb_input.specs.Include.{web_at, change_at}
-use Rattle.cweb_lines.specs.Merge.{started}
+use Rattle.cweb_tools.proofs.Common.{◌≡◌, ◌∙◌, ℕ, Option, Some, None, refl, sym, ap, subst, World, Found, Devices, WebNames, OptionsModel, Course, merging, IsMergeCourse, found_course, merge_course, merge-run_steps, contents_found, EndsMerge, MergeEnds, Merges, TangleCourse, IsTangleCourse, tangle_course, tangled, web_at, change_at, started}
 use Rattle.cweb_lines.specs.inner.Total.{merge_yields}
 use Rattle.cweb_tools.specs.Course.{IsFoundCourse, unread, not_there, change_not_there}
 

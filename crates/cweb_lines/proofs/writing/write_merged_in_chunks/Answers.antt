@@ -1,5 +1,4 @@
-use Rattle.cweb_lines.proofs.Common.{rules, Line, ◌+◌, refl, ap, sym, ◌∙◌, arith, IsTrue, Writes, BuffersLines, HasWritten, events_to_come, so_far_of, to_come, so_far, read_failures_of}
-use Rattle.cweb_input.proofs.ReadersStayNamed.{blames_none, stop_after}
+use Rattle.cweb_lines.proofs.Common.{rules, Line, ◌+◌, refl, ap, sym, ◌∙◌, arith, IsTrue, Writes, BuffersLines, HasWritten, events_to_come, so_far_of, to_come, so_far, read_failures_of, blames_none, stop_after}
 use Rattle.cweb_lines.proofs.ReportsOnlyGrow.{grows_told, told_halted, told_passed, told_same, told_then}
 use Rattle.cweb_lines.proofs.BufferedWrites.{held, held_on, fails_front, fails_among, written_on}
 use Rattle.cweb_files.proofs.FramesCompose.{keeps_same, keeps_then, place_same, place_then}

@@ -1,11 +1,7 @@
-use Rattle.std.proofs.Common.{◌++◌, ◌∙◌, ap, sym, subst, append_assoc, codes, decimal, List, ℕ}
+use Rattle.cweb_log.proofs.Common.{◌++◌, ◌∙◌, ap, sym, subst, append_assoc, codes, decimal, List, ℕ, AppendsToLog, sink_model, unwritten_bytes, opened_file_names}
 use Rattle.cweb_input.specs.declared.fault.SourceKind.{SourceKind}
-use Rattle.cweb_log.specs.inner.LogWriting.{AppendsToLog}
 use Rattle.cweb_log.specs.Items.{message_with_count}
 use Rattle.cweb_log.specs.Log.{file_name_at, kind_message, located_line}
-use Rattle.cweb_log.specs.DeviceModels.{sink_model}
-use Rattle.cweb_log.specs.inner.LogBuffer.{unwritten_bytes}
-use Rattle.cweb_input.specs.surface.OpenedFileNames.{opened_file_names}
 use Rattle.cweb_log.proofs.faults.add_fault.Goals as goal
 
 pub returns-in-Unequal : goal.returns-in-Unequal

@@ -1,8 +1,7 @@
-use Rattle.cweb_scan.proofs.Common.{rules, ◌≡◌, ◌≤◌, ◌+◌, ◌*◌, ℕ, Bool, Option, None, List, [], ◌∷◌, ◌++◌, subst, refl, ap, sym, ◌∙◌, arith, BorrowsLines, Event, blame, read_failures_of, SoFar, events_to_come, so_far, to_come, Merger, Stop, ScanEndsEarly, HasTaken, ReaderModel, cost, read_after}
+use Rattle.cweb_scan.proofs.Common.{rules, ◌≡◌, ◌≤◌, ◌+◌, ◌*◌, ℕ, Bool, Option, None, List, [], ◌∷◌, ◌++◌, subst, refl, ap, sym, ◌∙◌, arith, BorrowsLines, Event, blame, read_failures_of, SoFar, events_to_come, so_far, to_come, Merger, Stop, ScanEndsEarly, HasTaken, ReaderModel, cost, read_after, gives_both}
 use Rattle.cweb_files.specs.declared.device.Shelf.{Ghosts as Shelf}
 use Rattle.cweb_lines.proofs.ReportsOnlyGrow.{told_files, told_same, told_then}
 use Rattle.cweb_files.proofs.FramesCompose.{keeps_same, keeps_told, keeps_then}
-use Rattle.cweb_lines.proofs.EmittedLinesAddUp.{gives_both}
 use Rattle.cweb_scan.proofs.Scans.{nothing_taken, given_line_taken, grows_to, grows_then, none_blamed, all_within, all_scanned, ends_early, refused}
 use Rattle.cweb_scan.proofs.scanning.take_lines.Invariants.{HasScanned}
 use Rattle.cweb_scan.proofs.scanning.take_lines.Goals as goal

@@ -1,5 +1,4 @@
-use Rattle.cweb_store.proofs.Common.{◌≡◌, ap, ◌∙◌, Some, sym, [], ◌∷◌, ◌++◌, append-nil, option_map, Name, fault_of_name, fault_of_name_if}
-use Rattle.cweb_names.proofs.NameLemmas.{front_at}
+use Rattle.cweb_store.proofs.Common.{◌≡◌, ap, ◌∙◌, Some, sym, [], ◌∷◌, ◌++◌, append-nil, option_map, Name, fault_of_name, fault_of_name_if, front_at}
 use Rattle.cweb_store.proofs.faults.add_fault_if.Goals as goal
 
 pub returns-in_ok-push : goal.returns-in_ok-push

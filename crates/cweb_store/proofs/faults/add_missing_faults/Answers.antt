@@ -1,5 +1,4 @@
-use Rattle.cweb_store.proofs.Common.{◌≡◌, ◌∙◌, ◌&&◌, ◌||◌, not, sym, ap, length, arith, ◌<◌, Some, common_steps, option_map, slice_get, list_any, NotPresent, Name, id, is_id}
-use Rattle.cweb_names.proofs.NameLemmas.{front_at}
+use Rattle.cweb_store.proofs.Common.{◌≡◌, ◌∙◌, ◌&&◌, ◌||◌, not, sym, ap, length, arith, ◌<◌, Some, common_steps, option_map, slice_get, list_any, NotPresent, Name, id, is_id, front_at}
 use Rattle.cweb_store.proofs.FaultLemmas.{faults-step}
 use Rattle.cweb_store.proofs.faults.add_missing_faults.Goals as goal
 

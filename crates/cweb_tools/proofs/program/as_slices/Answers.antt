@@ -1,5 +1,4 @@
-use Rattle.std.proofs.Common.{arith}
-use Rattle.std.proofs.lemmas.Grind.{common_steps}
+use Rattle.cweb_tools.proofs.Common.{arith, common_steps}
 use Rattle.cweb_tools.proofs.program.as_slices.Goals as goal
 
 pub loop-word-init : goal.loop-word-init

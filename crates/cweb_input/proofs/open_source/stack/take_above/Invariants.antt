@@ -1,5 +1,4 @@
-use Rattle.cweb_input.proofs.Common.{◌≡◌, ◌≤◌, List, ℕ, IsTrue}
-use Rattle.cweb_input.specs.surface.Counters.{counters_of}
+use Rattle.cweb_input.proofs.Common.{◌≡◌, ◌≤◌, List, ℕ, IsTrue, counters_of}
 use Rattle.cweb_input.specs.Lines.{Thing}
 use Rattle.cweb_input.specs.surface.ReaderNames.{AreReadersNamed}
 use Rattle.cweb_input.specs.inner.ReaderNames.{KeepsReaderNames}

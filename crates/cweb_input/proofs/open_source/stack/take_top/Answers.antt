@@ -1,6 +1,5 @@
-use Rattle.cweb_input.proofs.Common.{rules, ◌<◌, ◌-◌, length, refl, ◌∙◌, arith, None}
+use Rattle.cweb_input.proofs.Common.{rules, ◌<◌, ◌-◌, length, refl, ◌∙◌, arith, None, counters_of}
 use Rattle.std.proofs.lemmas.List.{set-set}
-use Rattle.cweb_input.specs.surface.Counters.{counters_of}
 use Rattle.cweb_input.specs.inner.OpenSources.{line_number, files_up_to}
 use Rattle.cweb_input.proofs.ReadersStayNamed.{named_at, names_set}
 use Rattle.cweb_input.proofs.SourceStacks.{keeps_stack, most_read, top_taken, top_closed, top_stops, stops_map, stays_below, numbers_below, numbers_set, deep-at}

@@ -1,5 +1,4 @@
-use Rattle.cweb_input.proofs.Common.{rules, ◌+◌, ◌∙◌, ap, Err, bytes_left}
-use Rattle.cweb_input.specs.surface.Counters.{counters_of}
+use Rattle.cweb_input.proofs.Common.{rules, ◌+◌, ◌∙◌, ap, Err, bytes_left, counters_of}
 use Rattle.cweb_input.specs.OpenSources.{read_failures_of}
 use Rattle.cweb_input.proofs.ReadersStayNamed.{blames_line, blames_none}
 use Rattle.cweb_input.proofs.TrimmedLines.{takes_first, line_stops, line_reads, line_names, first_passes}

@@ -1,5 +1,4 @@
-use Rattle.cweb_input.proofs.Common.{◌∙◌, ℕ, List, length, ap, subst, rules, arith, Err, common_steps, bytes_left, TakesRawLine}
-use Rattle.std.specs.Prelude.{Ok}
+use Rattle.cweb_input.proofs.Common.{◌∙◌, ℕ, List, length, ap, subst, rules, arith, Err, common_steps, bytes_left, TakesRawLine, Ok}
 use Rattle.cweb_input.specs.inner.Source.{BlamesReader}
 use Rattle.cweb_input.proofs.TrimmedLines.{trimmed-line, trimmed-length, whole_line-one, whole_line-gains}
 use Rattle.cweb_input.proofs.open_source.take.take_trimmed.Goals as goal

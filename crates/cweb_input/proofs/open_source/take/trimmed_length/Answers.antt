@@ -1,5 +1,4 @@
-use Rattle.cweb_input.proofs.Common.{◌≡◌, ◌+◌, ◌-◌, ◌<◌, length, take, sym, ◌∙◌, ap, subst, arith}
-use Rattle.cweb_input.specs.Lines.{trimmed}
+use Rattle.cweb_input.proofs.Common.{◌≡◌, ◌+◌, ◌-◌, ◌<◌, length, take, sym, ◌∙◌, ap, subst, arith, trimmed}
 use Rattle.cweb_input.proofs.TrimmedLines.{trims_more, trims_all}
 use Rattle.cweb_input.proofs.open_source.take.trimmed_length.Goals as goal
 

@@ -1,5 +1,4 @@
-use Rattle.cweb_input.proofs.Common.{◌≡◌, ◌≤◌, length, take}
-use Rattle.cweb_input.specs.Lines.{trimmed}
+use Rattle.cweb_input.proofs.Common.{◌≡◌, ◌≤◌, length, take, trimmed}
 use Rattle.cweb_input.proofs.open_source.take.trimmed_length.Given as goal
 
 abbrev pub invariant-blanks : goal.invariant-blanks

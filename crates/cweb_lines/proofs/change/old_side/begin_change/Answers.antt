@@ -1,5 +1,4 @@
-use Rattle.cweb_lines.proofs.Common.{ap, opened_file_names, read_failures_of}
-use Rattle.cweb_input.proofs.ReadersStayNamed.{blames_none}
+use Rattle.cweb_lines.proofs.Common.{ap, opened_file_names, read_failures_of, blames_none}
 use Rattle.cweb_lines.proofs.MergeReadersStayNamed.{knows_only}
 use Rattle.cweb_lines.proofs.ReportsOnlyGrow.{told_behind, told_then}
 use Rattle.cweb_lines.proofs.OldSideFaults.{tells_front, ends_more, closes_some}

@@ -1,6 +1,5 @@
-use Rattle.cweb_lines.proofs.Common.{Ok, ◌≡◌, ◌+◌, [], true, false, Vec, Global, ℕ, refl, ap, sym, ◌∙◌, arith, if◌then◌else◌, bytes_eq, opened_file_names, SourceFault}
+use Rattle.cweb_lines.proofs.Common.{Ok, ◌≡◌, ◌+◌, [], true, false, Vec, Global, ℕ, refl, ap, sym, ◌∙◌, arith, if◌then◌else◌, bytes_eq, opened_file_names, SourceFault, over-none}
 use Rattle.cweb_lines.proofs.Compares.{compares_none, compares_some}
-use Rattle.cweb_input.proofs.SourceStacks.{over-none}
 use Rattle.cweb_lines.proofs.change.old_side.compare.Goals as goal
 
 pub returns-in_default-clause-compares : goal.returns-in_default-clause-compares

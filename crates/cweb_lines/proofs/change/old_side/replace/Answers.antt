@@ -1,6 +1,5 @@
-use Rattle.cweb_lines.proofs.Common.{rules, ◌≡◌, [], ℕ, List, Vec, Global, Some, refl, ap, sym, subst, ◌∙◌, IsTrue, change_code, counters_of, Thing, change_lines, so_far_of, opened_file_names, lines_at, things_above, StopsFor, TopStops, read_failures_of}
+use Rattle.cweb_lines.proofs.Common.{rules, ◌≡◌, [], ℕ, List, Vec, Global, Some, refl, ap, sym, subst, ◌∙◌, IsTrue, change_code, counters_of, Thing, change_lines, so_far_of, opened_file_names, lines_at, things_above, StopsFor, TopStops, read_failures_of, blames_none}
 use Rattle.cweb_lines.specs.declared.change.code.Code.TheVariants.{NewSide as new_side}
-use Rattle.cweb_input.proofs.ReadersStayNamed.{blames_none}
 use Rattle.cweb_lines.proofs.MergeReadersStayNamed.{knows_only}
 use Rattle.cweb_lines.proofs.ReportsOnlyGrow.{told_same, told_then, told_took, took_faults, took_names}
 use Rattle.cweb_lines.proofs.NoReadFails.{Quiet, blamed_stop, quiet_same, quiet_set, quiet_tells, quiet_then, quiet_by, readers_after, still_tells}

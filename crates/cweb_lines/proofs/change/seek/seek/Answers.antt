@@ -1,5 +1,4 @@
-use Rattle.cweb_lines.proofs.Common.{rules, ℕ, [], ◌∷◌, ◌++◌, List, Vec, Global, None, refl, ap, sym, subst, ◌∙◌, sought, counters_of, SourceLine, change_lines, so_far_of, opened_file_names, Searched, SeeksTo, ReportsFaultPrefix, lines_at, read_failures_of, SourceFault, Waiting}
-use Rattle.cweb_input.proofs.ReadersStayNamed.{blames_memory, blames_none}
+use Rattle.cweb_lines.proofs.Common.{rules, ℕ, [], ◌∷◌, ◌++◌, List, Vec, Global, None, refl, ap, sym, subst, ◌∙◌, sought, counters_of, SourceLine, change_lines, so_far_of, opened_file_names, Searched, SeeksTo, ReportsFaultPrefix, lines_at, read_failures_of, SourceFault, Waiting, blames_memory, blames_none}
 use Rattle.cweb_lines.proofs.MergeReadersStayNamed.{knows_only, knows_same}
 use Rattle.cweb_input.proofs.Found.{OnOk-both}
 use Rattle.cweb_lines.proofs.ReportsOnlyGrow.{told_behind, told_if, told_then, told_took, took_faults, took_names}

@@ -1,5 +1,4 @@
-use Rattle.cweb_lines.proofs.Common.{◌∷◌, List, length, ap, sym, ◌∙◌, refl, at_place, counters_of, world_in, Event, fault, so_far_of, opened_file_names, floor_of, read_failures_of, NoMatch}
-use Rattle.cweb_input.proofs.ReadersStayNamed.{blames_none}
+use Rattle.cweb_lines.proofs.Common.{◌∷◌, List, length, ap, sym, ◌∙◌, refl, at_place, counters_of, world_in, Event, fault, so_far_of, opened_file_names, floor_of, read_failures_of, NoMatch, blames_none}
 use Rattle.cweb_lines.proofs.MergeReadersStayNamed.{knows_only}
 use Rattle.cweb_lines.proofs.ReportsOnlyGrow.{told_behind, told_same}
 use Rattle.cweb_lines.proofs.Merges.{gives_fault}

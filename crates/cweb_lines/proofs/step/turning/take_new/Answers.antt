@@ -1,5 +1,4 @@
-use Rattle.cweb_lines.proofs.Common.{Some, ap, sym, subst, ◌∙◌, IsTrue, change_code, counters_of, Stopped, change_lines, so_far_of, read_failures_of, opened_file_names}
-use Rattle.cweb_input.proofs.ReadersStayNamed.{blames_memory, blames_none}
+use Rattle.cweb_lines.proofs.Common.{Some, ap, sym, subst, ◌∙◌, IsTrue, change_code, counters_of, Stopped, change_lines, so_far_of, read_failures_of, opened_file_names, blames_memory, blames_none}
 use Rattle.cweb_lines.proofs.MergeReadersStayNamed.{knows_only}
 use Rattle.cweb_lines.proofs.ReportsOnlyGrow.{told_behind, told_same, told_then, told_took, took_faults, took_names}
 use Rattle.cweb_input.proofs.Found.{IfOk-map}

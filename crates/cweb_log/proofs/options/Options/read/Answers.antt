@@ -1,5 +1,4 @@
-use Rattle.cweb_log.proofs.Common.{◌≡◌, sym, ◌∙◌, ap, map, option_copied, TangleNames, named_by, options_by}
-use Rattle.std.specs.Option.{option_map}
+use Rattle.cweb_log.proofs.Common.{◌≡◌, sym, ◌∙◌, ap, map, option_copied, TangleNames, named_by, options_by, option_map}
 use Rattle.cweb_log.proofs.RequestedOptions.{asks, copied_none, ok_from, usage_from}
 use Rattle.cweb_log.proofs.options.Options.read.Goals as goal
 

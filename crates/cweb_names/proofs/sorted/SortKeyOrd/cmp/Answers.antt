@@ -1,5 +1,4 @@
-use Rattle.cweb_names.proofs.Common.{◌≡◌, sym, ◌∙◌, slice_cmp, sort_prefix_of}
-use Rattle.std.proofs.Common.{nat_cmp}
+use Rattle.cweb_names.proofs.Common.{◌≡◌, sym, ◌∙◌, slice_cmp, sort_prefix_of, nat_cmp}
 use Rattle.cweb_names.proofs.SortPrefixLemmas.{fronts-tell}
 use Rattle.cweb_names.proofs.sorted.SortKeyOrd.cmp.Goals as goal
 

@@ -1,5 +1,4 @@
-use Rattle.std.proofs.Common.{slice_range}
-use Rattle.cweb_out.proofs.Common.{all_tokens}
+use Rattle.cweb_out.proofs.Common.{all_tokens, slice_range}
 use Rattle.cweb_out.proofs.PrintedPrefixes.{front_none}
 use Rattle.cweb_out.proofs.Suffixes.{suffix-passed}
 use Rattle.cweb_out.proofs.frame.Frame.append_part.Goals as goal

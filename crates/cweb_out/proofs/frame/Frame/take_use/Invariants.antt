@@ -1,5 +1,4 @@
-use Rattle.cweb_out.proofs.Common.{◌≡◌, length, false, suffix, FrameIsWithin}
-use Rattle.cweb_out.specs.inner.Uses.{PassesNoUse}
+use Rattle.cweb_out.proofs.Common.{◌≡◌, length, false, suffix, FrameIsWithin, PassesNoUse}
 use Rattle.cweb_out.proofs.frame.Frame.take_use.Given as goal
 
 abbrev pub invariant-parts : goal.invariant-parts

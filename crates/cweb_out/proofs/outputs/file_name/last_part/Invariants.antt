@@ -1,5 +1,4 @@
-use Rattle.cweb_out.proofs.Common.{◌≡◌, ◌≤◌, ◌<◌, ◌-◌, ℕ, get_or, true, false}
-use Rattle.cweb_out.specs.Outputs.{is_slash}
+use Rattle.cweb_out.proofs.Common.{◌≡◌, ◌≤◌, ◌<◌, ◌-◌, ℕ, get_or, true, false, is_slash}
 use Rattle.cweb_out.proofs.outputs.file_name.last_part.Given as goal
 
 abbrev pub invariant-bytes : goal.invariant-bytes

@@ -1,5 +1,4 @@
-use Rattle.cweb_out.proofs.Common.{◌≡◌, ◌∷◌, ◌∙◌, ap, arith, length, Some, None, map, List, filter, NameId, Stored, has_part, outputs}
-use Rattle.std.proofs.lemmas.Grind.{common_steps}
+use Rattle.cweb_out.proofs.Common.{◌≡◌, ◌∷◌, ◌∙◌, ap, arith, length, Some, None, map, List, filter, NameId, Stored, has_part, outputs, common_steps}
 use Rattle.std.proofs.lemmas.List.{take_all}
 use Rattle.cweb_names.specs.Names as spec
 use Rattle.cweb_out.proofs.FileNames.{outputs-few}

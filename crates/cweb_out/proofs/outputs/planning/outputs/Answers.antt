@@ -1,6 +1,4 @@
-use Rattle.cweb_out.proofs.Common.{refl, None, arith}
-use Rattle.std.proofs.lemmas.Grind.{common_steps}
-use Rattle.cweb_out.specs.inner.Planning.{is_bad}
+use Rattle.cweb_out.proofs.Common.{refl, None, arith, common_steps, is_bad}
 use Rattle.cweb_out.proofs.Finds.{find-more}
 use Rattle.cweb_out.proofs.PlanLemmas.{names-err, names-more}
 use Rattle.cweb_out.proofs.outputs.planning.outputs.Goals as goal

@@ -1,5 +1,4 @@
-use Rattle.cweb_out.proofs.Common.{◌≡◌, None, take, map, find, output_of}
-use Rattle.cweb_out.specs.inner.Planning.{is_bad}
+use Rattle.cweb_out.proofs.Common.{◌≡◌, None, take, map, find, output_of, is_bad}
 use Rattle.cweb_out.specs.inner.Plans.{output_in}
 use Rattle.cweb_out.proofs.outputs.planning.outputs.Given as goal
 

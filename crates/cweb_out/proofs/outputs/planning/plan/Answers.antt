@@ -1,5 +1,4 @@
-use Rattle.cweb_out.proofs.Common.{rules, arith}
-use Rattle.std.proofs.lemmas.Grind.{common_steps}
+use Rattle.cweb_out.proofs.Common.{rules, arith, common_steps}
 use Rattle.cweb_out.proofs.outputs.planning.plan.Goals as goal
 
 pub returns-in-Some : goal.returns-in-Some

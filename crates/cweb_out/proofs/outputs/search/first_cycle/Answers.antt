@@ -1,6 +1,4 @@
-use Rattle.cweb_out.proofs.Common.{ap, refl, not, arith}
-use Rattle.std.proofs.lemmas.Grind.{common_steps}
-use Rattle.cweb_out.specs.inner.Planning.{is_endless}
+use Rattle.cweb_out.proofs.Common.{ap, refl, not, arith, common_steps, is_endless}
 use Rattle.cweb_out.proofs.Finds.{find-more}
 use Rattle.cweb_out.proofs.PlanLemmas.{cycle-found}
 use Rattle.cweb_out.proofs.outputs.search.first_cycle.Goals as goal

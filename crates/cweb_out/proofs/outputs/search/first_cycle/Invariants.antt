@@ -1,6 +1,4 @@
-use Rattle.cweb_out.proofs.Common.{◌≡◌, None, [], take, find}
-use Rattle.cweb_out.specs.inner.Search.{MarksFitPath}
-use Rattle.cweb_out.specs.inner.Planning.{is_endless}
+use Rattle.cweb_out.proofs.Common.{◌≡◌, None, [], take, find, MarksFitPath, is_endless}
 use Rattle.cweb_out.proofs.outputs.search.first_cycle.Given as goal
 
 abbrev pub invariant-roots : goal.invariant-roots

@@ -1,6 +1,4 @@
-use Rattle.cweb_out.proofs.Common.{rules, ◌≡◌, ◌∙◌, ap, sym, arith, true, false, ◌&&◌, refl, option_to_list, list_all, Name, suffix}
-use Rattle.std.proofs.lemmas.Grind.{common_steps}
-use Rattle.cweb_out.specs.inner.Search.{is_marked}
+use Rattle.cweb_out.proofs.Common.{rules, ◌≡◌, ◌∙◌, ap, sym, arith, true, false, ◌&&◌, refl, option_to_list, list_all, Name, suffix, common_steps, is_marked}
 use Rattle.cweb_out.proofs.FirstUses.{none-used, use-shorter}
 use Rattle.cweb_out.proofs.ScannedUses.{passes-on, passes-more, passes-all, meets}
 use Rattle.cweb_out.proofs.outputs.search.next_unranked.Goals as goal

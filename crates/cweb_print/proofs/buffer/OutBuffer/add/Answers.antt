@@ -1,5 +1,4 @@
-use Rattle.cweb_print.proofs.Common.{◌≤◌, ◌++◌, ◌∙◌, ap, arith, length, take, List, ℕ}
-use Rattle.std.proofs.lemmas.List.{length-take-le}
+use Rattle.cweb_print.proofs.Common.{◌≤◌, ◌++◌, ◌∙◌, ap, arith, length, take, List, ℕ, length-take-le}
 use Rattle.cweb_print.proofs.OverlappingEnds.{whole_again}
 use Rattle.cweb_print.proofs.buffer.OutBuffer.add.Goals as goal
 

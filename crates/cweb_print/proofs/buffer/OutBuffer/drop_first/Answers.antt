@@ -1,5 +1,4 @@
-use Rattle.cweb_print.proofs.Common.{◌≤◌, ◌-◌, ◌++◌, ◌∙◌, ap, drop, take, length, arith, List, ℕ}
-use Rattle.std.proofs.lemmas.List.{length-take-le}
+use Rattle.cweb_print.proofs.Common.{◌≤◌, ◌-◌, ◌++◌, ◌∙◌, ap, drop, take, length, arith, List, ℕ, length-take-le}
 use Rattle.cweb_print.proofs.OverlappingEnds.{rest_in_front, whole_again}
 use Rattle.cweb_print.proofs.buffer.OutBuffer.drop_first.Goals as goal
 

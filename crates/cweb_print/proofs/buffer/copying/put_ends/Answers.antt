@@ -1,5 +1,4 @@
-use Rattle.cweb_print.proofs.Common.{◌≡◌, ◌+◌, ◌-◌, ◌++◌, ◌∙◌, ap, length, take, drop, arith, sym, List, ℕ}
-use Rattle.std.proofs.lemmas.List.{length-take-le}
+use Rattle.cweb_print.proofs.Common.{◌≡◌, ◌+◌, ◌-◌, ◌++◌, ◌∙◌, ap, length, take, drop, arith, sym, List, ℕ, length-take-le}
 use Rattle.cweb_print.proofs.OverlappingEnds.{overlapped, taken_twice}
 use Rattle.cweb_print.proofs.buffer.copying.put_ends.Goals as goal
 

@@ -1,6 +1,4 @@
-use Rattle.cweb_rules.proofs.InLines.{IsLine-drop}
-use Rattle.cweb_scan.proofs.Common.{ℕ, ◌+◌, List, length, ap, sym, ◌∙◌, subst, eqb-true, IsLine, ReaderModel, awaits_line_end, item_of}
-use Rattle.cweb_scan.specs.inner.PendingRest.{is_pending}
+use Rattle.cweb_scan.proofs.Common.{ℕ, ◌+◌, List, length, ap, sym, ◌∙◌, subst, eqb-true, IsLine, ReaderModel, awaits_line_end, item_of, IsLine-drop, is_pending}
 use Rattle.cweb_scan.specs.declared.reader.open.Open.{Open}
 use Rattle.cweb_scan.proofs.LineSteps.{between_turn, open_turn, kept_open}
 use Rattle.cweb_scan.proofs.PlainLexemes.{piece_within}

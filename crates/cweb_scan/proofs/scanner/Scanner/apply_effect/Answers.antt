@@ -1,5 +1,4 @@
-use Rattle.cweb_scan.proofs.Common.{sym, subst}
-use Rattle.cweb_scan.specs.inner.Room.{HasPartRoom}
+use Rattle.cweb_scan.proofs.Common.{sym, subst, HasPartRoom}
 use Rattle.cweb_scan.proofs.Rooms.{end_macro_room}
 use Rattle.cweb_scan.proofs.scanner.Scanner.apply_effect.Goals as goal
 

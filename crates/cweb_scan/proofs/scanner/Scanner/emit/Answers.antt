@@ -1,9 +1,4 @@
-use Rattle.cweb_scan.proofs.Common.{◌≡◌, true, sym, ap, ◌∙◌, subst, if◌then◌else◌, is_layout, in_open_part, ScanState}
-use Rattle.cweb_store.specs.Calls.{Contents}
-use Rattle.cweb_store.specs.surface.TokenModels.{token_model}
-use Rattle.cweb_scan.specs.inner.DirectiveInvariant.{IsTied}
-use Rattle.cweb_scan.specs.inner.Stages.{after_token}
-use Rattle.cweb_scan.specs.declared.directive.Directive.{Directive}
+use Rattle.cweb_scan.proofs.Common.{◌≡◌, true, sym, ap, ◌∙◌, subst, if◌then◌else◌, is_layout, in_open_part, ScanState, Contents, token_model, IsTied, after_token, Directive}
 use Rattle.cweb_scan.proofs.TiedSteps.{tied_given}
 use Rattle.cweb_scan.proofs.scanner.Scanner.emit.Goals as goal
 

@@ -1,11 +1,5 @@
-use Rattle.cweb_scan.proofs.Common.{◌≡◌, sym, ap, subst, CText, directive, is_c, in_open_part, ScanState}
-use Rattle.cweb_store.specs.Calls.{Contents}
-use Rattle.cweb_store.specs.surface.TokenModels.{token_model}
-use Rattle.cweb_scan.specs.inner.Stages.{stage_of}
-use Rattle.cweb_scan.specs.inner.DirectiveInvariant.{IsTied}
-use Rattle.cweb_scan.specs.declared.directive.Directive.{Directive}
+use Rattle.cweb_scan.proofs.Common.{◌≡◌, sym, ap, subst, CText, directive, is_c, in_open_part, ScanState, Contents, token_model, stage_of, IsTied, Directive, Further}
 use Rattle.cweb_scan.specs.declared.directive.Last.TheVariants.{Other}
-use Rattle.cweb_scan.specs.declared.directive.Stage.TheVariants.{Further}
 use Rattle.cweb_scan.proofs.DirectiveBodies.{text_in_c, text_stage, tied_text}
 use Rattle.cweb_scan.proofs.scanner.Scanner.emit_in_directive.Goals as goal
 

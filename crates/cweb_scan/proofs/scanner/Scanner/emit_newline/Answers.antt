@@ -1,7 +1,4 @@
-use Rattle.cweb_scan.proofs.Common.{sym, ap, subst, is_c, in_open_part}
-use Rattle.cweb_store.specs.Calls.{Contents}
-use Rattle.cweb_scan.specs.inner.DirectiveInvariant.{IsTied}
-use Rattle.cweb_scan.specs.inner.Plain.{IsPlainC}
+use Rattle.cweb_scan.proofs.Common.{sym, ap, subst, is_c, in_open_part, Contents, IsTied, IsPlainC}
 use Rattle.cweb_scan.specs.declared.directive.Last.TheVariants.{LineEnd}
 use Rattle.cweb_scan.proofs.Plains.{none_open, tied_newline}
 use Rattle.cweb_scan.proofs.scanner.Scanner.emit_newline.Goals as goal

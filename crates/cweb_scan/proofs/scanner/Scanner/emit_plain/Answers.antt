@@ -1,10 +1,5 @@
-use Rattle.cweb_scan.proofs.Common.{sym, ap, subst, is_c, in_open_part}
-use Rattle.cweb_store.specs.Calls.{Contents}
-use Rattle.cweb_store.specs.surface.TokenModels.{token_model}
+use Rattle.cweb_scan.proofs.Common.{sym, ap, subst, is_c, in_open_part, Contents, token_model, IsTied, IsPlainC, Directive}
 use Rattle.cweb_scan.specs.inner.Stages.{new_directive}
-use Rattle.cweb_scan.specs.inner.DirectiveInvariant.{IsTied}
-use Rattle.cweb_scan.specs.inner.Plain.{IsPlainC}
-use Rattle.cweb_scan.specs.declared.directive.Directive.{Directive}
 use Rattle.cweb_scan.proofs.Plains.{none_open, tied_plain}
 use Rattle.cweb_scan.proofs.scanner.Scanner.emit_plain.Goals as goal
 

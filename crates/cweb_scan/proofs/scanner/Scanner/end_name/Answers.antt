@@ -1,5 +1,4 @@
-use Rattle.cweb_scan.proofs.Common.{sym, ap, ◌∙◌, subst, report_name_fault, name_occurrence}
-use Rattle.cweb_scan.specs.inner.Room.{HasPartRoom}
+use Rattle.cweb_scan.proofs.Common.{sym, ap, ◌∙◌, subst, report_name_fault, name_occurrence, HasPartRoom}
 use Rattle.cweb_scan.proofs.Rooms.{end_macro_room, name_room}
 use Rattle.cweb_scan.proofs.scanner.Scanner.end_name.Goals as goal
 

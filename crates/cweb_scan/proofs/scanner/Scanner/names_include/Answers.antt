@@ -1,7 +1,4 @@
-use Rattle.cweb_scan.proofs.Common.{◌≡◌, true, sym, ap, ◌∙◌, subst, is_c, names_include, ScanState, tokens_of}
-use Rattle.cweb_scan.specs.DirectiveTokens.{directive_of}
-use Rattle.cweb_scan.specs.inner.Stages.{is_include_stage}
-use Rattle.cweb_scan.specs.declared.directive.Directive.{Directive}
+use Rattle.cweb_scan.proofs.Common.{◌≡◌, true, sym, ap, ◌∙◌, subst, is_c, names_include, ScanState, tokens_of, directive_of, is_include_stage, Directive}
 use Rattle.cweb_scan.proofs.Steps.{include-seen}
 use Rattle.cweb_scan.proofs.scanner.Scanner.names_include.Goals as goal
 

@@ -1,12 +1,10 @@
-use Rattle.cweb_scan.proofs.Common.{◌&&◌, List, ℕ, false, arith, sym, ap, ◌∙◌, subst, Number, Punct, Word, is_c, names_include, TakesPlain, emit}
-use Rattle.cweb_scan.specs.inner.Plain.{IsPlainToken}
+use Rattle.cweb_scan.proofs.Common.{◌&&◌, List, ℕ, false, arith, sym, ap, ◌∙◌, subst, Number, Punct, Word, is_c, names_include, TakesPlain, emit, IsPlainToken, punctuator_fits}
 use Rattle.cweb_rules.specs.declared.rule.Rule.TheVariants as rule
 use Rattle.cweb_rules.specs.declared.firsts.Plain.TheVariants as plain
 use Rattle.cweb_scan.proofs.DirectiveBodies.{text_blanks, text_in_c, text_rule, text_sign}
 use Rattle.cweb_scan.proofs.Furthers.{numeral_turn, operator_token}
 use Rattle.cweb_scan.proofs.PlainFirsts.{told_at}
 use Rattle.cweb_scan.proofs.Plains.{word_turn}
-use Rattle.cweb_rules.proofs.Walks.{punctuator_fits}
 use Rattle.cweb_scan.proofs.scanner.Scanner.take_directive_lexeme.Goals as goal
 
 pub split_at-requires-in-Operator : goal.split_at-requires-in-Operator

@@ -1,5 +1,4 @@
-use Rattle.cweb_scan.proofs.Common.{◌&&◌, List, ℕ, false, take, sym, ap, ◌∙◌, subst, arith, common_steps, Word, Punct, is_c, names_include, ScanState, emit}
-use Rattle.cweb_scan.specs.inner.Plain.{IsPlainC}
+use Rattle.cweb_scan.proofs.Common.{◌&&◌, List, ℕ, false, take, sym, ap, ◌∙◌, subst, arith, common_steps, Word, Punct, is_c, names_include, ScanState, emit, IsPlainC}
 use Rattle.cweb_rules.specs.declared.firsts.Plain.TheVariants as plain
 use Rattle.cweb_scan.proofs.PlainFirsts.{told_at}
 use Rattle.cweb_scan.proofs.Plains.{stays_plain, blanks_turn, word_turn, sign_turn}

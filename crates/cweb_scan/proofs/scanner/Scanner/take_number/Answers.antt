@@ -1,5 +1,4 @@
-use Rattle.cweb_scan.proofs.Common.{List, ℕ, ap, ◌∙◌, refl, subst, sym, Number, emit}
-use Rattle.cweb_scan.specs.inner.Plain.{IsPlainC}
+use Rattle.cweb_scan.proofs.Common.{List, ℕ, ap, ◌∙◌, refl, subst, sym, Number, emit, IsPlainC}
 use Rattle.cweb_scan.proofs.Plains.{stays_plain}
 use Rattle.cweb_scan.proofs.Furthers.{number_turn}
 use Rattle.cweb_scan.proofs.scanner.Scanner.take_number.Goals as goal

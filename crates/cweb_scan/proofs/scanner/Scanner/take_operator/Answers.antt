@@ -1,8 +1,6 @@
-use Rattle.cweb_scan.proofs.Common.{List, ℕ, false, take, arith, sym, ap, ◌∙◌, subst, Punct, ScanState, emit}
-use Rattle.cweb_scan.specs.inner.Plain.{IsPlainC, IsPlainToken}
+use Rattle.cweb_scan.proofs.Common.{List, ℕ, false, take, arith, sym, ap, ◌∙◌, subst, Punct, ScanState, emit, IsPlainC, IsPlainToken, punctuator_fits}
 use Rattle.cweb_scan.proofs.Furthers.{operator_token, operator_turn}
 use Rattle.cweb_scan.proofs.Plains.{stays_plain}
-use Rattle.cweb_rules.proofs.Walks.{punctuator_fits}
 use Rattle.cweb_scan.proofs.scanner.Scanner.take_operator.Goals as goal
 
 pub split_at-requires : goal.split_at-requires

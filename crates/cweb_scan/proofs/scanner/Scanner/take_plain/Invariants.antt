@@ -1,5 +1,4 @@
-use Rattle.cweb_scan.proofs.Common.{length}
-use Rattle.cweb_scan.specs.inner.Plain.{IsPlainC}
+use Rattle.cweb_scan.proofs.Common.{length, IsPlainC}
 use Rattle.cweb_scan.proofs.PlainLexemes.{TakesSome}
 use Rattle.cweb_scan.proofs.scanner.Scanner.take_plain.Given as goal
 

@@ -1,5 +1,4 @@
-use Rattle.cweb_scan.proofs.Common.{arith}
-use Rattle.cweb_rules.proofs.Walks.{punctuator_fits}
+use Rattle.cweb_scan.proofs.Common.{arith, punctuator_fits}
 use Rattle.cweb_scan.proofs.scanner.Scanner.take_rule.Goals as goal
 
 pub split_at-requires-in_default : goal.split_at-requires-in_default

@@ -1,5 +1,4 @@
-use Rattle.cweb_scan.proofs.Common.{List, ℕ, ◌++◌, ap, ◌∙◌, reach, unescaped, End, Cut, Open, emit_verbatim, ended_as}
-use Rattle.cweb_rules.specs.Items.{look_in_control}
+use Rattle.cweb_scan.proofs.Common.{List, ℕ, ◌++◌, ap, ◌∙◌, reach, unescaped, End, Cut, Open, emit_verbatim, ended_as, look_in_control}
 use Rattle.cweb_scan.proofs.VerbatimAndIncludes.{verbatim_gives}
 use Rattle.cweb_scan.proofs.scanner.Scanner.take_verbatim.Goals as goal
 

@@ -1,8 +1,5 @@
 use Rattle.cweb_rules.specs.declared.rule.Rule.TheVariants as rule
-use Rattle.cweb_rules.proofs.InLines.{IsLine-drop}
-use Rattle.cweb_scan.proofs.Common.{◌≡◌, ◌+◌, List, ℕ, false, length, drop, arith, refl, sym, ap, ◌∙◌, subst, length-drop, Literal, reach, literal_prefix, quote_of, look_in_literal, IsLine, reached, Closed, Open, Reached, emit}
-use Rattle.cweb_scan.specs.inner.Plain.{IsPlainC}
-use Rattle.cweb_rules.proofs.LineLiterals.{is_quoted-size}
+use Rattle.cweb_scan.proofs.Common.{◌≡◌, ◌+◌, List, ℕ, false, length, drop, arith, refl, sym, ap, ◌∙◌, subst, length-drop, Literal, reach, literal_prefix, quote_of, look_in_literal, IsLine, reached, Closed, Open, Reached, emit, IsLine-drop, IsPlainC, is_quoted-size}
 use Rattle.cweb_scan.proofs.FurtherLiterals.{HasNone, literal_reach, literal_turn, none_stands}
 use Rattle.cweb_scan.proofs.Plains.{stays_plain}
 use Rattle.cweb_scan.proofs.FirstMatchTaken.{seen}

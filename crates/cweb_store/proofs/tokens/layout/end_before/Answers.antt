@@ -1,7 +1,4 @@
-use Rattle.cweb_store.proofs.Common.{◌≡◌, suc, ◌-◌, true, false, take, sym, ◌∙◌, ap, arith, filter, if◌then◌else◌, without_last_after}
-use Rattle.cweb_store.specs.inner.Trailing.{is_trailing}
-use Rattle.cweb_store.specs.surface.TokenModels.{token_model}
-use Rattle.cweb_store.specs.inner.TokenStrings.{has_string}
+use Rattle.cweb_store.proofs.Common.{◌≡◌, suc, ◌-◌, true, false, take, sym, ◌∙◌, ap, arith, filter, if◌then◌else◌, without_last_after, is_trailing, token_model, has_string}
 use Rattle.cweb_store.proofs.LayoutLemmas.{trim-next}
 use Rattle.cweb_store.proofs.LayoutStringLemmas.{trimmed-strings}
 use Rattle.cweb_store.proofs.tokens.layout.end_before.Goals as goal

@@ -1,5 +1,4 @@
-use Rattle.cweb_store.proofs.Common.{◌≡◌, ◌≤◌, ℕ, length, take, without_last_after}
-use Rattle.cweb_store.specs.inner.Trailing.{is_trailing}
+use Rattle.cweb_store.proofs.Common.{◌≡◌, ◌≤◌, ℕ, length, take, without_last_after, is_trailing}
 use Rattle.cweb_store.proofs.tokens.layout.end_before.Given as goal
 
 abbrev pub invariant-loop-end : goal.invariant-loop-end

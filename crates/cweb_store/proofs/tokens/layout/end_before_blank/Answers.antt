@@ -1,6 +1,4 @@
-use Rattle.cweb_store.proofs.Common.{◌≡◌, suc, ◌-◌, take, drop, sym, ◌∙◌, ap, arith, filter, without_blank}
-use Rattle.cweb_store.specs.surface.TokenModels.{token_model}
-use Rattle.cweb_store.specs.inner.TokenStrings.{has_string}
+use Rattle.cweb_store.proofs.Common.{◌≡◌, suc, ◌-◌, take, drop, sym, ◌∙◌, ap, arith, filter, without_blank, token_model, has_string}
 use Rattle.cweb_store.proofs.LayoutStringLemmas.{blank-strings}
 use Rattle.cweb_store.proofs.LayoutLemmas.{blank-dropped, blank-none, drop-all}
 use Rattle.cweb_store.proofs.tokens.layout.end_before_blank.Goals as goal

@@ -1,5 +1,4 @@
-use Rattle.cweb_store.proofs.Common.{ℕ, drop}
-use Rattle.cweb_store.specs.inner.Records.{AreNumbered}
+use Rattle.cweb_store.proofs.Common.{ℕ, drop, AreNumbered}
 use Rattle.cweb_store.proofs.tokens.records.first_place.Given as goal
 
 abbrev pub invariant-loop-item : goal.invariant-loop-item

@@ -1,17 +1,12 @@
-use Rattle.cweb_store.proofs.Common.{◌≡◌, ◌<◌, ℕ, List, [], ◌∷◌, ap, arith, filter, length, refl, rules, common_steps}
+use Rattle.cweb_store.proofs.Common.{◌≡◌, ◌<◌, ℕ, List, [], ◌∷◌, ap, arith, filter, length, refl, rules, common_steps, InternsToken, StringIsWithin, token_of_interned, InternedToken, has_string, string_at, get-string}
 use Rattle.cweb_store.specs.inner.Records.{place_at}
-use Rattle.cweb_store.specs.inner.InternedTokens.{InternsToken, StringIsWithin, token_of_interned}
-use Rattle.cweb_store.specs.declared.tokens.interned.InternedToken.{InternedToken}
 use Rattle.cweb_store.specs.declared.tokens.interned.InternedToken.TheVariants.{Number, Literal, Verbatim}
 use Rattle.cweb_texts.specs.inner.StringTables.{StringTableModel, AddsString, InternsWord}
 use Rattle.cweb_texts.specs.surface.StringTables.{with_word}
-use Rattle.cweb_store.specs.inner.TokenStrings.{has_string}
 use Rattle.cweb_store.specs.surface.TokenStrings.{other_bytes, with_word_of}
 use Rattle.std.proofs.lemmas.Option.{slice_get_within}
-use Rattle.cweb_texts.specs.inner.StringLists.{string_at}
 use Rattle.cweb_store.specs.Parts as spec
 use Rattle.cweb_store.specs.declared.tokens.interned.InternedToken.TheVariants as packed
-use Rattle.cweb_texts.proofs.StringListLemmas.{get-string}
 use Rattle.cweb_store.proofs.tokens.records.record_of.Goals as goal
 
 -- A stored string, and the record with its index.

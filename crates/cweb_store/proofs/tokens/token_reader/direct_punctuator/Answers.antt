@@ -1,7 +1,5 @@
-use Rattle.cweb_store.proofs.Common.{rules, ◌≡◌, true}
-use Rattle.cweb_texts.specs.inner.Edges.{is_known_edge}
+use Rattle.cweb_store.proofs.Common.{rules, ◌≡◌, true, is_known_edge, get-string}
 use Rattle.cweb_store.proofs.DirectBytesLemmas.{sign-lends}
-use Rattle.cweb_texts.proofs.StringListLemmas.{get-string}
 use Rattle.cweb_store.proofs.tokens.token_reader.direct_punctuator.Goals as goal
 
 pub returns-in_default : goal.returns-in_default

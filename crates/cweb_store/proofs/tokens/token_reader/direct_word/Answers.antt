@@ -1,7 +1,5 @@
-use Rattle.cweb_store.proofs.Common.{rules, ◌≡◌, ◌∙◌, sym, refl, true}
-use Rattle.cweb_texts.specs.inner.Edges.{is_known_edge}
+use Rattle.cweb_store.proofs.Common.{rules, ◌≡◌, ◌∙◌, sym, refl, true, is_known_edge, get-string}
 use Rattle.cweb_store.proofs.DirectBytesLemmas.{word-lends}
-use Rattle.cweb_texts.proofs.StringListLemmas.{get-string}
 use Rattle.cweb_store.proofs.tokens.token_reader.direct_word.Goals as goal
 use Rattle.cweb_store.proofs.tokens.token_reader.direct_word.Goals.{in_default-via-in-Unknown+else-has_high_byte, in_default-via-in_default}
 

@@ -1,5 +1,4 @@
-use Rattle.cweb_texts.proofs.Common.{◌≡◌, Some, None, ℕ, List, Vec, false, sym, subst, ◌∙◌, ap, list_any, lookup, is_eq, nat_cmp, slice_cmp, Global, Slot, SlotsDescribeStrings, FindsWordString, slot_has_word, probe_window, has_word}
-use Rattle.cweb_texts.specs.inner.Keys.{key_of}
+use Rattle.cweb_texts.proofs.Common.{◌≡◌, Some, None, ℕ, List, Vec, false, sym, subst, ◌∙◌, ap, list_any, lookup, is_eq, nat_cmp, slice_cmp, Global, Slot, SlotsDescribeStrings, FindsWordString, slot_has_word, probe_window, has_word, key_of}
 use Rattle.cweb_texts.proofs.SlotLemmas.{window-hold}
 use Rattle.cweb_texts.proofs.InterningLemmas.{slot-known, word-known, not-kept}
 use Rattle.cweb_texts.proofs.words.WordInterner.intern_uncached.Goals as goal

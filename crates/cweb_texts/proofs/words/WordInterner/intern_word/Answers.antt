@@ -1,5 +1,4 @@
-use Rattle.cweb_texts.proofs.Common.{List, sym, subst, ap, Slot, SlotsDescribeStrings, FindsWordString, probe_window}
-use Rattle.cweb_texts.specs.inner.Keys.{key_of}
+use Rattle.cweb_texts.proofs.Common.{List, sym, subst, ap, Slot, SlotsDescribeStrings, FindsWordString, probe_window, key_of}
 use Rattle.cweb_texts.proofs.InterningLemmas.{slot-known}
 use Rattle.cweb_texts.proofs.words.WordInterner.intern_word.Goals as goal
 

@@ -1,5 +1,4 @@
-use Rattle.cweb_texts.proofs.Common.{◌≡◌, Some, length, slice_get, sym, subst, ◌∙◌, ap, ltb-true, rules, slice_get-get_or, FindsWordString, probe_window}
-use Rattle.cweb_texts.specs.inner.Keys.{home_bucket_of}
+use Rattle.cweb_texts.proofs.Common.{◌≡◌, Some, length, slice_get, sym, subst, ◌∙◌, ap, ltb-true, rules, slice_get-get_or, FindsWordString, probe_window, home_bucket_of}
 use Rattle.cweb_texts.proofs.SlotLemmas.{found-slot, home_bucket-slot, window-hold}
 use Rattle.cweb_texts.proofs.words.slot.first_slot.Goals as goal
 

@@ -1,5 +1,4 @@
-use Rattle.cweb_texts.proofs.Common.{◌≡◌, ◌+◌, ◌<◌, length, refl, sym, ◌∙◌, ap, arith, slice_get, slice_get_within, probe_window}
-use Rattle.cweb_texts.specs.inner.Keys.{home_bucket_of}
+use Rattle.cweb_texts.proofs.Common.{◌≡◌, ◌+◌, ◌<◌, length, refl, sym, ◌∙◌, ap, arith, slice_get, slice_get_within, probe_window, home_bucket_of}
 use Rattle.cweb_texts.proofs.SlotLemmas.{window-slot}
 use Rattle.cweb_texts.proofs.words.slot.place.Goals as goal
 

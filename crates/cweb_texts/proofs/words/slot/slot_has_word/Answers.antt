@@ -1,5 +1,4 @@
-use Rattle.cweb_texts.proofs.Common.{◌≡◌, ◌&&◌, false, length, sym, ◌∙◌, ap, arith, bytes_eq, bytes_decides, slot_matches_key, slot_string, slice_get_within}
-use Rattle.cweb_texts.specs.inner.Keys.{key_of}
+use Rattle.cweb_texts.proofs.Common.{◌≡◌, ◌&&◌, false, length, sym, ◌∙◌, ap, arith, bytes_eq, bytes_decides, slot_matches_key, slot_string, slice_get_within, key_of}
 use Rattle.cweb_texts.proofs.StringListLemmas.{get-string}
 use Rattle.cweb_texts.proofs.KeyLemmas.{key-tells}
 use Rattle.cweb_texts.proofs.SlotLemmas.{alike-in, hold-string, slot-alike}

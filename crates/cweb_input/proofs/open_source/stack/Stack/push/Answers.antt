@@ -1,5 +1,4 @@
-use Rattle.cweb_input.proofs.Common.{◌<◌, ◌≡◌, ◌+◌, Some, length, refl, arith}
-use Rattle.std.proofs.Common.{set}
+use Rattle.cweb_input.proofs.Common.{◌<◌, ◌≡◌, ◌+◌, Some, length, refl, arith, set}
 use Rattle.cweb_input.proofs.SourceStacks.{pushed, stays_below, deep-set}
 use Rattle.cweb_input.proofs.open_source.stack.Stack.push.Goals as goal
 

@@ -1,6 +1,4 @@
-use Rattle.cweb_out.proofs.Common.{rules, ◌∙◌, ap, sym, List, get_or, arith}
-use Rattle.std.proofs.lemmas.Grind.{common_steps}
-use Rattle.cweb_out.specs.declared.outputs.search.Waiting.{Waiting}
+use Rattle.cweb_out.proofs.Common.{rules, ◌∙◌, ap, sym, List, get_or, arith, common_steps, Waiting}
 use Rattle.cweb_out.specs.inner.Search.{cycle_with_next}
 use Rattle.cweb_out.proofs.Walks.{from-more}
 use Rattle.cweb_out.proofs.outputs.search.Search.back_to.Goals as goal

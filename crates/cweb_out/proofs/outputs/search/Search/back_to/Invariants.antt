@@ -1,5 +1,4 @@
-use Rattle.cweb_out.proofs.Common.{◌≡◌, take}
-use Rattle.cweb_out.specs.inner.Search.{path_of}
+use Rattle.cweb_out.proofs.Common.{◌≡◌, take, path_of}
 use Rattle.cweb_out.proofs.Walks.{from_first}
 use Rattle.cweb_out.proofs.outputs.search.Search.back_to.Given as goal
 

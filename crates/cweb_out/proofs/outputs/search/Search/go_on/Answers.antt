@@ -1,5 +1,4 @@
-use Rattle.cweb_out.proofs.Common.{refl}
-use Rattle.cweb_out.specs.declared.outputs.search.Waiting.{Waiting}
+use Rattle.cweb_out.proofs.Common.{refl, Waiting}
 use Rattle.cweb_out.proofs.Waits.{top-within, fits-swap}
 use Rattle.cweb_out.proofs.Searches.{goes-ranked, goes-back, goes-on}
 use Rattle.cweb_out.proofs.outputs.search.Search.go_on.Goals as goal

@@ -1,5 +1,4 @@
-use Rattle.cweb_out.proofs.Common.{arith}
-use Rattle.std.proofs.lemmas.Grind.{common_steps}
+use Rattle.cweb_out.proofs.Common.{arith, common_steps}
 use Rattle.cweb_out.proofs.outputs.search.Search.new.Goals as goal
 
 pub returns-clause-fits : goal.returns-clause-fits

@@ -1,5 +1,4 @@
-use Rattle.cweb_out.proofs.Common.{◌++◌, ◌∷◌, [], sym, subst, Stored}
-use Rattle.cweb_out.specs.inner.Search.{PathBegins, IsEndless}
+use Rattle.cweb_out.proofs.Common.{◌++◌, ◌∷◌, [], sym, subst, Stored, PathBegins, IsEndless}
 use Rattle.cweb_out.proofs.Waits.{top-name, on-top}
 use Rattle.cweb_out.proofs.Walks.{path-cycle}
 use Rattle.cweb_out.proofs.outputs.search.Search.settle.Goals as goal

@@ -1,5 +1,4 @@
-use Rattle.cweb_out.proofs.Common.{◌≡◌, None, [], length, FrameIsWithin, suffix, root_list}
-use Rattle.cweb_out.specs.inner.Search.{MarksFitPath, IsScanned}
+use Rattle.cweb_out.proofs.Common.{◌≡◌, None, [], length, FrameIsWithin, suffix, root_list, MarksFitPath, IsScanned}
 use Rattle.cweb_out.proofs.outputs.search.Search.settle_program.Given as goal
 
 abbrev pub invariant-names : goal.invariant-names

@@ -1,5 +1,4 @@
-use Rattle.cweb_out.proofs.Common.{refl, Stored}
-use Rattle.cweb_out.specs.declared.outputs.search.Waiting.{Waiting}
+use Rattle.cweb_out.proofs.Common.{refl, Stored, Waiting}
 use Rattle.cweb_out.proofs.Waits.{waited-fits}
 use Rattle.cweb_out.proofs.outputs.search.Search.wait.Goals as goal
 

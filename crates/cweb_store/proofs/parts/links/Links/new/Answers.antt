@@ -1,5 +1,4 @@
-use Rattle.cweb_store.proofs.Common.{◌≡◌, ◌-◌, ℕ, suc, [], ◌∷◌, length, drop, ◌∙◌, ap, subst, arith, length-append, common_steps, AreLinked}
-use Rattle.std.proofs.Common.{reverse}
+use Rattle.cweb_store.proofs.Common.{◌≡◌, ◌-◌, ℕ, suc, [], ◌∷◌, length, drop, ◌∙◌, ap, subst, arith, length-append, common_steps, AreLinked, reverse}
 use Rattle.cweb_store.proofs.LinkLemmas.{step-linked}
 use Rattle.cweb_store.proofs.parts.links.Links.new.Goals as goal
 

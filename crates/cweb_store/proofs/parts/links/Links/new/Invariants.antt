@@ -1,5 +1,4 @@
-use Rattle.cweb_store.proofs.Common.{◌≡◌, ◌+◌, length, drop, AreLinked}
-use Rattle.std.proofs.Common.{reverse}
+use Rattle.cweb_store.proofs.Common.{◌≡◌, ◌+◌, length, drop, AreLinked, reverse}
 use Rattle.cweb_store.proofs.parts.links.Links.new.Given as goal
 
 abbrev pub invariant-loop-i : goal.invariant-loop-i

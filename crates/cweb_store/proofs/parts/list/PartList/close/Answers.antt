@@ -1,7 +1,4 @@
-use Rattle.cweb_store.proofs.Common.{sym, ◌∙◌, ap, subst, take, [], ◌∷◌, ◌++◌, Option, None, PartRange, with_closed_part}
-use Rattle.std.specs.Prelude.{vec_capacity}
-use Rattle.cweb_store.specs.declared.parts.Open.{Open}
-use Rattle.cweb_store.specs.inner.PartRanges.{ArePartRanges, parts_in}
+use Rattle.cweb_store.proofs.Common.{sym, ◌∙◌, ap, subst, take, [], ◌∷◌, ◌++◌, Option, None, PartRange, with_closed_part, vec_capacity, Open, ArePartRanges, parts_in}
 use Rattle.cweb_store.proofs.PartRangeLemmas.{close-cut, close-cut-are}
 use Rattle.cweb_store.proofs.parts.list.PartList.close.Goals as goal
 

@@ -1,7 +1,4 @@
-use Rattle.cweb_store.proofs.Common.{sym, ◌∙◌, ap, subst, take, Option, with_dropped_layout}
-use Rattle.std.specs.Prelude.{vec_capacity}
-use Rattle.cweb_store.specs.declared.parts.Open.{Open}
-use Rattle.cweb_store.specs.inner.PartRanges.{ArePartRanges, parts_in}
+use Rattle.cweb_store.proofs.Common.{sym, ◌∙◌, ap, subst, take, Option, with_dropped_layout, vec_capacity, Open, ArePartRanges, parts_in}
 use Rattle.cweb_store.proofs.PartRangeLemmas.{cut-parts}
 use Rattle.cweb_store.proofs.parts.list.PartList.drop_layout.Goals as goal
 

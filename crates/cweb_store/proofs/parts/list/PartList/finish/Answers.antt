@@ -1,6 +1,4 @@
-use Rattle.cweb_store.proofs.Common.{◌≡◌, refl, ◌∙◌, ap, subst, length, arith, [], ◌∷◌, ◌++◌, Option, common_steps, tokens_alone, IsWhole}
-use Rattle.std.specs.Prelude.{vec_capacity}
-use Rattle.cweb_store.specs.declared.parts.Open.{Open}
+use Rattle.cweb_store.proofs.Common.{◌≡◌, refl, ◌∙◌, ap, subst, length, arith, [], ◌∷◌, ◌++◌, Option, common_steps, tokens_alone, IsWhole, vec_capacity, Open}
 use Rattle.cweb_store.specs.inner.PartRanges.{ArePartRanges, AreClosedRanges, last_range}
 use Rattle.cweb_store.proofs.PartRangeLemmas.{close-are}
 use Rattle.cweb_store.proofs.parts.list.PartList.finish.Goals as goal

@@ -1,5 +1,4 @@
-use Rattle.cweb_store.proofs.Common.{◌∷◌, [], List, sym, subst, Token}
-use Rattle.cweb_store.specs.inner.TokenIndexes.{IsTokenIndex}
+use Rattle.cweb_store.proofs.Common.{◌∷◌, [], List, sym, subst, Token, IsTokenIndex}
 use Rattle.cweb_store.proofs.InternedTokenLemmas.{tokens-grow}
 use Rattle.cweb_store.proofs.TokenStringLemmas.{closed-add, closed-added}
 use Rattle.cweb_store.proofs.tokens.closed.ClosedTokens.add.Goals as goal

@@ -1,5 +1,4 @@
-use Rattle.cweb_store.proofs.Common.{rules, ◌≡◌, ◌∙◌, ap, sym, false, arith, with_use, is_name_use}
-use Rattle.cweb_store.specs.surface.TokenModels.{token_model}
+use Rattle.cweb_store.proofs.Common.{rules, ◌≡◌, ◌∙◌, ap, sym, false, arith, with_use, is_name_use, token_model}
 use Rattle.cweb_store.proofs.UseLemmas.{not-used, used-from-next, used-step}
 use Rattle.cweb_store.proofs.tokens.closed.ClosedTokens.add_uses.Goals as goal
 use Rattle.cweb_store.proofs.tokens.closed.ClosedTokens.add_uses.Goals.{in-Name+in_ok-add_resolved, in_default}

@@ -1,5 +1,4 @@
-use Rattle.cweb_store.proofs.Common.{◌≡◌, ◌≤◌, ◌-◌, used_from}
-use Rattle.std.specs.Prelude.{slice_range}
+use Rattle.cweb_store.proofs.Common.{◌≡◌, ◌≤◌, ◌-◌, used_from, slice_range}
 use Rattle.cweb_store.proofs.tokens.closed.ClosedTokens.add_uses.Given as goal
 
 abbrev pub invariant-uses : goal.invariant-uses

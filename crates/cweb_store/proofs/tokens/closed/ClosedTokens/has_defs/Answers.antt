@@ -1,5 +1,4 @@
-use Rattle.cweb_store.proofs.Common.{map, subst, ◌∙◌, is_defs, IsNextNumber, ClosedTokensModel}
-use Rattle.cweb_store.specs.inner.InternedTokens.{token_of_interned}
+use Rattle.cweb_store.proofs.Common.{map, subst, ◌∙◌, is_defs, IsNextNumber, ClosedTokensModel, token_of_interned}
 use Rattle.cweb_store.proofs.UseLemmas.{next-any}
 use Rattle.cweb_store.proofs.tokens.closed.ClosedTokens.has_defs.Goals as goal
 

@@ -1,5 +1,4 @@
-use Rattle.cweb_store.proofs.Common.{◌∙◌, ap, map, sym, subst, direct_bytes}
-use Rattle.cweb_store.specs.inner.InternedTokens.{StringsAreWithin, token_of_interned}
+use Rattle.cweb_store.proofs.Common.{◌∙◌, ap, map, sym, subst, direct_bytes, StringsAreWithin, token_of_interned}
 use Rattle.cweb_store.proofs.TokenReaderLemmas.{direct-by, interned-alone}
 use Rattle.cweb_store.proofs.tokens.closed.ClosedTokens.token_reader.Goals as goal
 

@@ -1,7 +1,4 @@
-use Rattle.cweb_store.proofs.Common.{◌≡◌, length, map, sym, subst, arith, ap, rules, length-map}
-use Rattle.cweb_store.specs.inner.InternedTokens.{token_of_interned}
-use Rattle.cweb_store.specs.inner.TokenIndexes.{IsTokenIndex}
-use Rattle.cweb_store.specs.surface.TokenModels.{token_model}
+use Rattle.cweb_store.proofs.Common.{◌≡◌, length, map, sym, subst, arith, ap, rules, length-map, token_of_interned, IsTokenIndex, token_model}
 use Rattle.cweb_store.proofs.InternedTokenLemmas.{packs-tokens}
 use Rattle.cweb_store.proofs.TokenStringLemmas.{packs-are, strings-few}
 use Rattle.cweb_store.proofs.tokens.list.TokenList.push.Goals as goal

@@ -1,5 +1,4 @@
-use Rattle.cweb_store.proofs.Common.{List, ℕ, sym, subst, length, arith, common_steps}
-use Rattle.cweb_store.specs.inner.InternedTokens.{StringIsWithin}
+use Rattle.cweb_store.proofs.Common.{List, ℕ, sym, subst, length, arith, common_steps, StringIsWithin}
 use Rattle.cweb_store.proofs.InternedTokenLemmas.{interned-at}
 use Rattle.cweb_store.proofs.tokens.list.TokenList.token.Goals as goal
 

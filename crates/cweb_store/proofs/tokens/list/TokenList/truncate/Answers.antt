@@ -1,9 +1,5 @@
-use Rattle.cweb_store.proofs.Common.{◌≡◌, map, take, sym, subst, ap, filter}
-use Rattle.std.proofs.lemmas.List.{take-map}
+use Rattle.cweb_store.proofs.Common.{◌≡◌, map, take, sym, subst, ap, filter, take-map, has_string, token_of_interned, IsTokenIndex}
 use Rattle.cweb_store.specs.inner.Rooms.{TokenListModel}
-use Rattle.cweb_store.specs.inner.TokenStrings.{has_string}
-use Rattle.cweb_store.specs.inner.InternedTokens.{token_of_interned}
-use Rattle.cweb_store.specs.inner.TokenIndexes.{IsTokenIndex}
 use Rattle.cweb_store.proofs.TokenStringLemmas.{truncate-are}
 use Rattle.cweb_store.proofs.tokens.list.TokenList.truncate.Goals as goal
 

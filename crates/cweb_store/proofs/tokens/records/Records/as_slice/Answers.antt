@@ -1,5 +1,4 @@
-use Rattle.cweb_store.proofs.Common.{◌∙◌, ap, map, sym}
-use Rattle.cweb_store.specs.inner.Records.{interned_of_record}
+use Rattle.cweb_store.proofs.Common.{◌∙◌, ap, map, sym, interned_of_record}
 use Rattle.cweb_store.proofs.tokens.records.Records.as_slice.Goals as goal
 
 pub returns : goal.returns

@@ -1,5 +1,4 @@
-use Rattle.cweb_store.proofs.Common.{◌≡◌, ◌<◌, map, length, Some, slice_get, sym, subst, ◌∙◌, ap, arith, List, length-map, slice_get-get_or}
-use Rattle.cweb_files.specs.declared.place.Place.{Place}
+use Rattle.cweb_store.proofs.Common.{◌≡◌, ◌<◌, map, length, Some, slice_get, sym, subst, ◌∙◌, ap, arith, List, length-map, slice_get-get_or, Place}
 use Rattle.cweb_store.specs.inner.Records.{interned_of_record, PlaceIsWithin}
 use Rattle.cweb_store.proofs.RecordLemmas.{record-at}
 use Rattle.cweb_store.proofs.tokens.records.Records.get.Goals as goal

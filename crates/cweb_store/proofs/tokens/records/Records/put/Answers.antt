@@ -1,5 +1,4 @@
-use Rattle.cweb_store.proofs.Common.{◌≡◌, map, length, ap, arith, length-map}
-use Rattle.cweb_store.specs.inner.Records.{interned_of_record}
+use Rattle.cweb_store.proofs.Common.{◌≡◌, map, length, ap, arith, length-map, interned_of_record}
 use Rattle.cweb_store.proofs.RecordLemmas.{numbered-few, push-numbered, push-interned}
 use Rattle.cweb_store.proofs.tokens.records.Records.put.Goals as goal
 

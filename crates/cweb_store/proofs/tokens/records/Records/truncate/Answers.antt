@@ -1,8 +1,6 @@
-use Rattle.cweb_store.proofs.Common.{◌≡◌, length, take, drop, sym, subst, ◌∙◌, ap, List}
+use Rattle.cweb_store.proofs.Common.{◌≡◌, length, take, drop, sym, subst, ◌∙◌, ap, List, Record, AreNumbered, interned_of_record}
 use Rattle.std.proofs.lemmas.List.{take-map, take_rest}
 use Rattle.std.proofs.Math.Seq.{length-take-le}
-use Rattle.cweb_store.specs.declared.tokens.records.Record.{Record}
-use Rattle.cweb_store.specs.inner.Records.{AreNumbered, interned_of_record}
 use Rattle.cweb_store.proofs.RecordLemmas.{split, numbered-le, cut}
 use Rattle.cweb_store.proofs.tokens.records.Records.truncate.Goals as goal
 

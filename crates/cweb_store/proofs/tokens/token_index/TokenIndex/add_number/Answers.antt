@@ -1,5 +1,4 @@
-use Rattle.cweb_store.proofs.Common.{rules, ◌≡◌, true, false, is_defs, is_name_use}
-use Rattle.cweb_store.specs.surface.TokenModels.{token_model}
+use Rattle.cweb_store.proofs.Common.{rules, ◌≡◌, true, false, is_defs, is_name_use, token_model}
 use Rattle.cweb_store.proofs.TokenIndexLemmas.{token_index-push, token_index-here, token_index-not}
 use Rattle.cweb_store.proofs.tokens.token_index.TokenIndex.add_number.Goals as goal
 
