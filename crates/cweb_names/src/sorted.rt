@@ -28,7 +28,8 @@ impl Model for SortKey {
 
     ghost view = { λ s. s.spelling.items };
 
-    ghost invariant = { λ s. (s.sort_prefix ≡ sort_prefix_of s.spelling.items) × AreBytes s.spelling.items };
+    ghost invariant = { λ s.
+        (s.sort_prefix ≡ sort_prefix_of s.spelling.items) × AreBytes s.spelling.items };
 }
 
 impl SortKey {

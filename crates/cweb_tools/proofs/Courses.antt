@@ -43,7 +43,8 @@ ends_by world (Some names) before after status ends =
     subst (λ (course : Course). Merges names course before after status)
     (merge_only world (Some names) ends.0 ends.1) ends.2
 
-pub tangle_comes : (world : World) (asked : Option OptionsModel) → IsTangleCourse world asked (tangle_course world asked)
+pub tangle_comes : (world : World) (asked : Option OptionsModel)
+    → IsTangleCourse world asked (tangle_course world asked)
 tangle_comes world None = refl
 tangle_comes world (Some asked) =
     (merge_course world (Some asked.names.merge), merge_comes world (Some asked.names.merge), refl)

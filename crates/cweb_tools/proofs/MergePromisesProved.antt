@@ -87,7 +87,8 @@ pub ran_freely : (world : World) (asked : Option WebNames) {before after : Devic
 ran_freely world asked {before} {after} {status} ends tell course is free =
     let same : course ≡ merge_course world asked = merge_only world asked course is in
     subst (λ (c : Course). IsMerge c before after status) (sym same)
-    (ran_by world asked (ends_by world asked before after status ends) tell (subst (λ (c : Course). MergeRanFreely c before after) same free))
+    (ran_by world asked (ends_by world asked before after status ends) tell
+    (subst (λ (c : Course). MergeRanFreely c before after) same free))
 
 stays_within : (course : Course) (files : List (List ℕ)) (faults : List SourceFault)
     → HasMerged course files faults → MergeKeepsLimits course

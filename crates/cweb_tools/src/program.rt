@@ -33,7 +33,8 @@ pub fn read_args<R: Env + AllocGlobal>(rt: &R) -> Result<Vec<String>, AllocError
 
 /// The arguments as slices.
 pub fn as_slices<'a>(alloc: Global, words: &'a [String]) -> Result<Vec<&'a str>, AllocError>
-    ensures { IfOk result (λ slices. map (λ slice. slice.now) slices.items ≡ map string_bytes words.now) }
+    ensures { IfOk result (λ slices.
+        map (λ slice. slice.now) slices.items ≡ map string_bytes words.now) }
 {
     let mut slices = Vec::new(alloc);
     for word in words {

@@ -35,7 +35,8 @@ impl Model for PartList {
         in_rooms (parts_in s.tokens.tokens s.ranges.items s.current)
         s.tokens.rooms (vec_capacity s.ranges) };
 
-    ghost invariant = { λ s. ArePartRanges s.tokens.tokens s.ranges.items s.current (vec_capacity s.ranges) };
+    ghost invariant = { λ s.
+        ArePartRanges s.tokens.tokens s.ranges.items s.current (vec_capacity s.ranges) };
 }
 
 impl PartList {

@@ -50,7 +50,8 @@ impl Model for ClosedTokens {
 
     ghost view = { λ s. closed_tokens_model s.strings s.records.interned s.own };
 
-    ghost invariant = { λ s. AreIndexedClosedTokens s.strings s.records.interned s.own s.token_index };
+    ghost invariant = { λ s.
+        AreIndexedClosedTokens s.strings s.records.interned s.own s.token_index };
 }
 
 impl ClosedTokens {

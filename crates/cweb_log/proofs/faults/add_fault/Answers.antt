@@ -7,10 +7,11 @@ use Rattle.cweb_log.proofs.faults.add_fault.Goals as goal
 pub returns-in-Unequal : goal.returns-in-Unequal
 returns-in-Unequal g c =
     let count = c.args.fault.now.count in
-    let located : List ℕ → List ℕ = λ (text : List ℕ). located_line c.get-file.result.now c.format-line.result.now text in
+    let located : List ℕ → List ℕ = located_line c.get-file.result.now c.format-line.result.now in
     let text = c.kind_message-text.result.now in
-    subst (λ (t : List ℕ). AppendsToLog t (sink_model g.L.Sink c.args.log.now) (sink_model g.L.Sink c.add_located.new.log)
-    (unwritten_bytes c.args.log_buffer.now) (unwritten_bytes c.add_located.new.log_buffer) c.add_located.result)
+    subst (λ (t : List ℕ). AppendsToLog t (sink_model g.L.Sink c.args.log.now)
+    (sink_model g.L.Sink c.add_located.new.log) (unwritten_bytes c.args.log_buffer.now)
+    (unwritten_bytes c.add_located.new.log_buffer) c.add_located.result)
     (ap located (sym (append_assoc text (codes ": " ++ c.format.result.now) (codes "\n")))
     ∙ (λ i. located_line (c.get-file.ensures i) (c.format-line.ensures.text i)
     ((c.kind_message-text.ensures i ++ (codes ": " ++ c.format.ensures.text i)) ++ codes "\n"))

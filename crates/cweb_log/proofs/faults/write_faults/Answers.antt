@@ -1,6 +1,9 @@
-use Rattle.cweb_log.proofs.Common.{refl, arith, opened_file_names, SourceFault, line, source_item}
+use Rattle.cweb_log.proofs.Common.{refl, arith, List, ℕ, opened_file_names, SourceFault, line, source_item}
 use Rattle.cweb_log.proofs.BufferedLog.{gathers_none, gathers_next, gathers_failed, gathers_all, writes_all, writes_front}
 use Rattle.cweb_log.proofs.faults.write_faults.Goals as goal
+
+abbrev lines_of : List (List ℕ) → SourceFault → List ℕ
+lines_of names fault = line (source_item names fault)
 
 pub faults-init : goal.faults-init
 faults-init g c = rw c.new-log_buffer.ensures (gathers_none _)
@@ -10,14 +13,13 @@ add_fault-requires-clause-count g c = omega (arith, c.faults.invariant.counts, c
 
 pub returns-in_err-add_fault : goal.returns-in_err-add_fault
 returns-in_err-add_fault g c = writes_front {A = Unit {0}} c.in_err-add_fault.field-0.0 _ (gathers_failed
-    (λ (fault : SourceFault). line (source_item (opened_file_names c.args.names.now) fault)) c.args.faults.now
-    c.faults.fault-index
-    _ _ _ c.faults-test.true c.faults.invariant c.in_err-add_fault.ensures refl) c.from_residual.ensures.0
+    (lines_of (opened_file_names c.args.names.now)) c.args.faults.now c.faults.fault-index _ _ _
+    c.faults-test.true c.faults.invariant c.in_err-add_fault.ensures refl) c.from_residual.ensures.0
 
 pub faults-preserved : goal.faults-preserved
-faults-preserved g c = gathers_next (λ (fault : SourceFault). line (source_item (opened_file_names c.args.names.now) fault))
+faults-preserved g c = gathers_next (lines_of (opened_file_names c.args.names.now))
     c.args.faults.now c.faults.fault-index _ _ _ c.faults-test.true c.faults.invariant c.in_ok-add_fault.ensures
 
 pub returns : goal.returns
-returns g c = writes_all _ (gathers_all (λ (fault : SourceFault). line (source_item (opened_file_names c.args.names.now) fault))
+returns g c = writes_all _ (gathers_all (lines_of (opened_file_names c.args.names.now))
     c.args.faults.now c.faults.fault-index _ c.faults-test.false c.faults.invariant) c.pass_on.ensures.writes
