@@ -3,6 +3,7 @@ use Rattle.cweb_rules.proofs.Common.{◌≡◌, ◌≤◌, ◌<◌, ℕ, zero, s
 use Rattle.cweb_rules.specs.declared.effect.Effect.TheVariants as effect
 use Rattle.cweb_rules.proofs.Sizes.{take-at_most, begins-size, units-text, reach-size, control-within, name-within, literal-within, include-within, raw-within, opener_after-size}
 use Rattle.cweb_rules.proofs.TokenSizes.{IsShort, constant-size, IsLetter, letter-size}
+use Rattle.cweb_rules.specs.declared.constants.TheConstants.{MAX_REPLACEMENT}
 
 pub fair_of : (c : Context) (t : List ℕ) (k : Kind) (n : ℕ) → 0 < n → n ≤ length t
     → (length (take n t) ≡ n → Pays c k (take n t)) → FitsAndPays c t (rule_match k n)
@@ -62,7 +63,7 @@ module _ (c : Context) (a b : ℕ) (u : List ℕ) where
       let n = 2 + (l.start + l.size) in
       let text = take l.size (drop (2 + l.start) t) in
       fair_of c t _ n (omega arith) (omega (arith, h)) (λ e. text_pays l.byte
-      (nat_le l.size 31) text (take n t) (omega (arith, e, take-at_most l.size (drop (2 + l.start) t))))
+      (nat_le l.size MAX_REPLACEMENT) text (take n t) (omega (arith, e, take-at_most l.size (drop (2 + l.start) t))))
 
   letter_at-fair : FitsAndPays c t (letter_match t)
   letter_at-fair = letter_is-fair (letter u) (letter-size u)

@@ -6,6 +6,7 @@ use Rattle.cweb_rules.proofs.Looks.{reach_ends, whole, name-local, name-units}
 use Rattle.cweb_rules.proofs.Sizes.{reach-size, name-within}
 use Rattle.cweb_rules.proofs.TokenSizes.{letter-size, IsLetter}
 use Rattle.cweb_rules.proofs.LineConstants.{control_text-line, constant-line, letter-line}
+use Rattle.cweb_rules.specs.declared.constants.TheConstants.{MAX_REPLACEMENT}
 
 letter_is-line : (o : Option Transliteration) (a b : ℕ) (t more : List ℕ)
     → IsLetter o (length t) → found_letter_match o (a ∷ b ∷ t ++ more) ≡ found_letter_match o (a ∷ b ∷ t)
@@ -16,7 +17,7 @@ letter_is-line (Some l) a b t more h =
     let same : take l.size (drop m (u ++ more)) ≡ take l.size (drop m u) =
     ap (take l.size) (drop-append-le m u more (omega (arith, h)))
     ∙ take-append-le l.size (drop m u) more (omega (arith, h, length-drop m u)) in
-    λ i. rule_match (Letter l.byte (if nat_le l.size 31 then Some (same i) else None)) (2 + (l.start + l.size))
+    λ i. rule_match (Letter l.byte (if nat_le l.size MAX_REPLACEMENT then Some (same i) else None)) (2 + (l.start + l.size))
 
 abbrev sign_of : ℕ → ℕ → List ℕ → ℕ
 sign_of gap size u = if (size == 0) || begins (codes "=") (drop size u) then 0 else gap + size

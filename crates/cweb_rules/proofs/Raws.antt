@@ -2,6 +2,7 @@
 use Rattle.cweb_rules.proofs.Common.{◌≡◌, ℕ, ◌+◌, ◌-◌, ◌<◌, ◌≤◌, suc, zero, Bool, true, false, cond, ◌&&◌, ◌||◌, ◌==◌, not, List, [], ◌∷◌, ◌++◌, length, take, drop, refl, ap, ◌∙◌, arith, length-append, codes, if◌then◌else◌, nat_le, list_all, prefix_len, take-append-le, length-drop, begins, is_delimiter, first_is, starts_section, is_word_byte, is_one_of, Reach, reach_in, with_unit, body, reach_size, Look, Goes, Ends, reach_of_raw_literal, look_in_raw, Closed, Cut, after_word, quoted_match, raw_prefix, has_delimiter, starts_raw, delimiter, raw_closer, raw_match, RuleMatch, rule_match, Quoted, and_parts, and-false, or_parts, drop-append-le}
 use Rattle.cweb_rules.proofs.Sizes.{begins-size}
 use Rattle.cweb_rules.proofs.Joins.{unlike, begins-append}
+use Rattle.cweb_rules.specs.declared.literals.TheConstants.{MAX_DELIMITER}
 
 pub quoted_stays : (n : ℕ) (r : Reach) (t more : List ℕ)
     → n + reach_size r ≤ length t → quoted_match n r (t ++ more) ≡ quoted_match n r t
@@ -131,7 +132,7 @@ record Same (y more : List ℕ) : Type 0 where
 same : (y more : List ℕ) → has_delimiter y ≡ true → Same y more
 same y more h =
     let m = prefix_len is_delimiter y in
-    let e = and_parts (nat_le m 16) (begins (codes "(") (drop m y)) h in
+    let e = and_parts (nat_le m MAX_DELIMITER) (begins (codes "(") (drop m y)) h in
     let paren : 1 ≤ length (drop m y) = begins-size (codes "(") (drop m y) e.1 in
     let inside : m < length y = omega (arith, paren, length-drop m y) in
     let size : prefix_len is_delimiter (y ++ more) ≡ m = prefix_within is_delimiter y more inside in
@@ -140,7 +141,7 @@ same y more h =
     ∙ begins-append (codes "(") (drop m y) more e.1 in
     record {
       delimited = ap (λ n. take n (y ++ more)) size ∙ take-append-le m y more (omega (arith, inside));
-      has = ap (λ n. nat_le n 16 && begins (codes "(") (drop n (y ++ more))) size ∙ (λ i. e.0 i && rest i);
+      has = ap (λ n. nat_le n MAX_DELIMITER && begins (codes "(") (drop n (y ++ more))) size ∙ (λ i. e.0 i && rest i);
     }
 
 abbrev start_of : ℕ → List ℕ → ℕ

@@ -18,6 +18,8 @@ use Rattle.cweb_rules.specs.Items.{Reach, body, reach_size, reach_of_control_tex
 use Rattle.cweb_rules.specs.Items.{reach_of_comment, reach_of_line_comment, reach_of_literal, reach_of_included_name}
 use Rattle.cweb_rules.specs.Items.{reach_of_raw_literal}
 use Rattle.cweb_rules.specs.declared.end.End.TheVariants.{Closed}
+use Rattle.cweb_rules.specs.declared.constants.TheConstants.{MAX_REPLACEMENT}
+use Rattle.cweb_rules.specs.declared.literals.TheConstants.{MAX_DELIMITER}
 
 -- A kind of lexeme, with what the parser needs of its bytes.
 pub data Kind : Type 0 where
@@ -69,12 +71,12 @@ verbatim_match t = let r = reach_of_control_text (drop 2 t) in rule_match (Verba
 abbrev pub constant_match : List ℕ → RuleMatch
 constant_match t = let v = constant (drop 2 t) in rule_match (Constant v.value) (2 + v.size)
 
--- The transliteration, without its replacement if that is longer than 31 bytes. A faulty `@l` is the code alone.
+-- The transliteration, without its replacement if that is too long. A faulty `@l` is the code alone.
 abbrev pub found_letter_match : Option Transliteration → List ℕ → RuleMatch
 found_letter_match None t = rule_match (Code (Faulty ImproperHexNumber)) 2
 found_letter_match (Some l) t =
-    rule_match (Letter l.byte (if nat_le l.size 31 then Some (take l.size (drop (2 + l.start) t)) else None))
-    (2 + (l.start + l.size))
+    let bytes = take l.size (drop (2 + l.start) t) in
+    rule_match (Letter l.byte (if nat_le l.size MAX_REPLACEMENT then Some bytes else None)) (2 + (l.start + l.size))
 
 -- A transliteration with its `@l`.
 abbrev pub letter_match : List ℕ → RuleMatch
@@ -160,9 +162,9 @@ raw_prefix t =
     if begins (codes "u8R\"") t then 2
     else (if begins (codes "LR\"") t || begins (codes "uR\"") t || begins (codes "UR\"") t then 1 else 0)
 
--- The longest span of delimiter bytes has at most 16 bytes, and `(` follows it.
+-- The longest span of delimiter bytes is short enough, and `(` follows it.
 abbrev pub has_delimiter : List ℕ → Bool
-has_delimiter t = let n = prefix_len is_delimiter t in nat_le n 16 && begins (codes "(") (drop n t)
+has_delimiter t = let n = prefix_len is_delimiter t in nat_le n MAX_DELIMITER && begins (codes "(") (drop n t)
 
 -- A raw literal begins with `R"`, a delimiter and `(`, with a prefix or without.
 abbrev pub starts_raw : List ℕ → Bool

@@ -6,6 +6,9 @@ ghost use Rattle.cweb_rules.specs.Constants as spec;
 
 use crate::bytes::{Class, begins, is_digit, is_hex, span_len};
 
+/// The maximum length of a replacement after `@l`, in bytes.
+pub const MAX_REPLACEMENT: usize = 31;
+
 /// The code of a character, and the number of bytes that it is written with.
 #[derive(Clone, Copy)]
 pub struct Character {

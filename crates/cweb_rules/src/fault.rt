@@ -9,7 +9,7 @@ pub enum ScanKind {
     DoubleAtInLimbo,
     /// `@l` without two hexadecimal digits of value 0x80 or more and a space or tab after them.
     ImproperHexNumber,
-    /// `@l` with a replacement of more than 31 bytes.
+    /// `@l` with a replacement of more than `MAX_REPLACEMENT` bytes.
     ReplacementTooLong,
     /// `@l` after the first section began.
     LetterOutsideLimbo,

@@ -4,6 +4,9 @@ ghost use Rattle.cweb_rules.specs.Matches as spec;
 
 use crate::bytes::{Class, begins, span_len};
 
+/// The maximum length of the delimiter of a raw literal, in bytes (as in C++).
+pub const MAX_DELIMITER: usize = 16;
+
 fn has_quote_at(n: usize, text: &[u8]) -> bool
     requires { n ≤ length text.now }
     ensures value { result ≡ spec.has_quote_at n text.now }
@@ -62,10 +65,10 @@ fn has_delimiter(text: &[u8]) -> bool
 {
     let size = span_len(Class::Delimiter, text);
     let (_, rest) = text.split_at(size);
-    size <= 16 && begins(b"(", rest)
+    size <= MAX_DELIMITER && begins(b"(", rest)
 }
 
-/// Whether a raw literal is next: `R"`, a delimiter of at most 16 bytes and `(`, with a prefix or without.
+/// Whether a raw literal is next: `R"`, a delimiter of at most `MAX_DELIMITER` bytes and `(`, with a prefix or without.
 pub fn starts_raw(text: &[u8]) -> bool
     ensures { result ≡ spec.starts_raw text.now }
 {

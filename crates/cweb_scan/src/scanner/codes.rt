@@ -5,7 +5,7 @@ ghost use Rattle.cweb_scan.specs.inner.MatchSteps as fronted;
 
 use crate::scanner::Scanner;
 use cweb_rules::bytes::begins;
-use cweb_rules::constants::{constant, letter};
+use cweb_rules::constants::{MAX_REPLACEMENT, constant, letter};
 use cweb_rules::items::{Item, reach};
 use cweb_rules::{Context, Effect, End, ScanKind};
 use cweb_store::{PartKind, Token};
@@ -109,7 +109,7 @@ impl Scanner {
             self.fault(ScanKind::ImproperHexNumber, self.here)?;
             return Ok(2);
         };
-        if found.size > 31 {
+        if found.size > MAX_REPLACEMENT {
             self.fault(ScanKind::ReplacementTooLong, self.here)?;
         } else {
             let (_, replacement) = rest.split_at(2 + found.start);
