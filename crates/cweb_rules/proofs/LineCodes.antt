@@ -17,7 +17,8 @@ letter_is-line (Some l) a b t more h =
     let same : take l.size (drop m (u ++ more)) ≡ take l.size (drop m u) =
     ap (take l.size) (drop-append-le m u more (omega (arith, h)))
     ∙ take-append-le l.size (drop m u) more (omega (arith, h, length-drop m u)) in
-    λ i. rule_match (Letter l.byte (if nat_le l.size MAX_REPLACEMENT then Some (same i) else None)) (2 + (l.start + l.size))
+    λ i. rule_match (Letter l.byte (if nat_le l.size MAX_REPLACEMENT then Some (same i) else None))
+    (2 + (l.start + l.size))
 
 abbrev sign_of : ℕ → ℕ → List ℕ → ℕ
 sign_of gap size u = if (size == 0) || begins (codes "=") (drop size u) then 0 else gap + size
