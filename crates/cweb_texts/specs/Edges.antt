@@ -1,11 +1,11 @@
--- What a text that is printed as it stands is to those beside it.
+-- The edge of a string that is printed as it is.
 use Rattle.std.specs.Prelude.{ℕ, Bool, false, ◌==◌, List, [], ◌∷◌, codes}
 use Rattle.std.specs.List.{list_any}
 
 abbrev pub is_one_of : List ℕ → ℕ → Bool
 is_one_of bytes b = list_any (λ x. x == b) bytes
 
--- bytes that may join with one another to a longer operator
+-- a byte that may be part of a longer operator
 abbrev pub is_operator : ℕ → Bool
 is_operator b = is_one_of (codes "+-*/%&|^!=<>.:#?") b
 

@@ -1,4 +1,4 @@
-// What a token that lends its text is to those beside it.
+// The edge of a string: what decides whether a blank comes between it and its neighbours.
 
 ghost use Rattle.std.specs.Prelude.{◌≡◌};
 ghost use Rattle.std.specs.List.{list_any};
@@ -6,16 +6,21 @@ ghost use Rattle.cweb_texts.specs.Edges.{first_is, is_operator};
 ghost use Rattle.cweb_texts.specs.inner.Edges.{is_high, is_numeric, edge_by_last};
 ghost use Rattle.cweb_texts.specs.inner.Edges.{punctuator_edge, punctuator_edge_by, string_edge};
 
-/// What decides whether a blank comes between a token that lends its text and those beside it. A punctuator is told by its
-/// first byte and by its last one: the first may be one that could go on in a number, or another operator byte, and the last
-/// one a point, or another operator byte.
+/// What decides whether a blank comes between a token that is printed as its string and its neighbours.
+///
+/// The edge of a punctuator is the class of its first byte and the class of its last byte. The first byte is numeric if
+/// it could continue a number, an operator byte, or plain. The last byte is a point, another operator byte, or plain.
 #[derive(Clone, Copy)]
 pub enum Edge {
+    /// A word.
     Word,
+    /// A number.
     Number,
+    /// A string or character literal.
     Literal,
-    /// A verbatim text.
+    /// A verbatim string.
     Glue,
+    /// A punctuator: the classes of its first and its last byte. So are the next eight.
     PlainPlain,
     PlainOperator,
     PlainPoint,
@@ -25,23 +30,25 @@ pub enum Edge {
     NumericPlain,
     NumericOperator,
     NumericPoint,
+    /// A blank.
     Blank,
+    /// A line end.
     LineEnd,
-    /// Of a text with a byte from 128 on, or of one whose border isn't kept.
+    /// The string has a byte that is not ASCII, or its edge is not stored.
     Unknown,
 }
 
-// a border is kept beside each text
+// one edge is stored for each string
 const _: () = prove!(size_of::<Edge>() == 1);
 
-/// What a token lends: its text, and its border.
+/// The bytes of a token, with its edge.
 #[derive(Clone, Copy)]
 pub struct TokenBytes<'a> {
     pub string: &'a [u8],
     pub edge: Edge,
 }
 
-/// The border of a text as that of a punctuator, unless it has a byte from 128 on.
+/// The edge of a string, taken as a punctuator. It is unknown where a byte is not ASCII.
 pub fn string_edge(string: &[u8]) -> Edge
     ensures { result ≡ string_edge string.now }
 {
@@ -51,7 +58,7 @@ pub fn string_edge(string: &[u8]) -> Edge
     punctuator_edge(string)
 }
 
-/// Whether a text has a byte from 128 on.
+/// Whether a string has a byte that is not ASCII.
 #[inline(never)]
 pub fn has_high_byte(string: &[u8]) -> bool
     ensures { result ≡ list_any is_high string.now }
@@ -59,7 +66,7 @@ pub fn has_high_byte(string: &[u8]) -> bool
     string.iter().any(|byte| *byte >= 128)
 }
 
-/// The border of a punctuator.
+/// The edge of a punctuator.
 #[inline(never)]
 pub fn punctuator_edge(string: &[u8]) -> Edge
     ensures { result ≡ punctuator_edge string.now }
@@ -75,7 +82,7 @@ pub fn punctuator_edge(string: &[u8]) -> Edge
     )
 }
 
-// That of one by four tests: of its first byte two, and of its last one two.
+// The edge of a punctuator by two tests of its first byte and two of its last byte.
 fn punctuator_edge_by(is_numeric: bool, is_operator: bool, ends_in_point: bool, ends: bool) -> Edge
     ensures { result ≡ punctuator_edge_by is_numeric is_operator ends_in_point ends }
 {
@@ -106,7 +113,7 @@ fn punctuator_edge_by(is_numeric: bool, is_operator: bool, ends_in_point: bool, 
     }
 }
 
-// One of three borders, by the last byte.
+// One of three edges, by the last byte.
 fn edge_by_last(plain: Edge, operator: Edge, point: Edge, is_point: bool, is_operator: bool) -> Edge
     ensures { result ≡ edge_by_last plain operator point is_point is_operator }
 {
@@ -137,7 +144,7 @@ fn first_is_operator(string: &[u8]) -> bool
     }
 }
 
-// Which bytes may join with one another to a longer operator.
+// Whether a byte may be part of a longer operator.
 fn is_operator(byte: u8) -> bool
     ensures { result ≡ is_operator byte }
 {

@@ -1,19 +1,20 @@
-//! Texts that are kept: one behind another in a list of bytes, equal words once, and what each is to the texts beside it.
+//! Interned strings: all strings in one byte buffer, equal words stored once, and the edge of each word, which decides
+//! whether a blank comes beside it.
 #![tactic(auto)]
 
-// what a text is to those beside it
+// the edge of a string
 mod edges;
 
-// texts in one list of bytes
+// strings in one byte buffer
 mod strings;
 
-// that list, as slices
+// the same strings, as borrowed slices
 mod slices;
 
-// words, of which equal ones are kept once
+// interned words
 mod words;
 
-// texts, words and signs
+// strings, words and punctuators in one table
 mod string_table;
 
 pub use edges::{Edge, TokenBytes, has_high_byte, punctuator_edge};

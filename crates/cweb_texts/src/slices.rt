@@ -1,4 +1,4 @@
-// The lists that texts stand in, as slices.
+// The lists of a `StringList`, as slices.
 
 ghost use Rattle.std.specs.Prelude.{◌≡◌, ◌<◌, ◌+◌, List, ℕ, length, slice_get, Some};
 ghost use Rattle.cweb_texts.specs.inner.Edges.{IsStoredEdge};
@@ -6,7 +6,7 @@ ghost use Rattle.cweb_texts.specs.inner.Edges.{IsStoredEdge};
 use crate::edges::Edge;
 use std::marker::Model;
 
-/// Texts, numbered from 0, as slices of what is kept of them.
+/// The strings of a `StringList`, numbered from 0. A caller that reads many strings borrows the lists once.
 #[derive(Drop)]
 pub struct StringSlices<'a> {
     pub(crate) bytes: &'a [u8],
@@ -27,20 +27,20 @@ impl<'a> Model for StringSlices<'a> {
 }
 
 impl<'a> StringSlices<'a> {
-    /// The text with a number.
+    /// The string with a number.
     #[inline(always)]
     pub fn string(&self, number: usize) -> &'a [u8]
         requires { number < length self.now }
         ensures { slice_get self.now number ≡ Some result.now }
     {
-        // the next number is at most this, so that it fits
+        // the length bounds `number + 1`
         let _offsets = self.offsets.len();
         let begin = self.offsets[number];
         let end = self.offsets[number + 1];
         &self.bytes[begin..end]
     }
 
-    /// What is kept of the border of the text with a number.
+    /// The stored edge of the string with a number.
     #[inline(always)]
     pub fn edge(&self, number: usize) -> Edge
         requires { number < length self.now }

@@ -1,4 +1,4 @@
-// Texts, of which equal words and equal punctuators are kept once.
+// Strings, words and punctuators in one table.
 
 ghost use Rattle.std.specs.Prelude.{◌≡◌, ◌<◌, ◌+◌, ℕ, Some, length, slice_get, IfOk, IfSome, OnErr};
 ghost use Rattle.cweb_texts.specs.inner.ByteIds.{AreByteIds, IsByteId};
@@ -10,19 +10,18 @@ use crate::words::WordInterner;
 use std::alloc::{AllocError, Global};
 use std::marker::Model;
 
-// How many bytes there are.
+// The number of distinct bytes.
 const BYTES: usize = 256;
 
-/// Texts, among which a word, or a punctuator, stands once. One that is a single byte is found by that byte alone, in a
-/// table in front.
+/// Strings, and interned words and punctuators among them. A punctuator of one byte is found by that byte alone.
 pub struct StringTable {
     alloc: Global,
     strings: WordInterner,
-    // of each byte one more than the number of the text that is this byte, or 0 where that isn't known
+    // for each byte 0, or one more than the number of the interned string that is this byte; empty at first
     byte_ids: Vec<u32>,
 }
 
-// It is let go by one call wherever it is held, not part by part.
+// One call drops all fields, so each holder's code is shorter.
 impl Drop for StringTable {
     fn drop(self) {
         let StringTable {
@@ -45,6 +44,7 @@ impl Model for StringTable {
 }
 
 impl StringTable {
+    /// An empty table. It takes no memory.
     pub fn new(alloc: Global) -> StringTable
         ensures { result ≡ empty_table }
     {
@@ -55,7 +55,7 @@ impl StringTable {
         }
     }
 
-    /// Keeps a text, and answers its number. A refused call changes nothing.
+    /// Appends a string that is not interned, and returns its number.
     pub fn add_string(&mut self, string: &[u8]) -> Result<u32, AllocError>
         requires few { length self.old.strings + 1 < string_limit }
         ensures ok { IfOk result (λ number. AddsString self.old string.now number self.new) }
@@ -65,7 +65,7 @@ impl StringTable {
         Ok(number as u32)
     }
 
-    /// Keeps a word, unless it was kept before. A refused call changes nothing.
+    /// Interns a word, and returns its number.
     pub fn intern_word(&mut self, word: &[u8]) -> Result<u32, AllocError>
         requires few { length self.old.strings + 1 < string_limit }
         ensures ok { IfOk result (λ number. InternsWord self.old word.now number self.new) }
@@ -75,7 +75,7 @@ impl StringTable {
         Ok(number as u32)
     }
 
-    /// The same of a punctuator: one of a single byte that was kept before is found by this byte.
+    /// Interns a punctuator, and returns its number. The fast path finds one byte that was interned before.
     #[inline(always)]
     pub fn intern_punctuator(&mut self, sign: &[u8]) -> Result<u32, AllocError>
         requires few { length self.old.strings + 1 < string_limit }
@@ -90,7 +90,7 @@ impl StringTable {
         self.intern_uncached(sign)
     }
 
-    // Keeps a punctuator that its byte didn't tell.
+    // Interns a punctuator that the fast path did not find.
     #[inline(never)]
     fn intern_uncached(&mut self, sign: &[u8]) -> Result<u32, AllocError>
         requires few { length self.old.strings + 1 < string_limit }
@@ -103,7 +103,7 @@ impl StringTable {
         self.intern_word(sign)
     }
 
-    // The same, and the number of one that is a single byte is noted, so that its byte tells it from now on.
+    // Interns a punctuator of one byte, and records its number for the fast path.
     #[inline(never)]
     fn intern_byte(&mut self, sign: &[u8]) -> Result<u32, AllocError>
         requires few { length self.old.strings + 1 < string_limit }
@@ -118,7 +118,7 @@ impl StringTable {
         Ok(number)
     }
 
-    // Makes the table of bytes, if there is none, and memory is there.
+    // Allocates `byte_ids`, unless it is there. If memory is refused, the table works without it.
     fn begin(&mut self)
         ensures { self.new ≡ self.old }
     {
@@ -130,14 +130,14 @@ impl StringTable {
         }
     }
 
-    /// The texts.
+    /// The strings.
     pub fn strings(&self) -> &StringList
         ensures { result.now ≡ self.now.strings }
     {
         self.strings.strings()
     }
 
-    /// The texts, of which none is looked for any longer.
+    /// The strings. What finds interned words is dropped.
     pub fn close(self) -> StringList
         ensures { result ≡ self.strings }
     {
@@ -150,7 +150,7 @@ impl StringTable {
     }
 }
 
-// The number of the text that is a byte, where it is known.
+// The recorded number of the interned string that is a byte.
 #[inline(always)]
 fn byte_id(byte_ids: &[u32], byte: u8) -> Option<u32>
     ensures some { IfSome result (λ number. slice_get byte_ids.now byte ≡ Some (number + 1)) }
@@ -163,7 +163,7 @@ fn byte_id(byte_ids: &[u32], byte: u8) -> Option<u32>
     }
 }
 
-// Notes the number of the text that is a byte, if there is a table, and one more than the number fits.
+// Records the number of the interned string that is a byte, if there is a table and the entry fits.
 fn set_byte_id(byte_ids: &mut Vec<u32>, byte: u8, number: u32)
     ensures byte_ids { (kept : StringTableModel) → AreByteIds kept byte_ids.old.items
         → IsByteId kept byte number

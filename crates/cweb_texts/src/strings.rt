@@ -1,4 +1,4 @@
-// Texts in one list of bytes.
+// Strings in one byte buffer.
 
 ghost use Rattle.std.specs.Prelude.{◌≡◌, ◌<◌, ◌+◌, ◌++◌, ◌∷◌, [], List, ℕ, length, drop, take};
 ghost use Rattle.std.specs.Prelude.{slice_get, Some, IfOk, OnOk, OnErr};
@@ -10,16 +10,15 @@ use crate::slices::StringSlices;
 use std::alloc::{AllocError, Global};
 use std::marker::Model;
 
-/// Texts, numbered from 0. They stand one after another in a list of bytes; of each is known where it begins and ends, and of
-/// a word its border.
+/// Strings, numbered from 0, one after another in one buffer. A word has its edge beside it.
 pub struct StringList {
     bytes: Vec<u8>,
-    // where the first text begins, and where each ends: the next one begins there. Nothing where there was no text
+    // the start of the first string, and the end of each, where the next one starts. Empty before the first string
     offsets: Vec<usize>,
     edges: Vec<Edge>,
 }
 
-// It is let go by one call wherever it is held, not part by part.
+// One call drops all fields, so each holder's code is shorter.
 impl Drop for StringList {
     fn drop(self) {
         let StringList {
@@ -43,6 +42,7 @@ impl Model for StringList {
 }
 
 impl StringList {
+    /// An empty list. It takes no memory.
     pub fn new(alloc: Global) -> StringList
         ensures { result ≡ [] }
     {
@@ -53,13 +53,14 @@ impl StringList {
         }
     }
 
+    /// The number of strings.
     pub fn len(&self) -> usize
         ensures { result ≡ length self.now }
     {
         self.edges.len()
     }
 
-    /// Adds a text, and answers its number. A refused call changes nothing.
+    /// Appends a string without an edge, and returns its number.
     pub fn add(&mut self, string: &[u8]) -> Result<usize, AllocError>
         ensures number { IfOk result (λ number. number ≡ length self.old) }
         ensures added { OnOk result (self.new ≡ self.old ++ string.now ∷ []) }
@@ -68,7 +69,7 @@ impl StringList {
         self.add_with_edge(string, Edge::Unknown)
     }
 
-    /// The same, and keeps its border.
+    /// Appends a word with its edge, and returns its number.
     pub fn add_word(&mut self, word: &[u8]) -> Result<usize, AllocError>
         ensures number { IfOk result (λ number. number ≡ length self.old) }
         ensures added { OnOk result (self.new ≡ self.old ++ word.now ∷ []) }
@@ -93,19 +94,19 @@ impl StringList {
         Ok(number)
     }
 
-    /// Keeps the first texts alone. It takes no memory.
+    /// Drops all strings but the first `count`. It takes no memory.
     pub fn truncate(&mut self, count: usize)
         requires { count < length self.old }
         ensures { self.new ≡ take count self.old }
     {
-        // the next number is at most this, so that it fits
+        // the length bounds `count + 1`
         let _offsets = self.offsets.len();
         self.bytes.truncate(self.offsets[count]);
         self.offsets.truncate(count + 1);
         self.edges.truncate(count);
     }
 
-    /// The same texts, as slices.
+    /// The strings, as slices.
     #[inline(always)]
     pub fn slices(&self) -> StringSlices<'_>
         ensures { result ≡ self.now }
@@ -117,7 +118,7 @@ impl StringList {
         }
     }
 
-    /// The text with a number.
+    /// The string with a number.
     pub fn string(&self, number: usize) -> &[u8]
         requires { number < length self.now }
         ensures { slice_get self.now number ≡ Some result.now }
@@ -125,17 +126,17 @@ impl StringList {
         self.slices().string(number)
     }
 
-    /// The text with a number, counted from another.
+    /// The string `number` places after the string `first`.
     pub fn string_after(&self, first: usize, number: usize) -> &[u8]
         requires { first + number < length self.now }
         ensures { slice_get self.now (first + number) ≡ Some result.now }
     {
-        // the sum is below this, so that it fits
+        // the count bounds `first + number`
         let _count = self.len();
         self.string(first + number)
     }
 
-    /// How many bytes the texts have.
+    /// The number of bytes of all strings.
     pub fn text_bytes(&self) -> usize
         ensures { result ≡ length (text_bytes self.now) }
     {
@@ -143,7 +144,7 @@ impl StringList {
     }
 }
 
-// Notes where the first text begins, unless that is noted.
+// Records the start of the first string, unless it is there.
 fn begin(offsets: &mut Vec<usize>) -> Result<(), AllocError>
     requires { IsFromStart offsets.old.items }
     ensures begun { OnOk result (0 < length offsets.new.items) }

@@ -1,4 +1,4 @@
--- What a text that is printed as it stands is to those beside it.
+-- The edge of a string that is printed as it is.
 use Rattle.std.specs.Prelude.{◌≡◌, ℕ, Bool, true, false, ◌==◌, nat_le, List, [], ◌∷◌, codes, if◌then◌else◌}
 use Rattle.std.specs.List.{list_any}
 use Rattle.cweb_texts.specs.declared.edges.Edge.{Edge}
@@ -6,7 +6,7 @@ use Rattle.cweb_texts.specs.declared.edges.Edge.TheVariants as border
 use Rattle.cweb_texts.specs.declared.edges.TokenBytes.{TokenBytes}
 use Rattle.cweb_texts.specs.Edges.{is_one_of, is_operator, first_is, last_is}
 
--- bytes that could go on in a number
+-- a byte that may continue a number
 abbrev pub is_numeric : ℕ → Bool
 is_numeric b = is_one_of (codes ".+-") b
 
@@ -14,12 +14,12 @@ is_numeric b = is_one_of (codes ".+-") b
 abbrev pub is_high : ℕ → Bool
 is_high b = nat_le 128 b
 
--- one of three borders, by two tests of the last byte: it is a point, it is an operator byte
+-- one of three edges, by two tests of the last byte: whether it is a point, and whether it is an operator byte
 abbrev pub edge_by_last : Edge → Edge → Edge → Bool → Bool → Edge
 edge_by_last plain operator point is_point is_operator =
     if is_point then point else (if is_operator then operator else plain)
 
--- the border of a punctuator, by two tests of its first byte, and those of its last one
+-- the edge of a punctuator, by two tests of its first byte and two of its last byte
 abbrev pub punctuator_edge_by : Bool → Bool → Bool → Bool → Edge
 punctuator_edge_by is_numeric is_operator is_point ends =
     if is_numeric then edge_by_last border.NumericPlain border.NumericOperator border.NumericPoint is_point ends
@@ -32,7 +32,7 @@ punctuator_edge b =
     punctuator_edge_by (first_is is_numeric b) (first_is is_operator b) (last_is (λ x. x == 46) b)
     (last_is is_operator b)
 
--- that of a text, which is told where all its bytes are ASCII
+-- the edge of a string, which is known where all its bytes are ASCII
 abbrev pub string_edge : List ℕ → Edge
 string_edge b = if list_any is_high b then border.Unknown else punctuator_edge b
 
@@ -40,7 +40,7 @@ abbrev pub is_known_edge : Edge → Bool
 is_known_edge border.Unknown = false
 is_known_edge b = true
 
--- the border that is kept of a text is its own, unless none is kept
+-- an edge that is stored for a string is its own, or unknown
 abbrev pub IsStoredEdge : List ℕ → Edge → Type 0
 IsStoredEdge string b = is_known_edge b ≡ true → b ≡ string_edge string
 
@@ -49,7 +49,7 @@ AreStoredEdges [] [] = Unit {0}
 AreStoredEdges (t ∷ ts) (b ∷ bs) = IsStoredEdge t b × AreStoredEdges ts bs
 AreStoredEdges ts bs = ⊥
 
--- a text and its border
+-- a string and its edge
 pub record TokenBytesModel : Type 0 where
   pub string : List ℕ
   pub edge : Edge

@@ -1,10 +1,10 @@
--- The key of a word, and where the words of a key stand in a table.
+-- The key of a word, and its bucket.
 use Rattle.std.specs.Prelude.{ℕ, ◌<◌, ◌+◌, ◌-◌, ◌*◌, ◌/◌, ◌%◌, ◌^◌, nat_lt, List, length, take, drop, slice_index_or}
 use Rattle.std.specs.Prelude.{if◌then◌else◌, bit_xor}
 use Rattle.std.specs.Int.{w32, w64, from_le_bytes}
 use Rattle.cweb_texts.specs.declared.words.key.Key.{Key}
 
--- the numbers of a text are bytes
+-- each number is a byte
 abbrev pub AreBytes : List ℕ → Type 0
 AreBytes string = (i : ℕ) → slice_index_or string i 0 < 256
 
@@ -26,7 +26,7 @@ long_key word = record {
   last = from_le_bytes w64 (drop (length word - 8) word);
 }
 
--- the numbers that the first bytes of a word and its last ones make: eight of each, or four, or what there is
+-- the first bytes of a word and its last bytes as numbers: eight of each, or four, or what there is
 unfoldable pub key_of : List ℕ → Key
 key_of word =
     if nat_lt (length word) 4 then short_key word
@@ -39,6 +39,6 @@ product_of key = ((key.first + (key.last * 0x8EBC6AF09C88C6E3) % 2 ^ 64) % 2 ^ 6
 unfoldable pub key_hash : Key → ℕ
 key_hash key = bit_xor (product_of key / 2 ^ 64) (product_of key % 2 ^ 64)
 
--- where the window of a key begins among n slots
+-- the bucket of a key among n
 unfoldable pub home_bucket_of : Key → ℕ → ℕ
 home_bucket_of key n = (key_hash key * n) / 2 ^ 64

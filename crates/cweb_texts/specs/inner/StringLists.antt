@@ -1,35 +1,35 @@
--- Texts that stand one after another in a list of bytes.
+-- Strings one after another in a byte buffer.
 use Rattle.std.specs.Prelude.{◌≡◌, ℕ, zero, suc, ◌≤◌, List, [], ◌∷◌, flat_map, drop, length, slice_index_or}
 use Rattle.std.specs.Prelude.{slice_range}
 use Rattle.cweb_texts.specs.declared.edges.Edge.{Edge}
 use Rattle.cweb_texts.specs.inner.Edges.{AreStoredEdges}
 
--- each text ends where the next begins, where the first begins at byte n
+-- the strings with these ends, where the first starts at byte n and each other starts where the one before it ends
 abbrev pub strings_from : List ℕ → ℕ → List ℕ → List (List ℕ)
 strings_from bytes n [] = []
 strings_from bytes n (end ∷ ends) = slice_range bytes n end ∷ strings_from bytes end ends
 
--- from byte n on the texts take all bytes
+-- the ends do not decrease, and the last string ends at the last byte
 abbrev pub AreEnds : ℕ → List ℕ → ℕ → Type 0
 AreEnds n [] all = n ≡ all
 AreEnds n (end ∷ ends) all = (n ≤ end) × AreEnds end ends all
 
--- the bytes of texts
+-- the bytes of strings
 abbrev pub text_bytes : List (List ℕ) → List ℕ
 text_bytes strings = flat_map (λ t. t) strings
 
--- where text k begins, where the first begins at byte n
+-- the start of string k, where the first starts at byte n
 abbrev pub string_start : ℕ → List ℕ → ℕ → ℕ
 string_start n ends zero = n
 string_start n [] (suc k) = n
 string_start n (end ∷ ends) (suc k) = string_start end ends k
 
--- the first text begins at byte 0
+-- the first string starts at byte 0
 abbrev pub IsFromStart : List ℕ → Type 0
 IsFromStart [] = Unit {0}
 IsFromStart (n ∷ ends) = n ≡ 0
 
--- what is kept of texts: where the first begins and each ends, and of each its border, or that none is kept
+-- the lists of a StringList: the bytes, the start of the first string and the end of each, and the stored edges
 pub record IsStringList (bytes offsets : List ℕ) (edges : List Edge) : Type 0 where
   pub start : IsFromStart offsets
   pub ends_at : AreEnds 0 (drop 1 offsets) (length bytes)

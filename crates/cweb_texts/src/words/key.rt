@@ -1,24 +1,27 @@
-// What tells most words apart, and where in a table a word stands.
+// The key of a word, and its bucket.
 
 ghost use Rattle.std.specs.Prelude.{◌≡◌, ◌≤◌, length, slice_index_or};
 ghost use Rattle.std.specs.Int.{w32, w64, from_le_bytes};
 ghost use Rattle.cweb_texts.specs.inner.Keys.{key_of, home_bucket_of, key_hash};
 
-/// The numbers that the first bytes of a word and its last ones make.
+/// The first bytes of a word and its last bytes, as two numbers. With the length they determine a word of at most
+/// 16 bytes.
 #[derive(Clone, Copy)]
 pub struct Key {
+    /// The number that the first bytes make.
     pub first: u64,
+    /// The number that the last bytes make.
     pub last: u64,
 }
 
-// Odd numbers with no pattern in their bits. Other pairs of such numbers left more Words outside their first slot, of those
-// of a web, of numbered names and of headers.
+// Odd multipliers with irregular bits. On real webs, numbered names and C headers, the other pairs that were tried had
+// more collisions.
 const LAST_FACTOR: u64 = 0x8EBC_6AF0_9C88_C6E3;
 
 const BOTH_FACTOR: u64 = 0x9FB2_1C65_1E98_DF25;
 
 impl Key {
-    /// The key of a word. With its length it tells a word of at most 16 bytes.
+    /// The key of a word.
     pub fn of(word: &[u8]) -> Key
         ensures { result ≡ key_of word.now }
     {
@@ -42,7 +45,7 @@ impl Key {
     }
 }
 
-/// Where among the slots of a table the window of a key begins.
+/// The bucket of a key in a table of so many slots.
 pub fn home_bucket(key: Key, slots: usize) -> usize
     ensures is { result ≡ home_bucket_of key slots }
     ensures within { result ≤ slots }
@@ -50,7 +53,7 @@ pub fn home_bucket(key: Key, slots: usize) -> usize
     ((key_hash(key) as u128 * slots as u128) >> 64) as usize
 }
 
-// The two numbers of a key as one. All bits of it count in those that `home` looks at.
+// Mixes the two numbers of a key. Each of their bits affects the high bits, which `home_bucket` uses.
 #[inline(always)]
 fn key_hash(key: Key) -> u64
     ensures { result ≡ key_hash key }
@@ -62,14 +65,14 @@ fn key_hash(key: Key) -> u64
     high ^ low
 }
 
-/// The byte at a place of a word, or 0 behind its end.
+/// The byte at an index of a word, or 0 past its end.
 pub fn byte_at(word: &[u8], place: usize) -> u8
     ensures { result ≡ slice_index_or word.now place 0 }
 {
     if place < word.len() { word[place] } else { 0 }
 }
 
-// The number that four bytes make.
+// Four bytes as a little-endian number.
 fn four(bytes: &[u8]) -> u64
     requires { length bytes.now ≡ 4 }
     ensures { result ≡ from_le_bytes w32 bytes.now }
@@ -80,7 +83,7 @@ fn four(bytes: &[u8]) -> u64
     }
 }
 
-// The number that eight bytes make.
+// Eight bytes as a little-endian number.
 fn eight(bytes: &[u8]) -> u64
     requires { length bytes.now ≡ 8 }
     ensures { result ≡ from_le_bytes w64 bytes.now }
