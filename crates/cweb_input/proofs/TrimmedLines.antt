@@ -5,7 +5,6 @@ use Rattle.std.proofs.lemmas.List.{take_more}
 use Rattle.cweb_files.specs.declared.place.FileId.{FileId}
 use Rattle.cweb_input.specs.Lines.{SourceLine, trimmed, before_blanks, is_blank, numbered_lines}
 use Rattle.cweb_input.specs.surface.Lines.{IsOneLine}
-use Rattle.cweb_input.specs.inner.TrimmedLines.{TakesWholeLine}
 use Rattle.cweb_input.specs.OpenSources.{TakenCountersModel}
 use Rattle.cweb_input.specs.inner.OpenSources.{TakesNextLine, FirstStops, NamesFile, newline_bytes, stop_for}
 use Rattle.cweb_input.specs.surface.OpenSources.{StopsFor, StopsReading}
@@ -154,17 +153,3 @@ trimmed-length (b ∷ xs) = omega (arith, before_blanks-length b (trimmed xs), t
 
 pub trimmed-line : (xs : List ℕ) → HasNoNewline xs → length xs ≤ LINE_LENGTH → IsOneLine (trimmed xs)
 trimmed-line xs clean short = record { clean = trimmed-clean xs clean; short = omega (arith, short, trimmed-length xs) }
-
-pub whole_line-one : (old bytes : List ℕ) (size : ℕ) (new : List ℕ) → TakesWholeLine old bytes size new
-    → IsOneLine bytes
-whole_line-one old bytes size new takes = subst IsOneLine (sym takes.bytes_are)
-    (trimmed-line takes.raw takes.clean takes.short)
-
-pub whole_line-gains : (old bytes : List ℕ) (size : ℕ) (new : List ℕ) → TakesWholeLine old bytes size new →
-    length bytes ≤ size
-whole_line-gains old bytes size new takes = omega (
-  arith,
-  ap (λ (l : List ℕ). length l) takes.bytes_are,
-  trimmed-length takes.raw,
-  takes.size_is,
-)

@@ -8,15 +8,6 @@ use Rattle.cweb_input.specs.declared.limits.TheConstants.{LINE_LENGTH}
 use Rattle.cweb_input.specs.declared.source.LineTermination.{LineTermination}
 use Rattle.cweb_input.specs.declared.source.LineTermination.TheVariants.{Ended}
 
--- A line with its newline is taken. `size` includes the newline.
-pub record TakesWholeLine (old bytes : List ℕ) (size : ℕ) (new : List ℕ) : Type 0 where
-  pub raw : List ℕ
-  pub whole : old ≡ raw ++ 10 ∷ new
-  pub clean : HasNoNewline raw
-  pub short : length raw ≤ LINE_LENGTH
-  pub bytes_are : bytes ≡ trimmed raw
-  pub size_is : size ≡ length raw + 1
-
 -- A line is taken. `size` includes the newline, if it has one.
 pub record TakesTrimmedLine (old bytes : List ℕ) (size : ℕ) (new : List ℕ) : Type 0 where
   pub taken : LineTermination

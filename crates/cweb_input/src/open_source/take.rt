@@ -6,7 +6,7 @@ ghost use Rattle.cweb_input.specs.inner.LineCalls.{AnswersLine, KeepsOpenSource}
 ghost use Rattle.cweb_input.specs.inner.Source.{bytes_left, IsLongerThan, CountsReadFault};
 ghost use Rattle.cweb_input.specs.surface.Source.{buffered};
 ghost use Rattle.cweb_input.specs.inner.Source.{BlamesReader};
-ghost use Rattle.cweb_input.specs.inner.TrimmedLines.{TakesWholeLine, TakesTrimmedOrEnds};
+ghost use Rattle.cweb_input.specs.inner.TrimmedLines.{TakesTrimmedOrEnds};
 ghost use Rattle.cweb_input.specs.Lines.{trimmed};
 ghost use Rattle.cweb_input.specs.surface.Lines.{IsOneLine};
 ghost use Rattle.cweb_input.specs.Lines as spec;
@@ -76,42 +76,6 @@ fn newline_size(taken: LineTermination) -> usize
     }
 }
 
-// Replaces the contents of a buffer.
-fn set(line: &mut Vec<u8>, bytes: &[u8]) -> Result<(), AllocError>
-    ensures { OnOk result (line.new.items ≡ bytes.now) }
-{
-    line.clear();
-    line.extend_from_slice(bytes)
-}
-
-// Fast path: takes a line that was read whole, and returns its size with the newline. The line is copied once, already
-// trimmed. `None` means that no whole line was read, or that it may be too long.
-#[inline(always)]
-fn take_whole<R: Drop>(
-    source: &mut Source<R>,
-    line: &mut Vec<u8>,
-) -> Result<Option<usize>, AllocError>
-    ensures none { result ≡ Ok None → source.new ≡ source.old }
-    ensures reader { source.new.reader.value ≡ source.old.reader.value }
-    ensures taken { IfOk result (λ size. IfSome size
-        (λ n. TakesWholeLine (buffered source.old) line.new.items n (buffered source.new))) }
-{
-    if source.start >= source.lines_end {
-        return Ok(None);
-    }
-    let pending = &source.buffer[source.start..source.end];
-    let Some(at) = newline_at(pending) else {
-        return Ok(None);
-    };
-    if at > LINE_LENGTH {
-        return Ok(None);
-    }
-    let raw = &pending[..at];
-    set(line, &raw[..trimmed_length(raw)])?;
-    source.start += at + 1;
-    Ok(Some(at + 1))
-}
-
 // Takes the next line, trimmed, and returns its untrimmed size with the newline, if it has one.
 #[inline(always)]
 fn take_trimmed<S: Shelf>(
@@ -136,9 +100,6 @@ fn take_trimmed<S: Shelf>(
     ensures line { IfOk result (λ size. OnSome size (IsOneLine line.new.items)) }
     ensures gains { IfOk result (λ size. IfSome size (λ n. length line.new.items ≤ n)) }
 {
-    if let Some(size) = take_whole(source, line)? {
-        return Ok(Some(size));
-    }
     let taken = match next_line(shelf, source, line) {
         Ok(taken) => taken,
         Err(fault) => return Err(fault),
