@@ -1,6 +1,5 @@
 -- How taking a trimmed line changes what is left.
-use Rattle.std.specs.Prelude.{◌≡◌, ◌≢◌, ℕ, ◌+◌, ◌≤◌, List, [], ◌∷◌, ◌++◌, length, Option, None, Some}
-use Rattle.cweb_input.specs.surface.Lines.{HasNoNewline}
+use Rattle.std.specs.Prelude.{◌≡◌, ◌≢◌, ℕ, ◌+◌, ◌≤◌, List, [], length, Option, None, Some}
 use Rattle.cweb_input.specs.Lines.{trimmed}
 use Rattle.cweb_input.specs.inner.Source.{TakesRawLine}
 use Rattle.cweb_input.specs.inner.OpenSources.{newline_bytes}

@@ -1,10 +1,9 @@
 // The next line of an open source, trimmed of trailing blanks.
-ghost use Rattle.std.specs.Prelude.{◌≡◌, ◌≤◌, ◌<◌, ◌+◌, ◌^◌, ℕ, List, length, take, IsTrue, IfOk};
-ghost use Rattle.std.specs.Prelude.{IfErr, IfSome, OnSome, OnOk, OnErr, IsErrOf, Ok, None, Some};
+ghost use Rattle.std.specs.Prelude.{◌≡◌, ◌≤◌, ◌<◌, ◌+◌, ◌^◌, ℕ, length, take, IsTrue, IfOk};
+ghost use Rattle.std.specs.Prelude.{IfErr, IfSome, OnSome, IsErrOf, Ok, None, Some};
 ghost use Rattle.cweb_files.specs.surface.Frames.{KeepsShelf};
 ghost use Rattle.cweb_input.specs.inner.LineCalls.{AnswersLine, KeepsOpenSource};
 ghost use Rattle.cweb_input.specs.inner.Source.{bytes_left, IsLongerThan, CountsReadFault};
-ghost use Rattle.cweb_input.specs.surface.Source.{buffered};
 ghost use Rattle.cweb_input.specs.inner.Source.{BlamesReader};
 ghost use Rattle.cweb_input.specs.inner.TrimmedLines.{TakesTrimmedOrEnds};
 ghost use Rattle.cweb_input.specs.Lines.{trimmed};
@@ -12,15 +11,15 @@ ghost use Rattle.cweb_input.specs.surface.Lines.{IsOneLine};
 ghost use Rattle.cweb_input.specs.Lines as spec;
 ghost use Rattle.cweb_input.specs.surface.Counters.{counters_of};
 ghost use Rattle.cweb_input.specs.surface.OpenSources.{lines_left, lines_at, number_or_zero};
-ghost use Rattle.cweb_input.specs.surface.OpenSources.{source_depth, matches_at, StopsFor};
-ghost use Rattle.cweb_input.specs.surface.OpenSources.{StopsReading, CountsReadStop};
+ghost use Rattle.cweb_input.specs.surface.OpenSources.{StopsFor};
+ghost use Rattle.cweb_input.specs.surface.OpenSources.{CountsReadStop};
 ghost use Rattle.cweb_input.specs.inner.OpenSources.{line_number, DeepAt, files_up_to};
-ghost use Rattle.cweb_input.specs.inner.OpenSources.{TakesNextLine, FirstStops, Counted, NamesFile};
-ghost use Rattle.cweb_input.specs.inner.OpenSources.{NamesFiles, stop_for, newline_bytes};
+ghost use Rattle.cweb_input.specs.inner.OpenSources.{TakesNextLine, FirstStops, NamesFile};
+ghost use Rattle.cweb_input.specs.inner.OpenSources.{stop_for, newline_bytes};
 ghost use Rattle.cweb_input.specs.inner.ReaderNames.{BlamesSource, KeepsReaderName};
 
 use crate::counters::TakenCounters;
-use crate::cut::{newline_at, next_line};
+use crate::cut::next_line;
 use crate::limits::LINE_LENGTH;
 use crate::open_source::{LineAt, OpenSource};
 use crate::source::{LineFault, LineTermination, Source};
