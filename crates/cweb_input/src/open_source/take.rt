@@ -25,7 +25,6 @@ use crate::open_source::{LineAt, OpenSource};
 use crate::source::{LineFault, LineTermination, Source};
 use crate::stop::Stop;
 use cweb_files::{FileId, Place, Shelf};
-use std::alloc::AllocError;
 
 fn is_blank(b: u8) -> bool
     ensures { result ≡ spec.is_blank b }
