@@ -35,15 +35,13 @@ pub use Rattle.cweb_texts.specs.inner.Keys.{AreBytes, short_key, middle_key, lon
 pub use Rattle.cweb_texts.specs.inner.StringLists.{strings_from, AreEnds, string_start, IsFromStart, text_bytes}
 pub use Rattle.cweb_texts.specs.inner.StringLists.{string_at}
 pub use Rattle.cweb_texts.specs.inner.ByteIds.{IsByteId, AreByteIds}
-pub use Rattle.cweb_texts.specs.inner.Slots.{Entries, DescribesString, FindsWordString, FillsWordSlot, IsInserted}
-pub use Rattle.cweb_texts.specs.inner.Slots.{IsTable}
-pub use Rattle.cweb_texts.specs.inner.Slots.{slot_has_word, slot_string}
-pub use Rattle.cweb_texts.specs.inner.Slots.{probe_window, entry_word, compare_vecs, AreMapped, SlotsDescribeStrings}
-pub use Rattle.cweb_texts.specs.inner.Slots.{AreSlots, FillsSlot, free_slot}
-pub use Rattle.cweb_texts.specs.inner.Slots.{is_occupied, slot_matches_key, slot_words, table_has_word}
 pub use Rattle.cweb_texts.specs.surface.StringTables.{total, with_word}
 pub use Rattle.cweb_texts.specs.inner.StringTables.{StringTableModel, InternsWord, has_word, table_model}
 pub use Rattle.cweb_texts.specs.inner.StringTables.{AddsString}
 pub use Rattle.cweb_texts.specs.declared.edges.Edge.{Edge}
 pub use Rattle.cweb_texts.specs.declared.words.key.Key.{Key}
-pub use Rattle.cweb_texts.specs.declared.words.slot.Slot.{Slot}
+pub use Rattle.cweb_texts.specs.inner.Words.{word_string, have_string, DescribesString, DescribeStrings, FindsString, PushesWord}
+pub use Rattle.cweb_texts.specs.inner.Words.{compare_vecs, Entries, entry_word, IsInserted, AreMapped, AreInterned}
+pub use Rattle.cweb_texts.specs.inner.Chains.{IsLink, AreChains}
+pub use Rattle.cweb_texts.specs.declared.words.word.Word.{Word}
+pub use Rattle.cweb_texts.specs.declared.words.chains.Chains.{Chains}
