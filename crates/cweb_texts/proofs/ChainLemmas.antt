@@ -1,20 +1,10 @@
 -- The chains of a hash table, where a word is linked.
-use Rattle.cweb_texts.proofs.Common.{◌≡◌, ℕ, zero, suc, ◌+◌, ◌-◌, ◌<◌, ◌≤◌, List, [], ◌∷◌, ◌++◌, ◌⊎◌, inl, inr, Some, refl, sym, subst, ◌∙◌, ap, arith, length, set, get_or, slice_get, slice_index_or, slice_get_within, length-append, length-set, nat_eq, nat_lt, eqb-true, ltb-true, ltb-false, true, false, Word, Chains, IsLink, AreChains}
+use Rattle.cweb_texts.proofs.Common.{◌≡◌, ℕ, ◌+◌, ◌-◌, ◌<◌, ◌≤◌, List, [], ◌∷◌, ◌++◌, inl, inr, Some, refl, sym, subst, ◌∙◌, ap, arith, length, set, slice_get, slice_index_or, slice_get_within, length-append, length-set, nat_eq, nat_lt, eqb-true, ltb-true, ltb-false, true, false, Word, Chains, IsLink, AreChains}
 use Rattle.std.proofs.Common.{get_or-set_same, get_or-set_other}
 use Rattle.std.proofs.lemmas.List.{get_or_append_left}
 use Rattle.std.proofs.Math.Seq.{get_or-append_seam}
 use Rattle.cweb_texts.specs.inner.Keys.{home_bucket_of}
-
--- an item of a list with one more
-pub get-push : {X : Type 0} (xs : List X) (x : X) (k : ℕ) (y : X) → slice_get (xs ++ x ∷ []) k ≡ Some y
-    → (slice_get xs k ≡ Some y) ⊎ ((k ≡ length xs) × (x ≡ y))
-get-push [] x zero y h = let same : x ≡ y = cc in inr (refl, same)
-get-push [] x (suc k) y h = cc
-get-push (z ∷ xs) x zero y h = inl h
-get-push (z ∷ xs) x (suc k) y h = elim (get-push xs x k y h) [
-  | inl old ↦ inl old
-  | inr new ↦ inr (ap suc new.0, new.1)
-]
+use Rattle.cweb_texts.proofs.ListLemmas.{get-push}
 
 link-grow : (ws : List Word) (w : Word) (buckets bucket link count : ℕ) → IsLink ws buckets bucket link count
     → count ≤ length ws → IsLink (ws ++ w ∷ []) buckets bucket link count

@@ -1,5 +1,7 @@
 -- Words and their strings.
-use Rattle.cweb_texts.proofs.Common.{◌≡◌, ℕ, zero, suc, true, false, List, [], ◌∷◌, ◌++◌, map, length, Some, refl, sym, ◌∙◌, ap, arith, slice_get, bytes_eq, bytes_decides, any_passes_from_place, Word, word_string, have_string, DescribesString, DescribeStrings, FindsString}
+use Rattle.cweb_texts.proofs.Common.{◌≡◌, ℕ, zero, suc, true, false, List, [], ◌∷◌, ◌++◌, map, Some, refl, sym, ◌∙◌, ap, arith, slice_get, bytes_eq, bytes_decides, any_passes_from_place, Word, word_string, have_string, DescribesString, DescribeStrings, FindsString}
+use Rattle.std.specs.Option.{option_map}
+use Rattle.std.proofs.lemmas.Option.{slice_get-map}
 use Rattle.cweb_texts.specs.inner.Keys.{key_of, home_bucket_of}
 use Rattle.cweb_texts.proofs.StringListLemmas.{get-grow, get-string}
 
@@ -26,12 +28,6 @@ same-strings strings more (w ∷ ws) h =
     λ i. string i ∷ rest i
 
 -- a word that is found
-map-get : {A : Type 0} {B : Type 0} (f : A → B) (xs : List A) (k : ℕ) (x : A) → slice_get xs k ≡ Some x
-    → slice_get (map f xs) k ≡ Some (f x)
-map-get f [] k x h = cc
-map-get f (y ∷ xs) zero x h = let same : y ≡ x = cc in ap (λ z. Some (f z)) same
-map-get f (y ∷ xs) (suc k) x h = map-get f xs k x h
-
 pub found-word : (strings : List (List ℕ)) (ws : List Word) (word : List ℕ) (k : ℕ) (w : Word)
     → DescribeStrings strings ws → slice_get ws k ≡ Some w → bytes_eq word (word_string strings w) ≡ true
     → FindsString strings ws word w.number
@@ -39,7 +35,7 @@ found-word strings ws word k w describe there is =
     let d = describe k w there in
     record {
       among = any_passes_from_place (bytes_eq word) (map (word_string strings) ws) k (word_string strings w)
-          (map-get (word_string strings) ws k w there) is;
+          (slice_get-map (word_string strings) ws k ∙ ap (option_map (word_string strings)) there) is;
       there = d.there ∙ ap Some (sym ((bytes_decides word (word_string strings w)).0 is
           ∙ get-string strings w.number d.string d.there));
     }

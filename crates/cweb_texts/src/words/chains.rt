@@ -33,7 +33,7 @@ impl Chains {
     }
 
     /// Links words in so many buckets. Returns `None` if memory is refused.
-    pub fn of(alloc: Global, words: &[Word], buckets: usize) -> Option<Chains>
+    pub fn with_buckets(alloc: Global, words: &[Word], buckets: usize) -> Option<Chains>
         ensures { IfSome result (AreChains words.now) }
     {
         let mut chains = Chains {
@@ -67,7 +67,7 @@ impl Chains {
         true
     }
 
-    // Whether a chain may not grow.
+    // Whether the chain of a bucket takes no more words.
     fn is_full(&self, bucket: usize) -> bool {
         let mut link = self.head(bucket);
         for _ in 0..LONGEST_CHAIN {
@@ -90,7 +90,7 @@ impl Chains {
         }
     }
 
-    /// The link to the word before a word that a link leads to.
+    /// The link to the word before the word to which a link leads.
     pub fn next(&self, link: usize) -> usize
         ensures { 0 < link → result ≡ slice_index_or self.now.nexts.items (link - 1) 0 }
     {

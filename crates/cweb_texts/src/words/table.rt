@@ -48,11 +48,11 @@ impl WordTable {
 
     /// The latest word of the bucket of a key.
     #[inline(always)]
-    pub fn latest(&self, key: Key) -> Option<Word>
-        ensures { IfSome result (λ word. (k : ℕ) × (slice_get self.now k ≡ Some word)) }
+    pub fn latest(&self, key: Key) -> Option<&Word>
+        ensures { IfSome result (λ word. (k : ℕ) × (slice_get self.now k ≡ Some word.now)) }
     {
         let head = self.chains.head(home_bucket(key, self.chains.heads.len()));
-        self.words.get(head.wrapping_sub(1)).copied()
+        self.words.get(head.wrapping_sub(1))
     }
 
     /// The number of the string of a word, if the table has the word.
@@ -64,7 +64,7 @@ impl WordTable {
     {
         let mut link = self.chains.head(home_bucket(key, self.chains.heads.len()));
         'chain: while link > 0 {
-            let candidate = self.words[link - 1];
+            let candidate = &self.words[link - 1];
             if candidate.is(strings, key, word) {
                 return Some(candidate.number as usize);
             }
@@ -97,7 +97,7 @@ impl WordTable {
             return;
         }
         let more = if buckets == 0 { FIRST_BUCKETS } else { 2 * buckets };
-        if let Some(chains) = Chains::of(self.alloc, self.words.as_slice(), more) {
+        if let Some(chains) = Chains::with_buckets(self.alloc, self.words.as_slice(), more) {
             self.chains = chains;
         }
     }

@@ -36,12 +36,12 @@ impl Word {
 
     /// Whether this word is the string with a key. For a short string no other string is read.
     #[inline(always)]
-    pub fn is(self, strings: &StringList, key: Key, string: &[u8]) -> bool
-        requires describes { DescribesString strings.now self }
+    pub fn is(&self, strings: &StringList, key: Key, string: &[u8]) -> bool
+        requires describes { DescribesString strings.now self.now }
         requires key { key ≡ key_of string.now }
-        ensures { result ≡ bytes_eq string.now (word_string strings.now self) }
+        ensures { result ≡ bytes_eq string.now (word_string strings.now self.now) }
     {
-        if !has_key(self, key, string.len()) {
+        if !self.has_key(key, string.len()) {
             return false;
         }
         if string.len() <= KEY_BYTES {
@@ -50,13 +50,13 @@ impl Word {
         }
         string == strings.string(self.number as usize)
     }
-}
 
-// Whether a word has a key and a length.
-fn has_key(word: Word, key: Key, len: usize) -> bool
-    ensures { IsTrue result ↔ (word.len ≡ len) × (word.key ≡ key) }
-{
-    word.len as usize == len && word.key.first == key.first && word.key.last == key.last
+    // Whether the key and the length are these.
+    fn has_key(&self, key: Key, len: usize) -> bool
+        ensures { IsTrue result ↔ (self.now.len ≡ len) × (self.now.key ≡ key) }
+    {
+        self.len as usize == len && self.key.first == key.first && self.key.last == key.last
+    }
 }
 
 /// Establishes that the items of a slice are bytes, as a read of one does.

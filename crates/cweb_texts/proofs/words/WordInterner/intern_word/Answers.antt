@@ -8,6 +8,6 @@ returns-in-Some-clause-ok c =
     let s = c.self.inside in
     let word = c.args.word.now in
     let latest = c.in-Some.latest in
-    rw (← c.self.view_is) (found-known s.strings s.table s.sorted.entries word latest.number
-    (found-word s.strings s.table word c.in-Some.ensures.0 latest c.self.invariant.in_table c.in-Some.ensures.1
+    rw (← c.self.view_is) (found-known s.strings s.table s.sorted.entries word latest.now.number
+    (found-word s.strings s.table word c.in-Some.ensures.0 latest.now c.self.invariant.in_table c.in-Some.ensures.1
     (sym c.if-is.ensures)))

@@ -1,6 +1,6 @@
 use Rattle.cweb_texts.proofs.Common.{refl, take, get_or, Word}
 use Rattle.std.proofs.lemmas.List.{take_more}
-use Rattle.cweb_texts.proofs.words.chains.Chains.of.Goals as goal
+use Rattle.cweb_texts.proofs.words.chains.Chains.with_buckets.Goals as goal
 
 pub loop-word-preserved : goal.loop-word-preserved
 loop-word-preserved c =
