@@ -5,8 +5,8 @@ pub mod StringListLemmas
 pub mod TruncationLemmas
 pub mod WordLemmas
 pub mod KeyLemmas
-pub mod SlotLemmas
+pub mod ChainLemmas
+pub mod TableLemmas
 pub mod MapLemmas
 pub mod InterningLemmas
 pub mod ByteIdLemmas
-pub mod RehashLemmas

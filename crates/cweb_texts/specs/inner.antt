@@ -2,6 +2,7 @@
 pub mod Edges
 pub mod StringLists
 pub mod Keys
-pub mod Slots
+pub mod Words
+pub mod Chains
 pub mod StringTables
 pub mod ByteIds

@@ -22,4 +22,4 @@ pub use slices::StringSlices;
 pub use string_table::StringTable;
 pub use strings::StringList;
 pub use words::key::{Key, byte_at, home_bucket};
-pub use words::slot::establish_byte_range;
+pub use words::word::establish_byte_range;

@@ -1,45 +1,42 @@
-// Texts, of which equal words are kept once.
+// Strings, and the words among them, of which equal ones are stored once.
 
-pub mod growth;
+pub mod chains;
 pub mod key;
-pub mod slot;
+pub mod table;
+pub mod word;
 
-ghost use Rattle.std.specs.Prelude.{◌≡◌, false, List, ℕ, IfOk, OnErr};
+ghost use Rattle.std.specs.Prelude.{◌≡◌, false, IfOk, OnOk, OnErr};
 ghost use Rattle.cweb_texts.specs.inner.Keys.{key_of};
+ghost use Rattle.cweb_texts.specs.inner.Words.{IsInserted};
 ghost use Rattle.cweb_texts.specs.inner.StringTables.{AddsString, InternsWord, has_word, empty_table};
 
 use crate::strings::StringList;
-use crate::words::growth::{insert_word, rehash_larger};
 use crate::words::key::Key;
-use crate::words::slot::{Slot, find_slot, first_slot, free_slots, place_word, probe_window};
+use crate::words::table::WordTable;
+use crate::words::word::establish_byte_range;
 use std::alloc::{AllocError, Global};
 use std::collections::BTreeMap;
 use std::marker::Model;
 
-// How many slots there are at first.
-const FIRST_SLOTS: usize = 64;
-
-/// Texts, and the numbers of the words among them. A word stands in a slot, or in a sorted map where the slots of its
-/// window have other words: so no choice of words makes this slow.
+/// Strings, and the words among them. A word is in a hash table, or in a sorted map where the table does not take it: so no
+/// choice of words makes this slow.
 #[derive(Drop)]
 pub struct WordInterner {
     alloc: Global,
     strings: StringList,
-    slots: Vec<Slot>,
-    // how many more words slots take before there are more of them
-    room: usize,
-    words: BTreeMap<Vec<u8>, usize>,
+    table: WordTable,
+    sorted: BTreeMap<Vec<u8>, usize>,
 }
 
 impl Model for WordInterner {
-    ghost use Rattle.cweb_texts.specs.inner.Slots.{IsTable};
+    ghost use Rattle.cweb_texts.specs.inner.Words.{AreInterned};
     ghost use Rattle.cweb_texts.specs.inner.StringTables.{StringTableModel, table_model};
 
     ghost Value = { StringTableModel };
 
-    ghost view = { λ s. table_model s.strings s.slots.items s.words.entries };
+    ghost view = { λ s. table_model s.strings s.table s.sorted.entries };
 
-    ghost invariant = { λ s. IsTable s.strings s.slots.items s.words.entries };
+    ghost invariant = { λ s. AreInterned s.strings s.table s.sorted.entries };
 }
 
 impl WordInterner {
@@ -49,13 +46,12 @@ impl WordInterner {
         WordInterner {
             alloc,
             strings: StringList::new(alloc),
-            slots: Vec::new(alloc),
-            room: 0,
-            words: BTreeMap::new(alloc),
+            table: WordTable::new(alloc),
+            sorted: BTreeMap::new(alloc),
         }
     }
 
-    /// Keeps a text, and answers its number. A refused call changes nothing.
+    /// Appends a string that is not interned, and returns its number. A refused call changes nothing.
     pub fn add_string(&mut self, string: &[u8]) -> Result<usize, AllocError>
         ensures ok { IfOk result (λ number. AddsString self.old string.now number self.new) }
         ensures err { OnErr result (self.new ≡ self.old) }
@@ -64,112 +60,87 @@ impl WordInterner {
         Ok(number)
     }
 
-    /// Keeps a word, unless it was kept as a word before. A refused call changes nothing.
+    /// Interns a word, and returns its number. A refused call changes nothing. The fast path looks at the latest word of the
+    /// bucket.
     pub fn intern_word(&mut self, word: &[u8]) -> Result<usize, AllocError>
         ensures ok { IfOk result (λ number. InternsWord self.old word.now number self.new) }
         ensures err { OnErr result (self.new ≡ self.old) }
     {
-        if let Some(number) = first_slot(&self.strings, self.slots.as_slice(), word) {
-            return Ok(number);
+        let key = Key::of(word);
+        match self.table.latest(key) {
+            Some(latest) if latest.is(&self.strings, key, word) => Ok(latest.number as usize),
+            _ => self.intern_uncached(key, word),
         }
-        self.intern_uncached(word)
     }
 
-    // Keeps a word that the first slot of its window may not have.
+    // Interns a word that the fast path did not find.
     #[inline(never)]
-    fn intern_uncached(&mut self, word: &[u8]) -> Result<usize, AllocError>
+    fn intern_uncached(&mut self, key: Key, word: &[u8]) -> Result<usize, AllocError>
+        requires { key ≡ key_of word.now }
         ensures ok { IfOk result (λ number. InternsWord self.old word.now number self.new) }
         ensures err { OnErr result (self.new ≡ self.old) }
     {
-        let key = Key::of(word);
-        let window = probe_window(self.slots.as_slice(), key);
-        if let Some(number) = find_slot(&self.strings, window, key, word) {
+        if let Some(number) = self.table.find(&self.strings, key, word) {
             return Ok(number);
         }
-        if let Some(number) = self.words.get(word).copied() {
+        if let Some(number) = self.sorted.get(word).copied() {
             return Ok(number);
         }
         self.add_new_word(key, word)
     }
 
-    // Keeps a word that wasn't kept before.
+    // Adds a word that is not interned yet.
     fn add_new_word(&mut self, key: Key, word: &[u8]) -> Result<usize, AllocError>
         requires key { key ≡ key_of word.now }
         requires absent { has_word self.old word.now ≡ false }
         ensures ok { IfOk result (λ number. InternsWord self.old word.now number self.new) }
         ensures err { OnErr result (self.new ≡ self.old) }
     {
-        self.begin();
-        let number = self.place_new_word(key, word)?;
-        if self.room == 0 {
-            self.grow();
-        }
-        Ok(number)
-    }
-
-    // Puts a word that wasn't kept before into a slot, or into the map.
-    fn place_new_word(&mut self, key: Key, word: &[u8]) -> Result<usize, AllocError>
-        requires key { key ≡ key_of word.now }
-        requires absent { has_word self.old word.now ≡ false }
-        ensures ok { IfOk result (λ number. InternsWord self.old word.now number self.new) }
-        ensures err { OnErr result (self.new ≡ self.old) }
-    {
         let number = self.strings.add_word(word)?;
-        if place_word(&mut self.slots, key, number, word.len()) {
-            self.room = self.room.saturating_sub(1);
+        establish_byte_range(word);
+        if self.table.push(key, word.len(), number) {
             return Ok(number);
         }
-        if let Err(refusal) = insert_word(self.alloc, &mut self.words, word, number) {
+        if let Err(refusal) = insert_word(self.alloc, &mut self.sorted, word, number) {
             self.strings.truncate(number);
             return Err(refusal);
         }
         Ok(number)
     }
 
-    // Makes the first slots, if there are none, and memory is there.
-    fn begin(&mut self)
-        ensures { self.new ≡ self.old }
-    {
-        if self.slots.len() != 0 {
-            return;
-        }
-        if let Ok(slots) = free_slots(self.alloc, FIRST_SLOTS) {
-            self.slots = slots;
-            self.room = FIRST_SLOTS / 3;
-        }
-    }
-
-    // Makes twice as many slots, if memory is there: a third of them may have words before they grow again.
-    fn grow(&mut self)
-        ensures strings { self.new.strings ≡ self.old.strings }
-        ensures words { (q : List ℕ) → has_word self.new q ≡ has_word self.old q }
-    {
-        let more = self.slots.len() / 3;
-        let old = self.slots.as_slice();
-        if let Ok(slots) = rehash_larger(self.alloc, &self.strings, old, &mut self.words) {
-            self.slots = slots;
-            self.room = more;
-        }
-    }
-
-    /// The texts.
+    /// The strings.
     pub fn strings(&self) -> &StringList
         ensures { result.now ≡ self.now.strings }
     {
         &self.strings
     }
 
-    /// The texts, whose words are no longer looked for.
+    /// The strings. What finds interned words is dropped.
     pub fn close(self) -> StringList
         ensures { result ≡ self.strings }
     {
         let WordInterner {
             alloc: _,
             strings,
-            slots: _,
-            room: _,
-            words: _,
+            table: _,
+            sorted: _,
         } = self;
         strings
     }
+}
+
+// Inserts a word into the sorted map, with the number of its string. A refused call changes nothing.
+fn insert_word(
+    alloc: Global,
+    sorted: &mut BTreeMap<Vec<u8>, usize>,
+    word: &[u8],
+    number: usize,
+) -> Result<(), AllocError>
+    ensures ok { OnOk result
+        (IsInserted sorted.old.entries word.now number sorted.new.entries) }
+    ensures err { OnErr result (sorted.new.entries ≡ sorted.old.entries) }
+{
+    let key = Vec::from_slice(alloc, word)?;
+    sorted.insert(key, number)?;
+    Ok(())
 }

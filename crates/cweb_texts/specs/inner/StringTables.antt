@@ -1,9 +1,9 @@
 -- Texts, and the words that are kept once.
 use Rattle.std.specs.Prelude.{◌≡◌, ◌≤◌, ℕ, ◌+◌, Bool, List, [], ◌++◌, Some, map, length, slice_get, bytes_eq}
 use Rattle.std.specs.List.{list_any}
-use Rattle.cweb_texts.specs.declared.words.slot.Slot.{Slot}
+use Rattle.cweb_texts.specs.declared.words.word.Word.{Word}
 use Rattle.cweb_texts.specs.inner.StringLists.{text_bytes}
-use Rattle.cweb_texts.specs.inner.Slots.{Entries, slot_words, entry_word}
+use Rattle.cweb_texts.specs.inner.Words.{Entries, word_string, entry_word}
 use Rattle.cweb_texts.specs.surface.StringTables.{total, with_word}
 
 -- texts are numbered by 32 bits, and so there are fewer than this
@@ -22,9 +22,9 @@ empty_table = record { strings = []; words = [] }
 abbrev pub has_word : StringTableModel → List ℕ → Bool
 has_word kept word = list_any (bytes_eq word) kept.words
 
--- the texts, with the words of slots and those of a map
-abbrev pub table_model : List (List ℕ) → List Slot → Entries → StringTableModel
-table_model strings slots es = record { strings = strings; words = slot_words strings slots ++ map entry_word es }
+-- the strings, with the words of the sorted map and those of the hash table
+abbrev pub table_model : List (List ℕ) → List Word → Entries → StringTableModel
+table_model strings ws es = record { strings = strings; words = map entry_word es ++ map (word_string strings) ws }
 
 -- the texts that were there stay, and the text has a number
 pub record AddsString (old : StringTableModel) (string : List ℕ) (number : ℕ) (new : StringTableModel) : Type 0 where

@@ -1,0 +1,70 @@
+// A word of the hash table.
+
+ghost use Rattle.std.specs.Prelude.{◌≡◌, ◌↔◌, bytes_eq, IfSome, IsTrue};
+ghost use Rattle.cweb_texts.specs.inner.Keys.{AreBytes, key_of};
+ghost use Rattle.cweb_texts.specs.inner.Words.{DescribesString, word_string};
+
+use crate::strings::StringList;
+use crate::words::key::Key;
+
+// The key and the length determine a word of at most so many bytes.
+const KEY_BYTES: usize = 16;
+
+/// A word: the key, the length and the number of its string.
+#[derive(Clone, Copy)]
+pub struct Word {
+    pub key: Key,
+    pub len: u32,
+    pub number: u32,
+}
+
+impl Word {
+    /// Returns `None` if the length or the number does not fit 32 bits.
+    pub fn new(key: Key, len: usize, number: usize) -> Option<Word>
+        ensures { IfSome result (λ word.
+            (word.key ≡ key) × (word.len ≡ len) × (word.number ≡ number)) }
+    {
+        if len > u32::MAX as usize || number > u32::MAX as usize {
+            return None;
+        }
+        Some(Word {
+            key,
+            len: len as u32,
+            number: number as u32,
+        })
+    }
+
+    /// Whether this word is the string with a key. For a short string no other string is read.
+    #[inline(always)]
+    pub fn is(&self, strings: &StringList, key: Key, string: &[u8]) -> bool
+        requires describes { DescribesString strings.now self.now }
+        requires key { key ≡ key_of string.now }
+        ensures { result ≡ bytes_eq string.now (word_string strings.now self.now) }
+    {
+        if !self.has_key(key, string.len()) {
+            return false;
+        }
+        if string.len() <= KEY_BYTES {
+            establish_byte_range(string);
+            return true;
+        }
+        string == strings.string(self.number as usize)
+    }
+
+    // Whether the key and the length are these.
+    fn has_key(&self, key: Key, len: usize) -> bool
+        ensures { IsTrue result ↔ (self.now.len ≡ len) × (self.now.key ≡ key) }
+    {
+        self.len as usize == len && self.key.first == key.first && self.key.last == key.last
+    }
+}
+
+/// Establishes that the items of a slice are bytes, as a read of one does.
+#[inline(always)]
+pub fn establish_byte_range(string: &[u8])
+    ensures { AreBytes string.now }
+{
+    if let [first, ..] = string {
+        let _byte = *first;
+    }
+}
