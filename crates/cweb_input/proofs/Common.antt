@@ -13,7 +13,7 @@ pub use Rattle.std.proofs.lemmas.Nat.Bits.{bit_at-zero, bit_at-trailing_zeros}
 pub use Rattle.std.proofs.lemmas.Result.{err_from_is_err_and}
 pub use Rattle.std.proofs.lemmas.Simd.{bit_mask_l, get_or-zip2, length-zip2, mask_l-mod, tops_compared}
 pub use Rattle.std.specs.Int.{bit_at, trailing_zeros}
-pub use Rattle.std.specs.Prelude.{slice_range, IsTrue, Ok}
+pub use Rattle.std.specs.Prelude.{slice_range, IsTrue}
 pub use Rattle.std.specs.Simd.Lanes.{mask_l, zip2, top}
 pub use Rattle.memchr.specs.Find.{IsFirstByte, is_byte}
 pub use Rattle.cweb_input.specs.Include.{name_after_spaces, until_name_end}

@@ -1,9 +1,8 @@
 -- The chains of a hash table, where a word is linked.
-use Rattle.cweb_texts.proofs.Common.{◌≡◌, ℕ, ◌+◌, ◌-◌, ◌<◌, ◌≤◌, List, [], ◌∷◌, ◌++◌, inl, inr, Some, refl, sym, subst, ◌∙◌, ap, arith, length, set, slice_get, slice_index_or, slice_get_within, length-append, length-set, nat_eq, nat_lt, eqb-true, ltb-true, ltb-false, true, false, Word, Chains, IsLink, AreChains}
+use Rattle.cweb_texts.proofs.Common.{◌≡◌, ℕ, ◌+◌, ◌-◌, ◌<◌, ◌≤◌, List, [], ◌∷◌, ◌++◌, inl, inr, Some, refl, sym, subst, ◌∙◌, ap, arith, length, set, slice_get, slice_index_or, slice_get_within, length-append, length-set, nat_eq, nat_lt, eqb-true, ltb-true, ltb-false, true, false, Word, Chains, IsLink, AreChains, home_bucket_of}
 use Rattle.std.proofs.Common.{get_or-set_same, get_or-set_other}
 use Rattle.std.proofs.lemmas.List.{get_or_append_left}
 use Rattle.std.proofs.Math.Seq.{get_or-append_seam}
-use Rattle.cweb_texts.specs.inner.Keys.{home_bucket_of}
 use Rattle.cweb_texts.proofs.ListLemmas.{get-push}
 
 link-grow : (ws : List Word) (w : Word) (buckets bucket link count : ℕ) → IsLink ws buckets bucket link count
@@ -91,7 +90,8 @@ chains-push ws w old new bucket own within heads nexts chains =
     ap length heads ∙ length-set old.heads.items bucket (length old.nexts.items + 1) in
     let is : new.heads.items ≡ set old.heads.items (home_bucket_of w.key buckets) (length ws + 1) =
     heads ∙ (λ i. set old.heads.items (own i) (chains.count i + 1)) in
-    let puts : new.nexts.items ≡ old.nexts.items ++ slice_index_or old.heads.items (home_bucket_of w.key buckets) 0 ∷ [] =
+    let puts : new.nexts.items
+    ≡ old.nexts.items ++ slice_index_or old.heads.items (home_bucket_of w.key buckets) 0 ∷ [] =
     nexts ∙ (λ i. old.nexts.items ++ slice_index_or old.heads.items (own i) 0 ∷ []) in
     record {
       count = omega (

@@ -1,6 +1,5 @@
 -- What a call to keep a word does, by where the word is found or put.
-use Rattle.cweb_texts.proofs.Common.{◌≡◌, ℕ, true, false, ◌||◌, List, [], ◌∷◌, ◌++◌, map, length, Some, None, refl, sym, ◌∙◌, ap, arith, length-append, append-nil, map-append, inl, inr, subst, or_comm, list_any-append, slice_get, bytes_eq, Vec, list_any, lookup, is_eq, nat_cmp, slice_cmp, Global, Word, Entries, AreBytes, DescribesString, FindsString, PushesWord, AreInterned, IsInserted, word_string, have_string, entry_word, StringTableModel, InternsWord, has_word, table_model}
-use Rattle.cweb_texts.specs.inner.Keys.{key_of}
+use Rattle.cweb_texts.proofs.Common.{◌≡◌, ℕ, true, false, ◌||◌, List, [], ◌∷◌, ◌++◌, map, length, Some, None, refl, sym, ◌∙◌, ap, arith, length-append, append-nil, map-append, inl, inr, subst, or_comm, list_any-append, slice_get, bytes_eq, Vec, list_any, lookup, is_eq, nat_cmp, slice_cmp, Global, Word, Entries, AreBytes, DescribesString, FindsString, PushesWord, AreInterned, IsInserted, word_string, have_string, entry_word, StringTableModel, InternsWord, has_word, table_model, key_of}
 use Rattle.std.proofs.Common.{append_assoc}
 use Rattle.cweb_texts.proofs.ListLemmas.{get-push, or-last}
 use Rattle.cweb_texts.proofs.StringListLemmas.{get-last, get-string}

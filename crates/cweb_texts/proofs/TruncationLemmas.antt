@@ -1,6 +1,5 @@
 -- The first texts of a list of bytes, where the others are cut off.
-use Rattle.cweb_texts.proofs.Common.{◌≡◌, ℕ, zero, suc, ◌≤◌, List, [], ◌∷◌, length, take, drop, refl, arith, slice_range, take-append-drop, strings_from, AreEnds, string_start}
-use Rattle.std.proofs.lemmas.List.{length-take-le}
+use Rattle.cweb_texts.proofs.Common.{◌≡◌, ℕ, zero, suc, ◌≤◌, List, [], ◌∷◌, length, take, drop, refl, arith, slice_range, take-append-drop, strings_from, AreEnds, string_start, length-take-le}
 use Rattle.cweb_texts.proofs.StringListLemmas.{range-grow, ends-le}
 
 begin-from : (n all : ℕ) (ends : List ℕ) (k : ℕ) → AreEnds n ends all → n ≤ string_start n ends k

@@ -1,5 +1,4 @@
-use Rattle.cweb_texts.proofs.Common.{◌≡◌, ◌≤◌, ℕ, suc, false, Some, length, slice_get, bytes_eq, word_string, Word}
-use Rattle.cweb_texts.specs.inner.Keys.{home_bucket_of}
+use Rattle.cweb_texts.proofs.Common.{◌≡◌, ◌≤◌, ℕ, suc, false, Some, length, slice_get, bytes_eq, word_string, Word, home_bucket_of}
 use Rattle.cweb_texts.proofs.words.table.WordTable.find.Given as goal
 
 -- the words of the bucket from the link on are other words

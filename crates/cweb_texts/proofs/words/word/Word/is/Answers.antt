@@ -1,5 +1,4 @@
-use Rattle.cweb_texts.proofs.Common.{◌≡◌, length, refl, true, false, sym, ◌∙◌, ap, arith, bytes_eq, bytes_decides, word_string, slice_get_within}
-use Rattle.cweb_texts.specs.inner.Keys.{key_of}
+use Rattle.cweb_texts.proofs.Common.{◌≡◌, length, refl, true, false, sym, ◌∙◌, ap, arith, bytes_eq, bytes_decides, word_string, slice_get_within, key_of}
 use Rattle.cweb_texts.proofs.StringListLemmas.{get-string}
 use Rattle.cweb_texts.proofs.KeyLemmas.{key-tells}
 use Rattle.cweb_texts.proofs.words.word.Word.is.Goals as goal
