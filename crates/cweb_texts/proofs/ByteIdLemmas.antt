@@ -5,7 +5,7 @@ use Rattle.cweb_texts.proofs.StringListLemmas.{get-grow}
 use Rattle.cweb_texts.proofs.WordLemmas.{with-word-any}
 use Rattle.cweb_texts.proofs.InterningLemmas.{known}
 
--- where a text is kept, signs stay
+-- Interning a string keeps all byte ids valid.
 pub byte_ids-add_string : (old new : StringTableModel) (byte_ids string : List ℕ) (number : ℕ)
     → AddsString old string number new
     → AreByteIds old byte_ids → AreByteIds new byte_ids
@@ -31,7 +31,7 @@ byte_ids-add_string-word old new byte_ids word number keeps are = λ byte n h.
           has-more old new word (byte ∷ []) number keeps ∙ ap (λ b. b || bytes_eq (byte ∷ []) word) sign.among;
     }
 
--- the sign that was kept
+-- The punctuator that was just interned.
 pub is-sign : (old new : StringTableModel) (byte number : ℕ) → InternsWord old (byte ∷ []) number new
     → IsByteId new byte number
 is-sign old new byte number keeps = grind (arith, has-more old new (byte ∷ []) (byte ∷ []) number keeps)
@@ -44,7 +44,7 @@ byte_ids-set kept byte_ids byte number are is = λ k n h. elim (get-set byte_ids
   | inr o ↦ are k n o
 ]
 
--- a sign that is known
+-- A punctuator with a known id.
 pub sign-known : (kept : StringTableModel) (byte_ids : List ℕ) (byte number : ℕ) → AreByteIds kept byte_ids
     → slice_get byte_ids byte ≡ Some (number + 1) → InternsWord kept (byte ∷ []) number kept
 sign-known kept byte_ids byte number are h = grind (arith, are byte number h, known kept (byte ∷ []) number)
@@ -65,7 +65,7 @@ byte_ids-stay-word (Ok number) old new byte_ids word keeps same are =
 byte_ids-stay-word (Err e) old new byte_ids word keeps same are =
     subst (λ kept. AreByteIds kept byte_ids) (sym same) are
 
--- a text of one byte
+-- A string of one byte.
 pub one-byte : (string : List ℕ) (d : ℕ) → 1 ≤ length string → length string < 2
     → slice_index_or string 0 d ∷ [] ≡ string
 one-byte [] d some few = absurd (let none : ⊥ = omega arith in none)

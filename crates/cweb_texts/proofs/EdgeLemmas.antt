@@ -1,4 +1,4 @@
--- Borders of texts, and what is kept of them.
+-- Edges of strings, and what is stored of them.
 use Rattle.cweb_texts.proofs.Common.{◌≡◌, ◌==◌, ◌-◌, ℕ, zero, suc, Bool, true, false, cond, List, [], ◌∷◌, ◌++◌, Some, ◌∙◌, refl, ap, sym, arith, length, take, slice_get, slice_index_or, list_any, Edge, AreStoredEdges, IsStoredEdge, first_is, is_high, is_numeric, is_operator, is_known_edge, last_is, punctuator_edge, punctuator_edge_by}
 use Rattle.cweb_texts.specs.declared.edges.Edge.TheVariants as border
 
@@ -49,7 +49,7 @@ told-at (u ∷ ts) (c ∷ bs) zero t d h there = grind arith
 told-at (u ∷ ts) (c ∷ bs) (suc k) t d h there = told-at ts bs k t d h.1 there
 told-at (u ∷ ts) [] k t d h there = absurd h
 
--- a text whose border is told is ASCII
+-- A string with a known edge is ASCII.
 pub told-ascii : (t : List ℕ) (b : Edge) (high : Bool) → list_any is_high t ≡ high → IsStoredEdge t b
     → is_known_edge b ≡ true
     → list_any is_high t ≡ false

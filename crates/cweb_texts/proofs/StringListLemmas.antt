@@ -1,4 +1,4 @@
--- What becomes of texts where texts are added.
+-- Appending strings to a list.
 use Rattle.cweb_texts.proofs.Common.{◌≡◌, ℕ, zero, suc, ◌+◌, ◌-◌, ◌≤◌, ◌<◌, List, [], ◌∷◌, ◌++◌, Some, length, take, drop, refl, ◌∙◌, ap, arith, length-append, length-drop, slice_get, slice_range, slice_index_or, drop-append-le, take-append-le, drop-append_seam, take-length, length-take-le, strings_from, AreEnds, IsFromStart, string_start, text_bytes, string_at}
 
 pub ends-le : (n all : ℕ) (ends : List ℕ) → AreEnds n ends all → n ≤ all
@@ -47,7 +47,7 @@ limit-begin n [] k d h = absurd (let none : ⊥ = omega arith in none)
 limit-begin n (e ∷ es) zero d h = refl
 limit-begin n (e ∷ es) (suc k) d h = limit-begin e es k d (omega arith)
 
--- a text begins at the limit with its number, and ends at the next one
+-- A string begins at the offset with its number, and ends at the next one.
 pub offsets-begin : (offsets : List ℕ) (k d : ℕ) → IsFromStart offsets → k < length (drop 1 offsets)
     → slice_index_or offsets k d ≡ string_start 0 (drop 1 offsets) k
 offsets-begin [] k d start h = absurd (let none : ⊥ = omega arith in none)
@@ -63,7 +63,7 @@ pub offsets-length : (offsets : List ℕ) (k : ℕ) → k < length (drop 1 offse
 offsets-length [] k h = absurd (let none : ⊥ = omega arith in none)
 offsets-length (n ∷ ends) k h = refl
 
--- one more end, where the first text has a begin
+-- One more end, if the first string has a start.
 pub offsets-push : (offsets : List ℕ) (end : ℕ) → 0 < length offsets
     → drop 1 (offsets ++ end ∷ []) ≡ drop 1 offsets ++ end ∷ []
 offsets-push [] end h = absurd (let none : ⊥ = omega arith in none)
@@ -98,7 +98,7 @@ pub bytes-count : (bytes : List ℕ) (ends : List ℕ) → AreEnds 0 ends (lengt
     → length bytes ≡ length (text_bytes (strings_from bytes 0 ends))
 bytes-count bytes ends h = omega (arith, bytes-from bytes 0 ends h)
 
--- one more text at the end
+-- One more string at the end.
 pub get-grow : (strings more : List (List ℕ)) (n : ℕ) (t : List ℕ)
     → slice_get strings n ≡ Some t → slice_get (strings ++ more) n ≡ Some t
 get-grow [] more n t h = cc

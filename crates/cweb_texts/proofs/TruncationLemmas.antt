@@ -1,4 +1,4 @@
--- The first texts of a list of bytes, where the others are cut off.
+-- Truncating a list of strings.
 use Rattle.cweb_texts.proofs.Common.{◌≡◌, ℕ, zero, suc, ◌≤◌, List, [], ◌∷◌, length, take, drop, refl, arith, slice_range, take-append-drop, strings_from, AreEnds, string_start, length-take-le}
 use Rattle.cweb_texts.proofs.StringListLemmas.{range-grow, ends-le}
 

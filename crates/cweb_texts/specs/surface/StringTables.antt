@@ -1,4 +1,4 @@
--- Texts, and the words that are kept once.
+-- The size of strings, and one more interned word.
 use Rattle.std.specs.Prelude.{ℕ, ◌+◌, List, [], ◌∷◌, ◌++◌, bytes_eq}
 use Rattle.std.specs.Prelude.{if◌then◌else◌}
 use Rattle.std.specs.List.{list_any}
