@@ -76,7 +76,7 @@ pub use Rattle.cweb_lines.specs.declared.passing.stretch.Stretch.{Stretch}
 pub use Rattle.cweb_lines.specs.declared.step.Turn.{Turn}
 pub use Rattle.cweb_lines.specs.declared.step.Turn.TheVariants.{Emitted, On, Ended}
 pub use Rattle.cweb_lines.specs.inner.Ahead.{FitsLimits, FitsLimitsAt, IsAhead, LooksAhead, LooksAheadIn}
-pub use Rattle.cweb_lines.specs.inner.LineSpans.{BorrowsLines, line_span_at, BorrowsLine, span_bytes}
+pub use Rattle.cweb_lines.specs.inner.LineSpans.{BorrowsLines, line_span_at, span_bytes}
 pub use Rattle.cweb_lines.specs.inner.MergeProgress.{ReportsSomeFaults, events_after_line, EmitsAfterLine, turns_left}
 pub use Rattle.cweb_lines.specs.inner.MergeProgress.{turn_lines, EndsStep}
 pub use Rattle.cweb_lines.specs.inner.MergeReaderNames.{KeepsReaders}

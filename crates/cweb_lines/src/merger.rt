@@ -1,11 +1,11 @@
 // The merged lines of a web, one after another.
-ghost use Rattle.std.specs.Prelude.{◌≡◌, ◌≤◌, ◌<◌, ◌+◌, ◌^◌, ℕ, List, [], length, IsTrue, true};
-ghost use Rattle.std.specs.Prelude.{string_bytes, ◌∷◌, ◌++◌, IfOk, Ok, Err, IfErr, IfSome, OnOk};
-ghost use Rattle.std.specs.Prelude.{OnErr, OnSome, None, Some, All};
+ghost use Rattle.std.specs.Prelude.{◌≡◌, ◌≤◌, ◌<◌, ◌+◌, ◌^◌, ℕ, List, length, IsTrue};
+ghost use Rattle.std.specs.Prelude.{IfOk, Ok, Err, IfErr, IfSome};
+ghost use Rattle.std.specs.Prelude.{None, Some, All};
 ghost use Rattle.std.specs.Option.{option_copied};
 ghost use Rattle.cweb_files.specs.surface.Frames.{KeepsShelf};
 ghost use Rattle.cweb_input.specs.Include.{web_at, change_at};
-ghost use Rattle.cweb_lines.specs.inner.LineSpans.{BorrowsLine, IsSpanIn, span_bytes};
+ghost use Rattle.cweb_lines.specs.inner.LineSpans.{IsSpanIn, span_bytes};
 ghost use Rattle.cweb_input.specs.surface.OpenedFileNames.{opened_file_names};
 ghost use Rattle.cweb_lines.specs.inner.Passing.{AppendsPassedLines};
 ghost use Rattle.cweb_input.specs.surface.OpenSources.{StartStops};
@@ -152,22 +152,7 @@ impl<S: Shelf> Merger<S> {
         }
     }
 
-    /// Fast path of `next_line` for a line that is in the buffer and passes through. It is counted. Its bytes
-    /// (`bytes_of`) are valid until the next call that changes the merger. `None` is always allowed and changes
-    /// nothing: the caller falls back to `next_line`.
-    #[inline(always)]
-    pub fn borrow_line(&mut self) -> Option<LineSpan>
-        ensures lent { IfSome result (λ line. BorrowsLine line self.old.run self.new.run) }
-        ensures running { OnSome result (stop_in self.new ≡ None) }
-        ensures none { result ≡ None → self.new ≡ self.old }
-    {
-        if let Some(_) = self.run.stopped {
-            return None;
-        }
-        self.run.borrow_line()
-    }
-
-    /// The bytes of the line that was borrowed last.
+    /// The bytes of a line that was looked at, while the merger is unchanged.
     #[inline(always)]
     pub fn bytes_of(&self, line: LineSpan) -> &[u8]
         requires { IsSpanIn self.now.run line }

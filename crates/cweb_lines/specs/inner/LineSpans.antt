@@ -1,10 +1,10 @@
--- Lines that are borrowed from the buffer.
-use Rattle.std.specs.Prelude.{◌≡◌, ℕ, ◌+◌, ◌≤◌, ◌<◌, List, [], ◌∷◌, length, slice_range, Option, None, Some}
+-- Lines in the buffer.
+use Rattle.std.specs.Prelude.{◌≡◌, ℕ, ◌+◌, ◌≤◌, ◌<◌, List, length, slice_range, Option, None, Some}
 use Rattle.cweb_input.specs.Lines.{Line}
 use Rattle.cweb_lines.specs.surface.MergeProgress.{EmitsLines, so_far_of, events_to_come}
 use Rattle.cweb_lines.specs.surface.MergeReaderNames.{AreReadersKnown}
 use Rattle.cweb_lines.specs.inner.Passing.{buffer_of, top_of}
-use Rattle.cweb_lines.specs.surface.MergerCalls.{EmitsLine, Grows}
+use Rattle.cweb_lines.specs.surface.MergerCalls.{Grows}
 use Rattle.cweb_lines.specs.declared.passing.line_span.LineSpan.{LineSpan}
 use Rattle.cweb_lines.specs.declared.passing.stretch.Stretch.{Stretch}
 use Rattle.cweb_lines.specs.declared.merge_state.MergeState.{MergeState}
@@ -26,17 +26,6 @@ line_span_at (Some text) s = Some (record {
   from = text.source.start;
   to = s.text;
 })
-
--- The next line was taken and counted, and is in the buffer.
-pub record BorrowsLine {R : Type 0} (line : LineSpan) (old new : MergeState R) : Type 0 where
-  pub lies : IsSpanIn new line
-  pub given : EmitsLine line.place (span_bytes new line) (so_far_of old) (so_far_of new)
-  pub next : (texts : List ℕ → Option (List ℕ)) (left : R → List ℕ) →
-      EmitsLines (record { bytes = span_bytes new line; place = line.place } ∷ []) (so_far_of old) (so_far_of new)
-      (events_to_come texts left old) (events_to_come texts left new)
-  pub grows : Grows (so_far_of old) (so_far_of new)
-  pub stopped : new.stopped ≡ old.stopped
-  pub readers : (opened_as : R → List ℕ) → AreReadersKnown opened_as old → AreReadersKnown opened_as new
 
 -- Lines were borrowed one after another: they are emitted, there is no stop, and readers keep their names.
 pub record BorrowsLines {R : Type 0} (old new : MergeState R) : Type 0 where

@@ -22,7 +22,8 @@ pub struct Ahead {
 impl<S: Shelf> Merger<S> {
     ghost use Rattle.cweb_lines.specs.surface.MergerCalls.{stop_in};
 
-    /// The line that `borrow_line` would return, not yet taken.
+    /// Fast path of `next_line`: the next line if it is in the buffer and passes through. It is not taken yet. `None` is always
+    /// allowed: the caller falls back to `next_line`.
     #[inline(always)]
     pub fn first_ahead(&self) -> Option<Ahead>
         ensures looks { IfSome result (λ ahead. LooksAhead self.now.run [] ahead) }

@@ -1,6 +1,6 @@
-// Lines that are borrowed from the buffer.
-ghost use Rattle.std.specs.Prelude.{◌≡◌, ℕ, List, IfSome, None};
-ghost use Rattle.cweb_lines.specs.inner.LineSpans.{BorrowsLine, IsSpanIn, span_bytes, line_span_at};
+// Lines in the buffer.
+ghost use Rattle.std.specs.Prelude.{◌≡◌, ℕ, List};
+ghost use Rattle.cweb_lines.specs.inner.LineSpans.{IsSpanIn, span_bytes, line_span_at};
 ghost use Rattle.cweb_lines.specs.inner.Passing.{ComesNext, top_of};
 
 use crate::merge_state::MergeState;
@@ -33,22 +33,6 @@ impl<R: Drop> MergeState<R> {
             }),
             None => None,
         }
-    }
-
-    /// Takes the next line, if it passes through.
-    #[inline(always)]
-    pub fn borrow_line(&mut self) -> Option<LineSpan>
-        ensures lent { IfSome result (λ line. BorrowsLine line self.old self.new) }
-        ensures none { result ≡ None → self.new ≡ self.old }
-    {
-        let Some(stretch) = self.stretch(0) else {
-            return None;
-        };
-        let Some(line) = self.line_at(stretch) else {
-            return None;
-        };
-        self.advance(stretch);
-        Some(line)
     }
 
     /// The bytes of a line in the buffer.

@@ -1,4 +1,4 @@
-// Borrowed lines, and lookahead.
+// Lookahead.
 use super::*;
 use std::process::Abort;
 
@@ -8,7 +8,7 @@ const PLACED: &[(&str, &[u8])] = &[
     ("c.ch", b"@x\nold\n@y\nnew\nnewer\n@z\n"),
 ];
 
-// For each merged line its file and number, and whether it can be borrowed.
+// For each merged line its file and number, and whether lookahead sees it.
 const PLACES: &[(u32, u32, bool)] = &[
     (0, 1, false),
     (0, 2, true),
@@ -35,18 +35,25 @@ const TAKEN_AT_ONCE: &[(u32, &[u8], Option<u32>)] = &[
     (0, b"", None),
 ];
 
-// Checks the place of the next line, and whether it can be borrowed.
-fn comes_borrowed(
+// Takes the next line if lookahead sees it.
+fn take_seen(merger: &mut Merger<MemoryShelf>) -> Option<Place> {
+    let ahead = merger.first_ahead()?;
+    merger.take_ahead(ahead);
+    Some(ahead.line.place)
+}
+
+// Checks the place of the next line, and whether lookahead sees it.
+fn comes_seen(
     rt: &impl Abort,
     merger: &mut Merger<MemoryShelf>,
     shelf: &mut MemoryShelf,
     line: &mut Vec<u8>,
     wanted: &(u32, u32, bool),
 ) -> Result<(), Stop> {
-    let lent = merger.borrow_line();
-    holds(rt, lent.is_some() == wanted.2);
-    let place = match lent {
-        Some(lent) => Some(lent.place),
+    let seen = take_seen(merger);
+    holds(rt, seen.is_some() == wanted.2);
+    let place = match seen {
+        Some(place) => Some(place),
         None => merger.next_line(shelf, line)?,
     };
     let want = Place {
@@ -70,17 +77,17 @@ impl Case<MemoryShelf, Fail> for Placing {
         filled: &mut Filled,
     ) -> Result<(), Fail> {
         for wanted in PLACES {
-            comes_borrowed(rt, merger, shelf, &mut filled.line, wanted)?;
+            comes_seen(rt, merger, shelf, &mut filled.line, wanted)?;
         }
-        holds(rt, merger.borrow_line().is_none());
+        holds(rt, merger.first_ahead().is_none());
         holds(rt, merger.next_line(shelf, &mut filled.line)?.is_none());
         Ok(())
     }
 }
 
-// Borrowed lines have the same places as others. None is borrowed before a read, before an include line or at a change.
+// Lookahead sees no line before a read, at an include line or at a change.
 #[test]
-fn places_of_borrowed_lines(rt: HostRuntime) -> Result<(), Fail> {
+fn places_of_lines_that_lookahead_sees(rt: HostRuntime) -> Result<(), Fail> {
     merge_files(&rt, PLACED, &CHANGED_WEB, &mut Placing)
 }
 

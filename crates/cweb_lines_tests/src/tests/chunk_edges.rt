@@ -33,8 +33,8 @@ enum Way {
     Buffered(usize),
     // one by one
     OneByOne,
-    // borrowed where possible
-    Borrowed,
+    // by lookahead where possible
+    LookedAt,
 }
 
 // Appends the next line.
@@ -43,11 +43,12 @@ fn add_line(
     shelf: &mut MemoryShelf,
     line: &mut Vec<u8>,
     text: &mut Vec<u8>,
-    is_lent: bool,
+    looks_ahead: bool,
 ) -> Result<bool, Stop> {
-    if is_lent {
-        if let Some(lent) = merger.borrow_line() {
-            text.extend_from_slice(merger.bytes_of(lent))?;
+    if looks_ahead {
+        if let Some(ahead) = merger.first_ahead() {
+            text.extend_from_slice(merger.bytes_of(ahead.line))?;
+            merger.take_ahead(ahead);
             return Ok(true);
         }
     }
@@ -63,10 +64,10 @@ fn add_lines(
     shelf: &mut MemoryShelf,
     line: &mut Vec<u8>,
     text: &mut Vec<u8>,
-    is_lent: bool,
+    looks_ahead: bool,
 ) -> Result<(), Stop> {
     for _ in 0..2 * LINES_BEFORE {
-        if !add_line(merger, shelf, line, text, is_lent)? {
+        if !add_line(merger, shelf, line, text, looks_ahead)? {
             break;
         }
         text.extend_from_slice(b"\n")?;
@@ -90,7 +91,7 @@ fn add_all(
             &mut filled.sink.bytes,
             false,
         ),
-        Way::Borrowed => add_lines(
+        Way::LookedAt => add_lines(
             merger,
             shelf,
             &mut filled.line,
@@ -159,7 +160,7 @@ fn merges(
 // The first read ends at each byte after the long line.
 #[test]
 fn lines_around_the_end_of_a_read(rt: HostRuntime) -> Result<(), Fail> {
-    const WAYS: &[Way] = &[Way::Buffered(65536), Way::OneByOne, Way::Borrowed];
+    const WAYS: &[Way] = &[Way::Buffered(65536), Way::OneByOne, Way::LookedAt];
     for length in 8..64usize {
         merges(&rt, length, WAYS, length)?;
     }
