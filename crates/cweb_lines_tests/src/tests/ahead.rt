@@ -36,21 +36,21 @@ const TAKEN_AT_ONCE: &[(u32, &[u8], Option<u32>)] = &[
 ];
 
 // Takes the next line if lookahead sees it.
-fn take_seen(merger: &mut Merger<MemoryShelf>) -> Option<Place> {
+fn take_next_ahead(merger: &mut Merger<MemoryShelf>) -> Option<Place> {
     let ahead = merger.first_ahead()?;
     merger.take_ahead(ahead);
     Some(ahead.line.place)
 }
 
 // Checks the place of the next line, and whether lookahead sees it.
-fn comes_seen(
+fn comes_in_place(
     rt: &impl Abort,
     merger: &mut Merger<MemoryShelf>,
     shelf: &mut MemoryShelf,
     line: &mut Vec<u8>,
     wanted: &(u32, u32, bool),
 ) -> Result<(), Stop> {
-    let seen = take_seen(merger);
+    let seen = take_next_ahead(merger);
     holds(rt, seen.is_some() == wanted.2);
     let place = match seen {
         Some(place) => Some(place),
@@ -77,7 +77,7 @@ impl Case<MemoryShelf, Fail> for Placing {
         filled: &mut Filled,
     ) -> Result<(), Fail> {
         for wanted in PLACES {
-            comes_seen(rt, merger, shelf, &mut filled.line, wanted)?;
+            comes_in_place(rt, merger, shelf, &mut filled.line, wanted)?;
         }
         holds(rt, merger.first_ahead().is_none());
         holds(rt, merger.next_line(shelf, &mut filled.line)?.is_none());
