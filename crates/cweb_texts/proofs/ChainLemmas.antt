@@ -103,8 +103,8 @@ chains-push ws w old new bucket own within heads nexts chains =
       );
       heads = λ b. rw (same, is) (heads-push ws w old.heads.items (omega (arith, own, within)) chains.heads b);
       nexts = λ k v there. rw (same, puts) (nexts-push ws w old.nexts.items buckets
-      (slice_index_or old.heads.items (home_bucket_of w.key buckets) 0) chains.count
-      (chains.heads (home_bucket_of w.key buckets)) chains.nexts k v there);
+          (slice_index_or old.heads.items (home_bucket_of w.key buckets) 0) chains.count
+          (chains.heads (home_bucket_of w.key buckets)) chains.nexts k v there);
     }
 
 -- the word before a word of its chain

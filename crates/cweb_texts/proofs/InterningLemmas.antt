@@ -128,7 +128,7 @@ map-keeps strings ws es new word number interned put last absent =
     let words = list_any (bytes_eq q) (map (word_string strings) ws) in
     list_any-append (bytes_eq q) (map entry_word new) (map (word_string more) ws)
     ∙ (λ i. insert-any q word es new number put i
-      || list_any (bytes_eq q) (same-strings strings (word ∷ []) ws interned.in_table i))
+    || list_any (bytes_eq q) (same-strings strings (word ∷ []) ws interned.in_table i))
     ∙ or-last was (bytes_eq q word) words
     ∙ ap (λ b. b || bytes_eq q word) (sym (list_any-append (bytes_eq q) (map entry_word es) (map (word_string strings)
     ws))))

@@ -41,12 +41,22 @@ module _ {stop : Stop} {first : List (List ℕ)} {emitted : List Line} {old new 
       ∙ (λ i. b.stops.begun.lines_are i ++ (b.stops.begun.raws_are i ++ taken_lines b.later)))
 
   lines_are : new.count.lines ≡ length (before ++ (olds ++ raws))
-  lines_are = omega (arith, b.stops.begun.adds.lines_are, b.gives.lines_are, ap (λ (s : SoFar). s.count.lines) began,
-      length-append before (olds ++ raws))
+  lines_are = omega (
+    arith,
+    b.stops.begun.adds.lines_are,
+    b.gives.lines_are,
+    ap (λ (s : SoFar). s.count.lines) began,
+    length-append before (olds ++ raws),
+  )
 
   bytes_are : new.count.bytes ≡ size_of_lines (before ++ (olds ++ raws))
-  bytes_are = omega (arith, b.stops.begun.adds.bytes_are, b.gives.bytes_are, ap (λ (s : SoFar). s.count.bytes) began,
-      size-append before (olds ++ raws))
+  bytes_are = omega (
+    arith,
+    b.stops.begun.adds.bytes_are,
+    b.gives.bytes_are,
+    ap (λ (s : SoFar). s.count.bytes) began,
+    size-append before (olds ++ raws),
+  )
 
   counts : new.count ≡ counts_of (before ++ (olds ++ raws))
   counts i = record { lines = lines_are i; bytes = bytes_are i }

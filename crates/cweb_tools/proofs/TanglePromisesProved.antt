@@ -41,7 +41,7 @@ tangled_freely world asked {before} {after} {status} run tell course free_course
     let bins : IsTrue after.out.tells = run.bins_tell ∙ tell.1 in
     let log : IsTrue after.log.tells = run.log_tells ∙ tell.2 in
     let is : run.course ≡ course = tangle_only world asked run.course (run.is tell.0)
-        ∙ sym (tangle_only world asked course free_course) in
+    ∙ sym (tangle_only world asked course free_course) in
     let all = ends_freely last.ends (record {
       shelf = last.agrees.shelf_failed ∙ free.read;
       bins = last.agrees.bins_failed ∙ free.filed;

@@ -169,8 +169,7 @@ impl<'a> Search<'a> {
     // Pushes a name onto the waiting path.
     fn wait(&mut self, name: NameId) -> Result<(), AllocError>
         requires name { name.0 < names self.old.store.now }
-        requires fits {
-            MarksFitPath self.old.store.now self.old.marks.items self.old.waiting.items }
+        requires fit { MarksFitPath self.old.store.now self.old.marks.items self.old.waiting.items }
         requires unseen { mark_of self.old.marks.items name ≡ Mark.Unseen }
         ensures store { self.new.store ≡ self.old.store }
         ensures waits { OnOk result

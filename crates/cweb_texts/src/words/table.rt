@@ -97,7 +97,11 @@ impl WordTable {
         if 2 * self.words.len() < buckets {
             return;
         }
-        let more = if buckets == 0 { FIRST_BUCKETS } else { 2 * buckets };
+        let more = if buckets == 0 {
+            FIRST_BUCKETS
+        } else {
+            2 * buckets
+        };
         if let Some(chains) = Chains::with_buckets(self.alloc, self.words.as_slice(), more) {
             self.chains = chains;
         }

@@ -17,8 +17,8 @@ returns-then-is_waiting-clause-goes c =
     c.next_unranked.ensures.within (rw c.as_slice.ensures.value at c.in-Some.ensures.meets) c.in_ok-push.ensures.items
     (rw c.as_slice-2.ensures.value at (c.is_waiting.ensures.waits c.if-is_waiting.true))
 
-pub wait-requires-clause-fits : goal.wait-requires-clause-fits
-wait-requires-clause-fits c =
+pub wait-requires-clause-fit : goal.wait-requires-clause-fit
+wait-requires-clause-fit c =
     let top : Waiting = record { name = c.args.top.name; text = c.next_unranked.new.text } in
     rw c.in_ok-push.ensures.items (fits-swap
     c.args.self.now.waiting.items c.args.top top refl c.next_unranked.ensures.within c.requires.fits)

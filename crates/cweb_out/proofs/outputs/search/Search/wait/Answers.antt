@@ -6,5 +6,5 @@ pub returns-clause-waits : goal.returns-clause-waits
 returns-clause-waits c =
     let w : Stored = c.args.self.now.store.now in
     let f : Waiting = record { name = c.args.name; text = c.of_root.result } in
-    waited-fits f c.requires.fits c.requires.unseen c.requires.name refl
+    waited-fits f c.requires.fit c.requires.unseen c.requires.name refl
     c.of_root.ensures.within c.of_root.ensures.list refl c.in_ok-push.ensures.items

@@ -13,8 +13,10 @@ returns-then-not-has_key c =
           let same : describes.string ≡ word =
           sym (get-string c.args.strings.now c.args.self.now.number describes.string describes.there)
           ∙ sym ((bytes_decides word own).0 e) in
-          sym c.if-not-has_key.true ∙ c.has_key.ensures.1 (describes.len ∙ ap length same,
-          describes.key ∙ ap key_of same ∙ sym c.requires.key)
+          sym c.if-not-has_key.true ∙ c.has_key.ensures.1 (
+            describes.len ∙ ap length same,
+            describes.key ∙ ap key_of same ∙ sym c.requires.key,
+          )
       | false ↦ λ e. refl
     ]) refl
 
