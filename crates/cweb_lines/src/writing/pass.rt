@@ -1,5 +1,5 @@
 // Appends lines that pass through to a caller's buffer.
-ghost use Rattle.std.specs.Prelude.{◌≡◌};
+ghost use Rattle.std.specs.Prelude.{◌≡◌, ◌<◌, OnErr};
 ghost use Rattle.cweb_lines.specs.inner.Passing.{AppendsPassedLines};
 
 use crate::merge_state::MergeState;
@@ -14,6 +14,7 @@ pub fn pass_lines<R: Drop>(
 ) -> Result<(), AllocError>
     ensures passes { AppendsPassedLines run.old run.new buffer.old.items buffer.new.items }
     ensures alone { room ≡ 0 → buffer.new.items ≡ buffer.old.items }
+    ensures err { OnErr result (0 < room) }
 {
     'lines: while buffer.len() < room {
         let Some(stretch) = run.stretch(room - buffer.len()) else {
