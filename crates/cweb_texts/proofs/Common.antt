@@ -2,15 +2,14 @@
 pub use Rattle.std.proofs.Common.{◌≡◌, ◌==◌, ◌-◌, ℕ, zero, suc, Bool, true, false, cond, List, [], ◌∷◌, ◌++◌, Option}
 pub use Rattle.std.proofs.Common.{None, Some, ◌∙◌, refl, ap, sym, subst, arith, length, take, ◌≤◌, drop, ◌||◌, ◌&&◌}
 pub use Rattle.std.proofs.Common.{map, length-append, append-nil, ◌+◌, ◌<◌, get_or, length-drop, ltb-true, ltb-false}
-pub use Rattle.std.proofs.Common.{◌⊎◌, inl, inr, set, replicate, ◌*◌, ◌/◌, ◌^◌, rules}
+pub use Rattle.std.proofs.Common.{◌⊎◌, inl, inr, set, ◌*◌, ◌/◌, ◌^◌, rules}
 pub use Rattle.std.proofs.Math.Bool.{or_comm}
 pub use Rattle.std.proofs.Math.Seq.{length-take-le, drop-append_seam, take-length}
-pub use Rattle.std.proofs.lemmas.Bool.{or_from, eqb-true}
+pub use Rattle.std.proofs.lemmas.Bool.{eqb-true}
 pub use Rattle.std.proofs.lemmas.Grind.{same_number_lists, common_steps}
 pub use Rattle.std.proofs.lemmas.List.{take-append-drop, take_all, drop-drop, drop-append-le, take-append-le}
 pub use Rattle.std.proofs.lemmas.List.{map-append, length-set}
 pub use Rattle.std.proofs.lemmas.List.Folds.{list_any-append}
-pub use Rattle.std.proofs.lemmas.List.Sums.{fold-append}
 pub use Rattle.std.proofs.lemmas.Map.Keys.{any_passes_from_place}
 pub use Rattle.std.proofs.lemmas.Map.Text.{is_eq-slice_cmp}
 pub use Rattle.std.proofs.lemmas.Nat.{le_bytes_4, le_bytes_8}
@@ -20,12 +19,12 @@ pub use Rattle.std.specs.Cmp.Lexicographic.{slice_cmp, bytes_decides}
 pub use Rattle.std.specs.Int.{w32, w64, from_le_bytes}
 pub use Rattle.std.specs.List.{list_any}
 pub use Rattle.std.specs.Map.{lookup}
-pub use Rattle.std.specs.Ordering.{is_eq, nat_cmp, match_ordering}
+pub use Rattle.std.specs.Ordering.{is_eq, nat_cmp}
 pub use Rattle.std.specs.Prelude.{slice_get, slice_index_or, slice_range, bytes_eq, Vec, if◌then◌else◌, nat_lt, Result}
-pub use Rattle.std.specs.Prelude.{Ok, Err, IfOk, OnErr, nat_eq, filter, fold}
+pub use Rattle.std.specs.Prelude.{Ok, Err, IfOk, OnErr, nat_eq}
 pub use Rattle.std.specs.declared.alloc.Global.{Global}
-pub use Rattle.std.specs.declared.cmp.Ordering.TheVariants.{Less, Equal, Greater}
-pub use Rattle.cweb_texts.specs.inner.Edges.{AreStoredEdges, TokenBytesModel, IsStoredEdge, is_high, is_numeric}
+pub use Rattle.std.specs.declared.cmp.Ordering.TheVariants.{Equal}
+pub use Rattle.cweb_texts.specs.inner.Edges.{AreStoredEdges, IsStoredEdge, is_high, is_numeric}
 pub use Rattle.cweb_texts.specs.Edges.{first_is}
 pub use Rattle.cweb_texts.specs.Edges.{is_operator}
 pub use Rattle.cweb_texts.specs.inner.Edges.{is_known_edge}
@@ -40,8 +39,9 @@ pub use Rattle.cweb_texts.specs.inner.StringTables.{StringTableModel, InternsWor
 pub use Rattle.cweb_texts.specs.inner.StringTables.{AddsString}
 pub use Rattle.cweb_texts.specs.declared.edges.Edge.{Edge}
 pub use Rattle.cweb_texts.specs.declared.words.key.Key.{Key}
-pub use Rattle.cweb_texts.specs.inner.Words.{word_string, have_string, DescribesString, DescribeStrings, FindsString, PushesWord}
-pub use Rattle.cweb_texts.specs.inner.Words.{compare_vecs, Entries, entry_word, IsInserted, AreMapped, AreInterned}
+pub use Rattle.cweb_texts.specs.inner.Words.{word_string, have_string, DescribesString, DescribeStrings, FindsString}
+pub use Rattle.cweb_texts.specs.inner.Words.{PushesWord, compare_vecs, Entries, entry_word, IsInserted, AreMapped}
+pub use Rattle.cweb_texts.specs.inner.Words.{AreInterned}
 pub use Rattle.cweb_texts.specs.inner.Chains.{IsLink, AreChains}
 pub use Rattle.cweb_texts.specs.declared.words.word.Word.{Word}
 pub use Rattle.cweb_texts.specs.declared.words.chains.Chains.{Chains}

@@ -75,7 +75,7 @@ fn many_words(rt: HostRuntime) -> Result<(), Fail> {
     check(&rt, rt.alloc(), &case)
 }
 
-// They all belong into the same eight slots.
+// They are all in one bucket, and more than its chain takes.
 #[test]
 fn words_of_one_key(rt: HostRuntime) -> Result<(), Fail> {
     let words = Words::OfOneKey;

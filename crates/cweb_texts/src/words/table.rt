@@ -75,7 +75,8 @@ impl WordTable {
 
     /// Appends a word. Returns false and changes nothing if its chain is full, a number does not fit, or memory is refused.
     pub fn push(&mut self, key: Key, len: usize, number: usize) -> bool
-        ensures { MatchBool result (PushesWord self.old key len number self.new) (self.new ≡ self.old) }
+        ensures { MatchBool result (PushesWord self.old key len number self.new)
+            (self.new ≡ self.old) }
     {
         let Some(word) = Word::new(key, len, number) else {
             return false;
@@ -88,7 +89,7 @@ impl WordTable {
         true
     }
 
-    // Doubles the buckets if less than half of them may be empty, and memory is there.
+    // Doubles the buckets if there are half as many words, and memory is there.
     fn grow(&mut self)
         ensures { self.new ≡ self.old }
     {
@@ -96,7 +97,11 @@ impl WordTable {
         if 2 * self.words.len() < buckets {
             return;
         }
-        let more = if buckets == 0 { FIRST_BUCKETS } else { 2 * buckets };
+        let more = if buckets == 0 {
+            FIRST_BUCKETS
+        } else {
+            2 * buckets
+        };
         if let Some(chains) = Chains::with_buckets(self.alloc, self.words.as_slice(), more) {
             self.chains = chains;
         }

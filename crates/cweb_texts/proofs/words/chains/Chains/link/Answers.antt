@@ -13,4 +13,5 @@ returns-clause-linked c = λ is ws w key chains.
     let count : c.len-link.result ≡ length old.nexts.items = omega arith in
     let pushed : c.push.new.self.items ≡ old.nexts.items ++ slice_index_or old.heads.items bucket 0 ∷ [] =
     grind (arith, common_steps, c.push.ensures.items, c.index.ensures) in
-    chains-push ws w old _ bucket own (omega (arith, buckets)) (ap (λ n. set old.heads.items bucket (n + 1)) count) pushed chains
+    chains-push ws w old _ bucket own (omega (arith, buckets)) (ap (λ n. set old.heads.items bucket (n + 1)) count)
+    pushed chains
