@@ -1,13 +1,13 @@
--- What a call to keep a word does, by where the word is found or put.
-use Rattle.cweb_texts.proofs.Common.{◌≡◌, ℕ, true, false, ◌||◌, List, [], ◌∷◌, ◌++◌, map, length, Some, None, refl, sym, ◌∙◌, ap, arith, length-append, append-nil, map-append, inl, inr, subst, or_comm, list_any-append, slice_get, bytes_eq, Vec, list_any, lookup, is_eq, nat_cmp, slice_cmp, Global, Word, Entries, AreBytes, DescribesString, FindsString, PushesWord, AreInterned, IsInserted, word_string, have_string, entry_word, StringTableModel, InternsWord, has_word, table_model, key_of}
-use Rattle.std.proofs.Common.{append_assoc}
-use Rattle.cweb_texts.proofs.ListLemmas.{get-push, or-last}
+-- What interning a word does, by where the word is found or added.
+use Rattle.cweb_texts.proofs.Common.{◌≡◌, ℕ, true, false, ◌||◌, List, [], ◌∷◌, ◌++◌, map, length, Some, None, refl, arith, length-append, append-nil, map-append, or_comm, list_any-append, slice_get, bytes_eq, Vec, list_any, lookup, is_eq, nat_cmp, slice_cmp, Global, Word, Entries, AreBytes, FindsString, PushesWord, AreInterned, IsInserted, word_string, have_string, entry_word, StringTableModel, InternsWord, has_word, table_model}
+use Rattle.cweb_texts.specs.inner.Keys.{key_of}
+use Rattle.cweb_texts.proofs.ListLemmas.{get-push, or-assoc, or-last}
 use Rattle.cweb_texts.proofs.StringListLemmas.{get-last, get-string}
 use Rattle.cweb_texts.proofs.WordLemmas.{total-append, with-word-any}
 use Rattle.cweb_texts.proofs.TableLemmas.{describes-grow, same-strings}
 use Rattle.cweb_texts.proofs.MapLemmas.{mapped-grow, find-word, no-word, insert-any, insert-mapped}
 
--- a word that is there
+-- a word that is interned already
 pub known : (old : StringTableModel) (word : List ℕ) (number : ℕ) → has_word old word ≡ true
     → slice_get old.strings number ≡ Some word → InternsWord old word number old
 known old word number h stands = grind (arith, append-nil old.strings)
@@ -40,16 +40,17 @@ pub not-interned : (strings : List (List ℕ)) (ws : List Word) (es : Entries) (
     → lookup (λ (k : Vec ℕ Global). is_eq (slice_cmp nat_cmp word k.items)) es ≡ None
     → has_word (table_model strings ws es) word ≡ false
 not-interned strings ws es word none absent =
-    list_any-append (bytes_eq word) (map entry_word es) (map (word_string strings) ws)
-    ∙ (λ i. no-word word es absent i || none i)
+    grind (
+      arith,
+      no-word word es absent,
+      list_any-append (bytes_eq word) (map entry_word es) (map (word_string strings) ws),
+    )
 
 -- more strings
 pub interned-grow : (strings more : List (List ℕ)) (ws : List Word) (es : Entries) → AreInterned strings ws es
     → AreInterned (strings ++ more) ws es
-interned-grow strings more ws es interned = record {
-  in_table = λ k w there. describes-grow strings more w (interned.in_table k w there);
-  in_map = mapped-grow strings more es interned.in_map;
-}
+interned-grow strings more ws es interned =
+    grind (arith, describes-grow strings more, mapped-grow strings more es interned.in_map)
 
 -- a word that is new
 new-keeps : (old : StringTableModel) (word : List ℕ) (number : ℕ) (new : StringTableModel) → has_word old word ≡ false
@@ -69,22 +70,12 @@ pub table-interned : (strings : List (List ℕ)) (ws new : List Word) (es : Entr
     → AreInterned strings ws es → AreBytes word → PushesWord ws (key_of word) (length word) number new
     → number ≡ length strings → AreInterned (strings ++ word ∷ []) new es
 table-interned strings ws new es word number interned bytes push last =
-    let more = strings ++ word ∷ [] in
-    let grown = interned-grow strings (word ∷ []) ws es interned in
-    let own : DescribesString more push.word = record {
-      string = word;
-      there = ap (slice_get more) push.number_is ∙ get-last strings word number last;
-      len = push.len_is;
-      key = push.key_is;
-      bytes = bytes;
-    } in
-    record {
-      in_table = λ k w there. elim (get-push ws push.word k w (ap (λ vs. slice_get vs k) (sym push.now) ∙ there)) [
-        | inl old ↦ grown.in_table k w old
-        | inr last ↦ subst (DescribesString more) last.1 own
-      ];
-      in_map = grown.in_map;
-    }
+    grind (
+      arith,
+      interned-grow strings (word ∷ []) ws es interned,
+      get-push ws push.word,
+      get-last strings word number last,
+    )
 
 pub table-keeps : (strings : List (List ℕ)) (ws new : List Word) (es : Entries) (word : List ℕ) (number : ℕ)
     → AreInterned strings ws es → PushesWord ws (key_of word) (length word) number new → number ≡ length strings
@@ -92,30 +83,29 @@ pub table-keeps : (strings : List (List ℕ)) (ws new : List Word) (es : Entries
     → InternsWord (table_model strings ws es) word number (table_model (strings ++ word ∷ []) new es)
 table-keeps strings ws new es word number interned push last absent =
     let more = strings ++ word ∷ [] in
-    let old = map entry_word es ++ map (word_string strings) ws in
-    let string : word_string more push.word ≡ word =
-    get-string more push.word.number word (ap (slice_get more) push.number_is ∙ get-last strings word number last) in
-    let words : map (word_string more) new ≡ map (word_string strings) ws ++ word ∷ [] =
-    ap (map (word_string more)) push.now ∙ map-append (word_string more) ws (push.word ∷ [])
-    ∙ (λ i. same-strings strings (word ∷ []) ws interned.in_table i ++ string i ∷ []) in
-    let all : map entry_word es ++ map (word_string more) new ≡ old ++ word ∷ [] =
-    ap (λ vs. map entry_word es ++ vs) words
-    ∙ sym (append_assoc (map entry_word es) (map (word_string strings) ws) (word ∷ [])) in
-    new-keeps (table_model strings ws es) word number (table_model more new es) absent refl last (λ q.
-    ap (list_any (bytes_eq q)) all ∙ list_any-append (bytes_eq q) old (word ∷ [])
-    ∙ ap (λ b. list_any (bytes_eq q) old || b) (or_comm (bytes_eq q word) false))
+    grind (
+      arith,
+      new-keeps (table_model strings ws es) word number (table_model more new es) absent refl last,
+      get-last strings word number last,
+      get-string more push.word.number word,
+      map-append (word_string more) ws (push.word ∷ []),
+      same-strings strings (word ∷ []) ws interned.in_table,
+      list_any-append {X = List ℕ},
+      or-assoc,
+      or_comm,
+    )
 
 -- in the map
 pub map-interned : (strings : List (List ℕ)) (ws : List Word) (es new : Entries) (word : List ℕ) (number : ℕ)
     → AreInterned strings ws es → IsInserted es word number new → number ≡ length strings
     → AreInterned (strings ++ word ∷ []) ws new
 map-interned strings ws es new word number interned put last =
-    let grown = interned-grow strings (word ∷ []) ws es interned in
-    record {
-      in_table = grown.in_table;
-      in_map = insert-mapped (strings ++ word ∷ []) word es new number (get-last strings word number last)
-          grown.in_map put;
-    }
+    grind (
+      arith,
+      interned-grow strings (word ∷ []) ws es interned,
+      insert-mapped (strings ++ word ∷ []) word es new number,
+      get-last strings word number last,
+    )
 
 pub map-keeps : (strings : List (List ℕ)) (ws : List Word) (es new : Entries) (word : List ℕ) (number : ℕ)
     → AreInterned strings ws es → IsInserted es word number new → number ≡ length strings
@@ -124,11 +114,11 @@ pub map-keeps : (strings : List (List ℕ)) (ws : List Word) (es new : Entries) 
 map-keeps strings ws es new word number interned put last absent =
     let more = strings ++ word ∷ [] in
     new-keeps (table_model strings ws es) word number (table_model more ws new) absent refl last (λ q.
-    let was = list_any (bytes_eq q) (map entry_word es) in
-    let words = list_any (bytes_eq q) (map (word_string strings) ws) in
-    list_any-append (bytes_eq q) (map entry_word new) (map (word_string more) ws)
-    ∙ (λ i. insert-any q word es new number put i
-    || list_any (bytes_eq q) (same-strings strings (word ∷ []) ws interned.in_table i))
-    ∙ or-last was (bytes_eq q word) words
-    ∙ ap (λ b. b || bytes_eq q word) (sym (list_any-append (bytes_eq q) (map entry_word es) (map (word_string strings)
-    ws))))
+    grind (
+      arith,
+      same-strings strings (word ∷ []) ws interned.in_table,
+      list_any-append (bytes_eq q) (map entry_word new) (map (word_string more) ws),
+      list_any-append (bytes_eq q) (map entry_word es) (map (word_string strings) ws),
+      insert-any q word es new number put,
+      or-last,
+    ))

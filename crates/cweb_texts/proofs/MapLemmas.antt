@@ -1,4 +1,4 @@
--- Words in the sorted map after the hash table.
+-- Words in the sorted map.
 use Rattle.cweb_texts.proofs.Common.{arith, ◌≡◌, ℕ, true, false, cond, ◌||◌, List, [], ◌∷◌, ◌++◌, map, Some, None, refl, sym, subst, ◌∙◌, ap, slice_get, bytes_eq, Vec, list_any, lookup, insert_entry, is_eq, nat_cmp, slice_cmp, bytes_decides, Equal, Global, is_eq-slice_cmp, compare_vecs, Entries, AreMapped, IsInserted, entry_word, or_comm}
 use Rattle.cweb_texts.proofs.ListLemmas.{or-assoc}
 use Rattle.cweb_texts.proofs.StringListLemmas.{get-grow}
@@ -10,7 +10,7 @@ mapped-grow strings more (e ∷ es) h = (get-grow strings more e.1 e.0.items h.0
 same-bytes : (q k : List ℕ) → is_eq (slice_cmp nat_cmp q k) ≡ true → q ≡ k
 same-bytes q k h = (bytes_decides q k).0 (sym (is_eq-slice_cmp q k) ∙ h)
 
--- A word of the map is the string with the number that the map gives.
+-- a word that is found in the map is the string with its number
 pub record FoundWord (strings : List (List ℕ)) (q : List ℕ) (es : Entries) (number : ℕ) : Type 0 where
   pub stands : slice_get strings number ≡ Some q
   pub among : list_any (bytes_eq q) (map entry_word es) ≡ true
@@ -61,7 +61,7 @@ entry-mapped strings [] key number stands m = (stands, tt)
 entry-mapped strings (e ∷ es) key number stands m =
     grind (arith, equal-key key e, entry-mapped strings es key number stands m.1)
 
--- a word that was put into a map
+-- a word that was inserted into the map
 pub insert-any : (q word : List ℕ) (es new : Entries) (number : ℕ) → IsInserted es word number new
     → list_any (bytes_eq q) (map entry_word new) ≡ (list_any (bytes_eq q) (map entry_word es) || bytes_eq q word)
 insert-any q word es new number put = cc (entry-any q es put.key number)

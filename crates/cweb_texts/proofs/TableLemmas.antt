@@ -1,7 +1,7 @@
 -- Words and their strings.
-use Rattle.cweb_texts.proofs.Common.{◌≡◌, ℕ, zero, suc, true, false, List, [], ◌∷◌, ◌++◌, map, Some, refl, sym, ◌∙◌, ap, arith, slice_get, bytes_eq, bytes_decides, any_passes_from_place, Word, word_string, have_string, DescribesString, DescribeStrings, FindsString, key_of, home_bucket_of}
-use Rattle.std.specs.Option.{option_map}
+use Rattle.cweb_texts.proofs.Common.{◌≡◌, ℕ, zero, suc, true, false, List, [], ◌∷◌, ◌++◌, map, Some, refl, arith, slice_get, bytes_eq, bytes_decides, any_passes_from_place, Word, word_string, have_string, DescribesString, DescribeStrings, FindsString}
 use Rattle.std.proofs.lemmas.Option.{slice_get-map}
+use Rattle.cweb_texts.specs.inner.Keys.{key_of, home_bucket_of}
 use Rattle.cweb_texts.proofs.StringListLemmas.{get-grow, get-string}
 
 abbrev pub describes-grow : (strings more : List (List ℕ)) (w : Word) → DescribesString strings w
@@ -19,25 +19,29 @@ pub same-strings : (strings more : List (List ℕ)) (ws : List Word) → Describ
     → map (word_string (strings ++ more)) ws ≡ map (word_string strings) ws
 same-strings strings more [] h = refl
 same-strings strings more (w ∷ ws) h =
-    let d = h zero w refl in
-    let string : word_string (strings ++ more) w ≡ word_string strings w =
-    get-string (strings ++ more) w.number d.string (get-grow strings more w.number d.string d.there)
-    ∙ sym (get-string strings w.number d.string d.there) in
     let rest = same-strings strings more ws (λ k v there. h (suc k) v there) in
-    λ i. string i ∷ rest i
+    grind (
+      arith,
+      h zero w refl,
+      get-grow strings more w.number,
+      get-string (strings ++ more) w.number,
+      get-string strings w.number,
+      rest,
+    )
 
 -- a word that is found
 pub found-word : (strings : List (List ℕ)) (ws : List Word) (word : List ℕ) (k : ℕ) (w : Word)
     → DescribeStrings strings ws → slice_get ws k ≡ Some w → bytes_eq word (word_string strings w) ≡ true
     → FindsString strings ws word w.number
 found-word strings ws word k w describe there is =
-    let d = describe k w there in
-    record {
-      among = any_passes_from_place (bytes_eq word) (map (word_string strings) ws) k (word_string strings w)
-          (slice_get-map (word_string strings) ws k ∙ ap (option_map (word_string strings)) there) is;
-      there = d.there ∙ ap Some (sym ((bytes_decides word (word_string strings w)).0 is
-          ∙ get-string strings w.number d.string d.there));
-    }
+    grind (
+      arith,
+      describe k w there,
+      any_passes_from_place (bytes_eq word) (map (word_string strings) ws) k (word_string strings w),
+      slice_get-map (word_string strings) ws k,
+      bytes_decides word (word_string strings w),
+      get-string strings w.number,
+    )
 
 -- a word that is not found: it would be in the bucket of its key
 other-word : (strings : List (List ℕ)) (w : Word) (word : List ℕ) (buckets : ℕ) → DescribesString strings w
@@ -45,13 +49,7 @@ other-word : (strings : List (List ℕ)) (w : Word) (word : List ℕ) (buckets :
     → bytes_eq word (word_string strings w) ≡ false)
     → bytes_eq word (word_string strings w) ≡ false
 other-word strings w word buckets d h =
-    (elim (bytes_eq word (word_string strings w)) as (λ b. bytes_eq word (word_string strings w) ≡ b → b ≡ false) [
-      | true ↦ λ e.
-          let same : word ≡ d.string =
-          (bytes_decides word (word_string strings w)).0 e ∙ get-string strings w.number d.string d.there in
-          sym e ∙ h (ap (λ k. home_bucket_of k buckets) (d.key ∙ ap key_of (sym same)))
-      | false ↦ λ e. refl
-    ]) refl
+    grind (arith, bytes_decides word (word_string strings w), get-string strings w.number d.string d.there, d.key, h)
 
 pub no-word-found : (strings : List (List ℕ)) (ws : List Word) (word : List ℕ) (buckets : ℕ)
     → DescribeStrings strings ws

@@ -1,4 +1,4 @@
--- Interned words and punctuators, and the total size of strings.
+-- Interned words, and how many bytes strings have.
 use Rattle.cweb_texts.proofs.Common.{◌≡◌, ℕ, ◌+◌, true, false, ◌||◌, List, [], ◌∷◌, ◌++◌, refl, sym, ◌∙◌, ap, arith, bytes_eq, if◌then◌else◌, list_any, bytes_decides, list_any-append, total, with_word, or_comm}
 
 pub total-append : {A : Type 0} (f : A → ℕ) (xs ys : List A) → total f (xs ++ ys) ≡ total f xs + total f ys

@@ -7,12 +7,12 @@ ghost use Rattle.cweb_texts.specs.declared.words.word.Word.{Word};
 
 use crate::words::key::{Key, home_bucket};
 use crate::words::word::Word;
-use std::alloc::{AllocError, Global};
+use std::alloc::Global;
 
 // How many words a chain has at most.
 const LONGEST_CHAIN: usize = 8;
 
-/// The links between words of one bucket. A link is 0 for none, or one more than the index of a word.
+/// The links between the words of each bucket. A link is 0 for none, or one more than the index of a word.
 #[derive(Drop)]
 pub struct Chains {
     // for each bucket the link to its latest word
@@ -32,7 +32,8 @@ impl Chains {
         }
     }
 
-    /// Links words in so many buckets. Returns `None` if memory is refused.
+    /// Links words in `buckets` chains. Returns `None` if memory is refused. Doubling splits each bucket, so no chain gets
+    /// longer.
     pub fn with_buckets(alloc: Global, words: &[Word], buckets: usize) -> Option<Chains>
         ensures { IfSome result (AreChains words.now) }
     {
@@ -48,7 +49,7 @@ impl Chains {
         Some(chains)
     }
 
-    /// Links one more word. Returns false and changes nothing if there is no bucket, the chain is full, or memory is refused.
+    /// Links one more word. Returns false and changes no link if there is no bucket, the chain is full, or memory is refused.
     pub fn link(&mut self, key: Key) -> bool
         ensures linked { result ≡ true → (ws : List Word) → (w : Word) → w.key ≡ key
             → AreChains ws self.old → AreChains (ws ++ w ∷ []) self.new }

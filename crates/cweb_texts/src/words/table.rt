@@ -75,8 +75,8 @@ impl WordTable {
 
     /// Appends a word. Returns false and changes nothing if its chain is full, a number does not fit, or memory is refused.
     pub fn push(&mut self, key: Key, len: usize, number: usize) -> bool
-        ensures { MatchBool result
-            (PushesWord self.old key len number self.new) (self.new ≡ self.old) }
+        ensures { MatchBool result (PushesWord self.old key len number self.new)
+            (self.new ≡ self.old) }
     {
         let Some(word) = Word::new(key, len, number) else {
             return false;
@@ -89,7 +89,7 @@ impl WordTable {
         true
     }
 
-    // Doubles the buckets if less than half of them may be empty, and memory is there.
+    // Doubles the buckets if there are half as many words, and memory is there.
     fn grow(&mut self)
         ensures { self.new ≡ self.old }
     {

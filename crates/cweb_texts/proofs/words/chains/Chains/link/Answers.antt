@@ -1,4 +1,5 @@
-use Rattle.cweb_texts.proofs.Common.{◌≡◌, ◌+◌, ◌++◌, ◌∷◌, [], length, sym, ◌∙◌, ap, arith, common_steps, set, slice_index_or, home_bucket_of}
+use Rattle.cweb_texts.proofs.Common.{◌≡◌, ◌+◌, ◌++◌, ◌∷◌, [], length, sym, ◌∙◌, ap, arith, common_steps, set, slice_index_or}
+use Rattle.cweb_texts.specs.inner.Keys.{home_bucket_of}
 use Rattle.cweb_texts.proofs.ChainLemmas.{chains-push}
 use Rattle.cweb_texts.proofs.words.chains.Chains.link.Goals as goal
 
@@ -12,5 +13,5 @@ returns-clause-linked c = λ is ws w key chains.
     let count : c.len-link.result ≡ length old.nexts.items = omega arith in
     let pushed : c.push.new.self.items ≡ old.nexts.items ++ slice_index_or old.heads.items bucket 0 ∷ [] =
     grind (arith, common_steps, c.push.ensures.items, c.index.ensures) in
-    chains-push ws w old _ bucket own (omega (arith, buckets))
-    (ap (λ n. set old.heads.items bucket (n + 1)) count) pushed chains
+    chains-push ws w old _ bucket own (omega (arith, buckets)) (ap (λ n. set old.heads.items bucket (n + 1)) count)
+    pushed chains

@@ -1,6 +1,7 @@
-use Rattle.cweb_texts.proofs.Common.{◌≡◌, ◌-◌, false, Some, length, sym, ◌∙◌, ap, arith, slice_get, slice_get-get_or, bytes_eq, IsLink, word_string, home_bucket_of}
+use Rattle.cweb_texts.proofs.Common.{◌≡◌, ◌-◌, false, Some, length, sym, ◌∙◌, ap, arith, slice_get, slice_get-get_or, bytes_eq, IsLink, word_string}
+use Rattle.cweb_texts.specs.inner.Keys.{home_bucket_of}
 use Rattle.cweb_texts.proofs.TableLemmas.{found-word, no-word-found}
-use Rattle.cweb_texts.proofs.ChainLemmas.{next-link, next-passed}
+use Rattle.cweb_texts.proofs.ChainLemmas.{next-passed}
 use Rattle.cweb_texts.proofs.words.table.WordTable.find.Goals as goal
 
 pub returns-then-is : goal.returns-then-is
@@ -26,20 +27,19 @@ pub chain-preserved : goal.chain-preserved
 chain-preserved c =
     let ws = c.self.inside.words.items in
     let buckets = length c.self.inside.chains.heads.items in
-    let bucket = home_bucket_of c.args.key buckets in
     let k = c.chain.link - 1 in
     let w = c.index-candidate.result.now in
     let there : slice_get ws k ≡ Some w =
     slice_get-get_or ws k w (omega arith) ∙ ap Some (sym c.index-candidate.ensures) in
     let inside = c.chain.invariant.in_bucket k w (omega (arith, c.chain-test.true)) there in
-    let next : IsLink ws buckets bucket c.next-link.result k =
-    rw (c.next-link.ensures c.chain-test.true) (next-link ws c.self.inside.chains c.chain.link bucket w
-    c.self.invariant there inside) in
+    let next : IsLink ws buckets (home_bucket_of c.args.key buckets) c.next-link.result k =
+    rw (c.next-link.ensures c.chain-test.true, ← inside) (c.self.invariant.nexts k w there) in
     record {
       within = omega (arith, next.within);
       in_bucket = next.in_bucket;
-      passed = next-passed (λ v. bytes_eq c.args.word.now (word_string c.args.strings.now v) ≡ false) ws buckets bucket
-          c.chain.link c.next-link.result w next there (sym c.if-is.ensures) c.chain.invariant.passed;
+      passed = next-passed (λ v. bytes_eq c.args.word.now (word_string c.args.strings.now v) ≡ false) ws buckets
+          (home_bucket_of c.args.key buckets) c.chain.link c.next-link.result w next there (sym c.if-is.ensures)
+          c.chain.invariant.passed;
     }
 
 pub returns : goal.returns
