@@ -1,10 +1,9 @@
 -- The chains of a hash table, where a word is linked.
-use Rattle.cweb_texts.proofs.Common.{◌≡◌, ℕ, ◌+◌, ◌-◌, ◌<◌, ◌≤◌, List, [], ◌∷◌, ◌++◌, inl, inr, Some, sym, ◌∙◌, arith, length, set, slice_get, slice_index_or, slice_get_within, length-append, length-set, Word, Chains, IsLink, AreChains}
+use Rattle.cweb_texts.proofs.Common.{◌≡◌, ℕ, ◌+◌, ◌-◌, ◌<◌, ◌≤◌, List, [], ◌∷◌, ◌++◌, inl, inr, Some, sym, ◌∙◌, arith, length, set, slice_get, slice_index_or, slice_get_within, length-append, length-set, Word, Chains, IsLink, AreChains, home_bucket_of}
 use Rattle.std.proofs.Common.{get_or-set_other}
 use Rattle.std.proofs.lemmas.Grind.{get_or-set_at}
 use Rattle.std.proofs.lemmas.List.{get_or_append_left}
 use Rattle.std.proofs.Math.Seq.{get_or-append_seam}
-use Rattle.cweb_texts.specs.inner.Keys.{home_bucket_of}
 use Rattle.cweb_texts.proofs.ListLemmas.{get-push}
 
 link-grow : (ws : List Word) (w : Word) (buckets bucket link count : ℕ) → IsLink ws buckets bucket link count

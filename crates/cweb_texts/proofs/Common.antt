@@ -1,11 +1,10 @@
 -- The names that the proofs of this crate cite, passed on from one place. Declares nothing.
-pub use Rattle.std.proofs.Common.{◌≡◌, ◌==◌, ◌-◌, ℕ, zero, suc, Bool, true, false, cond, List, [], ◌∷◌, ◌++◌, Option}
-pub use Rattle.std.proofs.Common.{None, Some, ◌∙◌, refl, ap, sym, subst, arith, length, take, ◌≤◌, drop, ◌||◌, ◌&&◌}
-pub use Rattle.std.proofs.Common.{map, length-append, append-nil, ◌+◌, ◌<◌, get_or, length-drop, ltb-true, ltb-false}
-pub use Rattle.std.proofs.Common.{◌⊎◌, inl, inr, set, ◌*◌, ◌/◌, ◌^◌, rules}
+pub use Rattle.std.proofs.Common.{◌≡◌, ◌==◌, ◌-◌, ℕ, zero, suc, Bool, true, false, cond, List, [], ◌∷◌, ◌++◌, None}
+pub use Rattle.std.proofs.Common.{Some, ◌∙◌, refl, ap, sym, subst, arith, length, take, ◌≤◌, drop, ◌||◌, map}
+pub use Rattle.std.proofs.Common.{length-append, append-nil, ◌+◌, ◌<◌, get_or, length-drop, ltb-true, ltb-false, ◌⊎◌}
+pub use Rattle.std.proofs.Common.{inl, inr, set, ◌*◌, ◌/◌, ◌^◌, rules}
 pub use Rattle.std.proofs.Math.Bool.{or_comm}
 pub use Rattle.std.proofs.Math.Seq.{length-take-le, drop-append_seam, take-length}
-pub use Rattle.std.proofs.lemmas.Bool.{eqb-true}
 pub use Rattle.std.proofs.lemmas.Grind.{same_number_lists, common_steps}
 pub use Rattle.std.proofs.lemmas.List.{take-append-drop, take_all, drop-drop, drop-append-le, take-append-le}
 pub use Rattle.std.proofs.lemmas.List.{map-append, length-set}
@@ -21,27 +20,23 @@ pub use Rattle.std.specs.List.{list_any}
 pub use Rattle.std.specs.Map.{lookup}
 pub use Rattle.std.specs.Ordering.{is_eq, nat_cmp}
 pub use Rattle.std.specs.Prelude.{slice_get, slice_index_or, slice_range, bytes_eq, Vec, if◌then◌else◌, nat_lt, Result}
-pub use Rattle.std.specs.Prelude.{Ok, Err, IfOk, OnErr, nat_eq}
+pub use Rattle.std.specs.Prelude.{Ok, Err, IfOk, OnErr}
 pub use Rattle.std.specs.declared.alloc.Global.{Global}
 pub use Rattle.std.specs.declared.cmp.Ordering.TheVariants.{Equal}
-pub use Rattle.cweb_texts.specs.inner.Edges.{AreStoredEdges, IsStoredEdge, is_high, is_numeric}
-pub use Rattle.cweb_texts.specs.Edges.{first_is}
-pub use Rattle.cweb_texts.specs.Edges.{is_operator}
-pub use Rattle.cweb_texts.specs.inner.Edges.{is_known_edge}
-pub use Rattle.cweb_texts.specs.Edges.{last_is}
+pub use Rattle.cweb_texts.specs.Edges.{first_is, is_operator, last_is}
+pub use Rattle.cweb_texts.specs.declared.edges.Edge.{Edge}
+pub use Rattle.cweb_texts.specs.declared.words.chains.Chains.{Chains}
+pub use Rattle.cweb_texts.specs.declared.words.key.Key.{Key}
+pub use Rattle.cweb_texts.specs.declared.words.word.Word.{Word}
+pub use Rattle.cweb_texts.specs.inner.ByteIds.{IsByteId, AreByteIds}
+pub use Rattle.cweb_texts.specs.inner.Chains.{IsLink, AreChains}
+pub use Rattle.cweb_texts.specs.inner.Edges.{AreStoredEdges, IsStoredEdge, is_high, is_numeric, is_known_edge}
 pub use Rattle.cweb_texts.specs.inner.Edges.{punctuator_edge, punctuator_edge_by}
-pub use Rattle.cweb_texts.specs.inner.Keys.{AreBytes, short_key, middle_key, long_key}
+pub use Rattle.cweb_texts.specs.inner.Keys.{AreBytes, short_key, middle_key, long_key, home_bucket_of}
 pub use Rattle.cweb_texts.specs.inner.StringLists.{strings_from, AreEnds, string_start, IsFromStart, text_bytes}
 pub use Rattle.cweb_texts.specs.inner.StringLists.{string_at}
-pub use Rattle.cweb_texts.specs.inner.ByteIds.{IsByteId, AreByteIds}
-pub use Rattle.cweb_texts.specs.surface.StringTables.{total, with_word}
-pub use Rattle.cweb_texts.specs.inner.StringTables.{StringTableModel, InternsWord, has_word, table_model}
-pub use Rattle.cweb_texts.specs.inner.StringTables.{AddsString}
-pub use Rattle.cweb_texts.specs.declared.edges.Edge.{Edge}
-pub use Rattle.cweb_texts.specs.declared.words.key.Key.{Key}
+pub use Rattle.cweb_texts.specs.inner.StringTables.{StringTableModel, InternsWord, has_word, table_model, AddsString}
 pub use Rattle.cweb_texts.specs.inner.Words.{word_string, have_string, DescribesString, DescribeStrings, FindsString}
 pub use Rattle.cweb_texts.specs.inner.Words.{PushesWord, compare_vecs, Entries, entry_word, IsInserted, AreMapped}
 pub use Rattle.cweb_texts.specs.inner.Words.{AreInterned}
-pub use Rattle.cweb_texts.specs.inner.Chains.{IsLink, AreChains}
-pub use Rattle.cweb_texts.specs.declared.words.word.Word.{Word}
-pub use Rattle.cweb_texts.specs.declared.words.chains.Chains.{Chains}
+pub use Rattle.cweb_texts.specs.surface.StringTables.{total, with_word}

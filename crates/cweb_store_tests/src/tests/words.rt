@@ -1,7 +1,7 @@
-// Words are kept once, how many there are, and whatever their bytes are.
+// Words are stored once, however many there are and whatever their bytes are.
 use super::*;
 
-// The bytes of words that differ in the middle alone.
+// The bytes of Words that differ only in the middle.
 fn digits(number: u32) -> [u8; 24] {
     let mut bytes = [b'a'; 24];
     bytes[10] = b'0' + (number / 100 % 10) as u8;
@@ -10,12 +10,12 @@ fn digits(number: u32) -> [u8; 24] {
     bytes
 }
 
-// Which of the bytes make a word.
+// Which of these bytes a Word has.
 #[derive(Clone, Copy)]
 enum Words {
-    // eight bytes, which their key tells
+    // eight bytes, all of which are in the hash key
     Short,
-    // all bytes, of which the first ones and the last ones are the same: such words have one key
+    // all bytes: the first and last ones are equal, so all Words have one hash key
     OfOneKey,
 }
 
@@ -28,7 +28,7 @@ impl Words {
     }
 }
 
-// A part of so many words, and of the same words once more: its store has so many bytes of texts, and gives the words in their order.
+// A part with `count` distinct Words, twice. The store has them once, and the tokens in order.
 #[derive(Clone, Copy)]
 struct PushedTwice {
     words: Words,
@@ -54,7 +54,7 @@ impl Case for PushedTwice {
     }
 }
 
-// The tokens of a store are so many words in their order, again and again.
+// The tokens are `count` Words in order, repeated.
 fn has_words(rt: &impl Abort, store: &Store, words: Words, count: u32) {
     holds(rt, count > 0);
     for number in 0..store.tokens() {
@@ -75,7 +75,7 @@ fn many_words(rt: HostRuntime) -> Result<(), Fail> {
     check(&rt, rt.alloc(), &case)
 }
 
-// They are all in one bucket, and more than its chain takes.
+// All Words belong into the same eight slots.
 #[test]
 fn words_of_one_key(rt: HostRuntime) -> Result<(), Fail> {
     let words = Words::OfOneKey;
@@ -89,7 +89,7 @@ fn words_of_one_key(rt: HostRuntime) -> Result<(), Fail> {
 
 const LETTERS: &[u8; 40] = b"aaaaaaaaaaaaaaaaaaaaaaaaaaaaaaaaaaaaaaaa";
 
-// Words that begin one another, and that of no bytes.
+// Words that are prefixes of each other, and the empty one.
 #[derive(Clone, Copy)]
 struct EachLength;
 
@@ -123,10 +123,10 @@ fn words_of_each_length(rt: HostRuntime) -> Result<(), Fail> {
     check(&rt, rt.alloc(), &EachLength)
 }
 
-// The longest words that differ in one byte.
+// The length of the longest Words that differ in one byte.
 const LONGEST: usize = 18;
 
-// A word of so many bytes of which one is another letter.
+// A Word of this length with another letter at one place.
 fn marked(bytes: &mut [u8; LONGEST], len: usize, place: usize) -> &[u8] {
     *bytes = [b'a'; LONGEST];
     if place < LONGEST {
@@ -138,7 +138,7 @@ fn marked(bytes: &mut [u8; LONGEST], len: usize, place: usize) -> &[u8] {
     }
 }
 
-// The words of a length, each with another letter at each place.
+// The Words of a length, with another letter at each place in turn.
 fn push_length(
     rt: &impl Abort,
     example: &mut ExampleBuilder,
@@ -151,7 +151,7 @@ fn push_length(
     Ok(())
 }
 
-// Words of each length, and all once more.
+// Words of each length, twice.
 #[derive(Clone, Copy)]
 struct EachPlace;
 
@@ -172,7 +172,7 @@ impl Case for EachPlace {
     }
 }
 
-// A store has the words of a length from this token on; the number of the next one.
+// The store has the Words of a length from an index on. Returns the next index.
 fn has_length(rt: &impl Abort, store: &Store, first: u32, len: usize) -> u32 {
     let mut bytes = [b'a'; LONGEST];
     let mut number = first;

@@ -1,5 +1,4 @@
-use Rattle.cweb_texts.proofs.Common.{◌≡◌, ◌+◌, ◌++◌, ◌∷◌, [], length, sym, ◌∙◌, ap, arith, common_steps, set, slice_index_or}
-use Rattle.cweb_texts.specs.inner.Keys.{home_bucket_of}
+use Rattle.cweb_texts.proofs.Common.{◌≡◌, ◌+◌, ◌++◌, ◌∷◌, [], length, sym, ◌∙◌, ap, arith, common_steps, set, slice_index_or, home_bucket_of}
 use Rattle.cweb_texts.proofs.ChainLemmas.{chains-push}
 use Rattle.cweb_texts.proofs.words.chains.Chains.link.Goals as goal
 

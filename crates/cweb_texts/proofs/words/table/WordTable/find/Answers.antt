@@ -1,5 +1,4 @@
-use Rattle.cweb_texts.proofs.Common.{◌≡◌, ◌-◌, false, Some, length, sym, ◌∙◌, ap, arith, slice_get, slice_get-get_or, bytes_eq, IsLink, word_string}
-use Rattle.cweb_texts.specs.inner.Keys.{home_bucket_of}
+use Rattle.cweb_texts.proofs.Common.{◌≡◌, ◌-◌, false, Some, length, sym, ◌∙◌, ap, arith, slice_get, slice_get-get_or, bytes_eq, IsLink, word_string, home_bucket_of}
 use Rattle.cweb_texts.proofs.TableLemmas.{found-word, no-word-found}
 use Rattle.cweb_texts.proofs.ChainLemmas.{next-passed}
 use Rattle.cweb_texts.proofs.words.table.WordTable.find.Goals as goal
