@@ -1,5 +1,6 @@
 -- The laws of names and parts.
 use Rattle.cweb_store.proofs.Common.{◌≡◌, ℕ, zero, suc, ◌+◌, Bool, true, false, List, [], ◌∷◌, ◌++◌, Some, None, Option, length, take, refl, sym, ◌∙◌, ap, arith, append_assoc, append-nil, Ok, Err, bytes_eq, if◌then◌else◌, nat_eq, slice_get, option_map, option_and_then, fold, filter_map, list_any, starts_with, position_or_len, map-append, bytes_eq-Decides, list_any-append, How, Full, Prefix, NameId, NeverFull, PartKind, Occurrence, Name, Resolution, id, spellings, with_full_name, with_occurrence_name, names_from, names, beginning_from, beginning, the_one, resolved_among, resolutions_from, resolutions, resolved_at, Part, joined_where, Call, Occurs, Opens, Pushes, Drops, Closes, Transliterates, Contents, after_call, empty, defines_with_prefix, AbbreviationsStay, EarlierNamesDecide, FullNamesResolveToThemselves, JoiningConcatenates, OccurrencesAreThoseOfCalls, occurrence_of_call, take-append_seam}
+use Rattle.cweb_store.specs.laws.NameLaws.{NamesDecideResolutions}
 use Rattle.cweb_names.proofs.OccurrenceLemmas.{Grows, names_from-grows, with_text-has}
 
 -- The resolution of occurrence k, from the names before it and all names.
@@ -85,11 +86,16 @@ get-middle : (earlier later : List Occurrence) (o : Occurrence)
 get-middle [] later o = refl
 get-middle (x ∷ earlier) later o = get-middle earlier later o
 
-pub earlier_names_decide : EarlierNamesDecide
-earlier_names_decide earlier later o n prefix only =
+pub names_decide_resolutions : NamesDecideResolutions
+names_decide_resolutions earlier later o =
     let os = earlier ++ o ∷ later in
     resolutions-at 0 [] (names os) os (length earlier) o (get-middle earlier later o)
     ∙ ap (λ xs. Some (resolved_among (names_from 0 [] xs) (names os) o)) (take-append_seam earlier (o ∷ later))
+
+pub earlier_names_decide : EarlierNamesDecide
+earlier_names_decide earlier later o n prefix only =
+    let os = earlier ++ o ∷ later in
+    names_decide_resolutions earlier later o
     ∙ ap Some (among-prefix (names earlier) (names os) o.text o.how o.is_file prefix
     ∙ ap (λ ns. the_one ns (the_one (beginning o.text (names os)) (Err NeverFull))) only)
 

@@ -16,7 +16,7 @@ any-with_id n m ns = (elim (list_any (is_id m) ns) as (λ b. list_any (is_id m) 
       | false ↦ λ h. list_any-append (is_id n) ns (m ∷ []) ∙ ap (λ b. list_any (is_id n) ns || b) (or-false (is_id n m))
     ]) refl
 
-any-with_some : (n : NameId) (o : Option NameId) (ns : List NameId)
+pub any-with_some : (n : NameId) (o : Option NameId) (ns : List NameId)
     → list_any (is_id n) (with_some ns o) ≡ (list_any (is_id n) ns || is_some_id n o)
 any-with_some n None ns = sym (or-false (list_any (is_id n) ns))
 any-with_some n (Some m) ns = any-with_id n m ns

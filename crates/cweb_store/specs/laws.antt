@@ -3,4 +3,5 @@ pub mod Calls
 pub mod BuilderCalls
 pub mod Laws
 pub mod MoreLaws
+pub mod NameLaws
 pub mod TokenLaws

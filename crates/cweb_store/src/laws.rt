@@ -10,6 +10,8 @@ ghost use Rattle.cweb_store.specs.laws.Laws.{OccurrencesAreThoseOfCalls};
 ghost use Rattle.cweb_store.specs.laws.MoreLaws.{AbbreviationsBeginTheirNames, DroppingKeepsThePrefix};
 ghost use Rattle.cweb_store.specs.laws.MoreLaws.{MacrosKeepTwoTokens, NamesAreDistinct};
 ghost use Rattle.cweb_store.specs.laws.MoreLaws.{OneFaultForNoName};
+ghost use Rattle.cweb_store.specs.laws.NameLaws.{FilesAreNamesOfOccurrences};
+ghost use Rattle.cweb_store.specs.laws.NameLaws.{NamesDecideResolutions};
 ghost use Rattle.cweb_store.specs.laws.TokenLaws.{TokensAreThosePushed};
 ghost use Rattle.cweb_store.specs.laws.BuilderCalls.{accepted_calls, AcceptsCalls};
 
@@ -47,6 +49,16 @@ pub fn abbreviations_stay()
 /// An abbreviation with only one match among the earlier names resolves to it, whatever comes later.
 pub fn earlier_names_decide()
     ensures { EarlierNamesDecide }
+{}
+
+/// What an occurrence resolves to depends only on the names given before it and on all names.
+pub fn names_decide_resolutions()
+    ensures { NamesDecideResolutions }
+{}
+
+/// A file name is one that some file occurrence resolves to. Each such name is in the list once.
+pub fn files_are_names_of_occurrences()
+    ensures { FilesAreNamesOfOccurrences }
 {}
 
 /// A full name resolves to itself.

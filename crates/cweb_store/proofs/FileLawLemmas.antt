@@ -1,0 +1,144 @@
+-- The law of file names.
+use Rattle.cweb_store.proofs.Common.{◌≡◌, ℕ, zero, suc, ◌+◌, Bool, true, false, ◌&&◌, ◌||◌, List, [], ◌∷◌, ◌++◌, Some, None, Option, refl, sym, ◌∙◌, ap, arith, inl, inr, if◌then◌else◌, slice_get, list_any, list_any-append, or-false, eqb-true, eq-eqb, NameId, Occurrence, Resolution, id, resolutions, resolved_at, with_file, with_some, files_from, is_id, is_some_id}
+use Rattle.std.proofs.Common.{◌⊎◌}
+use Rattle.std.proofs.lemmas.Bool.{or_cases, or_left, or_right, false_from_ne_true}
+use Rattle.cweb_store.specs.laws.NameLaws.{IsNamedAsFile, AreDistinctIds, FilesAreNamesOfOccurrences}
+use Rattle.cweb_store.proofs.NameSetLemmas.{any-with_some}
+
+id_is : (n m : NameId) → is_id n m ≡ true → n ≡ m
+id_is n m h = ap id (eqb-true n.0 m.0 h)
+
+some_is : (n : NameId) (o : Option NameId) → is_some_id n o ≡ true → o ≡ Some n
+some_is n None h = cc
+some_is n (Some m) h = ap Some (sym (id_is n m h))
+
+-- Occurrence `at` of a list that begins at occurrence i names a file.
+record FileAt (rs : List Resolution) (i : ℕ) (os : List Occurrence) (n : NameId) : Type 0 where
+  pub number : ℕ
+  pub occurrence : Occurrence
+  pub at : ℕ
+  pub there : slice_get os number ≡ Some occurrence
+  pub file : occurrence.is_file ≡ true
+  pub resolves : resolved_at rs at ≡ Some n
+  pub at_is : at ≡ i + number
+
+any-with_file : (rs : List Resolution) (fs : List NameId) (i : ℕ) (o : Occurrence) (n : NameId)
+    → list_any (is_id n) (with_file rs fs i o)
+    ≡ (list_any (is_id n) fs || (o.is_file && is_some_id n (resolved_at rs i)))
+any-with_file rs fs i o n = elim o.is_file as (λ b. list_any (is_id n) (if b then with_some fs (resolved_at rs i) else fs)
+    ≡ (list_any (is_id n) fs || (b && is_some_id n (resolved_at rs i)))) [
+      | true ↦ any-with_some n (resolved_at rs i) fs
+      | false ↦ sym (or-false (list_any (is_id n) fs))
+    ]
+
+file_here : (rs : List Resolution) (i : ℕ) (o : Occurrence) (os : List Occurrence) (n : NameId) (file : Bool)
+    → o.is_file ≡ file → (file && is_some_id n (resolved_at rs i)) ≡ true → FileAt rs i (o ∷ os) n
+file_here rs i o os n true e h = record {
+  number = 0;
+  occurrence = o;
+  at = i;
+  there = refl;
+  file = e;
+  resolves = some_is n (resolved_at rs i) h;
+  at_is = omega arith;
+}
+file_here rs i o os n false e h = cc
+
+file_later : {rs : List Resolution} (i : ℕ) (o : Occurrence) {os : List Occurrence} {n : NameId}
+    → FileAt rs (i + 1) os n → FileAt rs i (o ∷ os) n
+file_later i o f = record {
+  number = suc f.number;
+  occurrence = f.occurrence;
+  at = f.at;
+  there = f.there;
+  file = f.file;
+  resolves = f.resolves;
+  at_is = omega (arith, f.at_is);
+}
+
+-- Each file name was in the list before, or an occurrence names it.
+found : (rs : List Resolution) (fs : List NameId) (i : ℕ) (os : List Occurrence) (n : NameId)
+    → list_any (is_id n) (files_from rs fs i os) ≡ true → (list_any (is_id n) fs ≡ true) ⊎ FileAt rs i os n
+found rs fs i [] n h = inl h
+found rs fs i (o ∷ os) n h = elim (found rs (with_file rs fs i o) (i + 1) os n h) [
+  | inl a ↦
+      elim (or_cases (list_any (is_id n) fs) (o.is_file && is_some_id n (resolved_at rs i))
+      (sym (any-with_file rs fs i o n) ∙ a)) [ inl b ↦ inl b | inr b ↦ inr (file_here rs i o os n o.is_file refl b) ]
+  | inr f ↦ inr (file_later i o f)
+]
+
+kept : (rs : List Resolution) (fs : List NameId) (i : ℕ) (os : List Occurrence) (n : NameId)
+    → list_any (is_id n) fs ≡ true → list_any (is_id n) (files_from rs fs i os) ≡ true
+kept rs fs i [] n h = h
+kept rs fs i (o ∷ os) n h = kept rs (with_file rs fs i o) (i + 1) os n (any-with_file rs fs i o n
+    ∙ or_left (list_any (is_id n) fs) (o.is_file && is_some_id n (resolved_at rs i)) h)
+
+named : (rs : List Resolution) (fs : List NameId) (i : ℕ) (os : List Occurrence) (n : NameId) (k : ℕ) (x : Occurrence)
+    → slice_get os k ≡ Some x → x.is_file ≡ true → resolved_at rs (i + k) ≡ Some n
+    → list_any (is_id n) (files_from rs fs i os) ≡ true
+named rs fs i [] n k x there file is = cc
+named rs fs i (o ∷ os) n zero x there file is =
+    let same : o ≡ x = cc in
+    let here : resolved_at rs i ≡ Some n = ap (resolved_at rs) (let e : i ≡ i + 0 = omega arith in e) ∙ is in
+    let test : (o.is_file && is_some_id n (resolved_at rs i)) ≡ true =
+    ap (λ b. b && is_some_id n (resolved_at rs i)) (ap (λ (y : Occurrence). y.is_file) same ∙ file)
+    ∙ ap (is_some_id n) here ∙ eq-eqb n.0 n.0 refl in
+    kept rs (with_file rs fs i o) (i + 1) os n (any-with_file rs fs i o n
+    ∙ or_right (list_any (is_id n) fs) (o.is_file && is_some_id n (resolved_at rs i)) test)
+named rs fs i (o ∷ os) n (suc k) x there file is =
+    named rs (with_file rs fs i o) (i + 1) os n k x there file
+    (ap (resolved_at rs) (let e : (i + 1) + k ≡ i + suc k = omega arith in e) ∙ is)
+
+apart : (n m : NameId) → is_id n m ≡ false → is_id m n ≡ false
+apart n m h = false_from_ne_true (is_id m n) (λ e.
+    let same : is_id n m ≡ true = eq-eqb n.0 m.0 (sym (eqb-true m.0 n.0 e)) in cc)
+
+distinct-push : (ns : List NameId) (n : NameId) → AreDistinctIds ns → list_any (is_id n) ns ≡ false
+    → AreDistinctIds (ns ++ n ∷ [])
+distinct-push [] n d h = (refl, tt)
+distinct-push (m ∷ ns) n d h = by (is_id n m) refl h (λ e. distinct-push ns n d.1 e)
+  where
+    by : (b : Bool) → is_id n m ≡ b → (b || list_any (is_id n) ns) ≡ false
+        → (list_any (is_id n) ns ≡ false → AreDistinctIds (ns ++ n ∷ [])) → AreDistinctIds ((m ∷ ns) ++ n ∷ [])
+    by true e h later = cc
+    by false e h later = (
+      list_any-append (is_id m) ns (n ∷ []) ∙ ap (λ b. b || list_any (is_id m) (n ∷ [])) d.0
+          ∙ ap (λ b. b || false) (apart n m e),
+      later h,
+    )
+
+distinct-with : (ns : List NameId) (o : Option NameId) → AreDistinctIds ns → AreDistinctIds (with_some ns o)
+distinct-with ns None d = d
+distinct-with ns (Some n) d = by (list_any (is_id n) ns) refl
+  where
+    by : (b : Bool) → list_any (is_id n) ns ≡ b → AreDistinctIds (if b then ns else ns ++ n ∷ [])
+    by true e = d
+    by false e = distinct-push ns n d e
+
+distinct-from : (rs : List Resolution) (fs : List NameId) (i : ℕ) (os : List Occurrence) → AreDistinctIds fs
+    → AreDistinctIds (files_from rs fs i os)
+distinct-from rs fs i [] d = d
+distinct-from rs fs i (o ∷ os) d =
+    distinct-from rs (with_file rs fs i o) (i + 1) os (by o.is_file)
+  where
+    by : (b : Bool) → AreDistinctIds (if b then with_some fs (resolved_at rs i) else fs)
+    by true = distinct-with fs (resolved_at rs i) d
+    by false = d
+
+file_named : (os : List Occurrence) (n : NameId) → FileAt (resolutions os) 0 os n → IsNamedAsFile os n
+file_named os n f = record {
+  number = f.number;
+  occurrence = f.occurrence;
+  there = f.there;
+  file = f.file;
+  resolves =
+      ap (resolved_at (resolutions os)) (let e : f.number ≡ f.at = omega (arith, f.at_is) in e) ∙ f.resolves;
+}
+
+pub files_are_names_of_occurrences : FilesAreNamesOfOccurrences
+files_are_names_of_occurrences = record {
+  only = λ os n h. elim (found (resolutions os) [] 0 os n h) [ inl a ↦ cc | inr f ↦ file_named os n f ];
+  all = λ os n f. named (resolutions os) [] 0 os n f.number f.occurrence f.there f.file
+      (ap (resolved_at (resolutions os)) (let e : 0 + f.number ≡ f.number = omega arith in e) ∙ f.resolves);
+  once = λ os. distinct-from (resolutions os) [] 0 os tt;
+}
