@@ -1,5 +1,5 @@
 -- Worked examples of plans.
-use Rattle.cweb_out.proofs.Common.{ℕ, ◌≡◌, List, [], ◌∷◌, Some, codes, true, false, Err, id, Token, Punct, Name, Stored, program, ends_below, list_ends, first_endless, name_rank, cycle_from, cycle, planned_ending}
+use Rattle.cweb_out.proofs.Common.{ℕ, ◌≡◌, List, [], ◌∷◌, Some, codes, true, false, Err, id, Token, Punct, Name, Stored, program, ends_below, has_rank, list_ends, first_endless, name_rank, cycle_from, cycle, planned_ending}
 use Rattle.cweb_names.specs.declared.name.How.TheVariants.{Full}
 use Rattle.cweb_store.specs.declared.parts.PartKind.{PartKind}
 use Rattle.cweb_store.specs.declared.parts.PartKind.TheVariants.{Unnamed, Named}
@@ -43,6 +43,9 @@ record Computed : Type 0 where
   the_rank_of_the_first_is_three : name_rank twice (id 0) ≡ 3
   it_is_not_below_three : ends_below twice 3 (id 0) ≡ false
   the_rank_of_the_first_is_below_four : ends_below twice 4 (id 0) ≡ true
+  the_first_of_four_names_has_a_rank : has_rank twice (id 0) ≡ true
+  names_that_use_each_other_have_no_rank : has_rank two (id 0) ≡ false
+  nor_has_one_a_rank_below_seven : ends_below two 7 (id 0) ≡ false
 
 computed : Computed
 computed = search

@@ -1,7 +1,8 @@
 //! Laws of expansion, printing and cycles for any web. Each function exists for its contract and does nothing.
 
 ghost use Rattle.cweb_out.specs.laws.Laws.{DepthAboveTheRankChangesNothing, ExpansionReplacesUsesAlone};
-ghost use Rattle.cweb_out.specs.laws.Laws.{FilesHaveWholeLines, PrintGoesOn, RefusedCyclesAreCycles};
+ghost use Rattle.cweb_out.specs.laws.Laws.{FilesHaveWholeLines, PrintGoesOn, RanksAreBelowTheNames};
+ghost use Rattle.cweb_out.specs.laws.Laws.{RefusedCyclesAreCycles};
 
 /// An expansion has no use of a name. Other tokens stay, in order; each use becomes the expanded list of its name.
 pub fn expansion_replaces_uses_alone()
@@ -11,6 +12,11 @@ pub fn expansion_replaces_uses_alone()
 /// From the ranks of its names on, the depth doesn't change the expansion of a list.
 pub fn depth_above_the_rank_changes_nothing()
     ensures { DepthAboveTheRankChangesNothing }
+{}
+
+/// A name has a rank below the number of names exactly if it has a rank below some number.
+pub fn ranks_are_below_the_names()
+    ensures { RanksAreBelowTheNames }
 {}
 
 /// A concatenation prints the first list and then the second one. The second one's output depends only on the last

@@ -1,12 +1,12 @@
 -- Laws of expansion, printing and cycles for any web.
-use Rattle.std.specs.Prelude.{◌≡◌, ◌≤◌, ◌==◌, ℕ, suc, Bool, true, false, List, [], ◌∷◌, ◌++◌, Some, Err, fold}
+use Rattle.std.specs.Prelude.{◌≡◌, ◌≤◌, ◌<◌, ◌↔◌, ◌==◌, ℕ, suc, Bool, true, false, List, [], ◌∷◌, ◌++◌, Some, Err, fold}
 use Rattle.std.specs.List.{list_all, list_any}
 use Rattle.cweb_names.specs.declared.name.NameId.{NameId}
 use Rattle.cweb_names.specs.declared.name.NameRef.{NameRef}
 use Rattle.cweb_names.specs.Names.{is_id}
 use Rattle.cweb_store.specs.Parts.{Token, Name}
 use Rattle.cweb_store.specs.Calls.{Stored}
-use Rattle.cweb_out.specs.Expansion.{joined, resolved_use, uses, ends_below, expand}
+use Rattle.cweb_out.specs.Expansion.{names, joined, resolved_use, uses, ends_below, has_rank, expand}
 use Rattle.cweb_out.specs.Outputs.{cycle, planned}
 use Rattle.cweb_texts.specs.Edges.{last_is}
 use Rattle.cweb_print.specs.Printing.{Setting, file, file_token_bytes, without_joined_layout, left_after, print}
@@ -33,6 +33,11 @@ ExpansionReplacesUsesAlone = (w : Stored) (k : ℕ) → ReplacesUses w k
 abbrev pub DepthAboveTheRankChangesNothing : Type 0
 DepthAboveTheRankChangesNothing = (w : Stored) (k depth : ℕ) (ts : List Token) → k ≤ depth
     → list_all (ends_below w k) (uses w ts) ≡ true → expand w depth ts ≡ expand w k ts
+
+-- A name has a rank below the number of names exactly if it has a rank below some number.
+abbrev pub RanksAreBelowTheNames : Type 0
+RanksAreBelowTheNames = (w : Stored) (n : NameId) → n.0 < names w
+    → ((has_rank w n ≡ true) ↔ ((k : ℕ) × (ends_below w k n ≡ true)))
 
 -- Whether a join is open after a list.
 abbrev pub is_joined : List Token → Bool
