@@ -23,7 +23,8 @@ enter-defined : (c : Context) (tight : Bool) (s : ScanState) → enter_in c (Def
 enter-defined Limbo tight s = refl
 enter-defined _ tight s = refl
 
-pays_entered : (k : Kind) (bytes : List ℕ) (s : ScanState) → Pays s.context k bytes → Pays (enter k s).context k bytes
+pub pays_entered : (k : Kind) (bytes : List ℕ) (s : ScanState) → Pays s.context k bytes
+    → Pays (enter k s).context k bytes
 pays_entered (Defined tight) bytes s pays =
     (pays.0, ap (λ (u : ScanState). owed_tokens u.context) (enter-defined s.context tight s) ∙ pays.1)
 pays_entered _ bytes s pays = pays

@@ -49,6 +49,7 @@ mod ItemExamples
 mod CodeExamples
 mod RawLiteralExamples
 mod ThousandNames
+mod LawExamples
 pub mod ClosedItemSteps
 pub mod OpeningSteps
 pub mod UnitsTaken
@@ -69,3 +70,9 @@ pub mod LexemesKeepTheirLines
 pub mod StepAfterPlain
 pub mod Walked
 pub mod Adding
+pub mod SmallSteps
+pub mod CountedLexemes
+pub mod MarkedUses
+pub mod OpeningCodes
+pub mod BegunParts
+pub mod WholeParts

@@ -10,7 +10,7 @@ abbrev pub bytes_in : List Lexeme → List ℕ
 bytes_in ps = flat_map (λ p. p.bytes) ps
 
 -- The next lexeme pays, and its newlines are counted.
-fits : (r : Reading) (t bytes rest : List ℕ) (k : Kind) → t ≡ bytes ++ rest → 0 < length bytes
+pub fits : (r : Reading) (t bytes rest : List ℕ) (k : Kind) → t ≡ bytes ++ rest → 0 < length bytes
     → k ≡ (next_match r.state t).kind → length bytes ≡ (next_match r.state t).size
     → Pays r.state.context k bytes × Tells k bytes
 fits r [] bytes rest k e some same size = absurd (omega (arith, ap length e, length-append bytes rest, some))

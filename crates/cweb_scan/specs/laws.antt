@@ -3,3 +3,5 @@ pub mod ReaderModel
 pub mod Law
 pub mod Alone
 pub mod LexemePlaces
+pub mod Counted
+pub mod PartTokens

@@ -14,9 +14,11 @@ ghost use Rattle.cweb_scan.specs.Alone.{InPlainC, ReadsAlone, spelling_of, doubl
 ghost use Rattle.cweb_scan.specs.Alone.{significant, lexemes, lex, scanned};
 ghost use Rattle.cweb_scan.specs.laws.Alone.{IsReadAs, continues_token};
 ghost use Rattle.cweb_scan.specs.State.{in_directive};
+ghost use Rattle.cweb_scan.specs.laws.Counted.{OccurrencesAreLexemes, SectionsAreSectionStarts};
 ghost use Rattle.cweb_scan.specs.laws.Law.{AreLexemes, PlacesPass};
 ghost use Rattle.cweb_scan.specs.surface.Law.{IsBounded, web_size};
 ghost use Rattle.cweb_scan.specs.laws.LexemePlaces.{LexemesKeepLines};
+ghost use Rattle.cweb_scan.specs.laws.PartTokens.{MarksFollowUses, PartsAreWhole};
 ghost use Rattle.cweb_store.specs.Parts.{Token};
 
 /// The lexemes of a source are the only list that the rules allow.
@@ -29,6 +31,26 @@ pub fn lexemes_are_unique()
 /// A store has at most as many tokens, and as many bytes, as the web has bytes plus lines.
 pub fn store_is_bounded()
     ensures { (lines : List Line) → IsBounded (scanned lines).store (web_size lines) }
+{}
+
+/// There is a section for each section start among the lexemes. The starred sections are those that `@*` begins.
+pub fn sections_are_section_starts()
+    ensures { (lines : List Line) → SectionsAreSectionStarts lines }
+{}
+
+/// The occurrences of the store are the lexemes that are names, in order.
+pub fn occurrences_are_lexemes()
+    ensures { (lines : List Line) → OccurrencesAreLexemes lines }
+{}
+
+/// Each part of C text begins with the Head and ends with the Tail of one of the sections. A macro begins with a Word.
+pub fn parts_are_whole()
+    ensures { (lines : List Line) → PartsAreWhole lines }
+{}
+
+/// In C text a Mark follows each use of a name and each Defs. The exception: a Join drops the Mark and follows itself.
+pub fn marks_follow_uses()
+    ensures { (lines : List Line) → MarksFollowUses lines }
 {}
 
 /// Blanks between two lexemes of C text outside directives change nothing: one blank more leaves the result unchanged.

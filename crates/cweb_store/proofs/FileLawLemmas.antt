@@ -25,7 +25,8 @@ record FileAt (rs : List Resolution) (i : ℕ) (os : List Occurrence) (n : NameI
 any-with_file : (rs : List Resolution) (fs : List NameId) (i : ℕ) (o : Occurrence) (n : NameId)
     → list_any (is_id n) (with_file rs fs i o)
     ≡ (list_any (is_id n) fs || (o.is_file && is_some_id n (resolved_at rs i)))
-any-with_file rs fs i o n = elim o.is_file as (λ b. list_any (is_id n) (if b then with_some fs (resolved_at rs i) else fs)
+any-with_file rs fs i o n = elim o.is_file as (λ b.
+    list_any (is_id n) (if b then with_some fs (resolved_at rs i) else fs)
     ≡ (list_any (is_id n) fs || (b && is_some_id n (resolved_at rs i)))) [
       | true ↦ any-with_some n (resolved_at rs i) fs
       | false ↦ sym (or-false (list_any (is_id n) fs))

@@ -91,7 +91,8 @@ record Computed : Type 0 where
   -- A later name doesn't count if an earlier one matches.
   between_two_names : resolutions (variables ∷ glob ∷ types ∷ []) ≡ Ok (id 0) ∷ Ok (id 0) ∷ Ok (id 1) ∷ []
   after_two_names : resolutions (variables ∷ types ∷ glob ∷ []) ≡ Ok (id 0) ∷ Ok (id 1) ∷ Err Ambiguous ∷ []
-  by_the_names_before_it : resolved_among (names (variables ∷ [])) (names (variables ∷ glob ∷ types ∷ [])) glob ≡ Ok (id 0)
+  by_the_names_before_it : resolved_among (names (variables ∷ [])) (names (variables ∷ glob ∷ types ∷ [])) glob
+      ≡ Ok (id 0)
   by_all_names : resolved_among [] (names (glob ∷ variables ∷ types ∷ [])) glob ≡ Err Ambiguous
   never_in_full : resolutions (zz ∷ []) ≡ Err NeverFull ∷ []
   given_twice : spellings (names (variables ∷ types ∷ variables ∷ []))
@@ -99,7 +100,8 @@ record Computed : Type 0 where
   -- A file's name may be given in full elsewhere, and abbreviated as a file's.
   by_abbreviation : files (occurrence_of (codes "a.h") Full
       false ∷ header Full (codes "b.h") ∷ header Prefix (codes "a") ∷ header Full (codes "b.h") ∷ []) ≡ id 1 ∷ id 0 ∷ []
-  a_file_that_two_occurrences_name : files (header Full (codes "b.h") ∷ glob ∷ header Full (codes "b.h") ∷ []) ≡ id 0 ∷ []
+  a_file_that_two_occurrences_name : files (header Full (codes "b.h") ∷ glob ∷ header Full (codes "b.h") ∷ [])
+      ≡ id 0 ∷ []
   a_prefix_of_another : faults_of prefixed ≡ fault_of_name PrefixOfAnother 0 ∷ []
   a_file_without_part : faults_of (Occurs (header Full (codes "a.h")) ∷ []) ≡ fault_of_name NotPresent 0 ∷ []
   used_by_a_part_of_no_name : faults_of of_no_name ≡ fault_of_name NeverFull 0 ∷ fault_of_name NotPresent 1 ∷ []
