@@ -1,5 +1,7 @@
 pub mod Common
 pub mod Squeezing
+mod SpellingLaw
+mod SpellingExamples
 mod SortPrefixLemmas
 mod PrefixLemmas
 mod InsertLemmas

@@ -11,14 +11,14 @@ abbrev pub is_some : List ℕ → Bool
 is_some [] = false
 is_some (b ∷ t) = true
 
-abbrev squeezed_by : Bool → Bool → List ℕ → ℕ → List ℕ → List ℕ
+abbrev pub squeezed_by : Bool → Bool → List ℕ → ℕ → List ℕ → List ℕ
 squeezed_by white begun gap b t =
     elim white [
       | true ↦ squeezed_after begun (if begun then codes " " else []) t
       | false ↦ gap ++ b ∷ squeezed_after true [] t
     ]
 
-abbrev fits_by : Bool → Bool → ℕ → List ℕ → Bool
+abbrev pub fits_by : Bool → Bool → ℕ → List ℕ → Bool
 fits_by white gap b t =
     elim white [ true ↦ not gap && (b == 32) && is_squeezed_after true t | false ↦ is_squeezed_after false t ]
 

@@ -15,6 +15,8 @@ mod known;
 mod resolution;
 // the occurrences of names
 mod table;
+// the law of spellings
+pub mod laws;
 
 pub use found::Found;
 pub use known::KnownNames;

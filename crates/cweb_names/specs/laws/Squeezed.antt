@@ -1,0 +1,23 @@
+-- The spelling of a name.
+use Rattle.std.specs.Prelude.{◌≡◌, ◌≢◌, ℕ, Bool, true, not, List, [], ◌∷◌, ◌++◌, filter}
+use Rattle.std.specs.List.{list_all}
+use Rattle.cweb_rules.specs.Bytes.{first_is, is_white}
+use Rattle.cweb_names.specs.Names.{squeezed}
+
+abbrev pub is_other : ℕ → Bool
+is_other b = not (is_white b)
+
+-- Each white byte is a blank. It has a byte before it, and a byte that isn't white after it.
+abbrev pub HasSingleBlanks : List ℕ → Type 0
+HasSingleBlanks text = (before : List ℕ) (b : ℕ) (after : List ℕ) → text ≡ before ++ b ∷ after
+    → is_white b ≡ true → (b ≡ 32) × (before ≢ []) × (first_is is_other after ≡ true)
+
+-- White space in a spelling is single blanks between other bytes, and the other bytes stay in order.
+pub record SpellingsAreSqueezed : Type 0 where
+  pub single : (text : List ℕ) → HasSingleBlanks (squeezed text)
+  pub others : (text : List ℕ) → filter is_other (squeezed text) ≡ filter is_other text
+  -- any span of white space counts as one blank
+  pub spans : (before gap after : List ℕ) (b : ℕ) → is_white b ≡ true → list_all is_white gap ≡ true
+      → squeezed (before ++ b ∷ (gap ++ after)) ≡ squeezed (before ++ 32 ∷ after)
+  pub stays : (text : List ℕ) → HasSingleBlanks text → squeezed text ≡ text
+  pub twice : (text : List ℕ) → squeezed (squeezed text) ≡ squeezed text
