@@ -3,6 +3,7 @@ use Rattle.cweb_out.proofs.Common.{ℕ, ◌≡◌, refl, [], ◌∷◌, ◌++◌
 use Rattle.std.specs.Fmt.{digits}
 use Rattle.cweb_out.proofs.PlanExamples.{two, twice}
 use Rattle.cweb_store.specs.Parts.{Mark}
+use Rattle.cweb_out.specs.laws.JoinedTokens.{section_comments}
 
 -- Which names use which in the law of refused cycles.
 each_uses_the_other : IsCycle two (id 0 ∷ id 1 ∷ id 0 ∷ [])
@@ -33,6 +34,10 @@ record Computed : Type 0 where
       ≡ semicolon ∷ semicolon ∷ semicolon ∷ semicolon ∷ semicolon ∷ semicolon ∷ semicolon ∷ semicolon ∷ []
   a_section_comment_stays_after_a_join : print plain (Punct (codes "/") ∷ Join ∷ Head 2 ∷ at 3 ∷ Word (codes "b") ∷ [])
       ≡ codes "/ /*2:*/b"
+  section_comments_after_a_join : section_comments plain true (Newline ∷ Head 2 ∷ at 3 ∷ Join ∷ Tail 2 ∷ at 2 ∷ [])
+      ≡ codes " /*2:*/ /*:2*/"
+  only_they_come_between_joined_tokens : print plain (Word (codes "a") ∷ Join ∷ Newline ∷ Head 2 ∷ at 3 ∷ Join ∷ Tail 2
+      ∷ at 2 ∷ Word (codes "b") ∷ []) ≡ codes "a /*2:*/ /*:2*/b"
   operators_and_numbers_stay_apart : file plain (Head 1 ∷ at 1 ∷ Newline ∷ Word (codes "x") ∷ Punct
       (codes "=") ∷ Blank ∷ Punct (codes "-") ∷ Number (codes "1") ∷ semicolon ∷ Word (codes "a") ∷ Punct (codes "*")
       ∷ Punct (codes "-") ∷ Word (codes "b") ∷ semicolon ∷ Word (codes "y") ∷ Punct (codes "=") ∷ Number (codes "0xe")

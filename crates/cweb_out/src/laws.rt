@@ -1,5 +1,6 @@
 //! Laws of expansion, printing and cycles for any web. Each function exists for its contract and does nothing.
 
+ghost use Rattle.cweb_out.specs.laws.JoinedTokens.{OnlySectionCommentsComeBetweenJoinedTokens};
 ghost use Rattle.cweb_out.specs.laws.Laws.{DepthAboveTheRankChangesNothing, ExpansionReplacesUsesAlone};
 ghost use Rattle.cweb_out.specs.laws.Laws.{FilesHaveWholeLines, PrintGoesOn, RanksAreBelowTheNames};
 ghost use Rattle.cweb_out.specs.laws.Laws.{RefusedCyclesAreCycles};
@@ -23,6 +24,11 @@ pub fn ranks_are_below_the_names()
 /// printed token and on whether a join is open.
 pub fn print_goes_on()
     ensures { PrintGoesOn }
+{}
+
+/// Between a Join and the next token that is no layout, section comment or Join, only section comments are printed.
+pub fn only_section_comments_come_between_joined_tokens()
+    ensures { OnlySectionCommentsComeBetweenJoinedTokens }
 {}
 
 /// A file is empty or ends in a newline.

@@ -10,6 +10,7 @@ pub mod TokenSizes
 pub mod ByRules
 pub mod Reaches
 pub mod Looks
+mod Reaching
 pub mod Ranges
 pub mod PlainSpans
 pub mod ItemMatchesPay

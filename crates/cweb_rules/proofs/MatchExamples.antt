@@ -1,5 +1,6 @@
 -- Worked examples of lexemes.
-use Rattle.cweb_rules.proofs.Common.{◌≡◌, true, false, Some, None, [], ◌∷◌, codes, Place, Limbo, TeX, Definition, Macro, CText, Faulty, Closed, Cut, Nested, DoubleAtInLimbo, IgnoredInCText, match_in, Skipped, Section, Code, Letter, Constant, Occurrence, Comment, Quoted, Defined, Numeral, Punctuator, rule_match}
+use Rattle.cweb_rules.proofs.Common.{◌≡◌, true, false, Some, None, [], ◌∷◌, codes, Place, Limbo, TeX, Definition, Macro, CText, Faulty, Closed, Cut, Nested, DoubleAtInLimbo, IgnoredInCText, match_in, Skipped, Section, Code, Letter, Constant, Occurrence, Comment, Quoted, Defined, Numeral, Punctuator, rule_match, Goes, Ends, look_in_control}
+use Rattle.cweb_rules.specs.Items.{reach_of_control_text}
 
 abbrev here : Place
 here = record { file = record { 0 = 0 }; line = 1 }
@@ -30,6 +31,10 @@ record Computed : Type 0 where
   octal_constant : match_in CText false (codes "@'\\101'") ≡ rule_match (Constant (Some 65)) 7
   constant_of_two_bytes : match_in CText false (codes "@'ab'c") ≡ rule_match (Constant None) 5
   starred_section : match_in CText false (codes "@*") ≡ rule_match (Section true) 2
+  units_of_a_control_text : reach_of_control_text (codes "a@@b@>c")
+      ≡ record { units = codes "a" ∷ codes "@@" ∷ codes "b" ∷ []; close = 2; how = Closed }
+  its_rule_goes_on_at_a_unit : look_in_control (codes "@@b@>c") ≡ Goes 2
+  its_rule_ends_it_after_the_last_unit : look_in_control (codes "@>c") ≡ Ends 2 Closed
   section_at_the_end : match_in TeX false (codes "@") ≡ rule_match (Section false) 1
 
 computed : Computed

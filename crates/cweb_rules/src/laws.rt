@@ -7,6 +7,7 @@ ghost use Rattle.cweb_rules.specs.laws.Follows.{JoinsAll, IsToken, continues_lex
 ghost use Rattle.cweb_rules.specs.laws.Follows.{is_quiet};
 ghost use Rattle.cweb_rules.specs.Matches.{match_in, Kind, Comment, rule_match};
 ghost use Rattle.cweb_rules.specs.laws.Pays.{FitsAndPays};
+ghost use Rattle.cweb_rules.specs.laws.Reaching.{ItemsEndAtTheirFirstEnd, RulesPassBytes};
 ghost use Rattle.cweb_rules.specs.declared.context.Context.{Context};
 ghost use Rattle.cweb_rules.specs.declared.context.Context.TheVariants.{CText};
 ghost use Rattle.cweb_rules.specs.declared.end.End.TheVariants.{Closed};
@@ -37,4 +38,11 @@ pub fn comments_end_by_themselves()
     ensures { (text more : List ℕ) → list_all is_quiet text ≡ true
         → match_in CText false (codes "/*" ++ (text ++ (codes "*/" ++ more)))
         ≡ rule_match (Comment Closed) (2 + (length text + 2)) }
+{}
+
+/// No unit of an item begins with the item's end: at the start of each unit the rule goes on. After the last unit the
+/// rule ends the item, or the source ends. The rules of all items have no empty units.
+pub fn items_end_at_their_first_end()
+    ensures first { ItemsEndAtTheirFirstEnd }
+    ensures rules { RulesPassBytes }
 {}
