@@ -20,7 +20,8 @@ pub before-begins : (test dropped : Token → Bool) (t : Token) (us : List Token
 before-begins test dropped t [] h e = ap (λ v. begins_with test (if v then [] else t ∷ [])) e ∙ h
 before-begins test dropped t (u ∷ us) h e = h
 
-pub drop-begins : (test : Token → Bool) → ((t : Token) → test t ≡ true → is_layout t ≡ false) → (k : ℕ) (ts : List Token)
+pub drop-begins : (test : Token → Bool) → ((t : Token) → test t ≡ true → is_layout t ≡ false) → (k : ℕ)
+    (ts : List Token)
     → begins_with test ts ≡ true → begins_with test (without_last_after k is_layout ts) ≡ true
 drop-begins test solid zero [] h = cc
 drop-begins test solid zero (t ∷ ts) h = before-begins test is_layout t (without_last is_layout ts) h (solid t h)
