@@ -1,7 +1,7 @@
 -- The first token of an open part stays: a Word in a macro, a Head in C text.
 use Rattle.cweb_scan.proofs.Common.{◌≡◌, ◌≤◌, ℕ, zero, suc, Bool, true, false, ◌==◌, List, [], ◌∷◌, ◌++◌, Option, Some, None, refl, ap, ◌∙◌, subst, option_map, if◌then◌else◌, All, Token, Head, Word, Part, is_macro, is_layout, before_last, without_layout, without_blank, without_last, is_newline, protected_count, part_with_token, Context, Limbo, TeX, Definition, Macro, CText, ScanState, emit}
 use Rattle.cweb_store.specs.Parts.{without_last_after}
-use Rattle.cweb_scan.specs.laws.PartTokens.{is_word, begins_with, IsWhole}
+use Rattle.cweb_scan.specs.laws.PartTokens.{is_word, first_token_is, IsWhole}
 use Rattle.cweb_scan.proofs.SmallSteps.{Preserves}
 
 abbrev pub is_head : ℕ → Token → Bool
@@ -10,19 +10,19 @@ is_head n t = false
 
 -- The first token stays.
 
-pub push-begins : (test : Token → Bool) (ts : List Token) (u : Token) → begins_with test ts ≡ true
-    → begins_with test (ts ++ u ∷ []) ≡ true
+pub push-begins : (test : Token → Bool) (ts : List Token) (u : Token) → first_token_is test ts ≡ true
+    → first_token_is test (ts ++ u ∷ []) ≡ true
 push-begins test [] u h = cc
 push-begins test (t ∷ ts) u h = h
 
 pub before-begins : (test dropped : Token → Bool) (t : Token) (us : List Token) → test t ≡ true → dropped t ≡ false
-    → begins_with test (before_last dropped t us) ≡ true
-before-begins test dropped t [] h e = ap (λ v. begins_with test (if v then [] else t ∷ [])) e ∙ h
+    → first_token_is test (before_last dropped t us) ≡ true
+before-begins test dropped t [] h e = ap (λ v. first_token_is test (if v then [] else t ∷ [])) e ∙ h
 before-begins test dropped t (u ∷ us) h e = h
 
-pub drop-begins : (test : Token → Bool) → ((t : Token) → test t ≡ true → is_layout t ≡ false) → (k : ℕ)
-    (ts : List Token)
-    → begins_with test ts ≡ true → begins_with test (without_last_after k is_layout ts) ≡ true
+pub drop-begins : (test : Token → Bool) → ((t : Token) → test t ≡ true → is_layout t ≡ false)
+    → (k : ℕ) (ts : List Token) → first_token_is test ts ≡ true
+    → first_token_is test (without_last_after k is_layout ts) ≡ true
 drop-begins test solid zero [] h = cc
 drop-begins test solid zero (t ∷ ts) h = before-begins test is_layout t (without_last is_layout ts) h (solid t h)
 drop-begins test solid (suc k) [] h = cc
@@ -36,14 +36,15 @@ pub head-solid : (n : ℕ) (t : Token) → is_head n t ≡ true → is_layout t 
 head-solid n (Head m) h = refl
 head-solid n t h = cc
 
-pub blank-begins : (ts : List Token) → begins_with is_word ts ≡ true → begins_with is_word (without_blank ts) ≡ true
+pub blank-begins : (ts : List Token) → first_token_is is_word ts ≡ true
+    → first_token_is is_word (without_blank ts) ≡ true
 blank-begins [] h = cc
 blank-begins (Word b ∷ []) h = refl
 blank-begins (Word b ∷ u ∷ us) h = refl
 blank-begins (t ∷ ts) h = cc
 
-pub close-begins : (ts : List Token) → begins_with is_word ts ≡ true
-    → begins_with is_word (without_blank (without_last is_newline ts)) ≡ true
+pub close-begins : (ts : List Token) → first_token_is is_word ts ≡ true
+    → first_token_is is_word (without_blank (without_last is_newline ts)) ≡ true
 close-begins [] h = cc
 close-begins (Word b ∷ ts) h = blank-begins (before_last is_newline (Word b) (without_last is_newline ts))
     (before-begins is_word is_newline (Word b) (without_last is_newline ts) refl refl)
@@ -57,7 +58,7 @@ IsShut (Some p) = ⊥
 
 abbrev pub HasBegun : Bool → (Token → Bool) → Option Part → Type 0
 HasBegun macro test None = ⊥
-HasBegun macro test (Some p) = (is_macro p.kind ≡ macro) × (begins_with test p.tokens ≡ true)
+HasBegun macro test (Some p) = (is_macro p.kind ≡ macro) × (first_token_is test p.tokens ≡ true)
 
 abbrev pub IsInside : Context → ℕ → Option Part → Type 0
 IsInside Limbo n o = IsShut o

@@ -5,8 +5,11 @@ use Rattle.cweb_store.specs.declared.parts.PartKind.TheVariants as part
 use Rattle.cweb_store.proofs.LayoutLawLemmas.{dropping_keeps_the_prefix}
 use Rattle.cweb_rules.specs.Matches.{Occurrence}
 use Rattle.cweb_scan.specs.laws.Counted.{lexemes_of_lines}
-use Rattle.cweb_scan.specs.laws.PartTokens.{needs_mark, begins_with_mark, marks_follow, MarksFollowUses}
+use Rattle.cweb_scan.specs.laws.PartTokens.{needs_mark, is_mark_or_join, first_token_is, marks_follow, MarksFollowUses}
 use Rattle.cweb_scan.proofs.SmallSteps.{IsSmall, Preserves, moved, enter-holds, item-holds}
+
+abbrev begins_with_mark : List Token → Bool
+begins_with_mark ts = first_token_is is_mark_or_join ts
 
 or-weaker : (n b c : Bool) → (b ≡ true → c ≡ true) → (n || b) ≡ true → (n || c) ≡ true
 or-weaker true b c f h = refl

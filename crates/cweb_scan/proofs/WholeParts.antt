@@ -4,7 +4,7 @@ use Rattle.std.proofs.Common.{eq-eqb}
 use Rattle.cweb_store.specs.declared.parts.PartKind.TheVariants as part
 use Rattle.cweb_rules.specs.Matches.{Occurrence}
 use Rattle.cweb_scan.specs.laws.LexemePlaces.{joined_lines}
-use Rattle.cweb_scan.specs.laws.PartTokens.{IsFramed, is_word, begins_with, IsWhole, PartsAreWhole}
+use Rattle.cweb_scan.specs.laws.PartTokens.{IsFramed, is_word, first_token_is, IsWhole, PartsAreWhole}
 use Rattle.cweb_scan.proofs.LexemesAreUnique.{are_pieces}
 use Rattle.cweb_scan.proofs.Walked.{fits}
 use Rattle.cweb_scan.proofs.LexemeMoves.{pays_entered}
@@ -15,14 +15,15 @@ use Rattle.cweb_scan.proofs.BegunParts.{is_head, close-begins, IsShut, HasBegun,
 
 -- Parts are closed.
 
-macro-whole : (n : ℕ) (p : Part) → is_macro p.kind ≡ true → begins_with is_word p.tokens ≡ true → IsWhole n (at_close p)
+macro-whole : (n : ℕ) (p : Part) → is_macro p.kind ≡ true → first_token_is is_word p.tokens ≡ true
+    → IsWhole n (at_close p)
 macro-whole n p m h = subst (λ v. IsWhole n
     (if v then record p { tokens = without_blank (without_last is_newline p.tokens) } else p)) (sym m) (record {
       c_text = λ c. let bad : false ≡ true = ap not (sym m) ∙ c in cc;
       macro = λ e. close-begins p.tokens h;
     })
 
-framed : (n : ℕ) (ts : List Token) → 1 ≤ n → begins_with (is_head n) ts ≡ true → IsFramed n (ts ++ Tail n ∷ [])
+framed : (n : ℕ) (ts : List Token) → 1 ≤ n → first_token_is (is_head n) ts ≡ true → IsFramed n (ts ++ Tail n ∷ [])
 framed n [] l h = cc
 framed n (Head m ∷ ts) l h = record {
   section = n;
@@ -33,7 +34,7 @@ framed n (Head m ∷ ts) l h = record {
 }
 framed n (t ∷ ts) l h = cc
 
-text-whole : (n : ℕ) (p : Part) → 1 ≤ n → is_macro p.kind ≡ false → begins_with (is_head n) p.tokens ≡ true
+text-whole : (n : ℕ) (p : Part) → 1 ≤ n → is_macro p.kind ≡ false → first_token_is (is_head n) p.tokens ≡ true
     → IsWhole n (at_close (part_with_token (Tail n) p))
 text-whole n p l m h =
     let q = part_with_token (Tail n) p in

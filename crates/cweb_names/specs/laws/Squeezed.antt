@@ -4,6 +4,7 @@ use Rattle.std.specs.List.{list_all}
 use Rattle.cweb_rules.specs.Bytes.{first_is, is_white}
 use Rattle.cweb_names.specs.Names.{squeezed}
 
+-- The byte isn't white.
 abbrev pub is_other : ℕ → Bool
 is_other b = not (is_white b)
 

@@ -5,6 +5,7 @@ use Rattle.cweb_store.specs.Parts.{Token, Join, Head, Tail}
 use Rattle.cweb_print.specs.Printing.{Setting, file_token_bytes, plain_bytes, print, print_after, stays_joined}
 use Rattle.cweb_print.specs.Printing.{without_joined_layout}
 
+-- A blank, if the token before is a Join.
 abbrev pub blank_if : Bool → List ℕ
 blank_if after_join = if after_join then codes " " else []
 

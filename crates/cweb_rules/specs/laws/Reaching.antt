@@ -26,6 +26,7 @@ pub record EndsAtItsFirstEnd (look : List ℕ → Look) (at_end : End) (t : List
   pub passed : ArePassed look r.units t rest
   pub ends : EndsThere look at_end rest r.close r.how
 
+-- Every item ends at its first end, if no unit is empty.
 abbrev pub ItemsEndAtTheirFirstEnd : Type 0
 ItemsEndAtTheirFirstEnd = (look : List ℕ → Look) (at_end : End) (t : List ℕ) → PassesBytes look
     → EndsAtItsFirstEnd look at_end t (reach look at_end t)

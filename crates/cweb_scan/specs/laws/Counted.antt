@@ -18,6 +18,7 @@ lexemes_of_lines (line ∷ lines) = lexemes (source_start line lines) (joined_li
 abbrev pub section_start : Kind → Option Bool
 section_start kind = elim kind [ Section starred ↦ Some starred | _ ↦ None ]
 
+-- The section starts among lexemes, in order.
 abbrev pub section_starts : List Lexeme → List Bool
 section_starts ps = filter_map (λ p. section_start p.kind) ps
 
