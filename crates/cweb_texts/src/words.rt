@@ -60,15 +60,15 @@ impl WordInterner {
         Ok(number)
     }
 
-    /// Interns a word, and returns its number. A refused call changes nothing. The fast path looks at the latest word of the
-    /// bucket.
+    /// Interns a word, and returns its number. A refused call changes nothing. The fast path finds a short word that is the
+    /// latest of its bucket.
     pub fn intern_word(&mut self, word: &[u8]) -> Result<usize, AllocError>
         ensures ok { IfOk result (λ number. InternsWord self.old word.now number self.new) }
         ensures err { OnErr result (self.new ≡ self.old) }
     {
         let key = Key::of(word);
         match self.table.latest(key) {
-            Some(latest) if latest.is(&self.strings, key, word) => Ok(latest.number as usize),
+            Some(latest) if latest.is_short(key, word) => Ok(latest.number as usize),
             _ => self.intern_uncached(key, word),
         }
     }

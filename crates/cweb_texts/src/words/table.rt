@@ -89,12 +89,12 @@ impl WordTable {
         true
     }
 
-    // Doubles the buckets if there are half as many words, and memory is there.
+    // Doubles the buckets if there are fewer than four for each word, and memory is there.
     fn grow(&mut self)
         ensures { self.new ≡ self.old }
     {
         let buckets = self.chains.heads.len();
-        if 2 * self.words.len() < buckets {
+        if 4 * self.words.len() < buckets {
             return;
         }
         let more = if buckets == 0 {

@@ -1,6 +1,6 @@
 // A word of the hash table.
 
-ghost use Rattle.std.specs.Prelude.{◌≡◌, ◌↔◌, bytes_eq, IfSome, IsTrue};
+ghost use Rattle.std.specs.Prelude.{◌≡◌, ◌↔◌, true, List, ℕ, bytes_eq, IfSome, IsTrue};
 ghost use Rattle.cweb_texts.specs.inner.Keys.{AreBytes, key_of};
 ghost use Rattle.cweb_texts.specs.inner.Words.{DescribesString, word_string};
 
@@ -49,6 +49,17 @@ impl Word {
             return true;
         }
         string == strings.string(self.number as usize)
+    }
+
+    /// Whether this word is a short string with a key. It reads no other string and calls nothing.
+    #[inline(always)]
+    pub fn is_short(&self, key: Key, string: &[u8]) -> bool
+        requires { key ≡ key_of string.now }
+        ensures { result ≡ true → (strings : List (List ℕ)) → DescribesString strings self.now
+            → bytes_eq string.now (word_string strings self.now) ≡ true }
+    {
+        establish_byte_range(string);
+        string.len() <= KEY_BYTES && self.has_key(key, string.len())
     }
 
     // Whether the key and the length are these.

@@ -1,4 +1,3 @@
-use Rattle.cweb_texts.proofs.Common.{sym}
 use Rattle.cweb_texts.proofs.TableLemmas.{found-word}
 use Rattle.cweb_texts.proofs.InterningLemmas.{found-known}
 use Rattle.cweb_texts.proofs.words.WordInterner.intern_word.Goals as goal
@@ -10,4 +9,5 @@ returns-in-Some-clause-ok c =
     let latest = c.in-Some.latest in
     rw (← c.self.view_is) (found-known s.strings s.table s.sorted.entries word latest.now.number
     (found-word s.strings s.table word c.in-Some.ensures.0 latest.now c.self.invariant.in_table c.in-Some.ensures.1
-    (sym c.if-is.ensures)))
+    (c.is_short.ensures c.if-is_short.true s.strings (c.self.invariant.in_table c.in-Some.ensures.0 latest.now
+    c.in-Some.ensures.1))))
