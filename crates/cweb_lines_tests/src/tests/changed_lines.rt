@@ -33,7 +33,7 @@ fn old_lines(rt: HostRuntime) -> Result<(), Fail> {
 #[test]
 fn old_lines_that_end_early(rt: HostRuntime) -> Result<(), Fail> {
     const EXAMPLES: &[(&str, &str, &str)] = &[
-        // the order of the faults of an old side, of which two lines are compared
+        // the order of the faults of an old side with two compared lines
         (
             "A\nB\nC\n",
             "@x\nA\nb\n@Z\nc\n@x\nd\ne\n",

@@ -89,7 +89,7 @@ pub fn merge_files<E: From<Stop> + From<AllocError>, C: Case<MemoryShelf, E>>(
     merge(rt, &mut shelf, names, case)
 }
 
-/// Starts a merger with limited reads, one of which fails.
+/// Starts a merger with limited reads. One of them fails.
 pub fn merge_reads<C: Case<TrialShelf, Fail>>(
     rt: &(impl AllocGlobal + Abort),
     files: &[(&str, &[u8])],

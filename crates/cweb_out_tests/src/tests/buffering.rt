@@ -199,7 +199,7 @@ fn uses_across_the_end_of_the_room(rt: HostRuntime) {
     takes_repeated(&rt, rt.alloc(), web, 100_001, 2);
 }
 
-// Names of one token, each of which uses the next one after it.
+// Names with one token each. Each name uses the next one.
 #[test]
 fn a_chain_across_the_end_of_the_room(rt: HostRuntime) {
     let web = chain(rt.alloc(), 9_999, 1, " wabcdefghi", " p;").expect(&rt, "memory");

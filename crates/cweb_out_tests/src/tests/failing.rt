@@ -124,7 +124,7 @@ fn a_prefix_is_written_up_to_a_fault(rt: HostRuntime) {
     check_files(&rt, rt.alloc(), (NAME, None), FILE, &TokenByToken);
 }
 
-// Buffered, all is one chunk, of which the sink takes two bytes per write.
+// Buffered, all is one chunk. The sink takes two bytes of it per write.
 #[derive(Drop)]
 struct InOneFlush;
 

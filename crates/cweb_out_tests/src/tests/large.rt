@@ -61,7 +61,7 @@ fn count_plan(rt: &impl Abort, alloc: Global, store: &Store, plan: &Plan, counts
     holds(rt, depth == counts.depth);
 }
 
-// Checks the counts of a chain of names, each of which uses the next one this often.
+// Checks the counts of a chain of names. Each name uses the next one this often.
 fn counts_chain(rt: &impl Abort, alloc: Global, last: u32, uses: u32, wanted: &Counts) {
     let web = chain(alloc, last, uses, "", " wx").expect(rt, "memory");
     check(rt, alloc, web.as_bytes(), wanted);

@@ -13,7 +13,7 @@ fn digits(number: u32) -> [u8; 24] {
 // Which of these bytes a Word has.
 #[derive(Clone, Copy)]
 enum Words {
-    // eight bytes, all of which are in the hash key
+    // eight bytes: the hash key has all of them
     Short,
     // all bytes: the first and last ones are equal, so all Words have one hash key
     OfOneKey,
