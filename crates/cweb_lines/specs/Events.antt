@@ -1,5 +1,5 @@
 -- The events of a merge by kind, the limits on the lines that it takes, and the written lines.
-use Rattle.std.specs.Prelude.{◌≡◌, ◌⊎◌, ℕ, ◌+◌, ◌≤◌, List, [], ◌∷◌, ◌++◌, length}
+use Rattle.std.specs.Prelude.{◌≡◌, ◌⊎◌, ℕ, ◌+◌, ◌≤◌, List, [], ◌∷◌, ◌++◌, length, map}
 use Rattle.cweb_input.specs.OpenSources.{TakenCountersModel, RefusesLine}
 use Rattle.cweb_input.specs.declared.stop.Stop.{Stop}
 use Rattle.cweb_input.specs.Lines.{Line, SourceLine}
@@ -56,19 +56,19 @@ counts_of lines = record { lines = length lines; bytes = size_of_lines lines }
 abbrev pub ComesFirst : SourceLine → List SourceLine → Type 0
 ComesFirst line lines = (rest : List SourceLine) × (lines ≡ line ∷ rest)
 
--- A line breaks a limit, and those taken before it break none. A change takes old lines and raw lines in turn: a prefix of either.
-pub record BreaksLimit (stop : Stop) (lines : List SourceLine) : Type 0 where
-  pub before : List SourceLine
+-- A line breaks a limit, and those taken before it break none. A step takes old lines and raw lines in turn: a prefix of either.
+pub record BreaksLimit (stop : Stop) (events : List Event) : Type 0 where
+  pub earlier : List Event
   pub olds : List SourceLine
   pub old_rest : List SourceLine
   pub raws : List SourceLine
   pub raw_rest : List SourceLine
-  pub after : List SourceLine
-  pub whole : lines ≡ before ++ ((olds ++ old_rest) ++ ((raws ++ raw_rest) ++ after))
-  pub within : IsWithinLimits (before ++ (olds ++ raws))
+  pub later : List Event
+  pub whole : events ≡ earlier ++ (map took (olds ++ old_rest) ++ (map took (raws ++ raw_rest) ++ later))
+  pub within : IsWithinLimits (taken_lines earlier ++ (olds ++ raws))
   pub line : SourceLine
   pub next : ComesFirst line old_rest ⊎ ComesFirst line raw_rest
-  pub why : RefusesLine stop (counts_of (before ++ (olds ++ raws))) line
+  pub why : RefusesLine stop (counts_of (taken_lines earlier ++ (olds ++ raws))) line
 
 -- The lines as they are written, each with a newline.
 abbrev pub written_lines : List Line → List ℕ

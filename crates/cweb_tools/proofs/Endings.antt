@@ -1,5 +1,5 @@
 -- The consequences of a run's promises for its endings.
-use Rattle.cweb_tools.proofs.Common.{taken_lines, ◌≡◌, ◌≢◌, ◌++◌, flat_map, LogItem, line, stop_line, inl, inr, ℕ, List, [], ◌∷◌, refl, ap, arith, Some, None, Stop, Usage, WebNotOpened, ChangeNotOpened, ReadFault, LineTooLong, TooMuchText, Memory, OutNotOpened, WriteFault, LogFault, DeviceState, Act, judges, reads, after_act, ending, Breaks, PerformsActs, TangleEnds, completes, stops, DoesAll, IsStopped, IsEnded, ActsKeepLimits}
+use Rattle.cweb_tools.proofs.Common.{◌≡◌, ◌≢◌, ◌++◌, flat_map, LogItem, line, stop_line, inl, inr, ℕ, List, [], ◌∷◌, refl, ap, arith, Some, None, Stop, Usage, WebNotOpened, ChangeNotOpened, ReadFault, LineTooLong, TooMuchText, Memory, OutNotOpened, WriteFault, LogFault, DeviceState, Act, judges, reads, after_act, ending, Breaks, PerformsActs, TangleEnds, completes, stops, DoesAll, IsStopped, IsEnded, ActsKeepLimits}
 use Rattle.cweb_tools.proofs.AllDone.{files_all, log_all}
 use Rattle.cweb_tools.proofs.Limits.{beyond}
 use Rattle.cweb_tools.proofs.Stopping.{is_stopped}
@@ -53,9 +53,9 @@ cause_more stop within more part cause = tt
 cause_at : (act : Act) (acts : List Act) (stop : Stop) (about : List ℕ) (old new : DeviceState)
     → Breaks act (ending stop about) old new → Cause stop (ActsKeepLimits (act ∷ acts))
 cause_at (reads names events) acts (LineTooLong file) about old new broke =
-    λ within. beyond (LineTooLong file) (taken_lines events) broke.1 within.0
+    λ within. beyond (LineTooLong file) events broke.1 within.0
 cause_at (reads names events) acts TooMuchText about old new broke =
-    λ within. beyond TooMuchText (taken_lines events) broke.0 within.0
+    λ within. beyond TooMuchText events broke.0 within.0
 cause_at act acts (ReadFault file) about old new broke = tt
 cause_at act acts Memory about old new broke = tt
 cause_at act acts OutNotOpened about old new broke = tt

@@ -1,5 +1,5 @@
 -- The ends of a run of `wmerge` keep its promises.
-use Rattle.cweb_tools.proofs.Common.{taken_lines, ◌≤◌, ◌≡◌, inl, inr, ℕ, ◌+◌, List, [], ◌∷◌, ◌++◌, refl, sym, ◌∙◌, ap, append-nil, arith, Option, Some, None, IsTrue, FileId, World, Found, web_at, change_at, read_failures_of, WritesPrefix, write_failures_of, SourceFault, Stop, Usage, WebNotOpened, ChangeNotOpened, ReadFault, LineTooLong, TooMuchText, Memory, WriteFault, Logs, fault_lines, stop_line, Devices, SinkModel, AreObservable, WebNames, Course, merging, merge_course, fault_status, found_course, merged, MergeKeepsLimits, about, BlamesDevice, CanStop, Completes, EndsMerge, MergeFailsOnce, HasMerged, IsMerge, MergesFreely, Merges, LeavesMerge, MergeRanFreely, MergeReportsFaults, PrintsMerged, MergeEnds, subst}
+use Rattle.cweb_tools.proofs.Common.{◌≤◌, ◌≡◌, inl, inr, ℕ, ◌+◌, List, [], ◌∷◌, ◌++◌, refl, sym, ◌∙◌, ap, append-nil, arith, Option, Some, None, IsTrue, FileId, World, Found, web_at, change_at, read_failures_of, WritesPrefix, write_failures_of, SourceFault, Stop, Usage, WebNotOpened, ChangeNotOpened, ReadFault, LineTooLong, TooMuchText, Memory, WriteFault, Logs, fault_lines, stop_line, Devices, SinkModel, AreObservable, WebNames, Course, merging, merge_course, fault_status, found_course, merged, MergeKeepsLimits, about, BlamesDevice, CanStop, Completes, EndsMerge, MergeFailsOnce, HasMerged, IsMerge, MergesFreely, Merges, LeavesMerge, MergeRanFreely, MergeReportsFaults, PrintsMerged, MergeEnds, subst}
 use Rattle.cweb_tools.specs.laws.RunEffects.{EveryMergeLeavesOutput}
 use Rattle.cweb_tools.proofs.Courses.{merge_only, ends_by}
 use Rattle.cweb_tools.specs.MergePromises.{completes, stops}
@@ -7,11 +7,11 @@ use Rattle.cweb_tools.proofs.Limits.{beyond}
 
 -- A course that a limit stops is not within the limits.
 course_long : (course : Course) (file : FileId) → CanStop (LineTooLong file) course → MergeKeepsLimits course → ⊥
-course_long (merging first events) file why within = beyond (LineTooLong file) (taken_lines events) why within
+course_long (merging first events) file why within = beyond (LineTooLong file) events why within
 course_long course file why within = absurd why
 
 course_much : (course : Course) → CanStop TooMuchText course → MergeKeepsLimits course → ⊥
-course_much (merging first events) why within = beyond TooMuchText (taken_lines events) why within
+course_much (merging first events) why within = beyond TooMuchText events why within
 course_much course why within = absurd why
 
 no_front : (front rest : List ℕ) → [] ≡ front ++ rest → front ≡ []

@@ -64,14 +64,15 @@ pub nothing_passes : IsWithinLimits []
 nothing_passes = record { short = tt; few = omega arith; small = omega arith }
 
 -- The first line breaks a limit.
-breaks_first : (stop : Stop) (line : SourceLine) → RefusesLine stop (counts_of []) line → BreaksLimit stop (line ∷ [])
+breaks_first : (stop : Stop) (line : SourceLine) → RefusesLine stop (counts_of []) line
+    → BreaksLimit stop (took line ∷ [])
 breaks_first stop line why = record {
-  before = [];
+  earlier = [];
   olds = [];
   old_rest = line ∷ [];
   raws = [];
   raw_rest = [];
-  after = [];
+  later = [];
   whole = refl;
   within = nothing_passes;
   line = line;

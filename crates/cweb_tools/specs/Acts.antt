@@ -92,9 +92,9 @@ Breaks opens (ending Memory about) old new = new ≡ old
 Breaks (reads names events) (ending (ReadFault file) about) old new = IsOfFile names file.0 about
     × (new ≡ read_fails about old)
 Breaks (reads names events) (ending (LineTooLong file) about) old new =
-    IsOfFile names file.0 about × BreaksLimit (LineTooLong file) (taken_lines events) × (new ≡ old)
+    IsOfFile names file.0 about × BreaksLimit (LineTooLong file) events × (new ≡ old)
 Breaks (reads names events) (ending TooMuchText about) old new =
-    BreaksLimit TooMuchText (taken_lines events) × (new ≡ old)
+    BreaksLimit TooMuchText events × (new ≡ old)
 Breaks (reads names events) (ending Memory about) old new = new ≡ old
 Breaks plans (ending Memory about) old new = new ≡ old
 Breaks reserves (ending Memory about) old new = new ≡ old

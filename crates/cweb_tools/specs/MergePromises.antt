@@ -51,8 +51,8 @@ abbrev pub CanStop : Stop → Course → Type 0
 CanStop WebNotOpened (not_there web) = Unit {0}
 CanStop ChangeNotOpened (change_not_there change) = Unit {0}
 CanStop (ReadFault file) (merging first events) = Unit {0}
-CanStop (LineTooLong file) (merging first events) = BreaksLimit (LineTooLong file) (taken_lines events)
-CanStop TooMuchText (merging first events) = BreaksLimit TooMuchText (taken_lines events)
+CanStop (LineTooLong file) (merging first events) = BreaksLimit (LineTooLong file) events
+CanStop TooMuchText (merging first events) = BreaksLimit TooMuchText events
 CanStop WriteFault (merging first events) = Unit {0}
 CanStop Memory course = Unit {0}
 CanStop stop course = ⊥
