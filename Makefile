@@ -1,4 +1,4 @@
-# `make` proves and builds both programs. `make help` lists what else there is.
+# `make` proves and builds all programs. `make help` lists what else there is.
 
 prefix ?= $(if $(PREFIX),$(PREFIX),/usr/local)
 bindir ?= $(if $(BINDIR),$(BINDIR),$(prefix)/bin)
@@ -23,14 +23,15 @@ else
 PROVED := build/proved
 UNPROVED := build/unproved
 BENCH := crates/bench/out/bench
-PROGRAMS := ctangle wmerge
+PROGRAMS := ctangle wmerge wdep
 # the programs that installcheck tests
 CTANGLE ?= $(DESTDIR)$(bindir)/$(PROGRAM_PREFIX)ctangle$(PROGRAM_SUFFIX)
 WMERGE ?= $(DESTDIR)$(bindir)/$(PROGRAM_PREFIX)wmerge$(PROGRAM_SUFFIX)
+WDEP ?= $(DESTDIR)$(bindir)/$(PROGRAM_PREFIX)wdep$(PROGRAM_SUFFIX)
 # with any letter after it: the programs were proved with 13b and with 13f
 KIT := rattle-kit-13
 SOURCES := HANDLES crates.txt $(shell find crates -name out -prune -o -type f \( -name '*.rt' -o -name '*.antt' \) -print)
-NOT_PROVED := echo 'NOTHING IN THIS BUILD IS PROVED. "make build" proves both programs (20 minutes the first time, on four processors),'; \
+NOT_PROVED := echo 'NOTHING IN THIS BUILD IS PROVED. "make build" proves all programs (20 minutes the first time, on four processors),'; \
     echo 'and "make check" tests the proofs, the contracts and the programs as well (about an hour).'
 
 .PHONY: all help demo build check format faults dist install uninstall installcheck bench clean distclean
@@ -38,12 +39,12 @@ NOT_PROVED := echo 'NOTHING IN THIS BUILD IS PROVED. "make build" proves both pr
 all: build
 
 help:
-	@echo 'make demo          builds both programs in two minutes, without proof, and runs them on the webs of examples/'
-	@echo 'make build         proves and builds ctangle and wmerge: 20 minutes the first time, on four processors'
+	@echo 'make demo          builds all programs in two minutes, without proof, and runs them on the webs of examples/'
+	@echo 'make build         proves and builds ctangle, wmerge and wdep: 20 minutes the first time, on four processors'
 	@echo 'make install       copies the proved programs and their man pages below "$(prefix)" (prefix, bindir, mandir, DESTDIR,'
 	@echo '                   INSTALL, PROGRAM_PREFIX and PROGRAM_SUFFIX are obeyed); it builds nothing'
 	@echo 'make uninstall     removes what make install copied'
-	@echo 'make installcheck  tests the installed programs, or those that CTANGLE and WMERGE name; it needs no kit'
+	@echo 'make installcheck  tests the installed programs, or those that CTANGLE, WMERGE and WDEP name; it needs no kit'
 	@echo 'make dist          makes a tarball of proved static programs, which run on any x86-64 Linux'
 	@echo 'make check         the gate: proves all crates, refuses each mutant, runs all tests and programs'
 	@echo 'make faults        runs the proved programs while their system calls and allocations fail, and on hostile webs and folders'
@@ -69,7 +70,7 @@ demo:
 	$(call kit,demo)
 	@$(NOT_PROVED)
 	@tools/unproved $(UNPROVED)
-	@examples/demo $(UNPROVED)/wmerge $(UNPROVED)/ctangle
+	@examples/demo $(UNPROVED)/wmerge $(UNPROVED)/ctangle $(UNPROVED)/wdep
 	@$(NOT_PROVED)
 
 check:
@@ -79,10 +80,10 @@ format:
 	@for crate in crates/*/; do (cd $$crate && rt fmt) || exit 1; done
 
 faults: build
-	@tests/all $(PROVED)/ctangle $(PROVED)/wmerge
+	@tests/all $(PROVED)/ctangle $(PROVED)/wmerge $(PROVED)/wdep
 
 installcheck:
-	@tests/all $(CTANGLE) $(WMERGE)
+	@tests/all $(CTANGLE) $(WMERGE) $(WDEP)
 
 dist: build
 	$(call kit,dist)

@@ -20,7 +20,9 @@ class Case:
     status: int = 0
     # standard output
     out: bytes = b""
-    # the fields that change if a file cannot be opened: for wmerge by the number of the call, for ctangle by the path
+    # the log before the output: wmerge logs faults after it, and wdep before it
+    first: bytes = b""
+    # the fields that change if a file cannot be opened: for ctangle by the path, for the others by the number of the call
     refused: object = ()
     # the value of CWEBINPUTS
     inputs: Optional[str] = None

@@ -44,8 +44,9 @@ def stops(case, left, text):
 
 
 def unlogged(case, left):
-    """The log is a proper prefix. The files are new that it announced in a whole line, before the next line failed."""
-    if not is_shorter(left.log, case.log) or (left.status, left.out) != (1, case.out) or left.drafts(case.files):
+    """The log is a proper prefix. The files are new that it announced in a whole line, before the next line failed. No output follows."""
+    out = b"" if case.first else case.out
+    if not is_shorter(left.log, case.log) or (left.status, left.out) != (1, out) or left.drafts(case.files):
         return False
     lines = left.log.splitlines(keepends=True)
     begun = sum(line.startswith(b"Writing ") and line.endswith(b"\n") for line in lines)
@@ -55,13 +56,14 @@ def unlogged(case, left):
 def dead_streams(case, left, dead):
     """Streams that are dead take nothing."""
     if case.out and 1 in dead:
-        case = replace(case, out=b"", log=WRITE_FAULT, status=1)
+        case = replace(case, out=b"", log=case.first + WRITE_FAULT, status=1)
     if case.log and 2 in dead:
         return left.log == b"" and unlogged(case, left)
     return is_whole(case, left)
 
 
-# Promises of wmerge: it logs faults only after the whole output, so the line of a stop is its whole log.
+# Promises of wmerge: it logs faults only after the whole output, so the line of a stop is its whole log. Those about opened files and
+# about the output are also those of wdep.
 
 
 def merge_stops(case, left, text):
@@ -88,16 +90,32 @@ def merge_open(case, left):
 
 def merge_write(case, left):
     """The output ends where the write failed."""
-    return left.log == WRITE_FAULT and prints_less(case, left)
+    return left.log == case.first + WRITE_FAULT and prints_less(case, left)
 
 
 def merge_silence(case, left):
     """No stream can be written after some write."""
-    return unlogged(case, left) if left.reported == b"2" else left.log == b"" and prints_less(case, left)
+    return unlogged(case, left) if left.reported == b"2" else left.log == case.first and prints_less(case, left)
 
 
 def prints_less(case, left):
     return left.status == 1 and is_shorter(left.out, case.out) and committed(case, left) == 0
+
+
+# Promises of wdep: a run that is stopped before the output prints nothing.
+
+
+def depend_memory(case, left):
+    """There may be faults in the log before the stop."""
+    return is_whole(case, left) or left.out == b"" and stops(case, left, b"Out of memory")
+
+
+def depend_open_memory(case, left):
+    return left.out == b"" and merge_open_memory(case, left)
+
+
+def depend_read(case, left):
+    return left.out == b"" and merge_read(case, left)
 
 
 # Promises of ctangle. The line of a stop at an output begins with one of these texts.

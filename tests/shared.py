@@ -1,4 +1,4 @@
-"""What the scripts of this folder share: where programs and tools are, the library `faults.c`, and lines that ctangle writes."""
+"""What the scripts of this folder share: where programs and tools are, the library `faults.c`, files, and lines that the programs write."""
 import os
 import shutil
 import subprocess
@@ -10,6 +10,26 @@ SECONDS = 30
 # a program is given up after this many failed runs
 SHOWN = 20
 BANNER = b"This is CTANGLE, profile of CWEB 3\n"
+
+
+def make_files(files):
+    """Makes files in the current folder: texts by their paths, None being a folder."""
+    for name, text in files.items():
+        os.makedirs(name if text is None else os.path.dirname(os.path.abspath(name)), exist_ok=True)
+        if text is not None:
+            with open(name, "wb") as file:
+                file.write(text)
+
+
+def files_here():
+    """The texts of all files below the current folder, by their paths."""
+    found = {}
+    for folder, _, names in os.walk("."):
+        for name in names:
+            path = os.path.normpath(os.path.join(folder, name))
+            with open(path, "rb") as file:
+                found[path] = file.read()
+    return found
 
 
 def stopped(text):

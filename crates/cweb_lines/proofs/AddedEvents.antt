@@ -1,5 +1,5 @@
 -- Taken lines and reported faults as events of a merge.
-use Rattle.cweb_lines.proofs.Common.{◌≡◌, ℕ, List, [], ◌∷◌, ◌++◌, refl, ◌∙◌, ap, arith, length-append, map, append-nil, append_assoc, Place, SourceLine, Event, took, fault, SoFar, EmitsLines, ReportsPrefix, AddsFaultsAndLines, ReportsSomeFaults, HasBegunStep, StopsIn, EndsStep, TakenCountersModel, CountsLine, emitted_lines, reported_faults, openings, taken_lines, AreShort, SourceFault, Stop, ReadFault, LineTooLong, TooMuchText, Memory, map-append}
+use Rattle.cweb_lines.proofs.Common.{◌≡◌, ℕ, List, [], ◌∷◌, ◌++◌, refl, ◌∙◌, ap, arith, length-append, map, append-nil, append_assoc, Place, SourceLine, Event, took, fault, SoFar, EmitsLines, ReportsPrefix, AddsFaultsAndLines, ReportsSomeFaults, HasBegunStep, StopsIn, EndsStep, TakenCountersModel, CountsLine, emitted_lines, reported_faults, openings, taken_lines, SourceFault, Stop, ReadFault, LineTooLong, TooMuchText, Memory, map-append}
 use Rattle.cweb_lines.proofs.EmittedLinesAddUp.{size-append, short-append}
 
 abbrev pub events : List SourceLine → List SourceFault → List Event
@@ -66,17 +66,14 @@ adds_none old new same = record {
   short = tt;
 }
 
-abbrev pub begun_none : (old new : SoFar) (lines raws : List SourceLine) (faults : List SourceFault) → new ≡ old →
-    HasBegunStep old new lines raws faults
-begun_none old new lines raws faults same = record {
+abbrev pub begun_none : (old new : SoFar) (lines : List SourceLine) (faults : List SourceFault) → new ≡ old →
+    HasBegunStep old new lines faults
+begun_none old new lines faults same = record {
   front = [];
   rest = lines;
-  raw_front = [];
-  raw_rest = raws;
   told = [];
   more = faults;
   lines_are = refl;
-  raws_are = refl;
   faults_are = refl;
   adds = adds_none old new same;
 }
@@ -137,63 +134,32 @@ module _ (old mid : SoFar) (bytes : List ℕ) (place : Place) (t : CountsLine by
     names = some.names ∙ names;
   }
 
-  abbrev begun_after : (lines raws : List SourceLine) (faults : List SourceFault) (new : SoFar)
-      → HasBegunStep mid new lines raws
-      faults → HasBegunStep old new (t.line ∷ lines) raws faults
-  begun_after lines raws faults new begun = record {
+  abbrev begun_after : (lines : List SourceLine) (faults : List SourceFault) (new : SoFar)
+      → HasBegunStep mid new lines faults → HasBegunStep old new (t.line ∷ lines) faults
+  begun_after lines faults new begun = record {
     front = t.line ∷ begun.front;
     rest = begun.rest;
-    raw_front = begun.raw_front;
-    raw_rest = begun.raw_rest;
     told = begun.told;
     more = begun.more;
     lines_are = simp begun.lines_are;
-    raws_are = begun.raws_are;
     faults_are = begun.faults_are;
-    adds = adds_both [] begun.told (t.line ∷ []) (begun.front ++ begun.raw_front) old mid new adds_one begun.adds;
+    adds = adds_both [] begun.told (t.line ∷ []) begun.front old mid new adds_one begun.adds;
   }
 
-  stops_after : (stop : Stop) (lines raws : List SourceLine) (faults : List SourceFault) (new : SoFar) → StopsIn stop
-      mid new lines raws faults → StopsIn stop old new (t.line ∷ lines) raws faults
-  stops_after stop lines raws faults new stops = record {
-    begun = begun_after lines raws faults new stops.begun;
+  stops_after : (stop : Stop) (lines : List SourceLine) (faults : List SourceFault) (new : SoFar)
+      → StopsIn stop mid new lines faults → StopsIn stop old new (t.line ∷ lines) faults
+  stops_after stop lines faults new stops = record {
+    begun = begun_after lines faults new stops.begun;
     line = stops.line;
+    more = stops.more;
     next = stops.next;
     why = stops.why;
   }
 
-  pub ends_after : (stop : Stop) (lines raws : List SourceLine) (faults : List SourceFault) (new : SoFar)
-      → EndsStep stop
-      mid new lines raws faults → EndsStep stop old new (t.line ∷ lines) raws faults
-  ends_after (ReadFault file) lines raws faults new ends = begun_after lines raws faults new ends
-  ends_after (LineTooLong file) lines raws faults new ends = stops_after _ lines raws faults new ends
-  ends_after TooMuchText lines raws faults new ends = stops_after _ lines raws faults new ends
-  ends_after Memory lines raws faults new ends = tt
-  ends_after stop lines raws faults new ends = absurd ends
-
-short-split : (a b : List SourceLine) → AreShort (a ++ b) → AreShort a × AreShort b
-short-split [] b short = (tt, short)
-short-split (l ∷ a) b short = let rest = short-split a b short.1 in ((short.0, rest.0), rest.1)
-
--- A line is taken before some of the lines that were counted.
-pub adds_within : (faults : List SourceFault) (lines others : List SourceLine) (old mid new : SoFar) (bytes : List ℕ)
-    (place : Place) (t : CountsLine bytes place mid.count new.count)
-    → AddsFaultsAndLines faults (lines ++ others) old mid
-    → new.faults ≡ mid.faults → new.names ≡ mid.names
-    → AddsFaultsAndLines faults ((lines ++ t.line ∷ []) ++ others) old new
-adds_within faults lines others old mid new bytes place t adds told names =
-    let short = short-split lines others adds.short in
-    record {
-      told = told ∙ adds.told;
-      names = names ∙ adds.names;
-      lines_are = simp length-append (omega (arith, adds.lines_are, t.lines, length-append lines others));
-      bytes_are = simp size-append (omega (arith, adds.bytes_are, t.bytes_are, size-append lines others));
-      short = short-append (lines ++ t.line ∷ []) others (short-append lines (t.line ∷ []) short.0 (t.short, tt))
-          short.1;
-    }
-
-pub adds_lines : (faults : List SourceFault) (lines others further : List SourceLine) (old mid new : SoFar) →
-    AddsFaultsAndLines faults (lines ++ others) old mid → AddsFaultsAndLines [] further mid new
-    → AddsFaultsAndLines faults (lines ++ (others ++ further)) old new
-adds_lines faults lines others further old mid new first second =
-    rw (append_assoc lines others further, append-nil faults) at (adds_both _ [] _ _ old mid new first second)
+  pub ends_after : (stop : Stop) (lines : List SourceLine) (faults : List SourceFault) (new : SoFar)
+      → EndsStep stop mid new lines faults → EndsStep stop old new (t.line ∷ lines) faults
+  ends_after (ReadFault file) lines faults new ends = begun_after lines faults new ends
+  ends_after (LineTooLong file) lines faults new ends = stops_after _ lines faults new ends
+  ends_after TooMuchText lines faults new ends = stops_after _ lines faults new ends
+  ends_after Memory lines faults new ends = tt
+  ends_after stop lines faults new ends = absurd ends

@@ -62,7 +62,7 @@ pub use Rattle.cweb_lines.specs.Events.{written_lines, write_failures_of}
 pub use Rattle.cweb_lines.specs.Merge.{Event, took, fault, Next, MergeStateModel, at_raw, given, included, obeyed, onto}
 pub use Rattle.cweb_lines.specs.Merge.{open_include, opening, past, plain, run_steps, taking, NewSide, new_at}
 pub use Rattle.cweb_lines.specs.Merge.{new_things, compared, Compared, after_old, at_entry, change_events}
-pub use Rattle.cweb_lines.specs.Merge.{fault_event_if, new_lines, started}
+pub use Rattle.cweb_lines.specs.Merge.{fault_event_if, new_lines, started, dropping, in_turn}
 pub use Rattle.cweb_lines.specs.contracts.change.code.Code.{the_type}
 pub use Rattle.cweb_lines.specs.declared.change.Change.{Change}
 pub use Rattle.cweb_lines.specs.declared.change.Stage.{Stage}

@@ -18,7 +18,7 @@ compares_empty : (bytes : List ℕ) (before : Replaced) (old new : SoFar) → ne
     Compares bytes before (record { unequal = before.unequal; ran_out = true; ended = before.ended }) [] [] old new
 compares_empty bytes before old new same = record {
   taken = [];
-  taken_are = λ olds. sym (none_taken olds);
+  taken_are = λ olds later. ap later (sym (none_taken olds));
   unequal = λ olds. omega (arith, none_unequal olds);
   ran_out = λ olds. or-true before.ran_out;
   rest = λ olds. sym (none_rest olds);
@@ -39,7 +39,7 @@ pub compares_some : (bytes raw_bytes : List ℕ) (before after : Replaced) (at :
 compares_some bytes raw_bytes before after at things things' old new t is told names unequal ran_out =
     rw is (record {
       taken = t.line ∷ [];
-      taken_are = λ olds. refl;
+      taken_are = λ olds later. refl;
       unequal = λ olds. ap (λ (l : Line). before.unequal + (if bytes_eq l.bytes bytes then
           (compared olds things').unequal else (compared olds things').unequal + 1)) t.is
           ∙ by (bytes_eq raw_bytes bytes) unequal (compared olds things').unequal;

@@ -74,7 +74,6 @@ pub behind_both : (lines more : List Line) (stop : Stop) (old mid new : SoFar) (
 behind_both lines more stop old mid new all rest gives stops = record {
   mid = stops.mid;
   lines = stops.lines;
-  raws = stops.raws;
   faults = stops.faults;
   later = stops.later;
   gives = gives_both lines more old mid stops.mid all rest _ gives stops.gives;
@@ -87,7 +86,6 @@ pub reads_both : (lines more : List Line) (old mid new : SoFar) (all rest : List
 reads_both lines more old mid new all rest gives reads = record {
   mid = reads.mid;
   lines = reads.lines;
-  raws = reads.raws;
   faults = reads.faults;
   later = reads.later;
   gives = gives_both lines more old mid reads.mid all rest _ gives reads.gives;

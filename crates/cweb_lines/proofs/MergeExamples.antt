@@ -1,5 +1,5 @@
 -- Worked examples of merges.
-use Rattle.cweb_lines.proofs.Common.{◌≡◌, ◌+◌, ℕ, zero, suc, List, [], ◌∷◌, ◌++◌, Option, Some, None, cond, codes, bytes_eq, Place, SourceFault, SourceKind, TooDeep, NotThere, MissingX, NoOldLines, EndedBeforeY, WebEnded, WantsY, Unequal, WantsZ, EndedBeforeZ, NoMatch, Line, lines, World, Event, run_steps, started, emitted_lines, reported_faults, openings, OPEN_FILES, LINE_LENGTH, LINES, BYTES}
+use Rattle.cweb_lines.proofs.Common.{◌≡◌, ◌+◌, ℕ, zero, suc, List, [], ◌∷◌, ◌++◌, map, Option, Some, None, cond, codes, bytes_eq, Place, SourceFault, SourceKind, TooDeep, NotThere, MissingX, NoOldLines, EndedBeforeY, WebEnded, WantsY, Unequal, WantsZ, EndedBeforeZ, NoMatch, Line, lines, World, Event, run_steps, started, emitted_lines, reported_faults, openings, taken_lines, OPEN_FILES, LINE_LENGTH, LINES, BYTES}
 use Rattle.std.specs.Str.{is_utf8, chars}
 use lib.Utf8.{encode}
 
@@ -17,6 +17,10 @@ outcome_of (Some events) = Some (record {
   names =
       openings events;
 })
+
+abbrev taken_of : Option (List Event) → Option (List Line)
+taken_of None = None
+taken_of (Some events) = Some (map (λ source. source.line) (taken_lines events))
 
 abbrev place : ℕ → ℕ → Place
 place file number = record { file = record { 0 = file }; line = number }
@@ -82,6 +86,12 @@ record Computed : Type 0 where
             unequal 1 1 1 ∷ [];
         names = codes "inc.w" ∷ [];
       })
+  -- each old line is taken before the raw line that it drops; a code line drops none
+  old_lines_and_raw_lines_in_turn : taken_of (run_steps 20 no_texts (started (codes "A\nB\nC\n")
+      (Some (codes "@x\nA\nB\n@x\nD\n@y\n@z\n"))))
+      ≡ Some (line (codes "@x") 1 1 ∷ line (codes "A") 1 2 ∷ line (codes "A") 0 1 ∷ line (codes "B") 1 3
+      ∷ line (codes "B") 0 2 ∷ line (codes "@x") 1 4 ∷ line (codes "D") 1 5 ∷ line (codes "C") 0 3
+      ∷ line (codes "@y") 1 6 ∷ line (codes "@z") 1 7 ∷ [])
   entry_without_old_lines : outcome_of (run_steps 20 no_texts (started (codes "A\n") (Some (codes "@x\n"))))
       ≡ Some (record { lines = line (codes "A") 0 1 ∷ []; faults = fault NoOldLines 1 1 ∷ []; names = [] })
   entry_that_matches_nothing : outcome_of

@@ -11,35 +11,38 @@ tells_front faults more old new some = record {
   names = some.names;
 }
 
-abbrev begun_more : {old new : SoFar} {lines raws : List SourceLine} {faults : List SourceFault}
-    (more : List SourceFault) → HasBegunStep old new lines raws faults
-    → HasBegunStep old new lines raws (faults ++ more)
+abbrev begun_more : {old new : SoFar} {lines : List SourceLine} {faults : List SourceFault}
+    (more : List SourceFault) → HasBegunStep old new lines faults
+    → HasBegunStep old new lines (faults ++ more)
 begun_more more begun = record {
   front = begun.front;
   rest = begun.rest;
-  raw_front = begun.raw_front;
-  raw_rest = begun.raw_rest;
   told = begun.told;
   more = begun.more ++ more;
   lines_are = begun.lines_are;
-  raws_are = begun.raws_are;
   faults_are = simp (begun.faults_are, append_assoc);
   adds = begun.adds;
 }
 
-stops_more : {stop : Stop} {old new : SoFar} {lines raws : List SourceLine} {faults : List SourceFault}
-    (more : List SourceFault) → StopsIn stop old new lines raws faults
-    → StopsIn stop old new lines raws (faults ++ more)
+stops_more : {stop : Stop} {old new : SoFar} {lines : List SourceLine} {faults : List SourceFault}
+    (more : List SourceFault) → StopsIn stop old new lines faults
+    → StopsIn stop old new lines (faults ++ more)
 stops_more more stops =
-    record { begun = begun_more more stops.begun; line = stops.line; next = stops.next; why = stops.why }
+    record {
+      begun = begun_more more stops.begun;
+      line = stops.line;
+      more = stops.more;
+      next = stops.next;
+      why = stops.why;
+    }
 
-pub ends_more : (stop : Stop) (old new : SoFar) (lines raws : List SourceLine) (faults more : List SourceFault) →
-    EndsStep stop old new lines raws faults → EndsStep stop old new lines raws (faults ++ more)
-ends_more (ReadFault file) old new lines raws faults more ends = begun_more more ends
-ends_more (LineTooLong file) old new lines raws faults more ends = stops_more more ends
-ends_more TooMuchText old new lines raws faults more ends = stops_more more ends
-ends_more Memory old new lines raws faults more ends = tt
-ends_more stop old new lines raws faults more ends = absurd ends
+pub ends_more : (stop : Stop) (old new : SoFar) (lines : List SourceLine) (faults more : List SourceFault) →
+    EndsStep stop old new lines faults → EndsStep stop old new lines (faults ++ more)
+ends_more (ReadFault file) old new lines faults more ends = begun_more more ends
+ends_more (LineTooLong file) old new lines faults more ends = stops_more more ends
+ends_more TooMuchText old new lines faults more ends = stops_more more ends
+ends_more Memory old new lines faults more ends = tt
+ends_more stop old new lines faults more ends = absurd ends
 
 module _ (begin : Place) (change : List SourceLine) (things : List Thing) (r : Replaced) (change' : List SourceLine)
     (things' : List Thing) (old mid new : SoFar) (by : IsReplaced change things r change' things' old mid) where

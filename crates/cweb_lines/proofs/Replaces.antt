@@ -1,7 +1,7 @@
 -- The old side of a change, line by line.
-use Rattle.cweb_lines.proofs.Common.{◌≡◌, ◌+◌, ◌||◌, ℕ, Bool, false, List, [], ◌∷◌, ◌++◌, Some, None, Option, refl, ◌∙◌, ap, arith, append-nil, append_assoc, Place, OldSide, at_place, change_code, old_at, old_code, old_line, old_lines, Line, SourceLine, Compared, RawLine, Thing, raw, compared, SoFar, AddsFaultsAndLines, HasBegunStep, StopsIn, EndsStep, Compares, IsReplaced, Replaces, taken_away, FirstStops, CountsLine, TopStops, Code, WantsY, Replaced, StopsFor, inl, inr, Stop, ReadFault, LineTooLong, TooMuchText, Memory, or-false}
+use Rattle.cweb_lines.proofs.Common.{◌≡◌, ◌+◌, ◌||◌, ℕ, Bool, false, List, [], ◌∷◌, ◌++◌, Some, None, Option, refl, ◌∙◌, ap, arith, append-nil, append_assoc, Place, OldSide, at_place, change_code, old_at, old_code, old_lines, Line, SourceLine, Compared, Thing, compared, SoFar, AddsFaultsAndLines, HasBegunStep, StopsIn, EndsStep, Compares, IsReplaced, Replaces, lines_replaced, taken_away, dropping, in_turn, FirstStops, CountsLine, TopStops, Code, WantsY, Replaced, StopsFor, Stop, ReadFault, LineTooLong, TooMuchText, Memory, or-false}
 use Rattle.cweb_lines.specs.declared.change.code.Code.TheVariants.{NewSide as new_side}
-use Rattle.cweb_lines.proofs.AddedEvents.{adds_none, adds_within, adds_lines, adds_faults}
+use Rattle.cweb_lines.proofs.AddedEvents.{adds_none, adds_both, adds_line, adds_faults}
 use Rattle.cweb_lines.proofs.Codes.{old_code_at, taken_at}
 
 pub replaces_from : (change : List SourceLine) (things : List Thing) (old : SoFar) →
@@ -9,12 +9,10 @@ pub replaces_from : (change : List SourceLine) (things : List Thing) (old : SoFa
 replaces_from change things old = record {
   told = [];
   taken = [];
-  raw_taken = [];
   faults_are = refl;
   taken_are = refl;
   ended = refl;
   rest = refl;
-  raw_taken_are = refl;
   unequal = omega arith;
   ran_out = refl;
   raw_rest = refl;
@@ -36,36 +34,44 @@ pub compares_same : (bytes bytes' : List ℕ) (so_far after : Replaced) (ts ts' 
     ≡ bytes' → ts ≡ ts' → Compares bytes so_far after ts us old new → Compares bytes' so_far after ts' us old new
 compares_same bytes bytes' so_far after ts ts' us old new b t r = rw (b, t) at r
 
+drops_none : (code : Option Code) (later : List SourceLine → List SourceLine) → dropping code [] later ≡ later []
+drops_none None later = refl
+drops_none (Some code) later = refl
+
+in_turn-nil : (lines : List SourceLine) → in_turn lines [] ≡ lines
+in_turn-nil [] = refl
+in_turn-nil (line ∷ lines) = ap (λ (ls : List SourceLine). line ∷ ls)
+    (drops_none (change_code line.line.bytes) (λ rest. in_turn lines rest) ∙ in_turn-nil lines)
+
 module _ (change : List SourceLine) (things : List Thing) (so_far : Replaced) (lines : List SourceLine)
     (raws : List Thing) (old mid : SoFar) (r : Replaces change things so_far lines raws old mid) where
-  abbrev replaces_begun : (new : SoFar) → new ≡ mid → HasBegunStep old new (old_lines change).taken
-      (taken_away change things).taken (old_lines change).faults
+  abbrev replaces_begun : (new : SoFar) → new ≡ mid → HasBegunStep old new (lines_replaced change things)
+      (old_lines change).faults
   replaces_begun new same = record {
     front = r.taken;
-    rest = (old_lines lines).taken;
-    raw_front = r.raw_taken;
-    raw_rest = (taken_away lines raws).taken;
+    rest = lines_replaced lines raws;
     told = r.told;
     more = (old_lines lines).faults;
     lines_are = r.taken_are;
-    raws_are = r.raw_taken_are;
     faults_are = r.faults_are;
     adds = rw same r.adds;
   }
 
   replaces_stop : (stop : Stop) (new : SoFar) → new ≡ mid → FirstStops stop mid.count lines → StopsIn stop old new
-      (old_lines change).taken (taken_away change things).taken (old_lines change).faults
+      (lines_replaced change things) (old_lines change).faults
   replaces_stop stop new same stops =
       let takes = taken_at (change_code stops.line.line.bytes) stops.line stops.rest (old_lines stops.rest) in
       record {
         begun = replaces_begun new same;
         line = stops.line;
-        next = inl (takes.0, ap (λ ls. (old_lines ls).taken) stops.first ∙ takes.1);
+        more = _;
+        next = ap (λ ls. lines_replaced ls raws) stops.first
+            ∙ ap (λ ts. in_turn ts (taken_away (stops.line ∷ stops.rest) raws).taken) takes.1;
         why = rw same stops.why;
       }
 
   pub replaces_ends : (stop : Stop) (new : SoFar) → new ≡ mid → StopsFor (FirstStops stop mid.count lines) stop →
-      EndsStep stop old new (old_lines change).taken (taken_away change things).taken (old_lines change).faults
+      EndsStep stop old new (lines_replaced change things) (old_lines change).faults
   replaces_ends (ReadFault file) new same stops = replaces_begun new same
   replaces_ends (LineTooLong file) new same stops = replaces_stop _ new same stops
   replaces_ends TooMuchText new same stops = replaces_stop _ new same stops
@@ -74,11 +80,11 @@ module _ (change : List SourceLine) (things : List Thing) (so_far : Replaced) (l
 
   pub replaces_done : (new : SoFar) (last rest : List SourceLine) (ended : Bool)
       → old_lines lines ≡ record { faults = []; lines = []; taken = last; ended = ended; rest = rest }
-      → AddsFaultsAndLines r.told ((r.taken ++ last) ++ r.raw_taken) old new → IsReplaced change things
+      → AddsFaultsAndLines r.told (r.taken ++ last) old new → IsReplaced change things
       (record { unequal = so_far.unequal; ran_out = so_far.ran_out; ended = ended }) rest raws old new
   replaces_done new last rest ended is adds =
       record {
-        adds = simp (r.faults_are, r.taken_are, r.raw_taken_are, is, append-nil) adds;
+        adds = simp (r.faults_are, r.taken_are, is, in_turn-nil, append-nil) adds;
         ended = simp (r.ended, is);
         rest = simp (r.rest, is);
         unequal = simp (r.unequal, is) (omega arith);
@@ -90,11 +96,30 @@ module _ (change : List SourceLine) (things : List Thing) (so_far : Replaced) (l
   module _ (now : SoFar) (bytes : List ℕ) (place : Place) (t : CountsLine bytes place mid.count now.count)
       (rest : List SourceLine) (is : lines ≡ t.line ∷ rest) (told : now.faults ≡ mid.faults)
       (names : now.names ≡ mid.names) where
-    counted : AddsFaultsAndLines r.told ((r.taken ++ t.line ∷ []) ++ r.raw_taken) old now
-    counted = adds_within r.told r.taken r.raw_taken old mid now bytes place t r.adds told names
+    counted : AddsFaultsAndLines r.told (r.taken ++ t.line ∷ []) old now
+    counted = adds_line r.told r.taken old mid now bytes place t r.adds told names
 
     side : (code : Option Code) → change_code bytes ≡ code → old_lines lines ≡ old_at code t.line rest (old_lines rest)
     side code test = ap old_lines is ∙ old_code_at code t.line rest bytes place t.is test
+
+    -- The code of the line that was taken decides whether it drops a raw line.
+    drops : (code : Option Code) (dropped : List SourceLine) → change_code bytes ≡ code
+        → in_turn (t.line ∷ (old_lines rest).taken) dropped
+        ≡ t.line ∷ dropping code dropped (λ ls. in_turn (old_lines rest).taken ls)
+    drops code dropped test = ap (λ (c : Option Code). t.line
+        ∷ dropping c dropped (λ ls. in_turn (old_lines rest).taken ls)) (ap (λ (l : Line). change_code l.bytes) t.is
+        ∙ test)
+
+    -- The remaining lines of the old side after an old line, before the raw line that it drops.
+    abbrev left : List SourceLine
+    left = dropping None (compared (bytes ∷ (old_lines rest).lines) raws).taken
+        (λ ls. in_turn (old_lines rest).taken ls)
+
+    left_are : change_code bytes ≡ None → lines_replaced lines raws ≡ t.line ∷ left
+    left_are test = ap (λ (o : OldSide). in_turn o.taken (compared o.lines raws).taken) (side None test)
+        ∙ drops None (compared (t.line.line.bytes ∷ (old_lines rest).lines) raws).taken test
+        ∙ ap (λ (l : Line). t.line ∷ dropping None (compared (l.bytes ∷ (old_lines rest).lines) raws).taken
+        (λ ls. in_turn (old_lines rest).taken ls)) t.is
 
     pub replaces_code : (code : Code) (new : SoFar) → change_code bytes ≡ Some code → old_at (Some code) t.line rest
         (old_lines rest) ≡ old_code t.line (old_lines rest) → new.faults ≡ now.faults ++ at_place WantsY place ∷ []
@@ -105,12 +130,12 @@ module _ (change : List SourceLine) (things : List Thing) (so_far : Replaced) (l
         record {
           told = r.told ++ at_place _ _ ∷ [];
           taken = r.taken ++ t.line ∷ [];
-          raw_taken = r.raw_taken;
           faults_are = simp (r.faults_are, s, fault, append_assoc);
-          taken_are = simp (r.taken_are, s, append_assoc);
+          taken_are = r.taken_are ∙ ap (λ (ls : List SourceLine). r.taken ++ ls)
+              (ap (λ (o : OldSide). in_turn o.taken (compared o.lines raws).taken) s
+              ∙ drops (Some code) (taken_away rest raws).taken test) ∙ simp append_assoc;
           ended = simp (r.ended, s);
           rest = simp (r.rest, s);
-          raw_taken_are = simp (r.raw_taken_are, s);
           unequal = simp (r.unequal, s);
           ran_out = simp (r.ran_out, s);
           raw_rest = simp (r.raw_rest, s);
@@ -126,58 +151,48 @@ module _ (change : List SourceLine) (things : List Thing) (so_far : Replaced) (l
         ∙ ap (λ (l : Line). compared (l.bytes ∷ (old_lines rest).lines) raws) t.is in
         record {
           told = r.told;
-          taken = r.taken ++ t.line ∷ [];
-          raw_taken = r.raw_taken ++ by.taken;
+          taken = (r.taken ++ t.line ∷ []) ++ by.taken;
           faults_are = simp (r.faults_are, s);
-          taken_are = simp (r.taken_are, s, append_assoc);
+          taken_are = r.taken_are ∙ ap (λ (ls : List SourceLine). r.taken ++ ls) (left_are test
+              ∙ ap (λ (ls : List SourceLine). t.line ∷ ls) (by.taken_are (old_lines rest).lines
+              (λ ls. in_turn (old_lines rest).taken ls))) ∙ simp append_assoc;
           ended = simp (r.ended, s);
           rest = simp (r.rest, s);
-          raw_taken_are = simp (r.raw_taken_are, away, by.taken_are (old_lines rest).lines, append_assoc);
           unequal = r.unequal ∙ ap (λ (c : Compared). so_far.unequal + c.unequal) away
               ∙ by.unequal _;
           ran_out = r.ran_out ∙ ap (λ (c : Compared). so_far.ran_out || c.ran_out) away
               ∙ by.ran_out _;
           raw_rest = simp (r.raw_rest, away, by.rest (old_lines rest).lines);
-          adds = adds_lines _ _ _ _ old now new counted by.adds;
+          adds = rw append-nil at (adds_both r.told [] _ _ old now new counted by.adds);
         }
 
     abbrev raw_begun : (new : SoFar) → new ≡ now → change_code bytes ≡ None
-        → HasBegunStep old new (old_lines change).taken
-        (taken_away change things).taken (old_lines change).faults
+        → HasBegunStep old new (lines_replaced change things) (old_lines change).faults
     raw_begun new same test = record {
       front = r.taken ++ t.line ∷ [];
-      rest = (old_lines rest).taken;
-      raw_front = r.raw_taken;
-      raw_rest = (taken_away lines raws).taken;
+      rest = left;
       told = r.told;
       more = (old_lines lines).faults;
-      lines_are = simp (r.taken_are, side None test, append_assoc);
-      raws_are = r.raw_taken_are;
+      lines_are = simp (r.taken_are, left_are test, append_assoc);
       faults_are = r.faults_are;
       adds = rw same counted;
     }
 
-    away : old_lines lines ≡ old_line t.line (old_lines rest) → {top : RawLine} {below : List Thing} → raws ≡ raw top
-        ∷ below → (taken_away lines raws).taken ≡ top.source ∷ (compared (old_lines rest).lines below).taken
-    away s first = (λ i. (compared (s i).lines (first i)).taken)
-
     raw_stop : (stop : Stop) (new : SoFar) → new ≡ now → change_code bytes ≡ None → TopStops stop now.count raws
-        → StopsIn
-        stop old new (old_lines change).taken (taken_away change things).taken (old_lines change).faults
-    raw_stop stop new same test stops =
-        let s : old_lines lines ≡ old_line t.line (old_lines rest) = side None test in
-        record {
-          begun = raw_begun new same test;
-          line = stops.raw_line.source;
-          next = inr ((compared (old_lines rest).lines stops.rest).taken, away s stops.first);
-          why = rw same stops.why;
-        }
+        → StopsIn stop old new (lines_replaced change things) (old_lines change).faults
+    raw_stop stop new same test stops = record {
+      begun = raw_begun new same test;
+      line = stops.raw_line.source;
+      more = _;
+      next = ap (λ (ts : List Thing). dropping None (compared (bytes ∷ (old_lines rest).lines) ts).taken
+          (λ ls. in_turn (old_lines rest).taken ls)) stops.first;
+      why = rw same stops.why;
+    }
 
     -- The raw line that an old line would drop can't be taken.
     pub raw_ends : (stop : Stop) (new : SoFar) → new ≡ now → change_code bytes ≡ None
-        → StopsFor (TopStops stop now.count
-        raws) stop → EndsStep stop old new (old_lines change).taken (taken_away change things).taken
-        (old_lines change).faults
+        → StopsFor (TopStops stop now.count raws) stop
+        → EndsStep stop old new (lines_replaced change things) (old_lines change).faults
     raw_ends (ReadFault file) new same test stops = raw_begun new same test
     raw_ends (LineTooLong file) new same test stops = raw_stop _ new same test stops
     raw_ends TooMuchText new same test stops = raw_stop _ new same test stops

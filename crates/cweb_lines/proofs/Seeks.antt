@@ -1,5 +1,5 @@
 -- The search for an entry, line by line.
-use Rattle.cweb_lines.proofs.Common.{◌≡◌, ℕ, List, [], ◌∷◌, ◌++◌, Option, Some, None, refl, sym, ◌∙◌, ap, subst, append-nil, append_assoc, Place, Sought, after_x, change_code, sought, SourceLine, SoFar, HasBegunStep, StopsIn, EndsStep, ReportsSomeFaults, Searched, SeeksTo, ReportsFaultPrefix, search_after, IsOutside, FirstStops, CountsLine, Code, Stage, Done, Waiting, StopsFor, inl, Stop, ReadFault, LineTooLong, TooMuchText, Memory}
+use Rattle.cweb_lines.proofs.Common.{◌≡◌, ℕ, List, [], ◌∷◌, ◌++◌, Option, Some, None, refl, sym, ◌∙◌, ap, subst, append-nil, append_assoc, Place, Sought, after_x, change_code, sought, SourceLine, SoFar, HasBegunStep, StopsIn, EndsStep, ReportsSomeFaults, Searched, SeeksTo, ReportsFaultPrefix, search_after, IsOutside, FirstStops, CountsLine, Code, Stage, Done, Waiting, StopsFor, Stop, ReadFault, LineTooLong, TooMuchText, Memory}
 use Rattle.cweb_lines.specs.inner.Seeking.{LooksAt}
 use Rattle.cweb_lines.specs.declared.change.seek.Look.TheVariants.{Entry as first_line, On as goes_on}
 use Rattle.cweb_lines.proofs.AddedEvents.{adds_none, adds_line, adds_faults}
@@ -20,33 +20,31 @@ sought_takes line lines (Some begin) = taken_behind line.line.bytes (change_code
 
 module _ (all : Sought) (lines : List SourceLine) (begin : Option Place) (old mid : SoFar)
     (seeks : SeeksTo all (sought lines begin) old mid) where
-  abbrev seeks_begun : (new : SoFar) → new ≡ mid → HasBegunStep old new all.taken [] all.faults
+  abbrev seeks_begun : (new : SoFar) → new ≡ mid → HasBegunStep old new all.taken all.faults
   seeks_begun new same = record {
     front = seeks.taken;
     rest = (sought lines begin).taken;
-    raw_front = [];
-    raw_rest = [];
     told = seeks.told;
     more = (sought lines begin).faults;
     lines_are = simp seeks.whole;
-    raws_are = refl;
     faults_are = simp seeks.whole;
-    adds = rw (append-nil, same) seeks.adds;
+    adds = rw same seeks.adds;
   }
 
   seeks_stop : (stop : Stop) (new : SoFar) → new ≡ mid → FirstStops stop mid.count lines →
-      StopsIn stop old new all.taken [] all.faults
+      StopsIn stop old new all.taken all.faults
   seeks_stop stop new same stops =
       let takes = sought_takes stops.line stops.rest begin in
       record {
         begun = seeks_begun new same;
         line = stops.line;
-        next = inl (takes.0, ap (λ ls. (sought ls begin).taken) stops.first ∙ takes.1);
+        more = takes.0;
+        next = ap (λ ls. (sought ls begin).taken) stops.first ∙ takes.1;
         why = rw same stops.why;
       }
 
   pub seeks_ends : (stop : Stop) (new : SoFar) → new ≡ mid → StopsFor (FirstStops stop mid.count lines) stop →
-      EndsStep stop old new all.taken [] all.faults
+      EndsStep stop old new all.taken all.faults
   seeks_ends (ReadFault file) new same stops = seeks_begun new same
   seeks_ends (LineTooLong file) new same stops = seeks_stop _ new same stops
   seeks_ends TooMuchText new same stops = seeks_stop _ new same stops

@@ -1,5 +1,5 @@
 -- One change and the lines around it.
-use Rattle.cweb_lines.proofs.Common.{◌≡◌, ◌≢◌, ◌&&◌, ℕ, true, false, List, [], ◌∷◌, ◌++◌, map, None, Some, refl, sym, ◌∙◌, ap, append_assoc, bytes_eq-Decides, list_any, bytes_eq, SourceLine, World, is_include_line, WaitingEntry, OldSide, change_code, is_change_code, followed_by, only_lines, outcome_of_events, Compared, Event, NewSide, Next, RawLine, Thing, after_old, at_entry, change_events, compared, passed, raw, raws, seek, taking, took, merge, merge_next}
+use Rattle.cweb_lines.proofs.Common.{◌≡◌, ◌≢◌, ◌&&◌, ℕ, true, false, List, [], ◌∷◌, ◌++◌, map, None, Some, refl, sym, ◌∙◌, ap, append_assoc, bytes_eq-Decides, list_any, bytes_eq, SourceLine, World, is_include_line, WaitingEntry, OldSide, change_code, is_change_code, followed_by, only_lines, outcome_of_events, Compared, Event, NewSide, Next, RawLine, Thing, after_old, at_entry, in_turn, change_events, compared, passed, raw, raws, seek, taking, took, merge, merge_next}
 use Rattle.cweb_lines.specs.declared.change.code.Code.TheVariants.{EndSide as end_side, NewSide as new_side, OldSide as old_side}
 use Rattle.cweb_input.proofs.SourceStacks.{raws-append}
 use Rattle.cweb_lines.proofs.Merges.{state}
@@ -43,11 +43,10 @@ pub record IsPlain (e : Edit) : Type 0 where
   pub stays_plain : list_any is_include_line (bytes_in e.stays) ≡ false
   pub others : list_any (λ line. bytes_eq line e.first.line.bytes) (bytes_in e.stays) ≡ false
 
-lines_unseen : (a b : List SourceLine) (events : List Event) → outcome_of_events
-    (map took a ++ map took b ++ [] ++ [] ++ [] ++ [] ++ events) ≡ outcome_of_events events
-lines_unseen [] [] events = refl
-lines_unseen [] (line ∷ b) events = lines_unseen [] b events
-lines_unseen (line ∷ a) b events = lines_unseen a b events
+lines_unseen : (lines : List SourceLine) (events : List Event) → outcome_of_events
+    (map took lines ++ [] ++ [] ++ [] ++ [] ++ events) ≡ outcome_of_events events
+lines_unseen [] events = refl
+lines_unseen (line ∷ lines) events = lines_unseen lines events
 
 -- A change whose old lines equal those of the web.
 module _ (world : World) (files : ℕ) (e : Edit) (plain_edit : IsPlain e) (change behind : List SourceLine) where
@@ -111,7 +110,8 @@ module _ (world : World) (files : ℕ) (e : Edit) (plain_edit : IsPlain e) (chan
       (ap (λ b. Some (taking e.line (at_entry (true && b) entry world s r things))) equal
       ∙ ap (λ side. Some (taking e.line (next_by side (compared side.lines things)))) (old_splits e.further e.y
       new_on plain_edit.no_old plain_edit.turns) ∙ ap (λ by. Some (taking e.line (next_by side_is by))) compares_so))
-      ∙ lines_unseen (e.further ++ (e.y ∷ [])) e.old (merge world (after_old false files 1 entry side_is rest))
+      ∙ lines_unseen (in_turn (e.further ++ (e.y ∷ [])) e.old)
+      (merge world (after_old false files 1 entry side_is rest))
       ∙ new_come
 
   -- One change: the lines that stay, the new lines, and then the rest.

@@ -1,5 +1,5 @@
 -- The events before a stop.
-use Rattle.cweb_lines.proofs.Common.{◌≡◌, ◌++◌, ℕ, zero, suc, List, [], ◌∷◌, Option, Some, None, refl, sym, ◌∙◌, ap, subst, inl, map, WaitingEntry, World, SourceLine, MergeStateModel, Thing, seek, raw, told, passed, Event, took, given, fault, opening, at_place, NoMatch, at_raw, sought, onto, SoFar, StopsIn, EndsStep, StopsAfterLines, TakesBeforeEmitting, Stopped, step_events, TopStops, StopsFor, RefusesLine, run_steps, merge, merge-run_steps, halts, so_far_of, counters_of, opened_file_names, OnlyTakes, MergeState, SourceFault, Stop, ReadFault, LineTooLong, TooMuchText, Memory}
+use Rattle.cweb_lines.proofs.Common.{◌≡◌, ◌++◌, ℕ, zero, suc, List, [], ◌∷◌, Option, Some, None, refl, sym, ◌∙◌, ap, subst, map, WaitingEntry, World, SourceLine, MergeStateModel, Thing, seek, raw, told, passed, Event, took, given, fault, opening, at_place, NoMatch, at_raw, sought, onto, SoFar, StopsIn, EndsStep, StopsAfterLines, TakesBeforeEmitting, Stopped, step_events, TopStops, StopsFor, RefusesLine, run_steps, merge, merge-run_steps, halts, so_far_of, counters_of, opened_file_names, OnlyTakes, MergeState, SourceFault, Stop, ReadFault, LineTooLong, TooMuchText, Memory}
 use Rattle.cweb_lines.specs.Merge.{step_at, step_then_run}
 use Rattle.cweb_lines.proofs.AddedEvents.{begun_none}
 use Rattle.cweb_lines.proofs.Merges.{gives_nothing, merge_takes, state}
@@ -59,38 +59,36 @@ takes_next world s =
     subst TakesBeforeEmitting (sym (merge-run_steps h.steps world s h.events h.comes))
     (takes_run h.steps world s h.events h.comes)
 
-pub stops_first : (stop : Stop) (lines raws : List SourceLine) (faults : List SourceFault) (old new : SoFar)
-    (all later : List Event) → all ≡ step_events lines raws faults later → StopsIn stop old new lines raws faults
+pub stops_first : (stop : Stop) (lines : List SourceLine) (faults : List SourceFault) (old new : SoFar)
+    (all later : List Event) → all ≡ step_events lines faults later → StopsIn stop old new lines faults
     → StopsAfterLines [] stop old new all
-stops_first stop lines raws faults old new all later whole stops = record {
+stops_first stop lines faults old new all later whole stops = record {
   mid = old;
   lines = lines;
-  raws = raws;
   faults = faults;
   later = later;
   gives = gives_nothing old old all _ refl whole refl refl;
   stops = stops;
 }
 
-pub stopped_in : (stop : Stop) (lines raws : List SourceLine) (faults : List SourceFault) (old new : SoFar)
-    (all later : List Event) → all ≡ step_events lines raws faults later → TakesBeforeEmitting later
-    → EndsStep stop old new lines raws faults → Stopped stop old new all
-stopped_in (ReadFault file) lines raws faults old new all later whole next begun = record {
+pub stopped_in : (stop : Stop) (lines : List SourceLine) (faults : List SourceFault) (old new : SoFar)
+    (all later : List Event) → all ≡ step_events lines faults later → TakesBeforeEmitting later
+    → EndsStep stop old new lines faults → Stopped stop old new all
+stopped_in (ReadFault file) lines faults old new all later whole next begun = record {
   mid = old;
   lines = lines;
-  raws = raws;
   faults = faults;
   later = later;
   gives = gives_nothing old old all _ refl whole refl refl;
   begun = begun;
   next = next;
 }
-stopped_in (LineTooLong file) lines raws faults old new all later whole next stops =
-    stops_first _ lines raws faults old new all later whole stops
-stopped_in TooMuchText lines raws faults old new all later whole next stops =
-    stops_first _ lines raws faults old new all later whole stops
-stopped_in Memory lines raws faults old new all later whole next stops = tt
-stopped_in stop lines raws faults old new all later whole next stops = absurd stops
+stopped_in (LineTooLong file) lines faults old new all later whole next stops =
+    stops_first _ lines faults old new all later whole stops
+stopped_in TooMuchText lines faults old new all later whole next stops =
+    stops_first _ lines faults old new all later whole stops
+stopped_in Memory lines faults old new all later whole next stops = tt
+stopped_in stop lines faults old new all later whole next stops = absurd stops
 
 pub stopped_first : (stop : Stop) (Why : Type 0) (old new : SoFar) (all : List Event) → new ≡ old
     → TakesBeforeEmitting all
@@ -101,10 +99,11 @@ stopped_first stop Why old new all same next first = by stop first
   where
     one : (stop : Stop) → (line : SourceLine) × ((later : List Event) × (all ≡ took line ∷ later)) × RefusesLine stop
         old.count line → StopsAfterLines [] stop old new all
-    one stop first = stops_first stop (first.0 ∷ []) [] [] old new all first.1.0 first.1.1 (record {
-      begun = begun_none old new (first.0 ∷ []) [] [] same;
+    one stop first = stops_first stop (first.0 ∷ []) [] old new all first.1.0 first.1.1 (record {
+      begun = begun_none old new (first.0 ∷ []) [] same;
       line = first.0;
-      next = inl ([], refl);
+      more = [];
+      next = refl;
       why = rw same first.2;
     })
 
@@ -112,8 +111,8 @@ stopped_first stop Why old new all same next first = by stop first
         → (Why → (line : SourceLine) × ((later : List Event) × (all ≡ took line ∷ later))
         × RefusesLine stop old.count line)
         → StopsFor Why stop → Stopped stop old new all
-    by (ReadFault file) first why = stopped_in (ReadFault file) [] [] [] old new all all refl next
-        (begun_none old new [] [] [] same)
+    by (ReadFault file) first why = stopped_in (ReadFault file) [] [] old new all all refl next
+        (begun_none old new [] [] same)
     by (LineTooLong file) first why = one (LineTooLong file) (first why)
     by TooMuchText first why = one TooMuchText (first why)
     by Memory first why = tt

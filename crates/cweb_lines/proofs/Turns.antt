@@ -1,5 +1,5 @@
 -- The events of a turn: a search, a line that was taken, or a change that begins.
-use Rattle.cweb_lines.proofs.Common.{Sought, map-append, ◌≡◌, ◌&&◌, ℕ, Bool, true, false, List, [], ◌∷◌, ◌++◌, Some, None, Option, refl, sym, ◌∙◌, ap, length, map, if◌then◌else◌, subst, append_assoc, Ok, bytes_eq, Place, WaitingEntry, old_lines, sought, optional_string_bytes, world_in, World, Line, SourceLine, Event, RawLine, Thing, after_old, at_entry, change_events, fault, fault_event_if, raw, seek, taking, took, SoFar, change_lines, events_to_come, events_after_line, pending_of, things_of, so_far_of, opened_file_names, IsChanged, faults_replaced, lines_replaced, fault_list_if, taken_away, Searched, IsOutside, begun_by, change_in, pending_in, things_in, IsSettled, floor_of, lines_at, raw_thing, things_above, Counted, StaysBelow, TakesAbove, merge, merge_next, SourceFault, MergeState, Stack, Stage, Seeking, Waiting, Changing, LineAt, counters_of, OnlyTakes, CountsLine, ReportsSomeFaults, ReportsPrefix, EndsStep, step_events, Stopped, Stop, EmitsLines}
+use Rattle.cweb_lines.proofs.Common.{Sought, map-append, ◌≡◌, ◌&&◌, ℕ, Bool, true, false, List, [], ◌∷◌, ◌++◌, Some, None, Option, refl, sym, ◌∙◌, ap, length, map, if◌then◌else◌, subst, append_assoc, Ok, bytes_eq, Place, WaitingEntry, old_lines, sought, optional_string_bytes, world_in, World, Line, SourceLine, Event, RawLine, Thing, after_old, at_entry, change_events, fault, fault_event_if, raw, seek, taking, took, SoFar, change_lines, events_to_come, events_after_line, pending_of, things_of, so_far_of, opened_file_names, IsChanged, faults_replaced, lines_replaced, fault_list_if, taken_away, Searched, IsOutside, begun_by, change_in, pending_in, things_in, IsSettled, floor_of, lines_at, raw_thing, things_above, Counted, StaysBelow, TakesAbove, merge, merge_next, SourceFault, MergeState, Stack, Stage, Seeking, Waiting, Changing, LineAt, counters_of, OnlyTakes, CountsLine, ReportsSomeFaults, ReportsPrefix, EndsStep, Stopped, Stop, EmitsLines}
 use Rattle.cweb_lines.proofs.AddedEvents.{adds_both, adds_one, ends_after, gives_adds, tells_after, tells_some}
 use Rattle.cweb_lines.proofs.ReportsOnlyGrow.{took_faults, took_names}
 use Rattle.cweb_lines.proofs.Merges.{state}
@@ -37,9 +37,9 @@ module _ {R : Type 0} (t : List ℕ → Option (List ℕ)) (l : R
       → ReportsPrefix (so_far_of run) new (events_to_come t l run)
   sought_tells new = tells_some found.taken _ _ _ _ _ sought_first
 
-  pub sought_stops : (stop : Stop) (new : SoFar) → EndsStep stop (so_far_of run) new found.taken [] found.faults
+  pub sought_stops : (stop : Stop) (new : SoFar) → EndsStep stop (so_far_of run) new found.taken found.faults
       → Stopped stop (so_far_of run) new (events_to_come t l run)
-  sought_stops stop new = stopped_in stop found.taken [] found.faults (so_far_of run) new _ behind_search sought_first
+  sought_stops stop new = stopped_in stop found.taken found.faults (so_far_of run) new _ behind_search sought_first
       (takes_next _ _)
 
   pub sought_gives : (t' : List ℕ → Option (List ℕ)) (l' : R → List ℕ) (run' : MergeState R) → t' ≡ t → l' ≡ l
@@ -81,10 +81,6 @@ events_are : (entry : WaitingEntry) (change : List SourceLine) (things : List Th
     → change_events entry (old_lines change) (taken_away change things) ≡ map took (lines_replaced change things)
     ++ map fault (faults_replaced entry.begin change things)
 events_are entry change things = simp (fault_list, map-append, append_assoc)
-
-in_turn : (line : SourceLine) (lines raws : List SourceLine) (faults : List SourceFault) (later : List Event)
-    → map took (line ∷ (lines ++ raws)) ++ (map fault faults ++ later) ≡ step_events (line ∷ lines) raws faults later
-in_turn line lines raws faults later = simp (map-append, append_assoc)
 
 begun_entry : (p : Option WaitingEntry) (may_match : Bool) (bytes : List ℕ) (place : Place) →
     begun_by p may_match bytes ≡ Some place → (entry : WaitingEntry) × (p ≡ Some entry) × (entry.begin ≡ place)
@@ -167,15 +163,12 @@ module _ {R : Type 0} (t : List ℕ → Option (List ℕ)) (l : R → List ℕ) 
         (so_far_of run) bytes at.place taken (took_faults only) (took_names only) (faults begin) new some)
 
     pub began_stops : (stop : Stop) (new : SoFar)
-        → EndsStep stop (so_far_of run) new (old_lines (change_lines l run)).taken
-        (taken_away (change_lines l run) things).taken (faults begin) → Stopped stop (so_far_of old) new all
+        → EndsStep stop (so_far_of run) new lines (faults begin) → Stopped stop (so_far_of old) new all
     began_stops stop new ends =
         let here = begins_here at taken.line bytes begin taken.is begun in
-        stopped_in stop (taken.line ∷ (old_lines (change_lines l run)).taken)
-        (taken_away (change_lines l run) things).taken (faults begin) (so_far_of old) new all _
-        (first ∙ here.2 ∙ in_turn taken.line _ _ (faults begin) _) (takes_next _ _)
+        stopped_in stop (taken.line ∷ lines) (faults begin) (so_far_of old) new all _ (first ∙ here.2) (takes_next _ _)
         (ends_after (so_far_of old) (so_far_of run) bytes at.place taken (took_faults only) (took_names only) stop
-        (old_lines (change_lines l run)).taken (taken_away (change_lines l run) things).taken (faults begin) new ends)
+        lines (faults begin) new ends)
 
     pub began_gives : (t' : List ℕ → Option (List ℕ)) (l' : R → List ℕ) (new : MergeState R) → t' ≡ t
         → new.inputs ≡ run.inputs

@@ -1,5 +1,5 @@
 -- The events of a merge by kind, the limits on the lines that it takes, and the written lines.
-use Rattle.std.specs.Prelude.{◌≡◌, ◌⊎◌, ℕ, ◌+◌, ◌≤◌, List, [], ◌∷◌, ◌++◌, length, map}
+use Rattle.std.specs.Prelude.{◌≡◌, ℕ, ◌+◌, ◌≤◌, List, [], ◌∷◌, ◌++◌, length}
 use Rattle.cweb_input.specs.OpenSources.{TakenCountersModel, RefusesLine}
 use Rattle.cweb_input.specs.declared.stop.Stop.{Stop}
 use Rattle.cweb_input.specs.Lines.{Line, SourceLine}
@@ -52,23 +52,14 @@ pub record IsWithinLimits (lines : List SourceLine) : Type 0 where
 abbrev pub counts_of : List SourceLine → TakenCountersModel
 counts_of lines = record { lines = length lines; bytes = size_of_lines lines }
 
--- The line is the first of a list.
-abbrev pub ComesFirst : SourceLine → List SourceLine → Type 0
-ComesFirst line lines = (rest : List SourceLine) × (lines ≡ line ∷ rest)
-
--- A line breaks a limit, and those taken before it break none. A step takes old lines and raw lines in turn: a prefix of either.
+-- The first line that breaks a limit causes the stop.
 pub record BreaksLimit (stop : Stop) (events : List Event) : Type 0 where
   pub earlier : List Event
-  pub olds : List SourceLine
-  pub old_rest : List SourceLine
-  pub raws : List SourceLine
-  pub raw_rest : List SourceLine
-  pub later : List Event
-  pub whole : events ≡ earlier ++ (map took (olds ++ old_rest) ++ (map took (raws ++ raw_rest) ++ later))
-  pub within : IsWithinLimits (taken_lines earlier ++ (olds ++ raws))
   pub line : SourceLine
-  pub next : ComesFirst line old_rest ⊎ ComesFirst line raw_rest
-  pub why : RefusesLine stop (counts_of (taken_lines earlier ++ (olds ++ raws))) line
+  pub later : List Event
+  pub whole : events ≡ earlier ++ took line ∷ later
+  pub within : IsWithinLimits (taken_lines earlier)
+  pub why : RefusesLine stop (counts_of (taken_lines earlier)) line
 
 -- The lines as they are written, each with a newline.
 abbrev pub written_lines : List Line → List ℕ

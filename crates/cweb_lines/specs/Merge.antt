@@ -71,6 +71,16 @@ compared (old ∷ olds) [] = record { unequal = 0; taken = []; ran_out = true; r
 compared (old ∷ olds) (raw r ∷ things) = one_more (bytes_eq r.source.line.bytes old) r.source (compared olds things)
 compared (old ∷ olds) (thing ∷ things) = compared (old ∷ olds) things
 
+-- A line of the old side was taken. If it is an old line, it drops the next raw line.
+abbrev pub dropping : Option Code → List SourceLine → (List SourceLine → List SourceLine) → List SourceLine
+dropping None (line ∷ lines) later = line ∷ later lines
+dropping code lines later = later lines
+
+-- The lines of an old side and the raw lines that they drop, in the order in which they are taken.
+abbrev pub in_turn : List SourceLine → List SourceLine → List SourceLine
+in_turn [] dropped = dropped
+in_turn (line ∷ lines) dropped = line ∷ dropping (change_code line.line.bytes) dropped (λ rest. in_turn lines rest)
+
 -- The events of a step, and the next state.
 abbrev pub Next : Type 0
 Next = List Event × MergeStateModel
@@ -82,7 +92,7 @@ fault_event_if b f = if b then fault f ∷ [] else []
 -- The old side of a change: the lines that are taken, then the faults.
 abbrev pub change_events : WaitingEntry → OldSide → Compared → List Event
 change_events entry old by =
-    map took old.taken ++ map took by.taken
+    map took (in_turn old.taken by.taken)
     ++ map fault old.faults ++ fault_event_if old.ended (at_place EndedBeforeY entry.begin)
     ++ fault_event_if by.ran_out (at_place WebEnded entry.begin)
     ++ fault_event_if (nat_lt 0 by.unequal) (record { kind = Unequal; place = entry.begin; count = by.unequal })

@@ -10,15 +10,12 @@ ghost use Rattle.cweb_names.specs.inner.Found.{found_of};
 ghost use Rattle.cweb_names.specs.inner.Known.{early, has_spelling_at};
 
 use crate::found::{Found, find_one, has_prefix, number_in};
+use crate::index::NameIndex;
 use crate::name::{How, NameId};
 use crate::sorted::SortKey;
-use cweb_texts::{Key, home_bucket};
 use std::alloc::{AllocError, Global};
 use std::collections::BTreeMap;
 use std::marker::Model;
-
-// The number of buckets of `latest`.
-const BUCKETS: usize = 1024;
 
 /// A name, and the number of the occurrence that first gave it in full.
 #[derive(Drop)]
@@ -28,13 +25,13 @@ pub struct KnownName {
 }
 
 /// The names that were given in full, numbered in this order. A sorted map finds a name, and the names with a prefix.
+/// The index finds most names sooner.
 #[derive(Drop)]
 pub struct KnownNames {
     alloc: Global,
     names: Vec<KnownName>,
     sorted: BTreeMap<SortKey, NameId>,
-    // the last name of each bucket; empty before the first name, and on the heap because a builder is moved often
-    latest: Vec<NameId>,
+    index: NameIndex,
 }
 
 impl Model for KnownNames {
@@ -60,7 +57,7 @@ impl KnownNames {
             alloc,
             names: Vec::new(alloc),
             sorted: BTreeMap::new(alloc),
-            latest: Vec::new(alloc),
+            index: NameIndex::new(alloc),
         }
     }
 
@@ -79,29 +76,50 @@ impl KnownNames {
         ensures added { OnOk result (self.new ≡ with_full_name first self.old text.now) }
         ensures err { OnErr result (self.new ≡ self.old) }
     {
-        let home_bucket = bucket_of(text);
-        if let Some(known) = self.latest_at(home_bucket, text) {
+        if let Some(known) = self.indexed(text) {
             return Ok(known);
         }
-        // The table only saves time, so a refused allocation is no error.
-        if self.latest.is_empty() {
-            if let Ok(latest) = vec![in self.alloc; NameId(0); BUCKETS] {
-                self.latest = latest;
-            }
-        }
         let id = self.add(text, first)?;
-        if let Some(latest) = self.latest.get_mut(home_bucket) {
-            *latest = id;
-        }
+        self.put(text, id);
         Ok(id)
     }
 
-    // The fast path: the last name of this bucket, if it has this spelling.
-    fn latest_at(&self, home_bucket: usize, text: &[u8]) -> Option<NameId>
-        ensures { IfSome result (λ id. has_spelling_at self.now id.0 text.now ≡ true) }
+    // The fast path: the name with this spelling, if the index has it.
+    fn indexed(&self, text: &[u8]) -> Option<NameId>
+        ensures among { IfSome result
+            (λ id. list_any (bytes_eq text.now) (spellings self.now) ≡ true) }
+        ensures number { IfSome result
+            (λ id. id.0 ≡ position_or_len (bytes_eq text.now) (spellings self.now)) }
     {
-        let id = *self.latest.get(home_bucket)?;
-        if self.has(id, text) { Some(id) } else { None }
+        for slot in self.index.candidates(text) {
+            let id = NameId(slot.checked_sub(1)?);
+            if self.has(id, text) {
+                return Some(id);
+            }
+        }
+        None
+    }
+
+    // Puts a new name into the index. If there are too few slots, a larger index takes all names.
+    fn put(&mut self, text: &[u8], id: NameId)
+        ensures { self.new ≡ self.old }
+    {
+        if self.index.is_small(self.names.len()) {
+            if let Some(larger) = self.larger_index() {
+                self.index = larger;
+                return;
+            }
+        }
+        self.index.put(text, id.0 as usize);
+    }
+
+    // An index of all names. Returns `None` if memory is refused.
+    fn larger_index(&self) -> Option<NameIndex> {
+        let mut index = NameIndex::with_slots_for(self.alloc, self.names.len())?;
+        for (number, name) in self.names.iter().enumerate() {
+            index.put(&name.text, number);
+        }
+        Some(index)
     }
 
     fn has(&self, id: NameId, text: &[u8]) -> bool
@@ -203,11 +221,4 @@ impl KnownNames {
         let found = find_one(&self.sorted, from, text);
         Ok(found.is_several())
     }
-}
-
-// The bucket of a spelling, from its length and the bytes at its ends.
-fn bucket_of(text: &[u8]) -> usize
-    ensures { result < 1024 }
-{
-    (home_bucket(Key::of(text), BUCKETS) + text.len()) % BUCKETS
 }

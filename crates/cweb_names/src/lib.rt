@@ -9,6 +9,8 @@ mod name;
 mod sorted;
 // the names that begin with a prefix
 mod found;
+// a hash table of names
+mod index;
 // the names so far
 mod known;
 // the name that an occurrence resolves to

@@ -72,6 +72,13 @@ impl NameTable {
         }
     }
 
+    /// The number of occurrences.
+    pub fn len(&self) -> usize
+        ensures { result ≡ length self.now }
+    {
+        self.given.len()
+    }
+
     /// Appends an occurrence and returns its number. If memory is refused, nothing changes.
     pub fn add(&mut self, name: &[u8], how: How, is_file: bool) -> Result<NameRef, AllocError>
         requires { length self.old + 1 < too_many }

@@ -3,3 +3,4 @@ pub mod Outputs
 pub mod surface
 pub mod laws
 pub mod inner
+pub use Rattle.cweb_files.specs.Files

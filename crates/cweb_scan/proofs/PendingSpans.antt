@@ -1,11 +1,13 @@
 -- A span of plain bytes of an open item is taken at once.
 use Rattle.cweb_scan.proofs.RestByLexemes.{takes_none, takes_both}
-use Rattle.cweb_scan.proofs.Common.{◌≡◌, ◌<◌, ℕ, suc, ◌+◌, Bool, true, false, cond, not, ◌&&◌, ◌==◌, List, [], ◌∷◌, ◌++◌, take, refl, ap, sym, ◌∙◌, subst, arith, append_assoc, if◌then◌else◌, codes, list_all, prefix_len, Place, unit_bytes, IsLine, is_plain, is_raw_special, is_special, DoubleAtInString, Goes, unit_state, ReaderModel, TakesPrefix, pending_bytes, with_pending_bytes, with_span, TakesPending, awaits_line_end, PendingItem, InName, InLiteral, InRaw, closer_of, ScanState, report, not-true, in_line}
+use Rattle.cweb_scan.proofs.Common.{◌≡◌, ◌<◌, ℕ, suc, ◌+◌, Bool, true, false, cond, not, ◌&&◌, ◌==◌, List, [], ◌∷◌, ◌++◌, take, refl, ap, sym, ◌∙◌, subst, arith, append_assoc, if◌then◌else◌, codes, list_all, prefix_len, Place, unit_bytes, IsLine, is_plain, is_raw_special, is_special, DoubleAtInString, Goes, unit_state, ReaderModel, TakesPrefix, pending_bytes, with_pending_bytes, with_span, TakesPending, awaits_line_end, PendingItem, InName, InLiteral, InRaw, closer_of, ScanState, report, not-true, in_line, ◌≤◌, ◌||◌, drop, length, begins, opener_after, Closed, Cut, Nested, Ends, takes_opener, nat_lt, occurrence, look_in_name, starts_section, IsLine-drop}
 use Rattle.cweb_rules.specs.declared.items.Item.TheVariants.{Name, Literal}
 use Rattle.cweb_rules.proofs.PlainSpans.{plain_goes, raw_goes, no_at_in_literal, no_at_in_raw}
 use Rattle.cweb_scan.proofs.LineHasNoNewline.{append-nil'}
 use Rattle.cweb_scan.proofs.PendingReaders.{open_at}
-use Rattle.cweb_scan.proofs.PendingRests.{name_goes, literal_takes, raw_takes}
+use Rattle.cweb_scan.proofs.PendingRests.{name_goes, name_over, literal_takes, raw_takes}
+use Rattle.cweb_scan.proofs.FirstMatchTaken.{between}
+use Rattle.cweb_rules.proofs.Sizes.{begins-size}
 use Rattle.cweb_scan.proofs.OpeningSteps.{opened}
 
 -- An item with its bytes so far.
@@ -123,3 +125,29 @@ run_at n u h new at item made same takes =
       begun = h.begun;
     })
     ∙ (λ j. record { state = h.state; item = same j; begun = h.begun })) takes
+
+-- A whole name: plain bytes and the closer.
+pub name_whole : (s : ScanState) (g : Bool) (begun : Place) (is_file : Bool) (n : ℕ) (u : List ℕ) (sign taken : ℕ)
+    (opens : Bool) → IsLine u → n ≡ prefix_len (is_plain Name) u → begins (codes "@>") (drop n u) ≡ true
+    → sign ≡ opener_after Closed (drop 2 (drop n u)) → taken ≡ 2 + (if takes_opener s then sign else 0)
+    → opens ≡ nat_lt 0 sign → TakesPending (n + taken) u (opened s g (InName begun is_file []))
+    (between (occurrence is_file (take n u) Closed opens begun s) g)
+name_whole s g begun is_file n u sign taken opens line plain closes after size opens_is =
+    let rest = drop n u in
+    let span = subst
+    (λ (k : ℕ).
+    TakesPrefix k u (opened s g (InName begun is_file [])) (opened s g (InName begun is_file (take k u))))
+    (sym plain)
+    (run_taken (is_plain Name) (λ us. opened s g (InName begun is_file us)) (name_goes_on s g begun is_file) [] u
+    line) in
+    let two : 2 ≤ length rest = begins-size (codes "@>") rest closes in
+    let end = name_over s g begun is_file (take n u) 2 Closed rest sign taken opens (IsLine-drop n u line)
+    (omega (arith, two)) (look_closes rest closes) after size opens_is in
+    record { takes = takes_both n taken u _ _ _ span end.takes; moves = λ w. cc; last = λ w. cc }
+  where
+    look_closes : (t : List ℕ) → begins (codes "@>") t ≡ true → look_in_name t ≡ Ends 2 Closed
+    look_closes t h = ap
+        (λ v. if v then Ends 2 Closed
+        else (if begins (codes "@<") t || begins (codes "@(") t then Ends 0 Nested
+        else (if starts_section t then Ends 0 Cut else (if begins (codes "@") t then Goes 2 else Goes 1))))
+        h

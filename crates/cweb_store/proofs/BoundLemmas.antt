@@ -114,7 +114,7 @@ names-first n i ns (o ∷ os) h le = names-first n
     (i + 1) (with_occurrence_name i ns o) os (with_name-first n i ns o.text o.how o.is_file (omega arith) h)
     (omega arith)
 
-resolutions-length : (i : ℕ) (before all : List Name) (os : List Occurrence)
+pub resolutions-length : (i : ℕ) (before all : List Name) (os : List Occurrence)
     → length (resolutions_from i before all os) ≡ length os
 resolutions-length i before all [] = refl
 resolutions-length i before all (o ∷ os) =

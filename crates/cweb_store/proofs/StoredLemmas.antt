@@ -1,5 +1,6 @@
 -- The model of a store, from its tokens, occurrences and names.
 use Rattle.cweb_store.proofs.Common.{◌≡◌, ℕ, zero, suc, ◌+◌, ◌<◌, Bool, List, [], ◌∷◌, ◌++◌, Option, Some, map, length, drop, refl, sym, ◌∙◌, ap, subst, arith, length-append, append_assoc, append-nil, get_or, slice_get, option_map, length-map, drop-append_seam, NameId, NameFault, OccurrenceForm, PartRange, Links, Occurrence, Name, Resolution, with_full_name, with_occurrence_name, names_from, names, Token, Replacement, IsWhole, closed_in, stored, too_many, AreAnswers, AreLinked, occurrence_text, replacement_bytes, ClosedTokensModel, tokens_alone, with_strings, occurrence_form, occurrences_at, replacements_at, stored_in, AreLast, AreStored}
+use Rattle.std.specs.Prelude.{◌^◌}
 use Rattle.cweb_store.proofs.RangeLemmas.{drop-here}
 
 with_texts-is : (ts : List (List ℕ)) (c : ClosedTokensModel)
@@ -49,10 +50,11 @@ pub stored-are : (ts : List Token)
     (firsts : List ℕ) (resolutions : List Resolution) (files : List NameId) (faults : List NameFault) (has_defs : Bool)
     → IsWhole ts ranges → AreLinked resolutions ranges links.skips.items links.heads
     → AreLast last_places (map (λ r. r.byte) rs) → firsts ≡ map (λ n. n.first) (names os) → length (names os) < too_many
-    → AreAnswers os (map (closed_in ts) ranges) resolutions files faults has_defs → AreStored (all_texts ts os rs)
+    → length resolutions < 2 ^ 32 → AreAnswers os (map (closed_in ts) ranges) resolutions files faults has_defs
+    → AreStored (all_texts ts os rs)
     ranges links (map occurrence_form os) (map (λ r. r.byte) rs) last_places firsts resolutions files faults has_defs
 stored-are ts ranges links os rs last_places firsts resolutions files faults has_defs whole linked last places few
-    answers =
+    small answers =
     let back = occurrences-back os (map replacement_bytes rs) in
     let flat : AreStored (record { tokens = ts; others = map occurrence_text os ++ map replacement_bytes rs })
     ranges links (map occurrence_form os) (map (λ r. r.byte) rs) last_places firsts resolutions files faults has_defs =
@@ -69,6 +71,7 @@ stored-are ts ranges links os rs last_places firsts resolutions files faults has
             length-map rs (λ (r : Replacement). r.byte),
           );
       last = last;
+      small = small;
       few = omega (arith, ap length places, length-map (names os) (λ (n : Name). n.first), few);
       first_places = places ∙ ap (λ xs. map (λ (n : Name). n.first) (names xs)) (sym back);
       answers =

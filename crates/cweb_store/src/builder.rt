@@ -1,7 +1,7 @@
 // The builder: accepts what a scan finds, call by call, and makes the store.
 
 ghost use Rattle.std.specs.Prelude.{◌≡◌, ◌<◌, ◌≤◌, ◌+◌, length, IsSome, IsNone, is_some, IfOk};
-ghost use Rattle.std.specs.Prelude.{OnOk, OnErr};
+ghost use Rattle.std.specs.Prelude.{IsTrue, OnOk, OnErr};
 ghost use Rattle.cweb_store.specs.surface.Growing.{part_count, token_count};
 ghost use Rattle.cweb_store.specs.surface.Replacements.{replacement_of};
 ghost use Rattle.cweb_store.specs.Calls.{empty, finished, with_closed, with_dropped};
@@ -9,7 +9,7 @@ ghost use Rattle.cweb_store.specs.Calls.{with_occurrence, with_open, with_replac
 ghost use Rattle.cweb_names.specs.surface.Names.{occurrence_of, too_many};
 
 use crate::parts::PartKind;
-use crate::parts::list::PartList;
+use crate::parts::list::{FULL, PartList};
 use crate::replacements::Replacements;
 use crate::store::Store;
 use crate::tokens::Token;
@@ -78,7 +78,20 @@ impl Builder {
         Ok(number)
     }
 
-    pub(crate) fn is_open(&self) -> bool
+    /// Whether one more occurrence, one more part and one more token are within their limits.
+    pub fn has_room(&self) -> bool
+        ensures occurrences { IsTrue result → length self.now.occurrences + 1 < too_many }
+        ensures parts { IsTrue result → part_count self.now.parts + 1 < too_many }
+        ensures tokens { IsTrue result → token_count self.now.parts + 1 < too_many }
+        ensures room { length self.now.occurrences + 1 < too_many →
+            part_count self.now.parts + 1 < too_many →
+            token_count self.now.parts + 1 < too_many → IsTrue result }
+    {
+        self.names.len() < FULL && self.parts.has_room()
+    }
+
+    /// Whether a part is open.
+    pub fn is_open(&self) -> bool
         ensures { result ≡ is_some self.now.parts.current }
     {
         self.parts.is_open()

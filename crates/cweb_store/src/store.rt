@@ -147,6 +147,13 @@ impl Store {
         resolved_at(self.resolutions.as_slice(), name.0 as usize)
     }
 
+    /// The number of occurrences of names.
+    pub fn occurrences(&self) -> u32
+        ensures { result ≡ length self.now.occurrences }
+    {
+        self.resolutions.len() as u32
+    }
+
     /// The number of names.
     pub fn names(&self) -> u32
         ensures count { result ≡ length (spec.names self.now.occurrences) }

@@ -1,5 +1,5 @@
 -- The state after all acts were done.
-use Rattle.cweb_tools.proofs.Common.{◌≡◌, inl, inr, List, [], ◌∷◌, ◌++◌, sym, ◌∙◌, ap, append-nil, append_assoc, None, flat_map, line, DeviceState, Act, judges, says, after_act, PerformsActs, put_files, written_files, logged_items}
+use Rattle.cweb_tools.proofs.Common.{◌≡◌, inl, inr, ℕ, List, [], ◌∷◌, ◌++◌, sym, ◌∙◌, ap, append-nil, append_assoc, None, flat_map, line, DeviceState, Act, judges, says, writes, after_act, PerformsActs, put_files, written_files, logged_items, prints}
 
 -- The files.
 pub files_all : (acts : List Act) (old new : DeviceState) → PerformsActs acts None old new
@@ -17,3 +17,26 @@ log_all (says item ∷ acts) old new (inl run) = log_all acts (after_act (says i
     ∙ append_assoc old.log (line item) (flat_map line (logged_items acts))
 log_all (act ∷ acts) old new (inl run) = log_all acts (after_act act old) new run.1
 log_all (act ∷ acts) old new (inr stop) = absurd stop
+
+-- Without a written file, a draft stays as it was.
+pub draft_all : (acts : List Act) (old new : DeviceState) → written_files acts ≡ [] → PerformsActs acts None old new
+    → new.draft ≡ old.draft
+draft_all [] old new none is = ap (λ (d : DeviceState). d.draft) is
+draft_all (writes name text ∷ acts) old new none run = absurd (cc)
+draft_all (judges ∷ acts) old new none (inl run) = draft_all acts old new none run.1
+draft_all (act ∷ acts) old new none (inl run) = draft_all acts (after_act act old) new none run.1
+draft_all (act ∷ acts) old new none (inr stop) = absurd stop
+
+-- The bytes that acts print.
+abbrev pub printed_bytes : List Act → List ℕ
+printed_bytes [] = []
+printed_bytes (prints text ∷ acts) = text ++ printed_bytes acts
+printed_bytes (_ ∷ acts) = printed_bytes acts
+
+pub printed_all : (acts : List Act) (old new : DeviceState) → PerformsActs acts None old new
+    → new.printed ≡ old.printed ++ printed_bytes acts
+printed_all [] old new is = ap (λ (d : DeviceState). d.printed) is ∙ sym (append-nil old.printed)
+printed_all (prints text ∷ acts) old new (inl run) = printed_all acts (after_act (prints text) old) new run.1
+    ∙ append_assoc old.printed text (printed_bytes acts)
+printed_all (act ∷ acts) old new (inl run) = printed_all acts (after_act act old) new run.1
+printed_all (act ∷ acts) old new (inr stop) = absurd stop

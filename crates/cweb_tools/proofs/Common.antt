@@ -15,7 +15,8 @@ pub use Rattle.std.proofs.lemmas.Option.{same_Some}
 pub use Rattle.std.specs.Borrow.{Bor}
 pub use Rattle.std.specs.List.{flat_map, list_all, list_any}
 pub use Rattle.std.specs.Option.{option_copied}
-pub use Rattle.std.specs.Prelude.{None, Option, Some, IsErr, IsTrue, Result, Ok, Err, count_by, decimal, codes, ◌==◌}
+pub use Rattle.std.specs.Prelude.{None, Option, Some, IsErr, IsSome, IsTrue, Result, Ok, Err, count_by, decimal, codes}
+pub use Rattle.std.specs.Prelude.{◌==◌}
 pub use Rattle.std.specs.Prelude.{All, OnOk, IfSome, if◌then◌else◌, nat_le}
 pub use Rattle.std.specs.Str.{bytes_eq}
 pub use Rattle.cweb_files.specs.Bins.{WritesPrefix}
@@ -38,7 +39,7 @@ pub use Rattle.cweb_input.specs.declared.stop.Stop.TheVariants.{WriteFault}
 pub use Rattle.cweb_input.specs.surface.OpenSources.{StartStops, StopsReading, StopsFor}
 pub use Rattle.cweb_input.specs.surface.OpenedFileNames.{opened_file_names}
 pub use Rattle.cweb_lines.specs.Events.{emitted_lines, reported_faults, openings, taken_lines, IsWithinLimits, AreShort}
-pub use Rattle.cweb_lines.specs.Events.{write_failures_of, written_lines, BreaksLimit, ComesFirst, counts_of}
+pub use Rattle.cweb_lines.specs.Events.{write_failures_of, written_lines, BreaksLimit, counts_of}
 pub use Rattle.cweb_lines.specs.Merge.{Event, took, MergeStateModel, run_steps, started}
 pub use Rattle.cweb_lines.specs.inner.MergeProgress.{begun_with}
 pub use Rattle.cweb_lines.specs.inner.Total.{merge-run_steps}
@@ -99,19 +100,21 @@ pub use Rattle.cweb_store.specs.surface.Parts.{numbers_from, numbers_where}
 pub use Rattle.cweb_texts.specs.Edges.{is_operator, last_is}
 pub use Rattle.cweb_tools.specs.Acts.{DeviceState, Act, judges, says, opens, reads, plans, reserves, writes, after_act}
 pub use Rattle.cweb_tools.specs.Acts.{PerformsActs, Breaks, Ending, ending, TangleEnds, completes, stops, LogsLine}
-pub use Rattle.cweb_tools.specs.Acts.{LogsStop, IsOfFile, read_fails, AgreesWith}
+pub use Rattle.cweb_tools.specs.Acts.{LogsStop, IsOfFile, read_fails, AgreesWith, prints}
 pub use Rattle.cweb_tools.specs.Course.{Course, merging, IsMergeCourse, change_name, merged, usage, fault_status}
 pub use Rattle.cweb_tools.specs.Course.{MergeKeepsLimits, merge_log, merge_status, world_of}
 pub use Rattle.cweb_tools.specs.Headline.{IsMerge, TangleKeepsLimits, MergesFreely, MergeRanFreely, TanglesFreely}
-pub use Rattle.cweb_tools.specs.MergePromises.{put_files, about, AreOpened, CanStop, Comes, MergeEnds, Merges}
+pub use Rattle.cweb_tools.specs.MergePromises.{put_files, about, AreOpened, CanStop, MergeEnds, Merges}
 pub use Rattle.cweb_tools.specs.MergePromises.{RefusesArgs, HasMerged, BlamesDevice, Completes}
 pub use Rattle.cweb_tools.specs.Script.{written_files, logged_items, Numbers, closing_acts, unread, not_there}
 pub use Rattle.cweb_tools.specs.Script.{change_not_there, Planning, refused, Web, planned_acts, script, starred_acts}
 pub use Rattle.cweb_tools.specs.Script.{tangle_files, tangling, when, output_acts, outputs_acts, TangleCourse}
-pub use Rattle.cweb_tools.specs.Script.{tangle_status, web_acts, planned, tangle_log, tangle_usage}
+pub use Rattle.cweb_tools.specs.Depend.{depend_acts, depend_plan_acts, depend_web_acts, depend_usage, depend_text}
+pub use Rattle.cweb_tools.specs.Depend.{dependencies, DependsFreely}
+pub use Rattle.cweb_tools.specs.Script.{tangle_status, acts_status, web_acts, planned, tangle_log, tangle_usage}
 pub use Rattle.cweb_tools.specs.Spacing.{IsPlain, Spacing, is_ascii}
 pub use Rattle.cweb_tools.specs.Tangle.{fault_items, CanCome, shown_by, IsTangleCourse, output_file, tangled, web_of}
-pub use Rattle.cweb_tools.specs.Tangle.{plan_made, planning, planning_by, EndsIn, TanglePromises}
+pub use Rattle.cweb_tools.specs.Tangle.{plan_made, planning, planning_by, EndsIn, TanglePromises, FollowsActs}
 pub use Rattle.cweb_tools.specs.declared.outputs.Failed.{Failed}
 pub use Rattle.cweb_tools.specs.inner.Acts.{ending_of}
 pub use Rattle.cweb_tools.specs.inner.Course.{found_course, merge_course, EndsMerge, course_of}
@@ -120,7 +123,9 @@ pub use Rattle.cweb_tools.specs.inner.Does.{log_blame, rise, log_ending, ClosesI
 pub use Rattle.cweb_tools.specs.inner.Does.{observed_state}
 pub use Rattle.cweb_tools.specs.inner.Expanders.{PrintsSoFar, StaysReady, left_in, AreMarksBelow, IsReady}
 pub use Rattle.cweb_tools.specs.inner.Expanders.{output_ending, file_at, planned_files}
-pub use Rattle.cweb_tools.specs.inner.Tangle.{tangle_course, course_acts, course_status, web_status, status_by}
+pub use Rattle.cweb_tools.specs.inner.Scanning.{EndsAs}
+pub use Rattle.cweb_tools.specs.inner.Tangle.{tangle_course, LaterActs, opening_acts, tangle_later, course_status}
+pub use Rattle.cweb_tools.specs.inner.Tangle.{web_status, status_by}
 pub use Rattle.cweb_tools.specs.inner.Web.{refusal_in, files_of, faults_of}
 pub use Rattle.cweb_tools.specs.laws.Leaves.{LeavesFiles, bins_blame}
 pub use Rattle.cweb_tools.specs.laws.RunEffects.{LeavesDevices, LeavesMerge, LeavesStates, MergeFailsOnce}

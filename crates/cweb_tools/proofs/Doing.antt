@@ -1,5 +1,5 @@
 -- The effect of consecutive calls on the devices.
-use Rattle.cweb_tools.proofs.Common.{◌≡◌, inl, inr, ◌+◌, ℕ, List, [], ◌∷◌, ◌++◌, refl, sym, ◌∙◌, ap, add-zero, arith, false, Option, Some, None, IsErr, IsTrue, Result, Ok, Err, Beside, always_open, read_failures_of, LogFault, SinkModel, Devices, ShelfModel, Act, Breaks, Ending, ending, DeviceState, PerformsActs, after_act, says, AgreesWith, Closes, ClosesLog, Does, DoesInBins, DoesInBoth, DoesInLog, bins_blame, done, halted, log_blame, rise, log_ending}
+use Rattle.cweb_tools.proofs.Common.{◌≡◌, inl, inr, ◌+◌, ℕ, List, [], ◌∷◌, ◌++◌, refl, sym, ◌∙◌, ap, add-zero, arith, subst, false, Option, Some, None, IsErr, IsSome, IsTrue, Result, Ok, Err, Beside, always_open, read_failures_of, LogFault, SinkModel, Devices, ShelfModel, Act, Breaks, Ending, ending, DeviceState, PerformsActs, after_act, says, AgreesWith, Closes, ClosesLog, Does, DoesInBins, DoesInBoth, DoesInLog, bins_blame, done, halted, log_blame, rise, log_ending}
 use Rattle.cweb_tools.proofs.Running.{runs_on, stops_in}
 
 -- Nothing observable was done.
@@ -126,11 +126,11 @@ with_bins now count beside =
     record now { bins_failed = count; files = beside.files; draft = beside.draft; refused = beside.refused }
 
 bins_told : {now : DeviceState} (count : ℕ) (shelf : ShelfModel) (a d : SinkModel) (log : SinkModel) (change : Beside
-    → Beside)
+    → Beside) → ((b : Beside) → (change b).draft ≡ None)
     → AgreesWith now (record { shelf = shelf; out = a; log = log })
     → d.tells ≡ a.tells → (IsTrue a.tells → d.beside ≡ change a.beside) → count ≡ d.failed
     → AgreesWith (with_bins now count (change (beside_of now))) (record { shelf = shelf; out = d; log = log })
-bins_told {now} count shelf a d log change log_ending tells beside counted =
+bins_told {now} count shelf a d log change closes log_ending tells beside counted =
     let first : IsTrue d.tells → IsTrue a.tells = λ tell. sym tells ∙ tell in
     let same : IsTrue d.tells → change (beside_of now) ≡ d.beside = λ tell. ap change (λ i.
     record {
@@ -148,15 +148,19 @@ bins_told {now} count shelf a d log change log_ending tells beside counted =
       draft = λ tell. ap (λ (b : Beside). b.draft) (same tell);
       refused = λ tell. ap (λ (b : Beside). b.refused) (same tell);
       log = log_ending.log;
+      printed = λ tell some.
+          let never : IsSome {T = List ℕ} None =
+          subst IsSome (sym (ap (λ (b : Beside). b.draft) (same tell)) ∙ closes (beside_of now)) some in cc;
     }
 
--- Acts that change only the bins.
+-- Acts that change only the bins, and leave no draft.
 pub does_in_bins : {acts : List Act} {why : Option Ending} (more : ℕ → ℕ) (change : Beside → Beside) {a d : SinkModel}
+    → ((b : Beside) → (change b).draft ≡ None)
     → rise read_failures_of why ≡ 0 → rise log_blame why ≡ 0 → ((n : ℕ) → more n ≡ n + rise bins_blame why)
     → d.tells ≡ a.tells → d.failed ≡ more a.failed → (IsTrue a.tells → d.beside ≡ change a.beside)
     → ((now : DeviceState) → PerformsActs acts why now (with_bins now (more now.bins_failed) (change (beside_of now))))
     → DoesInBins acts why a d
-does_in_bins more change {a} {d} no_read no_log rises tells failed beside runs = λ shelf log. record {
+does_in_bins more change {a} {d} closes no_read no_log rises tells failed beside runs = λ shelf log. record {
   shelf_tells = refl;
   bins_tells = tells;
   log_tells = refl;
@@ -165,7 +169,8 @@ does_in_bins more change {a} {d} no_read no_log rises tells failed beside runs =
   log = omega (arith, no_log);
   runs = λ now log_ending. record {
     left = with_bins now (more now.bins_failed) (change (beside_of now));
-    told = bins_told _ shelf a d log change log_ending tells beside (ap more log_ending.bins_failed ∙ sym failed);
+    told = bins_told _ shelf a d log change closes log_ending tells beside
+        (ap more log_ending.bins_failed ∙ sym failed);
     runs = runs now;
   };
 }

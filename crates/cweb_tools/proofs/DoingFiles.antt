@@ -9,7 +9,7 @@ pub file_done : (name text : List ℕ) {a : SinkModel} (b c : SinkModel) {d : Si
     → (IsTrue b.tells → c.bytes ≡ b.bytes ++ text) → d.tells ≡ c.tells → d.failed ≡ c.failed
     → (IsTrue c.tells → d.beside ≡ committed c.beside c.bytes) → DoesInBins (writes name text ∷ []) None a d
 file_done name text b c tells failed begun empty tells' failed' beside printed tells'' failed'' commits =
-    does_in_bins (λ n. n) (λ (b : Beside). committed (with_draft name b) text) refl refl
+    does_in_bins (λ n. n) (λ (b : Beside). committed (with_draft name b) text) (λ b. refl) refl refl
     (λ n. sym (add-zero n)) (tells'' ∙ tells' ∙ tells) (failed'' ∙ failed' ∙ failed) (λ tell.
     let tell-b : IsTrue b.tells = tells ∙ tell in
     let tell-c : IsTrue c.tells = tells' ∙ tell-b in
@@ -21,7 +21,7 @@ pub not_written : (name text : List ℕ) {a d : SinkModel} → d.tells ≡ a.tel
     → (IsTrue a.tells → d.beside ≡ without_draft (with_draft name a.beside))
     → DoesInBins (writes name text ∷ []) (Some (ending WriteFault name)) a d
 not_written name text tells failed beside = does_in_bins (λ n. n + 1) (λ (b : Beside).
-    without_draft (with_draft name b)) refl refl (λ n. refl) tells failed beside (λ now. inr (refl, refl))
+    without_draft (with_draft name b)) (λ b. refl) refl refl (λ n. refl) tells failed beside (λ now. inr (refl, refl))
 
 -- The log failed, which ends the run.
 pub log_halts_all : {acts : List Act} {due status : ℕ} {before after : Devices}

@@ -91,11 +91,15 @@ not_free (LineTooLong file) cause is free = cause free.within
 not_free TooMuchText cause is free = cause free.within
 not_free stop cause is free = absurd cause
 
+pub runs_freely : {acts : List Act} {due : ℕ} {old new : DeviceState} {status : ℕ}
+    → TangleEnds acts due old new status → RunsFreely acts old new → PerformsActs acts None old new × (status ≡ due)
+runs_freely (completes run answered) free = (run, answered)
+runs_freely {acts} {old} {new} (stops (ending stop about) then run logs answered) free = absurd (not_free
+    stop (cause_of acts stop about old then run) (is_stopped acts then run logs) free)
+
 pub ends_freely : {acts : List Act} {due : ℕ} {old new : DeviceState} {status : ℕ}
     → TangleEnds acts due old new status → RunsFreely acts old new → DoesAll acts due old new status
-ends_freely (completes run answered) free = does_all run answered
-ends_freely {acts} {old} {new} (stops (ending stop about) then run logs answered) free = absurd (not_free
-    stop (cause_of acts stop about old then run) (is_stopped acts then run logs) free)
+ends_freely ends free = let run = runs_freely ends free in does_all run.0 run.1
 
 pub ends_within : {acts : List Act} {due : ℕ} {old new : DeviceState} {status : ℕ}
     → TangleEnds acts due old new status → ¬ ActsKeepLimits acts → status ≡ 1

@@ -1,6 +1,7 @@
 -- The early exits of `wmerge` are ends of a run.
-use Rattle.cweb_tools.proofs.Common.{◌≤◌, ◌≡◌, ◌⊎◌, inl, inr, ℕ, List, [], ◌∷◌, ◌++◌, refl, sym, ◌∙◌, ap, subst, append-nil, append_assoc, arith, Option, Some, None, IsTrue, names_found, World, Found, Event, SoFar, EmitsLines, begun_with, ReportsPrefix, blame, StartStops, files_named, read_failures_of, emitted_lines, reported_faults, openings, taken_lines, IsWithinLimits, BeginsMerge, StopsAtStart, StopsWriting, WritingStops, WritesPrefix, write_failures_of, LINES, BYTES, Stop, Usage, WebNotOpened, ChangeNotOpened, ReadFault, LineTooLong, TooMuchText, Memory, WriteFault, Logs, stop_line, start_subject, subject, Devices, SinkModel, WebNames, Course, merging, merge_course, change_name, found_course, usage, about, AreOpened, CanStop, Comes, EndsMerge, Merges, RefusesArgs}
+use Rattle.cweb_tools.proofs.Common.{◌≤◌, ◌≡◌, ◌⊎◌, inl, inr, ℕ, List, [], ◌∷◌, ◌++◌, refl, sym, ◌∙◌, ap, subst, append-nil, append_assoc, arith, Option, Some, None, IsTrue, names_found, World, Found, Event, SoFar, EmitsLines, begun_with, ReportsPrefix, blame, StartStops, files_named, read_failures_of, emitted_lines, reported_faults, openings, taken_lines, IsWithinLimits, BeginsMerge, StopsAtStart, StopsWriting, WritingStops, WritesPrefix, write_failures_of, LINES, BYTES, Stop, Usage, WebNotOpened, ChangeNotOpened, ReadFault, LineTooLong, TooMuchText, Memory, WriteFault, Logs, stop_line, start_subject, subject, Devices, SinkModel, WebNames, Course, merging, merge_course, change_name, found_course, usage, about, AreOpened, CanStop, EndsMerge, Merges, RefusesArgs}
 use Rattle.cweb_tools.proofs.Limits.{breaks_limit}
+use Rattle.cweb_tools.proofs.ReadingStops.{large_line, long_line, read_by}
 use Rattle.cweb_lines.proofs.EmittedLinesAddUp.{openings-append}
 use Rattle.cweb_tools.specs.Course.{unread, not_there, change_not_there}
 use Rattle.cweb_tools.specs.MergePromises.{stops}
@@ -50,7 +51,8 @@ module _ (before after : Devices) (status : ℕ) (read : after.shelf.failed ≡ 
       record { read = read; printed = out_count; written = out_bytes; logged = logs; answered = answered }
   refused stop is logs = absurd (cc)
 
-  not_begun : (names : WebNames) (course : Course) (stop : Stop) → Comes stop → files_named stop ≤ 0
+  not_begun : (names : WebNames) (course : Course) (stop : Stop) → (other : Course) × CanStop stop other
+      → files_named stop ≤ 0
       → read_failures_of stop
       ≡ 0 → write_failures_of stop ≡ 0 → blame [] stop ≡ [] → (IsTrue before.shelf.tells → CanStop stop course)
       → Logs (stop_line stop (about names [] stop)) before.log after.log → Merges names course before after status
@@ -71,8 +73,8 @@ module _ (before after : Devices) (status : ℕ) (read : after.shelf.failed ≡ 
 
   out_of_memory : (names : WebNames) (course : Course) (stop : Stop) → stop ≡ Memory
       → Logs (stop_line stop usage) before.log after.log → Merges names course before after status
-  out_of_memory names course stop is logs = not_begun names course Memory tt (omega arith) refl refl refl
-      (λ tells. tt) (subst (λ (s : Stop). Logs (stop_line s usage) before.log after.log) is logs)
+  out_of_memory names course stop is logs = not_begun names course Memory (not_there [], tt) (omega arith) refl refl
+      refl (λ tells. tt) (subst (λ (s : Stop). Logs (stop_line s usage) before.log after.log) is logs)
 
   -- The words can't be read, or an allocation for their names failed.
   pub words_stopped : (world : World) (asked : Option WebNames) (stop : Stop) → (stop ≡ Usage) ⊎ (stop ≡ Memory)
@@ -87,12 +89,14 @@ module _ (before after : Devices) (status : ℕ) (read : after.shelf.failed ≡ 
       (stop : Stop) → StartStops stop → (IsTrue before.shelf.tells → StopsAtStart stop found changes)
       → Logs (stop_line stop (start_subject names.web (change_name names.change) stop)) before.log after.log
       → Merges names (found_course world names found changes) before after status
-  start_stopped world names found changes WebNotOpened comes why logs = not_begun names _ WebNotOpened tt
-      (omega arith) refl refl refl (λ tells. start_cause world names found changes WebNotOpened (why tells)) logs
-  start_stopped world names found changes ChangeNotOpened comes why logs = not_begun names _ ChangeNotOpened tt
-      (omega arith) refl refl refl (λ tells. start_cause world names found changes ChangeNotOpened (why tells)) logs
+  start_stopped world names found changes WebNotOpened comes why logs = not_begun names _ WebNotOpened
+      (not_there [], tt) (omega arith) refl refl refl
+      (λ tells. start_cause world names found changes WebNotOpened (why tells)) logs
+  start_stopped world names found changes ChangeNotOpened comes why logs = not_begun names _ ChangeNotOpened
+      (change_not_there [], tt) (omega arith) refl refl refl
+      (λ tells. start_cause world names found changes ChangeNotOpened (why tells)) logs
   start_stopped world names found changes Memory comes why logs =
-      not_begun names _ Memory tt (omega arith) refl refl refl (λ tells. tt) logs
+      not_begun names _ Memory (not_there [], tt) (omega arith) refl refl refl (λ tells. tt) logs
   start_stopped world names found changes stop comes why logs = absurd comes
 
 -- The opened names so far are among those of the whole merge.
@@ -140,12 +144,12 @@ writing_cause Memory first old new events Wrote began few small kind why = tt
 writing_cause WriteFault first old new events Wrote began few small kind why = tt
 writing_cause stop first old new events Wrote began few small kind why = absurd kind
 
-pub writing_comes : (stop : Stop) → WritingStops stop → Comes stop
-writing_comes (ReadFault file) kind = tt
-writing_comes (LineTooLong file) kind = tt
-writing_comes TooMuchText kind = tt
-writing_comes Memory kind = tt
-writing_comes WriteFault kind = tt
+pub writing_comes : (stop : Stop) → WritingStops stop → (other : Course) × CanStop stop other
+writing_comes (ReadFault file) kind = (merging [] [], tt)
+writing_comes (LineTooLong file) kind = (merging [] (read_by (LineTooLong file)), long_line file)
+writing_comes TooMuchText kind = (merging [] (read_by TooMuchText), large_line)
+writing_comes Memory kind = (merging [] [], tt)
+writing_comes WriteFault kind = (merging [] [], tt)
 writing_comes stop kind = absurd kind
 
 pub writing_about : (names : WebNames) (files : List (List ℕ)) (stop : Stop)

@@ -1,5 +1,5 @@
 -- The files and drafts after a run, act by act.
-use Rattle.cweb_tools.proofs.Common.{◌≡◌, inl, inr, ℕ, ◌+◌, false, List, [], ◌∷◌, ◌++◌, refl, sym, ◌∙◌, ap, subst, add-zero, arith, Option, Some, None, read_failures_of, bins_blame, File, Event, Stop, ReadFault, LineTooLong, TooMuchText, Memory, OutNotOpened, WriteFault, LogFault, LogItem, fault_count, Shown, DeviceState, Act, says, reads, writes, after_act, Ending, ending, Breaks, PerformsActs, LogsStop, TangleEnds, completes, stops, LeavesFiles, put_files, refused, Web, written_files, script, tangling}
+use Rattle.cweb_tools.proofs.Common.{◌≡◌, inl, inr, ℕ, ◌+◌, false, List, [], ◌∷◌, ◌++◌, refl, sym, ◌∙◌, ap, subst, add-zero, arith, Option, Some, None, read_failures_of, bins_blame, File, Event, Stop, ReadFault, LineTooLong, TooMuchText, Memory, OutNotOpened, WriteFault, LogFault, LogItem, fault_count, Shown, DeviceState, Act, says, reads, writes, prints, after_act, Ending, ending, Breaks, PerformsActs, LogsStop, TangleEnds, completes, stops, LeavesFiles, put_files, refused, Web, written_files, script, tangling}
 use Rattle.cweb_tools.proofs.WebActs.{when_on, said_on, starred_on, closing_on}
 
 -- A stop changes no file and leaves no draft. The failure count of its device rises. Only a log fault changes the log.
@@ -55,7 +55,15 @@ broken (writes name text) OutNotOpened about old new broke =
     unwritten _ broke.1 refl refl (sym (add-zero _)) refl refl refl
 broken (writes name text) WriteFault about old new broke =
     unwritten _ broke.1 refl refl (sym (add-zero _)) refl refl refl
+broken (prints text) WriteFault about old new broke = subst (Broken WriteFault old) (sym broke.1.is) (record {
+  files = refl;
+  draft = λ none. none;
+  shelf = sym (add-zero old.shelf_failed);
+  bins = refl;
+  log = λ never. (refl, refl);
+})
 broken (says item) Memory about old new broke = absurd broke
+broken (prints text) Memory about old new broke = absurd broke
 broken act Memory about old new broke = quiet refl refl broke
 broken act stop about old new broke = absurd broke
 

@@ -7,19 +7,27 @@ pub mod Courses
 pub mod Exits
 pub mod MergeExits
 pub mod FaultItems
+pub mod Printing
 pub mod Prints
 pub mod ReadyExpanders
+pub mod RuleWords
 pub mod Refusals
 pub mod ObservedTangleEnds
 pub mod TanglePromisesProved
+pub mod DependPromisesProved
+mod DepfileExamples
 pub mod MergePromisesProved
 pub mod ChangedFilesWereRead
 pub mod Leaving
 pub mod WebActs
 pub mod Limits
 pub mod Logging
+pub mod MakeReadings
+pub mod RuleEnds
+pub mod RulesReadBack
 pub mod Marks
 pub mod OutputActs
+pub mod Targets
 mod WorkedExamples
 mod TangleExamples
 pub mod RunLaws

@@ -1,5 +1,5 @@
 -- A merge that breaks a limit is not within the limits.
-use Rattle.cweb_tools.proofs.Common.{◌≡◌, ◌≤◌, ◌<◌, ◌+◌, ◌⊎◌, inl, inr, List, [], ◌∷◌, ◌++◌, ◌∙◌, ap, subst, arith, length, length-append, append_assoc, map, ℕ, SourceLine, Event, SoFar, Line, BreaksLimit, ComesFirst, counts_of, StopsAfterLines, begun_with, AreShort, IsWithinLimits, taken_lines, LINE_LENGTH, LINES, BYTES, Stop, LineTooLong, TooMuchText}
+use Rattle.cweb_tools.proofs.Common.{◌≡◌, ◌≤◌, ◌<◌, ◌+◌, ◌⊎◌, inl, inr, List, [], ◌∷◌, ◌++◌, refl, sym, ◌∙◌, ap, subst, arith, length, length-append, append_assoc, map, map-append, ℕ, SourceLine, Event, took, SoFar, Line, BreaksLimit, counts_of, StopsAfterLines, begun_with, AreShort, IsWithinLimits, taken_lines, LINE_LENGTH, LINES, BYTES, Stop, LineTooLong, TooMuchText}
 use Rattle.cweb_input.specs.OpenSources.{RefusesLine, TakenCountersModel}
 use Rattle.cweb_lines.specs.Merge.{fault}
 use Rattle.cweb_lines.specs.surface.MergeProgress.{step_events}
@@ -17,113 +17,141 @@ short_at (l ∷ before) after line short = short_at before after line short.1
 module _ {stop : Stop} {first : List (List ℕ)} {emitted : List Line} {old new : SoFar} {events : List Event}
     (began : old ≡ begun_with first) (few : new.count.lines ≤ LINES) (small : new.count.bytes ≤ BYTES)
     (b : StopsAfterLines emitted stop old new events) where
-  abbrev before : List SourceLine
-  before = taken_lines b.gives.events
+  abbrev begun : List SourceLine
+  begun = b.stops.begun.front
 
-  abbrev olds : List SourceLine
-  olds = b.stops.begun.front
+  abbrev earlier : List Event
+  earlier = b.gives.events ++ map took begun
 
-  abbrev raws : List SourceLine
-  raws = b.stops.begun.raw_front
+  taken_are : taken_lines earlier ≡ taken_lines b.gives.events ++ begun
+  taken_are = simp (taken-append, taken-took)
 
-  lines_are : new.count.lines ≡ length (before ++ (olds ++ raws))
+  lines_are : new.count.lines ≡ length (taken_lines earlier)
   lines_are = omega (
     arith,
     b.stops.begun.adds.lines_are,
     b.gives.lines_are,
     ap (λ (s : SoFar). s.count.lines) began,
-    length-append before (olds ++ raws),
+    length-append (taken_lines b.gives.events) begun,
+    ap (λ (ls : List SourceLine). length ls) taken_are,
   )
 
-  bytes_are : new.count.bytes ≡ size_of_lines (before ++ (olds ++ raws))
+  bytes_are : new.count.bytes ≡ size_of_lines (taken_lines earlier)
   bytes_are = omega (
     arith,
     b.stops.begun.adds.bytes_are,
     b.gives.bytes_are,
     ap (λ (s : SoFar). s.count.bytes) began,
-    size-append before (olds ++ raws),
+    size-append (taken_lines b.gives.events) begun,
+    ap size_of_lines taken_are,
   )
 
-  counts : new.count ≡ counts_of (before ++ (olds ++ raws))
+  counts : new.count ≡ counts_of (taken_lines earlier)
   counts i = record { lines = lines_are i; bytes = bytes_are i }
 
   pub breaks_limit : BreaksLimit stop events
   breaks_limit = record {
-    earlier = b.gives.events;
-    olds = olds;
-    old_rest = b.stops.begun.rest;
-    raws = raws;
-    raw_rest = b.stops.begun.raw_rest;
-    later = map fault b.faults ++ b.later;
-    whole = b.gives.whole ∙ (λ i.
-        b.gives.events ++ step_events (b.stops.begun.lines_are i) (b.stops.begun.raws_are i) b.faults b.later);
+    earlier = earlier;
+    line = b.stops.line;
+    later = map took b.stops.more ++ (map fault b.faults ++ b.later);
+    whole = b.gives.whole ∙ ap (λ (ls : List SourceLine). b.gives.events ++ step_events ls b.faults b.later)
+        (b.stops.begun.lines_are ∙ ap (λ (ls : List SourceLine). begun ++ ls) b.stops.next)
+        ∙ simp (map-append, append_assoc);
     within = record {
-      short = short-append before (olds ++ raws) b.gives.short b.stops.begun.adds.short;
+      short = rw taken_are (short-append (taken_lines b.gives.events) begun b.gives.short b.stops.begun.adds.short);
       few = omega (arith, few, lines_are);
       small = omega (arith, small, bytes_are);
     };
-    line = b.stops.line;
-    next = b.stops.next;
     why = subst (λ (c : TakenCountersModel). RefusesLine stop c b.stops.line) counts b.stops.why;
   }
 
 module _ {stop : Stop} {events : List Event} (b : BreaksLimit stop events) where
-  abbrev taken : List SourceLine
-  taken = taken_lines events
+  lines_whole : taken_lines events ≡ taken_lines b.earlier ++ b.line ∷ taken_lines b.later
+  lines_whole = ap taken_lines b.whole ∙ taken-append b.earlier (took b.line ∷ b.later)
 
-  abbrev taken_before : List SourceLine
-  taken_before = taken_lines b.earlier
-
-  abbrev taken_after : List SourceLine
-  taken_after = taken_lines b.later
-
-  lines_whole : taken ≡ taken_before ++ ((b.olds ++ b.old_rest) ++ ((b.raws ++ b.raw_rest) ++ taken_after))
-  lines_whole = ap taken_lines b.whole ∙ simp (taken-append, taken-took)
-
-  long : ComesFirst b.line b.old_rest ⊎ ComesFirst b.line b.raw_rest → LINE_LENGTH < b.line.length → AreShort taken → ⊥
-  long (inl next) longer short = omega (
+  long : LINE_LENGTH < b.line.length → AreShort (taken_lines events) → ⊥
+  long longer short = omega (
     arith,
     longer,
-    short_at (taken_before ++ b.olds) (next.0 ++ ((b.raws ++ b.raw_rest) ++ taken_after)) b.line
-        (subst AreShort (lines_whole ∙ simp (next.1, append_assoc)) short),
+    short_at (taken_lines b.earlier) (taken_lines b.later) b.line (subst AreShort lines_whole short),
   )
-  long (inr next) longer short = omega (
+
+  lines_all : length (taken_lines events) ≡ length (taken_lines b.earlier) + (1 + length (taken_lines b.later))
+  lines_all = omega (
     arith,
-    longer,
-    short_at (taken_before ++ ((b.olds ++ b.old_rest) ++ b.raws)) (next.0 ++ taken_after) b.line
-        (subst AreShort (lines_whole ∙ simp (next.1, append_assoc)) short),
+    ap (λ (ls : List SourceLine). length ls) lines_whole,
+    length-append (taken_lines b.earlier) (b.line ∷ taken_lines b.later),
   )
 
-  lines_all : length taken ≡ length taken_before + ((length b.olds + length b.old_rest)
-      + ((length b.raws + length b.raw_rest) + length taken_after))
-  lines_all = ap (λ (ls : List SourceLine). length ls) lines_whole ∙ simp length-append
+  bytes_all : size_of_lines (taken_lines events)
+      ≡ size_of_lines (taken_lines b.earlier) + (b.line.size + size_of_lines (taken_lines b.later))
+  bytes_all = ap size_of_lines lines_whole ∙ size-append (taken_lines b.earlier) (b.line ∷ taken_lines b.later)
 
-  bytes_all : size_of_lines taken ≡ size_of_lines taken_before + ((size_of_lines b.olds + size_of_lines b.old_rest)
-      + ((size_of_lines b.raws + size_of_lines b.raw_rest) + size_of_lines taken_after))
-  bytes_all = ap size_of_lines lines_whole ∙ simp size-append
-
-  lines_before : length (taken_before ++ (b.olds ++ b.raws)) ≡ length taken_before + (length b.olds + length b.raws)
-  lines_before = simp length-append
-
-  bytes_before : size_of_lines (taken_before ++ (b.olds ++ b.raws))
-      ≡ size_of_lines taken_before + (size_of_lines b.olds + size_of_lines b.raws)
-  bytes_before = simp size-append
-
-  next_lines : ComesFirst b.line b.old_rest ⊎ ComesFirst b.line b.raw_rest → 1 ≤ length b.old_rest + length b.raw_rest
-  next_lines (inl next) = omega (arith, ap (λ (ls : List SourceLine). length ls) next.1)
-  next_lines (inr next) = omega (arith, ap (λ (ls : List SourceLine). length ls) next.1)
-
-  next_bytes : ComesFirst b.line b.old_rest ⊎ ComesFirst b.line b.raw_rest
-      → b.line.size ≤ size_of_lines b.old_rest + size_of_lines b.raw_rest
-  next_bytes (inl next) = omega (arith, ap size_of_lines next.1)
-  next_bytes (inr next) = omega (arith, ap size_of_lines next.1)
-
-  much : (length (taken_before ++ (b.olds ++ b.raws)) ≡ LINES)
-      ⊎ (BYTES < size_of_lines (taken_before ++ (b.olds ++ b.raws)) + b.line.size) → IsWithinLimits taken → ⊥
-  much (inl full) within = omega (arith, full, within.few, lines_all, lines_before, next_lines b.next)
-  much (inr larger) within = omega (arith, larger, within.small, bytes_all, bytes_before, next_bytes b.next)
+  much : (length (taken_lines b.earlier) ≡ LINES) ⊎ (BYTES < size_of_lines (taken_lines b.earlier) + b.line.size)
+      → IsWithinLimits (taken_lines events) → ⊥
+  much (inl full) within = omega (arith, full, within.few, lines_all)
+  much (inr larger) within = omega (arith, larger, within.small, bytes_all)
 
 pub beyond : (stop : Stop) (events : List Event) → BreaksLimit stop events → IsWithinLimits (taken_lines events) → ⊥
-beyond (LineTooLong file) events b within = long b b.next b.why.1 within.short
+beyond (LineTooLong file) events b within = long b b.why.1 within.short
 beyond TooMuchText events b within = much b b.why.passes within
 beyond stop events b within = absurd b.why
+
+-- Where two lists of events are equal, a line of one is the same line of the other, or it comes before or after that.
+first_only : (a b : List Event) (x y : SourceLine) (s t : List Event) → a ++ took x ∷ s ≡ b ++ took y ∷ t
+    → ((a ≡ b) × (x ≡ y)) ⊎ (((more : List Event) × (b ≡ a ++ took x ∷ more))
+    ⊎ ((more : List Event) × (a ≡ b ++ took y ∷ more)))
+first_only [] [] x y s t is = inl (refl, cc)
+first_only [] (e ∷ b) x y s t is = inr (inl (b, cc))
+first_only (e ∷ a) [] x y s t is = inr (inr (a, cc))
+first_only (e ∷ a) (f ∷ b) x y s t is =
+    let head : e ≡ f = cc in
+    let rest : a ++ took x ∷ s ≡ b ++ took y ∷ t = cc in
+    by head (first_only a b x y s t rest)
+  where
+    by : e ≡ f → ((a ≡ b) × (x ≡ y)) ⊎ (((more : List Event) × (b ≡ a ++ took x ∷ more))
+        ⊎ ((more : List Event) × (a ≡ b ++ took y ∷ more)))
+        → ((e ∷ a ≡ f ∷ b) × (x ≡ y)) ⊎ (((more : List Event) × (f ∷ b ≡ e ∷ a ++ took x ∷ more))
+        ⊎ ((more : List Event) × (e ∷ a ≡ f ∷ b ++ took y ∷ more)))
+    by head (inl same) = inl ((λ i. head i ∷ same.0 i), same.1)
+    by head (inr (inl after)) = inr (inl (after.0, (λ i. sym head i ∷ after.1 i)))
+    by head (inr (inr after)) = inr (inr (after.0, (λ i. head i ∷ after.1 i)))
+
+refuses_only : (stop other : Stop) (count : TakenCountersModel) (line : SourceLine) → RefusesLine stop count line
+    → RefusesLine other count line → stop ≡ other
+refuses_only (LineTooLong file) (LineTooLong file') count line a b = ap LineTooLong (sym a.0 ∙ b.0)
+refuses_only (LineTooLong file) TooMuchText count line a b = absurd (omega (arith, a.1, b.short))
+refuses_only TooMuchText (LineTooLong file) count line a b = absurd (omega (arith, b.1, a.short))
+refuses_only TooMuchText TooMuchText count line a b = refl
+refuses_only (LineTooLong file) other count line a b = absurd b
+refuses_only TooMuchText other count line a b = absurd b
+refuses_only stop other count line a b = absurd a
+
+-- Only one limit can be named.
+pub limit_only : (stop other : Stop) (events : List Event) → BreaksLimit stop events → BreaksLimit other events
+    → stop ≡ other
+limit_only stop other events a b =
+    by (first_only a.earlier b.earlier a.line b.line a.later b.later (sym a.whole ∙ b.whole))
+  where
+    by : ((a.earlier ≡ b.earlier) × (a.line ≡ b.line))
+        ⊎ (((more : List Event) × (b.earlier ≡ a.earlier ++ took a.line ∷ more))
+        ⊎ ((more : List Event) × (a.earlier ≡ b.earlier ++ took b.line ∷ more))) → stop ≡ other
+    by (inl same) = refuses_only stop other (counts_of (taken_lines b.earlier)) b.line
+        (subst (λ (es : List Event). RefusesLine stop (counts_of (taken_lines es)) b.line) same.0
+        (subst (λ (l : SourceLine). RefusesLine stop (counts_of (taken_lines a.earlier)) l) same.1 a.why)) b.why
+    by (inr (inl after)) = absurd (beyond stop b.earlier (record {
+      earlier = a.earlier;
+      line = a.line;
+      later = after.0;
+      whole = after.1;
+      within = a.within;
+      why = a.why;
+    }) b.within)
+    by (inr (inr after)) = absurd (beyond other a.earlier (record {
+      earlier = b.earlier;
+      line = b.line;
+      later = after.0;
+      whole = after.1;
+      within = b.within;
+      why = b.why;
+    }) a.within)

@@ -46,13 +46,13 @@ abbrev pub at : ShelfModel → SinkModel → SinkModel → Devices
 at shelf bins log = record { shelf = shelf; out = bins; log = log }
 
 -- A prefix was written. If it is observable, it is this one.
-record FrontTold (tells : Bool) (old new text : List ℕ) : Type 0 where
+pub record FrontTold (tells : Bool) (old new text : List ℕ) : Type 0 where
   pub front : List ℕ
   pub rest : List ℕ
   pub whole : text ≡ front ++ rest
   pub written : IsTrue tells → new ≡ old ++ front
 
-front_told : (tells : Bool) {old new text : List ℕ}
+pub front_told : (tells : Bool) {old new text : List ℕ}
     → (IsTrue tells → WritesPrefix old new text) → FrontTold tells old new text
 front_told true {old} {new} {text} writes =
     let front : WritesPrefix old new text = writes refl in
@@ -73,6 +73,7 @@ log_told count text shelf bins old new log_ending counted bytes = record {
   draft = log_ending.draft;
   refused = log_ending.refused;
   log = bytes;
+  printed = log_ending.printed;
 }
 
 -- Acts that log these bytes.

@@ -1,13 +1,14 @@
 -- The exits of `ctangle` after its merge began are ends of a run.
-use Rattle.cweb_tools.proofs.Common.{◌≤◌, ◌≡◌, ◌+◌, inl, inr, ℕ, List, [], ◌∷◌, ◌++◌, length, refl, sym, ◌∙◌, ap, IsTrue, Option, Some, None, names_found, World, Found, Event, SoFar, blame, StopsReading, files_named, read_failures_of, emitted_lines, reported_faults, openings, taken_lines, IsWithinLimits, BeginsMerge, SourceFault, LINES, BYTES, Stop, Scanned, scanned, ScanEndsEarly, Scans, stop_line, subject, OptionsModel, Logs, SinkModel, Devices, ShelfModel, Act, Breaks, ending, DeviceState, opens, reads, Course, found_course, merging, Closes, Does, halted, TangleCourse, tangling, web_acts, course_acts, course_status, tangled, web_of, web_status}
+use Rattle.cweb_tools.proofs.Common.{◌≤◌, ◌≡◌, ◌+◌, inl, inr, ℕ, List, [], ◌∷◌, ◌++◌, length, refl, sym, ◌∙◌, ap, IsTrue, Option, Some, None, names_found, World, Found, Event, SoFar, blame, StopsReading, files_named, read_failures_of, emitted_lines, reported_faults, openings, taken_lines, IsWithinLimits, BeginsMerge, SourceFault, LINES, BYTES, Stop, Scanned, scanned, ScanEndsEarly, Scans, stop_line, subject, OptionsModel, Logs, SinkModel, Devices, ShelfModel, Act, Breaks, ending, DeviceState, opens, reads, Course, found_course, merging, Closes, Does, halted, TangleCourse, tangling, LaterActs, opening_acts, course_status, EndsAs, tangled, web_of, web_status}
 use Rattle.cweb_tools.proofs.Doing.{closes_on}
 use Rattle.cweb_tools.proofs.Exits.{begins_course, faults_told, limits_kept, names_told, opened_by}
 use Rattle.cweb_tools.proofs.Logging.{at}
-use Rattle.cweb_tools.proofs.TangleExits.{either, can_come, EndsAs, looks, course}
+use Rattle.cweb_tools.proofs.TangleExits.{either, can_come, looks, course}
 use Rattle.cweb_tools.proofs.ReadingStops.{left_by, left_told, reads_broke, read_by, silent_broke, reading_ends, reading_only, nothing_passes}
 
 -- A run that begins a merge with these events.
-module _ (asked : OptionsModel) (world : World) (found : Option Found) (changes : Option (Option Found))
+module _ (later : LaterActs) (asked : OptionsModel) (world : World) (found : Option Found)
+    (changes : Option (Option Found))
     (shelf shelf' : ShelfModel) (tells : shelf'.tells ≡ shelf.tells)
     (bins : SinkModel) (l : SinkModel) (status : ℕ) (old new : SoFar) (all : List Event)
     (begins : IsTrue shelf.tells → BeginsMerge world found changes old all) where
@@ -39,8 +40,8 @@ module _ (asked : OptionsModel) (world : World) (found : Option Found) (changes 
 
   halts : (stop : Stop) (about : List ℕ) (l' : SinkModel) (course : TangleCourse)
       → StopsReading stop → Logs (stop_line stop about) l l' → status ≡ 1
-      → Does (course_acts asked.shown course) (Some (ending stop about)) (at shelf bins l) (at shelf' bins l)
-      → Closes (course_acts asked.shown course) (course_status course) (at shelf bins l) (at shelf' bins l') status
+      → Does (opening_acts later course) (Some (ending stop about)) (at shelf bins l) (at shelf' bins l)
+      → Closes (opening_acts later course) (course_status course) (at shelf bins l) (at shelf' bins l') status
   halts stop about l' course kind logs answered does = halted (ending stop about) (at shelf' bins l) does
       (record { shelf = refl; bins = refl; log = reading_ends stop about kind logs }) answered
 
@@ -50,7 +51,7 @@ module _ (asked : OptionsModel) (world : World) (found : Option Found) (changes 
       → (IsTrue shelf.tells → shelf'.blamed ≡ shelf.blamed ++ blame new.names stop)
       → files_named stop ≤ length new.names → new.count.lines ≤ LINES → new.count.bytes ≤ BYTES
       → Logs (stop_line stop (subject opened stop)) l l' → status ≡ 1
-      → EndsAs asked (tangled asked.names.main merged) (at shelf bins l) (at shelf' bins l') status
+      → EndsAs later asked (tangled asked.names.main merged) (at shelf bins l) (at shelf' bins l') status
   read_stops stop opened l' opened_are kind why failed blamed named few small logs answered =
       let whose : IsTrue shelf.tells → shelf'.blamed ≡ shelf.blamed ++ blame opened stop = λ tell. blamed tell
       ∙ ap (λ (ns : List (List ℕ)). shelf.blamed ++ blame ns stop) (sym opened_are) in
@@ -88,14 +89,14 @@ module _ (asked : OptionsModel) (world : World) (found : Option Found) (changes 
   pub read_whole : (files : List (List ℕ)) (faults : List SourceFault) (made : Scanned) (after : Devices) → files
       ≡ new.names → faults ≡ new.faults → (IsTrue shelf.tells → Scans made old new all) → new.count.lines ≤ LINES
       → new.count.bytes ≤ BYTES → shelf'.failed ≡ shelf.failed → (IsTrue shelf.tells → shelf'.blamed ≡ shelf.blamed)
-      → Closes (web_acts asked.shown (web_of files faults made asked.names.main))
+      → Closes (later files (web_of files faults made asked.names.main))
       (web_status (web_of files faults made asked.names.main)) (at shelf' bins l) after status
-      → EndsAs asked (tangled asked.names.main merged) (at shelf bins l) after status
+      → EndsAs later asked (tangled asked.names.main merged) (at shelf bins l) after status
   read_whole files faults made after files_are faults_are scans few small failed blamed closes =
       let main = asked.names.main in
       let web = web_of files faults made main in
       let goes_on : (events : List Event) → IsWithinLimits (taken_lines events)
-      → Closes (course_acts asked.shown (tangling files events web)) (web_status web) (at shelf bins l) after status =
+      → Closes (opening_acts later (tangling files events web)) (web_status web) (at shelf bins l) after status =
       λ events within. closes_on (reads_so files events within failed blamed) closes in
       elim (either shelf.tells) [
         | inl told ↦

@@ -1,5 +1,5 @@
 -- The state after a stop of reading, and its cause.
-use Rattle.cweb_tools.proofs.Common.{◌≤◌, ◌≡◌, ◌+◌, inl, inr, ℕ, List, [], ◌∷◌, ◌++◌, length, length-append, refl, sym, ◌∙◌, ap, add-zero, append-nil, arith, get_or-append, IsTrue, FileId, SourceLine, Event, took, SoFar, BreaksLimit, counts_of, begun_with, blame, StopsFor, StopsReading, files_named, read_failures_of, openings, IsWithinLimits, LINE_LENGTH, LINES, BYTES, Stop, ReadFault, LineTooLong, TooMuchText, Memory, OutNotOpened, WriteFault, LogFault, StopsAfter, file_name_at, stop_line, subject, Logs, SinkModel, ShelfModel, Breaks, ending, DeviceState, IsOfFile, reads, read_fails, AgreesWith, LogsEnding, bins_blame, log_blame}
+use Rattle.cweb_tools.proofs.Common.{◌≤◌, ◌≡◌, ◌+◌, inr, ℕ, List, [], ◌∷◌, ◌++◌, length, length-append, refl, sym, ◌∙◌, ap, add-zero, append-nil, arith, get_or-append, IsTrue, FileId, SourceLine, Event, took, SoFar, BreaksLimit, counts_of, begun_with, blame, StopsFor, StopsReading, files_named, read_failures_of, openings, IsWithinLimits, LINE_LENGTH, LINES, BYTES, Stop, ReadFault, LineTooLong, TooMuchText, Memory, OutNotOpened, WriteFault, LogFault, StopsAfter, file_name_at, stop_line, subject, Logs, SinkModel, ShelfModel, Breaks, ending, DeviceState, IsOfFile, reads, read_fails, AgreesWith, LogsEnding, bins_blame, log_blame}
 use Rattle.cweb_input.specs.OpenSources.{RefusesLine}
 use Rattle.cweb_tools.proofs.Limits.{breaks_limit}
 use Rattle.cweb_tools.proofs.Logging.{at}
@@ -68,17 +68,19 @@ breaks_first : (stop : Stop) (line : SourceLine) → RefusesLine stop (counts_of
     → BreaksLimit stop (took line ∷ [])
 breaks_first stop line why = record {
   earlier = [];
-  olds = [];
-  old_rest = line ∷ [];
-  raws = [];
-  raw_rest = [];
+  line = line;
   later = [];
   whole = refl;
   within = nothing_passes;
-  line = line;
-  next = inl ([], refl);
   why = why;
 }
+
+pub long_line : (file : FileId) → BreaksLimit (LineTooLong file) (read_by (LineTooLong file))
+long_line file = breaks_first (LineTooLong file) (line_of file (LINE_LENGTH + 1) 0) (refl, omega arith)
+
+pub large_line : BreaksLimit TooMuchText (read_by TooMuchText)
+large_line = breaks_first TooMuchText (line_of (record { 0 = 0 }) 0 (BYTES + 1))
+    (record { passes = inr (omega arith); short = omega arith })
 
 pub silent_broke : (stop : Stop) (files : List (List ℕ)) (now : DeviceState) → StopsReading stop
     → files_named stop ≤ length files
@@ -86,14 +88,10 @@ pub silent_broke : (stop : Stop) (files : List (List ℕ)) (now : DeviceState) �
 silent_broke (ReadFault file) files now kind known = (record { known = omega (arith, known); named = refl }, refl)
 silent_broke (LineTooLong file) files now kind known = (
   record { known = omega (arith, known); named = refl },
-  breaks_first (LineTooLong file) (line_of file (LINE_LENGTH + 1) 0) (refl, omega arith),
+  long_line file,
   refl,
 )
-silent_broke TooMuchText files now kind known = (
-  breaks_first TooMuchText (line_of (record { 0 = 0 }) 0 (BYTES + 1))
-      (record { passes = inr (omega arith); short = omega arith }),
-  refl,
-)
+silent_broke TooMuchText files now kind known = (large_line, refl)
 silent_broke Memory files now kind known = refl
 silent_broke stop files now kind known = absurd kind
 

@@ -1,5 +1,5 @@
 -- Worked examples: whole runs of `ctangle`, from files and words to log, files and status.
-use Rattle.cweb_tools.proofs.Common.{◌≡◌, ℕ, List, [], ◌∷◌, ◌++◌, Option, Some, None, refl, ap, ◌∙◌, cond, codes, bytes_eq, File, World, Event, MergeStateModel, run_steps, started, merge, merge-run_steps, OptionsModel, options_by, TangleCourse, tangle_files, tangle_log, tangle_status, shown_by, tangle_course, tangled}
+use Rattle.cweb_tools.proofs.Common.{◌≡◌, ℕ, List, [], ◌∷◌, ◌++◌, Option, Some, None, refl, ap, ◌∙◌, cond, codes, bytes_eq, File, World, Event, MergeStateModel, run_steps, started, merge, merge-run_steps, OptionsModel, options_by, TangleCourse, tangle_files, tangle_log, tangle_status, shown_by, tangle_course, tangled, depend_text}
 use Rattle.std.specs.Fmt.{digits}
 use Rattle.std.specs.Str.{is_utf8, chars}
 use lib.Utf8.{encode}
@@ -113,3 +113,9 @@ unfolding digits is_utf8 chars encode
 changed_run = runs_to (record { texts = changed_texts; inputs = None })
     (started (codes "@ @c\na;\nb;\nc;\n") (Some (codes "@x\nb;\n@y\nB;\n@z\n")))
     (codes "v.w" ∷ codes "v.ch" ∷ []) (codes "v.c") (codes "-bph" ∷ codes "v" ∷ codes "v" ∷ []) _ refl refl refl
+
+-- `wdep` prints the outputs and the inputs.
+two_depend : depend_text (merging (one_web (codes "f.w") two_text) (started two_text None) (codes "f.w" ∷ [])
+    (codes "f.c")) ≡ codes "f.c a.h: f.w\n"
+unfolding digits is_utf8 chars encode
+two_depend = refl

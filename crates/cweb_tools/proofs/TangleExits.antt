@@ -1,5 +1,5 @@
 -- The early exits of `ctangle`, before its web is read, are ends of a run.
-use Rattle.cweb_tools.proofs.Common.{◌≡◌, ◌⊎◌, inl, inr, ℕ, List, [], ◌∷◌, refl, sym, ◌∙◌, Bool, true, false, IsTrue, Option, Some, None, contents_found, World, Found, Event, started, StartStops, emitted_lines, reported_faults, merge, StopsAtStart, Stop, WebNotOpened, ChangeNotOpened, Memory, scanned, LogItem, line, stopped, start_subject, stop_line, OptionsModel, Logs, SinkModel, Devices, ShelfModel, Act, Ending, PerformsActs, rise, read_failures_of, bins_blame, log_blame, arith, ending, DeviceState, opens, says, change_name, found_course, AgreesWith, Closes, Does, FollowsCourse, halted, TangleCourse, change_not_there, not_there, CanCome, course_acts, course_status, tangled}
+use Rattle.cweb_tools.proofs.Common.{◌≡◌, ◌⊎◌, inl, inr, ℕ, List, [], ◌∷◌, refl, sym, ◌∙◌, Bool, true, false, IsTrue, Option, Some, None, contents_found, World, Found, Event, started, StartStops, emitted_lines, reported_faults, merge, StopsAtStart, Stop, WebNotOpened, ChangeNotOpened, Memory, scanned, LogItem, line, stopped, start_subject, stop_line, OptionsModel, Logs, SinkModel, ShelfModel, Act, Ending, PerformsActs, rise, read_failures_of, bins_blame, log_blame, arith, ending, DeviceState, opens, says, change_name, found_course, AgreesWith, Closes, Does, halted, TangleCourse, change_not_there, not_there, CanCome, LaterActs, opening_acts, EndsAs, tangled}
 use Rattle.cweb_tools.proofs.Doing.{closes_on}
 use Rattle.cweb_tools.proofs.DoingFiles.{closes_told}
 use Rattle.cweb_tools.proofs.Logging.{at, logs_write, said}
@@ -30,6 +30,7 @@ shelf_told count blames shelf shelf' bins l told counted blamed = record {
   draft = told.draft;
   refused = told.refused;
   log = told.log;
+  printed = told.printed;
 }
 
 -- The course of the shelf's files is possible for the words.
@@ -40,11 +41,6 @@ can_come asked world (Some web) None = refl
 can_come asked world (Some web) (Some change) =
     let events : List Event = merge world (started web.1 (contents_found change)) in
     record { faults = reported_faults events; made = scanned (emitted_lines events); is = refl }
-
--- The end of the part of a run after its words are parsed.
-abbrev pub EndsAs : OptionsModel → TangleCourse → Devices → Devices → ℕ → Type 0
-EndsAs asked course before after status =
-    FollowsCourse (course_acts asked.shown) course_status (CanCome (Some asked)) course before after status
 
 -- The shelf was searched, and nothing else was done.
 module _ (shelf shelf' : ShelfModel) (tells : shelf'.tells ≡ shelf.tells)
@@ -71,7 +67,7 @@ module _ (shelf shelf' : ShelfModel) (tells : shelf'.tells ≡ shelf.tells)
   not_opened : (acts : List Act) → Does (opens ∷ acts) (Some (ending Memory [])) (at shelf bins l) (at shelf' bins l)
   not_opened acts = looks (opens ∷ acts) (Some (ending Memory [])) refl refl refl (λ now. inr refl)
 
-  module _ (asked : OptionsModel) (world : World) (status : ℕ) (answered : status ≡ 1) where
+  module _ (later : LaterActs) (asked : OptionsModel) (world : World) (status : ℕ) (answered : status ≡ 1) where
     abbrev pub course : Option Found → Option (Option Found) → TangleCourse
     course found changes = tangled asked.names.main (found_course world asked.names.merge found changes)
 
@@ -95,7 +91,7 @@ module _ (shelf shelf' : ShelfModel) (tells : shelf'.tells ≡ shelf.tells)
         (looks (opens ∷ []) None refl refl refl (λ now. inl (tt, refl))) (rw answered (told_last item shelf' bins logs))
 
     memory_out : (found : Option Found) (changes : Option (Option Found)) → Does
-        (course_acts asked.shown (course found changes)) (Some (ending Memory [])) (at shelf bins l) (at shelf' bins l)
+        (opening_acts later (course found changes)) (Some (ending Memory [])) (at shelf bins l) (at shelf' bins l)
     memory_out None changes = not_opened _
     memory_out (Some web) None = not_opened _
     memory_out (Some web) (Some change) = not_opened _
@@ -104,7 +100,7 @@ module _ (shelf shelf' : ShelfModel) (tells : shelf'.tells ≡ shelf.tells)
     pub start_ends : (found : Option Found) (changes : Option (Option Found)) (stop : Stop)
         → StartStops stop → (IsTrue shelf.tells → StopsAtStart stop found changes)
         → Logs (stop_line stop (start_subject asked.names.merge.web (change_name asked.names.merge.change) stop)) l l'
-        → EndsAs asked (course found changes) (at shelf bins l) (at shelf' bins l') status
+        → EndsAs later asked (course found changes) (at shelf bins l) (at shelf' bins l') status
     start_ends found changes WebNotOpened comes why logs = record {
       taken = not_there asked.names.merge.web;
       can = refl;

@@ -1,5 +1,5 @@
 -- A run of `ctangle` keeps its promises, by how it ends.
-use Rattle.cweb_tools.proofs.Common.{◌≡◌, ℕ, ◌++◌, refl, sym, ◌∙◌, ap, IsTrue, Option, World, OptionsModel, Devices, Shown, AgreesWith, FollowsCourse, observed_state, script, tangle_status, CanCome, shown_by, tangle_course, IsTangleCourse, subst, TanglePromises, TanglesFreely, put_files, tangle_files, tangle_log}
+use Rattle.cweb_tools.proofs.Common.{◌≡◌, ℕ, ◌++◌, refl, sym, ◌∙◌, ap, IsTrue, Option, World, OptionsModel, Devices, Shown, AgreesWith, FollowsCourse, FollowsActs, List, Act, TangleCourse, observed_state, acts_status, tangle_status, CanCome, shown_by, tangle_course, IsTangleCourse, subst, TanglePromises, TanglesFreely, put_files, tangle_files, tangle_log}
 use Rattle.cweb_tools.proofs.Courses.{tangle_comes, tangle_only}
 use Rattle.cweb_tools.proofs.Endings.{ends_freely}
 use Rattle.cweb_tools.proofs.ChangedFilesWereRead.{keeps_limits}
@@ -17,12 +17,13 @@ shown_told =
       draft = λ tells. refl;
       refused = λ tells. refl;
       log = λ tells. refl;
+      printed = λ tells some. refl;
     }
 
--- A run whose acts are those of its script keeps its promises.
+-- A run that follows these acts keeps its promises.
 pub promised : {world : World} {asked : Option OptionsModel} {before after : Devices} {status : ℕ}
-    → FollowsCourse (script (shown_by asked)) (tangle_status (shown_by asked))
-    (CanCome asked) (tangle_course world asked) before after status → TanglePromises world asked before after status
+    {acts : TangleCourse → List Act} → FollowsCourse acts (λ course. acts_status (acts course))
+    (CanCome asked) (tangle_course world asked) before after status → FollowsActs acts world asked before after status
 promised {world} {asked} follows = record {
   course = follows.taken;
   can = follows.can;
@@ -32,7 +33,7 @@ promised {world} {asked} follows = record {
   log_tells = log_tells follows.closes;
 }
 
--- The effect on observable devices of a run that nothing stopped.
+-- The effect on observable devices of a run of `ctangle` that nothing stopped.
 pub tangled_freely : (world : World) (asked : Option OptionsModel) {before after : Devices} {status : ℕ}
     → TanglePromises world asked before after status → TanglesFreely world asked before after status
 tangled_freely world asked {before} {after} {status} run tell course free_course free =

@@ -1,5 +1,6 @@
--- The acts of a run of `ctangle`, and what they leave in its devices.
-use Rattle.std.specs.Prelude.{◌≡◌, ◌<◌, ◌⊎◌, ℕ, ◌+◌, length, List, [], ◌∷◌, ◌++◌, Option, Some, None, IsTrue}
+-- The acts of a run of `ctangle` or `wdep`, and what they leave in its devices.
+use Rattle.std.specs.Prelude.{◌≡◌, ◌<◌, ◌⊎◌, ℕ, ◌+◌, length, List, [], ◌∷◌, ◌++◌, Option, Some, None, IsTrue, IsSome}
+use Rattle.std.specs.Prelude.{codes}
 use Rattle.cweb_files.specs.Files.{File, Refused, no_device, no_memory, put_file}
 use Rattle.cweb_lines.specs.Merge.{Event}
 use Rattle.cweb_lines.specs.Events.{IsWithinLimits, taken_lines, BreaksLimit}
@@ -22,6 +23,8 @@ pub record DeviceState : Type 0 where
   -- Why the bins refused to begin the last file, if they did.
   pub refused : Option Refused
   pub log : List ℕ
+  -- The bytes of standard output.
+  pub printed : List ℕ
 
 -- An act of a run.
 pub data Act : Type 0 where
@@ -39,12 +42,15 @@ pub data Act : Type 0 where
   reserves : Act
   -- A draft of this name is begun, these bytes are printed to it, and it is committed.
   writes : List ℕ → List ℕ → Act
+  -- These bytes are printed to standard output.
+  prints : List ℕ → Act
 
 -- The contents of the devices after an act.
 abbrev pub after_act : Act → DeviceState → DeviceState
 after_act (says item) now = record now { log = now.log ++ line item }
 after_act (writes name text) now =
     record now { files = put_file now.files (record { name = name; bytes = text }); draft = None; refused = None }
+after_act (prints text) now = record now { printed = now.printed ++ text }
 after_act _ now = now
 
 -- If an act of reading is done, its lines are within the limits.
@@ -75,6 +81,13 @@ bins_fail now = record now { bins_failed = now.bins_failed + 1 }
 abbrev pub abandon_draft : DeviceState → DeviceState
 abandon_draft now = record now { draft = None; refused = None }
 
+-- A prefix of the bytes was printed, and standard output failed.
+pub record FailsOutput (text : List ℕ) (old new : DeviceState) : Type 0 where
+  pub front : List ℕ
+  pub rest : List ℕ
+  pub whole : text ≡ front ++ rest
+  pub is : new ≡ record old { bins_failed = old.bins_failed + 1; printed = old.printed ++ front }
+
 -- A stop of reading is about one of the files that are read, and its line ends in that file's name.
 pub record IsOfFile (names : List (List ℕ)) (file : ℕ) (about : List ℕ) : Type 0 where
   pub known : file < length names
@@ -102,6 +115,7 @@ Breaks (writes name text) (ending Memory about) old new = new ≡ begin_fails no
 Breaks (writes name text) (ending OutNotOpened about) old new = (about ≡ name)
     × (new ≡ bins_fail (begin_fails no_device old))
 Breaks (writes name text) (ending WriteFault about) old new = (about ≡ name) × (new ≡ bins_fail (abandon_draft old))
+Breaks (prints text) (ending WriteFault about) old new = (about ≡ codes "standard output") × FailsOutput text old new
 Breaks _ _ old new = ⊥
 
 -- A stop within an act, if there is one.
@@ -136,7 +150,8 @@ pub data TangleEnds (acts : List Act) (due : ℕ) (before after : DeviceState) (
       → status ≡ 1 → TangleEnds acts due before after status
 
 -- The state agrees with the devices. Failure counts are always observable, and so are an observable log's bytes,
--- observable bins' files, draft and refusal, and the files whose reads failed in an observable shelf.
+-- observable bins' files, draft and refusal, an open output's bytes, and the files whose reads failed in an observable
+-- shelf.
 pub record AgreesWith (now : DeviceState) (seen : Devices) : Type 0 where
   pub shelf_failed : now.shelf_failed ≡ seen.shelf.failed
   pub bins_failed : now.bins_failed ≡ seen.out.failed
@@ -146,3 +161,4 @@ pub record AgreesWith (now : DeviceState) (seen : Devices) : Type 0 where
   pub draft : IsTrue seen.out.tells → now.draft ≡ seen.out.beside.draft
   pub refused : IsTrue seen.out.tells → now.refused ≡ seen.out.beside.refused
   pub log : IsTrue seen.log.tells → now.log ≡ seen.log.bytes
+  pub printed : IsTrue seen.out.tells → IsSome seen.out.beside.draft → now.printed ≡ seen.out.bytes

@@ -1,5 +1,7 @@
 pub mod Acts
 pub mod Course
+pub mod Depend
+pub mod Depfile
 pub mod Headline
 pub mod MergePromises
 pub mod Script

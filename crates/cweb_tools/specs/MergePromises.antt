@@ -57,17 +57,6 @@ CanStop WriteFault (merging first events) = Unit {0}
 CanStop Memory course = Unit {0}
 CanStop stop course = ⊥
 
--- The stops that are possible once the words are parsed.
-abbrev pub Comes : Stop → Type 0
-Comes WebNotOpened = Unit {0}
-Comes ChangeNotOpened = Unit {0}
-Comes (ReadFault file) = Unit {0}
-Comes (LineTooLong file) = Unit {0}
-Comes TooMuchText = Unit {0}
-Comes WriteFault = Unit {0}
-Comes Memory = Unit {0}
-Comes stop = ⊥
-
 -- The name that the line of a stop ends in, from the names of the words and those of the opened files.
 abbrev pub about : WebNames → List (List ℕ) → Stop → List ℕ
 about names files WebNotOpened = names.web
@@ -90,7 +79,8 @@ AreOpened files course = files ≡ []
 -- Something stopped the run: a prefix of the merged lines is written, and the log has only the stop's line.
 pub record Stops (names : WebNames) (course : Course) (before after : Devices) (status : ℕ) : Type 0 where
   pub stop : Stop
-  pub comes : Comes stop
+  -- Some course can come to this stop, and that of an observable shelf can.
+  pub comes : (other : Course) × CanStop stop other
   pub cause : IsTrue before.shelf.tells → CanStop stop course
   -- The files that were opened until then, including that of the stop.
   pub files : List (List ℕ)

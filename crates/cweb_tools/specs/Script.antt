@@ -103,6 +103,10 @@ tangle_log shown course = flat_map line (logged_items (script shown course))
 abbrev pub tangle_files : Shown → TangleCourse → List File
 tangle_files shown course = written_files (script shown course)
 
--- The status of a whole run: 1 if a fault or a stop is logged.
+-- The status of a run that does these acts: 1 if a fault or a stop is logged.
+abbrev pub acts_status : List Act → ℕ
+acts_status acts = if list_any is_fault (logged_items acts) then 1 else 0
+
+-- The status of a whole run.
 abbrev pub tangle_status : Shown → TangleCourse → ℕ
-tangle_status shown course = if list_any is_fault (logged_items (script shown course)) then 1 else 0
+tangle_status shown course = acts_status (script shown course)

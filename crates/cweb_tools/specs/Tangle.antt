@@ -17,7 +17,7 @@ use Rattle.cweb_log.specs.declared.shown.Shown.{Shown}
 use Rattle.cweb_tools.specs.Course as course
 use Rattle.cweb_tools.specs.Course.{Course, IsMergeCourse, change_name}
 use Rattle.cweb_tools.specs.Script.{Numbers, Planning, TangleCourse, Web, unread, not_there, change_not_there, tangling}
-use Rattle.cweb_tools.specs.Script.{refused, planned, script, tangle_status}
+use Rattle.cweb_tools.specs.Script.{refused, planned, script, acts_status}
 use Rattle.cweb_log.specs.DeviceModels.{Devices}
 use Rattle.cweb_tools.specs.Acts.{Act, DeviceState, TangleEnds, AgreesWith}
 
@@ -102,15 +102,19 @@ pub record EndsIn (acts : List Act) (due : ℕ) (old : DeviceState) (after : Dev
   pub ends : TangleEnds acts due old new status
 
 -- The acts of the course are done in order: all of them, or up to a stop within one, which is logged last.
-pub record TanglePromises (world : World) (asked : Option OptionsModel) (before after : Devices)
-    (status : ℕ) : Type 0 where
+pub record FollowsActs (acts : TangleCourse → List Act) (world : World) (asked : Option OptionsModel)
+    (before after : Devices) (status : ℕ) : Type 0 where
   -- The course of the files and the words. For an unobservable shelf, some course that the words allow.
   pub course : TangleCourse
   pub can : CanCome asked course
   pub is : IsTrue before.shelf.tells → IsTangleCourse world asked course
   -- For all contents of the devices that aren't observable.
   pub ends : (old : DeviceState) → AgreesWith old before
-      → EndsIn (script (shown_by asked) course) (tangle_status (shown_by asked) course) old after status
+      → EndsIn (acts course) (acts_status (acts course)) old after status
   -- An observable device stays observable.
   pub bins_tell : after.out.tells ≡ before.out.tells
   pub log_tells : after.log.tells ≡ before.log.tells
+
+-- A run of `ctangle` follows its script.
+abbrev pub TanglePromises : World → Option OptionsModel → Devices → Devices → ℕ → Type 0
+TanglePromises world asked before after status = FollowsActs (script (shown_by asked)) world asked before after status

@@ -4,5 +4,7 @@ pub mod Begun
 pub mod Course
 pub mod Does
 pub mod Expanders
+pub mod RuleModel
+pub mod Scanning
 pub mod Tangle
 pub mod Web

@@ -1,9 +1,11 @@
-//! Laws of whole runs, for all device failures and failed allocations, and the law of blanks between tokens.
+//! Laws of whole runs, for all device failures and failed allocations, of blanks between tokens, and of depfiles.
 ghost use Rattle.std.specs.Prelude.{◌≡◌, ℕ, List, None};
 ghost use Rattle.cweb_lines.specs.Merge.{Event};
 ghost use Rattle.cweb_log.specs.declared.shown.Shown.{Shown};
 ghost use Rattle.cweb_tools.specs.Acts.{DeviceState, TangleEnds};
 ghost use Rattle.cweb_tools.specs.laws.Leaves.{LeavesFiles};
+ghost use Rattle.cweb_tools.specs.laws.MakeReads.{MakeReadsNames};
+ghost use Rattle.cweb_tools.specs.laws.Targets.{TargetsAreWrittenFiles};
 ghost use Rattle.cweb_tools.specs.laws.RunEffects.{EveryRunLeavesDevices, EveryMergeLeavesOutput, EveryRunLeavesStates};
 ghost use Rattle.cweb_tools.specs.Script.{TangleCourse, Web, refused, script, tangle_files};
 ghost use Rattle.cweb_tools.specs.Script.{tangling};
@@ -56,4 +58,15 @@ pub fn every_merge_leaves_output()
 /// tokens that would otherwise read differently.
 pub fn spacing()
     ensures { Spacing }
+{}
+
+/// `make` reads back the names of the rules that `wdep` prints, if they have no newline and no tab and end in no blank.
+/// The reader is a definition: `tests/depfiles` compares it with GNU make.
+pub fn make_reads_names()
+    ensures { MakeReadsNames }
+{}
+
+/// The targets that `wdep` prints are the files that `ctangle` writes, in order, and both end with the same status.
+pub fn targets_are_written_files()
+    ensures { TargetsAreWrittenFiles }
 {}

@@ -1,19 +1,22 @@
-//! The runs of `ctangle` and `wmerge`, over any devices. Command lines and messages are in `cweb_log`.
+//! The runs of `ctangle`, `wmerge` and `wdep`, over any devices. Command lines and messages are in `cweb_log`.
 #![tactic(auto)]
 
 // the runs
 mod tangle;
+mod wdep;
 mod wmerge;
 
-// a scanned web and its outputs
+// a scanned web, its outputs and its depfile
+mod depfile;
 mod outputs;
+mod scanning;
 mod web;
 
 // log lines by option, and the subjects of stops
 mod saying;
 mod subjects;
 
-// what both programs do before their run
+// what the programs do before their run
 mod program;
 
 // laws of runs
@@ -27,4 +30,5 @@ pub use cweb_log::{
 pub use cweb_system::{FilesRead, FolderBins, FolderShelf, LockableFile, StdSink, read_once};
 pub use program::{as_slices, out_of_memory, read_args, read_inputs};
 pub use tangle::run_ctangle;
+pub use wdep::run_wdep;
 pub use wmerge::run_wmerge;

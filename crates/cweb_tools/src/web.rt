@@ -1,11 +1,18 @@
 // A scanned web and its numbers.
-ghost use Rattle.std.specs.Prelude.{◌≡◌, ◌<◌, ◌^◌, length};
+ghost use Rattle.std.specs.Prelude.{◌≡◌, ◌<◌, ◌+◌, ◌^◌, ◌==◌, if◌then◌else◌, length};
+ghost use Rattle.std.specs.List.{flat_map};
+ghost use Rattle.cweb_lines.specs.surface.MergerCalls.{so_far};
+ghost use Rattle.cweb_scan.specs.surface.Scan.{IsScanBelow};
 ghost use Rattle.cweb_scan.specs.surface.ScannedModel.{scanned_model};
-ghost use Rattle.cweb_log.specs.Items.{fault_count};
+ghost use Rattle.cweb_log.specs.inner.LogWriting.{WritesToStream};
+ghost use Rattle.cweb_log.specs.Items.{fault_count, line};
+ghost use Rattle.cweb_log.specs.DeviceModels.{sink_model};
+ghost use Rattle.cweb_tools.specs.inner.Does.{DoesInLog, log_ending};
 ghost use Rattle.cweb_tools.specs.Tangle.{numbers_of};
-ghost use Rattle.cweb_tools.specs.inner.Web.{counted, faults_of};
+ghost use Rattle.cweb_tools.specs.inner.Web.{IsKnown, counted, faults_of, files_of, said_faults};
 
-use cweb_lines::{FileNames, SourceFault};
+use cweb_lines::{FileNames, Merger, Shelf, Sink, SinkFault, SourceFault};
+use cweb_log::{write_faults, write_name_faults, write_scan_faults};
 use cweb_scan::Scanned;
 use cweb_store::{Parts, Store};
 
@@ -38,6 +45,21 @@ pub(crate) struct Web<'a> {
 }
 
 impl<'a> Web<'a> {
+    /// The web of a merge that was scanned to its end.
+    pub(crate) fn of<S: Shelf>(merger: &'a Merger<S>, scanned: &'a Scanned) -> Web<'a>
+        requires { IsScanBelow (length (so_far merger.now).names) (scanned_model scanned.now) }
+        ensures known { IsKnown result }
+        ensures names { files_of result ≡ (so_far merger.now).names }
+        ensures faults { result.faults.now ≡ (so_far merger.now).faults }
+        ensures scanned { result.scanned.now ≡ scanned.now }
+    {
+        Web {
+            names: merger.names(),
+            faults: merger.faults(),
+            scanned,
+        }
+    }
+
     pub(crate) fn store(self) -> &'a Store
         ensures { result.now ≡ self.entry.scanned.now.store }
     {
@@ -65,4 +87,35 @@ fn count_parts(mut parts: Parts<'_>) -> u32
         count += 1;
     }
     count
+}
+
+/// Logs the faults of the files, the source and the names.
+pub(crate) fn say_faults<L: Sink>(web: Web<'_>, log: &mut L) -> Result<(), SinkFault>
+    requires known { IsKnown web }
+    requires count { L.failed log.old + 1 < 2 ^ 64 }
+    ensures { DoesInLog (said_faults web.entry) (log_ending result)
+        (sink_model L.Sink log.old) (sink_model L.Sink log.new) }
+{
+    if web.fault_count() == 0 {
+        return Ok(());
+    }
+    write_web_faults(web, log)
+}
+
+fn write_web_faults<L: Sink>(web: Web<'_>, log: &mut L) -> Result<(), SinkFault>
+    requires known { IsKnown web }
+    requires count { L.failed log.old + 1 < 2 ^ 64 }
+    ensures { WritesToStream (flat_map line (faults_of web.entry))
+        (sink_model L.Sink log.old) (sink_model L.Sink log.new) result }
+{
+    write_faults(log, web.names, web.faults)?;
+    write_scan_faults(log, web.names, web.scanned.faults.as_slice())?;
+    write_name_faults(log, web.store())
+}
+
+/// The exit status of a run with this number of faults that nothing stopped.
+pub(crate) fn status(count: u128) -> u8
+    ensures { result ≡ (if count == 0 then 0 else 1) }
+{
+    if count == 0 { 0 } else { 1 }
 }

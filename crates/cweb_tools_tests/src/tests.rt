@@ -1,7 +1,8 @@
-// Runs of `ctangle` and `wmerge` over files in memory and failing devices. The effect of a run of `ctangle` is one
+// Runs of `ctangle`, `wmerge` and `wdep` over files in memory and failing devices. The effect of a run of `ctangle` is one
 // string: its log, each file after its name, and its status.
 mod changes;
 mod command_line;
+mod depends;
 mod devices;
 mod expected;
 mod failing;

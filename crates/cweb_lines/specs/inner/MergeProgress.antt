@@ -34,12 +34,12 @@ pub record ReportsSomeFaults (faults : List SourceFault) (old new : SoFar) : Typ
   pub names : new.names ≡ old.names
 
 -- How far a step is that ends with a stop.
-abbrev pub EndsStep : Stop → SoFar → SoFar → List SourceLine → List SourceLine → List SourceFault → Type 0
-EndsStep (ReadFault file) old new lines raws faults = HasBegunStep old new lines raws faults
-EndsStep (LineTooLong file) old new lines raws faults = StopsIn (LineTooLong file) old new lines raws faults
-EndsStep TooMuchText old new lines raws faults = StopsIn TooMuchText old new lines raws faults
-EndsStep Memory old new lines raws faults = Unit {0}
-EndsStep _ old new lines raws faults = ⊥
+abbrev pub EndsStep : Stop → SoFar → SoFar → List SourceLine → List SourceFault → Type 0
+EndsStep (ReadFault file) old new lines faults = HasBegunStep old new lines faults
+EndsStep (LineTooLong file) old new lines faults = StopsIn (LineTooLong file) old new lines faults
+EndsStep TooMuchText old new lines faults = StopsIn TooMuchText old new lines faults
+EndsStep Memory old new lines faults = Unit {0}
+EndsStep _ old new lines faults = ⊥
 
 -- All events after this line was taken.
 abbrev pub events_after_line : {R : Type 0} → (List ℕ → Option (List ℕ)) → (R → List ℕ) → MergeState R → LineAt

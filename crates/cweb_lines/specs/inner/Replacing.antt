@@ -1,9 +1,9 @@
 -- How far the old side of a change is.
-use Rattle.std.specs.Prelude.{◌≡◌, ◌+◌, ◌||◌, ℕ, Bool, nat_lt, List, [], ◌∷◌, ◌++◌, if◌then◌else◌}
+use Rattle.std.specs.Prelude.{◌≡◌, ◌+◌, ◌||◌, ℕ, Bool, nat_lt, List, [], ◌∷◌, ◌++◌, None, if◌then◌else◌}
 use Rattle.cweb_files.specs.declared.place.Place.{Place}
 use Rattle.cweb_lines.specs.Change.{WaitingEntry, at_place, old_lines}
 use Rattle.cweb_input.specs.Lines.{SourceLine, Thing}
-use Rattle.cweb_lines.specs.Merge.{Compared, after_old, compared}
+use Rattle.cweb_lines.specs.Merge.{Compared, after_old, compared, dropping, in_turn}
 use Rattle.cweb_lines.specs.surface.MergeProgress.{SoFar, AddsFaultsAndLines}
 use Rattle.cweb_lines.specs.inner.Stages.{IsSettled}
 use Rattle.cweb_lines.specs.surface.Stages.{change_in, pending_in}
@@ -16,23 +16,21 @@ abbrev pub taken_away : List SourceLine → List Thing → Compared
 taken_away change things = compared (old_lines change).lines things
 
 abbrev pub lines_replaced : List SourceLine → List Thing → List SourceLine
-lines_replaced change things = (old_lines change).taken ++ (taken_away change things).taken
+lines_replaced change things = in_turn (old_lines change).taken (taken_away change things).taken
 
 -- Some of the old side was taken. The rest of it starts with these change lines and raw lines.
 pub record Replaces (change : List SourceLine) (things : List Thing) (so_far : Replaced) (change' : List SourceLine)
     (things' : List Thing) (old new : SoFar) : Type 0 where
   pub told : List SourceFault
   pub taken : List SourceLine
-  pub raw_taken : List SourceLine
   pub faults_are : (old_lines change).faults ≡ told ++ (old_lines change').faults
-  pub taken_are : (old_lines change).taken ≡ taken ++ (old_lines change').taken
+  pub taken_are : lines_replaced change things ≡ taken ++ lines_replaced change' things'
   pub ended : (old_lines change).ended ≡ (old_lines change').ended
   pub rest : (old_lines change).rest ≡ (old_lines change').rest
-  pub raw_taken_are : (taken_away change things).taken ≡ raw_taken ++ (taken_away change' things').taken
   pub unequal : (taken_away change things).unequal ≡ so_far.unequal + (taken_away change' things').unequal
   pub ran_out : (taken_away change things).ran_out ≡ (so_far.ran_out || (taken_away change' things').ran_out)
   pub raw_rest : (taken_away change things).rest ≡ (taken_away change' things').rest
-  pub adds : AddsFaultsAndLines told (taken ++ raw_taken) old new
+  pub adds : AddsFaultsAndLines told taken old new
 
 -- The whole old side was taken and counted, and the faults among its lines were reported.
 pub record IsReplaced (change : List SourceLine) (things : List Thing) (so_far : Replaced) (change' : List SourceLine)
@@ -48,8 +46,8 @@ pub record IsReplaced (change : List SourceLine) (things : List Thing) (so_far :
 pub record Compares (bytes : List ℕ) (before after : Replaced) (things things' : List Thing)
     (old new : SoFar) : Type 0 where
   pub taken : List SourceLine
-  pub taken_are : (olds : List (List ℕ)) → (compared (bytes ∷ olds) things).taken ≡ taken
-      ++ (compared olds things').taken
+  pub taken_are : (olds : List (List ℕ)) → (later : List SourceLine → List SourceLine)
+      → dropping None (compared (bytes ∷ olds) things).taken later ≡ taken ++ later (compared olds things').taken
   pub unequal : (olds : List (List ℕ)) → before.unequal + (compared (bytes ∷ olds) things).unequal
       ≡ after.unequal + (compared olds things').unequal
   pub ran_out : (olds : List (List ℕ)) → (before.ran_out || (compared (bytes ∷ olds) things).ran_out)

@@ -1,9 +1,9 @@
 -- How far a merger is, and why it stops.
-use Rattle.std.specs.Prelude.{◌≡◌, ◌+◌, ◌⊎◌, ℕ, length, map, List, ◌∷◌, ◌++◌, [], Option}
+use Rattle.std.specs.Prelude.{◌≡◌, ◌+◌, ℕ, length, map, List, ◌∷◌, ◌++◌, [], Option}
 use Rattle.cweb_input.specs.Lines.{Line, SourceLine, Thing}
 use Rattle.cweb_lines.specs.Merge.{Event, took, fault, MergeStateModel, given}
 use Rattle.cweb_lines.specs.Events.{emitted_lines, reported_faults, openings, taken_lines, size_of_lines}
-use Rattle.cweb_lines.specs.Events.{AreShort, ComesFirst}
+use Rattle.cweb_lines.specs.Events.{AreShort}
 use Rattle.cweb_input.specs.OpenSources.{TakenCountersModel, RefusesLine}
 use Rattle.cweb_input.specs.declared.fault.SourceFault.{SourceFault}
 use Rattle.cweb_input.specs.declared.stop.Stop.{Stop}
@@ -44,40 +44,36 @@ pub record AddsFaultsAndLines (faults : List SourceFault) (lines : List SourceLi
   pub bytes_are : new.count.bytes ≡ old.count.bytes + size_of_lines lines
   pub short : AreShort lines
 
--- A step has begun: prefixes of its lines, of its raw lines and of its faults were taken and reported.
-pub record HasBegunStep (old new : SoFar) (lines raws : List SourceLine) (faults : List SourceFault) : Type 0 where
+-- A step has begun: prefixes of its lines and of its faults were taken and reported.
+pub record HasBegunStep (old new : SoFar) (lines : List SourceLine) (faults : List SourceFault) : Type 0 where
   pub front : List SourceLine
   pub rest : List SourceLine
-  pub raw_front : List SourceLine
-  pub raw_rest : List SourceLine
   pub told : List SourceFault
   pub more : List SourceFault
   pub lines_are : lines ≡ front ++ rest
-  pub raws_are : raws ≡ raw_front ++ raw_rest
   pub faults_are : faults ≡ told ++ more
-  pub adds : AddsFaultsAndLines told (front ++ raw_front) old new
+  pub adds : AddsFaultsAndLines told front old new
 
 -- The next line of a step that has begun causes the stop.
-pub record StopsIn (stop : Stop) (old new : SoFar) (lines raws : List SourceLine)
-    (faults : List SourceFault) : Type 0 where
-  pub begun : HasBegunStep old new lines raws faults
+pub record StopsIn (stop : Stop) (old new : SoFar) (lines : List SourceLine) (faults : List SourceFault) : Type 0 where
+  pub begun : HasBegunStep old new lines faults
   pub line : SourceLine
-  pub next : ComesFirst line begun.rest ⊎ ComesFirst line begun.raw_rest
+  pub more : List SourceLine
+  pub next : begun.rest ≡ line ∷ more
   pub why : RefusesLine stop new.count line
 
--- The events of a step that takes lines, then raw lines, and reports faults, and then `later`.
-abbrev pub step_events : List SourceLine → List SourceLine → List SourceFault → List Event → List Event
-step_events lines raws faults later = map took lines ++ (map took raws ++ (map fault faults ++ later))
+-- The events of a step that takes lines and reports faults, and then `later`.
+abbrev pub step_events : List SourceLine → List SourceFault → List Event → List Event
+step_events lines faults later = map took lines ++ (map fault faults ++ later)
 
 -- All events before a step happened and emitted these lines. A line in the step causes the stop.
 pub record StopsAfterLines (given : List Line) (stop : Stop) (old new : SoFar) (all : List Event) : Type 0 where
   pub mid : SoFar
   pub lines : List SourceLine
-  pub raws : List SourceLine
   pub faults : List SourceFault
   pub later : List Event
-  pub gives : EmitsLines given old mid all (step_events lines raws faults later)
-  pub stops : StopsIn stop mid new lines raws faults
+  pub gives : EmitsLines given old mid all (step_events lines faults later)
+  pub stops : StopsIn stop mid new lines faults
 
 abbrev pub IsPrefix : {A : Type 0} → List A → List A → Type 0
 IsPrefix {A = A} front list = (rest : List A) × (list ≡ front ++ rest)
@@ -104,11 +100,10 @@ TakesBeforeEmitting _ = Unit {0}
 pub record ReadFailsAfterLines (given : List Line) (old new : SoFar) (all : List Event) : Type 0 where
   pub mid : SoFar
   pub lines : List SourceLine
-  pub raws : List SourceLine
   pub faults : List SourceFault
   pub later : List Event
-  pub gives : EmitsLines given old mid all (step_events lines raws faults later)
-  pub begun : HasBegunStep mid new lines raws faults
+  pub gives : EmitsLines given old mid all (step_events lines faults later)
+  pub begun : HasBegunStep mid new lines faults
   pub next : TakesBeforeEmitting later
 
 -- Why there is no line: a read failed, a line breaks a limit, or memory was refused.

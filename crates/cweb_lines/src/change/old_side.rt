@@ -10,7 +10,7 @@ ghost use Rattle.cweb_lines.specs.surface.MergeProgress.{KeepsReported};
 ghost use Rattle.cweb_lines.specs.surface.MergeProgress.{change_lines, things_of, so_far_of};
 ghost use Rattle.cweb_input.specs.surface.OpenedFileNames.{opened_file_names};
 ghost use Rattle.cweb_lines.specs.inner.Replacing.{Compares, IsChanged, IsReplaced, closing_faults};
-ghost use Rattle.cweb_lines.specs.inner.Replacing.{faults_replaced, fault_list_if, taken_away};
+ghost use Rattle.cweb_lines.specs.inner.Replacing.{faults_replaced, fault_list_if, lines_replaced};
 ghost use Rattle.cweb_lines.specs.inner.Seeking.{ReportsFaultPrefix};
 ghost use Rattle.cweb_lines.specs.inner.Stages.{floor_of};
 ghost use Rattle.cweb_input.specs.surface.OpenSources.{CountsReadStop, StopsFor, StopsReading};
@@ -104,9 +104,8 @@ fn replace<S: Shelf>(
         (so_far_of run.new)) }
     ensures stops { IsTrue (S.tells shelf.old) →
         IfErr result (λ stop. EndsStep stop (so_far_of run.old) (so_far_of run.new)
-        (old_lines (change_lines (S.left shelf.old) run.old)).taken
-        (taken_away (change_lines (S.left shelf.old) run.old)
-        (things_above (S.left shelf.old) 0 run.old.stack [])).taken
+        (lines_replaced (change_lines (S.left shelf.old) run.old)
+        (things_above (S.left shelf.old) 0 run.old.stack []))
         (old_lines (change_lines (S.left shelf.old) run.old)).faults) }
     ensures told { IsTrue (S.tells shelf.old) →
         OnErr result (ReportsSomeFaults (old_lines (change_lines (S.left shelf.old) run.old)).faults
@@ -216,9 +215,8 @@ pub fn begin_change<S: Shelf>(
         (so_far_of run.old) (so_far_of run.new)) }
     ensures stops { IsTrue (S.tells shelf.old) →
         IfErr result (λ stop. EndsStep stop (so_far_of run.old) (so_far_of run.new)
-        (old_lines (change_lines (S.left shelf.old) run.old)).taken
-        (taken_away (change_lines (S.left shelf.old) run.old)
-        (things_above (S.left shelf.old) 0 run.old.stack [])).taken
+        (lines_replaced (change_lines (S.left shelf.old) run.old)
+        (things_above (S.left shelf.old) 0 run.old.stack []))
         (faults_replaced begin (change_lines (S.left shelf.old) run.old)
         (things_above (S.left shelf.old) 0 run.old.stack []))) }
     ensures told { IsTrue (S.tells shelf.old) →

@@ -164,7 +164,7 @@ pub fn seek<S: Shelf>(
         (change_lines (S.left shelf.new) run.new)) }
     ensures stops { IsTrue (S.tells shelf.old) →
         IfErr result (λ stop. EndsStep stop (so_far_of run.old) (so_far_of run.new)
-        (sought (change_lines (S.left shelf.old) run.old) None).taken []
+        (sought (change_lines (S.left shelf.old) run.old) None).taken
         (sought (change_lines (S.left shelf.old) run.old) None).faults) }
     ensures told { IsTrue (S.tells shelf.old) →
         OnErr result (ReportsSomeFaults (sought (change_lines (S.left shelf.old) run.old) None).faults

@@ -1,16 +1,21 @@
 // The rest of an open item: one unit per step, but the whole rest of a comment in its line.
-ghost use Rattle.std.specs.Prelude.{◌≡◌, ◌≤◌, ◌<◌, ◌+◌, IfOk, OnOk, length, true, false};
+ghost use Rattle.std.specs.Prelude.{◌≡◌, ◌≤◌, ◌<◌, ◌+◌, [], IfOk, OnOk, codes, drop, length, true, false};
 ghost use Rattle.cweb_names.specs.surface.Names.{too_many};
 
 use crate::reader::Reader;
 use crate::reader::open::Open;
 use crate::reader::opened::{is_unclosed, opener_after};
 use cweb_files::Place;
+use cweb_rules::bytes::begins;
 use cweb_rules::items::{Item, reach};
-use cweb_rules::{Look, Quote, push_unit};
+use cweb_rules::{End, Look, Quote, push_unit};
 use std::alloc::AllocError;
 
 impl Reader {
+    ghost use Rattle.std.specs.List.{prefix_len};
+    ghost use Rattle.cweb_rules.specs.Bytes as bytes;
+    ghost use Rattle.cweb_rules.specs.declared.items.Item.TheVariants.{Name};
+    ghost use Rattle.cweb_rules.specs.inner.PlainBytes.{is_plain};
     ghost use Rattle.cweb_rules.specs.inner.LineItems.{IsLine};
     ghost use Rattle.cweb_scan.specs.inner.ReaderModel.{cost};
     ghost use Rattle.cweb_scan.specs.inner.PendingRest.{awaits_line_end, is_pending_literal};
@@ -44,7 +49,33 @@ impl Reader {
         Ok(())
     }
 
-    // Takes a span or a unit of a name, or its closer and the part opener after it. In C text that opener is C text.
+    // Takes a whole name: `size` plain bytes, its closer, and the part opener after it. The bytes are not copied.
+    fn take_whole_name(
+        &mut self,
+        begun: Place,
+        is_file: bool,
+        size: usize,
+        rest: &[u8],
+    ) -> Result<usize, AllocError>
+        requires open { self.old.item ≡ InName begun is_file [] }
+        requires line { IsLine rest.now }
+        requires plain { size ≡ prefix_len (is_plain Name) rest.now }
+        requires closer { bytes.begins (codes "@>") (drop size rest.now) ≡ true }
+        requires room { cost self.old + 8 < too_many }
+        ensures { IfOk result (λ n. TakesPending n rest.now self.old self.new) }
+    {
+        let (name, closer) = rest.split_at(size);
+        let (_, after) = closer.split_at(2);
+        let sign = opener_after(End::Closed, after);
+        let taken = size + (2 + self.scanner.opener_taken(sign));
+        self.item = Open::Between;
+        self.scanner
+            .end_name(is_file, name, End::Closed, 0 < sign, begun)?;
+        Ok(taken)
+    }
+
+    // Takes a whole name, a span or a unit of one, or its closer and the part opener after it. In C text that opener is
+    // C text.
     fn take_name(&mut self, begun: Place, is_file: bool, rest: &[u8]) -> Result<usize, AllocError>
         requires open { self.old.item ≡ InName begun is_file (pending_bytes self.old.item) }
         requires line { IsLine rest.now }
@@ -53,6 +84,9 @@ impl Reader {
         ensures { IfOk result (λ n. TakesPending n rest.now self.old self.new) }
     {
         let plain = Item::Name.plain_len(rest);
+        if self.text.is_empty() && begins(b"@>", rest.split_at(plain).1) {
+            return self.take_whole_name(begun, is_file, plain, rest);
+        }
         if plain > 0 {
             self.take_span(plain, rest)?;
             return Ok(plain);

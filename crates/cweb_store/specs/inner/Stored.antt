@@ -1,5 +1,5 @@
 -- The representation of a store, and its model.
-use Rattle.std.specs.Prelude.{◌≡◌, ◌<◌, ℕ, ◌+◌, Bool, List, [], ◌∷◌, Option, Some, None, map, length, drop, slice_get}
+use Rattle.std.specs.Prelude.{◌≡◌, ◌<◌, ℕ, ◌+◌, ◌^◌, Bool, List, [], ◌∷◌, Option, Some, None, map, length, drop, slice_get}
 use Rattle.std.specs.Prelude.{nat_eq, if◌then◌else◌}
 use Rattle.cweb_names.specs.declared.name.NameId.{NameId}
 use Rattle.cweb_names.specs.declared.name.NameFault.{NameFault}
@@ -44,6 +44,7 @@ pub record AreStored (c : ClosedTokensModel) (ranges : List PartRange) (links : 
   pub linked : AreLinked resolutions ranges links.skips.items links.heads
   pub strings : length c.others ≡ length given + length replaced
   pub last : AreLast last_places replaced
+  pub small : length resolutions < 2 ^ 32
   pub few : length firsts < too_many
   pub first_places : firsts ≡ map (λ n. n.first) (names (occurrences_at c.others given))
   pub answers : AreAnswers (occurrences_at c.others given)

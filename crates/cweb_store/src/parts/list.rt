@@ -1,6 +1,7 @@
 // Parts while they are added.
 
-ghost use Rattle.std.specs.Prelude.{◌≡◌, ◌<◌, ◌+◌, IsSome, IsNone, is_some, OnOk, OnErr};
+ghost use Rattle.std.specs.Prelude.{◌≡◌, ◌<◌, ◌+◌, IsSome, IsNone, IsTrue, is_some, OnOk};
+ghost use Rattle.std.specs.Prelude.{OnErr};
 ghost use Rattle.cweb_store.specs.Calls.{with_closed_part, all_parts, with_dropped_layout};
 ghost use Rattle.cweb_store.specs.Calls.{no_parts, with_opened_part, with_pushed_token};
 ghost use Rattle.cweb_store.specs.surface.Growing.{part_count, token_count};
@@ -14,6 +15,9 @@ use crate::tokens::layout::{end_at_close, end_before_layout};
 use crate::tokens::list::TokenList;
 use std::alloc::{AllocError, Global};
 use std::marker::Model;
+
+/// The maximum number of occurrences, and of parts and tokens.
+pub const FULL: usize = u32::MAX as usize - 1;
 
 /// Parts under construction: all tokens in one list, and the range of each part in it.
 #[derive(Drop)]
@@ -58,6 +62,33 @@ impl PartList {
         ensures { result ≡ is_some self.now.parts.current }
     {
         self.current.is_some()
+    }
+
+    /// Whether one more part and one more token are within their limits.
+    pub fn has_room(&self) -> bool
+        ensures parts { IsTrue result → part_count self.now.parts + 1 < too_many }
+        ensures tokens { IsTrue result → token_count self.now.parts + 1 < too_many }
+        ensures room { part_count self.now.parts + 1 < too_many →
+            token_count self.now.parts + 1 < too_many → IsTrue result }
+    {
+        self.part_count() < FULL && self.token_count() < FULL
+    }
+
+    // The number of parts, the open one included.
+    fn part_count(&self) -> usize
+        ensures { result ≡ part_count self.now.parts }
+    {
+        match self.current {
+            Some(_) => self.ranges.len() + 1,
+            None => self.ranges.len(),
+        }
+    }
+
+    // The number of tokens, those of the open part included.
+    fn token_count(&self) -> usize
+        ensures { result ≡ token_count self.now.parts }
+    {
+        self.tokens.len()
     }
 
     /// Begins a part. A refused call changes nothing.

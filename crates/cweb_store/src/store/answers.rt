@@ -1,6 +1,6 @@
 // Results that need all names and parts.
 
-ghost use Rattle.std.specs.Prelude.{◌≡◌, ◌<◌, length, map, IfOk, OnOk};
+ghost use Rattle.std.specs.Prelude.{◌≡◌, ◌<◌, ◌^◌, length, map, IfOk, OnOk};
 ghost use Rattle.cweb_store.specs.inner.Answers.{AreAnswers};
 ghost use Rattle.cweb_names.specs.surface.Names.{too_many};
 ghost use Rattle.cweb_store.specs.inner.Links.{AreLinked};
@@ -34,6 +34,7 @@ impl Answers {
             (ranges_from 0 parts.now) all.links.skips.items all.links.heads) }
         ensures firsts { IfOk result
             (λ all. all.firsts.items ≡ map (λ n. n.first) (names table.now)) }
+        ensures small { IfOk result (λ all. length all.resolutions.items < 2 ^ 32) }
         ensures few { OnOk result (length (names table.now) < too_many) }
     {
         let resolutions = table.resolutions()?;

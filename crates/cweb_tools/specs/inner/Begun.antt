@@ -1,16 +1,13 @@
 -- Runs whose merge has begun.
-use Rattle.std.specs.Prelude.{◌≡◌, ℕ, Option, Some, IsTrue}
+use Rattle.std.specs.Prelude.{◌≡◌, ℕ, Option, IsTrue}
 use Rattle.cweb_files.specs.declared.device.Shelf.{Ghosts as Shelf}
 use Rattle.cweb_input.specs.Include.{World, Found}
 use Rattle.cweb_lines.specs.surface.MergerCalls.{BeginsMerge, KnowsReaders, so_far, to_come}
 use Rattle.cweb_lines.specs.declared.merger.Merger.{Merger}
-use Rattle.cweb_log.specs.CommandLine.{OptionsModel, WebNames}
+use Rattle.cweb_log.specs.CommandLine.{WebNames}
 use Rattle.cweb_log.specs.DeviceModels.{Devices, SinkModel, ShelfModel}
 use Rattle.cweb_tools.specs.inner.Course.{found_course}
-use Rattle.cweb_tools.specs.inner.Does.{FollowsCourse}
 use Rattle.cweb_tools.specs.MergePromises.{Merges}
-use Rattle.cweb_tools.specs.Tangle.{CanCome, tangled}
-use Rattle.cweb_tools.specs.inner.Tangle.{course_acts, course_status}
 
 -- Since its first state the shelf has only been searched. The merge of the files found there begins.
 pub record MergeHasBegun {S R : Type 0} (shelf : Shelf S R) (first : ShelfModel) (now : S) (merger : Merger S R)
@@ -20,16 +17,6 @@ pub record MergeHasBegun {S R : Type 0} (shelf : Shelf S R) (first : ShelfModel)
   pub blamed : IsTrue first.tells → shelf.blamed now ≡ first.blamed
   pub begins : IsTrue first.tells → BeginsMerge world found changes (so_far merger) (to_come shelf now merger)
   pub known : IsTrue first.tells → KnowsReaders shelf now merger
-
--- Whatever was found, a run of `ctangle` ends as its course does.
-abbrev pub EndsBegun : {S R : Type 0} → Shelf S R → OptionsModel → S → Merger S R → SinkModel → SinkModel
-    → Devices → ℕ → Type 0
-EndsBegun shelf asked now merger bins log after status =
-    (first : ShelfModel) (world : World) (found : Option Found) (changes : Option (Option Found))
-    → MergeHasBegun shelf first now merger world found changes
-    → FollowsCourse (course_acts asked.shown) course_status (CanCome (Some asked))
-    (tangled asked.names.main (found_course world asked.names.merge found changes))
-    (record { shelf = first; out = bins; log = log }) after status
 
 -- Whatever was found, a run of `wmerge` ends as its course does.
 abbrev pub MergesBegun : {S R : Type 0} → Shelf S R → S → Merger S R → SinkModel → SinkModel → Devices → ℕ

@@ -26,6 +26,7 @@ observed_state seen = record {
   draft = seen.out.beside.draft;
   refused = seen.out.beside.refused;
   log = seen.log.bytes;
+  printed = seen.out.bytes;
 }
 
 abbrev pub log_blame : Stop → ℕ

@@ -20,12 +20,20 @@ status_by count (planned files missing) = if count == 0 then 0 else 1
 abbrev pub web_status : Web → ℕ
 web_status web = status_by (fault_count web.faults) web.plan
 
--- The acts after the words are parsed and the banner is logged.
-abbrev pub course_acts : Shown → TangleCourse → List Act
-course_acts shown unread = []
-course_acts shown (not_there web) = opens ∷ says (stopped WebNotOpened web) ∷ []
-course_acts shown (change_not_there change) = opens ∷ says (stopped ChangeNotOpened change) ∷ []
-course_acts shown (tangling names events web) = opens ∷ reads names events ∷ web_acts shown web
+-- The acts after a scan, by the names of the opened files and the web.
+abbrev pub LaterActs : Type 0
+LaterActs = List (List ℕ) → Web → List Act
+
+-- The acts from the opening of the web, with these after its scan.
+abbrev pub opening_acts : LaterActs → TangleCourse → List Act
+opening_acts later unread = []
+opening_acts later (not_there web) = opens ∷ says (stopped WebNotOpened web) ∷ []
+opening_acts later (change_not_there change) = opens ∷ says (stopped ChangeNotOpened change) ∷ []
+opening_acts later (tangling names events web) = opens ∷ reads names events ∷ later names web
+
+-- The acts of `ctangle` after a scan.
+abbrev pub tangle_later : Shown → LaterActs
+tangle_later shown names web = web_acts shown web
 
 abbrev pub course_status : TangleCourse → ℕ
 course_status unread = 1

@@ -1,6 +1,6 @@
 // Runs with a change file.
 use super::merging::{
-    Run, Sources, check_log_fails, check_read, check_refused, check_run, check_runs,
+    Program, Run, Sources, check_log_fails, check_read, check_refused, check_run, check_runs,
 };
 use super::wanted::holds;
 use std::process::Abort;
@@ -16,7 +16,11 @@ fn check_change(rt: &(impl Abort + AllocGlobal), change: &Change) {
         ("inc.w", change.2.as_bytes()),
     ];
     let status = u8::from(!change.4.is_empty());
-    check_run(rt, &(&["m", "c"], None, texts, change.3, change.4, status));
+    check_run(
+        rt,
+        Program::Wmerge,
+        &(&["m", "c"], None, texts, change.3, change.4, status),
+    );
 }
 
 fn check_changes(rt: &(impl Abort + AllocGlobal), changes: &[Change]) {
@@ -128,7 +132,7 @@ fn files_that_are_not_there(rt: HostRuntime) {
             1,
         ),
     ];
-    check_runs(&rt, RUNS);
+    check_runs(&rt, Program::Wmerge, RUNS);
 }
 
 #[test]
@@ -141,7 +145,7 @@ fn a_change_file_is_sought_by_its_name_alone(rt: HostRuntime) {
         "! Cannot open change file c.ch\n",
         1,
     );
-    check_run(&rt, &RUN);
+    check_run(&rt, Program::Wmerge, &RUN);
 }
 
 #[test]
@@ -169,7 +173,7 @@ const RUN: Run = (
 // Also run with each allocation failing in turn.
 #[test]
 fn memory_refused_in_a_change(rt: HostRuntime) {
-    check_refused(&rt, &RUN);
+    check_refused(&rt, Program::Wmerge, &RUN);
 }
 
 #[test]
@@ -178,7 +182,7 @@ fn a_read_fails_in_a_change(rt: HostRuntime) {
     let mut in_web = false;
     let mut in_change = false;
     for good in 0..40 {
-        let failed = check_read(&rt, &RUN, LINES, good);
+        let failed = check_read(&rt, Program::Wmerge, &RUN, LINES, good);
         in_web |= failed == Some(true);
         in_change |= failed == Some(false);
     }
@@ -195,5 +199,5 @@ fn the_log_fails_without_a_change_file(rt: HostRuntime) {
         "! Cannot open change file gone.ch\n",
         1,
     );
-    check_log_fails(&rt, &GONE);
+    check_log_fails(&rt, Program::Wmerge, &GONE);
 }

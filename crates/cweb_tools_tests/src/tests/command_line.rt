@@ -1,5 +1,5 @@
 // The command line of `wmerge`.
-use super::merging::{Run, check_run};
+use super::merging::{Program, Run, check_run};
 use super::wanted::{same_name, same_string};
 use cweb_tools::MergeWords;
 use std::process::Abort;
@@ -58,7 +58,7 @@ fn words_that_are_refused(rt: HostRuntime) {
     const SOURCES: &[(&str, &[u8])] = &[("m.w", b"x\n"), ("c.ch", b""), ("-.w", b"x\n")];
     const USAGE: &str = "! Usage: wmerge webfile[.w] [{changefile[.ch]|-}]\n";
     for words in REFUSED {
-        check_run(&rt, &(*words, None, SOURCES, "", USAGE, 1));
+        check_run(&rt, Program::Wmerge, &(*words, None, SOURCES, "", USAGE, 1));
     }
 }
 
@@ -68,5 +68,5 @@ fn a_dash_opens_nothing(rt: HostRuntime) {
     const CHANGE: &[u8] = b"@x\nA\n@y\n@z\n";
     const SOURCES: &[(&str, &[u8])] = &[("m.w", b"A\n"), ("-", CHANGE), ("-.ch", CHANGE)];
     const RUN: Run = (&["m", "-"], None, SOURCES, "A\n", "", 0);
-    check_run(&rt, &RUN);
+    check_run(&rt, Program::Wmerge, &RUN);
 }

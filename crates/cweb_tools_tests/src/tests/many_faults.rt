@@ -1,6 +1,6 @@
 // Many faults: their lines are written in large chunks.
 use super::expected::Expected;
-use super::merging::{Failing, Merge, merged};
+use super::merging::{Failing, Merge, Program, ran};
 use super::wanted::holds;
 use std::alloc::{AllocError, Global};
 use std::process::Abort;
@@ -9,7 +9,12 @@ use std::process::Abort;
 fn merged_lines(alloc: Global, name: &str, lines: usize) -> Result<Merge, AllocError> {
     let web = "@i\n".repeat(alloc, lines)?;
     let texts = [(name, web.as_bytes())];
-    merged(alloc, &(&[name], None, &texts, "", "", 1), Failing::Nothing)
+    ran(
+        alloc,
+        Program::Wmerge,
+        &(&[name], None, &texts, "", "", 1),
+        Failing::Nothing,
+    )
 }
 
 /// Compares the line of a fault in a line of a web.

@@ -1,6 +1,7 @@
 // Runs of `wmerge` over files in memory and over failing devices.
 use super::merging::{
-    Run, Sources, check_log_fails, check_read, check_refused, check_run, check_runs, check_write,
+    Program, Run, Sources, check_log_fails, check_read, check_refused, check_run, check_runs,
+    check_write,
 };
 use super::wanted::{holds, same_bytes};
 use cweb_lines::{FileId, Stop};
@@ -39,7 +40,7 @@ fn merged_lines_and_their_log(rt: HostRuntime) {
         (&["-h"], None, &[], "", USAGE, 1),
         (&["+"], None, &[("+.w", b"x\n")], "x\n", "", 0),
     ];
-    check_runs(&rt, RUNS);
+    check_runs(&rt, Program::Wmerge, RUNS);
 }
 
 #[test]
@@ -75,14 +76,18 @@ fn included_files(rt: HostRuntime) {
             1,
         ),
     ];
-    check_runs(&rt, RUNS);
+    check_runs(&rt, Program::Wmerge, RUNS);
 }
 
 fn check_long(rt: &(impl Abort + AllocGlobal), line: &str) {
     let web = ["short\n", line].concat(rt.alloc()).expect(rt, "memory");
     let texts: Sources = &[("long.w", web.as_bytes())];
     let stop = "! Line too long in long.w\n";
-    check_run(rt, &(&["long"], None, texts, "short\n", stop, 1));
+    check_run(
+        rt,
+        Program::Wmerge,
+        &(&["long"], None, texts, "short\n", stop, 1),
+    );
 }
 
 #[test]
@@ -132,7 +137,7 @@ const RUN: Run = (
 // Also run with each allocation failing in turn.
 #[test]
 fn memory_refused(rt: HostRuntime) {
-    check_refused(&rt, &RUN);
+    check_refused(&rt, Program::Wmerge, &RUN);
 }
 
 #[test]
@@ -140,7 +145,7 @@ fn a_read_fails(rt: HostRuntime) {
     const LINES: (&str, &str) = ("! Read fault on a.w\n", "! Read fault on lib/b.w\n");
     let mut last_fault = 0;
     for good in 0..20 {
-        if check_read(&rt, &RUN, LINES, good).is_some() {
+        if check_read(&rt, Program::Wmerge, &RUN, LINES, good).is_some() {
             last_fault = good;
         }
     }
@@ -159,7 +164,7 @@ fn a_write_fails(rt: HostRuntime) {
     );
     let mut last_fault = 0;
     for good in 0..20 {
-        if check_write(&rt, &COPIED, good) {
+        if check_write(&rt, Program::Wmerge, &COPIED, good) {
             last_fault = good;
         }
     }
@@ -168,5 +173,5 @@ fn a_write_fails(rt: HostRuntime) {
 
 #[test]
 fn the_log_fails(rt: HostRuntime) {
-    check_log_fails(&rt, &RUN);
+    check_log_fails(&rt, Program::Wmerge, &RUN);
 }

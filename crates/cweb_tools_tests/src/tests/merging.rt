@@ -1,10 +1,17 @@
-// Runs of `wmerge` over files in memory, with their expected effects.
+// Runs of `wmerge` and `wdep` over files in memory, with their expected effects.
 use super::tangling::ROOM;
 use super::wanted::{holds, same_bytes};
-use cweb_tools::run_wmerge;
+use cweb_tools::{run_wdep, run_wmerge};
 use std::alloc::{AllocError, Global};
 use std::process::Abort;
 use trial::{TrialShelf, TrialSink, shelf_of};
+
+/// The program of a run. Both print to standard output.
+#[derive(Clone, Copy)]
+pub enum Program {
+    Wmerge,
+    Wdep,
+}
 
 /// Files: names and contents.
 pub type Sources<'a> = &'a [(&'a str, &'a [u8])];
@@ -69,18 +76,15 @@ impl Merge {
     }
 
     /// Runs over the devices. Failures are counted from here on.
-    fn run(&mut self, alloc: Global, words: &[&str], inputs: Option<&str>) {
+    fn run(&mut self, alloc: Global, program: Program, words: &[&str], inputs: Option<&str>) {
         self.shelf.failed = 0;
         self.out.failed = 0;
         self.log.failed = 0;
-        self.status = run_wmerge(
-            alloc,
-            words,
-            inputs,
-            &mut self.shelf,
-            &mut self.out,
-            &mut self.log,
-        );
+        let (shelf, out, log) = (&mut self.shelf, &mut self.out, &mut self.log);
+        self.status = match program {
+            Program::Wmerge => run_wmerge(alloc, words, inputs, shelf, out, log),
+            Program::Wdep => run_wdep(alloc, words, inputs, shelf, out, log),
+        };
     }
 
     fn logs(&self, lines: &str) -> bool {
@@ -93,10 +97,15 @@ impl Merge {
 }
 
 /// A run over files in memory.
-pub fn merged(alloc: Global, run: &Run, failing: Failing) -> Result<Merge, AllocError> {
+pub fn ran(
+    alloc: Global,
+    program: Program,
+    run: &Run,
+    failing: Failing,
+) -> Result<Merge, AllocError> {
     let mut merge = Merge::over(alloc, run.2)?;
     merge.weaken(failing);
-    merge.run(alloc, run.0, run.1);
+    merge.run(alloc, program, run.0, run.1);
     Ok(merge)
 }
 
@@ -107,20 +116,20 @@ fn check_left(rt: &impl Abort, left: &Merge, run: &Run) {
     holds(rt, left.status == run.5);
 }
 
-pub fn check_run(rt: &(impl Abort + AllocGlobal), run: &Run) {
-    let left = merged(rt.alloc(), run, Failing::Nothing).expect(rt, "memory");
+pub fn check_run(rt: &(impl Abort + AllocGlobal), program: Program, run: &Run) {
+    let left = ran(rt.alloc(), program, run, Failing::Nothing).expect(rt, "memory");
     check_left(rt, &left, run);
 }
 
-pub fn check_runs(rt: &(impl Abort + AllocGlobal), runs: &[Run]) {
+pub fn check_runs(rt: &(impl Abort + AllocGlobal), program: Program, runs: &[Run]) {
     for run in runs {
-        check_run(rt, run);
+        check_run(rt, program, run);
     }
 }
 
 /// A run in which an allocation may fail, but nothing else.
-pub fn check_refused(rt: &(impl Abort + AllocGlobal), run: &Run) {
-    if let Ok(left) = merged(rt.alloc(), run, Failing::Nothing) {
+pub fn check_refused(rt: &(impl Abort + AllocGlobal), program: Program, run: &Run) {
+    if let Ok(left) = ran(rt.alloc(), program, run, Failing::Nothing) {
         check_left_refused(rt, &left, run);
     }
 }
@@ -139,11 +148,12 @@ fn check_left_refused(rt: &impl Abort, left: &Merge, run: &Run) {
 /// Returns whether it was the first file, if a read failed.
 pub fn check_read(
     rt: &(impl Abort + AllocGlobal),
+    program: Program,
     run: &Run,
     lines: (&str, &str),
     good: u64,
 ) -> Option<bool> {
-    let left = merged(rt.alloc(), run, Failing::Read(good)).expect(rt, "memory");
+    let left = ran(rt.alloc(), program, run, Failing::Read(good)).expect(rt, "memory");
     holds(rt, left.status == 1);
     check_left_of_read(rt, &left, run, lines)
 }
@@ -165,8 +175,13 @@ fn check_left_of_read(
 }
 
 /// A run in which a write fails after `good` ones. Returns whether one failed.
-pub fn check_write(rt: &(impl Abort + AllocGlobal), run: &Run, good: u64) -> bool {
-    let left = merged(rt.alloc(), run, Failing::Write(good)).expect(rt, "memory");
+pub fn check_write(
+    rt: &(impl Abort + AllocGlobal),
+    program: Program,
+    run: &Run,
+    good: u64,
+) -> bool {
+    let left = ran(rt.alloc(), program, run, Failing::Write(good)).expect(rt, "memory");
     check_left_of_write(rt, &left, run)
 }
 
@@ -181,17 +196,22 @@ fn check_left_of_write(rt: &impl Abort, left: &Merge, run: &Run) -> bool {
     true
 }
 
-/// Runs whose log fails after more and more writes. Each writes the whole output, and a prefix of the log.
-pub fn check_log_fails(rt: &(impl Abort + AllocGlobal), run: &Run) {
+/// Runs whose log fails after more and more writes. Each writes a prefix of the log. `wmerge` writes the whole output
+/// before, `wdep` writes it only after the log.
+pub fn check_log_fails(rt: &(impl Abort + AllocGlobal), program: Program, run: &Run) {
     for good in 0..10 {
-        let left = merged(rt.alloc(), run, Failing::Log(good)).expect(rt, "memory");
-        check_left_of_log(rt, &left, run);
+        let left = ran(rt.alloc(), program, run, Failing::Log(good)).expect(rt, "memory");
+        check_left_of_log(rt, program, &left, run);
     }
 }
 
-fn check_left_of_log(rt: &impl Abort, left: &Merge, run: &Run) {
+fn check_left_of_log(rt: &impl Abort, program: Program, left: &Merge, run: &Run) {
     holds(rt, left.status == 1);
     holds(rt, left.log.failed == 1);
-    same_bytes(rt, left.out.bytes(), run.3.as_bytes());
+    let written = match program {
+        Program::Wmerge => run.3,
+        Program::Wdep => "",
+    };
+    same_bytes(rt, left.out.bytes(), written.as_bytes());
     holds(rt, run.4.as_bytes().starts_with(left.log.bytes()));
 }

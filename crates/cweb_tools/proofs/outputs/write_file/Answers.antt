@@ -13,14 +13,14 @@ print_all-requires-clause-left g c = left_known c.args.names.now
 pub returns-in-Err-Memory-clause-does : goal.returns-in-Err-Memory-clause-does
 returns-in-Err-Memory-clause-does g c =
     let began = c.in-Err-Memory.ensures in
-    does_in_bins (λ n. n) (files.with_refusal no_memory) refl refl (λ n. sym (add-zero n)) began.tells
+    does_in_bins (λ n. n) (files.with_refusal no_memory) (λ b. refl) refl refl (λ n. sym (add-zero n)) began.tells
     (rw c.in-Err-Memory.field-0-is at began.failed) (λ tell. rw c.in-Err-Memory.field-0-is at (began.err tell))
     (λ now. inr refl)
 
 pub returns-in-Err-Device-clause-does : goal.returns-in-Err-Device-clause-does
 returns-in-Err-Device-clause-does g c =
     let began = c.in-Err-Device.ensures in
-    does_in_bins (λ n. n + 1) (files.with_refusal no_device) refl refl (λ n. refl)
+    does_in_bins (λ n. n + 1) (files.with_refusal no_device) (λ b. refl) refl refl (λ n. refl)
     began.tells (rw c.in-Err-Device.field-0-is at began.failed)
     (λ tell. rw c.in-Err-Device.field-0-is at (began.err tell)) (λ now. inr (refl, refl))
 

@@ -12,7 +12,7 @@ returns-in-Err-close-clause-told g c = λ tells. closes_some c.args.begin _ _ _ 
     (c.in-Ok.ensures.replaced tells) c.in-Err-close.ensures.err (ap opened_file_names c.in-Err-close.ensures.only.names)
 
 pub returns-in-Err-clause-stops : goal.returns-in-Err-clause-stops
-returns-in-Err-clause-stops g c = λ tells. ends_more c.in-Err.stop _ _ _ _ _ _ (c.in-Err.ensures.stops tells)
+returns-in-Err-clause-stops g c = λ tells. ends_more c.in-Err.stop _ _ _ _ _ (c.in-Err.ensures.stops tells)
 
 pub returns-in-Err-close-clause-still : goal.returns-in-Err-close-clause-still
 returns-in-Err-close-clause-still g c = told_then _ _ _ c.in-Ok.ensures.still

@@ -15,7 +15,7 @@ returns-in_ok-push_unit-in-Goes c =
     let us = pending_bytes h.item in
     let item = ap (λ (k : ReaderModel). k.item) c.self.view_is in
     let longer = c.in_ok-push_unit-in-Goes.ensures
-    ∙ ap (λ (x : List ℕ). r.text.items ++ unit_bytes x) c.split_at.ensures.front in
+    ∙ ap (λ (x : List ℕ). r.text.items ++ unit_bytes x) c.split_at-in-Goes.ensures.front in
     let named = name_texted r.item r.delimiter.items
     r.text.items c.push_unit.new.text.items h c.args.begun c.args.is_file (take n u) item c.requires.open longer in
     open_at n u h _ c.self.view_is (InName c.args.begun c.args.is_file us) c.requires.open _ _

@@ -24,7 +24,8 @@ invariant_of-store c =
     let last = subst (AreLast c.in_ok-last_places.last_places.items) (c.as_slice.ensures.value ∙ strings.bytes)
     c.in_ok-last_places.ensures in
     rw (tokens, strings.given, strings.bytes)
-    (stored-are ts ranges all.links os rs _ _ _ _ _ _ apart.ensures.whole linked last found.firsts found.few answers)
+    (stored-are ts ranges all.links os rs _ _ _ _ _ _ apart.ensures.whole linked last found.firsts found.few found.small
+    answers)
 
 pub returns : goal.returns
 returns c =

@@ -1,0 +1,13 @@
+use Rattle.cweb_names.proofs.Common.{ap, length, arith}
+use Rattle.cweb_names.proofs.OccurrenceTableLemmas.{occurrences-count}
+use Rattle.cweb_names.proofs.table.NameTable.len.Goals as goal
+
+pub returns : goal.returns
+returns c =
+    let s = c.self.inside in
+    omega (
+      arith,
+      c.len.ensures,
+      ap length c.self.view_is,
+      occurrences-count s.strings s.given.items (omega (arith, c.self.invariant.count)),
+    )

@@ -1,0 +1,74 @@
+// A hash table of names, which saves most looks into the sorted map.
+
+ghost use Rattle.std.specs.Prelude.{◌≤◌};
+
+use cweb_texts::{Key, home_bucket};
+use std::alloc::Global;
+
+// How many slots from its first one on a name may have.
+const CANDIDATES: usize = 8;
+
+// How many more slots than four for each name a new table has.
+const SPARE_SLOTS: usize = 64;
+
+/// Names by their spelling, in a table with open addressing. It may lack a name: if memory is refused, or if all slots
+/// that a name may have are taken. So no choice of names makes this slow.
+#[derive(Drop)]
+pub struct NameIndex {
+    // 0 for none, or one more than the number of a name
+    slots: Vec<u32>,
+}
+
+impl NameIndex {
+    /// An empty table. It takes no memory.
+    pub fn new(alloc: Global) -> NameIndex {
+        NameIndex {
+            slots: Vec::new(alloc),
+        }
+    }
+
+    /// An empty table with four slots for each name. Returns `None` if memory is refused.
+    pub fn with_slots_for(alloc: Global, names: usize) -> Option<NameIndex> {
+        let slots = names.saturating_mul(4).saturating_add(SPARE_SLOTS);
+        let slots = Vec::from_elem(alloc, 0, slots).ok()?;
+        Some(NameIndex { slots })
+    }
+
+    /// Whether the table is to be replaced by a larger one: there are fewer than two slots for each name.
+    pub fn is_small(&self, names: usize) -> bool {
+        self.slots.len() / 2 <= names
+    }
+
+    /// The slots that the name with a spelling may have.
+    #[inline(always)]
+    pub fn candidates(&self, text: &[u8]) -> &[u32] {
+        let first = first_slot(text, self.slots.len());
+        let after = self.slots.len().min(first + CANDIDATES);
+        &self.slots[first..after]
+    }
+
+    /// Puts a name into the first free slot that it may have, if there is one.
+    pub fn put(&mut self, text: &[u8], number: usize) {
+        let Ok(link) = u32::try_from(number.wrapping_add(1)) else {
+            return;
+        };
+        let first = first_slot(text, self.slots.len());
+        for i in first..first + CANDIDATES {
+            match self.slots.get_mut(i) {
+                Some(slot) if *slot == 0 => {
+                    *slot = link;
+                    return;
+                }
+                _ => {}
+            }
+        }
+    }
+}
+
+// The first slot that the name with a spelling may have.
+#[inline(always)]
+fn first_slot(text: &[u8], slots: usize) -> usize
+    ensures { result ≤ slots }
+{
+    home_bucket(Key::of(text), slots)
+}

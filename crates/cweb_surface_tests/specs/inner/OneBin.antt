@@ -1,0 +1,29 @@
+-- What bins of one file store.
+use Rattle.std.specs.Prelude.{ℕ, List, [], Option, Some, None, option_map, option_to_list, string_bytes}
+use Rattle.cweb_out.specs.Files.{File, Beside, Refused, no_device, no_memory}
+use Rattle.cweb_out.specs.declared.BinFault.{BinFault}
+use Rattle.cweb_out.specs.declared.BinFault.TheVariants.{Memory, Device}
+use Rattle.cweb_surface_tests.specs.declared.own_bins.NamedFile.{NamedFile}
+use Rattle.cweb_surface_tests.specs.declared.own_bins.OneBin.{OneBin}
+
+abbrev pub file_of : NamedFile → File
+file_of file = record { name = string_bytes file.name; bytes = file.bytes.items }
+
+abbrev pub draft_bytes : Option NamedFile → List ℕ
+draft_bytes None = []
+draft_bytes (Some file) = file.bytes.items
+
+abbrev pub written_in : OneBin → List ℕ
+written_in bin = draft_bytes bin.draft
+
+abbrev pub why : Option BinFault → Option Refused
+why None = None
+why (Some Memory) = Some no_memory
+why (Some Device) = Some no_device
+
+abbrev pub beside_in : OneBin → Beside
+beside_in bin = record {
+  files = option_to_list (option_map file_of bin.file);
+  draft = option_map (λ (file : NamedFile). string_bytes file.name) bin.draft;
+  refused = why bin.refused;
+}

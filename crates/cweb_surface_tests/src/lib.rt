@@ -1,0 +1,13 @@
+//! The public calls and types of the libraries, used by a client that depends only on the crates that export them.
+#![tactic(auto)]
+
+// devices of a client's own
+mod own_bins;
+mod own_shelf;
+mod own_sink;
+#[cfg(test)]
+mod tests;
+
+pub use own_bins::{NamedFile, OneBin};
+pub use own_shelf::{OneReader, OneShelf};
+pub use own_sink::ByteSink;

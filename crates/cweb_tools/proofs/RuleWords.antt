@@ -1,0 +1,140 @@
+-- The words of a rule, one after the other.
+use Rattle.std.proofs.Common.{◌≡◌, ◌<◌, ◌+◌, ℕ, List, [], ◌∷◌, ◌++◌, map, length, drop, drop-cons, get_or, refl, sym, ◌∙◌, ap, arith, suc, add-one, append_assoc}
+use Rattle.std.proofs.lemmas.List.{drop-map, length-drop, length-map, map-append, take_more}
+use Rattle.std.specs.Prelude.{fold, codes, slice_index_or, if◌then◌else◌, Bool, true, false, ◌||◌, take}
+use Rattle.std.proofs.lemmas.List.Sums.{fold-append}
+use Rattle.std.specs.Str.{bytes_eq}
+use Rattle.indexmap.specs.IndexSet.{insert_key}
+use Rattle.std.specs.Borrow.{Bor}
+use Rattle.std.specs.List.{flat_map, list_any}
+use Rattle.cweb_tools.specs.Depfile.{Wrapped, add_once, add_word, each_once, colon, empty_rule, escaped, position_before, prerequisite_words, target_words}
+use Rattle.cweb_tools.specs.declared.depfile.escape.Position.{Position}
+use Rattle.cweb_tools.specs.declared.depfile.escape.Position.TheVariants.{Target, Inner, Last}
+use Rattle.cweb_tools.specs.inner.RuleModel.{keys_of}
+
+-- The next of the remaining names.
+pub next_name : (names : List (Bor (List ℕ))) (at : ℕ) (other : Bor (List ℕ)) → at < length names
+    → drop at (keys_of names) ≡ (get_or names at other).now ∷ drop (at + 1) (keys_of names)
+next_name names at other within = drop-map (λ (name : Bor (List ℕ)). name.now) at names
+    ∙ ap (map (λ (name : Bor (List ℕ)). name.now)) (drop-cons names at other within)
+    ∙ ap (λ (rest : List (List ℕ)). (get_or names at other).now ∷ rest)
+    (sym (drop-map (λ (name : Bor (List ℕ)). name.now) (suc at) names)
+    ∙ ap (λ (n : ℕ). drop n (keys_of names)) (sym (add-one at)))
+
+no_other : (names : List (List ℕ)) → length names ≡ 0 → position_before names ≡ Last
+no_other [] none = refl
+no_other (name ∷ names) none = absurd (omega (arith, none))
+
+another : (names : List (List ℕ)) → 0 < length names → position_before names ≡ Inner
+another [] some = absurd (omega (arith, some))
+another (name ∷ names) some = refl
+
+-- The position of a prerequisite before the remaining names.
+pub is_last : (names : List (Bor (List ℕ))) (at : ℕ) → at + 1 ≡ length names
+    → Last ≡ position_before (drop (at + 1) (keys_of names))
+is_last names at last = sym (no_other _ (omega (
+  arith,
+  last,
+  length-drop (at + 1) (keys_of names),
+  length-map names (λ (name : Bor (List ℕ)). name.now),
+)))
+
+pub is_inner : (names : List (Bor (List ℕ))) (at : ℕ) → at + 1 < length names
+    → Inner ≡ position_before (drop (at + 1) (keys_of names))
+is_inner names at inner = sym (another _ (omega (
+  arith,
+  inner,
+  length-drop (at + 1) (keys_of names),
+  length-map names (λ (name : Bor (List ℕ)). name.now),
+)))
+
+-- One more prerequisite was added.
+pub word_added : (now new : Wrapped) (names : List (Bor (List ℕ))) (at : ℕ) (other : Bor (List ℕ)) (position : Position)
+    (all : Wrapped) → at < length names → position ≡ position_before (drop (at + 1) (keys_of names))
+    → new ≡ add_word now (escaped position (get_or names at other).now)
+    → fold add_word now (prerequisite_words (drop at (keys_of names))) ≡ all
+    → fold add_word new (prerequisite_words (drop (at + 1) (keys_of names))) ≡ all
+word_added now new names at other position all within at_is is before =
+    ap (λ (w : Wrapped). fold add_word w (prerequisite_words (drop (at + 1) (keys_of names))))
+    (is ∙ ap (λ (p : Position). add_word now (escaped p (get_or names at other).now)) at_is)
+    ∙ ap (λ (ns : List (List ℕ)). fold add_word now (prerequisite_words ns)) (sym (next_name names at other within))
+    ∙ before
+
+-- One more empty rule was appended.
+pub rule_added : (text new whole : List ℕ) (names : List (Bor (List ℕ))) (at : ℕ) (other : Bor (List ℕ))
+    → at < length names → new ≡ text ++ empty_rule (get_or names at other).now
+    → text ++ flat_map empty_rule (drop at (keys_of names)) ≡ whole
+    → new ++ flat_map empty_rule (drop (at + 1) (keys_of names)) ≡ whole
+rule_added text new whole names at other within is before =
+    ap (λ (t : List ℕ). t ++ flat_map empty_rule (drop (at + 1) (keys_of names))) is
+    ∙ append_assoc text (empty_rule (get_or names at other).now) _
+    ∙ ap (λ (ns : List (List ℕ)). text ++ flat_map empty_rule ns) (sym (next_name names at other within))
+    ∙ before
+
+-- A colon after the last target.
+no_more : (names : List (List ℕ)) → length names ≡ 0 → codes ":" ≡ colon names
+no_more [] none = refl
+no_more (name ∷ names) none = absurd (omega (arith, none))
+
+some_more : (names : List (List ℕ)) → 0 < length names → [] ≡ colon names
+some_more [] some = absurd (omega (arith, some))
+some_more (name ∷ names) some = refl
+
+module _ {X : Type 0} (name_of : X → List ℕ) (outputs : List X) (at : ℕ) where
+  pub is_last_target : at + 1 ≡ length outputs → codes ":" ≡ colon (drop (at + 1) (map name_of outputs))
+  is_last_target last = no_more _ (omega (
+    arith,
+    last,
+    length-drop (at + 1) (map name_of outputs),
+    length-map outputs name_of,
+  ))
+
+  pub is_inner_target : at + 1 < length outputs → [] ≡ colon (drop (at + 1) (map name_of outputs))
+  is_inner_target inner = some_more _ (omega (
+    arith,
+    inner,
+    length-drop (at + 1) (map name_of outputs),
+    length-map outputs name_of,
+  ))
+
+  -- One more target was added.
+  pub target_added : (now new : Wrapped) (other : X) (mark : List ℕ) (all : Wrapped) → at < length outputs
+      → mark ≡ colon (drop (at + 1) (map name_of outputs))
+      → new ≡ add_word now (escaped Target (name_of (get_or outputs at other)) ++ mark)
+      → fold add_word now (target_words (drop at (map name_of outputs))) ≡ all
+      → fold add_word new (target_words (drop (at + 1) (map name_of outputs))) ≡ all
+  target_added now new other mark all within mark_is is before =
+      ap (λ (w : Wrapped). fold add_word w (target_words (drop (at + 1) (map name_of outputs))))
+      (is ∙ ap (λ (m : List ℕ). add_word now (escaped Target (name_of (get_or outputs at other)) ++ m)) mark_is)
+      ∙ ap (λ (ns : List (List ℕ)). fold add_word now (target_words ns)) (sym next)
+      ∙ before
+    where
+      next : drop at (map name_of outputs) ≡ name_of (get_or outputs at other) ∷ drop (at + 1) (map name_of outputs)
+      next = drop-map name_of at outputs ∙ ap (map name_of) (drop-cons outputs at other within)
+          ∙ ap (λ (rest : List (List ℕ)). name_of (get_or outputs at other) ∷ rest)
+          (sym (drop-map name_of (suc at) outputs)
+          ∙ ap (λ (n : ℕ). drop n (map name_of outputs)) (sym (add-one at)))
+
+-- A name is in a set of names if its bytes are.
+any_same : (names : List (Bor (List ℕ))) (name : Bor (List ℕ))
+    → list_any (λ (other : Bor (List ℕ)). bytes_eq name.now other.now) names
+    ≡ list_any (bytes_eq name.now) (keys_of names)
+any_same [] name = refl
+any_same (other ∷ names) name = ap (λ (b : Bool). bytes_eq name.now other.now || b) (any_same names name)
+
+-- A name was inserted into a set of names, if it wasn't there.
+pub once_added : (names : List (Bor (List ℕ))) (name : Bor (List ℕ))
+    → keys_of (insert_key (λ (a b : Bor (List ℕ)). bytes_eq a.now b.now) names name) ≡ add_once (keys_of names) name.now
+once_added names name =
+    ap (λ (b : Bool). keys_of (if b then names else names ++ name ∷ [])) (any_same names name) ∙ by_test _
+  where
+    by_test : (b : Bool) → keys_of (if b then names else names ++ name ∷ [])
+        ≡ (if b then keys_of names else keys_of names ++ name.now ∷ [])
+    by_test true = refl
+    by_test false = map-append (λ (name : Bor (List ℕ)). name.now) names (name ∷ [])
+
+-- One more of the names was inserted.
+pub name_added : (names : List (List ℕ)) (at : ℕ) → at < length names
+    → add_once (each_once (take at names)) (slice_index_or names at []) ≡ each_once (take (at + 1) names)
+name_added names at within = sym (ap each_once (take_more names at [] within)
+    ∙ fold-append add_once [] (take at names) (get_or names at [] ∷ []))

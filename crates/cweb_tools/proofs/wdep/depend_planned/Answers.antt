@@ -1,0 +1,51 @@
+use Rattle.cweb_tools.proofs.Common.{◌≡◌, refl, sym, ◌∙◌, ap, subst, arith, codes, None, Some, ◌∷◌, [], ◌==◌, if◌then◌else◌, ℕ, List, DoesInBins, WriteFault, ending, prints, reserves, done, sink_model, files_of, plan_made, dependencies}
+use Rattle.cweb_tools.specs.Depfile.{depfile, each_once}
+use Rattle.cweb_tools.proofs.Doing.{closes_in, closes_on, log_counted}
+use Rattle.cweb_tools.proofs.DoingFiles.{does_reserve, log_halts, memory_halts}
+use Rattle.cweb_tools.proofs.Printing.{printed_front, printed_whole, target_names}
+use Rattle.cweb_tools.proofs.wdep.depend_planned.Goals as goal
+
+pub returns-in-Err : goal.returns-in-Err
+returns-in-Err g c = λ shelf. log_halts _ ((rw c.no_text.ensures at c.in-Err.ensures) shelf _) refl
+
+pub log_stop-requires : goal.log_stop-requires
+log_stop-requires g c = omega (arith, log_counted c.in_default.ensures, c.requires.log_count)
+
+pub returns-in_default-depfile : goal.returns-in_default-depfile
+returns-in_default-depfile g c = λ shelf. closes_on ((rw c.no_text.ensures at c.in_default.ensures) shelf _)
+    (memory_halts reserves _ (λ now. refl) c.log_stop.ensures.logs c.log_stop.ensures.status)
+
+pub log_stop-requires-in-Err-write_all : goal.log_stop-requires-in-Err-write_all
+log_stop-requires-in-Err-write_all g c = omega (arith, log_counted c.in_default.ensures, c.requires.log_count)
+
+pub returns-in-Err-write_all : goal.returns-in-Err-write_all
+returns-in-Err-write_all g c =
+    let wrote = c.in-Err-write_all.ensures in
+    let files : List (List ℕ) = files_of c.args.web in
+    let text : c.as_slice.result.now
+    ≡ dependencies files (plan_made c.args.web.scanned.now.store files c.args.plan.now) =
+    c.as_slice.ensures.value ∙ c.in-Ok.ensures
+    ∙ ap (λ (names : List (List ℕ)). depfile names (each_once files))
+    (sym (target_names c.args.web.scanned.now.store files c.args.plan.now.outputs)) in
+    λ shelf. closes_on ((rw c.no_text.ensures at c.in_default.ensures) shelf _) (closes_on does_reserve
+    (closes_in [] (subst (λ (t : List ℕ).
+    DoesInBins (prints t ∷ []) (Some (ending WriteFault (codes "standard output")))
+    (sink_model g.W.Sink c.args.out.now) (sink_model g.W.Sink c.write_all.new.out)) text
+    (printed_front _ wrote.keeps.tells wrote.keeps.beside wrote.failed wrote.err) shelf _)
+    (record { shelf = refl; bins = refl; log = c.log_stop-in-Err-write_all.ensures.logs })
+    c.log_stop-in-Err-write_all.ensures.status))
+
+pub returns : goal.returns
+returns g c =
+    let wrote = c.in_default-write_all.ensures in
+    let files : List (List ℕ) = files_of c.args.web in
+    let text : c.as_slice.result.now
+    ≡ dependencies files (plan_made c.args.web.scanned.now.store files c.args.plan.now) =
+    c.as_slice.ensures.value ∙ c.in-Ok.ensures
+    ∙ ap (λ (names : List (List ℕ)). depfile names (each_once files))
+    (sym (target_names c.args.web.scanned.now.store files c.args.plan.now.outputs)) in
+    λ shelf. closes_on ((rw c.no_text.ensures at c.in_default.ensures) shelf _) (closes_on does_reserve
+    (done (subst (λ (t : List ℕ). DoesInBins (prints t ∷ []) None
+    (sink_model g.W.Sink c.args.out.now) (sink_model g.W.Sink c.write_all.new.out)) text
+    (printed_whole _ wrote.keeps.tells wrote.keeps.beside wrote.failed wrote.ok) shelf _)
+    (c.status.ensures ∙ ap (λ (n : ℕ). if n == 0 then 0 else 1) c.fault_count.ensures.count)))

@@ -1,0 +1,30 @@
+-- The opening and the scan of a web, whatever comes after them.
+use Rattle.std.specs.Prelude.{ℕ, List, Some}
+use Rattle.cweb_input.specs.declared.fault.SourceFault.{SourceFault}
+use Rattle.cweb_log.specs.CommandLine.{OptionsModel}
+use Rattle.cweb_log.specs.DeviceModels.{Devices, ShelfModel, SinkModel}
+use Rattle.cweb_scan.specs.Alone.{Scanned}
+use Rattle.cweb_tools.specs.Script.{TangleCourse}
+use Rattle.cweb_tools.specs.Tangle.{CanCome, web_of}
+use Rattle.cweb_tools.specs.inner.Does.{Closes, FollowsCourse}
+use Rattle.cweb_tools.specs.inner.Tangle.{LaterActs, opening_acts, course_status, web_status}
+
+-- The part of a run from the opening of the web ends as its course does.
+abbrev pub EndsAs : LaterActs → OptionsModel → TangleCourse → Devices → Devices → ℕ → Type 0
+EndsAs later asked course before after status =
+    FollowsCourse (opening_acts later) course_status (CanCome (Some asked)) course before after status
+
+-- Something stopped the opening or the scan, and that was logged.
+abbrev pub StopsScan : OptionsModel → TangleCourse → ShelfModel → ShelfModel → SinkModel → SinkModel → ℕ → Type 0
+StopsScan asked course shelf shelf' log log' status = (later : LaterActs) (out : SinkModel)
+    → EndsAs later asked course (record { shelf = shelf; out = out; log = log })
+    (record { shelf = shelf'; out = out; log = log' }) status
+
+-- The web was scanned. If the acts after that end so, the run ends as its course does.
+abbrev pub CompletesScan : OptionsModel → TangleCourse → ShelfModel → ShelfModel → SinkModel → List (List ℕ)
+    → List SourceFault → Scanned → Type 0
+CompletesScan asked course shelf shelf' log files faults made =
+    (later : LaterActs) (out : SinkModel) (after : Devices) (status : ℕ)
+    → Closes (later files (web_of files faults made asked.names.main))
+    (web_status (web_of files faults made asked.names.main)) (record { shelf = shelf'; out = out; log = log }) after status
+    → EndsAs later asked course (record { shelf = shelf; out = out; log = log }) after status

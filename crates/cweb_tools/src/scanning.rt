@@ -1,0 +1,73 @@
+// The opening and the scan of a web.
+ghost use Rattle.std.specs.Prelude.{◌≡◌, ◌<◌, ◌+◌, ◌^◌, Some, IfOk, IfErr, OnOk, length};
+ghost use Rattle.std.specs.Option.{option_copied};
+ghost use Rattle.cweb_lines.specs.surface.MergerCalls.{so_far};
+ghost use Rattle.cweb_scan.specs.surface.Scan.{IsScanBelow};
+ghost use Rattle.cweb_scan.specs.surface.ScannedModel.{scanned_model};
+ghost use Rattle.cweb_log.specs.inner.Log.{start_subject};
+ghost use Rattle.cweb_log.specs.surface.Options.{options_of};
+ghost use Rattle.cweb_log.specs.DeviceModels.{shelf_model, sink_model};
+ghost use Rattle.cweb_tools.specs.Course.{change_name, world_of};
+ghost use Rattle.cweb_tools.specs.inner.Scanning.{CompletesScan, StopsScan};
+ghost use Rattle.cweb_tools.specs.inner.Tangle.{tangle_course};
+
+use crate::subjects::{folder, subject};
+use cweb_lines::{Merger, Shelf, Sink, Stop};
+use cweb_log::{Options, log_stop};
+use cweb_scan::{Scanned, scan};
+use std::alloc::Global;
+
+/// Opens the web and its change file, and scans the web. If something stops that, logs it and returns the status.
+pub(crate) fn scan_web<S: Shelf, L: Sink>(
+    alloc: Global,
+    options: &Options,
+    inputs: Option<&str>,
+    shelf: &mut S,
+    log: &mut L,
+) -> Result<(Merger<S>, Scanned), u8>
+    requires shelf_count { S.failed shelf.old + 1 < 2 ^ 64 }
+    requires log_count { L.failed log.old + 1 < 2 ^ 64 }
+    ensures scans { IfOk result (λ read. CompletesScan (options_of options.now)
+        (tangle_course (world_of (S.texts shelf.old) (option_copied inputs.entry))
+        (Some (options_of options.now)))
+        (shelf_model S.Shelf shelf.old) (shelf_model S.Shelf shelf.new) (sink_model L.Sink log.old)
+        (so_far read.0).names (so_far read.0).faults (scanned_model read.1)) }
+    ensures below { IfOk result
+        (λ read. IsScanBelow (length (so_far read.0).names) (scanned_model read.1)) }
+    ensures silent { OnOk result (log.new ≡ log.old) }
+    ensures stops { IfErr result (λ status. StopsScan (options_of options.now)
+        (tangle_course (world_of (S.texts shelf.old) (option_copied inputs.entry))
+        (Some (options_of options.now)))
+        (shelf_model S.Shelf shelf.old) (shelf_model S.Shelf shelf.new)
+        (sink_model L.Sink log.old) (sink_model L.Sink log.new) status) }
+{
+    let started = Merger::start(
+        alloc,
+        shelf,
+        options.web.as_str(),
+        options.second(),
+        options.change(),
+        folder(inputs),
+    );
+    let mut merger = match started {
+        Ok(merger) => merger,
+        Err(stop) => return Err(log_stop(log, stop, start_subject(options, stop))),
+    };
+    match scan(alloc, &mut merger, shelf) {
+        Ok(scanned) => Ok((merger, scanned)),
+        Err(stop) => Err(log_stop(log, stop, subject(merger.names(), stop))),
+    }
+}
+
+/// The name that the line of a stop at the start of a merge ends in.
+fn start_subject(options: &Options, stop: Stop) -> &str
+    ensures { result.now ≡
+        start_subject (options_of options.now).names.merge.web
+        (change_name (options_of options.now).names.merge.change) stop }
+{
+    match stop {
+        Stop::WebNotOpened => options.web.as_str(),
+        Stop::ChangeNotOpened => options.change().unwrap_or(""),
+        _ => "",
+    }
+}

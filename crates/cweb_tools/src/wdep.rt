@@ -1,0 +1,138 @@
+// A run of `wdep`.
+ghost use Rattle.std.specs.Prelude.{◌≡◌, ◌≢◌, ◌<◌, ◌+◌, ◌^◌, ◌∷◌, ◌++◌, map, None};
+ghost use Rattle.std.specs.Option.{option_copied};
+ghost use Rattle.cweb_out.specs.Outputs.{planned};
+ghost use Rattle.cweb_out.specs.surface.Outputs.{IsPlanOf};
+ghost use Rattle.cweb_out.specs.surface.Planning.{IsExpectedFault};
+ghost use Rattle.cweb_log.specs.Items.{fault_count};
+ghost use Rattle.cweb_log.specs.CommandLine.{options_by};
+ghost use Rattle.cweb_log.specs.DeviceModels.{sink_model, devices};
+ghost use Rattle.cweb_tools.specs.Acts.{plans};
+ghost use Rattle.cweb_tools.specs.Course.{world_of};
+ghost use Rattle.cweb_tools.specs.Depend.{DependPromises, DependsFreely, depend_plan_acts, depend_web_acts};
+ghost use Rattle.cweb_tools.specs.Tangle.{plan_made, planning};
+ghost use Rattle.cweb_tools.specs.inner.Does.{ClosesInBoth, ClosesInLog};
+ghost use Rattle.cweb_tools.specs.inner.Tangle.{status_by, web_status};
+ghost use Rattle.cweb_tools.specs.inner.Web.{IsKnown, faults_of, files_of, web_in};
+
+use crate::depfile::depfile;
+use crate::saying::say_no_program_text;
+use crate::scanning::scan_web;
+use crate::web::{Web, say_faults, status};
+use cweb_lines::{Shelf, Sink, Stop, write_all};
+use cweb_log::{Options, log_stop, write_plan_fault};
+use cweb_out::{Plan, PlanFault, plan};
+use std::alloc::Global;
+
+const USAGE: &str = "wdep [options] webfile[.w] [{changefile[.ch]|-} [outfile[.c]]]";
+
+/// Runs `wdep`: prints which files `ctangle` makes, and from which files, as a compiler's depfile. Faults go to the
+/// log. `words` are the arguments, the same as for `ctangle`. Returns the status.
+pub fn run_wdep<S: Shelf, W: Sink, L: Sink>(
+    alloc: Global,
+    words: &[&str],
+    inputs: Option<&str>,
+    shelf: &mut S,
+    out: &mut W,
+    log: &mut L,
+) -> u8
+    requires shelf_count { S.failed shelf.old + 1 < 2 ^ 64 }
+    requires out_count { W.failed out.old + 1 < 2 ^ 64 }
+    requires log_count { L.failed log.old + 1 < 2 ^ 64 }
+    ensures promises { let before = devices S.Shelf W.Sink L.Sink shelf.old out.old log.old in
+        let asked = options_by (map (λ word. word.now) words.now) in
+        let world = world_of before.shelf.texts (option_copied inputs.entry) in
+        DependPromises world asked before
+        (devices S.Shelf W.Sink L.Sink shelf.new out.new log.new) result }
+    ensures freely { let before = devices S.Shelf W.Sink L.Sink shelf.old out.old log.old in
+        let asked = options_by (map (λ word. word.now) words.now) in
+        let world = world_of before.shelf.texts (option_copied inputs.entry) in
+        DependsFreely world asked before
+        (devices S.Shelf W.Sink L.Sink shelf.new out.new log.new) result }
+    ensures untouched { options_by (map (λ word. word.now) words.now) ≡ None →
+        (shelf.new ≡ shelf.old) × (out.new ≡ out.old) }
+{
+    let options = match Options::read(alloc, words) {
+        Ok(options) => options,
+        Err(stop) => return log_stop(log, stop, USAGE),
+    };
+    match scan_web(alloc, &options, inputs, shelf, log) {
+        Ok((merger, scanned)) => {
+            let web = Web::of(&merger, &scanned);
+            depend_web(alloc, options.main.as_str(), web, out, log)
+        }
+        Err(status) => status,
+    }
+}
+
+/// Logs the faults of a scanned web, plans its outputs, and continues with the plan.
+fn depend_web<W: Sink, L: Sink>(
+    alloc: Global,
+    main: &str,
+    web: Web<'_>,
+    out: &mut W,
+    log: &mut L,
+) -> u8
+    requires known { IsKnown web }
+    requires out_count { W.failed out.old + 1 < 2 ^ 64 }
+    requires log_count { L.failed log.old + 1 < 2 ^ 64 }
+    ensures { ClosesInBoth (depend_web_acts (files_of web.entry) (web_in web.entry main.now))
+        (web_status (web_in web.entry main.now))
+        (sink_model W.Sink out.old) (sink_model W.Sink out.new)
+        (sink_model L.Sink log.old) (sink_model L.Sink log.new) result }
+{
+    if let Err(_) = say_faults(web, log) {
+        return 1;
+    }
+    match plan(alloc, web.store(), main) {
+        Ok(plan) => depend_planned(alloc, web, &plan, out, log),
+        Err(fault) => depend_unplanned(main, web, fault, log),
+    }
+}
+
+/// Ends a run whose outputs could not be planned. Nothing is printed.
+fn depend_unplanned<L: Sink>(main: &str, web: Web<'_>, fault: PlanFault, log: &mut L) -> u8
+    requires due { IsExpectedFault (planned web.scanned.now.store main.now) fault }
+    requires count { L.failed log.old + 1 < 2 ^ 64 }
+    ensures { ClosesInLog (plans ∷ depend_plan_acts (files_of web.entry)
+        (planning web.entry.scanned.now.store (files_of web.entry) main.now))
+        (status_by (fault_count (faults_of web.entry))
+        (planning web.entry.scanned.now.store (files_of web.entry) main.now))
+        (sink_model L.Sink log.old) (sink_model L.Sink log.new) result }
+{
+    if let PlanFault::Memory = fault {
+        return log_stop(log, Stop::Memory, "");
+    }
+    let _ = write_plan_fault(log, web.store(), &fault, main);
+    1
+}
+
+/// Prints the depfile of a plan, and ends the run.
+fn depend_planned<W: Sink, L: Sink>(
+    alloc: Global,
+    web: Web<'_>,
+    plan: &Plan,
+    out: &mut W,
+    log: &mut L,
+) -> u8
+    requires made { IsPlanOf web.scanned.now.store plan.now }
+    requires out_count { W.failed out.old + 1 < 2 ^ 64 }
+    requires log_count { L.failed log.old + 1 < 2 ^ 64 }
+    ensures { ClosesInBoth (depend_plan_acts (files_of web.entry)
+        (plan_made web.entry.scanned.now.store (files_of web.entry) plan.now))
+        (status_by (fault_count (faults_of web.entry))
+        (plan_made web.entry.scanned.now.store (files_of web.entry) plan.now))
+        (sink_model W.Sink out.old) (sink_model W.Sink out.new)
+        (sink_model L.Sink log.old) (sink_model L.Sink log.new) result }
+{
+    if let Err(_) = say_no_program_text(plan.no_text(), log) {
+        return 1;
+    }
+    let Ok(text) = depfile(alloc, plan, web.names) else {
+        return log_stop(log, Stop::Memory, "");
+    };
+    if let Err(_) = write_all(out, text.as_slice()) {
+        return log_stop(log, Stop::WriteFault, "standard output");
+    }
+    status(web.fault_count())
+}

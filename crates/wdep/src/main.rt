@@ -1,0 +1,36 @@
+//! `wdep` prints which files `ctangle` makes from a web, and from which files, as a compiler's depfile:
+//! `wdep [options] webfile[.w] [{changefile[.ch]|-} [outfile[.c]]]`.
+#![tactic(auto)]
+
+use cweb_tools::{
+    FolderShelf, StdSink, as_slices, out_of_memory, read_args, read_inputs, run_wdep,
+};
+use std::io::Write;
+use std::process::ExitCode;
+use std::rt::{Env, Files};
+
+fn main(rt: HostRuntime) -> ExitCode {
+    ExitCode::from(depend(&rt, rt.stdout(), rt.stderr()))
+}
+
+/// Runs with the arguments, the environment and the files of the program. Returns the exit status.
+fn depend<R: Env + Files + AllocGlobal, W: Write + Drop, L: Write + Drop>(
+    rt: &R,
+    out: W,
+    log: L,
+) -> u8 {
+    let Ok(words) = read_args(rt) else {
+        return out_of_memory(log);
+    };
+    let Ok(inputs) = read_inputs(rt) else {
+        return out_of_memory(log);
+    };
+    let Ok(words) = as_slices(rt.alloc(), &words) else {
+        return out_of_memory(log);
+    };
+    let inputs = inputs.as_ref().map(|folder| folder.as_str());
+    let mut shelf = FolderShelf::new(rt);
+    let mut out = StdSink::new(out);
+    let mut log = StdSink::new(log);
+    run_wdep(rt.alloc(), &words, inputs, &mut shelf, &mut out, &mut log)
+}
