@@ -58,7 +58,6 @@ pub use Rattle.cweb_store.specs.declared.tokens.interned.InternedToken.{Interned
 pub use Rattle.cweb_store.specs.declared.tokens.records.Record.{Record}
 pub use Rattle.cweb_store.specs.inner.Answers.{AreAnswers}
 pub use Rattle.cweb_store.specs.inner.BuilderCalls.{HoldsAtMost}
-pub use Rattle.cweb_store.specs.inner.ClosedTokens.{ClosedTokensModel, tokens_alone, with_strings}
 pub use Rattle.cweb_store.specs.inner.DirectBytes.{direct_bytes}
 pub use Rattle.cweb_store.specs.inner.Faults.{fault_of_name_if}
 pub use Rattle.cweb_store.specs.inner.InternedTokens.{token_of_interned, StringIsWithin, StringsAreWithin, InternsToken}

@@ -1,13 +1,7 @@
 -- The model of a store, from its tokens, occurrences and names.
-use Rattle.cweb_store.proofs.Common.{◌≡◌, ℕ, zero, suc, ◌+◌, ◌<◌, Bool, List, [], ◌∷◌, ◌++◌, Option, Some, map, length, drop, refl, sym, ◌∙◌, ap, subst, arith, length-append, append_assoc, append-nil, get_or, slice_get, option_map, length-map, drop-append_seam, NameId, NameFault, OccurrenceForm, PartRange, Links, Occurrence, Name, Resolution, with_full_name, with_occurrence_name, names_from, names, Token, Replacement, IsWhole, closed_in, stored, too_many, AreAnswers, AreLinked, occurrence_text, replacement_bytes, ClosedTokensModel, tokens_alone, with_strings, occurrence_form, occurrences_at, replacements_at, stored_in, AreLast, AreStored}
+use Rattle.cweb_store.proofs.Common.{◌≡◌, ℕ, zero, suc, ◌+◌, ◌<◌, Bool, List, [], ◌∷◌, ◌++◌, Option, Some, map, length, drop, refl, sym, ◌∙◌, ap, subst, arith, length-append, get_or, slice_get, option_map, length-map, drop-append_seam, NameId, NameFault, OccurrenceForm, PartRange, Links, Occurrence, Name, Resolution, with_full_name, with_occurrence_name, names_from, names, Token, Replacement, IsWhole, closed_in, stored, too_many, AreAnswers, AreLinked, occurrence_text, replacement_bytes, occurrence_form, occurrences_at, replacements_at, stored_in, AreLast, AreStored}
 use Rattle.std.specs.Prelude.{◌^◌}
 use Rattle.cweb_store.proofs.RangeLemmas.{drop-here}
-
-with_texts-is : (ts : List (List ℕ)) (c : ClosedTokensModel)
-    → with_strings ts c ≡ record { tokens = c.tokens; others = c.others ++ ts }
-with_texts-is [] c = λ i. record { tokens = c.tokens; others = sym (append-nil c.others) i }
-with_texts-is (t ∷ ts) c = with_texts-is ts (record c { others = c.others ++ t ∷ [] })
-    ∙ (λ i. record { tokens = c.tokens; others = append_assoc c.others (t ∷ []) ts i })
 
 occurrences-back : (os : List Occurrence) (more : List (List ℕ))
     → occurrences_at (map occurrence_text os ++ more) (map occurrence_form os) ≡ os
@@ -29,20 +23,15 @@ replacements-behind os rs =
       replacements-back rs,
     )
 
-abbrev pub all_texts : List Token → List Occurrence → List Replacement → ClosedTokensModel
-all_texts ts os rs = with_strings (map replacement_bytes rs) (with_strings (map occurrence_text os) (tokens_alone ts))
-
-all_texts-are : (ts : List Token) (os : List Occurrence) (rs : List Replacement)
-    → all_texts ts os rs ≡ record { tokens = ts; others = map occurrence_text os ++ map replacement_bytes rs }
-all_texts-are ts os rs =
-    grind (arith, with_texts-is (map occurrence_text os) (tokens_alone ts), with_texts-is (map replacement_bytes rs))
+-- The strings of occurrences, then those of replacements.
+abbrev pub strings_of : List Occurrence → List Replacement → List (List ℕ)
+strings_of os rs = map occurrence_text os ++ map replacement_bytes rs
 
 -- The representation has the model of what was added.
 pub stored-is : (ts : List Token) (ranges : List PartRange) (os : List Occurrence) (rs : List Replacement)
-    → stored_in (all_texts ts os rs) ranges (map occurrence_form os) (map (λ r. r.byte) rs)
+    → stored_in ts ranges (strings_of os rs) (map occurrence_form os) (map (λ r. r.byte) rs)
     ≡ stored os (map (closed_in ts) ranges) rs
-stored-is ts ranges os rs =
-    cc (all_texts-are ts os rs, occurrences-back os (map replacement_bytes rs), replacements-behind os rs)
+stored-is ts ranges os rs = cc (occurrences-back os (map replacement_bytes rs), replacements-behind os rs)
 
 pub stored-are : (ts : List Token)
     (ranges : List PartRange) (links : Links) (os : List Occurrence) (rs : List Replacement)
@@ -51,13 +40,11 @@ pub stored-are : (ts : List Token)
     → IsWhole ts ranges → AreLinked resolutions ranges links.skips.items links.heads
     → AreLast last_places (map (λ r. r.byte) rs) → firsts ≡ map (λ n. n.first) (names os) → length (names os) < too_many
     → length resolutions < 2 ^ 32 → AreAnswers os (map (closed_in ts) ranges) resolutions files faults has_defs
-    → AreStored (all_texts ts os rs)
-    ranges links (map occurrence_form os) (map (λ r. r.byte) rs) last_places firsts resolutions files faults has_defs
+    → AreStored ts ranges links (strings_of os rs)
+    (map occurrence_form os) (map (λ r. r.byte) rs) last_places firsts resolutions files faults has_defs
 stored-are ts ranges links os rs last_places firsts resolutions files faults has_defs whole linked last places few
     small answers =
     let back = occurrences-back os (map replacement_bytes rs) in
-    let flat : AreStored (record { tokens = ts; others = map occurrence_text os ++ map replacement_bytes rs })
-    ranges links (map occurrence_form os) (map (λ r. r.byte) rs) last_places firsts resolutions files faults has_defs =
     record {
       whole = whole;
       linked = linked;
@@ -77,11 +64,7 @@ stored-are ts ranges links os rs last_places firsts resolutions files faults has
       answers =
           subst (λ (xs : List Occurrence). AreAnswers xs (map (closed_in ts) ranges) resolutions files faults has_defs)
           (sym back) answers;
-    } in
-    subst (λ (c : ClosedTokensModel).
-    AreStored c ranges links (map occurrence_form os) (map (λ r. r.byte) rs)
-    last_places firsts resolutions files faults has_defs)
-    (sym (all_texts-are ts os rs)) flat
+    }
 
 pub occurrence-text : (ts : List (List ℕ)) (gs : List OccurrenceForm) (k : ℕ) → k < length (occurrences_at ts gs)
     → option_map (λ (o : Occurrence). o.text) (slice_get (occurrences_at ts gs) k) ≡ slice_get ts k

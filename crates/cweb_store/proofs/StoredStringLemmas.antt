@@ -1,8 +1,9 @@
 -- The strings of a store: replacements, and the number of bytes.
-use Rattle.cweb_store.proofs.Common.{◌≡◌, ℕ, suc, ◌+◌, ◌≤◌, ◌<◌, Bool, true, false, List, [], ◌∷◌, ◌++◌, Option, Some, None, map, length, drop, refl, sym, ◌∙◌, ap, subst, arith, flat_map, slice_get, option_and_then, nat_eq, if◌then◌else◌, OccurrenceForm, PartRange, Token, all_tokens, replaced_by, replacement, IsWhole, closed_in, Stored, total, token_strings, interned_token_bytes, occurrence_text, replacement_bytes, stored_strings, uninterned_store_bytes, interned_store_bytes, AreSpansOf, AreInOneList, ClosedTokensModel, occurrences_at, replacements_at, last_from, stored_in}
+use Rattle.cweb_store.proofs.Common.{◌≡◌, ℕ, suc, ◌+◌, ◌≤◌, ◌<◌, Bool, true, false, List, [], ◌∷◌, ◌++◌, Option, Some, None, map, length, drop, refl, sym, ◌∙◌, ap, subst, arith, length-append, flat_map, slice_get, option_and_then, nat_eq, if◌then◌else◌, OccurrenceForm, PartRange, Token, all_tokens, replaced_by, replacement, IsWhole, closed_in, Stored, total, token_strings, interned_token_bytes, occurrence_text, replacement_bytes, stored_strings, uninterned_store_bytes, interned_store_bytes, AreSpansOf, AreInOneList, occurrences_at, replacements_at, last_from, stored_in}
 use Rattle.cweb_store.proofs.RangeLemmas.{drop-here}
+use Rattle.cweb_texts.specs.inner.StringLists.{text_bytes}
 use Rattle.cweb_store.proofs.WordLemmas.{kept-few}
-use Rattle.cweb_store.proofs.TokenStringLemmas.{all-drop, all-both}
+use Rattle.cweb_store.proofs.TokenStringLemmas.{all-drop, all-both, all-before, all-after, strings-stand, bytes-total}
 use Rattle.cweb_store.proofs.PartRangeLemmas.{whole-tokens}
 
 -- The replacement of a byte is the last one.
@@ -40,7 +41,7 @@ last_from-within byte i n found (b ∷ bs) k early h is = last_from-within byte
 pub last-within : (byte : ℕ) (bs : List ℕ) (k : ℕ) → last_from byte None 0 bs ≡ Some k → k < length bs
 last-within byte bs k is = last_from-within byte 0 (length bs) None bs k (λ j e. cc) (omega arith) is
 
--- The strings of occurrences are among the other strings.
+-- The strings of occurrences are among the strings of the store.
 occurrences-stand : (bytes : List ℕ) (ts : List (List ℕ)) (gs : List OccurrenceForm)
     → AreSpansOf bytes ts → AreSpansOf bytes (map occurrence_text (occurrences_at ts gs))
 occurrences-stand bytes ts [] h = tt
@@ -53,29 +54,26 @@ replacements-stand bytes ts [] h = tt
 replacements-stand bytes [] (b ∷ bs) h = tt
 replacements-stand bytes (t ∷ ts) (b ∷ bs) h = (h.0, replacements-stand bytes ts bs h.1)
 
-front-stands : (bytes : List ℕ) (ts us : List (List ℕ))
-    → AreSpansOf bytes (ts ++ us) → AreSpansOf bytes ts × AreSpansOf bytes us
-front-stands bytes [] us h = (tt, h)
-front-stands bytes (t ∷ ts) us h = grind (arith, front-stands bytes ts us h.1)
-
-pub store-strings : (n : ℕ) (c : ClosedTokensModel) (ranges : List PartRange) (given : List OccurrenceForm)
-    (replaced : List ℕ)
-    → IsWhole c.tokens ranges → AreInOneList n (flat_map token_strings c.tokens ++ c.others)
-    → AreInOneList n (stored_strings (stored_in c ranges given replaced))
-store-strings n c ranges given replaced whole all =
-    let both = front-stands all.bytes (flat_map token_strings c.tokens) c.others all.ranges in
-    let os = occurrences_at c.others given in
-    let rs = replacements_at (drop (length given) c.others) replaced in
-    let others = all-both all.bytes (map occurrence_text os)
-    (map replacement_bytes rs) (occurrences-stand all.bytes c.others given both.1) (replacements-stand all.bytes
-    (drop (length given) c.others) replaced (all-drop all.bytes (length given) c.others both.1)) in
-    let tokens = subst (λ (ts : List Token). AreSpansOf all.bytes (flat_map token_strings ts))
-    (sym (whole-tokens c.tokens ranges whole)) both.0 in
+pub store-strings : (n m : ℕ) (tokens : List Token) (ranges : List PartRange) (strings : List (List ℕ))
+    (given : List OccurrenceForm) (replaced : List ℕ)
+    → IsWhole tokens ranges → AreInOneList n (flat_map token_strings tokens) → m ≡ length (text_bytes strings)
+    → AreInOneList (n + m) (stored_strings (stored_in tokens ranges strings given replaced))
+store-strings n m tokens ranges strings given replaced whole all count =
+    let bytes = all.bytes ++ text_bytes strings in
+    let own : AreSpansOf bytes (flat_map token_strings (all_tokens (map (closed_in tokens) ranges))) =
+    subst (λ (ts : List Token). AreSpansOf bytes (flat_map token_strings ts)) (sym (whole-tokens tokens ranges whole))
+    (all-before all.bytes (text_bytes strings) (flat_map token_strings tokens) all.ranges) in
+    let others = all-after all.bytes (text_bytes strings) strings (strings-stand strings) in
+    let os = occurrences_at strings given in
+    let rs = replacements_at (drop (length given) strings) replaced in
     record {
-      bytes = all.bytes;
-      count = all.count;
-      ranges = all-both all.bytes (flat_map token_strings (all_tokens (map (closed_in c.tokens) ranges)))
-          (map occurrence_text os ++ map replacement_bytes rs) tokens others;
+      bytes = bytes;
+      count = omega (arith, length-append all.bytes (text_bytes strings), all.count, count);
+      ranges = all-both bytes (flat_map token_strings (all_tokens (map (closed_in tokens) ranges)))
+          (map occurrence_text os ++ map replacement_bytes rs) own
+          (all-both bytes (map occurrence_text os) (map replacement_bytes rs)
+          (occurrences-stand bytes strings given others) (replacements-stand bytes (drop (length given) strings) replaced
+          (all-drop bytes (length given) strings others)));
     }
 
 -- The number of bytes of the other strings.
@@ -94,11 +92,13 @@ others-total (t ∷ ts) [] bs h = omega (arith, replacements-total (t ∷ ts) bs
 others-total [] (g ∷ gs) bs h = absurd (let none : ⊥ = omega arith in none)
 others-total (t ∷ ts) (g ∷ gs) bs h = omega (arith, others-total ts gs bs (omega arith))
 
-pub store-bytes : (c : ClosedTokensModel) (ranges : List PartRange) (given : List OccurrenceForm) (replaced : List ℕ)
-    → IsWhole c.tokens ranges → length c.others ≡ length given + length replaced →
-    interned_token_bytes c.tokens + total length c.others ≡ interned_store_bytes (stored_in c ranges given replaced)
-store-bytes c ranges given replaced whole size =
-    cc (whole-tokens c.tokens ranges whole, others-total c.others given replaced size)
+pub store-bytes : (tokens : List Token) (ranges : List PartRange) (strings : List (List ℕ))
+    (given : List OccurrenceForm) (replaced : List ℕ)
+    → IsWhole tokens ranges → length strings ≡ length given + length replaced
+    → interned_token_bytes tokens + length (text_bytes strings)
+    ≡ interned_store_bytes (stored_in tokens ranges strings given replaced)
+store-bytes tokens ranges strings given replaced whole size =
+    cc (whole-tokens tokens ranges whole, bytes-total strings, others-total strings given replaced size)
 
 -- Interning never needs more bytes.
 pub bytes-few : (s : Stored) → interned_store_bytes s ≤ uninterned_store_bytes s

@@ -1,28 +1,36 @@
 -- Strings in one list of bytes, and how many bytes tokens and strings have.
-use Rattle.cweb_store.proofs.Common.{◌≡◌, ℕ, zero, suc, ◌+◌, ◌<◌, ◌≤◌, Bool, List, [], ◌∷◌, ◌++◌, map, length, take, drop, refl, sym, ◌∙◌, ap, arith, length-append, append_assoc, flat_map, filter, bytes_eq, list_any, take-append-drop, Token, total, token_strings, interned_token_bytes, AreSpansOf, AreInOneList, filter-append, InternedToken, token_of_interned, StringIsWithin, StringsAreWithin, InternsToken, has_string}
-use Rattle.std.proofs.lemmas.List.{drop-append-le, take-append-le, take-map}
+use Rattle.cweb_store.proofs.Common.{◌≡◌, ℕ, zero, suc, ◌<◌, ◌≤◌, Bool, List, [], ◌∷◌, ◌++◌, map, length, take, drop, refl, sym, ◌∙◌, ap, arith, length-append, append_assoc, flat_map, filter, bytes_eq, list_any, Token, total, token_strings, interned_token_bytes, AreSpansOf, filter-append, InternedToken, token_of_interned, StringIsWithin, StringsAreWithin, InternsToken, has_string}
+use Rattle.std.proofs.lemmas.List.{take-map}
 use Rattle.cweb_store.specs.declared.tokens.interned.InternedToken.TheVariants.{Number, Literal, Verbatim, Word, Punct}
 use Rattle.cweb_texts.specs.inner.StringLists.{text_bytes, string_at}
 use Rattle.cweb_texts.specs.inner.StringTables.{StringTableModel, has_word}
 use Rattle.cweb_store.specs.surface.TokenStrings.{words_of, other_bytes, IsSpanOf}
-use Rattle.cweb_store.specs.inner.ClosedTokens.{closed_tokens_model, AreTokens, AreClosed, with_string}
-use Rattle.cweb_store.proofs.InternedTokenLemmas.{packs-tokens, packs-all, interned-take, interned-grow, tokens-grow}
+use Rattle.cweb_store.specs.inner.ClosedTokens.{AreTokens}
+use Rattle.cweb_store.proofs.InternedTokenLemmas.{packs-tokens, packs-all, interned-take}
 use Rattle.cweb_texts.proofs.WordLemmas.{total-append}
 use Rattle.cweb_store.proofs.WordLemmas.{words-push, same-words, same-bytes, same-more, same-more-bytes}
 
 stands-after : (x bytes string : List ℕ) → IsSpanOf bytes string → IsSpanOf (x ++ bytes) string
 stands-after x bytes string s = (x ++ s.0, s.1, ap (λ b. x ++ b) s.2 ∙ sym (append_assoc x s.0 (string ++ s.1)))
 
-all-after : (x bytes : List ℕ) (ts : List (List ℕ)) → AreSpansOf bytes ts → AreSpansOf (x ++ bytes) ts
+pub all-after : (x bytes : List ℕ) (ts : List (List ℕ)) → AreSpansOf bytes ts → AreSpansOf (x ++ bytes) ts
 all-after x bytes [] h = tt
 all-after x bytes (t ∷ ts) h = (stands-after x bytes t h.0, all-after x bytes ts h.1)
+
+stands-before : (bytes x string : List ℕ) → IsSpanOf bytes string → IsSpanOf (bytes ++ x) string
+stands-before bytes x string s = (s.0, s.1 ++ x, ap (λ b. b ++ x) s.2 ∙ append_assoc s.0 (string ++ s.1) x
+    ∙ ap (λ b. s.0 ++ b) (append_assoc string s.1 x))
+
+pub all-before : (bytes x : List ℕ) (ts : List (List ℕ)) → AreSpansOf bytes ts → AreSpansOf (bytes ++ x) ts
+all-before bytes x [] h = tt
+all-before bytes x (t ∷ ts) h = (stands-before bytes x t h.0, all-before bytes x ts h.1)
 
 string-stands : (ts : List (List ℕ)) (n : ℕ) → n < length ts → IsSpanOf (text_bytes ts) (string_at ts n)
 string-stands [] n h = absurd (let none : ⊥ = omega arith in none)
 string-stands (t ∷ ts) zero h = ([], text_bytes ts, refl)
 string-stands (t ∷ ts) (suc n) h = stands-after t (text_bytes ts) (string_at ts n) (string-stands ts n (omega arith))
 
-strings-stand : (ts : List (List ℕ)) → AreSpansOf (text_bytes ts) ts
+pub strings-stand : (ts : List (List ℕ)) → AreSpansOf (text_bytes ts) ts
 strings-stand [] = tt
 strings-stand (t ∷ ts) = (([], text_bytes ts, refl), all-after t (text_bytes ts) ts (strings-stand ts))
 
@@ -46,25 +54,15 @@ token-stands ts (Verbatim n) h = (string-stands ts n h, tt)
 token-stands ts (Punct n) h = (string-stands ts n h, tt)
 token-stands ts _ h = tt
 
-tokens-stand : (ts : List (List ℕ)) (ps : List InternedToken) → StringsAreWithin ts ps
+pub tokens-stand : (ts : List (List ℕ)) (ps : List InternedToken) → StringsAreWithin ts ps
     → AreSpansOf (text_bytes ts) (flat_map token_strings (map (token_of_interned ts) ps))
 tokens-stand ts [] h = tt
 tokens-stand ts (p ∷ ps) h = all-both (text_bytes ts) (token_strings (token_of_interned ts p))
     (flat_map token_strings (map (token_of_interned ts) ps)) (token-stands ts p h.0) (tokens-stand ts ps h.1)
 
-bytes-total : (ts : List (List ℕ)) → length (text_bytes ts) ≡ total length ts
+pub bytes-total : (ts : List (List ℕ)) → length (text_bytes ts) ≡ total length ts
 bytes-total [] = refl
 bytes-total (t ∷ ts) = omega (arith, length-append t (text_bytes ts), bytes-total ts)
-
-bytes-split : (own : ℕ) (ts : List (List ℕ))
-    → length (text_bytes ts) ≡ length (text_bytes (take own ts)) + total length (drop own ts)
-bytes-split own ts =
-    cc (
-      take-append-drop own ts,
-      bytes-total ts,
-      bytes-total (take own ts),
-      total-append length (take own ts) (drop own ts),
-    )
 
 -- One more token.
 pub packs-are : (old new : StringTableModel) (ps : List InternedToken) (t : Token) (p : InternedToken)
@@ -130,40 +128,3 @@ filter-few p (x ∷ xs) = grind (arith, p x, filter-few p xs)
 pub strings-few : (kept : StringTableModel) (ps : List InternedToken) → AreTokens kept ps
     → length kept.strings ≤ length (map (token_of_interned kept.strings) ps)
 strings-few kept ps all = omega (arith, all.few, filter-few has_string (map (token_of_interned kept.strings) ps))
-
--- One more of the other strings.
-pub closed-add : (strings : List (List ℕ)) (t : List ℕ) (ps : List InternedToken) (own : ℕ)
-    → AreClosed strings ps own → AreClosed (strings ++ t ∷ []) ps own
-closed-add strings t ps own all =
-    grind (
-      arith,
-      take-append-le own strings (t ∷ []) all.within,
-      interned-grow strings (t ∷ []) ps all.interned,
-      length-append strings (t ∷ []),
-      tokens-grow strings (t ∷ []) ps all.interned,
-    )
-
-pub closed-added : (strings : List (List ℕ)) (t : List ℕ) (ps : List InternedToken) (own : ℕ) → AreClosed strings ps own
-    → closed_tokens_model (strings ++ t ∷ []) ps own ≡ with_string t (closed_tokens_model strings ps own)
-closed-added strings t ps own all =
-    cc (tokens-grow strings (t ∷ []) ps all.interned, drop-append-le own strings (t ∷ []) all.within)
-
--- All strings are in one list of bytes.
-pub all-strings : (strings : List (List ℕ)) (ps : List InternedToken) (own n : ℕ) → AreClosed strings ps own
-    → n ≡ length (text_bytes strings)
-    → AreInOneList n (flat_map token_strings (map (token_of_interned strings) ps) ++ drop own strings)
-all-strings strings ps own n all count =
-    grind (
-      arith,
-      all-both (text_bytes strings) (flat_map token_strings (map (token_of_interned strings) ps)) (drop own strings)
-          (tokens-stand strings ps all.interned) (all-drop (text_bytes strings) own strings (strings-stand strings)),
-      tokens-stand strings
-          ps all.interned,
-      all-drop (text_bytes strings) own strings (strings-stand strings),
-      strings-stand strings,
-    )
-
-pub all-bytes : (strings : List (List ℕ)) (ps : List InternedToken) (own : ℕ) → AreClosed strings ps own
-    → length (text_bytes strings)
-    ≡ interned_token_bytes (map (token_of_interned strings) ps) + total length (drop own strings)
-all-bytes strings ps own all = omega (arith, bytes-split own strings, all.bytes)

@@ -4,9 +4,8 @@ ghost use Rattle.std.specs.Prelude.{◌≡◌, ◌++◌, ◌∷◌, [], map, IfO
 ghost use Rattle.cweb_store.specs.surface.Replacements.{replacement_of};
 ghost use Rattle.cweb_store.specs.inner.Stored.{AreLast};
 ghost use Rattle.cweb_store.specs.surface.StoredStrings.{replacement_bytes};
-ghost use Rattle.cweb_store.specs.inner.ClosedTokens.{with_strings};
 
-use crate::tokens::closed::ClosedTokens;
+use cweb_texts::StringList;
 use std::alloc::{AllocError, Global};
 use std::marker::Model;
 
@@ -55,15 +54,15 @@ impl Replacements {
         Ok(())
     }
 
-    /// Appends the replacements to the strings of the tokens, and returns the replaced bytes.
-    pub fn close(self, tokens: &mut ClosedTokens) -> Result<Vec<u8>, AllocError>
+    /// Appends the replacements to strings, and returns the replaced bytes.
+    pub fn close(self, strings: &mut StringList) -> Result<Vec<u8>, AllocError>
         ensures bytes { IfOk result (λ bytes. bytes.items ≡ map (λ r. r.byte) self) }
         ensures strings { OnOk result
-            (tokens.new ≡ with_strings (map replacement_bytes self) tokens.old) }
+            (strings.new ≡ strings.old ++ map replacement_bytes self) }
     {
         let mut bytes = Vec::with_capacity(self.alloc, self.given.len())?;
         for replaced in &self.given {
-            tokens.add(replaced.text.as_slice())?;
+            strings.add(replaced.text.as_slice())?;
             bytes.push(replaced.byte)?;
         }
         Ok(bytes)

@@ -2,7 +2,6 @@
 
 pub(crate) mod answers;
 mod parts_wanted;
-mod stored_strings;
 pub mod token_access;
 
 ghost use Rattle.std.specs.Prelude.{◌≡◌, ◌<◌, ◌≤◌, length, slice_get, option_map, Some, None, IfOk};
@@ -22,10 +21,10 @@ use crate::parts::links::Links;
 use crate::parts::{Part, PartRange};
 use crate::replacements::{Replacements, last_places};
 use crate::store::answers::Answers;
-use crate::store::stored_strings::StoredStrings;
 use crate::tokens::Token;
 use crate::tokens::closed::ClosedTokens;
 use cweb_names::{NameFault, NameId, NameKind, NameRef, NameTable, OccurrenceForm, resolved_at};
+use cweb_texts::StringList;
 use indexmap::IndexSet;
 use std::alloc::{AllocError, Global};
 use std::marker::Model;
@@ -35,6 +34,8 @@ pub struct Store {
     tokens: ClosedTokens,
     ranges: Vec<PartRange>,
     links: Links,
+    // the strings of the occurrences, then those of the replacements
+    strings: StringList,
     given: Vec<OccurrenceForm>,
     replaced: Vec<u8>,
     last_places: Vec<Option<usize>>,
@@ -52,6 +53,7 @@ impl Drop for Store {
             tokens: _,
             ranges: _,
             links: _,
+            strings: _,
             given: _,
             replaced: _,
             last_places: _,
@@ -71,11 +73,12 @@ impl Model for Store {
 
     ghost use Rattle.cweb_store.specs.inner.Stored.{stored_in, AreStored};
 
-    ghost view = { λ s. stored_in s.tokens s.ranges.items s.given.items s.replaced.items };
+    ghost view = { λ s.
+        stored_in s.tokens s.ranges.items s.strings s.given.items s.replaced.items };
 
     ghost invariant = { λ s.
-        AreStored s.tokens s.ranges.items s.links s.given.items s.replaced.items s.last_places.items
-        s.firsts.items s.resolutions.items s.files.keys s.faults.items s.has_defs_code };
+        AreStored s.tokens s.ranges.items s.links s.strings s.given.items s.replaced.items
+        s.last_places.items s.firsts.items s.resolutions.items s.files.keys s.faults.items s.has_defs_code };
 }
 
 impl Store {
@@ -91,12 +94,8 @@ impl Store {
     {
         let answers = Answers::of(alloc, &table, &parts)?;
         let (tokens, ranges) = parts.take_apart();
-        let strings = StoredStrings::of(tokens, table, replacements)?;
-        let StoredStrings {
-            tokens,
-            given,
-            replaced,
-        } = strings;
+        let (mut strings, given) = table.close();
+        let replaced = replacements.close(&mut strings)?;
         let Answers {
             resolutions,
             files,
@@ -110,6 +109,7 @@ impl Store {
             tokens,
             ranges,
             links,
+            strings,
             given,
             replaced,
             last_places,
@@ -168,7 +168,7 @@ impl Store {
         ensures { option_map (λ n. n.text) (slice_get (spec.names self.now.occurrences) name.0)
             ≡ Some result.now }
     {
-        self.tokens.other(self.firsts[name.0 as usize] as usize)
+        self.strings.string(self.firsts[name.0 as usize] as usize)
     }
 
     /// The bytes of an occurrence. For an abbreviation, these are its prefix without the dots.
@@ -177,7 +177,7 @@ impl Store {
         ensures { option_map (λ o. o.text) (slice_get self.now.occurrences name.0)
             ≡ Some result.now }
     {
-        self.tokens.other(name.0 as usize)
+        self.strings.string(name.0 as usize)
     }
 
     /// The file names, ordered by their first occurrence as a file's.
@@ -202,7 +202,7 @@ impl Store {
         let Some(number) = self.last_places[byte as usize] else {
             return None;
         };
-        Some(self.tokens.other(self.given.len() + number))
+        Some(self.strings.string_after(self.given.len(), number))
     }
 
     /// The faults of names, in the order of their reports.
@@ -214,13 +214,13 @@ impl Store {
         self.faults.as_slice()
     }
 
-    /// The number of bytes of all strings: of tokens, names and replacements. They are in one list of that many bytes.
-    /// Equal strings of Words and punctuators are stored once.
+    /// The number of bytes of all strings: of tokens, occurrences and replacements. Equal strings of Words and
+    /// punctuators are stored once.
     pub fn text_bytes(&self) -> u64
         ensures strings { AreInOneList result (stored_strings self.now) }
         ensures once { result ≡ interned_store_bytes self.now }
         ensures few { result ≤ uninterned_store_bytes self.now }
     {
-        self.tokens.text_bytes() as u64
+        self.tokens.text_bytes() as u64 + self.strings.text_bytes() as u64
     }
 }

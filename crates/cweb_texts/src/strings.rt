@@ -1,6 +1,6 @@
 // Strings in one byte buffer.
 
-ghost use Rattle.std.specs.Prelude.{◌≡◌, ◌<◌, ◌+◌, ◌++◌, ◌∷◌, [], List, ℕ, length, drop, take};
+ghost use Rattle.std.specs.Prelude.{◌≡◌, ◌<◌, ◌+◌, ◌^◌, ◌++◌, ◌∷◌, [], List, ℕ, length, drop, take};
 ghost use Rattle.std.specs.Prelude.{slice_get, Some, IfOk, OnOk, OnErr};
 ghost use Rattle.cweb_texts.specs.inner.Edges.{IsStoredEdge};
 ghost use Rattle.cweb_texts.specs.inner.StringLists.{IsFromStart, text_bytes};
@@ -138,7 +138,8 @@ impl StringList {
 
     /// The number of bytes of all strings.
     pub fn text_bytes(&self) -> usize
-        ensures { result ≡ length (text_bytes self.now) }
+        ensures bytes { result ≡ length (text_bytes self.now) }
+        ensures few { result < 2 ^ 63 }
     {
         self.bytes.len()
     }

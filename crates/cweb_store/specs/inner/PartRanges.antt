@@ -6,7 +6,6 @@ use Rattle.cweb_store.specs.declared.parts.Open.{Open}
 use Rattle.cweb_store.specs.Parts.{Token, Part}
 use Rattle.cweb_store.specs.Calls.{PartsSoFar}
 use Rattle.cweb_names.specs.surface.Names.{too_many}
-use Rattle.cweb_store.specs.inner.ClosedTokens.{ClosedTokensModel, tokens_alone}
 
 abbrev pub closed_in : List Token → PartRange → Part
 closed_in ts r = record { kind = r.kind; tokens = slice_range ts r.part.first r.part.after }
@@ -40,11 +39,6 @@ pub record IsWhole (ts : List Token) (ranges : List PartRange) : Type 0 where
   pub follow : RangesFollow 0 ranges (length ts)
   pub few_tokens : length ts < too_many
   pub few_parts : length ranges < too_many
-
--- Contiguous closed parts cover all tokens, and there are no other strings.
-pub record AreClosedRanges (c : ClosedTokensModel) (ranges : List PartRange) : Type 0 where
-  pub whole : IsWhole c.tokens ranges
-  pub alone : c ≡ tokens_alone c.tokens
 
 -- The ranges of parts if the first token has index n.
 abbrev pub ranges_from : ℕ → List Part → List PartRange

@@ -13,7 +13,7 @@ use Rattle.cweb_store.specs.Calls.{Replacement, Stored, stored}
 use Rattle.cweb_store.specs.surface.Replacements.{replacement_of}
 use Rattle.cweb_store.specs.inner.PartRanges.{IsWhole, closed_in}
 use Rattle.cweb_store.specs.inner.Links.{AreLinked}
-use Rattle.cweb_store.specs.inner.ClosedTokens.{ClosedTokensModel}
+use Rattle.cweb_store.specs.Parts.{Token}
 use Rattle.cweb_store.specs.inner.Answers.{AreAnswers}
 
 -- Replacements from their strings and bytes.
@@ -31,21 +31,20 @@ last_from byte found i (b ∷ bs) = last_from byte (if nat_eq b byte then Some i
 abbrev pub AreLast : List (Option ℕ) → List ℕ → Type 0
 AreLast places bytes = (byte : ℕ) → byte < 256 → slice_get places byte ≡ Some (last_from byte None 0 bytes)
 
--- After the tokens' strings come those of the occurrences, then those of the replacements.
-abbrev pub stored_in : ClosedTokensModel → List PartRange → List OccurrenceForm → List ℕ → Stored
-stored_in c ranges given replaced =
-    stored (occurrences_at c.others given) (map (closed_in c.tokens) ranges)
-    (replacements_at (drop (length given) c.others) replaced)
+-- The strings are those of the occurrences, then those of the replacements.
+abbrev pub stored_in : List Token → List PartRange → List (List ℕ) → List OccurrenceForm → List ℕ → Stored
+stored_in tokens ranges strings given replaced =
+    stored (occurrences_at strings given) (map (closed_in tokens) ranges)
+    (replacements_at (drop (length given) strings) replaced)
 
-pub record AreStored (c : ClosedTokensModel) (ranges : List PartRange) (links : Links) (given : List OccurrenceForm)
-    (replaced : List ℕ) (last_places : List (Option ℕ)) (firsts : List ℕ) (resolutions : List Resolution)
-    (files : List NameId) (faults : List NameFault) (has_defs : Bool) : Type 0 where
-  pub whole : IsWhole c.tokens ranges
+pub record AreStored (tokens : List Token) (ranges : List PartRange) (links : Links) (texts : List (List ℕ))
+    (given : List OccurrenceForm) (replaced : List ℕ) (last_places : List (Option ℕ)) (firsts : List ℕ)
+    (resolutions : List Resolution) (files : List NameId) (faults : List NameFault) (has_defs : Bool) : Type 0 where
+  pub whole : IsWhole tokens ranges
   pub linked : AreLinked resolutions ranges links.skips.items links.heads
-  pub strings : length c.others ≡ length given + length replaced
+  pub strings : length texts ≡ length given + length replaced
   pub last : AreLast last_places replaced
   pub small : length resolutions < 2 ^ 32
   pub few : length firsts < too_many
-  pub first_places : firsts ≡ map (λ n. n.first) (names (occurrences_at c.others given))
-  pub answers : AreAnswers (occurrences_at c.others given)
-      (map (closed_in c.tokens) ranges) resolutions files faults has_defs
+  pub first_places : firsts ≡ map (λ n. n.first) (names (occurrences_at texts given))
+  pub answers : AreAnswers (occurrences_at texts given) (map (closed_in tokens) ranges) resolutions files faults has_defs

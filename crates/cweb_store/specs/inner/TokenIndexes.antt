@@ -30,8 +30,8 @@ pub record AreIndexedTokens (kept : StringTableModel) (records : List InternedTo
   pub tokens : AreTokens kept records
   pub notes : IsTokenIndex token_index (map (token_of_interned kept.strings) records)
 
--- The first `own` strings are those of the records, whose uses and Defs are indexed; other strings may follow.
-pub record AreIndexedClosedTokens (strings : List (List ℕ)) (records : List InternedToken) (own : ℕ)
+-- The strings are those of the records, whose uses and Defs are indexed.
+pub record AreIndexedClosedTokens (strings : List (List ℕ)) (records : List InternedToken)
     (token_index : TokenIndex) : Type 0 where
-  pub tokens : AreClosed strings records own
+  pub tokens : AreClosed strings records
   pub notes : IsTokenIndex token_index (map (token_of_interned strings) records)

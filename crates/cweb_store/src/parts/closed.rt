@@ -3,7 +3,6 @@
 ghost use Rattle.std.specs.Prelude.{◌≡◌, ◌<◌, [], length, map, IfOk};
 ghost use Rattle.cweb_names.specs.surface.Names.{too_many};
 ghost use Rattle.cweb_store.specs.Parts.{has_defs_code};
-ghost use Rattle.cweb_store.specs.inner.ClosedTokens.{tokens_alone};
 ghost use Rattle.cweb_store.specs.inner.PartRanges.{IsWhole, closed_in, ranges_from};
 ghost use Rattle.cweb_store.specs.inner.NameUses.{used_in};
 
@@ -27,11 +26,11 @@ impl Model for ClosedParts {
 
     ghost Value = { List Part };
 
-    ghost use Rattle.cweb_store.specs.inner.PartRanges.{closed_in, AreClosedRanges};
+    ghost use Rattle.cweb_store.specs.inner.PartRanges.{closed_in, IsWhole};
 
-    ghost view = { λ s. map (closed_in s.tokens.tokens) s.ranges.items };
+    ghost view = { λ s. map (closed_in s.tokens) s.ranges.items };
 
-    ghost invariant = { λ s. AreClosedRanges s.tokens s.ranges.items };
+    ghost invariant = { λ s. IsWhole s.tokens s.ranges.items };
 }
 
 impl ClosedParts {
@@ -43,11 +42,10 @@ impl ClosedParts {
         self.ranges.as_slice()
     }
 
-    /// The tokens of all parts, to which other strings may be appended, and the ranges of the parts.
+    /// The tokens of all parts, and the ranges of the parts.
     pub fn take_apart(self) -> (ClosedTokens, Vec<PartRange>)
-        ensures alone { result.0 ≡ tokens_alone result.0.tokens }
-        ensures whole { IsWhole result.0.tokens result.1.items }
-        ensures parts { map (closed_in result.0.tokens) result.1.items ≡ self }
+        ensures whole { IsWhole result.0 result.1.items }
+        ensures parts { map (closed_in result.0) result.1.items ≡ self }
     {
         let ClosedParts { tokens, ranges } = self;
         (tokens, ranges)

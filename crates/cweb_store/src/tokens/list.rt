@@ -4,7 +4,6 @@ ghost use Rattle.std.specs.Prelude.{◌≡◌, ◌<◌, ◌+◌, ◌++◌, ◌�
 ghost use Rattle.std.specs.Prelude.{slice_get, OnOk, OnErr};
 ghost use Rattle.cweb_names.specs.surface.Names.{too_many};
 ghost use Rattle.cweb_store.specs.inner.TokenStrings.{has_string};
-ghost use Rattle.cweb_store.specs.inner.ClosedTokens.{tokens_alone};
 
 use crate::tokens::Token;
 use crate::tokens::closed::ClosedTokens;
@@ -113,21 +112,18 @@ impl TokenList {
         self.token_index.truncate(count);
     }
 
-    /// The finished tokens. Other strings may follow theirs.
+    /// The finished tokens.
     pub fn close(self) -> ClosedTokens
-        ensures { result ≡ tokens_alone self.tokens }
+        ensures { result ≡ self.tokens }
     {
         let TokenList {
             strings,
             records,
             token_index,
         } = self;
-        let strings = strings.close();
-        let own = strings.len();
         ClosedTokens {
-            strings,
+            strings: strings.close(),
             records,
-            own,
             token_index,
         }
     }

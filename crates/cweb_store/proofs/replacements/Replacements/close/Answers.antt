@@ -1,4 +1,4 @@
-use Rattle.cweb_store.proofs.Common.{◌≡◌, map, sym, ◌∙◌, ap, arith, common_steps, take_all, drop_all, replacement_in, Replacement, replacement_bytes, with_strings}
+use Rattle.cweb_store.proofs.Common.{◌≡◌, ℕ, ◌++◌, List, map, ◌∙◌, ap, arith, common_steps, append_assoc, take_all, replacement_in, Replacement, replacement_bytes}
 use Rattle.cweb_store.proofs.StoredStringLemmas.{map-both}
 use Rattle.cweb_store.proofs.replacements.Replacements.close.Goals as goal
 
@@ -15,11 +15,11 @@ pub returns-clause-strings : goal.returns-clause-strings
 returns-clause-strings c =
     let s = c.self.inside in
     let items : c.deref-replaced-items.result.now ≡ s.given.items = c.deref-replaced-items.ensures.value in
-    let none = drop_all c.loop-replaced.replaced-index c.deref-replaced-items.result.now c.loop-replaced-test.false in
-    ap (λ xs. with_strings (map (λ x. replacement_bytes (replacement_in x)) xs) c.loop-replaced.tokens) (sym none)
-    ∙ c.loop-replaced.invariant.strings
-    ∙ ap (λ ts. with_strings ts c.args.tokens.now) (ap (map (λ x. replacement_bytes (replacement_in x))) items
+    let all = take_all c.loop-replaced.replaced-index c.deref-replaced-items.result.now c.loop-replaced-test.false in
+    c.loop-replaced.invariant.strings
+    ∙ ap (λ (ts : List (List ℕ)). c.args.strings.now ++ ts)
+    (ap (map (λ x. replacement_bytes (replacement_in x))) (all ∙ items)
     ∙ map-both replacement_bytes replacement_in s.given.items ∙ ap (map replacement_bytes) c.self.view_is)
 
 pub loop-replaced-preserved : goal.loop-replaced-preserved
-loop-replaced-preserved c = grind (arith, common_steps)
+loop-replaced-preserved c = grind (arith, common_steps, append_assoc)

@@ -1,41 +1,43 @@
-use Rattle.cweb_store.proofs.Common.{◌≡◌, List, map, sym, ◌∙◌, ap, subst, PartRange, Part, ranges_from, AreLinked, AreLast, stored, AreAnswers, occurrence_text, replacement_bytes, with_strings}
+use Rattle.cweb_store.proofs.Common.{◌≡◌, ℕ, List, ◌++◌, map, sym, ◌∙◌, ap, subst, PartRange, Part, ranges_from, AreLinked, AreLast, stored, AreAnswers, replacement_bytes}
 use Rattle.cweb_store.proofs.PartRangeLemmas.{stored-ranges}
-use Rattle.cweb_store.proofs.StoredLemmas.{all_texts, stored-is, stored-are}
+use Rattle.cweb_store.proofs.StoredLemmas.{strings_of, stored-is, stored-are}
 use Rattle.cweb_store.proofs.store.Store.new.Goals as goal
 
 pub invariant_of-store : goal.invariant_of-store
 invariant_of-store c =
     let apart = c.take_apart-tokens in
-    let ts = apart.result.0.tokens in
+    let ts = apart.result.0 in
     let ranges = apart.result.1.items in
     let os = c.args.table in
     let rs = c.args.replacements in
     let all = c.in_ok-answers.answers in
     let found = c.in_ok-answers.ensures in
-    let strings = c.in_ok-strings.ensures in
-    let tokens : c.in_ok-strings.strings.tokens ≡ all_texts ts os rs = strings.strings
-    ∙ ap (λ t. with_strings (map replacement_bytes rs) (with_strings (map occurrence_text os) t)) apart.ensures.alone in
+    let closed = c.close-strings.ensures in
+    let replaced = c.in_ok-replaced.ensures in
+    let strings : c.close.new.strings ≡ strings_of os rs = replaced.strings
+    ∙ ap (λ (us : List (List ℕ)). us ++ map replacement_bytes rs) closed.strings in
     let answers = subst (λ (ps : List Part). AreAnswers os
     ps all.resolutions.items all.files.keys all.faults.items all.has_defs_code)
     (sym apart.ensures.parts) found.answers in
     let linked = subst (λ
     (xs : List PartRange). AreLinked all.resolutions.items xs all.links.skips.items all.links.heads)
     (ap (ranges_from 0) (sym apart.ensures.parts) ∙ sym (stored-ranges ts ranges apart.ensures.whole)) found.linked in
-    let last = subst (AreLast c.in_ok-last_places.last_places.items) (c.as_slice.ensures.value ∙ strings.bytes)
+    let last = subst (AreLast c.in_ok-last_places.last_places.items) (c.as_slice.ensures.value ∙ replaced.bytes)
     c.in_ok-last_places.ensures in
-    rw (tokens, strings.given, strings.bytes)
+    rw (strings, closed.given, replaced.bytes)
     (stored-are ts ranges all.links os rs _ _ _ _ _ _ apart.ensures.whole linked last found.firsts found.few found.small
     answers)
 
 pub returns : goal.returns
 returns c =
     let apart = c.take_apart-tokens in
-    let ts = apart.result.0.tokens in
+    let ts = apart.result.0 in
     let ranges = apart.result.1.items in
     let os = c.args.table in
     let rs = c.args.replacements in
-    let strings = c.in_ok-strings.ensures in
-    let tokens : c.in_ok-strings.strings.tokens ≡ all_texts ts os rs = strings.strings
-    ∙ ap (λ t. with_strings (map replacement_bytes rs) (with_strings (map occurrence_text os) t)) apart.ensures.alone in
-    rw (tokens, strings.given, strings.bytes) (stored-is ts ranges os rs
+    let closed = c.close-strings.ensures in
+    let replaced = c.in_ok-replaced.ensures in
+    let strings : c.close.new.strings ≡ strings_of os rs = replaced.strings
+    ∙ ap (λ (us : List (List ℕ)). us ++ map replacement_bytes rs) closed.strings in
+    rw (strings, closed.given, replaced.bytes) (stored-is ts ranges os rs
     ∙ ap (λ ps. stored os ps rs) apart.ensures.parts)

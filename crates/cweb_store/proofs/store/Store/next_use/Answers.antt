@@ -6,6 +6,6 @@ pub returns : goal.returns
 returns c =
     let s = c.self.inside in
     let whole = ap (λ v. all_tokens v.parts) (sym c.self.view_is)
-    ∙ whole-tokens s.tokens.tokens s.ranges.items c.self.invariant.whole in
+    ∙ whole-tokens s.tokens s.ranges.items c.self.invariant.whole in
     subst (λ (ts : List Token). IsNextNumber is_name_use ts c.args.part c.next_use.result)
     (sym whole) c.next_use.ensures

@@ -3,9 +3,9 @@ use Rattle.cweb_names.proofs.OccurrenceTableLemmas.{occurrences-count}
 use Rattle.cweb_store.proofs.StoredLemmas.{occurrence-text}
 use Rattle.cweb_store.proofs.store.Store.occurrence_text.Goals as goal
 
-pub other-requires : goal.other-requires
-other-requires c =
-    let ts = c.self.inside.tokens.others in
+pub string-requires : goal.string-requires
+string-requires c =
+    let ts = c.self.inside.strings in
     let gs = c.self.inside.given.items in
     let os = occurrences_at ts gs in
     let count : length os ≡ length c.args.self.now.occurrences = ap (λ v. length v.occurrences) c.self.view_is in
@@ -14,9 +14,9 @@ other-requires c =
 
 pub returns : goal.returns
 returns c =
-    let ts = c.self.inside.tokens.others in
+    let ts = c.self.inside.strings in
     let gs = c.self.inside.given.items in
     let os = occurrences_at ts gs in
     let count : length os ≡ length c.args.self.now.occurrences = ap (λ v. length v.occurrences) c.self.view_is in
     ap (λ v. option_map (λ (o : Occurrence). o.text) (slice_get v.occurrences c.args.name.0)) (sym c.self.view_is)
-    ∙ occurrence-text ts gs c.args.name.0 (omega (arith, c.requires, count)) ∙ c.other.ensures
+    ∙ occurrence-text ts gs c.args.name.0 (omega (arith, c.requires, count)) ∙ c.string.ensures

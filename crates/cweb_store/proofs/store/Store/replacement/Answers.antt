@@ -10,24 +10,8 @@ index-requires c =
     let here = c.self.invariant.last c.args.byte (omega (arith, c.ranges.byte.fits)) in
     omega (arith, slice_get_within s.last_places.items c.args.byte _ here, s.last_places.ok.0)
 
-pub overflow_add-len : goal.overflow_add-len
-overflow_add-len c =
-    let s = c.self.inside in
-    let here = c.self.invariant.last c.args.byte (omega (arith, c.ranges.byte.fits)) in
-    let last : last_from c.args.byte None 0 s.replaced.items ≡ Some c.in-Some.number =
-    sym (get_or_from_slice_get s.last_places.items _ _ _ here) ∙ sym c.index.ensures ∙ c.in-Some.is in
-    omega (
-      arith,
-      last-within c.args.byte s.replaced.items c.in-Some.number last,
-      c.len.ensures,
-      s.given.ok.0,
-      s.given.small,
-      s.replaced.ok.0,
-      s.replaced.small,
-    )
-
-pub other-requires : goal.other-requires
-other-requires c =
+pub string_after-requires : goal.string_after-requires
+string_after-requires c =
     let s = c.self.inside in
     let here = c.self.invariant.last c.args.byte (omega (arith, c.ranges.byte.fits)) in
     let last : last_from c.args.byte None 0 s.replaced.items ≡ Some c.in-Some.number =
@@ -45,7 +29,7 @@ returns-in_default c =
     let s = c.self.inside in
     let here = c.self.invariant.last c.args.byte (omega (arith, c.ranges.byte.fits)) in
     let byte = c.args.byte in
-    let others = s.tokens.others in
+    let others = s.strings in
     let behind = drop (length s.given.items) others in
     let size : length behind ≡ length s.replaced.items =
     omega (arith, length-drop (length s.given.items) others, c.self.invariant.strings) in
@@ -60,7 +44,7 @@ returns c =
     let s = c.self.inside in
     let here = c.self.invariant.last c.args.byte (omega (arith, c.ranges.byte.fits)) in
     let byte = c.args.byte in
-    let others = s.tokens.others in
+    let others = s.strings in
     let behind = drop (length s.given.items) others in
     let size : length behind ≡ length s.replaced.items =
     omega (arith, length-drop (length s.given.items) others, c.self.invariant.strings) in
@@ -71,4 +55,4 @@ returns c =
     sym (get_or_from_slice_get s.last_places.items _ _ _ here) ∙ sym c.index.ensures ∙ c.in-Some.is in
     let place : length s.given.items + k ≡ c.len.result + k = omega (arith, c.len.ensures, s.given.ok.0) in
     sym (all ∙ ap (at_last behind) last ∙ get-drop others (length s.given.items) k
-    ∙ ap (slice_get others) place ∙ c.other.ensures)
+    ∙ ap (slice_get others) place ∙ c.string_after.ensures)

@@ -6,5 +6,5 @@ pub returns : goal.returns
 returns c =
     let s = c.self.inside in
     let whole = ap (λ v. all_tokens v.parts) (sym c.self.view_is)
-    ∙ whole-tokens s.tokens.tokens s.ranges.items c.self.invariant.whole in
+    ∙ whole-tokens s.tokens s.ranges.items c.self.invariant.whole in
     c.token_reader.ensures ∙ ap (map direct_bytes) (sym whole)

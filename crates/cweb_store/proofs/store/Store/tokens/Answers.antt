@@ -5,5 +5,5 @@ use Rattle.cweb_store.proofs.store.Store.tokens.Goals as goal
 pub returns-clause-count : goal.returns-clause-count
 returns-clause-count c =
     let s = c.self.inside in
-    c.len.ensures ∙ ap length (sym (whole-tokens s.tokens.tokens s.ranges.items c.self.invariant.whole))
+    c.len.ensures ∙ ap length (sym (whole-tokens s.tokens s.ranges.items c.self.invariant.whole))
     ∙ ap (λ v. length (all_tokens v.parts)) c.self.view_is

@@ -16,7 +16,7 @@ met c =
 pub returns-clause-value : goal.returns-clause-value
 returns-clause-value c =
     let s = c.self.inside in
-    let ranges = stored-ranges s.tokens.tokens s.ranges.items c.self.invariant.whole
+    let ranges = stored-ranges s.tokens s.ranges.items c.self.invariant.whole
     ∙ ap (λ v. ranges_from 0 v.parts) c.self.view_is in
     let resolutions = c.self.invariant.answers.settled ∙ ap (λ v. spec.resolutions v.occurrences) c.self.view_is in
     met c ∙ (λ i. wanted_in (resolutions i) c.args.wanted (ranges i))

@@ -4,12 +4,12 @@ use Rattle.cweb_store.proofs.parts.closed.ClosedParts.has_defs_code.Goals as goa
 
 pub has_defs-requires-clause-ordered : goal.has_defs-requires-clause-ordered
 has_defs-requires-clause-ordered c = rw c.deref-range-items.ensures.value
-    (Follow-at c.self.inside.ranges.items 0 (length c.self.inside.tokens.tokens) c.self.invariant.whole.follow
+    (Follow-at c.self.inside.ranges.items 0 (length c.self.inside.tokens) c.self.invariant.follow
     c.loop-range.range-index _ (omega (arith, c.loop-range-test.true, ap length c.deref-range-items.ensures.value))).0
 
 pub has_defs-requires-clause-within : goal.has_defs-requires-clause-within
 has_defs-requires-clause-within c = rw c.deref-range-items.ensures.value
-    (Follow-at c.self.inside.ranges.items 0 (length c.self.inside.tokens.tokens) c.self.invariant.whole.follow
+    (Follow-at c.self.inside.ranges.items 0 (length c.self.inside.tokens) c.self.invariant.follow
     c.loop-range.range-index _ (omega (arith, c.loop-range-test.true, ap length c.deref-range-items.ensures.value))).1
 
 pub returns-then-has_defs : goal.returns-then-has_defs

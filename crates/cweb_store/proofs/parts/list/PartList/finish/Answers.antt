@@ -1,5 +1,5 @@
-use Rattle.cweb_store.proofs.Common.{◌≡◌, refl, ◌∙◌, ap, subst, length, arith, [], ◌∷◌, ◌++◌, Option, common_steps, tokens_alone, IsWhole, vec_capacity, Open}
-use Rattle.cweb_store.specs.inner.PartRanges.{ArePartRanges, AreClosedRanges, last_range}
+use Rattle.cweb_store.proofs.Common.{◌≡◌, ◌∙◌, ap, subst, length, arith, [], ◌∷◌, ◌++◌, Option, common_steps, IsWhole, vec_capacity, Open}
+use Rattle.cweb_store.specs.inner.PartRanges.{ArePartRanges, last_range}
 use Rattle.cweb_store.proofs.PartRangeLemmas.{close-are}
 use Rattle.cweb_store.proofs.parts.list.PartList.finish.Goals as goal
 
@@ -10,13 +10,11 @@ invariant_of-result-2 c =
     ArePartRanges s.tokens.tokens s.ranges.items current (vec_capacity s.ranges)) c.in-Some.is c.self.invariant in
     let range : c.closed_range-range.result ≡ last_range c.in-Some.current (length s.tokens.tokens) =
     c.closed_range-range.ensures
-    ∙ ap (last_range c.in-Some.current) (c.len.ensures ∙ ap (λ v. length v.tokens) c.close-tokens.ensures) in
+    ∙ ap (last_range c.in-Some.current) (c.len.ensures ∙ ap length c.close-tokens.ensures) in
     let after = close-are s.tokens.tokens s.ranges.items c.in-Some.current _ (length s.ranges.items) tied in
     let whole : IsWhole s.tokens.tokens (s.ranges.items ++ last_range c.in-Some.current (length s.tokens.tokens) ∷ []) =
     record { follow = after.follow; few_tokens = after.few_tokens; few_parts = omega (arith, after.few_parts) } in
-    let closed : AreClosedRanges (tokens_alone s.tokens.tokens) (s.ranges.items ++ last_range c.in-Some.current
-    (length s.tokens.tokens) ∷ []) = record { whole = whole; alone = refl } in
-    rw (c.push_reserved.ensures.items, range, c.close-tokens.ensures) closed
+    rw (c.push_reserved.ensures.items, range, c.close-tokens.ensures) whole
 
 pub returns : goal.returns
 returns c = grind (arith, common_steps)

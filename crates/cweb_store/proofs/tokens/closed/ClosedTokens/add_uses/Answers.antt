@@ -6,14 +6,14 @@ use Rattle.cweb_store.proofs.tokens.closed.ClosedTokens.add_uses.Goals.{in-Name+
 pub uses-init : goal.uses-init
 uses-init c = record {
   within = c.next_use-next.ensures.within;
-  same = used-from-next c.args.resolutions.now c.args.used.now.keys c.args.self.now.tokens c.args.part
+  same = used-from-next c.args.resolutions.now c.args.used.now.keys c.args.self.now c.args.part
       c.next_use-next.result c.next_use-next.ensures;
 }
 
 pub uses-preserved : goal.uses-preserved
 uses-preserved c =
     let rs = c.args.resolutions.now in
-    let ts = c.args.self.now.tokens in
+    let ts = c.args.self.now in
     let t = token_model c.token.result in
     let more : c.match-token.used.keys ≡ with_use rs c.uses.used.keys t =
     elim c.match-token.branch [

@@ -1,4 +1,4 @@
-use Rattle.cweb_store.proofs.Common.{map, subst, ◌∙◌, is_defs, IsNextNumber, ClosedTokensModel, token_of_interned}
+use Rattle.cweb_store.proofs.Common.{map, subst, ◌∙◌, is_defs, IsNextNumber, List, Token, token_of_interned}
 use Rattle.cweb_store.proofs.UseLemmas.{next-any}
 use Rattle.cweb_store.proofs.tokens.closed.ClosedTokens.has_defs.Goals as goal
 
@@ -7,6 +7,5 @@ returns c =
     let s = c.self.inside in
     let is = c.next_in_range.ensures is_defs
     (map (token_of_interned s.strings) s.records.interned) (c.as_slice.ensures.value ∙ c.self.invariant.notes.defs) in
-    next-any is_defs c.args.self.now.tokens c.args.part c.next_in_range.result
-    (subst (λ (v : ClosedTokensModel). IsNextNumber is_defs v.tokens c.args.part c.next_in_range.result) c.self.view_is
-    is)
+    next-any is_defs c.args.self.now c.args.part c.next_in_range.result
+    (subst (λ (v : List Token). IsNextNumber is_defs v c.args.part c.next_in_range.result) c.self.view_is is)
