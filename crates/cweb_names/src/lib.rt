@@ -23,6 +23,6 @@ pub mod laws;
 pub use found::Found;
 pub use known::KnownNames;
 pub use name::{How, NameFault, NameId, NameKind, NameRef};
-pub use resolution::{add_resolved, resolved_at};
+pub use resolution::resolved_at;
 pub use spelling::{is_prefix, is_squeezed, squeezed};
 pub use table::{NameTable, OccurrenceForm};

@@ -9,7 +9,7 @@ ghost use Rattle.cweb_names.specs.inner.OccurrenceTables.{occurrence_form};
 use crate::found::Found;
 use crate::known::KnownNames;
 use crate::name::{How, NameId, NameKind, NameRef};
-use crate::resolution::{add_resolved, resolve};
+use crate::resolution::{resolve, resolved_at};
 use cweb_texts::StringList;
 use indexmap::IndexSet;
 use std::alloc::{AllocError, Global};
@@ -147,7 +147,9 @@ impl NameTable {
         let mut files = IndexSet::new(self.alloc);
         for (i, given) in self.given.iter().enumerate() {
             if given.is_file {
-                add_resolved(&mut files, resolutions, i)?;
+                if let Some(id) = resolved_at(resolutions, i) {
+                    files.insert(id)?;
+                }
             }
         }
         Ok(files)

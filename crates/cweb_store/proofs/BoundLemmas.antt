@@ -1,5 +1,5 @@
 -- Indices of names, files and faults are in range.
-use Rattle.cweb_store.proofs.Common.{◌≡◌, ℕ, zero, suc, ◌+◌, ◌≤◌, ◌<◌, Bool, List, [], ◌∷◌, ◌++◌, Some, None, Option, length, refl, ap, arith, length-append, Ok, Err, IfSome, All, bytes_eq, AllByRecursion, length-map, All-from_recursion, How, Full, Prefix, NameId, NameFault, NameKind, NeverFull, Occurrence, Name, Resolution, spellings, with_full_name, with_occurrence_name, names_from, names, beginning_from, the_one, resolved_among, resolutions_from, resolutions, resolved_at, with_some, with_file, files_from, files, Part, unresolved_faults_from, faults_from, faults}
+use Rattle.cweb_store.proofs.Common.{AreWithin, ◌≡◌, sym, subst, ℕ, zero, suc, ◌+◌, ◌≤◌, ◌<◌, Bool, List, [], ◌∷◌, ◌++◌, Some, None, Option, length, refl, ap, arith, length-append, Ok, Err, IfSome, All, bytes_eq, AllByRecursion, length-map, All-from_recursion, How, Full, Prefix, NameId, NameFault, NameKind, NeverFull, Occurrence, Name, Resolution, spellings, with_full_name, with_occurrence_name, names_from, names, beginning_from, the_one, resolved_among, resolutions_from, resolutions, resolved_at, with_some, with_file, files_from, files, Part, unresolved_faults_from, faults_from, faults}
 use Rattle.cweb_names.proofs.NameLemmas.{position-below}
 use Rattle.cweb_names.proofs.OccurrenceLemmas.{Grows, names_from-grows, with_text-has}
 use Rattle.cweb_store.proofs.LawLemmas.{any-grows}
@@ -143,3 +143,11 @@ faults-within os ps =
       At,
       all-both,
     )
+
+-- All resolved names are known.
+pub resolutions-within : (os : List Occurrence) (rs : List Resolution) (n : ℕ)
+    → rs ≡ resolutions os → n ≡ length (names os) → AreWithin rs n
+resolutions-within os rs n is size = λ i.
+    subst (λ (m : ℕ). IfSome (resolved_at rs i) (λ (id : NameId). id.0 < m)) (sym size)
+    (subst (λ (ss : List Resolution). IfSome (resolved_at ss i) (λ (id : NameId). id.0 < length (names os)))
+    (sym is) (standing-within os i))

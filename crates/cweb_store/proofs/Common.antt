@@ -60,10 +60,10 @@ pub use Rattle.cweb_store.specs.inner.Answers.{AreAnswers}
 pub use Rattle.cweb_store.specs.inner.BuilderCalls.{HoldsAtMost}
 pub use Rattle.cweb_store.specs.inner.DirectBytes.{direct_bytes}
 pub use Rattle.cweb_store.specs.inner.Faults.{fault_of_name_if}
+pub use Rattle.cweb_store.specs.inner.NameUses.{AreWithin, FlagsToo, flag_of}
+pub use Rattle.cweb_store.specs.inner.Links.{has_head}
 pub use Rattle.cweb_store.specs.inner.InternedTokens.{token_of_interned, StringIsWithin, StringsAreWithin, InternsToken}
 pub use Rattle.cweb_store.specs.inner.Links.{followed, AreLinked}
-pub use Rattle.cweb_store.specs.inner.NameUses.{with_use, used_from, used_in}
-pub use Rattle.cweb_store.specs.inner.NamesWithParts.{with_part, present_from}
 pub use Rattle.cweb_store.specs.inner.Next.{IsNextNumber, is_name_use}
 pub use Rattle.cweb_store.specs.inner.PartRanges.{ranges_from, IsWhole, closed_in, ArePartRanges, parts_in}
 pub use Rattle.cweb_store.specs.inner.Records.{interned_of_record, AreNumbered}

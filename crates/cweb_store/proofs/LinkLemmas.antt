@@ -1,11 +1,12 @@
 -- Following the links visits exactly the wanted parts.
-use Rattle.cweb_store.proofs.Common.{◌≡◌, ℕ, zero, suc, ◌+◌, ◌-◌, ◌≤◌, Bool, true, false, List, [], ◌∷◌, Option, Some, length, drop, ◌++◌, get_or, refl, sym, ◌∙◌, ap, subst, arith, length-drop, slice_get, if◌then◌else◌, take_all, PartKind, Unnamed, Named, Macro, PartRange, Resolution, is_wanted, followed, AreLinked, slice_range}
+use Rattle.cweb_store.proofs.Common.{◌||◌, nat_lt, list_any, is_of, has_head, NameId, ◌≡◌, ℕ, zero, suc, ◌+◌, ◌-◌, ◌≤◌, Bool, true, false, List, [], ◌∷◌, Option, Some, length, drop, ◌++◌, get_or, refl, sym, ◌∙◌, ap, subst, arith, length-drop, slice_get, if◌then◌else◌, take_all, PartKind, Unnamed, Named, Macro, PartRange, Resolution, is_wanted, followed, AreLinked, slice_range}
 use Rattle.std.proofs.Common.{reverse, drop-cons}
 use Rattle.std.proofs.lemmas.List.{reverse-append}
 use Rattle.cweb_store.specs.declared.parts.iter.Wanted.{Wanted}
 use Rattle.cweb_store.specs.declared.parts.iter.Wanted.TheVariants.{Program, OfName, Macros}
 use Rattle.cweb_store.specs.declared.parts.links.Heads.{Heads}
-use Rattle.cweb_store.specs.inner.Links.{group_of, is_group, IsPut}
+use Rattle.cweb_store.specs.inner.Links.{group_of, is_group, head_of, IsPut}
+use Rattle.cweb_store.specs.inner.Wanted.{wanted_in}
 
 -- A part is wanted exactly if its group is.
 wanted-group : (rs : List Resolution) (w : Wanted) (kind : PartKind)
@@ -22,11 +23,33 @@ put-within : (ranges n m : ℕ) (b : Bool) → n ≡ (if b then ranges + 1 else 
 put-within ranges n m true is le = omega arith
 put-within ranges n m false is le = omega arith
 
+head-some : (b : Bool) (ranges h : ℕ) → nat_lt 0 (if b then ranges + 1 else h) ≡ (b || nat_lt 0 h)
+head-some true ranges h = grind arith
+head-some false ranges h = refl
+
+put-some : (rs : List Resolution) (r : PartRange) (ranges : List PartRange) (skips : List ℕ) (old : Heads) (skip : ℕ)
+    (new : Heads) (n : NameId) → IsPut (group_of rs r.kind) (length ranges) old skip new → AreLinked rs ranges skips old
+    → has_head new n ≡ (is_of rs n r.kind || list_any (λ (r : PartRange). is_of rs n r.kind) ranges)
+put-some rs r ranges skips old skip new n put linked = ap (nat_lt 0) (put.heads (OfName n))
+    ∙ head-some (is_group (OfName n) (group_of rs r.kind)) (length ranges) (head_of old (OfName n))
+    ∙ (λ i. sym (wanted-group rs (OfName n) r.kind) i || linked.some n i)
+
+put-visits : (rs : List Resolution) (r : PartRange) (ranges : List PartRange) (skips : List ℕ) (old : Heads) (skip : ℕ)
+    (new : Heads) (w : Wanted) → IsPut (group_of rs r.kind) (length ranges) old skip new → AreLinked rs ranges skips old
+    → (head_of new w ≤ length (r ∷ ranges))
+    × (followed (r ∷ ranges) (skip ∷ skips) (length (r ∷ ranges) - head_of new w) ≡ wanted_in rs w (r ∷ ranges))
+put-visits rs r ranges skips old skip new w put linked =
+    grind (arith, put-within (length ranges), wanted-group rs, put.skips, put.heads w, linked.within, linked.follow)
+
 -- One more part at the head.
 pub put-linked : (rs : List Resolution) (r : PartRange) (ranges : List PartRange)
     (skips : List ℕ) (old : Heads) (skip : ℕ) (new : Heads) → IsPut (group_of rs r.kind) (length ranges) old skip new
     → AreLinked rs ranges skips old → AreLinked rs (r ∷ ranges) (skip ∷ skips) new
-put-linked rs r ranges skips old skip new put linked = grind (arith, put-within (length ranges), wanted-group rs)
+put-linked rs r ranges skips old skip new put linked = record {
+  within = λ w. (put-visits rs r ranges skips old skip new w put linked).0;
+  follow = λ w. (put-visits rs r ranges skips old skip new w put linked).1;
+  some = λ n. put-some rs r ranges skips old skip new n put linked;
+}
 
 -- The first visited part, and the parts after it.
 pub followed-none : (ranges : List PartRange) (skips : List ℕ) (n : ℕ) → length ranges ≤ n

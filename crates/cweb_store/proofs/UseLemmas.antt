@@ -1,5 +1,5 @@
 -- The names that tokens use, and whether any token passes, from the index of the next passing token.
-use Rattle.cweb_store.proofs.Common.{arith, ◌≡◌, ◌<◌, ◌+◌, ℕ, Bool, true, false, ◌||◌, List, [], ◌∷◌, ◌++◌, Some, refl, sym, ◌∙◌, ap, slice_get, list_any, list_any-append, NameId, Resolution, Token, with_use, used_from, is_name_use, IsNextNumber, nat_lt, slice_range}
+use Rattle.cweb_store.proofs.Common.{arith, ◌≡◌, ◌<◌, ◌+◌, ℕ, Bool, false, ◌||◌, List, [], ◌∷◌, Some, refl, ◌∙◌, ap, slice_get, list_any, list_any-append, NameId, Resolution, Token, if◌then◌else◌, is_use, is_used, is_c_part, joined_where, is_name_use, IsNextNumber, nat_lt, slice_range}
 use Rattle.cweb_store.specs.declared.parts.Part.{Part}
 use Rattle.cweb_store.specs.Parts as spec
 use Rattle.cweb_store.proofs.RangeLemmas.{range-split, range-head}
@@ -15,34 +15,39 @@ next-any test ts part next is =
       range-head ts next part.after,
     )
 
--- A token that is no use.
-pub not-used : (rs : List Resolution) (ns : List NameId) (t : Token) → is_name_use t ≡ false → with_use rs ns t ≡ ns
-not-used rs ns (spec.Name name) h = cc
-not-used rs ns _ h = refl
+-- A token that is no use uses no name.
+not-used : (rs : List Resolution) (n : NameId) (t : Token) → is_name_use t ≡ false → is_use rs n t ≡ false
+not-used rs n (spec.Name name) h = cc
+not-used rs n _ h = refl
 
-used-before : (rs : List Resolution) (ns : List NameId) (ts us : List Token)
-    → list_any is_name_use ts ≡ false → used_from rs ns (ts ++ us) ≡ used_from rs ns us
-used-before rs ns [] us h = refl
-used-before rs ns (t ∷ ts) us h =
-    (elim (is_name_use t) as (λ b. is_name_use t ≡ b → (b || list_any is_name_use ts) ≡ false
-    → used_from rs (with_use rs ns t) (ts ++ us) ≡ used_from rs ns us) [
-      | true ↦ λ e some. cc
-      | false ↦ λ e none. ap (λ ms. used_from rs ms (ts ++ us)) (not-used rs ns t e) ∙ used-before rs ns ts us none
-    ]) refl h
+unused : (rs : List Resolution) (n : NameId) (ts : List Token)
+    → list_any is_name_use ts ≡ false → list_any (is_use rs n) ts ≡ false
+unused rs n [] h = refl
+unused rs n (t ∷ ts) h = grind (arith, not-used rs n t, unused rs n ts)
 
 -- Tokens before the next use use nothing.
-pub used-from-next : (rs : List Resolution) (ns : List NameId) (ts : List Token) (part : Part) (next : ℕ)
-    → IsNextNumber is_name_use ts part next
-    → used_from rs ns (slice_range ts next part.after) ≡ used_from rs ns (slice_range ts part.first part.after)
-used-from-next rs ns ts part next is = sym (ap (used_from rs ns) (range-split ts part.first next part.after is.begins
-    is.within) ∙ used-before rs ns (slice_range ts part.first next) (slice_range ts next part.after) is.before)
+pub uses-from-next : (rs : List Resolution) (n : NameId) (ts : List Token) (part : Part) (next : ℕ)
+    → IsNextNumber is_name_use ts part next → list_any (is_use rs n) (slice_range ts part.first part.after)
+    ≡ list_any (is_use rs n) (slice_range ts next part.after)
+uses-from-next rs n ts part next is =
+    cc (
+      range-split ts part.first next part.after is.begins is.within,
+      list_any-append (is_use rs n) (slice_range ts part.first next) (slice_range ts next part.after),
+      unused rs n (slice_range ts part.first next) is.before,
+    )
 
 -- The step over a use.
-pub used-step : (rs : List Resolution) (ns ms : List NameId) (ts : List Token) (part : Part) (i next : ℕ) (t : Token)
-    → slice_get ts i ≡ Some t → i < part.after → ms ≡ with_use rs ns t
+pub uses-step : (rs : List Resolution) (n : NameId) (ts : List Token) (part : Part) (i next : ℕ) (t : Token)
+    → slice_get ts i ≡ Some t → i < part.after
     → IsNextNumber is_name_use ts (record { first = i + 1; after = part.after }) next
-    → used_from rs ms (slice_range ts next part.after) ≡ used_from rs ns (slice_range ts i part.after)
-used-step rs ns ms ts part i next t here less more is =
-    used-from-next rs ms ts (record { first = i + 1; after = part.after }) next is
-    ∙ ap (λ ks. used_from rs ks (slice_range ts (i + 1) part.after)) more
-    ∙ sym (ap (used_from rs ns) (range-head ts i part.after t here less))
+    → list_any (is_use rs n) (slice_range ts i part.after)
+    ≡ (is_use rs n t || list_any (is_use rs n) (slice_range ts next part.after))
+uses-step rs n ts part i next t here less is = ap (list_any (is_use rs n)) (range-head ts i part.after t here less)
+    ∙ ap (λ b. is_use rs n t || b) (uses-from-next rs n ts (record { first = i + 1; after = part.after }) next is)
+
+-- One more part.
+pub used-here : (rs : List Resolution) (n : NameId) (p : spec.Part) (ps : List spec.Part) (was now : Bool)
+    → now ≡ (if is_c_part p.kind then was || list_any (is_use rs n) p.tokens else was)
+    → (now || is_used rs ps n) ≡ (was || is_used rs (p ∷ ps) n)
+used-here rs n p ps was now is =
+    grind (arith, list_any-append (is_use rs n) p.tokens (joined_where is_c_part ps), is)

@@ -15,7 +15,6 @@ pub mod Wanted
 pub mod Links
 pub mod Faults
 pub mod BuilderCalls
-pub mod NamesWithParts
 pub mod Answers
 pub mod Replaced
 pub mod Stored

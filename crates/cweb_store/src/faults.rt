@@ -9,11 +9,14 @@ ghost use Rattle.cweb_names.specs.Names as spec;
 ghost use Rattle.cweb_store.specs.inner.Faults.{fault_of_name_if};
 ghost use Rattle.cweb_store.specs.Faults.{faults_where, unresolved_faults};
 ghost use Rattle.cweb_store.specs.Faults as told;
-ghost use Rattle.cweb_store.specs.inner.NamesWithParts.{present_from};
+ghost use Rattle.cweb_names.specs.declared.name.NameId.{NameId};
+ghost use Rattle.cweb_store.specs.inner.Links.{has_head};
+ghost use Rattle.cweb_store.specs.inner.NameUses.{AreWithin, flag_of};
 
 use crate::parts::closed::ClosedParts;
-use crate::parts::{PartKind, PartRange};
-use cweb_names::{KnownNames, NameFault, NameId, NameKind, NameRef, NameTable, add_resolved};
+use crate::parts::iter::Wanted;
+use crate::parts::links::Heads;
+use cweb_names::{KnownNames, NameFault, NameId, NameKind, NameRef, NameTable};
 use indexmap::IndexSet;
 use std::alloc::{AllocError, Global};
 
@@ -24,57 +27,21 @@ pub fn name_faults(
     parts: &ClosedParts,
     resolutions: &[Result<NameId, NameKind>],
     files: &IndexSet<NameId>,
+    heads: &Heads,
 ) -> Result<Vec<NameFault>, AllocError>
     requires settled { resolutions.now ≡ spec.resolutions table.now }
     requires given { files.now.keys ≡ spec.files table.now }
     requires few { length resolutions.now < 2 ^ 32 }
+    requires known { AreWithin resolutions.now (length (spec.names table.now)) }
+    requires some { (n : NameId) → has_head heads.now n ≡ told.has_part resolutions.now parts.now n }
     ensures { IfOk result (λ all. all.items ≡ told.faults table.now parts.now) }
 {
     let mut faults = Vec::new(alloc);
     add_unresolved_faults(&mut faults, resolutions)?;
     add_prefix_faults(&mut faults, table.names())?;
-    add_faults_of_parts(alloc, &mut faults, table, parts, resolutions, files)?;
+    let used = parts.uses(alloc, resolutions, table.names().len())?;
+    add_missing_faults(&mut faults, table.names(), &used, files, heads)?;
     Ok(faults)
-}
-
-// Adds a fault for each name that needs a part and has none.
-fn add_faults_of_parts(
-    alloc: Global,
-    faults: &mut Vec<NameFault>,
-    table: &NameTable,
-    parts: &ClosedParts,
-    resolutions: &[Result<NameId, NameKind>],
-    files: &IndexSet<NameId>,
-) -> Result<(), AllocError>
-    requires settled { resolutions.now ≡ spec.resolutions table.now }
-    requires given { files.now.keys ≡ spec.files table.now }
-    requires few { length resolutions.now < 2 ^ 32 }
-    ensures { OnOk result
-        (faults.new.items
-        ≡ faults.old.items
-        ++ faults_where NotPresent
-        (λ n text. told.is_missing table.now parts.now n)
-        (spec.names table.now)) }
-{
-    let used = parts.uses(alloc, resolutions)?;
-    let present = names_with_part(alloc, parts.ranges(), resolutions)?;
-    add_missing_faults(faults, table.names(), &used, files, &present)
-}
-
-fn names_with_part(
-    alloc: Global,
-    ranges: &[PartRange],
-    resolutions: &[Result<NameId, NameKind>],
-) -> Result<IndexSet<NameId>, AllocError>
-    ensures { IfOk result (λ present. present.keys ≡ present_from resolutions.now [] ranges.now) }
-{
-    let mut present = IndexSet::new(alloc);
-    for range in ranges {
-        if let PartKind::Named(name) = range.kind {
-            add_resolved(&mut present, resolutions, name.0 as usize)?;
-        }
-    }
-    Ok(present)
 }
 
 // Adds a fault for each occurrence that resolves to no name.
@@ -125,9 +92,9 @@ fn add_prefix_faults(faults: &mut Vec<NameFault>, names: &KnownNames) -> Result<
 fn add_missing_faults(
     faults: &mut Vec<NameFault>,
     names: &KnownNames,
-    used: &IndexSet<NameId>,
+    used: &[bool],
     files: &IndexSet<NameId>,
-    present: &IndexSet<NameId>,
+    heads: &Heads,
 ) -> Result<(), AllocError>
     requires { length names.now < 2 ^ 32 }
     ensures { OnOk result
@@ -135,29 +102,25 @@ fn add_missing_faults(
         ≡ faults.old.items
         ++ faults_where NotPresent
         (λ n text.
-        (list_any (is_id n) used.now.keys || list_any (is_id n) files.now.keys)
-        && not (list_any (is_id n) present.now.keys))
+        (flag_of used.now n || list_any (is_id n) files.now.keys)
+        && not (has_head heads.now n))
         names.now) }
 {
     for number in 0..names.len() as u32 {
         let id = NameId(number);
-        let fails = is_missing(id, used, files, present);
+        let fails = is_missing(id, used, files, heads);
         add_fault_if(fails, faults, names, id, NameKind::NotPresent)?;
     }
     Ok(())
 }
 
-fn is_missing(
-    id: NameId,
-    used: &IndexSet<NameId>,
-    files: &IndexSet<NameId>,
-    present: &IndexSet<NameId>,
-) -> bool
+fn is_missing(id: NameId, used: &[bool], files: &IndexSet<NameId>, heads: &Heads) -> bool
     ensures { result
-        ≡ ((list_any (is_id id) used.now.keys || list_any (is_id id) files.now.keys)
-        && not (list_any (is_id id) present.now.keys)) }
+        ≡ ((flag_of used.now id || list_any (is_id id) files.now.keys)
+        && not (has_head heads.now id)) }
 {
-    (used.contains(&id) || files.contains(&id)) && !present.contains(&id)
+    let is_used = used.get(id.0 as usize) == Some(&true);
+    (is_used || files.contains(&id)) && heads.get(Wanted::OfName(id)) == 0
 }
 
 // Adds a fault of a name at its first full occurrence, if `fails`.

@@ -1,6 +1,8 @@
 -- Links from each part to the next one of its group.
 use Rattle.std.specs.Prelude.{◌≡◌, ◌≤◌, ◌<◌, ◌-◌, ◌+◌, ℕ, zero, suc, Bool, true, false, List, [], ◌∷◌, Option, Some}
-use Rattle.std.specs.Prelude.{None, option_map, length, slice_index, if◌then◌else◌}
+use Rattle.std.specs.Prelude.{None, option_map, length, slice_index, if◌then◌else◌, nat_lt}
+use Rattle.std.specs.List.{list_any}
+use Rattle.cweb_names.specs.declared.name.NameId.{NameId}
 use Rattle.cweb_store.specs.declared.parts.Part.{Part}
 use Rattle.cweb_store.specs.declared.parts.PartKind.{PartKind}
 use Rattle.cweb_store.specs.declared.parts.PartKind.TheVariants.{Unnamed, Named, Macro}
@@ -9,6 +11,7 @@ use Rattle.cweb_store.specs.declared.parts.iter.Wanted.{Wanted}
 use Rattle.cweb_store.specs.declared.parts.iter.Wanted.TheVariants.{Program, OfName, Macros}
 use Rattle.cweb_store.specs.declared.parts.links.Heads.{Heads}
 use Rattle.cweb_names.specs.Names.{Resolution, resolved_at, is_id}
+use Rattle.cweb_store.specs.Parts.{is_of}
 use Rattle.cweb_store.specs.inner.Wanted.{wanted_in}
 
 -- The parts that an iterator visits after it skips n parts.
@@ -39,6 +42,10 @@ head_of heads Program = heads.program
 head_of heads Macros = heads.macros
 head_of heads (OfName n) = slice_index heads.names.items n.0
 
+-- A name has a part.
+abbrev pub has_head : Heads → NameId → Bool
+has_head heads n = nat_lt 0 (head_of heads (OfName n))
+
 -- A name is one of the first n.
 abbrev pub IsAmong : ℕ → Option Wanted → Type 0
 IsAmong n None = Unit {0}
@@ -61,3 +68,4 @@ pub record IsPut (group : Option Wanted) (behind : ℕ) (old : Heads) (skip : �
 pub record AreLinked (rs : List Resolution) (ranges : List PartRange) (skips : List ℕ) (heads : Heads) : Type 0 where
   pub within : (w : Wanted) → head_of heads w ≤ length ranges
   pub follow : (w : Wanted) → followed ranges skips (length ranges - head_of heads w) ≡ wanted_in rs w ranges
+  pub some : (n : NameId) → has_head heads n ≡ list_any (λ (r : PartRange). is_of rs n r.kind) ranges

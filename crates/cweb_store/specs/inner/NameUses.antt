@@ -1,19 +1,16 @@
--- The names that tokens use.
-use Rattle.std.specs.Prelude.{List, [], ◌∷◌, if◌then◌else◌}
+-- Flags of names.
+use Rattle.std.specs.Prelude.{◌≡◌, ◌<◌, ℕ, Bool, false, ◌||◌, List, length, get_or, IfSome}
 use Rattle.cweb_names.specs.declared.name.NameId.{NameId}
-use Rattle.cweb_names.specs.Names.{Resolution, resolved_at, with_some}
-use Rattle.cweb_store.specs.Parts.{Token, Name, Part, is_c_part}
+use Rattle.cweb_names.specs.Names.{Resolution, resolved_at}
 
-abbrev pub with_use : List Resolution → List NameId → Token → List NameId
-with_use rs ns (Name name) = with_some ns (resolved_at rs name.0)
-with_use rs ns token = ns
+-- All resolved names are among the first n.
+abbrev pub AreWithin : List Resolution → ℕ → Type 0
+AreWithin rs n = (i : ℕ) → IfSome (resolved_at rs i) (λ id. id.0 < n)
 
--- A list of names, with those that tokens use appended.
-abbrev pub used_from : List Resolution → List NameId → List Token → List NameId
-used_from rs ns [] = ns
-used_from rs ns (t ∷ ts) = used_from rs (with_use rs ns t) ts
+abbrev pub flag_of : List Bool → NameId → Bool
+flag_of flags n = get_or flags n.0 false
 
--- A list of names, with those that parts of C text use appended.
-abbrev pub used_in : List Resolution → List NameId → List Part → List NameId
-used_in rs ns [] = ns
-used_in rs ns (p ∷ ps) = used_in rs (if is_c_part p.kind then used_from rs ns p.tokens else ns) ps
+-- The flags of the names that pass a test are set. The others are unchanged.
+pub record FlagsToo (test : NameId → Bool) (old new : List Bool) : Type 0 where
+  pub flags : (n : NameId) → flag_of new n ≡ (flag_of old n || test n)
+  pub size : length new ≡ length old

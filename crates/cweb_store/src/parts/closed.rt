@@ -1,15 +1,15 @@
 // Finished parts.
 
-ghost use Rattle.std.specs.Prelude.{◌≡◌, ◌<◌, [], length, map, IfOk};
+ghost use Rattle.std.specs.Prelude.{◌≡◌, ◌<◌, length, map, IfOk};
 ghost use Rattle.cweb_names.specs.surface.Names.{too_many};
 ghost use Rattle.cweb_store.specs.Parts.{has_defs_code};
 ghost use Rattle.cweb_store.specs.inner.PartRanges.{IsWhole, closed_in, ranges_from};
-ghost use Rattle.cweb_store.specs.inner.NameUses.{used_in};
+ghost use Rattle.cweb_store.specs.Faults.{is_used};
+ghost use Rattle.cweb_store.specs.inner.NameUses.{AreWithin, flag_of};
 
 use crate::parts::PartRange;
 use crate::tokens::closed::ClosedTokens;
 use cweb_names::{NameId, NameKind};
-use indexmap::IndexSet;
 use std::alloc::{AllocError, Global};
 use std::marker::Model;
 
@@ -51,18 +51,21 @@ impl ClosedParts {
         (tokens, ranges)
     }
 
-    /// The names that the parts of C text use, without duplicates.
+    /// For each name, whether the parts of C text use it.
     pub fn uses(
         &self,
         alloc: Global,
         resolutions: &[Result<NameId, NameKind>],
-    ) -> Result<IndexSet<NameId>, AllocError>
-        ensures { IfOk result (λ used. used.keys ≡ used_in resolutions.now [] self.now) }
+        names: usize,
+    ) -> Result<Vec<bool>, AllocError>
+        requires { AreWithin resolutions.now names }
+        ensures { IfOk result
+            (λ used. (n : NameId) → flag_of used.items n ≡ is_used resolutions.now self.now n) }
     {
-        let mut used = IndexSet::new(alloc);
+        let mut used = vec![in alloc; false; names]?;
         for range in &self.ranges {
             if !range.kind.is_macro() {
-                self.tokens.add_uses(range.part, resolutions, &mut used)?;
+                self.tokens.flag_uses(range.part, resolutions, &mut used);
             }
         }
         Ok(used)

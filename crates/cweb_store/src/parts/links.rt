@@ -1,9 +1,9 @@
 // Links from each part to the next part of its group.
 
-ghost use Rattle.std.specs.Prelude.{◌≡◌, ◌<◌, ◌≤◌, ℕ, [], length, IfOk, IfSome};
-ghost use Rattle.cweb_names.specs.Names.{resolved_at};
+ghost use Rattle.std.specs.Prelude.{◌≡◌, ◌<◌, ◌≤◌, [], length, IfOk, IfSome};
 ghost use Rattle.cweb_names.specs.surface.Names.{too_many};
 ghost use Rattle.cweb_store.specs.inner.Links.{AreLinked, IsAmong, IsPut, group_of, head_of};
+ghost use Rattle.cweb_store.specs.inner.NameUses.{AreWithin};
 
 use crate::parts::iter::Wanted;
 use crate::parts::{PartKind, PartRange};
@@ -80,7 +80,7 @@ impl Links {
         names: usize,
     ) -> Result<Links, AllocError>
         requires few { length ranges.now < too_many }
-        requires known { (i : ℕ) → IfSome (resolved_at resolutions.now i) (λ id. id.0 < names) }
+        requires known { AreWithin resolutions.now names }
         ensures { IfOk result
             (λ links. AreLinked resolutions.now ranges.now links.skips.items links.heads) }
     {

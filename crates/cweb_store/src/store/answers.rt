@@ -39,9 +39,11 @@ impl Answers {
     {
         let resolutions = table.resolutions()?;
         let files = table.files(resolutions.as_slice())?;
-        let faults = name_faults(alloc, table, parts, resolutions.as_slice(), &files)?;
+        let names = table.names().len();
+        let links = Links::new(alloc, parts.ranges(), resolutions.as_slice(), names)?;
+        let heads = &links.heads;
+        let faults = name_faults(alloc, table, parts, resolutions.as_slice(), &files, heads)?;
         let firsts = table.names().firsts()?;
-        let links = Links::new(alloc, parts.ranges(), resolutions.as_slice(), firsts.len())?;
         Ok(Answers {
             resolutions,
             files,

@@ -1,10 +1,12 @@
 // Finished tokens.
 
 ghost use Rattle.std.specs.Prelude.{◌≡◌, ◌<◌, ◌≤◌, ◌^◌, length, slice_get, slice_range, flat_map};
-ghost use Rattle.std.specs.Prelude.{Some, OnOk};
+ghost use Rattle.std.specs.Prelude.{Some};
 ghost use Rattle.std.specs.List.{list_any};
 ghost use Rattle.cweb_store.specs.Parts.{is_defs};
-ghost use Rattle.cweb_store.specs.inner.NameUses.{used_from};
+ghost use Rattle.cweb_store.specs.Faults.{is_use};
+ghost use Rattle.cweb_store.specs.inner.NameUses.{AreWithin, FlagsToo};
+ghost use Rattle.cweb_store.specs.surface.TokenModels.{token_model};
 ghost use Rattle.cweb_store.specs.surface.TokenStrings.{AreInOneList, interned_token_bytes, token_strings};
 ghost use Rattle.cweb_store.specs.inner.Next.{IsNextNumber, is_name_use};
 
@@ -14,10 +16,8 @@ use crate::tokens::interned::token_of_interned;
 use crate::tokens::records::Records;
 use crate::tokens::token_index::{TokenIndex, next_in_range};
 use crate::tokens::token_reader::TokenReader;
-use cweb_names::{NameId, NameKind, add_resolved};
+use cweb_names::{NameId, NameKind, resolved_at};
 use cweb_texts::StringList;
-use indexmap::IndexSet;
-use std::alloc::AllocError;
 use std::marker::Model;
 
 /// Finished tokens as records, their strings, and an index of uses and Defs.
@@ -56,7 +56,6 @@ impl Model for ClosedTokens {
 impl ClosedTokens {
     ghost use Rattle.std.specs.Prelude.{map};
     ghost use Rattle.cweb_store.specs.inner.DirectBytes.{direct_bytes};
-    ghost use Rattle.cweb_store.specs.surface.TokenModels.{token_model};
 
     /// The token at an index.
     #[inline(always)]
@@ -94,32 +93,29 @@ impl ClosedTokens {
         next_in_range(self.token_index.uses.as_slice(), part)
     }
 
-    /// Adds the names that the tokens of a range use to a list of distinct names.
-    pub(crate) fn add_uses(
+    /// Sets the flags of the names that the tokens of a range use.
+    pub(crate) fn flag_uses(
         &self,
         part: Part,
         resolutions: &[Result<NameId, NameKind>],
-        used: &mut IndexSet<NameId>,
-    ) -> Result<(), AllocError>
+        used: &mut [bool],
+    )
         requires ordered { part.first ≤ part.after }
         requires within { part.after ≤ length self.now }
-        ensures { OnOk result
-            (used.new.keys
-            ≡ used_from resolutions.now used.old.keys
-            (slice_range self.now part.first part.after)) }
+        requires known { AreWithin resolutions.now (length used.old) }
+        ensures { FlagsToo
+            (λ n. list_any (is_use resolutions.now n) (slice_range self.now part.first part.after))
+            used.old used.new }
     {
         let mut next = self.next_use(part);
         'uses: while next < part.after {
-            if let Token::Name(name) = self.token(next as usize) {
-                add_resolved(used, resolutions, name.0 as usize)?;
-            }
+            flag_use(self.token(next as usize), resolutions, used);
             let rest = Part {
                 first: next + 1,
                 after: part.after,
             };
             next = self.next_use(rest);
         }
-        Ok(())
     }
 
     /// Whether there is a Defs in a range.
@@ -138,5 +134,17 @@ impl ClosedTokens {
         ensures few { result < 2 ^ 63 }
     {
         self.strings.text_bytes()
+    }
+}
+
+// Sets the flag of the name that a token uses, if it uses one.
+fn flag_use(token: Token<'_>, resolutions: &[Result<NameId, NameKind>], used: &mut [bool])
+    requires { AreWithin resolutions.now (length used.old) }
+    ensures { FlagsToo (λ n. is_use resolutions.now n (token_model token.entry)) used.old used.new }
+{
+    if let Token::Name(name) = token {
+        if let Some(id) = resolved_at(resolutions, name.0 as usize) {
+            used[id.0 as usize] = true;
+        }
     }
 }

@@ -1,4 +1,4 @@
-use Rattle.cweb_store.proofs.Common.{◌≡◌, ◌∙◌, ◌&&◌, ◌||◌, not, sym, ap, length, arith, ◌<◌, Some, common_steps, option_map, slice_get, list_any, NotPresent, Name, id, is_id, front_at}
+use Rattle.cweb_store.proofs.Common.{◌≡◌, ◌∙◌, ◌&&◌, ◌||◌, not, sym, ap, length, arith, ◌<◌, Some, common_steps, option_map, slice_get, list_any, NotPresent, Name, id, is_id, flag_of, has_head, front_at}
 use Rattle.cweb_store.proofs.FaultLemmas.{faults-step}
 use Rattle.cweb_store.proofs.faults.add_missing_faults.Goals as goal
 
@@ -8,18 +8,18 @@ loop-number-preserved c =
     let number = c.loop-number.number in
     let within : number < length ns = omega (arith, c.loop-number-test.true, c.len-number-end.ensures) in
     let f = front_at ns number within in
-    let test : option_map (λ (n : Name). (list_any (is_id (id number)) c.args.used.now.keys
+    let test : option_map (λ (n : Name). (flag_of c.args.used.now (id number)
     || list_any (is_id (id number)) c.args.files.now.keys)
-    && not (list_any (is_id (id number)) c.args.present.now.keys))
+    && not (has_head c.args.heads.now (id number)))
     (slice_get ns number) ≡ Some c.is_missing-fails.result =
     ap (option_map (λ (n : Name).
-    (list_any (is_id (id number)) c.args.used.now.keys
+    (flag_of c.args.used.now (id number)
     || list_any (is_id (id number)) c.args.files.now.keys)
-    && not (list_any (is_id (id number)) c.args.present.now.keys)))
+    && not (has_head c.args.heads.now (id number))))
     f.there ∙ ap Some (sym c.is_missing-fails.ensures) in
     faults-step NotPresent (λ n text.
-    (list_any (is_id n) c.args.used.now.keys || list_any (is_id n) c.args.files.now.keys)
-    && not (list_any (is_id n) c.args.present.now.keys))
+    (flag_of c.args.used.now n || list_any (is_id n) c.args.files.now.keys)
+    && not (has_head c.args.heads.now n))
     ns number c.is_missing-fails.result
     c.loop-number.faults.items c.add_fault_if.new.faults.items within test c.in_ok-add_fault_if.ensures
     ∙ c.loop-number.invariant

@@ -1,5 +1,6 @@
-use Rattle.cweb_store.proofs.Common.{◌≡◌, ◌<◌, ℕ, List, [], map, length, sym, ◌∙◌, ap, subst, arith, IfSome, length-map, NameId, PartRange, Name, Resolution, files_from, names, resolved_at, AreLinked}
-use Rattle.cweb_store.proofs.BoundLemmas.{standing-within}
+use Rattle.cweb_store.proofs.Common.{◌≡◌, refl, List, [], map, length, sym, ◌∙◌, ap, subst, PartRange, Name, Resolution, files_from, has_part, AreLinked, list_any, is_of}
+use Rattle.cweb_store.proofs.BoundLemmas.{resolutions-within}
+use Rattle.cweb_store.proofs.NameSetLemmas.{any-part}
 use Rattle.cweb_store.proofs.store.answers.Answers.of.Goals as goal
 
 pub returns-clause-answers : goal.returns-clause-answers
@@ -16,25 +17,25 @@ returns-clause-linked c =
     let links = c.in_ok-links.links in
     subst (λ (xs : List PartRange). AreLinked c.in_ok-resolutions.resolutions.items xs links.skips.items links.heads)
     c.ranges-2.ensures.ranges (subst (λ (ss : List Resolution).
-    AreLinked ss c.ranges-2.result.now links.skips.items links.heads) c.as_slice-3.ensures.value c.in_ok-links.ensures)
+    AreLinked ss c.ranges-2.result.now links.skips.items links.heads) c.as_slice-2.ensures.value c.in_ok-links.ensures)
 
 pub returns-clause-firsts : goal.returns-clause-firsts
-returns-clause-firsts c = c.in_ok-firsts.ensures ∙ ap (map (λ (n : Name). n.first)) c.names.ensures.names
+returns-clause-firsts c = c.in_ok-firsts.ensures ∙ ap (map (λ (n : Name). n.first)) c.names-2.ensures.names
 
--- Each resolution is one of the names.
 pub new-requires-clause-known : goal.new-requires-clause-known
-new-requires-clause-known c = λ i.
-    let os = c.args.table.now in
-    let given = c.as_slice-3.ensures.value ∙ c.in_ok-resolutions.ensures.resolutions in
-    let places = c.in_ok-firsts.ensures ∙ ap (map (λ (n : Name). n.first)) c.names.ensures.names in
-    let size : length (names os) ≡ c.len.result =
-    omega (
-      arith,
-      c.len.ensures,
-      c.in_ok-firsts.firsts.ok.0,
-      ap length places,
-      length-map (names os) (λ (n : Name). n.first),
-    ) in
-    subst (λ (n : ℕ). IfSome (resolved_at c.as_slice-3.result.now i) (λ (id : NameId). id.0 < n)) size
-    (subst (λ (rs : List Resolution). IfSome (resolved_at rs i) (λ (id : NameId). id.0 < length (names os)))
-    (sym given) (standing-within os i))
+new-requires-clause-known c = resolutions-within c.args.table.now c.as_slice-2.result.now c.len-names.result
+    (c.as_slice-2.ensures.value ∙ c.in_ok-resolutions.ensures.resolutions)
+    (c.len-names.ensures ∙ ap length c.names.ensures.names)
+
+pub name_faults-requires-clause-known : goal.name_faults-requires-clause-known
+name_faults-requires-clause-known c = resolutions-within c.args.table.now c.as_slice-3.result.now _
+    (c.as_slice-3.ensures.value ∙ c.in_ok-resolutions.ensures.resolutions) refl
+
+-- A name has a part if the links begin with one.
+pub name_faults-requires-clause-some : goal.name_faults-requires-clause-some
+name_faults-requires-clause-some c = λ n.
+    let rs : c.as_slice-2.result.now ≡ c.as_slice-3.result.now =
+    c.as_slice-2.ensures.value ∙ sym c.as_slice-3.ensures.value in
+    c.in_ok-links.ensures.some n
+    ∙ ap (λ xs. list_any (λ (r : PartRange). is_of c.as_slice-2.result.now n r.kind) xs) c.ranges-2.ensures.ranges
+    ∙ any-part c.as_slice-2.result.now n 0 c.args.parts.now ∙ ap (λ ss. has_part ss c.args.parts.now n) rs
