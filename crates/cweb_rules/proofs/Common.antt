@@ -57,10 +57,9 @@ pub use Rattle.cweb_rules.specs.declared.items.Item.TheVariants.{Name, LineComme
 pub use Rattle.cweb_rules.specs.declared.items.Reached.{Reached}
 pub use Rattle.cweb_rules.specs.declared.look.Look.{Look}
 pub use Rattle.cweb_rules.specs.declared.look.Look.TheVariants.{Goes, Ends}
-pub use Rattle.cweb_rules.specs.declared.rule.Lead.{Lead}
 pub use Rattle.cweb_rules.specs.declared.rule.Rule.{Rule}
 pub use Rattle.cweb_rules.specs.inner.ByteClasses.{in_class}
-pub use Rattle.cweb_rules.specs.inner.Leads.{rule_after_dot, rule_after_slash, lead}
+pub use Rattle.cweb_rules.specs.inner.Rules.{rule_after_dot, rule_after_slash}
 pub use Rattle.cweb_rules.specs.inner.LineItems.{opens_effect, opens_code, opens_comment, opens_raw, opens_literal}
 pub use Rattle.cweb_rules.specs.inner.LineItems.{c_opens, tex_opens, IsLine, AtLineEnd, opens_name, macro_opens}
 pub use Rattle.cweb_rules.specs.inner.LineItems.{opens_in, is_unclosed}

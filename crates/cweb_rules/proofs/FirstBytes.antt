@@ -1,6 +1,8 @@
 -- First bytes after which only one rule of C text is possible.
-use Rattle.cweb_rules.proofs.Common.{◌≡◌, ℕ, Bool, true, false, ◌||◌, ◌&&◌, ◌==◌, not, ◌≤◌, List, [], ◌∷◌, length, slice_index_or, refl, ap, sym, ◌∙◌, subst, arith, if◌then◌else◌, codes, list_all, eqb-true, begins, is_blank, is_digit, is_one_of, is_word_byte, starts_section, has_quote_at, literal_prefix, raw_prefix, starts_include, starts_literal, starts_raw, rule_after_dot, rule_after_slash, lead, c_rule, is_settled, starts_number, Lead, and-false, and_parts}
-use Rattle.cweb_rules.specs.declared.rule.Lead.TheVariants as first
+use Rattle.cweb_rules.proofs.Common.{◌≡◌, ℕ, Bool, true, false, ◌||◌, ◌&&◌, ◌==◌, not, ◌≤◌, List, [], ◌∷◌, length, slice_index_or, refl, ap, sym, ◌∙◌, subst, arith, if◌then◌else◌, codes, list_all, eqb-true, begins, is_blank, is_digit, is_one_of, is_word_byte, starts_section, has_quote_at, literal_prefix, raw_prefix, starts_include, starts_literal, starts_raw, rule_after_dot, rule_after_slash, first_is, c_rule, is_settled, starts_number, and-false, and_parts}
+use Rattle.cweb_rules.specs.declared.firsts.Plain.{Plain}
+use Rattle.cweb_rules.specs.declared.firsts.Plain.TheVariants as plain
+use Rattle.cweb_rules.specs.inner.Firsts.{is_single_punctuator, is_figure, stops_plain, is_less, is_quote, first_byte_class}
 use Rattle.cweb_rules.specs.declared.rule.Rule.TheVariants as rule
 use Rattle.cweb_rules.proofs.Seams.{differs}
 
@@ -67,36 +69,70 @@ pub if_true : {A : Type 0} (v : Bool) (x y : A) → v ≡ true → (if v then x 
 if_true true x y h = refl
 if_true false x y h = cc
 
-abbrev pub IsTold : Bool → List ℕ → Lead → Type 0
-IsTold includes t first.Blank = rule.Blanks ≡ c_rule includes t
-IsTold includes t first.Word = rule.Identifier ≡ c_rule includes t
-IsTold includes t first.Operator = rule.Punctuator ≡ c_rule includes t
-IsTold includes t first.Open = Unit {0}
+pub told_if : {A : Type 0} (T : A → Type 0) (v : Bool) (x y : A) → (v ≡ true → T x) → (v ≡ false → T y)
+    → T (if v then x else y)
+told_if T true x y f g = f refl
+told_if T false x y f g = g refl
 
-told-settled : (includes : Bool) (b : ℕ) (t : List ℕ) → is_settled b ≡ true
-    → IsTold includes (b ∷ t) (if is_word_byte b then first.Word else first.Operator)
-told-settled includes b t settled = grind (arith, IsTold includes (b ∷ t), settled-rule b settled includes t)
+abbrev pub Each : (ℕ → Type 0) → List ℕ → Type 0
+Each P [] = Unit {0}
+Each P (x ∷ xs) = P x × Each P xs
 
-told-unblank : (includes : Bool) (b : ℕ) (t : List ℕ)
-    → IsTold includes (b ∷ t)
-    (if is_settled b then (if is_word_byte b then first.Word else first.Operator) else first.Open)
-told-unblank includes b t = (elim (is_settled b) as (λ v. is_settled b ≡ v
-    → IsTold includes (b ∷ t) (if v then (if is_word_byte b then first.Word else first.Operator) else first.Open)) [
-      | true ↦ λ e. told-settled includes b t e
-      | false ↦ λ e. tt
-    ]) refl
+pub from_set : (P : ℕ → Type 0) (set : List ℕ) → Each P set → (b : ℕ) → is_one_of set b ≡ true → P b
+from_set P [] all b h = cc
+from_set P (x ∷ xs) all b h = (elim (x == b) as (λ v. (x == b) ≡ v → (v || is_one_of xs b) ≡ true → P b) [
+  | true ↦ λ e f. subst P (eqb-true x b e) all.0
+  | false ↦ λ e f. from_set P xs all.1 b f
+]) refl h
 
-pub lead-told : (includes : Bool) (b : ℕ) (t : List ℕ) → IsTold includes (b ∷ t) (lead b)
-lead-told includes b t = (elim (is_blank b) as (λ v. is_blank b ≡ v → IsTold includes (b ∷ t) (if v then first.Blank
-    else (if is_settled b then (if is_word_byte b then first.Word else first.Operator) else first.Open))) [
-      | true ↦ λ e. sym (if_true (is_blank b) rule.Blanks _ e)
-      | false ↦ λ e. told-unblank includes b t
-    ]) refl
+-- A digit begins a number, a quote a literal, and a `<` an operator.
+figure_rule : (b : ℕ) (t : List ℕ) → is_figure b ≡ true → rule.Number ≡ c_rule false (b ∷ t)
+figure_rule b [] h = from_set (λ n. rule.Number ≡ c_rule false (n ∷ [])) (codes "0123456789") (search refl) b h
+figure_rule b (d ∷ u) h =
+    from_set (λ n. rule.Number ≡ c_rule false (n ∷ d ∷ u)) (codes "0123456789") (search refl) b h
 
-pub told-at : (includes : Bool) (t : List ℕ) (r : Lead) → 1 ≤ length t
-    → r ≡ lead (slice_index_or t 0 0) → IsTold includes t r
+less_rule : (b : ℕ) (t : List ℕ) → is_less b ≡ true → rule.Punctuator ≡ c_rule false (b ∷ t)
+less_rule b [] h = from_set (λ n. rule.Punctuator ≡ c_rule false (n ∷ [])) (codes "<") (search refl) b h
+less_rule b (d ∷ u) h = from_set (λ n. rule.Punctuator ≡ c_rule false (n ∷ d ∷ u)) (codes "<") (search refl) b h
+
+quote_rule : (b : ℕ) (t : List ℕ) → is_quote b ≡ true → rule.Literal ≡ c_rule false (b ∷ t)
+quote_rule b [] h = from_set (λ n. rule.Literal ≡ c_rule false (n ∷ [])) (codes "\"'") (search refl) b h
+quote_rule b (d ∷ u) h = from_set (λ n. rule.Literal ≡ c_rule false (n ∷ d ∷ u)) (codes "\"'") (search refl) b h
+
+-- The rule that a first byte determines, or that the fast path may take the lexeme.
+abbrev pub IsTold : Bool → List ℕ → Plain → Type 0
+IsTold includes t plain.Blank = (rule.Blanks ≡ c_rule includes t) × (first_is is_blank t ≡ true)
+IsTold includes t plain.Word = (rule.Identifier ≡ c_rule includes t) × (first_is is_word_byte t ≡ true)
+IsTold includes t plain.Lone = (rule.Punctuator ≡ c_rule includes t) × (first_is is_single_punctuator t ≡ true)
+IsTold includes t plain.Operator = (rule.Punctuator ≡ c_rule false t) × (first_is stops_plain t ≡ false)
+IsTold includes t plain.Digit = rule.Number ≡ c_rule false t
+IsTold includes t plain.Quote = rule.Literal ≡ c_rule false t
+IsTold includes t plain.Further = first_is stops_plain t ≡ false
+IsTold includes t plain.Stop = Unit {0}
+
+-- A byte that begins no blank, and no lexeme that needs lookahead.
+settled_is : (b : ℕ) (includes word : Bool) (t : List ℕ) → is_settled b ≡ true → is_word_byte b ≡ word
+    → c_rule includes (b ∷ t) ≡ (if word then rule.Identifier else rule.Punctuator)
+settled_is b includes word t settled is =
+    settled-rule b settled includes t ∙ ap (λ v. if v then rule.Identifier else rule.Punctuator) is
+
+plain-told : (includes : Bool) (b : ℕ) (t : List ℕ) → IsTold includes (b ∷ t) (first_byte_class b)
+plain-told includes b t =
+    let T = IsTold includes (b ∷ t) in
+    told_if T (stops_plain b) _ _ (λ e. tt) (λ kept.
+    told_if T (is_blank b) _ _ (λ e. (sym (if_true (is_blank b) rule.Blanks _ e), e)) (λ e.
+    told_if T (is_settled b) _ _ (λ settled.
+    told_if T (is_word_byte b) _ _ (λ e. (sym (settled_is b includes true t settled e), e)) (λ e.
+    told_if T (is_single_punctuator b) _ _ (λ f. (sym (settled_is b includes false t settled e), f))
+    (λ f. (sym (settled_is b false false t settled e), kept)))) (λ e.
+    told_if T (is_figure b) _ _ (figure_rule b t) (λ e.
+    told_if T (is_quote b) _ _ (quote_rule b t) (λ e.
+    told_if T (is_less b) _ _ (λ f. (less_rule b t f, kept)) (λ f. kept))))))
+
+pub told-at : (includes : Bool) (t : List ℕ) (r : Plain) → 1 ≤ length t → r ≡ first_byte_class (slice_index_or t 0 0)
+    → IsTold includes t r
 told-at includes [] r h e = absurd (omega (arith, h))
-told-at includes (b ∷ t) r h e = subst (IsTold includes (b ∷ t)) (sym e) (lead-told includes b t)
+told-at includes (b ∷ t) r h e = subst (IsTold includes (b ∷ t)) (sym e) (plain-told includes b t)
 
 -- The rules after a `/` or a `.`.
 slash_left : (a b includes : Bool)

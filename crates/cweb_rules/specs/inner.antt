@@ -9,4 +9,3 @@ pub mod Looks
 pub mod PlainBytes
 pub mod Rules
 pub mod LineItems
-pub mod Leads

@@ -2,10 +2,11 @@
 ghost use Rattle.std.specs.Prelude.{◌≡◌, ◌<◌, length};
 ghost use Rattle.cweb_rules.specs.Matches as spec;
 ghost use Rattle.cweb_rules.specs.inner.Rules as rules;
-ghost use Rattle.cweb_rules.specs.inner.Leads.{rule_after_dot, rule_after_slash, lead};
+ghost use Rattle.cweb_rules.specs.inner.Rules.{rule_after_dot, rule_after_slash};
 
-use crate::bytes::{Class, begins, is_digit, is_word_byte, starts, starts_section};
+use crate::bytes::{Class, begins, is_digit, starts, starts_section};
 use crate::end::End;
+use crate::firsts::{Plain, first_byte_class};
 use crate::items::{Item, reach};
 use crate::literals::{starts_literal, starts_raw};
 use crate::numbers::starts_number;
@@ -51,33 +52,6 @@ fn starts_include(text: &[u8]) -> bool
     is_closed(reach(Item::IncludedName, name).how)
 }
 
-// What the first byte of C text says about the rule. `Open`: it does not decide.
-#[derive(Clone, Copy)]
-enum Lead {
-    Blank,
-    Word,
-    Operator,
-    Open,
-}
-
-#[inline(always)]
-fn lead_of(byte: u8) -> Lead
-    ensures { result ≡ lead byte }
-{
-    match byte {
-        b' ' | b'\t' | b'\r' | 11 | 12 => Lead::Blank,
-        b'\n' | b'/' | b'@' | b'R' | b'L' | b'u' | b'U' | b'"' | b'\'' | b'<' | b'.' => Lead::Open,
-        b'0' | b'1' | b'2' | b'3' | b'4' | b'5' | b'6' | b'7' | b'8' | b'9' => Lead::Open,
-        _ => {
-            if is_word_byte(byte) {
-                Lead::Word
-            } else {
-                Lead::Operator
-            }
-        }
-    }
-}
-
 /// The first rule of C text that applies, `IncludedName` only if `includes` is set. Mostly the first byte decides.
 #[inline(always)]
 pub fn c_rule(includes: bool, text: &[u8]) -> Rule
@@ -86,11 +60,12 @@ pub fn c_rule(includes: bool, text: &[u8]) -> Rule
     let [first, ..] = text else {
         return tried_rule(includes, text);
     };
-    match lead_of(*first) {
-        Lead::Blank => Rule::Blanks,
-        Lead::Word => Rule::Identifier,
-        Lead::Operator => Rule::Punctuator,
-        Lead::Open => tried_rule(includes, text),
+    match first_byte_class(*first) {
+        Plain::Blank => Rule::Blanks,
+        Plain::Word => Rule::Identifier,
+        Plain::Lone => Rule::Punctuator,
+        Plain::Operator if !includes => Rule::Punctuator,
+        _ => tried_rule(includes, text),
     }
 }
 

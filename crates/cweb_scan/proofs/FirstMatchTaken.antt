@@ -1,4 +1,5 @@
 -- Taking the next lexeme, once the code knows its rule.
+use Rattle.cweb_rules.proofs.FirstBytes.{told_if}
 use Rattle.cweb_scan.proofs.Common.{◌≡◌, ℕ, Bool, true, false, ◌&&◌, List, [], ◌∷◌, ◌++◌, take, drop, refl, ap, sym, ◌∙◌, subst, arith, if◌then◌else◌, codes, length-take-le, begins, first_is, is_blank, is_word_byte, starts_section, starts_raw, starts_literal, starts_include, Kind, RuleMatch, IsLine, opens_in, opens_code, c_opens, c_rule, starts_number, Context, Definition, Effect, Rule, enter_in, item, names_include, Applies, is_head, IsPast, ReaderModel, TakesPrefix, Between, weight, next_match, lex, ScanState, is_line_end}
 use Rattle.cweb_rules.specs.inner.LineItems.{opens_comment, opens_raw, opens_literal}
 use Rattle.cweb_scan.specs.inner.MatchSteps.{after_match}
@@ -67,11 +68,6 @@ c_opens-by effect includes t =
     (by_test f (starts_section t) rule.Section _ _ (by_test f (begins (codes "@") t) rule.Code _ _
     (by_test f (starts_raw t) rule.RawLiteral _ _ (by_test f (starts_literal t) rule.Literal _ _
     (rest_closed effect t (includes && starts_include t) (starts_number t) (first_is is_word_byte t)))))))))
-
-pub told_if : {A : Type 0} (T : A → Type 0) (v : Bool) (x y : A) → (v ≡ true → T x) → (v ≡ false → T y)
-    → T (if v then x else y)
-told_if T true x y f g = f refl
-told_if T false x y f g = g refl
 
 pub neither : (is : Rule → Bool) (v : Bool) (x y : Rule) → is x ≡ false → is y ≡ false → is (if v then x else y) ≡ false
 neither is v x y f g = told_if (λ r. is r ≡ false) v x y (λ e. f) (λ e. g)

@@ -1,5 +1,5 @@
 -- The rules as values of the types `Rule` and `TexRule`.
-use Rattle.std.specs.Prelude.{ℕ, Bool, true, ◌&&◌, ◌||◌, not, List, [], ◌∷◌, codes, if◌then◌else◌}
+use Rattle.std.specs.Prelude.{ℕ, Bool, true, ◌&&◌, ◌||◌, not, ◌==◌, List, [], ◌∷◌, codes, if◌then◌else◌}
 use Rattle.std.specs.List.{prefix_len}
 use Rattle.cweb_rules.specs.Bytes.{is_blank, is_digit, is_line_end, is_one_of, is_word_byte, begins, first_is}
 use Rattle.cweb_rules.specs.Bytes.{starts_section, listed, longest, number_len, starts_number}
@@ -55,3 +55,10 @@ abbrev pub tex_match_by : (ℕ → Effect) → List ℕ → TexRule → RuleMatc
 tex_match_by effect t text.Section = section_match t
 tex_match_by effect t text.Code = code_match effect true t
 tex_match_by effect t text.Skipped = rule_match Skipped 1
+
+-- The rule by the byte after `/`, and by the byte after `.`.
+abbrev pub rule_after_slash : ℕ → Rule
+rule_after_slash b = if 42 == b then rule.Comment else (if 47 == b then rule.LineComment else rule.Punctuator)
+
+abbrev pub rule_after_dot : ℕ → Rule
+rule_after_dot b = if is_digit b then rule.Number else rule.Punctuator

@@ -1,20 +1,21 @@
-use Rattle.cweb_rules.proofs.Common.{sym, ◌∙◌}
-use Rattle.cweb_rules.specs.declared.rule.Lead.TheVariants as first
+use Rattle.cweb_rules.proofs.Common.{false, sym, ap, ◌∙◌, c_rule}
+use Rattle.cweb_rules.specs.declared.firsts.Plain.TheVariants as plain
 use Rattle.cweb_rules.proofs.FirstBytes.{told-at}
 use Rattle.cweb_rules.proofs.rule.c_rule.Goals as goal
 
 pub returns-in-Word : goal.returns-in-Word
-returns-in-Word c =
-    told-at c.args.includes c.args.text.now first.Word c.in-len1-up.len_at_least (sym c.in-Word.is ∙ c.lead_of.ensures)
+returns-in-Word c = (told-at c.args.includes c.args.text.now plain.Word c.in-len1-up.len_at_least (sym c.in-Word.is
+    ∙ c.first_byte_class.ensures)).0
+
+pub returns-in-Lone : goal.returns-in-Lone
+returns-in-Lone c = (told-at c.args.includes c.args.text.now plain.Lone c.in-len1-up.len_at_least (sym c.in-Lone.is
+    ∙ c.first_byte_class.ensures)).0
+
+pub returns-in-Blank : goal.returns-in-Blank
+returns-in-Blank c = (told-at c.args.includes c.args.text.now plain.Blank c.in-len1-up.len_at_least (sym c.in-Blank.is
+    ∙ c.first_byte_class.ensures)).0
 
 pub returns-in-Operator : goal.returns-in-Operator
 returns-in-Operator c =
-    told-at c.args.includes c.args.text.now first.Operator c.in-len1-up.len_at_least (sym c.in-Operator.is
-    ∙ c.lead_of.ensures)
-
-pub returns-in-Blank : goal.returns-in-Blank
-returns-in-Blank c = told-at c.args.includes c.args.text.now first.Blank c.in-len1-up.len_at_least
-    (sym c.in-Blank.is ∙ c.lead_of.ensures)
-
-pub returns-in-Open : goal.returns-in-Open
-returns-in-Open c = c.tried_rule-in-Open.ensures
+    (told-at false c.args.text.now plain.Operator c.in-len1-up.len_at_least (sym c.in-Operator.is
+    ∙ c.first_byte_class.ensures)).0 ∙ ap (λ v. c_rule v c.args.text.now) (sym c.if-not-includes.true)
