@@ -1,8 +1,7 @@
 """The runs of wdep that `faults` makes fail, and what happens to their calls. `depfiles` also compares them with runs of ctangle."""
-import errno
-
 import fault_promises as promises
-from fault_cases import Case, Failure
+from fault_cases import Case
+from merge_cases import printer_failures
 from shared import stopped
 
 # the longest line, if a name is not longer
@@ -127,22 +126,4 @@ def cases():
 
 
 def failures():
-    for every in (0, 1):
-        yield Failure(promises.depend_memory, "alloc", errno.ENOMEM, every)
-        yield Failure(promises.depend_read, "read", errno.EIO, every)
-        yield Failure(promises.merge_write, "write", errno.ENOSPC, every, stream=1)
-        yield Failure(promises.unlogged, "write", errno.ENOSPC, every, stream=2)
-    yield Failure(promises.merge_silence, "write", errno.EIO, 1)
-    for error in (errno.EACCES, errno.EMFILE, errno.ELOOP):
-        yield Failure(promises.merge_open, "open", error)
-    yield Failure(promises.depend_open_memory, "open", errno.ENOMEM)
-    for error in (errno.EPIPE, errno.EAGAIN):
-        yield Failure(promises.merge_write, "write", error, stream=1)
-    yield Failure(promises.merge_write, "write", stream=1, most=0)
-    yield Failure(promises.unlogged, "write", stream=2, most=0)
-    for call in ("open", "read", "write"):
-        for every in (0, 2):
-            yield Failure(promises.is_whole, call, errno.EINTR, every)
-    for call in ("read", "write"):
-        for every in (0, 1):
-            yield Failure(promises.is_whole, call, every=every)
+    return printer_failures(promises.depend_memory, promises.depend_read, promises.depend_open_memory)

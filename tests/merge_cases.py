@@ -102,16 +102,17 @@ def cases():
     yield from large_cases()
 
 
-def failures():
+def printer_failures(memory, read, open_memory):
+    """What happens to the calls of a program that prints, and the promise that holds then."""
     for every in (0, 1):
-        yield Failure(promises.merge_memory, "alloc", errno.ENOMEM, every)
-        yield Failure(promises.merge_read, "read", errno.EIO, every)
+        yield Failure(memory, "alloc", errno.ENOMEM, every)
+        yield Failure(read, "read", errno.EIO, every)
         yield Failure(promises.merge_write, "write", errno.ENOSPC, every, stream=1)
         yield Failure(promises.unlogged, "write", errno.ENOSPC, every, stream=2)
     yield Failure(promises.merge_silence, "write", errno.EIO, 1)
     for error in (errno.EACCES, errno.EMFILE, errno.ELOOP):
         yield Failure(promises.merge_open, "open", error)
-    yield Failure(promises.merge_open_memory, "open", errno.ENOMEM)
+    yield Failure(open_memory, "open", errno.ENOMEM)
     for error in (errno.EPIPE, errno.EAGAIN):
         yield Failure(promises.merge_write, "write", error, stream=1)
     yield Failure(promises.merge_write, "write", stream=1, most=0)
@@ -122,3 +123,7 @@ def failures():
     for call in ("read", "write"):
         for every in (0, 1):
             yield Failure(promises.is_whole, call, every=every)
+
+
+def failures():
+    return printer_failures(promises.merge_memory, promises.merge_read, promises.merge_open_memory)
