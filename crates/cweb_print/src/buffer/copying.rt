@@ -36,7 +36,7 @@ fn put_blank(bytes: &mut [u8], used: usize, is_wanted: bool) -> usize
     if is_wanted { used + 1 } else { used }
 }
 
-/// Writes a string that fits. Most strings are short and are copied without a call.
+/// Writes a string that fits. Most have one byte, which is tested first. Short ones are copied without a call.
 #[inline(always)]
 pub(crate) fn put_slice(bytes: &mut [u8], used: usize, text: &[u8]) -> usize
     requires { used + length text.now ≤ length bytes.old }
@@ -46,7 +46,13 @@ pub(crate) fn put_slice(bytes: &mut [u8], used: usize, text: &[u8]) -> usize
 {
     match text {
         [byte] => put_byte(bytes, used, *byte),
-        _ => put_bytes(bytes, used, text),
+        _ if text.len() > 4 => match text.len() {
+            5..=8 => put_ends::<4>(bytes, used, text),
+            9..=16 => put_ends::<8>(bytes, used, text),
+            _ => put_any(bytes, used, text),
+        },
+        [] => used,
+        _ => put_ends::<2>(bytes, used, text),
     }
 }
 
@@ -59,21 +65,6 @@ fn put_byte(bytes: &mut [u8], used: usize, byte: u8) -> usize
 {
     bytes[used] = byte;
     used + 1
-}
-
-#[inline(always)]
-fn put_bytes(bytes: &mut [u8], used: usize, text: &[u8]) -> usize
-    requires { used + length text.now ≤ length bytes.old }
-    ensures size { length bytes.new ≡ length bytes.old }
-    ensures end { result ≡ used + length text.now }
-    ensures put { take result bytes.new ≡ take used bytes.old ++ text.now }
-{
-    match text.len() {
-        2..=4 => put_ends::<2>(bytes, used, text),
-        5..=8 => put_ends::<4>(bytes, used, text),
-        9..=16 => put_ends::<8>(bytes, used, text),
-        _ => put_any(bytes, used, text),
-    }
 }
 
 // Copies a string of N to 2N bytes in two overlapping moves: its first N bytes and its last N. Both are read before

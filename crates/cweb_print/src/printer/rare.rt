@@ -73,6 +73,7 @@ impl<'a> Printer<'a> {
 }
 
 // Appends a section's number between the two parts of a comment.
+#[inline(always)]
 fn add_numbered(before: &[u8], section: u32, behind: &[u8], buffer: &mut OutBuffer)
     requires room { length buffer.old + (length before.now + (length behind.now + 40)) ≤ ROOM }
     ensures { buffer.new ≡ buffer.old ++ numbered_comment before.now section behind.now }
@@ -84,6 +85,7 @@ fn add_numbered(before: &[u8], section: u32, behind: &[u8], buffer: &mut OutBuff
 }
 
 // Appends `begin`, and the mark of a line in a file whose name needs no quoting.
+#[inline(always)]
 fn add_mark(begin: &[u8], name: &[u8], line: u32, buffer: &mut OutBuffer)
     requires room { length buffer.old + (length begin.now + (length name.now + 60)) ≤ ROOM }
     requires plain { quoted name.now ≡ name.now }
