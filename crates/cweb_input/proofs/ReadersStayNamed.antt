@@ -5,12 +5,12 @@ use Rattle.std.proofs.lemmas.List.{get_or_default, get_or_append_left}
 use Rattle.cweb_files.specs.declared.place.FileId.{FileId}
 use Rattle.cweb_input.specs.surface.ReaderNames.{AreReadersNamed, BlamesFile, IsReaderNamed}
 use Rattle.cweb_input.specs.inner.ReaderNames.{KeepsReaderName, KeepsReaderNames}
-use Rattle.cweb_input.specs.Lines.{blame, name_of_file}
+use Rattle.cweb_input.specs.surface.ReaderNames.{blame, name_of_file}
 use Rattle.cweb_files.specs.surface.Frames.{KeepsShelf}
 use Rattle.cweb_input.specs.inner.Source.{BlamesReader}
 use Rattle.cweb_input.specs.inner.OpenSources.{files_up_to, stop_for, maximum_of}
 use Rattle.cweb_input.specs.surface.OpenSources.{number_or_zero}
-use Rattle.cweb_input.specs.OpenSources.{read_failures_of}
+use Rattle.cweb_input.specs.surface.OpenSources.{read_failures_of}
 use Rattle.cweb_input.specs.declared.source.LineFault.{LineFault}
 use Rattle.cweb_input.specs.declared.source.LineFault.TheVariants.{Read}
 use Rattle.cweb_input.specs.declared.stop.Stop.TheVariants.{ReadFault, Memory}

@@ -1,9 +1,7 @@
--- The lines of a file, what a merge still has to process, and which reader a stop blames.
-use Rattle.std.specs.Prelude.{ℕ, ◌+◌, Bool, ◌||◌, ◌==◌, List, [], ◌∷◌, length, if◌then◌else◌, slice_index_or}
+-- The lines of a file, and what a merge still has to process.
+use Rattle.std.specs.Prelude.{ℕ, ◌+◌, Bool, ◌||◌, ◌==◌, List, [], ◌∷◌, length, if◌then◌else◌}
 use Rattle.cweb_files.specs.declared.place.Place.{Place}
 use Rattle.cweb_files.specs.declared.place.FileId.{FileId}
-use Rattle.cweb_input.specs.declared.stop.Stop.{Stop}
-use Rattle.cweb_input.specs.declared.stop.Stop.TheVariants.{ReadFault}
 use Rattle.cweb_input.specs.declared.fault.SourceFault.{SourceFault}
 
 -- A raw line: its bytes without the newline, and its size with the newline, if it has one.
@@ -60,15 +58,6 @@ numbered_lines file number (line ∷ lines) =
 -- The lines of a file, numbered from 1.
 abbrev pub lines_in : ℕ → List ℕ → List SourceLine
 lines_in file text = numbered_lines file 1 (cut_lines text)
-
--- The name of a file, among those of all opened files.
-abbrev pub name_of_file : List (List ℕ) → FileId → List ℕ
-name_of_file names file = slice_index_or names file.0 []
-
--- A read fault blames its file's reader. Any other stop blames none.
-abbrev pub blame : List (List ℕ) → Stop → List (List ℕ)
-blame names (ReadFault file) = name_of_file names file ∷ []
-blame names _ = []
 
 -- A line that a change may still replace, or that is obeyed or emitted.
 pub record RawLine : Type 0 where

@@ -4,7 +4,7 @@ use Rattle.cweb_files.specs.declared.place.FileId.{FileId}
 use Rattle.cweb_input.specs.Lines.{SourceLine}
 use Rattle.cweb_input.specs.declared.limits.TheConstants.{LINES, BYTES, LINE_LENGTH}
 use Rattle.cweb_input.specs.declared.stop.Stop.{Stop}
-use Rattle.cweb_input.specs.declared.stop.Stop.TheVariants.{ReadFault, LineTooLong, TooMuchText}
+use Rattle.cweb_input.specs.declared.stop.Stop.TheVariants.{LineTooLong, TooMuchText}
 
 -- The number of lines and bytes that were taken so far.
 pub record TakenCountersModel : Type 0 where
@@ -25,14 +25,3 @@ abbrev pub RefusesLine : Stop → TakenCountersModel → SourceLine → Type 0
 RefusesLine (LineTooLong file) count line = IsTooLong file line
 RefusesLine TooMuchText count line = PassesLimit count line
 RefusesLine _ count line = ⊥
-
--- By how much a stop raises the failure count of a shelf.
-abbrev pub read_failures_of : Stop → ℕ
-read_failures_of (ReadFault file) = 1
-read_failures_of _ = 0
-
--- The least number of files that a stop's `FileId` implies.
-abbrev pub files_named : Stop → ℕ
-files_named (ReadFault file) = file.0 + 1
-files_named (LineTooLong file) = file.0 + 1
-files_named _ = 0

@@ -26,8 +26,9 @@ pub use Rattle.cweb_input.specs.Include.{World, Found, found_at, include_name, i
 pub use Rattle.cweb_input.specs.Include.{contents_found}
 pub use Rattle.cweb_input.specs.Lines.{Line, SourceLine, CutLine, numbered_lines, trimmed, lines_in, before_blanks}
 pub use Rattle.cweb_input.specs.Lines.{is_blank, onto_first, cut_lines, RawLine, Thing, passed, raw, raws, seek, told}
-pub use Rattle.cweb_input.specs.Lines.{blame}
-pub use Rattle.cweb_input.specs.OpenSources.{TakenCountersModel, RefusesLine, read_failures_of, files_named}
+pub use Rattle.cweb_input.specs.surface.ReaderNames.{blame}
+pub use Rattle.cweb_input.specs.OpenSources.{TakenCountersModel, RefusesLine}
+pub use Rattle.cweb_input.specs.surface.OpenSources.{read_failures_of, files_named}
 pub use Rattle.cweb_input.specs.declared.counters.TakenCounters.{TakenCounters}
 pub use Rattle.cweb_input.specs.declared.fault.SourceFault.{SourceFault}
 pub use Rattle.cweb_input.specs.declared.fault.SourceKind.{SourceKind}
@@ -58,7 +59,8 @@ pub use denote.Enum.Bare.{sameb}
 pub use Rattle.cweb_lines.specs.Change.{WaitingEntry, at_place, OldSide, change_code, old_at, old_code, old_lines}
 pub use Rattle.cweb_lines.specs.Change.{Sought, after_x, outside, sought, old_line, passing}
 pub use Rattle.cweb_lines.specs.Events.{emitted_lines, reported_faults, openings, taken_lines, size_of_lines, AreShort}
-pub use Rattle.cweb_lines.specs.Events.{written_lines, write_failures_of}
+pub use Rattle.cweb_lines.specs.Events.{written_lines}
+pub use Rattle.cweb_lines.specs.surface.Writing.{write_failures_of}
 pub use Rattle.cweb_lines.specs.Merge.{Event, took, fault, Next, MergeStateModel, at_raw, given, included, obeyed, onto}
 pub use Rattle.cweb_lines.specs.Merge.{open_include, opening, past, plain, run_steps, taking, NewSide, new_at}
 pub use Rattle.cweb_lines.specs.Merge.{new_things, compared, Compared, after_old, at_entry, change_events}

@@ -6,7 +6,6 @@ use Rattle.cweb_input.specs.Lines.{Line, SourceLine}
 use Rattle.cweb_lines.specs.Merge.{Event, took, given, fault, opening}
 use Rattle.cweb_input.specs.declared.fault.SourceFault.{SourceFault}
 use Rattle.cweb_input.specs.declared.limits.TheConstants.{LINES, BYTES, LINE_LENGTH}
-use Rattle.cweb_input.specs.declared.stop.Stop.TheVariants.{WriteFault}
 
 -- The lines that are emitted.
 abbrev pub emitted_lines : List Event → List Line
@@ -65,8 +64,3 @@ pub record BreaksLimit (stop : Stop) (events : List Event) : Type 0 where
 abbrev pub written_lines : List Line → List ℕ
 written_lines [] = []
 written_lines (line ∷ lines) = line.bytes ++ 10 ∷ written_lines lines
-
--- By how much a stop raises the failure count of a sink.
-abbrev pub write_failures_of : Stop → ℕ
-write_failures_of WriteFault = 1
-write_failures_of _ = 0

@@ -9,7 +9,7 @@ ghost use Rattle.cweb_lines.specs.inner.LineSpans.{IsSpanIn, span_bytes};
 ghost use Rattle.cweb_input.specs.surface.OpenedFileNames.{opened_file_names};
 ghost use Rattle.cweb_lines.specs.inner.Passing.{AppendsPassedLines};
 ghost use Rattle.cweb_input.specs.surface.OpenSources.{StartStops};
-ghost use Rattle.cweb_input.specs.OpenSources.{files_named};
+ghost use Rattle.cweb_input.specs.surface.OpenSources.{files_named};
 ghost use Rattle.cweb_lines.specs.surface.MergeReaderNames.{AreReadersKnown};
 
 pub mod ahead;

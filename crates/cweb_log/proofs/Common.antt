@@ -42,9 +42,10 @@ pub use Rattle.cweb_log.specs.CommandLine.{OptionsModel, TangleNames, named_by, 
 pub use Rattle.cweb_log.specs.CommandLine.{shown_by_default, words_shown, stem, letters_shown, web_names_by, is_dot}
 pub use Rattle.cweb_log.specs.CommandLine.{has_extension}
 pub use Rattle.cweb_log.specs.DeviceModels.{SinkModel, sink_model}
-pub use Rattle.cweb_log.specs.Items.{LogItem, line, star, fault_lines, source_item, name_items, refusal_message}
+pub use Rattle.cweb_log.specs.Items.{LogItem, line, star, source_item, name_items, refusal_message}
+pub use Rattle.cweb_log.specs.inner.WebItems.{fault_lines}
 pub use Rattle.cweb_log.specs.Items.{scan_items, cycle_step, scan_item, occurrence_spelling, name_item}
-pub use Rattle.cweb_log.specs.Log.{Logs}
+pub use Rattle.cweb_log.specs.inner.LogWriting.{Logs}
 pub use Rattle.cweb_log.specs.declared.options.Options.{Options}
 pub use Rattle.cweb_log.specs.declared.shown.Shown.{Shown}
 pub use Rattle.cweb_log.specs.inner.LogBuffer.{unwritten_bytes}

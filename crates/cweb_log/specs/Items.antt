@@ -87,10 +87,6 @@ abbrev pub source_item : List (List ℕ) → SourceFault → LogItem
 source_item names met =
     located (file_name_at names met.place.file.0) met.place.line (message_with_count met.kind met.count)
 
--- the lines of such faults
-abbrev pub fault_lines : List (List ℕ) → List SourceFault → List ℕ
-fault_lines names all = flat_map (λ met. line (source_item names met)) all
-
 -- The closing line, from the number of faults and whether program text is missing.
 abbrev pub closing : ℕ → Bool → LogItem
 closing count missing = if count == 0 then (if missing then see_warning else no_errors) else faults count

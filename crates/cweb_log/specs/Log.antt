@@ -1,5 +1,5 @@
--- The lines of the log, and how they are written.
-use Rattle.std.specs.Prelude.{ℕ, List, [], ◌++◌, codes, slice_index_or, ◌≡◌, ◌⊎◌, ◌+◌, IsTrue}
+-- The lines of the log.
+use Rattle.std.specs.Prelude.{ℕ, List, [], ◌++◌, codes, slice_index_or}
 use Rattle.cweb_input.specs.declared.fault.SourceKind.{SourceKind}
 use Rattle.cweb_input.specs.declared.fault.SourceKind.TheVariants.{NoName, TooDeep, NotThere, MissingX, NoOldLines}
 use Rattle.cweb_input.specs.declared.fault.SourceKind.TheVariants.{EndedBeforeY, WebEnded, WantsY, Unequal, WantsZ}
@@ -7,8 +7,6 @@ use Rattle.cweb_input.specs.declared.fault.SourceKind.TheVariants.{EndedBeforeZ,
 use Rattle.cweb_input.specs.declared.stop.Stop.{Stop}
 use Rattle.cweb_input.specs.declared.stop.Stop.TheVariants.{ChangeNotOpened, WebNotOpened, OutNotOpened, LineTooLong}
 use Rattle.cweb_input.specs.declared.stop.Stop.TheVariants.{TooMuchText, WriteFault, ReadFault, LogFault, Memory, Usage}
-use Rattle.cweb_files.specs.Bins.{WritesPrefix}
-use Rattle.cweb_log.specs.DeviceModels.{SinkModel}
 
 -- The name of a file by its index.
 abbrev pub file_name_at : List (List ℕ) → ℕ → List ℕ
@@ -49,10 +47,3 @@ stop_line Memory name = message_line (codes "Out of memory") []
 stop_line OutNotOpened name = message_line (codes "Cannot open output file ") name
 stop_line WriteFault name = message_line (codes "Write fault on ") name
 stop_line LogFault name = []
-
--- All bytes were logged, or a prefix of them if the log failed.
-pub record Logs (text : List ℕ) (before after : SinkModel) : Type 0 where
-  pub tells : after.tells ≡ before.tells
-  pub once : (after.failed ≡ before.failed) ⊎ (after.failed ≡ before.failed + 1)
-  pub whole : IsTrue before.tells → after.failed ≡ before.failed → after.bytes ≡ before.bytes ++ text
-  pub front : IsTrue before.tells → WritesPrefix before.bytes after.bytes text

@@ -3,7 +3,8 @@ ghost use Rattle.std.specs.Prelude.{◌≡◌, ◌<◌, ◌+◌, ◌^◌, ◌++�
 ghost use Rattle.cweb_input.specs.surface.OpenedFileNames.{opened_file_names};
 ghost use Rattle.cweb_log.specs.inner.LogBuffer.{unwritten_bytes};
 ghost use Rattle.cweb_log.specs.inner.LogWriting.{WritesToStream, AppendsToLog};
-ghost use Rattle.cweb_log.specs.Items.{fault_lines, line, source_item};
+ghost use Rattle.cweb_log.specs.Items.{line, source_item};
+ghost use Rattle.cweb_log.specs.inner.WebItems.{fault_lines};
 ghost use Rattle.cweb_log.specs.Log.{kind_message, located_line};
 ghost use Rattle.cweb_log.specs.DeviceModels.{sink_model};
 

@@ -1,6 +1,7 @@
 // The log line for what stopped a run.
 ghost use Rattle.std.specs.Prelude.{◌≡◌, ◌<◌, ◌+◌, ◌^◌};
-ghost use Rattle.cweb_log.specs.Log.{Logs, message_line, stop_line};
+ghost use Rattle.cweb_log.specs.Log.{message_line, stop_line};
+ghost use Rattle.cweb_log.specs.inner.LogWriting.{Logs};
 ghost use Rattle.cweb_log.specs.inner.LogWriting.{WritesToStream};
 ghost use Rattle.cweb_log.specs.DeviceModels.{sink_model};
 

@@ -6,7 +6,7 @@ ghost use Rattle.cweb_lines.specs.inner.Ahead.{IsAhead, LooksAhead};
 ghost use Rattle.cweb_lines.specs.inner.LineSpans.{BorrowsLines};
 ghost use Rattle.cweb_lines.specs.Merge.{Event};
 ghost use Rattle.cweb_lines.specs.surface.MergeProgress.{SoFar, events_to_come};
-ghost use Rattle.cweb_input.specs.OpenSources.{files_named};
+ghost use Rattle.cweb_input.specs.surface.OpenSources.{files_named};
 ghost use Rattle.cweb_input.specs.surface.ReaderNames.{BlamesFile};
 ghost use Rattle.cweb_lines.specs.surface.MergerCalls.{to_come, so_far, stop_in, HasEnded, Grows};
 ghost use Rattle.cweb_lines.specs.surface.MergerCalls.{KnowsReaders};

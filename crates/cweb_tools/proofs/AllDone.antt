@@ -1,5 +1,5 @@
 -- The state after all acts were done.
-use Rattle.cweb_tools.proofs.Common.{◌≡◌, inl, inr, ℕ, List, [], ◌∷◌, ◌++◌, sym, ◌∙◌, ap, append-nil, append_assoc, None, flat_map, line, DeviceState, Act, judges, says, writes, after_act, PerformsActs, put_files, written_files, logged_items, prints}
+use Rattle.cweb_tools.proofs.Common.{◌≡◌, inl, inr, List, [], ◌∷◌, ◌++◌, sym, ◌∙◌, ap, append-nil, append_assoc, None, flat_map, line, DeviceState, Act, judges, says, writes, after_act, PerformsActs, put_files, written_files, logged_items, prints, merges, printed_bytes, written_lines, emitted_lines}
 
 -- The files.
 pub files_all : (acts : List Act) (old new : DeviceState) → PerformsActs acts None old new
@@ -27,15 +27,13 @@ draft_all (judges ∷ acts) old new none (inl run) = draft_all acts old new none
 draft_all (act ∷ acts) old new none (inl run) = draft_all acts (after_act act old) new none run.1
 draft_all (act ∷ acts) old new none (inr stop) = absurd stop
 
--- The bytes that acts print.
-abbrev pub printed_bytes : List Act → List ℕ
-printed_bytes [] = []
-printed_bytes (prints text ∷ acts) = text ++ printed_bytes acts
-printed_bytes (_ ∷ acts) = printed_bytes acts
-
+-- The printed bytes.
 pub printed_all : (acts : List Act) (old new : DeviceState) → PerformsActs acts None old new
     → new.printed ≡ old.printed ++ printed_bytes acts
 printed_all [] old new is = ap (λ (d : DeviceState). d.printed) is ∙ sym (append-nil old.printed)
+printed_all (merges names events ∷ acts) old new (inl run) =
+    printed_all acts (after_act (merges names events) old) new run.1
+    ∙ append_assoc old.printed (written_lines (emitted_lines events)) (printed_bytes acts)
 printed_all (prints text ∷ acts) old new (inl run) = printed_all acts (after_act (prints text) old) new run.1
     ∙ append_assoc old.printed text (printed_bytes acts)
 printed_all (act ∷ acts) old new (inl run) = printed_all acts (after_act act old) new run.1

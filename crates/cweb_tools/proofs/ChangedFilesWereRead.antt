@@ -1,5 +1,5 @@
 -- A run that changed the files has read everything.
-use Rattle.cweb_tools.proofs.Common.{◌≡◌, ◌≢◌, inl, inr, ℕ, ◌+◌, Bool, false, List, [], ◌∷◌, ◌++◌, ◌∙◌, ap, Some, add-zero, Stop, ReadFault, LogItem, banner, fault_count, Shown, DeviceState, Act, says, opens, reads, writes, after_act, ending, Breaks, PerformsActs, TangleEnds, completes, stops, when, TangleCourse, unread, not_there, change_not_there, tangling, script, web_acts, planned_acts, closing_acts, Planning, refused, planned, Web, ActsKeepLimits, TangleKeepsLimits, ReadAll}
+use Rattle.cweb_tools.proofs.Common.{◌≡◌, ◌≢◌, inl, inr, ℕ, ◌+◌, Bool, false, List, [], ◌∷◌, ◌++◌, ◌∙◌, ap, Some, add-zero, Stop, ReadFault, LogItem, banner, fault_count, Shown, DeviceState, Act, says, opens, reads, merges, writes, after_act, ending, Breaks, PerformsActs, TangleEnds, completes, stops, when, TangleCourse, unread, not_there, change_not_there, tangling, script, web_acts, planned_acts, closing_acts, Planning, refused, planned, Web, ActsKeepLimits, ReadAll}
 use Rattle.cweb_tools.proofs.Leaving.{broken, stop_logged}
 use Rattle.cweb_tools.proofs.WebActs.{when_on, said_on, starred_on, outputs_on, closing_on}
 use Rattle.cweb_tools.proofs.Endings.{counts_all, limits_all}
@@ -8,6 +8,7 @@ use Rattle.cweb_tools.proofs.Endings.{counts_all, limits_all}
 abbrev ReadsNone : List Act → Type 0
 ReadsNone [] = Unit {0}
 ReadsNone (reads names events ∷ acts) = ⊥
+ReadsNone (merges names events ∷ acts) = ⊥
 ReadsNone (_ ∷ acts) = ReadsNone acts
 
 -- Nothing is read after the first file is written.
@@ -20,6 +21,7 @@ ReadsFirst (_ ∷ acts) = ReadsFirst acts
 reads_first : (acts : List Act) → ReadsNone acts → ReadsFirst acts
 reads_first [] none = tt
 reads_first (reads names events ∷ acts) none = absurd none
+reads_first (merges names events ∷ acts) none = absurd none
 reads_first (writes name text ∷ acts) none = none
 reads_first (act ∷ acts) none = reads_first acts none
 
@@ -27,12 +29,14 @@ reads_first (act ∷ acts) none = reads_first acts none
 keeps_none : (acts : List Act) → ReadsNone acts → ActsKeepLimits acts
 keeps_none [] none = tt
 keeps_none (reads names events ∷ acts) none = absurd none
+keeps_none (merges names events ∷ acts) none = absurd none
 keeps_none (act ∷ acts) none = (tt, keeps_none acts none)
 
 -- The shelf stops only acts of reading.
 shelf_stays : (act : Act) (stop : Stop) (about : List ℕ) (old new : DeviceState) → ReadsNone (act ∷ [])
     → Breaks act (ending stop about) old new → new.shelf_failed ≡ old.shelf_failed
 shelf_stays (reads names events) stop about old new none broke = absurd none
+shelf_stays (merges names events) stop about old new none broke = absurd none
 shelf_stays act (ReadFault file) about old new none broke = absurd broke
 shelf_stays act stop about old new none broke = (broken act stop about old new broke).shelf ∙ add-zero old.shelf_failed
 
@@ -40,6 +44,7 @@ shelf_none : (acts : List Act) (stop : Stop) (about : List ℕ) (old new : Devic
     → PerformsActs acts (Some (ending stop about)) old new → new.shelf_failed ≡ old.shelf_failed
 shelf_none [] stop about old new none run = absurd run
 shelf_none (reads names events ∷ acts) stop about old new none run = absurd none
+shelf_none (merges names events ∷ acts) stop about old new none run = absurd none
 shelf_none (act ∷ acts) stop about old new none (inl run) =
     shelf_none acts stop about (after_act act old) new none run.1
 shelf_none (act ∷ acts) stop about old new none (inr here) = shelf_stays act stop about old new tt here
@@ -75,23 +80,6 @@ script_reads_first shown (not_there web) = reads_first-banner shown (opens ∷ s
 script_reads_first shown (change_not_there change) = reads_first-banner shown (opens ∷ says _ ∷ []) tt
 script_reads_first shown (tangling files events web) = reads_first-banner shown
     (opens ∷ reads files events ∷ web_acts shown web) (reads_first (web_acts shown web) (reads_none-web shown web))
-
--- A script keeps the limits if its merge does.
-keeps-banner : (shown : Shown) (acts : List Act) → ActsKeepLimits acts
-    → ActsKeepLimits (when shown.banner banner ++ acts)
-keeps-banner shown acts keeps =
-    when_on Any ActsKeepLimits (λ item acts said rest. (tt, rest)) shown.banner banner acts tt keeps
-
-pub keeps_limits : (shown : Shown) (course : TangleCourse) → TangleKeepsLimits course
-    → ActsKeepLimits (script shown course)
-keeps_limits shown unread keeps = (tt, tt)
-keeps_limits shown (not_there web) keeps = (tt, keeps-banner shown (opens ∷ says _ ∷ []) (tt, (tt, tt)))
-keeps_limits shown (change_not_there change) keeps = (tt, keeps-banner shown (opens ∷ says _ ∷ []) (tt, (tt, tt)))
-keeps_limits shown (tangling files events web) keeps = (
-  tt,
-  keeps-banner shown (opens ∷ reads files events ∷ web_acts shown web)
-      (tt, (keeps, keeps_none (web_acts shown web) (reads_none-web shown web))),
-)
 
 all_read : (acts : List Act) (stop : Stop) (about : List ℕ) {old new : DeviceState} → ReadsFirst acts
     → PerformsActs acts (Some (ending stop about)) old new → new.files ≢ old.files → ReadAll acts old new

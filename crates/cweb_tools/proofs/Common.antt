@@ -26,8 +26,9 @@ pub use Rattle.cweb_files.specs.declared.device.SinkFault.{SinkFault}
 pub use Rattle.cweb_files.specs.declared.place.FileId.{FileId}
 pub use Rattle.cweb_files.specs.declared.place.Place.{Place}
 pub use Rattle.cweb_input.specs.Include.{names_found, contents_found, World, Found, web_at, change_at}
-pub use Rattle.cweb_input.specs.Lines.{Line, SourceLine, blame}
-pub use Rattle.cweb_input.specs.OpenSources.{read_failures_of, files_named}
+pub use Rattle.cweb_input.specs.Lines.{Line, SourceLine}
+pub use Rattle.cweb_input.specs.surface.ReaderNames.{blame}
+pub use Rattle.cweb_input.specs.surface.OpenSources.{read_failures_of, files_named}
 pub use Rattle.cweb_input.specs.declared.fault.SourceFault.{SourceFault}
 pub use Rattle.cweb_input.specs.declared.fault.SourceKind.TheVariants.{Unequal, NotThere}
 pub use Rattle.cweb_input.specs.declared.files.FileNames.{FileNames}
@@ -39,7 +40,8 @@ pub use Rattle.cweb_input.specs.declared.stop.Stop.TheVariants.{WriteFault}
 pub use Rattle.cweb_input.specs.surface.OpenSources.{StartStops, StopsReading, StopsFor}
 pub use Rattle.cweb_input.specs.surface.OpenedFileNames.{opened_file_names}
 pub use Rattle.cweb_lines.specs.Events.{emitted_lines, reported_faults, openings, taken_lines, IsWithinLimits, AreShort}
-pub use Rattle.cweb_lines.specs.Events.{write_failures_of, written_lines, BreaksLimit, counts_of}
+pub use Rattle.cweb_lines.specs.Events.{written_lines, BreaksLimit, counts_of}
+pub use Rattle.cweb_lines.specs.surface.Writing.{write_failures_of}
 pub use Rattle.cweb_lines.specs.Merge.{Event, took, MergeStateModel, run_steps, started}
 pub use Rattle.cweb_lines.specs.inner.MergeProgress.{begun_with}
 pub use Rattle.cweb_lines.specs.inner.Total.{merge-run_steps}
@@ -50,10 +52,12 @@ pub use Rattle.cweb_lines.specs.surface.Writing.{StopsWriting, WritingStops}
 pub use Rattle.cweb_log.specs.CommandLine.{OptionsModel, options_by, shown_by_default, WebNames, web_names_by}
 pub use Rattle.cweb_log.specs.DeviceModels.{SinkModel, Devices, ShelfModel, AreObservable, sink_model, shelf_model}
 pub use Rattle.cweb_log.specs.DeviceModels.{devices}
-pub use Rattle.cweb_log.specs.Items.{line, LogItem, fault_lines, fault_count, is_fault, source_item, fault, starred}
+pub use Rattle.cweb_log.specs.Items.{line, LogItem, fault_count, is_fault, source_item, fault, starred}
+pub use Rattle.cweb_log.specs.inner.WebItems.{fault_lines}
 pub use Rattle.cweb_log.specs.Items.{located, banner, closing, faults, no_errors, no_text, see_warning, stopped}
 pub use Rattle.cweb_log.specs.Items.{name_item, name_items, scan_item, scan_items, refusal_message}
-pub use Rattle.cweb_log.specs.Log.{Logs, stop_line, file_name_at}
+pub use Rattle.cweb_log.specs.Log.{stop_line, file_name_at}
+pub use Rattle.cweb_log.specs.inner.LogWriting.{Logs}
 pub use Rattle.cweb_log.specs.declared.shown.Shown.{Shown}
 pub use Rattle.cweb_log.specs.inner.Log.{start_subject, subject}
 pub use Rattle.cweb_log.specs.inner.LogWriting.{WritesToStream}
@@ -100,21 +104,21 @@ pub use Rattle.cweb_store.specs.surface.Parts.{numbers_from, numbers_where}
 pub use Rattle.cweb_texts.specs.Edges.{is_operator, last_is}
 pub use Rattle.cweb_tools.specs.Acts.{DeviceState, Act, judges, says, opens, reads, plans, reserves, writes, after_act}
 pub use Rattle.cweb_tools.specs.Acts.{PerformsActs, Breaks, Ending, ending, TangleEnds, completes, stops, LogsLine}
-pub use Rattle.cweb_tools.specs.Acts.{LogsStop, IsOfFile, read_fails, AgreesWith, prints}
-pub use Rattle.cweb_tools.specs.Course.{Course, merging, IsMergeCourse, change_name, merged, usage, fault_status}
-pub use Rattle.cweb_tools.specs.Course.{MergeKeepsLimits, merge_log, merge_status, world_of}
-pub use Rattle.cweb_tools.specs.Headline.{IsMerge, TangleKeepsLimits, MergesFreely, MergeRanFreely, TanglesFreely}
-pub use Rattle.cweb_tools.specs.MergePromises.{put_files, about, AreOpened, CanStop, MergeEnds, Merges}
-pub use Rattle.cweb_tools.specs.MergePromises.{RefusesArgs, HasMerged, BlamesDevice, Completes}
-pub use Rattle.cweb_tools.specs.Script.{written_files, logged_items, Numbers, closing_acts, unread, not_there}
+pub use Rattle.cweb_tools.specs.Acts.{LogsStop, IsOfFile, read_fails, AgreesWith, prints, merges, FailsReading}
+pub use Rattle.cweb_tools.specs.Acts.{logged_items, acts_status, EndsIn, FollowsActs}
+pub use Rattle.cweb_tools.specs.Course.{Course, merging, IsMergeCourse, change_name, world_of}
+pub use Rattle.cweb_tools.specs.Headline.{written_files, put_files, printed_bytes, ActsKeepLimits, RanFreely, DoesActs}
+pub use Rattle.cweb_tools.specs.Headline.{DoesActsFreely}
+pub use Rattle.cweb_tools.specs.MergeActs.{merge_acts, MergeCanCome, merge_devices, MergePromises, usage}
+pub use Rattle.cweb_tools.specs.Script.{Numbers, closing_acts, unread, not_there}
 pub use Rattle.cweb_tools.specs.Script.{change_not_there, Planning, refused, Web, planned_acts, script, starred_acts}
-pub use Rattle.cweb_tools.specs.Script.{tangle_files, tangling, when, output_acts, outputs_acts, TangleCourse}
-pub use Rattle.cweb_tools.specs.Depend.{depend_acts, depend_plan_acts, depend_web_acts, depend_usage, depend_text}
-pub use Rattle.cweb_tools.specs.Depend.{dependencies, DependsFreely}
-pub use Rattle.cweb_tools.specs.Script.{tangle_status, acts_status, web_acts, planned, tangle_log, tangle_usage}
+pub use Rattle.cweb_tools.specs.Script.{tangling, when, output_acts, outputs_acts, TangleCourse, tangle_usage}
+pub use Rattle.cweb_tools.specs.Depend.{depend_acts, depend_plan_acts, depend_web_acts, depend_usage}
+pub use Rattle.cweb_tools.specs.Depend.{dependencies}
+pub use Rattle.cweb_tools.specs.Script.{web_acts, planned}
 pub use Rattle.cweb_tools.specs.Spacing.{IsPlain, Spacing, is_ascii}
 pub use Rattle.cweb_tools.specs.Tangle.{fault_items, CanCome, shown_by, IsTangleCourse, output_file, tangled, web_of}
-pub use Rattle.cweb_tools.specs.Tangle.{plan_made, planning, planning_by, EndsIn, TanglePromises, FollowsActs}
+pub use Rattle.cweb_tools.specs.Tangle.{plan_made, planning, planning_by, TanglePromises}
 pub use Rattle.cweb_tools.specs.declared.outputs.Failed.{Failed}
 pub use Rattle.cweb_tools.specs.inner.Acts.{ending_of}
 pub use Rattle.cweb_tools.specs.inner.Course.{found_course, merge_course, EndsMerge, course_of}
@@ -127,8 +131,8 @@ pub use Rattle.cweb_tools.specs.inner.Scanning.{EndsAs}
 pub use Rattle.cweb_tools.specs.inner.Tangle.{tangle_course, LaterActs, opening_acts, tangle_later, course_status}
 pub use Rattle.cweb_tools.specs.inner.Tangle.{web_status, status_by}
 pub use Rattle.cweb_tools.specs.inner.Web.{refusal_in, files_of, faults_of}
-pub use Rattle.cweb_tools.specs.laws.Leaves.{LeavesFiles, bins_blame}
+pub use Rattle.cweb_tools.specs.laws.Leaves.{LeavesFiles, bins_blame, tangle_files, tangle_status}
 pub use Rattle.cweb_tools.specs.laws.RunEffects.{LeavesDevices, LeavesMerge, LeavesStates, MergeFailsOnce}
-pub use Rattle.cweb_tools.specs.laws.RunEffects.{MergeReportsFaults, PrintsMerged, ActsKeepLimits, DoesAll, IsEnded}
+pub use Rattle.cweb_tools.specs.laws.RunEffects.{PrintsActs, DoesAll, IsEnded}
 pub use Rattle.cweb_tools.specs.laws.RunEffects.{IsStopped, LogEnds, ReadAll, RisesOnce, TangleFailsOnce}
 pub use Rattle.cweb_tools.specs.laws.RunEffects.{TangleReportsFaults, cut, said}

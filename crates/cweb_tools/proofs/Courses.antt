@@ -1,5 +1,5 @@
 -- The way that a run goes exists, and there is no other.
-use Rattle.cweb_tools.proofs.Common.{◌≡◌, ◌∙◌, ℕ, Option, Some, None, refl, sym, ap, subst, World, Found, Devices, WebNames, OptionsModel, Course, merging, IsMergeCourse, found_course, merge_course, merge-run_steps, contents_found, EndsMerge, MergeEnds, Merges, TangleCourse, IsTangleCourse, tangle_course, tangled, web_at, change_at, started}
+use Rattle.cweb_tools.proofs.Common.{◌≡◌, ◌∙◌, Option, Some, None, refl, sym, ap, World, Found, WebNames, OptionsModel, Course, merging, IsMergeCourse, found_course, merge_course, merge-run_steps, contents_found, TangleCourse, IsTangleCourse, tangle_course, tangled, web_at, change_at, started}
 use Rattle.cweb_lines.specs.inner.Total.{merge_yields}
 use Rattle.cweb_tools.specs.Course.{IsFoundCourse, unread, not_there, change_not_there}
 
@@ -29,19 +29,6 @@ pub merge_only : (world : World) (asked : Option WebNames) (course : Course) →
 merge_only world None course is = is
 merge_only world (Some names) course is =
     found_only world names (web_at world.texts names.web names.second) (change_at world.texts names.change) course is
-
-pub ends_of : (world : World) (asked : Option WebNames) (before after : Devices) (status : ℕ)
-    → EndsMerge world asked before after status → MergeEnds world asked before after status
-ends_of world None before after status ends = ends
-ends_of world (Some names) before after status ends =
-    (merge_course world (Some names), merge_comes world (Some names), ends)
-
-pub ends_by : (world : World) (asked : Option WebNames) (before after : Devices) (status : ℕ)
-    → MergeEnds world asked before after status → EndsMerge world asked before after status
-ends_by world None before after status ends = ends
-ends_by world (Some names) before after status ends =
-    subst (λ (course : Course). Merges names course before after status)
-    (merge_only world (Some names) ends.0 ends.1) ends.2
 
 pub tangle_comes : (world : World) (asked : Option OptionsModel)
     → IsTangleCourse world asked (tangle_course world asked)

@@ -1,8 +1,8 @@
 -- The consequences of a run's promises for its endings.
-use Rattle.cweb_tools.proofs.Common.{◌≡◌, ◌≢◌, ◌++◌, flat_map, LogItem, line, stop_line, inl, inr, ℕ, List, [], ◌∷◌, refl, ap, arith, Some, None, Stop, Usage, WebNotOpened, ChangeNotOpened, ReadFault, LineTooLong, TooMuchText, Memory, OutNotOpened, WriteFault, LogFault, DeviceState, Act, judges, reads, after_act, ending, Breaks, PerformsActs, TangleEnds, completes, stops, DoesAll, IsStopped, IsEnded, ActsKeepLimits}
+use Rattle.cweb_tools.proofs.Common.{◌≡◌, ◌≢◌, ◌++◌, flat_map, line, logged_items, LogsStop, stop_line, inl, inr, ℕ, List, [], ◌∷◌, refl, ap, arith, Some, None, Stop, Usage, WebNotOpened, ChangeNotOpened, ReadFault, LineTooLong, TooMuchText, Memory, OutNotOpened, WriteFault, LogFault, DeviceState, Act, judges, reads, merges, after_act, ending, Breaks, PerformsActs, TangleEnds, completes, stops, DoesAll, IsStopped, IsEnded, ActsKeepLimits}
 use Rattle.cweb_tools.proofs.AllDone.{files_all, log_all}
 use Rattle.cweb_tools.proofs.Limits.{beyond}
-use Rattle.cweb_tools.proofs.Stopping.{is_stopped}
+use Rattle.cweb_tools.proofs.Stopping.{is_stopped, runs_out}
 
 pub counts_all : (acts : List Act) (old new : DeviceState) → PerformsActs acts None old new
     → (new.shelf_failed ≡ old.shelf_failed) × (new.bins_failed ≡ old.bins_failed) × (new.log_failed ≡ old.log_failed)
@@ -56,6 +56,13 @@ cause_at (reads names events) acts (LineTooLong file) about old new broke =
     λ within. beyond (LineTooLong file) events broke.1 within.0
 cause_at (reads names events) acts TooMuchText about old new broke =
     λ within. beyond TooMuchText events broke.0 within.0
+cause_at (merges names events) acts (LineTooLong file) about old new broke =
+    λ within. beyond (LineTooLong file) events broke.2.1 within.0
+cause_at (merges names events) acts TooMuchText about old new broke =
+    λ within. beyond TooMuchText events broke.2.0 within.0
+cause_at (merges names events) acts Usage about old new broke = absurd broke.2
+cause_at (merges names events) acts WebNotOpened about old new broke = absurd broke.2
+cause_at (merges names events) acts ChangeNotOpened about old new broke = absurd broke.2
 cause_at act acts (ReadFault file) about old new broke = tt
 cause_at act acts Memory about old new broke = tt
 cause_at act acts OutNotOpened about old new broke = tt
@@ -71,35 +78,42 @@ cause_of (act ∷ acts) stop about old new (inl run) = cause_more stop
     (cause_of acts stop about (after_act act old) new run.1)
 cause_of (act ∷ acts) stop about old new (inr here) = cause_at act acts stop about old new here
 
--- No device failed, the limits were kept, and the run's log doesn't end in the line on a failed allocation.
-pub record RunsFreely (acts : List Act) (old new : DeviceState) : Type 0 where
+-- A run between states that ran freely.
+pub record StaysFree (acts : List Act) (old new : DeviceState) : Type 0 where
   pub shelf : new.shelf_failed ≡ old.shelf_failed
   pub bins : new.bins_failed ≡ old.bins_failed
   pub log : new.log_failed ≡ old.log_failed
   pub within : ActsKeepLimits acts
-  pub memory : (items : List LogItem) → new.log ≢ old.log ++ (flat_map line items ++ stop_line Memory [])
+  pub memory : (done later : List Act) (act : Act) (about : List ℕ) (from to : DeviceState) → acts ≡ done ++ act ∷ later
+      → Breaks act (ending Memory about) from to
+      → new.log ≢ old.log ++ (flat_map line (logged_items done) ++ stop_line Memory [])
 
--- A run that something stopped did not run freely.
-not_free : {acts : List Act} (stop : Stop) {about : List ℕ} {old new : DeviceState}
-    → Cause stop (ActsKeepLimits acts) → IsStopped acts stop about old new → RunsFreely acts old new → ⊥
-not_free (ReadFault file) cause is free = absurd (omega (arith, is.shelf, free.shelf))
-not_free OutNotOpened cause is free = absurd (omega (arith, is.bins, free.bins))
-not_free WriteFault cause is free = absurd (omega (arith, is.bins, free.bins))
-not_free LogFault cause is free = absurd (omega (arith, is.log_fails refl, free.log))
-not_free Memory cause is free = free.memory is.log.before (is.log.all free.log)
-not_free (LineTooLong file) cause is free = cause free.within
-not_free TooMuchText cause is free = cause free.within
-not_free stop cause is free = absurd cause
+-- A run that something else than memory stopped did not run freely.
+not_free : {acts : List Act} (stop : Stop) {about : List ℕ} {old new : DeviceState} → (stop ≡ Memory → ⊥)
+    → Cause stop (ActsKeepLimits acts) → IsStopped acts stop about old new → StaysFree acts old new → ⊥
+not_free (ReadFault file) never cause is free = absurd (omega (arith, is.shelf, free.shelf))
+not_free OutNotOpened never cause is free = absurd (omega (arith, is.bins, free.bins))
+not_free WriteFault never cause is free = absurd (omega (arith, is.bins, free.bins))
+not_free LogFault never cause is free = absurd (omega (arith, is.log_fails refl, free.log))
+not_free Memory never cause is free = never refl
+not_free (LineTooLong file) never cause is free = cause free.within
+not_free TooMuchText never cause is free = cause free.within
+not_free stop never cause is free = absurd cause
+
+stop_is_free : {acts : List Act} (stop : Stop) (about : List ℕ) (old mid : DeviceState) {new : DeviceState}
+    → PerformsActs acts (Some (ending stop about)) old mid → LogsStop (ending stop about) mid new
+    → StaysFree acts old new → ⊥
+stop_is_free {acts} Memory about old mid run logs free =
+    let out = runs_out acts about mid run logs in
+    free.memory out.done out.later out.act out.about out.from out.to out.whole out.breaks (out.log free.log)
+stop_is_free {acts} stop about old mid run logs free =
+    not_free stop (λ is. cc) (cause_of acts stop about old mid run) (is_stopped acts mid run logs) free
 
 pub runs_freely : {acts : List Act} {due : ℕ} {old new : DeviceState} {status : ℕ}
-    → TangleEnds acts due old new status → RunsFreely acts old new → PerformsActs acts None old new × (status ≡ due)
+    → TangleEnds acts due old new status → StaysFree acts old new → PerformsActs acts None old new × (status ≡ due)
 runs_freely (completes run answered) free = (run, answered)
-runs_freely {acts} {old} {new} (stops (ending stop about) then run logs answered) free = absurd (not_free
-    stop (cause_of acts stop about old then run) (is_stopped acts then run logs) free)
-
-pub ends_freely : {acts : List Act} {due : ℕ} {old new : DeviceState} {status : ℕ}
-    → TangleEnds acts due old new status → RunsFreely acts old new → DoesAll acts due old new status
-ends_freely ends free = let run = runs_freely ends free in does_all run.0 run.1
+runs_freely {old} (stops (ending stop about) then run logs answered) free =
+    absurd (stop_is_free stop about old then run logs free)
 
 pub ends_within : {acts : List Act} {due : ℕ} {old new : DeviceState} {status : ℕ}
     → TangleEnds acts due old new status → ¬ ActsKeepLimits acts → status ≡ 1

@@ -1,6 +1,8 @@
 -- The faults of a web as items: their number and their lines.
-use Rattle.cweb_tools.proofs.Common.{◌≡◌, ◌<◌, ◌+◌, ℕ, zero, suc, Bool, true, false, cond, List, [], ◌∷◌, ◌++◌, length, map, refl, sym, ◌∙◌, ap, subst, append_assoc, arith, length-append, flat_map-append, length-map, sum_by-append, sum_by-cons, flat_map, IsTrue, IsErr, None, Result, Ok, Err, count_by, SourceFault, Part, is_macro, numbers_from, numbers_where, PartKind, Scanned, WritesToStream, LogItem, fault_count, is_fault, line, source_item, fault_lines, SinkModel, name_item, name_items, scan_item, scan_items, says, DoesInLog, log_ending, fault_items}
+use Rattle.cweb_tools.proofs.Common.{◌≡◌, ◌<◌, ◌+◌, ℕ, zero, suc, Bool, true, false, cond, List, [], ◌∷◌, ◌++◌, length, map, refl, sym, ◌∙◌, ap, subst, append_assoc, arith, length-append, flat_map-append, length-map, sum_by-append, sum_by-cons, flat_map, IsTrue, IsErr, None, Result, Ok, Err, count_by, SourceFault, Part, is_macro, numbers_from, numbers_where, PartKind, Scanned, WritesToStream, LogItem, fault_count, is_fault, line, source_item, fault_lines, SinkModel, name_item, name_items, scan_item, scan_items, says, DoesInLog, ClosesInLog, done, acts_status, log_ending, fault_items}
 use Rattle.cweb_store.specs.Faults as store
+use Rattle.cweb_tools.proofs.Doing.{does_none}
+use Rattle.cweb_tools.proofs.DoingFiles.{closes_told}
 use Rattle.cweb_tools.proofs.Logging.{said_all, said_none}
 
 -- A list of items that are all faults.
@@ -95,10 +97,27 @@ writes_in e (Err f) b fails is = record {
   };
 }
 
-same_lines : (files : List (List ℕ)) (faults : List SourceFault)
+pub same_lines : (files : List (List ℕ)) (faults : List SourceFault)
     → fault_lines files faults ≡ flat_map line (map (source_item files) faults)
 same_lines files [] = refl
 same_lines files (met ∷ faults) = ap (λ (t : List ℕ). line (source_item files met) ++ t) (same_lines files faults)
+
+-- The faults of a merge were logged, and the status is 1 if there is one.
+pub no_faults_said : (files : List (List ℕ)) (faults : List SourceFault) {stream : SinkModel} → length faults ≡ 0
+    → ClosesInLog (map says (map (source_item files) faults)) (acts_status (map says (map (source_item files) faults)))
+    stream stream 0
+no_faults_said files [] none = λ shelf bins. done does_none refl
+no_faults_said files (met ∷ faults) none = absurd (omega (arith, none))
+
+pub faults_said : {A E : Type 0} (r : Result A E) (files : List (List ℕ)) (faults : List SourceFault)
+    {old new : SinkModel} → (length faults ≡ 0 → ⊥) → WritesToStream (fault_lines files faults) old new r
+    → ClosesInLog (map says (map (source_item files) faults)) (acts_status (map says (map (source_item files) faults)))
+    old new 1
+faults_said r files [] some writes = absurd (some refl)
+faults_said r files (met ∷ faults) some writes = closes_told r
+    (said_all r (source_item files met) (map (source_item files) faults)
+    (rw (← (same_lines files (met ∷ faults))) writes))
+    refl refl
 
 -- The lines of a web's faults are those of its files, its source and its names.
 pub fault_text : (files : List (List ℕ)) (faults : List SourceFault) (made : Scanned)

@@ -1,5 +1,5 @@
 -- The files and drafts after a run, act by act.
-use Rattle.cweb_tools.proofs.Common.{◌≡◌, inl, inr, ℕ, ◌+◌, false, List, [], ◌∷◌, ◌++◌, refl, sym, ◌∙◌, ap, subst, add-zero, arith, Option, Some, None, read_failures_of, bins_blame, File, Event, Stop, ReadFault, LineTooLong, TooMuchText, Memory, OutNotOpened, WriteFault, LogFault, LogItem, fault_count, Shown, DeviceState, Act, says, reads, writes, prints, after_act, Ending, ending, Breaks, PerformsActs, LogsStop, TangleEnds, completes, stops, LeavesFiles, put_files, refused, Web, written_files, script, tangling}
+use Rattle.cweb_tools.proofs.Common.{◌≡◌, inl, inr, ℕ, ◌+◌, false, List, [], ◌∷◌, ◌++◌, refl, sym, ◌∙◌, ap, subst, add-zero, arith, Option, Some, None, read_failures_of, bins_blame, File, Event, Stop, ReadFault, LineTooLong, TooMuchText, Memory, OutNotOpened, WriteFault, LogFault, LogItem, fault_count, Shown, DeviceState, Act, says, reads, merges, FailsReading, writes, prints, after_act, Ending, ending, Breaks, PerformsActs, LogsStop, TangleEnds, completes, stops, LeavesFiles, put_files, refused, Web, written_files, script, tangling}
 use Rattle.cweb_tools.proofs.WebActs.{when_on, said_on, starred_on, closing_on}
 
 -- A stop changes no file and leaves no draft. The failure count of its device rises. Only a log fault changes the log.
@@ -30,16 +30,23 @@ unwritten : {stop : Stop} {old new : DeviceState} (left : DeviceState) → new �
 unwritten {stop} {old} left is files draft shelf bins log failed = subst (Broken stop old) (sym is)
     (record { files = files; draft = λ none. draft; shelf = shelf; bins = bins; log = λ never. (log, failed) })
 
-pub broken : (act : Act) (stop : Stop) (about : List ℕ) (old new : DeviceState)
-    → Breaks act (ending stop about) old new → Broken stop old new
-broken (says item) LogFault about old new broke = subst (Broken LogFault old) (sym broke.is) (record {
-  files = refl;
-  draft = λ none. none;
-  shelf = sym (add-zero old.shelf_failed);
-  bins = sym (add-zero old.bins_failed);
-  log = λ never. absurd (never refl);
-})
-broken (reads names events) (ReadFault file) about old new broke =
+-- A prefix of some bytes was printed before that.
+after_printing : {stop : Stop} {old mid new : DeviceState} → mid ≡ record old { printed = mid.printed }
+    → Broken stop mid new → Broken stop old new
+after_printing {stop} is broke = record {
+  files = broke.files ∙ ap (λ (d : DeviceState). d.files) is;
+  draft = λ none. broke.draft (ap (λ (d : DeviceState). d.draft) is ∙ none);
+  shelf = broke.shelf ∙ ap (λ (d : DeviceState). d.shelf_failed + read_failures_of stop) is;
+  bins = broke.bins ∙ ap (λ (d : DeviceState). d.bins_failed + bins_blame stop) is;
+  log = λ never. (
+    (broke.log never).0 ∙ ap (λ (d : DeviceState). d.log) is,
+    (broke.log never).1 ∙ ap (λ (d : DeviceState). d.log_failed) is,
+  );
+}
+
+reading_broken : (names : List (List ℕ)) (events : List Event) (stop : Stop) (about : List ℕ) (old new : DeviceState)
+    → FailsReading names events (ending stop about) old new → Broken stop old new
+reading_broken names events (ReadFault file) about old new broke =
     subst (Broken (ReadFault file) old) (sym broke.1) (record {
       files = refl;
       draft = λ none. none;
@@ -47,21 +54,42 @@ broken (reads names events) (ReadFault file) about old new broke =
       bins = sym (add-zero old.bins_failed);
       log = λ never. (refl, refl);
     })
-broken (reads names events) (LineTooLong file) about old new broke = quiet refl refl broke.2
-broken (reads names events) TooMuchText about old new broke = quiet refl refl broke.1
-broken (writes name text) Memory about old new broke =
-    unwritten _ broke refl refl (sym (add-zero _)) (sym (add-zero _)) refl refl
-broken (writes name text) OutNotOpened about old new broke =
-    unwritten _ broke.1 refl refl (sym (add-zero _)) refl refl refl
-broken (writes name text) WriteFault about old new broke =
-    unwritten _ broke.1 refl refl (sym (add-zero _)) refl refl refl
-broken (prints text) WriteFault about old new broke = subst (Broken WriteFault old) (sym broke.1.is) (record {
+reading_broken names events (LineTooLong file) about old new broke = quiet refl refl broke.2
+reading_broken names events TooMuchText about old new broke = quiet refl refl broke.1
+reading_broken names events Memory about old new broke = quiet refl refl broke
+reading_broken names events stop about old new broke = absurd broke
+
+-- Standard output failed.
+output_broken : {old new : DeviceState}
+    → new ≡ record old { bins_failed = old.bins_failed + 1; printed = new.printed } → Broken WriteFault old new
+output_broken {old} is = subst (Broken WriteFault old) (sym is) (record {
   files = refl;
   draft = λ none. none;
   shelf = sym (add-zero old.shelf_failed);
   bins = refl;
   log = λ never. (refl, refl);
 })
+
+pub broken : (act : Act) (stop : Stop) (about : List ℕ) (old new : DeviceState)
+    → Breaks act (ending stop about) old new → Broken stop old new
+broken (says item) LogFault about old new broke = subst (Broken LogFault old) (sym broke.1) (record {
+  files = refl;
+  draft = λ none. none;
+  shelf = sym (add-zero old.shelf_failed);
+  bins = sym (add-zero old.bins_failed);
+  log = λ never. absurd (never refl);
+})
+broken (reads names events) stop about old new broke = reading_broken names events stop about old new broke
+broken (merges names events) WriteFault about old new broke = output_broken broke.1.1
+broken (merges names events) stop about old new broke =
+    after_printing broke.1.1 (reading_broken names events stop about broke.0 new broke.2)
+broken (writes name text) Memory about old new broke =
+    unwritten _ broke refl refl (sym (add-zero _)) (sym (add-zero _)) refl refl
+broken (writes name text) OutNotOpened about old new broke =
+    unwritten _ broke.1 refl refl (sym (add-zero _)) refl refl refl
+broken (writes name text) WriteFault about old new broke =
+    unwritten _ broke.1 refl refl (sym (add-zero _)) refl refl refl
+broken (prints text) WriteFault about old new broke = output_broken broke.1.1
 broken (says item) Memory about old new broke = absurd broke
 broken (prints text) Memory about old new broke = absurd broke
 broken act Memory about old new broke = quiet refl refl broke
@@ -105,7 +133,7 @@ pub stop_logged : (stop : Stop) (about : List ℕ) (old new : DeviceState)
     → LogsStop (ending stop about) old new → new ≡ record old { log_failed = new.log_failed; log = new.log }
 stop_logged LogFault about old new is = subst (LogAlone old) (sym is) refl
 stop_logged _ about old new (inl is) = subst (LogAlone old) (sym is) refl
-stop_logged _ about old new (inr fails) = subst (LogAlone old) (sym fails.is) refl
+stop_logged _ about old new (inr fails) = subst (LogAlone old) (sym fails.1) refl
 
 ends_left : {acts : List Act} {due : ℕ} {old new : DeviceState} {status : ℕ}
     → TangleEnds acts due old new status → Leaves acts old new

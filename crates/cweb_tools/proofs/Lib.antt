@@ -28,6 +28,7 @@ pub mod RulesReadBack
 pub mod Marks
 pub mod OutputActs
 pub mod Targets
+mod NoFiles
 mod WorkedExamples
 mod TangleExamples
 pub mod RunLaws

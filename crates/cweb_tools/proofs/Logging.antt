@@ -22,10 +22,10 @@ front_stops : (item : LogItem) (items : List LogItem) (front rest : List ℕ) (o
     → flat_map line (item ∷ items) ≡ front ++ rest → PerformsActs (map says (item ∷ items))
     (Some (ending LogFault [])) old (record old { log_failed = old.log_failed + 1; log = old.log ++ front })
 front_stops item [] front rest old is =
-    inr (record { front = front; rest = rest; whole = sym (append-nil (line item)) ∙ is; is = refl })
+    inr (record { front = front; rest = rest; written = refl; whole = sym (append-nil (line item)) ∙ is }, refl)
 front_stops item (next ∷ items) front rest old is =
     elim (cuts (line item) (flat_map line (next ∷ items)) front rest is) [
-      | inl cut ↦ inr (record { front = front; rest = cut.0; whole = cut.1; is = refl })
+      | inl cut ↦ inr (record { front = front; rest = cut.0; written = refl; whole = cut.1 }, refl)
       | inr cut ↦ inl (
         tt,
         rw (← (append_assoc old.log (line item) cut.0 ∙ ap (λ (t : List ℕ). old.log ++ t) (sym cut.1)))

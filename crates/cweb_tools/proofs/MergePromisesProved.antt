@@ -1,168 +1,150 @@
 -- The ends of a run of `wmerge` keep its promises.
-use Rattle.cweb_tools.proofs.Common.{◌≤◌, ◌≡◌, inl, inr, ℕ, ◌+◌, List, [], ◌∷◌, ◌++◌, refl, sym, ◌∙◌, ap, append-nil, arith, Option, Some, None, IsTrue, FileId, World, Found, web_at, change_at, read_failures_of, WritesPrefix, write_failures_of, SourceFault, Stop, Usage, WebNotOpened, ChangeNotOpened, ReadFault, LineTooLong, TooMuchText, Memory, WriteFault, Logs, fault_lines, stop_line, Devices, SinkModel, AreObservable, WebNames, Course, merging, merge_course, fault_status, found_course, merged, MergeKeepsLimits, about, BlamesDevice, CanStop, Completes, EndsMerge, MergeFailsOnce, HasMerged, IsMerge, MergesFreely, Merges, LeavesMerge, MergeRanFreely, MergeReportsFaults, PrintsMerged, MergeEnds, subst}
+use Rattle.cweb_tools.proofs.Common.{◌≤◌, ◌≡◌, inl, inr, ℕ, ◌+◌, List, [], ◌∷◌, ◌++◌, refl, sym, ◌∙◌, ap, append-nil, append_assoc, arith, subst, Option, Some, IsTrue, World, read_failures_of, bins_blame, WritesPrefix, Event, emitted_lines, written_lines, Stop, ReadFault, LineTooLong, TooMuchText, Memory, OutNotOpened, WriteFault, LogFault, WebNames, Course, IsMergeCourse, merge_acts, merge_devices, PrintsActs, ActsKeepLimits, Act, judges, says, opens, reads, plans, reserves, writes, merges, prints, after_act, ending, Breaks, FailsReading, DeviceState, PerformsActs, TangleEnds, completes, stops, printed_bytes, observed_state, and_from, RisesOnce}
 use Rattle.cweb_tools.specs.laws.RunEffects.{EveryMergeLeavesOutput}
-use Rattle.cweb_tools.proofs.Courses.{merge_only, ends_by}
-use Rattle.cweb_tools.specs.MergePromises.{completes, stops}
-use Rattle.cweb_tools.proofs.Limits.{beyond}
+use Rattle.cweb_tools.proofs.AllDone.{printed_all}
+use Rattle.cweb_tools.proofs.Courses.{merge_only}
+use Rattle.cweb_tools.proofs.Endings.{counts_all, ends_within}
+use Rattle.cweb_tools.proofs.Leaving.{stop_logged}
+use Rattle.cweb_tools.proofs.RunLaws.{counts, faults_show}
+use Rattle.cweb_tools.proofs.Stopping.{is_stopped}
+use Rattle.cweb_tools.proofs.TanglePromisesProved.{shown_told}
 
--- A course that a limit stops is not within the limits.
-course_long : (course : Course) (file : FileId) → CanStop (LineTooLong file) course → MergeKeepsLimits course → ⊥
-course_long (merging first events) file why within = beyond (LineTooLong file) events why within
-course_long course file why within = absurd why
+-- There is only one course.
+pub one_course : (world : World) (asked : Option WebNames) (one other : Course) → IsMergeCourse world asked one
+    → IsMergeCourse world asked other → one ≡ other
+one_course world asked one other is too = merge_only world asked one is ∙ sym (merge_only world asked other too)
 
-course_much : (course : Course) → CanStop TooMuchText course → MergeKeepsLimits course → ⊥
-course_much (merging first events) why within = beyond TooMuchText events why within
-course_much course why within = absurd why
+-- A stop of reading prints nothing.
+reading_prints : (names : List (List ℕ)) (events : List Event) (stop : Stop) (about : List ℕ) (old new : DeviceState)
+    → FailsReading names events (ending stop about) old new → new.printed ≡ old.printed
+reading_prints names events (ReadFault file) about old new fails = ap (λ (d : DeviceState). d.printed) fails.1
+reading_prints names events (LineTooLong file) about old new fails = ap (λ (d : DeviceState). d.printed) fails.2
+reading_prints names events TooMuchText about old new fails = ap (λ (d : DeviceState). d.printed) fails.1
+reading_prints names events Memory about old new fails = ap (λ (d : DeviceState). d.printed) fails
+reading_prints names events stop about old new fails = absurd fails
 
-no_front : (front rest : List ℕ) → [] ≡ front ++ rest → front ≡ []
-no_front [] rest whole = refl
-no_front (b ∷ front) rest whole = absurd (cc)
+prints_none : (acts : List Act) (old new : DeviceState) → new.printed ≡ old.printed
+    → WritesPrefix old.printed new.printed (printed_bytes acts)
+prints_none acts old new same =
+    record { front = []; rest = printed_bytes acts; written = same ∙ sym (append-nil old.printed); whole = refl }
 
--- A prefix of nothing is nothing.
-front_of_nothing : {old new : List ℕ} → WritesPrefix old new [] → new ≡ old ++ []
-front_of_nothing {old} front =
-    front.written ∙ ap (λ (t : List ℕ). old ++ t) (no_front front.front front.rest front.whole)
+-- More would have been printed after a prefix.
+more_after : {old new text : List ℕ} (more : List ℕ) → WritesPrefix old new text → WritesPrefix old new (text ++ more)
+more_after more wrote = record {
+  front = wrote.front;
+  rest = wrote.rest ++ more;
+  written = wrote.written;
+  whole = ap (λ (t : List ℕ). t ++ more) wrote.whole ∙ append_assoc wrote.front wrote.rest more;
+}
 
-module _ (world : World) (names : WebNames) (before after : Devices) (status : ℕ)
-    (tell : AreObservable before) where
-  freely_merged : (course : Course) (whole : Completes course before after status)
-      → HasMerged course whole.files whole.faults → MergeRanFreely course before after
-      → IsMerge course before after status
-  freely_merged (merging first events) whole all free = record {
-    written = whole.written tell.0 tell.1;
-    logged = whole.logged.whole tell.2 free.told
-        ∙ (λ i. before.log.bytes ++ fault_lines (all.0 i) (all.1 i));
-    answered = whole.answered free.told ∙ ap fault_status all.1;
-  }
-  freely_merged course whole all free = absurd all
+-- This was printed before a prefix.
+more_before : (old text : List ℕ) {new more : List ℕ} → WritesPrefix (old ++ text) new more
+    → WritesPrefix old new (text ++ more)
+more_before old text wrote = record {
+  front = text ++ wrote.front;
+  rest = wrote.rest;
+  written = wrote.written ∙ append_assoc old text wrote.front;
+  whole = ap (λ (t : List ℕ). text ++ t) wrote.whole ∙ sym (append_assoc text wrote.front wrote.rest);
+}
 
-  -- A run that did not run freely, except for its words and files.
-  freely_stopped : (found : Option Found) (changes : Option (Option Found)) (stop : Stop) (files : List (List ℕ))
-      → CanStop stop (found_course world names found changes) → BlamesDevice stop before after → Logs
-      (stop_line stop (about names files stop)) before.log after.log → WritesPrefix before.out.bytes after.out.bytes
-      (merged (found_course world names found changes)) → status ≡ 1 → MergeRanFreely (found_course world
-      names found changes) before after → IsMerge (found_course world names found changes) before after status
-  freely_stopped None changes WebNotOpened files cause blames logs front answered free =
-      record { written = front_of_nothing front; logged = logs.whole tell.2 free.told; answered = answered }
-  freely_stopped (Some web) None ChangeNotOpened files cause blames logs front answered free =
-      record { written = front_of_nothing front; logged = logs.whole tell.2 free.told; answered = answered }
-  freely_stopped found changes (ReadFault file) files cause blames logs front answered free =
-      absurd (omega (arith, blames.shelf, free.read))
-  freely_stopped found changes WriteFault files cause blames logs front answered free =
-      absurd (omega (arith, blames.out, free.printed))
-  freely_stopped found changes (LineTooLong file) files cause blames logs front answered free =
-      absurd (course_long (found_course world names found changes) file cause free.within)
-  freely_stopped found changes TooMuchText files cause blames logs front answered free =
-      absurd (course_much (found_course world names found changes) cause free.within)
-  freely_stopped found changes Memory files cause blames logs front answered free =
-      absurd (free.memory (logs.whole tell.2 free.told))
-  freely_stopped (Some web) None WebNotOpened files cause blames logs front answered free = absurd cause
-  freely_stopped (Some web) (Some change) WebNotOpened files cause blames logs front answered free = absurd cause
-  freely_stopped None changes ChangeNotOpened files cause blames logs front answered free = absurd cause
-  freely_stopped (Some web) (Some change) ChangeNotOpened files cause blames logs front answered free = absurd cause
-  freely_stopped found changes stop files cause blames logs front answered free = absurd cause
+printed_at : (act : Act) (acts : List Act) (stop : Stop) (about : List ℕ) (old new : DeviceState)
+    → Breaks act (ending stop about) old new → WritesPrefix old.printed new.printed (printed_bytes (act ∷ acts))
+printed_at (reads names events) acts stop about old new broke =
+    prints_none (reads names events ∷ acts) old new (reading_prints names events stop about old new broke)
+printed_at (merges names events) acts WriteFault about old new broke = more_after (printed_bytes acts) broke.1.0
+printed_at (merges names events) acts stop about old new broke = more_after (printed_bytes acts)
+    (subst (λ (t : List ℕ). WritesPrefix old.printed t (written_lines (emitted_lines events)))
+    (sym (reading_prints names events stop about broke.0 new broke.2)) broke.1.0)
+printed_at (prints text) acts WriteFault about old new broke = more_after (printed_bytes acts) broke.1.0
+printed_at (says item) acts LogFault about old new broke =
+    prints_none (says item ∷ acts) old new (ap (λ (d : DeviceState). d.printed) broke.1)
+printed_at (writes name text) acts Memory about old new broke =
+    prints_none (writes name text ∷ acts) old new (ap (λ (d : DeviceState). d.printed) broke)
+printed_at (writes name text) acts OutNotOpened about old new broke =
+    prints_none (writes name text ∷ acts) old new (ap (λ (d : DeviceState). d.printed) broke.1)
+printed_at (writes name text) acts WriteFault about old new broke =
+    prints_none (writes name text ∷ acts) old new (ap (λ (d : DeviceState). d.printed) broke.1)
+printed_at judges acts Memory about old new broke =
+    prints_none (judges ∷ acts) old new (ap (λ (d : DeviceState). d.printed) broke)
+printed_at opens acts Memory about old new broke =
+    prints_none (opens ∷ acts) old new (ap (λ (d : DeviceState). d.printed) broke)
+printed_at plans acts Memory about old new broke =
+    prints_none (plans ∷ acts) old new (ap (λ (d : DeviceState). d.printed) broke)
+printed_at reserves acts Memory about old new broke =
+    prints_none (reserves ∷ acts) old new (ap (λ (d : DeviceState). d.printed) broke)
+printed_at act acts stop about old new broke = absurd broke
 
-  freely_ended : (course : Course) (found : Option Found) (changes : Option (Option Found))
-      → course ≡ found_course world names found changes → Merges names course before after status
-      → MergeRanFreely course before after → IsMerge course before after status
-  freely_ended course found changes is (completes whole) free = freely_merged course whole (whole.all tell.0) free
-  freely_ended course found changes is (stops stop) free =
-      rw is (freely_stopped found changes stop.stop stop.files (rw (← is) (stop.cause tell.0)) stop.blames stop.logged
-      (rw (← is) (stop.written tell.0 tell.1)) stop.answered (rw (← is) free))
-
-ran_by : (world : World) (asked : Option WebNames) {before after : Devices} {status : ℕ}
-    → EndsMerge world asked before after status → AreObservable before
-    → MergeRanFreely (merge_course world asked) before after → IsMerge (merge_course world asked) before after status
-ran_by world None {before} ends tell free =
-    record {
-      written = ends.written ∙ sym (append-nil before.out.bytes);
-      logged = ends.logged.whole tell.2 free.told;
-      answered = ends.answered;
-    }
-ran_by world (Some names) {before} {after} {status} ends tell free = freely_ended world names before
-    after status tell _ (web_at world.texts names.web names.second) (change_at world.texts names.change) refl ends free
-
-pub ran_freely : (world : World) (asked : Option WebNames) {before after : Devices} {status : ℕ}
-    → MergeEnds world asked before after status → MergesFreely world asked before after status
-ran_freely world asked {before} {after} {status} ends tell course is free =
-    let same : course ≡ merge_course world asked = merge_only world asked course is in
-    subst (λ (c : Course). IsMerge c before after status) (sym same)
-    (ran_by world asked (ends_by world asked before after status ends) tell
-    (subst (λ (c : Course). MergeRanFreely c before after) same free))
-
-stays_within : (course : Course) (files : List (List ℕ)) (faults : List SourceFault)
-    → HasMerged course files faults → MergeKeepsLimits course
-stays_within (merging first events) files faults all = all.2
-stays_within course files faults all = absurd all
-
-beyond_limits : (world : World) (asked : Option WebNames) (before after : Devices) (status : ℕ)
-    → EndsMerge world asked before after status
-    → IsTrue before.shelf.tells → ¬ MergeKeepsLimits (merge_course world asked) → status ≡ 1
-beyond_limits world None before after status ends tells beyond = ends.answered
-beyond_limits world (Some names) before after status (completes whole) tells beyond =
-    absurd (beyond (stays_within _ whole.files whole.faults (whole.all tells)))
-beyond_limits world (Some names) before after status (stops stop) tells beyond = stop.answered
-
-all_printed : {old new text : List ℕ} → new ≡ old ++ text → WritesPrefix old new text
-all_printed {text} is = record { front = text; rest = []; written = is; whole = sym (append-nil text) }
+printed_until : (acts : List Act) (stop : Stop) (about : List ℕ) (old new : DeviceState)
+    → PerformsActs acts (Some (ending stop about)) old new → WritesPrefix old.printed new.printed (printed_bytes acts)
+printed_until [] stop about old new none = absurd none
+printed_until (act ∷ acts) stop about old new (inr here) = printed_at act acts stop about old new here
+printed_until (merges names events ∷ acts) stop about old new (inl run) =
+    more_before old.printed (written_lines (emitted_lines events)) (printed_until acts stop about _ new run.1)
+printed_until (prints text ∷ acts) stop about old new (inl run) =
+    more_before old.printed text (printed_until acts stop about _ new run.1)
+printed_until (act ∷ acts) stop about old new (inl run) = printed_until acts stop about (after_act act old) new run.1
 
 not_zero : {A : Type 0} (status : ℕ) → status ≡ 1 → status ≡ 0 → A
 not_zero status one none = absurd (omega (arith, one, none))
 
-prints : (world : World) (asked : Option WebNames) {before after : Devices} {status : ℕ}
-    → EndsMerge world asked before after status
-    → IsTrue before.shelf.tells → IsTrue before.out.tells → PrintsMerged (merge_course world asked) before after status
-prints world None {before} {status} ends tells told = record {
-  front = all_printed (ends.written ∙ sym (append-nil before.out.bytes));
-  whole = not_zero status ends.answered;
-}
-prints world (Some names) (completes whole) tells told =
-    record { front = all_printed (whole.written tells told); whole = λ none. whole.written tells told }
-prints world (Some names) {status} (stops stop) tells told =
-    record { front = stop.written tells told; whole = not_zero status stop.answered }
+-- What was printed.
+record Printed (acts : List Act) (old new : DeviceState) (status : ℕ) : Type 0 where
+  front : WritesPrefix old.printed new.printed (printed_bytes acts)
+  whole : status ≡ 0 → new.printed ≡ old.printed ++ printed_bytes acts
 
-one_blame : (stop : Stop) → read_failures_of stop + write_failures_of stop ≤ 1
-one_blame Usage = omega arith
+printed_by : {acts : List Act} {due : ℕ} {old new : DeviceState} {status : ℕ}
+    → TangleEnds acts due old new status → Printed acts old new status
+printed_by {acts} {old} {new} {status} (completes run answered) =
+    let all = printed_all acts old new run in
+    record {
+      front = record { front = printed_bytes acts; rest = []; written = all; whole = sym (append-nil _) };
+      whole = λ none. all;
+    }
+printed_by {acts} {old} {new} {status} (stops (ending stop about) then run logs answered) =
+    let same = ap (λ (d : DeviceState). d.printed) (stop_logged stop about then new logs) in
+    record {
+      front = subst (λ (t : List ℕ). WritesPrefix old.printed t (printed_bytes acts)) (sym same)
+          (printed_until acts stop about old then run);
+      whole = not_zero status answered;
+    }
+
+one_blame : (stop : Stop) → read_failures_of stop + bins_blame stop ≤ 1
+one_blame (ReadFault file) = omega arith
+one_blame OutNotOpened = omega arith
+one_blame WriteFault = omega arith
 one_blame _ = omega arith
 
-once_logged : {text : List ℕ} {before after : SinkModel} → Logs text before after → after.failed ≤ before.failed + 1
-once_logged logs = elim logs.once [ inl same ↦ omega (arith, same) | inr more ↦ omega (arith, more) ]
+-- Shelf and output don't both fail.
+one_fails : {acts : List Act} {due : ℕ} {old new : DeviceState} {status : ℕ} → TangleEnds acts due old new status
+    → new.shelf_failed + new.bins_failed ≤ old.shelf_failed + old.bins_failed + 1
+one_fails {acts} {old} {new} (completes run answered) =
+    let same = counts_all acts old new run in omega (arith, same.0, same.1)
+one_fails {acts} {old} {new} (stops (ending stop about) then run logs answered) =
+    let is = is_stopped acts then run logs in omega (arith, is.shelf, is.bins, one_blame stop)
 
-fails_once : (world : World) (asked : Option WebNames) {before after : Devices} (status : ℕ)
-    → EndsMerge world asked before after status → MergeFailsOnce before after
-fails_once world None status ends =
-    record { one = omega (arith, ends.read, ends.printed); log = once_logged ends.logged }
-fails_once world (Some names) status (completes whole) =
-    record { one = omega (arith, whole.read, whole.printed); log = once_logged whole.logged }
-fails_once world (Some names) status (stops stop) =
-    record {
-      one = omega (arith, stop.blames.shelf, stop.blames.out, one_blame stop.stop);
-      log = once_logged stop.logged;
-    }
-
-tells_faults : (world : World) (asked : Option WebNames) {before after : Devices} {status : ℕ}
-    → EndsMerge world asked before after status → MergeReportsFaults before after status
-tells_faults world None ends =
-    record { read = λ failed. ends.answered; printed = λ failed. ends.answered; logged = λ failed. ends.answered }
-tells_faults world (Some names) (completes whole) =
-    record {
-      read = λ failed. absurd (failed whole.read);
-      printed = λ failed. absurd (failed whole.printed);
-      logged = whole.failed;
-    }
-tells_faults world (Some names) (stops stop) =
-    record { read = λ failed. stop.answered; printed = λ failed. stop.answered; logged = λ failed. stop.answered }
-
-leave_by : (world : World) (asked : Option WebNames) (before after : Devices) (status : ℕ)
-    → EndsMerge world asked before after status → LeavesMerge (merge_course world asked) before after status
-leave_by world asked before after status ends = record {
-  prints = prints world asked ends;
-  limits = beyond_limits world asked before after status ends;
-  once = fails_once world asked status ends;
-  faults = tells_faults world asked ends;
-}
+at_most_once : (old new : ℕ) → RisesOnce old new → new ≤ old + 1
+at_most_once old new (inl same) = omega (arith, same)
+at_most_once old new (inr more) = omega (arith, more)
 
 pub leave_merge : EveryMergeLeavesOutput
-leave_merge world asked before after status ends course is =
-    subst (λ (c : Course). LeavesMerge c before after status) (sym (merge_only world asked course is))
-    (leave_by world asked before after status (ends_by world asked before after status ends))
+leave_merge world asked before after status run course course_is =
+    let same : IsTrue before.shelf.tells → run.course ≡ course = λ tells.
+    merge_only world asked run.course (run.is tells) ∙ sym (merge_only world asked course course_is) in
+    let last = run.ends (observed_state (merge_devices before)) shown_told in
+    let all = counts last.ends in
+    let text = printed_by last.ends in
+    let one = one_fails last.ends in
+    let shows = faults_show (merge_devices before) last.agrees all.shows in
+    record {
+      prints = λ shelf out.
+          let is = last.agrees.printed (run.bins_tell ∙ and_from before.shelf.tells before.out.tells shelf out) refl in
+          subst (λ (c : Course). PrintsActs (merge_acts c) before after status) (same shelf)
+          (record { front = rw (← is) text.front; whole = λ none. sym is ∙ text.whole none });
+      limits = λ tells beyond. ends_within last.ends
+          (λ within. beyond (subst (λ (c : Course). ActsKeepLimits (merge_acts c)) (same tells) within));
+      once = record {
+        one = omega (arith, one, last.agrees.shelf_failed, last.agrees.bins_failed);
+        log = omega (arith, at_most_once before.log.failed last.new.log_failed all.log, last.agrees.log_failed);
+      };
+      faults = record { read = shows.read; written = shows.written; logged = shows.logged };
+    }

@@ -1,5 +1,5 @@
 -- The observable state at the end of a run of `ctangle`.
-use Rattle.cweb_tools.proofs.Common.{◌≡◌, inl, inr, ℕ, List, refl, ◌∙◌, ap, Some, Stop, LogFault, LogItem, line, stopped, stop_line, log_ending, says, Result, Ok, Err, [], ◌∷◌, Logs, SinkModel, Devices, Act, ending, DeviceState, EndsIn, LogsLine, PerformsActs, completes, stops, AgreesWith, Closes, ClosesLog, LogsEnding, done, halted}
+use Rattle.cweb_tools.proofs.Common.{◌≡◌, inl, inr, ℕ, List, refl, ◌∙◌, ap, Some, Stop, LogFault, LogItem, line, stopped, stop_line, log_ending, says, Result, Ok, Err, [], ◌∷◌, Logs, SinkModel, ShelfModel, Devices, Act, ending, DeviceState, EndsIn, LogsLine, PerformsActs, completes, stops, AgreesWith, Closes, ClosesLog, LogsEnding, done, halted}
 use Rattle.cweb_tools.proofs.Logging.{at, logs_write, said}
 
 -- The observable state after a line of the log.
@@ -78,3 +78,8 @@ pub bins_tell : {acts : List Act} {due : ℕ} {before after : Devices} {status :
     → Closes acts due before after status → after.out.tells ≡ before.out.tells
 bins_tell (done does answered) = does.bins_tells
 bins_tell (halted why then does logs answered) = ap (λ (b : SinkModel). b.tells) logs.bins ∙ does.bins_tells
+
+pub shelf_tells : {acts : List Act} {due : ℕ} {before after : Devices} {status : ℕ}
+    → Closes acts due before after status → after.shelf.tells ≡ before.shelf.tells
+shelf_tells (done does answered) = does.shelf_tells
+shelf_tells (halted why then does logs answered) = ap (λ (s : ShelfModel). s.tells) logs.shelf ∙ does.shelf_tells

@@ -58,7 +58,13 @@ module _ (text : List ℕ) {old new : SinkModel} (tells : new.tells ≡ old.tell
   printed_front counts front =
       let wrote = front_told old.tells front in
       does_printed (λ n. n + 1) wrote.front refl refl (λ n. refl) counts wrote.written
-      (λ now. inr (refl, record { front = wrote.front; rest = wrote.rest; whole = wrote.whole; is = refl }))
+      (λ now. inr (
+        refl,
+        (
+          record { front = wrote.front; rest = wrote.rest; written = refl; whole = wrote.whole },
+          refl,
+        ),
+      ))
 
 -- The targets are the names of the outputs.
 pub target_names : (web : Stored) (files : List (List ℕ)) (outputs : List Output)

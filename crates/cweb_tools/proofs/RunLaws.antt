@@ -1,4 +1,4 @@
--- The laws of a run of `ctangle`.
+-- The laws of runs.
 use Rattle.cweb_tools.proofs.Common.{◌≡◌, ◌+◌, ◌⊎◌, inl, inr, ℕ, List, ◌++◌, refl, sym, ◌∙◌, arith, flat_map, IsTrue, Option, World, read_failures_of, Stop, ReadFault, OutNotOpened, WriteFault, line, stop_line, OptionsModel, Devices, Shown, Act, ending, DeviceState, TangleEnds, completes, stops, AgreesWith, bins_blame, observed_state, TangleCourse, logged_items, script, tangle_status, shown_by, TangleFailsOnce, TangleReportsFaults, IsEnded, LogEnds, RisesOnce, TanglePromises, LeavesDevices, LeavesStates, cut, said}
 use Rattle.cweb_tools.proofs.Endings.{counts_all, ends_so, ends_within}
 use Rattle.cweb_tools.proofs.Leaving.{ends_files}
@@ -26,14 +26,14 @@ bins_once WriteFault = inr refl
 bins_once stop = inl refl
 
 -- The relation of failure counts and the status.
-record Counts (old new : DeviceState) (status : ℕ) : Type 0 where
-  shelf : RisesOnce old.shelf_failed new.shelf_failed
-  bins : RisesOnce old.bins_failed new.bins_failed
-  log : RisesOnce old.log_failed new.log_failed
-  shows : (new.shelf_failed ≡ old.shelf_failed) × (new.bins_failed ≡ old.bins_failed)
+pub record Counts (old new : DeviceState) (status : ℕ) : Type 0 where
+  pub shelf : RisesOnce old.shelf_failed new.shelf_failed
+  pub bins : RisesOnce old.bins_failed new.bins_failed
+  pub log : RisesOnce old.log_failed new.log_failed
+  pub shows : (new.shelf_failed ≡ old.shelf_failed) × (new.bins_failed ≡ old.bins_failed)
       × (new.log_failed ≡ old.log_failed) ⊎ (status ≡ 1)
 
-counts : {acts : List Act} {due : ℕ} {old new : DeviceState} {status : ℕ}
+pub counts : {acts : List Act} {due : ℕ} {old new : DeviceState} {status : ℕ}
     → TangleEnds acts due old new status → Counts old new status
 counts {acts} {old} {new} (completes run answered) =
     let same = counts_all acts old new run in
@@ -55,7 +55,7 @@ fail_once before agrees counts = record {
   log = rw (← agrees.log_failed) counts.log;
 }
 
-faults_show : (before : Devices) {after : Devices} {new : DeviceState} {status : ℕ} → AgreesWith new after
+pub faults_show : (before : Devices) {after : Devices} {new : DeviceState} {status : ℕ} → AgreesWith new after
     → (new.shelf_failed ≡ before.shelf.failed) × (new.bins_failed ≡ before.out.failed)
     × (new.log_failed ≡ before.log.failed) ⊎ (status ≡ 1) → TangleReportsFaults before after status
 faults_show before agrees (inl same) = record {

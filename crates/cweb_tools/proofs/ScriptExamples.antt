@@ -1,6 +1,10 @@
 -- Worked examples: scripts of `ctangle`, with log, files and end.
-use Rattle.cweb_tools.proofs.Common.{◌≡◌, true, false, List, ℕ, [], ◌∷◌, ◌++◌, codes, File, LogItem, fault, located, shown_by_default, Shown, Planning, TangleCourse, change_not_there, not_there, planned, refused, tangling, tangle_files, tangle_log, tangle_status, unread}
+use Rattle.cweb_tools.proofs.Common.{◌≡◌, true, false, List, ℕ, [], ◌∷◌, ◌++◌, codes, File, LogItem, fault, located, shown_by_default, Shown, Planning, TangleCourse, change_not_there, not_there, planned, refused, tangling, tangle_files, tangle_status, unread, flat_map, line, logged_items, script}
 use Rattle.std.specs.Fmt.{digits}
+
+-- The log of a whole run.
+abbrev pub tangle_log : Shown → TangleCourse → List ℕ
+tangle_log shown course = flat_map line (logged_items (script shown course))
 
 -- The options `-bph`.
 abbrev quiet : Shown

@@ -1,5 +1,5 @@
 -- The log after a stop, and the failure counts that rise.
-use Rattle.cweb_tools.proofs.Common.{◌≡◌, inl, inr, ℕ, List, [], ◌∷◌, ◌++◌, refl, sym, ◌∙◌, ap, append-nil, append_assoc, WritesPrefix, arith, add-zero, Some, flat_map, Stop, LogFault, stop_line, LogItem, line, DeviceState, Act, says, after_act, ending, Breaks, PerformsActs, LogsLine, LogsStop, logged_items, IsStopped, RisesOnce}
+use Rattle.cweb_tools.proofs.Common.{◌≡◌, inl, inr, ℕ, List, [], ◌∷◌, ◌++◌, refl, sym, ◌∙◌, ap, append-nil, append_assoc, WritesPrefix, arith, add-zero, Some, flat_map, Stop, LogFault, Memory, stop_line, LogItem, line, DeviceState, Act, says, merges, after_act, ending, Breaks, PerformsActs, LogsLine, LogsStop, logged_items, IsStopped, RisesOnce}
 use Rattle.cweb_tools.proofs.Leaving.{broken, stop_logged}
 
 -- A line was logged, or the log failed within it.
@@ -8,20 +8,12 @@ line_front : {text : List ℕ} (old new : DeviceState) → LogsLine text old new
 line_front {text} old new (inl is) =
     let log = ap (λ (d : DeviceState). d.log) is in
     (record { front = text; rest = []; written = log; whole = sym (append-nil text) }, λ same. log)
-line_front old new (inr fails) = (
-  record {
-    front = fails.front;
-    rest = fails.rest;
-    written = ap (λ (d : DeviceState). d.log) fails.is;
-    whole =
-        fails.whole;
-  },
-  λ same. absurd (omega (arith, ap (λ (d : DeviceState). d.log_failed) fails.is, same)),
-)
+line_front old new (inr fails) =
+    (fails.0, λ same. absurd (omega (arith, ap (λ (d : DeviceState). d.log_failed) fails.1, same)))
 
 line_once : {text : List ℕ} (old new : DeviceState) → LogsLine text old new → RisesOnce old.log_failed new.log_failed
 line_once old new (inl is) = inl (ap (λ (d : DeviceState). d.log_failed) is)
-line_once old new (inr fails) = inr (ap (λ (d : DeviceState). d.log_failed) fails.is)
+line_once old new (inr fails) = inr (ap (λ (d : DeviceState). d.log_failed) fails.1)
 
 -- A stop at the first act: its line was logged, or the log failed within that line or within the act's own.
 stopped_at : (act : Act) (stop : Stop) {about : List ℕ} {old : DeviceState} (mid : DeviceState) {new : DeviceState}
@@ -33,18 +25,19 @@ stopped_at (says item) LogFault {old} mid fails is acts = record {
     later = logged_items acts;
     whole = refl;
     front = record {
-      front = fails.front;
-      rest = fails.rest;
-      written = ap (λ (d : DeviceState). d.log) (is ∙ fails.is);
-      whole = append-nil (line item ++ []) ∙ append-nil (line item) ∙ fails.whole;
+      front = fails.0.front;
+      rest = fails.0.rest;
+      written = ap (λ (d : DeviceState). d.log) is ∙ fails.0.written;
+      whole = append-nil (line item ++ []) ∙ append-nil (line item) ∙ fails.0.whole;
     };
-    all = λ same. absurd (omega (arith, ap (λ (d : DeviceState). d.log_failed) (is ∙ fails.is), same));
+    all = λ same. absurd (omega (arith, ap (λ (d : DeviceState). d.log_failed) (is ∙ fails.1), same));
   };
-  shelf = ap (λ (d : DeviceState). d.shelf_failed) (is ∙ fails.is) ∙ sym (add-zero old.shelf_failed);
-  bins = ap (λ (d : DeviceState). d.bins_failed) (is ∙ fails.is) ∙ sym (add-zero old.bins_failed);
-  log_fails = λ _. ap (λ (d : DeviceState). d.log_failed) (is ∙ fails.is);
-  log_once = inr (ap (λ (d : DeviceState). d.log_failed) (is ∙ fails.is));
+  shelf = ap (λ (d : DeviceState). d.shelf_failed) (is ∙ fails.1) ∙ sym (add-zero old.shelf_failed);
+  bins = ap (λ (d : DeviceState). d.bins_failed) (is ∙ fails.1) ∙ sym (add-zero old.bins_failed);
+  log_fails = λ _. ap (λ (d : DeviceState). d.log_failed) (is ∙ fails.1);
+  log_once = inr (ap (λ (d : DeviceState). d.log_failed) (is ∙ fails.1));
 }
+stopped_at (merges names events) LogFault mid broke logs acts = absurd broke.2
 stopped_at act LogFault mid broke logs acts = absurd broke
 stopped_at act stop {about} {old} mid {new} broke logs acts =
     let left = broken act stop about old mid broke in
@@ -111,3 +104,64 @@ is_stopped (act ∷ acts) {stop} {about} {old} mid {new} (inl run) logs =
       log_once = rest.log_once;
     }
 is_stopped (act ∷ acts) {stop} mid (inr stop_here) logs = stopped_at act stop mid stop_here logs acts
+
+-- An act within which memory ran out, and the log with the lines of the acts before it.
+pub record RunsOut (acts : List Act) (old new : DeviceState) : Type 0 where
+  pub done : List Act
+  pub later : List Act
+  pub act : Act
+  pub about : List ℕ
+  pub from : DeviceState
+  pub to : DeviceState
+  pub whole : acts ≡ done ++ act ∷ later
+  pub breaks : Breaks act (ending Memory about) from to
+  pub log : new.log_failed ≡ old.log_failed
+      → new.log ≡ old.log ++ (flat_map line (logged_items done) ++ stop_line Memory [])
+
+pub runs_out : (acts : List Act) (about : List ℕ) {old : DeviceState} (mid : DeviceState) {new : DeviceState}
+    → PerformsActs acts (Some (ending Memory about)) old mid → LogsStop (ending Memory about) mid new
+    → RunsOut acts old new
+runs_out [] about {old} mid {new} none logs = absurd none
+runs_out (act ∷ acts) about {old} mid {new} (inr here) logs =
+    let left = broken act Memory about old mid here in
+    let never : Memory ≡ LogFault → ⊥ = λ is. cc in
+    record {
+      done = [];
+      later = acts;
+      act = act;
+      about = about;
+      from = old;
+      to = mid;
+      whole = refl;
+      breaks = here;
+      log = λ same. (line_front mid new logs).1 (same ∙ sym (left.log never).1)
+          ∙ ap (λ (t : List ℕ). t ++ stop_line Memory []) (left.log never).0;
+    }
+runs_out (says item ∷ acts) about {old} mid {new} (inl run) logs =
+    let rest = runs_out acts about mid run.1 logs in
+    let text : List ℕ = flat_map line (logged_items rest.done) in
+    record {
+      done = says item ∷ rest.done;
+      later = rest.later;
+      act = rest.act;
+      about = rest.about;
+      from = rest.from;
+      to = rest.to;
+      whole = ap (λ (all : List Act). says item ∷ all) rest.whole;
+      breaks = rest.breaks;
+      log = λ same. rest.log same ∙ append_assoc old.log (line item) (text ++ stop_line Memory [])
+          ∙ ap (λ (t : List ℕ). old.log ++ t) (sym (append_assoc (line item) text (stop_line Memory [])));
+    }
+runs_out (act ∷ acts) about {old} mid {new} (inl run) logs =
+    let rest = runs_out acts about mid run.1 logs in
+    record {
+      done = act ∷ rest.done;
+      later = rest.later;
+      act = rest.act;
+      about = rest.about;
+      from = rest.from;
+      to = rest.to;
+      whole = ap (λ (all : List Act). act ∷ all) rest.whole;
+      breaks = rest.breaks;
+      log = rest.log;
+    }

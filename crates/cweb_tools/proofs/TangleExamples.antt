@@ -1,5 +1,6 @@
 -- Worked examples: whole runs of `ctangle`, from files and words to log, files and status.
-use Rattle.cweb_tools.proofs.Common.{◌≡◌, ℕ, List, [], ◌∷◌, ◌++◌, Option, Some, None, refl, ap, ◌∙◌, cond, codes, bytes_eq, File, World, Event, MergeStateModel, run_steps, started, merge, merge-run_steps, OptionsModel, options_by, TangleCourse, tangle_files, tangle_log, tangle_status, shown_by, tangle_course, tangled, depend_text}
+use Rattle.cweb_tools.proofs.Common.{◌≡◌, ℕ, List, [], ◌∷◌, ◌++◌, Option, Some, None, refl, ap, ◌∙◌, cond, codes, bytes_eq, File, World, Event, MergeStateModel, run_steps, started, merge, merge-run_steps, OptionsModel, options_by, TangleCourse, tangle_files, tangle_status, shown_by, tangle_course, tangled, printed_bytes, depend_acts}
+use Rattle.cweb_tools.proofs.ScriptExamples.{tangle_log}
 use Rattle.std.specs.Fmt.{digits}
 use Rattle.std.specs.Str.{is_utf8, chars}
 use lib.Utf8.{encode}
@@ -115,7 +116,7 @@ changed_run = runs_to (record { texts = changed_texts; inputs = None })
     (codes "v.w" ∷ codes "v.ch" ∷ []) (codes "v.c") (codes "-bph" ∷ codes "v" ∷ codes "v" ∷ []) _ refl refl refl
 
 -- `wdep` prints the outputs and the inputs.
-two_depend : depend_text (merging (one_web (codes "f.w") two_text) (started two_text None) (codes "f.w" ∷ [])
-    (codes "f.c")) ≡ codes "f.c a.h: f.w\n"
+two_depend : printed_bytes (depend_acts (merging (one_web (codes "f.w") two_text) (started two_text None)
+    (codes "f.w" ∷ []) (codes "f.c"))) ≡ codes "f.c a.h: f.w\n"
 unfolding digits is_utf8 chars encode
 two_depend = refl

@@ -1,5 +1,5 @@
 -- Worked examples of command lines and merges.
-use Rattle.cweb_tools.proofs.Common.{◌≡◌, ℕ, List, [], ◌∷◌, Option, Some, None, refl, ap, cond, codes, bytes_eq, Place, NotThere, Unequal, Usage, WebNotOpened, ChangeNotOpened, LineTooLong, WriteFault, Memory, World, Event, MergeStateModel, run_steps, started, merge-run_steps, line, source_item, fault_lines, stop_line, subject, web_names_by, Course, merging, course_of, merged, merge_log, merge_status, usage}
+use Rattle.cweb_tools.proofs.Common.{◌≡◌, ℕ, List, [], ◌∷◌, Option, Some, None, refl, ap, cond, codes, bytes_eq, Place, NotThere, Unequal, Usage, WebNotOpened, ChangeNotOpened, LineTooLong, WriteFault, Memory, World, Event, MergeStateModel, run_steps, started, merge-run_steps, line, source_item, fault_lines, stop_line, subject, web_names_by, Course, merging, course_of, merge_acts, logged_items, printed_bytes, acts_status, flat_map, usage}
 use Rattle.std.specs.Fmt.{digits}
 use Rattle.cweb_tools.specs.Course.{unread, change_not_there}
 
@@ -36,6 +36,10 @@ changed_course = merging (codes "m.w" ∷ codes "c.ch" ∷ []) (events_of (run_s
 changed_run : course_of web_and_change (codes "m" ∷ codes "c" ∷ []) None ≡ changed_course
 changed_run = ap (λ (events : List Event). merging (codes "m.w" ∷ codes "c.ch" ∷ []) events)
     (merge-run_steps 20 there begun (events_of (run_steps 20 there begun)) refl)
+
+-- The log of a whole run.
+abbrev merge_log : Course → List ℕ
+merge_log course = flat_map line (logged_items (merge_acts course))
 
 record Computed : Type 0 where
   -- A word without a dot in its last path part gets `.w`, and `.web` as a second try.
@@ -82,9 +86,9 @@ record Computed : Type 0 where
   both_missing : merge_log (course_of one_web (codes "n" ∷ codes "gone" ∷ []) None)
       ≡ codes "! Cannot open web file n.w\n"
   misread : course_of one_web (codes "-" ∷ codes "m" ∷ []) None ≡ unread
-  changed_text : merged changed_course ≡ codes "N\nB\n"
+  changed_text : printed_bytes (merge_acts changed_course) ≡ codes "N\nB\n"
   changed_log : merge_log changed_course ≡ codes "c.ch:6: ! Change entry did not match\n"
-  changed_status : merge_status changed_course ≡ 1
+  changed_status : acts_status (merge_acts changed_course) ≡ 1
   -- A lone `-` leaves the change file unread.
   unchanged_run : course_of web_and_change (codes "m" ∷ codes "-" ∷ []) None
       ≡ course_of web_and_change (codes "m" ∷ []) None

@@ -1,13 +1,15 @@
--- The acts of a run of `ctangle` or `wdep`, and what they leave in its devices.
+-- The acts of a run, what they leave in its devices, and the promise that a run does the acts of its course.
 use Rattle.std.specs.Prelude.{◌≡◌, ◌<◌, ◌⊎◌, ℕ, ◌+◌, length, List, [], ◌∷◌, ◌++◌, Option, Some, None, IsTrue, IsSome}
-use Rattle.std.specs.Prelude.{codes}
+use Rattle.std.specs.Prelude.{codes, if◌then◌else◌}
+use Rattle.std.specs.List.{list_any}
+use Rattle.cweb_files.specs.Bins.{WritesPrefix}
 use Rattle.cweb_files.specs.Files.{File, Refused, no_device, no_memory, put_file}
 use Rattle.cweb_lines.specs.Merge.{Event}
-use Rattle.cweb_lines.specs.Events.{IsWithinLimits, taken_lines, BreaksLimit}
+use Rattle.cweb_lines.specs.Events.{IsWithinLimits, emitted_lines, taken_lines, written_lines, BreaksLimit}
 use Rattle.cweb_input.specs.declared.stop.Stop.{Stop}
 use Rattle.cweb_input.specs.declared.stop.Stop.TheVariants.{ReadFault, LineTooLong, TooMuchText, Memory, OutNotOpened}
 use Rattle.cweb_input.specs.declared.stop.Stop.TheVariants.{WriteFault, LogFault}
-use Rattle.cweb_log.specs.Items.{LogItem, line}
+use Rattle.cweb_log.specs.Items.{LogItem, is_fault, line}
 use Rattle.cweb_log.specs.Log.{file_name_at, stop_line}
 use Rattle.cweb_log.specs.DeviceModels.{Devices}
 
@@ -36,6 +38,8 @@ pub data Act : Type 0 where
   opens : Act
   -- Files of these names are read, with these events.
   reads : List (List ℕ) → List Event → Act
+  -- Files of these names are read, with these events, and the merged lines are printed meanwhile.
+  merges : List (List ℕ) → List Event → Act
   -- The outputs are planned.
   plans : Act
   -- Memory for the expansions is allocated.
@@ -50,12 +54,14 @@ abbrev pub after_act : Act → DeviceState → DeviceState
 after_act (says item) now = record now { log = now.log ++ line item }
 after_act (writes name text) now =
     record now { files = put_file now.files (record { name = name; bytes = text }); draft = None; refused = None }
+after_act (merges names events) now = record now { printed = now.printed ++ written_lines (emitted_lines events) }
 after_act (prints text) now = record now { printed = now.printed ++ text }
 after_act _ now = now
 
 -- If an act of reading is done, its lines are within the limits.
 abbrev pub ActKeepsLimits : Act → Type 0
 ActKeepsLimits (reads names events) = IsWithinLimits (taken_lines events)
+ActKeepsLimits (merges names events) = IsWithinLimits (taken_lines events)
 ActKeepsLimits _ = Unit {0}
 
 -- What stopped a run, and the name that its line ends in.
@@ -63,11 +69,9 @@ pub data Ending : Type 0 where
   ending : Stop → List ℕ → Ending
 
 -- A prefix of a line was logged, and the log failed.
-pub record FailsLog (text : List ℕ) (old new : DeviceState) : Type 0 where
-  pub front : List ℕ
-  pub rest : List ℕ
-  pub whole : text ≡ front ++ rest
-  pub is : new ≡ record old { log_failed = old.log_failed + 1; log = old.log ++ front }
+abbrev pub FailsLog : List ℕ → DeviceState → DeviceState → Type 0
+FailsLog text old new = WritesPrefix old.log new.log text
+    × (new ≡ record old { log_failed = old.log_failed + 1; log = new.log })
 
 -- A file could not be begun. The files are unchanged, there is no draft, and the bins have the reason.
 abbrev pub begin_fails : Refused → DeviceState → DeviceState
@@ -81,12 +85,13 @@ bins_fail now = record now { bins_failed = now.bins_failed + 1 }
 abbrev pub abandon_draft : DeviceState → DeviceState
 abandon_draft now = record now { draft = None; refused = None }
 
--- A prefix of the bytes was printed, and standard output failed.
-pub record FailsOutput (text : List ℕ) (old new : DeviceState) : Type 0 where
-  pub front : List ℕ
-  pub rest : List ℕ
-  pub whole : text ≡ front ++ rest
-  pub is : new ≡ record old { bins_failed = old.bins_failed + 1; printed = old.printed ++ front }
+-- A prefix of the bytes was printed.
+abbrev pub PrintsPrefix : List ℕ → DeviceState → DeviceState → Type 0
+PrintsPrefix text old new = WritesPrefix old.printed new.printed text × (new ≡ record old { printed = new.printed })
+
+-- Standard output failed, and a prefix of the bytes was printed.
+abbrev pub FailsOutput : List ℕ → List ℕ → DeviceState → DeviceState → Type 0
+FailsOutput text about old new = (about ≡ codes "standard output") × PrintsPrefix text (bins_fail old) new
 
 -- A stop of reading is about one of the files that are read, and its line ends in that file's name.
 pub record IsOfFile (names : List (List ℕ)) (file : ℕ) (about : List ℕ) : Type 0 where
@@ -97,25 +102,34 @@ pub record IsOfFile (names : List (List ℕ)) (file : ℕ) (about : List ℕ) : 
 abbrev pub read_fails : List ℕ → DeviceState → DeviceState
 read_fails name now = record now { shelf_failed = now.shelf_failed + 1; blamed = now.blamed ++ name ∷ [] }
 
+-- The state after a stop of reading.
+abbrev pub FailsReading : List (List ℕ) → List Event → Ending → DeviceState → DeviceState → Type 0
+FailsReading names events (ending (ReadFault file) about) old new = IsOfFile names file.0 about
+    × (new ≡ read_fails about old)
+FailsReading names events (ending (LineTooLong file) about) old new =
+    IsOfFile names file.0 about × BreaksLimit (LineTooLong file) events × (new ≡ old)
+FailsReading names events (ending TooMuchText about) old new =
+    BreaksLimit TooMuchText events × (new ≡ old)
+FailsReading names events (ending Memory about) old new = new ≡ old
+FailsReading names events why old new = ⊥
+
 -- The state after a stop within an act. Each act has its own stops.
 abbrev pub Breaks : Act → Ending → DeviceState → DeviceState → Type 0
 Breaks judges (ending Memory about) old new = new ≡ old
 Breaks (says item) (ending LogFault about) old new = FailsLog (line item) old new
 Breaks opens (ending Memory about) old new = new ≡ old
-Breaks (reads names events) (ending (ReadFault file) about) old new = IsOfFile names file.0 about
-    × (new ≡ read_fails about old)
-Breaks (reads names events) (ending (LineTooLong file) about) old new =
-    IsOfFile names file.0 about × BreaksLimit (LineTooLong file) events × (new ≡ old)
-Breaks (reads names events) (ending TooMuchText about) old new =
-    BreaksLimit TooMuchText events × (new ≡ old)
-Breaks (reads names events) (ending Memory about) old new = new ≡ old
+Breaks (reads names events) why old new = FailsReading names events why old new
+Breaks (merges names events) (ending WriteFault about) old new =
+    FailsOutput (written_lines (emitted_lines events)) about old new
+Breaks (merges names events) why old new = (mid : DeviceState)
+    × PrintsPrefix (written_lines (emitted_lines events)) old mid × FailsReading names events why mid new
 Breaks plans (ending Memory about) old new = new ≡ old
 Breaks reserves (ending Memory about) old new = new ≡ old
 Breaks (writes name text) (ending Memory about) old new = new ≡ begin_fails no_memory old
 Breaks (writes name text) (ending OutNotOpened about) old new = (about ≡ name)
     × (new ≡ bins_fail (begin_fails no_device old))
 Breaks (writes name text) (ending WriteFault about) old new = (about ≡ name) × (new ≡ bins_fail (abandon_draft old))
-Breaks (prints text) (ending WriteFault about) old new = (about ≡ codes "standard output") × FailsOutput text old new
+Breaks (prints text) (ending WriteFault about) old new = FailsOutput text about old new
 Breaks _ _ old new = ⊥
 
 -- A stop within an act, if there is one.
@@ -146,7 +160,7 @@ LogsStop (ending stop about) old new = LogsLine (stop_line stop about) old new
 -- The end of a run: all acts are done and the status is `due`, or something stopped it, which is logged last.
 pub data TangleEnds (acts : List Act) (due : ℕ) (before after : DeviceState) (status : ℕ) : Type 0 where
   completes : PerformsActs acts None before after → status ≡ due → TangleEnds acts due before after status
-  stops : (why : Ending) (then : DeviceState) → PerformsActs acts (Some why) before then → LogsStop why then after
+  stops : (why : Ending) (mid : DeviceState) → PerformsActs acts (Some why) before mid → LogsStop why mid after
       → status ≡ 1 → TangleEnds acts due before after status
 
 -- The state agrees with the devices. Failure counts are always observable, and so are an observable log's bytes,
@@ -162,3 +176,34 @@ pub record AgreesWith (now : DeviceState) (seen : Devices) : Type 0 where
   pub refused : IsTrue seen.out.tells → now.refused ≡ seen.out.beside.refused
   pub log : IsTrue seen.log.tells → now.log ≡ seen.log.bytes
   pub printed : IsTrue seen.out.tells → IsSome seen.out.beside.draft → now.printed ≡ seen.out.bytes
+
+-- The items that acts log.
+abbrev pub logged_items : List Act → List LogItem
+logged_items [] = []
+logged_items (says item ∷ acts) = item ∷ logged_items acts
+logged_items (_ ∷ acts) = logged_items acts
+
+-- The status of a run that does these acts: 1 if a fault or a stop is logged.
+abbrev pub acts_status : List Act → ℕ
+acts_status acts = if list_any is_fault (logged_items acts) then 1 else 0
+
+-- A run with these acts ends in a state that agrees with its observable devices.
+pub record EndsIn (acts : List Act) (due : ℕ) (old : DeviceState) (after : Devices) (status : ℕ) : Type 0 where
+  pub new : DeviceState
+  pub agrees : AgreesWith new after
+  pub ends : TangleEnds acts due old new status
+
+-- The acts of the course are done in order: all of them, or up to a stop within one, which is logged last.
+pub record FollowsActs {Course : Type 0} (acts : Course → List Act) (CanBe Is : Course → Type 0)
+    (before after : Devices) (status : ℕ) : Type 0 where
+  -- The course of the files and the words. For an unobservable shelf, some course that the words allow.
+  pub course : Course
+  pub can : CanBe course
+  pub is : IsTrue before.shelf.tells → Is course
+  -- For all contents of the devices that aren't observable.
+  pub ends : (old : DeviceState) → AgreesWith old before
+      → EndsIn (acts course) (acts_status (acts course)) old after status
+  -- An observable device stays observable.
+  pub shelf_tells : after.shelf.tells ≡ before.shelf.tells
+  pub bins_tell : after.out.tells ≡ before.out.tells
+  pub log_tells : after.log.tells ≡ before.log.tells

@@ -1,18 +1,8 @@
--- The output, log and status of `wmerge`, as functions of the files, the words and the folder of included files.
-use Rattle.std.specs.Prelude.{◌≡◌, ℕ, List, [], ◌∷◌, ◌++◌, codes, Option, None, Some}
+-- The course of a run of `wmerge`, from the files, the words and the folder of included files.
+use Rattle.std.specs.Prelude.{◌≡◌, List, [], ◌∷◌, Option, None, Some, ℕ}
 use Rattle.cweb_input.specs.Include.{names_found, contents_found, World, Found, web_at, change_at}
 use Rattle.cweb_lines.specs.Merge.{Event, started, Yields}
-use Rattle.cweb_lines.specs.Events.{emitted_lines, reported_faults, openings, taken_lines, IsWithinLimits}
-use Rattle.cweb_lines.specs.Events.{written_lines}
-use Rattle.cweb_input.specs.declared.fault.SourceFault.{SourceFault}
-use Rattle.cweb_input.specs.declared.stop.Stop.TheVariants.{Usage, WebNotOpened, ChangeNotOpened}
-use Rattle.cweb_log.specs.Items.{fault_lines}
-use Rattle.cweb_log.specs.Log.{stop_line}
 use Rattle.cweb_log.specs.CommandLine.{WebNames}
-
--- The usage line of `wmerge`.
-abbrev pub usage : List ℕ
-usage = codes "wmerge webfile[.w] [{changefile[.ch]|-}]"
 
 -- The folder in which included files are also searched. An empty one counts as none.
 abbrev pub folder_of : Option (List ℕ) → Option (List ℕ)
@@ -50,30 +40,3 @@ IsMergeCourse world (Some names) course =
 -- The files of a shelf, with the folder of included files.
 abbrev pub world_of : (List ℕ → Option (List ℕ)) → Option (List ℕ) → World
 world_of texts inputs = record { texts = texts; inputs = folder_of inputs }
-
--- The merged lines, each with a newline.
-abbrev pub merged : Course → List ℕ
-merged (merging names events) = written_lines (emitted_lines events)
-merged course = []
-
--- The lines of faults in order, or the line of what stopped the run.
-abbrev pub merge_log : Course → List ℕ
-merge_log unread = stop_line Usage usage
-merge_log (not_there web) = stop_line WebNotOpened web
-merge_log (change_not_there change) = stop_line ChangeNotOpened change
-merge_log (merging names events) = fault_lines (names ++ openings events) (reported_faults events)
-
--- The status is 0 if there is no fault, else 1.
-abbrev pub fault_status : List SourceFault → ℕ
-fault_status [] = 0
-fault_status (fault ∷ faults) = 1
-
--- The status of a course.
-abbrev pub merge_status : Course → ℕ
-merge_status (merging names events) = fault_status (reported_faults events)
-merge_status course = 1
-
--- No line that the merge takes breaks a limit.
-abbrev pub MergeKeepsLimits : Course → Type 0
-MergeKeepsLimits (merging names events) = IsWithinLimits (taken_lines events)
-MergeKeepsLimits course = Unit {0}

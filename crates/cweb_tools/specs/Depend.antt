@@ -1,17 +1,16 @@
--- The acts of a run of `wdep`, and its headline theorem.
-use Rattle.std.specs.Prelude.{◌≡◌, ℕ, List, [], ◌∷◌, ◌++◌, codes, map, Option, IsSome}
-use Rattle.std.specs.List.{flat_map}
+-- The acts of a run of `wdep`, its promise, and its headline theorem.
+use Rattle.std.specs.Prelude.{ℕ, List, [], ◌∷◌, ◌++◌, codes, map, Option}
 use Rattle.cweb_input.specs.Include.{World}
 use Rattle.cweb_input.specs.declared.stop.Stop.TheVariants.{Usage, WebNotOpened, ChangeNotOpened}
-use Rattle.cweb_log.specs.Items.{line, fault, no_text, stopped}
+use Rattle.cweb_log.specs.Items.{fault, no_text, stopped}
 use Rattle.cweb_log.specs.CommandLine.{OptionsModel}
-use Rattle.cweb_log.specs.DeviceModels.{Devices, AreObservable}
-use Rattle.cweb_tools.specs.Acts.{Act, judges, says, opens, reads, plans, reserves, prints}
+use Rattle.cweb_log.specs.DeviceModels.{Devices}
+use Rattle.cweb_tools.specs.Acts.{Act, judges, says, opens, reads, plans, reserves, prints, FollowsActs}
 use Rattle.cweb_tools.specs.Depfile.{depfile, each_once}
-use Rattle.cweb_tools.specs.Headline.{TangleRanFreely}
+use Rattle.cweb_tools.specs.Headline.{DoesActsFreely}
 use Rattle.cweb_tools.specs.Script.{Planning, TangleCourse, Web, unread, not_there, change_not_there, tangling}
-use Rattle.cweb_tools.specs.Script.{refused, planned, when, logged_items, acts_status}
-use Rattle.cweb_tools.specs.Tangle.{FollowsActs, IsTangleCourse}
+use Rattle.cweb_tools.specs.Script.{refused, planned, when}
+use Rattle.cweb_tools.specs.Tangle.{CanCome, IsTangleCourse}
 
 -- The usage line of `wdep`.
 abbrev pub depend_usage : List ℕ
@@ -41,21 +40,10 @@ depend_acts (tangling files events web) = judges ∷ opens ∷ reads files event
 
 -- A run of `wdep` follows these acts.
 abbrev pub DependPromises : World → Option OptionsModel → Devices → Devices → ℕ → Type 0
-DependPromises world asked before after status = FollowsActs depend_acts world asked before after status
-
--- The text of a whole run.
-abbrev pub depend_text : TangleCourse → List ℕ
-depend_text (tangling files events web) = dependencies files web.plan
-depend_text course = []
-
--- The text is printed, the faults are logged, and the status is that of the course.
-pub record IsDepend (course : TangleCourse) (before after : Devices) (status : ℕ) : Type 0 where
-  pub printed : IsSome before.out.beside.draft → after.out.bytes ≡ before.out.bytes ++ depend_text course
-  pub logged : after.log.bytes ≡ before.log.bytes ++ flat_map line (logged_items (depend_acts course))
-  pub answered : status ≡ acts_status (depend_acts course)
+DependPromises world asked before after status =
+    FollowsActs depend_acts (CanCome asked) (IsTangleCourse world asked) before after status
 
 -- The headline theorem of `wdep`.
 abbrev pub DependsFreely : World → Option OptionsModel → Devices → Devices → ℕ → Type 0
-DependsFreely world asked before after status = AreObservable before
-    → (course : TangleCourse) → IsTangleCourse world asked course → TangleRanFreely course before after
-    → IsDepend course before after status
+DependsFreely world asked before after status =
+    DoesActsFreely depend_acts (IsTangleCourse world asked) before after status

@@ -1,62 +1,64 @@
--- The headline theorem of both programs: if no device and no allocation fails and the web is within the limits, a run's
--- effect is a function of the files, the words and the folder of included files.
-use Rattle.std.specs.Prelude.{◌≡◌, ◌≢◌, ℕ, List, [], ◌++◌, Option}
+-- The headline theorem of the programs: if no device and no allocation fails and the web is within the limits, a run
+-- does all acts of its course.
+use Rattle.std.specs.Prelude.{◌≡◌, ◌≢◌, ℕ, Bool, true, false, List, [], ◌∷◌, ◌++◌, IsSome, IsTrue}
 use Rattle.std.specs.List.{flat_map}
-use Rattle.cweb_input.specs.Include.{World}
-use Rattle.cweb_lines.specs.Events.{taken_lines, IsWithinLimits}
+use Rattle.cweb_files.specs.Files.{File, put_file}
+use Rattle.cweb_lines.specs.Events.{emitted_lines, written_lines}
 use Rattle.cweb_input.specs.declared.stop.Stop.TheVariants.{Memory}
-use Rattle.cweb_log.specs.Items.{LogItem, line}
+use Rattle.cweb_log.specs.Items.{line}
 use Rattle.cweb_log.specs.Log.{stop_line}
-use Rattle.cweb_log.specs.CommandLine.{OptionsModel, WebNames}
 use Rattle.cweb_log.specs.DeviceModels.{Devices, AreObservable}
-use Rattle.cweb_log.specs.declared.shown.Shown.{Shown}
-use Rattle.cweb_tools.specs.Course.{Course, IsMergeCourse, merge_log, merge_status, merged, MergeKeepsLimits}
-use Rattle.cweb_tools.specs.MergePromises.{put_files}
-use Rattle.cweb_tools.specs.Script.{TangleCourse, tangling, tangle_files, tangle_log, tangle_status}
-use Rattle.cweb_tools.specs.Tangle.{shown_by, IsTangleCourse}
+use Rattle.cweb_tools.specs.Acts.{Act, says, merges, prints, writes, ActKeepsLimits, logged_items, acts_status}
 
--- No device failed, the limits were kept, and the log's new bytes aren't just the line on a failed allocation.
-pub record MergeRanFreely (course : Course) (before after : Devices) : Type 0 where
-  pub read : after.shelf.failed ≡ before.shelf.failed
-  pub printed : after.out.failed ≡ before.out.failed
-  pub told : after.log.failed ≡ before.log.failed
-  pub within : MergeKeepsLimits course
-  pub memory : after.log.bytes ≢ before.log.bytes ++ stop_line Memory []
+-- The files that acts write.
+abbrev pub written_files : List Act → List File
+written_files [] = []
+written_files (writes name text ∷ acts) = record { name = name; bytes = text } ∷ written_files acts
+written_files (_ ∷ acts) = written_files acts
 
--- The output has the merged lines, the log has the faults, and the status is that of the course.
-pub record IsMerge (course : Course) (before after : Devices) (status : ℕ) : Type 0 where
-  pub written : after.out.bytes ≡ before.out.bytes ++ merged course
-  pub logged : after.log.bytes ≡ before.log.bytes ++ merge_log course
-  pub answered : status ≡ merge_status course
+-- Files are put into bins in order.
+abbrev pub put_files : List File → List File → List File
+put_files files [] = files
+put_files files (file ∷ more) = put_files (put_file files file) more
 
--- The headline theorem of `wmerge`.
-abbrev pub MergesFreely : World → Option WebNames → Devices → Devices → ℕ → Type 0
-MergesFreely world asked before after status = AreObservable before
-    → (course : Course) → IsMergeCourse world asked course → MergeRanFreely course before after
-    → IsMerge course before after status
+-- The bytes that acts print.
+abbrev pub printed_bytes : List Act → List ℕ
+printed_bytes [] = []
+printed_bytes (merges names events ∷ acts) = written_lines (emitted_lines events) ++ printed_bytes acts
+printed_bytes (prints text ∷ acts) = text ++ printed_bytes acts
+printed_bytes (_ ∷ acts) = printed_bytes acts
 
--- No line that the merge takes breaks a limit.
-abbrev pub TangleKeepsLimits : TangleCourse → Type 0
-TangleKeepsLimits (tangling names events web) = IsWithinLimits (taken_lines events)
-TangleKeepsLimits course = Unit {0}
+-- No line that the acts take breaks a limit.
+abbrev pub ActsKeepLimits : List Act → Type 0
+ActsKeepLimits [] = Unit {0}
+ActsKeepLimits (act ∷ acts) = ActKeepsLimits act × ActsKeepLimits acts
 
--- No device failed, the limits were kept, and the log's new bytes don't end in the line on a failed allocation.
-pub record TangleRanFreely (course : TangleCourse) (before after : Devices) : Type 0 where
-  pub read : after.shelf.failed ≡ before.shelf.failed
-  pub filed : after.out.failed ≡ before.out.failed
-  pub told : after.log.failed ≡ before.log.failed
-  pub within : TangleKeepsLimits course
-  pub memory : (items : List LogItem)
-      → after.log.bytes ≢ before.log.bytes ++ (flat_map line items ++ stop_line Memory [])
+-- Any act but logging a line and printing a text may need memory.
+abbrev pub needs_memory : Act → Bool
+needs_memory (says item) = false
+needs_memory (prints text) = false
+needs_memory _ = true
 
--- The bins have the files of the web, the log has its lines, and the status is that of the course.
-pub record IsTangle (shown : Shown) (course : TangleCourse) (before after : Devices) (status : ℕ) : Type 0 where
-  pub written : after.out.beside.files ≡ put_files before.out.beside.files (tangle_files shown course)
-  pub logged : after.log.bytes ≡ before.log.bytes ++ tangle_log shown course
-  pub answered : status ≡ tangle_status shown course
+-- No device failed, the limits were kept, and the log doesn't say that memory ran out within an act.
+pub record RanFreely (acts : List Act) (before after : Devices) : Type 0 where
+  pub shelf : after.shelf.failed ≡ before.shelf.failed
+  pub out : after.out.failed ≡ before.out.failed
+  pub log : after.log.failed ≡ before.log.failed
+  pub within : ActsKeepLimits acts
+  pub memory : (done later : List Act) (act : Act) → acts ≡ done ++ act ∷ later → IsTrue (needs_memory act)
+      → after.log.bytes ≢ before.log.bytes ++ (flat_map line (logged_items done) ++ stop_line Memory [])
 
--- The headline theorem of `ctangle`.
-abbrev pub TanglesFreely : World → Option OptionsModel → Devices → Devices → ℕ → Type 0
-TanglesFreely world asked before after status = AreObservable before
-    → (course : TangleCourse) → IsTangleCourse world asked course → TangleRanFreely course before after
-    → IsTangle (shown_by asked) course before after status
+-- All acts were done, and the status is theirs.
+pub record DoesActs (acts : List Act) (before after : Devices) (status : ℕ) : Type 0 where
+  pub files : after.out.beside.files ≡ put_files before.out.beside.files (written_files acts)
+  -- An open output has the printed bytes, if no file is written.
+  pub printed : written_files acts ≡ [] → IsSome before.out.beside.draft
+      → after.out.bytes ≡ before.out.bytes ++ printed_bytes acts
+  pub logged : after.log.bytes ≡ before.log.bytes ++ flat_map line (logged_items acts)
+  pub answered : status ≡ acts_status acts
+
+-- Over observable devices, a run that ran freely did all acts of its course.
+abbrev pub DoesActsFreely : {Course : Type 0} → (Course → List Act) → (Course → Type 0) → Devices → Devices → ℕ → Type 0
+DoesActsFreely {Course} acts Is before after status = AreObservable before
+    → (course : Course) → Is course → RanFreely (acts course) before after
+    → DoesActs (acts course) before after status

@@ -3,7 +3,7 @@ pub mod Course
 pub mod Depend
 pub mod Depfile
 pub mod Headline
-pub mod MergePromises
+pub mod MergeActs
 pub mod Script
 pub mod Tangle
 pub mod Spacing

@@ -1,11 +1,11 @@
 -- The acts of a run of `ctangle`, from its words and its web.
-use Rattle.std.specs.Prelude.{ℕ, ◌+◌, Bool, true, false, List, [], ◌∷◌, ◌++◌, codes, map, if◌then◌else◌}
-use Rattle.std.specs.List.{flat_map, list_any}
+use Rattle.std.specs.Prelude.{ℕ, ◌+◌, Bool, true, false, List, [], ◌∷◌, ◌++◌, codes, map}
+use Rattle.std.specs.List.{flat_map}
 use Rattle.cweb_files.specs.Files.{File}
 use Rattle.cweb_lines.specs.Merge.{Event}
 use Rattle.cweb_input.specs.declared.stop.Stop.TheVariants.{Usage, WebNotOpened, ChangeNotOpened}
-use Rattle.cweb_log.specs.Items.{LogItem, line, banner, starred, fault, fault_count, no_text, writing, counts, closing}
-use Rattle.cweb_log.specs.Items.{stopped, is_fault}
+use Rattle.cweb_log.specs.Items.{LogItem, banner, starred, fault, fault_count, no_text, writing, counts, closing}
+use Rattle.cweb_log.specs.Items.{stopped}
 use Rattle.cweb_log.specs.declared.shown.Shown.{Shown}
 use Rattle.cweb_tools.specs.Acts.{Act, judges, says, opens, reads, plans, reserves, writes}
 
@@ -82,31 +82,3 @@ script shown (change_not_there change) =
     judges ∷ (when shown.banner banner ++ (opens ∷ says (stopped ChangeNotOpened change) ∷ []))
 script shown (tangling names events web) =
     judges ∷ (when shown.banner banner ++ (opens ∷ reads names events ∷ web_acts shown web))
-
--- The items that acts log.
-abbrev pub logged_items : List Act → List LogItem
-logged_items [] = []
-logged_items (says item ∷ acts) = item ∷ logged_items acts
-logged_items (_ ∷ acts) = logged_items acts
-
--- The files that acts write.
-abbrev pub written_files : List Act → List File
-written_files [] = []
-written_files (writes name text ∷ acts) = record { name = name; bytes = text } ∷ written_files acts
-written_files (_ ∷ acts) = written_files acts
-
--- The log of a whole run.
-abbrev pub tangle_log : Shown → TangleCourse → List ℕ
-tangle_log shown course = flat_map line (logged_items (script shown course))
-
--- The files of a whole run.
-abbrev pub tangle_files : Shown → TangleCourse → List File
-tangle_files shown course = written_files (script shown course)
-
--- The status of a run that does these acts: 1 if a fault or a stop is logged.
-abbrev pub acts_status : List Act → ℕ
-acts_status acts = if list_any is_fault (logged_items acts) then 1 else 0
-
--- The status of a whole run.
-abbrev pub tangle_status : Shown → TangleCourse → ℕ
-tangle_status shown course = acts_status (script shown course)

@@ -1,5 +1,5 @@
--- How a run of `ctangle` goes, and what it promises also where something stops it.
-use Rattle.std.specs.Prelude.{◌≡◌, ℕ, List, ◌++◌, map, count_by, Option, None, Some, Result, Ok, Err, IsTrue}
+-- How a run of `ctangle` goes, its promise, and its headline theorem.
+use Rattle.std.specs.Prelude.{◌≡◌, ℕ, List, ◌++◌, map, count_by, Option, None, Some, Result, Ok, Err}
 use Rattle.cweb_files.specs.Files.{File}
 use Rattle.cweb_input.specs.Include.{World}
 use Rattle.cweb_lines.specs.Events.{emitted_lines, reported_faults, openings}
@@ -17,9 +17,10 @@ use Rattle.cweb_log.specs.declared.shown.Shown.{Shown}
 use Rattle.cweb_tools.specs.Course as course
 use Rattle.cweb_tools.specs.Course.{Course, IsMergeCourse, change_name}
 use Rattle.cweb_tools.specs.Script.{Numbers, Planning, TangleCourse, Web, unread, not_there, change_not_there, tangling}
-use Rattle.cweb_tools.specs.Script.{refused, planned, script, acts_status}
+use Rattle.cweb_tools.specs.Script.{refused, planned, script}
 use Rattle.cweb_log.specs.DeviceModels.{Devices}
-use Rattle.cweb_tools.specs.Acts.{Act, DeviceState, TangleEnds, AgreesWith}
+use Rattle.cweb_tools.specs.Acts.{FollowsActs}
+use Rattle.cweb_tools.specs.Headline.{DoesActsFreely}
 
 -- An output as printed, with all names expanded. Line marks name these files.
 abbrev pub output_file : Stored → List (List ℕ) → Output → File
@@ -95,26 +96,12 @@ abbrev pub shown_by : Option OptionsModel → Shown
 shown_by None = shown_by_default
 shown_by (Some asked) = asked.shown
 
--- A run with these acts and this status ends in a state that agrees with its observable devices.
-pub record EndsIn (acts : List Act) (due : ℕ) (old : DeviceState) (after : Devices) (status : ℕ) : Type 0 where
-  pub new : DeviceState
-  pub agrees : AgreesWith new after
-  pub ends : TangleEnds acts due old new status
-
--- The acts of the course are done in order: all of them, or up to a stop within one, which is logged last.
-pub record FollowsActs (acts : TangleCourse → List Act) (world : World) (asked : Option OptionsModel)
-    (before after : Devices) (status : ℕ) : Type 0 where
-  -- The course of the files and the words. For an unobservable shelf, some course that the words allow.
-  pub course : TangleCourse
-  pub can : CanCome asked course
-  pub is : IsTrue before.shelf.tells → IsTangleCourse world asked course
-  -- For all contents of the devices that aren't observable.
-  pub ends : (old : DeviceState) → AgreesWith old before
-      → EndsIn (acts course) (acts_status (acts course)) old after status
-  -- An observable device stays observable.
-  pub bins_tell : after.out.tells ≡ before.out.tells
-  pub log_tells : after.log.tells ≡ before.log.tells
-
 -- A run of `ctangle` follows its script.
 abbrev pub TanglePromises : World → Option OptionsModel → Devices → Devices → ℕ → Type 0
-TanglePromises world asked before after status = FollowsActs (script (shown_by asked)) world asked before after status
+TanglePromises world asked before after status =
+    FollowsActs (script (shown_by asked)) (CanCome asked) (IsTangleCourse world asked) before after status
+
+-- The headline theorem of `ctangle`.
+abbrev pub TanglesFreely : World → Option OptionsModel → Devices → Devices → ℕ → Type 0
+TanglesFreely world asked before after status =
+    DoesActsFreely (script (shown_by asked)) (IsTangleCourse world asked) before after status

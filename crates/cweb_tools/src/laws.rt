@@ -3,11 +3,11 @@ ghost use Rattle.std.specs.Prelude.{◌≡◌, ℕ, List, None};
 ghost use Rattle.cweb_lines.specs.Merge.{Event};
 ghost use Rattle.cweb_log.specs.declared.shown.Shown.{Shown};
 ghost use Rattle.cweb_tools.specs.Acts.{DeviceState, TangleEnds};
-ghost use Rattle.cweb_tools.specs.laws.Leaves.{LeavesFiles};
+ghost use Rattle.cweb_tools.specs.laws.Leaves.{LeavesFiles, tangle_files};
 ghost use Rattle.cweb_tools.specs.laws.MakeReads.{MakeReadsNames};
 ghost use Rattle.cweb_tools.specs.laws.Targets.{TargetsAreWrittenFiles};
 ghost use Rattle.cweb_tools.specs.laws.RunEffects.{EveryRunLeavesDevices, EveryMergeLeavesOutput, EveryRunLeavesStates};
-ghost use Rattle.cweb_tools.specs.Script.{TangleCourse, Web, refused, script, tangle_files};
+ghost use Rattle.cweb_tools.specs.Script.{TangleCourse, Web, refused, script};
 ghost use Rattle.cweb_tools.specs.Script.{tangling};
 ghost use Rattle.cweb_tools.specs.Spacing.{Spacing};
 

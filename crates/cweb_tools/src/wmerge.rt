@@ -2,19 +2,19 @@
 ghost use Rattle.std.specs.Prelude.{◌≡◌, ◌≢◌, ◌<◌, ◌≤◌, ◌+◌, ◌^◌, length, map, All, None, Some};
 ghost use Rattle.std.specs.Option.{option_copied};
 ghost use Rattle.cweb_input.specs.surface.OpenedFileNames as spec;
-ghost use Rattle.cweb_input.specs.OpenSources.{files_named};
+ghost use Rattle.cweb_input.specs.surface.OpenSources.{files_named};
 ghost use Rattle.cweb_lines.specs.surface.MergerCalls.{stop_in};
-ghost use Rattle.cweb_log.specs.Log.{Logs, stop_line};
-ghost use Rattle.cweb_log.specs.Items.{fault_lines};
+ghost use Rattle.cweb_log.specs.Items.{source_item};
 ghost use Rattle.cweb_log.specs.inner.Log.{start_subject, subject};
 ghost use Rattle.cweb_log.specs.DeviceModels.{devices, sink_model};
 ghost use Rattle.cweb_log.specs.CommandLine.{web_names_by};
 ghost use Rattle.cweb_log.specs.inner.Words.{merge_word_names};
 ghost use Rattle.cweb_tools.specs.inner.Begun.{MergesBegun};
-ghost use Rattle.cweb_tools.specs.Course.{change_name, fault_status, folder_of, world_of};
-ghost use Rattle.cweb_tools.specs.inner.Course.{merge_course};
-ghost use Rattle.cweb_tools.specs.Headline.{MergesFreely};
-ghost use Rattle.cweb_tools.specs.MergePromises.{MergeEnds, Merges};
+ghost use Rattle.cweb_tools.specs.Acts.{acts_status, says};
+ghost use Rattle.cweb_tools.specs.Course.{change_name, folder_of, world_of};
+ghost use Rattle.cweb_tools.specs.inner.Course.{EndsMerge, merge_course};
+ghost use Rattle.cweb_tools.specs.inner.Does.{ClosesInLog};
+ghost use Rattle.cweb_tools.specs.MergeActs.{MergePromises, MergesFreely};
 
 use crate::subjects::{folder, subject};
 use cweb_lines::{FileNames, Merger, Shelf, Sink, SourceFault, Stop, write_merged_in_chunks};
@@ -41,7 +41,8 @@ pub fn run_wmerge<S: Shelf, W: Sink, L: Sink>(
     ensures promises { let before = devices S.Shelf W.Sink L.Sink shelf.old out.old log.old in
         let asked = web_names_by (map (λ word. word.now) words.now) in
         let world = world_of before.shelf.texts (option_copied inputs.entry) in
-        MergeEnds world asked before (devices S.Shelf W.Sink L.Sink shelf.new out.new log.new) result }
+        MergePromises world asked before
+        (devices S.Shelf W.Sink L.Sink shelf.new out.new log.new) result }
     ensures freely { let before = devices S.Shelf W.Sink L.Sink shelf.old out.old log.old in
         let asked = web_names_by (map (λ word. word.now) words.now) in
         let world = world_of before.shelf.texts (option_copied inputs.entry) in
@@ -70,7 +71,8 @@ fn merge_web<S: Shelf, W: Sink, L: Sink>(
     requires log_count { L.failed log.old + 1 < 2 ^ 64 }
     ensures { let before = devices S.Shelf W.Sink L.Sink shelf.old out.old log.old in
         let world = world_of before.shelf.texts (option_copied inputs.entry) in
-        Merges (merge_word_names asked.now) (merge_course world (Some (merge_word_names asked.now))) before
+        let names = Some (merge_word_names asked.now) in
+        EndsMerge names (merge_course world names) before
         (devices S.Shelf W.Sink L.Sink shelf.new out.new log.new) result }
 {
     let started = Merger::start(
@@ -125,13 +127,14 @@ fn log_faults<L: Sink>(log: &mut L, names: &FileNames, faults: &[SourceFault]) -
     requires count { L.failed log.old + 1 < 2 ^ 64 }
     requires known { All
         (λ fault. fault.place.file.0 < length (spec.opened_file_names names.now)) faults.now }
-    ensures logs { Logs (fault_lines (spec.opened_file_names names.now) faults.now)
-        (sink_model L.Sink log.old) (sink_model L.Sink log.new) }
-    ensures answered { L.failed log.new ≡ L.failed log.old → result ≡ fault_status faults.now }
-    ensures failed { L.failed log.new ≢ L.failed log.old → result ≡ 1 }
+    ensures { let items = map (source_item (spec.opened_file_names names.now)) faults.now in
+        ClosesInLog (map says items) (acts_status (map says items))
+        (sink_model L.Sink log.old) (sink_model L.Sink log.new) result }
 {
-    if write_faults(log, names, faults).is_err() {
-        return 1;
+    if faults.is_empty() {
+        return 0;
     }
-    u8::from(!faults.is_empty())
+    // the status is 1 for the faults, even if the log fails
+    let _ = write_faults(log, names, faults);
+    1
 }

@@ -15,7 +15,8 @@ use Rattle.cweb_input.specs.declared.stop.Stop.TheVariants.{ReadFault, LineTooLo
 use Rattle.cweb_input.specs.declared.open_source.LineAt.{LineAt}
 use Rattle.cweb_input.specs.declared.open_source.OpenSource.{OpenSource}
 use Rattle.cweb_input.specs.surface.OpenSources.{number_or_zero, things_at, things_over, things_above}
-use Rattle.cweb_input.specs.OpenSources.{TakenCountersModel, RefusesLine, files_named}
+use Rattle.cweb_input.specs.OpenSources.{TakenCountersModel, RefusesLine}
+use Rattle.cweb_input.specs.surface.OpenSources.{files_named}
 
 unfoldable pub maximum_of : {R : Type 0} → (OpenSource R → ℕ) → List (Option (OpenSource R)) → ℕ
 maximum_of number [] = 0

@@ -8,7 +8,6 @@ use Rattle.cweb_input.specs.declared.stop.Stop.{Stop}
 use Rattle.cweb_input.specs.declared.stop.Stop.TheVariants.{WebNotOpened, ChangeNotOpened, ReadFault, LineTooLong}
 use Rattle.cweb_input.specs.declared.stop.Stop.TheVariants.{TooMuchText, Memory}
 use Rattle.cweb_input.specs.declared.open_source.OpenSource.{OpenSource}
-use Rattle.cweb_input.specs.OpenSources.{read_failures_of}
 
 abbrev pub lines_left : {R : Type 0} → (R → List ℕ) → OpenSource R → List SourceLine
 lines_left left text = numbered_lines text.file.0 (text.line + 1) (cut_lines
@@ -62,6 +61,17 @@ things_over left low (suc n) texts rest = things_at left (slice_index_or texts (
 -- The lines of all open sources from index `low` on, and then `rest`.
 abbrev pub things_above : {R : Type 0} → (R → List ℕ) → ℕ → Stack R → List Thing → List Thing
 things_above left low stack rest = things_over left low (stack.depth - low) stack.texts rest
+
+-- By how much a stop raises the failure count of a shelf.
+abbrev pub read_failures_of : Stop → ℕ
+read_failures_of (ReadFault file) = 1
+read_failures_of _ = 0
+
+-- The least number of files that a stop's `FileId` implies.
+abbrev pub files_named : Stop → ℕ
+files_named (ReadFault file) = file.0 + 1
+files_named (LineTooLong file) = file.0 + 1
+files_named _ = 0
 
 -- Only a failed read raises the failure count.
 abbrev pub CountsReadStop : {A : Type 0} → ℕ → ℕ → Result A Stop → Type 0

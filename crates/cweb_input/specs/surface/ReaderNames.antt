@@ -1,8 +1,18 @@
 -- Under which names readers were opened, and which of them is blamed.
-use Rattle.std.specs.Prelude.{◌≡◌, ◌++◌, ℕ, List, Option, None, Some, Result, Ok, Err, slice_index_or}
+use Rattle.std.specs.Prelude.{◌≡◌, ◌++◌, ℕ, List, [], ◌∷◌, Option, None, Some, Result, Ok, Err, slice_index_or}
+use Rattle.cweb_files.specs.declared.place.FileId.{FileId}
 use Rattle.cweb_input.specs.declared.stop.Stop.{Stop}
+use Rattle.cweb_input.specs.declared.stop.Stop.TheVariants.{ReadFault}
 use Rattle.cweb_input.specs.declared.open_source.OpenSource.{OpenSource}
-use Rattle.cweb_input.specs.Lines.{name_of_file, blame}
+
+-- The name of a file, among those of all opened files.
+abbrev pub name_of_file : List (List ℕ) → FileId → List ℕ
+name_of_file names file = slice_index_or names file.0 []
+
+-- A read fault blames its file's reader. Any other stop blames none.
+abbrev pub blame : List (List ℕ) → Stop → List (List ℕ)
+blame names (ReadFault file) = name_of_file names file ∷ []
+blame names _ = []
 
 -- The reader of a slot's source was opened under the name of its file.
 abbrev pub IsReaderNamed : {R : Type 0} → (R → List ℕ) → List (List ℕ) → Option (OpenSource R) → Type 0

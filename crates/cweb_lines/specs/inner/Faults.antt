@@ -1,6 +1,6 @@
 -- The files that faults and stops name.
 use Rattle.std.specs.Prelude.{ℕ, ◌+◌, max, List, [], ◌∷◌, Option, None, Some}
-use Rattle.cweb_input.specs.OpenSources.{files_named}
+use Rattle.cweb_input.specs.surface.OpenSources.{files_named}
 use Rattle.cweb_input.specs.declared.fault.SourceFault.{SourceFault}
 use Rattle.cweb_input.specs.declared.stop.Stop.{Stop}
 

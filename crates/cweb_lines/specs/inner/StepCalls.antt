@@ -4,7 +4,7 @@ use Rattle.cweb_input.specs.surface.Counters.{counters_of}
 use Rattle.cweb_lines.specs.inner.MergeProgress.{TurnCounts, TurnEnds, TurnGains, TurnKnown, TurnLine, turns_left}
 use Rattle.cweb_input.specs.surface.OpenedFileNames.{opened_file_names}
 use Rattle.cweb_input.specs.surface.OpenSources.{StopsReading}
-use Rattle.cweb_input.specs.OpenSources.{files_named}
+use Rattle.cweb_input.specs.surface.OpenSources.{files_named}
 use Rattle.cweb_lines.specs.declared.change.old_side.Replaced.{Replaced}
 use Rattle.cweb_lines.specs.declared.merge_state.MergeState.{MergeState}
 use Rattle.cweb_lines.specs.declared.step.Turn.{Turn}

@@ -12,7 +12,7 @@ use Rattle.cweb_lines.specs.surface.MergeProgress.{ReportsPrefix, so_far_of, eve
 use Rattle.cweb_lines.specs.surface.MergeReaderNames.{AreReadersKnown}
 use Rattle.cweb_input.specs.surface.ReaderNames.{BlamesFile}
 use Rattle.cweb_input.specs.surface.OpenSources.{CountsReadStop, StopsReading}
-use Rattle.cweb_input.specs.OpenSources.{files_named}
+use Rattle.cweb_input.specs.surface.OpenSources.{files_named}
 use Rattle.cweb_lines.specs.Events.{emitted_lines}
 use Rattle.cweb_lines.specs.surface.Total.{merge}
 use Rattle.cweb_input.specs.declared.limits.TheConstants.{LINES, BYTES}

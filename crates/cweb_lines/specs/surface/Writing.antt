@@ -5,8 +5,8 @@ use Rattle.cweb_input.specs.Lines.{Line}
 use Rattle.cweb_lines.specs.Merge.{Event}
 use Rattle.cweb_lines.specs.surface.MergeProgress.{SoFar, EmitsLines, StopsAfterLines}
 use Rattle.cweb_lines.specs.surface.MergeProgress.{ReadFailsAfterLines, ReportsPrefix}
-use Rattle.cweb_input.specs.OpenSources.{read_failures_of, files_named}
-use Rattle.cweb_lines.specs.Events.{emitted_lines, written_lines, write_failures_of}
+use Rattle.cweb_input.specs.surface.OpenSources.{read_failures_of, files_named}
+use Rattle.cweb_lines.specs.Events.{emitted_lines, written_lines}
 use Rattle.cweb_input.specs.declared.stop.Stop.{Stop}
 use Rattle.cweb_input.specs.declared.stop.Stop.TheVariants.{ReadFault, LineTooLong, TooMuchText, Memory, WriteFault}
 
@@ -68,6 +68,11 @@ WritingStops _ = ⊥
 abbrev pub KeepsStop : Stop → Option Stop → Type 0
 KeepsStop WriteFault in_merger = in_merger ≡ None
 KeepsStop stop in_merger = in_merger ≡ Some stop
+
+-- By how much a stop raises the failure count of a sink.
+abbrev pub write_failures_of : Stop → ℕ
+write_failures_of WriteFault = 1
+write_failures_of _ = 0
 
 -- The failure counts of the devices of a merge.
 pub record FailureCounts : Type 0 where

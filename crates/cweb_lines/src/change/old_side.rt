@@ -15,7 +15,7 @@ ghost use Rattle.cweb_lines.specs.inner.Seeking.{ReportsFaultPrefix};
 ghost use Rattle.cweb_lines.specs.inner.Stages.{floor_of};
 ghost use Rattle.cweb_input.specs.surface.OpenSources.{CountsReadStop, StopsFor, StopsReading};
 ghost use Rattle.cweb_input.specs.inner.OpenSources.{TopStops};
-ghost use Rattle.cweb_input.specs.OpenSources.{files_named};
+ghost use Rattle.cweb_input.specs.surface.OpenSources.{files_named};
 ghost use Rattle.cweb_input.specs.surface.OpenSources.{things_above};
 ghost use Rattle.cweb_lines.specs.inner.Steps.{OnlyTakes, OnlyReports};
 ghost use Rattle.cweb_lines.specs.inner.MergeReaderNames.{BlamesReaders, KeepsReaders};

@@ -11,7 +11,7 @@ ghost use Rattle.cweb_input.specs.surface.OpenedFileNames.{opened_file_names};
 ghost use Rattle.cweb_lines.specs.inner.Seeking.{BegunKnown, LooksAt, LooksKnown, Searched};
 ghost use Rattle.cweb_lines.specs.inner.Seeking.{ReportsFaultPrefix, begun_outside, faults_outside};
 ghost use Rattle.cweb_input.specs.surface.OpenSources.{CountsReadStop, StopsReading};
-ghost use Rattle.cweb_input.specs.OpenSources.{files_named};
+ghost use Rattle.cweb_input.specs.surface.OpenSources.{files_named};
 ghost use Rattle.cweb_lines.specs.inner.Steps.{OnlyReports};
 ghost use Rattle.cweb_lines.specs.inner.MergeReaderNames.{BlamesReaders, KeepsReaders};
 

@@ -12,7 +12,7 @@ ghost use Rattle.cweb_input.specs.surface.OpenedFileNames.{opened_file_names};
 ghost use Rattle.cweb_lines.specs.inner.Stages.{IsSettled, begun_by, floor_of};
 ghost use Rattle.cweb_lines.specs.surface.Stages.{pending_in};
 ghost use Rattle.cweb_input.specs.surface.OpenSources.{CountsReadStop, StopsReading};
-ghost use Rattle.cweb_input.specs.OpenSources.{files_named};
+ghost use Rattle.cweb_input.specs.surface.OpenSources.{files_named};
 ghost use Rattle.cweb_lines.specs.inner.MergeReaderNames.{BlamesReaders, KeepsReaders};
 
 use crate::change::code::{Code, change_code};

@@ -1,5 +1,5 @@
 -- Buffered and direct writes to a log.
-use Rattle.std.specs.Prelude.{◌≡◌, ℕ, List, ◌++◌, IsTrue, Result, OnOk, OnErr}
+use Rattle.std.specs.Prelude.{◌≡◌, ◌⊎◌, ◌+◌, ℕ, List, ◌++◌, IsTrue, Result, OnOk, OnErr}
 use Rattle.std.specs.Borrow.{Bor}
 use Rattle.std.specs.List.{flat_map}
 use Rattle.cweb_files.specs.Bins.{CountsFailure, WritesPrefix}
@@ -12,6 +12,13 @@ pub record WritesToStream {A E : Type 0} (text : List ℕ) (before after : SinkM
   pub counts : CountsFailure before.failed after.failed result
   pub whole : IsTrue before.tells → OnOk result (after.bytes ≡ before.bytes ++ text)
   pub front : IsTrue before.tells → OnErr result (WritesPrefix before.bytes after.bytes text)
+
+-- All bytes were logged, or a prefix of them if the log failed.
+pub record Logs (text : List ℕ) (before after : SinkModel) : Type 0 where
+  pub tells : after.tells ≡ before.tells
+  pub once : (after.failed ≡ before.failed) ⊎ (after.failed ≡ before.failed + 1)
+  pub whole : IsTrue before.tells → after.failed ≡ before.failed → after.bytes ≡ before.bytes ++ text
+  pub front : IsTrue before.tells → WritesPrefix before.bytes after.bytes text
 
 -- Of `first` followed by `text`, all is written except what is pending.
 pub record IsWrittenOrBuffered (first text written pending : List ℕ) : Type 0 where

@@ -1,13 +1,12 @@
 -- Runs whose merge has begun.
-use Rattle.std.specs.Prelude.{◌≡◌, ℕ, Option, IsTrue}
+use Rattle.std.specs.Prelude.{◌≡◌, ℕ, Option, Some, IsTrue}
 use Rattle.cweb_files.specs.declared.device.Shelf.{Ghosts as Shelf}
 use Rattle.cweb_input.specs.Include.{World, Found}
 use Rattle.cweb_lines.specs.surface.MergerCalls.{BeginsMerge, KnowsReaders, so_far, to_come}
 use Rattle.cweb_lines.specs.declared.merger.Merger.{Merger}
 use Rattle.cweb_log.specs.CommandLine.{WebNames}
 use Rattle.cweb_log.specs.DeviceModels.{Devices, SinkModel, ShelfModel}
-use Rattle.cweb_tools.specs.inner.Course.{found_course}
-use Rattle.cweb_tools.specs.MergePromises.{Merges}
+use Rattle.cweb_tools.specs.inner.Course.{EndsMerge, found_course}
 
 -- Since its first state the shelf has only been searched. The merge of the files found there begins.
 pub record MergeHasBegun {S R : Type 0} (shelf : Shelf S R) (first : ShelfModel) (now : S) (merger : Merger S R)
@@ -24,5 +23,5 @@ abbrev pub MergesBegun : {S R : Type 0} → Shelf S R → S → Merger S R → S
 MergesBegun shelf now merger out log after status =
     (names : WebNames) (first : ShelfModel) (world : World) (found : Option Found) (changes : Option (Option Found))
     → MergeHasBegun shelf first now merger world found changes
-    → Merges names (found_course world names found changes)
+    → EndsMerge (Some names) (found_course world names found changes)
     (record { shelf = first; out = out; log = log }) after status

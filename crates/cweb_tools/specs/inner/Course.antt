@@ -6,7 +6,9 @@ use Rattle.cweb_lines.specs.surface.Total.{merge}
 use Rattle.cweb_log.specs.DeviceModels.{Devices}
 use Rattle.cweb_log.specs.CommandLine.{WebNames, web_names_by}
 use Rattle.cweb_tools.specs.Course.{Course, unread, not_there, change_not_there, merging, change_name, world_of}
-use Rattle.cweb_tools.specs.MergePromises.{Merges, RefusesArgs}
+use Rattle.cweb_tools.specs.Acts.{acts_status}
+use Rattle.cweb_tools.specs.MergeActs.{MergeCanCome, merge_acts, merge_devices}
+use Rattle.cweb_tools.specs.inner.Does.{FollowsCourse}
 
 abbrev pub found_course : World → WebNames → Option Found → Option (Option Found) → Course
 found_course world names None changes = not_there names.web
@@ -22,7 +24,7 @@ merge_course world (Some names) =
 abbrev pub course_of : (List ℕ → Option (List ℕ)) → List (List ℕ) → Option (List ℕ) → Course
 course_of texts words inputs = merge_course (world_of texts inputs) (web_names_by words)
 
--- A run of `wmerge` ends so, by its course.
-abbrev pub EndsMerge : World → Option WebNames → Devices → Devices → ℕ → Type 0
-EndsMerge world None before after status = RefusesArgs before after status
-EndsMerge world (Some names) before after status = Merges names (merge_course world (Some names)) before after status
+-- A run of `wmerge` does the acts of its course.
+abbrev pub EndsMerge : Option WebNames → Course → Devices → Devices → ℕ → Type 0
+EndsMerge asked course before after status = FollowsCourse merge_acts (λ taken. acts_status (merge_acts taken))
+    (MergeCanCome asked) course (merge_devices before) (merge_devices after) status

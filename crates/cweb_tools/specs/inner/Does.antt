@@ -1,12 +1,12 @@
 -- The effect of calls as acts: on each observable device, and on the failure counts of all devices.
 use Rattle.std.specs.Prelude.{◌≡◌, ℕ, ◌+◌, List, [], Option, Some, None, Result, Ok, Err, IsTrue}
-use Rattle.cweb_input.specs.OpenSources.{read_failures_of}
+use Rattle.cweb_input.specs.surface.OpenSources.{read_failures_of}
 use Rattle.cweb_input.specs.declared.stop.Stop.{Stop}
 use Rattle.cweb_input.specs.declared.stop.Stop.TheVariants.{LogFault}
-use Rattle.cweb_log.specs.Log.{stop_line, Logs}
+use Rattle.cweb_log.specs.Log.{stop_line}
+use Rattle.cweb_log.specs.inner.LogWriting.{Logs}
 use Rattle.cweb_log.specs.DeviceModels.{SinkModel, Devices, ShelfModel}
 use Rattle.cweb_tools.specs.Acts.{Act, Ending, ending, DeviceState, PerformsActs, AgreesWith}
-use Rattle.cweb_tools.specs.Script.{TangleCourse}
 use Rattle.cweb_tools.specs.laws.Leaves.{bins_blame}
 
 -- Acts that begin in this state end in one that agrees with the devices.
@@ -100,10 +100,9 @@ ClosesInBoth acts due old new log log' status = (shelf : ShelfModel)
 
 -- The end of a run or its last part, for acts and a status that depend on the course. An observable shelf determines
 -- the course; otherwise some possible one is taken.
-pub record FollowsCourse (acts : TangleCourse → List Act) (due : TangleCourse → ℕ) (CanBe : TangleCourse
-    → Type 0) (course : TangleCourse)
-    (before after : Devices) (status : ℕ) : Type 0 where
-  pub taken : TangleCourse
+pub record FollowsCourse {Course : Type 0} (acts : Course → List Act) (due : Course → ℕ) (CanBe : Course → Type 0)
+    (course : Course) (before after : Devices) (status : ℕ) : Type 0 where
+  pub taken : Course
   pub can : CanBe taken
   pub is : IsTrue before.shelf.tells → taken ≡ course
   pub closes : Closes (acts taken) (due taken) before after status

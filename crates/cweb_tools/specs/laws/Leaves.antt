@@ -3,7 +3,18 @@ use Rattle.std.specs.Prelude.{◌≡◌, ℕ, List, ◌++◌}
 use Rattle.cweb_files.specs.Files.{File}
 use Rattle.cweb_input.specs.declared.stop.Stop.{Stop}
 use Rattle.cweb_input.specs.declared.stop.Stop.TheVariants.{OutNotOpened, WriteFault}
-use Rattle.cweb_tools.specs.MergePromises.{put_files}
+use Rattle.cweb_log.specs.declared.shown.Shown.{Shown}
+use Rattle.cweb_tools.specs.Acts.{acts_status}
+use Rattle.cweb_tools.specs.Headline.{put_files, written_files}
+use Rattle.cweb_tools.specs.Script.{TangleCourse, script}
+
+-- The files of a whole run.
+abbrev pub tangle_files : Shown → TangleCourse → List File
+tangle_files shown course = written_files (script shown course)
+
+-- The status of a whole run.
+abbrev pub tangle_status : Shown → TangleCourse → ℕ
+tangle_status shown course = acts_status (script shown course)
 
 -- The first of the expected files were committed, in order, each whole. All others are unchanged.
 pub record LeavesFiles (due old new : List File) : Type 0 where

@@ -1,9 +1,9 @@
 -- Laws of whole runs. Each follows from the definition of how a run ends.
-use Rattle.std.specs.Prelude.{◌≡◌, ◌≢◌, ◌≤◌, ◌⊎◌, ℕ, ◌+◌, List, [], ◌∷◌, ◌++◌, Option, IsTrue}
+use Rattle.std.specs.Prelude.{◌≡◌, ◌≢◌, ◌≤◌, ◌⊎◌, ℕ, ◌+◌, List, ◌++◌, Option, IsTrue}
 use Rattle.std.specs.List.{flat_map}
 use Rattle.cweb_files.specs.Bins.{WritesPrefix}
 use Rattle.cweb_input.specs.Include.{World}
-use Rattle.cweb_input.specs.OpenSources.{read_failures_of}
+use Rattle.cweb_input.specs.surface.OpenSources.{read_failures_of}
 use Rattle.cweb_input.specs.declared.stop.Stop.{Stop}
 use Rattle.cweb_input.specs.declared.stop.Stop.TheVariants.{LogFault}
 use Rattle.cweb_log.specs.Items.{LogItem, line}
@@ -11,17 +11,13 @@ use Rattle.cweb_log.specs.Log.{stop_line}
 use Rattle.cweb_log.specs.CommandLine.{OptionsModel, WebNames}
 use Rattle.cweb_log.specs.DeviceModels.{Devices, SinkModel}
 use Rattle.cweb_log.specs.declared.shown.Shown.{Shown}
-use Rattle.cweb_tools.specs.Acts.{Act, DeviceState, ActKeepsLimits, TangleEnds}
-use Rattle.cweb_tools.specs.Course.{Course, IsMergeCourse, merged, MergeKeepsLimits}
-use Rattle.cweb_tools.specs.MergePromises.{put_files, MergeEnds}
-use Rattle.cweb_tools.specs.Script.{TangleCourse, written_files, logged_items, script, tangle_status}
+use Rattle.cweb_tools.specs.Acts.{Act, DeviceState, TangleEnds, logged_items}
+use Rattle.cweb_tools.specs.Course.{Course, IsMergeCourse}
+use Rattle.cweb_tools.specs.Headline.{ActsKeepLimits, printed_bytes, put_files, written_files}
+use Rattle.cweb_tools.specs.MergeActs.{MergePromises, merge_acts}
+use Rattle.cweb_tools.specs.Script.{TangleCourse, script}
 use Rattle.cweb_tools.specs.Tangle.{shown_by, TanglePromises}
-use Rattle.cweb_tools.specs.laws.Leaves.{LeavesFiles, bins_blame}
-
--- No line that the acts take breaks a limit.
-abbrev pub ActsKeepLimits : List Act → Type 0
-ActsKeepLimits [] = Unit {0}
-ActsKeepLimits (act ∷ acts) = ActKeepsLimits act × ActsKeepLimits acts
+use Rattle.cweb_tools.specs.laws.Leaves.{LeavesFiles, bins_blame, tangle_status}
 
 -- All acts were done: the files were committed, the items logged, and the status is `due`.
 pub record DoesAll (acts : List Act) (due : ℕ) (old new : DeviceState) (status : ℕ) : Type 0 where
@@ -107,32 +103,26 @@ EveryRunLeavesDevices = (world : World) (asked : Option OptionsModel) (before af
     → (run : TanglePromises world asked before after status)
     → LeavesDevices (script (shown_by asked) run.course) (tangle_status (shown_by asked) run.course) before after status
 
--- A prefix of the merged lines was printed, and all of them if the status is 0.
-pub record PrintsMerged (course : Course) (before after : Devices) (status : ℕ) : Type 0 where
-  pub front : WritesPrefix before.out.bytes after.out.bytes (merged course)
-  pub whole : status ≡ 0 → after.out.bytes ≡ before.out.bytes ++ merged course
+-- A prefix of what these acts print was printed, and all of it if the status is 0.
+pub record PrintsActs (acts : List Act) (before after : Devices) (status : ℕ) : Type 0 where
+  pub front : WritesPrefix before.out.bytes after.out.bytes (printed_bytes acts)
+  pub whole : status ≡ 0 → after.out.bytes ≡ before.out.bytes ++ printed_bytes acts
 
 -- No device failed more than once, and shelf and output didn't both fail.
 pub record MergeFailsOnce (before after : Devices) : Type 0 where
   pub one : after.shelf.failed + after.out.failed ≤ before.shelf.failed + before.out.failed + 1
   pub log : after.log.failed ≤ before.log.failed + 1
 
--- A device that failed makes the status 1.
-pub record MergeReportsFaults (before after : Devices) (status : ℕ) : Type 0 where
-  pub read : after.shelf.failed ≢ before.shelf.failed → status ≡ 1
-  pub printed : after.out.failed ≢ before.out.failed → status ≡ 1
-  pub logged : after.log.failed ≢ before.log.failed → status ≡ 1
-
 -- The effect of a run of `wmerge`, however it ends.
 pub record LeavesMerge (course : Course) (before after : Devices) (status : ℕ) : Type 0 where
   -- The output is a prefix of the merged lines. The status is 0 only if it is all of them.
-  pub prints : IsTrue before.shelf.tells → IsTrue before.out.tells → PrintsMerged course before after status
+  pub prints : IsTrue before.shelf.tells → IsTrue before.out.tells → PrintsActs (merge_acts course) before after status
   -- A web that breaks the limits never gives status 0.
-  pub limits : IsTrue before.shelf.tells → ¬ MergeKeepsLimits course → status ≡ 1
+  pub limits : IsTrue before.shelf.tells → ¬ ActsKeepLimits (merge_acts course) → status ≡ 1
   pub once : MergeFailsOnce before after
-  pub faults : MergeReportsFaults before after status
+  pub faults : TangleReportsFaults before after status
 
 abbrev pub EveryMergeLeavesOutput : Type 0
 EveryMergeLeavesOutput = (world : World) (asked : Option WebNames) (before after : Devices) (status : ℕ)
-    → MergeEnds world asked before after status
+    → MergePromises world asked before after status
     → (course : Course) → IsMergeCourse world asked course → LeavesMerge course before after status

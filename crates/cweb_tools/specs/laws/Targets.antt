@@ -3,14 +3,17 @@ use Rattle.std.specs.Prelude.{◌≡◌, ℕ, Bool, List, map}
 use Rattle.cweb_files.specs.Files.{File}
 use Rattle.cweb_lines.specs.Merge.{Event}
 use Rattle.cweb_log.specs.declared.shown.Shown.{Shown}
-use Rattle.cweb_tools.specs.Depend.{depend_acts, depend_text}
+use Rattle.cweb_tools.specs.Acts.{acts_status}
+use Rattle.cweb_tools.specs.Depend.{depend_acts}
 use Rattle.cweb_tools.specs.Depfile.{depfile, each_once}
-use Rattle.cweb_tools.specs.Script.{TangleCourse, Web, acts_status, planned, tangle_files, tangle_status, tangling}
+use Rattle.cweb_tools.specs.Headline.{printed_bytes}
+use Rattle.cweb_tools.specs.Script.{TangleCourse, Web, planned, tangling}
+use Rattle.cweb_tools.specs.laws.Leaves.{tangle_files, tangle_status}
 
 -- If `ctangle` has a plan, the targets are the names of the files that it writes. In any case the status is its own.
 pub record TargetsAreWrittenFiles : Type 0 where
   pub targets : (shown : Shown) (files : List (List ℕ)) (events : List Event) (web : Web) (outputs : List File)
       (missing : Bool) → web.plan ≡ planned outputs missing
-      → depend_text (tangling files events web)
+      → printed_bytes (depend_acts (tangling files events web))
       ≡ depfile (map (λ file. file.name) (tangle_files shown (tangling files events web))) (each_once files)
   pub status : (shown : Shown) (course : TangleCourse) → acts_status (depend_acts course) ≡ tangle_status shown course

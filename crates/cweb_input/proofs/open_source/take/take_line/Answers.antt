@@ -1,5 +1,5 @@
 use Rattle.cweb_input.proofs.Common.{rules, ◌+◌, ◌∙◌, ap, Err, bytes_left, counters_of}
-use Rattle.cweb_input.specs.OpenSources.{read_failures_of}
+use Rattle.cweb_input.specs.surface.OpenSources.{read_failures_of}
 use Rattle.cweb_input.proofs.ReadersStayNamed.{blames_line, blames_none}
 use Rattle.cweb_input.proofs.TrimmedLines.{takes_first, line_stops, line_reads, line_names, first_passes}
 use Rattle.cweb_input.proofs.open_source.take.take_line.Goals as goal
