@@ -11,6 +11,9 @@ const CANDIDATES: usize = 8;
 // How many more slots than four for each name a new table has.
 const SPARE_SLOTS: usize = 64;
 
+// The factor of the hash function: 2 to the 64th, divided by the golden ratio.
+const FACTOR: u64 = 0x9E37_79B9_7F4A_7C15;
+
 /// Names by their spelling, in a table with open addressing. It may lack a name: if memory is refused, or if all slots
 /// that a name may have are taken. So no choice of names makes this slow.
 #[derive(Drop)]
@@ -70,5 +73,16 @@ impl NameIndex {
 fn first_slot(text: &[u8], slots: usize) -> usize
     ensures { result ≤ slots }
 {
-    home_bucket(Key::of(text), slots)
+    home_bucket(whole_key(text), slots)
+}
+
+// All bytes of a spelling, mixed into one key: long names often begin and end alike.
+fn whole_key(text: &[u8]) -> Key {
+    let mut mixed = Key { first: 0, last: 0 };
+    for chunk in text.chunks(16) {
+        let key = Key::of(chunk);
+        mixed.first = mixed.first.wrapping_mul(FACTOR).wrapping_add(key.first);
+        mixed.last = mixed.last.wrapping_mul(FACTOR).wrapping_add(key.last);
+    }
+    mixed
 }
