@@ -1,6 +1,6 @@
 //! Runs each layer of `ctangle` separately for measurements: a step costs the difference of two runs. Without arguments
 //! each runs on a small web. `scan FILE` scans a web in memory, `merge FILE` writes its merged lines into memory.
-//! `store SHAPE COUNT STEP` adds COUNT things to a builder, up to a step: `draw`, `give`, `finish` or `ask`.
+//! `store SHAPE COUNT STEP` adds COUNT things to a builder, up to a step: `draw`, `push`, `finish` or `read`.
 //! `out SHAPE COUNT STEP` builds a store, up to a step: `build`, `plan`, `expand` or `print`.
 #![tactic(auto)]
 
@@ -13,7 +13,7 @@ mod calls;
 // stores of a shape
 mod shapes;
 
-// what is added to a store and asked of it
+// what is added to a store and read from it
 mod store;
 
 // plans, expansion and printing of a store
@@ -34,12 +34,12 @@ const SMALL_OUTPUT: u32 = 60;
 
 // Layer, shape, count and step.
 const SMALL: &[(&str, &str, u32, &str)] = &[
-    ("store", "words", SMALL_STORE, "ask"),
-    ("store", "distinct", SMALL_STORE, "ask"),
-    ("store", "flood", SMALL_STORE, "ask"),
-    ("store", "names", SMALL_STORE, "ask"),
-    ("store", "name-flood", SMALL_STORE, "ask"),
-    ("store", "parts", SMALL_STORE, "ask"),
+    ("store", "words", SMALL_STORE, "read"),
+    ("store", "distinct", SMALL_STORE, "read"),
+    ("store", "flood", SMALL_STORE, "read"),
+    ("store", "names", SMALL_STORE, "read"),
+    ("store", "name-flood", SMALL_STORE, "read"),
+    ("store", "parts", SMALL_STORE, "read"),
     ("out", "chain", SMALL_OUTPUT, "print"),
     ("out", "parts", SMALL_OUTPUT, "print"),
     ("out", "uses", SMALL_OUTPUT, "print"),

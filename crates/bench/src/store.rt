@@ -82,7 +82,7 @@ pub fn show(rt: &impl Print, alloc: Global, shape: &str, count: u32, step: &str)
     };
     match step {
         "draw" => show_drawn(rt, alloc, count),
-        "give" => Ok(shapes::fill(alloc, &shape, count)?),
+        "push" => Ok(shapes::fill(alloc, &shape, count)?),
         _ => shapes::show(rt, alloc, &shape, count, step),
     }
 }
@@ -141,10 +141,10 @@ fn push_words(calls: &mut Calls, vocabulary: &[u8], count: u32) -> Result<(), Re
 }
 
 // The Words differ only in a number in their middle, which the hash of a store's table ignores.
-fn push_numbered_words(calls: &mut Calls, front: &str, count: u32) -> Result<(), Refusal> {
+fn push_numbered_words(calls: &mut Calls, prefix: &str, count: u32) -> Result<(), Refusal> {
     calls.open(PartKind::Unnamed)?;
     for number in 0..count {
-        let word = format!(in calls.alloc; "{front}{number:08}wordword")?;
+        let word = format!(in calls.alloc; "{prefix}{number:08}wordword")?;
         calls.push(Token::Word(word.as_bytes()))?;
     }
     Ok(())

@@ -16,16 +16,16 @@ abbrev pub agrees : (ℕ → Bool) → ℕ → List Bool → Bool
 agrees test k [] = true
 agrees test k (x ∷ xs) = same x (test k) && agrees test (suc k) xs
 
-told_from : (test : ℕ → Bool) (xs : List Bool) (k i b : ℕ) → agrees test k xs ≡ true → i < length xs → b ≡ k + i
+known_from : (test : ℕ → Bool) (xs : List Bool) (k i b : ℕ) → agrees test k xs ≡ true → i < length xs → b ≡ k + i
     → slice_index_or xs i false ≡ test b
-told_from test [] k i b h within e = absurd (omega (arith, within))
-told_from test (x ∷ xs) k zero b h within e =
+known_from test [] k i b h within e = absurd (omega (arith, within))
+known_from test (x ∷ xs) k zero b h within e =
     let here : k ≡ b = omega (arith, e) in
     same_is x (test k) (and_parts (same x (test k)) (agrees test (suc k) xs) h).0 ∙ ap test here
-told_from test (x ∷ xs) k (suc i) b h within e =
-    told_from test xs (suc k) i b (and_parts (same x (test k)) (agrees test (suc k) xs) h).1
+known_from test (x ∷ xs) k (suc i) b h within e =
+    known_from test xs (suc k) i b (and_parts (same x (test k)) (agrees test (suc k) xs) h).1
     (omega (arith, within)) (omega (arith, e))
 
-pub told_by_table : (test : ℕ → Bool) (xs : List Bool) → agrees test 0 xs ≡ true → (b : ℕ) → b < length xs
+pub known_by_table : (test : ℕ → Bool) (xs : List Bool) → agrees test 0 xs ≡ true → (b : ℕ) → b < length xs
     → slice_index_or xs b false ≡ test b
-told_by_table test xs h b within = told_from test xs 0 b b h within (omega arith)
+known_by_table test xs h b within = known_from test xs 0 b b h within (omega arith)

@@ -32,15 +32,15 @@ first-if false x y = refl
 
 pub put-texts : (old new : List Entry) (entry : Entry) (name text : List ℕ)
     → new ≡ old ++ entry ∷ [] → string_bytes entry.name ≡ name → entry.text.items ≡ text
-    → contents_in_entries new ≡ (λ asked. cond (bytes_eq name asked) (Some text) (contents_in_entries old asked))
-put-texts old new entry name text is named holds = λ i asked. (at asked) i
+    → contents_in_entries new ≡ (λ args. cond (bytes_eq name args) (Some text) (contents_in_entries old args))
+put-texts old new entry name text is named holds = λ i args. (at args) i
   where
-    at : (asked : List ℕ)
-        → contents_in_entries new asked ≡ cond (bytes_eq name asked) (Some text) (contents_in_entries old asked)
-    at asked =
-        ap (λ (es : List Entry). contents_in_entries es asked) is ∙ text_in-push old entry asked
-        ∙ first-if (bytes_eq (string_bytes entry.name) asked) entry.text.items (contents_in_entries old asked)
-        ∙ (λ i. cond (bytes_eq (named i) asked) (Some (holds i)) (contents_in_entries old asked))
+    at : (args : List ℕ)
+        → contents_in_entries new args ≡ cond (bytes_eq name args) (Some text) (contents_in_entries old args)
+    at args =
+        ap (λ (es : List Entry). contents_in_entries es args) is ∙ text_in-push old entry args
+        ∙ first-if (bytes_eq (string_bytes entry.name) args) entry.text.items (contents_in_entries old args)
+        ∙ (λ i. cond (bytes_eq (named i) args) (Some (holds i)) (contents_in_entries old args))
 
 slice_get-at : (entries : List Entry) (i : ℕ) (e : Entry) → i < length entries
     → e ≡ get_or entries i e → slice_get entries i ≡ Some e

@@ -41,7 +41,7 @@ refused_with fault beside = with_refusal (refusal fault) beside
 
 -- A prefix of `text` was appended.
 pub record WritesPrefix (old new text : List ℕ) : Type 0 where
-  pub front : List ℕ
+  pub prefix : List ℕ
   pub rest : List ℕ
-  pub written : new ≡ old ++ front
-  pub whole : text ≡ front ++ rest
+  pub written : new ≡ old ++ prefix
+  pub whole : text ≡ prefix ++ rest

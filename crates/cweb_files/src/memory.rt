@@ -46,8 +46,8 @@ impl MemoryShelf {
     pub fn put(&mut self, name: &str, text: &[u8]) -> Result<(), AllocError>
         ensures ok { OnOk result
             (shelf_contents self.new
-            ≡ (λ asked.
-            if bytes_eq name.now asked then Some text.now else shelf_contents self.old asked)) }
+            ≡ (λ other.
+            if bytes_eq name.now other then Some text.now else shelf_contents self.old other)) }
         ensures err { OnErr result (shelf_contents self.new ≡ shelf_contents self.old) }
         ensures readers { KeepsOpenReaders self.old self.new }
     {

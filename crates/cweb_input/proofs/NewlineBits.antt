@@ -10,8 +10,8 @@ module _ (v : List ℕ) (long : length v ≡ 32) where
   abbrev lanes : List Bool
   lanes = zip2 eqb v (replicate 32 10)
 
-  told : (k : ℕ) → k < 32 → bit_at (mask_l lanes) k ≡ cond (eqb (get_or v k 0) 10) 1 0
-  told k lt = bit_mask_l lanes k
+  is_known : (k : ℕ) → k < 32 → bit_at (mask_l lanes) k ≡ cond (eqb (get_or v k 0) 10) 1 0
+  is_known k lt = bit_mask_l lanes k
       ∙ ap (λ (b : Bool). cond b 1 0) (get_or-zip2 eqb v (replicate 32 10) k 0 0 false (omega (arith, long, lt)) lt
       ∙ ap (eqb (get_or v k 0)) (get_or-replicate 32 k 10 0 lt))
 
@@ -27,7 +27,7 @@ module _ (v : List ℕ) (long : length v ≡ 32) where
   pub none_marked : mask_l lanes ≡ 0 → HasNoNewline v
   none_marked none = no_newline v (λ k lt is.
       let bit : bit_at 0 k ≡ 1 =
-      ap (λ m. bit_at m k) (sym none) ∙ told k (omega (arith, lt, long)) ∙ ap (λ n. cond (eqb n 10) 1 0) is in
+      ap (λ m. bit_at m k) (sym none) ∙ is_known k (omega (arith, lt, long)) ∙ ap (λ n. cond (eqb n 10) 1 0) is in
       absurd (omega (arith, bit, bit_at-zero k)))
 
   pub first_marked : (at : ℕ) → bit_at (mask_l lanes) at ≡ 1
@@ -40,8 +40,8 @@ module _ (v : List ℕ) (long : length v ≡ 32) where
           high = omega (arith, long, near);
           before = λ k low high passes.
               let bit : bit_at (mask_l lanes) k ≡ 1 =
-              told k (omega (arith, high, near)) ∙ ap (λ (b : Bool). cond b 1 0) passes in
+              is_known k (omega (arith, high, near)) ∙ ap (λ (b : Bool). cond b 1 0) passes in
               absurd (omega (arith, bit, clear k high));
         },
-        one_true _ (sym (told at near) ∙ set),
+        one_true _ (sym (is_known at near) ∙ set),
       )

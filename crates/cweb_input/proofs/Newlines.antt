@@ -40,21 +40,22 @@ pub no_newline-append : (xs ys : List ℕ) → HasNoNewline xs → HasNoNewline 
 no_newline-append [] ys none_x none_y = none_y
 no_newline-append (x ∷ xs) ys none_x none_y = (none_x.0, no_newline-append xs ys none_x.1 none_y)
 
-pub longer : (limit : ℕ) (line front rest : List ℕ) → HasNoNewline line → HasNoNewline front →
-    limit < length line + length front → IsLongerThan limit (line ++ (front ++ rest))
-longer limit line front rest none_l none_f more = (
-  line ++ front,
+pub longer : (limit : ℕ) (line prefix rest : List ℕ) → HasNoNewline line → HasNoNewline prefix →
+    limit < length line + length prefix → IsLongerThan limit (line ++ (prefix ++ rest))
+longer limit line prefix rest none_l none_f more = (
+  line ++ prefix,
   rest,
-  sym (append_assoc line front rest),
-  no_newline-append line front none_l none_f,
-  omega (arith, length-append line front),
+  sym (append_assoc line prefix rest),
+  no_newline-append line prefix none_l none_f,
+  omega (arith, length-append line prefix),
 )
 
 -- The buffered bytes after the first newline.
-pub behind : (buffer : List ℕ) (start end at : ℕ) → SplitsAt (take (end - start) (drop start buffer)) at → start ≤ end
+pub after_newline : (buffer : List ℕ) (start end at : ℕ) → SplitsAt (take (end - start) (drop start buffer)) at
+    → start ≤ end
     → take (end - start) (drop start buffer) ≡ take at (take (end - start) (drop start buffer))
     ++ 10 ∷ take (end - (start + (at + 1))) (drop (start + (at + 1)) buffer)
-behind buffer start end at splits le =
+after_newline buffer start end at splits le =
     splits.split ∙ ap (λ (l : List ℕ). take at (take (end - start) (drop start buffer)) ++ 10 ∷ l) rest
   where
     near : at < end - start
@@ -88,8 +89,8 @@ taken_more all line old rest after new is none takes = (
   subst HasNoNewline (sym takes.1) (no_newline-append line old none takes.0),
 )
 
-pub longer_first : (front rest : List ℕ) → HasNoNewline front → 0 < length front → (line : CutLine) ×
-    (lines : List CutLine) × (cut_lines (front ++ rest) ≡ line ∷ lines) × (length front ≤ length line.bytes)
+pub longer_first : (prefix rest : List ℕ) → HasNoNewline prefix → 0 < length prefix → (line : CutLine) ×
+    (lines : List CutLine) × (cut_lines (prefix ++ rest) ≡ line ∷ lines) × (length prefix ≤ length line.bytes)
 longer_first [] rest none some = absurd (omega arith)
 longer_first (b ∷ []) rest none some = by (cut_lines rest) (no_more b none.0 rest [])
   where
@@ -97,11 +98,11 @@ longer_first (b ∷ []) rest none some = by (cut_lines rest) (no_more b none.0 r
         (lines' : List CutLine) × (cut_lines (b ∷ rest) ≡ line ∷ lines') × (1 ≤ length line.bytes)
     by [] is = (record { bytes = b ∷ []; size = 1 }, [], is, omega arith)
     by (line ∷ lines) is = (record { bytes = b ∷ line.bytes; size = line.size + 1 }, lines, is, omega arith)
-longer_first (b ∷ c ∷ front) rest none some =
-    let later = longer_first (c ∷ front) rest none.1 (omega arith) in (
+longer_first (b ∷ c ∷ prefix) rest none some =
+    let later = longer_first (c ∷ prefix) rest none.1 (omega arith) in (
       record { bytes = b ∷ later.0.bytes; size = later.0.size + 1 },
       later.1,
-      no_more b none.0 (c ∷ front ++ rest) [] ∙ ap (onto_first b) later.2,
+      no_more b none.0 (c ∷ prefix ++ rest) [] ∙ ap (onto_first b) later.2,
       omega (arith, later.3),
     )
 
@@ -113,17 +114,17 @@ splits_at a b none = record {
 }
 
 -- The first newline in the rest after bytes that have none.
-pub splits_behind : (text front run after : List ℕ) (at : ℕ) → text ≡ front ++ (run ++ after) → HasNoNewline front
-    → SplitsAt run at → SplitsAt text (length front + at)
-splits_behind text front run after at is none splits =
+pub splits_after : (text prefix run after : List ℕ) (at : ℕ) → text ≡ prefix ++ (run ++ after) → HasNoNewline prefix
+    → SplitsAt run at → SplitsAt text (length prefix + at)
+splits_after text prefix run after at is none splits =
     subst (SplitsAt text) count (subst (λ (t : List ℕ). SplitsAt t (length before)) (sym whole)
-    (splits_at before (drop (at + 1) run ++ after) (no_newline-append front (take at run) none splits.before)))
+    (splits_at before (drop (at + 1) run ++ after) (no_newline-append prefix (take at run) none splits.before)))
   where
     before : List ℕ
-    before = front ++ take at run
+    before = prefix ++ take at run
 
     whole : text ≡ before ++ 10 ∷ (drop (at + 1) run ++ after)
-    whole = is ∙ ap (λ (l : List ℕ). front ++ (l ++ after)) splits.split ∙ simp append_assoc
+    whole = is ∙ ap (λ (l : List ℕ). prefix ++ (l ++ after)) splits.split ∙ simp append_assoc
 
-    count : length before ≡ length front + at
-    count = omega (arith, length-append front (take at run), length-take at run, splits.within)
+    count : length before ≡ length prefix + at
+    count = omega (arith, length-append prefix (take at run), length-take at run, splits.within)

@@ -65,11 +65,12 @@ pub over-none : {R : Type 0} (left : R → List ℕ) (low n : ℕ) (texts : List
     n ≡ 0 → things_over left low n texts rest ≡ rest
 over-none left low n texts rest none = ap (λ k. things_over left low k texts rest) none
 
-pub raws-append : (depth : ℕ) (may_match : Bool) (before behind : List SourceLine)
-    → raws depth may_match (before ++ behind) ≡ raws depth may_match before ++ raws depth may_match behind
-raws-append depth may_match [] behind = refl
-raws-append depth may_match (line ∷ before) behind = ap (λ (ts : List Thing). raw
-    (record { source = line; depth = depth; may_match = may_match }) ∷ ts) (raws-append depth may_match before behind)
+pub raws-append : (depth : ℕ) (may_match : Bool) (before following : List SourceLine)
+    → raws depth may_match (before ++ following) ≡ raws depth may_match before ++ raws depth may_match following
+raws-append depth may_match [] following = refl
+raws-append depth may_match (line ∷ before) following = ap (λ (ts : List Thing). raw
+    (record { source = line; depth = depth; may_match = may_match }) ∷ ts)
+    (raws-append depth may_match before following)
 
 -- The deepest source yields a line, has ended, or causes a stop.
 module _ {R : Type 0} (left left' : R → List ℕ) (same : left' ≡ left) (texts : List (Option (OpenSource R)))

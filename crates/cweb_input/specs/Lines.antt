@@ -71,7 +71,7 @@ pub record RawLine : Type 0 where
 pub data Thing : Type 0 where
   seek : Thing
   raw : RawLine → Thing
-  told : SourceFault → Thing
+  reported : SourceFault → Thing
   passed : SourceLine → Thing
 
 -- The lines of a source as raw lines.

@@ -47,18 +47,18 @@ pub fn newline_at(bytes: &[u8]) -> Option<usize>
 }
 
 // Appends bytes to a line, unless it gets too long.
-fn extend(line: &mut Vec<u8>, front: &[u8]) -> Result<(), LineFault>
+fn extend(line: &mut Vec<u8>, prefix: &[u8]) -> Result<(), LineFault>
     requires { length line.old.items ≤ LINE_LENGTH }
-    ensures ok { OnOk result (line.new.items ≡ line.old.items ++ front.now) }
+    ensures ok { OnOk result (line.new.items ≡ line.old.items ++ prefix.now) }
     ensures within { length line.new.items ≤ LINE_LENGTH }
     ensures read { IsErrOf result LineFault.Read → ⊥ }
     ensures too_long { IsErrOf result LineFault.TooLong →
-        LINE_LENGTH < length line.old.items + length front.now }
+        LINE_LENGTH < length line.old.items + length prefix.now }
 {
-    if front.len() > LINE_LENGTH - line.len() {
+    if prefix.len() > LINE_LENGTH - line.len() {
         return Err(LineFault::TooLong);
     }
-    line.extend_from_slice(front)?;
+    line.extend_from_slice(prefix)?;
     Ok(())
 }
 

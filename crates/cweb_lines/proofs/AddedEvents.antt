@@ -5,15 +5,15 @@ use Rattle.cweb_lines.proofs.EmittedLinesAddUp.{size-append, short-append}
 abbrev pub events : List SourceLine → List SourceFault → List Event
 events lines faults = map took lines ++ map fault faults
 
-pub given_none : (lines : List SourceLine) (faults : List SourceFault) → emitted_lines (events lines faults) ≡ []
-given_none [] [] = refl
-given_none [] (f ∷ faults) = given_none [] faults
-given_none (line ∷ lines) faults = given_none lines faults
+pub emitted_none : (lines : List SourceLine) (faults : List SourceFault) → emitted_lines (events lines faults) ≡ []
+emitted_none [] [] = refl
+emitted_none [] (f ∷ faults) = emitted_none [] faults
+emitted_none (line ∷ lines) faults = emitted_none lines faults
 
-told_all : (lines : List SourceLine) (faults : List SourceFault) → reported_faults (events lines faults) ≡ faults
-told_all [] [] = refl
-told_all [] (f ∷ faults) = simp (told_all [] faults)
-told_all (line ∷ lines) faults = told_all lines faults
+reported_all : (lines : List SourceLine) (faults : List SourceFault) → reported_faults (events lines faults) ≡ faults
+reported_all [] [] = refl
+reported_all [] (f ∷ faults) = simp (reported_all [] faults)
+reported_all (line ∷ lines) faults = reported_all lines faults
 
 opened_none : (lines : List SourceLine) (faults : List SourceFault) → openings (events lines faults) ≡ []
 opened_none [] [] = refl
@@ -25,22 +25,22 @@ taken_all [] [] = refl
 taken_all [] (f ∷ faults) = taken_all [] faults
 taken_all (line ∷ lines) faults = simp (taken_all lines faults)
 
-pub given-took : (lines : List SourceLine) → emitted_lines (map took lines) ≡ []
-given-took [] = refl
-given-took (line ∷ lines) = given-took lines
+pub emitted-took : (lines : List SourceLine) → emitted_lines (map took lines) ≡ []
+emitted-took [] = refl
+emitted-took (line ∷ lines) = emitted-took lines
 
 pub taken-took : (lines : List SourceLine) → taken_lines (map took lines) ≡ lines
 taken-took [] = refl
 taken-took (line ∷ lines) = simp (taken-took lines)
 
-pub gives_adds : (lines : List SourceLine) (faults : List SourceFault) (old new : SoFar) (all later : List Event) →
+pub yields_adds : (lines : List SourceLine) (faults : List SourceFault) (old new : SoFar) (all later : List Event) →
     all ≡ map took lines ++ (map fault faults ++ later) → AddsFaultsAndLines faults lines old new
     → EmitsLines [] old new all later
-gives_adds lines faults old new all later whole adds = record {
+yields_adds lines faults old new all later whole adds = record {
   events = events lines faults;
   whole = simp (whole, append_assoc);
-  given = given_none lines faults;
-  faults = simp (adds.told, told_all);
+  emitted = emitted_none lines faults;
+  faults = simp (adds.reported, reported_all);
   names = simp (adds.names, opened_none, append-nil);
   lines_are = simp (adds.lines_are, taken_all);
   bytes_are = simp (adds.bytes_are, taken_all);
@@ -50,16 +50,16 @@ gives_adds lines faults old new all later whole adds = record {
 pub tells_some : (lines : List SourceLine) (faults : List SourceFault) (old new : SoFar) (all later : List Event) →
     all ≡ map took lines ++ (map fault faults ++ later) → ReportsSomeFaults faults old new → ReportsPrefix old new all
 tells_some lines faults old new all later whole some = record {
-  events = events lines some.front;
+  events = events lines some.prefix;
   later = map fault some.rest ++ later;
   whole = simp (whole, some.whole, map-append, append_assoc);
-  faults = simp (some.told, told_all);
+  faults = simp (some.reported, reported_all);
   names = simp (some.names, opened_none, append-nil);
 }
 
 pub adds_none : (old new : SoFar) → new ≡ old → AddsFaultsAndLines [] [] old new
 adds_none old new same = record {
-  told = simp (same, append-nil);
+  reported = simp (same, append-nil);
   names = simp same;
   lines_are = simp same (omega arith);
   bytes_are = simp same (omega arith);
@@ -69,9 +69,9 @@ adds_none old new same = record {
 abbrev pub begun_none : (old new : SoFar) (lines : List SourceLine) (faults : List SourceFault) → new ≡ old →
     HasBegunStep old new lines faults
 begun_none old new lines faults same = record {
-  front = [];
+  prefix = [];
   rest = lines;
-  told = [];
+  reported = [];
   more = faults;
   lines_are = refl;
   faults_are = refl;
@@ -81,8 +81,8 @@ begun_none old new lines faults same = record {
 pub adds_line : (faults : List SourceFault) (lines : List SourceLine) (old mid new : SoFar) (bytes : List ℕ)
     (place : Place) (t : CountsLine bytes place mid.count new.count) → AddsFaultsAndLines faults lines old mid
     → new.faults ≡ mid.faults → new.names ≡ mid.names → AddsFaultsAndLines faults (lines ++ t.line ∷ []) old new
-adds_line faults lines old mid new bytes place t adds told names = record {
-  told = told ∙ adds.told;
+adds_line faults lines old mid new bytes place t adds reported names = record {
+  reported = reported ∙ adds.reported;
   names = names ∙ adds.names;
   lines_are = omega (arith, adds.lines_are, t.lines, length-append lines (t.line ∷ []));
   bytes_are = omega (arith, adds.bytes_are, t.bytes_are, size-append lines (t.line ∷ []));
@@ -93,8 +93,8 @@ pub adds_faults : (faults more : List SourceFault) (lines : List SourceLine) (ol
     AddsFaultsAndLines faults lines old mid → new.faults ≡ mid.faults ++ more → new.names ≡ mid.names
     → new.count ≡ mid.count
     → AddsFaultsAndLines (faults ++ more) lines old new
-adds_faults faults more lines old mid new adds told names count = record {
-  told = simp (told, adds.told, append_assoc);
+adds_faults faults more lines old mid new adds reported names count = record {
+  reported = simp (reported, adds.reported, append_assoc);
   names = names ∙ adds.names;
   lines_are = ap (λ (c : TakenCountersModel). c.lines) count ∙ adds.lines_are;
   bytes_are = ap (λ (c : TakenCountersModel). c.bytes) count ∙ adds.bytes_are;
@@ -105,7 +105,7 @@ pub adds_both : (faults more : List SourceFault) (lines further : List SourceLin
     AddsFaultsAndLines faults lines old mid → AddsFaultsAndLines more further mid new
     → AddsFaultsAndLines (faults ++ more) (lines ++ further) old new
 adds_both faults more lines further old mid new first second = record {
-  told = simp (second.told, first.told, append_assoc);
+  reported = simp (second.reported, first.reported, append_assoc);
   names = second.names ∙ first.names;
   lines_are = omega (arith, first.lines_are, second.lines_are, length-append lines further);
   bytes_are = omega (arith, first.bytes_are, second.bytes_are, size-append lines further);
@@ -114,10 +114,10 @@ adds_both faults more lines further old mid new first second = record {
 
 -- The rest of a step after its first line was taken.
 module _ (old mid : SoFar) (bytes : List ℕ) (place : Place) (t : CountsLine bytes place old.count mid.count)
-    (told : mid.faults ≡ old.faults) (names : mid.names ≡ old.names) where
+    (reported : mid.faults ≡ old.faults) (names : mid.names ≡ old.names) where
   pub adds_one : AddsFaultsAndLines [] (t.line ∷ []) old mid
   adds_one = record {
-    told = simp (told, append-nil);
+    reported = simp (reported, append-nil);
     names = names;
     lines_are = omega (arith, t.lines);
     bytes_are = omega (arith, t.bytes_are);
@@ -127,23 +127,23 @@ module _ (old mid : SoFar) (bytes : List ℕ) (place : Place) (t : CountsLine by
   pub tells_after : (faults : List SourceFault) (new : SoFar) → ReportsSomeFaults faults mid new
       → ReportsSomeFaults faults old new
   tells_after faults new some = record {
-    front = some.front;
+    prefix = some.prefix;
     rest = some.rest;
     whole = some.whole;
-    told = simp (some.told, told);
+    reported = simp (some.reported, reported);
     names = some.names ∙ names;
   }
 
   abbrev begun_after : (lines : List SourceLine) (faults : List SourceFault) (new : SoFar)
       → HasBegunStep mid new lines faults → HasBegunStep old new (t.line ∷ lines) faults
   begun_after lines faults new begun = record {
-    front = t.line ∷ begun.front;
+    prefix = t.line ∷ begun.prefix;
     rest = begun.rest;
-    told = begun.told;
+    reported = begun.reported;
     more = begun.more;
     lines_are = simp begun.lines_are;
     faults_are = begun.faults_are;
-    adds = adds_both [] begun.told (t.line ∷ []) begun.front old mid new adds_one begun.adds;
+    adds = adds_both [] begun.reported (t.line ∷ []) begun.prefix old mid new adds_one begun.adds;
   }
 
   stops_after : (stop : Stop) (lines : List SourceLine) (faults : List SourceFault) (new : SoFar)

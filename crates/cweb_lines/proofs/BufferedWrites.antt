@@ -1,9 +1,9 @@
 -- Emitted lines are buffered, written or lost.
 use Rattle.cweb_lines.proofs.Common.{◌≡◌, ℕ, List, [], ◌∷◌, ◌++◌, length, refl, sym, ◌∙◌, ap, arith, length-append, IsTrue, append-nil, append_assoc, KeepsPlace, Writes, Line, Event, SoFar, EmitsLines, BuffersLines, emitted_lines, written_lines, WritesPrefix, HasWritten, FailsAmong, LosesLine}
 use Rattle.cweb_files.specs.declared.device.Sink.{Ghosts as Sink}
-use Rattle.cweb_files.proofs.FramesCompose.{place_told, writes_then}
-use Rattle.cweb_lines.proofs.EmittedLinesAddUp.{gives_both}
-use Rattle.cweb_lines.proofs.WrittenLinesAddUp.{front_of_all, given_front, text_of-append}
+use Rattle.cweb_files.proofs.FramesCompose.{place_known, writes_then}
+use Rattle.cweb_lines.proofs.EmittedLinesAddUp.{yields_both}
+use Rattle.cweb_lines.proofs.WrittenLinesAddUp.{prefix_of_all, emitted_prefix, text_of-append}
 
 pub held : (room : ℕ) (old so : SoFar) (all now : List Event) (Wrote : List ℕ → Type 0) →
     HasWritten old so all now Wrote
@@ -12,8 +12,8 @@ pub held : (room : ℕ) (old so : SoFar) (all now : List Event) (Wrote : List �
     buffer ≡ [] → more ≡ buffer ++ line.bytes ++ 10 ∷ [] → BuffersLines room old so' all later Wrote more
 held room old so all now Wrote g line so' later next buffer more none is = record {
   done = g.lines;
-  gathered = line ∷ [];
-  gives = gives_both g.lines (line ∷ []) old so so' all now later g.gives next;
+  buffered = line ∷ [];
+  yields = yields_both g.lines (line ∷ []) old so so' all now later g.yields next;
   wrote = g.wrote;
   piece_is = simp (is, none);
   some = omega arith;
@@ -36,11 +36,11 @@ pub held_on : (room : ℕ) (old so : SoFar) (all now : List Event) (Wrote : List
     more ≡ buffer ++ written_lines lines → (room ≡ 0 → more ≡ buffer) → BuffersLines room old so' all later Wrote more
 held_on room old so all now Wrote buffer h lines so' later next more is alone = record {
   done = h.done;
-  gathered = h.gathered ++ lines;
-  gives = rw append_assoc at (gives_both (h.done ++ h.gathered) lines old so so' all now later h.gives next);
+  buffered = h.buffered ++ lines;
+  yields = rw append_assoc at (yields_both (h.done ++ h.buffered) lines old so so' all now later h.yields next);
   wrote = h.wrote;
   piece_is = simp (is, h.piece_is, text_of-append);
-  some = omega (arith, h.some, length-append h.gathered lines);
+  some = omega (arith, h.some, length-append h.buffered lines);
   alone = λ none. simp (no_lines lines buffer (sym is ∙ alone none), append-nil, h.alone none);
 }
 
@@ -48,27 +48,28 @@ module _ {W : Type 0} (sink : Sink W) (first mid : W) (keeps : KeepsPlace sink f
     (all now : List Event) (buffer : List ℕ) (h : BuffersLines room old so all now (Writes sink first mid) buffer) where
   pub written_on : (new : W) → Writes sink mid new buffer → HasWritten old so all now (Writes sink first new)
   written_on new wrote = record {
-    lines = h.done ++ h.gathered;
-    gives = h.gives;
+    lines = h.done ++ h.buffered;
+    yields = h.yields;
     wrote = rw (text_of-append, ← h.piece_is)
         (writes_then sink first mid new (written_lines h.done) buffer keeps h.wrote wrote);
   }
 
-  pub fails_front : (new : W) → (IsTrue (sink.tells mid) → WritesPrefix (sink.written mid) (sink.written new) buffer)
+  pub fails_prefix : (new : W) → (IsTrue (sink.tells mid) → WritesPrefix (sink.written mid) (sink.written new) buffer)
       → IsTrue (sink.tells first)
       → WritesPrefix (sink.written first) (sink.written new) (written_lines (emitted_lines all))
-  fails_front new front tells =
-      front_of_all (emitted_lines all) h.done h.gathered (emitted_lines now) (sink.written first) (sink.written mid)
-      (sink.written new) buffer (given_front (h.done ++ h.gathered) old so all now h.gives ∙ append_assoc
-      h.done h.gathered (emitted_lines now)) (h.wrote tells) h.piece_is (front (place_told sink first mid keeps tells))
+  fails_prefix new prefix tells =
+      prefix_of_all (emitted_lines all) h.done h.buffered (emitted_lines now) (sink.written first) (sink.written mid)
+      (sink.written new) buffer (emitted_prefix (h.done ++ h.buffered) old so all now h.yields ∙ append_assoc
+      h.done h.buffered (emitted_lines now)) (h.wrote tells) h.piece_is
+      (prefix (place_known sink first mid keeps tells))
 
   pub fails_among : (new : W) → IsTrue (sink.tells first) → (IsTrue (sink.tells mid) → WritesPrefix (sink.written mid)
       (sink.written new) buffer) → FailsAmong room old so all now (sink.written first) (sink.written new)
-  fails_among new tells front = record {
+  fails_among new tells prefix = record {
     done = h.done;
-    gathered = h.gathered;
-    gives = h.gives;
-    front = rw (h.wrote tells, h.piece_is) at (front (place_told sink first mid keeps tells));
+    buffered = h.buffered;
+    yields = h.yields;
+    prefix = rw (h.wrote tells, h.piece_is) at (prefix (place_known sink first mid keeps tells));
     some = h.some;
     alone = h.alone;
   }
@@ -76,11 +77,11 @@ module _ {W : Type 0} (sink : Sink W) (first mid : W) (keeps : KeepsPlace sink f
 -- Without buffering a write fault loses only one line.
 pub loses_line : (old new : SoFar) (all later : List Event) (before after : List ℕ) →
     FailsAmong 0 old new all later before after → LosesLine old new all later before after
-loses_line old new all later before after failed = by failed.gathered (failed.alone refl) failed.gives failed.front
+loses_line old new all later before after failed = by failed.buffered (failed.alone refl) failed.yields failed.prefix
   where
-    by : (gathered : List Line) → length gathered ≡ 1 → EmitsLines (failed.done ++ gathered) old new all later →
-        WritesPrefix (before ++ written_lines failed.done) after (written_lines gathered)
+    by : (buffered : List Line) → length buffered ≡ 1 → EmitsLines (failed.done ++ buffered) old new all later →
+        WritesPrefix (before ++ written_lines failed.done) after (written_lines buffered)
         → LosesLine old new all later before after
-    by [] one gives front = absurd (omega (arith, one))
-    by (line ∷ []) one gives front = record { done = failed.done; line = line; gives = gives; front = front }
-    by (line ∷ other ∷ rest) one gives front = absurd (omega (arith, one))
+    by [] one yields prefix = absurd (omega (arith, one))
+    by (line ∷ []) one yields prefix = record { done = failed.done; line = line; yields = yields; prefix = prefix }
+    by (line ∷ other ∷ rest) one yields prefix = absurd (omega (arith, one))

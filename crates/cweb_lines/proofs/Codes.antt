@@ -1,5 +1,5 @@
 -- Code lines within a change.
-use Rattle.cweb_lines.proofs.Common.{◌≡◌, ℕ, true, false, List, [], ◌∷◌, Some, Option, refl, ◌∙◌, ap, Place, OldSide, change_code, old_at, old_code, old_lines, at_place, Line, SourceLine, sameb, the_type, Code, NewSide, new_at, new_things, passed, told, WantsZ}
+use Rattle.cweb_lines.proofs.Common.{◌≡◌, ℕ, true, false, List, [], ◌∷◌, Some, Option, refl, ◌∙◌, ap, Place, OldSide, change_code, old_at, old_code, old_lines, at_place, Line, SourceLine, sameb, the_type, Code, NewSide, new_at, new_things, passed, reported, WantsZ}
 use Rattle.cweb_lines.specs.declared.change.code.Code.TheVariants.{NewSide as new_side, EndSide as end_side}
 
 pub is_new : (code : Code) → sameb the_type code new_side ≡ true → code ≡ new_side
@@ -28,6 +28,6 @@ is_end _ same = absurd (cc)
 
 pub is_faulty_new : (code : Code) (depth : ℕ) (line : SourceLine) (lines : List SourceLine) (later : NewSide)
     → sameb the_type code end_side ≡ false → new_at (Some code) depth line lines later
-    ≡ new_things (passed line ∷ told (at_place WantsZ line.line.place) ∷ []) later
+    ≡ new_things (passed line ∷ reported (at_place WantsZ line.line.place) ∷ []) later
 is_faulty_new end_side depth line lines later other = absurd (cc)
 is_faulty_new _ depth line lines later other = refl

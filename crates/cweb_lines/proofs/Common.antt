@@ -25,7 +25,8 @@ pub use Rattle.cweb_input.proofs.SourceStacks.{over-none}
 pub use Rattle.cweb_input.specs.Include.{World, Found, found_at, include_name, is_include_line, change_at, names_found}
 pub use Rattle.cweb_input.specs.Include.{contents_found}
 pub use Rattle.cweb_input.specs.Lines.{Line, SourceLine, CutLine, numbered_lines, trimmed, lines_in, before_blanks}
-pub use Rattle.cweb_input.specs.Lines.{is_blank, onto_first, cut_lines, RawLine, Thing, passed, raw, raws, seek, told}
+pub use Rattle.cweb_input.specs.Lines.{is_blank, onto_first, cut_lines, RawLine, Thing, passed, raw, raws, seek}
+pub use Rattle.cweb_input.specs.Lines.{reported}
 pub use Rattle.cweb_input.specs.surface.ReaderNames.{blame}
 pub use Rattle.cweb_input.specs.OpenSources.{TakenCountersModel, RefusesLine}
 pub use Rattle.cweb_input.specs.surface.OpenSources.{read_failures_of, files_named}
@@ -57,14 +58,14 @@ pub use Rattle.cweb_input.specs.surface.ReaderNames.{AreReadersNamed, IsReaderNa
 pub use Rattle.cweb_input.specs.surface.Source.{buffered}
 pub use denote.Enum.Bare.{sameb}
 pub use Rattle.cweb_lines.specs.Change.{WaitingEntry, at_place, OldSide, change_code, old_at, old_code, old_lines}
-pub use Rattle.cweb_lines.specs.Change.{Sought, after_x, outside, sought, old_line, passing}
+pub use Rattle.cweb_lines.specs.Change.{Sought, after_x, outside, sought, passing}
 pub use Rattle.cweb_lines.specs.Events.{emitted_lines, reported_faults, openings, taken_lines, size_of_lines, AreShort}
 pub use Rattle.cweb_lines.specs.Events.{written_lines}
 pub use Rattle.cweb_lines.specs.surface.Writing.{write_failures_of}
-pub use Rattle.cweb_lines.specs.Merge.{Event, took, fault, Next, MergeStateModel, at_raw, given, included, obeyed, onto}
+pub use Rattle.cweb_lines.specs.Merge.{Event, took, fault, Next, MergeStateModel, at_raw, emitted, included, obeyed}
 pub use Rattle.cweb_lines.specs.Merge.{open_include, opening, past, plain, run_steps, taking, NewSide, new_at}
 pub use Rattle.cweb_lines.specs.Merge.{new_things, compared, Compared, after_old, at_entry, change_events}
-pub use Rattle.cweb_lines.specs.Merge.{fault_event_if, new_lines, started, dropping, in_turn}
+pub use Rattle.cweb_lines.specs.Merge.{fault_event_if, new_lines, started, dropping, in_turn, onto}
 pub use Rattle.cweb_lines.specs.contracts.change.code.Code.{the_type}
 pub use Rattle.cweb_lines.specs.declared.change.Change.{Change}
 pub use Rattle.cweb_lines.specs.declared.change.Stage.{Stage}
@@ -78,7 +79,7 @@ pub use Rattle.cweb_lines.specs.declared.passing.stretch.Stretch.{Stretch}
 pub use Rattle.cweb_lines.specs.declared.step.Turn.{Turn}
 pub use Rattle.cweb_lines.specs.declared.step.Turn.TheVariants.{Emitted, On, Ended}
 pub use Rattle.cweb_lines.specs.inner.Ahead.{FitsLimits, FitsLimitsAt, IsAhead, LooksAhead, LooksAheadIn}
-pub use Rattle.cweb_lines.specs.inner.LineSpans.{BorrowsLines, line_span_at, span_bytes}
+pub use Rattle.cweb_lines.specs.inner.LineSpans.{BorrowsLines, line_span_at}
 pub use Rattle.cweb_lines.specs.inner.MergeProgress.{ReportsSomeFaults, events_after_line, EmitsAfterLine, turns_left}
 pub use Rattle.cweb_lines.specs.inner.MergeProgress.{turn_lines, EndsStep}
 pub use Rattle.cweb_lines.specs.inner.MergeReaderNames.{KeepsReaders}

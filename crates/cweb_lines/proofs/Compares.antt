@@ -36,7 +36,7 @@ pub compares_some : (bytes raw_bytes : List ℕ) (before after : Replaced) (at :
     → new.faults ≡ old.faults → new.names ≡ old.names → after.unequal
     ≡ (if bytes_eq raw_bytes bytes then before.unequal else before.unequal + 1) → after.ran_out ≡ before.ran_out →
     Compares bytes before after things things' old new
-compares_some bytes raw_bytes before after at things things' old new t is told names unequal ran_out =
+compares_some bytes raw_bytes before after at things things' old new t is reported names unequal ran_out =
     rw is (record {
       taken = t.line ∷ [];
       taken_are = λ olds later. refl;
@@ -45,7 +45,7 @@ compares_some bytes raw_bytes before after at things things' old new t is told n
           ∙ by (bytes_eq raw_bytes bytes) unequal (compared olds things').unequal;
       ran_out = λ olds. ap (λ b. b || (compared olds things').ran_out) (sym ran_out);
       rest = λ olds. refl;
-      adds = adds_one old new raw_bytes at.place t told names;
+      adds = adds_one old new raw_bytes at.place t reported names;
     })
   where
     by : (b : Bool) → after.unequal ≡ (if b then before.unequal else before.unequal + 1) → (n : ℕ) →

@@ -1,18 +1,19 @@
 -- Lines that pass through are taken and emitted one by one.
-use Rattle.cweb_lines.proofs.Common.{◌≡◌, ◌+◌, ℕ, Bool, List, [], ◌∷◌, ◌++◌, length, map, Option, Some, None, refl, sym, ◌∙◌, ap, arith, length-append, Place, WaitingEntry, World, SourceLine, numbered_lines, trimmed, Event, Thing, took, given, raws, AllPassThrough, IsStretchAt, line_with_newline, lines_next, trimmed_with_newlines, sources_next, with_newlines, stretch_bytes, matches_at, number_or_zero, source_depth, AreShort, emitted_lines, openings, size_of_lines, taken_lines, reported_faults, merge, written_lines, Stretch, OpenSource}
-use Rattle.cweb_lines.proofs.Merges.{merge_given, state}
+use Rattle.cweb_lines.proofs.Common.{◌≡◌, ◌+◌, ℕ, Bool, List, [], ◌∷◌, ◌++◌, length, map, Option, Some, None, refl, sym, ◌∙◌, ap, arith, length-append, Place, WaitingEntry, World, SourceLine, numbered_lines, trimmed, Event, Thing, took, emitted, raws, AllPassThrough, IsStretchAt, line_with_newline, lines_next, trimmed_with_newlines, sources_next, with_newlines, stretch_bytes, matches_at, number_or_zero, source_depth, AreShort, emitted_lines, openings, size_of_lines, taken_lines, reported_faults, merge, written_lines, Stretch, OpenSource}
+use Rattle.cweb_lines.proofs.Merges.{merge_emitted, state}
 
 abbrev pub events_of : List SourceLine → List Event
 events_of [] = []
-events_of (source ∷ sources) = took source ∷ given source.line ∷ events_of sources
+events_of (source ∷ sources) = took source ∷ emitted source.line ∷ events_of sources
 
-pub events-given : (sources : List SourceLine) → emitted_lines (events_of sources) ≡ map (λ source. source.line) sources
-events-given [] = refl
-events-given (source ∷ sources) = simp (events-given sources)
+pub events-emitted : (sources : List SourceLine) → emitted_lines (events_of sources) ≡ map
+    (λ source. source.line) sources
+events-emitted [] = refl
+events-emitted (source ∷ sources) = simp (events-emitted sources)
 
-pub events-untold : (sources : List SourceLine) → reported_faults (events_of sources) ≡ []
-events-untold [] = refl
-events-untold (source ∷ sources) = events-untold sources
+pub events-unreported : (sources : List SourceLine) → reported_faults (events_of sources) ≡ []
+events-unreported [] = refl
+events-unreported (source ∷ sources) = events-unreported sources
 
 pub events-unopened : (sources : List SourceLine) → openings (events_of sources) ≡ []
 events-unopened [] = refl
@@ -37,10 +38,10 @@ merge_lines world entry may_match depth file number (line ∷ lines) things chan
       length = length line;
       size = length line + 1;
     } in
-    merge_given world source (trimmed line) (record { place = place; depth = depth; may_match = may_match }) refl
+    merge_emitted world source (trimmed line) (record { place = place; depth = depth; may_match = may_match }) refl
     (raws depth may_match (numbered_lines file (number + 1) (map line_with_newline lines)) ++ things) entry change files
     passing.0.unbegun passing.0.plain
-    ∙ ap (λ (es : List Event). took source ∷ given source.line ∷ es)
+    ∙ ap (λ (es : List Event). took source ∷ emitted source.line ∷ es)
     (merge_lines world entry may_match depth file (number + 1) lines things change files passing.1)
 
 pub merge_next_lines : {R : Type 0} (world : World) (entry : Option WaitingEntry) (slot : Option (OpenSource R))
@@ -50,9 +51,9 @@ pub merge_next_lines : {R : Type 0} (world : World) (entry : Option WaitingEntry
     → merge world (state (raws (number_or_zero source_depth slot) (matches_at slot) (sources_next slot lines)
     ++ things) entry
     change files) ≡ events_of (sources_next slot lines) ++ merge world (state things entry change files)
-merge_next_lines world entry None s lines things change files stands = absurd stands
-merge_next_lines world entry (Some text) s lines things change files stands = merge_lines
-    world entry text.may_match text.depth text.file.0 (text.line + 1) lines things change files stands.is.passing
+merge_next_lines world entry None s lines things change files in_place = absurd in_place
+merge_next_lines world entry (Some text) s lines things change files in_place = merge_lines
+    world entry text.may_match text.depth text.file.0 (text.line + 1) lines things change files in_place.is.passing
 
 numbered-length : (file number : ℕ) (lines : List (List ℕ))
     → length (numbered_lines file number (map line_with_newline lines)) ≡ length lines
@@ -79,23 +80,23 @@ numbered-text file number (line ∷ lines) = simp (numbered-text file (number + 
 pub next-length : {R : Type 0} (entry : Option WaitingEntry) (slot : Option (OpenSource R)) (s : Stretch)
     (lines : List (List ℕ))
     → IsStretchAt entry slot s lines → length (sources_next slot lines) ≡ length lines
-next-length entry None s lines stands = absurd stands
-next-length entry (Some text) s lines stands = numbered-length text.file.0 (text.line + 1) lines
+next-length entry None s lines in_place = absurd in_place
+next-length entry (Some text) s lines in_place = numbered-length text.file.0 (text.line + 1) lines
 
 pub next-size : {R : Type 0} (entry : Option WaitingEntry) (slot : Option (OpenSource R)) (s : Stretch)
     (lines : List (List ℕ))
     → IsStretchAt entry slot s lines → size_of_lines (sources_next slot lines) ≡ length (with_newlines lines)
-next-size entry None s lines stands = absurd stands
-next-size entry (Some text) s lines stands = numbered-size text.file.0 (text.line + 1) lines
+next-size entry None s lines in_place = absurd in_place
+next-size entry (Some text) s lines in_place = numbered-size text.file.0 (text.line + 1) lines
 
 pub next-short : {R : Type 0} (entry : Option WaitingEntry) (slot : Option (OpenSource R)) (s : Stretch)
     (lines : List (List ℕ))
     → IsStretchAt entry slot s lines → AreShort (sources_next slot lines)
-next-short entry None s lines stands = absurd stands
-next-short entry (Some text) s lines stands = numbered-short _ _ _ _ _ stands.is.passing
+next-short entry None s lines in_place = absurd in_place
+next-short entry (Some text) s lines in_place = numbered-short _ _ _ _ _ in_place.is.passing
 
 pub next-text : {R : Type 0} (entry : Option WaitingEntry) (slot : Option (OpenSource R)) (s : Stretch)
     (lines : List (List ℕ)) → IsStretchAt entry slot s lines
     → written_lines (lines_next slot lines) ≡ stretch_bytes slot s ++ 10 ∷ []
-next-text entry None s lines stands = absurd stands
-next-text entry (Some text) s lines stands = numbered-text text.file.0 (text.line + 1) lines ∙ sym stands.is.text
+next-text entry None s lines in_place = absurd in_place
+next-text entry (Some text) s lines in_place = numbered-text text.file.0 (text.line + 1) lines ∙ sym in_place.is.text

@@ -1,31 +1,31 @@
 -- The events of consecutive calls are concatenated.
-use Rattle.cweb_lines.proofs.Common.{◌≡◌, ◌+◌, ℕ, List, [], ◌∷◌, ◌++◌, refl, sym, ◌∙◌, ap, subst, arith, length, length-append, append_assoc, Place, Line, SourceLine, Event, took, given, fault, opening, SoFar, EmitsLines, EmitsAfterLine, Stopped, StopsAfterLines, ReadFailsAfterLines, CountsLine, emitted_lines, reported_faults, openings, taken_lines, size_of_lines, AreShort, Stop, ReadFault, LineTooLong, TooMuchText, Memory}
+use Rattle.cweb_lines.proofs.Common.{◌≡◌, ◌+◌, ℕ, List, [], ◌∷◌, ◌++◌, refl, sym, ◌∙◌, ap, subst, arith, length, length-append, append_assoc, Place, Line, SourceLine, Event, took, emitted, fault, opening, SoFar, EmitsLines, EmitsAfterLine, Stopped, StopsAfterLines, ReadFailsAfterLines, CountsLine, emitted_lines, reported_faults, openings, taken_lines, size_of_lines, AreShort, Stop, ReadFault, LineTooLong, TooMuchText, Memory}
 
-pub gives_took : (lines : List Line) (old mid new : SoFar) (bytes : List ℕ)
+pub yields_took : (lines : List Line) (old mid new : SoFar) (bytes : List ℕ)
     (place : Place) (t : CountsLine bytes place old.count mid.count) (first all later : List Event)
     → mid.faults ≡ old.faults
     → mid.names ≡ old.names → first ≡ all → EmitsAfterLine t.line lines mid new all later
     → EmitsLines lines old new first later
-gives_took lines old mid new bytes place t first all later faults names is g = record {
-  events = took t.line ∷ g.gives.events;
-  whole = simp (is, g.first, g.gives.whole);
-  given = g.gives.given;
-  faults = simp (g.gives.faults, faults);
-  names = simp (g.gives.names, names);
-  lines_are = omega (arith, g.gives.lines_are, t.lines);
-  bytes_are = omega (arith, g.gives.bytes_are, t.bytes_are);
-  short = (t.short, g.gives.short);
+yields_took lines old mid new bytes place t first all later faults names is g = record {
+  events = took t.line ∷ g.yields.events;
+  whole = simp (is, g.first, g.yields.whole);
+  emitted = g.yields.emitted;
+  faults = simp (g.yields.faults, faults);
+  names = simp (g.yields.names, names);
+  lines_are = omega (arith, g.yields.lines_are, t.lines);
+  bytes_are = omega (arith, g.yields.bytes_are, t.bytes_are);
+  short = (t.short, g.yields.short);
 }
 
-pub given-append : (a b : List Event) → emitted_lines (a ++ b) ≡ emitted_lines a ++ emitted_lines b
-given-append [] b = refl
-given-append (given l ∷ a) b = simp (given-append a b)
-given-append (_ ∷ a) b = given-append a b
+pub emitted-append : (a b : List Event) → emitted_lines (a ++ b) ≡ emitted_lines a ++ emitted_lines b
+emitted-append [] b = refl
+emitted-append (emitted l ∷ a) b = simp (emitted-append a b)
+emitted-append (_ ∷ a) b = emitted-append a b
 
-pub told-append : (a b : List Event) → reported_faults (a ++ b) ≡ reported_faults a ++ reported_faults b
-told-append [] b = refl
-told-append (fault f ∷ a) b = simp (told-append a b)
-told-append (_ ∷ a) b = told-append a b
+pub reported-append : (a b : List Event) → reported_faults (a ++ b) ≡ reported_faults a ++ reported_faults b
+reported-append [] b = refl
+reported-append (fault f ∷ a) b = simp (reported-append a b)
+reported-append (_ ∷ a) b = reported-append a b
 
 pub openings-append : (a b : List Event) → openings (a ++ b) ≡ openings a ++ openings b
 openings-append [] b = refl
@@ -54,13 +54,13 @@ pub bytes_taken-append : (a b : List Event)
     (taken_lines b)
 bytes_taken-append a b = ap size_of_lines (taken-append a b) ∙ size-append (taken_lines a) (taken_lines b)
 
-pub gives_both : (lines more : List Line) (old mid new : SoFar) (all now later : List Event) →
+pub yields_both : (lines more : List Line) (old mid new : SoFar) (all now later : List Event) →
     EmitsLines lines old mid all now → EmitsLines more mid new now later → EmitsLines (lines ++ more) old new all later
-gives_both lines more old mid new all now later a b = record {
+yields_both lines more old mid new all now later a b = record {
   events = a.events ++ b.events;
   whole = simp (a.whole, b.whole, append_assoc);
-  given = simp (given-append, a.given, b.given);
-  faults = simp (b.faults, a.faults, told-append, append_assoc);
+  emitted = simp (emitted-append, a.emitted, b.emitted);
+  faults = simp (b.faults, a.faults, reported-append, append_assoc);
   names = simp (b.names, a.names, openings-append, append_assoc);
   lines_are = omega (arith, a.lines_are, b.lines_are, lines_taken-append a.events b.events);
   bytes_are = omega (arith, a.bytes_are, b.bytes_are, bytes_taken-append a.events b.events);
@@ -68,35 +68,35 @@ gives_both lines more old mid new all now later a b = record {
       (short-append (taken_lines a.events) (taken_lines b.events) a.short b.short);
 }
 
-pub behind_both : (lines more : List Line) (stop : Stop) (old mid new : SoFar) (all rest : List Event) →
+pub after_both : (lines more : List Line) (stop : Stop) (old mid new : SoFar) (all rest : List Event) →
     EmitsLines lines old mid all rest → StopsAfterLines more stop mid new rest
     → StopsAfterLines (lines ++ more) stop old new all
-behind_both lines more stop old mid new all rest gives stops = record {
+after_both lines more stop old mid new all rest yields stops = record {
   mid = stops.mid;
   lines = stops.lines;
   faults = stops.faults;
   later = stops.later;
-  gives = gives_both lines more old mid stops.mid all rest _ gives stops.gives;
+  yields = yields_both lines more old mid stops.mid all rest _ yields stops.yields;
   stops = stops.stops;
 }
 
 pub reads_both : (lines more : List Line) (old mid new : SoFar) (all rest : List Event) →
     EmitsLines lines old mid all rest → ReadFailsAfterLines more mid new rest
     → ReadFailsAfterLines (lines ++ more) old new all
-reads_both lines more old mid new all rest gives reads = record {
+reads_both lines more old mid new all rest yields reads = record {
   mid = reads.mid;
   lines = reads.lines;
   faults = reads.faults;
   later = reads.later;
-  gives = gives_both lines more old mid reads.mid all rest _ gives reads.gives;
+  yields = yields_both lines more old mid reads.mid all rest _ yields reads.yields;
   begun = reads.begun;
   next = reads.next;
 }
 
 pub stopped_after : (stop : Stop) (old mid new : SoFar) (all rest : List Event) → EmitsLines [] old mid all rest →
     Stopped stop mid new rest → Stopped stop old new all
-stopped_after (ReadFault file) old mid new all rest gives = reads_both [] [] old mid new all rest gives
-stopped_after (LineTooLong file) old mid new all rest gives = behind_both [] [] _ old mid new all rest gives
-stopped_after TooMuchText old mid new all rest gives = behind_both [] [] _ old mid new all rest gives
-stopped_after Memory old mid new all rest gives = λ stopped. tt
-stopped_after stop old mid new all rest gives = λ stopped. absurd stopped
+stopped_after (ReadFault file) old mid new all rest yields = reads_both [] [] old mid new all rest yields
+stopped_after (LineTooLong file) old mid new all rest yields = after_both [] [] _ old mid new all rest yields
+stopped_after TooMuchText old mid new all rest yields = after_both [] [] _ old mid new all rest yields
+stopped_after Memory old mid new all rest yields = λ stopped. tt
+stopped_after stop old mid new all rest yields = λ stopped. absurd stopped

@@ -1,5 +1,5 @@
 -- The lines of an entry, and lines that begin no change.
-use Rattle.cweb_lines.proofs.Common.{◌≡◌, ◌≢◌, ◌&&◌, ℕ, Bool, true, false, List, [], ◌∷◌, ◌++◌, map, None, Some, Option, refl, sym, ◌∙◌, ap, append-nil, bytes_eq-Decides, list_any, bytes_eq, Place, Line, SourceLine, World, is_include_line, WaitingEntry, Sought, after_x, change_code, old_at, old_lines, outside, passing, sought, is_change_code, followed_by, only_lines, outcome_of_events, Event, RawLine, Thing, at_entry, compared, given, new_at, new_lines, passed, plain, raws, taking, took, merge, merge_end, merge_next, Code, or_parts}
+use Rattle.cweb_lines.proofs.Common.{◌≡◌, ◌≢◌, ◌&&◌, ℕ, Bool, true, false, List, [], ◌∷◌, ◌++◌, map, None, Some, Option, refl, sym, ◌∙◌, ap, append-nil, bytes_eq-Decides, list_any, bytes_eq, Place, Line, SourceLine, World, is_include_line, WaitingEntry, Sought, after_x, change_code, old_at, old_lines, outside, passing, sought, is_change_code, followed_by, only_lines, outcome_of_events, Event, RawLine, Thing, at_entry, compared, emitted, new_at, new_lines, passed, plain, raws, taking, took, merge, merge_end, merge_next, Code, or_parts}
 use Rattle.cweb_lines.specs.declared.change.code.Code.TheVariants.{EndSide as end_side, NewSide as new_side, OldSide as old_side}
 use Rattle.cweb_lines.proofs.Merges.{state}
 use Rattle.cweb_lines.proofs.OutcomeOfEvents.{line_first, no_code}
@@ -62,26 +62,26 @@ new_splits depth begin (line ∷ new) z rest no_codes ends =
     let parts = or_parts (is_change_code line.line.bytes) (list_any is_change_code (bytes_in new)) no_codes in
     simp (no_code (change_code line.line.bytes) parts.0, new_splits depth begin new z rest parts.1 ends)
 
-pub gives_out : (world : World) (depth : ℕ) (may_match : Bool) (lines : List SourceLine) (later : List Thing)
+pub yields_out : (world : World) (depth : ℕ) (may_match : Bool) (lines : List SourceLine) (later : List Thing)
     (change : List SourceLine) (files : ℕ) → list_any is_include_line (bytes_in lines) ≡ false
     → outcome_of_events (merge world (state (raws depth may_match lines ++ later) None change files))
     ≡ followed_by (only_lines (lines_of lines)) (outcome_of_events (merge world (state later None change files)))
-gives_out world depth may_match [] later change files plain_lines = refl
-gives_out world depth may_match (line ∷ lines) later change files plain_lines =
+yields_out world depth may_match [] later change files plain_lines = refl
+yields_out world depth may_match (line ∷ lines) later change files plain_lines =
     let parts = or_parts _ _ plain_lines in
     let r : RawLine = record { source = line; depth = depth; may_match = may_match } in
     let rest = raws _ _ _ ++ later in
     let s = state _ _ _ _ in
     ap outcome_of_events (merge_next _ s _ (ap (λ b. Some (taking line (plain b world s r rest))) parts.0))
-    ∙ ap (line_first line.line) (gives_out world depth may_match lines later change files parts.1)
+    ∙ ap (line_first line.line) (yields_out world depth may_match lines later change files parts.1)
 
-pub gives_alone : (world : World) (depth : ℕ) (may_match : Bool) (lines : List SourceLine) (change : List SourceLine)
+pub yields_alone : (world : World) (depth : ℕ) (may_match : Bool) (lines : List SourceLine) (change : List SourceLine)
     (files : ℕ) → list_any is_include_line (bytes_in lines) ≡ false
     → outcome_of_events (merge world (state (raws depth may_match lines) None change files))
     ≡ only_lines (lines_of lines)
-gives_alone world depth may_match lines change files plain_lines = ap (λ (ts : List Thing).
+yields_alone world depth may_match lines change files plain_lines = ap (λ (ts : List Thing).
     outcome_of_events (merge world (state ts None change files))) (sym (append-nil (raws depth may_match lines)))
-    ∙ gives_out world depth may_match lines [] change files plain_lines
+    ∙ yields_out world depth may_match lines [] change files plain_lines
     ∙ ap (λ (es : List Event). followed_by (only_lines (lines_of lines)) (outcome_of_events es))
     (merge_end world (state [] None change files) refl)
     ∙ ap only_lines (append-nil (lines_of lines))
@@ -99,7 +99,7 @@ passes_by world depth entry (line ∷ lines) later change files plain_lines othe
     let r : RawLine = record { source = line; depth = depth; may_match = true } in
     let rest = raws _ _ _ ++ later in
     let s = state _ _ _ _ in
-    ap outcome_of_events (merge_next world s (took line ∷ given line.line ∷ [], state rest (Some entry) change files)
+    ap outcome_of_events (merge_next world s (took line ∷ emitted line.line ∷ [], state rest (Some entry) change files)
     (ap (λ b. Some (taking line (at_entry (true && b) entry world s r rest))) differ.0
     ∙ ap (λ b. Some (taking line (plain b world s r rest))) parts.0))
     ∙ ap (line_first line.line) (passes_by world depth entry lines later change files parts.1 differ.1)

@@ -10,9 +10,9 @@ ok_err answer a e ok err = cc
 pub ok_none : {A E : Type 0} (answer : Result (Option A) E) (a : A) → answer ≡ Ok None → answer ≡ Ok (Some a) → ⊥
 ok_none answer a none some = cc
 
-pub ended_given : {E : Type 0} (answer : Result Turn E) (turn : Turn) (place : Place)
+pub ended_emitted : {E : Type 0} (answer : Result Turn E) (turn : Turn) (place : Place)
     → answer ≡ Ok Ended → answer ≡ Ok turn → turn ≡ Emitted place → ⊥
-ended_given answer turn place ended ok given = cc
+ended_emitted answer turn place ended ok emitted = cc
 
 pub ended_on : {E : Type 0} (answer : Result Turn E) (turn : Turn)
     → answer ≡ Ok Ended → answer ≡ Ok turn → turn ≡ On → ⊥

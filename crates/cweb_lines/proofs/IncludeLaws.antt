@@ -1,6 +1,6 @@
 -- An include line is replaced by the merged lines of its file.
-use Rattle.cweb_lines.proofs.Common.{◌≡◌, ◌≢◌, ◌<◌, ◌+◌, ℕ, Bool, true, false, List, [], ◌∷◌, ◌++◌, None, Some, refl, sym, ◌∙◌, ap, append-nil, subst, arith, length, nat_tests, AllByRecursion, nat_lt, SourceLine, lines_in, World, include_name, is_include_line, at_place, IncludeLinesAreReplaced, Includes, LinesComeApart, MergeOutcome, followed_by, outcome_of_events, outcome_of_lines, Event, Next, RawLine, MergeStateModel, Thing, fault, given, included, obeyed, open_include, opening, plain, raw, raws, taking, took, openings, merge, merge-run_steps, merge_end, merge_next, halts, NoName, NotThere, TooDeep, OPEN_FILES}
-use Rattle.cweb_lines.proofs.IndependentLines.{IsNoSearch, front, raws_seek_not}
+use Rattle.cweb_lines.proofs.Common.{◌≡◌, ◌≢◌, ◌<◌, ◌+◌, ℕ, Bool, true, false, List, [], ◌∷◌, ◌++◌, None, Some, refl, sym, ◌∙◌, ap, append-nil, subst, arith, length, nat_tests, AllByRecursion, nat_lt, SourceLine, lines_in, World, include_name, is_include_line, at_place, IncludeLinesAreReplaced, Includes, LinesComeApart, MergeOutcome, followed_by, outcome_of_events, outcome_of_lines, Event, Next, RawLine, MergeStateModel, Thing, fault, emitted, included, obeyed, open_include, opening, plain, raw, raws, taking, took, openings, merge, merge-run_steps, merge_end, merge_next, halts, NoName, NotThere, TooDeep, OPEN_FILES}
+use Rattle.cweb_lines.proofs.IndependentLines.{IsNoSearch, prefix, raws_seek_not}
 use Rattle.cweb_lines.proofs.Merges.{state}
 use Rattle.cweb_input.proofs.SourceStacks.{raws-append}
 use Rattle.cweb_lines.proofs.OutcomeOfEvents.{name_first, seen-append}
@@ -18,7 +18,7 @@ pub in_two : (world : World) (things later : List Thing) (change : List SourceLi
 in_two world things later change files none =
     let s = state things None change files in
     let first = halts world s in
-    front world later change first.steps files things first.events none first.comes
+    prefix world later change first.steps files things first.events none first.comes
     ∙ ap (λ (es : List Event). es ++ merge world (state later None change (files + length (openings es))))
     (sym (merge-run_steps first.steps world s first.events first.comes))
 
@@ -57,16 +57,16 @@ one_event world depth files line event is =
 pub lines_apart : LinesComeApart
 lines_apart = record {
   whole = λ world web. refl;
-  apart = λ world depth files before behind.
+  apart = λ world depth files before after.
       let things = raws depth true before in
       ap (λ (ts : List Thing). outcome_of_events (merge world (state ts None [] files)))
-      (raws-append depth true before behind)
-      ∙ ap outcome_of_events (in_two world things (raws depth true behind) [] files (raws_seek_none depth true before))
-      ∙ seen-append (merge world (state things None [] files)) (merge world (state (raws depth true behind) None []
+      (raws-append depth true before after)
+      ∙ ap outcome_of_events (in_two world things (raws depth true after) [] files (raws_seek_none depth true before))
+      ∙ seen-append (merge world (state things None [] files)) (merge world (state (raws depth true after) None []
       (files + length (openings (merge world (state things None [] files))))));
   plain = λ world depth files line plain_line.
       let r : RawLine = record { source = line; depth = depth; may_match = true } in
-      one_event world depth files line (given line.line)
+      one_event world depth files line (emitted line.line)
       (ap (λ b. plain b world (state (raw r ∷ []) None [] files) r []) plain_line);
   no_name = λ world depth files line include none.
       let r : RawLine = record { source = line; depth = depth; may_match = true } in
@@ -87,18 +87,18 @@ lines_apart = record {
 }
 
 pub include_lines : IncludeLinesAreReplaced
-include_lines world depth files before behind line name text includes shallow =
+include_lines world depth files before after line name text includes shallow =
     let first = merge world (state (raws depth true before) None [] files) in
     let file = files + length (openings first) in
     let r : RawLine = record { source = line; depth = depth; may_match = true } in
     let lines = raws (depth + 1) true (lines_in file text) in
-    let rest = raws depth true behind in
+    let rest = raws depth true after in
     let inside = merge world (state lines None [] (file + 1)) in
     let last = merge world (state rest None [] (file + 1 + length (openings inside))) in
     let s = state (raw r ∷ rest) None [] file in
     ap
     (λ (ts : List Thing). outcome_of_events (merge world (state ts None [] files)))
-    (raws-append depth true before (line ∷ behind))
+    (raws-append depth true before (line ∷ after))
     ∙ ap outcome_of_events
     (in_two world (raws depth true before) (raw r ∷ rest) [] files (raws_seek_none depth true before))
     ∙ ap (λ (es : List Event). outcome_of_events (first ++ es)) (merge_next world s

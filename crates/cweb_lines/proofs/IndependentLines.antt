@@ -1,15 +1,15 @@
 -- Without a pending change, lines merge independently of those before them, and file numbers don't matter.
-use Rattle.cweb_lines.proofs.Common.{OPEN_FILES, nat_lt, ◌≡◌, ◌+◌, ℕ, zero, suc, Bool, true, false, List, [], ◌∷◌, ◌++◌, None, Some, Option, refl, sym, ◌∙◌, ap, arith, length, append_assoc, AllByRecursion, Line, SourceLine, lines_in, World, Found, found_at, include_name, is_include_line, at_place, Event, Next, RawLine, MergeStateModel, Thing, at_raw, fault, given, included, obeyed, onto, open_include, opening, passed, past, plain, raw, raws, run_steps, seek, taking, told, took, openings, merge, merge_next, SourceFault, NoName, NotThere, TooDeep}
+use Rattle.cweb_lines.proofs.Common.{OPEN_FILES, nat_lt, ◌≡◌, ◌+◌, ℕ, zero, suc, Bool, true, false, List, [], ◌∷◌, ◌++◌, None, Some, Option, refl, sym, ◌∙◌, ap, arith, length, append_assoc, AllByRecursion, Line, SourceLine, lines_in, World, Found, found_at, include_name, is_include_line, at_place, Event, Next, RawLine, MergeStateModel, Thing, at_raw, fault, emitted, included, obeyed, onto, open_include, opening, passed, past, plain, raw, raws, run_steps, seek, taking, reported, took, openings, merge, merge_next, SourceFault, NoName, NotThere, TooDeep}
 use Rattle.cweb_lines.proofs.Merges.{state}
 
 -- A raw line that begins no change is emitted, is a fault, or opens a file.
 pub data Kind : Type 0 where
-  gives : Line → Kind
+  yields : Line → Kind
   faults : SourceFault → Kind
   opens : Found → Kind
 
 abbrev pub becomes : Kind → MergeStateModel → RawLine → List Thing → Next
-becomes (gives line) s r things = (given line ∷ [], past s things)
+becomes (yields line) s r things = (emitted line ∷ [], past s things)
 becomes (faults f) s r things = (fault f ∷ [], past s things)
 becomes (opens found) s r things = obeyed (Some found) s r things
 
@@ -26,7 +26,7 @@ included_kind [] world r = faults (at_place NoName r.source.line.place)
 included_kind (b ∷ bs) world r = opened_kind (nat_lt r.depth OPEN_FILES) world (b ∷ bs) r
 
 abbrev pub plain_kind : Bool → World → RawLine → Kind
-plain_kind false world r = gives r.source.line
+plain_kind false world r = yields r.source.line
 plain_kind true world r = included_kind (include_name r.source.line.bytes) world r
 
 abbrev pub kind_of : World → RawLine → Kind
@@ -56,7 +56,7 @@ module _ (world : World) (r : RawLine) (s : MergeStateModel) (things : List Thin
 abbrev pub IsNoSearch : Thing → Type 0
 IsNoSearch seek = ⊥
 IsNoSearch (raw r) = Unit {0}
-IsNoSearch (told f) = Unit {0}
+IsNoSearch (reported f) = Unit {0}
 IsNoSearch (passed line) = Unit {0}
 
 pub raws_seek_not : (depth : ℕ) (may_match : Bool) (lines : List SourceLine) (things : List Thing)
@@ -82,27 +82,27 @@ module _ (world : World) (later : List Thing) (change : List SourceLine) where
   abbrev Runs : ℕ → ℕ → List Thing → List Event → Type 0
   Runs n files things events = run_steps n world (state things None change files) ≡ Some events
 
-  front_none : (files : ℕ) (events : List Event) → Some [] ≡ Some events → Comes files [] events
-  front_none files [] is = ap (λ f. coming_of f later) (omega arith)
-  front_none files (e ∷ es) is = absurd (cc)
+  prefix_none : (files : ℕ) (events : List Event) → Some [] ≡ Some events → Comes files [] events
+  prefix_none files [] is = ap (λ f. coming_of f later) (omega arith)
+  prefix_none files (e ∷ es) is = absurd (cc)
 
-  front_raw : (n : ℕ) (r : RawLine) (things : List Thing) (files : ℕ) (events : List Event)
+  prefix_raw : (n : ℕ) (r : RawLine) (things : List Thing) (files : ℕ) (events : List Event)
       → AllByRecursion IsNoSearch things → ((f : ℕ) (ts : List Thing) (es : List Event)
       → AllByRecursion IsNoSearch ts → Runs n f ts es → Comes f ts es) → (kind : Kind) →
       let next = becomes kind (state (raw r ∷ things) None change files) r things in
       let next' = becomes kind (state (raw r ∷ things ++ later) None change files) r (things ++ later) in
       onto (took r.source ∷ next.0) (run_steps n world next.1) ≡ Some events
       → took r.source ∷ next'.0 ++ merge world next'.1 ≡ events ++ coming_of (files + length (openings events)) later
-  front_raw n r things files events none each (gives line) is =
-      let x = onto_some (took r.source ∷ given line ∷ []) events
+  prefix_raw n r things files events none each (yields line) is =
+      let x = onto_some (took r.source ∷ emitted line ∷ []) events
       (run_steps n world (state things None change files)) is in
-      ap (λ (es : List Event). took r.source ∷ given line ∷ es) (each files things x.0 none x.1)
+      ap (λ (es : List Event). took r.source ∷ emitted line ∷ es) (each files things x.0 none x.1)
       ∙ ap (λ (es : List Event). es ++ coming_of (files + length (openings es)) later) x.2
-  front_raw n r things files events none each (faults f) is =
+  prefix_raw n r things files events none each (faults f) is =
       let x = onto_some (took r.source ∷ fault f ∷ []) events (run_steps n world (state things None change files)) is in
       ap (λ (es : List Event). took r.source ∷ fault f ∷ es) (each files things x.0 none x.1)
       ∙ ap (λ (es : List Event). es ++ coming_of (files + length (openings es)) later) x.2
-  front_raw n r things files events none each (opens found) is =
+  prefix_raw n r things files events none each (opens found) is =
       let lines = raws (r.depth + 1) r.may_match (lines_in files found.1) in
       let opens_it = took r.source ∷ opening found.0 ∷ [] in
       let x = onto_some opens_it events (run_steps n world (state (lines ++ things) None change (files + 1))) is in
@@ -113,27 +113,27 @@ module _ (world : World) (later : List Thing) (change : List SourceLine) where
       ∙ ap (λ f. opens_it ++ (x.0 ++ coming_of f later)) number
       ∙ ap (λ (es : List Event). es ++ coming_of (files + length (openings es)) later) x.2
 
-  pub front : (n files : ℕ) (things : List Thing) (events : List Event) → AllByRecursion IsNoSearch things
+  pub prefix : (n files : ℕ) (things : List Thing) (events : List Event) → AllByRecursion IsNoSearch things
       → Runs n files things events → Comes files things events
-  front zero files things events none is = absurd (cc)
-  front (suc n) files [] events none is = front_none files events is
-  front (suc n) files (seek ∷ things) events none is = absurd none.0
-  front (suc n) files (told f ∷ things) events none is =
+  prefix zero files things events none is = absurd (cc)
+  prefix (suc n) files [] events none is = prefix_none files events is
+  prefix (suc n) files (seek ∷ things) events none is = absurd none.0
+  prefix (suc n) files (reported f ∷ things) events none is =
       let x = onto_some (fault f ∷ []) events (run_steps n world (state things None change files)) is in
-      merge_next world (state (told f ∷ things ++ later) None change files) _ refl
-      ∙ ap (λ (es : List Event). fault f ∷ es) (front n files things x.0 none.1 x.1)
+      merge_next world (state (reported f ∷ things ++ later) None change files) _ refl
+      ∙ ap (λ (es : List Event). fault f ∷ es) (prefix n files things x.0 none.1 x.1)
       ∙ ap (λ (es : List Event). es ++ coming_of (files + length (openings es)) later) x.2
-  front (suc n) files (passed line ∷ things) events none is =
+  prefix (suc n) files (passed line ∷ things) events none is =
       let x = onto_some (took line ∷ []) events (run_steps n world (state things None change files)) is in
       merge_next world (state (passed line ∷ things ++ later) None change files) _ refl
-      ∙ ap (λ (es : List Event). took line ∷ es) (front n files things x.0 none.1 x.1)
+      ∙ ap (λ (es : List Event). took line ∷ es) (prefix n files things x.0 none.1 x.1)
       ∙ ap (λ (es : List Event). es ++ coming_of (files + length (openings es)) later) x.2
-  front (suc n) files (raw r ∷ things) events none is =
+  prefix (suc n) files (raw r ∷ things) events none is =
       let s = state (raw r ∷ things) None change files in
       let s' = state (raw r ∷ things ++ later) None change files in
       let same = ap (λ (next : Next). onto (took r.source ∷ next.0) (run_steps n world next.1))
       (raw_is world r s things) in
       merge_next world s' (taking r.source (becomes (kind_of world r) s' r (things ++ later)))
       (ap (λ (next : Next). Some (taking r.source next)) (raw_is world r s' (things ++ later)))
-      ∙ front_raw n r things files events none.1
-      (λ f ts es no i. front n f ts es no i) (kind_of world r) (sym same ∙ is)
+      ∙ prefix_raw n r things files events none.1
+      (λ f ts es no i. prefix n f ts es no i) (kind_of world r) (sym same ∙ is)

@@ -13,7 +13,7 @@ no_texts = record { texts = λ _. None; inputs = None }
 
 abbrev a_file_included : World
 a_file_included = record {
-  texts = λ asked. cond (bytes_eq asked (codes "b")) (Some (codes "B\n@i\n")) None;
+  texts = λ args. cond (bytes_eq args (codes "b")) (Some (codes "B\n@i\n")) None;
   inputs =
       None;
 }
@@ -27,8 +27,8 @@ unfolding is_utf8 chars encode
 include_line = record { include = refl; named = λ is. cc; found = refl }
 
 -- The lines around an include line, and the lines of its file.
-abbrev before_and_behind : MergeOutcome
-before_and_behind = record {
+abbrev before_and_after : MergeOutcome
+before_and_after = record {
   lines = placed 0 1 (codes "A" ∷ []) ++ placed 1 1 (codes "B" ∷ []) ++ placed 0 3 (codes "C" ∷ []);
   faults = record { kind = NoName; place = record { file = record { 0 = 1 }; line = 2 }; count = 0 } ∷ [];
   included = codes "b" ∷ [];
@@ -112,7 +112,7 @@ record Computed : Type 0 where
   it_prints_again : option_map (λ s. written_lines s.lines)
       (seen_by (run_steps 30 no_texts (started (codes "B\nC\n") None)))
       ≡ Some (codes "B\nC\n")
-  it_is_replaced : seen_by (run_steps 20 a_file_included (started (codes "A\n@i b\nC\n") None)) ≡ Some before_and_behind
+  it_is_replaced : seen_by (run_steps 20 a_file_included (started (codes "A\n@i b\nC\n") None)) ≡ Some before_and_after
   web_of_two_changes : lines (codes "A\nB\n@i gone\nC\nD\n") ≡ web_lines two_changes (codes "D" ∷ [])
   file_of_two_changes : lines (codes "why\n@x that\nB\n@i gone\n@y\nb\nbb\n@z\n@X\nC\n@Y\n@Z\nend")
       ≡ spliced_change_lines two_changes (codes "end" ∷ [])

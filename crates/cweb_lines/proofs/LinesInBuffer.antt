@@ -1,6 +1,6 @@
 -- Adjacent lines in the buffer, and the lines of the source that they are.
 use Rattle.cweb_lines.proofs.Common.{◌≡◌, ◌≤◌, ◌<◌, ◌+◌, ◌-◌, ℕ, Bool, List, [], ◌∷◌, ◌++◌, length, map, take, drop, Option, Some, None, refl, sym, ◌∙◌, ap, arith, take-add, append_assoc, append_cancel_right, drop-drop, length-append, length-map, length-take, map-append, take-take, take_all, slice_range, IfSome, WaitingEntry, SplitsAt, CutLine, numbered_lines, cut_lines, trimmed, AllPassThrough, HasRoomFor, IsStretch, PassesThrough, Reaches, IsStretchOf, line_with_newline, trimmed_with_newlines, sources_next, with_newlines, buffered, lines_at, TakenCounters, LINES, BYTES, Stretch, OpenSource}
-use Rattle.cweb_input.proofs.Newlines.{behind, text_lines-full}
+use Rattle.cweb_input.proofs.Newlines.{after_newline, text_lines-full}
 
 pub standing-append : (a b : List (List ℕ)) → with_newlines (a ++ b) ≡ with_newlines a ++ with_newlines b
 standing-append [] b = refl
@@ -39,11 +39,11 @@ module _ (entry : Option WaitingEntry) (may_match : Bool) (buffer : List ℕ) (s
   length_is : length raw ≡ at
   length_is = omega (arith, splits.within, length-take at (slice_range buffer start end))
 
-  stands : slice_range buffer start s.end ≡ raw ++ 10 ∷ []
-  stands =
+  in_place : slice_range buffer start s.end ≡ raw ++ 10 ∷ []
+  in_place =
       let place : start + (at + 1) ≡ s.end = omega (arith, ends) in
       append_cancel_right _ _ (slice_range buffer s.end end) (sym (slice_split buffer start s.end end
-      (omega (arith, ends)) (omega (arith, ends, near, le))) ∙ behind buffer start end at splits le ∙ ap
+      (omega (arith, ends)) (omega (arith, ends, near, le))) ∙ after_newline buffer start end at splits le ∙ ap
       (λ n. raw ++ 10 ∷ slice_range buffer n end) place
       ∙ sym (append_assoc raw (10 ∷ []) (slice_range buffer s.end end)))
 
@@ -61,10 +61,10 @@ module _ (entry : Option WaitingEntry) (may_match : Bool) (buffer : List ℕ) (s
   one_line passes = record {
     passing = (passes, tt);
     lines = lines;
-    stands = stands;
+    in_place = in_place;
     size = omega (arith, length-append raw (10 ∷ []), length_is, ends);
     text = ap (λ (l : List ℕ). l ++ 10 ∷ []) printed_is;
-    whole = λ is. stands ∙ ap (λ (l : List ℕ). l ++ 10 ∷ []) (untrimmed is);
+    whole = λ is. in_place ∙ ap (λ (l : List ℕ). l ++ 10 ∷ []) (untrimmed is);
     forth = omega (arith, text);
     before = omega (arith, text, ends, within);
   }
@@ -76,8 +76,8 @@ pub joined : (entry : Option WaitingEntry) (may_match : Bool) (buffer : List ℕ
 joined entry may_match buffer start s t u a b first whole then text ends lines = record {
   passing = passing-append entry may_match a b first.passing then.passing;
   lines = omega (arith, lines, first.lines, then.lines, length-append a b);
-  stands =
-      simp (ends, split t.end (omega (arith, then.forth, then.before)), first.stands, then.stands, standing-append);
+  in_place =
+      simp (ends, split t.end (omega (arith, then.forth, then.before)), first.in_place, then.in_place, standing-append);
   size = omega (
     arith,
     ends,
@@ -120,14 +120,14 @@ reaches_more {entry = e} {may_match = m} {buffer = buffer} {start = start} s t u
   omega (arith, ends, then.2),
 )
 
-pub stands_in : {R : Type 0} (entry : Option WaitingEntry) (text : OpenSource R) (limits : TakenCounters)
+pub in_place_of : {R : Type 0} (entry : Option WaitingEntry) (text : OpenSource R) (limits : TakenCounters)
     (next : Option Stretch)
     → limits.lines + (text.source.end - text.source.start) ≤ LINES
     → limits.bytes + (text.source.end - text.source.start) ≤ BYTES
     → IfSome next (λ s. Reaches entry text.may_match text.source.buffer.items text.source.start text.source.end s)
     → IfSome next (λ s. (lines : List (List ℕ)) × IsStretchOf entry text s lines × HasRoomFor limits lines)
-stands_in entry text limits None few small reaches = tt
-stands_in entry text limits (Some s) few small reaches = (
+in_place_of entry text limits None few small reaches = tt
+in_place_of entry text limits (Some s) few small reaches = (
   reaches.0,
   record { is = reaches.1; within = reaches.2 },
   record {
@@ -159,11 +159,11 @@ pub takes_lines : {R : Type 0} (entry : Option WaitingEntry) (text : OpenSource 
     → IsStretchOf entry text s lines → (left : R → List ℕ) → lines_at left (Some text) ≡ sources_next (Some text) lines
     ++ numbered_lines text.file.0 (text.line + s.lines + 1)
     (cut_lines (slice_range text.source.buffer.items s.end text.source.end ++ left text.source.reader.value))
-takes_lines entry text s lines stands left = simp (
-  front,
+takes_lines entry text s lines in_place left = simp (
+  prefix,
   append_assoc,
   text_lines-standing entry text.may_match lines
-      (behind_them ++ unread) stands.is.passing,
+      (after_them ++ unread) in_place.is.passing,
   numbered-append,
   count,
 )
@@ -171,12 +171,12 @@ takes_lines entry text s lines stands left = simp (
     unread : List ℕ
     unread = left text.source.reader.value
 
-    behind_them : List ℕ
-    behind_them = slice_range text.source.buffer.items s.end text.source.end
+    after_them : List ℕ
+    after_them = slice_range text.source.buffer.items s.end text.source.end
 
-    front : buffered text.source ≡ with_newlines lines ++ behind_them
-    front = slice_split text.source.buffer.items text.source.start s.end text.source.end
-        (omega (arith, stands.is.size)) stands.within ∙ ap (λ (l : List ℕ). l ++ behind_them) stands.is.stands
+    prefix : buffered text.source ≡ with_newlines lines ++ after_them
+    prefix = slice_split text.source.buffer.items text.source.start s.end text.source.end
+        (omega (arith, in_place.is.size)) in_place.within ∙ ap (λ (l : List ℕ). l ++ after_them) in_place.is.in_place
 
     count : text.line + 1 + length (map line_with_newline lines) ≡ text.line + s.lines + 1
-    count = omega (arith, length-map lines line_with_newline, stands.is.lines)
+    count = omega (arith, length-map lines line_with_newline, in_place.is.lines)

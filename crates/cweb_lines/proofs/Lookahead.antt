@@ -1,9 +1,9 @@
 -- Lookahead at consecutive lines in the buffer.
 use Rattle.cweb_lines.proofs.Common.{◌≡◌, ◌≤◌, ◌<◌, ◌+◌, ◌-◌, ℕ, List, [], ◌∷◌, ◌++◌, length, map, Option, None, Some, refl, sym, ◌∙◌, ap, subst, arith, append_cancel_right, length-append, length-map, map-append, slice_range, unwrap_or, IfSome, OnSome, Place, FitsLimits, FitsLimitsAt, IsAhead, LooksAhead, LooksAheadIn, WaitingEntry, BorrowsLines, line_span_at, Line, IsOneLine, SourceLine, numbered_lines, trimmed, pending_of, so_far_of, ComesNext, EmitsBufferedLines, HasRoomFor, IsStretch, Reaches, IsStretchAt, IsStretchOf, line_with_newline, lines_next, top_of, IsSettled, floor_of, files_up_to, TakenCounters, LINES, Ahead, LineSpan, Stretch, MergeState, OpenSource}
-use Rattle.cweb_lines.proofs.ReportsOnlyGrow.{grows_told, told_given, told_then}
+use Rattle.cweb_lines.proofs.ReportsOnlyGrow.{grows_reported, reported_emitted, reported_then}
 use Rattle.cweb_input.proofs.SourceStacks.{most_at}
 use Rattle.cweb_lines.proofs.LinesInBuffer.{few_lines, joined, numbered-append}
-use Rattle.cweb_lines.proofs.EmittedLinesAddUp.{gives_both}
+use Rattle.cweb_lines.proofs.EmittedLinesAddUp.{yields_both}
 use Rattle.cweb_input.proofs.TrimmedLines.{trimmed-length, trimmed-line}
 
 -- One line after others.
@@ -12,7 +12,7 @@ module _ {R : Type 0} (entry : Option WaitingEntry) (text : OpenSource R) (lines
     (ahead : Ahead) (is : IsStretch entry text.may_match text.source.buffer.items ahead.line.from s (raw ∷ []))
     (within : s.end ≤ text.source.end) (to : ahead.line.to ≡ s.text)
     (place : ahead.line.place ≡ record { file = text.file; line = text.line + 1 + length lines })
-    (stands : IsStretchOf entry text ahead.stretch (lines ++ raw ∷ [])) where
+    (in_place : IsStretchOf entry text ahead.stretch (lines ++ raw ∷ [])) where
   bytes : slice_range text.source.buffer.items ahead.line.from ahead.line.to ≡ trimmed raw
   bytes = ap (slice_range text.source.buffer.items ahead.line.from) to ∙ append_cancel_right _ _ (10 ∷ []) is.text
 
@@ -25,36 +25,38 @@ module _ {R : Type 0} (entry : Option WaitingEntry) (text : OpenSource R) (lines
   abbrev sources : List SourceLine
   sources = numbered_lines text.file.0 (text.line + 1) (map line_with_newline lines)
 
-  given : lines_next (Some text) (lines ++ raw ∷ []) ≡ lines_next (Some text) lines ++ record {
+  emitted : lines_next (Some text) (lines ++ raw ∷ []) ≡ lines_next (Some text) lines ++ record {
     bytes = slice_range text.source.buffer.items ahead.line.from ahead.line.to;
     place = ahead.line.place;
   } ∷ []
-  given = simp (map-append, numbered-append, length-map, bytes, place)
+  emitted = simp (map-append, numbered-append, length-map, bytes, place)
 
   pub looks_one : LooksAheadIn entry (Some text) lines ahead
   looks_one = record {
     raw = raw;
-    stands = stands;
-    given = given;
+    in_place = in_place;
+    emitted = emitted;
     order = omega (arith, is.forth, to);
     within = omega (arith, is.before, within, to, text.source.within);
     line = subst IsOneLine (sym bytes) (trimmed-line raw is.passing.0.clean is.passing.0.short);
     file = omega (arith, ap (λ (p : Place). p.file.0) place);
     size = omega (arith, ap (λ (l : List ℕ). length l) bytes, trimmed-length raw);
-    count = omega (arith, stands.is.lines, length-append lines (raw ∷ []));
-    ordered = stands.is.before;
+    count = omega (arith, in_place.is.lines, length-append lines (raw ∷ []));
+    ordered = in_place.is.before;
   }
 
 pub looks_first : {R : Type 0} (entry : Option WaitingEntry) (slot : Option (OpenSource R)) (s : Stretch)
     (line : LineSpan)
     (lines : List (List ℕ)) → IsStretchAt entry slot s lines → s.lines ≡ 1 → Some line ≡ line_span_at slot s
     → LooksAheadIn entry slot [] (record { line = line; stretch = s })
-looks_first entry None s line lines stands one is = absurd stands
-looks_first entry (Some text) s line [] stands one is = absurd (omega (arith, one, stands.is.lines))
-looks_first entry (Some text) s line (raw ∷ more ∷ lines) stands one is = absurd (omega (arith, one, stands.is.lines))
-looks_first entry (Some text) s line (raw ∷ []) stands one is = subst (λ (l : LineSpan). LooksAheadIn entry
+looks_first entry None s line lines in_place one is = absurd in_place
+looks_first entry (Some text) s line [] in_place one is = absurd (omega (arith, one, in_place.is.lines))
+looks_first entry (Some text) s line (raw ∷ more ∷ lines) in_place one is =
+    absurd (omega (arith, one, in_place.is.lines))
+looks_first entry (Some text) s line (raw ∷ []) in_place one is = subst (λ (l : LineSpan). LooksAheadIn entry
     (Some text) [] (record { line = l; stretch = s })) (sym (ap (λ (o : Option LineSpan). unwrap_or o here) is))
-    (looks_one entry text [] raw s (record { line = here; stretch = s }) stands.is stands.within refl place stands)
+    (looks_one entry text [] raw s (record { line = here; stretch = s }) in_place.is in_place.within refl place
+    in_place)
   where
     here : LineSpan
     here = record { place = record { file = text.file; line = text.line + 1 }; from = text.source.start; to = s.text }
@@ -65,7 +67,7 @@ looks_first entry (Some text) s line (raw ∷ []) stands one is = subst (λ (l :
     place : here.place ≡ record { file = text.file; line = text.line + 1 + 0 }
     place = λ i. record { file = text.file; line = count i }
 
-pub looks_behind : {R : Type 0} (entry : Option WaitingEntry) (text : OpenSource R) (before next all : Stretch)
+pub looks_after : {R : Type 0} (entry : Option WaitingEntry) (text : OpenSource R) (before next all : Stretch)
     (lines : List (List ℕ)) → IsStretchOf entry text before lines → before.text + 1 ≡ before.end
     → Reaches entry text.may_match text.source.buffer.items before.end text.source.end next → next.lines ≡ 1
     → all.text ≡ next.text → all.end ≡ next.end → all.lines ≡ before.lines + next.lines
@@ -77,7 +79,8 @@ pub looks_behind : {R : Type 0} (entry : Option WaitingEntry) (text : OpenSource
       };
       stretch = all;
     })
-looks_behind entry text before next all lines stands joins reaches one text_is end_is lines_are = by reaches.0 reaches.1
+looks_after entry text before next all lines in_place joins reaches one text_is end_is lines_are =
+    by reaches.0 reaches.1
   where
     here : Ahead
     here = record {
@@ -90,7 +93,7 @@ looks_behind entry text before next all lines stands joins reaches one text_is e
     }
 
     count : text.line + before.lines + 1 ≡ text.line + 1 + length lines
-    count = omega (arith, stands.is.lines)
+    count = omega (arith, in_place.is.lines)
 
     place : here.line.place ≡ record { file = text.file; line = text.line + 1 + length lines }
     place = λ i. record { file = text.file; line = count i }
@@ -101,22 +104,22 @@ looks_behind entry text before next all lines stands joins reaches one text_is e
     by (raw ∷ more ∷ raws) is = absurd (omega (arith, one, is.lines))
     by (raw ∷ []) is = looks_one entry text lines raw next here is reaches.2 refl place (record {
       is = joined entry text.may_match text.source.buffer.items text.source.start before next all lines (raw ∷ [])
-          stands.is joins is text_is end_is lines_are;
+          in_place.is joins is text_is end_is lines_are;
       within = omega (arith, end_is, reaches.2);
     })
 
-pub few_behind : {R : Type 0} (entry : Option WaitingEntry) (text : OpenSource R) (limits : TakenCounters)
+pub few_after : {R : Type 0} (entry : Option WaitingEntry) (text : OpenSource R) (limits : TakenCounters)
     (before next : Stretch)
     (lines : List (List ℕ)) → FitsLimits limits text → text.line ≤ limits.lines → IsStretchOf entry text before lines
     → Reaches entry text.may_match text.source.buffer.items before.end text.source.end next → next.lines ≡ 1
     → text.line + before.lines + 1 ≤ LINES
-few_behind entry text limits before next lines fits number stands reaches one = omega (
+few_after entry text limits before next lines fits number in_place reaches one = omega (
   arith,
   fits.few,
   number,
   few_lines lines,
-  stands.is.lines,
-  stands.is.size,
+  in_place.is.lines,
+  in_place.is.size,
   reaches.1.forth,
   reaches.1.before,
   reaches.2,
@@ -125,10 +128,10 @@ few_behind entry text limits before next lines fits number stands reaches one = 
 room_for : {R : Type 0} (entry : Option WaitingEntry) (limits : TakenCounters) (slot : Option (OpenSource R))
     (s : Stretch)
     (lines : List (List ℕ)) → FitsLimitsAt limits slot → IsStretchAt entry slot s lines → HasRoomFor limits lines
-room_for entry limits None s lines fits stands = absurd stands
-room_for entry limits (Some text) s lines fits stands = record {
-  few = omega (arith, fits.few, few_lines lines, stands.is.size, stands.within);
-  small = omega (arith, fits.small, stands.is.size, stands.within);
+room_for entry limits None s lines fits in_place = absurd in_place
+room_for entry limits (Some text) s lines fits in_place = record {
+  few = omega (arith, fits.few, few_lines lines, in_place.is.size, in_place.within);
+  small = omega (arith, fits.small, in_place.is.size, in_place.within);
 }
 
 pub looks_at : {R : Type 0} (run : MergeState R) (before : List (List ℕ)) (ahead : Ahead) → IsSettled run.stage
@@ -139,11 +142,11 @@ looks_at run before ahead settled above fits looks = record {
   comes = record {
     settled = settled;
     above = above;
-    stands = looks.stands;
-    room = room_for (pending_of run) run.limits (top_of run.stack) ahead.stretch _ fits looks.stands;
+    in_place = looks.in_place;
+    room = room_for (pending_of run) run.limits (top_of run.stack) ahead.stretch _ fits looks.in_place;
   };
-  given = looks.given;
-  lies = record { some = omega (arith, above); order = looks.order; within = looks.within };
+  emitted = looks.emitted;
+  inside = record { some = omega (arith, above); order = looks.order; within = looks.within };
   line = looks.line;
   known = omega (arith, looks.file, most_at files_up_to run.stack.texts (run.stack.depth - 1), run.open_known);
   size = looks.size;
@@ -160,14 +163,15 @@ pub looks_next : {R : Type 0} (run : MergeState R) (slot : Option (OpenSource R)
 looks_next run slot before None same fits looks = tt
 looks_next run slot before (Some ahead) same fits looks =
     λ lines next. looks_at run lines ahead next.settled next.above fits (subst (λ s. LooksAheadIn (pending_of run)
-    s lines ahead) (sym same) (looks lines (subst (λ s. IsStretchAt (pending_of run) s before lines) same next.stands)))
+    s lines ahead) (sym same) (looks lines (subst (λ s. IsStretchAt (pending_of run) s before lines) same
+    next.in_place)))
 
 pub is_ahead : {R : Type 0} (run : MergeState R) (before : List (List ℕ)) (ahead : Ahead)
     → FitsLimitsAt run.limits (top_of run.stack) → LooksAhead run before ahead → IsAhead run ahead
 is_ahead run before ahead fits looks = record {
   lines = before ++ looks.raw ∷ [];
   comes = looks.comes;
-  lies = looks.lies;
+  inside = looks.inside;
   ordered = looks.ordered;
   fits = fits;
 }
@@ -182,21 +186,22 @@ pub whatever : {A : Type 0} (found : Option A) (P : Type 0) → P → OnSome fou
 whatever None P holds = tt
 whatever (Some x) P holds = holds
 
-pub lends_lines : {R : Type 0} (old new : MergeState R) (lines : List Line) → EmitsBufferedLines old new lines
+pub borrows_lines : {R : Type 0} (old new : MergeState R) (lines : List Line) → EmitsBufferedLines old new lines
     → BorrowsLines old new
-lends_lines old new lines given = record {
-  gives = λ texts left. (lines, given.gives texts left);
-  grows = grows_told new (told_given _ (so_far_of old) (so_far_of new) _ _ (given.gives (λ _. None) (λ _. [])));
-  stopped = given.stopped;
-  readers = given.readers;
+borrows_lines old new lines emitted = record {
+  yields = λ texts left. (lines, emitted.yields texts left);
+  grows = grows_reported new (reported_emitted _ (so_far_of old) (so_far_of new) _ _
+      (emitted.yields (λ _. None) (λ _. [])));
+  stopped = emitted.stopped;
+  readers = emitted.readers;
 }
 
-pub lends_then : {R : Type 0} (old mid new : MergeState R) → BorrowsLines old mid → BorrowsLines mid new
+pub borrows_then : {R : Type 0} (old mid new : MergeState R) → BorrowsLines old mid → BorrowsLines mid new
     → BorrowsLines old new
-lends_then old mid new first then = record {
-  gives = λ texts left.
-      (_, gives_both _ _ _ _ _ _ _ _ (first.gives texts left).1 (then.gives texts left).1);
-  grows = grows_told new (told_then _ _ _ first.grows.told then.grows.told);
+borrows_then old mid new first then = record {
+  yields = λ texts left.
+      (_, yields_both _ _ _ _ _ _ _ _ (first.yields texts left).1 (then.yields texts left).1);
+  grows = grows_reported new (reported_then _ _ _ first.grows.reported then.grows.reported);
   stopped = then.stopped ∙ first.stopped;
   readers = λ opened_as known. then.readers opened_as (first.readers opened_as known);
 }

@@ -38,7 +38,7 @@ abbrev no_texts : World
 no_texts = record { texts = λ _. None; inputs = None }
 
 abbrev one_text : List ℕ → List ℕ → World
-one_text name text = record { texts = λ asked. cond (bytes_eq asked name) (Some text) None; inputs = None }
+one_text name text = record { texts = λ args. cond (bytes_eq args name) (Some text) None; inputs = None }
 
 -- The first lines of files 0 to n, each included by the one before.
 abbrev firsts : ℕ → ℕ → List Line
@@ -55,7 +55,7 @@ copies (suc n) = codes "a.w" ∷ copies n
 
 abbrev in_lib : World
 in_lib = record {
-  texts = λ asked. cond (bytes_eq asked (codes "lib/b.w")) (Some (codes "two\n")) None;
+  texts = λ args. cond (bytes_eq args (codes "lib/b.w")) (Some (codes "two\n")) None;
   inputs =
       Some (codes "lib");
 }

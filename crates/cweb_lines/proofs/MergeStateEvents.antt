@@ -1,7 +1,7 @@
 -- The events to come of a merger, by its stack, stage, files and faults.
 use Rattle.cweb_lines.proofs.Common.{OnlyOpens, OnlyReports, append-nil, Some, Bool, true, false, if◌then◌else◌, ◌≡◌, ◌≤◌, ◌<◌, ◌+◌, ◌-◌, ℕ, zero, suc, get_or, List, [], ◌∷◌, ◌++◌, Option, None, refl, sym, ◌∙◌, ap, arith, length, length-append, le-max_left, le-max_right, max-le, Place, WaitingEntry, at_place, Found, World, lines_found, names_found, contents_found, optional_string_bytes, SourceLine, lines_in, Event, Thing, fault, raws, seek, new_lines, started, EmitsLines, NothingLeft, events_to_come, so_far_of, things_of, opened_file_names, IsSettled, begun_stage, change_in, files_begun, stage_for, floor_of, pending_in, things_below, things_in, TakenCountersModel, OpensSource, StaysBelow, StopsAbove, TakesAbove, TakesFirst, TopStops, lines_at, lines_left, things_above, things_over, merge, merge_end, merge_next, SourceFault, NoMatch, MergeState, Stack, Change, Stage, Seeking, Waiting, Changing, Stop, LineAt, OpenSource, counters_of, over-none}
 use Rattle.cweb_lines.specs.inner.Faults.{files_of_faults}
-use Rattle.cweb_lines.proofs.Merges.{state, gives_fault}
+use Rattle.cweb_lines.proofs.Merges.{state, yields_fault}
 
 pub files_in-push : (faults : List SourceFault) (one : SourceFault) (files : ℕ) → files_of_faults faults ≤ files →
     one.place.file.0 < files → files_of_faults (faults ++ one ∷ []) ≤ files
@@ -114,16 +114,17 @@ coming_opened t t' l l' run run' reader name at texts left only names settled op
     (things ∙ ap (λ k. raws (at.depth + 1) at.may_match (lines_in (length (opened_file_names run.names)) (k reader))
     ++ things_of l run) (sym left)))
 
-pub gives_told : {R : Type 0} (t t' : List ℕ → Option (List ℕ)) (l l' : R
+pub yields_reported : {R : Type 0} (t t' : List ℕ → Option (List ℕ)) (l l' : R
     → List ℕ) (run run' : MergeState R) (f : SourceFault)
     → t' ≡ t → l' ≡ l → OnlyReports run run' → run'.faults.items ≡ run.faults.items ++ f ∷ []
     → EmitsLines [] (so_far_of run) (so_far_of run') (fault f ∷ events_to_come t l run) (events_to_come t' l' run')
-gives_told t t' l l' run run' f texts left only told = gives_fault (so_far_of run) (so_far_of run') _ _ (ap counters_of
+yields_reported t t' l l' run run' f texts left only reported = yields_fault (so_far_of run) (so_far_of run') _ _
+    (ap counters_of
     only.limits) f (sym (λ i. fault f
     ∷ coming_of (texts i) (optional_string_bytes (only.inputs i)) (left i) (only.stage i)
     (only.change i) ((only.first i).items) (length (opened_file_names (only.names i)))
     (things_in (left i) (only.stage i)
-    (lines_at (left i) (only.change i)) (only.stack i)))) told (ap opened_file_names only.names)
+    (lines_at (left i) (only.change i)) (only.stack i)))) reported (ap opened_file_names only.names)
 
 pub no_match : {R : Type 0} (t : List ℕ → Option (List ℕ)) (l : R → List ℕ) (run : MergeState R) (begin : Place) →
     run.stage ≡ Waiting begin → run.stack.depth ≡ 0 → events_to_come t l run ≡ fault (at_place NoMatch begin) ∷ []

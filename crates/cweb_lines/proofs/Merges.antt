@@ -1,5 +1,5 @@
 -- The events of a line that was taken.
-use Rattle.cweb_lines.proofs.Common.{Option, if◌then◌else◌, ◌&&◌, ◌≡◌, ◌≤◌, ◌<◌, ◌+◌, ◌==◌, ℕ, Bool, true, false, List, [], ◌∷◌, ◌++◌, Some, None, refl, sym, ◌∙◌, ap, arith, length, append-nil, nat_lt, nat_tests, Place, bytes_eq, WaitingEntry, at_place, World, is_include_line, include_name, found_at, Line, SourceLine, lines_in, MergeStateModel, RawLine, Thing, raw, Event, took, given, fault, opening, Next, at_entry, at_raw, included, open_include, obeyed, plain, taking, raws, begun_by, OPEN_FILES, LineAt, SoFar, EmitsLines, taken_lines, reported_faults, openings, emitted_lines, merge, merge_next, SourceFault, NoName, TooDeep, NotThere}
+use Rattle.cweb_lines.proofs.Common.{Option, if◌then◌else◌, ◌&&◌, ◌≡◌, ◌≤◌, ◌<◌, ◌+◌, ◌==◌, ℕ, Bool, true, false, List, [], ◌∷◌, ◌++◌, Some, None, refl, sym, ◌∙◌, ap, arith, length, append-nil, nat_lt, nat_tests, Place, bytes_eq, WaitingEntry, at_place, World, is_include_line, include_name, found_at, Line, SourceLine, lines_in, MergeStateModel, RawLine, Thing, raw, Event, took, emitted, fault, opening, Next, at_entry, at_raw, included, open_include, obeyed, plain, taking, raws, begun_by, OPEN_FILES, LineAt, SoFar, EmitsLines, taken_lines, reported_faults, openings, emitted_lines, merge, merge_next, SourceFault, NoName, TooDeep, NotThere}
 
 abbrev pub state : List Thing → Option WaitingEntry → List SourceLine → ℕ → MergeStateModel
 state things pending change files = record { things = things; pending = pending; change = change; files = files }
@@ -36,10 +36,10 @@ module _ (world : World) (source : SourceLine) (bytes : List ℕ) (at : LineAt)
       merge world before ≡ took source ∷ next.0 ++ merge world next.1
   merge_plain next goes = merge_next _ _ _ (ap (λ (n : Next). Some (taking source n)) (passes _ none ∙ goes))
 
-  pub merge_given : is_include_line bytes ≡ false → merge world before ≡ took source ∷ given
+  pub merge_emitted : is_include_line bytes ≡ false → merge world before ≡ took source ∷ emitted
       (record { bytes = bytes; place = at.place }) ∷ merge world after
-  merge_given test = merge_plain _ (ap (λ b. plain b world before r things) (as_read is_include_line false test))
-      ∙ ap (λ (l : Line). took source ∷ given l ∷ merge world after) is
+  merge_emitted test = merge_plain _ (ap (λ b. plain b world before r things) (as_read is_include_line false test))
+      ∙ ap (λ (l : Line). took source ∷ emitted l ∷ merge world after) is
 
   pub merge_no_name : is_include_line bytes ≡ true → include_name bytes ≡ [] →
       merge world before ≡ took source ∷ fault (at_place NoName at.place) ∷ merge world after
@@ -96,13 +96,13 @@ merge_takes world r things pending change files =
 
 -- At most one event happened.
 module _ (old new : SoFar) (all later : List Event) (count : new.count ≡ old.count) where
-  gives_untaken : (events : List Event) → taken_lines events ≡ [] → all ≡ events ++ later → new.faults ≡ old.faults
+  yields_untaken : (events : List Event) → taken_lines events ≡ [] → all ≡ events ++ later → new.faults ≡ old.faults
       ++ reported_faults events → new.names ≡ old.names ++ openings events
       → EmitsLines (emitted_lines events) old new all later
-  gives_untaken events none whole faults names = record {
+  yields_untaken events none whole faults names = record {
     events = events;
     whole = whole;
-    given = refl;
+    emitted = refl;
     faults = faults;
     names = names;
     lines_are = simp (count, none) (omega arith);
@@ -110,21 +110,23 @@ module _ (old new : SoFar) (all later : List Event) (count : new.count ≡ old.c
     short = rw none tt;
   }
 
-  pub gives_fault : (f : SourceFault) → all ≡ fault f ∷ later → new.faults ≡ old.faults ++ f ∷ [] →
+  pub yields_fault : (f : SourceFault) → all ≡ fault f ∷ later → new.faults ≡ old.faults ++ f ∷ [] →
       new.names ≡ old.names → EmitsLines [] old new all later
-  gives_fault f whole faults names = gives_untaken (fault f ∷ []) refl whole faults (simp (names, append-nil))
+  yields_fault f whole faults names = yields_untaken (fault f ∷ []) refl whole faults (simp (names, append-nil))
 
-  pub gives_opening : (name : List ℕ) → all ≡ opening name ∷ later → new.faults ≡ old.faults →
+  pub yields_opening : (name : List ℕ) → all ≡ opening name ∷ later → new.faults ≡ old.faults →
       new.names ≡ old.names ++ name ∷ [] → EmitsLines [] old new all later
-  gives_opening name whole faults names = gives_untaken (opening name ∷ []) refl whole (simp (faults, append-nil)) names
+  yields_opening name whole faults names = yields_untaken (opening name ∷ []) refl whole
+      (simp (faults, append-nil)) names
 
-  pub gives_line : (line : Line) → all ≡ given line ∷ later → new.faults ≡ old.faults → new.names ≡ old.names →
+  pub yields_line : (line : Line) → all ≡ emitted line ∷ later → new.faults ≡ old.faults → new.names ≡ old.names →
       EmitsLines (line ∷ []) old new all later
-  gives_line line whole faults names = gives_untaken (given line ∷ []) refl whole (simp (faults, append-nil))
+  yields_line line whole faults names = yields_untaken (emitted line ∷ []) refl whole (simp (faults, append-nil))
       (simp (names, append-nil))
 
-  pub gives_nothing : all ≡ later → new.faults ≡ old.faults → new.names ≡ old.names → EmitsLines [] old new all later
-  gives_nothing whole faults names = gives_untaken [] refl whole (simp (faults, append-nil)) (simp (names, append-nil))
+  pub yields_nothing : all ≡ later → new.faults ≡ old.faults → new.names ≡ old.names → EmitsLines [] old new all later
+  yields_nothing whole faults names = yields_untaken [] refl whole (simp (faults, append-nil))
+      (simp (names, append-nil))
 
 pub include_long : (line : List ℕ) → is_include_line line ≡ true → 2 ≤ length line
 include_long [] is = absurd (cc)

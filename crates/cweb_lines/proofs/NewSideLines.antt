@@ -1,9 +1,9 @@
 -- The new side of a change, line by line.
-use Rattle.cweb_lines.proofs.Common.{AddsFaultsAndLines, OnlyTakes, OnlyReports, lines_at, ◌≡◌, ◌-◌, ℕ, false, List, [], ◌∷◌, ◌++◌, Some, None, Option, refl, sym, ◌∙◌, ap, arith, length, sameb, Place, at_place, change_code, world_in, World, Line, SourceLine, Event, NewSide, Thing, fault, new_at, new_lines, passed, raw, seek, told, took, EmitsLines, SoFar, Stopped, change_lines, events_to_come, events_after_line, things_of, so_far_of, counters_of, opened_file_names, change_in, pending_in, things_below, things_in, FirstStops, StopsFor, CountsLine, raw_thing, things_above, things_over, merge, merge_next, the_type, Code, EndedBeforeZ, WantsZ, MergeState, Change, Changing, Stack, Stop, LineAt, over-none}
+use Rattle.cweb_lines.proofs.Common.{AddsFaultsAndLines, OnlyTakes, OnlyReports, lines_at, ◌≡◌, ◌-◌, ℕ, false, List, [], ◌∷◌, ◌++◌, Some, None, Option, refl, sym, ◌∙◌, ap, arith, length, sameb, Place, at_place, change_code, world_in, World, Line, SourceLine, Event, NewSide, Thing, fault, new_at, new_lines, passed, raw, seek, reported, took, EmitsLines, SoFar, Stopped, change_lines, events_to_come, events_after_line, things_of, so_far_of, counters_of, opened_file_names, change_in, pending_in, things_below, things_in, FirstStops, StopsFor, CountsLine, raw_thing, things_above, things_over, merge, merge_next, the_type, Code, EndedBeforeZ, WantsZ, MergeState, Change, Changing, Stack, Stop, LineAt, over-none}
 use Rattle.cweb_lines.specs.declared.change.code.Code.TheVariants.{OldSide as old_side, NewSide as new_side, EndSide as end_side}
-use Rattle.cweb_lines.proofs.AddedEvents.{adds_faults, adds_one, gives_adds}
+use Rattle.cweb_lines.proofs.AddedEvents.{adds_faults, adds_one, yields_adds}
 use Rattle.cweb_lines.proofs.ReportsOnlyGrow.{took_faults, took_names}
-use Rattle.cweb_lines.proofs.Merges.{gives_fault, merge_takes, state}
+use Rattle.cweb_lines.proofs.Merges.{yields_fault, merge_takes, state}
 use Rattle.cweb_lines.proofs.Stops.{stopped_first, takes_next}
 use Rattle.cweb_lines.proofs.Codes.{is_faulty_new}
 
@@ -19,7 +19,7 @@ module _ (world : World) (change : Change) (below : List Thing) (files : ℕ) wh
   pub new_none : (lines : List SourceLine) → lines ≡ [] → coming_new world change lines below files ≡ fault
       (at_place EndedBeforeZ change.begin) ∷ merge world (state below None [] files)
   new_none lines none = ap (λ (ls : List SourceLine). coming_new world change ls below files) none
-      ∙ merge_next world (state (told (at_place EndedBeforeZ change.begin) ∷ seek ∷ below) None [] files)
+      ∙ merge_next world (state (reported (at_place EndedBeforeZ change.begin) ∷ seek ∷ below) None [] files)
       (fault (at_place EndedBeforeZ change.begin) ∷ [], state (seek ∷ below) None [] files) refl
       ∙ ap (λ (es : List Event). fault (at_place EndedBeforeZ change.begin) ∷ es)
       (merge_next world (state (seek ∷ below) None [] files) ([], state below None [] files) refl)
@@ -61,14 +61,15 @@ module _ (world : World) (change : Change) (below : List Thing) (files : ℕ) wh
           let l = new_lines change.depth change.begin lines in
           side (Some code) test
           ∙ ap of_side (is_faulty_new code change.depth line lines l other)
-          ∙ merge_next world (state (passed line ∷ told (at_place WantsZ line.line.place) ∷ l.things ++ seek ∷ below)
+          ∙ merge_next world (state (passed line ∷ reported (at_place WantsZ line.line.place) ∷ l.things ++ seek ∷
+          below)
           None l.rest files) (
             took line ∷ [],
-            state (told (at_place WantsZ line.line.place) ∷ l.things
+            state (reported (at_place WantsZ line.line.place) ∷ l.things
                 ++ seek ∷ below) None l.rest files,
           ) refl
           ∙ ap (λ (es : List Event). took line ∷ es)
-          (merge_next world (state (told (at_place WantsZ line.line.place) ∷ l.things ++ seek ∷ below) None l.rest
+          (merge_next world (state (reported (at_place WantsZ line.line.place) ∷ l.things ++ seek ∷ below) None l.rest
           files) (
             fault (at_place WantsZ line.line.place) ∷ [],
             state (l.things ++ seek ∷ below) None l.rest files,
@@ -128,14 +129,14 @@ module _ {R : Type 0} (t t' : List ℕ → Option (List ℕ)) (l l' : R → List
   abbrev under : List Thing
   under = things_over l 0 change.below run.stack.texts []
 
-  later_is : (new : MergeState R) → new.inputs ≡ run.inputs → new.stack ≡ run.stack → new.names ≡ run.names → (front :
-      List Thing → List Thing) (lines : List SourceLine) → merge world (state (front under) None lines files) ≡ merge
+  later_is : (new : MergeState R) → new.inputs ≡ run.inputs → new.stack ≡ run.stack → new.names ≡ run.names → (prefix :
+      List Thing → List Thing) (lines : List SourceLine) → merge world (state (prefix under) None lines files) ≡ merge
       (world_in t' new.inputs)
-      (state (front (things_above l' 0 new.stack [])) None lines (length (opened_file_names new.names)))
-  later_is new inputs stack names front lines = sym (
-      (λ i. merge (world_in (texts i) (inputs i)) (state (front (things_above (left i) 0 (stack i) [])) None lines
+      (state (prefix (things_above l' 0 new.stack [])) None lines (length (opened_file_names new.names)))
+  later_is new inputs stack names prefix lines = sym (
+      (λ i. merge (world_in (texts i) (inputs i)) (state (prefix (things_above (left i) 0 (stack i) [])) None lines
       (length (opened_file_names (names i)))))
-      ∙ ap (λ (things : List Thing). merge world (state (front things) None lines files))
+      ∙ ap (λ (things : List Thing). merge world (state (prefix things) None lines files))
       (below_are t l run change stage low))
 
   pub new_ended : (new : MergeState R) → OnlyReports mid new
@@ -144,7 +145,7 @@ module _ {R : Type 0} (t t' : List ℕ → Option (List ℕ)) (l l' : R → List
       → EmitsLines [] (so_far_of run) (so_far_of new) (events_to_come t l run)
       (merge (world_in t' new.inputs)
       (state (things_above l' 0 new.stack []) None [] (length (opened_file_names new.names))))
-  new_ended new tells none count is = gives_fault (so_far_of run) (so_far_of new) _ _ count
+  new_ended new tells none count is = yields_fault (so_far_of run) (so_far_of new) _ _ count
       (at_place EndedBeforeZ change.begin) (coming_is t l run change stage low ∙ new_none world change under files
       (change_lines l run) none ∙ ap (λ (es : List Event). fault (at_place EndedBeforeZ change.begin) ∷ es)
       (later_is new (tells.inputs ∙ only.inputs) (tells.stack ∙ stack) (tells.names ∙ only.names) (λ ts. ts) []))
@@ -164,7 +165,7 @@ module _ {R : Type 0} (t t' : List ℕ → Option (List ℕ)) (l l' : R → List
         ≡ Some end_side → EmitsLines [] (so_far_of run) (so_far_of mid) (events_to_come t l run)
         (merge (world_in t' mid.inputs)
         (state (seek ∷ things_above l' 0 mid.stack []) None rest (length (opened_file_names mid.names))))
-    new_side_ended rest is test = gives_adds (taken.line ∷ []) [] (so_far_of run) (so_far_of mid) _ _ (first rest is
+    new_side_ended rest is test = yields_adds (taken.line ∷ []) [] (so_far_of run) (so_far_of mid) _ _ (first rest is
         ∙ new_end world change under files taken.line rest bytes place taken.is test ∙ ap (λ (es : List Event).
         took taken.line ∷ es) (later_is mid only.inputs stack only.names (λ ts. seek ∷ ts) rest)) counted
 
@@ -180,7 +181,7 @@ module _ {R : Type 0} (t t' : List ℕ → Option (List ℕ)) (l l' : R → List
         (tells.stack ∙ stack) ∙ low) ∙ (λ i. coming_new (world_in (texts i) ((tells.inputs ∙ only.inputs) i)) change
         (lines_at l' (tells.change i)) (things_over (left i) 0 change.below (((tells.stack ∙ stack) i).texts) [])
         (length (opened_file_names ((tells.names ∙ only.names) i))))) in
-        gives_adds (taken.line ∷ []) (at_place WantsZ place ∷ []) (so_far_of run) (so_far_of new) _ _ (first _ rest
+        yields_adds (taken.line ∷ []) (at_place WantsZ place ∷ []) (so_far_of run) (so_far_of new) _ _ (first _ rest
         ∙ new_fault world change under files taken.line (change_lines l' mid) bytes place taken.is code test other
         ∙ ap (λ (es : List Event). took taken.line ∷ fault (at_place WantsZ place) ∷ es) more)
         (adds_faults [] (at_place WantsZ place ∷ []) (taken.line ∷ [])

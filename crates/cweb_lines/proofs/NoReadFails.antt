@@ -1,7 +1,7 @@
 -- Steps in which no read fails: readers keep their names, none is blamed, and reports only grow.
 use Rattle.cweb_lines.proofs.Common.{◌≡◌, ◌++◌, ℕ, List, refl, sym, ◌∙◌, ap, subst, IsTrue, KeepsShelf, KeepsReported, so_far_of, opened_file_names, AreReadersKnown, KeepsReaders, blame, OnlyReports, SourceFault, MergeState, Stop, stop_after}
 use Rattle.cweb_files.specs.declared.device.Shelf.{Ghosts as Shelf}
-use Rattle.cweb_lines.proofs.ReportsOnlyGrow.{told_behind, told_same, told_then}
+use Rattle.cweb_lines.proofs.ReportsOnlyGrow.{reported_after, reported_same, reported_then}
 use Rattle.cweb_lines.proofs.MergeReadersStayNamed.{knows_only, knows_same}
 
 module _ {S R : Type 0} (shelf : Shelf S R) where
@@ -10,22 +10,22 @@ module _ {S R : Type 0} (shelf : Shelf S R) where
     pub readers : KeepsReaders shelf old new run run'
     pub blamed : IsTrue (shelf.tells old) → AreReadersKnown (shelf.opened_as old) run
         → shelf.blamed new ≡ shelf.blamed old
-    pub told : KeepsReported (so_far_of run) (so_far_of run')
+    pub reported : KeepsReported (so_far_of run) (so_far_of run')
 
   pub quiet_same : (s : S) (run : MergeState R) → Quiet s s run run
   quiet_same s run = record {
     tells = refl;
     readers = λ tells known. known;
     blamed = λ tells known. refl;
-    told = told_same _ _ refl refl;
+    reported = reported_same _ _ refl refl;
   }
 
   pub quiet_by : (old new : S) (run run' : MergeState R) → KeepsShelf shelf old new
       → KeepsReaders shelf old new run run'
       → (IsTrue (shelf.tells old) → AreReadersKnown (shelf.opened_as old) run → shelf.blamed new ≡ shelf.blamed old)
       → KeepsReported (so_far_of run) (so_far_of run') → Quiet old new run run'
-  quiet_by old new run run' keeps readers blamed told =
-      record { tells = keeps.tells; readers = readers; blamed = blamed; told = told }
+  quiet_by old new run run' keeps readers blamed reported =
+      record { tells = keeps.tells; readers = readers; blamed = blamed; reported = reported }
 
   module _ {a b : S} {x y : MergeState R} (first : Quiet a b x y) where
     pub still_tells : IsTrue (shelf.tells a) → IsTrue (shelf.tells b)
@@ -36,27 +36,28 @@ module _ {S R : Type 0} (shelf : Shelf S R) where
       tells = then.tells ∙ first.tells;
       readers = λ tells known. then.readers (still_tells tells) (first.readers tells known);
       blamed = λ tells known. then.blamed (still_tells tells) (first.readers tells known) ∙ first.blamed tells known;
-      told = told_then _ _ _ first.told then.told;
+      reported = reported_then _ _ _ first.reported then.reported;
     }
 
     pub quiet_tells : {z : MergeState R} (more : List SourceFault) → OnlyReports y z
         → z.faults.items ≡ y.faults.items ++ more
         → Quiet a b x z
-    quiet_tells more only told = record {
+    quiet_tells more only reported = record {
       tells = first.tells;
       readers = λ tells known. knows_only only (first.readers tells known);
       blamed = first.blamed;
-      told = told_then _ _ _ first.told (told_behind _ _ more told (ap opened_file_names only.names));
+      reported = reported_then _ _ _ first.reported (reported_after _ _ more reported
+          (ap opened_file_names only.names));
     }
 
     pub quiet_set : (z : MergeState R) → z.stack ≡ y.stack → z.change ≡ y.change → so_far_of z ≡ so_far_of y
         → Quiet a b x z
-    quiet_set z stack change told = record {
+    quiet_set z stack change reported = record {
       tells = first.tells;
-      readers = λ tells known. knows_same _ y z (λ i. (stack i).texts) change (λ i. (told i).names)
+      readers = λ tells known. knows_same _ y z (λ i. (stack i).texts) change (λ i. (reported i).names)
           (first.readers tells known);
       blamed = first.blamed;
-      told = rw told first.told;
+      reported = rw reported first.reported;
     }
 
     pub readers_after : (c : S) (z : MergeState R) → KeepsReaders shelf b c y z → KeepsReaders shelf a c x z

@@ -1,13 +1,13 @@
 -- The faults that were reported of an old side that a stop interrupted.
 use Rattle.cweb_lines.proofs.Common.{◌≡◌, List, ◌++◌, ◌∙◌, append_assoc, Place, old_lines, SourceLine, Thing, SoFar, ReportsSomeFaults, HasBegunStep, StopsIn, EndsStep, IsReplaced, closing_faults, faults_replaced, ReportsFaultPrefix, SourceFault, Replaced, Stop, ReadFault, LineTooLong, TooMuchText, Memory}
 
-pub tells_front : (faults more : List SourceFault) (old new : SoFar) → ReportsSomeFaults faults old new →
+pub tells_prefix : (faults more : List SourceFault) (old new : SoFar) → ReportsSomeFaults faults old new →
     ReportsSomeFaults (faults ++ more) old new
-tells_front faults more old new some = record {
-  front = some.front;
+tells_prefix faults more old new some = record {
+  prefix = some.prefix;
   rest = some.rest ++ more;
   whole = simp (some.whole, append_assoc);
-  told = some.told;
+  reported = some.reported;
   names = some.names;
 }
 
@@ -15,9 +15,9 @@ abbrev begun_more : {old new : SoFar} {lines : List SourceLine} {faults : List S
     (more : List SourceFault) → HasBegunStep old new lines faults
     → HasBegunStep old new lines (faults ++ more)
 begun_more more begun = record {
-  front = begun.front;
+  prefix = begun.prefix;
   rest = begun.rest;
-  told = begun.told;
+  reported = begun.reported;
   more = begun.more ++ more;
   lines_are = begun.lines_are;
   faults_are = simp (begun.faults_are, append_assoc);
@@ -48,10 +48,10 @@ module _ (begin : Place) (change : List SourceLine) (things : List Thing) (r : R
     (things' : List Thing) (old mid new : SoFar) (by : IsReplaced change things r change' things' old mid) where
   pub closes_some : ReportsFaultPrefix (closing_faults begin r.ended r.ran_out r.unequal) mid.faults new.faults →
       new.names ≡ mid.names → ReportsSomeFaults (faults_replaced begin change things) old new
-  closes_some front names = record {
-    front = (old_lines change).faults ++ front.front;
-    rest = front.rest;
-    whole = simp (by.ended, by.ran_out, by.unequal, front.whole, append_assoc);
-    told = simp (front.told, by.adds.told, append_assoc);
+  closes_some prefix names = record {
+    prefix = (old_lines change).faults ++ prefix.prefix;
+    rest = prefix.rest;
+    whole = simp (by.ended, by.ran_out, by.unequal, prefix.whole, append_assoc);
+    reported = simp (prefix.reported, by.adds.reported, append_assoc);
     names = names ∙ by.adds.names;
   }

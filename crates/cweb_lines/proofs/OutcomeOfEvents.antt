@@ -1,5 +1,5 @@
 -- The outcome of a list of events.
-use Rattle.cweb_lines.proofs.Common.{◌∙◌, WaitingEntry, Sought, Thing, World, merge, merge_next, seek, sought, ◌≡◌, false, ℕ, List, [], ◌∷◌, ◌++◌, map, None, Some, Option, refl, ap, is_some, Line, SourceLine, MergeOutcome, followed_by, outcome_of_events, Event, fault, given, opening, took, Code, SourceFault}
+use Rattle.cweb_lines.proofs.Common.{◌∙◌, WaitingEntry, Sought, Thing, World, merge, merge_next, seek, sought, ◌≡◌, false, ℕ, List, [], ◌∷◌, ◌++◌, map, None, Some, Option, refl, ap, is_some, Line, SourceLine, MergeOutcome, followed_by, outcome_of_events, Event, fault, emitted, opening, took, Code, SourceFault}
 use Rattle.cweb_lines.proofs.Merges.{state}
 
 pub no_code : (code : Option Code) → is_some code ≡ false → code ≡ None
@@ -36,6 +36,6 @@ pub seen-append : (a b : List Event)
     → outcome_of_events (a ++ b) ≡ followed_by (outcome_of_events a) (outcome_of_events b)
 seen-append [] b = refl
 seen-append (took source ∷ a) b = seen-append a b
-seen-append (given line ∷ a) b = ap (line_first line) (seen-append a b)
+seen-append (emitted line ∷ a) b = ap (line_first line) (seen-append a b)
 seen-append (fault f ∷ a) b = ap (fault_first f) (seen-append a b)
 seen-append (opening name ∷ a) b = ap (name_first name) (seen-append a b)

@@ -1,8 +1,8 @@
 -- Lines that pass through, taken from the stack of a merger.
 use Rattle.cweb_lines.proofs.Common.{◌≡◌, ◌-◌, ℕ, List, [], ◌∷◌, ◌++◌, length, Option, refl, sym, ◌∙◌, ap, subst, arith, append-nil, append_assoc, counters_of, optional_string_bytes, world_in, SourceLine, Thing, EmitsLines, so_far_of, events_to_come, change_lines, pending_of, opened_file_names, ComesNext, EmitsBufferedLines, AppendsPassedLines, PassesTop, lines_next, sources_next, stretch_bytes, top_of, change_in, floor_of, things_in, StaysBelow, lines_at, AreShort, size_of_lines, TakenCounters, Stretch, MergeState, Stack}
-use Rattle.cweb_lines.proofs.EmittedLines.{events_of, events-given, events-untold, events-unopened, events-taken, merge_next_lines, next-length, next-size, next-short, next-text}
-use Rattle.cweb_lines.proofs.Merges.{gives_nothing}
-use Rattle.cweb_lines.proofs.EmittedLinesAddUp.{gives_both}
+use Rattle.cweb_lines.proofs.EmittedLines.{events_of, events-emitted, events-unreported, events-unopened, events-taken, merge_next_lines, next-length, next-size, next-short, next-text}
+use Rattle.cweb_lines.proofs.Merges.{yields_nothing}
+use Rattle.cweb_lines.proofs.EmittedLinesAddUp.{yields_both}
 use Rattle.cweb_lines.proofs.MergeStateEvents.{coming_of, passes_in}
 use Rattle.cweb_lines.proofs.WrittenLinesAddUp.{text_of-append}
 
@@ -14,7 +14,7 @@ module _ {R : Type 0} (run : MergeState R) (stack : Stack R) (limits : TakenCoun
   abbrev sources : List SourceLine
   sources = sources_next (top_of run.stack) lines
 
-  pub gives_next : (t : List ℕ → Option (List ℕ)) (l : R → List ℕ) →
+  pub yields_next : (t : List ℕ → Option (List ℕ)) (l : R → List ℕ) →
       EmitsLines (lines_next (top_of run.stack) lines) (so_far_of run) (record {
         faults = run.faults.items;
         names = opened_file_names run.names;
@@ -24,7 +24,7 @@ module _ {R : Type 0} (run : MergeState R) (stack : Stack R) (limits : TakenCoun
       (coming_of t (optional_string_bytes run.inputs) l run.stage run.change run.first.items
       (length (opened_file_names run.names))
       (things_in l run.stage (lines_at l run.change) stack))
-  gives_next t l = record {
+  yields_next t l = record {
     events = events_of sources;
     whole = ap (λ (ts : List Thing).
         coming_of t (optional_string_bytes run.inputs) l run.stage run.change run.first.items
@@ -33,44 +33,44 @@ module _ {R : Type 0} (run : MergeState R) (stack : Stack R) (limits : TakenCoun
         (floor_of run.stage) next.above) (λ left n le rest. below left n (omega (arith, le, next.above)) rest))
         ∙ merge_next_lines (world_in t run.inputs) (pending_of run) (top_of run.stack) s lines
         (things_in l run.stage (lines_at l run.change) stack) (change_in run.stage (lines_at l run.change))
-        (length (opened_file_names run.names)) next.stands;
-    given = events-given sources;
-    faults = simp (events-untold, append-nil);
+        (length (opened_file_names run.names)) next.in_place;
+    emitted = events-emitted sources;
+    faults = simp (events-unreported, append-nil);
     names = simp (events-unopened, append-nil);
     lines_are = omega (
       arith,
       passes.few,
       ap (λ (ls : List SourceLine). length ls) (events-taken sources),
-      next-length (pending_of run) (top_of run.stack) s lines next.stands,
+      next-length (pending_of run) (top_of run.stack) s lines next.in_place,
     );
     bytes_are = omega (
       arith,
       passes.bytes,
       ap size_of_lines (events-taken sources),
-      next-size (pending_of run) (top_of run.stack) s lines next.stands,
+      next-size (pending_of run) (top_of run.stack) s lines next.in_place,
     );
     short = subst AreShort (sym (events-taken sources))
-        (next-short (pending_of run) (top_of run.stack) s lines next.stands);
+        (next-short (pending_of run) (top_of run.stack) s lines next.in_place);
   }
 
 pub passes_next : {R : Type 0} (old new : MergeState R) (s : Stretch) (lines : List (List ℕ)) (buffer more : List ℕ)
     → ComesNext old s lines → EmitsBufferedLines old new (lines_next (top_of old.stack) lines)
     → more ≡ buffer ++ stretch_bytes (top_of old.stack) s ++ 10 ∷ [] → AppendsPassedLines old new buffer more
-passes_next old new s lines buffer more next given gathered = record {
+passes_next old new s lines buffer more next emitted buffered = record {
   lines = lines_next (top_of old.stack) lines;
-  gives = given.gives;
-  gathered = simp (gathered, next-text (pending_of old) (top_of old.stack) s lines next.stands, append_assoc);
-  stopped = given.stopped;
-  names = given.names;
-  counted = omega (arith, given.counted);
-  readers = given.readers;
+  yields = emitted.yields;
+  buffered = simp (buffered, next-text (pending_of old) (top_of old.stack) s lines next.in_place, append_assoc);
+  stopped = emitted.stopped;
+  names = emitted.names;
+  counted = omega (arith, emitted.counted);
+  readers = emitted.readers;
 }
 
 pub passes_nothing : {R : Type 0} (run : MergeState R) (buffer : List ℕ) → AppendsPassedLines run run buffer buffer
 passes_nothing run buffer = record {
   lines = [];
-  gives = λ t l. gives_nothing _ _ _ _ refl refl refl refl;
-  gathered = sym (append-nil buffer);
+  yields = λ t l. yields_nothing _ _ _ _ refl refl refl refl;
+  buffered = sym (append-nil buffer);
   stopped = refl;
   names = refl;
   counted = omega arith;
@@ -82,8 +82,8 @@ pub passes_then : {R : Type 0} (a b c : MergeState R) (x y z : List ℕ) → App
     AppendsPassedLines a c x z
 passes_then a b c x y z first then = record {
   lines = first.lines ++ then.lines;
-  gives = λ t l. gives_both first.lines then.lines _ _ _ _ _ _ (first.gives t l) (then.gives t l);
-  gathered = simp (then.gathered, first.gathered, text_of-append, append_assoc);
+  yields = λ t l. yields_both first.lines then.lines _ _ _ _ _ _ (first.yields t l) (then.yields t l);
+  buffered = simp (then.buffered, first.buffered, text_of-append, append_assoc);
   stopped = then.stopped ∙ first.stopped;
   names = then.names ∙ first.names;
   counted = omega (arith, first.counted, then.counted);

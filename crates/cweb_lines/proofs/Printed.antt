@@ -1,9 +1,9 @@
 -- The output of a merge merges to itself: its lines are trimmed, and none is an include line.
-use Rattle.cweb_lines.proofs.Common.{◌≡◌, ◌+◌, ℕ, zero, suc, true, false, List, [], ◌∷◌, ◌++◌, map, None, Some, Option, refl, sym, ◌∙◌, ap, subst, AllByRecursion, list_any, Line, SourceLine, lines, lines_in, World, is_include_line, WaitingEntry, at_place, sought, PrintedMergesComeAgain, MergeOutcome, placed, Event, Next, MergeStateModel, Thing, at_raw, fault, onto, passed, raw, run_steps, seek, started, told, took, emitted_lines, merge, merge-run_steps, halts, written_lines, NoMatch}
+use Rattle.cweb_lines.proofs.Common.{◌≡◌, ◌+◌, ℕ, zero, suc, true, false, List, [], ◌∷◌, ◌++◌, map, None, Some, Option, refl, sym, ◌∙◌, ap, subst, AllByRecursion, list_any, Line, SourceLine, lines, lines_in, World, is_include_line, WaitingEntry, at_place, sought, PrintedMergesComeAgain, MergeOutcome, placed, Event, Next, MergeStateModel, Thing, at_raw, fault, onto, passed, raw, run_steps, seek, started, reported, took, emitted_lines, merge, merge-run_steps, halts, written_lines, NoMatch}
 use Rattle.cweb_lines.proofs.IndependentLines.{onto_some}
 use Rattle.cweb_lines.proofs.Merges.{state}
-use Rattle.cweb_lines.proofs.AddedEvents.{given_none}
-use Rattle.cweb_lines.proofs.EmittedLinesAddUp.{given-append}
+use Rattle.cweb_lines.proofs.AddedEvents.{emitted_none}
+use Rattle.cweb_lines.proofs.EmittedLinesAddUp.{emitted-append}
 use Rattle.cweb_input.proofs.Newlines.{text_lines-full}
 use Rattle.cweb_lines.proofs.WebLaws.{webs_without_includes}
 use Rattle.cweb_lines.proofs.TrimmedLinesStay.{IsCutLine, IsCutState, IsCutThing, IsPrinted, Keeps, all-append, lines_in-cut, raw_keeps, raws-cut, silent_keeps, sought-cut}
@@ -26,22 +26,22 @@ module _ (world : World) where
       let x = onto_some next.0 events (run_steps n world next.1) is in
       let later = each next.1 x.0 keeps.1 x.1 in
       let both = all-append IsPrinted (emitted_lines next.0) (emitted_lines x.0) keeps.0 later in
-      subst Prints x.2 (subst (AllByRecursion IsPrinted) (sym (given-append next.0 x.0)) both)
+      subst Prints x.2 (subst (AllByRecursion IsPrinted) (sym (emitted-append next.0 x.0)) both)
 
   thing_prints : (n : ℕ) (things : List Thing) (pending : Option WaitingEntry) (change : List SourceLine) (files : ℕ)
       (events : List Event) → PrintsIn n → AllByRecursion IsCutThing things → AllByRecursion IsCutLine change
       → run_steps (suc n) world (state things pending change files) ≡ Some events → Prints events
   thing_prints n [] None change files events each cut cut' is = prints_none events is
   thing_prints n [] (Some entry) change files events each cut cut' is =
-      let told = fault (at_place NoMatch entry.begin) in
-      step_prints n (told ∷ [], state [] None change files) events each (tt, (tt, cut')) is
+      let reported = fault (at_place NoMatch entry.begin) in
+      step_prints n (reported ∷ [], state [] None change files) events each (tt, (tt, cut')) is
   thing_prints n (seek ∷ things) pending change files events each cut cut' is =
       let found = sought change None in
       let first = map took found.taken ++ map fault found.faults in
       let next = state things found.entry found.rest files in
       step_prints n (first, next) events each (silent_keeps first next
-      (given_none found.taken found.faults) (cut.1, sought-cut change None cut')) is
-  thing_prints n (told f ∷ things) pending change files events each cut cut' is =
+      (emitted_none found.taken found.faults) (cut.1, sought-cut change None cut')) is
+  thing_prints n (reported f ∷ things) pending change files events each cut cut' is =
       step_prints n (fault f ∷ [], state things pending change files) events each (tt, (cut.1, cut')) is
   thing_prints n (passed line ∷ things) pending change files events each cut cut' is =
       step_prints n (took line ∷ [], state things pending change files) events each (tt, (cut.1, cut')) is

@@ -7,7 +7,7 @@ use Rattle.cweb_lines.proofs.Codes.{old_code_at, taken_at}
 pub replaces_from : (change : List SourceLine) (things : List Thing) (old : SoFar) →
     Replaces change things (record { unequal = 0; ran_out = false; ended = false }) change things old old
 replaces_from change things old = record {
-  told = [];
+  reported = [];
   taken = [];
   faults_are = refl;
   taken_are = refl;
@@ -48,9 +48,9 @@ module _ (change : List SourceLine) (things : List Thing) (so_far : Replaced) (l
   abbrev replaces_begun : (new : SoFar) → new ≡ mid → HasBegunStep old new (lines_replaced change things)
       (old_lines change).faults
   replaces_begun new same = record {
-    front = r.taken;
+    prefix = r.taken;
     rest = lines_replaced lines raws;
-    told = r.told;
+    reported = r.reported;
     more = (old_lines lines).faults;
     lines_are = r.taken_are;
     faults_are = r.faults_are;
@@ -80,7 +80,7 @@ module _ (change : List SourceLine) (things : List Thing) (so_far : Replaced) (l
 
   pub replaces_done : (new : SoFar) (last rest : List SourceLine) (ended : Bool)
       → old_lines lines ≡ record { faults = []; lines = []; taken = last; ended = ended; rest = rest }
-      → AddsFaultsAndLines r.told (r.taken ++ last) old new → IsReplaced change things
+      → AddsFaultsAndLines r.reported (r.taken ++ last) old new → IsReplaced change things
       (record { unequal = so_far.unequal; ran_out = so_far.ran_out; ended = ended }) rest raws old new
   replaces_done new last rest ended is adds =
       record {
@@ -94,10 +94,10 @@ module _ (change : List SourceLine) (things : List Thing) (so_far : Replaced) (l
 
   -- A line of the change file was taken.
   module _ (now : SoFar) (bytes : List ℕ) (place : Place) (t : CountsLine bytes place mid.count now.count)
-      (rest : List SourceLine) (is : lines ≡ t.line ∷ rest) (told : now.faults ≡ mid.faults)
+      (rest : List SourceLine) (is : lines ≡ t.line ∷ rest) (reported : now.faults ≡ mid.faults)
       (names : now.names ≡ mid.names) where
-    counted : AddsFaultsAndLines r.told (r.taken ++ t.line ∷ []) old now
-    counted = adds_line r.told r.taken old mid now bytes place t r.adds told names
+    counted : AddsFaultsAndLines r.reported (r.taken ++ t.line ∷ []) old now
+    counted = adds_line r.reported r.taken old mid now bytes place t r.adds reported names
 
     side : (code : Option Code) → change_code bytes ≡ code → old_lines lines ≡ old_at code t.line rest (old_lines rest)
     side code test = ap old_lines is ∙ old_code_at code t.line rest bytes place t.is test
@@ -124,11 +124,11 @@ module _ (change : List SourceLine) (things : List Thing) (so_far : Replaced) (l
     pub replaces_code : (code : Code) (new : SoFar) → change_code bytes ≡ Some code → old_at (Some code) t.line rest
         (old_lines rest) ≡ old_code t.line (old_lines rest) → new.faults ≡ now.faults ++ at_place WantsY place ∷ []
         → new.names ≡ now.names → new.count ≡ now.count → Replaces change things so_far rest raws old new
-    replaces_code code new test faulty told' names' count =
+    replaces_code code new test faulty reported' names' count =
         let s = side _ test ∙ faulty in
         let fault = ap (λ (l : Line). at_place WantsY l.place) t.is in
         record {
-          told = r.told ++ at_place _ _ ∷ [];
+          reported = r.reported ++ at_place _ _ ∷ [];
           taken = r.taken ++ t.line ∷ [];
           faults_are = simp (r.faults_are, s, fault, append_assoc);
           taken_are = r.taken_are ∙ ap (λ (ls : List SourceLine). r.taken ++ ls)
@@ -140,7 +140,7 @@ module _ (change : List SourceLine) (things : List Thing) (so_far : Replaced) (l
           ran_out = simp (r.ran_out, s);
           raw_rest = simp (r.raw_rest, s);
           adds = adds_faults _ _
-              _ old now new counted told' names' count;
+              _ old now new counted reported' names' count;
         }
 
     pub replaces_line : (after : Replaced) (raws' : List Thing) (new : SoFar) → change_code bytes ≡ None →
@@ -150,7 +150,7 @@ module _ (change : List SourceLine) (things : List Thing) (so_far : Replaced) (l
         let away = ap (λ (o : OldSide). compared o.lines raws) s
         ∙ ap (λ (l : Line). compared (l.bytes ∷ (old_lines rest).lines) raws) t.is in
         record {
-          told = r.told;
+          reported = r.reported;
           taken = (r.taken ++ t.line ∷ []) ++ by.taken;
           faults_are = simp (r.faults_are, s);
           taken_are = r.taken_are ∙ ap (λ (ls : List SourceLine). r.taken ++ ls) (left_are test
@@ -163,15 +163,15 @@ module _ (change : List SourceLine) (things : List Thing) (so_far : Replaced) (l
           ran_out = r.ran_out ∙ ap (λ (c : Compared). so_far.ran_out || c.ran_out) away
               ∙ by.ran_out _;
           raw_rest = simp (r.raw_rest, away, by.rest (old_lines rest).lines);
-          adds = rw append-nil at (adds_both r.told [] _ _ old now new counted by.adds);
+          adds = rw append-nil at (adds_both r.reported [] _ _ old now new counted by.adds);
         }
 
     abbrev raw_begun : (new : SoFar) → new ≡ now → change_code bytes ≡ None
         → HasBegunStep old new (lines_replaced change things) (old_lines change).faults
     raw_begun new same test = record {
-      front = r.taken ++ t.line ∷ [];
+      prefix = r.taken ++ t.line ∷ [];
       rest = left;
-      told = r.told;
+      reported = r.reported;
       more = (old_lines lines).faults;
       lines_are = simp (r.taken_are, left_are test, append_assoc);
       faults_are = r.faults_are;

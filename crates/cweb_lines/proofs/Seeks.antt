@@ -5,26 +5,26 @@ use Rattle.cweb_lines.specs.declared.change.seek.Look.TheVariants.{Entry as firs
 use Rattle.cweb_lines.proofs.AddedEvents.{adds_none, adds_line, adds_faults}
 
 pub seeks_from : (found : Sought) (old : SoFar) → SeeksTo found found old old
-seeks_from found old = record { told = []; taken = []; whole = refl; adds = adds_none old old refl }
+seeks_from found old = record { reported = []; taken = []; whole = refl; adds = adds_none old old refl }
 
-taken_behind : (bytes : List ℕ) (code : Option Code) (begin : Place) (line : SourceLine) (lines : List SourceLine) →
+taken_after : (bytes : List ℕ) (code : Option Code) (begin : Place) (line : SourceLine) (lines : List SourceLine) →
     (more : List SourceLine) × ((after_x bytes code begin line lines (λ next. sought lines next)).taken ≡ line ∷ more)
-taken_behind [] code begin line lines = ((sought lines (Some begin)).taken, refl)
-taken_behind (b ∷ bs) None begin line lines = ([], refl)
-taken_behind (b ∷ bs) (Some code) begin line lines = (_, refl)
+taken_after [] code begin line lines = ((sought lines (Some begin)).taken, refl)
+taken_after (b ∷ bs) None begin line lines = ([], refl)
+taken_after (b ∷ bs) (Some code) begin line lines = (_, refl)
 
 sought_takes : (line : SourceLine) (lines : List SourceLine) (begin : Option Place) →
     (more : List SourceLine) × ((sought (line ∷ lines) begin).taken ≡ line ∷ more)
 sought_takes line lines None = (_, refl)
-sought_takes line lines (Some begin) = taken_behind line.line.bytes (change_code line.line.bytes) begin line lines
+sought_takes line lines (Some begin) = taken_after line.line.bytes (change_code line.line.bytes) begin line lines
 
 module _ (all : Sought) (lines : List SourceLine) (begin : Option Place) (old mid : SoFar)
     (seeks : SeeksTo all (sought lines begin) old mid) where
   abbrev seeks_begun : (new : SoFar) → new ≡ mid → HasBegunStep old new all.taken all.faults
   seeks_begun new same = record {
-    front = seeks.taken;
+    prefix = seeks.taken;
     rest = (sought lines begin).taken;
-    told = seeks.told;
+    reported = seeks.reported;
     more = (sought lines begin).faults;
     lines_are = simp seeks.whole;
     faults_are = simp seeks.whole;
@@ -51,13 +51,13 @@ module _ (all : Sought) (lines : List SourceLine) (begin : Option Place) (old mi
   seeks_ends Memory new same stops = tt
   seeks_ends stop new same stops = absurd stops
 
-  pub seeks_told_more : (new : SoFar) → ReportsFaultPrefix (sought lines begin).faults mid.faults new.faults →
+  pub seeks_reported_more : (new : SoFar) → ReportsFaultPrefix (sought lines begin).faults mid.faults new.faults →
       new.names ≡ mid.names → ReportsSomeFaults all.faults old new
-  seeks_told_more new more names = record {
-    front = seeks.told ++ more.front;
+  seeks_reported_more new more names = record {
+    prefix = seeks.reported ++ more.prefix;
     rest = more.rest;
     whole = simp (seeks.whole, more.whole, append_assoc);
-    told = simp (more.told, seeks.adds.told, append_assoc);
+    reported = simp (more.reported, seeks.adds.reported, append_assoc);
     names = names ∙ seeks.adds.names;
   }
 
@@ -69,19 +69,20 @@ module _ (all : Sought) (lines : List SourceLine) (begin : Option Place) (old mi
     pub seeks_on : (next : Option Place) → LooksAt (goes_on next) begin bytes place now.faults new.faults →
         SeeksTo all (sought rest next) old new
     seeks_on next looks = record {
-      told = seeks.told ++ looks.told;
+      reported = seeks.reported ++ looks.reported;
       taken = seeks.taken ++ t.line ∷ [];
       whole = simp (seeks.whole, is, looks.looks t.line t.is rest, append_assoc);
-      adds = adds_faults seeks.told looks.told (seeks.taken ++ t.line ∷ []) old now new
-          (adds_line seeks.told seeks.taken old mid now bytes place t seeks.adds same_faults same_names) looks.faults
+      adds = adds_faults seeks.reported looks.reported (seeks.taken ++ t.line ∷ []) old now new
+          (adds_line seeks.reported seeks.taken old mid now bytes place t seeks.adds same_faults same_names)
+          looks.faults
           names count;
     }
 
     pub seeks_found : (entry : Place) → LooksAt (first_line entry) begin bytes place now.faults new.faults →
         Searched all old new (Waiting entry) bytes rest
     seeks_found entry looks =
-        let whole : all ≡ search_after seeks.told seeks.taken (record {
-          faults = looks.told;
+        let whole : all ≡ search_after seeks.reported seeks.taken (record {
+          faults = looks.reported;
           taken = t.line ∷ [];
           entry =
               Some (record { begin = entry; first = t.line.line.bytes });
@@ -89,8 +90,8 @@ module _ (all : Sought) (lines : List SourceLine) (begin : Option Place) (old mi
         }) =
         simp (seeks.whole, is, looks.looks t.line t.is rest) in
         record {
-          adds = rw whole (adds_faults seeks.told looks.told (seeks.taken ++ t.line ∷ []) old now new
-              (adds_line seeks.told seeks.taken old mid now bytes place t seeks.adds same_faults same_names)
+          adds = rw whole (adds_faults seeks.reported looks.reported (seeks.taken ++ t.line ∷ []) old now new
+              (adds_line seeks.reported seeks.taken old mid now bytes place t seeks.adds same_faults same_names)
               looks.faults names count);
           outside = tt;
           entry = simp (whole, t.is);
@@ -109,8 +110,8 @@ pub seeks_ended : (all : Sought) (lines : List SourceLine) (begin : Option Place
 seeks_ended all lines begin old mid seeks none new faults names count stage done first left =
     let last = sought [] begin in
     let ends = sought_none begin in
-    let whole : all ≡ search_after seeks.told seeks.taken last = simp (seeks.whole, none) in
-    let adds = adds_faults seeks.told last.faults seeks.taken old mid new seeks.adds faults names count in
+    let whole : all ≡ search_after seeks.reported seeks.taken last = simp (seeks.whole, none) in
+    let adds = adds_faults seeks.reported last.faults seeks.taken old mid new seeks.adds faults names count in
     record {
       adds = simp (whole, ends.0, append-nil) adds;
       outside = subst IsOutside (sym done) tt;

@@ -2,8 +2,8 @@
 use Rattle.cweb_lines.proofs.Common.{◌≡◌, ◌+◌, ℕ, true, false, List, [], ◌∷◌, ◌++◌, None, sym, ◌∙◌, ap, subst, arith, length, AllByRecursion, list_any, bytes_eq, SourceLine, lines_in, cut_lines, World, is_include_line, change_code, ChangesSplice, IsPlainSplice, Splice, is_change_code, spliced, web_lines, followed_by, only_lines, placed, outcome_of_events, raws, seek, merge, or_parts}
 use Rattle.cweb_lines.specs.laws.Laws.{spliced_change_lines}
 use Rattle.cweb_lines.proofs.Merges.{state}
-use Rattle.cweb_lines.proofs.Entries.{bytes_in, finds_none, gives_alone}
-use Rattle.cweb_lines.proofs.LinePlaces.{Lie, bytes_of, first_of, lie_in, parts}
+use Rattle.cweb_lines.proofs.Entries.{bytes_in, finds_none, yields_alone}
+use Rattle.cweb_lines.proofs.LinePlaces.{Inside, bytes_of, first_of, inside_of, parts}
 use Rattle.cweb_lines.proofs.Splices.{Edit, IsPlain, splices_one}
 use Rattle.cweb_lines.proofs.OutcomeOfEvents.{no_code, seek_unseen}
 
@@ -12,30 +12,30 @@ record WebParts (number : ℕ) (s : Splice) (later : List (List ℕ)) (lines : L
   stays : List SourceLine
   line : SourceLine
   old : List SourceLine
-  behind : List SourceLine
-  whole : lines ≡ stays ++ (line ∷ (old ++ behind))
-  stays_lie : Lie 0 number s.stays stays
+  after : List SourceLine
+  whole : lines ≡ stays ++ (line ∷ (old ++ after))
+  stays_inside : Inside 0 number s.stays stays
   first : line.line.bytes ≡ s.first
   further : bytes_in old ≡ s.further
-  behind_lies : Lie 0 (number + length s.stays + length s.further + 1) later behind
+  after_inside : Inside 0 (number + length s.stays + length s.further + 1) later after
 
 web_parts : (number : ℕ) (s : Splice) (later : List (List ℕ)) (lines : List SourceLine)
-    → Lie 0 number (s.stays ++ (s.first ∷ (s.further ++ later))) lines → WebParts number s later lines
-web_parts number s later lines lie =
-    let a = parts 0 number s.stays (s.first ∷ (s.further ++ later)) lines lie in
-    let b = first_of 0 (number + length s.stays) s.first (s.further ++ later) a.rest a.rest_lies in
-    let c = parts 0 (number + length s.stays + 1) s.further later b.rest b.rest_lies in
+    → Inside 0 number (s.stays ++ (s.first ∷ (s.further ++ later))) lines → WebParts number s later lines
+web_parts number s later lines inside =
+    let a = parts 0 number s.stays (s.first ∷ (s.further ++ later)) lines inside in
+    let b = first_of 0 (number + length s.stays) s.first (s.further ++ later) a.rest a.rest_inside in
+    let c = parts 0 (number + length s.stays + 1) s.further later b.rest b.rest_inside in
     record {
-      stays = a.front;
+      stays = a.prefix;
       line = b.line;
-      old = c.front;
-      behind = c.rest;
+      old = c.prefix;
+      after = c.rest;
       whole = simp (a.whole, b.whole, c.whole);
-      stays_lie = a.front_lies;
+      stays_inside = a.prefix_inside;
       first = b.bytes;
-      further = bytes_of 0 (number + length s.stays + 1) s.further c.front c.front_lies;
-      behind_lies = subst (λ n. Lie 0 n later c.rest) (let same : number + length s.stays + 1 + length s.further
-          ≡ number + length s.stays + length s.further + 1 = omega arith in same) c.rest_lies;
+      further = bytes_of 0 (number + length s.stays + 1) s.further c.prefix c.prefix_inside;
+      after_inside = subst (λ n. Inside 0 n later c.rest) (let same : number + length s.stays + 1 + length s.further
+          ≡ number + length s.stays + length s.further + 1 = omega arith in same) c.rest_inside;
     }
 
 -- The lines of a change file up to the @z of its first entry, and the lines after it.
@@ -54,60 +54,60 @@ record ChangeParts (number : ℕ) (s : Splice) (later : List (List ℕ)) (lines 
   first_is : first.line.bytes ≡ s.first
   further_is : bytes_in further ≡ s.further
   middle_is : y.line.bytes ≡ s.middle
-  new_lies : Lie 1 (number + length s.comment + length s.further + 3) s.new new
+  new_inside : Inside 1 (number + length s.comment + length s.further + 3) s.new new
   end_is : z.line.bytes ≡ s.end
-  rest_lies : Lie 1 (number + length s.comment + length s.further + 3 + length s.new + 1) later rest
+  rest_inside : Inside 1 (number + length s.comment + length s.further + 3 + length s.new + 1) later rest
 
 change_parts : (number : ℕ) (s : Splice) (later : List (List ℕ)) (lines : List SourceLine)
-    → Lie 1 number (s.comment ++ (s.begin ∷ s.first ∷ (s.further ++ (s.middle ∷ (s.new ++ (s.end ∷ later)))))) lines
+    → Inside 1 number (s.comment ++ (s.begin ∷ s.first ∷ (s.further ++ (s.middle ∷ (s.new ++ (s.end ∷ later)))))) lines
     → ChangeParts number s later lines
-change_parts number s later lines lie =
+change_parts number s later lines inside =
     let at_x = number + length s.comment in
     let at_y = at_x + 1 + 1 + length s.further in
     let a = parts 1 number s.comment
-    (s.begin ∷ s.first ∷ (s.further ++ (s.middle ∷ (s.new ++ (s.end ∷ later))))) lines lie in
+    (s.begin ∷ s.first ∷ (s.further ++ (s.middle ∷ (s.new ++ (s.end ∷ later))))) lines inside in
     let b = first_of 1 at_x s.begin
-    (s.first ∷ (s.further ++ (s.middle ∷ (s.new ++ (s.end ∷ later))))) a.rest a.rest_lies in
-    let c = first_of 1 (at_x + 1) s.first (s.further ++ (s.middle ∷ (s.new ++ (s.end ∷ later)))) b.rest b.rest_lies in
-    let d = parts 1 (at_x + 1 + 1) s.further (s.middle ∷ (s.new ++ (s.end ∷ later))) c.rest c.rest_lies in
-    let e = first_of 1 at_y s.middle (s.new ++ (s.end ∷ later)) d.rest d.rest_lies in
-    let f = parts 1 (at_y + 1) s.new (s.end ∷ later) e.rest e.rest_lies in
-    let g = first_of 1 (at_y + 1 + length s.new) s.end later f.rest f.rest_lies in
+    (s.first ∷ (s.further ++ (s.middle ∷ (s.new ++ (s.end ∷ later))))) a.rest a.rest_inside in
+    let c = first_of 1 (at_x + 1) s.first (s.further ++ (s.middle ∷ (s.new ++ (s.end ∷ later)))) b.rest b.rest_inside in
+    let d = parts 1 (at_x + 1 + 1) s.further (s.middle ∷ (s.new ++ (s.end ∷ later))) c.rest c.rest_inside in
+    let e = first_of 1 at_y s.middle (s.new ++ (s.end ∷ later)) d.rest d.rest_inside in
+    let f = parts 1 (at_y + 1) s.new (s.end ∷ later) e.rest e.rest_inside in
+    let g = first_of 1 (at_y + 1 + length s.new) s.end later f.rest f.rest_inside in
     let new_number : at_y + 1 ≡ number + length s.comment + length s.further + 3 = omega arith in
     let rest_number : at_y + 1 + length s.new + 1
     ≡ number + length s.comment + length s.further + 3 + length s.new + 1 = omega arith in
     record {
-      comment = a.front;
+      comment = a.prefix;
       x = b.line;
       first = c.line;
-      further = d.front;
+      further = d.prefix;
       y = e.line;
-      new = f.front;
+      new = f.prefix;
       z = g.line;
       rest = g.rest;
-      whole = a.whole ∙ ap (λ ls. a.front ++ ls) (b.whole ∙ ap (λ ls. b.line ∷ ls) (c.whole
-          ∙ ap (λ ls. c.line ∷ ls) (d.whole ∙ ap (λ ls. d.front ++ ls) (e.whole
-          ∙ ap (λ ls. e.line ∷ ls) (f.whole ∙ ap (λ ls. f.front ++ ls) g.whole)))));
-      comment_is = bytes_of 1 number s.comment a.front a.front_lies;
+      whole = a.whole ∙ ap (λ ls. a.prefix ++ ls) (b.whole ∙ ap (λ ls. b.line ∷ ls) (c.whole
+          ∙ ap (λ ls. c.line ∷ ls) (d.whole ∙ ap (λ ls. d.prefix ++ ls) (e.whole
+          ∙ ap (λ ls. e.line ∷ ls) (f.whole ∙ ap (λ ls. f.prefix ++ ls) g.whole)))));
+      comment_is = bytes_of 1 number s.comment a.prefix a.prefix_inside;
       begin_is = b.bytes;
       first_is = c.bytes;
-      further_is = bytes_of 1 (at_x + 1 + 1) s.further d.front d.front_lies;
+      further_is = bytes_of 1 (at_x + 1 + 1) s.further d.prefix d.prefix_inside;
       middle_is = e.bytes;
-      new_lies = subst (λ n. Lie 1 n s.new f.front) new_number f.front_lies;
+      new_inside = subst (λ n. Inside 1 n s.new f.prefix) new_number f.prefix_inside;
       end_is = g.bytes;
-      rest_lies = subst (λ n. Lie 1 n later g.rest) rest_number g.rest_lies;
+      rest_inside = subst (λ n. Inside 1 n later g.rest) rest_number g.rest_inside;
     }
 
-splices_none : (world : World) (web change : ℕ) (behind comment : List (List ℕ)) (lines changes : List SourceLine)
-    → list_any is_include_line behind ≡ false → list_any is_change_code comment ≡ false
-    → Lie 0 web behind lines → Lie 1 change comment changes → outcome_of_events
-    (merge world (state (seek ∷ raws 1 true lines) None changes 2)) ≡ only_lines (placed 0 web behind)
-splices_none world web change behind comment lines changes plain_behind no_codes lie lie' =
-    let plain_lines = ap (list_any is_include_line) (bytes_of 0 web behind lines lie) ∙ plain_behind in
-    let none = ap (list_any is_change_code) (bytes_of 1 change comment changes lie') ∙ no_codes in
+splices_none : (world : World) (web change : ℕ) (after comment : List (List ℕ)) (lines changes : List SourceLine)
+    → list_any is_include_line after ≡ false → list_any is_change_code comment ≡ false
+    → Inside 0 web after lines → Inside 1 change comment changes → outcome_of_events
+    (merge world (state (seek ∷ raws 1 true lines) None changes 2)) ≡ only_lines (placed 0 web after)
+splices_none world web change after comment lines changes plain_after no_codes inside inside' =
+    let plain_lines = ap (list_any is_include_line) (bytes_of 0 web after lines inside) ∙ plain_after in
+    let none = ap (list_any is_change_code) (bytes_of 1 change comment changes inside') ∙ no_codes in
     seek_unseen world (raws 1 true lines) changes 2 changes None [] (finds_none changes none)
-    ∙ gives_alone world 1 true lines [] 2 plain_lines
-    ∙ ap only_lines lie
+    ∙ yields_alone world 1 true lines [] 2 plain_lines
+    ∙ ap only_lines inside
 
 -- The change that these lines make.
 abbrev edit_of : (web change : ℕ) (s : Splice) (later later' : List (List ℕ)) (lines changes : List SourceLine)
@@ -130,8 +130,8 @@ plain_edit : (web change : ℕ) (s : Splice) (later later' : List (List ℕ)) (l
     → IsPlainSplice s → IsPlain (edit_of web change s later later' lines changes w c)
 plain_edit web change s later later' lines changes w c is =
     let old = or_parts (is_change_code s.first) (list_any is_change_code s.further) is.old in
-    let stays_is = bytes_of 0 web s.stays w.stays w.stays_lie in
-    let new_is = bytes_of 1 (change + length s.comment + length s.further + 3) s.new c.new c.new_lies in
+    let stays_is = bytes_of 0 web s.stays w.stays w.stays_inside in
+    let new_is = bytes_of 1 (change + length s.comment + length s.further + 3) s.new c.new c.new_inside in
     record {
       no_comment = ap (list_any is_change_code) c.comment_is ∙ is.comment;
       begins = ap change_code c.begin_is ∙ is.begins;
@@ -148,29 +148,30 @@ plain_edit web change s later later' lines changes w c is =
       others = (λ i. list_any (λ line. bytes_eq line (c.first_is i)) (stays_is i)) ∙ is.first_there;
     }
 
-splices_all : (world : World) (splices : List Splice) (web change : ℕ) (behind comment : List (List ℕ))
+splices_all : (world : World) (splices : List Splice) (web change : ℕ) (after comment : List (List ℕ))
     (lines changes : List SourceLine) → AllByRecursion IsPlainSplice splices
-    → list_any is_include_line behind ≡ false → list_any is_change_code comment ≡ false
-    → Lie 0 web (web_lines splices behind) lines → Lie 1 change (spliced_change_lines splices comment) changes
+    → list_any is_include_line after ≡ false → list_any is_change_code comment ≡ false
+    → Inside 0 web (web_lines splices after) lines → Inside 1 change (spliced_change_lines splices comment) changes
     → outcome_of_events (merge world (state (seek ∷ raws 1 true lines) None changes 2))
-    ≡ only_lines (spliced web change splices behind)
-splices_all world [] web change behind comment lines changes all plain_behind no_codes lie lie' =
-    splices_none world web change behind comment lines changes plain_behind no_codes lie lie'
-splices_all world (s ∷ splices) web change behind comment lines changes all plain_behind no_codes lie lie' =
-    let rest = web_lines splices behind in
+    ≡ only_lines (spliced web change splices after)
+splices_all world [] web change after comment lines changes all plain_after no_codes inside inside' =
+    splices_none world web change after comment lines changes plain_after no_codes inside inside'
+splices_all world (s ∷ splices) web change after comment lines changes all plain_after no_codes inside inside' =
+    let rest = web_lines splices after in
     let rest' = spliced_change_lines splices comment in
-    let w = web_parts web s rest lines lie in
-    let c = change_parts change s rest' changes lie' in
+    let w = web_parts web s rest lines inside in
+    let c = change_parts change s rest' changes inside' in
     let first_new = change + length s.comment + length s.further + 3 in
     let next_web = web + length s.stays + length s.further + 1 in
-    let later = splices_all world splices next_web (first_new + length s.new + 1) behind comment w.behind c.rest
-    all.1 plain_behind no_codes w.behind_lies c.rest_lies in
+    let later = splices_all world splices next_web (first_new + length s.new + 1) after comment w.after c.rest
+    all.1 plain_after no_codes w.after_inside c.rest_inside in
     (λ i. outcome_of_events (merge world (state (seek ∷ raws 1 true (w.whole i)) None (c.whole i) 2)))
     ∙ splices_one world 2 (edit_of web change s rest rest' lines changes w c)
-    (plain_edit web change s rest rest' lines changes w c all.0) c.rest w.behind
-    ∙ (λ i. followed_by (only_lines (w.stays_lie i)) (followed_by (only_lines (c.new_lies i)) (later i)))
+    (plain_edit web change s rest rest' lines changes w c all.0) c.rest w.after
+    ∙ (λ i. followed_by (only_lines (w.stays_inside i)) (followed_by (only_lines (c.new_inside i)) (later i)))
 
 pub changes_splice : ChangesSplice
-changes_splice world web change splices behind comment all plain_behind no_codes web_is change_is =
-    splices_all world splices 1 1 behind comment (lines_in 0 web) (lines_in 1 change) all plain_behind no_codes
-    (lie_in 0 1 (cut_lines web) ∙ ap (placed 0 1) web_is) (lie_in 1 1 (cut_lines change) ∙ ap (placed 1 1) change_is)
+changes_splice world web change splices after comment all plain_after no_codes web_is change_is =
+    splices_all world splices 1 1 after comment (lines_in 0 web) (lines_in 1 change) all plain_after no_codes
+    (inside_of 0 1 (cut_lines web) ∙ ap (placed 0 1) web_is)
+    (inside_of 1 1 (cut_lines change) ∙ ap (placed 1 1) change_is)

@@ -4,7 +4,7 @@ use Rattle.cweb_lines.specs.declared.change.code.Code.TheVariants.{EndSide as en
 use Rattle.cweb_input.proofs.SourceStacks.{raws-append}
 use Rattle.cweb_lines.proofs.Merges.{state}
 use Rattle.cweb_lines.proofs.OutcomeOfEvents.{seek_unseen}
-use Rattle.cweb_lines.proofs.Entries.{bytes_in, compares, entry_of, finds, gives_out, lines_of, new_splits, old_splits, passes_by}
+use Rattle.cweb_lines.proofs.Entries.{bytes_in, compares, entry_of, finds, yields_out, lines_of, new_splits, old_splits, passes_by}
 
 -- The lines of one change. In the change file: a comment, @x, the first old line, further ones, @y, the new lines and
 -- @z. In the web: lines that stay, the first old line and further ones.
@@ -25,7 +25,7 @@ abbrev pub change_from : Edit → List SourceLine → List SourceLine
 change_from e change = e.comment ++ (e.x ∷ e.first ∷ (e.further ++ (e.y ∷ (e.new ++ (e.z ∷ change)))))
 
 abbrev pub web_from : Edit → List SourceLine → List SourceLine
-web_from e behind = e.stays ++ (e.line ∷ (e.old ++ behind))
+web_from e after = e.stays ++ (e.line ∷ (e.old ++ after))
 
 -- Only code lines are codes, there is no include line, and the first old line doesn't match earlier.
 pub record IsPlain (e : Edit) : Type 0 where
@@ -49,12 +49,12 @@ lines_unseen [] events = refl
 lines_unseen (line ∷ lines) events = lines_unseen lines events
 
 -- A change whose old lines equal those of the web.
-module _ (world : World) (files : ℕ) (e : Edit) (plain_edit : IsPlain e) (change behind : List SourceLine) where
+module _ (world : World) (files : ℕ) (e : Edit) (plain_edit : IsPlain e) (change after : List SourceLine) where
   abbrev entry : WaitingEntry
   entry = entry_of e.x e.first
 
   abbrev rest : List Thing
-  rest = raws 1 true behind
+  rest = raws 1 true after
 
   abbrev new_on : List SourceLine
   new_on = e.new ++ (e.z ∷ change)
@@ -63,7 +63,7 @@ module _ (world : World) (files : ℕ) (e : Edit) (plain_edit : IsPlain e) (chan
   old_on = e.further ++ (e.y ∷ new_on)
 
   abbrev replaced_on : List SourceLine
-  replaced_on = e.line ∷ (e.old ++ behind)
+  replaced_on = e.line ∷ (e.old ++ after)
 
   abbrev next_by : OldSide → Compared → Next
   next_by side by = (change_events entry side by, after_old side.ended files 1 entry side by.rest)
@@ -80,8 +80,8 @@ module _ (world : World) (files : ℕ) (e : Edit) (plain_edit : IsPlain e) (chan
   abbrev by_is : Compared
   by_is = record { unequal = 0; taken = e.old; ran_out = false; rest = rest }
 
-  compares_so : compared (bytes_in e.further) (raws 1 true (e.old ++ behind)) ≡ by_is
-  compares_so = ap (compared (bytes_in e.further)) (raws-append 1 true e.old behind)
+  compares_so : compared (bytes_in e.further) (raws 1 true (e.old ++ after)) ≡ by_is
+  compares_so = ap (compared (bytes_in e.further)) (raws-append 1 true e.old after)
       ∙ ap (λ (olds : List (List ℕ)). compared olds (raws 1 true e.old ++ rest)) (sym plain_edit.same_old)
       ∙ compares 1 true e.old rest
 
@@ -93,7 +93,7 @@ module _ (world : World) (files : ℕ) (e : Edit) (plain_edit : IsPlain e) (chan
       (new_splits 1 e.x.line.place e.new e.z change plain_edit.no_new plain_edit.ends)
       ∙ ap (λ (ts : List Thing). outcome_of_events (merge world (state ts None change files)))
       (append_assoc (raws 1 false e.new) (passed e.z ∷ []) (seek ∷ rest))
-      ∙ gives_out world 1 false e.new (passed e.z ∷ seek ∷ rest) change files plain_edit.new_plain
+      ∙ yields_out world 1 false e.new (passed e.z ∷ seek ∷ rest) change files plain_edit.new_plain
       ∙ ap (λ (events : List Event). followed_by (only_lines (lines_of e.new)) (outcome_of_events events))
       (merge_next world
       (state (passed e.z ∷ seek ∷ rest) None change files) (took e.z ∷ [], state (seek ∷ rest) None change files) refl)
@@ -103,7 +103,7 @@ module _ (world : World) (files : ℕ) (e : Edit) (plain_edit : IsPlain e) (chan
       (outcome_of_events (merge world (state (seek ∷ rest) None change files)))
   replaces =
       let r : RawLine = record { source = e.line; depth = 1; may_match = true } in
-      let things = raws 1 true (e.old ++ behind) in
+      let things = raws 1 true (e.old ++ after) in
       let s = state (raw r ∷ things) (Some entry) old_on files in
       let equal = (bytes_eq-Decides e.line.line.bytes e.first.line.bytes).1 plain_edit.same_first in
       ap outcome_of_events (merge_next world s (taking e.line (next_by side_is by_is))
@@ -115,12 +115,12 @@ module _ (world : World) (files : ℕ) (e : Edit) (plain_edit : IsPlain e) (chan
       ∙ new_come
 
   -- One change: the lines that stay, the new lines, and then the rest.
-  pub splices_one : outcome_of_events (merge world (state (seek ∷ raws 1 true (web_from e behind)) None
+  pub splices_one : outcome_of_events (merge world (state (seek ∷ raws 1 true (web_from e after)) None
       (change_from e change) files)) ≡ followed_by (only_lines (lines_of e.stays))
       (followed_by (only_lines (lines_of e.new))
       (outcome_of_events (merge world (state (seek ∷ rest) None change files))))
   splices_one =
-      let things = raws 1 true (web_from e behind) in
+      let things = raws 1 true (web_from e after) in
       seek_unseen world things (change_from e change) files (e.comment ++ (e.x ∷ e.first ∷ [])) (Some entry) old_on
       (finds e.comment e.x e.first old_on plain_edit.no_comment plain_edit.begins plain_edit.some plain_edit.no_first)
       ∙ ap (λ (ts : List Thing). outcome_of_events (merge world (state ts (Some entry) old_on files)))

@@ -1,8 +1,8 @@
 -- The events before a stop.
-use Rattle.cweb_lines.proofs.Common.{◌≡◌, ◌++◌, ℕ, zero, suc, List, [], ◌∷◌, Option, Some, None, refl, sym, ◌∙◌, ap, subst, map, WaitingEntry, World, SourceLine, MergeStateModel, Thing, seek, raw, told, passed, Event, took, given, fault, opening, at_place, NoMatch, at_raw, sought, onto, SoFar, StopsIn, EndsStep, StopsAfterLines, TakesBeforeEmitting, Stopped, step_events, TopStops, StopsFor, RefusesLine, run_steps, merge, merge-run_steps, halts, so_far_of, counters_of, opened_file_names, OnlyTakes, MergeState, SourceFault, Stop, ReadFault, LineTooLong, TooMuchText, Memory}
+use Rattle.cweb_lines.proofs.Common.{◌≡◌, ◌++◌, ℕ, zero, suc, List, [], ◌∷◌, Option, Some, None, refl, sym, ◌∙◌, ap, subst, map, WaitingEntry, World, SourceLine, MergeStateModel, Thing, seek, raw, reported, passed, Event, took, emitted, fault, opening, at_place, NoMatch, at_raw, sought, onto, SoFar, StopsIn, EndsStep, StopsAfterLines, TakesBeforeEmitting, Stopped, step_events, TopStops, StopsFor, RefusesLine, run_steps, merge, merge-run_steps, halts, so_far_of, counters_of, opened_file_names, OnlyTakes, MergeState, SourceFault, Stop, ReadFault, LineTooLong, TooMuchText, Memory}
 use Rattle.cweb_lines.specs.Merge.{step_at, step_then_run}
 use Rattle.cweb_lines.proofs.AddedEvents.{begun_none}
-use Rattle.cweb_lines.proofs.Merges.{gives_nothing, merge_takes, state}
+use Rattle.cweb_lines.proofs.Merges.{yields_nothing, merge_takes, state}
 
 onto_first : (e : Event) (es events : List Event) (later : Option (List Event)) → TakesBeforeEmitting (e ∷ [])
     → onto (e ∷ es) later
@@ -13,7 +13,7 @@ onto_first (took line) es events (Some more) first is = let all : took line ∷ 
 onto_first (fault f) es events None first is = absurd (cc)
 onto_first (fault f) es events (Some more) first is = let all : fault f ∷ (es ++ more) ≡ events = cc in
     subst TakesBeforeEmitting all tt
-onto_first (given line) es events later first is = absurd first
+onto_first (emitted line) es events later first is = absurd first
 onto_first (opening name) es events None first is = absurd (cc)
 onto_first (opening name) es events (Some more) first is = let all : opening name ∷ (es ++ more) ≡ events = cc in
     subst TakesBeforeEmitting all tt
@@ -47,7 +47,7 @@ takes_run (suc n) world s events is = by s.things s.pending is (λ s' rest more.
     by (raw r ∷ things) pending is later =
         let next = at_raw pending world (state (raw r ∷ things) pending s.change s.files) r things in
         onto_first (took r.source) next.0 events (run_steps n world next.1) tt is
-    by (told f ∷ things) pending is later =
+    by (reported f ∷ things) pending is later =
         onto_first (fault f) [] events (run_steps n world (state things pending s.change s.files)) tt is
     by (passed line ∷ things) pending is later =
         onto_first (took line) [] events (run_steps n world (state things pending s.change s.files)) tt is
@@ -67,7 +67,7 @@ stops_first stop lines faults old new all later whole stops = record {
   lines = lines;
   faults = faults;
   later = later;
-  gives = gives_nothing old old all _ refl whole refl refl;
+  yields = yields_nothing old old all _ refl whole refl refl;
   stops = stops;
 }
 
@@ -79,7 +79,7 @@ stopped_in (ReadFault file) lines faults old new all later whole next begun = re
   lines = lines;
   faults = faults;
   later = later;
-  gives = gives_nothing old old all _ refl whole refl refl;
+  yields = yields_nothing old old all _ refl whole refl refl;
   begun = begun;
   next = next;
 }
@@ -130,13 +130,13 @@ stopped_by stop old new world things pending change files same stops = stopped_f
     ))
     stops
 
-pub told_uncounted : {R : Type 0} (old new : MergeState R) → OnlyTakes old new
+pub reported_uncounted : {R : Type 0} (old new : MergeState R) → OnlyTakes old new
     → counters_of new.limits ≡ counters_of old.limits →
     so_far_of new ≡ so_far_of old
-told_uncounted old new only count =
+reported_uncounted old new only count =
     λ i. record { faults = (only.faults i).items; names = opened_file_names (only.names i); count = count i }
 
-pub told_stays : {R : Type 0} (old new : MergeState R) → OnlyTakes old new
+pub reported_stays : {R : Type 0} (old new : MergeState R) → OnlyTakes old new
     → (new.limits.lines ≡ old.limits.lines) × (new.limits.bytes ≡ old.limits.bytes) → so_far_of new ≡ so_far_of old
-told_stays old new only counted = told_uncounted old new only
+reported_stays old new only counted = reported_uncounted old new only
     (λ i. record { lines = counted.0 i; bytes = counted.1 i })

@@ -1,8 +1,8 @@
 -- Each step leaves lines trimmed and emits no include line.
-use Rattle.cweb_lines.proofs.Common.{◌≡◌, ◌≢◌, ◌+◌, ◌==◌, ◌&&◌, ℕ, Bool, true, false, cond, List, [], ◌∷◌, ◌++◌, map, None, Some, Option, refl, sym, ap, subst, arith, AllByRecursion, if◌then◌else◌, bytes_eq, nat_tests, Place, HasNoNewline, Line, SourceLine, CutLine, before_blanks, is_blank, lines, lines_in, numbered_lines, onto_first, cut_lines, trimmed, Found, World, found_at, include_name, is_include_line, WaitingEntry, OldSide, Sought, after_x, change_code, old_at, old_lines, outside, sought, Compared, Event, NewSide, Next, RawLine, MergeStateModel, Thing, after_old, at_entry, at_raw, change_events, compared, fault, fault_event_if, included, new_at, new_lines, obeyed, open_include, passed, plain, raw, raws, seek, told, emitted_lines, Code, SourceFault}
+use Rattle.cweb_lines.proofs.Common.{◌≡◌, ◌≢◌, ◌+◌, ◌==◌, ◌&&◌, ℕ, Bool, true, false, cond, List, [], ◌∷◌, ◌++◌, map, None, Some, Option, refl, sym, ap, subst, arith, AllByRecursion, if◌then◌else◌, bytes_eq, nat_tests, Place, HasNoNewline, Line, SourceLine, CutLine, before_blanks, is_blank, lines, lines_in, numbered_lines, onto_first, cut_lines, trimmed, Found, World, found_at, include_name, is_include_line, WaitingEntry, OldSide, Sought, after_x, change_code, old_at, old_lines, outside, sought, Compared, Event, NewSide, Next, RawLine, MergeStateModel, Thing, after_old, at_entry, at_raw, change_events, compared, fault, fault_event_if, included, new_at, new_lines, obeyed, open_include, passed, plain, raw, raws, seek, reported, emitted_lines, Code, SourceFault}
 use Rattle.cweb_lines.specs.declared.change.code.Code.TheVariants.{EndSide as end_side, NewSide as new_side, OldSide as old_side}
-use Rattle.cweb_lines.proofs.AddedEvents.{given-took, given_none}
-use Rattle.cweb_lines.proofs.EmittedLinesAddUp.{given-append}
+use Rattle.cweb_lines.proofs.AddedEvents.{emitted-took, emitted_none}
+use Rattle.cweb_lines.proofs.EmittedLinesAddUp.{emitted-append}
 use Rattle.cweb_input.proofs.TrimmedLines.{trimmed-clean}
 
 pub all-append : {A : Type 0} (P : A → Type 0) (xs ys : List A) → AllByRecursion P xs → AllByRecursion P ys
@@ -19,7 +19,7 @@ IsCutLine source = IsCut source.line.bytes
 abbrev pub IsCutThing : Thing → Type 0
 IsCutThing seek = Unit {0}
 IsCutThing (raw r) = IsCutLine r.source
-IsCutThing (told f) = Unit {0}
+IsCutThing (reported f) = Unit {0}
 IsCutThing (passed line) = Unit {0}
 
 abbrev pub IsPrinted : Line → Type 0
@@ -76,13 +76,13 @@ outside-cut : (code : Option Code) (place : Place) (later : Option Place → Sou
 outside-cut (Some old_side) place later all = all (Some place)
 outside-cut _ place later all = all None
 
-behind-cut : (bytes : List ℕ) (code : Option Code) (begin : Place) (line : SourceLine) (lines : List SourceLine)
+after-cut : (bytes : List ℕ) (code : Option Code) (begin : Place) (line : SourceLine) (lines : List SourceLine)
     (later : Option Place → Sought) → AllByRecursion IsCutLine lines
     → ((p : Option Place) → AllByRecursion IsCutLine (later p).rest) → AllByRecursion IsCutLine
     (after_x bytes code begin line lines later).rest
-behind-cut [] code begin line lines later cut all = all (Some begin)
-behind-cut (b ∷ bs) None begin line lines later cut all = cut
-behind-cut (b ∷ bs) (Some code) begin line lines later cut all = outside-cut (Some code) line.line.place later all
+after-cut [] code begin line lines later cut all = all (Some begin)
+after-cut (b ∷ bs) None begin line lines later cut all = cut
+after-cut (b ∷ bs) (Some code) begin line lines later cut all = outside-cut (Some code) line.line.place later all
 
 pub sought-cut : (lines : List SourceLine) (begin : Option Place) → AllByRecursion IsCutLine lines
     → AllByRecursion IsCutLine (sought lines begin).rest
@@ -90,7 +90,7 @@ sought-cut [] None cut = tt
 sought-cut [] (Some begin) cut = tt
 sought-cut (line ∷ lines) None cut = outside-cut (change_code line.line.bytes) line.line.place
     (λ begin. sought lines begin) (λ p. sought-cut lines p cut.1)
-sought-cut (line ∷ lines) (Some begin) cut = behind-cut line.line.bytes
+sought-cut (line ∷ lines) (Some begin) cut = after-cut line.line.bytes
     (change_code line.line.bytes) begin line lines (λ next. sought lines next) cut.1 (λ p. sought-cut lines p cut.1)
 
 old_at-cut : (code : Option Code) (line : SourceLine) (lines : List SourceLine) (later : OldSide)
@@ -131,14 +131,14 @@ abbrev pub IsSilent : List Event → Type 0
 IsSilent events = emitted_lines events ≡ []
 
 pub faults-silent : (faults : List SourceFault) → IsSilent (map fault faults)
-faults-silent faults = given_none [] faults
+faults-silent faults = emitted_none [] faults
 
 fault_if-silent : (b : Bool) (f : SourceFault) → IsSilent (fault_event_if b f)
 fault_if-silent true f = refl
 fault_if-silent false f = refl
 
 change-silent : (entry : WaitingEntry) (old : OldSide) (by : Compared) → IsSilent (change_events entry old by)
-change-silent entry old by = simp (given-append, given-took, faults-silent, fault_if-silent)
+change-silent entry old by = simp (emitted-append, emitted-took, faults-silent, fault_if-silent)
 
 abbrev pub IsCutState : MergeStateModel → Type 0
 IsCutState s = AllByRecursion IsCutThing s.things × AllByRecursion IsCutLine s.change

@@ -1,6 +1,6 @@
 -- The events of a turn: a search, a line that was taken, or a change that begins.
 use Rattle.cweb_lines.proofs.Common.{Sought, map-append, ◌≡◌, ◌&&◌, ℕ, Bool, true, false, List, [], ◌∷◌, ◌++◌, Some, None, Option, refl, sym, ◌∙◌, ap, length, map, if◌then◌else◌, subst, append_assoc, Ok, bytes_eq, Place, WaitingEntry, old_lines, sought, optional_string_bytes, world_in, World, Line, SourceLine, Event, RawLine, Thing, after_old, at_entry, change_events, fault, fault_event_if, raw, seek, taking, took, SoFar, change_lines, events_to_come, events_after_line, pending_of, things_of, so_far_of, opened_file_names, IsChanged, faults_replaced, lines_replaced, fault_list_if, taken_away, Searched, IsOutside, begun_by, change_in, pending_in, things_in, IsSettled, floor_of, lines_at, raw_thing, things_above, Counted, StaysBelow, TakesAbove, merge, merge_next, SourceFault, MergeState, Stack, Stage, Seeking, Waiting, Changing, LineAt, counters_of, OnlyTakes, CountsLine, ReportsSomeFaults, ReportsPrefix, EndsStep, Stopped, Stop, EmitsLines}
-use Rattle.cweb_lines.proofs.AddedEvents.{adds_both, adds_one, ends_after, gives_adds, tells_after, tells_some}
+use Rattle.cweb_lines.proofs.AddedEvents.{adds_both, adds_one, ends_after, yields_adds, tells_after, tells_some}
 use Rattle.cweb_lines.proofs.ReportsOnlyGrow.{took_faults, took_names}
 use Rattle.cweb_lines.proofs.Merges.{state}
 use Rattle.cweb_lines.proofs.MergeStateEvents.{coming_of, takes_in}
@@ -18,11 +18,11 @@ module _ {R : Type 0} (t : List ℕ → Option (List ℕ)) (l : R
   abbrev found : Sought
   found = sought (change_lines l run) None
 
-  abbrev behind_search : List Event
-  behind_search = merge (world_in t run.inputs) (state (things_above l 0 run.stack []) found.entry found.rest
+  abbrev after_search : List Event
+  after_search = merge (world_in t run.inputs) (state (things_above l 0 run.stack []) found.entry found.rest
       (length (opened_file_names run.names)))
 
-  sought_first : events_to_come t l run ≡ map took found.taken ++ (map fault found.faults ++ behind_search)
+  sought_first : events_to_come t l run ≡ map took found.taken ++ (map fault found.faults ++ after_search)
   sought_first = (λ i. coming_of t (optional_string_bytes run.inputs) l (stage i) run.change run.first.items
       (length (opened_file_names run.names)) (things_in l (stage i) (change_lines l run) run.stack))
       ∙ merge_next (world_in t run.inputs) (state (seek ∷ things_above l 0 run.stack []) None
@@ -31,7 +31,7 @@ module _ {R : Type 0} (t : List ℕ → Option (List ℕ)) (l : R
         state
             (things_above l 0 run.stack []) found.entry found.rest (length (opened_file_names run.names)),
       ) refl
-      ∙ append_assoc (map took found.taken) (map fault found.faults) behind_search
+      ∙ append_assoc (map took found.taken) (map fault found.faults) after_search
 
   pub sought_tells : (new : SoFar) → ReportsSomeFaults found.faults (so_far_of run) new
       → ReportsPrefix (so_far_of run) new (events_to_come t l run)
@@ -39,14 +39,14 @@ module _ {R : Type 0} (t : List ℕ → Option (List ℕ)) (l : R
 
   pub sought_stops : (stop : Stop) (new : SoFar) → EndsStep stop (so_far_of run) new found.taken found.faults
       → Stopped stop (so_far_of run) new (events_to_come t l run)
-  sought_stops stop new = stopped_in stop found.taken found.faults (so_far_of run) new _ behind_search sought_first
+  sought_stops stop new = stopped_in stop found.taken found.faults (so_far_of run) new _ after_search sought_first
       (takes_next _ _)
 
-  pub sought_gives : (t' : List ℕ → Option (List ℕ)) (l' : R → List ℕ) (run' : MergeState R) → t' ≡ t → l' ≡ l
+  pub sought_yields : (t' : List ℕ → Option (List ℕ)) (l' : R → List ℕ) (run' : MergeState R) → t' ≡ t → l' ≡ l
       → run'.inputs ≡ run.inputs → run'.stack ≡ run.stack → run'.names ≡ run.names → Searched found (so_far_of run)
       (so_far_of run') run'.stage run'.first.items (change_lines l' run')
       → EmitsLines [] (so_far_of run) (so_far_of run') (events_to_come t l run) (events_to_come t' l' run')
-  sought_gives t' l' run' texts left inputs stack names ends = gives_adds found.taken found.faults (so_far_of run)
+  sought_yields t' l' run' texts left inputs stack names ends = yields_adds found.taken found.faults (so_far_of run)
       (so_far_of run') _ _ (sought_first ∙ ap (λ (es : List Event). map took found.taken ++ (map fault found.faults
       ++ es)) (sym (ap (λ (things : List Thing). coming_of t'
       (optional_string_bytes run'.inputs) l' run'.stage run'.change
@@ -128,8 +128,8 @@ module _ {R : Type 0} (t : List ℕ → Option (List ℕ)) (l : R → List ℕ) 
   abbrev faults : Place → List SourceFault
   faults begin = faults_replaced begin (change_lines l run) things
 
-  abbrev behind_old : World → ℕ → ℕ → WaitingEntry → List Event
-  behind_old world files depth entry = merge world (after_old (old_lines (change_lines l run)).ended files depth entry
+  abbrev later_old : World → ℕ → ℕ → WaitingEntry → List Event
+  later_old world files depth entry = merge world (after_old (old_lines (change_lines l run)).ended files depth entry
       (old_lines (change_lines l run)) (taken_away (change_lines l run) things).rest)
 
   begins_here : (at : LineAt) (source : SourceLine) (bytes : List ℕ) (begin : Place) → source.line
@@ -137,7 +137,7 @@ module _ {R : Type 0} (t : List ℕ → Option (List ℕ)) (l : R → List ℕ) 
       → (entry : WaitingEntry) × (entry.begin ≡ begin)
       × (events_after_line t l run at source ≡ map took (source ∷ lines)
       ++ (map fault (faults begin)
-      ++ behind_old (world_in t run.inputs) (length (opened_file_names run.names)) at.depth entry))
+      ++ later_old (world_in t run.inputs) (length (opened_file_names run.names)) at.depth entry))
   begins_here at source bytes begin is begun =
       let found = begun_entry (pending_of run) at.may_match bytes begin begun in
       let stage = waits run.stage run.first.items found.0 found.1 in
@@ -148,7 +148,7 @@ module _ {R : Type 0} (t : List ℕ → Option (List ℕ)) (l : R → List ℕ) 
             run.stack) (found.1 i) (change_in (stage.1 i) (change_lines l run)) files))
             ∙ begin_step (world_in t run.inputs) found.0 source bytes at is found.3 things (change_lines l run) files
             ∙ ap (λ (p : Place). map took (source ∷ lines) ++ (map fault (faults p)
-            ++ behind_old (world_in t run.inputs) files at.depth found.0)) found.2,
+            ++ later_old (world_in t run.inputs) files at.depth found.0)) found.2,
       )
 
   module _ (old : MergeState R) (at : LineAt) (bytes : List ℕ) (begin : Place) (all : List Event)
@@ -170,18 +170,18 @@ module _ {R : Type 0} (t : List ℕ → Option (List ℕ)) (l : R → List ℕ) 
         (ends_after (so_far_of old) (so_far_of run) bytes at.place taken (took_faults only) (took_names only) stop
         lines (faults begin) new ends)
 
-    pub began_gives : (t' : List ℕ → Option (List ℕ)) (l' : R → List ℕ) (new : MergeState R) → t' ≡ t
+    pub began_yields : (t' : List ℕ → Option (List ℕ)) (l' : R → List ℕ) (new : MergeState R) → t' ≡ t
         → new.inputs ≡ run.inputs
         → new.names ≡ run.names → IsChanged begin at.depth (change_lines l run) things new.stage (change_lines l' new)
         (things_of l' new) (so_far_of run) (so_far_of new)
         → EmitsLines [] (so_far_of old) (so_far_of new) all (events_to_come t' l' new)
-    began_gives t' l' new texts inputs names changed =
+    began_yields t' l' new texts inputs names changed =
         let here = begins_here at taken.line bytes begin taken.is begun in
-        gives_adds (taken.line ∷ lines) (faults begin) (so_far_of old) (so_far_of new) _ _
+        yields_adds (taken.line ∷ lines) (faults begin) (so_far_of old) (so_far_of new) _ _
         (first ∙ here.2 ∙ ap (λ (es : List Event). map took (taken.line ∷ lines) ++ (map fault (faults begin) ++ es))
         (sym (ap (λ s. merge (world_in t' new.inputs) s)
         (changed.after here.0 here.1 (length (opened_file_names new.names))
-        new.first.items) ∙ (λ i. behind_old (world_in (texts i) (inputs i))
+        new.first.items) ∙ (λ i. later_old (world_in (texts i) (inputs i))
         (length (opened_file_names (names i))) at.depth
         here.0)))) (adds_both [] (faults begin) (taken.line ∷ []) lines (so_far_of old) (so_far_of run) (so_far_of new)
         (adds_one (so_far_of old) (so_far_of run) bytes at.place taken (took_faults only) (took_names only))
@@ -197,7 +197,7 @@ pub untaken : {R : Type 0} (Says : SoFar → List Event → Type 0) (t t' : List
 untaken Says t t' l l' old new bytes texts left settled takes stays only change counted said =
     let things = takes_in l l' left old.stage (lines_at l old.change) old.stack new.stack None bytes
     (counters_of old.limits) (counters_of new.limits) settled takes stays in
-    let told : so_far_of new ≡ so_far_of old = λ i. record {
+    let reported : so_far_of new ≡ so_far_of old = λ i. record {
       faults = (only.faults i).items;
       names = opened_file_names (only.names i);
       count = record { lines = counted.0 i; bytes = counted.1 i };
@@ -208,5 +208,5 @@ untaken Says t t' l l' old new bytes texts left settled takes stays only change 
     (length (opened_file_names (only.names i))) (things_in l' (only.stage i) (lines_at (left i) (change i)) new.stack))
     ∙ ap (λ (ts : List Thing). coming_of t (optional_string_bytes old.inputs) l old.stage old.change old.first.items
     (length (opened_file_names old.names)) ts) (sym things) in
-    subst (λ (s : SoFar). Says s (events_to_come t l old)) told
+    subst (λ (s : SoFar). Says s (events_to_come t l old)) reported
     (subst (λ (es : List Event). Says (so_far_of new) es) come said)

@@ -1,24 +1,25 @@
 -- The written lines of consecutive calls are concatenated.
 use Rattle.cweb_lines.proofs.Common.{◌≡◌, ℕ, List, [], ◌∷◌, ◌++◌, refl, sym, ◌∙◌, IsTrue, append-nil, append_assoc, Writes, Line, Event, SoFar, EmitsLines, Stopped, StopsAfterLines, ReportsPrefix, emitted_lines, written_lines, WritesPrefix, WritesAll, WritesSome, WritesUpTo, HasWritten, StopsWriting, Stop, ReadFault, LineTooLong, TooMuchText, Memory}
 use Rattle.cweb_files.specs.declared.device.Sink.{Ghosts as Sink}
-use Rattle.cweb_lines.proofs.Merges.{gives_nothing}
-use Rattle.cweb_lines.proofs.EmittedLinesAddUp.{given-append, told-append, openings-append, gives_both, behind_both, reads_both}
+use Rattle.cweb_lines.proofs.Merges.{yields_nothing}
+use Rattle.cweb_lines.proofs.EmittedLinesAddUp.{emitted-append, reported-append, openings-append, yields_both, after_both, reads_both}
 
-pub given_front : (lines : List Line) (old new : SoFar) (all later : List Event) → EmitsLines lines old new all later →
+pub emitted_prefix : (lines : List Line) (old new : SoFar) (all later : List Event)
+    → EmitsLines lines old new all later →
     emitted_lines all ≡ lines ++ emitted_lines later
-given_front lines old new all later gives = simp (gives.whole, given-append, gives.given)
+emitted_prefix lines old new all later yields = simp (yields.whole, emitted-append, yields.emitted)
 
-pub gives_all : (lines : List Line) (old new : SoFar) (all later : List Event) → EmitsLines lines old new all later →
+pub yields_all : (lines : List Line) (old new : SoFar) (all later : List Event) → EmitsLines lines old new all later →
     later ≡ [] → EmitsLines (emitted_lines all) old new all []
-gives_all lines old new all later gives none = record {
-  events = gives.events;
-  whole = simp (gives.whole, none);
-  given = simp (given_front lines old new all later gives, gives.given, none, append-nil);
-  faults = gives.faults;
-  names = gives.names;
-  lines_are = gives.lines_are;
-  bytes_are = gives.bytes_are;
-  short = gives.short;
+yields_all lines old new all later yields none = record {
+  events = yields.events;
+  whole = simp (yields.whole, none);
+  emitted = simp (emitted_prefix lines old new all later yields, yields.emitted, none, append-nil);
+  faults = yields.faults;
+  names = yields.names;
+  lines_are = yields.lines_are;
+  bytes_are = yields.bytes_are;
+  short = yields.short;
 }
 
 pub text_of-append : (a b : List Line) → written_lines (a ++ b) ≡ written_lines a ++ written_lines b
@@ -26,49 +27,50 @@ text_of-append [] b = refl
 text_of-append (line ∷ a) b = simp (text_of-append a b, append_assoc)
 
 -- A prefix of the whole output: whole lines, then a prefix of the buffered lines.
-pub front_of_all : (all done gathered now : List Line) (old mid new buffer : List ℕ) → all ≡ done ++ (gathered ++ now) →
-    mid ≡ old ++ written_lines done → buffer ≡ written_lines gathered
+pub prefix_of_all : (all done buffered now : List Line) (old mid new buffer : List ℕ) → all ≡ done ++
+    (buffered ++ now) →
+    mid ≡ old ++ written_lines done → buffer ≡ written_lines buffered
     → WritesPrefix mid new buffer → WritesPrefix old new (written_lines all)
-front_of_all all done gathered now old mid new buffer whole written is front = record {
-  front = written_lines done ++ front.front;
-  rest = front.rest ++ written_lines now;
-  written = simp (front.written, written, append_assoc);
-  whole = simp (whole, text_of-append, sym is ∙ front.whole, append_assoc);
+prefix_of_all all done buffered now old mid new buffer whole written is prefix = record {
+  prefix = written_lines done ++ prefix.prefix;
+  rest = prefix.rest ++ written_lines now;
+  written = simp (prefix.written, written, append_assoc);
+  whole = simp (whole, text_of-append, sym is ∙ prefix.whole, append_assoc);
 }
 
 pub nothing_yet : {W : Type 0} (sink : Sink W) (w : W) (so : SoFar) (all : List Event) →
     HasWritten so so all all (Writes sink w w)
 nothing_yet sink w so all = record {
   lines = [];
-  gives = gives_nothing so so all all refl refl refl refl;
+  yields = yields_nothing so so all all refl refl refl refl;
   wrote = λ tells. sym (append-nil (sink.written w));
 }
 
 module _ {W : Type 0} (sink : Sink W) (first mid : W) (old so : SoFar) (all now : List Event)
     (g : HasWritten old so all now (Writes sink first mid)) where
-  pub written_front : IsTrue (sink.tells first) → WritesPrefix (sink.written first) (sink.written mid)
+  pub written_prefix : IsTrue (sink.tells first) → WritesPrefix (sink.written first) (sink.written mid)
       (written_lines (emitted_lines all))
-  written_front tells = record {
-    front = written_lines g.lines;
+  written_prefix tells = record {
+    prefix = written_lines g.lines;
     rest = written_lines (emitted_lines now);
     written = g.wrote tells;
-    whole = simp (given_front g.lines old so all now g.gives, text_of-append);
+    whole = simp (emitted_prefix g.lines old so all now g.yields, text_of-append);
   }
 
   pub written_whole : (so' : SoFar) (later : List Event) → EmitsLines [] so so' now later → later ≡ [] →
       WritesAll old so' all (Writes sink first mid)
   written_whole so' later next none =
-      let gives = rw append-nil at (gives_both g.lines [] old so so' all now later g.gives next) in
+      let yields = rw append-nil at (yields_both g.lines [] old so so' all now later g.yields next) in
       record {
-        gives = gives_all g.lines old so' all later gives none;
-        wrote = simp (given_front g.lines old so' all later gives, none, append-nil) g.wrote;
+        yields = yields_all g.lines old so' all later yields none;
+        wrote = simp (emitted_prefix g.lines old so' all later yields, none, append-nil) g.wrote;
       }
 
   pub written_some : WritesSome all (Writes sink first mid)
   written_some = record {
     lines = g.lines;
     rest = emitted_lines now;
-    whole = given_front g.lines old so all now g.gives;
+    whole = emitted_prefix g.lines old so all now g.yields;
     wrote = g.wrote;
   }
 
@@ -77,7 +79,7 @@ module _ {W : Type 0} (sink : Sink W) (first mid : W) (old so : SoFar) (all now 
       mid)
   up_to stop new stops = record {
     lines = g.lines;
-    stops = rw append-nil at (behind_both g.lines [] stop old so new all now g.gives stops);
+    stops = rw append-nil at (after_both g.lines [] stop old so new all now g.yields stops);
     wrote = g.wrote;
   }
 
@@ -85,7 +87,7 @@ module _ {W : Type 0} (sink : Sink W) (first mid : W) (old so : SoFar) (all now 
       first mid)
   written_by (ReadFault file) new reads = record {
     lines = g.lines;
-    reads = rw append-nil at (reads_both g.lines [] old so new all now g.gives reads);
+    reads = rw append-nil at (reads_both g.lines [] old so new all now g.yields reads);
     wrote = g.wrote;
   }
   written_by (LineTooLong file) new stops = up_to (LineTooLong file) new stops
@@ -95,25 +97,25 @@ module _ {W : Type 0} (sink : Sink W) (first mid : W) (old so : SoFar) (all now 
 
 pub tells_some : (lines : List Line) (old new : SoFar) (all later : List Event) → EmitsLines lines old new all later →
     ReportsPrefix old new all
-tells_some lines old new all later gives = record {
-  events = gives.events;
+tells_some lines old new all later yields = record {
+  events = yields.events;
   later = later;
-  whole = gives.whole;
+  whole = yields.whole;
   faults =
-      gives.faults;
-  names = gives.names;
+      yields.faults;
+  names = yields.names;
 }
 
 pub tells_more : (lines : List Line) (old mid new : SoFar) (all now : List Event) → EmitsLines lines old mid all now →
     ReportsPrefix mid new now → ReportsPrefix old new all
-tells_more lines old mid new all now gives front = record {
-  events = gives.events ++ front.events;
-  later = front.later;
-  whole = simp (gives.whole, front.whole, append_assoc);
-  faults = simp (front.faults, gives.faults, told-append, append_assoc);
-  names = simp (front.names, gives.names, openings-append, append_assoc);
+tells_more lines old mid new all now yields prefix = record {
+  events = yields.events ++ prefix.events;
+  later = prefix.later;
+  whole = simp (yields.whole, prefix.whole, append_assoc);
+  faults = simp (prefix.faults, yields.faults, reported-append, append_assoc);
+  names = simp (prefix.names, yields.names, openings-append, append_assoc);
 }
 
 pub tells_same : (old mid new : SoFar) (all : List Event) → new ≡ mid → ReportsPrefix old mid all
     → ReportsPrefix old new all
-tells_same old mid new all is front = rw is front
+tells_same old mid new all is prefix = rw is prefix

@@ -3,14 +3,14 @@ use Rattle.std.specs.Prelude.{◌≡◌, ℕ, ◌+◌, ◌≤◌, List, [], ◌�
 use Rattle.cweb_input.specs.OpenSources.{TakenCountersModel, RefusesLine}
 use Rattle.cweb_input.specs.declared.stop.Stop.{Stop}
 use Rattle.cweb_input.specs.Lines.{Line, SourceLine}
-use Rattle.cweb_lines.specs.Merge.{Event, took, given, fault, opening}
+use Rattle.cweb_lines.specs.Merge.{Event, took, emitted, fault, opening}
 use Rattle.cweb_input.specs.declared.fault.SourceFault.{SourceFault}
 use Rattle.cweb_input.specs.declared.limits.TheConstants.{LINES, BYTES, LINE_LENGTH}
 
 -- The lines that are emitted.
 abbrev pub emitted_lines : List Event → List Line
 emitted_lines [] = []
-emitted_lines (given line ∷ events) = line ∷ emitted_lines events
+emitted_lines (emitted line ∷ events) = line ∷ emitted_lines events
 emitted_lines (event ∷ events) = emitted_lines events
 
 -- The faults that are reported.

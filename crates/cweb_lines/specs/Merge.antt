@@ -3,7 +3,7 @@ use Rattle.std.specs.Prelude.{◌≡◌, ℕ, zero, suc, ◌+◌, Bool, true, fa
 use Rattle.std.specs.Prelude.{None, Some, if◌then◌else◌}
 use Rattle.std.specs.Str.{bytes_eq}
 use Rattle.cweb_files.specs.declared.place.Place.{Place}
-use Rattle.cweb_input.specs.Lines.{Line, SourceLine, lines_in, RawLine, Thing, seek, raw, told, passed, raws}
+use Rattle.cweb_input.specs.Lines.{Line, SourceLine, lines_in, RawLine, Thing, seek, raw, reported, passed, raws}
 use Rattle.cweb_input.specs.Include.{World, Found, is_include_line, include_name, found_at}
 use Rattle.cweb_lines.specs.Change.{change_code, at_place, WaitingEntry, sought, OldSide, old_lines}
 use Rattle.cweb_input.specs.declared.limits.TheConstants.{OPEN_FILES}
@@ -16,7 +16,7 @@ use Rattle.cweb_input.specs.declared.fault.SourceFault.{SourceFault}
 -- An event: a line is taken from its file, a merged line is emitted, a fault is reported, or a file is opened.
 pub data Event : Type 0 where
   took : SourceLine → Event
-  given : Line → Event
+  emitted : Line → Event
   fault : SourceFault → Event
   opening : List ℕ → Event
 
@@ -44,11 +44,11 @@ abbrev pub new_at : Option Code → ℕ → SourceLine → List SourceLine → N
 new_at None depth line lines later = new_things (raw (record { source = line; depth = depth; may_match = false }) ∷ [])
     later
 new_at (Some end_side) depth line lines later = record { things = passed line ∷ []; rest = lines }
-new_at (Some code) depth line lines later = new_things (passed line ∷ told (at_place WantsZ line.line.place) ∷ []) later
+new_at (Some code) depth line lines more = new_things (passed line ∷ reported (at_place WantsZ line.line.place) ∷ []) more
 
 -- The new side at the start of these lines.
 abbrev pub new_lines : ℕ → Place → List SourceLine → NewSide
-new_lines depth begin [] = record { things = told (at_place EndedBeforeZ begin) ∷ []; rest = [] }
+new_lines depth begin [] = record { things = reported (at_place EndedBeforeZ begin) ∷ []; rest = [] }
 new_lines depth begin (line ∷ lines) =
     new_at (change_code line.line.bytes) depth line lines (new_lines depth begin lines)
 
@@ -135,7 +135,7 @@ included (b ∷ bs) world s r things = open_include (nat_lt r.depth OPEN_FILES) 
 -- A line that begins no change is obeyed or emitted.
 abbrev pub plain : Bool → World → MergeStateModel → RawLine → List Thing → Next
 plain true world s r things = included (include_name r.source.line.bytes) world s r things
-plain false world s r things = (given r.source.line ∷ [], past s things)
+plain false world s r things = (emitted r.source.line ∷ [], past s things)
 
 -- A line that begins the change of this entry or not.
 abbrev pub at_entry : Bool → WaitingEntry → World → MergeStateModel → RawLine → List Thing → Next
@@ -172,7 +172,7 @@ step_at (seek ∷ things) world s =
       },
     )
 step_at (raw r ∷ things) world s = Some (taking r.source (at_raw s.pending world s r things))
-step_at (told f ∷ things) world s = Some (fault f ∷ [], past s things)
+step_at (reported f ∷ things) world s = Some (fault f ∷ [], past s things)
 step_at (passed line ∷ things) world s = Some (took line ∷ [], past s things)
 
 -- One step of the merge.

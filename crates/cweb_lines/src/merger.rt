@@ -112,7 +112,7 @@ impl<S: Shelf> Merger<S> {
         ensures next { IsTrue (S.tells shelf.old) →
             IfOk result (λ place. NextLine place line.new.items (so_far self.old) (so_far self.new)
             (to_come S.Shelf shelf.old self.old) (to_come S.Shelf shelf.new self.new)) }
-        ensures given { IfOk result (λ place. IfSome place (λ p. EmitsLine p line.new.items
+        ensures emitted { IfOk result (λ place. IfSome place (λ p. EmitsLine p line.new.items
             (so_far self.old) (so_far self.new))) }
         ensures ended { stop_in self.old ≡ None → HasEnded self.old →
             (result ≡ Ok None) × (self.new ≡ self.old) × (shelf.new ≡ shelf.old) }

@@ -24,38 +24,42 @@ use trial::{TrialSink, shelf_of};
 use wanted::*;
 
 /// Appends the count of a fault, if it has one, and ends its line.
-fn describe_count(told: &mut String, count: u32) -> Result<(), Fail> {
+fn describe_count(reported: &mut String, count: u32) -> Result<(), Fail> {
     if count > 0 {
-        write!(told, ": {count}")?;
+        write!(reported, ": {count}")?;
     }
-    told.push('\n')?;
+    reported.push('\n')?;
     Ok(())
 }
 
 /// Appends a fault as a line.
-fn describe_fault(told: &mut String, fault: &SourceFault) -> Result<(), Fail> {
+fn describe_fault(reported: &mut String, fault: &SourceFault) -> Result<(), Fail> {
     let place = fault.place;
     write!(
-        told,
+        reported,
         "{:?} in {} at {}",
         fault.kind, place.file.0, place.line
     )?;
-    describe_count(told, fault.count)
+    describe_count(reported, fault.count)
 }
 
 /// Appends the faults so far, one per line.
-fn describe_faults<S: Shelf>(told: &mut String, merger: &Merger<S>) -> Result<(), Fail> {
+fn describe_faults<S: Shelf>(reported: &mut String, merger: &Merger<S>) -> Result<(), Fail> {
     for fault in merger.faults() {
-        describe_fault(told, fault)?;
+        describe_fault(reported, fault)?;
     }
     Ok(())
 }
 
 /// Appends the names of the files from number `from` on, one per line.
-fn describe_names<S: Shelf>(told: &mut String, merger: &Merger<S>, from: u32) -> Result<(), Fail> {
+fn describe_names<S: Shelf>(
+    reported: &mut String,
+    merger: &Merger<S>,
+    from: u32,
+) -> Result<(), Fail> {
     let names = merger.names();
     for i in from..names.count() {
-        writeln!(told, "{} is {}", i, names.get(FileId(i)))?;
+        writeln!(reported, "{} is {}", i, names.get(FileId(i)))?;
     }
     Ok(())
 }
@@ -64,13 +68,13 @@ fn describe_names<S: Shelf>(told: &mut String, merger: &Merger<S>, from: u32) ->
 fn reports<S: Shelf>(
     rt: &impl Abort,
     merger: &Merger<S>,
-    told: &mut String,
+    reported: &mut String,
     want: &str,
 ) -> Result<(), Fail> {
-    told.clear();
-    describe_faults(told, merger)?;
-    describe_names(told, merger, 0)?;
-    same_string(rt, told.as_str(), want);
+    reported.clear();
+    describe_faults(reported, merger)?;
+    describe_names(reported, merger, 0)?;
+    same_string(rt, reported.as_str(), want);
     Ok(())
 }
 

@@ -15,30 +15,30 @@ counts_from (Ok x) before mid after same counts = counts ∙ same
 counts_from (Err e) before mid after same counts = omega (arith, counts, same)
 
 -- Nothing was appended yet.
-pub gathers_none : {A E : Type 0} {stream : SinkModel} {held : List ℕ} (x : A)
+pub buffers_none : {A E : Type 0} {stream : SinkModel} {held : List ℕ} (x : A)
     → AppendsToLog {A = A} {E = E} [] stream stream held held (Ok x)
-gathers_none {stream} {held} x = record {
+buffers_none {stream} {held} x = record {
   tells = refl;
   counts = refl;
   whole = λ tells first text begun.
       rw (append-nil text) begun;
-  front = λ tells first text begun. tt;
+  prefix = λ tells first text begun. tt;
 }
 
 -- More was appended.
-pub gathers_on : {A E B F : Type 0}
+pub buffers_on : {A E B F : Type 0}
     (x : A) {r : Result B F} {old more : List ℕ} {before mid after : SinkModel} {held between now : List ℕ}
     → AppendsToLog {A = A} {E = E} old before mid held between (Ok x)
     → AppendsToLog more mid after between now r → AppendsToLog (old ++ more) before after held now r
-gathers_on x {r} {old} {more} {before} {mid} {after} {now} came comes = record {
+buffers_on x {r} {old} {more} {before} {mid} {after} {now} came comes = record {
   tells = comes.tells ∙ came.tells;
   counts = counts_from r before.failed mid.failed after.failed came.counts comes.counts;
   whole = λ tells first text begun.
       rw (← (append_assoc text old more))
       (comes.whole (subst IsTrue (sym came.tells) tells) first (text ++ old) (came.whole tells first text begun));
-  front = λ tells first text begun.
+  prefix = λ tells first text begun.
       rw (← (append_assoc text old more))
-      (comes.front (subst IsTrue (sym came.tells) tells) first (text ++ old) (came.whole tells first text begun));
+      (comes.prefix (subst IsTrue (sym came.tells) tells) first (text ++ old) (came.whole tells first text begun));
 }
 
 -- Nothing is pending at first.
@@ -46,37 +46,37 @@ begins : {bytes : List ℕ} → IsWrittenOrBuffered bytes [] bytes []
 begins {bytes} = record { done = []; written_is = sym (append-nil bytes); whole = refl }
 
 -- A prefix of the pending bytes is written.
-behind : {old mid new text held : List ℕ} → IsWrittenOrBuffered old text mid held
+later : {old mid new text held : List ℕ} → IsWrittenOrBuffered old text mid held
     → WritesPrefix mid new held → WritesPrefix old new text
-behind {old} log_buffer front = record {
-  front = log_buffer.done ++ front.front;
-  rest = front.rest;
-  written = front.written ∙ ap (λ (t : List ℕ). t ++ front.front) log_buffer.written_is
-      ∙ append_assoc old log_buffer.done front.front;
-  whole = log_buffer.whole ∙ ap (λ (t : List ℕ). log_buffer.done ++ t) front.whole
-      ∙ sym (append_assoc log_buffer.done front.front front.rest);
+later {old} log_buffer prefix = record {
+  prefix = log_buffer.done ++ prefix.prefix;
+  rest = prefix.rest;
+  written = prefix.written ∙ ap (λ (t : List ℕ). t ++ prefix.prefix) log_buffer.written_is
+      ∙ append_assoc old log_buffer.done prefix.prefix;
+  whole = log_buffer.whole ∙ ap (λ (t : List ℕ). log_buffer.done ++ t) prefix.whole
+      ∙ sym (append_assoc log_buffer.done prefix.prefix prefix.rest);
 }
 
 longer : {old new text : List ℕ} (rest : List ℕ) → WritesPrefix old new text → WritesPrefix old new (text ++ rest)
-longer rest front = record {
-  front = front.front;
-  rest = front.rest ++ rest;
-  written = front.written;
-  whole = ap (λ (t : List ℕ). t ++ rest) front.whole ∙ append_assoc front.front front.rest rest;
+longer rest prefix = record {
+  prefix = prefix.prefix;
+  rest = prefix.rest ++ rest;
+  written = prefix.written;
+  whole = ap (λ (t : List ℕ). t ++ rest) prefix.whole ∙ append_assoc prefix.prefix prefix.rest rest;
 }
 
 -- A fault in a prefix is a fault in the whole.
-pub gathers_front : {A E B F : Type 0}
+pub buffers_prefix : {A E B F : Type 0}
     (e : E) (r : Result B F) {text : List ℕ} (rest : List ℕ) {before after : SinkModel} {held now : List ℕ}
     → AppendsToLog {A = A} text before after held now (Err e)
     → IsErr r → AppendsToLog (text ++ rest) before after held now r
-gathers_front e (Ok x) rest fails is = absurd (cc)
-gathers_front e (Err f) {text} rest {after} fails is = record {
+buffers_prefix e (Ok x) rest fails is = absurd (cc)
+buffers_prefix e (Err f) {text} rest {after} fails is = record {
   tells = fails.tells;
   counts = fails.counts;
   whole = λ tells first old begun. tt;
-  front =
-      λ tells first old begun. rw (← (append_assoc old text rest)) (longer rest (fails.front tells first old begun));
+  prefix =
+      λ tells first old begun. rw (← (append_assoc old text rest)) (longer rest (fails.prefix tells first old begun));
 }
 
 -- The concatenation up to one more element.
@@ -94,31 +94,31 @@ pub joined_split : {X : Type 0} (f : X → List ℕ) (xs : List X) (i : ℕ)
 joined_split f xs i = ap (flat_map f) (sym (take-append-drop i xs)) ∙ flat_map-append f (take i xs) (drop i xs)
 
 -- A fault at an element is a fault of the list.
-pub gathers_failed : {A E B F X : Type 0} (f : X → List ℕ) (xs : List X)
+pub buffers_failed : {A E B F X : Type 0} (f : X → List ℕ) (xs : List X)
     (i : ℕ) (d : X) (x : A) (e : E) {r : Result B F} {before mid after : SinkModel} {held between now : List ℕ}
     → i < length xs → AppendsToLog {A = A} {E = E} (flat_map f (take i xs)) before mid held between (Ok x)
     → AppendsToLog {A = A} (f (get_or xs i d)) mid after between now (Err e)
     → IsErr r → AppendsToLog (flat_map f xs) before after held now r
-gathers_failed f xs i d x e {r} {before} {after} {held} {now} lt came fails is =
+buffers_failed f xs i d x e {r} {before} {after} {held} {now} lt came fails is =
     rw (joined_split f xs (i + 1) ∙ ap (λ (t : List ℕ). t ++ flat_map f (drop (i + 1) xs)) (joined_next f xs i d lt))
-    (gathers_front e r (flat_map f (drop (i + 1) xs)) (gathers_on x came fails) is)
+    (buffers_prefix e r (flat_map f (drop (i + 1) xs)) (buffers_on x came fails) is)
 
 -- One more element was appended.
-pub gathers_next : {A E X : Type 0}
+pub buffers_next : {A E X : Type 0}
     (f : X → List ℕ) (xs : List X) (i : ℕ) (d : X) (x y : A) {before mid after : SinkModel}
     {held between now : List ℕ}
     → i < length xs → AppendsToLog {A = A} {E = E} (flat_map f (take i xs)) before mid held between (Ok x)
     → AppendsToLog {A = A} {E = E} (f (get_or xs i d)) mid after between now (Ok y)
     → AppendsToLog {A = A} {E = E} (flat_map f (take (i + 1) xs)) before after held now (Ok y)
-gathers_next {A = A} {E = E} f xs i d x y {before} {after} {held} {now} lt came comes =
-    rw (joined_next f xs i d lt) (gathers_on x came comes)
+buffers_next {A = A} {E = E} f xs i d x y {before} {after} {held} {now} lt came comes =
+    rw (joined_next f xs i d lt) (buffers_on x came comes)
 
 -- All elements were appended.
-pub gathers_all : {A E X : Type 0}
+pub buffers_all : {A E X : Type 0}
     (f : X → List ℕ) (xs : List X) (i : ℕ) (x : A) {before after : SinkModel} {held now : List ℕ}
     → length xs ≤ i → AppendsToLog {A = A} {E = E} (flat_map f (take i xs)) before after held now (Ok x)
     → AppendsToLog {A = A} {E = E} (flat_map f xs) before after held now (Ok x)
-gathers_all f xs i x le came = rw take_all at came
+buffers_all f xs i x le came = rw take_all at came
 
 -- Nothing was buffered before, and the buffer is flushed at the end.
 pub writes_all : {A E B F : Type 0}
@@ -135,20 +135,20 @@ writes_all x {r} {text} {before} {mid} {after} {held} came writes =
           (λ (t : List ℕ). t ++ held) (log_buffer tells).written_is
           ∙ append_assoc before.bytes (log_buffer tells).done held
           ∙ ap (λ (t : List ℕ). before.bytes ++ t) (sym (log_buffer tells).whole)) (writes.whole (tells_mid tells));
-      front = λ tells. on_err r _ _ (behind (log_buffer tells))
-          (writes.front (tells_mid tells));
+      prefix = λ tells. on_err r _ _ (later (log_buffer tells))
+          (writes.prefix (tells_mid tells));
     }
 
 -- Nothing was buffered before, and a part fails.
-pub writes_front : {A E B F : Type 0} (e : E) (r : Result B F) {text : List ℕ} {before after : SinkModel}
+pub writes_prefix : {A E B F : Type 0} (e : E) (r : Result B F) {text : List ℕ} {before after : SinkModel}
     {held : List ℕ} → AppendsToLog {A = A} text before after [] held (Err e) → IsErr r
     → WritesToStream text before after r
-writes_front e (Ok x) fails is = absurd (cc)
-writes_front e (Err f) {before} fails is = record {
+writes_prefix e (Ok x) fails is = absurd (cc)
+writes_prefix e (Err f) {before} fails is = record {
   tells = fails.tells;
   counts = fails.counts;
   whole = λ tells. tt;
-  front = λ tells. fails.front tells before.bytes [] (begins);
+  prefix = λ tells. fails.prefix tells before.bytes [] (begins);
 }
 
 -- The lines of a list of items.
@@ -164,11 +164,11 @@ logs_by (Ok x) {text} writes = record {
   tells = writes.tells;
   once = inl writes.counts;
   whole = λ tells same. writes.whole tells;
-  front = λ tells. record { front = text; rest = []; written = writes.whole tells; whole = sym (append-nil text) };
+  prefix = λ tells. record { prefix = text; rest = []; written = writes.whole tells; whole = sym (append-nil text) };
 }
 logs_by (Err e) writes = record {
   tells = writes.tells;
   once = inr writes.counts;
   whole = λ tells same. absurd (omega (arith, writes.counts, same));
-  front = writes.front;
+  prefix = writes.prefix;
 }

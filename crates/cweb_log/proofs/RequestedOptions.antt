@@ -24,21 +24,21 @@ asks words shown web change out some first second third few = ap (by_shown words
     ∙ ap (λ c. named_by web c (slice_get (other_words words) 2)) (sym second)
     ∙ ap (λ o. named_by web change o) (sym third))
 
-pub ok_from : (r : Result Options Stop) (asked : Option OptionsModel) (names : Option TangleNames) (shown : Shown)
-    → asked ≡ option_map (with_shown shown) names → IfOk r (λ read. names ≡ Some (options_of read).names)
-    → IfOk r (λ read. (options_of read).shown ≡ shown) → IfOk r (λ read. asked ≡ Some (options_of read))
-ok_from (Ok read) asked names shown is named shows =
+pub ok_from : (r : Result Options Stop) (args : Option OptionsModel) (names : Option TangleNames) (shown : Shown)
+    → args ≡ option_map (with_shown shown) names → IfOk r (λ read. names ≡ Some (options_of read).names)
+    → IfOk r (λ read. (options_of read).shown ≡ shown) → IfOk r (λ read. args ≡ Some (options_of read))
+ok_from (Ok read) args names shown is named shows =
     is ∙ ap (option_map (with_shown shown)) named ∙ ap (λ s. Some (with_shown s (options_of read).names)) (sym shows)
-ok_from (Err stop) asked names shown is named shows = tt
+ok_from (Err stop) args names shown is named shows = tt
 
 names_none : (shown : Shown) (names : Option TangleNames) → option_map (with_shown shown) names ≡ None → names ≡ None
 names_none shown None is = refl
 names_none shown (Some n) is = absurd (grind (arith, is))
 
-pub usage_from : (r : Result Options Stop) (asked : Option OptionsModel) (names : Option TangleNames) (shown : Shown)
-    → asked
-    ≡ option_map (with_shown shown) names → (IsErrOf r Usage ↔ (names ≡ None)) → (IsErrOf r Usage ↔ (asked ≡ None))
-usage_from r asked names shown is both = (
+pub usage_from : (r : Result Options Stop) (args : Option OptionsModel) (names : Option TangleNames) (shown : Shown)
+    → args
+    ≡ option_map (with_shown shown) names → (IsErrOf r Usage ↔ (names ≡ None)) → (IsErrOf r Usage ↔ (args ≡ None))
+usage_from r args names shown is both = (
   λ usage. is ∙ ap (option_map (with_shown shown)) (both.0 usage),
   λ none. both.1 (names_none shown names (sym is ∙ none)),
 )

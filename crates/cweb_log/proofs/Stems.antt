@@ -2,30 +2,30 @@
 use Rattle.cweb_log.proofs.Common.{◌≡◌, ◌≢◌, ◌<◌, ◌+◌, ◌-◌, ℕ, suc, true, false, not, List, [], ◌∷◌, length, take, drop, get_or, None, Some, refl, sym, ◌∙◌, ap, eq-eqb, arith, ne_eqb, list_any_at, suffix_len_is, after_last, before_last, list_any, suffix_len, slice_get, ◌==◌, if◌then◌else◌, named_by, names_by, stem, is_dot, is_slash, same_Some}
 
 -- The number of bytes after the last one of a kind.
-behind : (c : ℕ) (bs : List ℕ) (k : ℕ) → k < length bs → get_or bs k 0 ≡ c
+after : (c : ℕ) (bs : List ℕ) (k : ℕ) → k < length bs → get_or bs k 0 ≡ c
     → ((i : ℕ) → k < i → i < length bs → get_or bs i 0 ≢ c) → suffix_len (λ b. not (b == c)) bs ≡ length bs - (k + 1)
-behind c bs k within is none =
+after c bs k within is none =
     suffix_len_is (λ b. not (b == c)) bs (k + 1) 0 (omega (arith, within)) (λ i from l. ap not (ne_eqb _ c
     (none i (omega (arith, from)) l))) (λ _. ap not (eq-eqb _ c (ap (λ n. get_or bs n 0) (omega arith) ∙ is)))
 
-all_behind : (c : ℕ) (bs : List ℕ) → ((i : ℕ) → i < length bs → get_or bs i 0 ≢ c)
+all_after : (c : ℕ) (bs : List ℕ) → ((i : ℕ) → i < length bs → get_or bs i 0 ≢ c)
     → suffix_len (λ b. not (b == c)) bs ≡ length bs - 0
-all_behind c bs none = suffix_len_is (λ b. not (b == c)) bs 0 0
+all_after c bs none = suffix_len_is (λ b. not (b == c)) bs 0 0
     (omega arith) (λ i from l. ap not (ne_eqb _ c (none i l))) (λ some. absurd (omega (arith, some)))
 
 pub after_found : (c : ℕ) (bs : List ℕ) (k : ℕ) → k < length bs → get_or bs k 0 ≡ c
     → ((i : ℕ) → k < i → i < length bs → get_or bs i 0 ≢ c) → after_last (λ b. b == c) bs ≡ drop (k + 1) bs
-after_found c bs k within is none = ap (λ n. drop n bs) (omega (arith, within, behind c bs k within is none))
+after_found c bs k within is none = ap (λ n. drop n bs) (omega (arith, within, after c bs k within is none))
 
 pub after_none : (c : ℕ) (bs : List ℕ) → ((i : ℕ) → i < length bs → get_or bs i 0 ≢ c)
     → after_last (λ b. b == c) bs ≡ bs
 after_none c bs none =
-    let all : length bs - suffix_len (λ b. not (b == c)) bs ≡ 0 = omega (arith, all_behind c bs none) in
+    let all : length bs - suffix_len (λ b. not (b == c)) bs ≡ 0 = omega (arith, all_after c bs none) in
     ap (λ n. drop n bs) all
 
 pub before_found : (c : ℕ) (bs : List ℕ) (k : ℕ) → k < length bs → get_or bs k 0 ≡ c
     → ((i : ℕ) → k < i → i < length bs → get_or bs i 0 ≢ c) → before_last (λ b. b == c) bs ≡ take k bs
-before_found c bs k within is none = ap (λ n. take n bs) (omega (arith, within, behind c bs k within is none))
+before_found c bs k within is none = ap (λ n. take n bs) (omega (arith, within, after c bs k within is none))
 
 pub has_found : (c : ℕ) (bs : List ℕ) (k : ℕ) → k < length bs → get_or bs k 0 ≡ c → list_any (λ b. b == c) bs ≡ true
 has_found c bs k within is = list_any_at (λ b. b == c) bs k 0 within (eq-eqb _ c is)

@@ -18,7 +18,7 @@ record Computed : Type 0 where
   main_by_a_word : names_by (codes "a" ∷ codes "-" ∷ codes "out" ∷ [])
       ≡ Some (names (codes "a.w") (codes "a.web") (codes "out.c"))
   -- ctangle a +s -bph
-  options_behind : options_by (codes "a" ∷ codes "+s" ∷ codes "-bph" ∷ [])
+  options_after : options_by (codes "a" ∷ codes "+s" ∷ codes "-bph" ∷ [])
       ≡ Some (record {
         shown = record { banner = false; progress = false; closing = false; statistics = true };
         names = names (codes "a.w") (codes "a.web") (codes "a.c");

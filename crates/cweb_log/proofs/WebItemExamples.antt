@@ -66,12 +66,13 @@ record Computed : Type 0 where
       ++ codes "u.w:15: ! Definition dropped, no identifier\n"
   name_lines : flat_map line (name_items faulty) ≡ codes "! Ambiguous prefix: <a...>\n! Never given in full: <z...>\n"
       ++ codes "! Name is a prefix of another: <ab>\n! Not present: <q.h>\n"
-  cycle_told : refusal_message endless (codes "c.c")
+  cycle_reported : refusal_message endless (codes "c.c")
       (cycle (cycle_from endless (first_endless endless (program endless))))
       ≡ codes "Cycle: <A> <B> <A>"
-  same_name_told : refusal_message one_file (codes "h.c") (same_name (id 0)) ≡ codes "Two outputs with one name: <h.c>"
-  bad_name_told : refusal_message one_file (codes "c.c") (bad_name (Some (id 0))) ≡ codes "Bad output name: <h.c>"
-  bad_main_told : refusal_message one_file (codes "..") (bad_name None) ≡ codes "Bad output name: <..>"
+  same_name_reported : refusal_message one_file (codes "h.c")
+      (same_name (id 0)) ≡ codes "Two outputs with one name: <h.c>"
+  bad_name_reported : refusal_message one_file (codes "c.c") (bad_name (Some (id 0))) ≡ codes "Bad output name: <h.c>"
+  bad_main_reported : refusal_message one_file (codes "..") (bad_name None) ≡ codes "Bad output name: <..>"
 
 computed : Computed
 unfolding digits

@@ -19,7 +19,6 @@ pub use Rattle.std.specs.List.{AllByRecursion, list_any, starts_with, position_o
 pub use Rattle.std.specs.Map.{lookup, keys_of}
 pub use Rattle.std.specs.Ordering.{nat_cmp, ordering_then, match_ordering, is_eq, is_le, ordering_reverse}
 pub use Rattle.std.specs.Prelude.{Err, bytes_eq, if◌then◌else◌, nat_eq, filter, option_map, slice_get, unwrap_or}
-pub use Rattle.std.specs.declared.cmp.Ordering.{Ordering}
 pub use Rattle.std.specs.declared.cmp.Ordering.TheVariants.{Less, Equal, Greater}
 pub use Rattle.cweb_texts.specs.inner.Keys.{AreBytes}
 pub use Rattle.cweb_names.specs.Names.{is_prefix_of_another, Occurrence, Name, Resolution, id, spellings}

@@ -21,12 +21,6 @@ found-cons e [] = refl
 found-cons e (f ∷ []) = refl
 found-cons e (f ∷ g ∷ es) = refl
 
-pub grown-swap : (a v : NameId) (b : Bool) (f : Found) → grown true a (grown b v f) ≡ grown b v (grown true a f)
-grown-swap a v false f = refl
-grown-swap a v true Nothing = refl
-grown-swap a v true (One n) = refl
-grown-swap a v true Several = refl
-
 found-one : (b : Bool) (e : NameEntry) (es : List NameEntry) → found (cond b (e ∷ es) es) ≡ grown b e.1 (found es)
 found-one true e es = found-cons e es
 found-one false e es = refl

@@ -15,7 +15,7 @@ stays : (es : List NameEntry) (ns : List Name) (text : List ℕ) (v : NameId) �
     → IsStrictlySortedBy compare_bytes (keys_of es) → lookup (is_at (compare_bytes text)) es ≡ Some v
     → Stays es ns text v
 stays es ns text v known sorted there =
-    let some = number-some 0 text ns v (sym (known.gives text) ∙ there) in
+    let some = number-some 0 text ns v (sym (known.yields text) ∙ there) in
     let place : v.0 ≡ position_or_len (bytes_eq text) (spellings ns) = omega (arith, some.1) in
     record {
       same = insert-same es text v sorted there;
@@ -52,5 +52,5 @@ known-new es ns text next v known sorted is last =
       | Some w ↦ λ there g.
           let low = (stays es ns text w known sorted there).below in
           absurd (let no : ⊥ = omega (arith, low, last, ap (λ (x : NameId). x.0) g) in no)
-      | None ↦ λ there g. number-none 0 text ns (sym (known.gives text) ∙ there)
+      | None ↦ λ there g. number-none 0 text ns (sym (known.yields text) ∙ there)
     ]) refl is

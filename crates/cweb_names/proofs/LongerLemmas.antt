@@ -1,7 +1,7 @@
 -- Longer names that begin with a spelling.
 use Rattle.cweb_names.proofs.Common.{◌≡◌, ℕ, zero, suc, ◌+◌, ◌<◌, Bool, true, false, not, ◌||◌, ◌&&◌, List, [], ◌∷◌, Some, length, refl, sym, ◌∙◌, ap, arith, bytes_eq, if◌then◌else◌, nat_eq, slice_get, option_map, list_any, starts_with, take-length, bytes_eq-Decides, NameId, Found, Nothing, Name, id, spellings, beginning_from, beginning, found_of, is_several, Distinct, is_prefix_of_another, not-not}
 use Rattle.cweb_names.proofs.InsertLemmas.{grown, found-first}
-use Rattle.cweb_names.proofs.NameLemmas.{bytes_eq-same, bytes_eq-sym, front_at}
+use Rattle.cweb_names.proofs.NameLemmas.{bytes_eq-same, bytes_eq-sym, prefix_at}
 
 is_nothing : Found → Bool
 is_nothing Nothing = true
@@ -91,4 +91,4 @@ pub prefix-several : (ns : List Name) (i : ℕ) (text : List ℕ)
     → Distinct (spellings ns) → i < length ns → option_map (λ (n : Name). n.text) (slice_get ns i) ≡ Some text
     → option_map
     (λ (n : Name). is_prefix_of_another ns n.text) (slice_get ns i) ≡ Some (is_several (found_of (beginning text ns)))
-prefix-several ns i text d h is = grind (arith, front_at ns i h, several-longer 0, any-there ns i)
+prefix-several ns i text d h is = grind (arith, prefix_at ns i h, several-longer 0, any-there ns i)

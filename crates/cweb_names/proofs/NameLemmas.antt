@@ -14,16 +14,16 @@ bytes_eq-sym a b = grind (arith, bytes_eq-Decides b a, bytes_eq-Decides a b, no_
     no_more false f = refl
 
 -- The item at an index, and the rest after it.
-pub record Front {X : Type 0} (xs : List X) (i : ℕ) : Type 0 where
+pub record Prefix {X : Type 0} (xs : List X) (i : ℕ) : Type 0 where
   pub item : X
   pub there : slice_get xs i ≡ Some item
-  pub front : drop i xs ≡ item ∷ drop (suc i) xs
+  pub prefix : drop i xs ≡ item ∷ drop (suc i) xs
 
-pub front_at : {X : Type 0} (xs : List X) (i : ℕ) → i < length xs → Front xs i
-front_at [] i h = absurd (omega arith)
-front_at (x ∷ xs) zero h = record { item = x; there = refl; front = refl }
-front_at (x ∷ xs) (suc i) h =
-    let rest = front_at xs i (omega arith) in record { item = rest.item; there = rest.there; front = rest.front }
+pub prefix_at : {X : Type 0} (xs : List X) (i : ℕ) → i < length xs → Prefix xs i
+prefix_at [] i h = absurd (omega arith)
+prefix_at (x ∷ xs) zero h = record { item = x; there = refl; prefix = refl }
+prefix_at (x ∷ xs) (suc i) h =
+    let rest = prefix_at xs i (omega arith) in record { item = rest.item; there = rest.there; prefix = rest.prefix }
 
 pub record Neither (a b : Bool) : Type 0 where
   pub left : a ≡ false
@@ -118,12 +118,12 @@ pub known-push : (es : List NameEntry) (ns : List Name) (key : List ℕ) (first 
 known-push es ns key first v known new last =
     let n : Name = record { text = key; first = first } in
     record {
-      finds = λ p. found-insert p es key v (known.gives key ∙ number-new 0 key ns new)
+      finds = λ p. found-insert p es key v (known.yields key ∙ number-new 0 key ns new)
           ∙ ap (grown (starts_with nat_eq key p) v) (known.finds p)
           ∙ ap (λ w. grown (starts_with nat_eq key p) w (found_of (beginning p ns))) last
           ∙ sym (beginning-push 0 p ns n (length ns) (omega arith));
-      gives = λ q.
-          lookup-inserted es key v q ∙ ap (λ r. cond (bytes_eq q key) (Some v) r) (known.gives q)
+      yields = λ q.
+          lookup-inserted es key v q ∙ ap (λ r. cond (bytes_eq q key) (Some v) r) (known.yields q)
           ∙ ap (λ w. cond (bytes_eq q key) (Some w) (id_of_spelling 0 q ns)) last
           ∙ sym (number-push 0 q ns n (length ns) (omega arith) new);
       distinct = subst Distinct (sym (strings-push ns n)) (Distinct-push (spellings ns) key known.distinct new);

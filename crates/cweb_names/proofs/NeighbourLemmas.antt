@@ -20,12 +20,6 @@ unfolding IsStrictlySortedBy
 next-some p [] above sorted = refl
 next-some p (e ∷ es) above sorted = grind (arith, is_some, none-begins p e.0 es (ap is_le above.0))
 
-few : (e : NameEntry) (es : List NameEntry) (b : Bool) → is_some es ≡ false
-    → is_several (found (cond b (e ∷ es) es)) ≡ false
-few e [] true h = refl
-few e [] false h = refl
-few e (f ∷ es) b h = cc
-
 two : (e : NameEntry) (es : List NameEntry) → is_some es ≡ true → is_several (found (e ∷ es)) ≡ true
 two e [] h = cc
 two e (f ∷ es) h = refl
@@ -101,7 +95,7 @@ some-next [] sorted some = cc
 some-next (e ∷ es) sorted some = (elim (next_begins e.0 (keys_of es)) as (λ b. next_begins e.0 (keys_of es) ≡ b
     → (b || any_next (keys_of es)) ≡ true → Several (e ∷ es)) [
       | true ↦ λ is g.
-          let behind : is_some (filter (entry_has_prefix e.0) es) ≡ true = sym (next-some e.0 es sorted.0 sorted.1)
+          let after : is_some (filter (entry_has_prefix e.0) es) ≡ true = sym (next-some e.0 es sorted.0 sorted.1)
           ∙ is in
           record {
             text = e.0;
@@ -109,7 +103,7 @@ some-next (e ∷ es) sorted some = (elim (next_begins e.0 (keys_of es)) as (λ b
             there = ap (λ b. cond b (Some e.1) (lookup (is_at (compare_bytes e.0)) es)) (at-itself e.0);
             several = ap (λ b. is_several
                 (found (cond b (e ∷ filter (entry_has_prefix e.0) es) (filter (entry_has_prefix e.0) es))))
-                (starts-same e.0) ∙ two e (filter (entry_has_prefix e.0) es) behind;
+                (starts-same e.0) ∙ two e (filter (entry_has_prefix e.0) es) after;
           }
       | false ↦ λ is g.
           let rest = some-next es sorted.1 g in
@@ -149,12 +143,12 @@ next-prefix es ns known sorted =
       | true ↦ λ is.
           let s = some-next es sorted is in
           let there : list_any (bytes_eq s.text) (spellings ns) ≡ true =
-          (number-some 0 s.text ns s.value (sym (known.gives s.text) ∙ s.there)).0 in
+          (number-some 0 s.text ns s.value (sym (known.yields s.text) ∙ s.there)).0 in
           sym (any-same s.text (is_prefix_of_another ns) (spellings ns) (sym (longer s.text there) ∙ s.several) there)
       | false ↦ λ is. sym (any-none (is_prefix_of_another ns) ns (λ i n here.
           let there = any-there ns i n here in
           let v = number-there n.text ns there in
-          sym (longer n.text there) ∙ none-next es sorted is n.text v.0 (known.gives n.text ∙ v.1)))
+          sym (longer n.text there) ∙ none-next es sorted is n.text v.0 (known.yields n.text ∙ v.1)))
     ]) refl
 
 pub insert-same : (es : List NameEntry) (k : List ℕ) (v : NameId) → IsStrictlySortedBy compare_bytes (keys_of es)

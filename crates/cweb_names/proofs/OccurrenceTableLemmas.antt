@@ -1,6 +1,6 @@
 -- The contents of a table of occurrences.
 use Rattle.cweb_names.proofs.Common.{◌≡◌, ℕ, ◌+◌, ◌<◌, List, [], ◌∷◌, ◌++◌, map, length, drop, refl, sym, ◌∙◌, ap, subst, arith, length-append, slice_get, Some, Found, OccurrenceForm, Occurrence, Name, with_occurrence_name, names_from, resolved_among, resolutions_from, resolutions, occurrence_of, too_many, early, earlies_from, by_found, IsOccurrenceTable, resolve, resolve_all, occurrence_form, occurrences_at, occurrence_text, slice_get_within, ◌≤◌}
-use Rattle.cweb_names.proofs.NameLemmas.{front_at}
+use Rattle.cweb_names.proofs.NameLemmas.{prefix_at}
 use Rattle.cweb_names.proofs.OccurrenceLemmas.{names_from-push, earlies_from-push, late, resolve-one}
 
 pub occurrences-count : (ts : List (List ℕ)) (gs : List OccurrenceForm)
@@ -17,12 +17,12 @@ occurrences-push [] (h ∷ gs) t g e = absurd (let none : ⊥ = omega arith in n
 occurrences-push (u ∷ ts) [] t g e = absurd (let none : ⊥ = omega arith in none)
 occurrences-push (u ∷ ts) (h ∷ gs) t g e = cc (occurrences-push ts gs t g (omega arith))
 
-pub given-push : (known more : List Name) (ts : List (List ℕ)) (gs : List OccurrenceForm)
+pub forms-push : (known more : List Name) (ts : List (List ℕ)) (gs : List OccurrenceForm)
     (fs : List Found) (t : List ℕ) (g : OccurrenceForm) (f : Found) → IsOccurrenceTable known ts gs fs
     → length gs + 1 < too_many → f ≡ early known (occurrence_of t g.how g.is_file)
     → more ≡ with_occurrence_name (length gs) known (occurrence_of t g.how g.is_file) →
     IsOccurrenceTable more (ts ++ t ∷ []) (gs ++ g ∷ []) (fs ++ f ∷ [])
-given-push known more ts gs fs t g f tied few found new =
+forms-push known more ts gs fs t g f tied few found new =
     grind (
       arith,
       occurrences-count ts gs (omega (arith, tied.count)),
@@ -54,12 +54,12 @@ strings-back [] (g ∷ gs) e = absurd (let none : ⊥ = omega arith in none)
 strings-back (t ∷ ts) [] e = absurd (let none : ⊥ = omega arith in none)
 strings-back (t ∷ ts) (g ∷ gs) e = ap (λ us. t ∷ us) (strings-back ts gs (omega arith))
 
-pub given-back : (ts : List (List ℕ)) (gs : List OccurrenceForm) → length ts ≡ length gs
+pub forms-back : (ts : List (List ℕ)) (gs : List OccurrenceForm) → length ts ≡ length gs
     → map occurrence_form (occurrences_at ts gs) ≡ gs
-given-back [] [] e = refl
-given-back [] (g ∷ gs) e = absurd (let none : ⊥ = omega arith in none)
-given-back (t ∷ ts) [] e = absurd (let none : ⊥ = omega arith in none)
-given-back (t ∷ ts) (g ∷ gs) e = ap (λ hs. g ∷ hs) (given-back ts gs (omega arith))
+forms-back [] [] e = refl
+forms-back [] (g ∷ gs) e = absurd (let none : ⊥ = omega arith in none)
+forms-back (t ∷ ts) [] e = absurd (let none : ⊥ = omega arith in none)
+forms-back (t ∷ ts) (g ∷ gs) e = ap (λ hs. g ∷ hs) (forms-back ts gs (omega arith))
 
 resolve-from : (i : ℕ) (before : List Name) (ts : List (List ℕ)) (gs : List OccurrenceForm) (fs : List Found)
     (all : List Name)
@@ -95,4 +95,4 @@ resolve-count known (t ∷ ts) [] e = absurd (let none : ⊥ = omega arith in no
 resolve-count known (t ∷ ts) (f ∷ fs) e = omega (arith, resolve-count known ts fs (omega arith))
 
 pub drop-at : {X : Type 0} (xs : List X) (i : ℕ) (x : X) → slice_get xs i ≡ Some x → drop i xs ≡ x ∷ drop (i + 1) xs
-drop-at xs i x here = grind (arith, front_at xs i (slice_get_within xs i x here))
+drop-at xs i x here = grind (arith, prefix_at xs i (slice_get_within xs i x here))

@@ -1,22 +1,9 @@
 -- Spellings with a common prefix are adjacent in a sorted list.
-use Rattle.cweb_names.proofs.Common.{◌≡◌, ℕ, ◌<◌, Bool, true, false, cond, ◌&&◌, List, [], ◌∷◌, map, filter, refl, sym, ◌∙◌, ap, subst, arith, eq-eqb, nat_eq, starts_with, AllByRecursion, keys_of, nat_cmp, ordering_then, is_le, slice_cmp, Ordering, Less, Equal, eqb-true, nat_tests, Nothing, One, Several, NameEntry, compare_bytes, entry_has_prefix, ids_with_prefix, found_of}
+use Rattle.cweb_names.proofs.Common.{◌≡◌, ℕ, Bool, true, false, cond, ◌&&◌, List, [], ◌∷◌, map, filter, refl, sym, ◌∙◌, ap, subst, arith, eq-eqb, nat_eq, starts_with, AllByRecursion, keys_of, nat_cmp, is_le, slice_cmp, Less, Equal, eqb-true, nat_tests, Nothing, One, Several, NameEntry, compare_bytes, entry_has_prefix, ids_with_prefix, found_of}
 use Rattle.std.specs.List.Sorted.{IsStrictlySortedBy}
-
-nat_less : (x y : ℕ) → nat_cmp x y ≡ Less → x < y
-nat_less x y h = grind (arith, nat_tests)
-
-nat_equal : (x y : ℕ) → nat_cmp x y ≡ Equal → x ≡ y
-nat_equal x y h = grind (arith, nat_tests)
 
 nat_same : (x : ℕ) → nat_cmp x x ≡ Equal
 nat_same x = grind (arith, nat_tests)
-
-abbrev Step : ℕ → ℕ → Ordering → Ordering → Type 0
-Step x y r s = (x ≡ y) × (is_le r ≡ true) × (s ≡ Less)
-
-step : (x y z : ℕ) (r s : Ordering) → x ≡ z → is_le (ordering_then (nat_cmp x y) r) ≡ true
-    → ordering_then (nat_cmp y z) s ≡ Less → Step x y r s
-step x y z r s xz h g = grind (arith, Step x y r s, nat_less x y, nat_less y z, nat_equal y z, nat_equal x y)
 
 both : (x z : ℕ) (b : Bool) → (nat_eq x z && b) ≡ true → (x ≡ z) × (b ≡ true)
 both x z b h = grind (arith, eqb-true x z)

@@ -7,13 +7,13 @@ worth zero = 1
 worth (suc n) = 256 * worth n
 
 -- The number that the first `n` bytes form.
-abbrev front_from : ℕ → List ℕ → ℕ
-front_from zero text = 0
-front_from (suc n) [] = 0
-front_from (suc n) (b ∷ text) = b * worth n + front_from n text
+abbrev prefix_from : ℕ → List ℕ → ℕ
+prefix_from zero text = 0
+prefix_from (suc n) [] = 0
+prefix_from (suc n) (b ∷ text) = b * worth n + prefix_from n text
 
-behind : (b : ℕ) (text : List ℕ) → AreBytes (b ∷ text) → AreBytes text
-behind b text all = λ i. all (suc i)
+after : (b : ℕ) (text : List ℕ) → AreBytes (b ∷ text) → AreBytes text
+after b text all = λ i. all (suc i)
 
 -- A greater byte outweighs all bytes after it.
 rise : (a b w x : ℕ) → a < b → x < w → a * w + x < b * w
@@ -25,11 +25,11 @@ some-worth : (n : ℕ) → 0 < worth n
 some-worth zero = omega arith
 some-worth (suc n) = omega (arith, some-worth n)
 
-front-small : (n : ℕ) (text : List ℕ) → AreBytes text → front_from n text < worth n
-front-small zero text all = omega arith
-front-small (suc n) [] all = some-worth (suc n)
-front-small (suc n) (b ∷ text) all =
-    rise b 256 (worth n) (front_from n text) (all 0) (front-small n text (behind b text all))
+prefix-small : (n : ℕ) (text : List ℕ) → AreBytes text → prefix_from n text < worth n
+prefix-small zero text all = omega arith
+prefix-small (suc n) [] all = some-worth (suc n)
+prefix-small (suc n) (b ∷ text) all =
+    rise b 256 (worth n) (prefix_from n text) (all 0) (prefix-small n text (after b text all))
 
 cmp-less : (x y : ℕ) → x < y → nat_cmp x y ≡ Less
 cmp-less x y h = grind (arith, nat_tests)
@@ -53,44 +53,44 @@ above-none : (n : ℕ) → (0 ≡ n → ⊥) → 0 < n
 above-none zero other = absurd (other refl)
 above-none (suc n) other = omega arith
 
-fronts-from : (n : ℕ) (s t : List ℕ) → AreBytes s → AreBytes t → (front_from n s ≡ front_from n t → ⊥)
-    → nat_cmp (front_from n s) (front_from n t) ≡ slice_cmp nat_cmp s t
-fronts-from zero s t all_s all_t other = absurd (other refl)
-fronts-from (suc n) [] [] all_s all_t other = absurd (other refl)
-fronts-from (suc n) [] (b ∷ t) all_s all_t other =
-    cmp-less 0 (front_from (suc n) (b ∷ t)) (above-none (front_from (suc n) (b ∷ t)) other)
-fronts-from (suc n) (a ∷ s) [] all_s all_t other =
-    cmp-greater (front_from (suc n) (a ∷ s)) 0 (above-none (front_from (suc n) (a ∷ s)) (λ e. other (sym e)))
-fronts-from (suc n) (a ∷ s) (b ∷ t) all_s all_t other =
+prefixes-from : (n : ℕ) (s t : List ℕ) → AreBytes s → AreBytes t → (prefix_from n s ≡ prefix_from n t → ⊥)
+    → nat_cmp (prefix_from n s) (prefix_from n t) ≡ slice_cmp nat_cmp s t
+prefixes-from zero s t all_s all_t other = absurd (other refl)
+prefixes-from (suc n) [] [] all_s all_t other = absurd (other refl)
+prefixes-from (suc n) [] (b ∷ t) all_s all_t other =
+    cmp-less 0 (prefix_from (suc n) (b ∷ t)) (above-none (prefix_from (suc n) (b ∷ t)) other)
+prefixes-from (suc n) (a ∷ s) [] all_s all_t other =
+    cmp-greater (prefix_from (suc n) (a ∷ s)) 0 (above-none (prefix_from (suc n) (a ∷ s)) (λ e. other (sym e)))
+prefixes-from (suc n) (a ∷ s) (b ∷ t) all_s all_t other =
     let w = worth n in
-    let x = front_from n s in
-    let y = front_from n t in
+    let x = prefix_from n s in
+    let y = prefix_from n t in
     (elim (nat_cmp a b) as (λ o. nat_cmp a b ≡ o
     → nat_cmp (a * w + x) (b * w + y) ≡ ordering_then o (slice_cmp nat_cmp s t)) [
       | Less ↦ λ is.
-          let up = rise a b w x (less-is a b is) (front-small n s (behind a s all_s)) in
+          let up = rise a b w x (less-is a b is) (prefix-small n s (after a s all_s)) in
           cmp-less (a * w + x) (b * w + y) (omega (arith, up))
       | Equal ↦ λ is.
           let same : a ≡ b = equal-is a b is in
           ap (λ c. nat_cmp (a * w + x) (c * w + y)) (sym same) ∙ cmp-shift (a * w) x y
-          ∙ fronts-from n s t (behind a s all_s) (behind b t all_t) (λ e. other (λ i. same i * w + e i))
+          ∙ prefixes-from n s t (after a s all_s) (after b t all_t) (λ e. other (λ i. same i * w + e i))
       | Greater ↦ λ is.
-          let up = rise b a w y (greater-is a b is) (front-small n t (behind b t all_t)) in
+          let up = rise b a w y (greater-is a b is) (prefix-small n t (after b t all_t)) in
           cmp-greater (a * w + x) (b * w + y) (omega (arith, up))
     ]) refl
 
-front-is : (t : List ℕ) → sort_prefix_of t ≡ front_from 8 t
-front-is [] = omega arith
-front-is (a ∷ []) = omega arith
-front-is (a ∷ b ∷ []) = omega arith
-front-is (a ∷ b ∷ c ∷ []) = omega arith
-front-is (a ∷ b ∷ c ∷ d ∷ []) = omega arith
-front-is (a ∷ b ∷ c ∷ d ∷ e ∷ []) = omega arith
-front-is (a ∷ b ∷ c ∷ d ∷ e ∷ f ∷ []) = omega arith
-front-is (a ∷ b ∷ c ∷ d ∷ e ∷ f ∷ g ∷ []) = omega arith
-front-is (a ∷ b ∷ c ∷ d ∷ e ∷ f ∷ g ∷ h ∷ t) = omega arith
+prefix-is : (t : List ℕ) → sort_prefix_of t ≡ prefix_from 8 t
+prefix-is [] = omega arith
+prefix-is (a ∷ []) = omega arith
+prefix-is (a ∷ b ∷ []) = omega arith
+prefix-is (a ∷ b ∷ c ∷ []) = omega arith
+prefix-is (a ∷ b ∷ c ∷ d ∷ []) = omega arith
+prefix-is (a ∷ b ∷ c ∷ d ∷ e ∷ []) = omega arith
+prefix-is (a ∷ b ∷ c ∷ d ∷ e ∷ f ∷ []) = omega arith
+prefix-is (a ∷ b ∷ c ∷ d ∷ e ∷ f ∷ g ∷ []) = omega arith
+prefix-is (a ∷ b ∷ c ∷ d ∷ e ∷ f ∷ g ∷ h ∷ t) = omega arith
 
 -- If sort prefixes differ, their order is that of the spellings.
-pub fronts-tell : (s t : List ℕ) → AreBytes s → AreBytes t → (sort_prefix_of s ≡ sort_prefix_of t → ⊥)
+pub prefixes-tell : (s t : List ℕ) → AreBytes s → AreBytes t → (sort_prefix_of s ≡ sort_prefix_of t → ⊥)
     → nat_cmp (sort_prefix_of s) (sort_prefix_of t) ≡ slice_cmp nat_cmp s t
-fronts-tell s t all_s all_t other = grind (arith, front-is s, front-is t, fronts-from 8 s t all_s all_t)
+prefixes-tell s t all_s all_t other = grind (arith, prefix-is s, prefix-is t, prefixes-from 8 s t all_s all_t)

@@ -27,20 +27,20 @@ abbrev Stays : List ℕ → Type 0
 Stays t = (is_squeezed_after false t ≡ true → squeezed_after true [] t ≡ t) ×
     (is_squeezed_after true t ≡ true → squeezed_after true (codes " ") t ≡ 32 ∷ t)
 
-behind_byte : (w : Bool) (b : ℕ) (t : List ℕ) → Stays t → fits_by w false b t ≡ true → squeezed_by w true [] b t ≡ b ∷ t
-behind_byte true b t s h =
+after_byte : (w : Bool) (b : ℕ) (t : List ℕ) → Stays t → fits_by w false b t ≡ true → squeezed_by w true [] b t ≡ b ∷ t
+after_byte true b t s h =
     let p = and_parts (b == 32) (is_squeezed_after true t) h in s.1 p.1 ∙ ap (λ n. n ∷ t) (sym (eqb-true b 32 p.0))
-behind_byte false b t s h = ap (λ u. b ∷ u) (s.0 h)
+after_byte false b t s h = ap (λ u. b ∷ u) (s.0 h)
 
-behind_blank : (w : Bool) (b : ℕ) (t : List ℕ) → Stays t → fits_by w true b t ≡ true
+after_blank : (w : Bool) (b : ℕ) (t : List ℕ) → Stays t → fits_by w true b t ≡ true
     → squeezed_by w true (codes " ") b t ≡ 32 ∷ b ∷ t
-behind_blank true b t s h = cc
-behind_blank false b t s h = ap (λ u. 32 ∷ b ∷ u) (s.0 h)
+after_blank true b t s h = cc
+after_blank false b t s h = ap (λ u. 32 ∷ b ∷ u) (s.0 h)
 
 stays : (t : List ℕ) → Stays t
 stays [] = (λ h. refl, λ h. cc)
 stays (b ∷ t) =
-    let s = stays t in (λ h. behind_byte (is_white b) b t s h, λ h. behind_blank (is_white b) b t s h)
+    let s = stays t in (λ h. after_byte (is_white b) b t s h, λ h. after_blank (is_white b) b t s h)
 
 first_stays : (w : Bool) (b : ℕ) (t : List ℕ) → Stays t → fits_by w true b t ≡ true → squeezed_by w false [] b t ≡ b ∷ t
 first_stays true b t s h = cc

@@ -28,7 +28,7 @@ pub struct NameTable {
     known: KnownNames,
     // one entry for each occurrence: its spelling, its form, and which of the names up to it fit
     strings: StringList,
-    given: Vec<OccurrenceForm>,
+    forms: Vec<OccurrenceForm>,
     found: Vec<Found>,
 }
 
@@ -39,7 +39,7 @@ impl Drop for NameTable {
             alloc: _,
             known: _,
             strings: _,
-            given: _,
+            forms: _,
             found: _,
         } = self;
     }
@@ -53,9 +53,9 @@ impl Model for NameTable {
 
     ghost use Rattle.cweb_names.specs.inner.OccurrenceTables.{IsOccurrenceTable, occurrences_at};
 
-    ghost view = { λ s. occurrences_at s.strings s.given.items };
+    ghost view = { λ s. occurrences_at s.strings s.forms.items };
 
-    ghost invariant = { λ s. IsOccurrenceTable s.known s.strings s.given.items s.found.items };
+    ghost invariant = { λ s. IsOccurrenceTable s.known s.strings s.forms.items s.found.items };
 }
 
 impl NameTable {
@@ -67,7 +67,7 @@ impl NameTable {
             alloc,
             known: KnownNames::new(alloc),
             strings: StringList::new(alloc),
-            given: Vec::new(alloc),
+            forms: Vec::new(alloc),
             found: Vec::new(alloc),
         }
     }
@@ -76,7 +76,7 @@ impl NameTable {
     pub fn len(&self) -> usize
         ensures { result ≡ length self.now }
     {
-        self.given.len()
+        self.forms.len()
     }
 
     /// Appends an occurrence and returns its number. If memory is refused, nothing changes.
@@ -87,7 +87,7 @@ impl NameTable {
             (self.new ≡ self.old ++ occurrence_of name.now how is_file ∷ []) }
         ensures err { OnErr result (self.new ≡ self.old) }
     {
-        self.given.reserve(1)?;
+        self.forms.reserve(1)?;
         self.found.reserve(1)?;
         let number = self.strings.add(name)?;
         let found = match self.known.take(name, how, number as u32) {
@@ -97,7 +97,7 @@ impl NameTable {
                 return Err(refusal);
             }
         };
-        self.given.push_reserved(OccurrenceForm { how, is_file });
+        self.forms.push_reserved(OccurrenceForm { how, is_file });
         self.found.push_reserved(found);
         Ok(NameRef(number as u32))
     }
@@ -125,16 +125,16 @@ impl NameTable {
     /// The spelling and form of each occurrence.
     pub fn close(self) -> (StringList, Vec<OccurrenceForm>)
         ensures strings { result.0 ≡ map occurrence_text self }
-        ensures given { result.1.items ≡ map occurrence_form self }
+        ensures forms { result.1.items ≡ map occurrence_form self }
     {
         let NameTable {
             alloc: _,
             known: _,
             strings,
-            given,
+            forms,
             found: _,
         } = self;
-        (strings, given)
+        (strings, forms)
     }
 
     /// The names of output files, in order of their first occurrence with `@(`.
@@ -145,8 +145,8 @@ impl NameTable {
         ensures { IfOk result (λ files. files.keys ≡ files_from resolutions.now [] 0 self.now) }
     {
         let mut files = IndexSet::new(self.alloc);
-        for (i, given) in self.given.iter().enumerate() {
-            if given.is_file {
+        for (i, form) in self.forms.iter().enumerate() {
+            if form.is_file {
                 if let Some(id) = resolved_at(resolutions, i) {
                     files.insert(id)?;
                 }

@@ -32,12 +32,12 @@ put-same w f t h = refl
 pub replaces_uses : {w : Stored} {k : ℕ} → ReplacesUses w k
 replaces_uses {w} {k} = record {
   no_use = λ ts. puts-text w (expanded_name w k) ts (name-text w k);
-  kept = λ before behind t h. flat_map-append (put w (expanded_name w k)) before (t ∷ behind)
-      ∙ ap (λ (u : List Token). expand w k before ++ (u ++ expand w k behind)) (put-same w (expanded_name w k) t h);
-  replaced = λ before behind r n e. flat_map-append (put w (expanded_name w (suc k))) before (Name r ∷ behind)
+  kept = λ before after t h. flat_map-append (put w (expanded_name w k)) before (t ∷ after)
+      ∙ ap (λ (u : List Token). expand w k before ++ (u ++ expand w k after)) (put-same w (expanded_name w k) t h);
+  replaced = λ before after r n e. flat_map-append (put w (expanded_name w (suc k))) before (Name r ∷ after)
       ∙ ap
       (λ (o : Option NameId). expand w (suc k) before
-      ++ (tokens_for (expanded_name w (suc k)) o ++ expand w (suc k) behind))
+      ++ (tokens_for (expanded_name w (suc k)) o ++ expand w (suc k) after))
       e;
 }
 
@@ -123,11 +123,11 @@ print_goes_on s before ts = ap (print_after (file_token_bytes s) None) (kept-app
 abbrev is_ended : List ℕ → Bool
 is_ended bytes = last_is (λ x. x == 10) bytes
 
-ended-behind : (xs ys : List ℕ) → is_ended ys ≡ true → is_ended (xs ++ ys) ≡ true
-ended-behind [] ys h = h
-ended-behind (x ∷ []) [] h = cc
-ended-behind (x ∷ []) (y ∷ ys) h = h
-ended-behind (x ∷ z ∷ xs) ys h = ended-behind (z ∷ xs) ys h
+ended-after : (xs ys : List ℕ) → is_ended ys ≡ true → is_ended (xs ++ ys) ≡ true
+ended-after [] ys h = h
+ended-after (x ∷ []) [] h = cc
+ended-after (x ∷ []) (y ∷ ys) h = h
+ended-after (x ∷ z ∷ xs) ys h = ended-after (z ∷ xs) ys h
 
 whole-ended : (xs : List ℕ) → is_ended xs ≡ true → is_whole_lines xs ≡ true
 whole-ended [] h = refl
@@ -135,7 +135,7 @@ whole-ended (x ∷ xs) h = h
 
 whole-append : (xs ys : List ℕ) → is_whole_lines xs ≡ true → is_whole_lines ys ≡ true → is_whole_lines (xs ++ ys) ≡ true
 whole-append xs [] a b = ap is_whole_lines (append-nil xs) ∙ a
-whole-append xs (y ∷ ys) a b = whole-ended (xs ++ y ∷ ys) (ended-behind xs (y ∷ ys) b)
+whole-append xs (y ∷ ys) a b = whole-ended (xs ++ y ∷ ys) (ended-after xs (y ∷ ys) b)
 
 abbrev newline : List ℕ
 newline = codes "\n"
@@ -143,7 +143,7 @@ newline = codes "\n"
 macro-ended : (replaced : ℕ → List ℕ) (ts : List Token) → is_ended (macro_line replaced ts) ≡ true
 macro-ended replaced ts =
     let text = printed_tokens (λ left. macro_token_bytes replaced) ts in
-    ended-behind (codes "#define ") (text ++ newline) (ended-behind text newline refl)
+    ended-after (codes "#define ") (text ++ newline) (ended-after text newline refl)
 
 macros-whole : (replaced : ℕ → List ℕ) (macros : List (List Token))
     → is_whole_lines (flat_map (macro_line replaced) macros) ≡ true
@@ -155,8 +155,8 @@ mark-ended : (name : List ℕ) (line : ℕ) → is_ended (mark_line name line) �
 mark-ended name line =
     let end = codes "\"\n" in
     let quote = codes " \"" in
-    ended-behind (codes "#line ") (decimal line ++ (quote ++ (quoted name ++ end))) (ended-behind (decimal line)
-    (quote ++ (quoted name ++ end)) (ended-behind quote (quoted name ++ end) (ended-behind (quoted name) end refl)))
+    ended-after (codes "#line ") (decimal line ++ (quote ++ (quoted name ++ end))) (ended-after (decimal line)
+    (quote ++ (quoted name ++ end)) (ended-after quote (quoted name ++ end) (ended-after (quoted name) end refl)))
 
 separator-none : (c : Class) → separator c Defs ≡ []
 separator-none class.LineStart = refl
@@ -167,19 +167,19 @@ defs-whole : (s : Setting) (bytes : List ℕ) (v : Bool) → (v ≡ true → is_
 defs-whole s bytes true h = whole-append bytes (macro_lines s) (h refl) (macros-whole s.replaced s.macros)
 defs-whole s bytes false h = ap is_whole_lines (sym (append_assoc bytes newline (macro_lines s)))
     ∙ whole-append (bytes ++ newline) (macro_lines s)
-    (whole-ended (bytes ++ newline) (ended-behind bytes newline refl)) (macros-whole s.replaced s.macros)
+    (whole-ended (bytes ++ newline) (ended-after bytes newline refl)) (macros-whole s.replaced s.macros)
 
 -- The output up to a token that begins a line consists of whole lines.
 token-whole : (s : Setting) (l : Option Token) (bytes : List ℕ) (t : Token)
     → (starts_line l ≡ true → is_whole_lines bytes ≡ true) → starts_line (Some t) ≡ true
     → is_whole_lines (bytes ++ (sep l t ++ file_token_bytes s l t)) ≡ true
 token-whole s l bytes Newline h k = whole-ended (bytes ++ (sep l Newline ++ newline))
-    (ended-behind bytes (sep l Newline ++ newline) (ended-behind (sep l Newline) newline refl))
+    (ended-after bytes (sep l Newline ++ newline) (ended-after (sep l Newline) newline refl))
 token-whole s l bytes (Mark p) h k =
     let mark = mark_line (file_name s p) p.line in
     whole-ended (bytes ++ (sep l (Mark p) ++ (begin_line l ++ mark)))
-    (ended-behind bytes (sep l (Mark p) ++ (begin_line l ++ mark)) (ended-behind (sep l (Mark p))
-    (begin_line l ++ mark) (ended-behind (begin_line l) mark (mark-ended (file_name s p) p.line))))
+    (ended-after bytes (sep l (Mark p) ++ (begin_line l ++ mark)) (ended-after (sep l (Mark p))
+    (begin_line l ++ mark) (ended-after (begin_line l) mark (mark-ended (file_name s p) p.line))))
 token-whole s l bytes Defs h k = ap (λ (u : List ℕ). is_whole_lines (bytes ++ (u ++ (begin_line l ++ macro_lines s))))
     (sep_by_class l Defs ∙ separator-none (class_of l))
     ∙ defs-whole s bytes (starts_line l) h
@@ -200,4 +200,4 @@ files_have_whole_lines s ts = cases (starts_line (left_after ts)) refl
     cases : (v : Bool) → starts_line (left_after ts) ≡ v → is_whole_lines (print s ts ++ cond v [] newline) ≡ true
     cases true e = ap is_whole_lines (append-nil (print s ts))
         ∙ list-whole s None [] (without_joined_layout false ts) (λ h. refl) e
-    cases false e = whole-ended (print s ts ++ newline) (ended-behind (print s ts) newline refl)
+    cases false e = whole-ended (print s ts ++ newline) (ended-after (print s ts) newline refl)

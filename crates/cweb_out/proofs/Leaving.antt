@@ -30,7 +30,7 @@ work-passed w {n} {fs} {f} g ts h s =
 
 -- The top frame passed tokens and took a use.
 pub record TopUsed (w : Stored) (fs new : List Frame) (ts : List Token) (t : Token) (room : ℕ) : Type 0 where
-  pub stands : IsFrameStack w new room
+  pub valid : IsFrameStack w new room
   pub left : left w fs ≡ ts ++ (put w (expanded_name w (level w new)) t ++ left w new)
   pub below : RanksAreBelow w (level w new) (use_of w t)
   pub lower : UsesLower w new t
@@ -41,16 +41,16 @@ pub top_used : {w : Stored} {n : ℕ} {fs : List Frame} {f g h : Frame} {ts : Li
     → IsFrameStack w fs room → HasTop n fs f → suffix w f ≡ ts ++ suffix w g → AreDirect ts → FrameIsWithin w g
     → g.owner ≡ f.owner
     → suffix w g ≡ t ∷ suffix w h → FrameIsWithin w h → h.owner ≡ g.owner → TopUsed w fs (set fs (n - 1) h) ts t room
-top_used {w} {n} {fs} {f} {g} {h} {ts} {t} {room} stands top s direct within owner goes within' owner' =
+top_used {w} {n} {fs} {f} {g} {h} {ts} {t} {room} valid top s direct within owner goes within' owner' =
     let mid = set fs (n - 1) g in
-    let passed = top_passed stands top s direct within owner in
+    let passed = top_passed valid top s direct within owner in
     let same : set mid (n - 1) h ≡ set fs (n - 1) h = set-set fs (n - 1) g h in
     let moved : TopMoved w mid (set fs (n - 1) h) t room = subst (λ (new : List Frame). TopMoved w mid new t room) same
-    (top_moved passed.stands refl (omega arith) (top_again top) goes within' owner') in
+    (top_moved passed.valid refl (omega arith) (top_again top) goes within' owner') in
     let less = work-passed w g ts top s in
     let more = moved.advances.work in
     record {
-      stands = moved.stands;
+      valid = moved.valid;
       left = passed.left ∙ ap (λ (us : List Token). ts ++ us) moved.advances.left;
       below = moved.advances.below;
       lower = moved.advances.lower;
@@ -60,25 +60,25 @@ top_used {w} {n} {fs} {f} {g} {h} {ts} {t} {room} stands top s direct within own
 
 -- The top frame passed tokens and ended.
 pub record TopGone (w : Stored) (fs new : List Frame) (ts : List Token) (room : ℕ) : Type 0 where
-  pub stands : IsFrameStack w new room
+  pub valid : IsFrameStack w new room
   pub left : left w fs ≡ ts ++ left w new
   pub work : work_of w (names w) new < work_of w (names w) fs
 
 pub top_gone : {w : Stored} {n : ℕ} {fs new : List Frame} {f g : Frame} {ts : List Token} {room : ℕ}
     → IsFrameStack w fs room → HasTop n fs f → suffix w f ≡ ts ++ suffix w g → AreDirect ts → FrameIsWithin w g
     → g.owner ≡ f.owner → suffix w g ≡ [] → new ≡ lower n fs → TopGone w fs new ts room
-top_gone {w} {n} {fs} {new} {f} {g} {ts} {room} stands top s direct within owner none is =
+top_gone {w} {n} {fs} {new} {f} {g} {ts} {room} valid top s direct within owner none is =
     let mid = set fs (n - 1) g in
-    let passed = top_passed stands top s direct within owner in
+    let passed = top_passed valid top s direct within owner in
     let same : lower n mid ≡ lower n fs = take-set fs (n - 1) g in
-    let ended = top_ended passed.stands (top_again top) none (is ∙ sym same) in
+    let ended = top_ended passed.valid (top_again top) none (is ∙ sym same) in
     let below = lower n fs in
     let whole : work_of w (names w) fs ≡ list_work w (names w - length below) (suffix w f) + work_of w (names w) below =
     ap (work_of w (names w)) (top_read top)
     ∙ work_of-push w (names w) below f in
     let rest = ap (work_of w (names w)) is in
     record {
-      stands = ended.stands;
+      valid = ended.valid;
       left = passed.left ∙ ap (λ (us : List Token). ts ++ us) ended.left;
       work = omega (arith, whole, rest);
     }

@@ -68,32 +68,32 @@ uses-append w (x ∷ xs) ys = ap (λ (ns : List NameId). use_of w x ++ ns) (uses
 pub OnTop-next : {w : Stored} {above : ℕ} {fs : List Frame} {f g : Frame} (t : Token) → suffix w f ≡ t ∷ suffix w g
     → g.owner ≡ f.owner → OnTop w above fs f → OnTop w above fs g × RanksAreBelow w (rank w g.owner) (use_of w t)
 OnTop-next {w} {above} {fs} {g} t s o h =
-    let list : root_list w g.owner ≡ h.owned.given ++ (t ∷ suffix w g) =
-    ap (root_list w) o ∙ h.owned.list ∙ ap (λ (ts : List Token). h.owned.given ++ ts) s in
+    let list : root_list w g.owner ≡ h.owned.yielded ++ (t ∷ suffix w g) =
+    ap (root_list w) o ∙ h.owned.list ∙ ap (λ (ts : List Token). h.owned.yielded ++ ts) s in
     let ends : list_ends w (root_list w g.owner) ≡ true =
     ap (λ (p : Option NameId). list_ends w (root_list w p)) o ∙ h.owned.ends in
     let test : NameId → Bool = ends_below w (rank w g.owner) in
-    let split : list_all test (uses w h.owned.given ++ (use_of w t ++ uses w (suffix w g))) ≡ true =
-    ap (list_all test) (sym (ap (uses w) list ∙ uses-append w h.owned.given (t ∷ suffix w g)))
+    let split : list_all test (uses w h.owned.yielded ++ (use_of w t ++ uses w (suffix w g))) ≡ true =
+    ap (list_all test) (sym (ap (uses w) list ∙ uses-append w h.owned.yielded (t ∷ suffix w g)))
     ∙ owner-below w g.owner ends in (
       record {
         below = h.below;
         owned = record {
-          given = h.owned.given ++ t ∷ [];
-          list = list ∙ sym (append_assoc h.owned.given (t ∷ []) (suffix w g));
+          yielded = h.owned.yielded ++ t ∷ [];
+          list = list ∙ sym (append_assoc h.owned.yielded (t ∷ []) (suffix w g));
           ends = ends;
         };
         lower = rw o h.lower;
       },
       (all-parts test (use_of w t) (uses w (suffix w g))
-          (all-parts test (uses w h.owned.given) (use_of w t ++ uses w (suffix w g)) split).1).0,
+          (all-parts test (uses w h.owned.yielded) (use_of w t ++ uses w (suffix w g)) split).1).0,
     )
 
 -- The first frame.
 pub OnTop-first : {w : Stored} {f : Frame} → root_list w f.owner ≡ suffix w f
     → RanksAreBelow w (names w) (uses w (root_list w f.owner)) → OnTop w (names w + 1) [] f
 OnTop-first {w} {f} l b =
-    record { below = tt; owned = record { given = []; list = l; ends = b }; lower = within f.owner b }
+    record { below = tt; owned = record { yielded = []; list = l; ends = b }; lower = within f.owner b }
   where
     within : (o : Option NameId) → RanksAreBelow w (names w) (uses w (root_list w o)) → rank w o < names w + 1
     within None h = omega arith
@@ -111,7 +111,7 @@ OnTop-entered {w} {fs} r m k below le ends lower e o text =
     record {
       below = below;
       owned = record {
-        given = [];
+        yielded = [];
         list = ap (root_list w) o ∙ text;
         ends = ap (λ (p : Option NameId). list_ends w (root_list w p)) o ∙ ap (λ j. ends_below w j m) deep
             ∙ grows-more w (suc (names w) - k) k m ends;

@@ -6,23 +6,23 @@ use Rattle.cweb_print.specs.declared.printer.Printer.{Printer}
 use Rattle.cweb_print.specs.surface.Printed.{AddsBytes}
 use Rattle.cweb_print.proofs.DirectPrefixes.{passed_none}
 
-pub front_none : {p : Printer} {ts : List Token} {old : List ℕ} → PrintsPrefix p p ts ts old old
-front_none {p} {old} =
+pub prefix_none : {p : Printer} {ts : List Token} {old : List ℕ} → PrintsPrefix p p ts ts old old
+prefix_none {p} {old} =
     let none = passed_none p old in
     record { done = []; whole = refl; direct = none.direct; moves = none.moves; prints = none.prints }
 
-are_lent-append : (xs ys : List Token) → AreDirect xs → AreDirect ys → AreDirect (xs ++ ys)
-are_lent-append xs ys h k = list_all-append is_direct xs ys ∙ ap (λ b. b && list_all is_direct ys) h ∙ k
+are_borrowed-append : (xs ys : List Token) → AreDirect xs → AreDirect ys → AreDirect (xs ++ ys)
+are_borrowed-append xs ys h k = list_all-append is_direct xs ys ∙ ap (λ b. b && list_all is_direct ys) h ∙ k
 
-pub front_more : {p q r : Printer} {a b c : List Token} {old mid new : List ℕ} → setting_of q ≡ setting_of p
+pub prefix_more : {p q r : Printer} {a b c : List Token} {old mid new : List ℕ} → setting_of q ≡ setting_of p
     → PrintsPrefix p q a b old mid → PrintsPrefix q r b c mid new → PrintsPrefix p r a c old new
-front_more {p} {c} {old} {mid} {new} same f g =
+prefix_more {p} {c} {old} {mid} {new} same f g =
     let s = setting_of p in
     record {
       done = f.done ++ g.done;
       whole =
           f.whole ∙ ap (λ (ts : List Token). f.done ++ ts) g.whole ∙ sym (append_assoc f.done g.done c);
-      direct = are_lent-append f.done g.done f.direct g.direct;
+      direct = are_borrowed-append f.done g.done f.direct g.direct;
       moves = λ done is.
           ap left_after_tokens (sym (append_assoc done f.done g.done)) ∙ g.moves (done ++ f.done) (f.moves done is);
       prints = λ done is.
@@ -31,19 +31,19 @@ front_more {p} {c} {old} {mid} {new} same f g =
           (print t ((done ++ f.done) ++ g.done)) mid new) same (g.prints (done ++ f.done) (f.moves done is)) in
           record {
             bytes = one.bytes ++ two.bytes;
-            due = ap (print s) (sym (append_assoc done f.done g.done)) ∙ two.due
-                ∙ ap (λ (u : List ℕ). u ++ two.bytes) one.due ∙ append_assoc (print s done) one.bytes two.bytes;
+            expected = ap (print s) (sym (append_assoc done f.done g.done)) ∙ two.expected
+                ∙ ap (λ (u : List ℕ). u ++ two.bytes) one.expected ∙ append_assoc (print s done) one.bytes two.bytes;
             written = two.written ∙ ap (λ (u : List ℕ). u ++ two.bytes) one.written
                 ∙ append_assoc old one.bytes two.bytes;
           };
     }
 
 -- Rewrites the remaining tokens along an equation.
-pub front_to : {p q : Printer} {a b c : List Token} {old new : List ℕ} → b ≡ c
+pub prefix_to : {p q : Printer} {a b c : List Token} {old new : List ℕ} → b ≡ c
     → PrintsPrefix p q a b old new → PrintsPrefix p q a c old new
-front_to {p} {q} {a} {old} {new} same f = rw (← same) f
+prefix_to {p} {q} {a} {old} {new} same f = rw (← same) f
 
 -- The remaining tokens before and after, with tokens before the rest.
-pub front_of : {p q : Printer} (a b : List Token) {c d : List Token} {old new : List ℕ}
+pub prefix_of : {p q : Printer} (a b : List Token) {c d : List Token} {old new : List ℕ}
     (f : PrintsPrefix p q a b old new) → c ≡ f.done ++ d → PrintsPrefix p q c d old new
-front_of a b f whole = record { done = f.done; whole = whole; direct = f.direct; moves = f.moves; prints = f.prints }
+prefix_of a b f whole = record { done = f.done; whole = whole; direct = f.direct; moves = f.moves; prints = f.prints }

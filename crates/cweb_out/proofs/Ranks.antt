@@ -148,16 +148,16 @@ pub on-last : (seen : List NameId) (n : NameId) → list_any (is_id n) (seen ++ 
 on-last seen n = list_any-append (is_id n) seen (n ∷ [])
     ∙ or_right (list_any (is_id n) seen) (is_id n n || false) (or_left (is_id n n) false (id-same n))
 
-pub on-front : (seen more : List NameId) (n : NameId)
+pub on-prefix : (seen more : List NameId) (n : NameId)
     → list_any (is_id n) seen ≡ true → list_any (is_id n) (seen ++ more) ≡ true
-on-front seen more n h =
+on-prefix seen more n h =
     list_any-append (is_id n) seen more ∙ or_left (list_any (is_id n) seen) (list_any (is_id n) more) h
 
 few-from : (count : ℕ) (seen ns : List NameId) → AreNew seen ns
     → ((n : NameId) → list_any (is_id n) ns ≡ true → n.0 < count) → counted (on seen) count + length ns ≤ count
 few-from count seen [] a b = let h = counted-le (on seen) count in omega (arith, h)
 few-from count seen (n ∷ ns) a b =
-    let less = counted-more (on seen) (on (seen ++ n ∷ [])) count n.0 (λ i l. on-front seen (n ∷ []) (id i))
+    let less = counted-more (on seen) (on (seen ++ n ∷ [])) count n.0 (λ i l. on-prefix seen (n ∷ []) (id i))
     (b n (or_left (is_id n n) (list_any (is_id n) ns) (id-same n))) a.0 (on-last seen n) in
     let rest = few-from count (seen ++ n ∷ []) ns a.1 (λ m h. b m (or_right (is_id m n) (list_any (is_id m) ns) h)) in
     omega (arith, less, rest)

@@ -63,20 +63,20 @@ AreRanked-pop {w} (suc k) (g ∷ fs) {f} r =
     let below = AreBelow-at w (k - length fs) (suc k - suc (length fs)) (uses w (suffix w f)) n t.below in
     record { ranked = (r.0, r.1, t.ranked); within = t.within; below = below }
 
-pub Stands-pop : {w : Stored} {all fs : List Frame} {f : Frame} {room more : ℕ}
+pub Valid-pop : {w : Stored} {all fs : List Frame} {f : Frame} {room more : ℕ}
     → all ≡ fs ++ f ∷ [] → more ≡ room → IsFrameStack w all room
     → IsFrameStack w fs more × Top w (names w) fs f × (length fs < names w + 1) × OnTop w (names w + 1) fs f
-Stands-pop {w} {fs} {f} {room} e r s =
+Valid-pop {w} {fs} {f} {room} e r s =
     let t = AreRanked-pop (names w) fs (subst (AreRanked w (names w)) e s.ranked) in
     let o = AreOwned-pop (names w + 1) fs (subst (AreOwned w (names w + 1)) e s.owned) in
     let n = ap length e ∙ length-append fs (f ∷ []) in
     let d = s.depth in
     (record { owned = o.below; ranked = t.ranked; depth = omega arith; room = r ∙ s.room }, t, omega arith, o)
 
-pub Stands-push : {w : Stored} {all fs : List Frame} {f : Frame} {room more : ℕ} → all ≡ fs ++ f ∷ [] → more ≡ room
+pub Valid-push : {w : Stored} {all fs : List Frame} {f : Frame} {room more : ℕ} → all ≡ fs ++ f ∷ [] → more ≡ room
     → IsFrameStack w fs room → Top w (names w) fs f → length fs < names w + 1 → OnTop w (names w + 1) fs f
     → IsFrameStack w all more
-Stands-push {w} {fs} {f} {room} e r s t n o =
+Valid-push {w} {fs} {f} {room} e r s t n o =
     let l = ap length e ∙ length-append fs (f ∷ []) in
     record {
       owned = subst (AreOwned w (names w + 1)) (sym e) (AreOwned-push (names w + 1) fs o);

@@ -1,11 +1,11 @@
 -- The model of a stack after a use of a name, and after one that expands to nothing.
 use Rattle.cweb_out.proofs.Common.{◌≡◌, ◌<◌, ◌+◌, ◌-◌, ℕ, zero, suc, [], ◌∷◌, ◌++◌, List, length, refl, sym, ◌∙◌, ap, arith, Some, true, false, ◌&&◌, subst, All, option_to_list, list_all, NameId, NameRef, Part, Name, all_tokens, Stored, names, use_of, uses, resolved_use, joined, ends_below, expand, expanded_name, put, tokens_for, root_list, Frame, suffix, tokens_of_parts, work_of, list_work, AreRanked, RanksAreBelow, PartIsWithin, FrameIsWithin, IsFrameStack, UsesLower, Enters, left, level, name_work, token_work, work_for, and_parts}
 use Rattle.cweb_out.proofs.Owners.{OnTop-entered, OnTop-first}
-use Rattle.cweb_out.proofs.Stack.{left_of-push, work_of-push, Top, AreBelow-at, Stands-push, rank-step}
+use Rattle.cweb_out.proofs.Stack.{left_of-push, work_of-push, Top, AreBelow-at, Valid-push, rank-step}
 
 -- A frame was pushed.
 pub record Entered (w : Stored) (fs new : List Frame) (r : NameRef) (more : ℕ) : Type 0 where
-  pub stands : IsFrameStack w new more
+  pub valid : IsFrameStack w new more
   pub enters : Enters w fs new r
 
 pub entered : {w : Stored} {fs new : List Frame} {r : NameRef}
@@ -39,7 +39,7 @@ entered {w} {fs} {new} {r} m q rest s grows b lower e text a is =
     let four : list_work w k (suffix w g) ≡ list_work w t.0 (joined w m) =
     ap (λ n. list_work w n (suffix w g)) j ∙ ap (list_work w t.0) text in
     record {
-      stands = Stands-push is grows s top d on;
+      valid = Valid-push is grows s top d on;
       enters = record {
         left = ap (left w) is ∙ left_of-push w (names w) fs g ∙ ap (λ n. expand w n (suffix w g) ++ left w fs) j
             ∙ ap (λ ts. expand w t.0 ts ++ left w fs) text ∙ ap (λ ts. ts ++ left w fs) (sym one);
@@ -65,13 +65,13 @@ AreRanked-none : (w : Stored) (k : ℕ) → AreRanked w k []
 AreRanked-none w zero = tt
 AreRanked-none w (suc k) = tt
 
-pub Stands-one : {w : Stored} {all : List Frame} {f : Frame} {room : ℕ} → all ≡ f ∷ []
+pub Valid-one : {w : Stored} {all : List Frame} {f : Frame} {room : ℕ} → all ≡ f ∷ []
     → FrameIsWithin w f → RanksAreBelow w (names w) (uses w (suffix w f)) → room ≡ names w + 1
     → suffix w f ≡ root_list w f.owner → IsFrameStack w all room
-Stands-one {w} {f} {room} e i b r l =
+Valid-one {w} {f} {room} e i b r l =
     let n : names w ≡ names w - 0 = omega arith in
     let k : 0 < names w + 1 = omega arith in
-    Stands-push e refl (record { owned = tt; ranked = AreRanked-none w (names w); depth = omega arith; room = r })
+    Valid-push e refl (record { owned = tt; ranked = AreRanked-none w (names w); depth = omega arith; room = r })
     (record {
       ranked = AreRanked-none w (names w);
       within = i;

@@ -2,8 +2,8 @@
 use Rattle.cweb_out.proofs.Common.{◌≡◌, ◌-◌, ◌++◌, ◌∷◌, [], ℕ, List, length, refl, sym, ◌∙◌, ap, append_assoc, set, Token, Stored, names, uses, expand, expanded_name, root_list, Frame, suffix, left, FrameIsWithin, IsFrameStack, AreDirect}
 use Rattle.cweb_out.proofs.Owners.{OnTop}
 use Rattle.cweb_out.proofs.DirectExpansion.{put-all-direct, uses-direct}
-use Rattle.cweb_out.proofs.Stack.{Stands-push, Top, left_of-push}
-use Rattle.cweb_out.proofs.Tops.{HasTop, lower, stands_lower, top_read, top_written}
+use Rattle.cweb_out.proofs.Stack.{Valid-push, Top, left_of-push}
+use Rattle.cweb_out.proofs.Tops.{HasTop, lower, valid_lower, top_read, top_written}
 
 Top-passed : {w : Stored} {k : ℕ} {fs : List Frame} {f g : Frame} (ts : List Token) → suffix w f ≡ ts ++ suffix w g
     → AreDirect ts → FrameIsWithin w g → Top w k fs f → Top w k fs g
@@ -18,9 +18,9 @@ OnTop-passed : {w : Stored} {above : ℕ} {fs : List Frame} {f g : Frame} (ts : 
 OnTop-passed {w} {above} {fs} {g} ts s o h = record {
   below = h.below;
   owned = record {
-    given = h.owned.given ++ ts;
-    list = ap (root_list w) o ∙ h.owned.list ∙ ap (λ (us : List Token). h.owned.given ++ us) s
-        ∙ sym (append_assoc h.owned.given ts (suffix w g));
+    yielded = h.owned.yielded ++ ts;
+    list = ap (root_list w) o ∙ h.owned.list ∙ ap (λ (us : List Token). h.owned.yielded ++ us) s
+        ∙ sym (append_assoc h.owned.yielded ts (suffix w g));
     ends = rw o h.owned.ends;
   };
   lower = rw o h.lower;
@@ -28,7 +28,7 @@ OnTop-passed {w} {above} {fs} {g} ts s o h = record {
 
 -- The top frame passed tokens.
 pub record TopPassed (w : Stored) (fs new : List Frame) (ts : List Token) (room : ℕ) : Type 0 where
-  pub stands : IsFrameStack w new room
+  pub valid : IsFrameStack w new room
   pub left : left w fs ≡ ts ++ left w new
 
 pub top_passed : {w : Stored} {n : ℕ} {fs : List Frame} {f g : Frame} {ts : List Token} {room : ℕ}
@@ -38,10 +38,10 @@ top_passed {w} {n} {fs} {f} {g} {ts} {room} s h goes direct i o =
     let below : List Frame = lower n fs in
     let both : fs ≡ below ++ f ∷ [] = top_read h in
     let after : set fs (n - 1) g ≡ below ++ g ∷ [] = top_written g h in
-    let p = stands_lower s h in
+    let p = valid_lower s h in
     let k : ℕ = names w - length below in
     record {
-      stands = Stands-push after refl p.0 (Top-passed ts goes direct i p.1) p.2
+      valid = Valid-push after refl p.0 (Top-passed ts goes direct i p.1) p.2
           (OnTop-passed ts goes o p.3);
       left =
           ap (left w) both ∙ left_of-push w (names w) below f

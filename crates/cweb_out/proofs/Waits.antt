@@ -7,7 +7,7 @@ use Rattle.cweb_out.specs.declared.outputs.search.Mark.{Mark}
 use Rattle.cweb_out.specs.declared.outputs.search.Mark.TheVariants.{Unseen, Waits, Ranked}
 use Rattle.cweb_out.specs.inner.Search.{MarksFitPath, Waited, mark_of, marks_left, path_of}
 use Rattle.std.proofs.lemmas.Bool.{cases_lt}
-use Rattle.cweb_out.proofs.Ranks.{on-front, on-last}
+use Rattle.cweb_out.proofs.Ranks.{on-prefix, on-last}
 use Rattle.cweb_out.proofs.ScannedUses.{looked-start}
 use Rattle.cweb_out.proofs.Paths.{new-pop, new-push, on-pushed, path-push, split-or, within-pop, within-push}
 
@@ -91,7 +91,7 @@ fits-pop {w} {marks} {path} f t l r =
             let bad : true ≡ false = sym h ∙ ap (λ m. list_any (is_id m) (path_of path)) (ap id e.1) ∙ split.1 in
             cc
         | inr e ↦ mark-other marks f.name n Ranked e.1
-            ∙ t.marked n (ap (list_any (is_id n)) (path-push path f) ∙ on-front (path_of path) (f.name ∷ []) n h)
+            ∙ t.marked n (ap (list_any (is_id n)) (path-push path f) ∙ on-prefix (path_of path) (f.name ∷ []) n h)
       ];
       new = split.0;
       within = (within-pop path f t.within).0;

@@ -35,7 +35,7 @@ impl<'a> Expander<'a> {
     ) -> Result<Expander<'a>, AllocError>
         requires root { root < length plan.now.outputs }
         requires made { IsPlanOf store.now plan.now }
-        ensures stands { IfOk result
+        ensures valid { IfOk result
             (λ e. IsFrameStack store.now e.frames.items (vec_capacity e.frames)) }
         ensures store { IfOk result (λ e. e.store ≡ store.entry) }
         ensures plan { IfOk result (λ e. e.plan ≡ plan.entry) }
@@ -57,9 +57,9 @@ impl<'a> Expander<'a> {
     pub fn restart(&mut self, root: u32)
         requires root { root < length self.old.plan.now.outputs }
         requires made { IsPlanOf self.old.store.now self.old.plan.now }
-        requires stands { IsFrameStack self.old.store.now
+        requires valid { IsFrameStack self.old.store.now
             self.old.frames.items (vec_capacity self.old.frames) }
-        ensures stands { IsFrameStack self.new.store.now
+        ensures valid { IsFrameStack self.new.store.now
             self.new.frames.items (vec_capacity self.new.frames) }
         ensures store { self.new.store ≡ self.old.store }
         ensures plan { self.new.plan ≡ self.old.plan }
@@ -88,11 +88,11 @@ impl<'a> Expander<'a> {
     pub fn next(&mut self) -> Option<Token<'a>>
         requires { IsFrameStack self.old.store.now self.old.frames.items
             (vec_capacity self.old.frames) }
-        ensures stands { IsFrameStack self.new.store.now
+        ensures valid { IsFrameStack self.new.store.now
             self.new.frames.items (vec_capacity self.new.frames) }
         ensures store { self.new.store ≡ self.old.store }
         ensures plan { self.new.plan ≡ self.old.plan }
-        ensures gives { YieldsNext (left self.old.store.now self.old.frames.items)
+        ensures yields { YieldsNext (left self.old.store.now self.old.frames.items)
             (option_map token_model result) (left self.old.store.now self.new.frames.items) }
     {
         'tokens: while let Some(token) = self.advance() {
@@ -108,7 +108,7 @@ impl<'a> Expander<'a> {
     fn advance(&mut self) -> Option<Token<'a>>
         requires { IsFrameStack self.old.store.now self.old.frames.items
             (vec_capacity self.old.frames) }
-        ensures stands { IsFrameStack self.new.store.now
+        ensures valid { IsFrameStack self.new.store.now
             self.new.frames.items (vec_capacity self.new.frames) }
         ensures store { self.new.store ≡ self.old.store }
         ensures plan { self.new.plan ≡ self.old.plan }
@@ -129,14 +129,14 @@ impl<'a> Expander<'a> {
 
     // Pushes the frame of a name, if the occurrence resolves to one that has a part.
     fn enter(&mut self, name: NameRef)
-        requires stands { IsFrameStack self.old.store.now
+        requires valid { IsFrameStack self.old.store.now
             self.old.frames.items (vec_capacity self.old.frames) }
         requires some { 0 < length self.old.frames.items }
         requires below { RanksAreBelow self.old.store.now
             (level self.old.store.now self.old.frames.items)
             (use_of self.old.store.now (Name name)) }
         requires lower { UsesLower self.old.store.now self.old.frames.items (Name name) }
-        ensures stands { IsFrameStack self.new.store.now
+        ensures valid { IsFrameStack self.new.store.now
             self.new.frames.items (vec_capacity self.new.frames) }
         ensures store { self.new.store ≡ self.old.store }
         ensures plan { self.new.plan ≡ self.old.plan }

@@ -1,6 +1,6 @@
 -- Direct tokens of a macro: their output, and the state after them.
 use Rattle.cweb_print.proofs.Common.{arith, ◌≡◌, ◌++◌, ◌∙◌, ℕ, Bool, true, false, cond, List, [], Option, None, Some, ap, append_assoc, refl, sym, list_any, IfSome, Token, Word, Number, Literal, Verbatim, Punct, Blank, Newline, Edge, TokenBytesModel, first_is, is_numeric, direct_bytes, punctuator_edge, punctuator_edge_by, class_after_edge, continued_by, edge_ends_line, left_after_edge, edge_is_apart, added, continuation_bytes, left_after_token, macro_by, blank_where, is_high, plain_bytes, word_bytes, is_operator}
-use Rattle.cweb_texts.specs.declared.edges.Edge.TheVariants as border
+use Rattle.cweb_texts.specs.declared.edges.Edge.TheVariants as edge_kind
 use Rattle.cweb_print.proofs.DirectEdges.{apart-direct, class-direct, string-direct}
 use Rattle.cweb_print.proofs.Bytes.{ascii_word}
 use Rattle.cweb_print.proofs.DirectPrinting.{leaves-direct}
@@ -11,7 +11,7 @@ continued_in None = []
 continued_in (Some l) = continued_by l
 
 word-continued : (replaced : ℕ → List ℕ) (b : List ℕ) (l : TokenBytesModel) (high : Bool) → list_any is_high b ≡ high
-    → cond high None (Some (record { string = b; edge = border.Word })) ≡ Some l
+    → cond high None (Some (record { string = b; edge = edge_kind.Word })) ≡ Some l
     → word_bytes replaced b ≡ continued_by l
 word-continued replaced b l true e h = cc
 word-continued replaced b l false e h = ascii_word replaced b e ∙ ap continued_in h

@@ -1,17 +1,17 @@
 -- Direct tokens: their edges, classes, and the blanks before them.
 use Rattle.cweb_print.proofs.Common.{arith, ◌≡◌, ◌==◌, ◌++◌, ◌∙◌, ℕ, Bool, true, false, cond, ◌||◌, ◌&&◌, not, List, [], ◌∷◌, Option, None, Some, refl, ap, sym, option_map, list_any, eqb-true, Token, Word, Number, Literal, Verbatim, Punct, Blank, Newline, Edge, TokenBytesModel, first_is, is_numeric, last_is, direct_bytes, punctuator_edge, punctuator_edge_by, Class, class_after_edge, left_after_edge, edge_is_apart, class_by, class_is_glue, class_is_literal, class_is_number, class_is_operator, class_is_point, class_is_wordlike, class_of, is_apart, AppendsToken, blank_where, is_high, direct_unless_dropped, is_operator}
-use Rattle.cweb_texts.specs.declared.edges.Edge.TheVariants as border
+use Rattle.cweb_texts.specs.declared.edges.Edge.TheVariants as edge_kind
 use Rattle.cweb_print.specs.declared.printer.class.Class.TheVariants as class
 
 -- The edge of an optional result.
-abbrev border_in : Option TokenBytesModel → Edge
-border_in None = border.Unknown
-border_in (Some l) = l.edge
+abbrev edge_in : Option TokenBytesModel → Edge
+edge_in None = edge_kind.Unknown
+edge_in (Some l) = l.edge
 
 edge_of_class : (b : List ℕ) (d : Edge) (l : TokenBytesModel) (high : Bool)
     → cond high None (Some (record { string = b; edge = d })) ≡ Some l → l.edge ≡ d
 edge_of_class b d l true h = cc
-edge_of_class b d l false h = ap border_in (sym h)
+edge_of_class b d l false h = ap edge_in (sym h)
 
 pub string-direct : (t : Token) (l : TokenBytesModel) → direct_bytes t ≡ Some l
     → direct_unless_dropped false t ≡ Some l.string
@@ -30,37 +30,37 @@ sign-class false false false false = refl
 
 pub class-direct : (t : Token) (l : TokenBytesModel) → direct_bytes t ≡ Some l
     → class_after_edge l.edge ≡ class_of (Some t)
-class-direct (Word b) l h = ap class_after_edge (edge_of_class b border.Word l (list_any is_high b) h)
-class-direct (Number b) l h = ap (λ o. class_after_edge (border_in o)) (sym h)
-class-direct (Literal b) l h = ap (λ o. class_after_edge (border_in o)) (sym h)
-class-direct (Verbatim b) l h = ap (λ o. class_after_edge (border_in o)) (sym h)
+class-direct (Word b) l h = ap class_after_edge (edge_of_class b edge_kind.Word l (list_any is_high b) h)
+class-direct (Number b) l h = ap (λ o. class_after_edge (edge_in o)) (sym h)
+class-direct (Literal b) l h = ap (λ o. class_after_edge (edge_in o)) (sym h)
+class-direct (Verbatim b) l h = ap (λ o. class_after_edge (edge_in o)) (sym h)
 class-direct (Punct b) l h = ap class_after_edge (edge_of_class b (punctuator_edge b) l (list_any is_high b) h)
     ∙ sign-class (first_is is_numeric b) (first_is is_operator b) (last_is (λ x. x == 46) b) (last_is is_operator b)
-class-direct Blank l h = ap (λ o. class_after_edge (border_in o)) (sym h)
-class-direct Newline l h = ap (λ o. class_after_edge (border_in o)) (sym h)
+class-direct Blank l h = ap (λ o. class_after_edge (edge_in o)) (sym h)
+class-direct Newline l h = ap (λ o. class_after_edge (edge_in o)) (sym h)
 class-direct _ l h = cc
 
-word-apart : (c : Class) (b : List ℕ) → is_apart c (Word b) ≡ edge_is_apart c border.Word
+word-apart : (c : Class) (b : List ℕ) → is_apart c (Word b) ≡ edge_is_apart c edge_kind.Word
 word-apart class.LineStart b = refl
 word-apart _ b = refl
 
-number-apart : (c : Class) (b : List ℕ) → is_apart c (Number b) ≡ edge_is_apart c border.Number
+number-apart : (c : Class) (b : List ℕ) → is_apart c (Number b) ≡ edge_is_apart c edge_kind.Number
 number-apart class.LineStart b = refl
 number-apart _ b = refl
 
-literal-apart : (c : Class) (b : List ℕ) → is_apart c (Literal b) ≡ edge_is_apart c border.Literal
+literal-apart : (c : Class) (b : List ℕ) → is_apart c (Literal b) ≡ edge_is_apart c edge_kind.Literal
 literal-apart class.LineStart b = refl
 literal-apart _ b = refl
 
-glue-apart : (c : Class) (b : List ℕ) → is_apart c (Verbatim b) ≡ edge_is_apart c border.Glue
+glue-apart : (c : Class) (b : List ℕ) → is_apart c (Verbatim b) ≡ edge_is_apart c edge_kind.Glue
 glue-apart class.LineStart b = refl
 glue-apart _ b = refl
 
-blank-apart : (c : Class) → is_apart c Blank ≡ edge_is_apart c border.Blank
+blank-apart : (c : Class) → is_apart c Blank ≡ edge_is_apart c edge_kind.Blank
 blank-apart class.LineStart = refl
 blank-apart _ = refl
 
-line_end-apart : (c : Class) → is_apart c Newline ≡ edge_is_apart c border.LineEnd
+line_end-apart : (c : Class) → is_apart c Newline ≡ edge_is_apart c edge_kind.LineEnd
 line_end-apart class.LineStart = refl
 line_end-apart _ = refl
 
@@ -72,10 +72,10 @@ before_sign c s o = (class_is_wordlike c && false && not (class_is_literal c && 
     || (class_is_operator c && (o || false))
     || (class_is_glue c && false)
 
-abbrev before_border : Class → Bool → Bool → Bool
-before_border c s o = cond s (class_is_number c || class_is_operator c) (cond o (class_is_operator c) false)
+abbrev before_edge : Class → Bool → Bool → Bool
+before_edge c s o = cond s (class_is_number c || class_is_operator c) (cond o (class_is_operator c) false)
 
-sign-first : (c : Class) (s o p q : Bool) → before_border c s o ≡ edge_is_apart c (punctuator_edge_by s o p q)
+sign-first : (c : Class) (s o p q : Bool) → before_edge c s o ≡ edge_is_apart c (punctuator_edge_by s o p q)
 sign-first c true o true q = refl
 sign-first c true o false true = refl
 sign-first c true o false false = refl
@@ -86,14 +86,14 @@ sign-first c false false true q = refl
 sign-first c false false false true = refl
 sign-first c false false false false = refl
 
-sign-told : (c : Class) (s o : Bool) → (s ≡ true → o ≡ true) → before_sign c s o ≡ before_border c s o
-sign-told c true false h = let no : false ≡ true = h refl in cc
-sign-told class.LineStart true true h = refl
-sign-told class.LineStart false true h = refl
-sign-told class.LineStart false false h = refl
-sign-told _ true true h = refl
-sign-told _ false true h = refl
-sign-told _ false false h = refl
+sign-known : (c : Class) (s o : Bool) → (s ≡ true → o ≡ true) → before_sign c s o ≡ before_edge c s o
+sign-known c true false h = let no : false ≡ true = h refl in cc
+sign-known class.LineStart true true h = refl
+sign-known class.LineStart false true h = refl
+sign-known class.LineStart false false h = refl
+sign-known _ true true h = refl
+sign-known _ false true h = refl
+sign-known _ false false h = refl
 
 numeric_is : (x : ℕ) (p q r : Bool) → (46 == x) ≡ p → (43 == x) ≡ q → (45 == x) ≡ r → (p || (q || (r || false))) ≡ true
     → is_operator x ≡ true
@@ -109,26 +109,26 @@ first-numeric (x ∷ b) h = numeric_is x (46 == x) (43 == x) (45 == x) refl refl
 
 pub apart-direct : (c : Class) (t : Token) (l : TokenBytesModel) → direct_bytes t ≡ Some l
     → is_apart c t ≡ edge_is_apart c l.edge
-apart-direct c (Word b) l h = cc (word-apart c b, edge_of_class b border.Word l (list_any is_high b) h)
-apart-direct c (Number b) l h = number-apart c b ∙ ap (λ o. edge_is_apart c (border_in o)) h
-apart-direct c (Literal b) l h = literal-apart c b ∙ ap (λ o. edge_is_apart c (border_in o)) h
-apart-direct c (Verbatim b) l h = glue-apart c b ∙ ap (λ o. edge_is_apart c (border_in o)) h
+apart-direct c (Word b) l h = cc (word-apart c b, edge_of_class b edge_kind.Word l (list_any is_high b) h)
+apart-direct c (Number b) l h = number-apart c b ∙ ap (λ o. edge_is_apart c (edge_in o)) h
+apart-direct c (Literal b) l h = literal-apart c b ∙ ap (λ o. edge_is_apart c (edge_in o)) h
+apart-direct c (Verbatim b) l h = glue-apart c b ∙ ap (λ o. edge_is_apart c (edge_in o)) h
 apart-direct c (Punct b) l h =
     grind (
       arith,
-      sign-told c,
+      sign-known c,
       first-numeric b,
       sign-first c,
       edge_of_class b (punctuator_edge b) l
           (list_any is_high b) h,
     )
-apart-direct c Blank l h = blank-apart c ∙ ap (λ o. edge_is_apart c (border_in o)) h
-apart-direct c Newline l h = line_end-apart c ∙ ap (λ o. edge_is_apart c (border_in o)) h
+apart-direct c Blank l h = blank-apart c ∙ ap (λ o. edge_is_apart c (edge_in o)) h
+apart-direct c Newline l h = line_end-apart c ∙ ap (λ o. edge_is_apart c (edge_in o)) h
 apart-direct c _ l h = cc
 
 -- The bytes of a token were appended after one with an edge.
-pub gathers-direct : (last : Edge) (t : Token) (l : TokenBytesModel) (old new : List ℕ) → direct_bytes t ≡ Some l
+pub buffers-direct : (last : Edge) (t : Token) (l : TokenBytesModel) (old new : List ℕ) → direct_bytes t ≡ Some l
     → new ≡ old ++ (blank_where (edge_is_apart (class_after_edge last) l.edge) ++ l.string)
     → AppendsToken (left_after_edge last) t (left_after_edge l.edge) old new
-gathers-direct last t l old new h e =
+buffers-direct last t l old new h e =
     grind (arith, string-direct t l h, class-direct t l h, apart-direct (class_after_edge last) t l h)

@@ -26,7 +26,7 @@ passed_none p old = record {
   moves = λ done is. ap left_after_tokens (append-nil done) ∙ is;
   prints = λ done is. record {
     bytes = [];
-    due =
+    expected =
         ap (print (setting_of p)) (append-nil done) ∙ sym (append-nil (print (setting_of p) done));
     written = sym (append-nil old);
   };
@@ -48,10 +48,10 @@ passed_more p ts left after t old mid new passed g =
           let so_far = passed.prints done is in
           record {
             bytes = so_far.bytes ++ more;
-            due = ap (print s) (sym (append_assoc done ts (t ∷ [])))
+            expected = ap (print s) (sym (append_assoc done ts (t ∷ [])))
                 ∙ print-direct s left (done ++ ts) t (is_apart left.class t) g.string
                 (passed.moves done is) refl g.direct
-                ∙ ap (λ (u : List ℕ). u ++ more) so_far.due ∙ append_assoc (print s done) so_far.bytes more;
+                ∙ ap (λ (u : List ℕ). u ++ more) so_far.expected ∙ append_assoc (print s done) so_far.bytes more;
             written =
                 g.added ∙ ap (λ (u : List ℕ). u ++ more) so_far.written ∙ append_assoc old so_far.bytes more;
           };

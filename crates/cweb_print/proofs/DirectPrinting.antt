@@ -1,6 +1,6 @@
 -- Direct tokens: the state after them, and their output.
 use Rattle.cweb_print.proofs.Common.{◌≡◌, ◌++◌, ◌∙◌, ◌&&◌, refl, Bool, true, false, cond, ℕ, List, [], ◌∷◌, Option, Some, None, option_map, list_any, Token, Word, Punct, Blank, Newline, Join, Head, Tail, Mark, Setting, print, stays_joined, word_bytes, Class, Left, class_of, left_after_token, added, file_by, separator, is_apart, is_layout, left_after_tokens, is_high, direct_bytes, direct_unless_dropped, blank_where, Edge, TokenBytesModel, punctuator_edge}
-use Rattle.cweb_texts.specs.declared.edges.Edge.TheVariants as border
+use Rattle.cweb_texts.specs.declared.edges.Edge.TheVariants as edge_kind
 use Rattle.cweb_print.proofs.Bytes.{ascii_word}
 use Rattle.cweb_print.proofs.Steps.{print-push}
 
@@ -23,7 +23,7 @@ pub keeps-direct : (joined : Bool) (t : Token) (string : List ℕ) → direct_un
 keeps-direct joined t string h = (unless (joined && is_layout t) (text_by (direct_bytes t)) string h).0
 
 word-direct : (replaced : ℕ → List ℕ) (b string : List ℕ) (high : Bool) → list_any is_high b ≡ high
-    → text_by (cond high None (Some (record { string = b; edge = border.Word }))) ≡ Some string
+    → text_by (cond high None (Some (record { string = b; edge = edge_kind.Word }))) ≡ Some string
     → word_bytes replaced b ≡ string
 word-direct replaced b string true e h = cc
 word-direct replaced b string false e h = let same : b ≡ string = cc in ascii_word replaced b e ∙ same

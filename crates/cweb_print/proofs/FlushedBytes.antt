@@ -4,12 +4,12 @@ use Rattle.cweb_print.specs.inner.Flushing.{FlushesPrefix}
 
 -- The concatenation is unchanged.
 pub moved_same : (old before new after : List ℕ) → FlushesPrefix old before new after → new ++ after ≡ old ++ before
-moved_same old before new after m = cc (append_assoc old m.front after)
+moved_same old before new after m = cc (append_assoc old m.prefix after)
 
 -- A string was appended, and then some bytes were flushed.
-pub behind : (old mid piece piece' new after text : List ℕ) → mid ++ piece ≡ old → piece' ≡ piece ++ text
+pub then_moved : (old mid piece piece' new after text : List ℕ) → mid ++ piece ≡ old → piece' ≡ piece ++ text
     → new ++ after ≡ mid ++ piece' → new ++ after ≡ old ++ text
-behind old mid piece piece' new after text same is moved = cc (append_assoc mid piece text)
+then_moved old mid piece piece' new after text same is moved = cc (append_assoc mid piece text)
 
 -- Rewrites the sink's bytes along equations.
 pub wrote_at : {A E : Type 0} (old new old' new' text : List ℕ) (r : Result A E)

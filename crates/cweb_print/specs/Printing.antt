@@ -44,7 +44,7 @@ word_bytes replaced bytes = flat_map (word_byte replaced) bytes
 
 -- A section's number between the two parts of a comment.
 abbrev pub numbered_comment : List ℕ → ℕ → List ℕ → List ℕ
-numbered_comment before n behind = before ++ (decimal n ++ behind)
+numbered_comment before n after = before ++ (decimal n ++ after)
 
 -- The bytes of a token that don't depend on the token to its left.
 abbrev pub plain_bytes : (ℕ → List ℕ) → Token → List ℕ

@@ -6,10 +6,10 @@ pub by_test : {R S : Type 0} (f : R → S) (v : Bool) (x : R) (y : S) (z : R)
 by_test f true x y z h = refl
 by_test f false x y z h = h
 
-pub c_front-by : (effect : ℕ → Effect) (takes_sign includes : Bool) (t : List ℕ)
-    → c_match effect takes_sign includes t ≡ c_match_by effect takes_sign t (c_rule includes t)
-c_front-by effect takes_sign includes t =
-    let f : Rule → RuleMatch = c_match_by effect takes_sign t in
+pub c_prefix-by : (effect : ℕ → Effect) (with_opener includes : Bool) (t : List ℕ)
+    → c_match effect with_opener includes t ≡ c_match_by effect with_opener t (c_rule includes t)
+c_prefix-by effect with_opener includes t =
+    let f : Rule → RuleMatch = c_match_by effect with_opener t in
     by_test f (first_is is_blank t) _ _ _ (by_test f (first_is is_line_end t) _ _ _ (by_test f (begins (codes "/*") t)
     _ _ _ (by_test f (begins (codes "//") t) _ _ _ (by_test f (starts_section t) _ _ _ (by_test f (begins (codes "@") t)
     _ _ _ (by_test f (starts_raw t) _ _ _ (by_test f (starts_literal t) _ _ _ (by_test f (includes && starts_include t)

@@ -99,5 +99,5 @@ after_literals t = if starts_number t then rule_match Numeral (number_len 0 t) e
 abbrev pub after_passed : List ℕ → RuleMatch
 after_passed t = if starts_raw t then raw_match t else (if starts_literal t then literal_match t else after_literals t)
 
-pub passed_front : (t : List ℕ) → Passed t → c_match in_c false false t ≡ after_passed t
-passed_front t p = cc
+pub passed_prefix : (t : List ℕ) → Passed t → c_match in_c false false t ≡ after_passed t
+passed_prefix t p = cc

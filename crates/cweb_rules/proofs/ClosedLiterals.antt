@@ -1,6 +1,6 @@
 -- A literal ends at its quote, whatever follows.
 use Rattle.cweb_rules.proofs.Common.{◌≡◌, ℕ, ◌+◌, ◌-◌, ◌<◌, ◌≤◌, suc, zero, Bool, true, false, cond, ◌&&◌, ◌||◌, ◌==◌, List, [], ◌∷◌, ◌++◌, length, take, drop, refl, ap, sym, ◌∙◌, subst, arith, codes, eqb-true, begins, at_line_end, in_c, Reach, reach_in, with_unit, reach_size, Look, Goes, Ends, reach_of_literal, look_in_literal, Closed, Cut, c_match, literal_match, quoted_match, has_quote_at, literal_prefix, starts_literal, quote_of, starts_raw, raw_match, and_parts, and-false, drop-append-le}
-use Rattle.cweb_rules.proofs.Chosen.{Passed, passed_front}
+use Rattle.cweb_rules.proofs.Chosen.{Passed, passed_prefix}
 use Rattle.cweb_rules.proofs.Raws.{quoted_stays, raw_stays, ends_raw}
 use Rattle.cweb_rules.proofs.Stays.{opening, opens, is_letter_first}
 use Rattle.cweb_rules.proofs.TokensStay.{passes}
@@ -9,16 +9,16 @@ abbrev seen : Bool → Bool → Bool → Bool → Look
 seen closes cut escaped pair =
     cond closes (Ends 1 Closed) (cond cut (Ends 0 Cut) (cond escaped (Goes 1) (cond pair (Goes 2) (Goes 1))))
 
-abbrev at_front : (List ℕ → Look) → Look → List ℕ → List ℕ → Reach
-at_front look v u w =
+abbrev at_start : (List ℕ → Look) → Look → List ℕ → List ℕ → Reach
+at_start look v u w =
     elim v [
       | Goes n ↦ with_unit (take n u) (reach_in look Cut (n - 1) w)
       | Ends n how ↦ record { units = []; close = n; how = how }
     ]
 
 last_byte : (look : List ℕ → Look) (q e x p x' p' : Bool) (b : ℕ) (more : List ℕ)
-    → (at_front look (seen q e x p) (b ∷ []) []).how ≡ Closed
-    → at_front look (seen q e x' p') (b ∷ more) more ≡ at_front look (seen q e x p) (b ∷ []) []
+    → (at_start look (seen q e x p) (b ∷ []) []).how ≡ Closed
+    → at_start look (seen q e x' p') (b ∷ more) more ≡ at_start look (seen q e x p) (b ∷ []) []
 last_byte look true e x p x' p' b more h = refl
 last_byte look false true x p x' p' b more h = cc
 last_byte look false false true p x' p' b more h = cc
@@ -26,10 +26,10 @@ last_byte look false false false true x' p' b more h = cc
 last_byte look false false false false x' p' b more h = cc
 
 further_byte : (look : List ℕ → Look) (q e x p : Bool) (b c : ℕ) (t more : List ℕ)
-    → (at_front look (seen q e x p) (b ∷ c ∷ t) (c ∷ t)).how ≡ Closed
+    → (at_start look (seen q e x p) (b ∷ c ∷ t) (c ∷ t)).how ≡ Closed
     → ((k : ℕ) → (reach_in look Cut k (c ∷ t)).how ≡ Closed → reach_in look Cut
-    k (c ∷ t ++ more) ≡ reach_in look Cut k (c ∷ t)) → at_front look (seen q e x p) (b ∷ c ∷ t ++ more) (c ∷ t ++ more)
-    ≡ at_front look (seen q e x p) (b ∷ c ∷ t) (c ∷ t)
+    k (c ∷ t ++ more) ≡ reach_in look Cut k (c ∷ t)) → at_start look (seen q e x p) (b ∷ c ∷ t ++ more) (c ∷ t ++ more)
+    ≡ at_start look (seen q e x p) (b ∷ c ∷ t) (c ∷ t)
 further_byte look true e x p b c t more h ih = refl
 further_byte look false true x p b c t more h ih = refl
 further_byte look false false true p b c t more h ih = ap (with_unit (b ∷ [])) (ih 0 h)
@@ -107,12 +107,12 @@ literal_with n t more q closed within =
 not_slash : (b : ℕ) (t : List ℕ) → starts_literal (b ∷ t) ≡ true → (47 == b) ≡ false
 not_slash b t h = grind (arith, eqb-true 47 b)
 
-pub literal_front : (t : List ℕ) → Passed t → starts_raw t ≡ false
+pub literal_first : (t : List ℕ) → Passed t → starts_raw t ≡ false
     → starts_literal t ≡ true → c_match in_c false false t ≡ literal_match t
-literal_front t p r q = cc (passed_front t p)
+literal_first t p r q = cc (passed_prefix t p)
 
-pub raw_front : (t : List ℕ) → Passed t → starts_raw t ≡ true → c_match in_c false false t ≡ raw_match t
-raw_front t p r = cc (passed_front t p)
+pub raw_prefix : (t : List ℕ) → Passed t → starts_raw t ≡ true → c_match in_c false false t ≡ raw_match t
+raw_prefix t p r = cc (passed_prefix t p)
 
 abbrev pub ends_closed : List ℕ → Type 0
 ends_closed t = let n = literal_prefix t in ((inside n t).how ≡ Closed) × ((n + 1) + reach_size (inside n t) ≤ length t)
@@ -159,10 +159,10 @@ literal_stays_whole b t more p r q ends =
     let same = prefix_stays b t more q in
     let starts : starts_literal (d ++ more) ≡ true =
     ap (λ k. has_quote_at k (d ++ more)) same ∙ (quote_within n d more q).1 in
-    literal_front (d ++ more) (passes b t more (not_slash b t q) p) (literal_not_raw (d ++ more) starts) starts
+    literal_first (d ++ more) (passes b t more (not_slash b t q) p) (literal_not_raw (d ++ more) starts) starts
     ∙ ap (λ k. quoted_match (k + 1) (inside k (d ++ more)) (d ++ more)) same
     ∙ literal_with n d more q ends.0 ends.1
-    ∙ sym (literal_front d p r q)
+    ∙ sym (literal_first d p r q)
 
 no_raw_slash : (b : ℕ) (t : List ℕ) → starts_raw (b ∷ t) ≡ true → (47 == b) ≡ false
 no_raw_slash b t h = grind (arith, eqb-true 47 b)
@@ -172,4 +172,4 @@ pub raw_stays_whole : (b : ℕ) (t more : List ℕ) → Passed (b ∷ t) → sta
 raw_stays_whole b t more p r ends =
     let d = b ∷ t in
     let s = raw_stays d more r ends in
-    raw_front (d ++ more) (passes b t more (no_raw_slash b t r) p) s.1 ∙ s.0 ∙ sym (raw_front d p r)
+    raw_prefix (d ++ more) (passes b t more (no_raw_slash b t r) p) s.1 ∙ s.0 ∙ sym (raw_prefix d p r)

@@ -6,7 +6,7 @@ pub use Rattle.std.proofs.Common.{append_assoc, replicate, rules, eqb}
 pub use Rattle.std.proofs.Math.Bool.{and-false, or-true, or-false, and-true}
 pub use Rattle.std.proofs.Math.Seq.{take-add, drop-nil, take-append_seam}
 pub use Rattle.std.proofs.lemmas.Bool.{and_parts, or_parts, not-false, eqb-true, leb-true, ne_eqb, eqb-false, ltb-true}
-pub use Rattle.std.proofs.lemmas.Bool.{or_right, not-true, or_left}
+pub use Rattle.std.proofs.lemmas.Bool.{not-true, or_left}
 pub use Rattle.std.proofs.lemmas.Bool.Decides.{nat_tests}
 pub use Rattle.std.proofs.lemmas.Fmt.{length-decimal-le}
 pub use Rattle.std.proofs.lemmas.Grind.{flat_map-append, common_steps}
@@ -15,15 +15,15 @@ pub use Rattle.std.proofs.lemmas.List.{length-take, drop_min}
 pub use Rattle.std.proofs.lemmas.List.Sums.{prefix_len-le-length, prefix_len_is}
 pub use Rattle.std.specs.Cmp.{second_so}
 pub use Rattle.std.specs.Fmt.{decimal}
-pub use Rattle.std.specs.List.{prefix_len, list_any, list_all, flat_map, position_or_len, fold, starts_with}
+pub use Rattle.std.specs.List.{prefix_len, list_all, flat_map, position_or_len, fold, starts_with}
 pub use Rattle.std.specs.Option.{unwrap_or}
 pub use Rattle.std.specs.Prelude.{codes, if◌then◌else◌, nat_le, nat_lt, min}
 pub use Rattle.cweb_files.specs.declared.place.Place.{Place}
 pub use Rattle.memchr.specs.Find.{IsFirstByte, is_byte2, is_byte3, is_byte}
 pub use Rattle.cweb_rules.specs.Bytes.{is_blank, is_line_end, is_word_byte, begins, first_is, starts_section, is_one_of}
-pub use Rattle.cweb_rules.specs.Bytes.{lower, at_line_end, is_delimiter, is_digit, is_gap, is_octal, is_hex}
+pub use Rattle.cweb_rules.specs.Bytes.{at_line_end, is_delimiter, is_digit, is_gap, is_octal, is_hex}
 pub use Rattle.cweb_rules.specs.Bytes.{is_replacing, starts_number, listed, longest, number_len, continues_number}
-pub use Rattle.cweb_rules.specs.Codes.{in_c, CodeEntry, code_table, entry_for, in_limbo, in_tex, in_macro}
+pub use Rattle.cweb_rules.specs.Codes.{in_c, in_limbo, in_tex, in_macro}
 pub use Rattle.cweb_rules.specs.Constants.{letter, constant, character, escapes, escaped, octal_value, octal}
 pub use Rattle.cweb_rules.specs.Constants.{after_backslash, is_plain_character, character_at, faulty_size, constant_of}
 pub use Rattle.cweb_rules.specs.Constants.{hex_at, letter_with, letter_after, ends_faulty}

@@ -69,10 +69,10 @@ pub if_true : {A : Type 0} (v : Bool) (x y : A) → v ≡ true → (if v then x 
 if_true true x y h = refl
 if_true false x y h = cc
 
-pub told_if : {A : Type 0} (T : A → Type 0) (v : Bool) (x y : A) → (v ≡ true → T x) → (v ≡ false → T y)
+pub known_if : {A : Type 0} (T : A → Type 0) (v : Bool) (x y : A) → (v ≡ true → T x) → (v ≡ false → T y)
     → T (if v then x else y)
-told_if T true x y f g = f refl
-told_if T false x y f g = g refl
+known_if T true x y f g = f refl
+known_if T false x y f g = g refl
 
 abbrev pub Each : (ℕ → Type 0) → List ℕ → Type 0
 Each P [] = Unit {0}
@@ -100,15 +100,15 @@ quote_rule b [] h = from_set (λ n. rule.Literal ≡ c_rule false (n ∷ [])) (c
 quote_rule b (d ∷ u) h = from_set (λ n. rule.Literal ≡ c_rule false (n ∷ d ∷ u)) (codes "\"'") (search refl) b h
 
 -- The rule that a first byte determines, or that the fast path may take the lexeme.
-abbrev pub IsTold : Bool → List ℕ → Plain → Type 0
-IsTold includes t plain.Blank = (rule.Blanks ≡ c_rule includes t) × (first_is is_blank t ≡ true)
-IsTold includes t plain.Word = (rule.Identifier ≡ c_rule includes t) × (first_is is_word_byte t ≡ true)
-IsTold includes t plain.Lone = (rule.Punctuator ≡ c_rule includes t) × (first_is is_single_punctuator t ≡ true)
-IsTold includes t plain.Operator = (rule.Punctuator ≡ c_rule false t) × (first_is stops_plain t ≡ false)
-IsTold includes t plain.Digit = rule.Number ≡ c_rule false t
-IsTold includes t plain.Quote = rule.Literal ≡ c_rule false t
-IsTold includes t plain.Further = first_is stops_plain t ≡ false
-IsTold includes t plain.Stop = Unit {0}
+abbrev pub IsKnown : Bool → List ℕ → Plain → Type 0
+IsKnown includes t plain.Blank = (rule.Blanks ≡ c_rule includes t) × (first_is is_blank t ≡ true)
+IsKnown includes t plain.Word = (rule.Identifier ≡ c_rule includes t) × (first_is is_word_byte t ≡ true)
+IsKnown includes t plain.Lone = (rule.Punctuator ≡ c_rule includes t) × (first_is is_single_punctuator t ≡ true)
+IsKnown includes t plain.Operator = (rule.Punctuator ≡ c_rule false t) × (first_is stops_plain t ≡ false)
+IsKnown includes t plain.Digit = rule.Number ≡ c_rule false t
+IsKnown includes t plain.Quote = rule.Literal ≡ c_rule false t
+IsKnown includes t plain.Further = first_is stops_plain t ≡ false
+IsKnown includes t plain.Stop = Unit {0}
 
 -- A byte that begins no blank, and no lexeme that needs lookahead.
 settled_is : (b : ℕ) (includes word : Bool) (t : List ℕ) → is_settled b ≡ true → is_word_byte b ≡ word
@@ -116,23 +116,23 @@ settled_is : (b : ℕ) (includes word : Bool) (t : List ℕ) → is_settled b �
 settled_is b includes word t settled is =
     settled-rule b settled includes t ∙ ap (λ v. if v then rule.Identifier else rule.Punctuator) is
 
-plain-told : (includes : Bool) (b : ℕ) (t : List ℕ) → IsTold includes (b ∷ t) (first_byte_class b)
-plain-told includes b t =
-    let T = IsTold includes (b ∷ t) in
-    told_if T (stops_plain b) _ _ (λ e. tt) (λ kept.
-    told_if T (is_blank b) _ _ (λ e. (sym (if_true (is_blank b) rule.Blanks _ e), e)) (λ e.
-    told_if T (is_settled b) _ _ (λ settled.
-    told_if T (is_word_byte b) _ _ (λ e. (sym (settled_is b includes true t settled e), e)) (λ e.
-    told_if T (is_single_punctuator b) _ _ (λ f. (sym (settled_is b includes false t settled e), f))
+plain-known : (includes : Bool) (b : ℕ) (t : List ℕ) → IsKnown includes (b ∷ t) (first_byte_class b)
+plain-known includes b t =
+    let T = IsKnown includes (b ∷ t) in
+    known_if T (stops_plain b) _ _ (λ e. tt) (λ kept.
+    known_if T (is_blank b) _ _ (λ e. (sym (if_true (is_blank b) rule.Blanks _ e), e)) (λ e.
+    known_if T (is_settled b) _ _ (λ settled.
+    known_if T (is_word_byte b) _ _ (λ e. (sym (settled_is b includes true t settled e), e)) (λ e.
+    known_if T (is_single_punctuator b) _ _ (λ f. (sym (settled_is b includes false t settled e), f))
     (λ f. (sym (settled_is b false false t settled e), kept)))) (λ e.
-    told_if T (is_figure b) _ _ (figure_rule b t) (λ e.
-    told_if T (is_quote b) _ _ (quote_rule b t) (λ e.
-    told_if T (is_less b) _ _ (λ f. (less_rule b t f, kept)) (λ f. kept))))))
+    known_if T (is_figure b) _ _ (figure_rule b t) (λ e.
+    known_if T (is_quote b) _ _ (quote_rule b t) (λ e.
+    known_if T (is_less b) _ _ (λ f. (less_rule b t f, kept)) (λ f. kept))))))
 
-pub told-at : (includes : Bool) (t : List ℕ) (r : Plain) → 1 ≤ length t → r ≡ first_byte_class (slice_index_or t 0 0)
-    → IsTold includes t r
-told-at includes [] r h e = absurd (omega (arith, h))
-told-at includes (b ∷ t) r h e = subst (IsTold includes (b ∷ t)) (sym e) (plain-told includes b t)
+pub known-at : (includes : Bool) (t : List ℕ) (r : Plain) → 1 ≤ length t → r ≡ first_byte_class (slice_index_or t 0 0)
+    → IsKnown includes t r
+known-at includes [] r h e = absurd (omega (arith, h))
+known-at includes (b ∷ t) r h e = subst (IsKnown includes (b ∷ t)) (sym e) (plain-known includes b t)
 
 -- The rules after a `/` or a `.`.
 slash_left : (a b includes : Bool)
@@ -154,14 +154,14 @@ slash_rule includes d t = slash_left (42 == d) (47 == d) includes
 dot_rule : (includes : Bool) (d : ℕ) (t : List ℕ) → rule_after_dot d ≡ c_rule includes (46 ∷ d ∷ t)
 dot_rule includes d t = dot_left (is_digit d) includes
 
-pub slash-told : (includes : Bool) (t : List ℕ) → 2 ≤ length t → slice_index_or t 0 0 ≡ 47
+pub slash-known : (includes : Bool) (t : List ℕ) → 2 ≤ length t → slice_index_or t 0 0 ≡ 47
     → rule_after_slash (slice_index_or t 1 0) ≡ c_rule includes t
-slash-told includes [] h e = absurd (omega (arith, h))
-slash-told includes (b ∷ []) h e = absurd (omega (arith, h))
-slash-told includes (b ∷ d ∷ t) h e = cc (slash_rule includes d t)
+slash-known includes [] h e = absurd (omega (arith, h))
+slash-known includes (b ∷ []) h e = absurd (omega (arith, h))
+slash-known includes (b ∷ d ∷ t) h e = cc (slash_rule includes d t)
 
-pub dot-told : (includes : Bool) (t : List ℕ) → 2 ≤ length t → slice_index_or t 0 0 ≡ 46
+pub dot-known : (includes : Bool) (t : List ℕ) → 2 ≤ length t → slice_index_or t 0 0 ≡ 46
     → rule_after_dot (slice_index_or t 1 0) ≡ c_rule includes t
-dot-told includes [] h e = absurd (omega (arith, h))
-dot-told includes (b ∷ []) h e = absurd (omega (arith, h))
-dot-told includes (b ∷ d ∷ t) h e = cc (dot_rule includes d t)
+dot-known includes [] h e = absurd (omega (arith, h))
+dot-known includes (b ∷ []) h e = absurd (omega (arith, h))
+dot-known includes (b ∷ d ∷ t) h e = cc (dot_rule includes d t)

@@ -20,15 +20,15 @@ abbrev agrees : ℕ → List Plain → Bool
 agrees k [] = true
 agrees k (x ∷ xs) = (number x == number (first_byte_class k)) && agrees (suc k) xs
 
-told_from : (xs : List Plain) (k i b : ℕ) (d : Plain) → agrees k xs ≡ true → i < length xs → b ≡ k + i
+known_from : (xs : List Plain) (k i b : ℕ) (d : Plain) → agrees k xs ≡ true → i < length xs → b ≡ k + i
     → slice_index_or xs i d ≡ first_byte_class b
-told_from [] k i b d h within e = absurd (omega (arith, within))
-told_from (x ∷ xs) k zero b d h within e =
+known_from [] k i b d h within e = absurd (omega (arith, within))
+known_from (x ∷ xs) k zero b d h within e =
     let here : k ≡ b = omega (arith, e) in
     let test = number x == number (first_byte_class k) in
     let same = eqb-true (number x) (number (first_byte_class k)) (and_parts test (agrees (suc k) xs) h).0 in
     sym (kind_back x) ∙ ap kind same ∙ kind_back (first_byte_class k) ∙ ap first_byte_class here
-told_from (x ∷ xs) k (suc i) b d h within e = told_from xs (suc k) i b d
+known_from (x ∷ xs) k (suc i) b d h within e = known_from xs (suc k) i b d
     (and_parts (number x == number (first_byte_class k)) (agrees (suc k) xs) h).1 (omega (arith, within))
     (omega (arith, e))
 
@@ -44,5 +44,5 @@ firsts = replicate 9 Operator ++ replicate 1 Blank ++ replicate 1 Further ++ rep
     ++ replicate 1 Word ++ replicate 1 Operator ++ replicate 20 Word ++ replicate 1 Further ++ replicate 5 Word
     ++ replicate 1 Lone ++ replicate 1 Operator ++ replicate 2 Lone ++ replicate 1 Operator ++ replicate 128 Word
 
-pub first_told : (b : ℕ) (d : Plain) → b < 256 → slice_index_or firsts b d ≡ first_byte_class b
-first_told b d small = told_from firsts 0 b b d refl small (omega arith)
+pub first_known : (b : ℕ) (d : Plain) → b < 256 → slice_index_or firsts b d ≡ first_byte_class b
+first_known b d small = known_from firsts 0 b b d refl small (omega arith)

@@ -68,7 +68,7 @@ module _ (c : Context) (a b : ℕ) (u : List ℕ) where
   letter_at-fair : FitsAndPays c t (letter_match t)
   letter_at-fair = letter_is-fair (letter u) (letter-size u)
 
-  name_at-fair : (takes_sign : Bool) → FitsAndPays c t (name_match takes_sign t)
+  name_at-fair : (with_opener : Bool) → FitsAndPays c t (name_match with_opener t)
   name_at-fair true =
       let r = reach_of_name u in
       let size = 2 + reach_size r in
@@ -84,29 +84,29 @@ module _ (c : Context) (a b : ℕ) (u : List ℕ) where
       size (omega arith) (omega (arith, reach-size look_in_name Cut name-within u))
       (λ e. (omega (arith, e), omega (arith, e, units-text r.units)))
 
-  code_front-fair : (e : Effect) (takes_sign : Bool) → FitsAndPays c t (effect_match e takes_sign t)
-  code_front-fair Named takes_sign = name_at-fair takes_sign
-  code_front-fair effect.Letter takes_sign = letter_at-fair
-  code_front-fair effect.ControlText takes_sign = control_at-fair
-  code_front-fair effect.Verbatim takes_sign = verbatim_at-fair
-  code_front-fair effect.Constant takes_sign = constant_at-fair
-  code_front-fair Nothing takes_sign = pair-fair Nothing
-  code_front-fair Define takes_sign = pair-fair Define
-  code_front-fair Format takes_sign = pair-fair Format
-  code_front-fair Program takes_sign = pair-fair Program
-  code_front-fair InsertDefs takes_sign = pair-fair InsertDefs
-  code_front-fair Joins takes_sign = pair-fair Joins
-  code_front-fair EmitAt takes_sign = pair-fair EmitAt
-  code_front-fair (Faulty k) takes_sign = pair-fair (Faulty k)
+  code_prefix-fair : (e : Effect) (with_opener : Bool) → FitsAndPays c t (effect_match e with_opener t)
+  code_prefix-fair Named with_opener = name_at-fair with_opener
+  code_prefix-fair effect.Letter with_opener = letter_at-fair
+  code_prefix-fair effect.ControlText with_opener = control_at-fair
+  code_prefix-fair effect.Verbatim with_opener = verbatim_at-fair
+  code_prefix-fair effect.Constant with_opener = constant_at-fair
+  code_prefix-fair Nothing with_opener = pair-fair Nothing
+  code_prefix-fair Define with_opener = pair-fair Define
+  code_prefix-fair Format with_opener = pair-fair Format
+  code_prefix-fair Program with_opener = pair-fair Program
+  code_prefix-fair InsertDefs with_opener = pair-fair InsertDefs
+  code_prefix-fair Joins with_opener = pair-fair Joins
+  code_prefix-fair EmitAt with_opener = pair-fair EmitAt
+  code_prefix-fair (Faulty k) with_opener = pair-fair (Faulty k)
 
-pub code_at-fair : (c : Context) (effect : ℕ → Effect) (takes_sign : Bool) (b : ℕ) (t : List ℕ)
-    → FitsAndPays c (b ∷ t) (code_match effect takes_sign (b ∷ t))
-code_at-fair c effect takes_sign a [] = skipped-fair c a []
-code_at-fair c effect takes_sign a (b ∷ u) = code_front-fair c a b u (effect b) takes_sign
+pub code_at-fair : (c : Context) (effect : ℕ → Effect) (with_opener : Bool) (b : ℕ) (t : List ℕ)
+    → FitsAndPays c (b ∷ t) (code_match effect with_opener (b ∷ t))
+code_at-fair c effect with_opener a [] = skipped-fair c a []
+code_at-fair c effect with_opener a (b ∷ u) = code_prefix-fair c a b u (effect b) with_opener
 
-pub text_front-fair : (c : Context) (effect : ℕ → Effect) (b : ℕ) (t : List ℕ)
+pub text_prefix-fair : (c : Context) (effect : ℕ → Effect) (b : ℕ) (t : List ℕ)
     → FitsAndPays c (b ∷ t) (tex_match effect (b ∷ t))
-text_front-fair c effect b t = choose c (b ∷ t) (starts_section (b ∷ t)) _ _ (λ h. section_at-fair c b t) (λ h.
+text_prefix-fair c effect b t = choose c (b ∷ t) (starts_section (b ∷ t)) _ _ (λ h. section_at-fair c b t) (λ h.
     choose c (b ∷ t) (begins (codes "@") (b ∷ t)) _ _ (λ k. code_at-fair c effect true b t) (λ k. skipped-fair c b t))
 
 ends-size : (t : List ℕ) → at_line_ends 1 t ≤ length t

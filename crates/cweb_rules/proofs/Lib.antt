@@ -22,7 +22,6 @@ pub mod LineLiterals
 pub mod LineDelimiters
 pub mod LineMatches
 pub mod InLines
-pub mod Closed
 mod MatchExamples
 pub mod Lasts
 pub mod Chosen

@@ -1,5 +1,5 @@
 -- A control code in a line doesn't depend on the bytes after the line.
-use Rattle.cweb_rules.proofs.Common.{◌≡◌, ◌≤◌, ℕ, ◌+◌, Bool, false, ◌||◌, ◌==◌, List, [], ◌∷◌, ◌++◌, Option, Some, None, length, take, drop, refl, ap, ◌∙◌, arith, if◌then◌else◌, codes, nat_le, nat_lt, take-append-le, drop-append-le, length-drop, prefix_len-le-length, begins, is_gap, Effect, Named, letter, Transliteration, Reach, reach_size, End, Closed, Cut, reach_of_name, opener_len, look_in_name, Letter, Occurrence, RuleMatch, rule_match, found_letter_match, opener_after, name_match, effect_match, code_match, AtLineEnd, opens_name, opens_effect, opens_code}
+use Rattle.cweb_rules.proofs.Common.{◌≡◌, ◌≤◌, ℕ, ◌+◌, Bool, false, List, [], ◌∷◌, ◌++◌, Option, Some, None, length, take, drop, refl, ap, ◌∙◌, arith, if◌then◌else◌, codes, nat_le, nat_lt, take-append-le, drop-append-le, length-drop, prefix_len-le-length, begins, is_gap, Effect, Named, letter, Transliteration, Reach, reach_size, End, Closed, Cut, reach_of_name, opener_len, look_in_name, Letter, Occurrence, RuleMatch, rule_match, found_letter_match, opener_after, name_match, effect_match, code_match, AtLineEnd, opens_name, opens_effect, opens_code}
 use Rattle.cweb_rules.specs.declared.effect.Effect.TheVariants as effect
 use Rattle.cweb_rules.proofs.Seams.{run_line}
 use Rattle.cweb_rules.proofs.Looks.{reach_ends, whole, name-local, name-units}
@@ -20,9 +20,6 @@ letter_is-line (Some l) a b t more h =
     λ i. rule_match (Letter l.byte (if nat_le l.size MAX_REPLACEMENT then Some (same i) else None))
     (2 + (l.start + l.size))
 
-abbrev sign_of : ℕ → ℕ → List ℕ → ℕ
-sign_of gap size u = if (size == 0) || begins (codes "=") (drop size u) then 0 else gap + size
-
 sign-line : (t more : List ℕ) → AtLineEnd more → opener_len (t ++ more) ≡ opener_len t
 sign-line t more e = grind (arith, run_line is_gap t more refl e, drop-append-le, prefix_len-le-length is_gap t)
 
@@ -32,39 +29,39 @@ opener_after-line Closed t more e = sign-line t more e
 opener_after-line _ t more e = refl
 
 abbrev named : Bool → Bool → Reach → ℕ → RuleMatch
-named is_file takes_sign r sign = rule_match
+named is_file with_opener r sign = rule_match
     (Occurrence is_file r.units r.how (nat_lt 0 sign))
-    (if takes_sign then (2 + reach_size r) + sign else 2 + reach_size r)
+    (if with_opener then (2 + reach_size r) + sign else 2 + reach_size r)
 
-name_at-line : (takes_sign : Bool) (a b : ℕ) (t more : List ℕ) → AtLineEnd more
-    → opens_name (a ∷ b ∷ t) ≡ false → name_match takes_sign (a ∷ b ∷ t ++ more) ≡ name_match takes_sign (a ∷ b ∷ t)
-name_at-line takes_sign a b t more e ends =
+name_at-line : (with_opener : Bool) (a b : ℕ) (t more : List ℕ) → AtLineEnd more
+    → opens_name (a ∷ b ∷ t) ≡ false → name_match with_opener (a ∷ b ∷ t ++ more) ≡ name_match with_opener (a ∷ b ∷ t)
+name_at-line with_opener a b t more e ends =
     let r = reach_of_name t in
     let u = a ∷ b ∷ t in
     let same : reach_of_name (t ++ more) ≡ r =
     reach_ends look_in_name Cut t more (name-local more e) (name-local [] tt) (whole look_in_name name-units t) ends in
     let fits = reach-size look_in_name Cut name-within t in
     ap (λ (r : Reach).
-    named (begins (codes "@(") u) takes_sign r (opener_after r.how (drop (2 + reach_size r) (u ++ more)))) same
-    ∙ ap (λ w. named (begins (codes "@(") u) takes_sign r (opener_after r.how w))
+    named (begins (codes "@(") u) with_opener r (opener_after r.how (drop (2 + reach_size r) (u ++ more)))) same
+    ∙ ap (λ w. named (begins (codes "@(") u) with_opener r (opener_after r.how w))
     (drop-append-le (2 + reach_size r) u more (omega (arith, fits)))
-    ∙ ap (λ n. named (begins (codes "@(") u) takes_sign r n)
+    ∙ ap (λ n. named (begins (codes "@(") u) with_opener r n)
     (opener_after-line r.how (drop (2 + reach_size r) u) more e)
 
-code_front-line : (c : Effect) (takes_sign : Bool) (a b : ℕ) (t more : List ℕ)
+code_prefix-line : (c : Effect) (with_opener : Bool) (a b : ℕ) (t more : List ℕ)
     → AtLineEnd more → opens_effect c (a ∷ b ∷ t) ≡ false
-    → effect_match c takes_sign (a ∷ b ∷ t ++ more) ≡ effect_match c takes_sign (a ∷ b ∷ t)
-code_front-line Named takes_sign a b t more e h = name_at-line takes_sign a b t more e h
-code_front-line effect.Letter takes_sign a b t more e h =
+    → effect_match c with_opener (a ∷ b ∷ t ++ more) ≡ effect_match c with_opener (a ∷ b ∷ t)
+code_prefix-line Named with_opener a b t more e h = name_at-line with_opener a b t more e h
+code_prefix-line effect.Letter with_opener a b t more e h =
     grind (arith, letter-line t more e, letter_is-line (letter t) a b t more (letter-size t))
-code_front-line effect.ControlText takes_sign a b t more e h = cc (control_text-line t more e)
-code_front-line effect.Verbatim takes_sign a b t more e h = cc (control_text-line t more e)
-code_front-line effect.Constant takes_sign a b t more e h = cc (constant-line t more e)
-code_front-line _ takes_sign a b t more e h = refl
+code_prefix-line effect.ControlText with_opener a b t more e h = cc (control_text-line t more e)
+code_prefix-line effect.Verbatim with_opener a b t more e h = cc (control_text-line t more e)
+code_prefix-line effect.Constant with_opener a b t more e h = cc (constant-line t more e)
+code_prefix-line _ with_opener a b t more e h = refl
 
 -- An `@` that begins no section has a byte after it in its line.
-pub code_at_line : (effect : ℕ → Effect) (takes_sign : Bool) (b : ℕ) (t more : List ℕ)
+pub code_at_line : (effect : ℕ → Effect) (with_opener : Bool) (b : ℕ) (t more : List ℕ)
     → AtLineEnd more → 2 ≤ length (b ∷ t) → opens_code effect (b ∷ t) ≡ false
-    → code_match effect takes_sign (b ∷ t ++ more) ≡ code_match effect takes_sign (b ∷ t)
-code_at_line effect takes_sign a [] more e two h = absurd (omega (arith, two))
-code_at_line effect takes_sign a (b ∷ t) more e two h = code_front-line (effect b) takes_sign a b t more e h
+    → code_match effect with_opener (b ∷ t ++ more) ≡ code_match effect with_opener (b ∷ t)
+code_at_line effect with_opener a [] more e two h = absurd (omega (arith, two))
+code_at_line effect with_opener a (b ∷ t) more e two h = code_prefix-line (effect b) with_opener a b t more e h

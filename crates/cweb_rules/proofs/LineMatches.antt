@@ -1,6 +1,6 @@
 -- A lexeme that ends in its line doesn't depend on the bytes after it.
 use Rattle.cweb_rules.proofs.Common.{arith, ◌≡◌, ◌≤◌, ℕ, Bool, true, false, ◌&&◌, ◌||◌, List, ◌∷◌, ◌++◌, length, refl, ap, ◌∙◌, if◌then◌else◌, codes, prefix_len, Place, begins, is_blank, is_line_end, is_digit, is_word_byte, at_line_end, starts_section, Effect, in_limbo, in_tex, in_macro, in_c, Kind, Blanks, LineEnd, Comment, Identifier, Numeral, Punctuator, RuleMatch, rule_match, section_match, tex_match, starts_raw, starts_literal, starts_include, include_match, c_match, macro_match, head_match_of, head_match, AtLineEnd, opens_comment, opens_literal, opens_raw, opens_code, tex_opens, c_opens, macro_opens, opens_in, match_in, Context, Limbo, TeX, Definition, Macro, CText, listed, longest, number_len, continues_number, starts_number, or_parts}
-use Rattle.cweb_rules.proofs.MatchesPay.{c_front-fair}
+use Rattle.cweb_rules.proofs.MatchesPay.{c_prefix-fair}
 use Rattle.cweb_rules.proofs.LineComments.{comment_at_line, line_comment_at_line}
 use Rattle.cweb_rules.proofs.LineCodes.{code_at_line}
 use Rattle.cweb_rules.proofs.LineLiterals.{starts_literal_line, literal_at_line}
@@ -17,9 +17,9 @@ step v' false x' x y' y p q e f g h = ap (λ w. if w then x' else y') e ∙ g re
 section_at_line : (t more : List ℕ) → AtLineEnd more → section_match (t ++ more) ≡ section_match t
 section_at_line t more e = grind arith
 
-pub text_front_line : (effect : ℕ → Effect) (b : ℕ) (t more : List ℕ) → AtLineEnd more
+pub text_prefix_line : (effect : ℕ → Effect) (b : ℕ) (t more : List ℕ) → AtLineEnd more
     → tex_opens effect (b ∷ t) ≡ false → tex_match effect (b ∷ t ++ more) ≡ tex_match effect (b ∷ t)
-text_front_line effect b t more e h = step (starts_section (b ∷ t ++ more)) (starts_section (b ∷ t)) _ _ _ _ false
+text_prefix_line effect b t more e h = step (starts_section (b ∷ t ++ more)) (starts_section (b ∷ t)) _ _ _ _ false
     (if begins (codes "@") (b ∷ t) then opens_code effect (b ∷ t) else false) (starts_section_line b t more e)
     (λ v p. section_at_line (b ∷ t) more e) (λ v q. step (begins (codes "@") (b ∷ t ++ more))
     (begins (codes "@") (b ∷ t)) _ _ _ _ (opens_code effect (b ∷ t)) false (begins_line (codes "@") (b ∷ t) more refl e)
@@ -44,10 +44,10 @@ rest_line includes b t more e =
     more refl e i) else rule_match Punctuator
     (longest_stop in_line listed (b ∷ t) more refl (stops in_line more refl e) i)))
 
-pub c_front_line : (effect : ℕ → Effect) (takes_sign includes : Bool) (b : ℕ) (t more : List ℕ)
+pub c_prefix_line : (effect : ℕ → Effect) (with_opener includes : Bool) (b : ℕ) (t more : List ℕ)
     → AtLineEnd more → c_opens effect (b ∷ t) ≡ false
-    → c_match effect takes_sign includes (b ∷ t ++ more) ≡ c_match effect takes_sign includes (b ∷ t)
-c_front_line effect takes_sign includes b t more e h =
+    → c_match effect with_opener includes (b ∷ t ++ more) ≡ c_match effect with_opener includes (b ∷ t)
+c_prefix_line effect with_opener includes b t more e h =
     let u = b ∷ t in
     step (is_blank b) (is_blank b) _ _ _ _ false _ refl
     (λ v p. ap (rule_match Blanks) (run_line is_blank u more refl e))
@@ -59,17 +59,17 @@ c_front_line effect takes_sign includes b t more e h =
     (λ v3 h3. step (starts_section (u ++ more)) (starts_section u) _ _ _ _ false _
     (starts_section_line b t more e) (λ v p. section_at_line u more e) (λ v4 h4. step (begins (codes "@") (u ++ more))
     (begins (codes "@") u) _ _ _ _ (opens_code effect u) _ (begins_line (codes "@") u more refl e)
-    (λ v p. code_at_line effect takes_sign b t more e (at_fits b t v4 v) p) (λ v5 h5. step (starts_raw (u ++ more))
+    (λ v p. code_at_line effect with_opener b t more e (at_fits b t v4 v) p) (λ v5 h5. step (starts_raw (u ++ more))
     (starts_raw u) _ _ _ _ (opens_raw u) _ (starts_raw_line u more e) (λ v p. raw_at_line u more e v p) (λ v6 h6.
     step (starts_literal (u ++ more)) (starts_literal u) _ _ _ _ (opens_literal u) false (starts_literal_line u more e)
     (λ v p. literal_at_line u more e v p) (λ v7 h7. rest_line includes b t more e) h6) h5) h4) h3) h2) h1) h0) h
 
-macro_front_line : (b : ℕ) (t more : List ℕ) → AtLineEnd more
+macro_prefix_line : (b : ℕ) (t more : List ℕ) → AtLineEnd more
     → macro_opens (b ∷ t) ≡ false → macro_match (b ∷ t ++ more) ≡ macro_match (b ∷ t)
-macro_front_line b t more e h =
+macro_prefix_line b t more e h =
     step (begins (codes "\\") (b ∷ t ++ more) && at_line_end (t ++ more)) (begins (codes "\\") (b ∷ t) && at_line_end t)
     _ _ _ _ false (c_opens in_macro (b ∷ t)) (λ i. begins_line (codes "\\") (b ∷ t) more refl e i
-    && at_line_end_line t more e i) (λ v p. refl) (λ v q. c_front_line in_macro true false b t more e q) h
+    && at_line_end_line t more e i) (λ v p. refl) (λ v q. c_prefix_line in_macro true false b t more e q) h
 
 head_as_line : (k : Kind) (f : RuleMatch) (b : ℕ) (t more : List ℕ) → AtLineEnd more → f.size ≤ length (b ∷ t)
     → tex_opens in_tex (b ∷ t) ≡ false → head_match_of k f (b ∷ t ++ more) ≡ head_match_of k f (b ∷ t)
@@ -77,23 +77,23 @@ head_as_line Blanks f b t more e fits h = refl
 head_as_line LineEnd f b t more e fits h = refl
 head_as_line (Comment how) f b t more e fits h = refl
 head_as_line Identifier f b t more e fits h = cc (drop_line (codes "(") f.size (b ∷ t) more refl e fits)
-head_as_line _ f b t more e fits h = text_front_line in_tex b t more e h
+head_as_line _ f b t more e fits h = text_prefix_line in_tex b t more e h
 
-head_front_line : (begun : Place) (b : ℕ) (t more : List ℕ) → AtLineEnd more
+head_prefix_line : (begun : Place) (b : ℕ) (t more : List ℕ) → AtLineEnd more
     → (c_opens in_macro (b ∷ t) || tex_opens in_tex (b ∷ t)) ≡ false → head_match (b ∷ t ++ more) ≡ head_match (b ∷ t)
-head_front_line begun b t more e h =
+head_prefix_line begun b t more e h =
     grind (
       arith,
       or_parts (c_opens in_macro (b ∷ t)) (tex_opens in_tex (b ∷ t)) h,
-      c_front-fair (Definition begun) in_macro true false b t,
-      c_front_line in_macro true false b t more e,
+      c_prefix-fair (Definition begun) in_macro true false b t,
+      c_prefix_line in_macro true false b t more e,
       head_as_line,
     )
 
-pub front_line : (c : Context) (includes : Bool) (b : ℕ) (t more : List ℕ) → AtLineEnd more
+pub prefix_line : (c : Context) (includes : Bool) (b : ℕ) (t more : List ℕ) → AtLineEnd more
     → opens_in c (b ∷ t) ≡ false → match_in c includes (b ∷ t ++ more) ≡ match_in c includes (b ∷ t)
-front_line Limbo includes b t more e h = text_front_line in_limbo b t more e h
-front_line TeX includes b t more e h = text_front_line in_tex b t more e h
-front_line (Definition begun) includes b t more e h = head_front_line begun b t more e h
-front_line Macro includes b t more e h = macro_front_line b t more e h
-front_line CText includes b t more e h = c_front_line in_c false includes b t more e h
+prefix_line Limbo includes b t more e h = text_prefix_line in_limbo b t more e h
+prefix_line TeX includes b t more e h = text_prefix_line in_tex b t more e h
+prefix_line (Definition begun) includes b t more e h = head_prefix_line begun b t more e h
+prefix_line Macro includes b t more e h = macro_prefix_line b t more e h
+prefix_line CText includes b t more e h = c_prefix_line in_c false includes b t more e h

@@ -2,7 +2,7 @@
 use Rattle.cweb_rules.proofs.Common.{◌≡◌, ◌≤◌, ◌<◌, ℕ, zero, suc, ◌-◌, Bool, true, false, ◌||◌, ◌==◌, List, [], ◌∷◌, ◌++◌, length, refl, ap, sym, ◌∙◌, subst, arith, if◌then◌else◌, codes, list_all, eqb-true, append-nil, begins, first_is, is_line_end, starts_section, Look, Goes, Ends, reach, reach_in, End, Closed, Cut, Open, look_in_control, look_in_name, look_in_comment, look_in_literal, look_in_include, look_in_raw, AtLineEnd, is_unclosed, and_parts}
 use Rattle.cweb_rules.proofs.Seams.{in_line, begins_stop, begins_line, starts_section_line}
 use Rattle.cweb_rules.proofs.Sizes.{begins-size}
-use Rattle.cweb_rules.proofs.Reaches.{IsLocal, IsEnd, IsWhole, ended, at_front, WholeAt, reach-ended}
+use Rattle.cweb_rules.proofs.Reaches.{IsLocal, IsEnd, IsWhole, ended, at_start, WholeAt, reach-ended}
 
 abbrev pub IsWithin : Look → ℕ → Type 0
 IsWithin (Goes n) len = (0 < n) × (n ≤ len)
@@ -114,7 +114,7 @@ AllSome look = (b : ℕ) (t : List ℕ) → IsSome (look (b ∷ t))
 
 ended_at : (look : List ℕ → Look) (b : ℕ) (t : List ℕ) (v : Look) → IsSome v
     → ((k : ℕ) → is_unclosed (reach_in look Open k t).how ≡ false → IsWhole look k t)
-    → is_unclosed (at_front look v (b ∷ t) Open t).how ≡ false → WholeAt look v t
+    → is_unclosed (at_start look v (b ∷ t) Open t).how ≡ false → WholeAt look v t
 ended_at look b t (Goes n) h f g = (h, f (n - 1) g)
 ended_at look b t (Ends n how) h f g = h
 

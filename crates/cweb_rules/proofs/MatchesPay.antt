@@ -2,7 +2,7 @@
 use Rattle.cweb_rules.proofs.Common.{◌≡◌, ◌≤◌, ℕ, Bool, true, false, ◌&&◌, List, [], ◌∷◌, length, take, drop, refl, arith, codes, prefix_len, prefix_len-le-length, Place, begins, starts_section, at_line_end, is_line_end, is_blank, is_digit, is_word_byte, Effect, in_limbo, in_tex, in_macro, in_c, Closed, Cut, reach_of_comment, reach_of_line_comment, look_in_comment, Kind, Blanks, LineEnd, Comment, Identifier, Numeral, Punctuator, rule_match, listed, longest, number_len, continues_number, starts_number, Context, Limbo, TeX, Definition, Macro, CText, starts_literal, starts_raw, starts_include, c_match, macro_match, head_match_of, match_in, Pays, FitsAndPays}
 use Rattle.cweb_rules.proofs.Sizes.{begins-size, reach-size, comment-within}
 use Rattle.cweb_rules.proofs.TokenSizes.{number-size, longest-size}
-use Rattle.cweb_rules.proofs.ItemMatchesPay.{fair_of, choose, section_at-fair, skipped-fair, t, code_at-fair, text_front-fair, commented, literal_at-fair, raw_at-fair, include_at-fair}
+use Rattle.cweb_rules.proofs.ItemMatchesPay.{fair_of, choose, section_at-fair, skipped-fair, t, code_at-fair, text_prefix-fair, commented, literal_at-fair, raw_at-fair, include_at-fair}
 use Rattle.cweb_rules.proofs.Longest.{longest_pos}
 
 run-fair : (c : Context) (k : Kind) (p : ℕ → Bool) (b : ℕ) (t : List ℕ) → p b ≡ true
@@ -21,9 +21,9 @@ number-fair : (c : Context) (b : ℕ) (t : List ℕ) → starts_number (b ∷ t)
     → FitsAndPays c (b ∷ t) (rule_match Numeral (number_len 0 (b ∷ t)))
 number-fair c b t h = grind (arith, t, begins_number b t h, number-size 0 (b ∷ t))
 
-pub c_front-fair : (c : Context) (effect : ℕ → Effect) (takes_sign includes : Bool) (b : ℕ) (t : List ℕ)
-    → FitsAndPays c (b ∷ t) (c_match effect takes_sign includes (b ∷ t))
-c_front-fair c effect takes_sign includes b t =
+pub c_prefix-fair : (c : Context) (effect : ℕ → Effect) (with_opener includes : Bool) (b : ℕ) (t : List ℕ)
+    → FitsAndPays c (b ∷ t) (c_match effect with_opener includes (b ∷ t))
+c_prefix-fair c effect with_opener includes b t =
     choose c (b ∷ t) (is_blank b) _ _ (λ h. run-fair c Blanks is_blank b t h (λ e. e)) (λ h0. choose c
     (b ∷ t) (is_line_end b) _ _ (λ h. fair_of c (b ∷ t) LineEnd 1 (omega arith) (omega arith) (λ e. omega (arith, e)))
     (λ no_end. choose c (b ∷ t) (begins (codes "/*") (b ∷ t)) _ _
@@ -34,7 +34,8 @@ c_front-fair c effect takes_sign includes b t =
     (λ h. commented c _ b t (reach_of_line_comment (drop 2 (b ∷ t))) no_end (begins-size
     (codes "//") (b ∷ t) h) (reach-size (look_in_comment at_line_end 0) Closed (comment-within at_line_end 0 (λ w k.
     omega arith)) (drop 2 (b ∷ t)))) (λ h3. choose c (b ∷ t) (starts_section (b ∷ t)) _ _ (λ h. section_at-fair c b t)
-    (λ h4. choose c (b ∷ t) (begins (codes "@") (b ∷ t)) _ _ (λ h. code_at-fair c effect takes_sign b t) (λ h5. choose c
+    (λ h4. choose c (b ∷ t) (begins (codes "@") (b ∷ t)) _ _ (λ h. code_at-fair c effect with_opener b t)
+    (λ h5. choose c
     (b ∷ t) (starts_raw (b ∷ t)) _ _ (λ h. raw_at-fair c (b ∷ t) h) (λ h5r. choose c (b ∷ t) (starts_literal (b ∷ t))
     _ _ (λ h. literal_at-fair c (b ∷ t) h) (λ h6. choose c (b ∷ t) (includes && starts_include (b ∷ t)) _ _
     (λ h. include_at-fair c b t) (λ h7. choose c (b ∷ t) (starts_number (b ∷ t)) _ _ (λ h. number-fair c b t h)
@@ -42,9 +43,9 @@ c_front-fair c effect takes_sign includes b t =
     fair_of c (b ∷ t) Punctuator (longest listed (b ∷ t)) (longest_pos listed (b ∷ t)) (longest-size listed b t) (λ e.
     omega (arith, e, longest_pos listed (b ∷ t))))))))))))))
 
-macro_front-fair : (c : Context) (b : ℕ) (t : List ℕ) → FitsAndPays c (b ∷ t) (macro_match (b ∷ t))
-macro_front-fair c b t = choose c (b ∷ t) (begins (codes "\\") (b ∷ t) && at_line_end (drop 1 (b ∷ t))) _ _
-    (λ h. skipped-fair c b t) (λ h. c_front-fair c in_macro true false b t)
+macro_prefix-fair : (c : Context) (b : ℕ) (t : List ℕ) → FitsAndPays c (b ∷ t) (macro_match (b ∷ t))
+macro_prefix-fair c b t = choose c (b ∷ t) (begins (codes "\\") (b ∷ t) && at_line_end (drop 1 (b ∷ t))) _ _
+    (λ h. skipped-fair c b t) (λ h. c_prefix-fair c in_macro true false b t)
 
 head_as-fair : (begun : Place) (k : Kind) (n : ℕ) (b : ℕ) (t : List ℕ)
     → FitsAndPays (Definition begun) (b ∷ t) (rule_match k n)
@@ -54,14 +55,14 @@ head_as-fair begun LineEnd n b t f = f
 head_as-fair begun (Comment how) n b t f = f
 head_as-fair begun Identifier n b t f =
     fair_of (Definition begun) (b ∷ t) _ n f.some f.within (λ e. (omega (arith, e, f.some), refl))
-head_as-fair begun _ n b t f = text_front-fair (Definition begun) in_tex b t
+head_as-fair begun _ n b t f = text_prefix-fair (Definition begun) in_tex b t
 
-pub front_in-fair : (c : Context) (includes : Bool) (b : ℕ) (t : List ℕ)
+pub prefix_in-fair : (c : Context) (includes : Bool) (b : ℕ) (t : List ℕ)
     → FitsAndPays c (b ∷ t) (match_in c includes (b ∷ t))
-front_in-fair Limbo includes b t = text_front-fair Limbo in_limbo b t
-front_in-fair TeX includes b t = text_front-fair TeX in_tex b t
-front_in-fair (Definition begun) includes b t =
+prefix_in-fair Limbo includes b t = text_prefix-fair Limbo in_limbo b t
+prefix_in-fair TeX includes b t = text_prefix-fair TeX in_tex b t
+prefix_in-fair (Definition begun) includes b t =
     let f = c_match in_macro true false (b ∷ t) in
-    head_as-fair begun f.kind f.size b t (c_front-fair (Definition begun) in_macro true false b t)
-front_in-fair Macro includes b t = macro_front-fair Macro b t
-front_in-fair CText includes b t = c_front-fair CText in_c false includes b t
+    head_as-fair begun f.kind f.size b t (c_prefix-fair (Definition begun) in_macro true false b t)
+prefix_in-fair Macro includes b t = macro_prefix-fair Macro b t
+prefix_in-fair CText includes b t = c_prefix-fair CText in_c false includes b t

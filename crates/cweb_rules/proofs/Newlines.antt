@@ -1,40 +1,41 @@
 -- The newlines in a lexeme, as far as its kind determines them.
 use Rattle.cweb_rules.proofs.Common.{◌≡◌, ◌≢◌, ℕ, ◌+◌, Bool, true, false, ◌&&◌, List, [], ◌∷◌, ◌++◌, length, take, drop, refl, ap, sym, ◌∙◌, subst, arith, if◌then◌else◌, codes, eqb-true, begins, is_blank, is_line_end, at_line_end, starts_section, in_limbo, in_tex, in_macro, in_c, effect_match, code_match, tex_match, quote_of, literal_prefix, raw_prefix, delimiter, raw_closer, starts_raw, starts_literal, c_match, head_match_of, match_in, look_in_literal, look_in_raw, Kind, Skipped, Blanks, LineEnd, Comment, Identifier, RuleMatch, rule_match, IsLine, AtLineEnd, opens_comment, opens_literal, opens_raw, opens_effect, opens_code, tex_opens, c_opens, Context, Limbo, TeX, Definition, Macro, CText, Effect, Named}
-use Rattle.cweb_rules.proofs.ItemMatchesPay.{text_front-fair}
-use Rattle.cweb_rules.proofs.MatchesPay.{c_front-fair}
-use Rattle.cweb_rules.proofs.InLines.{c-stands, text-stands}
-use Rattle.cweb_rules.proofs.LineMatches.{c_front_line, text_front_line}
+use Rattle.cweb_rules.proofs.ItemMatchesPay.{text_prefix-fair}
+use Rattle.cweb_rules.proofs.MatchesPay.{c_prefix-fair}
+use Rattle.cweb_rules.proofs.InLines.{c-valid, text-valid}
+use Rattle.cweb_rules.proofs.LineMatches.{c_prefix_line, text_prefix_line}
 use Rattle.cweb_rules.proofs.LineLiterals.{starts_literal_line}
 use Rattle.cweb_rules.proofs.LineDelimiters.{starts_raw_line}
 use Rattle.cweb_rules.proofs.Looks.{literal-some}
 use Rattle.cweb_rules.proofs.Seams.{begins_line, starts_section_line}
-use Rattle.cweb_rules.proofs.UnitNewlines.{Tells, Told, in_line-told, quoted-told, raw-some}
+use Rattle.cweb_rules.proofs.UnitNewlines.{Tells, Known, in_line-known, quoted-known, raw-some}
 
 no : {P : Type 0} → false ≡ true → P
 no h = cc
 
-pick : (t : List ℕ) (v' v : Bool) (x y : RuleMatch) (p q : Bool) → v' ≡ v → (v ≡ true → p ≡ true → Told t x)
-    → (v ≡ false → q ≡ true → Told t y) → (if v then p else q) ≡ true → Told t (if v' then x else y)
-pick t v' true x y p q e f g h = subst (λ w. Told t (if w then x else y)) (sym e) (f refl h)
-pick t v' false x y p q e f g h = subst (λ w. Told t (if w then x else y)) (sym e) (g refl h)
+pick : (t : List ℕ) (v' v : Bool) (x y : RuleMatch) (p q : Bool) → v' ≡ v → (v ≡ true → p ≡ true → Known t x)
+    → (v ≡ false → q ≡ true → Known t y) → (if v then p else q) ≡ true → Known t (if v' then x else y)
+pick t v' true x y p q e f g h = subst (λ w. Known t (if w then x else y)) (sym e) (f refl h)
+pick t v' false x y p q e f g h = subst (λ w. Known t (if w then x else y)) (sym e) (g refl h)
 
-code-opened : (e : Effect) (takes_sign : Bool) (t u : List ℕ)
-    → opens_effect e u ≡ true → Told t (effect_match e takes_sign t)
-code-opened Named takes_sign t u h = tt
-code-opened _ takes_sign t u h = no h
+code-opened : (e : Effect) (with_opener : Bool) (t u : List ℕ)
+    → opens_effect e u ≡ true → Known t (effect_match e with_opener t)
+code-opened Named with_opener t u h = tt
+code-opened _ with_opener t u h = no h
 
-code_at-opened : (effect : ℕ → Effect) (takes_sign : Bool) (b : ℕ) (u more : List ℕ)
-    → opens_code effect (b ∷ u) ≡ true → Told (b ∷ u ++ more) (code_match effect takes_sign (b ∷ u ++ more))
-code_at-opened effect takes_sign b [] more h = no h
-code_at-opened effect takes_sign b (d ∷ u) more h = code-opened (effect d) takes_sign (b ∷ d ∷ u ++ more) (b ∷ d ∷ u) h
+code_at-opened : (effect : ℕ → Effect) (with_opener : Bool) (b : ℕ) (u more : List ℕ)
+    → opens_code effect (b ∷ u) ≡ true → Known (b ∷ u ++ more) (code_match effect with_opener (b ∷ u ++ more))
+code_at-opened effect with_opener b [] more h = no h
+code_at-opened effect with_opener b (d ∷ u) more h = code-opened (effect d) with_opener (b ∷ d ∷ u ++ more)
+    (b ∷ d ∷ u) h
 
 text-opened : (effect : ℕ → Effect) (b : ℕ) (u more : List ℕ) → AtLineEnd more
-    → tex_opens effect (b ∷ u) ≡ true → Told (b ∷ u ++ more) (tex_match effect (b ∷ u ++ more))
+    → tex_opens effect (b ∷ u) ≡ true → Known (b ∷ u ++ more) (tex_match effect (b ∷ u ++ more))
 text-opened effect b u more e h = grind (arith, pick, starts_section_line b u more e)
 
-c-opened : (effect : ℕ → Effect) (takes_sign includes : Bool) (b : ℕ) (u more : List ℕ) → AtLineEnd more
-    → c_opens effect (b ∷ u) ≡ true → Told (b ∷ u ++ more) (c_match effect takes_sign includes (b ∷ u ++ more))
-c-opened effect takes_sign includes b u more e h =
+c-opened : (effect : ℕ → Effect) (with_opener includes : Bool) (b : ℕ) (u more : List ℕ) → AtLineEnd more
+    → c_opens effect (b ∷ u) ≡ true → Known (b ∷ u ++ more) (c_match effect with_opener includes (b ∷ u ++ more))
+c-opened effect with_opener includes b u more e h =
     let w = b ∷ u in
     let t = w ++ more in
     pick t (is_blank b) (is_blank b) _ _ false _ refl (λ v k. no k) (λ v0 h0.
@@ -43,64 +44,66 @@ c-opened effect takes_sign includes b u more e h =
     pick t (begins (codes "//") t) (begins (codes "//") w) _ _ false _ (begins_line (codes "//") w more refl e)
     (λ v k. no k) (λ v3 h3. pick t (starts_section t) (starts_section w) _ _ false _
     (starts_section_line b u more e) (λ v k. no k) (λ v4 h4. pick t (begins (codes "@") t) (begins (codes "@") w) _ _
-    (opens_code effect w) _ (begins_line (codes "@") w more refl e) (λ v k. code_at-opened effect takes_sign b u more k)
+    (opens_code effect w) _ (begins_line (codes "@") w more refl e)
+    (λ v k. code_at-opened effect with_opener b u more k)
     (λ v5 h5. pick t (starts_raw t) (starts_raw w) _ _ (opens_raw w) _ (starts_raw_line w more e) (λ v k.
     let m = raw_prefix t + 2 in
     let sign = raw_closer (drop m t) in
-    quoted-told (look_in_raw sign) (raw-some sign) (m + length (delimiter (drop m t)) + 1) t) (λ v6 h6.
+    quoted-known (look_in_raw sign) (raw-some sign) (m + length (delimiter (drop m t)) + 1) t) (λ v6 h6.
     pick t (starts_literal t) (starts_literal w) _ _ (opens_literal w) false (starts_literal_line w more e) (λ v k.
     let n = literal_prefix t in
     let quote = quote_of (drop n t) in
-    quoted-told (look_in_literal quote) (literal-some quote) (n + 1) t) (λ v7 h7. no h7) h6) h5) h4) h3) h2) h1) h0) h
+    quoted-known (look_in_literal quote) (literal-some quote) (n + 1) t) (λ v7 h7. no h7) h6) h5) h4) h3) h2) h1) h0) h
 
-text-told : (effect : ℕ → Effect) (b : ℕ) (u more : List ℕ) → AtLineEnd more
-    → IsLine (b ∷ u) → Told (b ∷ u ++ more) (tex_match effect (b ∷ u ++ more))
-text-told effect b u more e l = (elim (tex_opens effect (b ∷ u))
-    as (λ v. tex_opens effect (b ∷ u) ≡ v → Told (b ∷ u ++ more) (tex_match effect (b ∷ u ++ more))) [
+text-known : (effect : ℕ → Effect) (b : ℕ) (u more : List ℕ) → AtLineEnd more
+    → IsLine (b ∷ u) → Known (b ∷ u ++ more) (tex_match effect (b ∷ u ++ more))
+text-known effect b u more e l = (elim (tex_opens effect (b ∷ u))
+    as (λ v. tex_opens effect (b ∷ u) ≡ v → Known (b ∷ u ++ more) (tex_match effect (b ∷ u ++ more))) [
       | true ↦ λ h. text-opened effect b u more e h
-      | false ↦ λ h. subst (Told (b ∷ u ++ more)) (sym (text_front_line effect b u more e h)) (in_line-told (tex_match
-          effect (b ∷ u)) (b ∷ u) more l (text-stands effect (b ∷ u) l) (text_front-fair TeX effect b u).within)
+      | false ↦ λ h. subst (Known (b ∷ u ++ more)) (sym (text_prefix_line effect b u more e h))
+          (in_line-known (tex_match
+          effect (b ∷ u)) (b ∷ u) more l (text-valid effect (b ∷ u) l) (text_prefix-fair TeX effect b u).within)
     ]) refl
 
-c-told : (effect : ℕ → Effect) (takes_sign includes : Bool) (b : ℕ) (u more : List ℕ) → AtLineEnd more
-    → IsLine (b ∷ u) → Told (b ∷ u ++ more) (c_match effect takes_sign includes (b ∷ u ++ more))
-c-told effect takes_sign includes b u more e l = (elim (c_opens effect (b ∷ u)) as (λ v.
-    c_opens effect (b ∷ u) ≡ v → Told (b ∷ u ++ more) (c_match effect takes_sign includes (b ∷ u ++ more))) [
-      | true ↦ λ h. c-opened effect takes_sign includes b u more e h
-      | false ↦ λ h. subst (Told (b ∷ u ++ more)) (sym (c_front_line effect takes_sign includes b u more e h))
-          (in_line-told (c_match effect takes_sign includes (b ∷ u)) (b ∷ u) more l
-          (c-stands effect takes_sign includes b u l) (c_front-fair TeX effect takes_sign includes b u).within)
+c-known : (effect : ℕ → Effect) (with_opener includes : Bool) (b : ℕ) (u more : List ℕ) → AtLineEnd more
+    → IsLine (b ∷ u) → Known (b ∷ u ++ more) (c_match effect with_opener includes (b ∷ u ++ more))
+c-known effect with_opener includes b u more e l = (elim (c_opens effect (b ∷ u)) as (λ v.
+    c_opens effect (b ∷ u) ≡ v → Known (b ∷ u ++ more) (c_match effect with_opener includes (b ∷ u ++ more))) [
+      | true ↦ λ h. c-opened effect with_opener includes b u more e h
+      | false ↦ λ h. subst (Known (b ∷ u ++ more)) (sym (c_prefix_line effect with_opener includes b u more e h))
+          (in_line-known (c_match effect with_opener includes (b ∷ u)) (b ∷ u) more l
+          (c-valid effect with_opener includes b u l) (c_prefix-fair TeX effect with_opener includes b u).within)
     ]) refl
 
-head-told : (k : Kind) (f : RuleMatch) (t : List ℕ) → f.kind ≡ k → Told t f
-    → Told t (tex_match in_tex t) → Told t (head_match_of k f t)
-head-told Blanks f t e h text = h
-head-told LineEnd f t e h text = h
-head-told (Comment how) f t e h text = h
-head-told Identifier f t e h text = subst (λ k. Tells k (take f.size t)) e h
-head-told _ f t e h text = text
+head-known : (k : Kind) (f : RuleMatch) (t : List ℕ) → f.kind ≡ k → Known t f
+    → Known t (tex_match in_tex t) → Known t (head_match_of k f t)
+head-known Blanks f t e h text = h
+head-known LineEnd f t e h text = h
+head-known (Comment how) f t e h text = h
+head-known Identifier f t e h text = subst (λ k. Tells k (take f.size t)) e h
+head-known _ f t e h text = text
 
-in-told : (c : Context) (includes : Bool) (b : ℕ) (u more : List ℕ) → AtLineEnd more
-    → IsLine (b ∷ u) → Told (b ∷ u ++ more) (match_in c includes (b ∷ u ++ more))
-in-told Limbo includes b u more e l = text-told in_limbo b u more e l
-in-told TeX includes b u more e l = text-told in_tex b u more e l
-in-told (Definition begun) includes b u more e l =
-    grind (arith, head-told, c-told in_macro true false b u more e l, text-told in_tex b u more e l)
-in-told Macro includes b u more e l =
+in-known : (c : Context) (includes : Bool) (b : ℕ) (u more : List ℕ) → AtLineEnd more
+    → IsLine (b ∷ u) → Known (b ∷ u ++ more) (match_in c includes (b ∷ u ++ more))
+in-known Limbo includes b u more e l = text-known in_limbo b u more e l
+in-known TeX includes b u more e l = text-known in_tex b u more e l
+in-known (Definition begun) includes b u more e l =
+    grind (arith, head-known, c-known in_macro true false b u more e l, text-known in_tex b u more e l)
+in-known Macro includes b u more e l =
     let t = b ∷ u ++ more in
     elim (begins (codes "\\") t && at_line_end (u ++ more))
-    as (λ v. Told t (if v then rule_match Skipped 1 else c_match in_macro true false t)) [
+    as (λ v. Known t (if v then rule_match Skipped 1 else c_match in_macro true false t)) [
       | true ↦ tt
-      | false ↦ c-told in_macro true false b u more e l
+      | false ↦ c-known in_macro true false b u more e l
     ]
-in-told CText includes b u more e l = c-told in_c false includes b u more e l
+in-known CText includes b u more e l = c-known in_c false includes b u more e l
 
-end-told : (c : Context) (includes : Bool) (t : List ℕ) → Told (10 ∷ t) (match_in c includes (10 ∷ t))
-end-told Limbo includes [] = tt
-end-told Limbo includes (d ∷ t) = tt
-end-told TeX includes [] = tt
-end-told TeX includes (d ∷ t) = tt
-end-told _ includes t = refl
+end-known : (c : Context) (includes : Bool) (t : List ℕ) → Known (10 ∷ t) (match_in c includes (10 ∷ t))
+end-known Limbo includes [] = tt
+end-known Limbo includes (d ∷ t) = tt
+end-known TeX includes [] = tt
+end-known TeX includes (d ∷ t) = tt
+end-known _ includes t = refl
 
 abbrev pub IsCut : List ℕ → List ℕ × List ℕ → Type 0
 IsCut t c = (t ≡ c.0 ++ c.1) × IsLine c.0 × AtLineEnd c.1
@@ -116,10 +119,10 @@ cut (b ∷ t) = (elim (is_line_end b) as (λ v. is_line_end b ≡ v → (c : Lis
 ]) refl
 
 at_cut : (c : Context) (includes : Bool) (b : ℕ) (t u more : List ℕ) → b ∷ t ≡ u ++ more
-    → IsLine u → AtLineEnd more → Told (b ∷ t) (match_in c includes (b ∷ t))
+    → IsLine u → AtLineEnd more → Known (b ∷ t) (match_in c includes (b ∷ t))
 at_cut c includes b t [] [] e l h = let wrong : length (b ∷ t) ≡ 0 = ap length e in absurd (omega (arith, wrong))
-at_cut c includes b t [] (d ∷ more) e l h = grind (arith, end-told c includes more)
-at_cut c includes b t (d ∷ u) more e l h = grind (arith, in-told c includes d u more h l)
+at_cut c includes b t [] (d ∷ more) e l h = grind (arith, end-known c includes more)
+at_cut c includes b t (d ∷ u) more e l h = grind (arith, in-known c includes d u more h l)
 
-pub told : (c : Context) (includes : Bool) (b : ℕ) (t : List ℕ) → Told (b ∷ t) (match_in c includes (b ∷ t))
-told c includes b t = let r = cut (b ∷ t) in at_cut c includes b t r.0.0 r.0.1 r.1.0 r.1.1 r.1.2
+pub is_known : (c : Context) (includes : Bool) (b : ℕ) (t : List ℕ) → Known (b ∷ t) (match_in c includes (b ∷ t))
+is_known c includes b t = let r = cut (b ∷ t) in at_cut c includes b t r.0.0 r.0.1 r.1.0 r.1.1 r.1.2

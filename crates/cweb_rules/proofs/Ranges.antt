@@ -16,8 +16,8 @@ reach_in-drop look e zero t = refl
 reach_in-drop look e (suc k) [] = refl
 reach_in-drop look e (suc k) (b ∷ t) = reach_in-drop look e k t
 
-abbrev at_front : (List ℕ → Look) → End → Look → List ℕ → List ℕ → Reach
-at_front look e v u t =
+abbrev at_start : (List ℕ → Look) → End → Look → List ℕ → List ℕ → Reach
+at_start look e v u t =
     elim v [
       | Goes n ↦ with_unit (take n u) (reach_in look e (n - 1) t)
       | Ends n how ↦ record { units = []; close = n; how = how }
@@ -31,21 +31,16 @@ pub reach_goes : (look : List ℕ → Look) (e : End) (n : ℕ) (t : List ℕ) �
 reach_goes look e n [] some moves h = absurd (omega arith)
 reach_goes look e n (b ∷ t) some moves h =
     let same : n ≡ suc (n - 1) = omega arith in
-    ap (λ v. reached (at_front look e v (b ∷ t) t)) h
+    ap (λ v. reached (at_start look e v (b ∷ t) t)) h
     ∙ unit-size (take n (b ∷ t)) (reach_in look e (n - 1) t)
     ∙ ap (λ k. later_by k (reached (reach_in look e (n - 1) t))) (length-take n (b ∷ t))
     ∙ ap (λ (r : Reach). later_by (min n (length (b ∷ t))) (reached r))
     (reach_in-drop look e (n - 1) t ∙ ap (λ k. reach look e (drop k (b ∷ t))) (sym same))
     ∙ ap (λ u. later_by (min n (length (b ∷ t))) (reached (reach look e u))) (sym (drop_min n (b ∷ t)))
 
-pub reach_ended : (look : List ℕ → Look) (e how : End) (n : ℕ) (t : List ℕ) → 0 < length t
-    → look t ≡ Ends n how → reached (reach look e t) ≡ record { size = 0; close = n; how = how }
-reach_ended look e how n [] some h = absurd (omega arith)
-reach_ended look e how n (b ∷ t) some h = ap (λ v. reached (at_front look e v (b ∷ t) t)) h
-
 closed_at : (look : List ℕ → Look) (b : ℕ) (t : List ℕ) (v : Look)
     → ((k : ℕ) → is_closed (reach_in look Cut k t).how ≡ is_closed (reach_in look Open k t).how)
-    → is_closed (at_front look Cut v (b ∷ t) t).how ≡ is_closed (at_front look Open v (b ∷ t) t).how
+    → is_closed (at_start look Cut v (b ∷ t) t).how ≡ is_closed (at_start look Open v (b ∷ t) t).how
 closed_at look b t (Goes n) h = h (n - 1)
 closed_at look b t (Ends n how) h = refl
 

@@ -75,15 +75,15 @@ begins_fits (x ∷ p) (b ∷ t) more h = ap (λ v. (x == b) && v) (begins_fits p
 abbrev seen : ℕ → Bool → Bool → Bool → Look
 seen size closes cut pair = cond closes (Ends size Closed) (cond cut (Ends 0 Cut) (cond pair (Goes 2) (Goes 1)))
 
-abbrev at_front : (List ℕ → Look) → Look → List ℕ → List ℕ → Reach
-at_front look v u w =
+abbrev at_start : (List ℕ → Look) → Look → List ℕ → List ℕ → Reach
+at_start look v u w =
     elim v [
       | Goes n ↦ with_unit (take n u) (reach_in look Cut (n - 1) w)
       | Ends n how ↦ record { units = []; close = n; how = how }
     ]
 
 one_long : (close : List ℕ) (b : ℕ) (t : List ℕ) (c s p : Bool) → (c ≡ true → length close ≤ length (b ∷ t))
-    → (at_front (look_in_raw close) (seen (length close) c s p) (b ∷ t) t).how ≡ Closed
+    → (at_start (look_in_raw close) (seen (length close) c s p) (b ∷ t) t).how ≡ Closed
     → ((k : ℕ) → (reach_in (look_in_raw close) Cut k t).how ≡ Closed → length close ≤ length t)
     → length close ≤ length (b ∷ t)
 one_long close b t true s p f h ih = f refl
@@ -99,10 +99,10 @@ long close zero (b ∷ t) h = one_long close b t (begins close (b ∷ t))
     (starts_section (b ∷ t)) (begins (codes "@@") (b ∷ t)) (begins-size close (b ∷ t)) h (λ k g. long close k t g)
 
 further_byte : (look : List ℕ → Look) (n : ℕ) (q e p : Bool) (b c : ℕ) (t more : List ℕ)
-    → (at_front look (seen n q e p) (b ∷ c ∷ t) (c ∷ t)).how ≡ Closed
+    → (at_start look (seen n q e p) (b ∷ c ∷ t) (c ∷ t)).how ≡ Closed
     → ((k : ℕ) → (reach_in look Cut k (c ∷ t)).how ≡ Closed → reach_in look Cut
-    k (c ∷ t ++ more) ≡ reach_in look Cut k (c ∷ t)) → at_front look (seen n q e p) (b ∷ c ∷ t ++ more) (c ∷ t ++ more)
-    ≡ at_front look (seen n q e p) (b ∷ c ∷ t) (c ∷ t)
+    k (c ∷ t ++ more) ≡ reach_in look Cut k (c ∷ t)) → at_start look (seen n q e p) (b ∷ c ∷ t ++ more) (c ∷ t ++ more)
+    ≡ at_start look (seen n q e p) (b ∷ c ∷ t) (c ∷ t)
 further_byte look n true e p b c t more h ih = refl
 further_byte look n false true p b c t more h ih = refl
 further_byte look n false false true b c t more h ih = ap (with_unit (b ∷ c ∷ [])) (ih 1 h)
@@ -116,7 +116,7 @@ closed_stays close two (suc k) (b ∷ t) more h = closed_stays close two k t mor
 closed_stays close two zero (b ∷ []) more h = let l = long close 0 (b ∷ []) h in absurd (omega (arith, l, two))
 closed_stays close two zero (b ∷ c ∷ t) more h =
     let u = b ∷ c ∷ t in
-    ap (λ v. at_front (look_in_raw close) (seen (length close) v (starts_section u) (begins (codes "@@") u))
+    ap (λ v. at_start (look_in_raw close) (seen (length close) v (starts_section u) (begins (codes "@@") u))
     (u ++ more) (c ∷ t ++ more)) (begins_fits close u more (long close 0 u h))
     ∙ further_byte (look_in_raw close) (length close) (begins close u)
     (starts_section u) (begins (codes "@@") u) b c t more h (λ k g. closed_stays close two k (c ∷ t) more g)

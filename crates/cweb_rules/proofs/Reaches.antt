@@ -29,8 +29,8 @@ whole_fits look k [] h = omega (arith, h)
 whole_fits look (suc k) (b ∷ t) h = omega (arith, whole_fits look k t h)
 whole_fits look zero (b ∷ t) h = omega arith
 
-abbrev pub at_front : (List ℕ → Look) → Look → List ℕ → End → List ℕ → Reach
-at_front look v u f w =
+abbrev pub at_start : (List ℕ → Look) → Look → List ℕ → End → List ℕ → Reach
+at_start look v u f w =
     elim v [
       | Goes n ↦ with_unit (take n u) (reach_in look f (n - 1) w)
       | Ends n how ↦ record { units = []; close = n; how = how }
@@ -41,7 +41,7 @@ WholeAt look v t = elim v [ Goes n ↦ (0 < n) × IsWhole look (n - 1) t | Ends 
 
 one_unit : (look : List ℕ → Look) (e : End) (b : ℕ) (t more : List ℕ) (w : Look) → WholeAt look w t → ((k : ℕ)
     → IsWhole look k t → reach_in look e k (t ++ more) ≡ join (reach_in look Open k t) (reach_in look e 0 more))
-    → at_front look w (b ∷ t ++ more) e (t ++ more) ≡ join (at_front look w (b ∷ t) Open t) (reach_in look e 0 more)
+    → at_start look w (b ∷ t ++ more) e (t ++ more) ≡ join (at_start look w (b ∷ t) Open t) (reach_in look e 0 more)
 one_unit look e b t more (Ends n how) h ih = ended n how (reach_in look e 0 more) h
 one_unit look e b t more (Goes n) h ih =
     grind (arith, take-append-le n (b ∷ t) more (omega (arith, whole_fits look (n - 1) t h.1)))
@@ -50,7 +50,7 @@ seam_in : (look : List ℕ → Look) (e : End) (more : List ℕ) → IsLocal loo
     → IsWhole look k t → reach_in look e k (t ++ more) ≡ join (reach_in look Open k t) (reach_in look e 0 more)
 seam_in look e more local k [] h = ap (λ n. reach_in look e n more) h
 seam_in look e more local (suc k) (b ∷ t) h = seam_in look e more local k t h
-seam_in look e more local zero (b ∷ t) h = ap (λ v. at_front look v (b ∷ t ++ more) e (t ++ more)) (local b t)
+seam_in look e more local zero (b ∷ t) h = ap (λ v. at_start look v (b ∷ t ++ more) e (t ++ more)) (local b t)
     ∙ one_unit look e b t more (look (b ∷ t)) h (λ k f. seam_in look e more local k t f)
 
 pub reach-append : (look : List ℕ → Look) (e : End) (t more : List ℕ) → IsLocal look more

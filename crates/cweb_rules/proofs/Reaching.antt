@@ -2,7 +2,7 @@
 use Rattle.cweb_rules.proofs.Common.{◌≡◌, ◌<◌, ℕ, zero, suc, ◌-◌, List, [], ◌∷◌, length, drop, refl, ap, subst, arith, Look, Goes, Ends, reach_in, End, look_in_control, look_in_name, look_in_comment, look_in_literal, look_in_include, look_in_raw}
 use Rattle.std.proofs.Common.{inl, inr}
 use Rattle.cweb_rules.specs.laws.Reaching.{PassesBytes, ArePassed, EndsAtItsFirstEnd, ItemsEndAtTheirFirstEnd, RulesPassBytes}
-use Rattle.cweb_rules.proofs.Reaches.{at_front}
+use Rattle.cweb_rules.proofs.Reaches.{at_start}
 use Rattle.cweb_rules.proofs.Looks.{IsWithin, AllWithin, IsSome, AllSome, control-units, name-units, comment-units, include-units, raw-units, literal-some}
 
 same-rest : (n : ℕ) (b : ℕ) (t : List ℕ) → 0 < n → drop (n - 1) t ≡ drop n (b ∷ t)
@@ -11,7 +11,7 @@ same-rest (suc n) b t h = ap (λ k. drop k t) (let e : suc n - 1 ≡ n = omega a
 
 at-unit : (look : List ℕ → Look) (at_end : End) (b : ℕ) (t : List ℕ) → PassesBytes look
     → ((k : ℕ) → EndsAtItsFirstEnd look at_end (drop k t) (reach_in look at_end k t)) → (v : Look) → look (b ∷ t) ≡ v
-    → EndsAtItsFirstEnd look at_end (b ∷ t) (at_front look v (b ∷ t) at_end t)
+    → EndsAtItsFirstEnd look at_end (b ∷ t) (at_start look v (b ∷ t) at_end t)
 at-unit look at_end b t passes later (Ends n how) e =
     record { rest = b ∷ t; passed = refl; ends = inl (λ z. cc, e) }
 at-unit look at_end b t passes later (Goes n) e =

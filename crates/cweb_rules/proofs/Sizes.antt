@@ -38,18 +38,18 @@ end_size (Ends n how) = n
 abbrev pub IsWithin : (List ℕ → Look) → Type 0
 IsWithin look = (t : List ℕ) → end_size (look t) ≤ length t
 
-abbrev at_front : (List ℕ → Look) → Look → End → ℕ → List ℕ → Reach
-at_front look v how b t =
+abbrev at_start : (List ℕ → Look) → Look → End → ℕ → List ℕ → Reach
+at_start look v how b t =
     elim v [
       | Goes n ↦ with_unit (take n (b ∷ t)) (reach_in look how (n - 1) t)
       | Ends n e ↦ record { units = []; close = n; how = e }
     ]
 
-at_front-size : (look : List ℕ → Look) (how : End) (b : ℕ) (t : List ℕ) (v : Look) → end_size v ≤ length (b ∷ t)
+at_start-size : (look : List ℕ → Look) (how : End) (b : ℕ) (t : List ℕ) (v : Look) → end_size v ≤ length (b ∷ t)
     → ((k : ℕ) → reach_size (reach_in look how k t) ≤ length t - k)
-    → reach_size (at_front look v how b t) ≤ length (b ∷ t)
-at_front-size look how b t (Ends n e) h rest = omega (arith, h)
-at_front-size look how b t (Goes n) h rest =
+    → reach_size (at_start look v how b t) ≤ length (b ∷ t)
+at_start-size look how b t (Ends n e) h rest = omega (arith, h)
+at_start-size look how b t (Goes n) h rest =
     grind (arith, length-append (take n (b ∷ t)), take-at_most n (b ∷ t), take-within n (b ∷ t))
 
 reach_in-size : (look : List ℕ → Look) (how : End) → IsWithin look
@@ -57,7 +57,7 @@ reach_in-size : (look : List ℕ → Look) (how : End) → IsWithin look
 reach_in-size look how within k [] = omega arith
 reach_in-size look how within (suc k) (b ∷ t) = omega (arith, reach_in-size look how within k t)
 reach_in-size look how within zero (b ∷ t) =
-    omega (arith, at_front-size look how b t (look (b ∷ t)) (within (b ∷ t)) (λ k. reach_in-size look how within k t))
+    omega (arith, at_start-size look how b t (look (b ∷ t)) (within (b ∷ t)) (λ k. reach_in-size look how within k t))
 
 pub reach-size : (look : List ℕ → Look) (how : End) → IsWithin look
     → (t : List ℕ) → reach_size (reach look how t) ≤ length t

@@ -1,5 +1,5 @@
 -- A token of C text ends by itself, and which bytes begin it.
-use Rattle.cweb_rules.proofs.Common.{◌≡◌, ℕ, Bool, true, false, ◌&&◌, ◌==◌, not, List, [], ◌∷◌, ◌++◌, Option, Some, None, length, drop, refl, ap, sym, ◌∙◌, subst, arith, codes, eqb-true, is_one_of, is_digit, is_word_byte, first_is, starts_section, in_c, letter, Transliteration, Effect, EmitAt, End, Closed, JoinsAll, IsToken, joins_last, continues_lexeme, emits_at, is_token, begins_as, c_match, effect_match, found_letter_match, is_closed, has_quote_at, starts_raw, Kind, rule_match, starts_number, and_parts, or_parts, and-true, not-false}
+use Rattle.cweb_rules.proofs.Common.{◌≡◌, ℕ, Bool, true, false, ◌&&◌, ◌==◌, not, List, [], ◌∷◌, ◌++◌, Option, Some, None, length, drop, refl, ap, sym, ◌∙◌, subst, arith, codes, eqb-true, is_one_of, is_digit, is_word_byte, first_is, starts_section, in_c, letter, Transliteration, Effect, EmitAt, End, Closed, JoinsAll, IsToken, joins_last, continues_lexeme, emits_at, is_token, begins_as, c_match, effect_match, found_letter_match, is_closed, starts_raw, Kind, rule_match, starts_number, and_parts, or_parts, not-false}
 use Rattle.cweb_rules.specs.declared.effect.Effect.TheVariants as effect
 use Rattle.cweb_rules.specs.Matches as kind
 use Rattle.cweb_rules.proofs.Chosen.{Passed, Coded, Opens, Facts, rule_of, chosen}
@@ -93,9 +93,6 @@ stays joins all _ (b ∷ d) more e h seam = cc
 no_digit : (b : ℕ) (t : List ℕ) → starts_number (b ∷ t) ≡ false → is_digit b ≡ false
 no_digit b [] h = h
 no_digit b (c ∷ t) h = (or_parts (is_digit b) ((b == 46) && is_digit c) h).0
-
-no_quote : (b : ℕ) → has_quote_at 0 (b ∷ []) ≡ false → is_one_of (codes "\"'") b ≡ false
-no_quote b h = grind (arith, or_parts ((34 == b) && true) ((39 == b) && true) h, and-true (34 == b), and-true (39 == b))
 
 abbrev no_opener : ℕ → Bool
 no_opener b = not (is_one_of (codes "LuUR\"'") b)

@@ -1,6 +1,6 @@
 -- Identifiers, numbers and punctuators don't depend on bytes that can't continue them.
 use Rattle.cweb_rules.proofs.Common.{arith, ◌≡◌, ℕ, Bool, true, false, ◌&&◌, ◌==◌, List, [], ◌∷◌, ◌++◌, refl, ap, sym, ◌∙◌, codes, list_all, prefix_len, begins, first_is, is_one_of, is_word_byte, starts_section, in_c, c_match, rule_match, Numeral, Identifier, Punctuator, listed, longest, number_len, JoinsAll, after_word, after_number, or_parts, and-true}
-use Rattle.cweb_rules.proofs.Chosen.{Passed, Facts, ForWord, ForNumber, ForPunct, passed_front}
+use Rattle.cweb_rules.proofs.Chosen.{Passed, Facts, ForWord, ForNumber, ForPunct, passed_prefix}
 use Rattle.cweb_rules.proofs.Raws.{plain_raw, word_raw}
 use Rattle.cweb_rules.proofs.Joins.{unlike, seam_joins, longest_stays}
 use Rattle.cweb_rules.proofs.Seams.{run_stop}
@@ -28,31 +28,31 @@ not_number : (more : List ℕ) → first_is after_number more ≡ false → firs
 not_number [] h = refl
 not_number (c ∷ more) h = (or_parts (after_word c) (is_one_of (codes ".+-") c) h).0
 
-pub word_front : (t : List ℕ) → Facts t ForWord
+pub word_prefix : (t : List ℕ) → Facts t ForWord
     → c_match in_c false false t ≡ rule_match Identifier (prefix_len is_word_byte t)
-word_front t f = cc (passed_front t f.0.0)
+word_prefix t f = cc (passed_prefix t f.0.0)
 
 pub word_stays : (b : ℕ) (t more : List ℕ) → Facts (b ∷ t) ForWord → list_all is_word_byte (b ∷ t) ≡ true
     → first_is after_word more ≡ false → c_match in_c false false (b ∷ t ++ more) ≡ c_match in_c false false (b ∷ t)
 word_stays b t more f all h =
-    word_front (b ∷ t ++ more) (
+    word_prefix (b ∷ t ++ more) (
       (passes b t more (unlike is_word_byte 47 b true f.3 refl) f.0.0, word_raw (b ∷ t) more all h),
       literal_stays b t more h ∙ f.1,
       word_no_number b t more (unlike (λ x. 46 == x) b 46 true refl (unlike is_word_byte 46 b true f.3 refl)) ∙ f.2,
       f.3,
     )
     ∙ ap (rule_match Identifier) (run_stop is_word_byte (b ∷ t) more (not_word more h))
-    ∙ sym (word_front (b ∷ t) f)
+    ∙ sym (word_prefix (b ∷ t) f)
 
-number_front : (t : List ℕ) → Facts t ForNumber → c_match in_c false false t ≡ rule_match Numeral (number_len 0 t)
-number_front t f = cc (passed_front t f.0.0)
+number_prefix : (t : List ℕ) → Facts t ForNumber → c_match in_c false false t ≡ rule_match Numeral (number_len 0 t)
+number_prefix t f = cc (passed_prefix t f.0.0)
 
 pub number_stays : (b : ℕ) (t more : List ℕ) → Facts (b ∷ t) ForNumber → first_is after_number more ≡ false
     → c_match in_c false false (b ∷ t ++ more) ≡ c_match in_c false false (b ∷ t)
 number_stays b t more f h =
     grind (
       arith,
-      number_front (b ∷ t ++ more) (
+      number_prefix (b ∷ t ++ more) (
         (
           passes b t more (unlike begins_number 47 b true (number_first b t f.2)
               refl) f.0.0,
@@ -75,15 +75,15 @@ number_stays b t more f h =
       number_goes 0 (b ∷ t) more h,
     )
 
-punct_front : (t : List ℕ) → Facts t ForPunct → c_match in_c false false t ≡ rule_match Punctuator (longest listed t)
-punct_front t f = cc (passed_front t f.0.0)
+punct_prefix : (t : List ℕ) → Facts t ForPunct → c_match in_c false false t ≡ rule_match Punctuator (longest listed t)
+punct_prefix t f = cc (passed_prefix t f.0.0)
 
 pub punct_stays : (joins : ℕ → ℕ → Bool) → JoinsAll joins → (b : ℕ) (t more : List ℕ) → Facts (b ∷ t) ForPunct
     → seam_joins joins b t more ≡ false → c_match in_c false false (b ∷ t ++ more) ≡ c_match in_c false false (b ∷ t)
 punct_stays joins all b t more f h =
     grind (
       arith,
-      punct_front (b ∷ t ++ more) (
+      punct_prefix (b ∷ t ++ more) (
         (
           passes_seam joins all b t more h f.0.0,
           plain_raw is_word_byte false b
@@ -100,5 +100,5 @@ punct_stays joins all b t more f h =
       plain_literal b t f.3,
       punct_no_number joins all b t more h,
       longest_stays joins listed b t more all.punctuators h,
-      punct_front (b ∷ t) f,
+      punct_prefix (b ∷ t) f,
     )

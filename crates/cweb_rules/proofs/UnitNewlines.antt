@@ -12,8 +12,8 @@ Tells LineEnd bytes = bytes ≡ 10 ∷ []
 Tells (Quoted us how) bytes = at_line_ends 1 (flat_map (λ u. u) us) ≡ at_line_ends 1 bytes
 Tells k bytes = at_line_ends 1 bytes ≡ 0
 
-abbrev pub Told : List ℕ → RuleMatch → Type 0
-Told t f = Tells f.kind (take f.size t)
+abbrev pub Known : List ℕ → RuleMatch → Type 0
+Known t f = Tells f.kind (take f.size t)
 
 pub none-ends : (t : List ℕ) → IsLine t → at_line_ends 1 t ≡ 0
 none-ends [] h = refl
@@ -27,21 +27,21 @@ units-none : (us : List (List ℕ)) → AreLines us → at_line_ends 1 (flat_map
 units-none [] h = refl
 units-none (u ∷ us) h = omega (arith, ends-append u (flat_map (λ u. u) us), none-ends u h.0, units-none us h.1)
 
-line-told : (k : Kind) (bytes : List ℕ) → InLine k bytes → IsLine bytes → Tells k bytes
-line-told Skipped bytes h l = tt
-line-told (Occurrence is_file us how opens) bytes h l = tt
-line-told LineEnd bytes h l = absurd h
-line-told (Comment how) bytes h l = tt
-line-told (Quoted us how) bytes h l = units-none us h ∙ sym (none-ends bytes l)
-line-told _ bytes h l = none-ends bytes l
+line-known : (k : Kind) (bytes : List ℕ) → InLine k bytes → IsLine bytes → Tells k bytes
+line-known Skipped bytes h l = tt
+line-known (Occurrence is_file us how opens) bytes h l = tt
+line-known LineEnd bytes h l = absurd h
+line-known (Comment how) bytes h l = tt
+line-known (Quoted us how) bytes h l = units-none us h ∙ sym (none-ends bytes l)
+line-known _ bytes h l = none-ends bytes l
 
-pub in_line-told : (f : RuleMatch) (u more : List ℕ) → IsLine u
-    → InLine f.kind (take f.size u) → f.size ≤ length u → Told (u ++ more) f
-in_line-told f u more l h fits = subst (Tells f.kind)
-    (sym (take-append-le f.size u more fits)) (line-told f.kind (take f.size u) h (IsLine-take f.size u l))
+pub in_line-known : (f : RuleMatch) (u more : List ℕ) → IsLine u
+    → InLine f.kind (take f.size u) → f.size ≤ length u → Known (u ++ more) f
+in_line-known f u more l h fits = subst (Tells f.kind)
+    (sym (take-append-le f.size u more fits)) (line-known f.kind (take f.size u) h (IsLine-take f.size u l))
 
-abbrev at_front : (List ℕ → Look) → End → Look → List ℕ → List ℕ → Reach
-at_front look e v u t =
+abbrev at_start : (List ℕ → Look) → End → Look → List ℕ → List ℕ → Reach
+at_start look e v u t =
     elim v [
       | Goes n ↦ with_unit (take n u) (reach_in look e (n - 1) t)
       | Ends n how ↦ record { units = []; close = n; how = how }
@@ -54,7 +54,7 @@ abbrev Begins : Reach → List ℕ → Type 0
 Begins r t = (rest : List ℕ) × (t ≡ body r ++ rest)
 
 begins_at : (look : List ℕ → Look) (e : End) (v : Look) (b : ℕ) (t : List ℕ) → IsSome v
-    → ((k : ℕ) → Begins (reach_in look e k t) (drop k t)) → Begins (at_front look e v (b ∷ t) t) (b ∷ t)
+    → ((k : ℕ) → Begins (reach_in look e k t) (drop k t)) → Begins (at_start look e v (b ∷ t) t) (b ∷ t)
 begins_at look e (Goes n) b t some f =
     grind (arith, f (n - 1), take-append-drop n (b ∷ t), drop-pred n b t some, append_assoc (take n (b ∷ t)))
 begins_at look e (Ends n how) b t some f = (b ∷ t, refl)
@@ -65,9 +65,9 @@ begins_in look e some k [] = ([], drop-nil k)
 begins_in look e some (suc k) (b ∷ t) = begins_in look e some k t
 begins_in look e some zero (b ∷ t) = begins_at look e (look (b ∷ t)) b t (some b t) (λ k. begins_in look e some k t)
 
-units-front : (look : List ℕ → Look) (e : End) (t : List ℕ) → AllSome look
+units-prefix : (look : List ℕ → Look) (e : End) (t : List ℕ) → AllSome look
     → take (length (body (reach look e t))) t ≡ body (reach look e t)
-units-front look e t some = grind (arith, begins_in look e some 0 t, take-append_seam)
+units-prefix look e t some = grind (arith, begins_in look e some 0 t, take-append_seam)
 
 pub drop-sum : {A : Type 0} (n m : ℕ) (t : List A) → drop (n + m) t ≡ drop m (drop n t)
 drop-sum zero m t = let e : 0 + m ≡ m = omega arith in ap (λ k. drop k t) e
@@ -85,13 +85,13 @@ quoted-bytes look some n t =
     let units : flat_map (λ u. u) (r.units ++ close ∷ []) ≡ take (m + r.close) (drop n t) =
     flat_map-append (λ u. u) r.units (close ∷ [])
     ∙ ap (λ u. body r ++ u) (append-nil close ∙ ap (take r.close) (drop-sum n m t))
-    ∙ ap (λ u. u ++ take r.close (drop m (drop n t))) (sym (units-front look Cut (drop n t) some))
+    ∙ ap (λ u. u ++ take r.close (drop m (drop n t))) (sym (units-prefix look Cut (drop n t) some))
     ∙ sym (take-add m r.close (drop n t)) in
     ap (λ u. take n t ++ u) units ∙ sym (take-add n (m + r.close) t)
 
-pub quoted-told : (look : List ℕ → Look) → AllSome look → (n : ℕ) (t : List ℕ)
-    → Told t (quoted_match n (reach look Cut (drop n t)) t)
-quoted-told look some n t = ap (at_line_ends 1) (quoted-bytes look some n t)
+pub quoted-known : (look : List ℕ → Look) → AllSome look → (n : ℕ) (t : List ℕ)
+    → Known t (quoted_match n (reach look Cut (drop n t)) t)
+quoted-known look some n t = ap (at_line_ends 1) (quoted-bytes look some n t)
 
 some_if : (v : Bool) (x y : Look) → IsSome x → IsSome y → IsSome (if v then x else y)
 some_if true x y f g = f

@@ -3,8 +3,8 @@ use Rattle.cweb_rules.proofs.Common.{◌≡◌, ◌≤◌, ◌<◌, ℕ, zero, s
 use Rattle.cweb_rules.proofs.Ranges.{reach_in-drop}
 use Rattle.cweb_rules.proofs.TokenSizes.{longest-size}
 
-abbrev pub at_front : (List ℕ → Look) → Look → List ℕ → End → List ℕ → Reach
-at_front look v u e t =
+abbrev pub at_start : (List ℕ → Look) → Look → List ℕ → End → List ℕ → Reach
+at_start look v u e t =
     elim v [
       | Goes n ↦ with_unit (take n u) (reach_in look e (n - 1) t)
       | Ends n how ↦ record { units = []; close = n; how = how }
@@ -22,7 +22,7 @@ pub units_on : (look : List ℕ → Look) (e : End) (n : ℕ) (t : List ℕ) →
 units_on look e n [] some moves h = absurd (omega arith)
 units_on look e n (b ∷ t) some moves h =
     let same : n ≡ suc (n - 1) = omega arith in
-    ap (λ v. (at_front look v (b ∷ t) e t).units) h
+    ap (λ v. (at_start look v (b ∷ t) e t).units) h
     ∙ ap (λ u. u ∷ (reach_in look e (n - 1) t).units) (take_min n (b ∷ t))
     ∙ ap (λ (r : Reach). take (min n (length (b ∷ t))) (b ∷ t) ∷ r.units) (reach_in-drop look e (n - 1) t
     ∙ ap (λ k. reach look e (drop k (b ∷ t))) (sym same) ∙ ap (reach look e) (sym (drop_min n (b ∷ t))))
@@ -31,9 +31,9 @@ units_on look e n (b ∷ t) some moves h =
 pub units_from : (look : List ℕ → Look) (e : End) (n m : ℕ) (t unit after : List ℕ) → look t ≡ Goes n
     → 0 < n → 0 < length t → m ≡ min n (length t) → unit ≡ take m t → after ≡ drop m t
     → (reach look e t).units ≡ unit ∷ (reach look e after).units
-units_from look e n m t unit after h moves some is front back = units_on look e n t some moves h
+units_from look e n m t unit after h moves some is prefix back = units_on look e n t some moves h
     ∙ (λ i. take (sym is i) t ∷ (reach look e (drop (sym is i) t)).units)
-    ∙ (λ i. sym front i ∷ (reach look e (sym back i)).units)
+    ∙ (λ i. sym prefix i ∷ (reach look e (sym back i)).units)
 
 pub nonempty : (t : List ℕ) (v : Bool) → v ≡ (length t == 0) → v ≡ false → 0 < length t
 nonempty [] v is h = let wrong : false ≡ true = sym h ∙ is in cc

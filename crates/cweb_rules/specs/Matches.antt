@@ -89,27 +89,27 @@ opener_after _ t = 0
 
 -- A name. Its size includes the opener where that opens a part (`takes_sign`).
 abbrev pub name_match : Bool → List ℕ → RuleMatch
-name_match takes_sign t =
+name_match with_opener t =
     let r = reach_of_name (drop 2 t) in
     let size = 2 + reach_size r in
     let sign = opener_after r.how (drop size t) in
     rule_match (Occurrence (begins (codes "@(") t) r.units r.how (nat_lt 0 sign))
-    (if takes_sign then size + sign else size)
+    (if with_opener then size + sign else size)
 
 -- The lexeme of a control code with this effect.
 abbrev pub effect_match : Effect → Bool → List ℕ → RuleMatch
-effect_match Named takes_sign t = name_match takes_sign t
-effect_match effect.Letter takes_sign t = letter_match t
-effect_match effect.ControlText takes_sign t = control_text_match t
-effect_match effect.Verbatim takes_sign t = verbatim_match t
-effect_match effect.Constant takes_sign t = constant_match t
-effect_match e takes_sign t = rule_match (Code e) 2
+effect_match Named with_opener t = name_match with_opener t
+effect_match effect.Letter with_opener t = letter_match t
+effect_match effect.ControlText with_opener t = control_text_match t
+effect_match effect.Verbatim with_opener t = verbatim_match t
+effect_match effect.Constant with_opener t = constant_match t
+effect_match e with_opener t = rule_match (Code e) 2
 
 -- A control code: `@` and the next byte.
 abbrev pub code_match : (ℕ → Effect) → Bool → List ℕ → RuleMatch
-code_match effect takes_sign [] = rule_match Skipped 0
-code_match effect takes_sign (a ∷ []) = rule_match Skipped 1
-code_match effect takes_sign (a ∷ b ∷ t) = effect_match (effect b) takes_sign (a ∷ b ∷ t)
+code_match effect with_opener [] = rule_match Skipped 0
+code_match effect with_opener (a ∷ []) = rule_match Skipped 1
+code_match effect with_opener (a ∷ b ∷ t) = effect_match (effect b) with_opener (a ∷ b ∷ t)
 
 -- In limbo and TeX every byte except `@` is skipped.
 abbrev pub tex_match : (ℕ → Effect) → List ℕ → RuleMatch
@@ -200,13 +200,13 @@ include_match t = quoted_match 1 (reach_of_included_name (drop 1 t)) t
 
 -- C text: the first rule that applies.
 abbrev pub c_match : (ℕ → Effect) → Bool → Bool → List ℕ → RuleMatch
-c_match effect takes_sign includes t =
+c_match effect with_opener includes t =
     if first_is is_blank t then rule_match Blanks (prefix_len is_blank t)
     else (if first_is is_line_end t then rule_match LineEnd 1
     else (if begins (codes "/*") t then comment_match t
     else (if begins (codes "//") t then line_comment_match t
     else (if starts_section t then section_match t
-    else (if begins (codes "@") t then code_match effect takes_sign t
+    else (if begins (codes "@") t then code_match effect with_opener t
     else (if starts_raw t then raw_match t
     else (if starts_literal t then literal_match t
     else (if includes && starts_include t then include_match t

@@ -4,9 +4,9 @@ use Rattle.cweb_scan.proofs.Measures.{pushed-size, opened-size, closed-size, dro
 use Rattle.cweb_scan.proofs.Moves.{Moves, Any, holds_any, size}
 use Rattle.cweb_scan.proofs.TakenItems.{reading}
 
-pub due_some : (c : Context) → 1 ≤ owed_tokens c
-due_some Limbo = omega arith
-due_some _ = omega arith
+pub expected_some : (c : Context) → 1 ≤ owed_tokens c
+expected_some Limbo = omega arith
+expected_some _ = omega arith
 
 same_size : (t : Token) → size t ≡ spelling_size t
 same_size Blank = refl
@@ -26,14 +26,14 @@ adds = record {
   within = λ n w t b x h. omega (arith, x.tokens_are, x.bytes_are, h);
   knowing = λ f. f (holds_any _ _ _);
   advances = λ r. moved-adds r.state r.later;
-  gives = λ t r h. omega (
+  yields = λ t r h. omega (
     arith,
     pushed-size one t r.state.contents.parts,
     pushed-size spelling_size t r.state.contents.parts,
     same_size t,
   );
   faults = λ k p r h. omega arith;
-  enters = λ c r h. omega (arith, due_some r.state.context, due_some c);
+  enters = λ c r h. omega (arith, expected_some r.state.context, expected_some c);
   pays = λ t h x. omega (arith, h, x.tokens_are, x.bytes_are);
   opens = λ kind r. omega (
     arith,

@@ -1,5 +1,5 @@
 -- Lines are read before they are taken.
-use Rattle.cweb_scan.proofs.Common.{◌≡◌, ◌≤◌, ◌<◌, ℕ, ◌+◌, ◌*◌, Bool, List, [], ◌∷◌, ◌++◌, length, Option, None, Some, refl, ap, sym, ◌∙◌, subst, arith, IsTrue, append_assoc, length-append, All-append, All-nil, All-push, LooksAhead, TakesLines, span_bytes, Line, Event, SoFar, so_far_of, opened_file_names, lines_next, with_newlines, top_of, Ahead, MergeState, OpenSource, ReaderModel, cost, read_after, web_size, read_lines, AreLinesBelow, HasTaken, gives_both}
+use Rattle.cweb_scan.proofs.Common.{◌≡◌, ◌≤◌, ◌<◌, ℕ, ◌+◌, ◌*◌, Bool, List, [], ◌∷◌, ◌++◌, length, Option, None, Some, refl, ap, sym, ◌∙◌, subst, arith, IsTrue, append_assoc, length-append, All-append, All-nil, All-push, LooksAhead, TakesLines, span_bytes, Line, Event, SoFar, so_far_of, opened_file_names, lines_next, with_newlines, top_of, Ahead, MergeState, OpenSource, ReaderModel, cost, read_after, web_size, read_lines, AreLinesBelow, HasTaken, yields_both}
 use Rattle.cweb_lines.specs.surface.MergeProgress.{EmitsLines}
 use Rattle.cweb_lines.proofs.LinesInBuffer.{standing-append}
 use Rattle.cweb_scan.specs.inner.Ahead.{ReadsLines}
@@ -31,13 +31,13 @@ read_more run lines ahead old mid new looks first reads adds = record {
   read = λ more.
       reads more ∙ first.read (line ∷ more)
       ∙ ap (read_after old) (sym (append_assoc before (line ∷ []) more))
-      ∙ ap (λ (ls : List Line). read_after old (ls ++ more)) (sym looks.given);
-  below = subst (AreLinesBelow (length (opened_file_names run.names))) (sym looks.given)
+      ∙ ap (λ (ls : List Line). read_after old (ls ++ more)) (sym looks.emitted);
+  below = subst (AreLinesBelow (length (opened_file_names run.names))) (sym looks.emitted)
       (All-push (λ (line : Line). line.place.file.0 < length (opened_file_names run.names)) before line first.below
       looks.known);
   few = omega (
     arith,
-    ap web_size looks.given,
+    ap web_size looks.emitted,
     web_size-append before (line ∷ []),
     first.few,
     looks.size,
@@ -66,7 +66,7 @@ pub read_taken : {R : Type 0} (old new : MergeState R) (lines : List (List ℕ))
     (all now later : List Event) (held next : ReaderModel) → TakesLines lines old new → ReadsLines old lines held next
     → (IsTrue tells → EmitsLines (lines_next (top_of old.stack) lines) (so_far_of old) (so_far_of new) now later)
     → HasTaken tells first (so_far_of old) all now held → HasTaken tells first (so_far_of new) all later next
-read_taken old new lines tells first all now later held next takes reads gives taken = record {
+read_taken old new lines tells first all now later held next takes reads yields taken = record {
   lines = taken.lines ++ more_lines;
   read_is = λ more. reads.read more ∙ taken.read_is (more_lines ++ more)
       ∙ ap read_lines (sym (append_assoc taken.lines more_lines more));
@@ -76,13 +76,13 @@ read_taken old new lines tells first all now later held next takes reads gives t
       (wider (length (opened_file_names old.names))
       (length (opened_file_names new.names)) more_lines names reads.below);
   few = omega (arith, web_size-append taken.lines more_lines, taken.few, reads.few, takes.bytes, takes.count);
-  gives = λ told. gives_both taken.lines more_lines first (so_far_of old) (so_far_of new) all now later
-      (taken.gives told)
-      (gives told);
+  yields = λ reported. yields_both taken.lines more_lines first (so_far_of old) (so_far_of new) all now later
+      (taken.yields reported)
+      (yields reported);
 }
   where
     more_lines : List Line
     more_lines = lines_next (top_of old.stack) lines
 
     names : length (opened_file_names old.names) ≤ length (opened_file_names new.names)
-    names = omega (arith, ap (λ n. length (opened_file_names n)) takes.given.names)
+    names = omega (arith, ap (λ n. length (opened_file_names n)) takes.emitted.names)

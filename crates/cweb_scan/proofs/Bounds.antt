@@ -4,7 +4,7 @@ use Rattle.cweb_names.specs.surface.Names.{occurrence_text}
 use Rattle.cweb_store.specs.surface.TokenStrings.{token_size}
 use Rattle.cweb_store.specs.surface.StoredStrings as kept
 use Rattle.cweb_texts.specs.surface.StringTables as words
-use Rattle.cweb_scan.proofs.Adding.{adds, due_some}
+use Rattle.cweb_scan.proofs.Adding.{adds, expected_some}
 use Rattle.cweb_scan.proofs.Walked.{run-walks}
 use Rattle.cweb_scan.proofs.Moves.{leave-walks}
 
@@ -83,5 +83,5 @@ bounded (line ∷ lines) =
     let left : AddsAtMost 1 0 s (leave s) = leave-walks adds (lex start t) in
     let size = length-append line.bytes (newline_prefixed lines) in
     of_state (leave s) (web_size (line ∷ lines))
-    (omega (arith, read_lines.tokens_are, left.tokens_are, due_some (leave s).context, size, further-size lines))
+    (omega (arith, read_lines.tokens_are, left.tokens_are, expected_some (leave s).context, size, further-size lines))
     (omega (arith, read_lines.bytes_are, left.bytes_are, size, further-size lines))

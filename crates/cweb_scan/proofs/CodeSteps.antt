@@ -33,10 +33,10 @@ plain_code Named takes t h = cc
 plain_code _ takes t h = (refl, refl)
 
 -- The lexeme of a code, which ends in its line.
-pub plain_front : (c : Context) (includes : Bool) (u : List ℕ) → is_head c ≡ false
+pub plain_prefix : (c : Context) (includes : Bool) (u : List ℕ) → is_head c ≡ false
     → starts_section u ≡ false → begins (codes "@") u ≡ true → is_name_effect (effect_in c (get_or u 1 0)) ≡ false
     → (match_in c includes u ≡ effect_match (effect_in c (get_or u 1 0)) true u) × (opens_in c u ≡ false)
-plain_front c includes u head section at plain =
+plain_prefix c includes u head section at plain =
     let b = get_or u 1 0 in
     let w = drop 2 u in
     let shape = code_shape u section at in

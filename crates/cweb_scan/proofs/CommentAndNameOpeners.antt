@@ -5,19 +5,19 @@ use Rattle.cweb_rules.specs.Matches.{Occurrence}
 use Rattle.cweb_scan.proofs.NextMatchPays.{fair}
 use Rattle.cweb_scan.proofs.FirstLexeme.{pieces_first}
 
-abbrev with_front : Reading → List ℕ → RuleMatch → Reading
-with_front r t f = lex (after_lexeme r (record { kind = f.kind; bytes = take f.size t })) (drop f.size t)
+abbrev with_prefix : Reading → List ℕ → RuleMatch → Reading
+with_prefix r t f = lex (after_lexeme r (record { kind = f.kind; bytes = take f.size t })) (drop f.size t)
 
 -- The reading after the next lexeme.
 pub run_as : (r : Reading) (b : ℕ) (t : List ℕ) (f : RuleMatch)
-    → match_in r.state.context (names_include r.state) (b ∷ t) ≡ f → lex r (b ∷ t) ≡ with_front r (b ∷ t) f
-run_as r b t f h = ap (fold after_lexeme r) (pieces_first r b t (fair r.state b t).some) ∙ ap (with_front r (b ∷ t)) h
+    → match_in r.state.context (names_include r.state) (b ∷ t) ≡ f → lex r (b ∷ t) ≡ with_prefix r (b ∷ t) f
+run_as r b t f h = ap (fold after_lexeme r) (pieces_first r b t (fair r.state b t).some) ∙ ap (with_prefix r (b ∷ t)) h
 
-comment_front : (c : Context) (includes : Bool) (w : List ℕ) → reads_c c ≡ true
+comment_prefix : (c : Context) (includes : Bool) (w : List ℕ) → reads_c c ≡ true
     → match_in c includes (47 ∷ 42 ∷ w) ≡ comment_match (47 ∷ 42 ∷ w)
-comment_front Limbo includes w h = cc
-comment_front TeX includes w h = cc
-comment_front _ includes w h = refl
+comment_prefix Limbo includes w h = cc
+comment_prefix TeX includes w h = cc
+comment_prefix _ includes w h = refl
 
 enter_comment : (c : Context) (how : End) (s : ScanState) → enter_in c (Comment how) s ≡ s
 enter_comment Limbo how s = refl
@@ -28,7 +28,7 @@ pub opened_comment : (r : Reading) (w : List ℕ) → reads_c r.state.context �
 opened_comment r w h =
     let m = items.reach_of_comment w in
     let e : 2 + reach_size m ≡ suc (suc (reach_size m)) = omega arith in
-    run_as r 47 (42 ∷ w) (comment_match (47 ∷ 42 ∷ w)) (comment_front r.state.context (names_include r.state) w h)
+    run_as r 47 (42 ∷ w) (comment_match (47 ∷ 42 ∷ w)) (comment_prefix r.state.context (names_include r.state) w h)
     ∙ rw (e, enter_comment r.state.context m.how r.state) refl
 
 -- A lexeme that may not occur in a head ends it.
@@ -47,15 +47,15 @@ takes_same : (c : Context) (s : ScanState) → s.context ≡ c → takes_opener 
 takes_same (Definition begun) s h = refl
 takes_same _ s h = ap takes_in h
 
-name_front : (c : Context) (includes : Bool) (w : List ℕ) → reads_names c ≡ true
+name_prefix : (c : Context) (includes : Bool) (w : List ℕ) → reads_names c ≡ true
     → match_in c includes (64 ∷ 60 ∷ w) ≡ name_match (takes_in c) (64 ∷ 60 ∷ w)
-name_front Limbo includes w h = cc
-name_front _ includes w h = refl
+name_prefix Limbo includes w h = cc
+name_prefix _ includes w h = refl
 
-file_front : (c : Context) (includes : Bool) (w : List ℕ) → reads_names c ≡ true
+file_prefix : (c : Context) (includes : Bool) (w : List ℕ) → reads_names c ≡ true
     → match_in c includes (64 ∷ 40 ∷ w) ≡ name_match (takes_in c) (64 ∷ 40 ∷ w)
-file_front Limbo includes w h = cc
-file_front _ includes w h = refl
+file_prefix Limbo includes w h = cc
+file_prefix _ includes w h = refl
 
 enter_name : (c : Context) (is_file : Bool) (us : List (List ℕ)) (how : End) (opens : Bool) (s : ScanState)
     → enter_in c (Occurrence is_file us how opens) s ≡ leave_head_in c s
@@ -99,8 +99,8 @@ opened_as r a is_file w file in_line h =
 
 pub opened_name : (r : Reading) (w : List ℕ) → reads_names r.state.context ≡ true
     → lex r (64 ∷ 60 ∷ w) ≡ resume (InName r.state.here false []) w (on leave_head r)
-opened_name r w h = opened_as r 60 false w refl refl (name_front r.state.context (names_include r.state) w h)
+opened_name r w h = opened_as r 60 false w refl refl (name_prefix r.state.context (names_include r.state) w h)
 
 pub opened_file : (r : Reading) (w : List ℕ) → reads_names r.state.context ≡ true
     → lex r (64 ∷ 40 ∷ w) ≡ resume (InName r.state.here true []) w (on leave_head r)
-opened_file r w h = opened_as r 40 true w refl refl (file_front r.state.context (names_include r.state) w h)
+opened_file r w h = opened_as r 40 true w refl refl (file_prefix r.state.context (names_include r.state) w h)

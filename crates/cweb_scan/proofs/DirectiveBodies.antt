@@ -7,7 +7,7 @@ use Rattle.cweb_rules.specs.declared.rule.Rule.TheVariants as rule
 use Rattle.cweb_scan.specs.declared.directive.Last.TheVariants as last
 use Rattle.cweb_scan.proofs.Plains.{rule_at, turn}
 use Rattle.cweb_scan.proofs.Steps.{include-seen, outside-seen}
-use Rattle.cweb_scan.proofs.TiedSteps.{tied_given}
+use Rattle.cweb_scan.proofs.TiedSteps.{tied_emitted}
 
 c_and : (c : Context) (v : Bool) → (is_c c && v) ≡ true → (c ≡ CText) × (v ≡ true)
 c_and CText v h = (refl, h)
@@ -62,7 +62,7 @@ tied_text d l c o t tied in_c part stage plain =
     let stepped = step_text d t (ap (λ (e : Directive). e.stage) (tied.directive_is in_c) ∙ stage) plain in
     subst (λ (e : Directive). IsTied e text c (option_map (part_with_token t) o)) stepped
     (subst (λ (e : Directive). IsTied (after_token d t) e c (option_map (part_with_token t) o))
-    (ap (λ v. if v then l else after_token d t) plain.solid ∙ stepped) (tied_given d l c o t tied part))
+    (ap (λ v. if v then l else after_token d t) plain.solid ∙ stepped) (tied_emitted d l c o t tied part))
 
 pub text_blanks : (n : ℕ) (u : List ℕ) (s new : ScanState) → IsLine u → 1 ≤ length u → in_directive_body s ≡ true
     → rule.Blanks ≡ rule_at s u → n ≡ prefix_len is_blank u → new ≡ blank s → TakesPlain n u s new

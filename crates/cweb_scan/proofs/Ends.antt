@@ -2,7 +2,7 @@
 use Rattle.cweb_scan.proofs.Common.{◌≡◌, ℕ, zero, suc, ◌+◌, ◌-◌, true, false, List, [], ◌∷◌, length, take, drop, refl, ap, sym, ◌∙◌, if◌then◌else◌, Place, at_line_end, Reach, reach, reach_in, with_unit, reach_size, line_comment_match, look_in_comment, reached, End, Closed, Cut, Open, Reached, Look, Goes, Ends, Reading, next_line, each_line_end, comment_line_end, pass_comment, pass_control_text, blank, ended_as, Applies, ScanState, look_in_control, is_line_end, IsEnd}
 use Rattle.cweb_rules.specs.Matches.{control_text_match}
 use Rattle.cweb_rules.proofs.Looks.{IsWithin, AllWithin, control-units, comment-units}
-pub use Rattle.cweb_rules.proofs.Walks.{at_front}
+pub use Rattle.cweb_rules.proofs.Walks.{at_start}
 
 abbrev pub at_end : End → Reach → Reach
 at_end e r = record { units = r.units; close = r.close; how = ended_as e r.how }
@@ -13,7 +13,7 @@ ended_same e _ h = refl
 
 one_look : (look : List ℕ → Look) (e : End) (u t : List ℕ) (v : Look) (m : ℕ)
     → IsWithin v m → ((k : ℕ) → reach_in look e k t ≡ at_end e (reach_in look Open k t))
-    → at_front look v u e t ≡ at_end e (at_front look v u Open t)
+    → at_start look v u e t ≡ at_end e (at_start look v u Open t)
 one_look look e u t (Goes n) m h f = ap (with_unit (take n u)) (f (n - 1))
 one_look look e u t (Ends n how) m h f =
     ap (λ (w : End). record { units = []; close = n; how = w }) (ended_same e how h)
@@ -40,9 +40,10 @@ pub how-at_end : (look : List ℕ → Look) → AllWithin look → (e : End) (t 
 how-at_end look within e t r is =
     ap (λ (v : Reached). ended_as e v.how) is ∙ ap (λ (v : Reach). v.how) (sym (reach-at_end look within e t))
 
-pub control_gives : (t : List ℕ) (r : Reached) (s new : ScanState) → r ≡ reached (reach look_in_control Open (drop 2 t))
+pub control_yields : (t : List ℕ) (r : Reached) (s new : ScanState) → r ≡ reached
+    (reach look_in_control Open (drop 2 t))
     → new ≡ pass_control_text (ended_as Cut r.how) s → Applies (control_text_match t) t (2 + (r.size + r.close)) s new
-control_gives t r s new is made = record {
+control_yields t r s new is made = record {
   size = ap (λ n. 2 + n) (size-at_end look_in_control control-units Cut (drop 2 t) r is);
   state = made ∙ ap (λ (e : End). pass_control_text e s) (how-at_end look_in_control control-units Cut (drop 2 t) r is);
 }
@@ -60,11 +61,11 @@ none_to_come f (b ∷ t) s = elim (is_line_end b)
       | false ↦ none_to_come f t s
     ]
 
-pub line_comment_gives : (t : List ℕ) (r : Reached) (s new : ScanState)
+pub line_comment_yields : (t : List ℕ) (r : Reached) (s new : ScanState)
     → r ≡ reached (reach (look_in_comment at_line_end 0) Open (drop 2 t)) → new
     ≡ pass_comment (ended_as Closed r.how) s.here (blank s)
     → Applies (line_comment_match t) t (2 + (r.size + r.close)) s new
-line_comment_gives t r s new is made =
+line_comment_yields t r s new is made =
     let look = look_in_comment at_line_end 0 in
     let units = comment-units at_line_end 0 in
     let n = 2 + reach_size (reach look Closed (drop 2 t)) in

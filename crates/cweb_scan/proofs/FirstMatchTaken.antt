@@ -1,5 +1,5 @@
 -- Taking the next lexeme, once the code knows its rule.
-use Rattle.cweb_rules.proofs.FirstBytes.{told_if}
+use Rattle.cweb_rules.proofs.FirstBytes.{known_if}
 use Rattle.cweb_scan.proofs.Common.{◌≡◌, ℕ, Bool, true, false, ◌&&◌, List, [], ◌∷◌, ◌++◌, take, drop, refl, ap, sym, ◌∙◌, subst, arith, if◌then◌else◌, codes, length-take-le, begins, first_is, is_blank, is_word_byte, starts_section, starts_raw, starts_literal, starts_include, Kind, RuleMatch, IsLine, opens_in, opens_code, c_opens, c_rule, starts_number, Context, Definition, Effect, Rule, enter_in, item, names_include, Applies, is_head, IsPast, ReaderModel, TakesPrefix, Between, weight, next_match, lex, ScanState, is_line_end}
 use Rattle.cweb_rules.specs.inner.LineItems.{opens_comment, opens_raw, opens_literal}
 use Rattle.cweb_scan.specs.inner.MatchSteps.{after_match}
@@ -8,7 +8,7 @@ use Rattle.cweb_scan.proofs.NextMatchPays.{fair}
 use Rattle.cweb_scan.proofs.FirstLexeme.{first}
 use Rattle.cweb_scan.proofs.TakenItems.{reading, state_after, taken}
 use Rattle.cweb_scan.proofs.Weights.{piece-weight}
-use Rattle.cweb_rules.proofs.Newlines.{told}
+use Rattle.cweb_rules.proofs.Newlines.{is_known}
 use Rattle.cweb_rules.proofs.ByRules.{by_test}
 
 pub enter_same : (c : Context) (k : Kind) (s : ScanState) → is_head c ≡ false → enter_in c k s ≡ s
@@ -23,18 +23,18 @@ pub staying_takes : (s new : ScanState) (g : Bool) (n b : ℕ) (t : List ℕ) (f
     → enter_in s.context (next_match s (b ∷ t)).kind s ≡ s → next_match s (b ∷ t) ≡ f
     → opens_in s.context (b ∷ t) ≡ false
     → Applies f (b ∷ t) n s new → TakesPrefix n (b ∷ t) (between s g) (between new g)
-staying_takes s new g n b t f line stays is ends gives =
+staying_takes s new g n b t f line stays is ends yields =
     let u = b ∷ t in
     let f0 = next_match s u in
     let p = first (reading s []) u in
     let fits = fair s b t in
     let same : state_after s p ≡ new =
     ap (λ (v : ScanState). (item f0.kind (take f0.size u) (reading v [])).state) stays
-    ∙ ap (λ (v : RuleMatch). after_match v u s) is ∙ sym gives.state in
-    let size : n ≡ f0.size = gives.size ∙ ap (λ (v : RuleMatch). v.size) (sym is) in
+    ∙ ap (λ (v : RuleMatch). after_match v u s) is ∙ sym yields.state in
+    let size : n ≡ f0.size = yields.size ∙ ap (λ (v : RuleMatch). v.size) (sym is) in
     let long = length-take-le f0.size u fits.within in
     let adds = piece-weight (reading s []) p (omega (arith, long, fits.some)) fits.pays
-    (told s.context (names_include s) b t) in
+    (is_known s.context (names_include s) b t) in
     record {
       begun = refl;
       within = omega (arith, size, fits.within);
@@ -70,7 +70,7 @@ c_opens-by effect includes t =
     (rest_closed effect t (includes && starts_include t) (starts_number t) (first_is is_word_byte t)))))))))
 
 pub neither : (is : Rule → Bool) (v : Bool) (x y : Rule) → is x ≡ false → is y ≡ false → is (if v then x else y) ≡ false
-neither is v x y f g = told_if (λ r. is r ≡ false) v x y (λ e. f) (λ e. g)
+neither is v x y f g = known_if (λ r. is r ≡ false) v x y (λ e. f) (λ e. g)
 
 -- What follows from a rule being the first that applies.
 abbrev pub IsSeen : List ℕ → Rule → Type 0
@@ -85,18 +85,18 @@ IsSeen t r = Unit {0}
 rule_seen : (includes : Bool) (t : List ℕ) → IsSeen t (c_rule includes t)
 rule_seen includes t =
     let S : Rule → Type 0 = IsSeen t in
-    told_if S (first_is is_blank t) _ _ (λ e. tt) (λ b.
-    told_if S (first_is is_line_end t) _ _ (λ e. e) (λ l.
-    told_if S (begins (codes "/*") t) _ _ (λ e. e) (λ c.
-    told_if S (begins (codes "//") t) _ _ (λ e. e) (λ d.
-    told_if S (starts_section t) _ _ (λ e. tt) (λ s.
-    told_if S (begins (codes "@") t) _ _ (λ e. (s, e)) (λ a.
+    known_if S (first_is is_blank t) _ _ (λ e. tt) (λ b.
+    known_if S (first_is is_line_end t) _ _ (λ e. e) (λ l.
+    known_if S (begins (codes "/*") t) _ _ (λ e. e) (λ c.
+    known_if S (begins (codes "//") t) _ _ (λ e. e) (λ d.
+    known_if S (starts_section t) _ _ (λ e. tt) (λ s.
+    known_if S (begins (codes "@") t) _ _ (λ e. (s, e)) (λ a.
     let past : IsPast t = record { blank = b; line_end = l; comment = c; line_comment = d; section = s; code = a } in
-    told_if S (starts_raw t) _ _ (λ e. (past, e)) (λ w.
-    told_if S (starts_literal t) _ _ (λ e. (past, w, e)) (λ q.
-    told_if S (includes && starts_include t) _ _ (λ e. tt) (λ i.
-    told_if S (starts_number t) _ _ (λ e. tt) (λ n.
-    told_if S (first_is is_word_byte t) _ _ (λ e. tt) (λ e. tt)))))))))))
+    known_if S (starts_raw t) _ _ (λ e. (past, e)) (λ w.
+    known_if S (starts_literal t) _ _ (λ e. (past, w, e)) (λ q.
+    known_if S (includes && starts_include t) _ _ (λ e. tt) (λ i.
+    known_if S (starts_number t) _ _ (λ e. tt) (λ n.
+    known_if S (first_is is_word_byte t) _ _ (λ e. tt) (λ e. tt)))))))))))
 
 pub seen : (includes : Bool) (t : List ℕ) (r : Rule) → c_rule includes t ≡ r → IsSeen t r
 seen includes t r h = subst (IsSeen t) h (rule_seen includes t)

@@ -10,12 +10,12 @@ abbrev pub HasNone : List ℕ → Type 0
 HasNone [] = Unit {0}
 HasNone (b ∷ t) = ((b == 64) ≡ false) × HasNone t
 
-pub none_stands : (t : List ℕ) → length t ≤ prefix_len is_skipped t → HasNone t
-none_stands [] h = tt
-none_stands (b ∷ t) h = (elim (b == 64) as (λ v.
+pub none_valid : (t : List ℕ) → length t ≤ prefix_len is_skipped t → HasNone t
+none_valid [] h = tt
+none_valid (b ∷ t) h = (elim (b == 64) as (λ v.
     (b == 64) ≡ v → length (b ∷ t) ≤ (if not v then 1 + prefix_len is_skipped t else 0) → HasNone (b ∷ t)) [
       | true ↦ λ e g. absurd (omega (arith, g))
-      | false ↦ λ e g. (e, none_stands t (omega (arith, g)))
+      | false ↦ λ e g. (e, none_valid t (omega (arith, g)))
     ]) refl h
 
 none_apart : (t u : List ℕ) → HasNone (t ++ u) → HasNone t × HasNone u
@@ -31,18 +31,18 @@ text_stays [] h = refl
 text_stays (u ∷ us) h =
     let p = none_apart u (flat_map (λ u. u) us) h in (λ i. unit_stays u p.0 i ++ text_stays us p.1 i)
 
-unit_told : (u : List ℕ) (s : ScanState) → HasNone u → literal_unit (nothing_later s) u ≡ nothing_later s
-unit_told [] s h = refl
-unit_told (b ∷ t) s h = ap (λ v. if v && bytes_eq t [] then literal_unit
+unit_reported : (u : List ℕ) (s : ScanState) → HasNone u → literal_unit (nothing_later s) u ≡ nothing_later s
+unit_reported [] s h = refl
+unit_reported (b ∷ t) s h = ap (λ v. if v && bytes_eq t [] then literal_unit
     (nothing_later s) (codes "@") else each_line_end move_to (b ∷ t) (nothing_later s)) h.0
     ∙ none_to_come move_to (b ∷ t) s
 
-units_told : (us : List (List ℕ)) (s : ScanState) → HasNone (flat_map (λ u. u) us)
+units_reported : (us : List (List ℕ)) (s : ScanState) → HasNone (flat_map (λ u. u) us)
     → fold literal_unit (nothing_later s) us ≡ nothing_later s
-units_told [] s h = refl
-units_told (u ∷ us) s h =
+units_reported [] s h = refl
+units_reported (u ∷ us) s h =
     let p = none_apart u (flat_map (λ u. u) us) h in
-    ap (λ (q : Reading). fold literal_unit q us) (unit_told u s p.0) ∙ units_told us s p.1
+    ap (λ (q : Reading). fold literal_unit q us) (unit_reported u s p.0) ∙ units_reported us s p.1
 
 abbrev pub literal_reach : List ℕ → End → Reach
 literal_reach u e =
@@ -55,10 +55,10 @@ same_reach u ends =
     ended_same (look_in_literal quote) Cut (drop (n + 1) u) (literal-local quote [] refl)
     (ended_whole (look_in_literal quote) (literal-some quote) (drop (n + 1) u) ends) ends
 
-literal_gives : (n : ℕ) (u : List ℕ) (s new : ScanState) (r : Reached) → r ≡ reached (literal_reach u Open)
+literal_yields : (n : ℕ) (u : List ℕ) (s new : ScanState) (r : Reached) → r ≡ reached (literal_reach u Open)
     → r.how ≡ Closed → n ≡ literal_prefix u + 1 + (r.size + r.close) → HasNone (take n u)
     → new ≡ emit (Literal (take n u)) s → Applies (literal_match u) u n s new
-literal_gives n u s new r is closed size none made =
+literal_yields n u s new r is closed size none made =
     let k = literal_prefix u + 1 in
     let look = look_in_literal (quote_of (drop (literal_prefix u) u)) in
     let m = literal_reach u Cut in
@@ -74,7 +74,7 @@ literal_gives n u s new r is closed size none made =
       size = fits;
       state = made ∙ ap (λ x. emit (Literal x) s) (sym bytes ∙ sym (text_stays us clean))
           ∙ ap (λ (e : End). emit_literal (unescaped us) e s.here s) (sym how)
-          ∙ ap (λ (q : Reading). emit_literal (unescaped us) m.how s.here q.state) (sym (units_told us s clean));
+          ∙ ap (λ (q : Reading). emit_literal (unescaped us) m.how s.here q.state) (sym (units_reported us s clean));
     }
 
 pub literal_turn : (n : ℕ) (u : List ℕ) (s new : ScanState) (r : Reached) → IsLine u → 1 ≤ length u → IsPlainC s
@@ -83,4 +83,4 @@ pub literal_turn : (n : ℕ) (u : List ℕ) (s new : ScanState) (r : Reached) �
     → TakesPlain n u s new
 literal_turn n u s new r line some h is reach closed size none made =
     ended_turn n u s new rule.Literal line some h is (sym (ap (λ (v : Reached). is_unclosed v.how) reach)
-    ∙ ap is_unclosed closed) (literal_gives n u s new r reach closed size none made)
+    ∙ ap is_unclosed closed) (literal_yields n u s new r reach closed size none made)

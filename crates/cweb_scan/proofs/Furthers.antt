@@ -5,7 +5,7 @@ use Rattle.std.proofs.lemmas.Bool.{or_parts}
 use Rattle.cweb_rules.specs.declared.rule.Rule.TheVariants as rule
 use Rattle.cweb_scan.specs.declared.directive.Last.TheVariants as last
 use Rattle.cweb_scan.proofs.InLineItemSteps.{closed_at}
-use Rattle.cweb_scan.proofs.Ends.{how-at_end, line_comment_gives, none_to_come, size-at_end}
+use Rattle.cweb_scan.proofs.Ends.{how-at_end, line_comment_yields, none_to_come, size-at_end}
 use Rattle.cweb_scan.proofs.Plains.{none_open, rule_at, turn}
 use Rattle.cweb_scan.proofs.RestByLexemes.{c_is, c_opens_is}
 use Rattle.cweb_scan.proofs.FirstMatchTaken.{between, opens_by}
@@ -33,11 +33,11 @@ ends_by _ includes u r h is ends = cc
 -- An item that may continue after its line, but ends in it.
 pub ended_turn : (n : ℕ) (u : List ℕ) (s new : ScanState) (r : Rule) → IsLine u → 1 ≤ length u → IsPlainC s → r
     ≡ c_rule false u → opens_by in_c u r ≡ false → Applies (c_match_by in_c false u r) u n s new → TakesPlain n u s new
-ended_turn n u s new r line some h is ends gives =
+ended_turn n u s new r line some h is ends yields =
     let f = ends_by s.context (names_include s) u r h.in_c (rule_plain s u r h is) ends in
     record {
       taken = λ g. (closed_at n u (between s g) (between s g) new (c_match_by in_c false u r) refl refl
-          (ap is_head h.in_c) line some f.0 f.1 gives).taken;
+          (ap is_head h.in_c) line some f.0 f.1 yields).taken;
     }
 
 pub numeral_turn : (n : ℕ) (u : List ℕ) (s new : ScanState) → IsLine u → 1 ≤ length u → s.context ≡ CText
@@ -88,15 +88,15 @@ pub line_comment_turn : (u : List ℕ) (s : ScanState) (r : Reached) → IsLine 
     → rule.LineComment ≡ c_rule false u → r ≡ reached (reach (look_in_comment at_line_end 0) Open (drop 2 u))
     → r.how ≡ Open → TakesPlain (2 + (r.size + r.close)) u s s
 line_comment_turn u s r line some h is reach ends = turn (2 + (r.size + r.close)) u
-    s s rule.LineComment line some h.in_c (rule_plain s u rule.LineComment h is) refl (line_comment_gives u r s s reach
+    s s rule.LineComment line some h.in_c (rule_plain s u rule.LineComment h is) refl (line_comment_yields u r s s reach
     (sym (blank_is s h) ∙ ap (λ (e : End). pass_comment (ended_as Closed e) s.here (blank s)) (sym ends)))
 
 abbrev comment_look : List ℕ → Look
 comment_look = look_in_comment (begins (codes "*/")) 2
 
-comment_gives : (t : List ℕ) (r : Reached) (s : ScanState) → r ≡ reached (reach comment_look Open (drop 2 t))
+comment_yields : (t : List ℕ) (r : Reached) (s : ScanState) → r ≡ reached (reach comment_look Open (drop 2 t))
     → r.how ≡ Closed → blank s ≡ s → Applies (comment_match t) t (2 + (r.size + r.close)) s s
-comment_gives t r s is closed stays =
+comment_yields t r s is closed stays =
     let look = comment_look in
     let units = comment-units (begins (codes "*/")) 2 in
     let m = reach look Cut (drop 2 t) in
@@ -113,4 +113,4 @@ pub comment_turn : (u : List ℕ) (s : ScanState) (r : Reached) → IsLine u →
     → r.how ≡ Closed → TakesPlain (2 + (r.size + r.close)) u s s
 comment_turn u s r line some h is reach closed =
     ended_turn (2 + (r.size + r.close)) u s s rule.Comment line some h is (sym (ap (λ (v : Reached).
-    is_unclosed v.how) reach) ∙ ap is_unclosed closed) (comment_gives u r s reach closed (blank_is s h))
+    is_unclosed v.how) reach) ∙ ap is_unclosed closed) (comment_yields u r s reach closed (blank_is s h))

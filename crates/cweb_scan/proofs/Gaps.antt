@@ -3,9 +3,9 @@ use Rattle.cweb_scan.proofs.Common.{◌≡◌, ℕ, suc, Bool, true, false, ◌&
 use Rattle.cweb_scan.specs.DirectiveTokens as spec
 use Rattle.cweb_scan.proofs.CommentAndNameOpeners.{run_as}
 
-blank_front : (c : Context) (includes : Bool) (b : ℕ) (t : List ℕ) → c ≡ CText → is_blank b ≡ true
+blank_prefix : (c : Context) (includes : Bool) (b : ℕ) (t : List ℕ) → c ≡ CText → is_blank b ≡ true
     → match_in c includes (b ∷ t) ≡ rule_match Blanks (prefix_len is_blank (b ∷ t))
-blank_front c includes b t h e = ap (λ c. match_in c includes (b ∷ t)) h ∙ if_true (is_blank b) _ _ e
+blank_prefix c includes b t h e = ap (λ c. match_in c includes (b ∷ t)) h ∙ if_true (is_blank b) _ _ e
 
 longer_prefix : (b : ℕ) (t : List ℕ) → is_blank b ≡ true → prefix_len is_blank (b ∷ t) ≡ suc (prefix_len is_blank t)
 longer_prefix b t e = grind (arith, e)
@@ -19,7 +19,7 @@ passed : (r : Reading) (b : ℕ) (t : List ℕ) → r.state.context ≡ CText �
 passed r b t h d e =
     let n = prefix_len is_blank t in
     run_as r b t (rule_match Blanks (prefix_len is_blank (b ∷ t)))
-    (blank_front r.state.context (names_include r.state) b t h e)
+    (blank_prefix r.state.context (names_include r.state) b t h e)
     ∙ ap (λ k. lex (after_lexeme r (record { kind = Blanks; bytes = take k (b ∷ t) })) (drop k (b ∷ t)))
     (longer_prefix b t e)
     ∙ ap (λ c. lex (record { state = blank (enter_in c Blanks r.state); later = r.later }) (drop n t)) h

@@ -49,15 +49,15 @@ pub head_passes : (n : ℕ) (u : List ℕ) (h v : ReaderModel) (new : ScanState)
     → stays r ≡ true → opens_by in_macro u r ≡ false
     → (let g = c_match_by in_macro true u r in head_match_of g.kind g u) ≡ f
     → stays_in_head f.kind ≡ true → Applies f u n v.state new → MakesProgress n u h (at_item v new)
-head_passes n u h v new begun r f same none in_head line some is fits ends gives_front stay gives =
+head_passes n u h v new begun r f same none in_head line some is fits ends yields_prefix stay yields =
     let s = h.state in
     let rule_match : next_match s u ≡ f =
-    ap (λ (c : Context). match_in c (names_include s) u) in_head ∙ head_is u r is ∙ gives_front in
+    ap (λ (c : Context). match_in c (names_include s) u) in_head ∙ head_is u r is ∙ yields_prefix in
     let stayed : enter_in s.context (next_match s u).kind s ≡ s =
     ap (λ (g : RuleMatch). enter_in s.context g.kind s) rule_match ∙ ap (λ (c : Context). enter_in c f.kind s) in_head
     ∙ ap (λ v. if v then s else drop_definition begun s) stay in
     staying_at n u h v new f same none stayed line some rule_match
-    (ap (λ (c : Context). opens_in c u) in_head ∙ head_closed stays u r is fits refl refl ends) gives
+    (ap (λ (c : Context). opens_in c u) in_head ∙ head_closed stays u r is fits refl refl ends) yields
 
 -- Blanks emit nothing.
 pub blanks_pass : (n : ℕ) (u : List ℕ) (h : ReaderModel) (begun : Place) (r : Rule)

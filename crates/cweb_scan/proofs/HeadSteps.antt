@@ -3,7 +3,7 @@ use Rattle.cweb_scan.proofs.Common.{◌≡◌, ◌≤◌, ℕ, Bool, true, false
 use Rattle.cweb_rules.specs.Constants.{letter}
 use Rattle.cweb_rules.specs.declared.effect.Effect.TheVariants as effect
 use Rattle.cweb_rules.specs.declared.rule.Rule.TheVariants as rule
-use Rattle.cweb_rules.proofs.ByRules.{c_front-by}
+use Rattle.cweb_rules.proofs.ByRules.{c_prefix-by}
 use Rattle.cweb_rules.proofs.LineLiterals.{starts_literal_line}
 use Rattle.cweb_rules.proofs.LineDelimiters.{starts_raw_line}
 use Rattle.cweb_rules.proofs.Seams.{begins_line, starts_number_stop, starts_section_line, stops}
@@ -80,7 +80,7 @@ foreign_rule v _ b c l n e = refl
 
 pub by_rule : (v : List ℕ) (r : Rule) → r ≡ c_rule false v
     → c_match in_macro true false v ≡ c_match_by in_macro true v r
-by_rule v r is = c_front-by in_macro true false v ∙ ap (c_match_by in_macro true v) (sym is)
+by_rule v r is = c_prefix-by in_macro true false v ∙ ap (c_match_by in_macro true v) (sym is)
 
 -- The rule in a line doesn't depend on the bytes after it.
 rule_line : (b : ℕ) (t more : List ℕ) → AtLineEnd more → c_rule false (b ∷ t ++ more) ≡ c_rule false (b ∷ t)

@@ -17,26 +17,26 @@ closes rule.IncludedName = true
 closes r = false
 
 -- They don't depend on the codes' effects.
-closed_front : (e : ℕ → Effect) (takes : Bool) (u : List ℕ) (r : Rule) → closes r ≡ true
+closed_prefix : (e : ℕ → Effect) (takes : Bool) (u : List ℕ) (r : Rule) → closes r ≡ true
     → (c_match_by e takes u r ≡ c_match_by in_c false u r) × (opens_by e u r ≡ false)
-closed_front e takes u rule.LineEnd h = cc
-closed_front e takes u rule.Comment h = cc
-closed_front e takes u rule.Code h = cc
-closed_front e takes u rule.RawLiteral h = cc
-closed_front e takes u rule.Literal h = cc
-closed_front e takes u _ h = (refl, refl)
+closed_prefix e takes u rule.LineEnd h = cc
+closed_prefix e takes u rule.Comment h = cc
+closed_prefix e takes u rule.Code h = cc
+closed_prefix e takes u rule.RawLiteral h = cc
+closed_prefix e takes u rule.Literal h = cc
+closed_prefix e takes u _ h = (refl, refl)
 
 pub rule_closed : (c : Context) (includes : Bool) (u : List ℕ) (r : Rule) → in_open_part c ≡ true
     → ends_macro_line c u ≡ false → r ≡ c_rule (is_c c && includes) u → closes r ≡ true
     → (match_in c includes u ≡ c_match_by in_c false u r) × (opens_in c u ≡ false)
 rule_closed Macro includes u r part plain is h =
-    let p = closed_front in_macro true u r h in (
+    let p = closed_prefix in_macro true u r h in (
       macro_is includes u plain ∙ ap (c_match_by in_macro true u) (sym is) ∙ p.0,
       ap (λ v. if v then false else c_opens in_macro u) plain
           ∙ c_opens-by in_macro false u ∙ ap (opens_by in_macro u) (sym is) ∙ p.1,
     )
 rule_closed CText includes u r part plain is h =
-    let p = closed_front in_c false u r h in (
+    let p = closed_prefix in_c false u r h in (
       c_is includes u ∙ ap (c_match_by in_c false u) (sym is),
       c_opens_is includes u ∙ ap (opens_by in_c u) (sym is) ∙ p.1,
     )

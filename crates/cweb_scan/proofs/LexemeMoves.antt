@@ -83,7 +83,7 @@ module _ {Ok : Place → Type 0} {R : ℕ → ℕ → ℕ → ℕ → Reading �
   item-walks (Constant None) bytes r some pays tells =
       w.within _ _ _ _ (step.faults_here w FaultyConstant r) (omega arith)
   item-walks (Constant (Some n)) bytes r some pays tells =
-      w.within _ _ _ _ (w.gives (Number (decimal n)) r tt) (omega arith)
+      w.within _ _ _ _ (w.yields (Number (decimal n)) r tt) (omega arith)
   item-walks (Occurrence is_file units how opens) bytes r some pays tells = w.knowing (λ h. w.within _ _ _ _
       (w.both (moves bytes r) (step.occurrence-walks w is_file (unescaped units) how opens r.state.here _ h.here_is))
       (omega arith))
@@ -97,8 +97,8 @@ module _ {Ok : Place → Type 0} {R : ℕ → ℕ → ℕ → ℕ → Reading �
       (w.both (units-walk units r) (step.literal-walks w (unescaped units) how r.state.here _ h.here_is)) (omega arith))
   item-walks (Defined tight) bytes r some pays tells =
       w.within _ _ _ _ (step.define-walks w bytes tight r pays.1) (omega arith)
-  item-walks Identifier bytes r some pays tells = w.within _ _ _ _ (w.gives (Word bytes) r tt) (omega arith)
-  item-walks Numeral bytes r some pays tells = w.within _ _ _ _ (w.gives (Number bytes) r tt) (omega arith)
+  item-walks Identifier bytes r some pays tells = w.within _ _ _ _ (w.yields (Word bytes) r tt) (omega arith)
+  item-walks Numeral bytes r some pays tells = w.within _ _ _ _ (w.yields (Number bytes) r tt) (omega arith)
   item-walks Punctuator bytes r some pays tells = w.within _ _ _ _ (step.punctuator-walks w bytes r) (omega arith)
 
   pub after-walks : (r : Reading) (p : Lexeme) → 1 ≤ length p.bytes → Pays r.state.context p.kind p.bytes

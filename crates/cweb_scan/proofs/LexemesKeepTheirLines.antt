@@ -13,27 +13,27 @@ abbrev places_in : Reading → List Place
 places_in r = r.state.here ∷ r.later
 
 -- Each newline advances the place, and nothing else does.
-abbrev Stands : ℕ → ℕ → ℕ → ℕ → Reading → Reading → Type 0
-Stands n w t b r m = n ≤ length r.later → places_in m ≡ drop n (places_in r)
+abbrev Valid : ℕ → ℕ → ℕ → ℕ → Reading → Reading → Type 0
+Valid n w t b r m = n ≤ length r.later → places_in m ≡ drop n (places_in r)
 
-both-stand : (n k : ℕ) (r m o : Reading) → Stands n 0 0 0 r m → Stands k 0 0 0 m o → Stands (n + k) 0 0 0 r o
-both-stand n k r m o x y h =
+both-valid : (n k : ℕ) (r m o : Reading) → Valid n 0 0 0 r m → Valid k 0 0 0 m o → Valid (n + k) 0 0 0 r o
+both-valid n k r m o x y h =
     let e = x (omega (arith, h)) in
     y (omega (arith, h, ap length e, length-drop n (places_in r))) ∙ ap (drop k) e ∙ sym (drop-sum n k (places_in r))
 
-moved-stands : (s : ScanState) (later : List Place)
-    → Stands 1 0 0 0 (reading s later) (next_line move_to (reading s later))
-moved-stands s [] h = absurd (omega (arith, h))
-moved-stands s (p ∷ later) h = refl
+moved-valid : (s : ScanState) (later : List Place)
+    → Valid 1 0 0 0 (reading s later) (next_line move_to (reading s later))
+moved-valid s [] h = absurd (omega (arith, h))
+moved-valid s (p ∷ later) h = refl
 
-stands : Moves Any Stands
-stands = record {
+valid : Moves Any Valid
+valid = record {
   nothing = λ r h. refl;
-  both = λ {n = n} {n' = o} {r = r} {m = m} {k = k} x y. both-stand n o r m k x y;
+  both = λ {n = n} {n' = o} {r = r} {m = m} {k = k} x y. both-valid n o r m k x y;
   within = λ n w t b {r = r} x e h. x (omega (arith, e.0, h)) ∙ ap (λ k. drop k (places_in r)) e.0;
   knowing = λ f. f (holds_any _ _ _);
-  advances = λ r. moved-stands r.state r.later;
-  gives = λ t r ok h. refl;
+  advances = λ r. moved-valid r.state r.later;
+  yields = λ t r ok h. refl;
   faults = λ k p r ok h. refl;
   enters = λ c r ok h. refl;
   pays = λ t e x. x;
@@ -75,15 +75,15 @@ text-ends line lines h =
       length-map lines (λ (l : Line). l.place),
     )
 
-pub stand : (line : Line) (lines : List Line) → AreClean (line ∷ lines) → LexemesKeepLines line lines
-stand line lines clean before p behind e =
+pub keeps_lines : (line : Line) (lines : List Line) → AreClean (line ∷ lines) → LexemesKeepLines line lines
+keeps_lines line lines clean before p after e =
     let r = source_start line lines in
     let t = joined_lines line lines in
     let m = fold after_lexeme r before in
     let all = subst (AreLexemes r t) e (are_pieces r t) in
-    let ends = ap (at_line_ends 1) (sym (flat_map-append (λ (q : Lexeme). q.bytes) before (p ∷ behind))
-    ∙ joined r t (before ++ p ∷ behind) all) in
+    let ends = ap (at_line_ends 1) (sym (flat_map-append (λ (q : Lexeme). q.bytes) before (p ∷ after))
+    ∙ joined r t (before ++ p ∷ after) all) in
     let few : newlines before ≤ length (places lines) =
-    omega (arith, ends, ends-append (bytes_in before) (bytes_in (p ∷ behind)), text-ends line lines clean) in
+    omega (arith, ends, ends-append (bytes_in before) (bytes_in (p ∷ after)), text-ends line lines clean) in
     got (places (line ∷ lines)) (newlines before) m.state.here m.later
-    (pieces-walk stands before (p ∷ behind) r t all few)
+    (pieces-walk valid before (p ∷ after) r t all few)

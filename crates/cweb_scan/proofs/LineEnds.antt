@@ -10,13 +10,13 @@ newline_kind Limbo = Skipped
 newline_kind TeX = Skipped
 newline_kind _ = LineEnd
 
-front-newline : (c : Context) (includes : Bool) (t : List ℕ)
+prefix-newline : (c : Context) (includes : Bool) (t : List ℕ)
     → match_in c includes (10 ∷ t) ≡ rule_match (newline_kind c) 1
-front-newline Limbo includes [] = refl
-front-newline Limbo includes (b ∷ t) = refl
-front-newline TeX includes [] = refl
-front-newline TeX includes (b ∷ t) = refl
-front-newline _ includes t = refl
+prefix-newline Limbo includes [] = refl
+prefix-newline Limbo includes (b ∷ t) = refl
+prefix-newline TeX includes [] = refl
+prefix-newline TeX includes (b ∷ t) = refl
+prefix-newline _ includes t = refl
 
 item-newline : (c : Context) (q : Place) (s : ScanState) (later : List Place) → s.context ≡ c
     → item (newline_kind c) (10 ∷ []) (reading (enter_in c (newline_kind c) s) (q ∷ later))
@@ -25,15 +25,15 @@ item-newline Limbo q s later h = refl
 item-newline TeX q s later h = refl
 item-newline _ q s later h = ap (λ c. reading (line_end_in c q s) later) h
 
-abbrev from_front : Reading → List ℕ → RuleMatch → Reading
-from_front r t f =
+abbrev from_prefix : Reading → List ℕ → RuleMatch → Reading
+from_prefix r t f =
     let p : Lexeme = record { kind = f.kind; bytes = take f.size (10 ∷ t) } in
     fold after_lexeme (after_lexeme r p) (lexemes_in (f.size - 1) (after_lexeme r p) t)
 
 -- Between two items.
 pub run-newline : (q : Place) (s : ScanState) (later : List Place) (t : List ℕ)
     → lex (reading s (q ∷ later)) (10 ∷ t) ≡ lex (reading (line_end q s) later) t
-run-newline q s later t = ap (from_front (reading s (q ∷ later)) t) (front-newline s.context (names_include s) t)
+run-newline q s later t = ap (from_prefix (reading s (q ∷ later)) t) (prefix-newline s.context (names_include s) t)
     ∙ ap (λ (r : Reading). lex r t) (item-newline s.context q s later refl)
 
 comment-newline : (t : List ℕ) → items.reach_of_comment (10 ∷ t) ≡ with_unit (10 ∷ []) (items.reach_of_comment t)

@@ -40,15 +40,15 @@ kept_open Between d t h = absurd (h refl)
 kept_open _ d t h = refl
 
 -- The bytes before the rest of a line were taken.
-pub record TakesFront (line rest : List ℕ) (old new : ReaderModel) : Type 0 where
+pub record TakesFirst (line rest : List ℕ) (old new : ReaderModel) : Type 0 where
   pub size : ℕ
   pub rest_is : rest ≡ drop size line
   pub taken : TakesPrefix size line old new
   pub last : awaits_line_end new.item ≡ true → length rest ≡ 0
 
-pub front_goes_on : (n : ℕ) (line rest after : List ℕ) (old mid new : ReaderModel) → after ≡ drop n rest
-    → TakesFront line rest old mid → TakesStep n rest mid new → TakesFront line after old new
-front_goes_on n line rest after old mid new is f t = record {
+pub prefix_goes_on : (n : ℕ) (line rest after : List ℕ) (old mid new : ReaderModel) → after ≡ drop n rest
+    → TakesFirst line rest old mid → TakesStep n rest mid new → TakesFirst line after old new
+prefix_goes_on n line rest after old mid new is f t = record {
   size = f.size + n;
   rest_is = is ∙ ap (drop n) f.rest_is ∙ sym (drop-sum f.size n line);
   taken = takes_both f.size n line old mid new f.taken
@@ -56,5 +56,6 @@ front_goes_on n line rest after old mid new is f t = record {
   last = λ e. omega (arith, t.last e, ap (λ (u : List ℕ). length u) is, length-drop n rest);
 }
 
-pub front_line : (line rest : List ℕ) (old new : ReaderModel) → IsLine line → TakesFront line rest old new → IsLine rest
-front_line line rest old new h f = subst IsLine (sym f.rest_is) (IsLine-drop f.size line h)
+pub prefix_line : (line rest : List ℕ) (old new : ReaderModel) → IsLine line → TakesFirst line rest old new
+    → IsLine rest
+prefix_line line rest old new h f = subst IsLine (sym f.rest_is) (IsLine-drop f.size line h)

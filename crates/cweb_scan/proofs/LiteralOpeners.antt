@@ -42,14 +42,14 @@ opened_quoted look r n b t c line no_at h =
       drop-sum n (reach_size m) u,
     ) refl
 
-pub c_front_raw : (effect : ℕ → Effect) (takes_opener includes : Bool) (t : List ℕ)
+pub c_prefix_raw : (effect : ℕ → Effect) (takes_opener includes : Bool) (t : List ℕ)
     → IsPast t → starts_raw t ≡ true → c_match effect takes_opener includes t ≡ raw_match t
-c_front_raw effect takes_opener includes t p h =
+c_prefix_raw effect takes_opener includes t p h =
     rw (p.blank, p.line_end, p.comment, p.line_comment, p.section, p.code, h)
 
-pub c_front_literal : (effect : ℕ → Effect) (takes_opener includes : Bool) (t : List ℕ) → IsPast t
+pub c_prefix_literal : (effect : ℕ → Effect) (takes_opener includes : Bool) (t : List ℕ) → IsPast t
     → starts_raw t ≡ false → starts_literal t ≡ true → c_match effect takes_opener includes t ≡ literal_match t
-c_front_literal effect takes_opener includes t p g h =
+c_prefix_literal effect takes_opener includes t p g h =
     rw (p.blank, p.line_end, p.comment, p.line_comment, p.section, p.code, g, h)
 
 pub past-line : (b : ℕ) (t more : List ℕ) → AtLineEnd more → IsPast (b ∷ t) → IsPast (b ∷ t ++ more)
@@ -62,15 +62,15 @@ past-line b t more e p = record {
   code = begins_line (codes "@") (b ∷ t) more refl e ∙ p.code;
 }
 
-literal_front : (c : Context) (includes : Bool) (b : ℕ) (t : List ℕ) (f : RuleMatch)
+literal_first : (c : Context) (includes : Bool) (b : ℕ) (t : List ℕ) (f : RuleMatch)
     → reads_literals c ≡ true → begins (codes "\\") (b ∷ t) ≡ false
     → ((effect : ℕ → Effect) (takes_opener includes : Bool) → c_match effect takes_opener includes (b ∷ t) ≡ f)
     → match_in c includes (b ∷ t) ≡ f
-literal_front Macro includes b t f h g k =
+literal_first Macro includes b t f h g k =
     ap (λ v. if v && at_line_end t then rule_match Skipped 1 else c_match in_macro true false (b ∷ t)) g
     ∙ k in_macro true false
-literal_front CText includes b t f h g k = k in_c false includes
-literal_front _ includes b t f h g k = cc
+literal_first CText includes b t f h g k = k in_c false includes
+literal_first _ includes b t f h g k = cc
 
 plain : (n b : ℕ) (t : List ℕ) → 0 < n → begins (codes "@") (b ∷ t) ≡ false → IsPlain (take n (b ∷ t))
 plain zero b t some h = absurd (omega (arith, some))
@@ -115,9 +115,9 @@ opened_raw r b t more e c line p back starts =
     ∙ ap
     (λ d. raw_from m d (u ++ more)) (ap delimiter (drop-append-le m u more two) ∙ delimiter-line (drop m u) more e) in
     opened_in_line (look_in_raw (closer_of d)) r n b t more (omega arith)
-    (omega (arith, some, two, length-drop m u)) c line p.code (literal_front r.state.context (names_include r.state) b
+    (omega (arith, some, two, length-drop m u)) c line p.code (literal_first r.state.context (names_include r.state) b
     (t ++ more) (raw_from m d (u ++ more)) c back
-    (λ effect takes_opener includes. c_front_raw effect takes_opener includes
+    (λ effect takes_opener includes. c_prefix_raw effect takes_opener includes
     (u ++ more) (past-line b t more e p) (starts_raw_line u more e ∙ starts) ∙ same))
 
 -- A quote.
@@ -135,6 +135,6 @@ opened_literal r b t more e c line p back raw starts =
     ∙ ap (λ v. literal_with n (if v then 39 else 34) (u ++ more))
     (drop_line (codes "'") n u more refl e (omega (arith, fits))) in
     opened_in_line (look_in_literal quote) r (n + 1) b t more (omega arith) fits c line p.code
-    (literal_front r.state.context (names_include r.state) b (t ++ more) (literal_with n quote (u ++ more)) c back
-    (λ effect takes_opener includes. c_front_literal effect takes_opener includes (u ++ more)
+    (literal_first r.state.context (names_include r.state) b (t ++ more) (literal_with n quote (u ++ more)) c back
+    (λ effect takes_opener includes. c_prefix_literal effect takes_opener includes (u ++ more)
     (past-line b t more e p) (starts_raw_line u more e ∙ raw) (starts_literal_line u more e ∙ starts) ∙ same))

@@ -67,7 +67,7 @@ joined : (o : Option Part) → IsOpenMarked o
     → IsOpenMarked (option_map (part_with_token Join) (option_map without_layout o))
 joined None h = tt
 joined (Some p) h = λ c.
-    let k = (dropping_keeps_the_prefix p).front in
+    let k = (dropping_keeps_the_prefix p).prefix in
     marks-join (without_layout p).tokens k.rest (ap marks_follow (sym k.splits) ∙ h c)
 
 at_close-marked : (p : Part) → IsMarked p → IsMarked (at_close p)

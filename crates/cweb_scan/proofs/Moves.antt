@@ -56,7 +56,7 @@ pub record Moves (Ok : Place → Type 0) (R : ℕ → ℕ → ℕ → ℕ → Re
   pub knowing : {n w t b : ℕ} {r m : Reading}
       → (Holds Ok r.state.here r.state.context r.later → R n w t b r m) → R n w t b r m
   pub advances : (r : Reading) → R 1 0 0 0 r (next_line move_to r)
-  pub gives : (t : Token) (r : Reading) → OfMark Ok t → R 0 1 1 (size t) r (on (emit t) r)
+  pub yields : (t : Token) (r : Reading) → OfMark Ok t → R 0 1 1 (size t) r (on (emit t) r)
   pub faults : (k : ScanKind) (p : Place) (r : Reading) → Ok p → R 0 0 0 0 r (on (report_at k p) r)
   pub enters : (c : Context) (r : Reading) → OfHead Ok c
       → R 0 0 (owed_tokens c - 1) 0 r (on (λ s. record s { context = c }) r)
@@ -85,13 +85,13 @@ module _ {Ok : Place → Type 0} {R : ℕ → ℕ → ℕ → ℕ → Reading �
   either false x y f g = g
 
   mark : (r : Reading) → R 0 1 1 0 r (on (λ s. emit (Mark s.here) s) r)
-  mark r = w.knowing (λ h. w.gives (Mark r.state.here) r h.here_is)
+  mark r = w.knowing (λ h. w.yields (Mark r.state.here) r h.here_is)
 
   pub faults_here : (k : ScanKind) (r : Reading) → R 0 0 0 0 r (on (λ s. report_at k s.here s) r)
   faults_here k r = w.knowing (λ h. w.faults k r.state.here r h.here_is)
 
   begin_part-walks : (kind : PartKind) (r : Reading) → R 0 3 2 0 r (on (begin_part kind) r)
-  begin_part-walks kind r = w.both (w.opens kind r) (w.both (w.gives (Head r.state.sections) _ tt)
+  begin_part-walks kind r = w.both (w.opens kind r) (w.both (w.yields (Head r.state.sections) _ tt)
       (w.both (mark _) (w.both (w.enters CText _ tt) (w.folds false _))))
 
   end_part-walks : (r : Reading) → R 0 0 0 0 r (on end_part r)
@@ -110,7 +110,7 @@ module _ {Ok : Place → Type 0} {R : ℕ → ℕ → ℕ → ℕ → Reading �
   leave_in-walks : (c : Context) (r : Reading) → OfHead Ok c → R 0 1 1 0 r (on (leave_in c) r)
   leave_in-walks (Definition begun) r ok = w.within 0 1 1 0 (drop-walks begun r ok) (omega arith)
   leave_in-walks Macro r ok = w.within 0 1 1 0 (end_part-walks r) (omega arith)
-  leave_in-walks CText r ok = w.both (w.gives (Tail r.state.sections) r tt) (end_part-walks _)
+  leave_in-walks CText r ok = w.both (w.yields (Tail r.state.sections) r tt) (end_part-walks _)
   leave_in-walks _ r ok = w.within 0 1 1 0 (w.nothing r) (omega arith)
 
   pub leave-walks : (r : Reading) → R 0 1 1 0 r (on leave r)
@@ -122,13 +122,13 @@ module _ {Ok : Place → Type 0} {R : ℕ → ℕ → ℕ → ℕ → Reading �
 
   newline : (a b : Bool) (p : Place) (r : Reading) → Ok p
       → R 0 1 1 0 r (on (emit (if a then Newline else (if b then Mark p else Newline))) r)
-  newline true b p r ok = w.gives Newline r tt
-  newline false true p r ok = w.gives (Mark p) r ok
-  newline false false p r ok = w.gives Newline r tt
+  newline true b p r ok = w.yields Newline r tt
+  newline false true p r ok = w.yields (Mark p) r ok
+  newline false false p r ok = w.yields Newline r tt
 
   line_end_in-walks : (c : Context) (s : ScanState) (later : List Place)
       → R 1 1 1 0 (reading s later) (next_line (line_end_in c) (reading s later))
-  line_end_in-walks Macro s (p ∷ later) = w.both (w.gives Newline _ tt) (w.advances _)
+  line_end_in-walks Macro s (p ∷ later) = w.both (w.yields Newline _ tt) (w.advances _)
   line_end_in-walks CText s (p ∷ later) = w.knowing (λ h. w.both
       (newline (in_directive s && is_punct (codes "\\") (directive s).last)
       ((in_directive s && s.folded) || not (is_next_line s.here p)) p (reading s (p ∷ later)) h.later_are.0)
@@ -147,20 +147,20 @@ module _ {Ok : Place → Type 0} {R : ℕ → ℕ → ℕ → ℕ → Reading �
   pub blank-walks : (r : Reading) → R 0 1 1 0 r (on blank r)
   blank-walks r = either (in_directive r.state && not (is_last_blank (directive r.state).last))
       (emit Blank r.state) r.state
-      (w.gives Blank r tt) (w.within 0 1 1 0 (w.nothing r) (omega arith))
+      (w.yields Blank r tt) (w.within 0 1 1 0 (w.nothing r) (omega arith))
 
   pub punctuator-walks : (bytes : List ℕ) (r : Reading) → R 0 1 1 (length bytes) r (on (punctuator bytes) r)
   punctuator-walks bytes r =
-      w.within 0 1 1 (length bytes) (w.both (w.gives (Punct bytes) r tt) (w.folds _ _)) (omega arith)
+      w.within 0 1 1 (length bytes) (w.both (w.yields (Punct bytes) r tt) (w.folds _ _)) (omega arith)
 
   pub code-walks : (e : Effect) (r : Reading) → R 0 3 2 1 r (on (apply_effect e) r)
   code-walks Define r = w.knowing (λ h.
       w.within 0 3 2 1 (w.both (end_macro-walks r) (w.enters (Definition r.state.here) _ h.here_is)) (omega arith))
   code-walks Format r = w.within 0 3 2 1 (end_macro-walks r) (omega arith)
   code-walks Program r = w.within 0 3 2 1 (w.both (end_macro-walks r) (begin_part-walks part.Unnamed _)) (omega arith)
-  code-walks InsertDefs r = w.within 0 3 2 1 (w.both (w.gives Defs r tt) (mark _)) (omega arith)
-  code-walks Joins r = w.within 0 3 2 1 (w.both (w.drops r) (w.gives Join _ tt)) (omega arith)
-  code-walks EmitAt r = w.within 0 3 2 1 (w.gives (Punct (codes "@")) r tt) (omega arith)
+  code-walks InsertDefs r = w.within 0 3 2 1 (w.both (w.yields Defs r tt) (mark _)) (omega arith)
+  code-walks Joins r = w.within 0 3 2 1 (w.both (w.drops r) (w.yields Join _ tt)) (omega arith)
+  code-walks EmitAt r = w.within 0 3 2 1 (w.yields (Punct (codes "@")) r tt) (omega arith)
   code-walks (Faulty k) r = w.within 0 3 2 1 (faults_here k r) (omega arith)
   code-walks _ r = w.within 0 3 2 1 (w.nothing r) (omega arith)
 
@@ -170,7 +170,7 @@ module _ {Ok : Place → Type 0} {R : ℕ → ℕ → ℕ → ℕ → Reading �
 
   pub verbatim-walks : (text : List ℕ) (how : End) (r : Reading)
       → R 0 1 1 (length text) r (on (emit_verbatim text how) r)
-  verbatim-walks text Closed r = w.gives (Verbatim text) r tt
+  verbatim-walks text Closed r = w.yields (Verbatim text) r tt
   verbatim-walks text Cut r = w.within 0 1 1 (length text) (faults_here ControlTextDidNotEnd r) (omega arith)
   verbatim-walks text _ r = w.within 0 1 1 (length text) (w.nothing r) (omega arith)
 
@@ -178,9 +178,9 @@ module _ {Ok : Place → Type 0} {R : ℕ → ℕ → ℕ → ℕ → Reading �
   pub define-walks : (bytes : List ℕ) (tight : Bool) (r : Reading) → owed_tokens r.state.context ≡ 2
       → R 0 3 1 (length bytes) r (on (define bytes tight) r)
   define-walks bytes true r h = w.within 0 3 1 (length bytes)
-      (w.pays 0 h (w.both (w.opens part.Macro _) (w.gives (Word bytes) _ tt))) (omega arith)
+      (w.pays 0 h (w.both (w.opens part.Macro _) (w.yields (Word bytes) _ tt))) (omega arith)
   define-walks bytes false r h = w.within 0 3 1 (length bytes) (w.pays 1 h
-      (w.both (w.opens part.Macro _) (w.both (w.gives (Word bytes) _ tt) (w.gives Blank _ tt)))) (omega arith)
+      (w.both (w.opens part.Macro _) (w.both (w.yields (Word bytes) _ tt) (w.yields Blank _ tt)))) (omega arith)
 
   pub comment-walks : (how : End) (p : Place) (r : Reading) → Ok p → R 0 0 0 0 r (on (pass_comment how p) r)
   comment-walks Cut p r ok = w.faults CommentDidNotEnd p r ok
@@ -193,8 +193,8 @@ module _ {Ok : Place → Type 0} {R : ℕ → ℕ → ℕ → ℕ → Reading �
 
   use_name-walks : (n : NameRef) (opens : Bool) (p : Place) (r : Reading) → Ok p
       → R 0 2 2 0 r (on (use_name n opens p) r)
-  use_name-walks n true p r ok = w.both (w.gives (Name n) r tt) (w.both (mark _) (w.faults MissingAt p _ ok))
-  use_name-walks n false p r ok = w.both (w.gives (Name n) r tt) (mark _)
+  use_name-walks n true p r ok = w.both (w.yields (Name n) r tt) (w.both (mark _) (w.faults MissingAt p _ ok))
+  use_name-walks n false p r ok = w.both (w.yields (Name n) r tt) (mark _)
 
   open_name-walks : (n : NameRef) (opens : Bool) (r : Reading) → R 0 3 2 0 r (on (open_name n opens) r)
   open_name-walks n true r = w.both (end_macro-walks r) (begin_part-walks (part.Named n) _)
@@ -216,7 +216,7 @@ module _ {Ok : Place → Type 0} {R : ℕ → ℕ → ℕ → ℕ → Reading �
 
   pub literal-walks : (text : List ℕ) (how : End) (p : Place) (r : Reading) → Ok p
       → R 0 1 1 (length text) r (on (emit_literal text how p) r)
-  literal-walks text Closed p r ok = w.gives (Literal text) r tt
+  literal-walks text Closed p r ok = w.yields (Literal text) r tt
   literal-walks text Cut p r ok = w.within 0 1 1 (length text)
-      (w.both (w.gives (Literal text) r tt) (w.faults StringDidNotEnd p _ ok)) (omega arith)
+      (w.both (w.yields (Literal text) r tt) (w.faults StringDidNotEnd p _ ok)) (omega arith)
   literal-walks text _ p r ok = w.within 0 1 1 (length text) (w.nothing r) (omega arith)

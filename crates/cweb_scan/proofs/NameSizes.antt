@@ -17,12 +17,12 @@ squeezed-size begun gap (b ∷ t) = elim (is_white b) as (λ v.
       | false ↦ omega (arith, squeezed-size true [] t, length-append gap (b ∷ squeezed_after true [] t))
     ]
 
-given-size : (is_file : Bool) (text : List ℕ) → length (as_occurrence is_file text).text ≤ length text
-given-size is_file text = elim (is_abbreviation text) as (λ v.
+emitted-size : (is_file : Bool) (text : List ℕ) → length (as_occurrence is_file text).text ≤ length text
+emitted-size is_file text = elim (is_abbreviation text) as (λ v.
     length (if v then prefix is_file (take (length text - 3) text) else full is_file text).text ≤ length text) [
       | true ↦ take-within (length text - 3) text
       | false ↦ omega arith
     ]
 
 pub occurrence-size : (is_file : Bool) (text : List ℕ) → length (name_occurrence is_file text).text ≤ length text
-occurrence-size is_file text = omega (arith, given-size is_file (squeezed text), squeezed-size false [] text)
+occurrence-size is_file text = omega (arith, emitted-size is_file (squeezed text), squeezed-size false [] text)

@@ -1,6 +1,6 @@
 -- An open item or comment over the rest of a line.
 use Rattle.cweb_scan.proofs.Common.{◌≡◌, ◌<◌, ℕ, zero, suc, ◌+◌, ◌-◌, true, false, List, [], ◌∷◌, ◌++◌, length, take, drop, refl, ap, sym, ◌∙◌, arith, length-append, take-append-drop, codes, flat_map, flat_map-append, take-append-le, drop-append-le, take-append-add, drop-append-add, Place, Reading, on, comment_line_end, pass_comment, begins, Look, Goes, Ends, Reach, reach, reach_in, body, reach_size, End, Cut, Open, look_in_comment, AtLineEnd, is_unclosed, InComment, resume, IsLine, lex, IsLine-take, begins_line}
-use Rattle.cweb_scan.proofs.Ends.{at_front}
+use Rattle.cweb_scan.proofs.Ends.{at_start}
 use Rattle.cweb_rules.specs.Items as items
 use Rattle.cweb_rules.proofs.Reaches.{IsEnd, IsLocal, IsWhole, join, reach-append}
 use Rattle.cweb_rules.proofs.Looks.{reach_ends, whole, comment-local, comment-units}
@@ -15,8 +15,8 @@ whole-end _ h = refl
 body_at : (look : List ℕ → Look) (b : ℕ) (t : List ℕ) (v : Look)
     → (elim v as (λ w. Type 0) [ Goes n ↦ (0 < n) × IsWhole look (n - 1) t | Ends n how ↦ IsEnd how ])
     → ((k : ℕ) → IsWhole look k t → is_unclosed (reach_in look Open k t).how ≡ true → body (reach_in look Open k t)
-    ≡ drop k t) → is_unclosed (at_front look v (b ∷ t) Open t).how ≡ true
-    → body (at_front look v (b ∷ t) Open t) ≡ b ∷ t
+    ≡ drop k t) → is_unclosed (at_start look v (b ∷ t) Open t).how ≡ true
+    → body (at_start look v (b ∷ t) Open t) ≡ b ∷ t
 body_at look b t (Ends n how) h f g = let wrong : true ≡ false = sym g ∙ whole-end how h in cc
 body_at look b t (Goes n) h f g =
     let e : n ≡ suc (n - 1) = omega (arith, h.0) in

@@ -1,6 +1,6 @@
 -- An open literal, raw or not, over the rest of a line.
 use Rattle.cweb_scan.proofs.Common.{◌≡◌, ◌≤◌, ℕ, suc, ◌+◌, ◌-◌, ◌&&◌, true, false, ◌==◌, List, [], ◌∷◌, ◌++◌, length, take, drop, refl, ap, sym, ◌∙◌, arith, append_assoc, length-append, take-append-drop, if◌then◌else◌, fold, take-append-le, drop-append-le, length-drop, drop-append-add, Place, Reading, on, emit_literal, literal_unit, Look, Goes, Ends, Reach, reach, reach_in, with_unit, body, reach_size, Closed, Cut, Open, unit_bytes, unescaped, look_in_literal, AtLineEnd, is_unclosed, InLiteral, InRaw, resume_literal, closer_of, resume, lex, ScanState, move_to, reach_ends}
-use Rattle.cweb_scan.proofs.Ends.{at_front}
+use Rattle.cweb_scan.proofs.Ends.{at_start}
 use Rattle.cweb_rules.proofs.Ranges.{reach_in-drop}
 use Rattle.cweb_rules.specs.Items as items
 use Rattle.cweb_rules.proofs.Reaches.{IsLocal, IsWhole}
@@ -69,7 +69,7 @@ literal_cut begun quote us [] m h e = ap (λ x. lex (on (emit_literal x Cut begu
 literal_cut begun quote us (b ∷ more) m h e =
     let cut : Reach = record { units = []; close = 0; how = Cut } in
     let same : items.reach_of_literal quote (10 ∷ more) ≡ cut = ap
-    (λ v. at_front (look_in_literal quote) (if v && true then Ends 1 Closed else Ends 0 Cut) (10 ∷ more) Cut more) h in
+    (λ v. at_start (look_in_literal quote) (if v && true then Ends 1 Closed else Ends 0 Cut) (10 ∷ more) Cut more) h in
     ap (λ (v : Reach). resume_literal begun us v (b ∷ more) m) (ap (λ n. items.reach_of_literal quote (n ∷ more)) e
     ∙ same)
     ∙ ap (λ x. lex (on (emit_literal x Cut begun) m) (b ∷ more)) (append-nil' us)
@@ -82,7 +82,7 @@ pub unit_passes : (look : List ℕ → Look) (begun : Place) (us : List ℕ) (n 
 unit_passes look begun us n b t m h fits =
     let u = take (suc n) (b ∷ t) in
     let less : suc n - 1 ≡ n = omega arith in
-    let seen = ap (λ v. at_front look v (b ∷ t) Cut t) h ∙ ap (λ k. with_unit u (reach_in look Cut k t)) less
+    let seen = ap (λ v. at_start look v (b ∷ t) Cut t) h ∙ ap (λ k. with_unit u (reach_in look Cut k t)) less
     ∙ ap (with_unit u) (reach_in-drop look Cut n t) in
     (λ i. resume_literal begun us (seen i) (sym (take-append-drop (suc n) (b ∷ t)) i) m)
     ∙ unit_first begun us u (drop n t) (reach look Cut (drop n t)) m

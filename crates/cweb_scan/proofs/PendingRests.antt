@@ -80,7 +80,7 @@ pub name_over : (s : ScanState) (g : Bool) (begun : Place) (is_file : Bool) (us 
 name_over s g begun is_file us n how [] sign taken opens line some h is size opened_is = absurd (omega (arith, some))
 name_over s g begun is_file us n how (b ∷ t) sign taken opens line some h is size opened_is =
     let u = b ∷ t in
-    let behind = opener_after how (drop n u) in
+    let after = opener_after how (drop n u) in
     let fits = ends_within look_in_name n how u (name-within u) h in
     let at_most : (if takes_opener s then sign else 0) ≤ sign =
     elim (takes_opener s) as (λ v. (if v then sign else 0) ≤ sign) [ true ↦ omega arith | false ↦ omega arith ] in

@@ -40,7 +40,7 @@ module _ (known : Place → Bool) where
     within = λ n w t b x h k. x k;
     knowing = λ f k. f k.2 k;
     advances = λ r k. moved-known r.state r.later k;
-    gives = λ t r ok k.
+    yields = λ t r ok k.
         (omega (arith, pushed-size (strange known) t r.state.contents.parts, k.0, not_strange t ok), k.1, k.2);
     faults = λ e p r ok k. (k.0, All-push (λ (f : ScanFault). known f.place ≡ true) r.state.faults _ k.1 ok, k.2);
     enters = λ c r ok k.

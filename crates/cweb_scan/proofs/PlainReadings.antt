@@ -1,83 +1,84 @@
 -- The effect of the law's lexemes on a reading.
 use Rattle.cweb_scan.proofs.Common.{◌≡◌, ℕ, Bool, true, false, cond, ◌&&◌, List, [], ◌∷◌, Some, None, refl, ap, sym, ◌∙◌, subst, fold, Token, Word, Number, Literal, Punct, Reading, after_lexeme, item, on, each_line_end, comment_line_end, blank, punctuator, emit_literal, literal_unit, next_line, line_end, enter_in, enter, Effect, EmitAt, in_directive, unescaped, Closed, Cut, Nested, Open, Kind, Lexeme, emit, InPlainC, HasReadTokens, significant, is_hash, is_clean, token_of, code_token, same_Some}
 use Rattle.cweb_rules.specs.Matches as kind
-use Rattle.cweb_scan.proofs.PlainStates.{blank_gives, and_then, given, placed, line_ends, comment_line_ends, next_gives, each_gives, units_give}
+use Rattle.cweb_scan.proofs.PlainStates.{blank_yields, and_then, emitted, placed, line_ends, comment_line_ends, next_gives, each_yields, units_give}
 
 -- There is no head that a lexeme could end.
 entered : (r : Reading) (k : Kind) → InPlainC r.state → on (enter k) r ≡ r
 entered r k h = ap (λ c. on (enter_in c k) r) h.in_c
 
-abbrev Gives : Reading → (Reading → Reading) → Token → Type 0
-Gives r f t = HasReadTokens r.state (f r).state (significant (t ∷ []))
+abbrev Yields : Reading → (Reading → Reading) → Token → Type 0
+Yields r f t = HasReadTokens r.state (f r).state (significant (t ∷ []))
 
-literal_gives : (r : Reading) (units : List (List ℕ)) (v : Bool) (t : Token) → InPlainC r.state
+literal_yields : (r : Reading) (units : List (List ℕ)) (v : Bool) (t : Token) → InPlainC r.state
     → is_hash t ≡ false → (v ≡ true → is_clean units ≡ true) → cond v (Some (Literal (unescaped units))) None ≡ Some t
-    → Gives r (λ q. on (emit_literal (unescaped units) Closed q.state.here) (fold literal_unit q units)) t
-literal_gives r units false t h plain clean e = cc
-literal_gives r units true t h plain clean e =
+    → Yields r (λ q. on (emit_literal (unescaped units) Closed q.state.here) (fold literal_unit q units)) t
+literal_yields r units false t h plain clean e = cc
+literal_yields r units true t h plain clean e =
     let q = fold literal_unit r units in
     let first = units_give units r (clean refl) h in
     let l = Literal (unescaped units) in
     subst (λ u. HasReadTokens r.state (emit l q.state) (significant (u ∷ []))) (same_Some l t e)
-    (and_then r.state q.state (emit l q.state) [] (significant (l ∷ [])) first (given q.state l first.plain refl))
+    (and_then r.state q.state (emit l q.state) [] (significant (l ∷ [])) first (emitted q.state l first.plain refl))
 
-code_gives : (r : Reading) (e : Effect) (t : Token) → InPlainC r.state
-    → is_hash t ≡ false → code_token e ≡ Some t → Gives r (λ q. item (kind.Code e) [] q) t
-code_gives r EmitAt t h plain e =
+code_yields : (r : Reading) (e : Effect) (t : Token) → InPlainC r.state
+    → is_hash t ≡ false → code_token e ≡ Some t → Yields r (λ q. item (kind.Code e) [] q) t
+code_yields r EmitAt t h plain e =
     let u = Punct (64 ∷ []) in
     subst (λ v. HasReadTokens r.state (emit u r.state) (significant (v ∷ []))) (same_Some u t e)
-    (given r.state u h refl)
-code_gives r _ t h plain e = cc
+    (emitted r.state u h refl)
+code_yields r _ t h plain e = cc
 
-item_gives : (r : Reading) (k : Kind) (bytes : List ℕ) (t : Token) → InPlainC r.state
-    → is_hash t ≡ false → token_of k bytes ≡ Some t → Gives r (item k bytes) t
-item_gives r (kind.Quoted units Closed) bytes t h plain e = literal_gives r units (is_clean units) t h plain (λ c. c) e
-item_gives r (kind.Quoted units Cut) bytes t h plain e = cc
-item_gives r (kind.Quoted units Nested) bytes t h plain e = cc
-item_gives r (kind.Quoted units Open) bytes t h plain e = cc
-item_gives r kind.Identifier bytes t h plain e =
+item_yields : (r : Reading) (k : Kind) (bytes : List ℕ) (t : Token) → InPlainC r.state
+    → is_hash t ≡ false → token_of k bytes ≡ Some t → Yields r (item k bytes) t
+item_yields r (kind.Quoted units Closed) bytes t h plain e = literal_yields r units (is_clean units) t h plain
+    (λ c. c) e
+item_yields r (kind.Quoted units Cut) bytes t h plain e = cc
+item_yields r (kind.Quoted units Nested) bytes t h plain e = cc
+item_yields r (kind.Quoted units Open) bytes t h plain e = cc
+item_yields r kind.Identifier bytes t h plain e =
     let u = Word bytes in
     subst (λ v. HasReadTokens r.state (emit u r.state) (significant (v ∷ []))) (same_Some u t e)
-    (given r.state u h refl)
-item_gives r kind.Numeral bytes t h plain e =
+    (emitted r.state u h refl)
+item_yields r kind.Numeral bytes t h plain e =
     let u = Number bytes in
     subst (λ v. HasReadTokens r.state (emit u r.state) (significant (v ∷ []))) (same_Some u t e)
-    (given r.state u h refl)
-item_gives r kind.Punctuator bytes t h plain e =
+    (emitted r.state u h refl)
+item_yields r kind.Punctuator bytes t h plain e =
     let u = Punct bytes in
     let same = same_Some u t e in
     subst (λ v. HasReadTokens r.state (punctuator bytes r.state) (significant (v ∷ []))) same
     (placed r.state (emit u r.state) (significant (u ∷ [])) r.state.here
-    (in_directive r.state && r.state.folded) (given r.state u h (ap is_hash same ∙ plain)))
-item_gives r (kind.Code e) bytes t h plain is = code_gives r e t h plain is
-item_gives r kind.Skipped bytes t h plain e = cc
-item_gives r (kind.Section starred) bytes t h plain e = cc
-item_gives r (kind.Letter byte text) bytes t h plain e = cc
-item_gives r (kind.ControlText how) bytes t h plain e = cc
-item_gives r (kind.Verbatim units how) bytes t h plain e = cc
-item_gives r (kind.Constant value) bytes t h plain e = cc
-item_gives r (kind.Occurrence is_file units how opens) bytes t h plain e = cc
-item_gives r kind.Blanks bytes t h plain e = cc
-item_gives r kind.LineEnd bytes t h plain e = cc
-item_gives r (kind.Comment how) bytes t h plain e = cc
-item_gives r (kind.Defined tight) bytes t h plain e = cc
+    (in_directive r.state && r.state.folded) (emitted r.state u h (ap is_hash same ∙ plain)))
+item_yields r (kind.Code e) bytes t h plain is = code_yields r e t h plain is
+item_yields r kind.Skipped bytes t h plain e = cc
+item_yields r (kind.Section starred) bytes t h plain e = cc
+item_yields r (kind.Letter byte text) bytes t h plain e = cc
+item_yields r (kind.ControlText how) bytes t h plain e = cc
+item_yields r (kind.Verbatim units how) bytes t h plain e = cc
+item_yields r (kind.Constant value) bytes t h plain e = cc
+item_yields r (kind.Occurrence is_file units how opens) bytes t h plain e = cc
+item_yields r kind.Blanks bytes t h plain e = cc
+item_yields r kind.LineEnd bytes t h plain e = cc
+item_yields r (kind.Comment how) bytes t h plain e = cc
+item_yields r (kind.Defined tight) bytes t h plain e = cc
 
 -- A lexeme that is a token emits it, without a fault.
-pub token_gives : (r : Reading) (p : Lexeme) (t : Token) → InPlainC r.state → is_hash t ≡ false
+pub token_yields : (r : Reading) (p : Lexeme) (t : Token) → InPlainC r.state → is_hash t ≡ false
     → token_of p.kind p.bytes ≡ Some t → HasReadTokens r.state (after_lexeme r p).state (significant (t ∷ []))
-token_gives r p t h plain e = subst (λ q. HasReadTokens r.state (item p.kind p.bytes q).state (significant (t ∷ [])))
-    (sym (entered r p.kind h)) (item_gives r p.kind p.bytes t h plain e)
+token_yields r p t h plain e = subst (λ q. HasReadTokens r.state (item p.kind p.bytes q).state (significant (t ∷ [])))
+    (sym (entered r p.kind h)) (item_yields r p.kind p.bytes t h plain e)
 
-pub line_end_gives : (r : Reading) (bytes : List ℕ) → InPlainC r.state
+pub line_end_yields : (r : Reading) (bytes : List ℕ) → InPlainC r.state
     → HasReadTokens r.state (after_lexeme r (record { kind = kind.LineEnd; bytes = bytes })).state []
-line_end_gives r bytes h = subst (λ q. HasReadTokens r.state (next_line line_end q).state [])
+line_end_yields r bytes h = subst (λ q. HasReadTokens r.state (next_line line_end q).state [])
     (sym (entered r kind.LineEnd h)) (next_gives line_end line_ends r h)
 
 -- A comment that ended emits only layout.
-pub comment_gives : (r : Reading) (bytes : List ℕ) → InPlainC r.state
+pub comment_yields : (r : Reading) (bytes : List ℕ) → InPlainC r.state
     → HasReadTokens r.state (after_lexeme r (record { kind = kind.Comment Closed; bytes = bytes })).state []
-comment_gives r bytes h =
+comment_yields r bytes h =
     let same : on blank (on (enter (kind.Comment Closed)) r) ≡ r =
-    ap (on blank) (entered r (kind.Comment Closed) h) ∙ ap (λ s. record r { state = s }) (blank_gives r.state h) in
+    ap (on blank) (entered r (kind.Comment Closed) h) ∙ ap (λ s. record r { state = s }) (blank_yields r.state h) in
     subst (λ q. HasReadTokens r.state (each_line_end comment_line_end bytes q).state [])
-    (sym same) (each_gives comment_line_end comment_line_ends bytes r h)
+    (sym same) (each_yields comment_line_end comment_line_ends bytes r h)

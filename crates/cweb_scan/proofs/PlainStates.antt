@@ -16,12 +16,12 @@ and_then a b c us vs f g = record {
 }
 
 -- A blank emits nothing.
-pub blank_gives : (s : ScanState) → InPlainC s → blank s ≡ s
-blank_gives s h = ap (λ v. cond (v && not (is_last_blank (directive s).last)) (emit Blank s) s) (no_directive s h)
+pub blank_yields : (s : ScanState) → InPlainC s → blank s ≡ s
+blank_yields s h = ap (λ v. cond (v && not (is_last_blank (directive s).last)) (emit Blank s) s) (no_directive s h)
 
-pub given : (s : ScanState) (t : Token) → InPlainC s → is_hash t ≡ false
+pub emitted : (s : ScanState) (t : Token) → InPlainC s → is_hash t ≡ false
     → HasReadTokens s (emit t s) (significant (t ∷ []))
-given s t h plain =
+emitted s t h plain =
     let p = h.part in
     let is_open : option_map (part_with_token t) s.contents.parts.current ≡ Some (part_with_token t p) =
     ap (option_map (part_with_token t)) h.open_part in
@@ -65,8 +65,8 @@ moves p s h = placed s s [] p true (nothing s h)
 -- A newline emits only layout.
 ends : (p : Place) (s : ScanState) (here : Bool) → InPlainC s
     → HasReadTokens s (move_to p (emit (cond here (Mark p) Newline) s)) []
-ends p s true h = placed s (emit (Mark p) s) [] p true (given s (Mark p) h refl)
-ends p s false h = placed s (emit Newline s) [] p true (given s Newline h refl)
+ends p s true h = placed s (emit (Mark p) s) [] p true (emitted s (Mark p) h refl)
+ends p s false h = placed s (emit Newline s) [] p true (emitted s Newline h refl)
 
 pub line_ends : (p : Place) (s : ScanState) → InPlainC s → HasReadTokens s (line_end p s) []
 line_ends p s h =
@@ -84,35 +84,35 @@ comment_line_ends p s h =
     subst (λ t. HasReadTokens s t []) (sym (ap (λ v. cond v (move_to p s) (line_end p s)) (no_directive s h)))
     (line_ends p s h)
 
-abbrev GivesNothing : (Place → ScanState → ScanState) → Type 0
-GivesNothing f = (p : Place) (s : ScanState) → InPlainC s → HasReadTokens s (f p s) []
+abbrev YieldsNothing : (Place → ScanState → ScanState) → Type 0
+YieldsNothing f = (p : Place) (s : ScanState) → InPlainC s → HasReadTokens s (f p s) []
 
-by_later : (f : Place → ScanState → ScanState) → GivesNothing f → (s : ScanState) (later : List Place)
+by_later : (f : Place → ScanState → ScanState) → YieldsNothing f → (s : ScanState) (later : List Place)
     → InPlainC s → HasReadTokens s (next_line f (record { state = s; later = later })).state []
-by_later f gives s [] h = nothing s h
-by_later f gives s (p ∷ later) h = gives p s h
+by_later f yields s [] h = nothing s h
+by_later f yields s (p ∷ later) h = yields p s h
 
-pub next_gives : (f : Place → ScanState → ScanState) → GivesNothing f → (r : Reading)
+pub next_gives : (f : Place → ScanState → ScanState) → YieldsNothing f → (r : Reading)
     → InPlainC r.state → HasReadTokens r.state (next_line f r).state []
-next_gives f gives r h = by_later f gives r.state r.later h
+next_gives f yields r h = by_later f yields r.state r.later h
 
-one_byte : (f : Place → ScanState → ScanState) → GivesNothing f → (v : Bool) (r : Reading)
+one_byte : (f : Place → ScanState → ScanState) → YieldsNothing f → (v : Bool) (r : Reading)
     → InPlainC r.state → HasReadTokens r.state (cond v (next_line f r) r).state []
-one_byte f gives true r h = next_gives f gives r h
-one_byte f gives false r h = nothing r.state h
+one_byte f yields true r h = next_gives f yields r h
+one_byte f yields false r h = nothing r.state h
 
-pub each_gives : (f : Place → ScanState → ScanState) → GivesNothing f → (bytes : List ℕ) (r : Reading)
+pub each_yields : (f : Place → ScanState → ScanState) → YieldsNothing f → (bytes : List ℕ) (r : Reading)
     → InPlainC r.state → HasReadTokens r.state (each_line_end f bytes r).state []
-each_gives f gives [] r h = nothing r.state h
-each_gives f gives (b ∷ t) r h =
+each_yields f yields [] r h = nothing r.state h
+each_yields f yields (b ∷ t) r h =
     let q = cond (is_line_end b) (next_line f r) r in
-    let first = one_byte f gives (is_line_end b) r h in
-    and_then r.state q.state (each_line_end f t q).state [] [] first (each_gives f gives t q first.plain)
+    let first = one_byte f yields (is_line_end b) r h in
+    and_then r.state q.state (each_line_end f t q).state [] [] first (each_yields f yields t q first.plain)
 
 clean_unit : (v : Bool) (u : List ℕ) (r : Reading) (wrong : Reading) → not v ≡ true
     → InPlainC r.state → HasReadTokens r.state (cond v wrong (each_line_end move_to u r)).state []
 clean_unit true u r wrong e h = cc
-clean_unit false u r wrong e h = each_gives move_to moves u r h
+clean_unit false u r wrong e h = each_yields move_to moves u r h
 
 pub units_give : (units : List (List ℕ)) (r : Reading) → is_clean units ≡ true
     → InPlainC r.state → HasReadTokens r.state (fold literal_unit r units).state []

@@ -3,11 +3,11 @@ use Rattle.cweb_scan.proofs.Common.{◌≡◌, ℕ, ◌+◌, ◌<◌, ◌/◌, �
 use Rattle.std.specs.Fmt.{digits}
 use Rattle.cweb_rules.specs.laws.Follows as rules
 use Rattle.cweb_rules.specs.Matches as kind
-use Rattle.cweb_rules.proofs.Comments.{comment_front}
+use Rattle.cweb_rules.proofs.Comments.{comment_prefix}
 use Rattle.cweb_rules.proofs.Tokens.{tokens_stay, tokens_begin}
 use Rattle.cweb_scan.proofs.FirstLexeme.{pieces_first}
 use Rattle.cweb_scan.specs.laws.Alone.{continues_token}
-use Rattle.cweb_scan.proofs.PlainReadings.{token_gives, line_end_gives, comment_gives}
+use Rattle.cweb_scan.proofs.PlainReadings.{token_yields, line_end_yields, comment_yields}
 
 in_plain_c : (r : Reading) (t : List ℕ) → InPlainC r.state → next_match r.state t ≡ match_in CText false t
 in_plain_c r t h =
@@ -39,7 +39,7 @@ pub newline_read : (r : Reading) (rest : List ℕ) → InPlainC r.state → IsRe
 newline_read r rest h = record {
   next = after_lexeme r (record { kind = kind.LineEnd; bytes = 10 ∷ [] });
   goes_on = run_step r 10 rest kind.LineEnd 1 h refl (omega arith);
-  read = line_end_gives r (10 ∷ []) h;
+  read = line_end_yields r (10 ∷ []) h;
 }
 
 abbrev pub comment_of : List ℕ → List ℕ
@@ -54,8 +54,8 @@ comment_read r x rest quiet h =
     record {
       next = after_lexeme r (record { kind = kind.Comment Closed; bytes = d });
       goes_on = run_over r d rest (kind.Comment Closed) h (omega arith)
-          (ap (match_in CText false) is ∙ comment_front x rest quiet ∙ ap (rule_match (kind.Comment Closed)) size);
-      read = comment_gives r d h;
+          (ap (match_in CText false) is ∙ comment_prefix x rest quiet ∙ ap (rule_match (kind.Comment Closed)) size);
+      read = comment_yields r d h;
     }
 
 glyph_quiet : (d : ℕ) → d < 10 → is_quiet (digit_glyph false d) ≡ true
@@ -133,5 +133,5 @@ token_read joins r u rest all plain h hash seam =
       next = after_lexeme r (record { kind = h.kind; bytes = d });
       goes_on = run_over r d rest h.kind plain (some_byte (begins_as h.kind) d (begins u h))
           (tokens_stay joins h.kind d rest all (alone u h) (k.goes joins rest seam));
-      read = token_gives r (record { kind = h.kind; bytes = d }) u plain hash h.token;
+      read = token_yields r (record { kind = h.kind; bytes = d }) u plain hash h.token;
     }

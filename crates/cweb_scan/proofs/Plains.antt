@@ -11,7 +11,7 @@ use Rattle.cweb_scan.proofs.InLineItemSteps.{closed_at}
 use Rattle.cweb_scan.proofs.PlainFirsts.{IsSign}
 use Rattle.cweb_scan.proofs.InLineRules.{closes, rule_closed}
 use Rattle.cweb_scan.proofs.Steps.{outside-seen}
-use Rattle.cweb_scan.proofs.TiedSteps.{tied_given}
+use Rattle.cweb_scan.proofs.TiedSteps.{tied_emitted}
 use Rattle.cweb_scan.proofs.FirstMatchTaken.{between}
 
 no_more : (o : Option Part) (t : Token) → is_some (directive_of (tokens_of o)).tokens ≡ false
@@ -66,7 +66,7 @@ tied_plain d l c o t tied in_c part none plain =
     let stepped = step_plain d t is_out plain in
     subst (λ (e : Directive). IsTied e new_directive c (option_map (part_with_token t) o)) stepped
     (subst (λ (e : Directive). IsTied (after_token d t) e c (option_map (part_with_token t) o))
-    (ap (λ v. if v then l else after_token d t) plain.solid ∙ stepped) (tied_given d l c o t tied part))
+    (ap (λ v. if v then l else after_token d t) plain.solid ∙ stepped) (tied_emitted d l c o t tied part))
 
 -- The directive's state after a newline outside directives.
 step_newline : (d : Directive) → is_outside d.stage ≡ true
@@ -85,7 +85,7 @@ tied_newline d l c o tied in_c part none =
     let is_out = ap (λ (e : Directive). is_outside e.stage) (tied.directive_is in_c)
     ∙ not-false _ (outside-seen (directive_of (tokens_of o)).tokens ∙ none) in
     subst (λ (e : Directive). IsTied e l c (option_map (part_with_token Newline) o)) (step_newline d is_out)
-    (tied_given d l c o Newline tied part)
+    (tied_emitted d l c o Newline tied part)
 
 -- The rule that applies in C text in a state.
 abbrev pub rule_at : ScanState → List ℕ → Rule
@@ -93,12 +93,12 @@ rule_at s u = c_rule (is_c s.context && names_include s) u
 
 pub turn : (n : ℕ) (u : List ℕ) (s new : ScanState) (r : Rule) → IsLine u → 1 ≤ length u → s.context ≡ CText
     → r ≡ rule_at s u → closes r ≡ true → Applies (c_match_by in_c false u r) u n s new → TakesPlain n u s new
-turn n u s new r line some c_text is closed gives =
+turn n u s new r line some c_text is closed yields =
     let f = rule_closed s.context (names_include s) u r (ap in_open_part c_text)
     (ap (λ (c : Context). ends_macro_line c u) c_text) is closed in
     record {
       taken = λ g. (closed_at n u (between s g) (between s g) new (c_match_by in_c false u r) refl refl
-          (ap is_head c_text) line some f.0 f.1 gives).taken;
+          (ap is_head c_text) line some f.0 f.1 yields).taken;
     }
 
 pub blanks_turn : (n : ℕ) (u : List ℕ) (s : ScanState) → IsLine u → 1 ≤ length u → IsPlainC s

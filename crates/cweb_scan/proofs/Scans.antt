@@ -1,10 +1,10 @@
 -- Scanning the lines of a merger.
 use Rattle.cweb_scan.proofs.Common.{◌≡◌, ◌≤◌, ◌<◌, ℕ, ◌+◌, Bool, true, List, [], ◌∷◌, ◌++◌, length, refl, ap, sym, ◌∙◌, subst, arith, IsTrue, nat_lt, ltb-true, lt-ltb, append-nil, append_assoc, All-nil, All-push, All-weaker, Place, Line, HasNoNewline, Event, KeepsReported, SoFar, Stopped, StopsFor, blame, emitted_lines, EmitsLine, Grows, StopsThere, LINES, BYTES, Stop, ReadFault, LineTooLong, TooMuchText, Memory, Token, Mark, all_tokens, IsLine, ScanFault, Reading, ReaderModel, read_after, new_reader, IsBounded, MarkPasses, web_size, Scanned, read_lines, scanned, scanned_of, AreLinesBelow, IsScanBelow, IsMarkBelow, HasTaken, ScansWithinLimits, Scans, StopsAfter, ScanEndsEarly}
 use Rattle.cweb_lines.specs.surface.MergeProgress.{EmitsLines}
-use Rattle.cweb_lines.proofs.ReportsOnlyGrow.{told_then}
-use Rattle.cweb_lines.proofs.Merges.{gives_nothing}
-use Rattle.cweb_lines.proofs.EmittedLinesAddUp.{gives_both, behind_both}
-use Rattle.cweb_lines.proofs.WrittenLinesAddUp.{given_front, gives_all, tells_some, tells_more, tells_same}
+use Rattle.cweb_lines.proofs.ReportsOnlyGrow.{reported_then}
+use Rattle.cweb_lines.proofs.Merges.{yields_nothing}
+use Rattle.cweb_lines.proofs.EmittedLinesAddUp.{yields_both, after_both}
+use Rattle.cweb_lines.proofs.WrittenLinesAddUp.{emitted_prefix, yields_all, tells_some, tells_more, tells_same}
 use Rattle.cweb_scan.proofs.Bounds.{bounded}
 use Rattle.cweb_scan.proofs.Places.{scanned-pass}
 
@@ -18,7 +18,7 @@ nothing_taken tells so all = record {
   read_is = λ more. refl;
   below = All-nil (λ (line : Line). line.place.file.0 < length so.names);
   few = omega arith;
-  gives = λ told. gives_nothing so so all all refl refl refl refl;
+  yields = λ reported. yields_nothing so so all all refl refl refl refl;
 }
 
 pub web_size-append : (a b : List Line) → web_size (a ++ b) ≡ web_size a + web_size b
@@ -30,19 +30,20 @@ wider files more lines h below = All-weaker (λ (line : Line). line.place.file.0
     (λ line. line.place.file.0 < more) (λ line k. omega (arith, h, k)) lines below
 
 -- One more line.
-pub given_line_taken : (tells : Bool) (old so new : SoFar) (all now later : List Event) (held next : ReaderModel)
+pub emitted_line_taken : (tells : Bool) (old so new : SoFar) (all now later : List Event) (held next : ReaderModel)
     (line : Line)
     → HasTaken tells old so all now held → EmitsLine line.place line.bytes so new
     → length so.names ≤ length new.names → ((more : List Line) → read_after next more ≡ read_after held (line ∷ more))
     → (IsTrue tells → EmitsLines (line ∷ []) so new now later) → HasTaken tells old new all later next
-given_line_taken tells old so new all now later held next line taken given names reads gives = record {
+emitted_line_taken tells old so new all now later held next line taken emitted names reads yields = record {
   lines = taken.lines ++ line ∷ [];
   read_is = λ more.
       reads more ∙ taken.read_is (line ∷ more) ∙ ap read_lines (sym (append_assoc taken.lines (line ∷ []) more));
   below = All-push (λ (line : Line). line.place.file.0 < length new.names) taken.lines line
-      (wider (length so.names) (length new.names) taken.lines names taken.below) given.known;
-  few = omega (arith, web_size-append taken.lines (line ∷ []), taken.few, given.lines, given.bytes_are);
-  gives = λ told. gives_both taken.lines (line ∷ []) old so new all now later (taken.gives told) (gives told);
+      (wider (length so.names) (length new.names) taken.lines names taken.below) emitted.known;
+  few = omega (arith, web_size-append taken.lines (line ∷ []), taken.few, emitted.lines, emitted.bytes_are);
+  yields = λ reported. yields_both taken.lines (line ∷ []) old so new all now later (taken.yields reported)
+      (yields reported);
 }
 
 -- If all lines are in the first files, so are all Marks and faults.
@@ -92,16 +93,16 @@ pub all_scanned : (old so new : SoFar) (all now later : List Event) (lines : Lis
     → ((more : List Line) → read_after held more ≡ read_lines (lines ++ more))
     → web_size lines ≤ so.count.bytes + so.count.lines → EmitsLines lines old so all now
     → s ≡ scanned_of (read_after held []).state → EmitsLines [] so new now later → later ≡ [] → Scans s old new all
-all_scanned old so new all now later lines held s reads few gives is last none =
-    let whole = gives_both lines [] old so new all now later gives last in
+all_scanned old so new all now later lines held s reads few yields is last none =
+    let whole = yields_both lines [] old so new all now later yields last in
     let here : emitted_lines all ≡ lines =
-    given_front (lines ++ []) old new all later whole
+    emitted_prefix (lines ++ []) old new all later whole
     ∙ ap (λ (es : List Event). (lines ++ []) ++ emitted_lines es) none ∙ append-nil (lines ++ []) ∙ append-nil lines in
     let same : s ≡ scanned lines = is ∙ of_taken held lines reads in
     let size = bounded lines in
     record {
       made = same ∙ ap scanned (sym here);
-      gives = gives_all (lines ++ []) old new all later whole none;
+      yields = yields_all (lines ++ []) old new all later whole none;
       small = subst (λ (s : Scanned). IsBounded s.store (new.count.bytes + new.count.lines)) (sym same) (record {
         tokens = omega (arith, size.tokens, few, last.lines_are, last.bytes_are);
         bytes = omega (arith, size.bytes, few, last.lines_are, last.bytes_are);
@@ -111,32 +112,32 @@ all_scanned old so new all now later lines held s reads few gives is last none =
 -- The merger stopped.
 pub ends_early : (stop : Stop) (old so new : SoFar) (all now : List Event) (lines : List Line)
     → EmitsLines lines old so all now → StopsThere stop so new now → ScanEndsEarly stop old new all
-ends_early stop old so new all now lines gives there = record {
+ends_early stop old so new all now lines yields there = record {
   why = by stop there.why;
-  told = tells_more lines old so new all now gives there.told;
+  reported = tells_more lines old so new all now yields there.reported;
 }
   where
     by : (stop : Stop) → Stopped stop so new now → StopsFor (StopsAfter stop old new all) stop
     by (ReadFault file) why = tt
     by (LineTooLong file) why = record {
       lines = lines ++ [];
-      stops = behind_both lines [] (LineTooLong file) old so new all now gives why;
+      stops = after_both lines [] (LineTooLong file) old so new all now yields why;
     }
     by TooMuchText why =
-        record { lines = lines ++ []; stops = behind_both lines [] TooMuchText old so new all now gives why }
+        record { lines = lines ++ []; stops = after_both lines [] TooMuchText old so new all now yields why }
     by Memory why = tt
     by stop why = absurd why
 
 -- An allocation failed.
 pub refused : (old so halted : SoFar) (all now : List Event) (lines : List Line)
     → halted ≡ so → EmitsLines lines old so all now → ScanEndsEarly Memory old halted all
-refused old so halted all now lines is gives =
-    record { why = tt; told = tells_same old so halted all is (tells_some lines old so all now gives) }
+refused old so halted all now lines is yields =
+    record { why = tt; reported = tells_same old so halted all is (tells_some lines old so all now yields) }
 
 -- The events so far only grow, also when the merger is halted afterwards.
 pub grows_then : (a b c : SoFar) → KeepsReported a b → Grows b c → Grows a c
-grows_then a b c told grows =
-    record { told = told_then a b c told grows.told; lines = grows.lines; bytes = grows.bytes }
+grows_then a b c reported grows =
+    record { reported = reported_then a b c reported grows.reported; lines = grows.lines; bytes = grows.bytes }
 
 pub grows_to : (a b c : SoFar) → c ≡ b → Grows a b → Grows a c
 grows_to a b c same grows = subst (λ (s : SoFar). Grows a s) (sym same) grows

@@ -10,11 +10,11 @@ use Rattle.cweb_rules.proofs.PlainSpans.{turned}
 abbrev pub is_text : Context → Bool
 is_text c = elim c [ Limbo ↦ true | TeX ↦ true | Definition begun ↦ false | Macro ↦ false | CText ↦ false ]
 
-skipped_front : (c : Context) (includes : Bool) (b : ℕ) (t : List ℕ) → is_text c ≡ true
+skipped_prefix : (c : Context) (includes : Bool) (b : ℕ) (t : List ℕ) → is_text c ≡ true
     → starts_section (b ∷ t) ≡ false → (64 == b) ≡ false → match_in c includes (b ∷ t) ≡ rule_match Skipped 1
-skipped_front Limbo includes b t c s h = rw (s, h)
-skipped_front TeX includes b t c s h = rw (s, h)
-skipped_front _ includes b t c s h = cc
+skipped_prefix Limbo includes b t c s h = rw (s, h)
+skipped_prefix TeX includes b t c s h = rw (s, h)
+skipped_prefix _ includes b t c s h = cc
 
 skipped_opens : (c : Context) (b : ℕ) (t : List ℕ) → is_text c ≡ true
     → starts_section (b ∷ t) ≡ false → (64 == b) ≡ false → opens_in c (b ∷ t) ≡ false
@@ -31,7 +31,7 @@ one_skipped : (s : ScanState) (g : Bool) (b : ℕ) (t : List ℕ) → is_text s.
 one_skipped s g b t c line h k =
     let section = no_section b t h in
     closed_takes s s g 1 b t (rule_match Skipped 1) line (no_head s.context c)
-    (skipped_front s.context (names_include s) b t c section k) (skipped_opens s.context b t c section k) (record {
+    (skipped_prefix s.context (names_include s) b t c section k) (skipped_opens s.context b t c section k) (record {
       size = refl;
       state = sym (ap (λ (r : Reading). r.state) (none_to_come move_to (b ∷ []) s));
     })

@@ -1,8 +1,8 @@
 -- The state after a lexeme that ends in its line, whatever lines follow.
 use Rattle.cweb_scan.proofs.Common.{◌≡◌, ℕ, false, List, [], ◌∷◌, ◌++◌, take, drop, refl, ap, sym, ◌∙◌, Place, Reading, on, comment_line_end, pass_comment, blank, occurrence, emit_literal, enter, item, after_lexeme, unescaped, Kind, Skipped, LineEnd, Comment, Quoted, RuleMatch, Lexeme, AtLineEnd, opens_in, IsLine, next_match, lex, fold, take-append-le, drop-append-le, names_include, ScanState, move_to}
 use Rattle.cweb_rules.specs.Matches.{Occurrence}
-use Rattle.cweb_rules.proofs.LineMatches.{front_line}
-use Rattle.cweb_rules.proofs.InLines.{InLine, stands}
+use Rattle.cweb_rules.proofs.LineMatches.{prefix_line}
+use Rattle.cweb_rules.proofs.InLines.{InLine, valid}
 use Rattle.cweb_scan.proofs.NextMatchPays.{fair}
 pub use Rattle.cweb_scan.proofs.LineUnits.{reading}
 use Rattle.cweb_scan.proofs.LineUnits.{units_line}
@@ -29,8 +29,8 @@ item_line (Quoted us how) bytes s later h = ap (on (emit_literal (unescaped us) 
     ∙ ap (λ (r : Reading). reading (emit_literal (unescaped us) how s.here r.state) later) (sym (units_line s [] us h))
 item_line _ bytes s later h = refl
 
-abbrev with_front : Reading → List ℕ → RuleMatch → Reading
-with_front r t f = lex (after_lexeme r (record { kind = f.kind; bytes = take f.size t })) (drop f.size t)
+abbrev with_prefix : Reading → List ℕ → RuleMatch → Reading
+with_prefix r t f = lex (after_lexeme r (record { kind = f.kind; bytes = take f.size t })) (drop f.size t)
 
 -- The reading after such a lexeme, and what follows.
 pub run_line_item : (r : Reading) (b : ℕ) (t more : List ℕ) → AtLineEnd more → opens_in r.state.context (b ∷ t) ≡ false
@@ -40,7 +40,7 @@ run_line_item r b t more e h =
     let f = next_match r.state (b ∷ t) in
     let fits = (fair r.state b t).within in
     ap (fold after_lexeme r) (pieces_first r b (t ++ more) (fair r.state b (t ++ more)).some)
-    ∙ ap (with_front r (b ∷ t ++ more)) (front_line r.state.context (names_include r.state) b t more e h)
+    ∙ ap (with_prefix r (b ∷ t ++ more)) (prefix_line r.state.context (names_include r.state) b t more e h)
     ∙ ap (λ u. lex (after_lexeme r (record { kind = f.kind; bytes = u })) (drop f.size (b ∷ t ++ more)))
     (take-append-le f.size (b ∷ t) more fits)
     ∙ ap (λ u. lex (after_lexeme r (first r (b ∷ t))) u) (drop-append-le f.size (b ∷ t) more fits)
@@ -62,4 +62,4 @@ pub taken : (s : ScanState) (later : List Place) (b : ℕ) (t more : List ℕ)
     → IsLine (b ∷ t) → AtLineEnd more → opens_in s.context (b ∷ t) ≡ false → lex (reading s later) (b ∷ t ++ more) ≡
     lex (reading (state_after s (first (reading s []) (b ∷ t))) later) (drop (next_match s (b ∷ t)).size (b ∷ t)
     ++ more)
-taken s later b t more h e ends = taken_item s later b t more e ends (stands s.context (names_include s) b t h)
+taken s later b t more h e ends = taken_item s later b t more e ends (valid s.context (names_include s) b t h)

@@ -31,10 +31,10 @@ last_twice : (ts : List Token) → without_last is_layout (without_last is_layou
 last_twice [] = refl
 last_twice (x ∷ ts) = before_twice x (without_last is_layout ts) (last_twice ts)
 
-solid_given : (d l : Directive) (ts : List Token) (t : Token)
+solid_emitted : (d l : Directive) (ts : List Token) (t : Token)
     → d ≡ after_tokens ts → l ≡ after_tokens (without_last is_layout ts)
     → (if is_layout t then l else after_token d t) ≡ after_tokens (without_last is_layout (ts ++ t ∷ []))
-solid_given d l ts t h k = (elim (is_layout t)
+solid_emitted d l ts t h k = (elim (is_layout t)
     as (λ v. is_layout t ≡ v
     → (if v then l else after_token d t) ≡ after_tokens (without_last is_layout (ts ++ t ∷ []))) [
       | true ↦ λ e. k ∙ ap after_tokens (sym (last_layout ts t e))
@@ -42,14 +42,15 @@ solid_given d l ts t h k = (elim (is_layout t)
           ∙ ap after_tokens (sym (last_solid ts t e))
     ]) refl
 
-pub tied_given : (d l : Directive) (c : Context) (o : Option Part) (t : Token) → IsTied d l c o → in_open_part c ≡ true
+pub tied_emitted : (d l : Directive) (c : Context) (o : Option Part) (t : Token) → IsTied d l c o
+    → in_open_part c ≡ true
     → IsTied (after_token d t) (if is_layout t then l else after_token d t) c (option_map (part_with_token t) o)
-tied_given d l c None t tied h = let wrong : false ≡ true = tied.part_is_open ∙ h in cc
-tied_given d l c (Some p) t tied h = record {
+tied_emitted d l c None t tied h = let wrong : false ≡ true = tied.part_is_open ∙ h in cc
+tied_emitted d l c (Some p) t tied h = record {
   part_is_open = tied.part_is_open;
   is_no_macro = tied.is_no_macro;
   directive_is = λ e. ap (λ d. after_token d t) (tied.directive_is e) ∙ sym (directive-pushed p.tokens t);
-  solid_is = λ e. solid_given d l p.tokens t (tied.directive_is e) (tied.solid_is e);
+  solid_is = λ e. solid_emitted d l p.tokens t (tied.directive_is e) (tied.solid_is e);
 }
 
 dropped_tokens : (p : Part) → is_macro p.kind ≡ false → (without_layout p).tokens ≡ without_last is_layout p.tokens

@@ -1,6 +1,6 @@
 -- One unit of an open item, and its end, in a line.
 use Rattle.cweb_scan.proofs.Common.{◌≡◌, ◌≤◌, ◌<◌, ℕ, zero, suc, ◌+◌, ◌-◌, Bool, true, false, ◌==◌, List, [], ◌∷◌, ◌++◌, length, take, drop, refl, ap, sym, ◌∙◌, subst, arith, append_assoc, length-append, take-append-drop, nat_lt, fold, list_all, take-append-le, drop-append-le, take-append-add, drop-append-add, Place, Reach, reach, reach_in, with_unit, body, reach_size, opener_after, unit_bytes, unescaped, look_in_name, look_in_literal, look_in_raw, IsLine, AtLineEnd, is_unclosed, End, Cut, Open, Look, Goes, Ends, Reading, on, occurrence, emit_literal, literal_unit, unit_state, InName, InLiteral, InRaw, resume_name, resume_literal, closer_of, resume, lex, ScanState, move_to, IsLine-take, IsLocal, IsEnd, in_line, stops}
-use Rattle.cweb_scan.proofs.Ends.{at_front}
+use Rattle.cweb_scan.proofs.Ends.{at_start}
 use Rattle.cweb_rules.specs.Items as items
 use Rattle.cweb_rules.proofs.Ranges.{reach_in-drop}
 use Rattle.cweb_rules.proofs.Looks.{ended_whole, whole, IsWithin, AllWithin, AllSome, IsSome, name-local, name-units, raw-local, raw-units, literal-local, literal-some}
@@ -14,13 +14,13 @@ use Rattle.cweb_scan.proofs.TakenItems.{reading}
 
 pub reach_end : (look : List ℕ → Look) (e how : End) (n b : ℕ) (t : List ℕ)
     → look (b ∷ t) ≡ Ends n how → reach look e (b ∷ t) ≡ record { units = []; close = n; how = how }
-reach_end look e how n b t h = ap (λ v. at_front look v (b ∷ t) e t) h
+reach_end look e how n b t h = ap (λ v. at_start look v (b ∷ t) e t) h
 
 reach_unit : (look : List ℕ → Look) (e : End) (n b : ℕ) (t : List ℕ) → look (b ∷ t) ≡ Goes (suc n)
     → reach look e (b ∷ t) ≡ with_unit (take (suc n) (b ∷ t)) (reach look e (drop n t))
 reach_unit look e n b t h =
     let less : suc n - 1 ≡ n = omega arith in
-    ap (λ v. at_front look v (b ∷ t) e t) h ∙ ap (λ k. with_unit (take (suc n) (b ∷ t)) (reach_in look e k t)) less
+    ap (λ v. at_start look v (b ∷ t) e t) h ∙ ap (λ k. with_unit (take (suc n) (b ∷ t)) (reach_in look e k t)) less
     ∙ ap (with_unit (take (suc n) (b ∷ t))) (reach_in-drop look e n t)
 
 end_closed : (look : List ℕ → Look) (how : End) (n b : ℕ) (t : List ℕ) → IsEnd how

@@ -8,11 +8,11 @@ use Rattle.cweb_scan.proofs.Ends.{at_end, reach-at_end, size-at_end, how-at_end,
 use Rattle.cweb_scan.proofs.LineUnits.{units_line}
 use Rattle.cweb_scan.proofs.LineHasNoNewline.{append-nil'}
 
-pub verbatim_gives : (t x : List ℕ) (r : Reached) (s new : ScanState)
+pub verbatim_yields : (t x : List ℕ) (r : Reached) (s new : ScanState)
     → r ≡ reached (reach look_in_control Open (drop 2 t))
     → x ≡ unescaped (reach look_in_control Open (drop 2 t)).units → new ≡ emit_verbatim x (ended_as Cut r.how) s
     → Applies (verbatim_match t) t (2 + (r.size + r.close)) s new
-verbatim_gives t x r s new is text made =
+verbatim_yields t x r s new is text made =
     let u = drop 2 t in
     let same : x ≡ unescaped (reach look_in_control Cut u).units =
     text ∙ ap (λ (v : Reach). unescaped v.units) (sym (reach-at_end look_in_control control-units Cut u)) in
@@ -26,13 +26,13 @@ lines_last [] u h k = (k, tt)
 lines_last (v ∷ us) u h k = (h.0, lines_last us u h.1 k)
 
 -- An included name with its units and delimiters, all in one line.
-pub include_gives : (t x : List ℕ) (r : Reached) (s new : ScanState)
+pub include_yields : (t x : List ℕ) (r : Reached) (s new : ScanState)
     → IsLine t → r ≡ reached (reach look_in_include Open (drop 1 t))
     → x ≡ (unit_bytes (take 1 t) ++ unescaped (reach look_in_include Open (drop 1 t)).units) ++ unit_bytes
     (take r.close (drop (1 + r.size) t)) → new ≡ emit_literal x (ended_as Cut r.how) s.here (unit_state (fold unit_state
     (unit_state s (take 1 t)) (reach look_in_include Open (drop 1 t)).units) (take r.close (drop (1 + r.size) t)))
     → Applies (include_match t) t (1 + (r.size + r.close)) s new
-include_gives t x r s new line is text made =
+include_yields t x r s new line is text made =
     let u = drop 1 t in
     let o = reach look_in_include Open u in
     let m = reach look_in_include Cut u in
@@ -53,9 +53,9 @@ include_gives t x r s new line is text made =
     (flat_map-append unit_bytes o.units (close ∷ [])
     ∙ ap (λ (v : List ℕ). unescaped o.units ++ v) (append-nil' (unit_bytes close)))
     ∙ sym (append_assoc (unit_bytes first) (unescaped o.units) (unit_bytes close)) in
-    let given : (v : Reach) → List (List ℕ) = λ v.
+    let emitted : (v : Reach) → List (List ℕ) = λ v.
     first ∷ v.units ++ take v.close (drop (1 + length (body v)) t) ∷ [] in
-    let same : given o ≡ us =
+    let same : emitted o ≡ us =
     ap (λ (w : Reached). first ∷ o.units ++ take w.close (drop (1 + w.size) t) ∷ []) (sym is) in
     record {
       size = ap (λ n. 1 + n) (size-at_end look_in_include include-units Cut u r is);
@@ -64,8 +64,8 @@ include_gives t x r s new line is text made =
           ((text ∙ sym joined) i) (how-at_end look_in_include include-units Cut u r is i) s.here (sym state i).state)
           ∙ (λ i. emit_literal (unescaped (sym same i)) m.how s.here
           (fold literal_unit (nothing_later s) (sym same i)).state)
-          ∙ (λ i. emit_literal (unescaped (given (sym end i))) m.how s.here
-          (fold literal_unit (nothing_later s) (given (sym end i))).state);
+          ∙ (λ i. emit_literal (unescaped (emitted (sym end i))) m.how s.here
+          (fold literal_unit (nothing_later s) (emitted (sym end i))).state);
     }
 
 -- A unit's fault doesn't change the part and the room.
@@ -109,10 +109,10 @@ name_kept s a c us =
     both_kept s t _ (unit_kept s a) (both_kept t v _ (units_kept us t) (unit_kept v c))
 
 -- The faults of an included name, as the code reports them.
-pub told : (s a b d : ScanState) (x l y f u z : List ℕ) → a ≡ unit_state s x
+pub reported : (s a b d : ScanState) (x l y f u z : List ℕ) → a ≡ unit_state s x
     → b ≡ fold unit_state a (reach look_in_include Open l).units → d ≡ unit_state b y → x ≡ f → l ≡ u → y ≡ z
     → d ≡ unit_state (fold unit_state (unit_state s f) (reach look_in_include Open u).units) z
-told s a b d x l y f u z first units close front line back = close
+reported s a b d x l y f u z first units close prefix line back = close
     ∙ (λ i. unit_state (units i) (back i))
     ∙ (λ i. unit_state (fold unit_state (first i) (reach look_in_include Open (line i)).units) z)
-    ∙ (λ i. unit_state (fold unit_state (unit_state s (front i)) (reach look_in_include Open u).units) z)
+    ∙ (λ i. unit_state (fold unit_state (unit_state s (prefix i)) (reach look_in_include Open u).units) z)

@@ -1,6 +1,6 @@
 -- All lexemes of a source satisfy a relation that the moves satisfy.
 use Rattle.cweb_scan.proofs.Common.{◌≡◌, ◌<◌, ℕ, List, [], ◌∷◌, ◌++◌, length, take, ap, sym, ◌∙◌, subst, arith, length-append, append-nil, take-append_seam, flat_map, fold, Place, Kind, Lexeme, Pays, Reading, after_lexeme, AreLexemes, next_match, names_include, lexemes, lex, Tells, ends-append}
-use Rattle.cweb_rules.proofs.Newlines.{told}
+use Rattle.cweb_rules.proofs.Newlines.{is_known}
 use Rattle.cweb_scan.proofs.NextMatchPays.{fair}
 use Rattle.cweb_scan.proofs.Moves.{Moves}
 use Rattle.cweb_scan.proofs.LexemeMoves.{Costs, after-walks}
@@ -20,7 +20,7 @@ fits r (b ∷ t) bytes rest k e some same size =
     sym (take-append_seam bytes rest) ∙ ap (λ n. take n (bytes ++ rest)) size ∙ ap (take f.size) (sym e) in
     subst (λ u. Pays r.state.context k u × Tells k u) (sym is) (subst (λ (j : Kind).
     Pays r.state.context j (take f.size (b ∷ t)) × Tells j (take f.size (b ∷ t))) (sym same)
-    ((fair r.state b t).pays, told r.state.context (names_include r.state) b t))
+    ((fair r.state b t).pays, is_known r.state.context (names_include r.state) b t))
 
 -- The lexemes concatenate to the source.
 pub joined : (r : Reading) (t : List ℕ) (ps : List Lexeme) → AreLexemes r t ps → bytes_in ps ≡ t

@@ -59,7 +59,7 @@ weighs = record {
   within = λ n w t b x h. omega (arith, x, h);
   knowing = λ f. f (holds_any _ _ _);
   advances = λ r. moved-weight r.state r.later;
-  gives = λ t r h.
+  yields = λ t r h.
       omega (arith, token_pushed t r.state.contents.parts, part_count_pushed t r.state.contents.parts);
   faults = λ k p r h. omega arith;
   enters = λ c r h. omega arith;

@@ -57,7 +57,7 @@ fn read_ahead<S: Shelf>(
 // Fast path: takes lines in the merger's buffer, as long as they can be borrowed.
 fn take_borrowed<S: Shelf>(merger: &mut Merger<S>, reader: &mut Reader) -> Result<(), AllocError>
     requires { let so = (so_far merger.old).count in cost reader.old ≤ 3 * (so.bytes + so.lines) }
-    ensures lent { BorrowsLines merger.old.run merger.new.run }
+    ensures borrowed { BorrowsLines merger.old.run merger.new.run }
     ensures taken { OnOk result ((tells : Bool) → (first : SoFar) → (all : List Event) →
         (texts : List ℕ → Option (List ℕ)) → (left : S.R → List ℕ) →
         HasTaken tells first (so_far merger.old) all (events_to_come texts left merger.old.run) reader.old →

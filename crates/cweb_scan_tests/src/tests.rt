@@ -36,16 +36,16 @@ struct Rendering<'a> {
 
 impl Case<Fail> for Rendering<'_> {
     fn look<A: AllocGlobal + Abort>(&self, rt: &A, made: &Scanned) -> Result<(), Fail> {
-        let mut told = String::new(rt.alloc());
-        render(&mut told, made)?;
-        same_string(rt, told.as_str(), self.text);
+        let mut rendered = String::new(rt.alloc());
+        render(&mut rendered, made)?;
+        same_string(rt, rendered.as_str(), self.text);
         Ok(())
     }
 }
 
 /// Checks the report on each web of one file.
-fn check_each(rt: &(impl AllocGlobal + Abort), rows: &[(&[u8], &str)]) -> Result<(), Fail> {
-    for (web, text) in rows {
+fn check_each(rt: &(impl AllocGlobal + Abort), examples: &[(&[u8], &str)]) -> Result<(), Fail> {
+    for (web, text) in examples {
         check(rt, &[("a.w", *web)], None, &Rendering { text: *text })?;
     }
     Ok(())

@@ -7,9 +7,9 @@ use Rattle.cweb_store.proofs.LawLemmas.{any-grows}
 abbrev Below : ℕ → NameId → Type 0
 Below n m = m.0 < n
 
-abbrev StandsBelow : ℕ → Resolution → Type 0
-StandsBelow n (Ok m) = m.0 < n
-StandsBelow n (Err kind) = Unit {0}
+abbrev StoredBelow : ℕ → Resolution → Type 0
+StoredBelow n (Ok m) = m.0 < n
+StoredBelow n (Err kind) = Unit {0}
 
 all-both : {X : Type 0} (P : X → Type 0) (xs ys : List X)
     → AllByRecursion P xs → AllByRecursion P ys → AllByRecursion P (xs ++ ys)
@@ -25,14 +25,14 @@ beginning-below i n p [] h = tt
 beginning-below i n p (m ∷ ns) h = grind (arith, beginning-below (i + 1) n p ns (omega arith), Below n)
 
 the_one-below : (n : ℕ) (ns : List NameId) (otherwise : Resolution) → AllByRecursion (Below n) ns
-    → StandsBelow n otherwise → StandsBelow n (the_one ns otherwise)
+    → StoredBelow n otherwise → StoredBelow n (the_one ns otherwise)
 the_one-below n [] otherwise h o = o
 the_one-below n (m ∷ []) otherwise h o = h.0
 the_one-below n (m ∷ k ∷ ns) otherwise h o = tt
 
 among-below : (i : ℕ) (before : List Name) (text : List ℕ) (how : How) (is_file : Bool) (all : List Name) →
     let o : Occurrence = record { text = text; how = how; is_file = is_file } in
-    Grows (with_occurrence_name i before o) all → StandsBelow (length all) (resolved_among before all o)
+    Grows (with_occurrence_name i before o) all → StoredBelow (length all) (resolved_among before all o)
 among-below i before text Full is_file all g =
     let size : length (spellings all) ≡ length all = length-map all (λ (n : Name). n.text) in
     omega (
@@ -47,7 +47,7 @@ among-below i before text Prefix is_file all g =
     (beginning_from 0 text all) (Err NeverFull) (beginning-below 0 (length all) text all (omega arith)) tt)
 
 resolutions-below : (i : ℕ) (before : List Name) (os : List Occurrence)
-    → let all = names_from i before os in AllByRecursion (StandsBelow (length all)) (resolutions_from i before all os)
+    → let all = names_from i before os in AllByRecursion (StoredBelow (length all)) (resolutions_from i before all os)
 resolutions-below i before [] = tt
 resolutions-below i before (o ∷ os) =
     grind (
@@ -58,12 +58,12 @@ resolutions-below i before (o ∷ os) =
       resolutions-below (i + 1) (with_occurrence_name i before o) os,
     )
 
-stands-below : (n : ℕ) (rs : List Resolution) (i : ℕ) → AllByRecursion (StandsBelow n) rs
+stored-below : (n : ℕ) (rs : List Resolution) (i : ℕ) → AllByRecursion (StoredBelow n) rs
     → IfSome (resolved_at rs i) (Below n)
-stands-below n [] i h = tt
-stands-below n (Ok m ∷ rs) zero h = h.0
-stands-below n (Err kind ∷ rs) zero h = tt
-stands-below n (r ∷ rs) (suc i) h = stands-below n rs i h.1
+stored-below n [] i h = tt
+stored-below n (Ok m ∷ rs) zero h = h.0
+stored-below n (Err kind ∷ rs) zero h = tt
+stored-below n (r ∷ rs) (suc i) h = stored-below n rs i h.1
 
 with_some-below : (n : ℕ) (ns : List NameId) (o : Option NameId) → AllByRecursion (Below n) ns
     → IfSome o (Below n) → AllByRecursion (Below n) (with_some ns o)
@@ -71,13 +71,13 @@ with_some-below n ns None h o = h
 with_some-below n ns (Some m) h o = grind (arith, Below n, all-both (Below n) ns (m ∷ []) h (o, tt))
 
 files-below : (n : ℕ) (rs : List Resolution) (fs : List NameId) (i : ℕ) (os : List Occurrence)
-    → AllByRecursion (StandsBelow n) rs → AllByRecursion (Below n) fs → AllByRecursion (Below n) (files_from rs fs i os)
+    → AllByRecursion (StoredBelow n) rs → AllByRecursion (Below n) fs → AllByRecursion (Below n) (files_from rs fs i os)
 files-below n rs fs i [] h g = g
 files-below n rs fs i (o ∷ os) h g =
     grind (
       arith,
       files-below n rs (with_file rs fs i o) (i + 1) os h,
-      with_some-below n fs (resolved_at rs i) g (stands-below n rs i h),
+      with_some-below n fs (resolved_at rs i) g (stored-below n rs i h),
     )
 
 abbrev At : ℕ → NameFault → Type 0
@@ -123,7 +123,7 @@ resolutions-length i before all (o ∷ os) =
 -- Each resolution is one of the names.
 pub standing-within : (os : List Occurrence) (i : ℕ)
     → IfSome (resolved_at (resolutions os) i) (λ (n : NameId). n.0 < length (names os))
-standing-within os i = stands-below (length (names os)) (resolutions os) i (resolutions-below 0 [] os)
+standing-within os i = stored-below (length (names os)) (resolutions os) i (resolutions-below 0 [] os)
 
 pub files-within : (os : List Occurrence) → All (λ (n : NameId). n.0 < length (names os)) (files os)
 files-within os = All-from_recursion (Below (length (names os)))

@@ -3,9 +3,9 @@ use Rattle.cweb_store.proofs.Common.{◌≡◌, ◌+◌, refl, Bool, true, false
 use Rattle.cweb_store.proofs.CallerLemmas.{token_count_opened, token_count_pushed, part_count_opened, token_count_dropped, token_count_closed, part_count_pushed, part_count_dropped, part_count_closed}
 use Rattle.std.proofs.lemmas.List.Sums.{fold-append}
 
-given-one : (answers : List Answered) (a : Answered)
+forms-one : (answers : List Answered) (a : Answered)
     → accepted_calls (answers ++ a ∷ []) ≡ accepted_calls answers ++ (if a.is_ok then call_model a.call ∷ [] else [])
-given-one answers a =
+forms-one answers a =
     simp (filter-append, map-append) (elim a.is_ok as (λ b. accepted_calls answers ++ map (λ x. call_model x.call)
     (if b then a ∷ [] else []) ≡ accepted_calls answers ++ (if b then call_model a.call ∷ [] else [])) [
       | true ↦ refl
@@ -14,7 +14,7 @@ given-one answers a =
 
 pub held-one : (answers : List Answered) (a : Answered) (c : Contents) → c ≡ contents (accepted_calls answers)
     → (if a.is_ok then after_call c (call_model a.call) else c) ≡ contents (accepted_calls (answers ++ a ∷ []))
-held-one answers a c held = simp (given-one, fold-append, ← held) (elim a.is_ok as (λ b. (if b then after_call c
+held-one answers a c held = simp (forms-one, fold-append, ← held) (elim a.is_ok as (λ b. (if b then after_call c
     (call_model a.call) else c) ≡ fold after_call c (if b then call_model a.call ∷ [] else []))
     [ true ↦ refl | false ↦ refl ])
 
@@ -27,7 +27,7 @@ pub taken-one : (answers : List Answered) (a : Answered) (c : Contents) → c �
     → AcceptsCalls empty (accepted_calls answers) → (IsTrue a.is_ok → AcceptsCall c (call_model a.call))
     → AcceptsCalls empty (accepted_calls (answers ++ a ∷ []))
 taken-one answers a c held all next =
-    rw (given-one answers a) ((elim a.is_ok as (λ b. (IsTrue b → AcceptsCall c (call_model a.call))
+    rw (forms-one answers a) ((elim a.is_ok as (λ b. (IsTrue b → AcceptsCall c (call_model a.call))
     → AcceptsCalls empty (accepted_calls answers ++ (if b then call_model a.call ∷ [] else []))) [
       | true ↦ λ t. takes-one empty (accepted_calls answers) (call_model a.call) all (rw (← held) (t refl))
       | false ↦ λ t. rw (append-nil (accepted_calls answers)) all

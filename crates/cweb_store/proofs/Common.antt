@@ -16,10 +16,10 @@ pub use Rattle.std.proofs.lemmas.Option.{slice_get-map, get_or_from_slice_get, s
 pub use Rattle.std.proofs.lemmas.Slice.Eq.{bytes_eq-Decides}
 pub use Rattle.std.specs.List.{AllByRecursion, list_any, starts_with, position_or_len}
 pub use Rattle.std.specs.Prelude.{Ok, Err, IfSome, All, bytes_eq, if◌then◌else◌, nat_eq, filter, IsSome, IsNone}
-pub use Rattle.std.specs.Prelude.{option_map, option_to_list, slice_get, option_and_then, fold, filter_map, codes, OnOk}
+pub use Rattle.std.specs.Prelude.{option_map, option_to_list, slice_get, option_and_then, fold, filter_map, codes}
 pub use Rattle.std.specs.Prelude.{IsTrue, slice_range, nat_lt, vec_capacity}
 pub use Rattle.cweb_files.specs.declared.place.Place.{Place}
-pub use Rattle.cweb_names.proofs.NameLemmas.{front_at}
+pub use Rattle.cweb_names.proofs.NameLemmas.{prefix_at}
 pub use Rattle.cweb_names.specs.Names.{is_prefix_of_another, Occurrence, Name, Resolution, id, spellings}
 pub use Rattle.cweb_names.specs.Names.{with_full_name, with_occurrence_name, names_from, names, beginning_from, the_one}
 pub use Rattle.cweb_names.specs.Names.{resolved_among, resolutions_from, resolutions, resolved_at, with_some, with_file}
@@ -60,7 +60,7 @@ pub use Rattle.cweb_store.specs.inner.Answers.{AreAnswers}
 pub use Rattle.cweb_store.specs.inner.BuilderCalls.{HoldsAtMost}
 pub use Rattle.cweb_store.specs.inner.DirectBytes.{direct_bytes}
 pub use Rattle.cweb_store.specs.inner.Faults.{fault_of_name_if}
-pub use Rattle.cweb_store.specs.inner.NameUses.{AreWithin, FlagsToo, flag_of}
+pub use Rattle.cweb_store.specs.inner.NameUses.{AreWithin, flag_of}
 pub use Rattle.cweb_store.specs.inner.Links.{has_head}
 pub use Rattle.cweb_store.specs.inner.InternedTokens.{token_of_interned, StringIsWithin, StringsAreWithin, InternsToken}
 pub use Rattle.cweb_store.specs.inner.Links.{followed, AreLinked}

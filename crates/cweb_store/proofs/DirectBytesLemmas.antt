@@ -2,17 +2,22 @@
 use Rattle.cweb_store.proofs.Common.{arith, ◌≡◌, ℕ, true, List, Option, Some, refl, list_any, Word, Punct, direct_bytes}
 use Rattle.cweb_texts.specs.declared.edges.Edge.{Edge}
 use Rattle.cweb_texts.specs.inner.Edges.{TokenBytesModel, IsStoredEdge, is_high, is_known_edge}
-use Rattle.cweb_texts.specs.declared.edges.Edge.TheVariants as border
-use Rattle.cweb_texts.proofs.EdgeLemmas.{told-ascii}
+use Rattle.cweb_texts.specs.declared.edges.Edge.TheVariants as edge_kind
+use Rattle.cweb_texts.proofs.EdgeLemmas.{known-ascii}
 
 -- A Word with a stored edge, and a punctuator.
-pub word-lends : (t : List ℕ) (b : Edge) → IsStoredEdge t b → is_known_edge b ≡ true
-    → Some (record { string = t; edge = border.Word }) ≡ direct_bytes (Word t)
-word-lends t b told some = cc (told-ascii t b (list_any is_high t) refl told some)
+pub word-borrows : (t : List ℕ) (b : Edge) → IsStoredEdge t b → is_known_edge b ≡ true
+    → Some (record { string = t; edge = edge_kind.Word }) ≡ direct_bytes (Word t)
+word-borrows t b is_known some = cc (known-ascii t b (list_any is_high t) refl is_known some)
 
-abbrev lent_as : List ℕ → Edge → Option TokenBytesModel
-lent_as t b = Some (record { string = t; edge = b })
+abbrev borrowed_as : List ℕ → Edge → Option TokenBytesModel
+borrowed_as t b = Some (record { string = t; edge = b })
 
-pub sign-lends : (t : List ℕ) (b : Edge) → IsStoredEdge t b → is_known_edge b ≡ true
+pub sign-borrows : (t : List ℕ) (b : Edge) → IsStoredEdge t b → is_known_edge b ≡ true
     → Some (record { string = t; edge = b }) ≡ direct_bytes (Punct t)
-sign-lends t b told some = grind (arith, told-ascii t b (list_any is_high t) refl told some, told some, lent_as t)
+sign-borrows t b is_known some = grind (
+  arith,
+  known-ascii t b (list_any is_high t) refl is_known some,
+  is_known some,
+  borrowed_as t,
+)

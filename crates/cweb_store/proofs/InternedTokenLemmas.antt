@@ -24,12 +24,12 @@ pub tokens-grow : (strings more : List (List ℕ)) (ps : List InternedToken) →
 tokens-grow strings more [] h = refl
 tokens-grow strings more (p ∷ ps) h = λ i. token_in-grow strings more p h.0 i ∷ tokens-grow strings more ps h.1 i
 
-ArePacked-grow : (strings more : List (List ℕ)) (ps : List InternedToken) (p : InternedToken)
+AreInterned-grow : (strings more : List (List ℕ)) (ps : List InternedToken) (p : InternedToken)
     → StringsAreWithin strings ps
     → StringIsWithin (length (strings ++ more)) p → StringsAreWithin (strings ++ more) (ps ++ p ∷ [])
-ArePacked-grow strings more [] p h here = (here, tt)
-ArePacked-grow strings more (q ∷ ps) p h here =
-    grind (arith, length-append strings more, ArePacked-grow strings more ps p h.1 here)
+AreInterned-grow strings more [] p h here = (here, tt)
+AreInterned-grow strings more (q ∷ ps) p h here =
+    grind (arith, length-append strings more, AreInterned-grow strings more ps p h.1 here)
 
 pub interned-grow : (strings more : List (List ℕ)) (ps : List InternedToken) → StringsAreWithin strings ps
     → StringsAreWithin (strings ++ more) ps
@@ -46,7 +46,7 @@ packs-tokens old new ps t p all packs =
 
 pub packs-all : (old new : StringTableModel) (ps : List InternedToken) (t : spec.Token) (p : InternedToken)
     → StringsAreWithin old.strings ps → InternsToken old t p new → StringsAreWithin new.strings (ps ++ p ∷ [])
-packs-all old new ps t p all packs = grind (arith, ArePacked-grow old.strings packs.more ps p all)
+packs-all old new ps t p all packs = grind (arith, AreInterned-grow old.strings packs.more ps p all)
 
 pub interned-at : (strings : List (List ℕ)) (ps : List InternedToken) (i : ℕ) (p : InternedToken)
     → StringsAreWithin strings ps → slice_get ps i

@@ -87,18 +87,18 @@ followed-next ranges skips n r skip here there = followed-some ranges skips n r 
     ∙ (λ i. r.part ∷ followed (range-end ranges n i) (range-end skips n i) skip)
 
 -- One more part at the head, since links are built from the last part backwards.
-pub step-linked : (rs : List Resolution) (ranges : List PartRange) (i behind skip : ℕ) (d : PartRange)
+pub step-linked : (rs : List Resolution) (ranges : List PartRange) (i after skip : ℕ) (d : PartRange)
     (kept more : List ℕ) (group : Option Wanted) (old new : Heads) → group ≡ group_of rs (get_or ranges i d).kind
-    → suc i + behind ≡ length ranges → IsPut group behind old skip new → more ≡ kept ++ skip ∷ []
+    → suc i + after ≡ length ranges → IsPut group after old skip new → more ≡ kept ++ skip ∷ []
     → AreLinked rs (drop (suc i) ranges) (reverse kept) old → AreLinked rs (drop i ranges) (reverse more) new
-step-linked rs ranges i behind skip d kept more group old new belongs count put is linked =
+step-linked rs ranges i after skip d kept more group old new belongs count put is linked =
     let others = drop (suc i) ranges in
-    let size : behind ≡ length others = omega (arith, length-drop (suc i) ranges, count) in
+    let size : after ≡ length others = omega (arith, length-drop (suc i) ranges, count) in
     let here : drop i ranges ≡ get_or ranges i d ∷ others = drop-cons ranges i d (omega (arith, count)) in
     let back : reverse more ≡ skip ∷ reverse kept = ap reverse is ∙ reverse-append kept (skip ∷ []) in
     let put_here : IsPut (group_of rs (get_or ranges i d).kind) (length others) old skip new =
     subst (λ (n : ℕ). IsPut (group_of rs (get_or ranges i d).kind) n old skip new) size
-    (subst (λ (g : Option Wanted). IsPut g behind old skip new) belongs put) in
+    (subst (λ (g : Option Wanted). IsPut g after old skip new) belongs put) in
     subst (λ (xs : List PartRange). AreLinked rs xs (reverse more) new) (sym here)
     (subst (λ (ks : List ℕ). AreLinked rs (get_or ranges i d ∷ others) ks new) (sym back)
     (put-linked rs (get_or ranges i d) others (reverse kept) old skip new put_here linked))

@@ -51,9 +51,9 @@ get-grows (n ∷ ns) more (suc k) p h = get-grows ns more k p h
 begins-grows : (p : List ℕ) (old new : List Name) (n : NameId) → Grows old new → Begins p old n → Begins p new n
 begins-grows p old new n g h = subst (λ (ns : List Name). Begins p ns n) (sym g.grows) (get-grows old g.more n.0 p h)
 
-stands-begins : (p : List ℕ) (before all : List Name) (n : NameId) → Grows before all
+stored-begins : (p : List ℕ) (before all : List Name) (n : NameId) → Grows before all
     → the_one (beginning p before) (the_one (beginning p all) (Err NeverFull)) ≡ Ok n → Begins p all n
-stands-begins p before all n g h =
+stored-begins p before all n g h =
     grind (arith, begins-grows p before all n g, first-begins before before 0 p n, first-begins all all 0 p n)
 
 text-begins : (p : List ℕ) (found : Option Name) (text : List ℕ)
@@ -69,12 +69,12 @@ standing-begins : (p : List ℕ) (all : List Name) (r : Resolution) (text : List
 standing-begins p all (Ok n) text begins is = text-begins p (slice_get all n.0) text (begins n refl) is
 standing-begins p all (Err kind) text begins is = cc
 
-front-grows : (i : ℕ) (os : List Occurrence) → Grows (names_from 0 [] (take i os)) (names os)
-front-grows i os =
-    let front = take i os in
-    subst (λ (xs : List Occurrence). Grows (names_from 0 [] front) (names xs)) (take-append-drop i os)
-    (subst (Grows (names_from 0 [] front)) (sym (names_from-append 0 (length front) [] front (drop i os) (omega arith)))
-    (names_from-grows (length front) (names_from 0 [] front) (drop i os)))
+prefix-grows : (i : ℕ) (os : List Occurrence) → Grows (names_from 0 [] (take i os)) (names os)
+prefix-grows i os =
+    let head = take i os in
+    subst (λ (xs : List Occurrence). Grows (names_from 0 [] head) (names xs)) (take-append-drop i os)
+    (subst (Grows (names_from 0 [] head)) (sym (names_from-append 0 (length head) [] head (drop i os) (omega arith)))
+    (names_from-grows (length head) (names_from 0 [] head) (drop i os)))
 
 pub abbreviations_begin_their_names : AbbreviationsBeginTheirNames
 abbreviations_begin_their_names os i o text there prefix is =
@@ -87,8 +87,8 @@ abbreviations_begin_their_names os i o text there prefix is =
     sym (ap (λ (x : Option Resolution). option_and_then (λ (n : NameId). option_map (λ (m : Name). m.text)
     (slice_get all n.0)) (elim x [ Some v ↦ elim v [ Ok m ↦ Some m | Err kind ↦ None ] | None ↦ None ])) at)
     ∙ is in
-    standing-begins o.text all r text (λ n e. stands-begins o.text before all n
-    (front-grows i os) (sym (among-prefix before all o.text o.how o.is_file prefix) ∙ e)) found
+    standing-begins o.text all r text (λ n e. stored-begins o.text before all n
+    (prefix-grows i os) (sym (among-prefix before all o.text o.how o.is_file prefix) ∙ e)) found
 
 differs : (j k : ℕ) → (j ≡ k → ⊥) → nat_eq j k ≡ false
 differs j k apart = grind (arith, eqb-true j k)

@@ -48,19 +48,19 @@ first-passes test n m (t ∷ ts) xs is =
           )
     ]) refl is
 
-passes-behind : (test : Token → Bool) (ts : List Token) (n k : ℕ) → HasPassingToken test (drop n ts) k
+passes-after : (test : Token → Bool) (ts : List Token) (n k : ℕ) → HasPassingToken test (drop n ts) k
     → HasPassingToken test ts (n + k)
-passes-behind test ts zero k p = subst (HasPassingToken test ts) (let e : k ≡ 0 + k = omega arith in e) p
-passes-behind test [] (suc n) k p = absurd (let none : ⊥ = cc in none)
-passes-behind test (t ∷ ts) (suc n) k p = grind (arith, passes-behind test ts n k p, suc (n + k), suc n)
+passes-after test ts zero k p = subst (HasPassingToken test ts) (let e : k ≡ 0 + k = omega arith in e) p
+passes-after test [] (suc n) k p = absurd (let none : ⊥ = cc in none)
+passes-after test (t ∷ ts) (suc n) k p = grind (arith, passes-after test ts n k p, suc (n + k), suc n)
 
 head-at : (xs : List ℕ) (i m : ℕ) → i < length xs → m ≡ get_or xs i m → drop i xs ≡ m ∷ drop (suc i) xs
 head-at xs i m less is = drop-cons xs i m less ∙ ap (λ x. x ∷ drop (suc i) xs) (sym is)
 
 -- The entries from the first one that isn't below a part's first token.
-token_index-behind : (test : Token → Bool) (ts : List Token) (xs : List ℕ) (n i : ℕ) → xs ≡ token_numbers test 0 ts
+token_index-after : (test : Token → Bool) (ts : List Token) (xs : List ℕ) (n i : ℕ) → xs ≡ token_numbers test 0 ts
     → (IsNonDecreasing xs → i ≡ prefix_len (λ x. nat_lt x n) xs) → drop i xs ≡ token_numbers test n (drop n ts)
-token_index-behind test ts xs n i are count =
+token_index-after test ts xs n i are count =
     grind (
       arith,
       count (subst IsNonDecreasing (sym are) (numbers-rise test 0 ts)),
@@ -73,7 +73,7 @@ pub next-is : (test : Token → Bool) (ts : List Token) (part : Part) (xs : List
 next-is test ts part xs i m are count some here less =
     let n = part.first in
     let head : token_numbers test n (drop n ts) ≡ m ∷ drop (suc i) xs =
-    sym (token_index-behind test ts xs n i are count) ∙ head-at xs i m some here in
+    sym (token_index-after test ts xs n i are count) ∙ head-at xs i m some here in
     let first = first-passes test n m (drop n ts) (drop (suc i) xs) head in
     let place : n + (m - n) ≡ m = omega (arith, first.0) in
     record {
@@ -81,7 +81,7 @@ next-is test ts part xs i m are count some here less =
       within = omega (arith, less);
       before = none-before test n (m - n) (drop n ts)
           (subst (BeginsFrom (n + (m - n))) (sym head) (omega (arith, first.0)));
-      found = λ l. subst (HasPassingToken test ts) place (passes-behind test ts n (m - n) first.1);
+      found = λ l. subst (HasPassingToken test ts) place (passes-after test ts n (m - n) first.1);
     }
 
 none-found : (test : Token → Bool) (ts : List Token) (part : Part) → part.first ≤ part.after
@@ -93,13 +93,13 @@ pub next-none : (test : Token → Bool) (ts : List Token) (part : Part) (xs : Li
     → xs ≡ token_numbers test 0 ts → (IsNonDecreasing xs → i ≡ prefix_len (λ x. nat_lt x part.first) xs)
     → part.first ≤ part.after → length xs ≤ i → IsNextNumber test ts part part.after
 next-none test ts part xs i are count le here =
-    let behind = token_index-behind test ts xs part.first i are count in
-    none-found test ts part le (subst (BeginsFrom part.after) (sym (drop_of_length-le xs here) ∙ behind) tt)
+    let following = token_index-after test ts xs part.first i are count in
+    none-found test ts part le (subst (BeginsFrom part.after) (sym (drop_of_length-le xs here) ∙ following) tt)
 
 pub next-past : (test : Token → Bool) (ts : List Token) (part : Part) (xs : List ℕ) (i m : ℕ)
     → xs ≡ token_numbers test 0 ts → (IsNonDecreasing xs → i ≡ prefix_len (λ x. nat_lt x part.first) xs)
     → part.first ≤ part.after → i < length xs → m ≡ get_or xs i m → part.after ≤ m
     → IsNextNumber test ts part part.after
 next-past test ts part xs i m are count le some here past =
-    let behind = token_index-behind test ts xs part.first i are count in
-    none-found test ts part le (subst (BeginsFrom part.after) (sym (head-at xs i m some here) ∙ behind) past)
+    let following = token_index-after test ts xs part.first i are count in
+    none-found test ts part le (subst (BeginsFrom part.after) (sym (head-at xs i m some here) ∙ following) past)

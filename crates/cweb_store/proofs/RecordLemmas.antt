@@ -1,7 +1,7 @@
 -- Records whose place indices are consecutive.
 use Rattle.cweb_store.proofs.Common.{◌≡◌, ℕ, zero, suc, ◌+◌, ◌≤◌, ◌<◌, true, false, cond, List, [], ◌∷◌, ◌++◌, Some, map, length, take, drop, refl, sym, subst, ap, arith, slice_get, map-append, take-append_seam, direct_bytes, Place, Record, token_of_interned}
 use Rattle.cweb_store.specs.inner.Records.{interned_of_record, has_place, place_at, PlaceHasNumber, places_of, AreNumbered, AddsPlace, PlaceIsWithin}
-use Rattle.cweb_store.specs.declared.tokens.interned.InternedToken.TheVariants as packed
+use Rattle.cweb_store.specs.declared.tokens.interned.InternedToken.TheVariants as interned_token
 use Rattle.cweb_store.specs.declared.tokens.records.Record.TheVariants as record_of
 use Rattle.cweb_store.specs.inner.InternedTokens as kept
 
@@ -24,16 +24,16 @@ numbered-push n end (q ∷ rs) r h at = (h.0, numbered-push (n + places_of q) en
 -- The places of the first records, and of the others.
 pub record Split (from : ℕ) (count : ℕ) (rs : List Record) (end : ℕ) : Type 0 where
   pub number : ℕ
-  pub front : AreNumbered from (take count rs) number
+  pub prefix : AreNumbered from (take count rs) number
   pub rest : AreNumbered number (drop count rs) end
 
 pub split : (from count : ℕ) (rs : List Record) (end : ℕ) → AreNumbered from rs end → Split from count rs end
-split from zero [] end h = record { number = from; front = refl; rest = h }
-split from (suc count) [] end h = record { number = from; front = refl; rest = h }
-split from zero (r ∷ rs) end h = record { number = from; front = refl; rest = h }
+split from zero [] end h = record { number = from; prefix = refl; rest = h }
+split from (suc count) [] end h = record { number = from; prefix = refl; rest = h }
+split from zero (r ∷ rs) end h = record { number = from; prefix = refl; rest = h }
 split from (suc count) (r ∷ rs) end h =
     let s = split (from + places_of r) count rs end h.1 in
-    record { number = s.number; front = (h.0, s.front); rest = s.rest }
+    record { number = s.number; prefix = (h.0, s.prefix); rest = s.rest }
 
 at-take : (places : List Place) (n k : ℕ) → k < n → place_at (take n places) k ≡ place_at places k
 at-take [] zero k h = refl
@@ -44,7 +44,7 @@ at-take (p ∷ ps) (suc n) (suc k) h = at-take ps n k (omega arith)
 
 interned-take : (places : List Place) (n from : ℕ) (r : Record) → PlaceHasNumber from r → from + places_of r ≤ n
     → interned_of_record (take n places) r ≡ interned_of_record places r
-interned-take places n from (record_of.Mark k) at h = ap packed.Mark (at-take places n k (omega (arith, at, h)))
+interned-take places n from (record_of.Mark k) at h = ap interned_token.Mark (at-take places n k (omega (arith, at, h)))
 interned-take places n from _ at h = refl
 
 -- Places after those of the records don't matter.
@@ -89,11 +89,11 @@ record-at places from end (q ∷ rs) zero r all h =
 record-at places from end (q ∷ rs) (suc i) r all h = record-at places (from + places_of q) end rs i r all.1 h
 
 -- The bytes of a record, and whether its string is in the table, don't depend on the places.
-pub lends-alone : (strings : List (List ℕ)) (places : List Place) (r : Record)
+pub borrows-alone : (strings : List (List ℕ)) (places : List Place) (r : Record)
     → direct_bytes (token_of_interned strings (interned_of_record [] r))
     ≡ direct_bytes (token_of_interned strings (interned_of_record places r))
-lends-alone strings places (record_of.Word n) = refl
-lends-alone strings places _ = refl
+borrows-alone strings places (record_of.Word n) = refl
+borrows-alone strings places _ = refl
 
 pub within-alone : (count : ℕ) (places : List Place) (r : Record)
     → kept.StringIsWithin count (interned_of_record places r) → kept.StringIsWithin count (interned_of_record [] r)

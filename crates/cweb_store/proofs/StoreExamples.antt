@@ -81,8 +81,8 @@ abbrev arrow : Token
 arrow = Punct (codes "->")
 
 -- Entries of the token index.
-abbrev noted : List Token
-noted = Blank ∷ Name (ref 0) ∷ Defs ∷ Name (ref 1) ∷ []
+abbrev recorded : List Token
+recorded = Blank ∷ Name (ref 0) ∷ Defs ∷ Name (ref 1) ∷ []
 
 record Computed : Type 0 where
   -- An abbreviation before the only name that matches.
@@ -138,8 +138,8 @@ record Computed : Type 0 where
   words_given : uninterned_store_bytes (stored three_times) ≡ 3
   texts_kept_each : interned_store_bytes (stored (Occurs
       glob ∷ Occurs glob ∷ three_times ++ Pushes (Number (codes "x")) ∷ Pushes (Word (codes "xy")) ∷ replaced)) ≡ 17
-  uses_are_noted : token_numbers is_name_use 4 noted ≡ 5 ∷ 7 ∷ []
-  defs_are_noted : token_numbers is_defs 0 noted ≡ 2 ∷ []
+  uses_are_recorded : token_numbers is_name_use 4 recorded ≡ 5 ∷ 7 ∷ []
+  defs_are_recorded : token_numbers is_defs 0 recorded ≡ 2 ∷ []
 
 computed : Computed
 computed = search

@@ -12,10 +12,10 @@ replacements-back : (rs : List Replacement) → replacements_at (map replacement
 replacements-back [] = refl
 replacements-back (r ∷ rs) = ap (λ rest. r ∷ rest) (replacements-back rs)
 
-replacements-behind : (os : List Occurrence) (rs : List Replacement) → replacements_at
+replacements-after : (os : List Occurrence) (rs : List Replacement) → replacements_at
     (drop (length (map occurrence_form os)) (map occurrence_text os ++ map replacement_bytes rs)) (map (λ r. r.byte) rs)
     ≡ rs
-replacements-behind os rs =
+replacements-after os rs =
     cc (
       length-map os occurrence_form,
       length-map os occurrence_text,
@@ -31,7 +31,7 @@ strings_of os rs = map occurrence_text os ++ map replacement_bytes rs
 pub stored-is : (ts : List Token) (ranges : List PartRange) (os : List Occurrence) (rs : List Replacement)
     → stored_in ts ranges (strings_of os rs) (map occurrence_form os) (map (λ r. r.byte) rs)
     ≡ stored os (map (closed_in ts) ranges) rs
-stored-is ts ranges os rs = cc (occurrences-back os (map replacement_bytes rs), replacements-behind os rs)
+stored-is ts ranges os rs = cc (occurrences-back os (map replacement_bytes rs), replacements-after os rs)
 
 pub stored-are : (ts : List Token)
     (ranges : List PartRange) (links : Links) (os : List Occurrence) (rs : List Replacement)
@@ -74,31 +74,31 @@ occurrence-text (t ∷ ts) (g ∷ gs) zero h = refl
 occurrence-text (t ∷ ts) (g ∷ gs) (suc k) h = occurrence-text ts gs k (omega arith)
 
 -- The bytes of a name are those of its first occurrence.
-abbrev FirstGives : List Occurrence → Name → Type 0
-FirstGives os n = option_map (λ (o : Occurrence). o.text) (slice_get os n.first) ≡ Some n.text
+abbrev FirstYields : List Occurrence → Name → Type 0
+FirstYields os n = option_map (λ (o : Occurrence). o.text) (slice_get os n.first) ≡ Some n.text
 
 abbrev FirstsGive : List Occurrence → List Name → Type 0
 FirstsGive os [] = Unit {0}
-FirstsGive os (n ∷ ns) = FirstGives os n × FirstsGive os ns
+FirstsGive os (n ∷ ns) = FirstYields os n × FirstsGive os ns
 
 firsts-push : (os : List Occurrence) (ns : List Name) (n : Name)
-    → FirstsGive os ns → FirstGives os n → FirstsGive os (ns ++ n ∷ [])
+    → FirstsGive os ns → FirstYields os n → FirstsGive os (ns ++ n ∷ [])
 firsts-push os [] n h here = (here, tt)
 firsts-push os (m ∷ ns) n h here = (h.0, firsts-push os ns n h.1 here)
 
-text-gives : (os : List Occurrence) (i : ℕ) (ns : List Name) (text : List ℕ) → FirstsGive os ns
+text-yields : (os : List Occurrence) (i : ℕ) (ns : List Name) (text : List ℕ) → FirstsGive os ns
     → option_map (λ (o : Occurrence). o.text) (slice_get os i) ≡ Some text → FirstsGive os (with_full_name i ns text)
-text-gives os i ns text h here = grind (arith, firsts-push os ns)
+text-yields os i ns text h here = grind (arith, firsts-push os ns)
 
-name-gives : (os : List Occurrence) (i : ℕ) (ns : List Name) (o : Occurrence) → FirstsGive os ns
+name-yields : (os : List Occurrence) (i : ℕ) (ns : List Name) (o : Occurrence) → FirstsGive os ns
     → option_map (λ (o : Occurrence). o.text) (slice_get os i) ≡ Some o.text
     → FirstsGive os (with_occurrence_name i ns o)
-name-gives os i ns o h here = grind (arith, text-gives os i ns o.text h here)
+name-yields os i ns o h here = grind (arith, text-yields os i ns o.text h here)
 
 firsts-from : (all os : List Occurrence) (i : ℕ) (ns : List Name)
     → drop i all ≡ os → FirstsGive all ns → FirstsGive all (names_from i ns os)
-firsts-from all [] i ns h given = given
-firsts-from all (o ∷ os) i ns h given = grind (arith, drop-here all i, firsts-from all os (i + 1), name-gives all i ns)
+firsts-from all [] i ns h forms = forms
+firsts-from all (o ∷ os) i ns h forms = grind (arith, drop-here all i, firsts-from all os (i + 1), name-yields all i ns)
 
 get-within : (os : List Occurrence) (k : ℕ) (t : List ℕ)
     → option_map (λ (o : Occurrence). o.text) (slice_get os k) ≡ Some t → k < length os
@@ -113,13 +113,13 @@ pub record IsFirst (os : List Occurrence) (ns : List Name) (n k : ℕ) : Type 0 
 
 first-at : (os : List Occurrence) (ns : List Name) (n k : ℕ) → FirstsGive os ns
     → n < length ns → k ≡ get_or (map (λ (m : Name). m.first) ns) n k → IsFirst os ns n k
-first-at os [] n k given h is = absurd (let none : ⊥ = omega arith in none)
-first-at os (m ∷ ns) zero k given h is =
-    let gives : option_map (λ (o : Occurrence). o.text) (slice_get os k) ≡ Some m.text =
-    ap (λ j. option_map (λ (o : Occurrence). o.text) (slice_get os j)) is ∙ given.0 in
-    record { within = get-within os k m.text gives; same = sym gives }
-first-at os (m ∷ ns) (suc n) k given h is =
-    let later = first-at os ns n k given.1 (omega arith) is in
+first-at os [] n k forms h is = absurd (let none : ⊥ = omega arith in none)
+first-at os (m ∷ ns) zero k forms h is =
+    let yields : option_map (λ (o : Occurrence). o.text) (slice_get os k) ≡ Some m.text =
+    ap (λ j. option_map (λ (o : Occurrence). o.text) (slice_get os j)) is ∙ forms.0 in
+    record { within = get-within os k m.text yields; same = sym yields }
+first-at os (m ∷ ns) (suc n) k forms h is =
+    let later = first-at os ns n k forms.1 (omega arith) is in
     record { within = later.within; same = later.same }
 
 pub first-place : (os : List Occurrence) (n k : ℕ) → n < length (names os)

@@ -3,7 +3,7 @@ use Rattle.cweb_store.proofs.Common.{◌≡◌, ℕ, suc, ◌+◌, ◌≤◌, �
 use Rattle.cweb_store.proofs.RangeLemmas.{drop-here}
 use Rattle.cweb_texts.specs.inner.StringLists.{text_bytes}
 use Rattle.cweb_store.proofs.WordLemmas.{kept-few}
-use Rattle.cweb_store.proofs.TokenStringLemmas.{all-drop, all-both, all-before, all-after, strings-stand, bytes-total}
+use Rattle.cweb_store.proofs.TokenStringLemmas.{all-drop, all-both, all-before, all-after, strings-valid, bytes-total}
 use Rattle.cweb_store.proofs.PartRangeLemmas.{whole-tokens}
 
 -- The replacement of a byte is the last one.
@@ -42,38 +42,39 @@ pub last-within : (byte : ℕ) (bs : List ℕ) (k : ℕ) → last_from byte None
 last-within byte bs k is = last_from-within byte 0 (length bs) None bs k (λ j e. cc) (omega arith) is
 
 -- The strings of occurrences are among the strings of the store.
-occurrences-stand : (bytes : List ℕ) (ts : List (List ℕ)) (gs : List OccurrenceForm)
+occurrences-valid : (bytes : List ℕ) (ts : List (List ℕ)) (gs : List OccurrenceForm)
     → AreSpansOf bytes ts → AreSpansOf bytes (map occurrence_text (occurrences_at ts gs))
-occurrences-stand bytes ts [] h = tt
-occurrences-stand bytes [] (g ∷ gs) h = tt
-occurrences-stand bytes (t ∷ ts) (g ∷ gs) h = (h.0, occurrences-stand bytes ts gs h.1)
+occurrences-valid bytes ts [] h = tt
+occurrences-valid bytes [] (g ∷ gs) h = tt
+occurrences-valid bytes (t ∷ ts) (g ∷ gs) h = (h.0, occurrences-valid bytes ts gs h.1)
 
-replacements-stand : (bytes : List ℕ) (ts : List (List ℕ)) (bs : List ℕ)
+replacements-valid : (bytes : List ℕ) (ts : List (List ℕ)) (bs : List ℕ)
     → AreSpansOf bytes ts → AreSpansOf bytes (map replacement_bytes (replacements_at ts bs))
-replacements-stand bytes ts [] h = tt
-replacements-stand bytes [] (b ∷ bs) h = tt
-replacements-stand bytes (t ∷ ts) (b ∷ bs) h = (h.0, replacements-stand bytes ts bs h.1)
+replacements-valid bytes ts [] h = tt
+replacements-valid bytes [] (b ∷ bs) h = tt
+replacements-valid bytes (t ∷ ts) (b ∷ bs) h = (h.0, replacements-valid bytes ts bs h.1)
 
 pub store-strings : (n m : ℕ) (tokens : List Token) (ranges : List PartRange) (strings : List (List ℕ))
-    (given : List OccurrenceForm) (replaced : List ℕ)
+    (forms : List OccurrenceForm) (replaced : List ℕ)
     → IsWhole tokens ranges → AreInOneList n (flat_map token_strings tokens) → m ≡ length (text_bytes strings)
-    → AreInOneList (n + m) (stored_strings (stored_in tokens ranges strings given replaced))
-store-strings n m tokens ranges strings given replaced whole all count =
+    → AreInOneList (n + m) (stored_strings (stored_in tokens ranges strings forms replaced))
+store-strings n m tokens ranges strings forms replaced whole all count =
     let bytes = all.bytes ++ text_bytes strings in
     let own : AreSpansOf bytes (flat_map token_strings (all_tokens (map (closed_in tokens) ranges))) =
     subst (λ (ts : List Token). AreSpansOf bytes (flat_map token_strings ts)) (sym (whole-tokens tokens ranges whole))
     (all-before all.bytes (text_bytes strings) (flat_map token_strings tokens) all.ranges) in
-    let others = all-after all.bytes (text_bytes strings) strings (strings-stand strings) in
-    let os = occurrences_at strings given in
-    let rs = replacements_at (drop (length given) strings) replaced in
+    let others = all-after all.bytes (text_bytes strings) strings (strings-valid strings) in
+    let os = occurrences_at strings forms in
+    let rs = replacements_at (drop (length forms) strings) replaced in
     record {
       bytes = bytes;
       count = omega (arith, length-append all.bytes (text_bytes strings), all.count, count);
       ranges = all-both bytes (flat_map token_strings (all_tokens (map (closed_in tokens) ranges)))
           (map occurrence_text os ++ map replacement_bytes rs) own
           (all-both bytes (map occurrence_text os) (map replacement_bytes rs)
-          (occurrences-stand bytes strings given others) (replacements-stand bytes (drop (length given) strings) replaced
-          (all-drop bytes (length given) strings others)));
+          (occurrences-valid bytes strings forms others)
+          (replacements-valid bytes (drop (length forms) strings) replaced
+          (all-drop bytes (length forms) strings others)));
     }
 
 -- The number of bytes of the other strings.
@@ -93,12 +94,12 @@ others-total [] (g ∷ gs) bs h = absurd (let none : ⊥ = omega arith in none)
 others-total (t ∷ ts) (g ∷ gs) bs h = omega (arith, others-total ts gs bs (omega arith))
 
 pub store-bytes : (tokens : List Token) (ranges : List PartRange) (strings : List (List ℕ))
-    (given : List OccurrenceForm) (replaced : List ℕ)
-    → IsWhole tokens ranges → length strings ≡ length given + length replaced
+    (forms : List OccurrenceForm) (replaced : List ℕ)
+    → IsWhole tokens ranges → length strings ≡ length forms + length replaced
     → interned_token_bytes tokens + length (text_bytes strings)
-    ≡ interned_store_bytes (stored_in tokens ranges strings given replaced)
-store-bytes tokens ranges strings given replaced whole size =
-    cc (whole-tokens tokens ranges whole, bytes-total strings, others-total strings given replaced size)
+    ≡ interned_store_bytes (stored_in tokens ranges strings forms replaced)
+store-bytes tokens ranges strings forms replaced whole size =
+    cc (whole-tokens tokens ranges whole, bytes-total strings, others-total strings forms replaced size)
 
 -- Interning never needs more bytes.
 pub bytes-few : (s : Stored) → interned_store_bytes s ≤ uninterned_store_bytes s

@@ -49,7 +49,7 @@ none-below test n bound (t ∷ ts) le = grind (arith, test t, none-below test (n
 
 -- Numbers below a bound belong to the prefix, the others to the suffix.
 pub record AreCut (test : Token → Bool) (n k bound : ℕ) (ts : List Token) : Type 0 where
-  pub front : take (prefix_len (λ x. nat_lt x bound) (token_numbers test n ts)) (token_numbers test n ts)
+  pub prefix : take (prefix_len (λ x. nat_lt x bound) (token_numbers test n ts)) (token_numbers test n ts)
       ≡ token_numbers test n (take k ts)
   pub back : drop (prefix_len (λ x. nat_lt x bound) (token_numbers test n ts)) (token_numbers test n ts)
       ≡ token_numbers test bound (drop k ts)
@@ -60,23 +60,23 @@ numbers-cut test n zero bound ts e =
     let none = none-below test n bound ts (omega arith) in
     let same : n ≡ bound = omega arith in
     record {
-      front = ap (λ i. take i xs) none;
+      prefix = ap (λ i. take i xs) none;
       back = ap (λ i. drop i xs) none ∙ ap (λ m. token_numbers test m ts) same;
     }
-numbers-cut test n (suc k) bound [] e = record { front = refl; back = refl }
+numbers-cut test n (suc k) bound [] e = record { prefix = refl; back = refl }
 numbers-cut test n (suc k) bound (t ∷ ts) e =
     let rest = token_numbers test (n + 1) ts in
     let later = numbers-cut test (n + 1) k bound ts (omega arith) in
     let i = prefix_len (λ x. nat_lt x bound) rest in
     let here : nat_lt n bound ≡ true = lt-ltb n bound (omega arith) in
     record {
-      front = elim (test t) as
+      prefix = elim (test t) as
           (λ b. take (prefix_len (λ x. nat_lt x bound) (if b then n ∷ rest else rest)) (if b then n ∷ rest else rest)
           ≡ (if b then n ∷ token_numbers test (n + 1) (take k ts) else token_numbers test (n + 1) (take k ts))) [
             | true ↦
                 ap (λ b. take (cond b (1 + i) 0) (n ∷ rest)) here ∙ ap (λ j. take j (n ∷ rest)) (one-add i)
-                ∙ ap (λ xs. n ∷ xs) later.front
-            | false ↦ later.front
+                ∙ ap (λ xs. n ∷ xs) later.prefix
+            | false ↦ later.prefix
           ];
       back = elim (test t) as
           (λ b. drop (prefix_len (λ x. nat_lt x bound) (if b then n ∷ rest else rest)) (if b then n ∷ rest else rest)

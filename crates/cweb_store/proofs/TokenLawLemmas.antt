@@ -1,7 +1,7 @@
 -- The tokens of a builder's parts are those that were pushed, less dropped layout.
 use Rattle.cweb_store.proofs.Common.{arith, ◌≡◌, inl, inr, Bool, true, false, List, [], ◌∷◌, ◌++◌, Some, None, refl, sym, ◌∙◌, ap, subst, append_assoc, append-nil, IsSome, IsNone, if◌then◌else◌, fold, filter_map, option_map, option_to_list, flat_map-append, PartKind, Token, Blank, Newline, Mark, Part, all_tokens, is_macro, without_last, without_blank, without_layout, at_close, is_layout, is_newline, is_blank, PartsSoFar, all_parts, with_opened_part, with_pushed_token, with_dropped_layout, with_closed_part, part_with_token, Call, Occurs, Opens, Pushes, Drops, Closes, Transliterates, Contents, after_call, empty, AllPass, IsTokenPrefix, AreInPlace, IsLeftOfTokens, TokensAreThosePushed}
 use Rattle.cweb_store.specs.laws.TokenLaws.{token_of_call}
-use Rattle.cweb_store.proofs.LayoutLawLemmas.{without_last-front, dropping_keeps_the_prefix}
+use Rattle.cweb_store.proofs.LayoutLawLemmas.{without_last-prefix, dropping_keeps_the_prefix}
 
 left-same : (us : List Token) → IsLeftOfTokens us us
 left-same [] = refl
@@ -35,9 +35,9 @@ left-none : (test : Token → Bool) (us : List Token)
 left-none test [] layout h = refl
 left-none test (u ∷ us) layout h = inl (layout u h.0, left-none test us layout h.1)
 
-left-front : (test : Token → Bool) (ts us : List Token)
+left-prefix : (test : Token → Bool) (ts us : List Token)
     → ((t : Token) → test t ≡ true → is_layout t ≡ true) → IsTokenPrefix test ts us → IsLeftOfTokens ts us
-left-front test ts us layout f =
+left-prefix test ts us layout f =
     grind (arith, left-more us us f.rest, left-same us, left-none test f.rest layout f.passes, append-nil us)
 
 newline-layout : (t : Token) → is_newline t ≡ true → is_layout t ≡ true
@@ -58,15 +58,16 @@ left-blank (t ∷ []) = grind (arith, blank-layout t)
 left-blank (t ∷ u ∷ us) = inr (without_blank (u ∷ us), refl, left-blank (u ∷ us))
 
 left-dropped : (p : Part) → IsLeftOfTokens p.tokens (without_layout p).tokens
-left-dropped p = left-front is_layout p.tokens (without_layout p).tokens (λ t h. h) (dropping_keeps_the_prefix p).front
+left-dropped p = left-prefix is_layout p.tokens (without_layout p).tokens (λ t h. h)
+    (dropping_keeps_the_prefix p).prefix
 
 left-closed : (p : Part) → IsLeftOfTokens p.tokens (at_close p).tokens
 left-closed p = elim (is_macro p.kind) as (λ b. IsLeftOfTokens p.tokens
     (let q : Part = if b then record p { tokens = without_blank (without_last is_newline p.tokens) } else p in
     q).tokens) [
       | true ↦ left-then p.tokens (without_last is_newline p.tokens) (without_blank (without_last is_newline p.tokens))
-          (left-front is_newline p.tokens (without_last is_newline p.tokens) newline-layout
-          (without_last-front is_newline p.tokens)) (left-blank (without_last is_newline p.tokens))
+          (left-prefix is_newline p.tokens (without_last is_newline p.tokens) newline-layout
+          (without_last-prefix is_newline p.tokens)) (left-blank (without_last is_newline p.tokens))
       | false ↦ left-same p.tokens
     ]
 

@@ -2,14 +2,14 @@
 use Rattle.cweb_store.proofs.Common.{◌≡◌, ℕ, List, [], ◌∷◌, Some, map, length, ◌∙◌, ap, option_map, slice_get, slice_get-map, direct_bytes, Place, Record, StringsAreWithin, StringIsWithin, token_of_interned, interned_of_record}
 use Rattle.cweb_store.specs.inner.TokenReaders.{RecordStringsAreWithin, direct_bytes_of_record, direct_bytes_of_records}
 use Rattle.cweb_store.proofs.InternedTokenLemmas.{interned-at}
-use Rattle.cweb_store.proofs.RecordLemmas.{lends-alone, within-alone}
+use Rattle.cweb_store.proofs.RecordLemmas.{borrows-alone, within-alone}
 
 -- Records have the bytes of their tokens.
 pub direct-by : (strings : List (List ℕ)) (places : List Place) (rs : List Record)
     → direct_bytes_of_records strings rs
     ≡ map direct_bytes (map (token_of_interned strings) (map (interned_of_record places) rs))
 direct-by strings places [] i = []
-direct-by strings places (r ∷ rs) i = lends-alone strings places r i ∷ direct-by strings places rs i
+direct-by strings places (r ∷ rs) i = borrows-alone strings places r i ∷ direct-by strings places rs i
 
 pub interned-alone : (strings : List (List ℕ)) (places : List Place) (rs : List Record)
     → StringsAreWithin strings (map (interned_of_record places) rs) → RecordStringsAreWithin strings rs
@@ -25,8 +25,8 @@ record-within strings rs n r all there = (interned-at strings (map (interned_of_
     (interned_of_record [] r) all (slice_get-map (interned_of_record []) rs n
     ∙ ap (option_map (interned_of_record [])) there)).0
 
-pub record-lends : (strings : List (List ℕ)) (rs : List Record) (n : ℕ) (r : Record)
+pub record-borrows : (strings : List (List ℕ)) (rs : List Record) (n : ℕ) (r : Record)
     → slice_get rs n ≡ Some r
     → slice_get (direct_bytes_of_records strings rs) n ≡ Some (direct_bytes_of_record strings r)
-record-lends strings rs n r there = slice_get-map (direct_bytes_of_record strings) rs n
+record-borrows strings rs n r there = slice_get-map (direct_bytes_of_record strings) rs n
     ∙ ap (option_map (direct_bytes_of_record strings)) there

@@ -10,15 +10,15 @@ use Rattle.cweb_store.proofs.InternedTokenLemmas.{packs-tokens, packs-all, inter
 use Rattle.cweb_texts.proofs.WordLemmas.{total-append}
 use Rattle.cweb_store.proofs.WordLemmas.{words-push, same-words, same-bytes, same-more, same-more-bytes}
 
-stands-after : (x bytes string : List ℕ) → IsSpanOf bytes string → IsSpanOf (x ++ bytes) string
-stands-after x bytes string s = (x ++ s.0, s.1, ap (λ b. x ++ b) s.2 ∙ sym (append_assoc x s.0 (string ++ s.1)))
+stored-after : (x bytes string : List ℕ) → IsSpanOf bytes string → IsSpanOf (x ++ bytes) string
+stored-after x bytes string s = (x ++ s.0, s.1, ap (λ b. x ++ b) s.2 ∙ sym (append_assoc x s.0 (string ++ s.1)))
 
 pub all-after : (x bytes : List ℕ) (ts : List (List ℕ)) → AreSpansOf bytes ts → AreSpansOf (x ++ bytes) ts
 all-after x bytes [] h = tt
-all-after x bytes (t ∷ ts) h = (stands-after x bytes t h.0, all-after x bytes ts h.1)
+all-after x bytes (t ∷ ts) h = (stored-after x bytes t h.0, all-after x bytes ts h.1)
 
-stands-before : (bytes x string : List ℕ) → IsSpanOf bytes string → IsSpanOf (bytes ++ x) string
-stands-before bytes x string s = (
+stored-before : (bytes x string : List ℕ) → IsSpanOf bytes string → IsSpanOf (bytes ++ x) string
+stored-before bytes x string s = (
   s.0,
   s.1 ++ x,
   ap (λ b. b ++ x) s.2 ∙ append_assoc s.0 (string ++ s.1) x
@@ -27,16 +27,16 @@ stands-before bytes x string s = (
 
 pub all-before : (bytes x : List ℕ) (ts : List (List ℕ)) → AreSpansOf bytes ts → AreSpansOf (bytes ++ x) ts
 all-before bytes x [] h = tt
-all-before bytes x (t ∷ ts) h = (stands-before bytes x t h.0, all-before bytes x ts h.1)
+all-before bytes x (t ∷ ts) h = (stored-before bytes x t h.0, all-before bytes x ts h.1)
 
-string-stands : (ts : List (List ℕ)) (n : ℕ) → n < length ts → IsSpanOf (text_bytes ts) (string_at ts n)
-string-stands [] n h = absurd (let none : ⊥ = omega arith in none)
-string-stands (t ∷ ts) zero h = ([], text_bytes ts, refl)
-string-stands (t ∷ ts) (suc n) h = stands-after t (text_bytes ts) (string_at ts n) (string-stands ts n (omega arith))
+string-stored : (ts : List (List ℕ)) (n : ℕ) → n < length ts → IsSpanOf (text_bytes ts) (string_at ts n)
+string-stored [] n h = absurd (let none : ⊥ = omega arith in none)
+string-stored (t ∷ ts) zero h = ([], text_bytes ts, refl)
+string-stored (t ∷ ts) (suc n) h = stored-after t (text_bytes ts) (string_at ts n) (string-stored ts n (omega arith))
 
-pub strings-stand : (ts : List (List ℕ)) → AreSpansOf (text_bytes ts) ts
-strings-stand [] = tt
-strings-stand (t ∷ ts) = (([], text_bytes ts, refl), all-after t (text_bytes ts) ts (strings-stand ts))
+pub strings-valid : (ts : List (List ℕ)) → AreSpansOf (text_bytes ts) ts
+strings-valid [] = tt
+strings-valid (t ∷ ts) = (([], text_bytes ts, refl), all-after t (text_bytes ts) ts (strings-valid ts))
 
 pub all-drop : (bytes : List ℕ) (k : ℕ) (ts : List (List ℕ)) → AreSpansOf bytes ts → AreSpansOf bytes (drop k ts)
 all-drop bytes zero [] h = tt
@@ -49,20 +49,20 @@ pub all-both : (bytes : List ℕ) (ts us : List (List ℕ)) → AreSpansOf bytes
 all-both bytes [] us h g = g
 all-both bytes (t ∷ ts) us h g = (h.0, all-both bytes ts us h.1 g)
 
-token-stands : (ts : List (List ℕ)) (p : InternedToken) → StringIsWithin (length ts) p
+token-stored : (ts : List (List ℕ)) (p : InternedToken) → StringIsWithin (length ts) p
     → AreSpansOf (text_bytes ts) (token_strings (token_of_interned ts p))
-token-stands ts (Word n) h = (string-stands ts n h, tt)
-token-stands ts (Number n) h = (string-stands ts n h, tt)
-token-stands ts (Literal n) h = (string-stands ts n h, tt)
-token-stands ts (Verbatim n) h = (string-stands ts n h, tt)
-token-stands ts (Punct n) h = (string-stands ts n h, tt)
-token-stands ts _ h = tt
+token-stored ts (Word n) h = (string-stored ts n h, tt)
+token-stored ts (Number n) h = (string-stored ts n h, tt)
+token-stored ts (Literal n) h = (string-stored ts n h, tt)
+token-stored ts (Verbatim n) h = (string-stored ts n h, tt)
+token-stored ts (Punct n) h = (string-stored ts n h, tt)
+token-stored ts _ h = tt
 
-pub tokens-stand : (ts : List (List ℕ)) (ps : List InternedToken) → StringsAreWithin ts ps
+pub tokens-valid : (ts : List (List ℕ)) (ps : List InternedToken) → StringsAreWithin ts ps
     → AreSpansOf (text_bytes ts) (flat_map token_strings (map (token_of_interned ts) ps))
-tokens-stand ts [] h = tt
-tokens-stand ts (p ∷ ps) h = all-both (text_bytes ts) (token_strings (token_of_interned ts p))
-    (flat_map token_strings (map (token_of_interned ts) ps)) (token-stands ts p h.0) (tokens-stand ts ps h.1)
+tokens-valid ts [] h = tt
+tokens-valid ts (p ∷ ps) h = all-both (text_bytes ts) (token_strings (token_of_interned ts p))
+    (flat_map token_strings (map (token_of_interned ts) ps)) (token-stored ts p h.0) (tokens-valid ts ps h.1)
 
 pub bytes-total : (ts : List (List ℕ)) → length (text_bytes ts) ≡ total length ts
 bytes-total [] = refl

@@ -8,7 +8,7 @@ ghost use Rattle.cweb_names.specs.Names.{is_id, is_prefix_of_another};
 ghost use Rattle.cweb_names.specs.Names as spec;
 ghost use Rattle.cweb_store.specs.inner.Faults.{fault_of_name_if};
 ghost use Rattle.cweb_store.specs.Faults.{faults_where, unresolved_faults};
-ghost use Rattle.cweb_store.specs.Faults as told;
+ghost use Rattle.cweb_store.specs.Faults as fault_specs;
 ghost use Rattle.cweb_names.specs.declared.name.NameId.{NameId};
 ghost use Rattle.cweb_store.specs.inner.Links.{has_head};
 ghost use Rattle.cweb_store.specs.inner.NameUses.{AreWithin, flag_of};
@@ -30,11 +30,12 @@ pub fn name_faults(
     heads: &Heads,
 ) -> Result<Vec<NameFault>, AllocError>
     requires settled { resolutions.now ≡ spec.resolutions table.now }
-    requires given { files.now.keys ≡ spec.files table.now }
+    requires forms { files.now.keys ≡ spec.files table.now }
     requires few { length resolutions.now < 2 ^ 32 }
     requires known { AreWithin resolutions.now (length (spec.names table.now)) }
-    requires some { (n : NameId) → has_head heads.now n ≡ told.has_part resolutions.now parts.now n }
-    ensures { IfOk result (λ all. all.items ≡ told.faults table.now parts.now) }
+    requires some { (n : NameId) → has_head heads.now n
+        ≡ fault_specs.has_part resolutions.now parts.now n }
+    ensures { IfOk result (λ all. all.items ≡ fault_specs.faults table.now parts.now) }
 {
     let mut faults = Vec::new(alloc);
     add_unresolved_faults(&mut faults, resolutions)?;

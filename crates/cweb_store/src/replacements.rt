@@ -20,7 +20,7 @@ pub struct Replaced {
 #[derive(Drop)]
 pub struct Replacements {
     alloc: Global,
-    given: Vec<Replaced>,
+    entries: Vec<Replaced>,
 }
 
 impl Model for Replacements {
@@ -30,7 +30,7 @@ impl Model for Replacements {
 
     ghost Value = { List Replacement };
 
-    ghost view = { λ s. map replacement_in s.given.items };
+    ghost view = { λ s. map replacement_in s.entries.items };
 }
 
 impl Replacements {
@@ -40,7 +40,7 @@ impl Replacements {
     {
         Replacements {
             alloc,
-            given: Vec::new(alloc),
+            entries: Vec::new(alloc),
         }
     }
 
@@ -50,7 +50,7 @@ impl Replacements {
         ensures err { OnErr result (self.new ≡ self.old) }
     {
         let text = Vec::from_slice(self.alloc, text)?;
-        self.given.push(Replaced { byte, text })?;
+        self.entries.push(Replaced { byte, text })?;
         Ok(())
     }
 
@@ -60,8 +60,8 @@ impl Replacements {
         ensures strings { OnOk result
             (strings.new ≡ strings.old ++ map replacement_bytes self) }
     {
-        let mut bytes = Vec::with_capacity(self.alloc, self.given.len())?;
-        for replaced in &self.given {
+        let mut bytes = Vec::with_capacity(self.alloc, self.entries.len())?;
+        for replaced in &self.entries {
             strings.add(replaced.text.as_slice())?;
             bytes.push(replaced.byte)?;
         }

@@ -36,7 +36,7 @@ pub struct Store {
     links: Links,
     // the strings of the occurrences, then those of the replacements
     strings: StringList,
-    given: Vec<OccurrenceForm>,
+    forms: Vec<OccurrenceForm>,
     replaced: Vec<u8>,
     last_places: Vec<Option<usize>>,
     firsts: Vec<u32>,
@@ -54,7 +54,7 @@ impl Drop for Store {
             ranges: _,
             links: _,
             strings: _,
-            given: _,
+            forms: _,
             replaced: _,
             last_places: _,
             firsts: _,
@@ -74,10 +74,10 @@ impl Model for Store {
     ghost use Rattle.cweb_store.specs.inner.Stored.{stored_in, AreStored};
 
     ghost view = { λ s.
-        stored_in s.tokens s.ranges.items s.strings s.given.items s.replaced.items };
+        stored_in s.tokens s.ranges.items s.strings s.forms.items s.replaced.items };
 
     ghost invariant = { λ s.
-        AreStored s.tokens s.ranges.items s.links s.strings s.given.items s.replaced.items
+        AreStored s.tokens s.ranges.items s.links s.strings s.forms.items s.replaced.items
         s.last_places.items s.firsts.items s.resolutions.items s.files.keys s.faults.items s.has_defs_code };
 }
 
@@ -94,7 +94,7 @@ impl Store {
     {
         let answers = Answers::of(alloc, &table, &parts)?;
         let (tokens, ranges) = parts.take_apart();
-        let (mut strings, given) = table.close();
+        let (mut strings, forms) = table.close();
         let replaced = replacements.close(&mut strings)?;
         let Answers {
             resolutions,
@@ -110,7 +110,7 @@ impl Store {
             ranges,
             links,
             strings,
-            given,
+            forms,
             replaced,
             last_places,
             firsts,
@@ -202,7 +202,7 @@ impl Store {
         let Some(number) = self.last_places[byte as usize] else {
             return None;
         };
-        Some(self.strings.string_after(self.given.len(), number))
+        Some(self.strings.string_after(self.forms.len(), number))
     }
 
     /// The faults of names, in the order of their reports.

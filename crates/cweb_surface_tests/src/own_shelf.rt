@@ -33,8 +33,8 @@ impl Shelf for OneShelf {
 
     ghost tells = { λ _. true };
 
-    ghost texts = { λ shelf asked.
-        if bytes_eq (string_bytes shelf.name) asked then Some shelf.text.items else None };
+    ghost texts = { λ shelf other.
+        if bytes_eq (string_bytes shelf.name) other then Some shelf.text.items else None };
 
     ghost left = { λ shelf reader. drop reader.at shelf.text.items };
 

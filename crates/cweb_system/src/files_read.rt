@@ -32,9 +32,9 @@ impl FilesRead {
     /// Records a file that is read.
     pub(crate) fn note(&self, file: FileKey) -> Result<(), AllocError> {
         let mut keys = self.take();
-        let noted = keys.insert(file);
+        let recorded = keys.insert(file);
         self.put_back(keys);
-        noted?;
+        recorded?;
         Ok(())
     }
 }

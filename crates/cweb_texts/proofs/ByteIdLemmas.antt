@@ -12,7 +12,7 @@ pub byte_ids-add_string : (old new : StringTableModel) (byte_ids string : List �
 byte_ids-add_string old new byte_ids string number keeps are = λ byte n h.
     let sign = are byte n h in
     record {
-      stands = ap (λ ts. slice_get ts n) keeps.grows ∙ get-grow old.strings keeps.more n (byte ∷ []) sign.stands;
+      stored = ap (λ ts. slice_get ts n) keeps.grows ∙ get-grow old.strings keeps.more n (byte ∷ []) sign.stored;
       among = keeps.words (byte ∷ []) ∙ sign.among;
     }
 
@@ -26,7 +26,7 @@ pub byte_ids-add_string-word : (old new : StringTableModel) (byte_ids word : Lis
 byte_ids-add_string-word old new byte_ids word number keeps are = λ byte n h.
     let sign = are byte n h in
     record {
-      stands = ap (λ ts. slice_get ts n) keeps.grows ∙ get-grow old.strings keeps.more n (byte ∷ []) sign.stands;
+      stored = ap (λ ts. slice_get ts n) keeps.grows ∙ get-grow old.strings keeps.more n (byte ∷ []) sign.stored;
       among =
           has-more old new word (byte ∷ []) number keeps ∙ ap (λ b. b || bytes_eq (byte ∷ []) word) sign.among;
     }

@@ -1,6 +1,6 @@
 -- Edges of strings, and what is stored of them.
 use Rattle.cweb_texts.proofs.Common.{◌≡◌, ◌==◌, ◌-◌, ℕ, zero, suc, Bool, true, false, cond, List, [], ◌∷◌, ◌++◌, Some, ◌∙◌, refl, ap, sym, arith, length, take, slice_get, slice_index_or, list_any, Edge, AreStoredEdges, IsStoredEdge, first_is, is_high, is_numeric, is_operator, is_known_edge, last_is, punctuator_edge, punctuator_edge_by}
-use Rattle.cweb_texts.specs.declared.edges.Edge.TheVariants as border
+use Rattle.cweb_texts.specs.declared.edges.Edge.TheVariants as edge_kind
 
 last_of_list : (p : ℕ → Bool) (b : ℕ) (bs : List ℕ) (x : ℕ)
     → slice_get (b ∷ bs) (length bs) ≡ Some x → last_is p (b ∷ bs) ≡ p x
@@ -21,40 +21,40 @@ edge-last bs x h = ap (λ b. punctuator_edge_by (first_is is_numeric bs) (first_
     ∙ ap (λ b. punctuator_edge_by (first_is is_numeric bs) (first_is is_operator bs) (last_is (λ x. x == 46) bs) b)
     (sym (last_is-at is_operator bs x h))
 
-pub told-push : (ts : List (List ℕ)) (bs : List Edge) (t : List ℕ) (b : Edge) → AreStoredEdges ts bs → IsStoredEdge t b
+pub known-push : (ts : List (List ℕ)) (bs : List Edge) (t : List ℕ) (b : Edge) → AreStoredEdges ts bs → IsStoredEdge t b
     → AreStoredEdges (ts ++ t ∷ []) (bs ++ b ∷ [])
-told-push [] [] t b h told = (told, tt)
-told-push (u ∷ ts) (c ∷ bs) t b h told = (h.0, told-push ts bs t b h.1 told)
-told-push [] (c ∷ bs) t b h told = absurd h
-told-push (u ∷ ts) [] t b h told = absurd h
+known-push [] [] t b h is_known = (is_known, tt)
+known-push (u ∷ ts) (c ∷ bs) t b h is_known = (h.0, known-push ts bs t b h.1 is_known)
+known-push [] (c ∷ bs) t b h is_known = absurd h
+known-push (u ∷ ts) [] t b h is_known = absurd h
 
-pub told-take : (n : ℕ) (ts : List (List ℕ)) (bs : List Edge) → AreStoredEdges ts bs
+pub known-take : (n : ℕ) (ts : List (List ℕ)) (bs : List Edge) → AreStoredEdges ts bs
     → AreStoredEdges (take n ts) (take n bs)
-told-take zero ts bs h = tt
-told-take (suc n) [] [] h = tt
-told-take (suc n) (u ∷ ts) (c ∷ bs) h = (h.0, told-take n ts bs h.1)
-told-take (suc n) [] (c ∷ bs) h = absurd h
-told-take (suc n) (u ∷ ts) [] h = absurd h
+known-take zero ts bs h = tt
+known-take (suc n) [] [] h = tt
+known-take (suc n) (u ∷ ts) (c ∷ bs) h = (h.0, known-take n ts bs h.1)
+known-take (suc n) [] (c ∷ bs) h = absurd h
+known-take (suc n) (u ∷ ts) [] h = absurd h
 
-pub told-count : (ts : List (List ℕ)) (bs : List Edge) → AreStoredEdges ts bs → length bs ≡ length ts
-told-count [] [] h = refl
-told-count (u ∷ ts) (c ∷ bs) h = ap suc (told-count ts bs h.1)
-told-count [] (c ∷ bs) h = absurd h
-told-count (u ∷ ts) [] h = absurd h
+pub known-count : (ts : List (List ℕ)) (bs : List Edge) → AreStoredEdges ts bs → length bs ≡ length ts
+known-count [] [] h = refl
+known-count (u ∷ ts) (c ∷ bs) h = ap suc (known-count ts bs h.1)
+known-count [] (c ∷ bs) h = absurd h
+known-count (u ∷ ts) [] h = absurd h
 
-pub told-at : (ts : List (List ℕ)) (bs : List Edge) (k : ℕ) (t : List ℕ) (d : Edge) → AreStoredEdges ts bs
+pub known-at : (ts : List (List ℕ)) (bs : List Edge) (k : ℕ) (t : List ℕ) (d : Edge) → AreStoredEdges ts bs
     → slice_get ts k ≡ Some t → IsStoredEdge t (slice_index_or bs k d)
-told-at [] bs k t d h there = cc
-told-at (u ∷ ts) (c ∷ bs) zero t d h there = grind arith
-told-at (u ∷ ts) (c ∷ bs) (suc k) t d h there = told-at ts bs k t d h.1 there
-told-at (u ∷ ts) [] k t d h there = absurd h
+known-at [] bs k t d h there = cc
+known-at (u ∷ ts) (c ∷ bs) zero t d h there = grind arith
+known-at (u ∷ ts) (c ∷ bs) (suc k) t d h there = known-at ts bs k t d h.1 there
+known-at (u ∷ ts) [] k t d h there = absurd h
 
 -- A string with a known edge is ASCII.
-pub told-ascii : (t : List ℕ) (b : Edge) (high : Bool) → list_any is_high t ≡ high → IsStoredEdge t b
+pub known-ascii : (t : List ℕ) (b : Edge) (high : Bool) → list_any is_high t ≡ high → IsStoredEdge t b
     → is_known_edge b ≡ true
     → list_any is_high t ≡ false
-told-ascii t b false is told some = is
-told-ascii t b true is told some =
-    let none : b ≡ border.Unknown = told some ∙ ap (λ a. cond a border.Unknown (punctuator_edge t)) is in
+known-ascii t b false is is_known some = is
+known-ascii t b true is is_known some =
+    let none : b ≡ edge_kind.Unknown = is_known some ∙ ap (λ a. cond a edge_kind.Unknown (punctuator_edge t)) is in
     let no : is_known_edge b ≡ false = ap is_known_edge none in
     cc

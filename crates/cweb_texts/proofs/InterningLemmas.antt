@@ -10,7 +10,7 @@ use Rattle.cweb_texts.proofs.MapLemmas.{mapped-grow, find-word, no-word, insert-
 -- a word that is interned already
 pub known : (old : StringTableModel) (word : List ℕ) (number : ℕ) → has_word old word ≡ true
     → slice_get old.strings number ≡ Some word → InternsWord old word number old
-known old word number h stands = grind (arith, append-nil old.strings)
+known old word number h stored = grind (arith, append-nil old.strings)
 
 pub found-known : (strings : List (List ℕ)) (ws : List Word) (es : Entries) (word : List ℕ) (number : ℕ)
     → FindsString strings ws word number

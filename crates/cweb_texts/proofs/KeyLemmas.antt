@@ -53,7 +53,7 @@ four-same a b long_a long_b all_a all_b same =
 -- the first n bytes and the last n of at most 2 n
 ends-same : (q w : List ℕ) (n : ℕ) → length q ≡ length w → n ≤ length q → length q ≤ n + n
     → take n q ≡ take n w → drop (length q - n) q ≡ drop (length w - n) w → q ≡ w
-ends-same q w n len long few front back =
+ends-same q w n len long few prefix back =
     let k = length q - n in
     let k_is : k ≡ length w - n = omega (arith, len) in
     let whole : k + (n - k) ≡ n = omega (arith, long, few) in
@@ -61,7 +61,7 @@ ends-same q w n len long few front back =
     ap (λ m. drop m q) (sym whole) ∙ sym (drop-drop (n - k) k q)
     ∙ ap (drop (n - k)) (back ∙ ap (λ m. drop m w) (sym k_is))
     ∙ drop-drop (n - k) k w ∙ ap (λ m. drop m w) whole in
-    sym (take-append-drop n q) ∙ (λ i. front i ++ rest i) ∙ take-append-drop n w
+    sym (take-append-drop n q) ∙ (λ i. prefix i ++ rest i) ∙ take-append-drop n w
 
 short-same : (q w : List ℕ) → length q ≡ length w → length q < 4 → AreBytes q → AreBytes w
     → short_key q ≡ short_key w → q ≡ w

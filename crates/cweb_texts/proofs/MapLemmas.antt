@@ -12,7 +12,7 @@ same-bytes q k h = (bytes_decides q k).0 (sym (is_eq-slice_cmp q k) ∙ h)
 
 -- a word that is found in the map is the string with its number
 pub record FoundWord (strings : List (List ℕ)) (q : List ℕ) (es : Entries) (number : ℕ) : Type 0 where
-  pub stands : slice_get strings number ≡ Some q
+  pub stored : slice_get strings number ≡ Some q
   pub among : list_any (bytes_eq q) (map entry_word es) ≡ true
 
 pub find-word : (strings : List (List ℕ)) (q : List ℕ) (es : Entries) (number : ℕ)
@@ -27,14 +27,14 @@ find-word strings q (e ∷ es) number h m =
           let place : e.1 ≡ number = cc in
           let same : e.0.items ≡ q = sym (same-bytes q e.0.items is) in
           record {
-            stands = ap (slice_get strings) (sym place) ∙ m.0 ∙ ap Some same;
+            stored = ap (slice_get strings) (sym place) ∙ m.0 ∙ ap Some same;
             among =
                 ap (λ b. b || list_any (bytes_eq q) (map entry_word es)) (sym (is_eq-slice_cmp q e.0.items) ∙ is);
           }
       | false ↦ λ is g.
           let r = find-word strings q es number g m.1 in
           record {
-            stands = r.stands;
+            stored = r.stored;
             among = ap (λ b. b || list_any (bytes_eq q) (map entry_word es)) (sym (is_eq-slice_cmp q e.0.items) ∙ is)
                 ∙ r.among;
           }
@@ -57,9 +57,9 @@ entry-any q (e ∷ es) key number = grind (arith, equal-key key e, entry-any q e
 entry-mapped : (strings : List (List ℕ)) (es : Entries) (key : Vec ℕ Global) (number : ℕ)
     → slice_get strings number ≡ Some key.items → AreMapped strings es
     → AreMapped strings (insert_entry compare_vecs es key number)
-entry-mapped strings [] key number stands m = (stands, tt)
-entry-mapped strings (e ∷ es) key number stands m =
-    grind (arith, equal-key key e, entry-mapped strings es key number stands m.1)
+entry-mapped strings [] key number stored m = (stored, tt)
+entry-mapped strings (e ∷ es) key number stored m =
+    grind (arith, equal-key key e, entry-mapped strings es key number stored m.1)
 
 -- a word that was inserted into the map
 pub insert-any : (q word : List ℕ) (es new : Entries) (number : ℕ) → IsInserted es word number new
@@ -69,5 +69,5 @@ insert-any q word es new number put = cc (entry-any q es put.key number)
 pub insert-mapped : (strings : List (List ℕ)) (word : List ℕ) (es new : Entries) (number : ℕ)
     → slice_get strings number ≡ Some word → AreMapped strings es → IsInserted es word number new
     → AreMapped strings new
-insert-mapped strings word es new number stands m put =
-    subst (AreMapped strings) (sym put.now) (entry-mapped strings es put.key number (stands ∙ ap Some (sym put.is)) m)
+insert-mapped strings word es new number stored m put =
+    subst (AreMapped strings) (sym put.now) (entry-mapped strings es put.key number (stored ∙ ap Some (sym put.is)) m)

@@ -168,7 +168,7 @@ fn set_byte_id(byte_ids: &mut Vec<u32>, byte: u8, number: u32)
     ensures byte_ids { (kept : StringTableModel) → AreByteIds kept byte_ids.old.items
         → IsByteId kept byte number
         → AreByteIds kept byte_ids.new.items }
-    ensures noted { byte < length byte_ids.old.items → number < 4294967295
+    ensures recorded { byte < length byte_ids.old.items → number < 4294967295
         → slice_get byte_ids.new.items byte ≡ Some (number + 1) }
 {
     let place = byte as usize;

@@ -1,5 +1,5 @@
 -- A run that changed the files has read everything.
-use Rattle.cweb_tools.proofs.Common.{◌≡◌, ◌≢◌, inl, inr, ℕ, ◌+◌, Bool, false, List, [], ◌∷◌, ◌++◌, ◌∙◌, ap, Some, add-zero, Stop, ReadFault, LogItem, banner, fault_count, Shown, DeviceState, Act, says, opens, reads, merges, writes, after_act, ending, Breaks, PerformsActs, TangleEnds, completes, stops, when, TangleCourse, unread, not_there, change_not_there, tangling, script, web_acts, planned_acts, closing_acts, Planning, refused, planned, Web, ActsKeepLimits, ReadAll}
+use Rattle.cweb_tools.proofs.Common.{◌≡◌, ◌≢◌, inl, inr, ℕ, ◌+◌, Bool, false, List, [], ◌∷◌, ◌++◌, ◌∙◌, ap, Some, add-zero, Stop, ReadFault, LogItem, banner, fault_count, Shown, DeviceState, Act, says, opens, reads, merges, writes, after_act, ending, Breaks, PerformsActs, RunEnds, completes, stops, when, TangleCourse, unread, not_there, change_not_there, tangling, script, web_acts, planned_acts, closing_acts, Planning, refused, planned, Web, ActsKeepLimits, ReadAll}
 use Rattle.cweb_tools.proofs.Leaving.{broken, stop_logged}
 use Rattle.cweb_tools.proofs.WebActs.{when_on, said_on, starred_on, outputs_on, closing_on}
 use Rattle.cweb_tools.proofs.Endings.{counts_all, limits_all}
@@ -94,8 +94,8 @@ all_read (act ∷ acts) stop about {old} {new} first (inl run) changed =
 all_read (act ∷ acts) stop about {old} {new} first (inr here) changed =
     absurd (changed (broken act stop about old new here).files)
 
-pub ends_read : (shown : Shown) (course : TangleCourse) {due : ℕ} {old new : DeviceState} {status : ℕ}
-    → TangleEnds (script shown course) due old new status
+pub ends_read : (shown : Shown) (course : TangleCourse) {expected : ℕ} {old new : DeviceState} {status : ℕ}
+    → RunEnds (script shown course) expected old new status
     → new.files ≢ old.files → ReadAll (script shown course) old new
 ends_read shown course {old} {new} (completes run answered) changed =
     record {

@@ -103,13 +103,13 @@ pub use Rattle.cweb_store.specs.declared.parts.PartKind.{PartKind}
 pub use Rattle.cweb_store.specs.surface.Parts.{numbers_from, numbers_where}
 pub use Rattle.cweb_texts.specs.Edges.{is_operator, last_is}
 pub use Rattle.cweb_tools.specs.Acts.{DeviceState, Act, judges, says, opens, reads, plans, reserves, writes, after_act}
-pub use Rattle.cweb_tools.specs.Acts.{PerformsActs, Breaks, Ending, ending, TangleEnds, completes, stops, LogsLine}
+pub use Rattle.cweb_tools.specs.Acts.{PerformsActs, Breaks, Ending, ending, RunEnds, completes, stops, LogsLine}
 pub use Rattle.cweb_tools.specs.Acts.{LogsStop, IsOfFile, read_fails, AgreesWith, prints, merges, FailsReading}
 pub use Rattle.cweb_tools.specs.Acts.{logged_items, acts_status, EndsIn, FollowsActs}
 pub use Rattle.cweb_tools.specs.Course.{Course, merging, IsMergeCourse, change_name, world_of}
 pub use Rattle.cweb_tools.specs.Headline.{written_files, put_files, printed_bytes, ActsKeepLimits, RanFreely, DoesActs}
 pub use Rattle.cweb_tools.specs.Headline.{DoesActsFreely}
-pub use Rattle.cweb_tools.specs.MergeActs.{merge_acts, MergeCanCome, merge_devices, MergePromises, usage}
+pub use Rattle.cweb_tools.specs.MergeActs.{merge_acts, MergeCanCome, merge_devices, usage}
 pub use Rattle.cweb_tools.specs.Script.{Numbers, closing_acts, unread, not_there}
 pub use Rattle.cweb_tools.specs.Script.{change_not_there, Planning, refused, Web, planned_acts, script, starred_acts}
 pub use Rattle.cweb_tools.specs.Script.{tangling, when, output_acts, outputs_acts, TangleCourse, tangle_usage}
@@ -132,7 +132,7 @@ pub use Rattle.cweb_tools.specs.inner.Tangle.{tangle_course, LaterActs, opening_
 pub use Rattle.cweb_tools.specs.inner.Tangle.{web_status, status_by}
 pub use Rattle.cweb_tools.specs.inner.Web.{refusal_in, files_of, faults_of}
 pub use Rattle.cweb_tools.specs.laws.Leaves.{LeavesFiles, bins_blame, tangle_files, tangle_status}
-pub use Rattle.cweb_tools.specs.laws.RunEffects.{LeavesDevices, LeavesMerge, LeavesStates, MergeFailsOnce}
+pub use Rattle.cweb_tools.specs.laws.RunEffects.{LeavesDevices, LeavesStates}
 pub use Rattle.cweb_tools.specs.laws.RunEffects.{PrintsActs, DoesAll, IsEnded}
 pub use Rattle.cweb_tools.specs.laws.RunEffects.{IsStopped, LogEnds, ReadAll, RisesOnce, TangleFailsOnce}
 pub use Rattle.cweb_tools.specs.laws.RunEffects.{TangleReportsFaults, cut, said}

@@ -1,5 +1,5 @@
 -- The way that a run goes exists, and there is no other.
-use Rattle.cweb_tools.proofs.Common.{◌≡◌, ◌∙◌, Option, Some, None, refl, sym, ap, World, Found, WebNames, OptionsModel, Course, merging, IsMergeCourse, found_course, merge_course, merge-run_steps, contents_found, TangleCourse, IsTangleCourse, tangle_course, tangled, web_at, change_at, started}
+use Rattle.cweb_tools.proofs.Common.{◌≡◌, ◌∙◌, Option, Some, None, Result, Err, Stop, refl, sym, ap, World, Found, WebNames, OptionsModel, Course, merging, IsMergeCourse, found_course, merge_course, merge-run_steps, contents_found, TangleCourse, IsTangleCourse, tangle_course, tangled, web_at, change_at, started}
 use Rattle.cweb_lines.specs.inner.Total.{merge_yields}
 use Rattle.cweb_tools.specs.Course.{IsFoundCourse, unread, not_there, change_not_there}
 
@@ -19,25 +19,29 @@ found_only world names (Some web) (Some change) unread is = absurd is
 found_only world names (Some web) (Some change) (not_there name) is = absurd is
 found_only world names (Some web) (Some change) (change_not_there name) is = absurd is
 
-pub merge_comes : (world : World) (asked : Option WebNames) → IsMergeCourse world asked (merge_course world asked)
+pub merge_comes : (world : World) (args : Option WebNames) → IsMergeCourse world args (merge_course world args)
 merge_comes world None = refl
 merge_comes world (Some names) =
     found_comes world names (web_at world.texts names.web names.second) (change_at world.texts names.change)
 
-pub merge_only : (world : World) (asked : Option WebNames) (course : Course) → IsMergeCourse world asked course
-    → course ≡ merge_course world asked
+pub merge_only : (world : World) (args : Option WebNames) (course : Course) → IsMergeCourse world args course
+    → course ≡ merge_course world args
 merge_only world None course is = is
 merge_only world (Some names) course is =
     found_only world names (web_at world.texts names.web names.second) (change_at world.texts names.change) course is
 
-pub tangle_comes : (world : World) (asked : Option OptionsModel)
-    → IsTangleCourse world asked (tangle_course world asked)
+pub tangle_comes : (world : World) (args : Option OptionsModel)
+    → IsTangleCourse world args (tangle_course world args)
 tangle_comes world None = refl
-tangle_comes world (Some asked) =
-    (merge_course world (Some asked.names.merge), merge_comes world (Some asked.names.merge), refl)
+tangle_comes world (Some args) =
+    (merge_course world (Some args.names.merge), merge_comes world (Some args.names.merge), refl)
 
-pub tangle_only : (world : World) (asked : Option OptionsModel) (course : TangleCourse)
-    → IsTangleCourse world asked course → course ≡ tangle_course world asked
+pub tangle_only : (world : World) (args : Option OptionsModel) (course : TangleCourse)
+    → IsTangleCourse world args course → course ≡ tangle_course world args
 tangle_only world None course is = is
-tangle_only world (Some asked) course is =
-    is.2 ∙ ap (tangled asked.names.main) (merge_only world (Some asked.names.merge) is.0 is.1)
+tangle_only world (Some args) course is =
+    is.2 ∙ ap (tangled args.names.main) (merge_only world (Some args.names.merge) is.0 is.1)
+
+-- A call fails with one stop.
+pub same_stop : {A : Type 0} (r : Result A Stop) (one other : Stop) → r ≡ Err one → r ≡ Err other → one ≡ other
+same_stop r one other is too = cc

@@ -13,7 +13,7 @@ quietly no_read no_bins no_log runs = record {
   shelf = omega (arith, no_read);
   bins = omega (arith, no_bins);
   log = omega (arith, no_log);
-  runs = λ now log_ending. record { left = now; told = log_ending; runs = runs now };
+  runs = λ now log_ending. record { left = now; observed = log_ending; runs = runs now };
 }
 
 pub does_none : {seen : Devices} → Does [] None seen seen
@@ -31,10 +31,10 @@ does_on {xs} {ys} {why} {before} first then = record {
   log = then.log ∙ ap (λ (n : ℕ). n + rise log_blame why) (first.log ∙ add-zero before.log.failed);
   runs = λ now log_ending.
       let one = first.runs now log_ending in
-      let other = then.runs one.left one.told in
+      let other = then.runs one.left one.observed in
       record {
         left = other.left;
-        told = other.told;
+        observed = other.observed;
         runs = runs_on xs ys why now one.left other.left one.runs other.runs;
       };
 }
@@ -54,7 +54,7 @@ does_as {before} shelf bins log runs does = record {
   log = does.log ∙ ap (λ (n : ℕ). before.log.failed + n) (sym log);
   runs = λ now log_ending.
       let lead = does.runs now log_ending in
-      record { left = lead.left; told = lead.told; runs = runs now lead.left lead.runs };
+      record { left = lead.left; observed = lead.observed; runs = runs now lead.left lead.runs };
 }
 
 -- Something stopped the first acts.
@@ -63,15 +63,16 @@ pub does_in : {xs : List Act} (ys : List Act) {why : Ending} {before after : Dev
 does_in {xs} ys {why} first = does_as refl refl refl (stops_in xs ys why) first
 
 -- The first acts were done, and the run ended in the others.
-pub closes_on : {xs ys : List Act} {due : ℕ} {before mid after : Devices} {status : ℕ}
-    → Does xs None before mid → Closes ys due mid after status → Closes (xs ++ ys) due before after status
+pub closes_on : {xs ys : List Act} {expected : ℕ} {before mid after : Devices} {status : ℕ}
+    → Does xs None before mid → Closes ys expected mid after status → Closes (xs ++ ys) expected before after status
 closes_on first (done does answered) = done (does_on first does) answered
 closes_on first (halted why then does logs answered) = halted why then (does_on first does) logs answered
 
 -- Something stopped the first acts, and it was logged.
-pub closes_in : {xs : List Act} (ys : List Act) {due : ℕ} {why : Ending} {before then after : Devices}
+pub closes_in : {xs : List Act} (ys : List Act) {expected : ℕ} {why : Ending} {before then after : Devices}
     {status : ℕ}
-    → Does xs (Some why) before then → ClosesLog why then after → status ≡ 1 → Closes (xs ++ ys) due before after status
+    → Does xs (Some why) before then → ClosesLog why then after → status ≡ 1 → Closes
+    (xs ++ ys) expected before after status
 closes_in ys {why} {then} does logs answered = halted why then (does_in ys does) logs answered
 
 abbrev no_shelf : ShelfModel
@@ -126,12 +127,13 @@ abbrev pub with_bins : DeviceState → ℕ → Beside → DeviceState
 with_bins now count beside =
     record now { bins_failed = count; files = beside.files; draft = beside.draft; refused = beside.refused }
 
-bins_told : {now : DeviceState} (count : ℕ) (shelf : ShelfModel) (a d : SinkModel) (log : SinkModel) (change : Beside
+bins_observed : {now : DeviceState} (count : ℕ) (shelf : ShelfModel) (a d : SinkModel) (log : SinkModel)
+    (change : Beside
     → Beside) → ((b : Beside) → (change b).draft ≡ None)
     → AgreesWith now (record { shelf = shelf; out = a; log = log })
     → d.tells ≡ a.tells → (IsTrue a.tells → d.beside ≡ change a.beside) → count ≡ d.failed
     → AgreesWith (with_bins now count (change (beside_of now))) (record { shelf = shelf; out = d; log = log })
-bins_told {now} count shelf a d log change closes log_ending tells beside counted =
+bins_observed {now} count shelf a d log change closes log_ending tells beside counted =
     let first : IsTrue d.tells → IsTrue a.tells = λ tell. sym tells ∙ tell in
     let same : IsTrue d.tells → change (beside_of now) ≡ d.beside = λ tell. ap change (λ i.
     record {
@@ -170,7 +172,7 @@ does_in_bins more change {a} {d} closes no_read no_log rises tells failed beside
   log = omega (arith, no_log);
   runs = λ now log_ending. record {
     left = with_bins now (more now.bins_failed) (change (beside_of now));
-    told = bins_told _ shelf a d log change closes log_ending tells beside
+    observed = bins_observed _ shelf a d log change closes log_ending tells beside
         (ap more log_ending.bins_failed ∙ sym failed);
     runs = runs now;
   };

@@ -24,19 +24,19 @@ not_written name text tells failed beside = does_in_bins (λ n. n + 1) (λ (b : 
     without_draft (with_draft name b)) (λ b. refl) refl refl (λ n. refl) tells failed beside (λ now. inr (refl, refl))
 
 -- The log failed, which ends the run.
-pub log_halts_all : {acts : List Act} {due status : ℕ} {before after : Devices}
-    → Does acts (Some (ending LogFault [])) before after → status ≡ 1 → Closes acts due before after status
+pub log_halts_all : {acts : List Act} {expected status : ℕ} {before after : Devices}
+    → Does acts (Some (ending LogFault [])) before after → status ≡ 1 → Closes acts expected before after status
 log_halts_all does one = halted (ending LogFault []) _ does (record { shelf = refl; bins = refl; log = refl }) one
 
-pub log_halts : {xs : List Act} (ys : List Act) {due status : ℕ} {before after : Devices}
-    → Does xs (Some (ending LogFault [])) before after → status ≡ 1 → Closes (xs ++ ys) due before after status
+pub log_halts : {xs : List Act} (ys : List Act) {expected status : ℕ} {before after : Devices}
+    → Does xs (Some (ending LogFault [])) before after → status ≡ 1 → Closes (xs ++ ys) expected before after status
 log_halts ys does one = closes_in ys does (record { shelf = refl; bins = refl; log = refl }) one
 
 -- A run that ends in a call that logs, whatever its result.
-pub closes_told : {A E : Type 0} (r : Result A E) {acts : List Act} {due status : ℕ} {old new : SinkModel}
-    → DoesInLog acts (log_ending r) old new → status ≡ due → status ≡ 1 → ClosesInLog acts due old new status
-closes_told (Ok x) does is one = λ shelf bins. done (does shelf bins) is
-closes_told (Err e) does is one = λ shelf bins. log_halts_all (does shelf bins) one
+pub closes_reported : {A E : Type 0} (r : Result A E) {acts : List Act} {expected status : ℕ} {old new : SinkModel}
+    → DoesInLog acts (log_ending r) old new → status ≡ expected → status ≡ 1 → ClosesInLog acts expected old new status
+closes_reported (Ok x) does is one = λ shelf bins. done (does shelf bins) is
+closes_reported (Err e) does is one = λ shelf bins. log_halts_all (does shelf bins) one
 
 -- Acts without observable effect.
 pub does_plan : {seen : Devices} → Does (plans ∷ []) None seen seen
@@ -46,10 +46,10 @@ pub does_reserve : {seen : Devices} → Does (reserves ∷ []) None seen seen
 does_reserve = quietly refl refl refl (λ now. inl (tt, refl))
 
 -- An allocation failed within an act, and it was logged.
-pub memory_halts : (act : Act) (acts : List Act) {due status : ℕ} {shelf : ShelfModel} {bins : SinkModel}
+pub memory_halts : (act : Act) (acts : List Act) {expected status : ℕ} {shelf : ShelfModel} {bins : SinkModel}
     {old new : SinkModel} → ((now : DeviceState) → Breaks act (ending Memory []) now now)
     → Logs (stop_line Memory []) old new
-    → status ≡ 1 → Closes (act ∷ acts) due (record { shelf = shelf; out = bins; log = old })
+    → status ≡ 1 → Closes (act ∷ acts) expected (record { shelf = shelf; out = bins; log = old })
     (record { shelf = shelf; out = bins; log = new }) status
 memory_halts act acts breaks logs one = halted (ending Memory []) _
     (quietly refl refl refl (λ now. inr (breaks now))) (record { shelf = refl; bins = refl; log = logs }) one

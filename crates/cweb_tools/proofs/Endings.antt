@@ -1,5 +1,5 @@
 -- The consequences of a run's promises for its endings.
-use Rattle.cweb_tools.proofs.Common.{◌≡◌, ◌≢◌, ◌++◌, flat_map, line, logged_items, LogsStop, stop_line, inl, inr, ℕ, List, [], ◌∷◌, refl, ap, arith, Some, None, Stop, Usage, WebNotOpened, ChangeNotOpened, ReadFault, LineTooLong, TooMuchText, Memory, OutNotOpened, WriteFault, LogFault, DeviceState, Act, judges, reads, merges, after_act, ending, Breaks, PerformsActs, TangleEnds, completes, stops, DoesAll, IsStopped, IsEnded, ActsKeepLimits}
+use Rattle.cweb_tools.proofs.Common.{◌≡◌, ◌≢◌, ◌++◌, flat_map, line, logged_items, LogsStop, stop_line, inl, inr, ℕ, List, [], ◌∷◌, refl, ap, arith, Some, None, Stop, Usage, WebNotOpened, ChangeNotOpened, ReadFault, LineTooLong, TooMuchText, Memory, OutNotOpened, WriteFault, LogFault, DeviceState, Act, judges, reads, merges, after_act, ending, Breaks, PerformsActs, RunEnds, completes, stops, DoesAll, IsStopped, IsEnded, ActsKeepLimits}
 use Rattle.cweb_tools.proofs.AllDone.{files_all, log_all}
 use Rattle.cweb_tools.proofs.Limits.{beyond}
 use Rattle.cweb_tools.proofs.Stopping.{is_stopped, runs_out}
@@ -21,13 +21,13 @@ limits_all [] old new is = tt
 limits_all (act ∷ acts) old new (inl run) = (run.0, limits_all acts (after_act act old) new run.1)
 limits_all (act ∷ acts) old new (inr stop) = absurd stop
 
-does_all : {acts : List Act} {due : ℕ} {old new : DeviceState} {status : ℕ}
-    → PerformsActs acts None old new → status ≡ due → DoesAll acts due old new status
+does_all : {acts : List Act} {expected : ℕ} {old new : DeviceState} {status : ℕ}
+    → PerformsActs acts None old new → status ≡ expected → DoesAll acts expected old new status
 does_all {acts} {old} {new} run answered =
     record { files = files_all acts old new run; log = log_all acts old new run; answered = answered }
 
-pub ends_so : {acts : List Act} {due : ℕ} {old new : DeviceState} {status : ℕ}
-    → TangleEnds acts due old new status → IsEnded acts due old new status
+pub ends_so : {acts : List Act} {expected : ℕ} {old new : DeviceState} {status : ℕ}
+    → RunEnds acts expected old new status → IsEnded acts expected old new status
 ends_so (completes run answered) = inl (does_all run answered)
 ends_so {acts} {old} {new} (stops (ending stop about) then run logs answered) =
     inr (stop, about, is_stopped acts then run logs, answered)
@@ -109,13 +109,14 @@ stop_is_free {acts} Memory about old mid run logs free =
 stop_is_free {acts} stop about old mid run logs free =
     not_free stop (λ is. cc) (cause_of acts stop about old mid run) (is_stopped acts mid run logs) free
 
-pub runs_freely : {acts : List Act} {due : ℕ} {old new : DeviceState} {status : ℕ}
-    → TangleEnds acts due old new status → StaysFree acts old new → PerformsActs acts None old new × (status ≡ due)
+pub runs_freely : {acts : List Act} {expected : ℕ} {old new : DeviceState} {status : ℕ}
+    → RunEnds acts expected old new status → StaysFree acts old new → PerformsActs acts None old new ×
+    (status ≡ expected)
 runs_freely (completes run answered) free = (run, answered)
 runs_freely {old} (stops (ending stop about) then run logs answered) free =
     absurd (stop_is_free stop about old then run logs free)
 
-pub ends_within : {acts : List Act} {due : ℕ} {old new : DeviceState} {status : ℕ}
-    → TangleEnds acts due old new status → ¬ ActsKeepLimits acts → status ≡ 1
+pub ends_within : {acts : List Act} {expected : ℕ} {old new : DeviceState} {status : ℕ}
+    → RunEnds acts expected old new status → ¬ ActsKeepLimits acts → status ≡ 1
 ends_within {acts} {old} {new} (completes run answered) beyond = absurd (beyond (limits_all acts old new run))
 ends_within (stops why then run logs answered) beyond = answered

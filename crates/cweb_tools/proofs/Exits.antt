@@ -12,31 +12,31 @@ begins_course world names found changes begins = rw (begins.there, begins.change
 pub opened_by : (first : List (List ℕ)) {old new : SoFar} {events : List Event}
     → old ≡ begun_with first → ReportsPrefix old new events
     → (files : List (List ℕ)) → files ≡ new.names → (rest : List (List ℕ)) × (first ++ openings events ≡ files ++ rest)
-opened_by first {events} began front files is = (
-  openings front.later,
-  ap (λ (es : List Event). first ++ openings es) front.whole
-      ∙ ap (λ (ns : List (List ℕ)). first ++ ns) (openings-append front.events front.later)
-      ∙ sym (append_assoc first (openings front.events) (openings front.later))
-      ∙ ap (λ (ns : List (List ℕ)). ns ++ openings front.later)
-      (sym (is ∙ front.names ∙ ap (λ (s : SoFar). s.names ++ openings front.events) began)),
+opened_by first {events} began prefix files is = (
+  openings prefix.later,
+  ap (λ (es : List Event). first ++ openings es) prefix.whole
+      ∙ ap (λ (ns : List (List ℕ)). first ++ ns) (openings-append prefix.events prefix.later)
+      ∙ sym (append_assoc first (openings prefix.events) (openings prefix.later))
+      ∙ ap (λ (ns : List (List ℕ)). ns ++ openings prefix.later)
+      (sym (is ∙ prefix.names ∙ ap (λ (s : SoFar). s.names ++ openings prefix.events) began)),
 )
 
 -- The events of a merge that began with these files.
 module _ (first : List (List ℕ)) (all : List Event) (old new : SoFar)
-    (began : old ≡ begun_with first) (gives : EmitsLines (emitted_lines all) old new all []) where
-  came : gives.events ≡ all
-  came = sym (append-nil gives.events) ∙ sym gives.whole
+    (began : old ≡ begun_with first) (yields : EmitsLines (emitted_lines all) old new all []) where
+  came : yields.events ≡ all
+  came = sym (append-nil yields.events) ∙ sym yields.whole
 
-  pub names_told : new.names ≡ first ++ openings all
-  names_told = gives.names ∙ (λ i. (began i).names ++ openings (came i))
+  pub names_reported : new.names ≡ first ++ openings all
+  names_reported = yields.names ∙ (λ i. (began i).names ++ openings (came i))
 
-  pub faults_told : new.faults ≡ reported_faults all
-  faults_told = gives.faults ∙ (λ i. (began i).faults ++ reported_faults (came i))
+  pub faults_reported : new.faults ≡ reported_faults all
+  faults_reported = yields.faults ∙ (λ i. (began i).faults ++ reported_faults (came i))
 
   pub limits_kept : new.count.lines ≤ LINES → new.count.bytes ≤ BYTES → IsWithinLimits (taken_lines all)
   limits_kept few small =
       rw (← came) (record {
-        short = gives.short;
-        few = omega (arith, gives.lines_are, few);
-        small = omega (arith, gives.bytes_are, small);
+        short = yields.short;
+        few = omega (arith, yields.lines_are, few);
+        small = omega (arith, yields.bytes_are, small);
       })

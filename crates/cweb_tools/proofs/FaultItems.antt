@@ -1,8 +1,7 @@
 -- The faults of a web as items: their number and their lines.
-use Rattle.cweb_tools.proofs.Common.{◌≡◌, ◌<◌, ◌+◌, ℕ, zero, suc, Bool, true, false, cond, List, [], ◌∷◌, ◌++◌, length, map, refl, sym, ◌∙◌, ap, subst, append_assoc, arith, length-append, flat_map-append, length-map, sum_by-append, sum_by-cons, flat_map, IsTrue, IsErr, None, Result, Ok, Err, count_by, SourceFault, Part, is_macro, numbers_from, numbers_where, PartKind, Scanned, WritesToStream, LogItem, fault_count, is_fault, line, source_item, fault_lines, SinkModel, name_item, name_items, scan_item, scan_items, says, DoesInLog, ClosesInLog, done, acts_status, log_ending, fault_items}
+use Rattle.cweb_tools.proofs.Common.{◌≡◌, ◌<◌, ◌+◌, ℕ, zero, suc, Bool, true, false, cond, List, [], ◌∷◌, ◌++◌, length, map, refl, sym, ◌∙◌, ap, subst, append_assoc, arith, length-append, flat_map-append, length-map, sum_by-append, sum_by-cons, flat_map, IsTrue, IsErr, None, Result, Ok, Err, count_by, SourceFault, Part, is_macro, numbers_from, numbers_where, PartKind, Scanned, WritesToStream, LogItem, fault_count, is_fault, line, source_item, fault_lines, SinkModel, name_item, name_items, scan_item, scan_items, says, DoesInLog, ClosesInLog, acts_status, log_ending, fault_items}
 use Rattle.cweb_store.specs.Faults as store
-use Rattle.cweb_tools.proofs.Doing.{does_none}
-use Rattle.cweb_tools.proofs.DoingFiles.{closes_told}
+use Rattle.cweb_tools.proofs.DoingFiles.{closes_reported}
 use Rattle.cweb_tools.proofs.Logging.{said_all, said_none}
 
 -- A list of items that are all faults.
@@ -67,18 +66,18 @@ writes_on x (Ok y) {a} {b} {old} first then = record {
   counts = then.counts ∙ first.counts;
   whole = λ tells. then.whole (subst IsTrue (sym first.tells) tells)
       ∙ ap (λ (t : List ℕ). t ++ b) (first.whole tells) ∙ append_assoc old.bytes a b;
-  front = λ tells. tt;
+  prefix = λ tells. tt;
 }
 writes_on x (Err e) {a} {old} first then = record {
   tells = then.tells ∙ first.tells;
   counts = then.counts ∙ ap (λ (n : ℕ). n + 1) first.counts;
   whole = λ tells. tt;
-  front = λ tells. let front = then.front (subst IsTrue (sym first.tells) tells) in record {
-    front = a ++ front.front;
-    rest = front.rest;
-    written = front.written ∙ ap (λ (t : List ℕ). t ++ front.front) (first.whole tells)
-        ∙ append_assoc old.bytes a front.front;
-    whole = ap (λ (t : List ℕ). a ++ t) front.whole ∙ sym (append_assoc a front.front front.rest);
+  prefix = λ tells. let prefix = then.prefix (subst IsTrue (sym first.tells) tells) in record {
+    prefix = a ++ prefix.prefix;
+    rest = prefix.rest;
+    written = prefix.written ∙ ap (λ (t : List ℕ). t ++ prefix.prefix) (first.whole tells)
+        ∙ append_assoc old.bytes a prefix.prefix;
+    whole = ap (λ (t : List ℕ). a ++ t) prefix.whole ∙ sym (append_assoc a prefix.prefix prefix.rest);
   };
 }
 
@@ -89,11 +88,11 @@ writes_in e (Err f) b fails is = record {
   tells = fails.tells;
   counts = fails.counts;
   whole = λ tells. tt;
-  front = λ tells. let front = fails.front tells in record {
-    front = front.front;
-    rest = front.rest ++ b;
-    written = front.written;
-    whole = ap (λ (t : List ℕ). t ++ b) front.whole ∙ append_assoc front.front front.rest b;
+  prefix = λ tells. let prefix = fails.prefix tells in record {
+    prefix = prefix.prefix;
+    rest = prefix.rest ++ b;
+    written = prefix.written;
+    whole = ap (λ (t : List ℕ). t ++ b) prefix.whole ∙ append_assoc prefix.prefix prefix.rest b;
   };
 }
 
@@ -102,19 +101,13 @@ pub same_lines : (files : List (List ℕ)) (faults : List SourceFault)
 same_lines files [] = refl
 same_lines files (met ∷ faults) = ap (λ (t : List ℕ). line (source_item files met) ++ t) (same_lines files faults)
 
--- The faults of a merge were logged, and the status is 1 if there is one.
-pub no_faults_said : (files : List (List ℕ)) (faults : List SourceFault) {stream : SinkModel} → length faults ≡ 0
-    → ClosesInLog (map says (map (source_item files) faults)) (acts_status (map says (map (source_item files) faults)))
-    stream stream 0
-no_faults_said files [] none = λ shelf bins. done does_none refl
-no_faults_said files (met ∷ faults) none = absurd (omega (arith, none))
-
+-- The faults of a merge were logged, and the status is 1.
 pub faults_said : {A E : Type 0} (r : Result A E) (files : List (List ℕ)) (faults : List SourceFault)
     {old new : SinkModel} → (length faults ≡ 0 → ⊥) → WritesToStream (fault_lines files faults) old new r
     → ClosesInLog (map says (map (source_item files) faults)) (acts_status (map says (map (source_item files) faults)))
     old new 1
 faults_said r files [] some writes = absurd (some refl)
-faults_said r files (met ∷ faults) some writes = closes_told r
+faults_said r files (met ∷ faults) some writes = closes_reported r
     (said_all r (source_item files met) (map (source_item files) faults)
     (rw (← (same_lines files (met ∷ faults))) writes))
     refl refl

@@ -1,5 +1,5 @@
 -- The files and drafts after a run, act by act.
-use Rattle.cweb_tools.proofs.Common.{◌≡◌, inl, inr, ℕ, ◌+◌, false, List, [], ◌∷◌, ◌++◌, refl, sym, ◌∙◌, ap, subst, add-zero, arith, Option, Some, None, read_failures_of, bins_blame, File, Event, Stop, ReadFault, LineTooLong, TooMuchText, Memory, OutNotOpened, WriteFault, LogFault, LogItem, fault_count, Shown, DeviceState, Act, says, reads, merges, FailsReading, writes, prints, after_act, Ending, ending, Breaks, PerformsActs, LogsStop, TangleEnds, completes, stops, LeavesFiles, put_files, refused, Web, written_files, script, tangling}
+use Rattle.cweb_tools.proofs.Common.{◌≡◌, inl, inr, ℕ, ◌+◌, false, List, [], ◌∷◌, ◌++◌, refl, sym, ◌∙◌, ap, subst, add-zero, arith, Option, Some, None, read_failures_of, bins_blame, File, Event, Stop, ReadFault, LineTooLong, TooMuchText, Memory, OutNotOpened, WriteFault, LogFault, LogItem, fault_count, Shown, DeviceState, Act, says, reads, merges, FailsReading, writes, prints, after_act, Ending, ending, Breaks, PerformsActs, LogsStop, RunEnds, completes, stops, LeavesFiles, put_files, refused, Web, written_files, script, tangling}
 use Rattle.cweb_tools.proofs.WebActs.{when_on, said_on, starred_on, closing_on}
 
 -- A stop changes no file and leaves no draft. The failure count of its device rises. Only a log fault changes the log.
@@ -96,8 +96,8 @@ broken act Memory about old new broke = quiet refl refl broke
 broken act stop about old new broke = absurd broke
 
 -- Nothing was committed.
-none_done : {due old new : List File} → new ≡ old → LeavesFiles due old new
-none_done {due} same = record { done = []; undone = due; whole = refl; is = same }
+none_done : {expected old new : List File} → new ≡ old → LeavesFiles expected old new
+none_done {expected} same = record { done = []; undone = expected; whole = refl; is = same }
 
 -- The files and the draft after acts.
 abbrev Leaves : List Act → DeviceState → DeviceState → Type 0
@@ -135,19 +135,19 @@ stop_logged LogFault about old new is = subst (LogAlone old) (sym is) refl
 stop_logged _ about old new (inl is) = subst (LogAlone old) (sym is) refl
 stop_logged _ about old new (inr fails) = subst (LogAlone old) (sym fails.1) refl
 
-ends_left : {acts : List Act} {due : ℕ} {old new : DeviceState} {status : ℕ}
-    → TangleEnds acts due old new status → Leaves acts old new
+ends_left : {acts : List Act} {expected : ℕ} {old new : DeviceState} {status : ℕ}
+    → RunEnds acts expected old new status → Leaves acts old new
 ends_left {acts} {old} {new} (completes run answered) = runs_left acts None old new run
 ends_left {acts} {old} {new} (stops (ending stop about) then run logs answered) =
     let rest = runs_left acts (Some (ending stop about)) old then run in
     rw (stop_logged stop about then new logs) rest
 
-pub ends_files : {acts : List Act} {due : ℕ} {old new : DeviceState} {status : ℕ}
-    → TangleEnds acts due old new status → LeavesFiles (written_files acts) old.files new.files
+pub ends_files : {acts : List Act} {expected : ℕ} {old new : DeviceState} {status : ℕ}
+    → RunEnds acts expected old new status → LeavesFiles (written_files acts) old.files new.files
 ends_files ends = (ends_left ends).0
 
-pub ends_draft : {acts : List Act} {due : ℕ} {old new : DeviceState} {status : ℕ}
-    → old.draft ≡ None → TangleEnds acts due old new status → new.draft ≡ None
+pub ends_draft : {acts : List Act} {expected : ℕ} {old new : DeviceState} {status : ℕ}
+    → old.draft ≡ None → RunEnds acts expected old new status → new.draft ≡ None
 ends_draft none ends = (ends_left ends).1 none
 
 -- Acts that only log write no file.
@@ -163,15 +163,15 @@ refused_files shown names events web text is =
     (λ item. tt) (rw is (closing_on Any None-in said shown web.numbers (fault_count web.faults + 1) false tt tt refl))))
 
 -- If no files are expected, none is committed.
-none_due : {due old new : List File} → due ≡ [] → LeavesFiles due old new → new ≡ old
-none_due {old} {new} none leaves = nothing leaves.done leaves.undone (sym none ∙ leaves.whole) leaves.is
+none_expected : {expected old new : List File} → expected ≡ [] → LeavesFiles expected old new → new ≡ old
+none_expected {old} {new} none leaves = nothing leaves.done leaves.undone (sym none ∙ leaves.whole) leaves.is
   where
     nothing : (done undone : List File) → [] ≡ done ++ undone → new ≡ put_files old done → new ≡ old
     nothing [] undone whole is = is
     nothing (file ∷ done) undone whole is = cc
 
 pub refused_stays : (shown : Shown) (names : List (List ℕ)) (events : List Event) (web : Web) (text : List ℕ)
-    → web.plan ≡ refused text → (due : ℕ) (old new : DeviceState) (status : ℕ)
-    → TangleEnds (script shown (tangling names events web)) due old new status → new.files ≡ old.files
-refused_stays shown names events web text is due old new status ends =
-    none_due (refused_files shown names events web text is) (ends_files ends)
+    → web.plan ≡ refused text → (expected : ℕ) (old new : DeviceState) (status : ℕ)
+    → RunEnds (script shown (tangling names events web)) expected old new status → new.files ≡ old.files
+refused_stays shown names events web text is expected old new status ends =
+    none_expected (refused_files shown names events web text is) (ends_files ends)

@@ -5,6 +5,7 @@ pub mod DoingFiles
 pub mod Endings
 pub mod Courses
 pub mod Exits
+pub mod MergeDevices
 pub mod MergeExits
 pub mod FaultItems
 pub mod Printing
@@ -12,11 +13,13 @@ pub mod Prints
 pub mod ReadyExpanders
 pub mod RuleWords
 pub mod Refusals
-pub mod ObservedTangleEnds
+pub mod ObservedRunEnds
 pub mod TanglePromisesProved
 pub mod DependPromisesProved
 mod DepfileExamples
 pub mod MergePromisesProved
+pub mod MergeStarts
+pub mod MergeStops
 pub mod ChangedFilesWereRead
 pub mod Leaving
 pub mod WebActs
@@ -39,7 +42,7 @@ pub mod Stopping
 pub mod TangleExits
 pub mod ReadingStops
 pub mod ReadingExits
-pub mod TangleEnds
+pub mod RunEnds
 mod SpacingStarts
 mod SpacingSeam
 mod SpacingLaw

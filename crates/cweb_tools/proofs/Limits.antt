@@ -18,21 +18,21 @@ module _ {stop : Stop} {first : List (List ℕ)} {emitted : List Line} {old new 
     (began : old ≡ begun_with first) (few : new.count.lines ≤ LINES) (small : new.count.bytes ≤ BYTES)
     (b : StopsAfterLines emitted stop old new events) where
   abbrev begun : List SourceLine
-  begun = b.stops.begun.front
+  begun = b.stops.begun.prefix
 
   abbrev earlier : List Event
-  earlier = b.gives.events ++ map took begun
+  earlier = b.yields.events ++ map took begun
 
-  taken_are : taken_lines earlier ≡ taken_lines b.gives.events ++ begun
+  taken_are : taken_lines earlier ≡ taken_lines b.yields.events ++ begun
   taken_are = simp (taken-append, taken-took)
 
   lines_are : new.count.lines ≡ length (taken_lines earlier)
   lines_are = omega (
     arith,
     b.stops.begun.adds.lines_are,
-    b.gives.lines_are,
+    b.yields.lines_are,
     ap (λ (s : SoFar). s.count.lines) began,
-    length-append (taken_lines b.gives.events) begun,
+    length-append (taken_lines b.yields.events) begun,
     ap (λ (ls : List SourceLine). length ls) taken_are,
   )
 
@@ -40,9 +40,9 @@ module _ {stop : Stop} {first : List (List ℕ)} {emitted : List Line} {old new 
   bytes_are = omega (
     arith,
     b.stops.begun.adds.bytes_are,
-    b.gives.bytes_are,
+    b.yields.bytes_are,
     ap (λ (s : SoFar). s.count.bytes) began,
-    size-append (taken_lines b.gives.events) begun,
+    size-append (taken_lines b.yields.events) begun,
     ap size_of_lines taken_are,
   )
 
@@ -54,11 +54,11 @@ module _ {stop : Stop} {first : List (List ℕ)} {emitted : List Line} {old new 
     earlier = earlier;
     line = b.stops.line;
     later = map took b.stops.more ++ (map fault b.faults ++ b.later);
-    whole = b.gives.whole ∙ ap (λ (ls : List SourceLine). b.gives.events ++ step_events ls b.faults b.later)
+    whole = b.yields.whole ∙ ap (λ (ls : List SourceLine). b.yields.events ++ step_events ls b.faults b.later)
         (b.stops.begun.lines_are ∙ ap (λ (ls : List SourceLine). begun ++ ls) b.stops.next)
         ∙ simp (map-append, append_assoc);
     within = record {
-      short = rw taken_are (short-append (taken_lines b.gives.events) begun b.gives.short b.stops.begun.adds.short);
+      short = rw taken_are (short-append (taken_lines b.yields.events) begun b.yields.short b.stops.begun.adds.short);
       few = omega (arith, few, lines_are);
       small = omega (arith, small, bytes_are);
     };

@@ -4,32 +4,32 @@ use Rattle.cweb_tools.proofs.Doing.{does_none}
 
 -- Two ways to split a list of bytes: one prefix is a prefix of the other.
 abbrev Cuts : List ℕ → List ℕ → List ℕ → List ℕ → Type 0
-Cuts a b front rest =
-    ((more : List ℕ) × (a ≡ front ++ more)) ⊎ ((more : List ℕ) × (front ≡ a ++ more) × (b ≡ more ++ rest))
+Cuts a b prefix rest =
+    ((more : List ℕ) × (a ≡ prefix ++ more)) ⊎ ((more : List ℕ) × (prefix ≡ a ++ more) × (b ≡ more ++ rest))
 
-cuts : (a b front rest : List ℕ) → a ++ b ≡ front ++ rest → Cuts a b front rest
-cuts [] b front rest is = inr (front, refl, is)
+cuts : (a b prefix rest : List ℕ) → a ++ b ≡ prefix ++ rest → Cuts a b prefix rest
+cuts [] b prefix rest is = inr (prefix, refl, is)
 cuts (x ∷ a) b [] rest is = inl (x ∷ a, refl)
-cuts (x ∷ a) b (y ∷ front) rest is =
+cuts (x ∷ a) b (y ∷ prefix) rest is =
     let same : x ≡ y = cc in
-    elim (cuts a b front rest (cc)) as (λ c. Cuts (x ∷ a) b (y ∷ front) rest) [
+    elim (cuts a b prefix rest (cc)) as (λ c. Cuts (x ∷ a) b (y ∷ prefix) rest) [
       | inl cut ↦ inl (cut.0, (λ i. same i ∷ cut.1 i))
       | inr cut ↦ inr (cut.0, (λ i. sym same i ∷ cut.1 i), cut.2)
     ]
 
 -- A prefix of the lines of items was logged, and the log failed within one of them.
-front_stops : (item : LogItem) (items : List LogItem) (front rest : List ℕ) (old : DeviceState)
-    → flat_map line (item ∷ items) ≡ front ++ rest → PerformsActs (map says (item ∷ items))
-    (Some (ending LogFault [])) old (record old { log_failed = old.log_failed + 1; log = old.log ++ front })
-front_stops item [] front rest old is =
-    inr (record { front = front; rest = rest; written = refl; whole = sym (append-nil (line item)) ∙ is }, refl)
-front_stops item (next ∷ items) front rest old is =
-    elim (cuts (line item) (flat_map line (next ∷ items)) front rest is) [
-      | inl cut ↦ inr (record { front = front; rest = cut.0; written = refl; whole = cut.1 }, refl)
+prefix_stops : (item : LogItem) (items : List LogItem) (prefix rest : List ℕ) (old : DeviceState)
+    → flat_map line (item ∷ items) ≡ prefix ++ rest → PerformsActs (map says (item ∷ items))
+    (Some (ending LogFault [])) old (record old { log_failed = old.log_failed + 1; log = old.log ++ prefix })
+prefix_stops item [] prefix rest old is =
+    inr (record { prefix = prefix; rest = rest; written = refl; whole = sym (append-nil (line item)) ∙ is }, refl)
+prefix_stops item (next ∷ items) prefix rest old is =
+    elim (cuts (line item) (flat_map line (next ∷ items)) prefix rest is) [
+      | inl cut ↦ inr (record { prefix = prefix; rest = cut.0; written = refl; whole = cut.1 }, refl)
       | inr cut ↦ inl (
         tt,
         rw (← (append_assoc old.log (line item) cut.0 ∙ ap (λ (t : List ℕ). old.log ++ t) (sym cut.1)))
-            (front_stops next items cut.0 rest (after_act (says item) old) cut.2),
+            (prefix_stops next items cut.0 rest (after_act (says item) old) cut.2),
       )
     ]
 
@@ -46,25 +46,25 @@ abbrev pub at : ShelfModel → SinkModel → SinkModel → Devices
 at shelf bins log = record { shelf = shelf; out = bins; log = log }
 
 -- A prefix was written. If it is observable, it is this one.
-pub record FrontTold (tells : Bool) (old new text : List ℕ) : Type 0 where
-  pub front : List ℕ
+pub record PrefixObserved (tells : Bool) (old new text : List ℕ) : Type 0 where
+  pub prefix : List ℕ
   pub rest : List ℕ
-  pub whole : text ≡ front ++ rest
-  pub written : IsTrue tells → new ≡ old ++ front
+  pub whole : text ≡ prefix ++ rest
+  pub written : IsTrue tells → new ≡ old ++ prefix
 
-pub front_told : (tells : Bool) {old new text : List ℕ}
-    → (IsTrue tells → WritesPrefix old new text) → FrontTold tells old new text
-front_told true {old} {new} {text} writes =
-    let front : WritesPrefix old new text = writes refl in
-    record { front = front.front; rest = front.rest; whole = front.whole; written = λ tell. front.written }
-front_told false {text} writes = record { front = []; rest = text; whole = refl; written = λ tell. absurd (cc) }
+pub prefix_observed : (tells : Bool) {old new text : List ℕ}
+    → (IsTrue tells → WritesPrefix old new text) → PrefixObserved tells old new text
+prefix_observed true {old} {new} {text} writes =
+    let prefix : WritesPrefix old new text = writes refl in
+    record { prefix = prefix.prefix; rest = prefix.rest; whole = prefix.whole; written = λ tell. prefix.written }
+prefix_observed false {text} writes = record { prefix = []; rest = text; whole = refl; written = λ tell. absurd (cc) }
 
 -- The state after a change of the log only.
-log_told : {now : DeviceState} (count : ℕ) (text : List ℕ) (shelf : ShelfModel) (bins : SinkModel)
+log_observed : {now : DeviceState} (count : ℕ) (text : List ℕ) (shelf : ShelfModel) (bins : SinkModel)
     (old new : SinkModel)
     → AgreesWith now (at shelf bins old) → count ≡ new.failed → (IsTrue new.tells → text ≡ new.bytes)
     → AgreesWith (record now { log_failed = count; log = text }) (at shelf bins new)
-log_told count text shelf bins old new log_ending counted bytes = record {
+log_observed count text shelf bins old new log_ending counted bytes = record {
   shelf_failed = log_ending.shelf_failed;
   bins_failed = log_ending.bins_failed;
   log_failed = counted;
@@ -92,7 +92,7 @@ does_logged more text {old} {new} no_read no_bins rises tells count bytes runs =
   log = count ∙ rises old.failed;
   runs = λ now log_ending. record {
     left = record now { log_failed = more now.log_failed; log = now.log ++ text };
-    told = log_told _ _ shelf bins old new log_ending (ap more log_ending.log_failed ∙ sym count) (λ tell.
+    observed = log_observed _ _ shelf bins old new log_ending (ap more log_ending.log_failed ∙ sym count) (λ tell.
         let first : IsTrue old.tells = sym tells ∙ tell in
         ap (λ (t : List ℕ). t ++ text) (log_ending.log first) ∙ sym (bytes first));
     runs = runs now;
@@ -106,9 +106,9 @@ pub said_all : {A E : Type 0} (r : Result A E) (item : LogItem) (items : List Lo
 said_all (Ok x) item items writes = does_logged (λ n. n) (flat_map line (item ∷ items))
     refl refl (λ n. sym (add-zero n)) writes.tells writes.counts writes.whole (all_said (item ∷ items))
 said_all (Err e) item items {old} writes =
-    let front = front_told old.tells writes.front in
-    does_logged (λ n. n + 1) front.front refl refl (λ n. refl) writes.tells
-    writes.counts front.written (λ now. front_stops item items front.front front.rest now front.whole)
+    let prefix = prefix_observed old.tells writes.prefix in
+    does_logged (λ n. n + 1) prefix.prefix refl refl (λ n. refl) writes.tells
+    writes.counts prefix.written (λ now. prefix_stops item items prefix.prefix prefix.rest now prefix.whole)
 
 -- One line.
 pub said : {A E : Type 0} {r : Result A E} (item : LogItem) {old new : SinkModel}
@@ -121,9 +121,9 @@ pub logs_write : {text : List ℕ} {old new : SinkModel}
 logs_write logs = elim logs.once [
   | inl kept ↦ (
     Ok tt,
-    record { tells = logs.tells; counts = kept; whole = λ tell. logs.whole tell kept; front = λ tell. tt },
+    record { tells = logs.tells; counts = kept; whole = λ tell. logs.whole tell kept; prefix = λ tell. tt },
   )
-  | inr rose ↦ (Err tt, record { tells = logs.tells; counts = rose; whole = λ tell. tt; front = logs.front })
+  | inr rose ↦ (Err tt, record { tells = logs.tells; counts = rose; whole = λ tell. tt; prefix = logs.prefix })
 ]
 
 -- Nothing was to be logged.
@@ -131,14 +131,14 @@ pub said_none : {stream : SinkModel} → DoesInLog [] None stream stream
 said_none = λ shelf bins. does_none
 
 -- A line that is wanted.
-pub said_when : {A E : Type 0} {r : Result A E} (asked : Bool) (item : LogItem) {old new : SinkModel}
-    → asked ≡ true → WritesToStream (line item) old new r → DoesInLog (when asked item) (log_ending r) old new
+pub said_when : {A E : Type 0} {r : Result A E} (args : Bool) (item : LogItem) {old new : SinkModel}
+    → args ≡ true → WritesToStream (line item) old new r → DoesInLog (when args item) (log_ending r) old new
 said_when true item is writes = said item writes
 said_when false item is writes = absurd (cc)
 
 -- A line that isn't wanted.
-pub said_not : (asked : Bool) (item : LogItem) {stream : SinkModel} → asked ≡ false
-    → DoesInLog (when asked item) None stream stream
+pub said_not : (args : Bool) (item : LogItem) {stream : SinkModel} → args ≡ false
+    → DoesInLog (when args item) None stream stream
 said_not true item is = absurd (cc)
 said_not false item is = said_none
 

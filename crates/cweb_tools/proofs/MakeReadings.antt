@@ -136,9 +136,9 @@ escaped_is p c same n (b ∷ bs) = (λ i. same n b i ++ escaped_is p c same (bac
 
 -- The body of a name was read. With the last backslashes the name is whole.
 pub record ReadsBody (ts ps : List (List ℕ)) (c : Bool) (name : List ℕ) (n : ℕ) (bs : List ℕ) : Type 0 where
-  pub front : List ℕ
-  pub is : fold read_byte (reading ts ps c name n) (body c n bs) ≡ reading ts ps c front (pending n bs)
-  pub whole : front ++ replicate (pending n bs) 92 ≡ name ++ (replicate n 92 ++ bs)
+  pub prefix : List ℕ
+  pub is : fold read_byte (reading ts ps c name n) (body c n bs) ≡ reading ts ps c prefix (pending n bs)
+  pub whole : prefix ++ replicate (pending n bs) 92 ≡ name ++ (replicate n 92 ++ bs)
 
 replicate_last : (n : ℕ) (x : ℕ) → replicate (suc n) x ≡ replicate n x ++ x ∷ []
 replicate_last zero x = refl
@@ -158,7 +158,7 @@ byte_whole name n b bs = elim (eqb_tells b 92) [
 pub reads_body : (ts ps : List (List ℕ)) (c : Bool) (name : List ℕ) (n : ℕ) (bs : List ℕ)
     → list_all (λ b. not (b == 10)) bs ≡ true → ReadsBody ts ps c name n bs
 reads_body ts ps c name n [] line = record {
-  front = name;
+  prefix = name;
   is = refl;
   whole = ap (λ (xs : List ℕ). name ++ xs) (sym (append-nil (replicate n 92)));
 }
@@ -167,7 +167,7 @@ reads_body ts ps c name n (b ∷ bs) line =
     let one = step ts ps c name n b (not-true _ parts.0) in
     let rest = reads_body ts ps c (after_byte name n b) (backslashes_after n b) bs parts.1 in
     record {
-      front = rest.front;
+      prefix = rest.prefix;
       is = fold-append read_byte (reading ts ps c name n) (escaped_byte (place c) n b) _
           ∙ ap (λ (r : RuleReading). fold read_byte r (body c (backslashes_after n b) bs)) one ∙ rest.is;
       whole = rest.whole ∙ byte_whole name n b bs;
@@ -178,42 +178,42 @@ abbrev pub with_name : List (List ℕ) → List (List ℕ) → Bool → List ℕ
 with_name ts ps true name = reading ts (ps ++ name ∷ []) true [] 0
 with_name ts ps false name = reading (ts ++ name ∷ []) ps false [] 0
 
-pub added : (ts ps : List (List ℕ)) (c : Bool) (front name : List ℕ) (n : ℕ) → name ≢ []
-    → add_name (reading ts ps c front n) name ≡ with_name ts ps c name
-added ts ps c front [] n some = absurd (some refl)
-added ts ps true front (b ∷ bs) n some = refl
-added ts ps false front (b ∷ bs) n some = refl
+pub added : (ts ps : List (List ℕ)) (c : Bool) (prefix name : List ℕ) (n : ℕ) → name ≢ []
+    → add_name (reading ts ps c prefix n) name ≡ with_name ts ps c name
+added ts ps c prefix [] n some = absurd (some refl)
+added ts ps true prefix (b ∷ bs) n some = refl
+added ts ps false prefix (b ∷ bs) n some = refl
 
 -- A name that was read but for its end.
-module _ (ts ps : List (List ℕ)) (front : List ℕ) (m : ℕ) (name : List ℕ) (whole : front ++ replicate m 92 ≡ name)
+module _ (ts ps : List (List ℕ)) (prefix : List ℕ) (m : ℕ) (name : List ℕ) (whole : prefix ++ replicate m 92 ≡ name)
     (some : name ≢ []) where
-  halved : front ++ replicate (half (m + m)) 92 ≡ name
-  halved = ap (λ (n : ℕ). front ++ replicate n 92) (half_even m) ∙ whole
+  halved : prefix ++ replicate (half (m + m)) 92 ≡ name
+  halved = ap (λ (n : ℕ). prefix ++ replicate n 92) (half_even m) ∙ whole
 
-  pub ends_at_blank : (c : Bool) → read_byte (reading ts ps c front (m + m)) 32 ≡ with_name ts ps c name
-  ends_at_blank true = rw (even m) (ap (add_name (reading ts ps true front (m + m))) halved
-      ∙ added ts ps true front name (m + m) some)
-  ends_at_blank false = rw (even m) (ap (add_name (reading ts ps false front (m + m))) halved
-      ∙ added ts ps false front name (m + m) some)
+  pub ends_at_blank : (c : Bool) → read_byte (reading ts ps c prefix (m + m)) 32 ≡ with_name ts ps c name
+  ends_at_blank true = rw (even m) (ap (add_name (reading ts ps true prefix (m + m))) halved
+      ∙ added ts ps true prefix name (m + m) some)
+  ends_at_blank false = rw (even m) (ap (add_name (reading ts ps false prefix (m + m))) halved
+      ∙ added ts ps false prefix name (m + m) some)
 
-  pub ends_at_colon : read_byte (reading ts ps false front (m + m)) 58 ≡ reading (ts ++ name ∷ []) ps true [] 0
+  pub ends_at_colon : read_byte (reading ts ps false prefix (m + m)) 58 ≡ reading (ts ++ name ∷ []) ps true [] 0
   ends_at_colon = rw (even m) (ap (λ (r : RuleReading). record r { after_colon = true })
-      (ap (add_name (reading ts ps false front (m + m))) halved ∙ added ts ps false front name (m + m) some))
+      (ap (add_name (reading ts ps false prefix (m + m))) halved ∙ added ts ps false prefix name (m + m) some))
 
 -- A name in the middle of a rule was read: a blank ends it.
 pub name_read : (ts ps : List (List ℕ)) (p : Position) (c : Bool) (name : List ℕ)
     → ((n b : ℕ) → escaped_byte p n b ≡ escaped_byte (place c) n b) → ((n : ℕ) → name_end p n ≡ replicate n 92)
-    → IsReadable name → (front : List ℕ) × (m : ℕ) × (front ++ replicate m 92 ≡ name)
-    × (fold read_byte (reading ts ps c [] 0) (escaped p name) ≡ reading ts ps c front (m + m))
+    → IsReadable name → (prefix : List ℕ) × (m : ℕ) × (prefix ++ replicate m 92 ≡ name)
+    × (fold read_byte (reading ts ps c [] 0) (escaped p name) ≡ reading ts ps c prefix (m + m))
 name_read ts ps p c name same end readable =
     let read = reads_body ts ps c [] 0 name readable.one_line in
     let m = pending 0 name in (
-      read.front,
+      read.prefix,
       m,
       read.whole,
       ap (fold read_byte (reading ts ps c [] 0)) (escaped_is p c same 0 name
           ∙ ap (λ (xs : List ℕ). body c 0 name ++ xs) (end m))
           ∙ fold-append read_byte (reading ts ps c [] 0) (body c 0 name) (replicate m 92)
           ∙ ap (λ (r : RuleReading). fold read_byte r (replicate m 92)) read.is
-          ∙ read_backslashes ts ps c read.front m m,
+          ∙ read_backslashes ts ps c read.prefix m m,
     )

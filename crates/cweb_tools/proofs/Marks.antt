@@ -8,10 +8,10 @@ pub mark_named : (s : Setting) (t : Token) → IsMarkBelow (length s.files) t �
 mark_named s (Mark place) below = below
 mark_named s t below = tt
 
-pub all_front : {X : Type 0} (P : X → Type 0) (xs ys : List X) → All P (xs ++ ys) → All P xs
-all_front P [] ys all = All-nil P
-all_front P (x ∷ xs) ys all =
-    All-cons P x xs (All-head P x (xs ++ ys) all) (all_front P xs ys (All-tail P x (xs ++ ys) all))
+pub all_prefix : {X : Type 0} (P : X → Type 0) (xs ys : List X) → All P (xs ++ ys) → All P xs
+all_prefix P [] ys all = All-nil P
+all_prefix P (x ∷ xs) ys all =
+    All-cons P x xs (All-head P x (xs ++ ys) all) (all_prefix P xs ys (All-tail P x (xs ++ ys) all))
 
 pub all_back : {X : Type 0} (P : X → Type 0) (xs ys : List X) → All P (xs ++ ys) → All P ys
 all_back P [] ys all = all
@@ -27,7 +27,7 @@ module _ (P : Token → Type 0) where
   some_parts : (test : PartKind → Bool) (ps : List Part) → All P (all_tokens ps) → All P (parts.joined_where test ps)
   some_parts test [] all = All-nil P
   some_parts test (p ∷ ps) all = kept (test p.kind) p _
-      (all_front P p.tokens (all_tokens ps) all) (some_parts test ps (all_back P p.tokens (all_tokens ps) all))
+      (all_prefix P p.tokens (all_tokens ps) all) (some_parts test ps (all_back P p.tokens (all_tokens ps) all))
 
   module _ (w : Stored) (all : All P (all_tokens w.parts)) where
     for_all : (text : NameId → List Token) → ((n : NameId) → All P (text n))

@@ -1,5 +1,5 @@
 -- The ends of a run of `wmerge` keep its promises.
-use Rattle.cweb_tools.proofs.Common.{◌≤◌, ◌≡◌, inl, inr, ℕ, ◌+◌, List, [], ◌∷◌, ◌++◌, refl, sym, ◌∙◌, ap, append-nil, append_assoc, arith, subst, Option, Some, IsTrue, World, read_failures_of, bins_blame, WritesPrefix, Event, emitted_lines, written_lines, Stop, ReadFault, LineTooLong, TooMuchText, Memory, OutNotOpened, WriteFault, LogFault, WebNames, Course, IsMergeCourse, merge_acts, merge_devices, PrintsActs, ActsKeepLimits, Act, judges, says, opens, reads, plans, reserves, writes, merges, prints, after_act, ending, Breaks, FailsReading, DeviceState, PerformsActs, TangleEnds, completes, stops, printed_bytes, observed_state, and_from, RisesOnce}
+use Rattle.cweb_tools.proofs.Common.{◌≤◌, ◌≡◌, inl, inr, ℕ, ◌+◌, List, [], ◌∷◌, ◌++◌, refl, sym, ◌∙◌, ap, append-nil, append_assoc, arith, subst, Option, Some, IsTrue, World, read_failures_of, bins_blame, WritesPrefix, Event, emitted_lines, written_lines, Stop, ReadFault, LineTooLong, TooMuchText, Memory, OutNotOpened, WriteFault, LogFault, WebNames, Course, IsMergeCourse, merge_acts, merge_devices, PrintsActs, ActsKeepLimits, Act, judges, says, opens, reads, plans, reserves, writes, merges, prints, after_act, ending, Breaks, FailsReading, DeviceState, PerformsActs, RunEnds, completes, stops, printed_bytes, observed_state, and_from, RisesOnce}
 use Rattle.cweb_tools.specs.laws.RunEffects.{EveryMergeLeavesOutput}
 use Rattle.cweb_tools.proofs.AllDone.{printed_all}
 use Rattle.cweb_tools.proofs.Courses.{merge_only}
@@ -7,12 +7,12 @@ use Rattle.cweb_tools.proofs.Endings.{counts_all, ends_within}
 use Rattle.cweb_tools.proofs.Leaving.{stop_logged}
 use Rattle.cweb_tools.proofs.RunLaws.{counts, faults_show}
 use Rattle.cweb_tools.proofs.Stopping.{is_stopped}
-use Rattle.cweb_tools.proofs.TanglePromisesProved.{shown_told}
+use Rattle.cweb_tools.proofs.TanglePromisesProved.{shown_reported}
 
 -- There is only one course.
-pub one_course : (world : World) (asked : Option WebNames) (one other : Course) → IsMergeCourse world asked one
-    → IsMergeCourse world asked other → one ≡ other
-one_course world asked one other is too = merge_only world asked one is ∙ sym (merge_only world asked other too)
+pub one_course : (world : World) (args : Option WebNames) (one other : Course) → IsMergeCourse world args one
+    → IsMergeCourse world args other → one ≡ other
+one_course world args one other is too = merge_only world args one is ∙ sym (merge_only world args other too)
 
 -- A stop of reading prints nothing.
 reading_prints : (names : List (List ℕ)) (events : List Event) (stop : Stop) (about : List ℕ) (old new : DeviceState)
@@ -26,25 +26,25 @@ reading_prints names events stop about old new fails = absurd fails
 prints_none : (acts : List Act) (old new : DeviceState) → new.printed ≡ old.printed
     → WritesPrefix old.printed new.printed (printed_bytes acts)
 prints_none acts old new same =
-    record { front = []; rest = printed_bytes acts; written = same ∙ sym (append-nil old.printed); whole = refl }
+    record { prefix = []; rest = printed_bytes acts; written = same ∙ sym (append-nil old.printed); whole = refl }
 
 -- More would have been printed after a prefix.
 more_after : {old new text : List ℕ} (more : List ℕ) → WritesPrefix old new text → WritesPrefix old new (text ++ more)
 more_after more wrote = record {
-  front = wrote.front;
+  prefix = wrote.prefix;
   rest = wrote.rest ++ more;
   written = wrote.written;
-  whole = ap (λ (t : List ℕ). t ++ more) wrote.whole ∙ append_assoc wrote.front wrote.rest more;
+  whole = ap (λ (t : List ℕ). t ++ more) wrote.whole ∙ append_assoc wrote.prefix wrote.rest more;
 }
 
 -- This was printed before a prefix.
 more_before : (old text : List ℕ) {new more : List ℕ} → WritesPrefix (old ++ text) new more
     → WritesPrefix old new (text ++ more)
 more_before old text wrote = record {
-  front = text ++ wrote.front;
+  prefix = text ++ wrote.prefix;
   rest = wrote.rest;
-  written = wrote.written ∙ append_assoc old text wrote.front;
-  whole = ap (λ (t : List ℕ). text ++ t) wrote.whole ∙ sym (append_assoc text wrote.front wrote.rest);
+  written = wrote.written ∙ append_assoc old text wrote.prefix;
+  whole = ap (λ (t : List ℕ). text ++ t) wrote.whole ∙ sym (append_assoc text wrote.prefix wrote.rest);
 }
 
 printed_at : (act : Act) (acts : List Act) (stop : Stop) (about : List ℕ) (old new : DeviceState)
@@ -89,21 +89,21 @@ not_zero status one none = absurd (omega (arith, one, none))
 
 -- What was printed.
 record Printed (acts : List Act) (old new : DeviceState) (status : ℕ) : Type 0 where
-  front : WritesPrefix old.printed new.printed (printed_bytes acts)
+  prefix : WritesPrefix old.printed new.printed (printed_bytes acts)
   whole : status ≡ 0 → new.printed ≡ old.printed ++ printed_bytes acts
 
-printed_by : {acts : List Act} {due : ℕ} {old new : DeviceState} {status : ℕ}
-    → TangleEnds acts due old new status → Printed acts old new status
+printed_by : {acts : List Act} {expected : ℕ} {old new : DeviceState} {status : ℕ}
+    → RunEnds acts expected old new status → Printed acts old new status
 printed_by {acts} {old} {new} {status} (completes run answered) =
     let all = printed_all acts old new run in
     record {
-      front = record { front = printed_bytes acts; rest = []; written = all; whole = sym (append-nil _) };
+      prefix = record { prefix = printed_bytes acts; rest = []; written = all; whole = sym (append-nil _) };
       whole = λ none. all;
     }
 printed_by {acts} {old} {new} {status} (stops (ending stop about) then run logs answered) =
     let same = ap (λ (d : DeviceState). d.printed) (stop_logged stop about then new logs) in
     record {
-      front = subst (λ (t : List ℕ). WritesPrefix old.printed t (printed_bytes acts)) (sym same)
+      prefix = subst (λ (t : List ℕ). WritesPrefix old.printed t (printed_bytes acts)) (sym same)
           (printed_until acts stop about old then run);
       whole = not_zero status answered;
     }
@@ -115,7 +115,8 @@ one_blame WriteFault = omega arith
 one_blame _ = omega arith
 
 -- Shelf and output don't both fail.
-one_fails : {acts : List Act} {due : ℕ} {old new : DeviceState} {status : ℕ} → TangleEnds acts due old new status
+one_fails : {acts : List Act} {expected : ℕ} {old new : DeviceState} {status : ℕ}
+    → RunEnds acts expected old new status
     → new.shelf_failed + new.bins_failed ≤ old.shelf_failed + old.bins_failed + 1
 one_fails {acts} {old} {new} (completes run answered) =
     let same = counts_all acts old new run in omega (arith, same.0, same.1)
@@ -127,10 +128,10 @@ at_most_once old new (inl same) = omega (arith, same)
 at_most_once old new (inr more) = omega (arith, more)
 
 pub leave_merge : EveryMergeLeavesOutput
-leave_merge world asked before after status run course course_is =
+leave_merge world args before after status run course course_is =
     let same : IsTrue before.shelf.tells → run.course ≡ course = λ tells.
-    merge_only world asked run.course (run.is tells) ∙ sym (merge_only world asked course course_is) in
-    let last = run.ends (observed_state (merge_devices before)) shown_told in
+    merge_only world args run.course (run.is tells) ∙ sym (merge_only world args course course_is) in
+    let last = run.ends (observed_state (merge_devices before)) shown_reported in
     let all = counts last.ends in
     let text = printed_by last.ends in
     let one = one_fails last.ends in
@@ -139,7 +140,7 @@ leave_merge world asked before after status run course course_is =
       prints = λ shelf out.
           let is = last.agrees.printed (run.bins_tell ∙ and_from before.shelf.tells before.out.tells shelf out) refl in
           subst (λ (c : Course). PrintsActs (merge_acts c) before after status) (same shelf)
-          (record { front = rw (← is) text.front; whole = λ none. sym is ∙ text.whole none });
+          (record { prefix = rw (← is) text.prefix; whole = λ none. sym is ∙ text.whole none });
       limits = λ tells beyond. ends_within last.ends
           (λ within. beyond (subst (λ (c : Course). ActsKeepLimits (merge_acts c)) (same tells) within));
       once = record {

@@ -1,6 +1,6 @@
 -- Printing to standard output is the doing of an act.
 use Rattle.cweb_tools.proofs.Common.{◌≡◌, inl, inr, ◌+◌, ℕ, List, [], ◌∷◌, ◌++◌, refl, sym, ◌∙◌, ap, subst, add-zero, codes, Option, Some, None, IsSome, IsTrue, WritesPrefix, Beside, WriteFault, SinkModel, ShelfModel, Ending, ending, DeviceState, PerformsActs, prints, AgreesWith, DoesInBins, bins_blame, rise, read_failures_of, log_blame, arith, map, File, Output, Stored, output_file}
-use Rattle.cweb_tools.proofs.Logging.{at, front_told}
+use Rattle.cweb_tools.proofs.Logging.{at, prefix_observed}
 
 -- The state after these bytes were printed.
 abbrev with_printed : DeviceState → ℕ → List ℕ → DeviceState
@@ -8,40 +8,40 @@ with_printed now count text = record now { bins_failed = count; printed = now.pr
 
 module _ (text : List ℕ) {old new : SinkModel} (tells : new.tells ≡ old.tells)
     (beside : IsTrue old.tells → new.beside ≡ old.beside) where
-  out_told : {now : DeviceState} (count : ℕ) (shelf : ShelfModel) (log : SinkModel) (front : List ℕ)
-      → AgreesWith now (at shelf old log) → count ≡ new.failed → (IsTrue old.tells → new.bytes ≡ old.bytes ++ front)
-      → AgreesWith (with_printed now count front) (at shelf new log)
-  out_told {now} count shelf log front told counted bytes =
+  out_observed : {now : DeviceState} (count : ℕ) (shelf : ShelfModel) (log : SinkModel) (prefix : List ℕ)
+      → AgreesWith now (at shelf old log) → count ≡ new.failed → (IsTrue old.tells → new.bytes ≡ old.bytes ++ prefix)
+      → AgreesWith (with_printed now count prefix) (at shelf new log)
+  out_observed {now} count shelf log prefix observed counted bytes =
       let first : IsTrue new.tells → IsTrue old.tells = λ tell. sym tells ∙ tell in record {
-        shelf_failed = told.shelf_failed;
+        shelf_failed = observed.shelf_failed;
         bins_failed = counted;
-        log_failed = told.log_failed;
-        blamed = told.blamed;
-        files = λ tell. told.files (first tell) ∙ ap (λ (b : Beside). b.files) (sym (beside (first tell)));
-        draft = λ tell. told.draft (first tell) ∙ ap (λ (b : Beside). b.draft) (sym (beside (first tell)));
-        refused = λ tell. told.refused (first tell) ∙ ap (λ (b : Beside). b.refused) (sym (beside (first tell)));
-        log = told.log;
+        log_failed = observed.log_failed;
+        blamed = observed.blamed;
+        files = λ tell. observed.files (first tell) ∙ ap (λ (b : Beside). b.files) (sym (beside (first tell)));
+        draft = λ tell. observed.draft (first tell) ∙ ap (λ (b : Beside). b.draft) (sym (beside (first tell)));
+        refused = λ tell. observed.refused (first tell) ∙ ap (λ (b : Beside). b.refused) (sym (beside (first tell)));
+        log = observed.log;
         printed = λ tell some.
-            ap (λ (t : List ℕ). t ++ front) (told.printed (first tell)
+            ap (λ (t : List ℕ). t ++ prefix) (observed.printed (first tell)
             (subst (λ (b : Beside). IsSome b.draft) (beside (first tell)) some))
             ∙ sym (bytes (first tell));
       }
 
-  does_printed : {why : Option Ending} (more : ℕ → ℕ) (front : List ℕ) → rise read_failures_of why ≡ 0
+  does_printed : {why : Option Ending} (more : ℕ → ℕ) (prefix : List ℕ) → rise read_failures_of why ≡ 0
       → rise log_blame why ≡ 0 → ((n : ℕ) → more n ≡ n + rise bins_blame why) → new.failed ≡ more old.failed
-      → (IsTrue old.tells → new.bytes ≡ old.bytes ++ front)
-      → ((now : DeviceState) → PerformsActs (prints text ∷ []) why now (with_printed now (more now.bins_failed) front))
+      → (IsTrue old.tells → new.bytes ≡ old.bytes ++ prefix)
+      → ((now : DeviceState) → PerformsActs (prints text ∷ []) why now (with_printed now (more now.bins_failed) prefix))
       → DoesInBins (prints text ∷ []) why old new
-  does_printed more front no_read no_log rises counted bytes runs = λ shelf log. record {
+  does_printed more prefix no_read no_log rises counted bytes runs = λ shelf log. record {
     shelf_tells = refl;
     bins_tells = tells;
     log_tells = refl;
     shelf = omega (arith, no_read);
     bins = counted ∙ rises old.failed;
     log = omega (arith, no_log);
-    runs = λ now told. record {
-      left = with_printed now (more now.bins_failed) front;
-      told = out_told _ shelf log front told (ap more told.bins_failed ∙ sym counted) bytes;
+    runs = λ now observed. record {
+      left = with_printed now (more now.bins_failed) prefix;
+      observed = out_observed _ shelf log prefix observed (ap more observed.bins_failed ∙ sym counted) bytes;
       runs = runs now;
     };
   }
@@ -53,15 +53,15 @@ module _ (text : List ℕ) {old new : SinkModel} (tells : new.tells ≡ old.tell
       (λ now. inl (tt, refl))
 
   -- A prefix was written, and the output failed.
-  pub printed_front : new.failed ≡ old.failed + 1 → (IsTrue old.tells → WritesPrefix old.bytes new.bytes text)
+  pub printed_prefix : new.failed ≡ old.failed + 1 → (IsTrue old.tells → WritesPrefix old.bytes new.bytes text)
       → DoesInBins (prints text ∷ []) (Some (ending WriteFault (codes "standard output"))) old new
-  printed_front counts front =
-      let wrote = front_told old.tells front in
-      does_printed (λ n. n + 1) wrote.front refl refl (λ n. refl) counts wrote.written
+  printed_prefix counts prefix =
+      let wrote = prefix_observed old.tells prefix in
+      does_printed (λ n. n + 1) wrote.prefix refl refl (λ n. refl) counts wrote.written
       (λ now. inr (
         refl,
         (
-          record { front = wrote.front; rest = wrote.rest; written = refl; whole = wrote.whole },
+          record { prefix = wrote.prefix; rest = wrote.rest; written = refl; whole = wrote.whole },
           refl,
         ),
       ))

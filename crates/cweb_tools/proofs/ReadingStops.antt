@@ -3,7 +3,7 @@ use Rattle.cweb_tools.proofs.Common.{◌≤◌, ◌≡◌, ◌+◌, inr, ℕ, Li
 use Rattle.cweb_input.specs.OpenSources.{RefusesLine}
 use Rattle.cweb_tools.proofs.Limits.{breaks_limit}
 use Rattle.cweb_tools.proofs.Logging.{at}
-use Rattle.cweb_tools.proofs.TangleExits.{looked, shelf_told}
+use Rattle.cweb_tools.proofs.TangleExits.{looked, shelf_observed}
 
 -- The file of a stop is among those that the whole merge opens.
 of_file : (files opened rest : List (List ℕ)) (file : ℕ) → files ≡ opened ++ rest
@@ -19,17 +19,19 @@ abbrev pub left_by : Stop → List ℕ → DeviceState → DeviceState
 left_by (ReadFault file) about now = read_fails about now
 left_by stop about now = now
 
-pub left_told : (stop : Stop) (files : List (List ℕ)) {now : DeviceState} (shelf shelf' : ShelfModel) (bins : SinkModel)
+pub left_observed : (stop : Stop) (files : List (List ℕ)) {now : DeviceState} (shelf shelf' : ShelfModel)
+    (bins : SinkModel)
     (l : SinkModel) → StopsReading stop → AgreesWith now (at shelf bins l) → shelf'.tells ≡ shelf.tells
     → shelf'.failed
     ≡ shelf.failed + read_failures_of stop → (IsTrue shelf.tells → shelf'.blamed ≡ shelf.blamed ++ blame files stop)
     → AgreesWith (left_by stop (subject files stop) now) (at shelf' bins l)
-left_told (ReadFault file) files {now} shelf shelf' bins l kind told tells blames blamed =
-    shelf_told _ _ shelf shelf' bins l told (ap (λ (n : ℕ). n + 1) told.shelf_failed ∙ sym blames) (λ tell.
+left_observed (ReadFault file) files {now} shelf shelf' bins l kind observed tells blames blamed =
+    shelf_observed _ _ shelf shelf' bins l observed (ap (λ (n : ℕ). n + 1) observed.shelf_failed ∙ sym blames) (λ tell.
     let first : IsTrue shelf.tells = sym tells ∙ tell in
-    ap (λ (names : List (List ℕ)). names ++ file_name_at files file.0 ∷ []) (told.blamed first) ∙ sym (blamed first))
-left_told stop files {now} shelf shelf' bins l kind told tells blames blamed = looked shelf shelf' tells
-    (blames ∙ add-zero shelf.failed) (λ tell. blamed tell ∙ append-nil shelf.blamed) bins l l now told
+    ap (λ (names : List (List ℕ)). names ++ file_name_at files file.0 ∷ []) (observed.blamed first) ∙ sym
+    (blamed first))
+left_observed stop files {now} shelf shelf' bins l kind observed tells blames blamed = looked shelf shelf' tells
+    (blames ∙ add-zero shelf.failed) (λ tell. blamed tell ∙ append-nil shelf.blamed) bins l l now observed
 
 -- Why reading ended early.
 pub reads_broke : (stop : Stop) (first opened rest : List (List ℕ)) (old new : SoFar) (all : List Event)

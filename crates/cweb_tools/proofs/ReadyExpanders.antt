@@ -3,10 +3,10 @@ use Rattle.cweb_tools.proofs.Common.{◌≡◌, ℕ, Bool, List, length, map, re
 use Rattle.cweb_tools.proofs.Marks.{expansion_all}
 
 pub stays : {e : Expander} → IsReady e → StaysReady e e
-stays ready = record { store = refl; plan = refl; stands = ready.stands }
+stays ready = record { store = refl; plan = refl; valid = ready.valid }
 
 pub stays_on : {a b c : Expander} → StaysReady a b → StaysReady b c → StaysReady a c
-stays_on first then = record { store = then.store ∙ first.store; plan = then.plan ∙ first.plan; stands = then.stands }
+stays_on first then = record { store = then.store ∙ first.store; plan = then.plan ∙ first.plan; valid = then.valid }
 
 -- The file of an output is unchanged.
 pub file_on : (files : FileNames) {a b : Expander} (n : ℕ) → StaysReady a b → file_at files b n ≡ file_at files a n
@@ -23,17 +23,17 @@ pub left_known : (files : FileNames) (a b : Expander) (n : ℕ) → AreMarksBelo
     → left a.store.now b.frames.items
     ≡ expand a.store.now (names a.store.now) (root_list a.store.now (root_at a.plan.now.outputs n))
     → All (IsMarkBelow (length (opened_file_names files))) (left_in b)
-left_known files a b n known same gives = subst (All (IsMarkBelow (length (opened_file_names files))))
-    (sym (ap (λ (s : Bor Stored). left s.now b.frames.items) same ∙ gives)) (root_known files a n known)
+left_known files a b n known same yields = subst (All (IsMarkBelow (length (opened_file_names files))))
+    (sym (ap (λ (s : Bor Stored). left s.now b.frames.items) same ∙ yields)) (root_known files a n known)
 
 -- Printing the tokens of an output gives its file.
 pub text_on : (files : FileNames) (a b : Expander) (ts : List Token)
     → b.store ≡ a.store → left a.store.now b.frames.items ≡ ts
     → file (setting b.store.now (opened_file_names files)) (left_in b)
     ≡ file (setting a.store.now (opened_file_names files)) ts
-text_on files a b ts same gives =
+text_on files a b ts same yields =
     ap (λ (s : Bor Stored). file (setting s.now (opened_file_names files)) (left s.now b.frames.items)) same
-    ∙ ap (λ (ts : List Token). file (setting a.store.now (opened_file_names files)) ts) gives
+    ∙ ap (λ (ts : List Token). file (setting a.store.now (opened_file_names files)) ts) yields
 
 -- The acts of an output are those of the initial expander.
 pub output_on : {A : Type 0} (progress : Bool) (files : FileNames) {a b : Expander}

@@ -24,15 +24,20 @@ refusal_line w main Memory r is = absurd (cc)
 -- A fault other than a failed allocation is the expected refusal.
 pub record IsRefused (w : Stored) (main : List ℕ) (f : PlanFault) : Type 0 where
   pub refusal : Refusal
-  pub told : refusal_in f ≡ Some refusal
-  pub due : out.planned w main ≡ Err refusal
+  pub is_refusal : refusal_in f ≡ Some refusal
+  pub expected : out.planned w main ≡ Err refusal
 
 pub refused_by : {w : Stored} {main : List ℕ} (f : PlanFault)
     → IsExpectedFault (out.planned w main) f → (f ≡ Memory → ⊥) → IsRefused w main f
-refused_by (Cycle names) due never = record { refusal = cycle names.items; told = refl; due = due }
-refused_by (SameName name) due never = record { refusal = same_name name; told = refl; due = due }
-refused_by (BadName output) due never = record { refusal = bad_name output; told = refl; due = due }
-refused_by Memory due never = absurd (never refl)
+refused_by (Cycle names) expected never = record { refusal = cycle names.items; is_refusal = refl; expected = expected }
+refused_by (SameName name) expected never = record { refusal = same_name name; is_refusal = refl; expected = expected }
+refused_by (BadName output) expected never = record {
+  refusal = bad_name output;
+  is_refusal = refl;
+  expected =
+      expected;
+}
+refused_by Memory expected never = absurd (never refl)
 
 pub planning_made : (w : Stored) (files : List (List ℕ)) (main : List ℕ) (p : Planned)
     → out.planned w main ≡ Ok p → planning w files main ≡ plan_made w files p

@@ -9,24 +9,24 @@ use Rattle.cweb_tools.proofs.MakeReadings.{body, escaped_special, escaped_plain,
 
 -- A name but for its last byte, which is no blank.
 pub record EndsIn (name : List ℕ) : Type 0 where
-  pub front : List ℕ
+  pub prefix : List ℕ
   pub last : ℕ
-  pub is : name ≡ front ++ last ∷ []
+  pub is : name ≡ prefix ++ last ∷ []
   pub clear : is_blank last ≡ false
 
 pub last_byte : (name : List ℕ) → name ≢ [] → ends_in_blank name ≡ false → EndsIn name
 last_byte [] some clear = absurd (some refl)
-last_byte (b ∷ []) some clear = record { front = []; last = b; is = refl; clear = clear }
+last_byte (b ∷ []) some clear = record { prefix = []; last = b; is = refl; clear = clear }
 last_byte (b ∷ c ∷ bs) some clear =
     let rest = last_byte (c ∷ bs) (λ none. cc) clear in
-    record { front = b ∷ rest.front; last = rest.last; is = ap (λ (xs : List ℕ). b ∷ xs) rest.is; clear = rest.clear }
+    record { prefix = b ∷ rest.prefix; last = rest.last; is = ap (λ (xs : List ℕ). b ∷ xs) rest.is; clear = rest.clear }
 
 -- An escaped byte ends in the byte.
-byte_last : (c : Bool) (n b : ℕ) → (front : List ℕ) × (escaped_byte (place c) n b ≡ front ++ b ∷ [])
+byte_last : (c : Bool) (n b : ℕ) → (prefix : List ℕ) × (escaped_byte (place c) n b ≡ prefix ++ b ∷ [])
 byte_last c n b = by_tests (needs_backslash (place c) b) (b == 36) refl refl
   where
     by_tests : (needs dollar : Bool) → needs_backslash (place c) b ≡ needs → (b == 36) ≡ dollar
-        → (front : List ℕ) × (escaped_byte (place c) n b ≡ front ++ b ∷ [])
+        → (prefix : List ℕ) × (escaped_byte (place c) n b ≡ prefix ++ b ∷ [])
     by_tests true dollar is doubled = (
       replicate n 92 ++ 92 ∷ [],
       escaped_special (place c) n b is ∙ sym (append_assoc (replicate n 92) (92 ∷ []) (b ∷ [])),
@@ -35,12 +35,12 @@ byte_last c n b = by_tests (needs_backslash (place c) b) (b == 36) refl refl
         (36 ∷ [], rw (is, doubled) (ap (λ (x : ℕ). 36 ∷ x ∷ []) (sym (eqb-true b 36 doubled))))
     by_tests false false is doubled = ([], escaped_plain (place c) n b is doubled)
 
-pub body_last : (c : Bool) (n : ℕ) (front : List ℕ) (b : ℕ)
-    → (before : List ℕ) × (body c n (front ++ b ∷ []) ≡ before ++ b ∷ [])
+pub body_last : (c : Bool) (n : ℕ) (prefix : List ℕ) (b : ℕ)
+    → (before : List ℕ) × (body c n (prefix ++ b ∷ []) ≡ before ++ b ∷ [])
 body_last c n [] b =
     let byte = byte_last c n b in (byte.0, append-nil (escaped_byte (place c) n b) ∙ byte.1)
-body_last c n (x ∷ front) b =
-    let rest = body_last c (backslashes_after n x) front b in (
+body_last c n (x ∷ prefix) b =
+    let rest = body_last c (backslashes_after n x) prefix b in (
       escaped_byte (place c) n x ++ rest.0,
       ap (λ (xs : List ℕ). escaped_byte (place c) n x ++ xs) rest.1
           ∙ sym (append_assoc (escaped_byte (place c) n x) rest.0 (b ∷ [])),

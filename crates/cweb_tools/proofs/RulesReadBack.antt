@@ -167,7 +167,7 @@ end_read now ts ps name between readable =
     let read = reads_body ts ps true [] 0 name readable.one_line in
     let m = pending 0 name in
     let ends = last_byte name readable.some readable.clear in
-    let tail = body_last true 0 ends.front ends.last in
+    let tail = body_last true 0 ends.prefix ends.last in
     let whole : body true 0 name ≡ tail.0 ++ ends.last ∷ [] = ap (body true 0) ends.is ∙ tail.1 in
     let text : (add_word now (escaped Last name)).text ≡ (begins.before ++ tail.0) ++ (ends.last ∷ name_end Last m) =
     begins.is ∙ ap (λ (xs : List ℕ). begins.before ++ xs) (escaped_is Last true (λ n b. refl) 0 name
@@ -177,11 +177,11 @@ end_read now ts ps name between readable =
     ap trimmed text ∙ last_trimmed (begins.before ++ tail.0) ends.last m ends.clear
     ∙ append_assoc begins.before tail.0 (ends.last ∷ []) ∙ ap (λ (xs : List ℕ). begins.before ++ xs) (sym whole) in
     let all : fold read_byte nothing_read (trimmed (add_word now (escaped Last name)).text)
-    ≡ reading ts ps true read.front m =
+    ≡ reading ts ps true read.prefix m =
     ap (fold read_byte nothing_read) left ∙ fold-append read_byte nothing_read begins.before (body true 0 name)
     ∙ ap (λ (r : RuleReading). fold read_byte r (body true 0 name)) begins.read ∙ read.is in
     ap (λ (r : RuleReading). add_name r (r.name ++ replicate r.backslashes 92)) all
-    ∙ ap (add_name (reading ts ps true read.front m)) read.whole ∙ added ts ps true read.front name m readable.some
+    ∙ ap (add_name (reading ts ps true read.prefix m)) read.whole ∙ added ts ps true read.prefix name m readable.some
 
 -- All prerequisites.
 inputs_read : (now : Wrapped) (ts ps : List (List ℕ)) (name : List ℕ) (names : List (List ℕ)) → Between now ts ps true

@@ -1,14 +1,15 @@
 -- The laws of runs.
-use Rattle.cweb_tools.proofs.Common.{◌≡◌, ◌+◌, ◌⊎◌, inl, inr, ℕ, List, ◌++◌, refl, sym, ◌∙◌, arith, flat_map, IsTrue, Option, World, read_failures_of, Stop, ReadFault, OutNotOpened, WriteFault, line, stop_line, OptionsModel, Devices, Shown, Act, ending, DeviceState, TangleEnds, completes, stops, AgreesWith, bins_blame, observed_state, TangleCourse, logged_items, script, tangle_status, shown_by, TangleFailsOnce, TangleReportsFaults, IsEnded, LogEnds, RisesOnce, TanglePromises, LeavesDevices, LeavesStates, cut, said}
+use Rattle.cweb_tools.proofs.Common.{◌≡◌, ◌+◌, ◌⊎◌, inl, inr, ℕ, List, ◌++◌, refl, sym, ◌∙◌, arith, flat_map, IsTrue, Option, World, read_failures_of, Stop, ReadFault, OutNotOpened, WriteFault, line, stop_line, OptionsModel, Devices, Shown, Act, ending, DeviceState, RunEnds, completes, stops, AgreesWith, bins_blame, observed_state, TangleCourse, logged_items, script, tangle_status, shown_by, TangleFailsOnce, TangleReportsFaults, IsEnded, LogEnds, RisesOnce, TanglePromises, LeavesDevices, LeavesStates, cut, said}
 use Rattle.cweb_tools.proofs.Endings.{counts_all, ends_so, ends_within}
 use Rattle.cweb_tools.proofs.Leaving.{ends_files}
 use Rattle.cweb_tools.proofs.ChangedFilesWereRead.{ends_read}
 use Rattle.cweb_tools.proofs.Stopping.{is_stopped}
-use Rattle.cweb_tools.proofs.TanglePromisesProved.{shown_told}
+use Rattle.cweb_tools.proofs.TanglePromisesProved.{shown_reported}
 
-pub leave_states : (shown : Shown) (course : TangleCourse) (due : ℕ) (old new : DeviceState) (status : ℕ)
-    → TangleEnds (script shown course) due old new status → LeavesStates (script shown course) due old new status
-leave_states shown course due old new status ends =
+pub leave_states : (shown : Shown) (course : TangleCourse) (expected : ℕ) (old new : DeviceState) (status : ℕ)
+    → RunEnds (script shown course) expected old new status → LeavesStates
+    (script shown course) expected old new status
+leave_states shown course expected old new status ends =
     record { ended = ends_so ends; read = ends_read shown course ends; limits = ends_within ends }
 
 -- A count that a stop increases by at most one.
@@ -33,8 +34,8 @@ pub record Counts (old new : DeviceState) (status : ℕ) : Type 0 where
   pub shows : (new.shelf_failed ≡ old.shelf_failed) × (new.bins_failed ≡ old.bins_failed)
       × (new.log_failed ≡ old.log_failed) ⊎ (status ≡ 1)
 
-pub counts : {acts : List Act} {due : ℕ} {old new : DeviceState} {status : ℕ}
-    → TangleEnds acts due old new status → Counts old new status
+pub counts : {acts : List Act} {expected : ℕ} {old new : DeviceState} {status : ℕ}
+    → RunEnds acts expected old new status → Counts old new status
 counts {acts} {old} {new} (completes run answered) =
     let same = counts_all acts old new run in
     record { shelf = inl same.0; bins = inl same.1; log = inl same.2; shows = inl same }
@@ -67,22 +68,24 @@ faults_show before agrees (inr answered) =
     record { read = λ failed. answered; written = λ failed. answered; logged = λ failed. answered }
 
 -- The observable log at the end of a run.
-log_ends : (acts : List Act) {due : ℕ} (before : Devices) {after : Devices} {status : ℕ} {new : DeviceState}
-    → AgreesWith new after → IsTrue after.log.tells → IsEnded acts due (observed_state before) new status
-    → LogEnds (logged_items acts) due before.log after.log status
-log_ends acts before told tells (inl all) = said (sym (told.log tells) ∙ all.log) all.answered
-log_ends acts before told tells (inr why) =
+log_ends : (acts : List Act) {expected : ℕ} (before : Devices) {after : Devices} {status : ℕ} {new : DeviceState}
+    → AgreesWith new after → IsTrue after.log.tells → IsEnded acts expected (observed_state before) new status
+    → LogEnds (logged_items acts) expected before.log after.log status
+log_ends acts before observed tells (inl all) = said (sym (observed.log tells) ∙ all.log) all.answered
+log_ends acts before observed tells (inr why) =
     let log = why.2.log in
     let text : List ℕ = flat_map line log.before ++ stop_line why.0 why.1 in
     cut why.0 why.1 log.before log.later log.whole
-    (rw (← (told.log tells)) log.front) (λ same. sym (told.log tells) ∙ log.all (told.log_failed ∙ same)) why.3
+    (rw (← (observed.log tells)) log.prefix) (λ same. sym (observed.log tells) ∙ log.all (observed.log_failed ∙ same))
+    why.3
 
-pub leave_devices : (world : World) (asked : Option OptionsModel) (before after : Devices) (status : ℕ)
-    → (run : TanglePromises world asked before after status)
-    → LeavesDevices (script (shown_by asked) run.course) (tangle_status (shown_by asked) run.course) before after status
-leave_devices world asked before after status run =
-    let acts : List Act = script (shown_by asked) run.course in
-    let last = run.ends (observed_state before) shown_told in
+pub leave_devices : (world : World) (args : Option OptionsModel) (before after : Devices) (status : ℕ)
+    → (run : TanglePromises world args before after status)
+    → LeavesDevices (script (shown_by args) run.course) (tangle_status (shown_by args) run.course) before after
+    status
+leave_devices world args before after status run =
+    let acts : List Act = script (shown_by args) run.course in
+    let last = run.ends (observed_state before) shown_reported in
     let all = counts last.ends in
     record {
       logged = λ tells. log_ends acts before last.agrees (run.log_tells ∙ tells) (ends_so last.ends);

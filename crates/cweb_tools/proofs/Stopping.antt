@@ -3,12 +3,12 @@ use Rattle.cweb_tools.proofs.Common.{◌≡◌, inl, inr, ℕ, List, [], ◌∷�
 use Rattle.cweb_tools.proofs.Leaving.{broken, stop_logged}
 
 -- A line was logged, or the log failed within it.
-line_front : {text : List ℕ} (old new : DeviceState) → LogsLine text old new
+line_prefix : {text : List ℕ} (old new : DeviceState) → LogsLine text old new
     → WritesPrefix old.log new.log text × (new.log_failed ≡ old.log_failed → new.log ≡ old.log ++ text)
-line_front {text} old new (inl is) =
+line_prefix {text} old new (inl is) =
     let log = ap (λ (d : DeviceState). d.log) is in
-    (record { front = text; rest = []; written = log; whole = sym (append-nil text) }, λ same. log)
-line_front old new (inr fails) =
+    (record { prefix = text; rest = []; written = log; whole = sym (append-nil text) }, λ same. log)
+line_prefix old new (inr fails) =
     (fails.0, λ same. absurd (omega (arith, ap (λ (d : DeviceState). d.log_failed) fails.1, same)))
 
 line_once : {text : List ℕ} (old new : DeviceState) → LogsLine text old new → RisesOnce old.log_failed new.log_failed
@@ -24,8 +24,8 @@ stopped_at (says item) LogFault {old} mid fails is acts = record {
     before = item ∷ [];
     later = logged_items acts;
     whole = refl;
-    front = record {
-      front = fails.0.front;
+    prefix = record {
+      prefix = fails.0.prefix;
       rest = fails.0.rest;
       written = ap (λ (d : DeviceState). d.log) is ∙ fails.0.written;
       whole = append-nil (line item ++ []) ∙ append-nil (line item) ∙ fails.0.whole;
@@ -42,14 +42,14 @@ stopped_at act LogFault mid broke logs acts = absurd broke
 stopped_at act stop {about} {old} mid {new} broke logs acts =
     let left = broken act stop about old mid broke in
     let never : stop ≡ LogFault → ⊥ = λ is. cc in
-    let line = line_front mid new logs in
+    let line = line_prefix mid new logs in
     let alone = stop_logged stop about mid new logs in
     record {
       log = record {
         before = [];
         later = logged_items (act ∷ acts);
         whole = refl;
-        front = rw (← (left.log never).0) line.0;
+        prefix = rw (← (left.log never).0) line.0;
         all = λ same. line.1 (same ∙ sym (left.log never).1)
             ∙ ap (λ (t : List ℕ). t ++ stop_line stop about) (left.log never).0;
       };
@@ -67,13 +67,13 @@ said_before item {stop} {about} {old} rest = record {
     before = item ∷ rest.log.before;
     later = rest.log.later;
     whole = ap (λ (items : List LogItem). item ∷ items) rest.log.whole;
-    front = record {
-      front = line item ++ rest.log.front.front;
-      rest = rest.log.front.rest;
-      written = rest.log.front.written ∙ append_assoc old.log (line item) rest.log.front.front;
+    prefix = record {
+      prefix = line item ++ rest.log.prefix.prefix;
+      rest = rest.log.prefix.rest;
+      written = rest.log.prefix.written ∙ append_assoc old.log (line item) rest.log.prefix.prefix;
       whole = append_assoc (line item) (flat_map line rest.log.before) (stop_line stop about)
-          ∙ ap (λ (t : List ℕ). line item ++ t) rest.log.front.whole
-          ∙ sym (append_assoc (line item) rest.log.front.front rest.log.front.rest);
+          ∙ ap (λ (t : List ℕ). line item ++ t) rest.log.prefix.whole
+          ∙ sym (append_assoc (line item) rest.log.prefix.prefix rest.log.prefix.rest);
     };
     all = λ same.
         rest.log.all same ∙ append_assoc old.log (line item) (flat_map line rest.log.before ++ stop_line stop about)
@@ -97,7 +97,7 @@ is_stopped (act ∷ acts) {stop} {about} {old} mid {new} (inl run) logs =
     let rest = is_stopped acts mid run.1 logs in
     let log = rest.log in
     record {
-      log = record { before = log.before; later = log.later; whole = log.whole; front = log.front; all = log.all };
+      log = record { before = log.before; later = log.later; whole = log.whole; prefix = log.prefix; all = log.all };
       shelf = rest.shelf;
       bins = rest.bins;
       log_fails = rest.log_fails;
@@ -134,7 +134,7 @@ runs_out (act ∷ acts) about {old} mid {new} (inr here) logs =
       to = mid;
       whole = refl;
       breaks = here;
-      log = λ same. (line_front mid new logs).1 (same ∙ sym (left.log never).1)
+      log = λ same. (line_prefix mid new logs).1 (same ∙ sym (left.log never).1)
           ∙ ap (λ (t : List ℕ). t ++ stop_line Memory []) (left.log never).0;
     }
 runs_out (says item ∷ acts) about {old} mid {new} (inl run) logs =

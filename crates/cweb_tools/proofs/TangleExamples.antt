@@ -13,11 +13,11 @@ record Left : Type 0 where
   status : ℕ
 
 abbrev left_of : Option OptionsModel → TangleCourse → Left
-left_of asked course =
+left_of args course =
     record {
-      log = tangle_log (shown_by asked) course;
-      files = tangle_files (shown_by asked) course;
-      status = tangle_status (shown_by asked) course;
+      log = tangle_log (shown_by args) course;
+      files = tangle_files (shown_by args) course;
+      status = tangle_status (shown_by args) course;
     }
 
 -- The effect for these files and words.

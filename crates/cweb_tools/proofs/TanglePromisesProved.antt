@@ -4,11 +4,11 @@ use Rattle.cweb_tools.specs.Headline.{needs_memory}
 use Rattle.cweb_tools.proofs.AllDone.{draft_all, files_all, log_all, printed_all}
 use Rattle.cweb_tools.proofs.Courses.{tangle_comes, tangle_only}
 use Rattle.cweb_tools.proofs.Endings.{runs_freely}
-use Rattle.cweb_tools.proofs.ObservedTangleEnds.{tangle_ends, log_tells, bins_tell, shelf_tells}
+use Rattle.cweb_tools.proofs.ObservedRunEnds.{run_ends, log_tells, bins_tell, shelf_tells}
 
 -- The state of the observable devices agrees with them.
-pub shown_told : {seen : Devices} → AgreesWith (observed_state seen) seen
-shown_told =
+pub shown_reported : {seen : Devices} → AgreesWith (observed_state seen) seen
+shown_reported =
     record {
       shelf_failed = refl;
       bins_failed = refl;
@@ -29,17 +29,17 @@ promised_by {Is = Is} comes follows = record {
   course = follows.taken;
   can = follows.can;
   is = λ tells. subst Is (sym (follows.is tells)) comes;
-  ends = λ old agrees. tangle_ends follows.closes old agrees;
+  ends = λ old agrees. run_ends follows.closes old agrees;
   shelf_tells = shelf_tells follows.closes;
   bins_tell = bins_tell follows.closes;
   log_tells = log_tells follows.closes;
 }
 
-pub promised : (world : World) (asked : Option OptionsModel) {before after : Devices} {status : ℕ}
+pub promised : (world : World) (args : Option OptionsModel) {before after : Devices} {status : ℕ}
     {acts : TangleCourse → List Act} → FollowsCourse acts (λ course. acts_status (acts course))
-    (CanCome asked) (tangle_course world asked) before after status
-    → FollowsActs acts (CanCome asked) (IsTangleCourse world asked) before after status
-promised world asked follows = promised_by {Is = IsTangleCourse world asked} (tangle_comes world asked) follows
+    (CanCome args) (tangle_course world args) before after status
+    → FollowsActs acts (CanCome args) (IsTangleCourse world args) before after status
+promised world args follows = promised_by {Is = IsTangleCourse world args} (tangle_comes world args) follows
 
 -- An act within which memory can run out needs memory.
 needs : (act : Act) (about : List ℕ) (old new : DeviceState) → Breaks act (ending Memory about) old new
@@ -61,7 +61,7 @@ module _ {C : Type 0} (acts : C → List Act) {CanBe Is : C → Type 0} {before 
   done_freely free =
       let all : List Act = acts run.course in
       let old : DeviceState = observed_state before in
-      let last = run.ends old shown_told in
+      let last = run.ends old shown_reported in
       let bins : IsTrue after.out.tells = run.bins_tell ∙ tell.1 in
       let log : IsTrue after.log.tells = run.log_tells ∙ tell.2 in
       let run_all = runs_freely last.ends (record {
@@ -91,9 +91,9 @@ ran_freely {C} acts {before = before} {after = after} {status = status} only run
     subst (λ (c : C). DoesActs (acts c) before after status) same
     (done_freely acts run tell (subst (λ (c : C). RanFreely (acts c) before after) (sym same) free))
 
-pub tangled_freely : (world : World) (asked : Option OptionsModel) {acts : TangleCourse → List Act}
+pub tangled_freely : (world : World) (args : Option OptionsModel) {acts : TangleCourse → List Act}
     {before after : Devices} {status : ℕ}
-    → FollowsActs acts (CanCome asked) (IsTangleCourse world asked) before after status
-    → DoesActsFreely acts (IsTangleCourse world asked) before after status
-tangled_freely world asked {acts} run = ran_freely acts
-    (λ one other is too. tangle_only world asked one is ∙ sym (tangle_only world asked other too)) run
+    → FollowsActs acts (CanCome args) (IsTangleCourse world args) before after status
+    → DoesActsFreely acts (IsTangleCourse world args) before after status
+tangled_freely world args {acts} run = ran_freely acts
+    (λ one other is too. tangle_only world args one is ∙ sym (tangle_only world args other too)) run

@@ -157,11 +157,11 @@ abbrev pub LogsStop : Ending → DeviceState → DeviceState → Type 0
 LogsStop (ending LogFault about) old new = new ≡ old
 LogsStop (ending stop about) old new = LogsLine (stop_line stop about) old new
 
--- The end of a run: all acts are done and the status is `due`, or something stopped it, which is logged last.
-pub data TangleEnds (acts : List Act) (due : ℕ) (before after : DeviceState) (status : ℕ) : Type 0 where
-  completes : PerformsActs acts None before after → status ≡ due → TangleEnds acts due before after status
+-- The end of a run: all acts are done and the status is `expected`, or something stopped it, which is logged last.
+pub data RunEnds (acts : List Act) (expected : ℕ) (before after : DeviceState) (status : ℕ) : Type 0 where
+  completes : PerformsActs acts None before after → status ≡ expected → RunEnds acts expected before after status
   stops : (why : Ending) (mid : DeviceState) → PerformsActs acts (Some why) before mid → LogsStop why mid after
-      → status ≡ 1 → TangleEnds acts due before after status
+      → status ≡ 1 → RunEnds acts expected before after status
 
 -- The state agrees with the devices. Failure counts are always observable, and so are an observable log's bytes,
 -- observable bins' files, draft and refusal, an open output's bytes, and the files whose reads failed in an observable
@@ -188,10 +188,10 @@ abbrev pub acts_status : List Act → ℕ
 acts_status acts = if list_any is_fault (logged_items acts) then 1 else 0
 
 -- A run with these acts ends in a state that agrees with its observable devices.
-pub record EndsIn (acts : List Act) (due : ℕ) (old : DeviceState) (after : Devices) (status : ℕ) : Type 0 where
+pub record EndsIn (acts : List Act) (expected : ℕ) (old : DeviceState) (after : Devices) (status : ℕ) : Type 0 where
   pub new : DeviceState
   pub agrees : AgreesWith new after
-  pub ends : TangleEnds acts due old new status
+  pub ends : RunEnds acts expected old new status
 
 -- The acts of the course are done in order: all of them, or up to a stop within one, which is logged last.
 pub record FollowsActs {Course : Type 0} (acts : Course → List Act) (CanBe Is : Course → Type 0)

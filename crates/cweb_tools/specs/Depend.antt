@@ -40,10 +40,10 @@ depend_acts (tangling files events web) = judges ∷ opens ∷ reads files event
 
 -- A run of `wdep` follows these acts.
 abbrev pub DependPromises : World → Option OptionsModel → Devices → Devices → ℕ → Type 0
-DependPromises world asked before after status =
-    FollowsActs depend_acts (CanCome asked) (IsTangleCourse world asked) before after status
+DependPromises world args before after status =
+    FollowsActs depend_acts (CanCome args) (IsTangleCourse world args) before after status
 
 -- The headline theorem of `wdep`.
 abbrev pub DependsFreely : World → Option OptionsModel → Devices → Devices → ℕ → Type 0
-DependsFreely world asked before after status =
-    DoesActsFreely depend_acts (IsTangleCourse world asked) before after status
+DependsFreely world args before after status =
+    DoesActsFreely depend_acts (IsTangleCourse world args) before after status

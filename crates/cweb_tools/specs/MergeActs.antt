@@ -30,7 +30,7 @@ MergeCanCome None unread = Unit {0}
 MergeCanCome (Some names) (not_there web) = web ≡ names.web
 MergeCanCome (Some names) (change_not_there change) = change ≡ change_name names.change
 MergeCanCome (Some names) (merging first events) = Unit {0}
-MergeCanCome asked course = ⊥
+MergeCanCome args course = ⊥
 
 -- The devices of a run: the output has only bytes. They are observable if the output and the shelf are.
 abbrev pub merge_devices : Devices → Devices
@@ -40,10 +40,10 @@ merge_devices seen = record seen {
 
 -- A run of `wmerge` follows these acts.
 abbrev pub MergePromises : World → Option WebNames → Devices → Devices → ℕ → Type 0
-MergePromises world asked before after status = FollowsActs merge_acts (MergeCanCome asked) (IsMergeCourse world asked)
+MergePromises world args before after status = FollowsActs merge_acts (MergeCanCome args) (IsMergeCourse world args)
     (merge_devices before) (merge_devices after) status
 
 -- The headline theorem of `wmerge`.
 abbrev pub MergesFreely : World → Option WebNames → Devices → Devices → ℕ → Type 0
-MergesFreely world asked before after status =
-    DoesActsFreely merge_acts (IsMergeCourse world asked) (merge_devices before) (merge_devices after) status
+MergesFreely world args before after status =
+    DoesActsFreely merge_acts (IsMergeCourse world args) (merge_devices before) (merge_devices after) status

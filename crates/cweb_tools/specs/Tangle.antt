@@ -74,8 +74,8 @@ tangled main (course.merging first events) =
 -- A run of these arguments goes this way.
 abbrev pub IsTangleCourse : World → Option OptionsModel → TangleCourse → Type 0
 IsTangleCourse world None course = course ≡ unread
-IsTangleCourse world (Some asked) course =
-    (merge : Course) × IsMergeCourse world (Some asked.names.merge) merge × (course ≡ tangled asked.names.main merge)
+IsTangleCourse world (Some args) course =
+    (merge : Course) × IsMergeCourse world (Some args.names.merge) merge × (course ≡ tangled args.names.main merge)
 
 -- A scanned web with files of these names and a main output of this name.
 pub record IsWebOf (files : List (List ℕ)) (main : List ℕ) (web : Web) : Type 0 where
@@ -86,22 +86,22 @@ pub record IsWebOf (files : List (List ℕ)) (main : List ℕ) (web : Web) : Typ
 -- A course that is possible for these words, for some shelf.
 abbrev pub CanCome : Option OptionsModel → TangleCourse → Type 0
 CanCome None unread = Unit {0}
-CanCome (Some asked) (not_there web) = web ≡ asked.names.merge.web
-CanCome (Some asked) (change_not_there change) = change ≡ change_name asked.names.merge.change
-CanCome (Some asked) (tangling files events web) = IsWebOf files asked.names.main web
-CanCome asked course = ⊥
+CanCome (Some args) (not_there web) = web ≡ args.names.merge.web
+CanCome (Some args) (change_not_there change) = change ≡ change_name args.names.merge.change
+CanCome (Some args) (tangling files events web) = IsWebOf files args.names.main web
+CanCome args course = ⊥
 
 -- The log options of the words.
 abbrev pub shown_by : Option OptionsModel → Shown
 shown_by None = shown_by_default
-shown_by (Some asked) = asked.shown
+shown_by (Some args) = args.shown
 
 -- A run of `ctangle` follows its script.
 abbrev pub TanglePromises : World → Option OptionsModel → Devices → Devices → ℕ → Type 0
-TanglePromises world asked before after status =
-    FollowsActs (script (shown_by asked)) (CanCome asked) (IsTangleCourse world asked) before after status
+TanglePromises world args before after status =
+    FollowsActs (script (shown_by args)) (CanCome args) (IsTangleCourse world args) before after status
 
 -- The headline theorem of `ctangle`.
 abbrev pub TanglesFreely : World → Option OptionsModel → Devices → Devices → ℕ → Type 0
-TanglesFreely world asked before after status =
-    DoesActsFreely (script (shown_by asked)) (IsTangleCourse world asked) before after status
+TanglesFreely world args before after status =
+    DoesActsFreely (script (shown_by args)) (IsTangleCourse world args) before after status

@@ -2,7 +2,7 @@
 ghost use Rattle.std.specs.Prelude.{◌≡◌, ℕ, List, None};
 ghost use Rattle.cweb_lines.specs.Merge.{Event};
 ghost use Rattle.cweb_log.specs.declared.shown.Shown.{Shown};
-ghost use Rattle.cweb_tools.specs.Acts.{DeviceState, TangleEnds};
+ghost use Rattle.cweb_tools.specs.Acts.{DeviceState, RunEnds};
 ghost use Rattle.cweb_tools.specs.laws.Leaves.{LeavesFiles, tangle_files};
 ghost use Rattle.cweb_tools.specs.laws.MakeReads.{MakeReadsNames};
 ghost use Rattle.cweb_tools.specs.laws.Targets.{TargetsAreWrittenFiles};
@@ -13,9 +13,9 @@ ghost use Rattle.cweb_tools.specs.Spacing.{Spacing};
 
 /// The committed files are the first of the expected ones, in order, each whole. All other files are unchanged.
 pub fn committed_files_are_a_prefix()
-    ensures { (shown : Shown) (course : TangleCourse) (due : ℕ) (old new : DeviceState)
+    ensures { (shown : Shown) (course : TangleCourse) (expected : ℕ) (old new : DeviceState)
         (status : ℕ) →
-        TangleEnds (script shown course) due old new status →
+        RunEnds (script shown course) expected old new status →
         LeavesFiles (tangle_files shown course) old.files new.files }
 {}
 
@@ -23,17 +23,17 @@ pub fn committed_files_are_a_prefix()
 pub fn refused_plans_write_no_file()
     ensures { (shown : Shown) (names : List (List ℕ)) (events : List Event) (web : Web)
         (text : List ℕ) → web.plan ≡ refused text →
-        (due : ℕ) (old new : DeviceState) (status : ℕ) →
-        TangleEnds (script shown (tangling names events web)) due old new status →
+        (expected : ℕ) (old new : DeviceState) (status : ℕ) →
+        RunEnds (script shown (tangling names events web)) expected old new status →
         new.files ≡ old.files }
 {}
 
 /// If there was no draft before a run, there is none after it.
 pub fn no_draft_remains()
-    ensures { (shown : Shown) (course : TangleCourse) (due : ℕ) (old new : DeviceState)
+    ensures { (shown : Shown) (course : TangleCourse) (expected : ℕ) (old new : DeviceState)
         (status : ℕ) →
         old.draft ≡ None →
-        TangleEnds (script shown course) due old new status → new.draft ≡ None }
+        RunEnds (script shown course) expected old new status → new.draft ≡ None }
 {}
 
 /// A run of `ctangle` does all its acts, or logs what stopped it and returns 1. If it committed a file, it has read the

@@ -43,14 +43,14 @@ pub fn run_ctangle<S: Shelf, B: Bins, L: Sink>(
     requires log_count { L.failed log.old + 1 < 2 ^ 64 }
     ensures promises { let before =
         devices S.Shelf B.Sink L.Sink shelf.old bins.old log.old in
-        let asked = options_by (map (λ word. word.now) words.now) in
+        let args = options_by (map (λ word. word.now) words.now) in
         let world = world_of before.shelf.texts (option_copied inputs.entry) in
-        TanglePromises world asked before
+        TanglePromises world args before
         (devices S.Shelf B.Sink L.Sink shelf.new bins.new log.new) result }
     ensures freely { let before = devices S.Shelf B.Sink L.Sink shelf.old bins.old log.old in
-        let asked = options_by (map (λ word. word.now) words.now) in
+        let args = options_by (map (λ word. word.now) words.now) in
         let world = world_of before.shelf.texts (option_copied inputs.entry) in
-        TanglesFreely world asked before
+        TanglesFreely world args before
         (devices S.Shelf B.Sink L.Sink shelf.new bins.new log.new) result }
     ensures untouched { options_by (map (λ word. word.now) words.now) ≡ None →
         (shelf.new ≡ shelf.old) × (bins.new ≡ bins.old) }

@@ -40,14 +40,14 @@ pub fn run_wdep<S: Shelf, W: Sink, L: Sink>(
     requires out_count { W.failed out.old + 1 < 2 ^ 64 }
     requires log_count { L.failed log.old + 1 < 2 ^ 64 }
     ensures promises { let before = devices S.Shelf W.Sink L.Sink shelf.old out.old log.old in
-        let asked = options_by (map (λ word. word.now) words.now) in
+        let args = options_by (map (λ word. word.now) words.now) in
         let world = world_of before.shelf.texts (option_copied inputs.entry) in
-        DependPromises world asked before
+        DependPromises world args before
         (devices S.Shelf W.Sink L.Sink shelf.new out.new log.new) result }
     ensures freely { let before = devices S.Shelf W.Sink L.Sink shelf.old out.old log.old in
-        let asked = options_by (map (λ word. word.now) words.now) in
+        let args = options_by (map (λ word. word.now) words.now) in
         let world = world_of before.shelf.texts (option_copied inputs.entry) in
-        DependsFreely world asked before
+        DependsFreely world args before
         (devices S.Shelf W.Sink L.Sink shelf.new out.new log.new) result }
     ensures untouched { options_by (map (λ word. word.now) words.now) ≡ None →
         (shelf.new ≡ shelf.old) × (out.new ≡ out.old) }
@@ -92,7 +92,7 @@ fn depend_web<W: Sink, L: Sink>(
 
 /// Ends a run whose outputs could not be planned. Nothing is printed.
 fn depend_unplanned<L: Sink>(main: &str, web: Web<'_>, fault: PlanFault, log: &mut L) -> u8
-    requires due { IsExpectedFault (planned web.scanned.now.store main.now) fault }
+    requires expected { IsExpectedFault (planned web.scanned.now.store main.now) fault }
     requires count { L.failed log.old + 1 < 2 ^ 64 }
     ensures { ClosesInLog (plans ∷ depend_plan_acts (files_of web.entry)
         (planning web.entry.scanned.now.store (files_of web.entry) main.now))

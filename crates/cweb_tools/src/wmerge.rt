@@ -39,28 +39,28 @@ pub fn run_wmerge<S: Shelf, W: Sink, L: Sink>(
     requires out_count { W.failed out.old + 1 < 2 ^ 64 }
     requires log_count { L.failed log.old + 1 < 2 ^ 64 }
     ensures promises { let before = devices S.Shelf W.Sink L.Sink shelf.old out.old log.old in
-        let asked = web_names_by (map (λ word. word.now) words.now) in
+        let args = web_names_by (map (λ word. word.now) words.now) in
         let world = world_of before.shelf.texts (option_copied inputs.entry) in
-        MergePromises world asked before
+        MergePromises world args before
         (devices S.Shelf W.Sink L.Sink shelf.new out.new log.new) result }
     ensures freely { let before = devices S.Shelf W.Sink L.Sink shelf.old out.old log.old in
-        let asked = web_names_by (map (λ word. word.now) words.now) in
+        let args = web_names_by (map (λ word. word.now) words.now) in
         let world = world_of before.shelf.texts (option_copied inputs.entry) in
-        MergesFreely world asked before
+        MergesFreely world args before
         (devices S.Shelf W.Sink L.Sink shelf.new out.new log.new) result }
     ensures untouched { web_names_by (map (λ word. word.now) words.now) ≡ None →
         (shelf.new ≡ shelf.old) × (out.new ≡ out.old) }
 {
-    let asked = match MergeWords::read(alloc, words) {
-        Ok(asked) => asked,
+    let args = match MergeWords::read(alloc, words) {
+        Ok(args) => args,
         Err(stop) => return log_stop(log, stop, USAGE),
     };
-    merge_web(alloc, &asked, inputs, shelf, out, log)
+    merge_web(alloc, &args, inputs, shelf, out, log)
 }
 
 fn merge_web<S: Shelf, W: Sink, L: Sink>(
     alloc: Global,
-    asked: &MergeWords,
+    args: &MergeWords,
     inputs: Option<&str>,
     shelf: &mut S,
     out: &mut W,
@@ -71,21 +71,21 @@ fn merge_web<S: Shelf, W: Sink, L: Sink>(
     requires log_count { L.failed log.old + 1 < 2 ^ 64 }
     ensures { let before = devices S.Shelf W.Sink L.Sink shelf.old out.old log.old in
         let world = world_of before.shelf.texts (option_copied inputs.entry) in
-        let names = Some (merge_word_names asked.now) in
+        let names = Some (merge_word_names args.now) in
         EndsMerge names (merge_course world names) before
         (devices S.Shelf W.Sink L.Sink shelf.new out.new log.new) result }
 {
     let started = Merger::start(
         alloc,
         shelf,
-        asked.web.as_str(),
-        asked.second(),
-        asked.change(),
+        args.web.as_str(),
+        args.second(),
+        args.change(),
         folder(inputs),
     );
     match started {
         Ok(mut merger) => merge_begun(&mut merger, shelf, out, log),
-        Err(stop) => log_stop(log, stop, start_subject(asked, stop)),
+        Err(stop) => log_stop(log, stop, start_subject(args, stop)),
     }
 }
 
@@ -111,13 +111,13 @@ fn merge_begun<S: Shelf, W: Sink, L: Sink>(
 }
 
 /// The name that the line of a stop at the start of a merge ends in.
-fn start_subject(asked: &MergeWords, stop: Stop) -> &str
+fn start_subject(args: &MergeWords, stop: Stop) -> &str
     ensures { result.now ≡
-        start_subject (merge_word_names asked.now).web (change_name (merge_word_names asked.now).change) stop }
+        start_subject (merge_word_names args.now).web (change_name (merge_word_names args.now).change) stop }
 {
     match stop {
-        Stop::WebNotOpened => asked.web.as_str(),
-        Stop::ChangeNotOpened => asked.change().unwrap_or(""),
+        Stop::WebNotOpened => args.web.as_str(),
+        Stop::ChangeNotOpened => args.change().unwrap_or(""),
         _ => "",
     }
 }

@@ -63,11 +63,11 @@ impl Read for Trickling<'_> {
         if self.broken_off {
             return Err(Error::from(ErrorKind::Interrupted));
         }
-        let given = self.left.len().min(piece.len()).min(3);
-        let (now, later) = self.left.split_at(given);
-        piece[..given].copy_from_slice(now);
+        let count = self.left.len().min(piece.len()).min(3);
+        let (now, later) = self.left.split_at(count);
+        piece[..count].copy_from_slice(now);
         self.left = later;
-        Ok(given)
+        Ok(count)
     }
 }
 

@@ -19,8 +19,8 @@ TakesRawLine old Full line new = (old ≡ line ++ 10 ∷ new) × HasNoNewline li
 
 -- The next line is longer than the limit.
 abbrev pub IsLongerThan : ℕ → List ℕ → Type 0
-IsLongerThan limit text = (front : List ℕ) × (rest : List ℕ) × (text ≡ front ++ rest) × HasNoNewline front
-    × (limit < length front)
+IsLongerThan limit text = (prefix : List ℕ) × (rest : List ℕ) × (text ≡ prefix ++ rest) × HasNoNewline prefix
+    × (limit < length prefix)
 
 -- Only a failed read raises the failure count.
 abbrev pub CountsReadFault : {A : Type 0} → ℕ → ℕ → Result A LineFault → Type 0
@@ -31,8 +31,8 @@ CountsReadFault before now (Ok x) = now ≡ before
 
 -- A line takes the buffered bytes up to a newline, or all of them.
 abbrev pub TakesFromBuffer : List ℕ → List ℕ → Bool → List ℕ → List ℕ → Type 0
-TakesFromBuffer old line true longer new = (front : List ℕ) × HasNoNewline front × (old ≡ front ++ 10 ∷ new)
-    × (longer ≡ line ++ front)
+TakesFromBuffer old line true longer new = (prefix : List ℕ) × HasNoNewline prefix × (old ≡ prefix ++ 10 ∷ new)
+    × (longer ≡ line ++ prefix)
 TakesFromBuffer old line false longer new = HasNoNewline old × (longer ≡ line ++ old) × (new ≡ [])
 
 -- A failed read appends the name of the reader to the blamed names. Nothing else changes them.

@@ -28,8 +28,8 @@ pub record LooksAheadIn {R : Type 0} (entry : Option WaitingEntry) (slot : Optio
     (before : List (List ℕ))
     (ahead : Ahead) : Type 0 where
   pub raw : List ℕ
-  pub stands : IsStretchAt entry slot ahead.stretch (before ++ raw ∷ [])
-  pub given : lines_next slot (before ++ raw ∷ []) ≡ lines_next slot before ++ record {
+  pub in_place : IsStretchAt entry slot ahead.stretch (before ++ raw ∷ [])
+  pub emitted : lines_next slot (before ++ raw ∷ []) ≡ lines_next slot before ++ record {
     bytes = slice_range (buffer_of slot) ahead.line.from ahead.line.to;
     place = ahead.line.place;
   } ∷ []
@@ -45,11 +45,11 @@ pub record LooksAheadIn {R : Type 0} (entry : Option WaitingEntry) (slot : Optio
 pub record LooksAhead {R : Type 0} (run : MergeState R) (before : List (List ℕ)) (ahead : Ahead) : Type 0 where
   pub raw : List ℕ
   pub comes : ComesNext run ahead.stretch (before ++ raw ∷ [])
-  pub given : lines_next (top_of run.stack) (before ++ raw ∷ []) ≡ lines_next (top_of run.stack) before ++ record {
+  pub emitted : lines_next (top_of run.stack) (before ++ raw ∷ []) ≡ lines_next (top_of run.stack) before ++ record {
     bytes = span_bytes run ahead.line;
     place = ahead.line.place;
   } ∷ []
-  pub lies : IsSpanIn run ahead.line
+  pub inside : IsSpanIn run ahead.line
   pub line : IsOneLine (span_bytes run ahead.line)
   pub known : ahead.line.place.file.0 < length (opened_file_names run.names)
   pub size : length (span_bytes run ahead.line) ≤ length raw
@@ -60,13 +60,13 @@ pub record LooksAhead {R : Type 0} (run : MergeState R) (before : List (List ℕ
 pub record IsAhead {R : Type 0} (run : MergeState R) (ahead : Ahead) : Type 0 where
   pub lines : List (List ℕ)
   pub comes : ComesNext run ahead.stretch lines
-  pub lies : IsSpanIn run ahead.line
+  pub inside : IsSpanIn run ahead.line
   pub ordered : ahead.stretch.text < ahead.stretch.end
   pub fits : FitsLimitsAt run.limits (top_of run.stack)
 
 -- The next lines were taken and counted.
 pub record TakesLines {R : Type 0} (lines : List (List ℕ)) (old new : MergeState R) : Type 0 where
-  pub given : EmitsBufferedLines old new (lines_next (top_of old.stack) lines)
+  pub emitted : EmitsBufferedLines old new (lines_next (top_of old.stack) lines)
   pub bytes : new.limits.bytes ≡ old.limits.bytes + length (with_newlines lines)
   pub count : new.limits.lines ≡ old.limits.lines + length lines
-  pub lends : BorrowsLines old new
+  pub borrows : BorrowsLines old new

@@ -29,7 +29,7 @@ line_span_at (Some text) s = Some (record {
 
 -- Lines were borrowed one after another: they are emitted, there is no stop, and readers keep their names.
 pub record BorrowsLines {R : Type 0} (old new : MergeState R) : Type 0 where
-  pub gives : (texts : List ℕ → Option (List ℕ)) (left : R → List ℕ) → (lines : List Line)
+  pub yields : (texts : List ℕ → Option (List ℕ)) (left : R → List ℕ) → (lines : List Line)
       × EmitsLines lines (so_far_of old) (so_far_of new) (events_to_come texts left old) (events_to_come texts left new)
   pub grows : Grows (so_far_of old) (so_far_of new)
   pub stopped : new.stopped ≡ old.stopped

@@ -23,14 +23,14 @@ pub record EmitsAfterLine (source : SourceLine) (lines : List Line) (old new : S
     (all later : List Event) : Type 0 where
   pub rest : List Event
   pub first : all ≡ took source ∷ rest
-  pub gives : EmitsLines lines old new rest later
+  pub yields : EmitsLines lines old new rest later
 
 -- A prefix of these faults was reported.
 pub record ReportsSomeFaults (faults : List SourceFault) (old new : SoFar) : Type 0 where
-  pub front : List SourceFault
+  pub prefix : List SourceFault
   pub rest : List SourceFault
-  pub whole : faults ≡ front ++ rest
-  pub told : new.faults ≡ old.faults ++ front
+  pub whole : faults ≡ prefix ++ rest
+  pub reported : new.faults ≡ old.faults ++ prefix
   pub names : new.names ≡ old.names
 
 -- How far a step is that ends with a stop.

@@ -44,7 +44,7 @@ pub record IsStretch (entry : Option WaitingEntry) (may_match : Bool) (buffer : 
     (raw_lines : List (List ℕ)) : Type 0 where
   pub passing : AllPassThrough entry may_match raw_lines
   pub lines : s.lines ≡ length raw_lines
-  pub stands : slice_range buffer start s.end ≡ with_newlines raw_lines
+  pub in_place : slice_range buffer start s.end ≡ with_newlines raw_lines
   pub size : start + length (with_newlines raw_lines) ≡ s.end
   pub text : slice_range buffer start s.text ++ 10 ∷ [] ≡ trimmed_with_newlines raw_lines
   pub whole : s.text + 1 ≡ s.end → slice_range buffer start s.end ≡ trimmed_with_newlines raw_lines
@@ -85,7 +85,7 @@ stretch_bytes (Some text) s = slice_range text.source.buffer.items text.source.s
 pub record ComesNext {R : Type 0} (run : MergeState R) (s : Stretch) (raw_lines : List (List ℕ)) : Type 0 where
   pub settled : IsSettled run.stage
   pub above : floor_of run.stage < run.stack.depth
-  pub stands : IsStretchAt (pending_of run) (top_of run.stack) s raw_lines
+  pub in_place : IsStretchAt (pending_of run) (top_of run.stack) s raw_lines
   pub room : HasRoomFor run.limits raw_lines
 
 abbrev pub line_with_newline : List ℕ → CutLine
@@ -143,7 +143,7 @@ pub record KeepsTop {R : Type 0} (old new : Stack R) : Type 0 where
 
 -- These lines are emitted. No file is opened, and the buffer is unchanged.
 pub record EmitsBufferedLines {R : Type 0} (old new : MergeState R) (lines : List Line) : Type 0 where
-  pub gives : (texts : List ℕ → Option (List ℕ)) (left : R → List ℕ) →
+  pub yields : (texts : List ℕ → Option (List ℕ)) (left : R → List ℕ) →
       EmitsLines lines (so_far_of old) (so_far_of new) (events_to_come texts left old) (events_to_come texts left new)
   pub stopped : new.stopped ≡ old.stopped
   pub names : new.names ≡ old.names
@@ -153,9 +153,9 @@ pub record EmitsBufferedLines {R : Type 0} (old new : MergeState R) (lines : Lis
 -- Lines are emitted and appended to a buffer. No file is opened.
 pub record AppendsPassedLines {R : Type 0} (old new : MergeState R) (buffer more : List ℕ) : Type 0 where
   pub lines : List Line
-  pub gives : (texts : List ℕ → Option (List ℕ)) (left : R → List ℕ) →
+  pub yields : (texts : List ℕ → Option (List ℕ)) (left : R → List ℕ) →
       EmitsLines lines (so_far_of old) (so_far_of new) (events_to_come texts left old) (events_to_come texts left new)
-  pub gathered : more ≡ buffer ++ written_lines lines
+  pub buffered : more ≡ buffer ++ written_lines lines
   pub stopped : new.stopped ≡ old.stopped
   pub names : new.names ≡ old.names
   pub counted : old.limits.lines ≤ new.limits.lines
@@ -165,9 +165,9 @@ pub record AppendsPassedLines {R : Type 0} (old new : MergeState R) (buffer more
 pub record BuffersLines (room : ℕ) (old new : SoFar) (all now : List Event) (Wrote : List ℕ → Type 0)
     (buffer : List ℕ) : Type 0 where
   pub done : List Line
-  pub gathered : List Line
-  pub gives : EmitsLines (done ++ gathered) old new all now
+  pub buffered : List Line
+  pub yields : EmitsLines (done ++ buffered) old new all now
   pub wrote : Wrote (written_lines done)
-  pub piece_is : buffer ≡ written_lines gathered
-  pub some : 0 < length gathered
-  pub alone : room ≡ 0 → length gathered ≡ 1
+  pub piece_is : buffer ≡ written_lines buffered
+  pub some : 0 < length buffered
+  pub alone : room ≡ 0 → length buffered ≡ 1

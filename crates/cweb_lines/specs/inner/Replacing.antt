@@ -21,16 +21,16 @@ lines_replaced change things = in_turn (old_lines change).taken (taken_away chan
 -- Some of the old side was taken. The rest of it starts with these change lines and raw lines.
 pub record Replaces (change : List SourceLine) (things : List Thing) (so_far : Replaced) (change' : List SourceLine)
     (things' : List Thing) (old new : SoFar) : Type 0 where
-  pub told : List SourceFault
+  pub reported : List SourceFault
   pub taken : List SourceLine
-  pub faults_are : (old_lines change).faults ≡ told ++ (old_lines change').faults
+  pub faults_are : (old_lines change).faults ≡ reported ++ (old_lines change').faults
   pub taken_are : lines_replaced change things ≡ taken ++ lines_replaced change' things'
   pub ended : (old_lines change).ended ≡ (old_lines change').ended
   pub rest : (old_lines change).rest ≡ (old_lines change').rest
   pub unequal : (taken_away change things).unequal ≡ so_far.unequal + (taken_away change' things').unequal
   pub ran_out : (taken_away change things).ran_out ≡ (so_far.ran_out || (taken_away change' things').ran_out)
   pub raw_rest : (taken_away change things).rest ≡ (taken_away change' things').rest
-  pub adds : AddsFaultsAndLines told taken old new
+  pub adds : AddsFaultsAndLines reported taken old new
 
 -- The whole old side was taken and counted, and the faults among its lines were reported.
 pub record IsReplaced (change : List SourceLine) (things : List Thing) (so_far : Replaced) (change' : List SourceLine)

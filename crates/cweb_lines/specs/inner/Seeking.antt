@@ -39,11 +39,11 @@ begun_outside (Some end_side) place = None
 
 -- A line continues the search, or is the first old line of an entry.
 abbrev pub Looks : Look → Option Place → SourceLine → List SourceLine → List SourceFault → Type 0
-Looks (goes_on next) begin line lines told =
-    sought (line ∷ lines) begin ≡ search_after told (line ∷ []) (sought lines next)
-Looks (first_line entry) begin line lines told =
+Looks (goes_on next) begin line lines reported =
+    sought (line ∷ lines) begin ≡ search_after reported (line ∷ []) (sought lines next)
+Looks (first_line entry) begin line lines reported =
     sought (line ∷ lines) begin ≡ record {
-      faults = told;
+      faults = reported;
       taken = line ∷ [];
       entry =
           Some (record { begin = entry; first = line.line.bytes });
@@ -53,23 +53,23 @@ Looks (first_line entry) begin line lines told =
 -- The faults of a line and what it is, whatever follows it.
 pub record LooksAt (look : Look) (begin : Option Place) (bytes : List ℕ) (place : Place)
     (old new : List SourceFault) : Type 0 where
-  pub told : List SourceFault
-  pub faults : new ≡ old ++ told
+  pub reported : List SourceFault
+  pub faults : new ≡ old ++ reported
   pub looks : (line : SourceLine) → line.line ≡ record { bytes = bytes; place = place } → (lines : List SourceLine) →
-      Looks look begin line lines told
+      Looks look begin line lines reported
 
 pub record ReportsFaultPrefix (all old new : List SourceFault) : Type 0 where
-  pub front : List SourceFault
+  pub prefix : List SourceFault
   pub rest : List SourceFault
-  pub whole : all ≡ front ++ rest
-  pub told : new ≡ old ++ front
+  pub whole : all ≡ prefix ++ rest
+  pub reported : new ≡ old ++ prefix
 
 -- Some of a search was done.
 pub record SeeksTo (all now : Sought) (old new : SoFar) : Type 0 where
-  pub told : List SourceFault
+  pub reported : List SourceFault
   pub taken : List SourceLine
-  pub whole : all ≡ search_after told taken now
-  pub adds : AddsFaultsAndLines told taken old new
+  pub whole : all ≡ search_after reported taken now
+  pub adds : AddsFaultsAndLines reported taken old new
 
 -- The search has ended. Its entry waits, or no entry is left.
 pub record Searched (found : Sought) (old new : SoFar) (stage : Stage) (first : List ℕ)

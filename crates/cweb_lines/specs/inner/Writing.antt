@@ -9,14 +9,14 @@ use Rattle.cweb_lines.specs.Events.{written_lines}
 -- A write failed within the buffered lines. The next line is the one after them.
 pub record FailsAmong (room : ℕ) (old new : SoFar) (all later : List Event) (before after : List ℕ) : Type 0 where
   pub done : List Line
-  pub gathered : List Line
-  pub gives : EmitsLines (done ++ gathered) old new all later
-  pub front : WritesPrefix (before ++ written_lines done) after (written_lines gathered)
-  pub some : 0 < length gathered
-  pub alone : room ≡ 0 → length gathered ≡ 1
+  pub buffered : List Line
+  pub yields : EmitsLines (done ++ buffered) old new all later
+  pub prefix : WritesPrefix (before ++ written_lines done) after (written_lines buffered)
+  pub some : 0 < length buffered
+  pub alone : room ≡ 0 → length buffered ≡ 1
 
 -- All emitted lines were written.
 pub record HasWritten (old new : SoFar) (all now : List Event) (Wrote : List ℕ → Type 0) : Type 0 where
   pub lines : List Line
-  pub gives : EmitsLines lines old new all now
+  pub yields : EmitsLines lines old new all now
   pub wrote : Wrote (written_lines lines)

@@ -58,10 +58,10 @@ pub record LinesComeApart : Type 0 where
   -- a web's own lines are at depth 1, after one opened file
   pub whole : (world : World) (web : List ℕ)
       → merge_outcome world web None ≡ outcome_of_lines world 1 1 (lines_in 0 web)
-  pub apart : (world : World) (depth files : ℕ) (before behind : List SourceLine) →
+  pub apart : (world : World) (depth files : ℕ) (before after : List SourceLine) →
       let first = outcome_of_lines world depth files before in
-      let rest = outcome_of_lines world depth (files + length first.included) behind in
-      outcome_of_lines world depth files (before ++ behind) ≡ followed_by first rest
+      let rest = outcome_of_lines world depth (files + length first.included) after in
+      outcome_of_lines world depth files (before ++ after) ≡ followed_by first rest
   pub plain : (world : World) (depth files : ℕ) (line : SourceLine) → is_include_line line.line.bytes ≡ false
       → outcome_of_lines world depth files (line ∷ []) ≡ only_lines (line.line ∷ [])
   pub no_name : (world : World) (depth files : ℕ) (line : SourceLine) → is_include_line line.line.bytes ≡ true
@@ -82,20 +82,20 @@ pub record Includes (world : World) (bytes name text : List ℕ) : Type 0 where
 
 -- The lines before an include line, then its file with its name, then the lines after it.
 abbrev pub with_included : World → ℕ → ℕ → List SourceLine → List ℕ → List ℕ → List SourceLine → MergeOutcome
-with_included world depth files before name text behind =
+with_included world depth files before name text after =
     let first = outcome_of_lines world depth files before in
     let file = files + length first.included in
     let inside = outcome_of_lines world (depth + 1) (file + 1) (lines_in file text) in
-    let last = outcome_of_lines world depth (file + 1 + length inside.included) behind in
+    let last = outcome_of_lines world depth (file + 1 + length inside.included) after in
     followed_by first (followed_by (only_name name) (followed_by inside last))
 
 -- Without a change file, an include line is replaced by the merged lines of its file, one deeper.
 abbrev pub IncludeLinesAreReplaced : Type 0
-IncludeLinesAreReplaced = (world : World) (depth files : ℕ) (before behind : List SourceLine)
+IncludeLinesAreReplaced = (world : World) (depth files : ℕ) (before after : List SourceLine)
     (line : SourceLine) (name text : List ℕ)
     → Includes world line.line.bytes name text → depth < OPEN_FILES
-    → outcome_of_lines world depth files (before ++ line ∷ behind)
-    ≡ with_included world depth files before name text behind
+    → outcome_of_lines world depth files (before ++ line ∷ after)
+    ≡ with_included world depth files before name text after
 
 abbrev pub is_too_deep : SourceKind → Bool
 is_too_deep TooDeep = true
@@ -134,10 +134,10 @@ pub record IsPlainSplice (splice : Splice) : Type 0 where
   pub stays_plain : list_any is_include_line splice.stays ≡ false
   pub new_plain : list_any is_include_line splice.new ≡ false
 
--- The lines of the web that has these changes, and then `behind`.
+-- The lines of the web that has these changes, and then `after`.
 abbrev pub web_lines : List Splice → List (List ℕ) → List (List ℕ)
-web_lines [] behind = behind
-web_lines (s ∷ splices) behind = s.stays ++ (s.first ∷ (s.further ++ web_lines splices behind))
+web_lines [] after = after
+web_lines (s ∷ splices) after = s.stays ++ (s.first ∷ (s.further ++ web_lines splices after))
 
 -- The lines of the change file that has these entries, and then a comment.
 abbrev pub spliced_change_lines : List Splice → List (List ℕ) → List (List ℕ)
@@ -148,20 +148,20 @@ spliced_change_lines (s ∷ splices) comment =
 
 -- The lines that stay and the new lines, with their places. `web` and `change` number the next lines of both files.
 abbrev pub spliced : ℕ → ℕ → List Splice → List (List ℕ) → List Line
-spliced web change [] behind = placed 0 web behind
-spliced web change (s ∷ splices) behind =
+spliced web change [] after = placed 0 web after
+spliced web change (s ∷ splices) after =
     let first_new = change + length s.comment + length s.further + 3 in
     let next_web = web + length s.stays + length s.further + 1 in
     placed 0 web s.stays
-    ++ (placed 1 first_new s.new ++ spliced next_web (first_new + length s.new + 1) splices behind)
+    ++ (placed 1 first_new s.new ++ spliced next_web (first_new + length s.new + 1) splices after)
 
 -- If all entries match in order, the merge has the lines that stay and the new lines, without a fault.
 abbrev pub ChangesSplice : Type 0
-ChangesSplice = (world : World) (web change : List ℕ) (splices : List Splice) (behind comment : List (List ℕ))
+ChangesSplice = (world : World) (web change : List ℕ) (splices : List Splice) (after comment : List (List ℕ))
     → AllByRecursion IsPlainSplice splices
-    → list_any is_include_line behind ≡ false → list_any is_change_code comment ≡ false
-    → lines web ≡ web_lines splices behind → lines change ≡ spliced_change_lines splices comment
-    → merge_outcome world web (Some change) ≡ only_lines (spliced 1 1 splices behind)
+    → list_any is_include_line after ≡ false → list_any is_change_code comment ≡ false
+    → lines web ≡ web_lines splices after → lines change ≡ spliced_change_lines splices comment
+    → merge_outcome world web (Some change) ≡ only_lines (spliced 1 1 splices after)
 
 -- A first entry that matches no line of a web without include lines is reported once, at its @x, and changes nothing.
 abbrev pub UnmatchedEntriesAreReported : Type 0

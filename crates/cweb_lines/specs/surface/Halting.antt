@@ -5,7 +5,7 @@ use Rattle.std.specs.Prelude.{nat_lt}
 use Rattle.std.specs.Str.{bytes_eq}
 use Rattle.std.proofs.lemmas.Bool.Decides.{nat_tests}
 use Rattle.cweb_files.specs.declared.place.Place.{Place}
-use Rattle.cweb_input.specs.Lines.{SourceLine, lines_in, RawLine, Thing, seek, raw, told, passed, raws}
+use Rattle.cweb_input.specs.Lines.{SourceLine, lines_in, RawLine, Thing, seek, raw, reported, passed, raws}
 use Rattle.cweb_input.specs.Include.{World, Found, include_name, is_include_line, found_at}
 use Rattle.cweb_lines.specs.Change.{change_code, WaitingEntry, Sought, sought, outside, after_x, OldSide, old_at}
 use Rattle.cweb_lines.specs.Change.{old_lines}
@@ -200,8 +200,9 @@ module _ (world : World) (most : ℕ) (fewer : (things : List Thing) (change : L
         (good (sought change None).entry (sought change None).rest files (omega (arith, sought_less change None)))
     thing_good (raw r) rest good pending change files within =
         raw_good (OPEN_FILES + 1) r rest (omega arith) good pending change files within
-    thing_good (told f) rest good pending change files within =
-        halts_next world (record { things = told f ∷ rest; pending = pending; change = change; files = files }) _ refl
+    thing_good (reported f) rest good pending change files within =
+        halts_next world (record { things = reported f ∷ rest; pending = pending; change = change; files = files }) _
+        refl
         (good pending change files within)
     thing_good (passed line) rest good pending change files within =
         halts_next world (record { things = passed line ∷ rest; pending = pending; change = change; files = files }) _

@@ -1,7 +1,7 @@
 -- How far a merger is, and why it stops.
 use Rattle.std.specs.Prelude.{◌≡◌, ◌+◌, ℕ, length, map, List, ◌∷◌, ◌++◌, [], Option}
 use Rattle.cweb_input.specs.Lines.{Line, SourceLine, Thing}
-use Rattle.cweb_lines.specs.Merge.{Event, took, fault, MergeStateModel, given}
+use Rattle.cweb_lines.specs.Merge.{Event, took, fault, MergeStateModel, emitted}
 use Rattle.cweb_lines.specs.Events.{emitted_lines, reported_faults, openings, taken_lines, size_of_lines}
 use Rattle.cweb_lines.specs.Events.{AreShort}
 use Rattle.cweb_input.specs.OpenSources.{TakenCountersModel, RefusesLine}
@@ -29,7 +29,7 @@ pub record SoFar : Type 0 where
 pub record EmitsLines (lines : List Line) (old new : SoFar) (all later : List Event) : Type 0 where
   pub events : List Event
   pub whole : all ≡ events ++ later
-  pub given : emitted_lines events ≡ lines
+  pub emitted : emitted_lines events ≡ lines
   pub faults : new.faults ≡ old.faults ++ reported_faults events
   pub names : new.names ≡ old.names ++ openings events
   pub lines_are : new.count.lines ≡ old.count.lines + length (taken_lines events)
@@ -38,7 +38,7 @@ pub record EmitsLines (lines : List Line) (old new : SoFar) (all later : List Ev
 
 -- These faults were reported, and these lines were taken and counted.
 pub record AddsFaultsAndLines (faults : List SourceFault) (lines : List SourceLine) (old new : SoFar) : Type 0 where
-  pub told : new.faults ≡ old.faults ++ faults
+  pub reported : new.faults ≡ old.faults ++ faults
   pub names : new.names ≡ old.names
   pub lines_are : new.count.lines ≡ old.count.lines + length lines
   pub bytes_are : new.count.bytes ≡ old.count.bytes + size_of_lines lines
@@ -46,13 +46,13 @@ pub record AddsFaultsAndLines (faults : List SourceFault) (lines : List SourceLi
 
 -- A step has begun: prefixes of its lines and of its faults were taken and reported.
 pub record HasBegunStep (old new : SoFar) (lines : List SourceLine) (faults : List SourceFault) : Type 0 where
-  pub front : List SourceLine
+  pub prefix : List SourceLine
   pub rest : List SourceLine
-  pub told : List SourceFault
+  pub reported : List SourceFault
   pub more : List SourceFault
-  pub lines_are : lines ≡ front ++ rest
-  pub faults_are : faults ≡ told ++ more
-  pub adds : AddsFaultsAndLines told front old new
+  pub lines_are : lines ≡ prefix ++ rest
+  pub faults_are : faults ≡ reported ++ more
+  pub adds : AddsFaultsAndLines reported prefix old new
 
 -- The next line of a step that has begun causes the stop.
 pub record StopsIn (stop : Stop) (old new : SoFar) (lines : List SourceLine) (faults : List SourceFault) : Type 0 where
@@ -67,16 +67,16 @@ abbrev pub step_events : List SourceLine → List SourceFault → List Event →
 step_events lines faults later = map took lines ++ (map fault faults ++ later)
 
 -- All events before a step happened and emitted these lines. A line in the step causes the stop.
-pub record StopsAfterLines (given : List Line) (stop : Stop) (old new : SoFar) (all : List Event) : Type 0 where
+pub record StopsAfterLines (emitted : List Line) (stop : Stop) (old new : SoFar) (all : List Event) : Type 0 where
   pub mid : SoFar
   pub lines : List SourceLine
   pub faults : List SourceFault
   pub later : List Event
-  pub gives : EmitsLines given old mid all (step_events lines faults later)
+  pub yields : EmitsLines emitted old mid all (step_events lines faults later)
   pub stops : StopsIn stop mid new lines faults
 
 abbrev pub IsPrefix : {A : Type 0} → List A → List A → Type 0
-IsPrefix {A = A} front list = (rest : List A) × (list ≡ front ++ rest)
+IsPrefix {A = A} prefix list = (rest : List A) × (list ≡ prefix ++ rest)
 
 -- The faults and names so far are a prefix of the new ones.
 pub record KeepsReported (old new : SoFar) : Type 0 where
@@ -93,16 +93,16 @@ pub record ReportsPrefix (old new : SoFar) (all : List Event) : Type 0 where
 
 -- The next event emits no line.
 abbrev pub TakesBeforeEmitting : List Event → Type 0
-TakesBeforeEmitting (given line ∷ events) = ⊥
+TakesBeforeEmitting (emitted line ∷ events) = ⊥
 TakesBeforeEmitting _ = Unit {0}
 
 -- A read failed in a step. All lines that were taken before were emitted.
-pub record ReadFailsAfterLines (given : List Line) (old new : SoFar) (all : List Event) : Type 0 where
+pub record ReadFailsAfterLines (emitted : List Line) (old new : SoFar) (all : List Event) : Type 0 where
   pub mid : SoFar
   pub lines : List SourceLine
   pub faults : List SourceFault
   pub later : List Event
-  pub gives : EmitsLines given old mid all (step_events lines faults later)
+  pub yields : EmitsLines emitted old mid all (step_events lines faults later)
   pub begun : HasBegunStep mid new lines faults
   pub next : TakesBeforeEmitting later
 

@@ -64,7 +64,7 @@ pub record EmitsLine (place : Place) (bytes : List ℕ) (old new : SoFar) : Type
 
 -- Faults and names only grow, and the limits hold.
 pub record Grows (old new : SoFar) : Type 0 where
-  pub told : KeepsReported old new
+  pub reported : KeepsReported old new
   pub lines : new.count.lines ≤ LINES
   pub bytes : new.count.bytes ≤ BYTES
 
@@ -86,7 +86,7 @@ pub record ReportsReadFailures (before now : ℕ) (result : Result (Option Place
 -- Why there is no line. The reports so far are a prefix of all.
 pub record StopsThere (stop : Stop) (old new : SoFar) (all : List Event) : Type 0 where
   pub why : Stopped stop old new all
-  pub told : ReportsPrefix old new all
+  pub reported : ReportsPrefix old new all
 
 -- The merge begins with the web that was found, and with the change file if one is named.
 pub record BeginsMerge (world : World) (found : Option Found) (changes : Option (Option Found)) (first : SoFar)

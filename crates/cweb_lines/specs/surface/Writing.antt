@@ -12,7 +12,7 @@ use Rattle.cweb_input.specs.declared.stop.Stop.TheVariants.{ReadFault, LineTooLo
 
 -- All lines were emitted and written.
 pub record WritesAll (old new : SoFar) (all : List Event) (Wrote : List ℕ → Type 0) : Type 0 where
-  pub gives : EmitsLines (emitted_lines all) old new all []
+  pub yields : EmitsLines (emitted_lines all) old new all []
   pub wrote : Wrote (written_lines (emitted_lines all))
 
 -- A prefix of the lines was written.
@@ -46,14 +46,14 @@ StopsWriting _ old new all Wrote = ⊥
 -- Why not all lines were written, and what was reported so far.
 pub record StopsWritingEarly (stop : Stop) (old new : SoFar) (all : List Event) (Wrote : List ℕ → Type 0) : Type 0 where
   pub why : StopsWriting stop old new all Wrote
-  pub told : ReportsPrefix old new all
+  pub reported : ReportsPrefix old new all
 
 -- A write failed within one line. The next line is the one after it.
 pub record LosesLine (old new : SoFar) (all later : List Event) (before after : List ℕ) : Type 0 where
   pub done : List Line
   pub line : Line
-  pub gives : EmitsLines (done ++ line ∷ []) old new all later
-  pub front : WritesPrefix (before ++ written_lines done) after (line.bytes ++ 10 ∷ [])
+  pub yields : EmitsLines (done ++ line ∷ []) old new all later
+  pub prefix : WritesPrefix (before ++ written_lines done) after (line.bytes ++ 10 ∷ [])
 
 -- The stops of writing.
 abbrev pub WritingStops : Stop → Type 0

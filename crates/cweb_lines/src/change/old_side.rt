@@ -107,7 +107,7 @@ fn replace<S: Shelf>(
         (lines_replaced (change_lines (S.left shelf.old) run.old)
         (things_above (S.left shelf.old) 0 run.old.stack []))
         (old_lines (change_lines (S.left shelf.old) run.old)).faults) }
-    ensures told { IsTrue (S.tells shelf.old) →
+    ensures reported { IsTrue (S.tells shelf.old) →
         OnErr result (ReportsSomeFaults (old_lines (change_lines (S.left shelf.old) run.old)).faults
         (so_far_of run.old) (so_far_of run.new)) }
     ensures still { KeepsReported (so_far_of run.old) (so_far_of run.new) }
@@ -152,19 +152,19 @@ fn replace<S: Shelf>(
 
 fn report_if<R: Drop>(
     run: &mut MergeState<R>,
-    told: bool,
+    reported: bool,
     kind: SourceKind,
     place: Place,
     count: u32,
 ) -> Result<(), Stop>
     requires known { place.file.0 < length (opened_file_names run.old.names) }
-    ensures told { OnOk result (run.new.faults.items ≡ run.old.faults.items
-        ++ fault_list_if told (record { kind = kind; place = place; count = count })) }
+    ensures reported { OnOk result (run.new.faults.items ≡ run.old.faults.items
+        ++ fault_list_if reported (record { kind = kind; place = place; count = count })) }
     ensures err { OnErr result (run.new.faults.items ≡ run.old.faults.items) }
     ensures memory { IfErr result (λ stop. stop ≡ Stop.Memory) }
     ensures only { OnlyReports run.old run.new }
 {
-    if !told {
+    if !reported {
         return Ok(());
     }
     run.report(kind, place, count)
@@ -173,7 +173,7 @@ fn report_if<R: Drop>(
 // Reports the faults of the old side as a whole.
 fn close<R: Drop>(run: &mut MergeState<R>, begin: Place, replaced: Replaced) -> Result<(), Stop>
     requires known { begin.file.0 < length (opened_file_names run.old.names) }
-    ensures told { OnOk result (run.new.faults.items ≡ run.old.faults.items
+    ensures reported { OnOk result (run.new.faults.items ≡ run.old.faults.items
         ++ closing_faults begin replaced.ended replaced.ran_out replaced.unequal) }
     ensures err { OnErr result
         (ReportsFaultPrefix (closing_faults begin replaced.ended replaced.ran_out
@@ -219,7 +219,7 @@ pub fn begin_change<S: Shelf>(
         (things_above (S.left shelf.old) 0 run.old.stack []))
         (faults_replaced begin (change_lines (S.left shelf.old) run.old)
         (things_above (S.left shelf.old) 0 run.old.stack []))) }
-    ensures told { IsTrue (S.tells shelf.old) →
+    ensures reported { IsTrue (S.tells shelf.old) →
         OnErr result (ReportsSomeFaults (faults_replaced begin (change_lines (S.left shelf.old) run.old)
         (things_above (S.left shelf.old) 0 run.old.stack [])) (so_far_of run.old)
         (so_far_of run.new)) }

@@ -40,7 +40,7 @@ fn pass<R: Drop>(
 ) -> Result<Option<Place>, Stop>
     requires known { place.file.0 < length (opened_file_names run.old.names) }
     ensures next { IfOk result (λ next. next ≡ begun_outside code place) }
-    ensures told { OnOk result (run.new.faults.items ≡ run.old.faults.items
+    ensures reported { OnOk result (run.new.faults.items ≡ run.old.faults.items
         ++ faults_outside code place) }
     ensures err { OnErr result (run.new.faults.items ≡ run.old.faults.items) }
     ensures memory { IfErr result (λ stop. stop ≡ Stop.Memory) }
@@ -125,7 +125,7 @@ fn look_at<R: Drop>(
 // Ends the search at the end of the change file.
 fn end<R: Drop>(run: &mut MergeState<R>, begin: Option<Place>) -> Result<(), Stop>
     requires begun { BegunKnown (length (opened_file_names run.old.names)) begin }
-    ensures told { OnOk result (run.new.faults.items ≡ run.old.faults.items
+    ensures reported { OnOk result (run.new.faults.items ≡ run.old.faults.items
         ++ (sought [] begin).faults) }
     ensures err { OnErr result (run.new.faults.items ≡ run.old.faults.items) }
     ensures stage { OnOk result (run.new.stage ≡ Stage.Done) }
@@ -166,7 +166,7 @@ pub fn seek<S: Shelf>(
         IfErr result (λ stop. EndsStep stop (so_far_of run.old) (so_far_of run.new)
         (sought (change_lines (S.left shelf.old) run.old) None).taken
         (sought (change_lines (S.left shelf.old) run.old) None).faults) }
-    ensures told { IsTrue (S.tells shelf.old) →
+    ensures reported { IsTrue (S.tells shelf.old) →
         OnErr result (ReportsSomeFaults (sought (change_lines (S.left shelf.old) run.old) None).faults
         (so_far_of run.old) (so_far_of run.new)) }
     ensures still { KeepsReported (so_far_of run.old) (so_far_of run.new) }

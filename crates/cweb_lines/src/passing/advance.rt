@@ -75,7 +75,7 @@ impl<R: Drop> MergeState<R> {
     #[inline(always)]
     pub fn advance(&mut self, stretch: Stretch)
         requires { (lines : List (List ℕ)) × ComesNext self.old stretch lines }
-        ensures given { (lines : List (List ℕ)) → ComesNext self.old stretch lines →
+        ensures emitted { (lines : List (List ℕ)) → ComesNext self.old stretch lines →
             EmitsBufferedLines self.old self.new (lines_next (top_of self.old.stack) lines) }
         ensures bytes { (lines : List (List ℕ)) → ComesNext self.old stretch lines →
             self.new.limits.bytes ≡ self.old.limits.bytes + length (with_newlines lines) }

@@ -120,7 +120,7 @@ pub fn emit_or_obey<S: Shelf>(
     ensures goes { IfOk result (λ turn. IsTaken turn) }
     ensures known { IfOk result
         (λ turn. TurnKnown (length (opened_file_names run.new.names)) turn) }
-    ensures gives { IsTrue (S.tells shelf.old) →
+    ensures yields { IsTrue (S.tells shelf.old) →
         IfOk result (λ turn. (source : SourceLine) →
         source.line ≡ record { bytes = line.now; place = at.place } →
         EmitsAfterLine source (turn_lines turn line.now) (so_far_of run.old) (so_far_of run.new)

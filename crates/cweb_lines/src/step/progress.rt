@@ -42,7 +42,7 @@ impl<R: Drop> MergeState<R> {
     /// Appends a fault.
     pub fn report(&mut self, kind: SourceKind, place: Place, count: u32) -> Result<(), Stop>
         requires known { place.file.0 < length (opened_file_names self.old.names) }
-        ensures told { OnOk result (self.new.faults.items ≡ self.old.faults.items
+        ensures reported { OnOk result (self.new.faults.items ≡ self.old.faults.items
             ++ record { kind = kind; place = place; count = count } ∷ []) }
         ensures err { OnErr result (self.new.faults.items ≡ self.old.faults.items) }
         ensures memory { IfErr result (λ stop. stop ≡ Stop.Memory) }

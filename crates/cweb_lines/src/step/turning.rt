@@ -42,11 +42,11 @@ fn take_new<S: Shelf>(
     ensures still { KeepsReported (so_far_of run.old) (so_far_of run.new) }
     ensures readers { KeepsReaders S.Shelf shelf.old shelf.new run.old run.new }
     ensures blamed { BlamesReaders S.Shelf shelf.old shelf.new run.old run.new result }
-    ensures gives { IsTrue (S.tells shelf.old) →
+    ensures yields { IsTrue (S.tells shelf.old) →
         IfOk result (λ turn. EmitsLines (turn_lines turn line.new.items) (so_far_of run.old)
         (so_far_of run.new) (events_to_come (S.texts shelf.old) (S.left shelf.old) run.old)
         (events_to_come (S.texts shelf.new) (S.left shelf.new) run.new)) }
-    ensures told { IsTrue (S.tells shelf.old) →
+    ensures reported { IsTrue (S.tells shelf.old) →
         OnErr result (ReportsPrefix (so_far_of run.old) (so_far_of run.new)
         (events_to_come (S.texts shelf.old) (S.left shelf.old) run.old)) }
     ensures stops { IsTrue (S.tells shelf.old) →
@@ -101,11 +101,11 @@ fn take_end<S: Shelf>(
     ensures still { KeepsReported (so_far_of run.old) (so_far_of run.new) }
     ensures readers { KeepsReaders S.Shelf shelf.old shelf.new run.old run.new }
     ensures blamed { BlamesReaders S.Shelf shelf.old shelf.new run.old run.new result }
-    ensures gives { IsTrue (S.tells shelf.old) →
+    ensures yields { IsTrue (S.tells shelf.old) →
         IfOk result (λ turn. EmitsLines (turn_lines turn line.new.items) (so_far_of run.old)
         (so_far_of run.new) (events_to_come (S.texts shelf.old) (S.left shelf.old) run.old)
         (events_to_come (S.texts shelf.new) (S.left shelf.new) run.new)) }
-    ensures told { IsTrue (S.tells shelf.old) →
+    ensures reported { IsTrue (S.tells shelf.old) →
         OnErr result (ReportsPrefix (so_far_of run.old) (so_far_of run.new)
         (events_to_come (S.texts shelf.old) (S.left shelf.old) run.old)) }
     ensures stops { IsTrue (S.tells shelf.old) →
@@ -150,11 +150,11 @@ pub fn take_turn<S: Shelf>(
     ensures still { KeepsReported (so_far_of run.old) (so_far_of run.new) }
     ensures readers { KeepsReaders S.Shelf shelf.old shelf.new run.old run.new }
     ensures blamed { BlamesReaders S.Shelf shelf.old shelf.new run.old run.new result }
-    ensures gives { IsTrue (S.tells shelf.old) →
+    ensures yields { IsTrue (S.tells shelf.old) →
         IfOk result (λ turn. EmitsLines (turn_lines turn line.new.items) (so_far_of run.old)
         (so_far_of run.new) (events_to_come (S.texts shelf.old) (S.left shelf.old) run.old)
         (events_to_come (S.texts shelf.new) (S.left shelf.new) run.new)) }
-    ensures told { IsTrue (S.tells shelf.old) →
+    ensures reported { IsTrue (S.tells shelf.old) →
         OnErr result (ReportsPrefix (so_far_of run.old) (so_far_of run.new)
         (events_to_come (S.texts shelf.old) (S.left shelf.old) run.old)) }
     ensures stops { IsTrue (S.tells shelf.old) →
@@ -187,11 +187,11 @@ fn take_settled<S: Shelf>(
     ensures still { KeepsReported (so_far_of run.old) (so_far_of run.new) }
     ensures readers { KeepsReaders S.Shelf shelf.old shelf.new run.old run.new }
     ensures blamed { BlamesReaders S.Shelf shelf.old shelf.new run.old run.new result }
-    ensures gives { IsTrue (S.tells shelf.old) →
+    ensures yields { IsTrue (S.tells shelf.old) →
         IfOk result (λ turn. EmitsLines (turn_lines turn line.new.items) (so_far_of run.old)
         (so_far_of run.new) (events_to_come (S.texts shelf.old) (S.left shelf.old) run.old)
         (events_to_come (S.texts shelf.new) (S.left shelf.new) run.new)) }
-    ensures told { IsTrue (S.tells shelf.old) →
+    ensures reported { IsTrue (S.tells shelf.old) →
         OnErr result (ReportsPrefix (so_far_of run.old) (so_far_of run.new)
         (events_to_come (S.texts shelf.old) (S.left shelf.old) run.old)) }
     ensures stops { IsTrue (S.tells shelf.old) →

@@ -118,8 +118,8 @@ fn takes_at_once(
     let taken = taken_at_once(merger, line)?;
     holds(rt, taken == wanted.0);
     same_bytes(rt, line, wanted.1);
-    let behind = number_of(merger.next_line(shelf, line)?);
-    holds(rt, behind == wanted.2);
+    let after = number_of(merger.next_line(shelf, line)?);
+    holds(rt, after == wanted.2);
     Ok(())
 }
 

@@ -140,10 +140,10 @@ impl Case<MemoryShelf, Fail> for Naming {
         shelf: &mut MemoryShelf,
         filled: &mut Filled,
     ) -> Result<(), Fail> {
-        reports(rt, merger, &mut filled.told, "0 is m.web\n1 is c.ch\n")?;
+        reports(rt, merger, &mut filled.reported, "0 is m.web\n1 is c.ch\n")?;
         writes(rt, merger, shelf, &mut filled.sink, b"B\nB\n")?;
         let want = "0 is m.web\n1 is c.ch\n2 is lib/b\n3 is lib/b\n";
-        reports(rt, merger, &mut filled.told, want)
+        reports(rt, merger, &mut filled.reported, want)
     }
 }
 

@@ -17,8 +17,8 @@ fn shelf_with(
 
 // Appends a place and a line.
 fn describe_line(text: &mut String, place: Place, line: &[u8]) -> Result<(), Fail> {
-    let given = str::from_utf8(line)?;
-    writeln!(text, "{}:{} {}", place.file.0, place.line, given)?;
+    let emitted = str::from_utf8(line)?;
+    writeln!(text, "{}:{} {}", place.file.0, place.line, emitted)?;
     Ok(())
 }
 
@@ -59,10 +59,10 @@ impl Case<MemoryShelf, Fail> for Merging<'_> {
         shelf: &mut MemoryShelf,
         filled: &mut Filled,
     ) -> Result<(), Fail> {
-        describe_lines(&mut filled.told, &mut filled.line, merger, shelf)?;
-        describe_faults(&mut filled.told, merger)?;
-        describe_names(&mut filled.told, merger, 2)?;
-        same_string(rt, filled.told.as_str(), self.text);
+        describe_lines(&mut filled.reported, &mut filled.line, merger, shelf)?;
+        describe_faults(&mut filled.reported, merger)?;
+        describe_names(&mut filled.reported, merger, 2)?;
+        same_string(rt, filled.reported.as_str(), self.text);
         Ok(())
     }
 }
@@ -83,9 +83,9 @@ pub fn compare(
 pub fn compare_all(
     rt: &(impl AllocGlobal + Abort),
     others: &[(&str, &[u8])],
-    rows: &[(&str, &str, &str)],
+    examples: &[(&str, &str, &str)],
 ) -> Result<(), Fail> {
-    for (web, change, want) in rows {
+    for (web, change, want) in examples {
         compare(rt, others, *web, *change, *want)?;
     }
     Ok(())

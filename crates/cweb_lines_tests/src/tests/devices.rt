@@ -25,14 +25,14 @@ impl Shelf for Endless {
         Ok(Some(0))
     }
 
-    fn read(&mut self, given: &mut usize, piece: &mut [u8]) -> Result<usize, ShelfFault> {
+    fn read(&mut self, position: &mut usize, piece: &mut [u8]) -> Result<usize, ShelfFault> {
         for i in 0..piece.len() {
-            if *given < self.length {
+            if *position < self.length {
                 piece[i] = b'x';
-                *given += 1;
+                *position += 1;
             } else {
                 piece[i] = b'\n';
-                *given = 0;
+                *position = 0;
             }
         }
         Ok(piece.len())
@@ -66,8 +66,8 @@ impl Shelf for EndlessChange {
         let Some(reader) = self.shelf.fetch(name)? else {
             return Ok(None);
         };
-        let given = if name == "c.ch" { Some(0) } else { None };
-        Ok(Some((reader, given)))
+        let position = if name == "c.ch" { Some(0) } else { None };
+        Ok(Some((reader, position)))
     }
 
     fn read(
@@ -77,7 +77,7 @@ impl Shelf for EndlessChange {
     ) -> Result<usize, ShelfFault> {
         let n = self.shelf.read(&mut reader.0, piece)?;
         match &mut reader.1 {
-            Some(given) if n == 0 => self.lines.read(given, piece),
+            Some(position) if n == 0 => self.lines.read(position, piece),
             _ => Ok(n),
         }
     }

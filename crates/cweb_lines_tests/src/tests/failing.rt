@@ -167,16 +167,16 @@ impl Case<TrialShelf, Fail> for FailingReads {
     ) -> Result<(), Fail> {
         holds(rt, shelf.failed == 0);
         let ended = write_all(rt, merger, shelf, &mut filled.sink);
-        describe_faults(&mut filled.told, merger)?;
+        describe_faults(&mut filled.reported, merger)?;
         let written = filled.sink.bytes();
         holds(rt, self.least <= written.len());
         self.least = written.len();
         if shelf.fails_at >= 88 {
-            is_all(rt, written, filled.told.as_str());
+            is_all(rt, written, filled.reported.as_str());
             ends(rt, ended, Ok(()));
             return Ok(());
         }
-        is_prefix(rt, written, filled.told.as_str());
+        is_prefix(rt, written, filled.reported.as_str());
         stays_stopped(rt, merger, shelf, &mut filled.line, ended)
     }
 }

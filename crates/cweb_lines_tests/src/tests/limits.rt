@@ -75,7 +75,7 @@ impl Case<MemoryShelf, Fail> for Longest {
         for _ in 0..2 {
             stops_at_the_longer(rt, merger, shelf, &mut filled.line)?;
             let want = "NoName in 0 at 2\n0 is a.w\n1 is longest\n2 is longer\n";
-            reports(rt, merger, &mut filled.told, want)?;
+            reports(rt, merger, &mut filled.reported, want)?;
         }
         Ok(())
     }
@@ -94,7 +94,7 @@ struct Lines {
     length: usize,
     lines: u32,
     stop: Stop,
-    told: &'static str,
+    reported: &'static str,
 }
 
 impl Lines {
@@ -143,7 +143,7 @@ impl<S: Shelf> Case<S, Fail> for Lines {
     ) -> Result<(), Fail> {
         self.come(rt, merger, shelf, &mut filled.line)?;
         self.stop(rt, merger, shelf, &mut filled.line);
-        reports(rt, merger, &mut filled.told, self.told)
+        reports(rt, merger, &mut filled.reported, self.reported)
     }
 }
 
@@ -162,7 +162,7 @@ fn take_all(
         length,
         lines,
         stop,
-        told: "0 is a.w\n",
+        reported: "0 is a.w\n",
     };
     merge(rt, &mut Endless { length }, &WEB, &mut case)
 }
@@ -182,21 +182,21 @@ fn long_lines_that_never_end(rt: HostRuntime) -> Result<(), Fail> {
     take_all(&rt, 1_048_575, 1024, Stop::TooMuchText)
 }
 
-// A web, and a change file that begins with `front`.
-fn change_shelf(alloc: Global, front: &str) -> Result<MemoryShelf, AllocError> {
-    shelf_of(alloc, &[("a.w", b"A\n"), ("c.ch", front.as_bytes())])
+// A web, and a change file that begins with `prefix`.
+fn change_shelf(alloc: Global, prefix: &str) -> Result<MemoryShelf, AllocError> {
+    shelf_of(alloc, &[("a.w", b"A\n"), ("c.ch", prefix.as_bytes())])
 }
 
 // A change file that goes on with lines of `length` bytes without end: how many are emitted, and what is reported.
 fn check_endless(
     rt: &(impl AllocGlobal + Abort),
-    front: &str,
+    prefix: &str,
     length: usize,
     lines: u32,
-    told: &'static str,
+    reported: &'static str,
 ) -> Result<(), Fail> {
     let mut shelf = EndlessChange {
-        shelf: change_shelf(rt.alloc(), front)?,
+        shelf: change_shelf(rt.alloc(), prefix)?,
         lines: Endless { length },
     };
     let mut case = Lines {
@@ -207,7 +207,7 @@ fn check_endless(
         length,
         lines,
         stop: Stop::TooMuchText,
-        told,
+        reported,
     };
     merge(rt, &mut shelf, &CHANGED_WEB, &mut case)
 }
@@ -240,8 +240,8 @@ fn change_files_that_never_end(rt: HostRuntime) -> Result<(), Fail> {
             "WantsY in 1 at 3\n0 is a.w\n1 is c.ch\n",
         ),
     ];
-    for (front, length, lines, told) in EXAMPLES {
-        check_endless(&rt, *front, *length, *lines, *told)?;
+    for (prefix, length, lines, reported) in EXAMPLES {
+        check_endless(&rt, *prefix, *length, *lines, *reported)?;
     }
     Ok(())
 }

@@ -32,7 +32,7 @@ pub const CHANGED_WEB: Names<'static> = Names {
 #[derive(Drop)]
 pub struct Filled {
     pub line: Vec<u8>,
-    pub told: String,
+    pub reported: String,
     pub sink: TrialSink,
 }
 
@@ -72,7 +72,7 @@ fn ask_filling<S: Shelf, E, C: Case<S, E>>(
 ) -> Result<(), E> {
     let mut filled = Filled {
         line: Vec::new(rt.alloc()),
-        told: String::new(rt.alloc()),
+        reported: String::new(rt.alloc()),
         sink: TrialSink::new(rt.alloc()),
     };
     case.ask(rt, merger, shelf, &mut filled)
@@ -124,9 +124,9 @@ impl<S: Shelf> Case<S, Stop> for Unasked {
 pub fn are_refused(
     rt: &(impl AllocGlobal + Abort),
     files: &[(&str, &[u8])],
-    rows: &[(Names<'_>, Stop)],
+    examples: &[(Names<'_>, Stop)],
 ) {
-    for (names, stop) in rows {
+    for (names, stop) in examples {
         let started = merge_files(rt, files, names, &mut Unasked);
         ends(rt, started, Err(*stop));
     }

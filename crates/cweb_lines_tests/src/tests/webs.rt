@@ -17,16 +17,16 @@ impl Case<MemoryShelf, Fail> for Telling<'_> {
         filled: &mut Filled,
     ) -> Result<(), Fail> {
         write_all(rt, merger, shelf, &mut filled.sink)?;
-        describe_bytes(&mut filled.told, filled.sink.bytes())?;
-        describe_faults(&mut filled.told, merger)?;
-        describe_names(&mut filled.told, merger, 0)?;
-        same_string(rt, filled.told.as_str(), self.text);
+        describe_bytes(&mut filled.reported, filled.sink.bytes())?;
+        describe_faults(&mut filled.reported, merger)?;
+        describe_names(&mut filled.reported, merger, 0)?;
+        same_string(rt, filled.reported.as_str(), self.text);
         Ok(())
     }
 }
 
-fn describe_bytes(told: &mut String, bytes: &[u8]) -> Result<(), Fail> {
-    told.push_str(str::from_utf8(bytes)?)?;
+fn describe_bytes(reported: &mut String, bytes: &[u8]) -> Result<(), Fail> {
+    reported.push_str(str::from_utf8(bytes)?)?;
     Ok(())
 }
 
@@ -51,8 +51,11 @@ fn compare_all(rt: &(impl AllocGlobal + Abort), webs: &[Web]) -> Result<(), Fail
 }
 
 // Webs that can include two files, with their expected output.
-fn compare_including(rt: &(impl AllocGlobal + Abort), rows: &[(&[u8], &str)]) -> Result<(), Fail> {
-    for (web, text) in rows {
+fn compare_including(
+    rt: &(impl AllocGlobal + Abort),
+    examples: &[(&[u8], &str)],
+) -> Result<(), Fail> {
+    for (web, text) in examples {
         let files = [("a.w", *web), ("b", b"bee"), ("b c", b"quoted\n")];
         merge_files(rt, &files, &WEB, &mut Telling { text: *text })?;
     }

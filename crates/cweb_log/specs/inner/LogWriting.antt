@@ -11,14 +11,14 @@ pub record WritesToStream {A E : Type 0} (text : List ℕ) (before after : SinkM
   pub tells : after.tells ≡ before.tells
   pub counts : CountsFailure before.failed after.failed result
   pub whole : IsTrue before.tells → OnOk result (after.bytes ≡ before.bytes ++ text)
-  pub front : IsTrue before.tells → OnErr result (WritesPrefix before.bytes after.bytes text)
+  pub prefix : IsTrue before.tells → OnErr result (WritesPrefix before.bytes after.bytes text)
 
 -- All bytes were logged, or a prefix of them if the log failed.
 pub record Logs (text : List ℕ) (before after : SinkModel) : Type 0 where
   pub tells : after.tells ≡ before.tells
   pub once : (after.failed ≡ before.failed) ⊎ (after.failed ≡ before.failed + 1)
   pub whole : IsTrue before.tells → after.failed ≡ before.failed → after.bytes ≡ before.bytes ++ text
-  pub front : IsTrue before.tells → WritesPrefix before.bytes after.bytes text
+  pub prefix : IsTrue before.tells → WritesPrefix before.bytes after.bytes text
 
 -- Of `first` followed by `text`, all is written except what is pending.
 pub record IsWrittenOrBuffered (first text written pending : List ℕ) : Type 0 where
@@ -33,7 +33,7 @@ pub record AppendsToLog {A E : Type 0} (more : List ℕ) (before after : SinkMod
   pub counts : CountsFailure before.failed after.failed result
   pub whole : IsTrue before.tells → (first text : List ℕ) → IsWrittenOrBuffered first text before.bytes old
       → OnOk result (IsWrittenOrBuffered first (text ++ more) after.bytes new)
-  pub front : IsTrue before.tells → (first text : List ℕ) → IsWrittenOrBuffered first text before.bytes old
+  pub prefix : IsTrue before.tells → (first text : List ℕ) → IsWrittenOrBuffered first text before.bytes old
       → OnErr result (WritesPrefix first after.bytes (text ++ more))
 
 -- The parts of a line, concatenated.

@@ -52,5 +52,5 @@ id_of_spelling i text (n ∷ ns) = if bytes_eq text n.text then Some (id i) else
 -- The map finds the same names as the list: for each prefix and for each spelling.
 pub record IsNameMap (es : List NameEntry) (names : List Name) : Type 0 where
   pub finds : (p : List ℕ) → found_of (ids_with_prefix p es) ≡ found_of (beginning p names)
-  pub gives : (q : List ℕ) → lookup (λ (k : List ℕ). is_eq (slice_cmp nat_cmp q k)) es ≡ id_of_spelling 0 q names
+  pub yields : (q : List ℕ) → lookup (λ (k : List ℕ). is_eq (slice_cmp nat_cmp q k)) es ≡ id_of_spelling 0 q names
   pub distinct : Distinct (spellings names)

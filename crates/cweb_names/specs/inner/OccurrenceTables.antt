@@ -17,12 +17,12 @@ occurrences_at [] (g ∷ gs) = []
 occurrences_at (t ∷ ts) (g ∷ gs) = occurrence_of t g.how g.is_file ∷ occurrences_at ts gs
 
 -- The names are those of the occurrences, and `found` is what each one fits up to there.
-pub record IsOccurrenceTable (known : List Name) (strings : List (List ℕ)) (given : List OccurrenceForm)
+pub record IsOccurrenceTable (known : List Name) (strings : List (List ℕ)) (forms : List OccurrenceForm)
     (found : List Found) : Type 0 where
-  pub known_names : known ≡ names (occurrences_at strings given)
-  pub found_early : found ≡ earlies_from 0 [] (occurrences_at strings given)
-  pub count : length strings ≡ length given
-  pub few : length given < too_many
+  pub known_names : known ≡ names (occurrences_at strings forms)
+  pub found_early : found ≡ earlies_from 0 [] (occurrences_at strings forms)
+  pub count : length strings ≡ length forms
+  pub few : length forms < too_many
 
 -- The name that an occurrence resolves to, once all names are known.
 abbrev pub resolve : List Name → List ℕ → Found → Resolution

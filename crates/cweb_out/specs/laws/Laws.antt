@@ -20,11 +20,11 @@ is_no_use t = true
 -- the expansion of its name's list, at one depth less.
 pub record ReplacesUses (w : Stored) (k : ℕ) : Type 0 where
   pub no_use : (ts : List Token) → list_all is_no_use (expand w k ts) ≡ true
-  pub kept : (before behind : List Token) (t : Token) → is_no_use t ≡ true
-      → expand w k (before ++ t ∷ behind) ≡ expand w k before ++ t ∷ expand w k behind
-  pub replaced : (before behind : List Token) (r : NameRef) (n : NameId) → resolved_use w r ≡ Some n
-      → expand w (suc k) (before ++ Name r ∷ behind) ≡ expand w (suc k) before
-      ++ (expand w k (joined w n) ++ expand w (suc k) behind)
+  pub kept : (before after : List Token) (t : Token) → is_no_use t ≡ true
+      → expand w k (before ++ t ∷ after) ≡ expand w k before ++ t ∷ expand w k after
+  pub replaced : (before after : List Token) (r : NameRef) (n : NameId) → resolved_use w r ≡ Some n
+      → expand w (suc k) (before ++ Name r ∷ after) ≡ expand w (suc k) before
+      ++ (expand w k (joined w n) ++ expand w (suc k) after)
 
 abbrev pub ExpansionReplacesUsesAlone : Type 0
 ExpansionReplacesUsesAlone = (w : Stored) (k : ℕ) → ReplacesUses w k

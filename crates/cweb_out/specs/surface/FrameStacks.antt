@@ -28,8 +28,8 @@ AreRanked w (suc k) (f ∷ fs) = FrameIsWithin w f × RanksAreBelow w (suc k) (u
 
 -- The frame holds a suffix of its owner's list. All names that the list uses have ranks.
 pub record IsOwned (w : Stored) (f : Frame) : Type 0 where
-  pub given : List Token
-  pub list : root_list w f.owner ≡ given ++ suffix w f
+  pub yielded : List Token
+  pub list : root_list w f.owner ≡ yielded ++ suffix w f
   pub ends : list_ends w (root_list w f.owner) ≡ true
 
 -- The rank of a list's owner. The main file is above all names.

@@ -12,7 +12,7 @@ impl<'a> Expander<'a> {
     pub fn append(&mut self, printer: &mut Printer<'_>, buffer: &mut OutBuffer)
         requires { IsFrameStack self.old.store.now self.old.frames.items
             (vec_capacity self.old.frames) }
-        ensures stands { IsFrameStack self.new.store.now
+        ensures valid { IsFrameStack self.new.store.now
             self.new.frames.items (vec_capacity self.new.frames) }
         ensures store { self.new.store ≡ self.old.store }
         ensures plan { self.new.plan ≡ self.old.plan }

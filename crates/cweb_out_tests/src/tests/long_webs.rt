@@ -4,13 +4,13 @@ use std::alloc::{AllocError, Global};
 /// A web that repeats a word between a prefix and a suffix.
 pub fn repeated(
     alloc: Global,
-    front: &str,
+    prefix: &str,
     words: &str,
     count: usize,
     back: &str,
 ) -> Result<String, AllocError> {
     let words = words.repeat(alloc, count)?;
-    [front, words.as_str(), back].concat(alloc)
+    [prefix, words.as_str(), back].concat(alloc)
 }
 
 fn add(web: &mut String, alloc: Global, sign: &str, name: u32) -> Result<(), AllocError> {

@@ -43,7 +43,7 @@ pub fn print_file<W: Sink>(
 ) -> Result<(), SinkFault>
     requires { IsFrameStack expander.old.store.now expander.old.frames.items
         (vec_capacity expander.old.frames) }
-    ensures stands { IsFrameStack expander.new.store.now expander.new.frames.items
+    ensures valid { IsFrameStack expander.new.store.now expander.new.frames.items
         (vec_capacity expander.new.frames) }
     ensures store { expander.new.store ≡ expander.old.store }
     ensures plan { expander.new.plan ≡ expander.old.plan }

@@ -2,7 +2,7 @@
 use Rattle.std.specs.Prelude.{ℕ, List, Bool, true, false, ◌||◌, ◌&&◌, not, codes, if◌then◌else◌}
 use Rattle.cweb_texts.specs.inner.Edges.{TokenBytesModel}
 use Rattle.cweb_texts.specs.declared.edges.Edge.{Edge}
-use Rattle.cweb_texts.specs.declared.edges.Edge.TheVariants as border
+use Rattle.cweb_texts.specs.declared.edges.Edge.TheVariants as edge_kind
 use Rattle.cweb_print.specs.inner.Classes.{class_is_literal, class_is_number, class_is_operator, class_is_point}
 use Rattle.cweb_print.specs.inner.Classes.{class_is_wordlike}
 use Rattle.cweb_print.specs.declared.printer.class.Class.{Class}
@@ -11,22 +11,22 @@ use Rattle.cweb_print.specs.declared.printer.left.Left.{Left}
 
 -- The class of a token with an edge.
 abbrev pub class_after_edge : Edge → Class
-class_after_edge border.Word = class.Word
-class_after_edge border.Number = class.Number
-class_after_edge border.Literal = class.Literal
-class_after_edge border.Glue = class.Glue
-class_after_edge border.PlainPlain = class.Other
-class_after_edge border.PlainOperator = class.Operator
-class_after_edge border.PlainPoint = class.Point
-class_after_edge border.OperatorPlain = class.Other
-class_after_edge border.OperatorOperator = class.Operator
-class_after_edge border.OperatorPoint = class.Point
-class_after_edge border.NumericPlain = class.Other
-class_after_edge border.NumericOperator = class.Operator
-class_after_edge border.NumericPoint = class.Point
-class_after_edge border.Blank = class.Other
-class_after_edge border.LineEnd = class.LineStart
-class_after_edge border.Unknown = class.Other
+class_after_edge edge_kind.Word = class.Word
+class_after_edge edge_kind.Number = class.Number
+class_after_edge edge_kind.Literal = class.Literal
+class_after_edge edge_kind.Glue = class.Glue
+class_after_edge edge_kind.PlainPlain = class.Other
+class_after_edge edge_kind.PlainOperator = class.Operator
+class_after_edge edge_kind.PlainPoint = class.Point
+class_after_edge edge_kind.OperatorPlain = class.Other
+class_after_edge edge_kind.OperatorOperator = class.Operator
+class_after_edge edge_kind.OperatorPoint = class.Point
+class_after_edge edge_kind.NumericPlain = class.Other
+class_after_edge edge_kind.NumericOperator = class.Operator
+class_after_edge edge_kind.NumericPoint = class.Point
+class_after_edge edge_kind.Blank = class.Other
+class_after_edge edge_kind.LineEnd = class.LineStart
+class_after_edge edge_kind.Unknown = class.Other
 
 -- The state after a token with an edge.
 abbrev pub left_after_edge : Edge → Left
@@ -34,20 +34,20 @@ left_after_edge b = record { class = class_after_edge b; joined = false }
 
 -- Whether a blank comes between a token of the class and one with an edge.
 abbrev pub edge_is_apart : Class → Edge → Bool
-edge_is_apart left border.Word = class_is_wordlike left
-edge_is_apart left border.Number = class_is_wordlike left || class_is_point left
-edge_is_apart left border.Literal = class_is_wordlike left && not (class_is_literal left)
-edge_is_apart left border.OperatorPlain = class_is_operator left
-edge_is_apart left border.OperatorOperator = class_is_operator left
-edge_is_apart left border.OperatorPoint = class_is_operator left
-edge_is_apart left border.NumericPlain = class_is_number left || class_is_operator left
-edge_is_apart left border.NumericOperator = class_is_number left || class_is_operator left
-edge_is_apart left border.NumericPoint = class_is_number left || class_is_operator left
+edge_is_apart left edge_kind.Word = class_is_wordlike left
+edge_is_apart left edge_kind.Number = class_is_wordlike left || class_is_point left
+edge_is_apart left edge_kind.Literal = class_is_wordlike left && not (class_is_literal left)
+edge_is_apart left edge_kind.OperatorPlain = class_is_operator left
+edge_is_apart left edge_kind.OperatorOperator = class_is_operator left
+edge_is_apart left edge_kind.OperatorPoint = class_is_operator left
+edge_is_apart left edge_kind.NumericPlain = class_is_number left || class_is_operator left
+edge_is_apart left edge_kind.NumericOperator = class_is_number left || class_is_operator left
+edge_is_apart left edge_kind.NumericPoint = class_is_number left || class_is_operator left
 edge_is_apart left b = false
 
 -- A token with the edge ends a line.
 abbrev pub edge_ends_line : Edge → Bool
-edge_ends_line border.LineEnd = true
+edge_ends_line edge_kind.LineEnd = true
 edge_ends_line b = false
 
 -- The bytes in a macro, where a newline is preceded by a backslash.

@@ -3,9 +3,9 @@ use Rattle.std.specs.Prelude.{◌≡◌, ℕ, Bool, List, [], ◌++◌, codes, i
 
 -- A prefix of the buffered bytes went to the sink, and the rest is still buffered.
 pub record FlushesPrefix (old before new after : List ℕ) : Type 0 where
-  pub front : List ℕ
-  pub written : new ≡ old ++ front
-  pub whole : before ≡ front ++ after
+  pub prefix : List ℕ
+  pub written : new ≡ old ++ prefix
+  pub whole : before ≡ prefix ++ after
 
 -- A blank, or nothing.
 abbrev pub blank_where : Bool → List ℕ

@@ -17,15 +17,15 @@ left_in_printer p = p.left
 -- `new` has the suffix over `old` that `after` has over `before`.
 pub record AddsBytes (before after old new : List ℕ) : Type 0 where
   pub bytes : List ℕ
-  pub due : after ≡ before ++ bytes
+  pub expected : after ≡ before ++ bytes
   pub written : new ≡ old ++ bytes
 
 -- `new` has a prefix of that suffix.
 pub record AddsPrefix (before after old new : List ℕ) : Type 0 where
-  pub front : List ℕ
+  pub prefix : List ℕ
   pub rest : List ℕ
-  pub due : after ≡ before ++ (front ++ rest)
-  pub written : new ≡ old ++ front
+  pub expected : after ≡ before ++ (prefix ++ rest)
+  pub written : new ≡ old ++ prefix
 
 abbrev pub AddsBy : {A E : Type 0} → List ℕ → List ℕ → List ℕ → List ℕ → Result A E → Type 0
 AddsBy before after old new (Ok x) = AddsBytes before after old new

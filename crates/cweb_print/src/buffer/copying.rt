@@ -15,7 +15,7 @@ pub fn put_if_fits(bytes: &mut [u8], used: usize, is_apart: bool, text: &[u8]) -
     ensures within { IfSome result (λ end. (used ≤ end) × (end ≤ ROOM)) }
     ensures kept { IfSome result (λ end. take end bytes.new
         ≡ take used bytes.old ++ (blank_where is_apart ++ text.now)) }
-    ensures front { take used bytes.new ≡ take used bytes.old }
+    ensures prefix { take used bytes.new ≡ take used bytes.old }
     ensures room { is_some result ≡ nat_lt (used + length text.now) ROOM }
 {
     if used + text.len() >= ROOM {

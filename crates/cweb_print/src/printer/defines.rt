@@ -89,7 +89,7 @@ fn put_macro(store: &Store, part: Part, bytes: &mut [u8], used: usize) -> Option
     requires room { (length bytes.old ≡ ROOM) × (used ≤ ROOM) }
     ensures room { length bytes.new ≡ ROOM }
     ensures within { IfSome result (λ end. end ≤ ROOM) }
-    ensures front { take used bytes.new ≡ take used bytes.old }
+    ensures prefix { take used bytes.new ≡ take used bytes.old }
     ensures put { IfSome result (λ end. take end bytes.new ≡ take used bytes.old
         ++ macro_line (replaced_in store.now) (tokens_of_part store.now part)) }
 {
@@ -105,7 +105,7 @@ fn put_macro_tokens(store: &Store, part: Part, bytes: &mut [u8], used: usize) ->
     requires room { (length bytes.old ≡ ROOM) × (used ≤ ROOM) }
     ensures room { length bytes.new ≡ ROOM }
     ensures within { IfSome result (λ end. (used ≤ end) × (end ≤ ROOM)) }
-    ensures front { take used bytes.new ≡ take used bytes.old }
+    ensures prefix { take used bytes.new ≡ take used bytes.old }
     ensures put { IfSome result (λ end. take end bytes.new ≡ take used bytes.old
         ++ all_added (macro_by (replaced_in store.now)) at_start (tokens_of_part store.now part)) }
 {

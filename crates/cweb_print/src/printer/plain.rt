@@ -93,7 +93,7 @@ pub(crate) fn has_high_byte(bytes: &[u8]) -> bool
 fn write_numbered<W: Sink>(
     before: &[u8],
     section: u32,
-    behind: &[u8],
+    after: &[u8],
     out: &mut W,
 ) -> Result<(), SinkFault>
     requires { W.failed out.old + 1 < 2 ^ 64 }
@@ -102,10 +102,10 @@ fn write_numbered<W: Sink>(
     ensures beside { IsTrue (W.tells out.old) → W.beside out.new ≡ W.beside out.old }
     ensures wrote { IsTrue (W.tells out.old)
         → Wrote (W.written out.old) (W.written out.new)
-        (numbered_comment before.now section behind.now) result }
+        (numbered_comment before.now section after.now) result }
 {
     let mut digits = Buffer::new();
-    write_chunks(out, &[before, digits.format(section).as_bytes(), behind])
+    write_chunks(out, &[before, digits.format(section).as_bytes(), after])
 }
 
 /// Writes the bytes of a token. A use, Defs or line mark has none here.

@@ -74,14 +74,14 @@ impl<'a> Printer<'a> {
 
 // Appends a section's number between the two parts of a comment.
 #[inline(always)]
-fn add_numbered(before: &[u8], section: u32, behind: &[u8], buffer: &mut OutBuffer)
-    requires room { length buffer.old + (length before.now + (length behind.now + 40)) ≤ ROOM }
-    ensures { buffer.new ≡ buffer.old ++ numbered_comment before.now section behind.now }
+fn add_numbered(before: &[u8], section: u32, after: &[u8], buffer: &mut OutBuffer)
+    requires room { length buffer.old + (length before.now + (length after.now + 40)) ≤ ROOM }
+    ensures { buffer.new ≡ buffer.old ++ numbered_comment before.now section after.now }
 {
     let mut digits = Buffer::new();
     buffer.add(before);
     buffer.add(digits.format(section).as_bytes());
-    buffer.add(behind);
+    buffer.add(after);
 }
 
 // Appends `begin`, and the mark of a line in a file whose name needs no quoting.

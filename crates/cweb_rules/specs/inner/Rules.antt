@@ -32,29 +32,24 @@ abbrev pub is_settled : ℕ → Bool
 is_settled b = not (is_one_of (32 ∷ 9 ∷ 13 ∷ 11 ∷ 12 ∷ 10 ∷ []) b || is_one_of (codes "/@RLuU\"'<.") b || is_digit b)
 
 abbrev pub c_match_by : (ℕ → Effect) → Bool → List ℕ → Rule → RuleMatch
-c_match_by effect takes_sign t rule.Blanks = rule_match Blanks (prefix_len is_blank t)
-c_match_by effect takes_sign t rule.LineEnd = rule_match LineEnd 1
-c_match_by effect takes_sign t rule.Comment = comment_match t
-c_match_by effect takes_sign t rule.LineComment = line_comment_match t
-c_match_by effect takes_sign t rule.Section = section_match t
-c_match_by effect takes_sign t rule.Code = code_match effect takes_sign t
-c_match_by effect takes_sign t rule.RawLiteral = raw_match t
-c_match_by effect takes_sign t rule.Literal = literal_match t
-c_match_by effect takes_sign t rule.IncludedName = include_match t
-c_match_by effect takes_sign t rule.Number = rule_match Numeral (number_len 0 t)
-c_match_by effect takes_sign t rule.Identifier = rule_match Identifier (prefix_len is_word_byte t)
-c_match_by effect takes_sign t rule.Punctuator = rule_match Punctuator (longest listed t)
+c_match_by effect with_opener t rule.Blanks = rule_match Blanks (prefix_len is_blank t)
+c_match_by effect with_opener t rule.LineEnd = rule_match LineEnd 1
+c_match_by effect with_opener t rule.Comment = comment_match t
+c_match_by effect with_opener t rule.LineComment = line_comment_match t
+c_match_by effect with_opener t rule.Section = section_match t
+c_match_by effect with_opener t rule.Code = code_match effect with_opener t
+c_match_by effect with_opener t rule.RawLiteral = raw_match t
+c_match_by effect with_opener t rule.Literal = literal_match t
+c_match_by effect with_opener t rule.IncludedName = include_match t
+c_match_by effect with_opener t rule.Number = rule_match Numeral (number_len 0 t)
+c_match_by effect with_opener t rule.Identifier = rule_match Identifier (prefix_len is_word_byte t)
+c_match_by effect with_opener t rule.Punctuator = rule_match Punctuator (longest listed t)
 
 abbrev pub tex_rule : List ℕ → TexRule
 tex_rule t =
     if starts_section t then text.Section
     else (if begins (codes "@") t then text.Code
     else text.Skipped)
-
-abbrev pub tex_match_by : (ℕ → Effect) → List ℕ → TexRule → RuleMatch
-tex_match_by effect t text.Section = section_match t
-tex_match_by effect t text.Code = code_match effect true t
-tex_match_by effect t text.Skipped = rule_match Skipped 1
 
 -- The rule by the byte after `/`, and by the byte after `.`.
 abbrev pub rule_after_slash : ℕ → Rule

@@ -13,9 +13,9 @@ abbrev pub scanned_after : ReaderModel → Scanned
 scanned_after held = scanned_of (read_after held []).state
 
 -- The reader has taken the merger's lines so far: more lines give what all lines together give.
-pub record HasTaken (tells : Bool) (old told : SoFar) (all now : List Event) (held : ReaderModel) : Type 0 where
+pub record HasTaken (tells : Bool) (old reported : SoFar) (all now : List Event) (held : ReaderModel) : Type 0 where
   pub lines : List Line
   pub read_is : (more : List Line) → read_after held more ≡ read_lines (lines ++ more)
-  pub below : AreLinesBelow (length told.names) lines
-  pub few : web_size lines ≤ told.count.bytes + told.count.lines
-  pub gives : IsTrue tells → EmitsLines lines old told all now
+  pub below : AreLinesBelow (length reported.names) lines
+  pub few : web_size lines ≤ reported.count.bytes + reported.count.lines
+  pub yields : IsTrue tells → EmitsLines lines old reported all now

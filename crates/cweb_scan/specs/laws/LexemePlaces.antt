@@ -29,6 +29,6 @@ newlines before = at_line_ends 1 (flat_map (λ p. p.bytes) before)
 -- Each lexeme has the place of the line of its first byte, whose index is the number of newlines before the lexeme.
 abbrev pub LexemesKeepLines : Line → List Line → Type 0
 LexemesKeepLines line lines =
-    (before : List Lexeme) (p : Lexeme) (behind : List Lexeme)
-    → lexemes (source_start line lines) (joined_lines line lines) ≡ before ++ p ∷ behind
+    (before : List Lexeme) (p : Lexeme) (after : List Lexeme)
+    → lexemes (source_start line lines) (joined_lines line lines) ≡ before ++ p ∷ after
     → slice_get (places (line ∷ lines)) (newlines before) ≡ Some (place_after (source_start line lines) before)

@@ -27,18 +27,18 @@ AreLinesBelow files lines = All (λ line. line.place.file.0 < files) lines
 
 -- Some lines of opened files were scanned, within the merger's limits. All Marks and faults are in opened files. The
 -- store has at most as many tokens and bytes as these lines have bytes, newlines included.
-pub record ScansWithinLimits (told : SoFar) (s : Scanned) : Type 0 where
+pub record ScansWithinLimits (reported : SoFar) (s : Scanned) : Type 0 where
   pub lines : List Line
   pub made : s ≡ scanned lines
-  pub opened : AreLinesBelow (length told.names) lines
+  pub opened : AreLinesBelow (length reported.names) lines
   pub few : web_size lines ≤ BYTES + LINES
-  pub below : IsScanBelow (length told.names) s
+  pub below : IsScanBelow (length reported.names) s
   pub bounded : IsBounded s.store (web_size lines)
 
 -- All remaining lines were taken and scanned. The store is bounded by the bytes and lines taken.
 pub record Scans (s : Scanned) (old new : SoFar) (all : List Event) : Type 0 where
   pub made : s ≡ scanned (emitted_lines all)
-  pub gives : EmitsLines (emitted_lines all) old new all []
+  pub yields : EmitsLines (emitted_lines all) old new all []
   pub small : IsBounded s.store (new.count.bytes + new.count.lines)
 
 -- After some lines comes one that can't be taken.
@@ -49,7 +49,7 @@ pub record StopsAfter (stop : Stop) (old new : SoFar) (all : List Event) : Type 
 -- Why a scan ended early. The events so far are a prefix of all events.
 pub record ScanEndsEarly (stop : Stop) (old new : SoFar) (all : List Event) : Type 0 where
   pub why : StopsFor (StopsAfter stop old new all) stop
-  pub told : ReportsPrefix old new all
+  pub reported : ReportsPrefix old new all
 
 -- After a stop: a read failure raised the shelf's count, and the merger stores the stop.
 pub record LeavesStop (stop : Stop) (before now : ℕ) (in_merger : Option Stop) : Type 0 where

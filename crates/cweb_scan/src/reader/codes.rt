@@ -1,7 +1,7 @@
 // Control codes: the effect of each in a context, and which ones begin a name.
 ghost use Rattle.std.specs.Prelude.{◌≡◌, true};
 ghost use Rattle.cweb_scan.specs.inner.MatchSteps.{effect_in, may_do};
-ghost use Rattle.cweb_scan.specs.inner.MatchSteps as fronted;
+ghost use Rattle.cweb_scan.specs.inner.MatchSteps as match_steps;
 
 use cweb_rules::codes::{in_c, in_limbo, in_macro, in_tex};
 use cweb_rules::{Context, Effect};
@@ -21,7 +21,7 @@ pub fn effect_of(context: Context, letter: u8) -> Effect
 
 /// Whether a code begins a name.
 pub fn is_name_effect(effect: Effect) -> bool
-    ensures { result ≡ fronted.is_name_effect effect }
+    ensures { result ≡ match_steps.is_name_effect effect }
 {
     matches!(effect, Effect::Named)
 }

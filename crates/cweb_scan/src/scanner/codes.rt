@@ -1,7 +1,7 @@
 // Control codes, and the items that they begin within a line.
 ghost use Rattle.std.specs.Prelude.{◌≡◌, ◌≤◌, IfOk, OnOk, length, true, false};
 ghost use Rattle.cweb_scan.specs.inner.MatchSteps.{may_do, ended_as, Applies};
-ghost use Rattle.cweb_scan.specs.inner.MatchSteps as fronted;
+ghost use Rattle.cweb_scan.specs.inner.MatchSteps as match_steps;
 
 use crate::scanner::Scanner;
 use cweb_rules::bytes::begins;
@@ -123,7 +123,7 @@ impl Scanner {
         requires two { 2 ≤ length rest.now }
         requires may { may_do self.old.context effect ≡ true }
         requires room { HasItemRoom 2 self.old }
-        requires unnamed { fronted.is_name_effect effect ≡ false }
+        requires unnamed { match_steps.is_name_effect effect ≡ false }
         ensures { IfOk result
             (λ n. Applies (effect_match effect true rest.now) rest.now n self.old self.new) }
     {

@@ -14,13 +14,13 @@ fn repeated(alloc: Global, text: &[u8], times: usize) -> Result<Vec<u8>, AllocEr
 // A web of a prefix, a repeated middle and a suffix.
 fn long_web(
     alloc: Global,
-    front: &[u8],
+    prefix: &[u8],
     middle: &[u8],
     times: usize,
     back: &[u8],
 ) -> Result<Vec<u8>, AllocError> {
     let mut web = Vec::new(alloc);
-    web.extend_from_slice(front)?;
+    web.extend_from_slice(prefix)?;
     web.extend_from_slice(&repeated(alloc, middle, times)?)?;
     web.extend_from_slice(back)?;
     Ok(web)
@@ -29,7 +29,7 @@ fn long_web(
 // The number of tokens, faults and bytes of strings of a web with this prefix.
 #[derive(Clone, Copy)]
 struct Sizes<'a> {
-    front: &'a [u8],
+    prefix: &'a [u8],
     sizes: (u32, usize, u64),
 }
 
@@ -37,7 +37,7 @@ impl Case<Fail> for Sizes<'_> {
     fn look<A: AllocGlobal + Abort>(&self, rt: &A, made: &Scanned) -> Result<(), Fail> {
         let store = &made.store;
         let sizes = (store.tokens(), made.faults.len(), store.text_bytes());
-        same_sizes(rt, sizes, self.sizes, self.front);
+        same_sizes(rt, sizes, self.sizes, self.prefix);
         Ok(())
     }
 }
@@ -119,10 +119,10 @@ const LONG_LINES: &[LongLine] = &[
 
 // Checks the sizes of such a web. Returns its length.
 fn check_sizes(rt: &(impl AllocGlobal + Abort), line: &LongLine) -> Result<usize, Fail> {
-    let (front, middle, times, back, tokens, faults, bytes) = *line;
-    let web = long_web(rt.alloc(), front, middle, times, back)?;
+    let (prefix, middle, times, back, tokens, faults, bytes) = *line;
+    let web = long_web(rt.alloc(), prefix, middle, times, back)?;
     let sizes = (tokens, faults, bytes as u64);
-    check(rt, &[("a.w", &web)], None, &Sizes { front, sizes })?;
+    check(rt, &[("a.w", &web)], None, &Sizes { prefix, sizes })?;
     Ok(web.len())
 }
 

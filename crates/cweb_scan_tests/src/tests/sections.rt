@@ -2,10 +2,14 @@
 use super::*;
 
 // Appends the number of sections, and the numbers of the starred ones.
-fn render_sections(told: &mut String, sections: u32, starred: &[u32]) -> Result<(), AllocError> {
-    write!(told, "{sections}")?;
+fn render_sections(
+    rendered: &mut String,
+    sections: u32,
+    starred: &[u32],
+) -> Result<(), AllocError> {
+    write!(rendered, "{sections}")?;
     for number in starred {
-        write!(told, " *{number}")?;
+        write!(rendered, " *{number}")?;
     }
     Ok(())
 }
@@ -19,9 +23,9 @@ struct Sections<'a> {
 
 impl Case<Fail> for Sections<'_> {
     fn look<A: AllocGlobal + Abort>(&self, rt: &A, made: &Scanned) -> Result<(), Fail> {
-        let mut told = String::new(rt.alloc());
-        render_sections(&mut told, made.sections, made.starred.as_slice())?;
-        same_string_of(rt, told.as_str(), self.sections, self.web);
+        let mut rendered = String::new(rt.alloc());
+        render_sections(&mut rendered, made.sections, made.starred.as_slice())?;
+        same_string_of(rt, rendered.as_str(), self.sections, self.web);
         Ok(())
     }
 }

@@ -15,6 +15,6 @@ pub fn same_string_of(rt: &impl Abort, got: &str, want: &str, web: &[u8]) {
 }
 
 /// Compares the tokens, faults and bytes of strings of a web with this prefix.
-pub fn same_sizes(rt: &impl Abort, got: (u32, usize, u64), want: (u32, usize, u64), front: &[u8]) {
-    assert_eq!(rt; got, want, "behind {front:?}");
+pub fn same_sizes(rt: &impl Abort, got: (u32, usize, u64), want: (u32, usize, u64), prefix: &[u8]) {
+    assert_eq!(rt; got, want, "behind {prefix:?}");
 }

@@ -10,6 +10,6 @@ use Rattle.cweb_store.specs.Faults as wrong
 pub record AreAnswers (os : List Occurrence) (ps : List Part) (resolutions : List Resolution) (files : List NameId)
     (faults : List NameFault) (has_defs : Bool) : Type 0 where
   pub settled : resolutions ≡ spec.resolutions os
-  pub given : files ≡ spec.files os
+  pub forms : files ≡ spec.files os
   pub found : faults ≡ wrong.faults os ps
   pub defs : has_defs ≡ has_defs_code ps

@@ -46,7 +46,7 @@ pub record InternsToken (old : StringTableModel) (token : spec.Token) (interned 
   pub more : List (List ℕ)
   pub grows : new.strings ≡ old.strings ++ more
   pub within : StringIsWithin (length new.strings) interned
-  pub stands : token_of_interned new.strings interned ≡ token
+  pub stored : token_of_interned new.strings interned ≡ token
   pub words : (q : List ℕ) → has_word new q ≡ list_any (bytes_eq q) (with_word_of old.words token)
   pub bytes : length (text_bytes more) + total length old.words
       ≡ total length (with_word_of old.words token) + other_bytes token

@@ -53,15 +53,15 @@ IsAmong n (Some Program) = Unit {0}
 IsAmong n (Some Macros) = Unit {0}
 IsAmong n (Some (OfName id)) = id.0 < n
 
--- The number of parts between a new part with `behind` parts after it and the next one of its group.
+-- The number of parts between a new part with `after` parts after it and the next one of its group.
 abbrev pub skip_of : Heads → ℕ → Option Wanted → ℕ
-skip_of heads behind None = 0
-skip_of heads behind (Some w) = behind - head_of heads w
+skip_of heads after None = 0
+skip_of heads after (Some w) = after - head_of heads w
 
 -- A part is prepended, and becomes the first of its group.
-pub record IsPut (group : Option Wanted) (behind : ℕ) (old : Heads) (skip : ℕ) (new : Heads) : Type 0 where
-  pub skips : skip ≡ skip_of old behind group
-  pub heads : (w : Wanted) → head_of new w ≡ (if is_group w group then behind + 1 else head_of old w)
+pub record IsPut (group : Option Wanted) (after : ℕ) (old : Heads) (skip : ℕ) (new : Heads) : Type 0 where
+  pub skips : skip ≡ skip_of old after group
+  pub heads : (w : Wanted) → head_of new w ≡ (if is_group w group then after + 1 else head_of old w)
   pub names : length new.names.items ≡ length old.names.items
 
 -- An iterator from the first wanted part visits exactly the wanted ones.

@@ -5,7 +5,7 @@ use Rattle.cweb_store.specs.inner.InternedTokens.{InternsToken}
 use Rattle.cweb_store.specs.Parts as spec
 use Rattle.cweb_texts.specs.inner.StringTables.{StringTableModel}
 use Rattle.cweb_store.specs.declared.tokens.interned.InternedToken.{InternedToken}
-use Rattle.cweb_store.specs.declared.tokens.interned.InternedToken.TheVariants as packed
+use Rattle.cweb_store.specs.declared.tokens.interned.InternedToken.TheVariants as interned_token
 use Rattle.cweb_store.specs.declared.tokens.records.Record.{Record}
 use Rattle.cweb_store.specs.declared.tokens.records.Record.TheVariants as record_of
 
@@ -20,19 +20,19 @@ abbrev pub place_at : List Place → ℕ → Place
 place_at places number = slice_index_or places number (record { file = record { 0 = 0 }; line = 0 })
 
 abbrev pub interned_of_record : List Place → Record → InternedToken
-interned_of_record places (record_of.Word n) = packed.Word n
-interned_of_record places (record_of.Number n) = packed.Number n
-interned_of_record places (record_of.Literal n) = packed.Literal n
-interned_of_record places (record_of.Verbatim n) = packed.Verbatim n
-interned_of_record places (record_of.Punct n) = packed.Punct n
-interned_of_record places record_of.Blank = packed.Blank
-interned_of_record places record_of.Newline = packed.Newline
-interned_of_record places record_of.Join = packed.Join
-interned_of_record places record_of.Defs = packed.Defs
-interned_of_record places (record_of.Name n) = packed.Name n
-interned_of_record places (record_of.Head n) = packed.Head n
-interned_of_record places (record_of.Tail n) = packed.Tail n
-interned_of_record places (record_of.Mark n) = packed.Mark (place_at places n)
+interned_of_record places (record_of.Word n) = interned_token.Word n
+interned_of_record places (record_of.Number n) = interned_token.Number n
+interned_of_record places (record_of.Literal n) = interned_token.Literal n
+interned_of_record places (record_of.Verbatim n) = interned_token.Verbatim n
+interned_of_record places (record_of.Punct n) = interned_token.Punct n
+interned_of_record places record_of.Blank = interned_token.Blank
+interned_of_record places record_of.Newline = interned_token.Newline
+interned_of_record places record_of.Join = interned_token.Join
+interned_of_record places record_of.Defs = interned_token.Defs
+interned_of_record places (record_of.Name n) = interned_token.Name n
+interned_of_record places (record_of.Head n) = interned_token.Head n
+interned_of_record places (record_of.Tail n) = interned_token.Tail n
+interned_of_record places (record_of.Mark n) = interned_token.Mark (place_at places n)
 
 abbrev pub has_place : Record → Bool
 has_place (record_of.Mark n) = true

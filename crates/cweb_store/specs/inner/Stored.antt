@@ -33,18 +33,19 @@ AreLast places bytes = (byte : ℕ) → byte < 256 → slice_get places byte ≡
 
 -- The strings are those of the occurrences, then those of the replacements.
 abbrev pub stored_in : List Token → List PartRange → List (List ℕ) → List OccurrenceForm → List ℕ → Stored
-stored_in tokens ranges strings given replaced =
-    stored (occurrences_at strings given) (map (closed_in tokens) ranges)
-    (replacements_at (drop (length given) strings) replaced)
+stored_in tokens ranges strings forms replaced =
+    stored (occurrences_at strings forms) (map (closed_in tokens) ranges)
+    (replacements_at (drop (length forms) strings) replaced)
 
 pub record AreStored (tokens : List Token) (ranges : List PartRange) (links : Links) (texts : List (List ℕ))
-    (given : List OccurrenceForm) (replaced : List ℕ) (last_places : List (Option ℕ)) (firsts : List ℕ)
+    (forms : List OccurrenceForm) (replaced : List ℕ) (last_places : List (Option ℕ)) (firsts : List ℕ)
     (resolutions : List Resolution) (files : List NameId) (faults : List NameFault) (has_defs : Bool) : Type 0 where
   pub whole : IsWhole tokens ranges
   pub linked : AreLinked resolutions ranges links.skips.items links.heads
-  pub strings : length texts ≡ length given + length replaced
+  pub strings : length texts ≡ length forms + length replaced
   pub last : AreLast last_places replaced
   pub small : length resolutions < 2 ^ 32
   pub few : length firsts < too_many
-  pub first_places : firsts ≡ map (λ n. n.first) (names (occurrences_at texts given))
-  pub answers : AreAnswers (occurrences_at texts given) (map (closed_in tokens) ranges) resolutions files faults has_defs
+  pub first_places : firsts ≡ map (λ n. n.first) (names (occurrences_at texts forms))
+  pub answers : AreAnswers (occurrences_at texts forms) (map (closed_in tokens) ranges) resolutions files faults
+      has_defs

@@ -32,15 +32,15 @@ abbrev pub AllPass : (Token → Bool) → List Token → Type 0
 AllPass test [] = Unit {0}
 AllPass test (t ∷ ts) = (test t ≡ true) × AllPass test ts
 
--- `front` is a prefix of `whole`, and all other tokens pass a test.
-pub record IsTokenPrefix (test : Token → Bool) (whole front : List Token) : Type 0 where
+-- `prefix` is a prefix of `whole`, and all other tokens pass a test.
+pub record IsTokenPrefix (test : Token → Bool) (whole prefix : List Token) : Type 0 where
   pub rest : List Token
-  pub splits : whole ≡ front ++ rest
+  pub splits : whole ≡ prefix ++ rest
   pub passes : AllPass test rest
 
 -- Dropping layout removes only layout, and keeps the first two tokens of a macro.
 pub record KeepsPrefix (p : Part) : Type 0 where
-  pub front : IsTokenPrefix is_layout p.tokens (without_layout p).tokens
+  pub prefix : IsTokenPrefix is_layout p.tokens (without_layout p).tokens
   pub firsts : take (protected_count p.kind) (without_layout p).tokens ≡ take (protected_count p.kind) p.tokens
 
 abbrev pub DroppingKeepsThePrefix : Type 0
@@ -53,6 +53,6 @@ left_of_macro ts = (without_layout (record { kind = Macro; tokens = ts })).token
 -- A macro keeps its first two tokens. After them, all trailing layout is dropped and nothing else.
 pub record MacrosKeepTwoTokens : Type 0 where
   pub firsts : (ts : List Token) → take 2 (left_of_macro ts) ≡ take 2 ts
-  pub fronts : (ts : List Token) → IsTokenPrefix is_layout ts (left_of_macro ts)
+  pub prefixes : (ts : List Token) → IsTokenPrefix is_layout ts (left_of_macro ts)
   pub no_more : (t u : Token) (layout : List Token) → AllPass is_layout layout
       → left_of_macro (t ∷ u ∷ layout) ≡ t ∷ u ∷ []

@@ -51,21 +51,21 @@ impl Heads {
         }
     }
 
-    /// Prepends a part to `behind` others. Returns how many of them are before the next one of its group.
-    fn put(&mut self, group: Option<Wanted>, behind: u32) -> u32
+    /// Prepends a part to `after` others. Returns how many of them are before the next one of its group.
+    fn put(&mut self, group: Option<Wanted>, after: u32) -> u32
         requires among { IsAmong (length self.old.names.items) group }
-        requires within { IfSome group (λ wanted. head_of self.old wanted ≤ behind) }
-        requires few { behind < too_many }
-        ensures { IsPut group behind self.old result self.new }
+        requires within { IfSome group (λ wanted. head_of self.old wanted ≤ after) }
+        requires few { after < too_many }
+        ensures { IsPut group after self.old result self.new }
     {
         let Some(wanted) = group else {
             return 0;
         };
-        let skip = behind - self.get(wanted);
+        let skip = after - self.get(wanted);
         match wanted {
-            Wanted::Program => self.program = behind + 1,
-            Wanted::Macros => self.macros = behind + 1,
-            Wanted::OfName(id) => self.names[id.0 as usize] = behind + 1,
+            Wanted::Program => self.program = after + 1,
+            Wanted::Macros => self.macros = after + 1,
+            Wanted::OfName(id) => self.names[id.0 as usize] = after + 1,
         }
         skip
     }

@@ -4,7 +4,7 @@ use Rattle.cweb_texts.specs.inner.StringTables.{StringTableModel, has_word}
 
 -- the string with the number is the byte, and is interned
 pub record IsByteId (kept : StringTableModel) (byte number : ℕ) : Type 0 where
-  pub stands : slice_get kept.strings number ≡ Some (byte ∷ [])
+  pub stored : slice_get kept.strings number ≡ Some (byte ∷ [])
   pub among : has_word kept (byte ∷ []) ≡ true
 
 -- an entry is 0, or one more than the number of the interned string that is this byte

@@ -2,7 +2,7 @@
 use Rattle.std.specs.Prelude.{◌≡◌, ℕ, Bool, true, false, ◌==◌, nat_le, List, [], ◌∷◌, codes, if◌then◌else◌}
 use Rattle.std.specs.List.{list_any}
 use Rattle.cweb_texts.specs.declared.edges.Edge.{Edge}
-use Rattle.cweb_texts.specs.declared.edges.Edge.TheVariants as border
+use Rattle.cweb_texts.specs.declared.edges.Edge.TheVariants as edge_kind
 use Rattle.cweb_texts.specs.declared.edges.TokenBytes.{TokenBytes}
 use Rattle.cweb_texts.specs.Edges.{is_one_of, is_operator, first_is, last_is}
 
@@ -22,10 +22,12 @@ edge_by_last plain operator point is_point is_operator =
 -- the edge of a punctuator, by two tests of its first byte and two of its last byte
 abbrev pub punctuator_edge_by : Bool → Bool → Bool → Bool → Edge
 punctuator_edge_by is_numeric is_operator is_point ends =
-    if is_numeric then edge_by_last border.NumericPlain border.NumericOperator border.NumericPoint is_point ends
-    else (if is_operator then edge_by_last border.OperatorPlain border.OperatorOperator border.OperatorPoint is_point
+    if is_numeric then edge_by_last edge_kind.NumericPlain edge_kind.NumericOperator edge_kind.NumericPoint is_point
     ends
-    else edge_by_last border.PlainPlain border.PlainOperator border.PlainPoint is_point ends)
+    else (if is_operator then edge_by_last edge_kind.OperatorPlain edge_kind.OperatorOperator edge_kind.OperatorPoint
+    is_point
+    ends
+    else edge_by_last edge_kind.PlainPlain edge_kind.PlainOperator edge_kind.PlainPoint is_point ends)
 
 abbrev pub punctuator_edge : List ℕ → Edge
 punctuator_edge b =
@@ -34,10 +36,10 @@ punctuator_edge b =
 
 -- the edge of a string, which is known where all its bytes are ASCII
 abbrev pub string_edge : List ℕ → Edge
-string_edge b = if list_any is_high b then border.Unknown else punctuator_edge b
+string_edge b = if list_any is_high b then edge_kind.Unknown else punctuator_edge b
 
 abbrev pub is_known_edge : Edge → Bool
-is_known_edge border.Unknown = false
+is_known_edge edge_kind.Unknown = false
 is_known_edge b = true
 
 -- an edge that is stored for a string is its own, or unknown

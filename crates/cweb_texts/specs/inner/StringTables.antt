@@ -30,7 +30,7 @@ table_model strings ws es = record { strings = strings; words = map entry_word e
 pub record AddsString (old : StringTableModel) (string : List ℕ) (number : ℕ) (new : StringTableModel) : Type 0 where
   pub more : List (List ℕ)
   pub grows : new.strings ≡ old.strings ++ more
-  pub stands : slice_get new.strings number ≡ Some string
+  pub stored : slice_get new.strings number ≡ Some string
   pub words : (q : List ℕ) → has_word new q ≡ has_word old q
   pub bytes : length (text_bytes more) ≡ length string
   pub few : length more ≤ 1
@@ -39,7 +39,7 @@ pub record AddsString (old : StringTableModel) (string : List ℕ) (number : ℕ
 pub record InternsWord (old : StringTableModel) (word : List ℕ) (number : ℕ) (new : StringTableModel) : Type 0 where
   pub more : List (List ℕ)
   pub grows : new.strings ≡ old.strings ++ more
-  pub stands : slice_get new.strings number ≡ Some word
+  pub stored : slice_get new.strings number ≡ Some word
   pub words : (q : List ℕ) → has_word new q ≡ list_any (bytes_eq q) (with_word old.words word)
   pub bytes : length (text_bytes more) + total length old.words ≡ total length (with_word old.words word)
   pub few : length more ≤ 1

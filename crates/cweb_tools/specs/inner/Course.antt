@@ -26,5 +26,5 @@ course_of texts words inputs = merge_course (world_of texts inputs) (web_names_b
 
 -- A run of `wmerge` does the acts of its course.
 abbrev pub EndsMerge : Option WebNames → Course → Devices → Devices → ℕ → Type 0
-EndsMerge asked course before after status = FollowsCourse merge_acts (λ taken. acts_status (merge_acts taken))
-    (MergeCanCome asked) course (merge_devices before) (merge_devices after) status
+EndsMerge args course before after status = FollowsCourse merge_acts (λ taken. acts_status (merge_acts taken))
+    (MergeCanCome args) course (merge_devices before) (merge_devices after) status

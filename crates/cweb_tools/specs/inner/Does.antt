@@ -12,7 +12,7 @@ use Rattle.cweb_tools.specs.laws.Leaves.{bins_blame}
 -- Acts that begin in this state end in one that agrees with the devices.
 pub record LeadTo (acts : List Act) (why : Option Ending) (now : DeviceState) (after : Devices) : Type 0 where
   pub left : DeviceState
-  pub told : AgreesWith left after
+  pub observed : AgreesWith left after
   pub runs : PerformsActs acts why now left
 
 -- The state of the observable devices.
@@ -80,29 +80,29 @@ pub record ClosesLog (why : Ending) (old new : Devices) : Type 0 where
   pub bins : new.out ≡ old.out
   pub log : LogsEnding why old.log new.log
 
--- The end of a run or its last part: all acts were done and the status is `due`, or a stop was logged.
-pub data Closes (acts : List Act) (due : ℕ) (before after : Devices) (status : ℕ) : Type 0 where
-  done : Does acts None before after → status ≡ due → Closes acts due before after status
+-- The end of a run or its last part: all acts were done and the status is `expected`, or a stop was logged.
+pub data Closes (acts : List Act) (expected : ℕ) (before after : Devices) (status : ℕ) : Type 0 where
+  done : Does acts None before after → status ≡ expected → Closes acts expected before after status
   halted : (why : Ending) (then : Devices) → Does acts (Some why) before then → ClosesLog why then after
-      → status ≡ 1 → Closes acts due before after status
+      → status ≡ 1 → Closes acts expected before after status
 
 -- The end of a part that has only the log.
 abbrev pub ClosesInLog : List Act → ℕ → SinkModel → SinkModel → ℕ → Type 0
-ClosesInLog acts due old new status = (shelf : ShelfModel) (bins : SinkModel)
-    → Closes acts due (record { shelf = shelf; out = bins; log = old })
+ClosesInLog acts expected old new status = (shelf : ShelfModel) (bins : SinkModel)
+    → Closes acts expected (record { shelf = shelf; out = bins; log = old })
     (record { shelf = shelf; out = bins; log = new }) status
 
 -- The end of a part that has the bins and the log.
 abbrev pub ClosesInBoth : List Act → ℕ → SinkModel → SinkModel → SinkModel → SinkModel → ℕ → Type 0
-ClosesInBoth acts due old new log log' status = (shelf : ShelfModel)
-    → Closes acts due (record { shelf = shelf; out = old; log = log })
+ClosesInBoth acts expected old new log log' status = (shelf : ShelfModel)
+    → Closes acts expected (record { shelf = shelf; out = old; log = log })
     (record { shelf = shelf; out = new; log = log' }) status
 
 -- The end of a run or its last part, for acts and a status that depend on the course. An observable shelf determines
 -- the course; otherwise some possible one is taken.
-pub record FollowsCourse {Course : Type 0} (acts : Course → List Act) (due : Course → ℕ) (CanBe : Course → Type 0)
+pub record FollowsCourse {Course : Type 0} (acts : Course → List Act) (expected : Course → ℕ) (CanBe : Course → Type 0)
     (course : Course) (before after : Devices) (status : ℕ) : Type 0 where
   pub taken : Course
   pub can : CanBe taken
   pub is : IsTrue before.shelf.tells → taken ≡ course
-  pub closes : Closes (acts taken) (due taken) before after status
+  pub closes : Closes (acts taken) (expected taken) before after status

@@ -22,12 +22,12 @@ use Rattle.cweb_tools.specs.declared.outputs.Failed.{Failed}
 -- Its plan is one of its store, and its stack of frames is valid.
 pub record IsReady (e : Expander) : Type 0 where
   pub made : IsPlanOf e.store.now e.plan.now
-  pub stands : IsFrameStack e.store.now e.frames.items (vec_capacity e.frames)
+  pub valid : IsFrameStack e.store.now e.frames.items (vec_capacity e.frames)
 
 pub record StaysReady (old new : Expander) : Type 0 where
   pub store : new.store ≡ old.store
   pub plan : new.plan ≡ old.plan
-  pub stands : IsFrameStack new.store.now new.frames.items (vec_capacity new.frames)
+  pub valid : IsFrameStack new.store.now new.frames.items (vec_capacity new.frames)
 
 -- The tokens that it will still yield.
 abbrev pub left_in : Expander → List Token

@@ -11,20 +11,21 @@ use Rattle.cweb_tools.specs.inner.Tangle.{LaterActs, opening_acts, course_status
 
 -- The part of a run from the opening of the web ends as its course does.
 abbrev pub EndsAs : LaterActs → OptionsModel → TangleCourse → Devices → Devices → ℕ → Type 0
-EndsAs later asked course before after status =
-    FollowsCourse (opening_acts later) course_status (CanCome (Some asked)) course before after status
+EndsAs later args course before after status =
+    FollowsCourse (opening_acts later) course_status (CanCome (Some args)) course before after status
 
 -- Something stopped the opening or the scan, and that was logged.
 abbrev pub StopsScan : OptionsModel → TangleCourse → ShelfModel → ShelfModel → SinkModel → SinkModel → ℕ → Type 0
-StopsScan asked course shelf shelf' log log' status = (later : LaterActs) (out : SinkModel)
-    → EndsAs later asked course (record { shelf = shelf; out = out; log = log })
+StopsScan args course shelf shelf' log log' status = (later : LaterActs) (out : SinkModel)
+    → EndsAs later args course (record { shelf = shelf; out = out; log = log })
     (record { shelf = shelf'; out = out; log = log' }) status
 
 -- The web was scanned. If the acts after that end so, the run ends as its course does.
 abbrev pub CompletesScan : OptionsModel → TangleCourse → ShelfModel → ShelfModel → SinkModel → List (List ℕ)
     → List SourceFault → Scanned → Type 0
-CompletesScan asked course shelf shelf' log files faults made =
+CompletesScan args course shelf shelf' log files faults made =
     (later : LaterActs) (out : SinkModel) (after : Devices) (status : ℕ)
-    → Closes (later files (web_of files faults made asked.names.main))
-    (web_status (web_of files faults made asked.names.main)) (record { shelf = shelf'; out = out; log = log }) after status
-    → EndsAs later asked course (record { shelf = shelf; out = out; log = log }) after status
+    → Closes (later files (web_of files faults made args.names.main))
+    (web_status (web_of files faults made args.names.main)) (record { shelf = shelf'; out = out; log = log }) after
+    status
+    → EndsAs later args course (record { shelf = shelf; out = out; log = log }) after status

@@ -44,4 +44,4 @@ course_status (tangling names events web) = web_status web
 -- The way that a run goes, as a function.
 abbrev pub tangle_course : World → Option OptionsModel → TangleCourse
 tangle_course world None = unread
-tangle_course world (Some asked) = tangled asked.names.main (merge_course world (Some asked.names.merge))
+tangle_course world (Some args) = tangled args.names.main (merge_course world (Some args.names.merge))

@@ -17,10 +17,10 @@ abbrev pub tangle_status : Shown → TangleCourse → ℕ
 tangle_status shown course = acts_status (script shown course)
 
 -- The first of the expected files were committed, in order, each whole. All others are unchanged.
-pub record LeavesFiles (due old new : List File) : Type 0 where
+pub record LeavesFiles (expected old new : List File) : Type 0 where
   pub done : List File
   pub undone : List File
-  pub whole : due ≡ done ++ undone
+  pub whole : expected ≡ done ++ undone
   pub is : new ≡ put_files old done
 
 -- The increase of the bins' failure count at a stop.

@@ -11,7 +11,7 @@ use Rattle.cweb_log.specs.Log.{stop_line}
 use Rattle.cweb_log.specs.CommandLine.{OptionsModel, WebNames}
 use Rattle.cweb_log.specs.DeviceModels.{Devices, SinkModel}
 use Rattle.cweb_log.specs.declared.shown.Shown.{Shown}
-use Rattle.cweb_tools.specs.Acts.{Act, DeviceState, TangleEnds, logged_items}
+use Rattle.cweb_tools.specs.Acts.{Act, DeviceState, RunEnds, logged_items}
 use Rattle.cweb_tools.specs.Course.{Course, IsMergeCourse}
 use Rattle.cweb_tools.specs.Headline.{ActsKeepLimits, printed_bytes, put_files, written_files}
 use Rattle.cweb_tools.specs.MergeActs.{MergePromises, merge_acts}
@@ -19,18 +19,18 @@ use Rattle.cweb_tools.specs.Script.{TangleCourse, script}
 use Rattle.cweb_tools.specs.Tangle.{shown_by, TanglePromises}
 use Rattle.cweb_tools.specs.laws.Leaves.{LeavesFiles, bins_blame, tangle_status}
 
--- All acts were done: the files were committed, the items logged, and the status is `due`.
-pub record DoesAll (acts : List Act) (due : ℕ) (old new : DeviceState) (status : ℕ) : Type 0 where
+-- All acts were done: the files were committed, the items logged, and the status is `expected`.
+pub record DoesAll (acts : List Act) (expected : ℕ) (old new : DeviceState) (status : ℕ) : Type 0 where
   pub files : new.files ≡ put_files old.files (written_files acts)
   pub log : new.log ≡ old.log ++ flat_map line (logged_items acts)
-  pub answered : status ≡ due
+  pub answered : status ≡ expected
 
 -- The first items were logged and then the stop's line, or a prefix of that if the log failed.
 pub record LogsUpTo (items : List LogItem) (stop : Stop) (about : List ℕ) (old new : DeviceState) : Type 0 where
   pub before : List LogItem
   pub later : List LogItem
   pub whole : items ≡ before ++ later
-  pub front : WritesPrefix old.log new.log (flat_map line before ++ stop_line stop about)
+  pub prefix : WritesPrefix old.log new.log (flat_map line before ++ stop_line stop about)
   pub all : new.log_failed ≡ old.log_failed → new.log ≡ old.log ++ (flat_map line before ++ stop_line stop about)
 
 -- A count rose by at most one.
@@ -47,7 +47,7 @@ pub record IsStopped (acts : List Act) (stop : Stop) (about : List ℕ) (old new
 
 -- All acts were done, or something stopped the run.
 abbrev pub IsEnded : List Act → ℕ → DeviceState → DeviceState → ℕ → Type 0
-IsEnded acts due old new status = DoesAll acts due old new status
+IsEnded acts expected old new status = DoesAll acts expected old new status
     ⊎ ((stop : Stop) × (about : List ℕ) × IsStopped acts stop about old new × (status ≡ 1))
 
 -- No read failed, and the limits were kept.
@@ -68,26 +68,26 @@ pub record TangleReportsFaults (before after : Devices) (status : ℕ) : Type 0 
   pub logged : after.log.failed ≢ before.log.failed → status ≡ 1
 
 -- The end of an observable log: all items, or the first ones and the stop's line, or a prefix if the log failed.
-pub data LogEnds (items : List LogItem) (due : ℕ) (old new : SinkModel) (status : ℕ) : Type 0 where
-  said : new.bytes ≡ old.bytes ++ flat_map line items → status ≡ due → LogEnds items due old new status
+pub data LogEnds (items : List LogItem) (expected : ℕ) (old new : SinkModel) (status : ℕ) : Type 0 where
+  said : new.bytes ≡ old.bytes ++ flat_map line items → status ≡ expected → LogEnds items expected old new status
   cut : (stop : Stop) (about : List ℕ) (before later : List LogItem) → items ≡ before ++ later
       → WritesPrefix old.bytes new.bytes (flat_map line before ++ stop_line stop about)
       → (new.failed ≡ old.failed → new.bytes ≡ old.bytes ++ (flat_map line before ++ stop_line stop about))
-      → status ≡ 1 → LogEnds items due old new status
+      → status ≡ 1 → LogEnds items expected old new status
 
 -- The effect of a run on the state.
-pub record LeavesStates (acts : List Act) (due : ℕ) (old new : DeviceState) (status : ℕ) : Type 0 where
+pub record LeavesStates (acts : List Act) (expected : ℕ) (old new : DeviceState) (status : ℕ) : Type 0 where
   -- All acts were done; or the log has the first items and the line of the stop, and the status is 1.
-  pub ended : IsEnded acts due old new status
+  pub ended : IsEnded acts expected old new status
   -- If a file was committed, no read failed and the limits were kept.
   pub read : new.files ≢ old.files → ReadAll acts old new
   -- A web that breaks the limits never gives status 0.
   pub limits : ¬ ActsKeepLimits acts → status ≡ 1
 
 -- The effect of a run on the observable devices.
-pub record LeavesDevices (acts : List Act) (due : ℕ) (before after : Devices) (status : ℕ) : Type 0 where
+pub record LeavesDevices (acts : List Act) (expected : ℕ) (before after : Devices) (status : ℕ) : Type 0 where
   -- An observable log has the expected lines, or the first ones and the line of a stop, whatever shelf and bins are.
-  pub logged : IsTrue before.log.tells → LogEnds (logged_items acts) due before.log after.log status
+  pub logged : IsTrue before.log.tells → LogEnds (logged_items acts) expected before.log after.log status
   -- Observable bins have the first expected files, each whole, whatever shelf and log are.
   pub filed : IsTrue before.out.tells
       → LeavesFiles (written_files acts) before.out.beside.files after.out.beside.files
@@ -95,17 +95,19 @@ pub record LeavesDevices (acts : List Act) (due : ℕ) (before after : Devices) 
   pub faults : TangleReportsFaults before after status
 
 abbrev pub EveryRunLeavesStates : Type 0
-EveryRunLeavesStates = (shown : Shown) (course : TangleCourse) (due : ℕ) (old new : DeviceState) (status : ℕ)
-    → TangleEnds (script shown course) due old new status → LeavesStates (script shown course) due old new status
+EveryRunLeavesStates = (shown : Shown) (course : TangleCourse) (expected : ℕ) (old new : DeviceState) (status : ℕ)
+    → RunEnds (script shown course) expected old new status → LeavesStates
+    (script shown course) expected old new status
 
 abbrev pub EveryRunLeavesDevices : Type 0
-EveryRunLeavesDevices = (world : World) (asked : Option OptionsModel) (before after : Devices) (status : ℕ)
-    → (run : TanglePromises world asked before after status)
-    → LeavesDevices (script (shown_by asked) run.course) (tangle_status (shown_by asked) run.course) before after status
+EveryRunLeavesDevices = (world : World) (args : Option OptionsModel) (before after : Devices) (status : ℕ)
+    → (run : TanglePromises world args before after status)
+    → LeavesDevices (script (shown_by args) run.course) (tangle_status (shown_by args) run.course) before after
+    status
 
 -- A prefix of what these acts print was printed, and all of it if the status is 0.
 pub record PrintsActs (acts : List Act) (before after : Devices) (status : ℕ) : Type 0 where
-  pub front : WritesPrefix before.out.bytes after.out.bytes (printed_bytes acts)
+  pub prefix : WritesPrefix before.out.bytes after.out.bytes (printed_bytes acts)
   pub whole : status ≡ 0 → after.out.bytes ≡ before.out.bytes ++ printed_bytes acts
 
 -- No device failed more than once, and shelf and output didn't both fail.
@@ -123,6 +125,6 @@ pub record LeavesMerge (course : Course) (before after : Devices) (status : ℕ)
   pub faults : TangleReportsFaults before after status
 
 abbrev pub EveryMergeLeavesOutput : Type 0
-EveryMergeLeavesOutput = (world : World) (asked : Option WebNames) (before after : Devices) (status : ℕ)
-    → MergePromises world asked before after status
-    → (course : Course) → IsMergeCourse world asked course → LeavesMerge course before after status
+EveryMergeLeavesOutput = (world : World) (args : Option WebNames) (before after : Devices) (status : ℕ)
+    → MergePromises world args before after status
+    → (course : Course) → IsMergeCourse world args course → LeavesMerge course before after status

@@ -59,12 +59,12 @@ fn left(alloc: Global, words: &[&str], device: Device, good: u64) -> Result<Tang
 
 /// Whether a run had this effect. The log is not compared if it is the failing device, or if there is an old file.
 fn has_left(run: &Tangle, device: Device, text: &str) -> bool {
-    let mut told = Expected::new(text.as_bytes());
+    let mut expected = Expected::new(text.as_bytes());
     if matches!(device, Device::Bins | Device::Shelf) {
-        told.feed(run.log.bytes());
+        expected.feed(run.log.bytes());
     }
-    run.feed_files(&mut told);
-    told.is_met()
+    run.feed_files(&mut expected);
+    expected.is_met()
 }
 
 /// The effect of a run: that of the previous one, or the next in the list.

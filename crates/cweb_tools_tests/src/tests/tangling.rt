@@ -52,11 +52,11 @@ impl Tangle {
     }
 
     /// Compares the files and the status.
-    pub fn feed_files(&self, told: &mut Expected) {
+    pub fn feed_files(&self, expected: &mut Expected) {
         for file in self.bins.bins.files() {
-            feed_file(file, told);
+            feed_file(file, expected);
         }
-        told.feed(if self.status == 0 {
+        expected.feed(if self.status == 0 {
             b"== 0\n"
         } else {
             b"== 1\n"
@@ -64,11 +64,11 @@ impl Tangle {
     }
 }
 
-fn feed_file(file: &BinFile, told: &mut Expected) {
-    told.feed(b"== ");
-    told.feed(file.name.as_bytes());
-    told.feed(b"\n");
-    told.feed(&file.bytes);
+fn feed_file(file: &BinFile, expected: &mut Expected) {
+    expected.feed(b"== ");
+    expected.feed(file.name.as_bytes());
+    expected.feed(b"\n");
+    expected.feed(&file.bytes);
 }
 
 /// The effect of a run over files in memory.
@@ -83,11 +83,11 @@ pub type Run<'a> = (&'a [&'a str], &'a [(&'a str, &'a [u8])], &'a str);
 
 /// Checks the effect of a run. On failure the rest of the expected string is printed.
 fn check_left(rt: &impl Abort, run: &Tangle, text: &str) {
-    let mut told = Expected::new(text.as_bytes());
-    told.feed(run.log.bytes());
-    run.feed_files(&mut told);
-    same_bytes(rt, told.rest, b"");
-    holds(rt, told.is_met());
+    let mut expected = Expected::new(text.as_bytes());
+    expected.feed(run.log.bytes());
+    run.feed_files(&mut expected);
+    same_bytes(rt, expected.rest, b"");
+    holds(rt, expected.is_met());
 }
 
 pub fn check_run(rt: &(impl Abort + AllocGlobal), run: &Run) {

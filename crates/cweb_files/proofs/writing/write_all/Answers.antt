@@ -3,7 +3,7 @@ use Rattle.std.proofs.lemmas.List.{length-drop, take_all}
 use Rattle.std.proofs.lemmas.Grind.{common_steps}
 use Rattle.std.proofs.Math.Seq.{take-add}
 use Rattle.cweb_files.specs.surface.Frames.{Writes}
-use Rattle.cweb_files.proofs.FramesCompose.{place_same, place_told, place_then, writes_none, writes_then}
+use Rattle.cweb_files.proofs.FramesCompose.{place_same, place_known, place_then, writes_none, writes_then}
 use Rattle.cweb_files.proofs.writing.write_all.Goals as goal
 
 pub pieces-init : goal.pieces-init
@@ -46,9 +46,9 @@ returns-in-Err-clause-keeps g c = place_then g.W.Sink _ _ _ c.pieces.invariant.k
 
 pub returns-in-Err-clause-err : goal.returns-in-Err-clause-err
 returns-in-Err-clause-err g c = λ tells. record {
-  front = take c.pieces.at c.args.bytes.now;
+  prefix = take c.pieces.at c.args.bytes.now;
   rest = drop c.pieces.at c.args.bytes.now;
-  written = c.in-Err.ensures.err (place_told g.W.Sink _ _ c.pieces.invariant.keeps tells)
+  written = c.in-Err.ensures.err (place_known g.W.Sink _ _ c.pieces.invariant.keeps tells)
       ∙ c.pieces.invariant.written tells;
   whole = sym (take-append-drop c.pieces.at c.args.bytes.now);
 }

@@ -1,5 +1,5 @@
 use Rattle.cweb_input.proofs.Common.{◌≡◌, ◌++◌, ◌+◌, ◌-◌, ◌∙◌, [], ℕ, List, None, Some, ap, drop, length, refl, sym, subst, take, arith, append_assoc, length-append, take-append-drop, common_steps, append-nil, length-take, HasNoNewline, SplitsAt}
-use Rattle.cweb_input.proofs.Newlines.{newline_at-memchr, no_newline-append, splits_behind}
+use Rattle.cweb_input.proofs.Newlines.{newline_at-memchr, no_newline-append, splits_after}
 use Rattle.cweb_input.proofs.cut.newline_at.Goals as goal
 
 pub runs-init : goal.runs-init
@@ -16,9 +16,9 @@ runs-preserved c =
       no_newline-append inv.0 (take 32 rest) inv.2 c.in_default.ensures,
     )
 
-front_size : (bytes front rest : List ℕ) (at : ℕ) → bytes ≡ front ++ rest
-    → length front + at ≡ length bytes - length rest + at
-front_size bytes front rest at is = omega (arith, ap (λ (l : List ℕ). length l) is, length-append front rest)
+prefix_size : (bytes prefix rest : List ℕ) (at : ℕ) → bytes ≡ prefix ++ rest
+    → length prefix + at ≡ length bytes - length rest + at
+prefix_size bytes prefix rest at is = omega (arith, ap (λ (l : List ℕ). length l) is, length-append prefix rest)
 
 pub overflow_add-result : goal.overflow_add-result
 overflow_add-result c =
@@ -39,8 +39,8 @@ returns-in-Some c =
     let inv = c.runs.invariant in
     let rest = c.runs.rest.now in
     let at = c.in-Some.at in
-    subst (SplitsAt c.args.bytes.now) (front_size c.args.bytes.now inv.0 rest at inv.1)
-    (splits_behind c.args.bytes.now inv.0 (take 32 rest) (drop 32 rest) at
+    subst (SplitsAt c.args.bytes.now) (prefix_size c.args.bytes.now inv.0 rest at inv.1)
+    (splits_after c.args.bytes.now inv.0 (take 32 rest) (drop 32 rest) at
     (inv.1 ∙ ap (λ (l : List ℕ). inv.0 ++ l) (sym (take-append-drop 32 rest))) inv.2 c.in-Some.ensures)
 
 pub returns-in-Some-memchr : goal.returns-in-Some-memchr
@@ -48,8 +48,8 @@ returns-in-Some-memchr c =
     let inv = c.runs.invariant in
     let rest = c.runs.rest.now in
     let at = c.in-Some-memchr.at in
-    subst (SplitsAt c.args.bytes.now) (front_size c.args.bytes.now inv.0 rest at inv.1)
-    (splits_behind c.args.bytes.now inv.0 rest [] at (inv.1 ∙ ap (λ (l : List ℕ). inv.0 ++ l) (sym (append-nil rest)))
+    subst (SplitsAt c.args.bytes.now) (prefix_size c.args.bytes.now inv.0 rest at inv.1)
+    (splits_after c.args.bytes.now inv.0 rest [] at (inv.1 ∙ ap (λ (l : List ℕ). inv.0 ++ l) (sym (append-nil rest)))
     inv.2 (newline_at-memchr rest (Some at) c.in-Some-memchr.ensures))
 
 pub returns-in-None : goal.returns-in-None

@@ -2,7 +2,7 @@ use Rattle.cweb_input.proofs.Common.{◌≡◌, ◌++◌, ℕ, List, length, Has
 use Rattle.cweb_input.proofs.cut.newline_at.Given as goal
 
 abbrev pub invariant-runs : goal.invariant-runs
-invariant-runs l = (front : List ℕ) × (l.bytes ≡ front ++ l.rest) × HasNoNewline front
+invariant-runs l = (prefix : List ℕ) × (l.bytes ≡ prefix ++ l.rest) × HasNoNewline prefix
 
 abbrev pub decreases-runs : goal.decreases-runs
 decreases-runs l = length l.rest

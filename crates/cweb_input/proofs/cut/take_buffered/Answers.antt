@@ -1,5 +1,5 @@
 use Rattle.cweb_input.proofs.Common.{◌≡◌, ◌++◌, [], ℕ, List, take, drop, ◌∙◌, ap, subst, take-append-drop, Err, append-nil, err_from_is_err_and, slice_range, IsLongerThan, TooLong, LINE_LENGTH}
-use Rattle.cweb_input.proofs.Newlines.{longer, behind}
+use Rattle.cweb_input.proofs.Newlines.{longer, after_newline}
 use Rattle.cweb_input.proofs.cut.take_buffered.Goals as goal
 
 pub returns-in_err-extend-in-Some-clause-too_long : goal.returns-in_err-extend-in-Some-clause-too_long
@@ -29,7 +29,7 @@ returns-in_ok-extend-in-Some-clause-taken g c =
     let bytes = slice_range c.deref.result.now c.args.source.now.start c.args.source.now.end in (
       take c.in-Some.at bytes,
       c.in-Some.ensures.before,
-      rw (← c.deref.ensures.value) (behind c.deref.result.now c.args.source.now.start c.args.source.now.end c.in-Some.at
+      rw (← c.deref.ensures.value) (after_newline c.deref.result.now c.args.source.now.start c.args.source.now.end c.in-Some.at
           c.in-Some.ensures c.args.source.now.ordered),
       c.in_ok-extend-in-Some.ensures.ok,
     )

@@ -1,9 +1,9 @@
 use Rattle.cweb_lines.proofs.Common.{rules, Line, ◌+◌, refl, ap, sym, ◌∙◌, arith, IsTrue, Writes, BuffersLines, HasWritten, events_to_come, so_far_of, to_come, so_far, read_failures_of, blames_none, stop_after}
-use Rattle.cweb_lines.proofs.ReportsOnlyGrow.{grows_told, told_halted, told_passed, told_same, told_then}
-use Rattle.cweb_lines.proofs.BufferedWrites.{held, held_on, fails_front, fails_among, written_on}
+use Rattle.cweb_lines.proofs.ReportsOnlyGrow.{grows_reported, reported_halted, reported_passed, reported_same, reported_then}
+use Rattle.cweb_lines.proofs.BufferedWrites.{held, held_on, fails_prefix, fails_among, written_on}
 use Rattle.cweb_files.proofs.FramesCompose.{keeps_same, keeps_then, place_same, place_then}
 use Rattle.cweb_lines.proofs.NoReadFails.{Quiet, quiet_by, quiet_same, quiet_then, still_tells}
-use Rattle.cweb_lines.proofs.WrittenLinesAddUp.{nothing_yet, written_by, written_front, written_some, written_whole, tells_some, tells_more, tells_same}
+use Rattle.cweb_lines.proofs.WrittenLinesAddUp.{nothing_yet, written_by, written_prefix, written_some, written_whole, tells_some, tells_more, tells_same}
 use Rattle.cweb_lines.proofs.WriteStops.{blames_own, blames_write, memory_failed, memory_write, none_before, write_failed}
 use Rattle.cweb_lines.proofs.writing.write_merged_in_chunks.Given as given
 use Rattle.cweb_lines.proofs.writing.write_merged_in_chunks.Goals as goal
@@ -26,7 +26,8 @@ quiet : (g : given.Over) (c : In-Ok g) → Quiet g.S.Shelf c.args.shelf.now c.ne
     c.next_line.new.self.run
 quiet g c = quiet_then g.S.Shelf c.lines.invariant.quiet (quiet_by g.S.Shelf _ _ _ _ c.in-Ok.ensures.keeps
     (λ tells known. (c.in-Ok.ensures.known tells known).readers)
-    (λ tells known. (c.in-Ok.ensures.known tells known).blamed c.lines.invariant.running) c.in-Ok.ensures.grows.told)
+    (λ tells known. (c.in-Ok.ensures.known tells known).blamed c.lines.invariant.running)
+    c.in-Ok.ensures.grows.reported)
 
 more : (g : given.Over) (c : After-pass_lines-passed g) → IsTrue (g.S.Shelf.tells c.args.shelf.now)
     → BuffersLines c.args.room (so_far
@@ -41,31 +42,31 @@ more g c tells =
     let passes = c.pass_lines-passed.ensures.passes in
     held_on _ _ _ _ _ _ _ (held _ _ _ _ _ _ (c.lines.invariant.written tells) line _ _ next _ _ c.lines.invariant.empty
     (rw c.deref.ensures.value at c.in_default-append_line.ensures.ok)) passes.lines _ _
-    (passes.gives (g.S.Shelf.texts c.next_line.new.shelf) (g.S.Shelf.left c.next_line.new.shelf))
-    _ passes.gathered c.pass_lines-passed.ensures.alone
+    (passes.yields (g.S.Shelf.texts c.next_line.new.shelf) (g.S.Shelf.left c.next_line.new.shelf))
+    _ passes.buffered c.pass_lines-passed.ensures.alone
 
 pub returns-in-Some-clause-grows : goal.returns-in-Some-clause-grows
-returns-in-Some-clause-grows g c = grows_told c.args.merger.now.run (told_same _ _ refl refl)
+returns-in-Some-clause-grows g c = grows_reported c.args.merger.now.run (reported_same _ _ refl refl)
 
 pub returns-in-Err : goal.returns-in-Err
 returns-in-Err g c =
-    let told = still_tells g.S.Shelf c.lines.invariant.quiet in
+    let reported = still_tells g.S.Shelf c.lines.invariant.quiet in
     record {
       keeps = (keeps_then g.S.Shelf _ _ _ c.lines.invariant.keeps c.in-Err.ensures.keeps, c.lines.invariant.place);
       grows = record {
-        told = told_then _ _ _ c.lines.invariant.quiet.told c.in-Err.ensures.grows.told;
+        reported = reported_then _ _ _ c.lines.invariant.quiet.reported c.in-Err.ensures.grows.reported;
         lines = c.in-Err.ensures.grows.lines;
         bytes = c.in-Err.ensures.grows.bytes;
       };
       ok = λ _. tt;
       ended = tt;
-      front = λ tells. written_front g.W.Sink _ _ _ _ _ _ (c.lines.invariant.written tells);
+      prefix = λ tells. written_prefix g.W.Sink _ _ _ _ _ _ (c.lines.invariant.written tells);
       stops = λ tells before.
           let written = c.lines.invariant.written tells in
-          let there = c.in-Err.ensures.stops (told tells) c.lines.invariant.running in
+          let there = c.in-Err.ensures.stops (reported tells) c.lines.invariant.running in
           record {
             why = written_by g.W.Sink _ _ _ _ _ _ written c.in-Err.stop _ there.why;
-            told = tells_more _ _ _ _ _ _ written.gives there.told;
+            reported = tells_more _ _ _ _ _ _ written.yields there.reported;
           };
       fault = search rules;
       blames = λ before.
@@ -74,7 +75,7 @@ returns-in-Err g c =
           (blames.failed ∙ ap (λ n. n + read_failures_of c.in-Err.stop) c.lines.invariant.failed)
           c.lines.invariant.out_failed;
       known = λ tells known.
-          let stays = c.in-Err.ensures.known (told tells) (c.lines.invariant.quiet.readers tells known) in
+          let stays = c.in-Err.ensures.known (reported tells) (c.lines.invariant.quiet.readers tells known) in
           record {
             readers = stays.readers;
             blamed = λ before. stop_after c.in-Err.stop _ _ _ _ (c.lines.invariant.quiet.blamed tells known)
@@ -90,8 +91,8 @@ returns-in_default-next-clause-ok g c = λ tells.
     written_whole g.W.Sink _ _ _ _ _ _ (c.lines.invariant.written tells) _ _ last.0 last.1
 
 pub returns-in_default-next-clause-grows : goal.returns-in_default-next-clause-grows
-returns-in_default-next-clause-grows g c = grows_told c.next_line.new.self.run
-    (quiet g (goal.at.returns-in_default-next-clause-grows g c).In-Ok).told
+returns-in_default-next-clause-grows g c = grows_reported c.next_line.new.self.run
+    (quiet g (goal.at.returns-in_default-next-clause-grows g c).In-Ok).reported
 
 pub returns-in_default-next-clause-known : goal.returns-in_default-next-clause-known
 returns-in_default-next-clause-known g c = λ tells known.
@@ -104,17 +105,18 @@ returns-in-Err-append_line g c =
     let is_memory = c.halt.ensures.stop c.in-Ok.ensures.leaves.running in
     record {
       keeps = (keeps_then g.S.Shelf _ _ _ c.lines.invariant.keeps c.in-Ok.ensures.keeps, c.lines.invariant.place);
-      grows = grows_told c.halt.new.self.run (told_then _ _ _ q.told (told_halted c.halt.ensures.so_far));
+      grows = grows_reported c.halt.new.self.run (reported_then _ _ _ q.reported
+          (reported_halted c.halt.ensures.so_far));
       ok = λ _. tt;
       ended = tt;
-      front = λ tells. written_front g.W.Sink _ _ _ _ _ _ (c.lines.invariant.written tells);
+      prefix = λ tells. written_prefix g.W.Sink _ _ _ _ _ _ (c.lines.invariant.written tells);
       stops = λ tells before.
           let written = c.lines.invariant.written tells in
           let next = rw c.in-Some-next.is at
           (c.in-Ok.ensures.next (still_tells g.S.Shelf c.lines.invariant.quiet tells)) in
           record {
             why = memory_failed _ _ _ _ _ is_memory (written_some g.W.Sink _ _ _ _ _ _ written);
-            told = tells_same _ _ _ _ c.halt.ensures.so_far (tells_more _ _ _ _ _ _ written.gives
+            reported = tells_same _ _ _ _ c.halt.ensures.so_far (tells_more _ _ _ _ _ _ written.yields
                 (tells_some _ _ _ _ _ next));
           };
       fault = λ tells out before is. absurd (memory_write _ _ refl is_memory is);
@@ -144,14 +146,14 @@ returns-in-Err-write_buffer g c =
         keeps_then g.S.Shelf _ _ _ c.lines.invariant.keeps c.in-Ok.ensures.keeps,
         place_then g.W.Sink _ _ _ c.lines.invariant.place c.in-Err-write_buffer.ensures.keeps,
       );
-      grows = grows_told c.pass_lines-passed.new.self.run (told_then _ _ _ q.told (told_passed passes));
+      grows = grows_reported c.pass_lines-passed.new.self.run (reported_then _ _ _ q.reported (reported_passed passes));
       ok = λ _. tt;
       ended = tt;
-      front = λ tells. fails_front g.W.Sink _ _ c.lines.invariant.place _ _ _ _ _ _
+      prefix = λ tells. fails_prefix g.W.Sink _ _ c.lines.invariant.place _ _ _ _ _ _
           (more g at.After-pass_lines-passed tells) c.write_buffer.new.out err;
       stops = λ tells before. record {
         why = write_failed _ _ _ _ _ c.in-Err-write_buffer.ensures.stop;
-        told = tells_some _ _ _ _ _ (more g at.After-pass_lines-passed tells).gives;
+        reported = tells_some _ _ _ _ _ (more g at.After-pass_lines-passed tells).yields;
       };
       fault = λ tells out before is. fails_among g.W.Sink _ _ c.lines.invariant.place _ _ _ _ _ _
           (more g at.After-pass_lines-passed tells) c.write_buffer.new.out out err;
@@ -189,16 +191,17 @@ returns-in-Err-passed g c =
         keeps_then g.S.Shelf _ _ _ c.lines.invariant.keeps c.in-Ok.ensures.keeps,
         place_then g.W.Sink _ _ _ c.lines.invariant.place c.in_default-write_buffer.ensures.keeps,
       );
-      grows = grows_told c.halt-in-Err-passed.new.self.run
-          (told_then _ _ _ (told_then _ _ _ q.told (told_passed passes)) (told_halted halted.so_far));
+      grows = grows_reported c.halt-in-Err-passed.new.self.run
+          (reported_then _ _ _ (reported_then _ _ _ q.reported (reported_passed passes))
+          (reported_halted halted.so_far));
       ok = λ _. tt;
       ended = tt;
-      front = λ tells. written_front g.W.Sink _ _ _ _ _ _ (wrote g at.In_default-write_buffer tells);
+      prefix = λ tells. written_prefix g.W.Sink _ _ _ _ _ _ (wrote g at.In_default-write_buffer tells);
       stops = λ tells before.
           let written = wrote g at.In_default-write_buffer tells in
           record {
             why = memory_failed _ _ _ _ _ is_memory (written_some g.W.Sink _ _ _ _ _ _ written);
-            told = tells_same _ _ _ _ halted.so_far (tells_some _ _ _ _ _ written.gives);
+            reported = tells_same _ _ _ _ halted.so_far (tells_some _ _ _ _ _ written.yields);
           };
       fault = λ tells out before is. absurd (memory_write _ _ refl is_memory is);
       blames = λ before. blames_own c.halt-in-Err-passed.result _ _ _ _ (rw is_memory tt) halted.kept halted.named
@@ -223,7 +226,7 @@ lines-preserved g c =
     let passes = c.pass_lines-passed.ensures.passes in
     record {
       quiet = quiet_then g.S.Shelf q (quiet_by g.S.Shelf _ _ _ _ (keeps_same g.S.Shelf _)
-          (λ tells known. passes.readers _ known) (λ tells known. refl) (told_passed passes));
+          (λ tells known. passes.readers _ known) (λ tells known. refl) (reported_passed passes));
       keeps = keeps_then g.S.Shelf _ _ _ c.lines.invariant.keeps c.in-Ok.ensures.keeps;
       place = place_then g.W.Sink _ _ _ c.lines.invariant.place c.in_default-write_buffer.ensures.keeps;
       failed = (c.in-Ok.ensures.blames c.lines.invariant.running).failed ∙ c.lines.invariant.failed;
@@ -236,10 +239,10 @@ lines-preserved g c =
 
 pub lines-smaller : goal.lines-smaller
 lines-smaller g c =
-    let given = rw c.in-Some-next.is at c.in-Ok.ensures.given in
+    let emitted = rw c.in-Some-next.is at c.in-Ok.ensures.emitted in
     omega (
       arith,
-      given.lines,
+      emitted.lines,
       c.pass_lines-passed.ensures.passes.counted,
       c.in-Ok.ensures.grows.lines,
       c.pass_lines-passed.new.self.run.limits.few,

@@ -6,8 +6,8 @@ pub returns-in-Some : goal.returns-in-Some
 returns-in-Some c =
     let part = c.last_part-part.result.now in
     let found = rfind_char 46 part (Some c.in-Some.dot) c.in-Some.ensures.cases (omega arith) in
-    let front : slice_range part 0 c.in-Some.dot ≡ take c.in-Some.dot part = ap (λ n. take n part) (omega arith) in
-    c.range.ensures.value ∙ front
+    let prefix : slice_range part 0 c.in-Some.dot ≡ take c.in-Some.dot part = ap (λ n. take n part) (omega arith) in
+    c.range.ensures.value ∙ prefix
     ∙ stem_found c.args.word.now part c.in-Some.dot c.last_part-part.ensures found.0 found.1 found.2
 
 pub returns-in-None : goal.returns-in-None

@@ -7,11 +7,12 @@ pieces-preserved g c =
     let bytes = c.args.bytes.now in
     let taken = c.pieces.taken in
     let piece = take_all (length bytes - taken) (drop taken bytes) (omega (arith, length-drop taken bytes)) in
-    let told = λ (tells : IsTrue (g.W.Sink.tells c.args.out.now)). subst IsTrue (sym c.pieces.invariant.tells) tells in
+    let is_known = λ (tells : IsTrue (g.W.Sink.tells c.args.out.now)). subst IsTrue
+    (sym c.pieces.invariant.tells) tells in
     record {
       tells = c.in-Ok.ensures.tells ∙ c.pieces.invariant.tells;
       failed = search rules;
-      beside = λ tells. c.in-Ok.ensures.beside (told tells) ∙ c.pieces.invariant.beside tells;
+      beside = λ tells. c.in-Ok.ensures.beside (is_known tells) ∙ c.pieces.invariant.beside tells;
       within = omega (
         arith,
         ap length piece,
@@ -19,7 +20,7 @@ pieces-preserved g c =
         c.in-Ok.ensures.within,
         c.pieces.invariant.within,
       );
-      written = λ tells. c.in-Ok.ensures.bytes (told tells)
+      written = λ tells. c.in-Ok.ensures.bytes (is_known tells)
           ∙ ap (λ (t : List ℕ). g.W.Sink.written c.pieces.out ++ take c.in-Ok.n t) piece
           ∙ ap (λ (t : List ℕ). t ++ take c.in-Ok.n (drop taken bytes)) (c.pieces.invariant.written tells)
           ∙ append_assoc (g.W.Sink.written c.args.out.now) (take taken bytes) (take c.in-Ok.n (drop taken bytes))

@@ -1,5 +1,5 @@
-use Rattle.cweb_rules.proofs.Comments.{comment_front}
+use Rattle.cweb_rules.proofs.Comments.{comment_prefix}
 use Rattle.cweb_rules.proofs.laws.comments_end_by_themselves.Goals as goal
 
 pub returns : goal.returns
-returns c = comment_front
+returns c = comment_prefix

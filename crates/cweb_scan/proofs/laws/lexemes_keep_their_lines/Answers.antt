@@ -1,5 +1,5 @@
-use Rattle.cweb_scan.proofs.LexemesKeepTheirLines.{stand}
+use Rattle.cweb_scan.proofs.LexemesKeepTheirLines.{keeps_lines}
 use Rattle.cweb_scan.proofs.laws.lexemes_keep_their_lines.Goals as goal
 
 pub returns : goal.returns
-returns c = stand
+returns c = keeps_lines

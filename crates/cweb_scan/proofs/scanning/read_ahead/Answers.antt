@@ -3,10 +3,10 @@ use Rattle.cweb_scan.proofs.Aheads.{read_more, read_nothing}
 use Rattle.cweb_scan.proofs.scanning.read_ahead.Goals as goal
 
 -- A line is read by its bytes.
-read_as : (old new : ReaderModel) (p : Place) (lent bytes : List ℕ) → lent ≡ bytes
-    → ((more : List Line) → read_after new more ≡ read_after old (record { bytes = lent; place = p } ∷ more))
+read_as : (old new : ReaderModel) (p : Place) (borrowed bytes : List ℕ) → borrowed ≡ bytes
+    → ((more : List Line) → read_after new more ≡ read_after old (record { bytes = borrowed; place = p } ∷ more))
     → (more : List Line) → read_after new more ≡ read_after old (record { bytes = bytes; place = p } ∷ more)
-read_as old new p lent bytes is reads more = subst
+read_as old new p borrowed bytes is reads more = subst
     (λ (b : List ℕ). read_after new more ≡ read_after old (record { bytes = b; place = p } ∷ more)) is (reads more)
 
 pub lines-init : goal.lines-init

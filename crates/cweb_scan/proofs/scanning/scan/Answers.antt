@@ -21,7 +21,7 @@ returns-clause-stops g c = λ tells before.
     let taken = c.in_default-take_lines.ensures in
     subst (λ (stop : Stop). ScanEndsEarly stop (so_far c.args.merger.now) (so_far c.halt.new.self)
     (to_come g.S.Shelf c.args.shelf.now c.args.merger.now)) (sym (c.halt.ensures.stop taken.ended.0))
-    (refused _ _ _ _ _ _ c.halt.ensures.so_far (taken.scans tells).gives)
+    (refused _ _ _ _ _ _ c.halt.ensures.so_far (taken.scans tells).yields)
 
 pub returns-clause-blamed : goal.returns-clause-blamed
 returns-clause-blamed g c = λ tells known before.

@@ -1,5 +1,5 @@
 use Rattle.cweb_scan.proofs.Common.{arith}
-use Rattle.cweb_lines.proofs.Lookahead.{lends_then}
+use Rattle.cweb_lines.proofs.Lookahead.{borrows_then}
 use Rattle.cweb_scan.proofs.Aheads.{read_taken}
 use Rattle.cweb_scan.proofs.scanning.take_borrowed.Goals as goal
 
@@ -9,10 +9,10 @@ stretches-preserved g c =
     let read = c.in_ok-ahead.ensures in
     let takes = c.take_ahead.ensures read.0 read.1.comes in
     record {
-      lent = lends_then _ c.stretches.merger.run _ inv.lent takes.lends;
+      borrowed = borrows_then _ c.stretches.merger.run _ inv.borrowed takes.borrows;
       taken = λ tells first all texts left taken.
           read_taken c.stretches.merger.run _ read.0 tells first all _ _ c.stretches.reader _ takes read.1.read
-          (λ told. takes.given.gives texts left) (inv.taken tells first all texts left taken);
+          (λ reported. takes.emitted.yields texts left) (inv.taken tells first all texts left taken);
       room = omega (arith, read.1.read.adds, inv.room, takes.bytes, takes.count);
     }
 

@@ -3,7 +3,7 @@ use Rattle.cweb_scan.proofs.scanning.take_borrowed.Given as goal
 
 abbrev pub invariant-stretches : goal.invariant-stretches
 invariant-stretches g l = record {
-  lent : BorrowsLines l.fn.merger.run l.merger.run;
+  borrowed : BorrowsLines l.fn.merger.run l.merger.run;
   taken : (tells : Bool) (first : SoFar) (all : List Event) (texts : List ℕ → Option (List ℕ)) (left : g.row.S-R.Denot
       → List ℕ) → HasTaken tells first (so_far l.fn.merger) all (events_to_come texts left l.fn.merger.run) l.fn.reader
       → HasTaken tells first (so_far l.merger) all (events_to_come texts left l.merger.run) l.reader;

@@ -10,7 +10,7 @@ pub record HasScanned {S R : Type 0} (shelf : Shelf S R) (was now : S) (old merg
   pub readers : IsTrue (shelf.tells was) → KnowsReaders shelf was old → KnowsReaders shelf now merger
   pub blamed : IsTrue (shelf.tells was) → KnowsReaders shelf was old → shelf.blamed now ≡ shelf.blamed was
   pub running : stop_in merger ≡ None
-  pub told : KeepsReported (so_far old) (so_far merger)
+  pub reported : KeepsReported (so_far old) (so_far merger)
   pub taken : HasTaken (shelf.tells was) (so_far old) (so_far merger)
       (to_come shelf was old) (to_come shelf now merger) reader
   pub room : cost reader ≤ 3 * ((so_far merger).count.bytes + (so_far merger).count.lines)

@@ -1,4 +1,4 @@
-use Rattle.cweb_store.proofs.Common.{◌≡◌, ◌∙◌, ◌&&◌, ◌||◌, not, sym, ap, length, arith, ◌<◌, Some, common_steps, option_map, slice_get, list_any, NotPresent, Name, id, is_id, flag_of, has_head, front_at}
+use Rattle.cweb_store.proofs.Common.{◌≡◌, ◌∙◌, ◌&&◌, ◌||◌, not, sym, ap, length, arith, ◌<◌, Some, common_steps, option_map, slice_get, list_any, NotPresent, Name, id, is_id, flag_of, has_head, prefix_at}
 use Rattle.cweb_store.proofs.FaultLemmas.{faults-step}
 use Rattle.cweb_store.proofs.faults.add_missing_faults.Goals as goal
 
@@ -7,7 +7,7 @@ loop-number-preserved c =
     let ns = c.args.names.now in
     let number = c.loop-number.number in
     let within : number < length ns = omega (arith, c.loop-number-test.true, c.len-number-end.ensures) in
-    let f = front_at ns number within in
+    let f = prefix_at ns number within in
     let test : option_map (λ (n : Name). (flag_of c.args.used.now (id number)
     || list_any (is_id (id number)) c.args.files.now.keys)
     && not (has_head c.args.heads.now (id number)))

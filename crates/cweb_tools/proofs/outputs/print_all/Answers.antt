@@ -1,27 +1,27 @@
 use Rattle.cweb_tools.proofs.Common.{rules, arith, common_steps}
-use Rattle.cweb_tools.proofs.Prints.{next_named, prints_all, prints_front, prints_more}
+use Rattle.cweb_tools.proofs.Prints.{next_named, prints_all, prints_prefix, prints_more}
 use Rattle.cweb_tools.proofs.outputs.print_all.Goals as goal
 
 pub append-requires-in-tokens-clause-named : goal.append-requires-in-tokens-clause-named
-append-requires-in-tokens-clause-named g c = next_named (prints_front {now = c.append.new.self} c.tokens.invariant
-    (record { store = c.append.ensures.store; plan = c.append.ensures.plan; stands = c.append.ensures.stands })
-    c.append.ensures.setting c.append.ensures.prints) _ _ c.requires.left c.in-Some.ensures.gives
+append-requires-in-tokens-clause-named g c = next_named (prints_prefix {now = c.append.new.self} c.tokens.invariant
+    (record { store = c.append.ensures.store; plan = c.append.ensures.plan; valid = c.append.ensures.valid })
+    c.append.ensures.setting c.append.ensures.prints) _ _ c.requires.left c.in-Some.ensures.yields
 
 pub tokens-preserved : goal.tokens-preserved
 tokens-preserved g c =
     let added = c.in_ok-append.ensures in
-    prints_more _ (prints_front {now = c.append.new.self} c.tokens.invariant
-    (record { store = c.append.ensures.store; plan = c.append.ensures.plan; stands = c.append.ensures.stands })
+    prints_more _ (prints_prefix {now = c.append.new.self} c.tokens.invariant
+    (record { store = c.append.ensures.store; plan = c.append.ensures.plan; valid = c.append.ensures.valid })
     c.append.ensures.setting c.append.ensures.prints)
-    (record { store = c.next.ensures.store; plan = c.next.ensures.plan; stands = c.next.ensures.stands })
-    c.in-Some.ensures.gives added.setting added.moves added.tells added.failed added.beside added.prints
+    (record { store = c.next.ensures.store; plan = c.next.ensures.plan; valid = c.next.ensures.valid })
+    c.in-Some.ensures.yields added.setting added.moves added.tells added.failed added.beside added.prints
 
 pub returns-clause-prints : goal.returns-clause-prints
 returns-clause-prints g c = prints_all c.finish.new.out c.finish.new.buffer c.finish.result
-    (prints_front {now = c.append.new.self} c.tokens.invariant
-    (record { store = c.append.ensures.store; plan = c.append.ensures.plan; stands = c.append.ensures.stands })
+    (prints_prefix {now = c.append.new.self} c.tokens.invariant
+    (record { store = c.append.ensures.store; plan = c.append.ensures.plan; valid = c.append.ensures.valid })
     c.append.ensures.setting c.append.ensures.prints)
-    c.in_default.ensures.gives.0 c.finish.ensures.ends c.finish.ensures.empty
+    c.in_default.ensures.yields.0 c.finish.ensures.ends c.finish.ensures.empty
 
 pub tokens-init : goal.tokens-init
 tokens-init g c = search rules

@@ -33,9 +33,9 @@ returns-in-Err-clause-does g c =
     let gone = c.abandon_file.ensures in
     not_written name _
     (gone.tells ∙ printed.tells ∙ began.tells) (gone.failed ∙ printed.failed ∙ ap (λ (n : ℕ). n + 1) began.failed)
-    (λ tell. let told : IsTrue (g.B.Sink.tells c.start_file.new.self) = began.tells ∙ tell in
-    gone.gone (printed.tells ∙ told)
-    ∙ ap without_draft (printed.beside told ∙ (rw c.output_name.ensures at began.begun) tell))
+    (λ tell. let observed : IsTrue (g.B.Sink.tells c.start_file.new.self) = began.tells ∙ tell in
+    gone.gone (printed.tells ∙ observed)
+    ∙ ap without_draft (printed.beside observed ∙ (rw c.output_name.ensures at began.begun) tell))
 
 -- It was printed, and could not be committed.
 pub returns-in-Err-commit_file-clause-does : goal.returns-in-Err-commit_file-clause-does
@@ -46,9 +46,9 @@ returns-in-Err-commit_file-clause-does g c =
     let kept = c.in-Err-commit_file.ensures in
     not_written name _
     (kept.tells ∙ printed.tells ∙ began.tells) (kept.failed ∙ ap (λ (n : ℕ). n + 1) (printed.failed ∙ began.failed))
-    (λ tell. let told : IsTrue (g.B.Sink.tells c.start_file.new.self) = began.tells ∙ tell in
-    kept.err (printed.tells ∙ told)
-    ∙ ap without_draft (printed.beside told ∙ (rw c.output_name.ensures at began.begun) tell))
+    (λ tell. let observed : IsTrue (g.B.Sink.tells c.start_file.new.self) = began.tells ∙ tell in
+    kept.err (printed.tells ∙ observed)
+    ∙ ap without_draft (printed.beside observed ∙ (rw c.output_name.ensures at began.begun) tell))
 
 pub returns-clause-does : goal.returns-clause-does
 returns-clause-does g c = file_done _ _ (sink_model g.B.Sink c.start_file.new.self)

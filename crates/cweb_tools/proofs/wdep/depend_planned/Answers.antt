@@ -2,7 +2,7 @@ use Rattle.cweb_tools.proofs.Common.{◌≡◌, refl, sym, ◌∙◌, ap, subst,
 use Rattle.cweb_tools.specs.Depfile.{depfile, each_once}
 use Rattle.cweb_tools.proofs.Doing.{closes_in, closes_on, log_counted}
 use Rattle.cweb_tools.proofs.DoingFiles.{does_reserve, log_halts, memory_halts}
-use Rattle.cweb_tools.proofs.Printing.{printed_front, printed_whole, target_names}
+use Rattle.cweb_tools.proofs.Printing.{printed_prefix, printed_whole, target_names}
 use Rattle.cweb_tools.proofs.wdep.depend_planned.Goals as goal
 
 pub returns-in-Err : goal.returns-in-Err
@@ -31,7 +31,7 @@ returns-in-Err-write_all g c =
     (closes_in [] (subst (λ (t : List ℕ).
     DoesInBins (prints t ∷ []) (Some (ending WriteFault (codes "standard output")))
     (sink_model g.W.Sink c.args.out.now) (sink_model g.W.Sink c.write_all.new.out)) text
-    (printed_front _ wrote.keeps.tells wrote.keeps.beside wrote.failed wrote.err) shelf _)
+    (printed_prefix _ wrote.keeps.tells wrote.keeps.beside wrote.failed wrote.err) shelf _)
     (record { shelf = refl; bins = refl; log = c.log_stop-in-Err-write_all.ensures.logs })
     c.log_stop-in-Err-write_all.ensures.status))
 

@@ -1,11 +1,9 @@
-use Rattle.cweb_tools.proofs.Common.{◌≡◌, ℕ, List, Bor, map, options_by, ap, refl, Result, Err, option_copied, World, Stop, OptionsModel, Some, options_of, sink_model, shelf_model, world_of, depend_acts, depend_usage, depend_web_acts}
+use Rattle.cweb_tools.proofs.Common.{ℕ, List, Bor, map, options_by, ap, refl, Err, option_copied, World, OptionsModel, Some, options_of, sink_model, shelf_model, world_of, depend_acts, depend_usage, depend_web_acts}
+use Rattle.cweb_tools.proofs.Courses.{same_stop}
 use Rattle.cweb_tools.proofs.DependPromisesProved.{depend_ends, depend_judges}
 use Rattle.cweb_tools.proofs.TanglePromisesProved.{promised, tangled_freely}
-use Rattle.cweb_tools.proofs.TangleEnds.{words_end}
+use Rattle.cweb_tools.proofs.RunEnds.{words_end}
 use Rattle.cweb_tools.proofs.wdep.run_wdep.Goals as goal
-
-same_stop : {A : Type 0} (r : Result A Stop) (one other : Stop) → r ≡ Err one → r ≡ Err other → one ≡ other
-same_stop r one other is too = cc
 
 pub returns-in-Err-clause-promises : goal.returns-in-Err-clause-promises
 returns-in-Err-clause-promises g c = promised _ _ (words_end depend_usage depend_acts refl _ _
@@ -14,14 +12,16 @@ returns-in-Err-clause-promises g c = promised _ _ (words_end depend_usage depend
     (λ none. same_stop _ _ _ refl (c.in-Err.ensures.usage.1 none)) c.log_stop.ensures.logs c.log_stop.ensures.status)
 
 pub returns-in-Err-clause-freely : goal.returns-in-Err-clause-freely
-returns-in-Err-clause-freely g c = tangled_freely (world_of (g.S.Shelf.texts c.args.shelf.now) (option_copied c.args.inputs))
+returns-in-Err-clause-freely g c = tangled_freely (world_of (g.S.Shelf.texts c.args.shelf.now)
+    (option_copied c.args.inputs))
     (options_by (map (λ (word : Bor (List ℕ)). word.now) c.args.words.now)) (returns-in-Err-clause-promises g c)
 
 pub returns-in-Ok-scan_web-clause-promises : goal.returns-in-Ok-scan_web-clause-promises
 returns-in-Ok-scan_web-clause-promises g c =
     let world : World = world_of (g.S.Shelf.texts c.args.shelf.now) (option_copied c.args.inputs) in
-    let asked : OptionsModel = options_of c.in-Ok.options in
-    rw c.in-Ok.ensures.ok (promised world (Some asked) (depend_ends world asked _ _ _ (c.in-Ok-scan_web.ensures.scans depend_web_acts
+    let args : OptionsModel = options_of c.in-Ok.options in
+    rw c.in-Ok.ensures.ok (promised world (Some args)
+    (depend_ends world args _ _ _ (c.in-Ok-scan_web.ensures.scans depend_web_acts
     (sink_model g.W.Sink c.args.out.now) _ _ (rw (
       c.as_str.ensures.value,
       c.of-web.ensures.names,
@@ -32,14 +32,16 @@ returns-in-Ok-scan_web-clause-promises g c =
     at (c.depend_web.ensures (shelf_model g.S.Shelf c.scan_web.new.shelf))))))
 
 pub returns-in-Ok-scan_web-clause-freely : goal.returns-in-Ok-scan_web-clause-freely
-returns-in-Ok-scan_web-clause-freely g c = tangled_freely (world_of (g.S.Shelf.texts c.args.shelf.now) (option_copied c.args.inputs))
+returns-in-Ok-scan_web-clause-freely g c = tangled_freely
+    (world_of (g.S.Shelf.texts c.args.shelf.now) (option_copied c.args.inputs))
     (options_by (map (λ (word : Bor (List ℕ)). word.now) c.args.words.now)) (returns-in-Ok-scan_web-clause-promises g c)
 
 pub returns-clause-promises : goal.returns-clause-promises
 returns-clause-promises g c =
     let world : World = world_of (g.S.Shelf.texts c.args.shelf.now) (option_copied c.args.inputs) in
-    let asked : OptionsModel = options_of c.in-Ok.options in
-    rw c.in-Ok.ensures.ok (promised world (Some asked) (depend_ends world asked _ _ _ (c.in-Err-scan_web.ensures.stops depend_web_acts
+    let args : OptionsModel = options_of c.in-Ok.options in
+    rw c.in-Ok.ensures.ok (promised world (Some args)
+    (depend_ends world args _ _ _ (c.in-Err-scan_web.ensures.stops depend_web_acts
     (sink_model g.W.Sink c.args.out.now))))
 
 pub returns-clause-freely : goal.returns-clause-freely

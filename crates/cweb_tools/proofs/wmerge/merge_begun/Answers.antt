@@ -12,9 +12,10 @@ returns-in-Ok g c = λ names first world found changes begun.
     (wrote.keeps.0.tells ∙ begun.tells) (sink_model g.W.Sink c.args.out.now)
     (sink_model g.W.Sink c.write_merged_in_chunks.new.out) wrote.keeps.1.tells _ _ _ _ _ begun.begins _ _ _
     c.names.ensures c.faults.ensures.value
-    (λ tells. (wrote.ok (tells-2 tells)).gives) wrote.grows.lines wrote.grows.bytes
+    (λ tells. (wrote.ok (tells-2 tells)).yields) wrote.grows.lines wrote.grows.bytes
     (wrote.ended.2 ∙ begun.failed) (λ tells. (wrote.known (tells-2 tells) (begun.known tells)).blamed c.requires.running
-    ∙ begun.blamed tells) wrote.ended.3 (λ tells told. (wrote.ok (tells-2 tells)).wrote told) c.log_faults.ensures
+    ∙ begun.blamed tells) wrote.ended.3 (λ tells observed. (wrote.ok (tells-2 tells)).wrote observed)
+    c.log_faults.ensures
 
 pub returns-in-Err : goal.returns-in-Err
 returns-in-Err g c = λ names first world found changes begun.
@@ -30,10 +31,12 @@ returns-in-Err g c = λ names first world found changes begun.
     (Writes g.W.Sink c.args.out.now c.write_merged_in_chunks.new.out) c.names-in-Err.ensures wrote.grows.lines
     wrote.grows.bytes blames.kind
     (λ tells. (wrote.stops (tells-2 tells) running).why) blames.named (λ tells.
-    (wrote.stops (tells-2 tells) running).told) (blames.shelf ∙ ap (λ (n : ℕ). n + read_failures_of stop) begun.failed)
+    (wrote.stops (tells-2 tells) running).reported) (blames.shelf ∙ ap
+    (λ (n : ℕ). n + read_failures_of stop) begun.failed)
     (λ tells. (wrote.known (tells-2 tells) (begun.known tells)).blamed running ∙ ap (λ (files : List (List ℕ)). files
-    ++ blame (so_far c.write_merged_in_chunks.new.merger).names stop) (begun.blamed tells)) blames.out (λ tells told.
-    wrote.front (tells-2 tells) told) (rw c.subject.ensures at c.log_stop.ensures.logs) c.log_stop.ensures.status
+    ++ blame (so_far c.write_merged_in_chunks.new.merger).names stop) (begun.blamed tells)) blames.out
+    (λ tells observed.
+    wrote.prefix (tells-2 tells) observed) (rw c.subject.ensures at c.log_stop.ensures.logs) c.log_stop.ensures.status
 
 pub log_faults-requires-clause-known : goal.log_faults-requires-clause-known
 log_faults-requires-clause-known g c = rw c.names.ensures c.faults.ensures.known

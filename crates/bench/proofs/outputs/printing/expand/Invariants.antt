@@ -4,5 +4,5 @@ use Rattle.bench.proofs.outputs.printing.expand.Given as goal
 
 abbrev pub invariant-tokens : goal.invariant-tokens
 invariant-tokens l = record {
-  stands : IsFrameStack l.expander.store.now l.expander.frames.items (vec_capacity l.expander.frames);
+  valid : IsFrameStack l.expander.store.now l.expander.frames.items (vec_capacity l.expander.frames);
 }

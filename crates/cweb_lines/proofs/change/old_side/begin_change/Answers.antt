@@ -1,26 +1,26 @@
 use Rattle.cweb_lines.proofs.Common.{ap, opened_file_names, read_failures_of, blames_none}
 use Rattle.cweb_lines.proofs.MergeReadersStayNamed.{knows_only}
-use Rattle.cweb_lines.proofs.ReportsOnlyGrow.{told_behind, told_then}
-use Rattle.cweb_lines.proofs.OldSideFaults.{tells_front, ends_more, closes_some}
+use Rattle.cweb_lines.proofs.ReportsOnlyGrow.{reported_after, reported_then}
+use Rattle.cweb_lines.proofs.OldSideFaults.{tells_prefix, ends_more, closes_some}
 use Rattle.cweb_lines.proofs.change.old_side.begin_change.Goals as goal
 
-pub returns-in-Err-clause-told : goal.returns-in-Err-clause-told
-returns-in-Err-clause-told g c = λ tells. tells_front _ _ _ _ (c.in-Err.ensures.told tells)
+pub returns-in-Err-clause-reported : goal.returns-in-Err-clause-reported
+returns-in-Err-clause-reported g c = λ tells. tells_prefix _ _ _ _ (c.in-Err.ensures.reported tells)
 
-pub returns-in-Err-close-clause-told : goal.returns-in-Err-close-clause-told
-returns-in-Err-close-clause-told g c = λ tells. closes_some c.args.begin _ _ _ _ _ _ _ _
+pub returns-in-Err-close-clause-reported : goal.returns-in-Err-close-clause-reported
+returns-in-Err-close-clause-reported g c = λ tells. closes_some c.args.begin _ _ _ _ _ _ _ _
     (c.in-Ok.ensures.replaced tells) c.in-Err-close.ensures.err (ap opened_file_names c.in-Err-close.ensures.only.names)
 
 pub returns-in-Err-clause-stops : goal.returns-in-Err-clause-stops
 returns-in-Err-clause-stops g c = λ tells. ends_more c.in-Err.stop _ _ _ _ _ (c.in-Err.ensures.stops tells)
 
 pub returns-in-Err-close-clause-still : goal.returns-in-Err-close-clause-still
-returns-in-Err-close-clause-still g c = told_then _ _ _ c.in-Ok.ensures.still
-    (told_behind _ _ _ c.in-Err-close.ensures.err.told (ap opened_file_names c.in-Err-close.ensures.only.names))
+returns-in-Err-close-clause-still g c = reported_then _ _ _ c.in-Ok.ensures.still
+    (reported_after _ _ _ c.in-Err-close.ensures.err.reported (ap opened_file_names c.in-Err-close.ensures.only.names))
 
 pub returns-clause-still : goal.returns-clause-still
-returns-clause-still g c = told_then _ _ _ c.in-Ok.ensures.still
-    (told_behind _ _ _ c.in_default.ensures.told (ap opened_file_names c.in_default.ensures.only.names))
+returns-clause-still g c = reported_then _ _ _ c.in-Ok.ensures.still
+    (reported_after _ _ _ c.in_default.ensures.reported (ap opened_file_names c.in_default.ensures.only.names))
 
 pub returns-in-Err-close-clause-readers : goal.returns-in-Err-close-clause-readers
 returns-in-Err-close-clause-readers g c = λ tells known. knows_only c.in-Err-close.ensures.only

@@ -1,8 +1,8 @@
 use Rattle.cweb_lines.proofs.Common.{arith, rules, common_steps}
 use Rattle.cweb_lines.proofs.change.old_side.close.Goals as goal
 
-pub returns-clause-told : goal.returns-clause-told
-returns-clause-told g c = grind (arith, common_steps)
+pub returns-clause-reported : goal.returns-clause-reported
+returns-clause-reported g c = grind (arith, common_steps)
 
 pub returns-clause-err : goal.returns-clause-err
 returns-clause-err g c = grind (arith, common_steps)

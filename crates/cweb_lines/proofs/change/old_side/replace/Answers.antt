@@ -1,11 +1,11 @@
 use Rattle.cweb_lines.proofs.Common.{rules, ◌≡◌, [], ℕ, List, Vec, Global, Some, refl, ap, sym, subst, ◌∙◌, IsTrue, change_code, counters_of, Thing, change_lines, so_far_of, opened_file_names, lines_at, things_above, StopsFor, TopStops, read_failures_of, blames_none}
 use Rattle.cweb_lines.specs.declared.change.code.Code.TheVariants.{NewSide as new_side}
 use Rattle.cweb_lines.proofs.MergeReadersStayNamed.{knows_only}
-use Rattle.cweb_lines.proofs.ReportsOnlyGrow.{told_same, told_then, told_took, took_faults, took_names}
+use Rattle.cweb_lines.proofs.ReportsOnlyGrow.{reported_same, reported_then, reported_took, took_faults, took_names}
 use Rattle.cweb_lines.proofs.NoReadFails.{Quiet, blamed_stop, quiet_same, quiet_set, quiet_tells, quiet_then, quiet_by, readers_after, still_tells}
 use Rattle.cweb_lines.proofs.Replaces.{compares_same, is_replaced_same, replaces_same, replaces_from, replaces_ends, replaces_new, replaces_code, replaces_line, raw_ends}
 use Rattle.cweb_lines.proofs.Codes.{is_new, is_faulty}
-use Rattle.cweb_lines.proofs.Stops.{told_stays, told_uncounted}
+use Rattle.cweb_lines.proofs.Stops.{reported_stays, reported_uncounted}
 use Rattle.cweb_lines.proofs.change.old_side.replace.Given as given
 use Rattle.cweb_lines.proofs.change.old_side.replace.Goals as goal
 use Rattle.cweb_lines.proofs.change.old_side.replace.Goals.{In-Ok}
@@ -21,7 +21,7 @@ lines-init g c = record {
 quiet : (g : given.Over) (c : In-Ok g) → Quiet g.S.Shelf c.args.shelf.now c.take_change.new.shelf c.args.run.now
     c.take_change.new.run
 quiet g c = quiet_then g.S.Shelf c.lines.invariant.quiet (quiet_by g.S.Shelf _ _ _ _ c.in-Ok.ensures.keeps
-    c.in-Ok.ensures.readers c.in-Ok.ensures.blamed (told_took c.in-Ok.ensures.only))
+    c.in-Ok.ensures.readers c.in-Ok.ensures.blamed (reported_took c.in-Ok.ensures.only))
 
 raws : (g : given.Over) (c : In-Ok g) → IsTrue (g.S.Shelf.tells c.args.shelf.now)
     → things_above (g.S.Shelf.left c.take_change.new.shelf) 0 c.take_change.new.run.stack []
@@ -33,7 +33,7 @@ raws g c tells =
 pub returns-in-Err-clause-stops : goal.returns-in-Err-clause-stops
 returns-in-Err-clause-stops g c = λ tells. replaces_ends _ _ c.lines.so_far _ _ _ _
     (c.lines.invariant.replaces tells) c.in-Err.stop (so_far_of c.take_change.new.run)
-    (told_stays c.lines.run _ c.in-Err.ensures.only c.in-Err.ensures.answers.counted)
+    (reported_stays c.lines.run _ c.in-Err.ensures.only c.in-Err.ensures.answers.counted)
     (c.in-Err.ensures.stops (still_tells g.S.Shelf c.lines.invariant.quiet tells))
 
 pub returns-in-Err-compare-clause-stops : goal.returns-in-Err-compare-clause-stops
@@ -41,7 +41,8 @@ returns-in-Err-compare-clause-stops g c = λ tells.
     let still = still_tells g.S.Shelf c.lines.invariant.quiet tells in
     let taken = rw c.in-Some.is at (c.in-Ok.ensures.taken still) in
     let test = ap change_code (sym c.deref.ensures.value) ∙ sym c.change_code.ensures ∙ c.in-None.is in
-    let same = told_uncounted _ c.compare.new.run c.in-Err-compare.ensures.only c.in-Err-compare.ensures.away.same in
+    let same = reported_uncounted _ c.compare.new.run c.in-Err-compare.ensures.only c.in-Err-compare.ensures.away.same
+    in
     raw_ends _ _ c.lines.so_far _ _ _ _ (c.lines.invariant.replaces tells) (so_far_of c.take_change.new.run)
     c.take_change.new.line.items c.in-Some.at.place taken.0 _ taken.1 (took_faults c.in-Ok.ensures.only)
     (took_names c.in-Ok.ensures.only) c.in-Err-compare.stop (so_far_of c.compare.new.run) same test
@@ -63,7 +64,7 @@ returns-then-eq-clause-replaced g c = λ tells.
 pub lines-preserved : goal.lines-preserved
 lines-preserved g c = record {
   quiet = quiet_tells g.S.Shelf (quiet g (goal.at.lines-preserved g c).In-Ok) _ c.in_default-report.ensures.only
-      c.in_default-report.ensures.told;
+      c.in_default-report.ensures.reported;
   frame = search rules;
   goes_on = c.lines.invariant.goes_on;
   replaces = λ tells.
@@ -82,7 +83,7 @@ lines-preserved g c = record {
       c.in-Some.at.place taken.0 _ taken.1 (took_faults c.in-Ok.ensures.only) (took_names c.in-Ok.ensures.only)
       c.in-Some-change_code.code (so_far_of c.report.new.self) test
       (is_faulty c.in-Some-change_code.code taken.0.line _ _
-      (sym c.eq.ensures ∙ c.if-eq.false)) c.in_default-report.ensures.told
+      (sym c.eq.ensures ∙ c.if-eq.false)) c.in_default-report.ensures.reported
       (ap opened_file_names c.in_default-report.ensures.only.names)
       (ap counters_of c.in_default-report.ensures.only.limits));
 }
@@ -91,7 +92,7 @@ pub lines-preserved-in-None : goal.lines-preserved-in-None
 lines-preserved-in-None g c = record {
   quiet = quiet_then g.S.Shelf (quiet_set g.S.Shelf (quiet g (goal.at.lines-preserved-in-None g c).In-Ok) _ refl refl
       refl) (quiet_by g.S.Shelf _ _ _ _ c.in-Ok-compare.ensures.keeps c.in-Ok-compare.ensures.readers
-      c.in-Ok-compare.ensures.blamed (told_took c.in-Ok-compare.ensures.only));
+      c.in-Ok-compare.ensures.blamed (reported_took c.in-Ok-compare.ensures.only));
   frame = search rules;
   goes_on = c.in-Ok-compare.ensures.away.ended ∙ c.lines.invariant.goes_on;
   replaces = λ tells.
@@ -111,22 +112,24 @@ lines-preserved-in-None g c = record {
 }
 
 pub returns-in-Err-clause-still : goal.returns-in-Err-clause-still
-returns-in-Err-clause-still g c = told_then _ _ _ c.lines.invariant.quiet.told (told_took c.in-Err.ensures.only)
+returns-in-Err-clause-still g c = reported_then _ _ _ c.lines.invariant.quiet.reported
+    (reported_took c.in-Err.ensures.only)
 
 pub returns-in_default-clause-still : goal.returns-in_default-clause-still
-returns-in_default-clause-still g c = (quiet g (goal.at.returns-in_default-clause-still g c).In-Ok).told
+returns-in_default-clause-still g c = (quiet g (goal.at.returns-in_default-clause-still g c).In-Ok).reported
 
 pub returns-in-Err-compare-clause-still : goal.returns-in-Err-compare-clause-still
-returns-in-Err-compare-clause-still g c = told_then _ _ _
-    (quiet g (goal.at.returns-in-Err-compare-clause-still g c).In-Ok).told (told_took c.in-Err-compare.ensures.only)
+returns-in-Err-compare-clause-still g c = reported_then _ _ _
+    (quiet g (goal.at.returns-in-Err-compare-clause-still g c).In-Ok).reported
+    (reported_took c.in-Err-compare.ensures.only)
 
 pub returns-then-eq-clause-still : goal.returns-then-eq-clause-still
-returns-then-eq-clause-still g c = (quiet g (goal.at.returns-then-eq-clause-still g c).In-Ok).told
+returns-then-eq-clause-still g c = (quiet g (goal.at.returns-then-eq-clause-still g c).In-Ok).reported
 
 pub returns-in-Err-report-clause-still : goal.returns-in-Err-report-clause-still
-returns-in-Err-report-clause-still g c = told_then _ _ _
-    (quiet g (goal.at.returns-in-Err-report-clause-still g c).In-Ok).told
-    (told_same _ _ c.in-Err-report.ensures.err (ap opened_file_names c.in-Err-report.ensures.only.names))
+returns-in-Err-report-clause-still g c = reported_then _ _ _
+    (quiet g (goal.at.returns-in-Err-report-clause-still g c).In-Ok).reported
+    (reported_same _ _ c.in-Err-report.ensures.err (ap opened_file_names c.in-Err-report.ensures.only.names))
 
 pub returns-in-Err-clause-readers : goal.returns-in-Err-clause-readers
 returns-in-Err-clause-readers g c = readers_after g.S.Shelf c.lines.invariant.quiet _ _ c.in-Err.ensures.readers

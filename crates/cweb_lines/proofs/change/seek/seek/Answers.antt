@@ -1,10 +1,10 @@
 use Rattle.cweb_lines.proofs.Common.{rules, ℕ, [], ◌∷◌, ◌++◌, List, Vec, Global, None, refl, ap, sym, subst, ◌∙◌, sought, counters_of, SourceLine, change_lines, so_far_of, opened_file_names, Searched, SeeksTo, ReportsFaultPrefix, lines_at, read_failures_of, SourceFault, Waiting, blames_memory, blames_none}
 use Rattle.cweb_lines.proofs.MergeReadersStayNamed.{knows_only, knows_same}
 use Rattle.cweb_input.proofs.Found.{OnOk-both}
-use Rattle.cweb_lines.proofs.ReportsOnlyGrow.{told_behind, told_if, told_then, told_took, took_faults, took_names}
+use Rattle.cweb_lines.proofs.ReportsOnlyGrow.{reported_after, reported_if, reported_then, reported_took, took_faults, took_names}
 use Rattle.cweb_lines.proofs.NoReadFails.{Quiet, blamed_stop, quiet_same, quiet_set, quiet_tells, quiet_then, quiet_by, readers_after, still_tells}
-use Rattle.cweb_lines.proofs.Seeks.{seeks_ended, seeks_from, seeks_ends, seeks_told_more, seeks_on, seeks_found}
-use Rattle.cweb_lines.proofs.Stops.{told_stays}
+use Rattle.cweb_lines.proofs.Seeks.{seeks_ended, seeks_from, seeks_ends, seeks_reported_more, seeks_on, seeks_found}
+use Rattle.cweb_lines.proofs.Stops.{reported_stays}
 use Rattle.cweb_lines.proofs.change.seek.seek.Given as given
 use Rattle.cweb_lines.proofs.change.seek.seek.Goals as goal
 use Rattle.cweb_lines.proofs.change.seek.seek.Goals.{In-Ok, In-Ok-look_at}
@@ -20,33 +20,33 @@ lines-init g c = record {
 quiet : (g : given.Over) (c : In-Ok g) → Quiet g.S.Shelf c.args.shelf.now c.take_change.new.shelf c.args.run.now
     c.take_change.new.run
 quiet g c = quiet_then g.S.Shelf c.lines.invariant.quiet (quiet_by g.S.Shelf _ _ _ _ c.in-Ok.ensures.keeps
-    c.in-Ok.ensures.readers c.in-Ok.ensures.blamed (told_took c.in-Ok.ensures.only))
+    c.in-Ok.ensures.readers c.in-Ok.ensures.blamed (reported_took c.in-Ok.ensures.only))
 
 looked : (g : given.Over) (c : In-Ok-look_at g) → Quiet g.S.Shelf c.args.shelf.now c.take_change.new.shelf
     c.args.run.now c.look_at.new.run
 looked g c = quiet_tells g.S.Shelf (quiet_then g.S.Shelf c.lines.invariant.quiet (quiet_by g.S.Shelf _ _ _ _
-    c.in-Ok.ensures.keeps c.in-Ok.ensures.readers c.in-Ok.ensures.blamed (told_took c.in-Ok.ensures.only))) _
+    c.in-Ok.ensures.keeps c.in-Ok.ensures.readers c.in-Ok.ensures.blamed (reported_took c.in-Ok.ensures.only))) _
     c.in-Ok-look_at.ensures.only c.in-Ok-look_at.ensures.looks.faults
 
 pub returns-in-Err-clause-stops : goal.returns-in-Err-clause-stops
 returns-in-Err-clause-stops g c = λ tells.
     seeks_ends _ _ _ _ _ (c.lines.invariant.seeks tells) c.in-Err.stop (so_far_of c.take_change.new.run)
-    (told_stays c.lines.run _ c.in-Err.ensures.only c.in-Err.ensures.answers.counted)
+    (reported_stays c.lines.run _ c.in-Err.ensures.only c.in-Err.ensures.answers.counted)
     (c.in-Err.ensures.stops (still_tells g.S.Shelf c.lines.invariant.quiet tells))
 
-pub returns-in-Err-look_at-clause-told : goal.returns-in-Err-look_at-clause-told
-returns-in-Err-look_at-clause-told g c = λ tells.
+pub returns-in-Err-look_at-clause-reported : goal.returns-in-Err-look_at-clause-reported
+returns-in-Err-look_at-clause-reported g c = λ tells.
     let taken = rw c.in-Some.is at (c.in-Ok.ensures.taken (still_tells g.S.Shelf c.lines.invariant.quiet tells)) in
-    let front = c.in-Err-look_at.ensures.err taken.0.line
+    let prefix = c.in-Err-look_at.ensures.err taken.0.line
     (taken.0.is ∙ ap (λ b. record { bytes = b; place = c.in-Some.at.place }) (sym c.deref.ensures.value))
     (lines_at (g.S.Shelf.left c.take_change.new.shelf) c.take_change.new.run.change) in
-    seeks_told_more _ (change_lines (g.S.Shelf.left c.lines.shelf) c.lines.run) c.lines.begin _ _
+    seeks_reported_more _ (change_lines (g.S.Shelf.left c.lines.shelf) c.lines.run) c.lines.begin _ _
     (c.lines.invariant.seeks tells) (so_far_of c.look_at.new.run) (subst (λ (ls : List SourceLine).
     ReportsFaultPrefix (sought ls c.lines.begin).faults c.lines.run.faults.items c.look_at.new.run.faults.items)
     (sym taken.1) (subst (λ (v : Vec SourceFault Global).
     ReportsFaultPrefix (sought
     (taken.0.line ∷ lines_at (g.S.Shelf.left c.take_change.new.shelf) c.take_change.new.run.change)
-    c.lines.begin).faults v.items c.look_at.new.run.faults.items) c.in-Ok.ensures.only.faults front))
+    c.lines.begin).faults v.items c.look_at.new.run.faults.items) c.in-Ok.ensures.only.faults prefix))
     (ap opened_file_names (c.in-Err-look_at.ensures.only.names ∙ c.in-Ok.ensures.only.names))
 
 pub lines-preserved : goal.lines-preserved
@@ -89,12 +89,13 @@ returns-in-Entry-clause-searched g c = λ tells.
     (g.S.Shelf.left c.take_change.new.shelf) c.take_change.new.run.change)) (sym c.swap.ensures.x_after) found)
 
 pub returns-in-Err-clause-still : goal.returns-in-Err-clause-still
-returns-in-Err-clause-still g c = told_then _ _ _ c.lines.invariant.quiet.told (told_took c.in-Err.ensures.only)
+returns-in-Err-clause-still g c = reported_then _ _ _ c.lines.invariant.quiet.reported
+    (reported_took c.in-Err.ensures.only)
 
 pub returns-in_default-clause-still : goal.returns-in_default-clause-still
-returns-in_default-clause-still g c = told_then _ _ _
-    (quiet g (goal.at.returns-in_default-clause-still g c).In-Ok).told
-    (told_if c.end.result _ _ (sought [] c.lines.begin).faults c.end.ensures.told c.end.ensures.err
+returns-in_default-clause-still g c = reported_then _ _ _
+    (quiet g (goal.at.returns-in_default-clause-still g c).In-Ok).reported
+    (reported_if c.end.result _ _ (sought [] c.lines.begin).faults c.end.ensures.reported c.end.ensures.err
     (ap opened_file_names c.end.ensures.names))
 
 pub returns-in-Err-look_at-clause-still : goal.returns-in-Err-look_at-clause-still
@@ -104,22 +105,22 @@ returns-in-Err-look_at-clause-still g c =
       length = 0;
       size = 0;
     } in
-    let front = c.in-Err-look_at.ensures.err source refl [] in
-    told_then _ _ _ (quiet g (goal.at.returns-in-Err-look_at-clause-still g c).In-Ok).told
-    (told_behind _ _ front.front front.told (ap opened_file_names c.in-Err-look_at.ensures.only.names))
+    let prefix = c.in-Err-look_at.ensures.err source refl [] in
+    reported_then _ _ _ (quiet g (goal.at.returns-in-Err-look_at-clause-still g c).In-Ok).reported
+    (reported_after _ _ prefix.prefix prefix.reported (ap opened_file_names c.in-Err-look_at.ensures.only.names))
 
 pub returns-in-Entry-clause-still : goal.returns-in-Entry-clause-still
-returns-in-Entry-clause-still g c = (looked g (goal.at.returns-in-Entry-clause-still g c).In-Ok-look_at).told
+returns-in-Entry-clause-still g c = (looked g (goal.at.returns-in-Entry-clause-still g c).In-Ok-look_at).reported
 
 pub returns-in_default-clause-searched : goal.returns-in_default-clause-searched
 returns-in_default-clause-searched g c = λ tells.
     let taken = rw c.in_default.is at (c.in-Ok.ensures.taken (still_tells g.S.Shelf c.lines.invariant.quiet tells)) in
     let counted = rw c.in_default.is at c.in-Ok.ensures.answers.counted in
-    OnOk-both c.end.result (λ told done.
-    seeks_ended _ _ c.lines.begin _ (so_far_of c.lines.run) (c.lines.invariant.seeks tells) taken.0 _ (told ∙ ap
+    OnOk-both c.end.result (λ reported done.
+    seeks_ended _ _ c.lines.begin _ (so_far_of c.lines.run) (c.lines.invariant.seeks tells) taken.0 _ (reported ∙ ap
     (λ (v : Vec SourceFault Global). v.items ++ (sought [] c.lines.begin).faults) c.in-Ok.ensures.only.faults)
     (ap opened_file_names (c.end.ensures.names ∙ c.in-Ok.ensures.only.names)) (ap counters_of c.end.ensures.limits
-    ∙ (λ i. record { lines = counted.0 i; bytes = counted.1 i })) _ done _ _) c.end.ensures.told c.end.ensures.stage
+    ∙ (λ i. record { lines = counted.0 i; bytes = counted.1 i })) _ done _ _) c.end.ensures.reported c.end.ensures.stage
 
 pub returns-in-Err-clause-readers : goal.returns-in-Err-clause-readers
 returns-in-Err-clause-readers g c = readers_after g.S.Shelf c.lines.invariant.quiet _ _ c.in-Err.ensures.readers

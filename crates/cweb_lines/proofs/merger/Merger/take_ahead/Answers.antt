@@ -1,20 +1,20 @@
 use Rattle.cweb_lines.proofs.Common.{arith, length-map, pending_of, sources_next, top_of}
-use Rattle.cweb_lines.proofs.Lookahead.{lends_lines}
+use Rattle.cweb_lines.proofs.Lookahead.{borrows_lines}
 use Rattle.cweb_lines.proofs.EmittedLines.{next-length}
 use Rattle.cweb_lines.proofs.merger.Merger.take_ahead.Goals as goal
 
 pub returns : goal.returns
 returns g c = λ lines next.
     let run = c.args.self.now.run in
-    let given = c.advance.ensures.given lines next in
+    let emitted = c.advance.ensures.emitted lines next in
     record {
-      given = given;
+      emitted = emitted;
       bytes = c.advance.ensures.bytes lines next;
       count = omega (
         arith,
-        given.counted,
-        next-length (pending_of run) (top_of run.stack) c.args.ahead.stretch lines next.stands,
+        emitted.counted,
+        next-length (pending_of run) (top_of run.stack) c.args.ahead.stretch lines next.in_place,
         length-map (sources_next (top_of run.stack) lines) (λ source. source.line),
       );
-      lends = lends_lines run c.advance.new.self _ given;
+      borrows = borrows_lines run c.advance.new.self _ emitted;
     }

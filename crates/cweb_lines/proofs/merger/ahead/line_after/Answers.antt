@@ -1,39 +1,42 @@
 use Rattle.cweb_lines.proofs.Common.{arith, pending_in}
-use Rattle.cweb_lines.proofs.Lookahead.{few_behind, looks_behind}
+use Rattle.cweb_lines.proofs.Lookahead.{few_after, looks_after}
 use Rattle.cweb_lines.proofs.merger.ahead.line_after.Goals as goal
 
 pub overflow_add-result : goal.overflow_add-result
 overflow_add-result g c =
     let fits = c.requires.fits in
-    let stands = c.requires.before in
+    let in_place = c.requires.before in
     omega (
       arith,
-      few_behind (pending_in c.args.stage c.args.first.now) c.args.text.now fits.0 c.args.before c.in-Some.next stands.0
-          fits.1 fits.2 stands.1 c.in-Some.ensures.line c.in-Some.ensures.one,
+      few_after (pending_in c.args.stage c.args.first.now) c.args.text.now fits.0 c.args.before c.in-Some.next
+          in_place.0
+          fits.1 fits.2 in_place.1 c.in-Some.ensures.line c.in-Some.ensures.one,
     )
 
 pub overflow_add-result-2 : goal.overflow_add-result-2
 overflow_add-result-2 g c =
     let fits = c.requires.fits in
-    let stands = c.requires.before in
+    let in_place = c.requires.before in
     omega (
       arith,
-      few_behind (pending_in c.args.stage c.args.first.now) c.args.text.now fits.0 c.args.before c.in-Some.next stands.0
-          fits.1 fits.2 stands.1 c.in-Some.ensures.line c.in-Some.ensures.one,
+      few_after (pending_in c.args.stage c.args.first.now) c.args.text.now fits.0 c.args.before c.in-Some.next
+          in_place.0
+          fits.1 fits.2 in_place.1 c.in-Some.ensures.line c.in-Some.ensures.one,
     )
 
 pub then-requires : goal.then-requires
 then-requires g c =
     let fits = c.requires.fits in
-    let stands = c.requires.before in
+    let in_place = c.requires.before in
     omega (
       arith,
       c.in-Some.ensures.one,
-      few_behind (pending_in c.args.stage c.args.first.now) c.args.text.now fits.0 c.args.before c.in-Some.next stands.0
-          fits.1 fits.2 stands.1 c.in-Some.ensures.line c.in-Some.ensures.one,
+      few_after (pending_in c.args.stage c.args.first.now) c.args.text.now fits.0 c.args.before c.in-Some.next
+          in_place.0
+          fits.1 fits.2 in_place.1 c.in-Some.ensures.line c.in-Some.ensures.one,
     )
 
 pub returns : goal.returns
-returns g c = λ lines stands. looks_behind (pending_in c.args.stage c.args.first.now)
-    c.args.text.now c.args.before c.in-Some.next c.then.result lines stands c.requires.joins
+returns g c = λ lines in_place. looks_after (pending_in c.args.stage c.args.first.now)
+    c.args.text.now c.args.before c.in-Some.next c.then.result lines in_place c.requires.joins
     c.in-Some.ensures.line c.in-Some.ensures.one c.then.ensures.text c.then.ensures.end c.then.ensures.lines

@@ -15,13 +15,13 @@ advance_slot-requires-clause-number g c =
     )
 
 pub returns-clause-passes : goal.returns-clause-passes
-returns-clause-passes g c = λ entry lines stands.
+returns-clause-passes g c = λ entry lines in_place.
     let texts = c.args.stack.now.texts in
     let within : c.args.stack.now.depth - 1 < length texts = omega arith in
     let same = get_or_default texts (c.args.stack.now.depth - 1) None c.index-stack-top.result within in
     let passes =
     c.advance_slot.ensures.passes entry lines
-    (subst (λ slot. IsStretchAt entry slot c.args.stretch lines) same stands) in
+    (subst (λ slot. IsStretchAt entry slot c.args.stretch lines) same in_place) in
     let level = c.advance_slot.ensures.level in
     let takes = subst (λ slot.
     PassesSlot slot c.advance_slot.new.slot c.args.limits.now c.advance_slot.new.limits lines) (sym same) passes in

@@ -1,39 +1,39 @@
 use Rattle.cweb_lines.proofs.Common.{◌<◌, ◌∷◌, ℕ, List, Vec, Global, length, refl, ap, sym, subst, ◌∙◌, arith, string_bytes, common_steps, opened_file_names, at_place, counters_of, world_in, found_at, Event, opening, AreReadersKnown, SourceFault, NoName, TooDeep, NotThere}
 use Rattle.cweb_lines.proofs.MergeReadersStayNamed.{knows_only}
-use Rattle.cweb_lines.proofs.ReportsOnlyGrow.{told_if, told_same}
+use Rattle.cweb_lines.proofs.ReportsOnlyGrow.{reported_if, reported_same}
 use Rattle.cweb_input.proofs.Found.{OnOk-map}
-use Rattle.cweb_lines.proofs.Merges.{gives_opening, merge_no_name, merge_too_deep, merge_not_there, merge_opens, include_long, empty_is, some_are}
-use Rattle.cweb_lines.proofs.MergeStateEvents.{coming_opened, gives_told}
+use Rattle.cweb_lines.proofs.Merges.{yields_opening, merge_no_name, merge_too_deep, merge_not_there, merge_opens, include_long, empty_is, some_are}
+use Rattle.cweb_lines.proofs.MergeStateEvents.{coming_opened, yields_reported}
 use Rattle.cweb_lines.proofs.step.obey.obey.Goals as goal
 
 pub include_name-name-requires : goal.include_name-name-requires
 include_name-name-requires g c = include_long c.args.line.now c.requires.include
 
 pub returns-then-is_empty-clause-obeys : goal.returns-then-is_empty-clause-obeys
-returns-then-is_empty-clause-obeys g c = λ tells. OnOk-map c.report.result (λ told source is. record {
+returns-then-is_empty-clause-obeys g c = λ tells. OnOk-map c.report.result (λ reported source is. record {
   rest = _;
   first = merge_no_name _ source c.args.line.now c.args.at is _ _ _ _ c.requires.plain c.requires.include
       (sym c.include_name-name.ensures ∙ empty_is c.include_name-name.result.now
       (sym c.is_empty.ensures ∙ c.if-is_empty.true));
-  gives = gives_told _ _ _ _ c.args.run.now c.report.new.self (at_place NoName c.args.at.place) refl refl
-      c.report.ensures.only told;
-}) c.report.ensures.told
+  yields = yields_reported _ _ _ _ c.args.run.now c.report.new.self (at_place NoName c.args.at.place) refl refl
+      c.report.ensures.only reported;
+}) c.report.ensures.reported
 
 pub returns-then-at-ge-OPEN_FILES-clause-obeys : goal.returns-then-at-ge-OPEN_FILES-clause-obeys
 returns-then-at-ge-OPEN_FILES-clause-obeys g c = λ tells. OnOk-map c.report-then-at-ge-OPEN_FILES.result
-    (λ told source is.
+    (λ reported source is.
     let some = subst (λ (n : List ℕ). 0 < length n) c.include_name-name.ensures
     (some_are c.include_name-name.result.now (sym c.is_empty.ensures ∙ c.if-is_empty.false)) in
     record {
       rest = _;
       first = merge_too_deep _ source c.args.line.now c.args.at is _ _ _ _ c.requires.plain c.requires.include some
           (omega (arith, c.if-at-ge-OPEN_FILES.true));
-      gives = gives_told _ _ _ _ c.args.run.now c.report-then-at-ge-OPEN_FILES.new.self
-          (at_place TooDeep c.args.at.place) refl refl c.report-then-at-ge-OPEN_FILES.ensures.only told;
-    }) c.report-then-at-ge-OPEN_FILES.ensures.told
+      yields = yields_reported _ _ _ _ c.args.run.now c.report-then-at-ge-OPEN_FILES.new.self
+          (at_place TooDeep c.args.at.place) refl refl c.report-then-at-ge-OPEN_FILES.ensures.only reported;
+    }) c.report-then-at-ge-OPEN_FILES.ensures.reported
 
 pub returns-in_default-clause-obeys : goal.returns-in_default-clause-obeys
-returns-in_default-clause-obeys g c = λ tells. OnOk-map c.report-in_default.result (λ told source is.
+returns-in_default-clause-obeys g c = λ tells. OnOk-map c.report-in_default.result (λ reported source is.
     let some = subst (λ (n : List ℕ). 0 < length n) c.include_name-name.ensures
     (some_are c.include_name-name.result.now (sym c.is_empty.ensures ∙ c.if-is_empty.false)) in
     let none = rw c.in_default.is at (c.in_ok-opening.ensures.found tells) in
@@ -43,10 +43,10 @@ returns-in_default-clause-obeys g c = λ tells. OnOk-map c.report-in_default.res
           (omega (arith, c.if-at-ge-OPEN_FILES.false))
           (none ∙ ap (found_at (world_in (g.S.Shelf.texts c.args.shelf.now) c.args.run.now.inputs))
           c.include_name-name.ensures);
-      gives = gives_told _ _ _ _ c.args.run.now c.report-in_default.new.self (at_place NotThere c.args.at.place)
+      yields = yields_reported _ _ _ _ c.args.run.now c.report-in_default.new.self (at_place NotThere c.args.at.place)
           (c.in_ok-opening.ensures.keeps.texts tells) (c.in_ok-opening.ensures.keeps.left tells)
-          c.report-in_default.ensures.only told;
-    }) c.report-in_default.ensures.told
+          c.report-in_default.ensures.only reported;
+    }) c.report-in_default.ensures.reported
 
 pub returns-clause-obeys : goal.returns-clause-obeys
 returns-clause-obeys g c = λ tells. OnOk-map c.open.result (λ names source is.
@@ -60,7 +60,7 @@ returns-clause-obeys g c = λ tells. OnOk-map c.open.result (λ names source is.
           c.requires.include some (omega (arith, c.if-at-ge-OPEN_FILES.false))
           (there ∙ ap (found_at (world_in (g.S.Shelf.texts c.args.shelf.now) c.args.run.now.inputs))
           c.include_name-name.ensures);
-      gives = gives_opening _ _ _ _ (ap counters_of c.open.ensures.only.limits) (string_bytes c.in-Some.opening.name)
+      yields = yields_opening _ _ _ _ (ap counters_of c.open.ensures.only.limits) (string_bytes c.in-Some.opening.name)
           (ap (λ (es : List Event). opening (string_bytes c.in-Some.opening.name) ∷ es) (coming_opened
           (g.S.Shelf.texts c.args.shelf.now) (g.S.Shelf.texts c.find.new.shelf) (g.S.Shelf.left c.args.shelf.now)
           (g.S.Shelf.left c.find.new.shelf) c.args.run.now c.open.new.run c.in-Some.opening.reader
@@ -71,21 +71,24 @@ returns-clause-obeys g c = λ tells. OnOk-map c.open.result (λ names source is.
     }) c.open.ensures.opens
 
 pub returns-then-is_empty-clause-still : goal.returns-then-is_empty-clause-still
-returns-then-is_empty-clause-still g c = told_if c.report.result _ _ _ c.report.ensures.told c.report.ensures.err
+returns-then-is_empty-clause-still g c = reported_if c.report.result _ _ _ c.report.ensures.reported
+    c.report.ensures.err
     (ap opened_file_names c.report.ensures.only.names)
 
 pub returns-then-at-ge-OPEN_FILES-clause-still : goal.returns-then-at-ge-OPEN_FILES-clause-still
 returns-then-at-ge-OPEN_FILES-clause-still g c =
     let report = c.report-then-at-ge-OPEN_FILES in
-    told_if report.result _ _ _ report.ensures.told report.ensures.err (ap opened_file_names report.ensures.only.names)
+    reported_if report.result _ _ _ report.ensures.reported report.ensures.err
+    (ap opened_file_names report.ensures.only.names)
 
 pub returns-in_default-clause-still : goal.returns-in_default-clause-still
 returns-in_default-clause-still g c =
     let report = c.report-in_default in
-    told_if report.result _ _ _ report.ensures.told report.ensures.err (ap opened_file_names report.ensures.only.names)
+    reported_if report.result _ _ _ report.ensures.reported report.ensures.err
+    (ap opened_file_names report.ensures.only.names)
 
 pub returns-in_err-opening-clause-still : goal.returns-in_err-opening-clause-still
-returns-in_err-opening-clause-still g c = told_same _ _ refl refl
+returns-in_err-opening-clause-still g c = reported_same _ _ refl refl
 
 pub returns-then-is_empty-clause-readers : goal.returns-then-is_empty-clause-readers
 returns-then-is_empty-clause-readers g c = λ tells known. knows_only c.report.ensures.only known

@@ -1,6 +1,6 @@
 use Rattle.cweb_lines.proofs.Common.{◌≡◌, ◌+◌, ◌∷◌, [], ℕ, List, length, refl, sym, arith, ap, ◌∙◌, length-append, string_bytes, ◌++◌, subst, get_or, rules, append-nil, get_or_push, opened_file_names, AreReadersNamed, IsReaderNamed, line_number, files_up_to}
 use Rattle.cweb_input.proofs.ReadersStayNamed.{change_more, named_more, named_set}
-use Rattle.cweb_lines.proofs.ReportsOnlyGrow.{told_more, told_same}
+use Rattle.cweb_lines.proofs.ReportsOnlyGrow.{reported_more, reported_same}
 use Rattle.cweb_input.proofs.SourceStacks.{most_set}
 use Rattle.cweb_lines.proofs.step.obey.open.Goals as goal
 
@@ -28,16 +28,16 @@ invariant_of-run-2 g c =
     }
 
 pub returns-clause-still : goal.returns-clause-still
-returns-clause-still g c = told_more _ _ [] _ (sym (append-nil c.args.run.now.faults.items)) c.in_default.ensures.ok
+returns-clause-still g c = reported_more _ _ [] _ (sym (append-nil c.args.run.now.faults.items)) c.in_default.ensures.ok
 
 pub returns-in-Err-clause-still : goal.returns-in-Err-clause-still
-returns-in-Err-clause-still g c = told_same _ _ refl c.in-Err.ensures.err
+returns-in-Err-clause-still g c = reported_same _ _ refl c.in-Err.ensures.err
 
 pub returns-in_err-buffer-clause-still : goal.returns-in_err-buffer-clause-still
-returns-in_err-buffer-clause-still g c = told_same _ _ refl refl
+returns-in_err-buffer-clause-still g c = reported_same _ _ refl refl
 
 pub returns-in_err-source-clause-still : goal.returns-in_err-source-clause-still
-returns-in_err-source-clause-still g c = told_same _ _ refl refl
+returns-in_err-source-clause-still g c = reported_same _ _ refl refl
 
 pub returns-clause-readers : goal.returns-clause-readers
 returns-clause-readers g c = λ opened_as opened known.

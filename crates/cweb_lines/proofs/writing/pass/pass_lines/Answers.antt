@@ -10,7 +10,7 @@ lines-preserved g c =
     let next = c.in-Some.ensures.lines in
     record {
       passes = passes_then _ _ _ _ _ _ c.lines.invariant.passes
-          (passes_next _ _ c.in-Some.stretch next.0 _ _ next.1 (c.advance.ensures.given next.0 next.1)
+          (passes_next _ _ c.in-Some.stretch next.0 _ _ next.1 (c.advance.ensures.emitted next.0 next.1)
           (c.in_ok-append_line.ensures.ok ∙ ap (λ (t : List ℕ). c.lines.buffer.items ++ t ++ 10 ∷ [])
           c.printed.ensures));
       alone = λ none. absurd (omega (arith, none, c.lines-test.true));

@@ -3,16 +3,16 @@ use Rattle.cweb_log.proofs.RequestedOptions.{asks, copied_none, ok_from, usage_f
 use Rattle.cweb_log.proofs.options.Options.read.Goals as goal
 
 -- The file words, by index, give the options of all words.
-asked : (c : goal.After-named) → options_by (map (λ word. word.now) c.args.words.now)
+args : (c : goal.After-named) → options_by (map (λ word. word.now) c.args.words.now)
     ≡ option_map (λ (names : TangleNames). record { shown = c.in-Some.shown; names = names })
     (named_by c.in-Some-other_word.web.now (option_copied c.other_word-3.result) (option_copied c.other_word-4.result))
-asked c =
+args c =
     asks (map (λ word. word.now) c.args.words.now) c.in-Some.shown c.in-Some-other_word.web.now _ _ (sym c.read.ensures
     ∙ c.in-Some.is) (sym c.other_word.ensures ∙ ap option_copied c.in-Some-other_word.is) c.other_word-3.ensures
     c.other_word-4.ensures (sym c.other_word-2.ensures ∙ copied_none _ (sym c.if-is_some.ensures))
 
 pub returns-clause-ok : goal.returns-clause-ok
-returns-clause-ok c = ok_from c.named.result _ _ c.in-Some.shown (asked c) c.named.ensures.ok c.named.ensures.shown
+returns-clause-ok c = ok_from c.named.result _ _ c.in-Some.shown (args c) c.named.ensures.ok c.named.ensures.shown
 
 pub returns-clause-usage : goal.returns-clause-usage
-returns-clause-usage c = usage_from c.named.result _ _ c.in-Some.shown (asked c) c.named.ensures.usage
+returns-clause-usage c = usage_from c.named.result _ _ c.in-Some.shown (args c) c.named.ensures.usage

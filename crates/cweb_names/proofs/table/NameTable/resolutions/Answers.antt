@@ -12,7 +12,7 @@ returns-clause-resolutions c =
     sym (append-nil c.loop-i.all.items)
     ∙ ap (λ xs. c.loop-i.all.items ++ xs) (sym (resolve-none s.known (drop i s.strings)) ∙ ap rest (sym none))
     ∙ c.loop-i.invariant ∙ ap (resolve_all s.known s.strings) c.deref-found-items.ensures.value
-    ∙ resolve-resolutions s.known s.strings s.given.items s.found.items c.self.invariant ∙ ap resolutions c.self.view_is
+    ∙ resolve-resolutions s.known s.strings s.forms.items s.found.items c.self.invariant ∙ ap resolutions c.self.view_is
 
 pub string-requires : goal.string-requires
 string-requires c =
@@ -21,7 +21,7 @@ string-requires c =
       arith,
       c.loop-i-test.true,
       ap length c.deref-found-items.ensures.value,
-      found-count s.known s.strings s.given.items s.found.items c.self.invariant,
+      found-count s.known s.strings s.forms.items s.found.items c.self.invariant,
       c.self.invariant.count,
     )
 
@@ -36,7 +36,7 @@ returns-clause-few c =
     sym (append-nil c.loop-i.all.items)
     ∙ ap (λ xs. c.loop-i.all.items ++ xs) (sym (resolve-none s.known (drop i s.strings)) ∙ ap rest (sym none))
     ∙ c.loop-i.invariant ∙ ap (resolve_all s.known s.strings) c.deref-found-items.ensures.value in
-    let count = found-count s.known s.strings s.given.items s.found.items c.self.invariant in
+    let count = found-count s.known s.strings s.forms.items s.found.items c.self.invariant in
     omega (
       arith,
       ap length all,

@@ -1,5 +1,5 @@
 use Rattle.cweb_out.proofs.Common.{◌≡◌, ◌-◌, arith, ◌∙◌, vec_capacity, refl, vec_len, slice_set, take-set, Stored, token_model}
-use Rattle.cweb_out.proofs.Tops.{HasTop, TopMoved, lower, stands_lower, top_ended, top_moved}
+use Rattle.cweb_out.proofs.Tops.{HasTop, TopMoved, lower, valid_lower, top_ended, top_moved}
 use Rattle.cweb_out.proofs.expander.Expander.advance.Goals as goal
 
 pub take-requires : goal.take-requires
@@ -7,7 +7,7 @@ take-requires c =
     let frames = c.frames.self.frames in
     let top : HasTop (vec_len frames) frames.items c.in-Some.frame.now =
     record { count = frames.ok.0; some = c.in-Some.ensures.item.3.0; is = c.in-Some.ensures.value } in
-    (stands_lower c.frames.invariant.stands top).1.within
+    (valid_lower c.frames.invariant.valid top).1.within
 
 abbrev moved : (c : goal.In-Some-take)
     → TopMoved c.args.self.now.store.now c.args.self.now.frames.items (slice_set c.frames.self.frames.items
@@ -17,11 +17,11 @@ moved c =
     let frames = c.frames.self.frames in
     let top : HasTop (vec_len frames) frames.items c.in-Some.frame.now =
     record { count = frames.ok.0; some = c.in-Some.ensures.item.3.0; is = c.in-Some.ensures.value } in
-    top_moved c.frames.invariant.stands c.frames.invariant.left
+    top_moved c.frames.invariant.valid c.frames.invariant.left
     c.frames.invariant.work top c.in-Some-take.ensures.some c.in-Some-take.ensures.within c.take.ensures.owner
 
-pub returns-in-Some-take-clause-stands : goal.returns-in-Some-take-clause-stands
-returns-in-Some-take-clause-stands c = rw c.frames.invariant.store (moved c).stands
+pub returns-in-Some-take-clause-valid : goal.returns-in-Some-take-clause-valid
+returns-in-Some-take-clause-valid c = rw c.frames.invariant.store (moved c).valid
 
 pub returns-in-Some-take-clause-some : goal.returns-in-Some-take-clause-some
 returns-in-Some-take-clause-some c = (moved c).advances
@@ -34,11 +34,11 @@ frames-preserved c =
     record { count = frames.ok.0; some = c.in-Some.ensures.item.3.0; is = c.in-Some.ensures.value } in
     let is : c.pop.new.self.items ≡ lower (vec_len frames) frames.items = c.pop.ensures.rest
     ∙ take-set frames.items (vec_len frames - 1) c.take.new.self in
-    let ended = top_ended c.frames.invariant.stands top (c.in_default-take.ensures.none refl) is in
+    let ended = top_ended c.frames.invariant.valid top (c.in_default-take.ensures.none refl) is in
     let less = ended.work in
     let earlier = c.frames.invariant.work in
     record {
-      stands = rw c.pop.ensures.capacity ended.stands;
+      valid = rw c.pop.ensures.capacity ended.valid;
       store = c.frames.invariant.store;
       plan = c.frames.invariant.plan;
       left = c.frames.invariant.left ∙ ended.left;

@@ -3,7 +3,7 @@ use Rattle.cweb_out.proofs.expander.Expander.advance.Given as goal
 
 abbrev pub invariant-frames : goal.invariant-frames
 invariant-frames l = record {
-  stands : IsFrameStack l.store l.self.frames.items (vec_capacity l.self.frames);
+  valid : IsFrameStack l.store l.self.frames.items (vec_capacity l.self.frames);
   store : l.self.store ≡ l.fn.self.store;
   plan : l.self.plan ≡ l.fn.self.plan;
   left : left l.store l.fn.self.frames.items ≡ left l.store l.self.frames.items;

@@ -1,8 +1,8 @@
 use Rattle.cweb_out.proofs.Common.{◌≡◌, ◌∙◌, ◌++◌, ◌-◌, ap, arith, refl, sym, vec_capacity, List, vec_len, slice_set, take-set, Stored, Token, Name}
-use Rattle.cweb_out.proofs.PrintedPrefixes.{front_more, front_of}
+use Rattle.cweb_out.proofs.PrintedPrefixes.{prefix_more, prefix_of}
 use Rattle.cweb_out.proofs.Leaving.{TopGone, TopUsed, top_gone, top_used}
 use Rattle.cweb_out.proofs.TopAfterDirect.{TopPassed, top_passed}
-use Rattle.cweb_out.proofs.Tops.{HasTop, lower, stands_lower}
+use Rattle.cweb_out.proofs.Tops.{HasTop, lower, valid_lower}
 use Rattle.cweb_out.proofs.expander.Expander.append.Goals as goal
 use Rattle.cweb_out.proofs.expander.Expander.append.Goals.{After-pop, In_default-take_name}
 
@@ -10,7 +10,7 @@ pub append-requires : goal.append-requires
 append-requires c =
     let top : HasTop (vec_len c.frames.self.frames) c.frames.self.frames.items c.in-Some.frame.now =
     record { count = c.frames.self.frames.ok.0; some = c.in-Some.ensures.item.3.0; is = c.in-Some.ensures.value } in
-    (stands_lower c.frames.invariant.stands top).1.within
+    (valid_lower c.frames.invariant.valid top).1.within
 
 abbrev gone : (c : After-pop) → TopGone c.args.self.now.store.now
     c.frames.self.frames.items c.pop.new.self.items c.append.ensures.prints.done (vec_capacity c.frames.self.frames)
@@ -20,7 +20,7 @@ gone c =
     record { count = c.frames.self.frames.ok.0; some = c.in-Some.ensures.item.3.0; is = c.in-Some.ensures.value } in
     let is : c.pop.new.self.items ≡ lower (vec_len frames) frames.items = c.pop.ensures.rest
     ∙ take-set frames.items (vec_len frames - 1) c.append.new.self in
-    top_gone c.frames.invariant.stands top c.append.ensures.prints.whole c.append.ensures.prints.direct
+    top_gone c.frames.invariant.valid top c.append.ensures.prints.whole c.append.ensures.prints.direct
     c.append.ensures.within c.append.ensures.owner (c.append.ensures.ended c.if-append.true) is
 
 pub frames-smaller-then-append : goal.frames-smaller-then-append
@@ -30,12 +30,12 @@ pub frames-preserved-then-append : goal.frames-preserved-then-append
 frames-preserved-then-append c =
     let w : Stored = c.args.self.now.store.now in
     record {
-      stands =
-          rw c.pop.ensures.capacity (gone c).stands;
+      valid =
+          rw c.pop.ensures.capacity (gone c).valid;
       store = c.frames.invariant.store;
       plan = c.frames.invariant.plan;
       setting = c.append.ensures.setting ∙ c.frames.invariant.setting;
-      prints = front_more c.frames.invariant.setting c.frames.invariant.prints (front_of _ _
+      prints = prefix_more c.frames.invariant.setting c.frames.invariant.prints (prefix_of _ _
           c.append.ensures.prints (gone c).left);
     }
 
@@ -47,11 +47,11 @@ taken c =
     let top : HasTop (vec_len frames) frames.items c.in-Some.frame.now =
     record { count = c.frames.self.frames.ok.0; some = c.in-Some.ensures.item.3.0; is = c.in-Some.ensures.value } in
     top_used
-    c.frames.invariant.stands top c.append.ensures.prints.whole c.append.ensures.prints.direct c.append.ensures.within
+    c.frames.invariant.valid top c.append.ensures.prints.whole c.append.ensures.prints.direct c.append.ensures.within
     c.append.ensures.owner c.in-Some-take_name.ensures.some c.take_name.ensures.within c.take_name.ensures.owner
 
-pub enter-requires-clause-stands : goal.enter-requires-clause-stands
-enter-requires-clause-stands c = rw c.frames.invariant.store (taken c).stands
+pub enter-requires-clause-valid : goal.enter-requires-clause-valid
+enter-requires-clause-valid c = rw c.frames.invariant.store (taken c).valid
 
 pub enter-requires-clause-below : goal.enter-requires-clause-below
 enter-requires-clause-below c = rw c.frames.invariant.store (taken c).below
@@ -67,7 +67,7 @@ used c =
     let top : HasTop (vec_len frames) frames.items c.in-Some.frame.now =
     record { count = c.frames.self.frames.ok.0; some = c.in-Some.ensures.item.3.0; is = c.in-Some.ensures.value } in
     top_used
-    c.frames.invariant.stands top c.append.ensures.prints.whole c.append.ensures.prints.direct c.append.ensures.within
+    c.frames.invariant.valid top c.append.ensures.prints.whole c.append.ensures.prints.direct c.append.ensures.within
     c.append.ensures.owner c.in-Some-take_name.ensures.some c.take_name.ensures.within c.take_name.ensures.owner
 
 pub frames-smaller : goal.frames-smaller
@@ -82,11 +82,11 @@ frames-preserved c =
     let w : Stored = c.args.self.now.store.now in
     let entered = rw c.frames.invariant.store at c.enter.ensures.enters.left in
     record {
-      stands = rw (c.enter.ensures.store ∙ c.frames.invariant.store) at c.enter.ensures.stands;
+      valid = rw (c.enter.ensures.store ∙ c.frames.invariant.store) at c.enter.ensures.valid;
       store = c.enter.ensures.store ∙ c.frames.invariant.store;
       plan = c.enter.ensures.plan ∙ c.frames.invariant.plan;
       setting = c.append.ensures.setting ∙ c.frames.invariant.setting;
-      prints = front_more c.frames.invariant.setting c.frames.invariant.prints (front_of _ _ c.append.ensures.prints
+      prints = prefix_more c.frames.invariant.setting c.frames.invariant.prints (prefix_of _ _ c.append.ensures.prints
           ((used c).left ∙ ap (λ (ts : List Token). c.append.ensures.prints.done ++ ts) (sym entered)));
     }
 
@@ -99,15 +99,15 @@ passed c =
     let frames = c.frames.self.frames in
     let top : HasTop (vec_len frames) frames.items c.in-Some.frame.now =
     record { count = c.frames.self.frames.ok.0; some = c.in-Some.ensures.item.3.0; is = c.in-Some.ensures.value } in
-    rw (c.in_default-take_name.ensures.none refl) (top_passed c.frames.invariant.stands
+    rw (c.in_default-take_name.ensures.none refl) (top_passed c.frames.invariant.valid
     top c.append.ensures.prints.whole c.append.ensures.prints.direct c.append.ensures.within c.append.ensures.owner)
 
-pub returns-in_default-take_name-clause-stands : goal.returns-in_default-take_name-clause-stands
-returns-in_default-take_name-clause-stands c = rw c.frames.invariant.store (passed c).stands
+pub returns-in_default-take_name-clause-valid : goal.returns-in_default-take_name-clause-valid
+returns-in_default-take_name-clause-valid c = rw c.frames.invariant.store (passed c).valid
 
 pub returns-in_default-take_name-clause-prints : goal.returns-in_default-take_name-clause-prints
 returns-in_default-take_name-clause-prints c =
     let w : Stored = c.args.self.now.store.now in
     let frames = c.frames.self.frames in
-    front_more c.frames.invariant.setting c.frames.invariant.prints
-    (front_of _ _ c.append.ensures.prints (passed c).left)
+    prefix_more c.frames.invariant.setting c.frames.invariant.prints
+    (prefix_of _ _ c.append.ensures.prints (passed c).left)

@@ -3,7 +3,7 @@ use Rattle.cweb_out.proofs.expander.Expander.append.Given as goal
 
 abbrev pub invariant-frames : goal.invariant-frames
 invariant-frames l = record {
-  stands : IsFrameStack l.store l.self.frames.items (vec_capacity l.self.frames);
+  valid : IsFrameStack l.store l.self.frames.items (vec_capacity l.self.frames);
   store : l.self.store ≡ l.fn.self.store;
   plan : l.self.plan ≡ l.fn.self.plan;
   setting : setting_of l.printer ≡ setting_of l.fn.printer;

@@ -13,16 +13,16 @@ all c =
     let within : All (PartIsWithin (length (all_tokens w.parts))) (c.in-Some-next.part ∷ c.next.new.self) =
     subst (All (PartIsWithin (length (all_tokens w.parts)))) h c.parts-rest.ensures.within in
     entered c.in-Some.id c.in-Some-next.part c.next.new.self
-    c.requires.stands c.put.ensures.room c.requires.below c.requires.lower e text within c.put.ensures.frames
+    c.requires.valid c.put.ensures.room c.requires.below c.requires.lower e text within c.put.ensures.frames
 
-pub returns-clause-stands : goal.returns-clause-stands
-returns-clause-stands c = rw c.put.ensures.store (all c).stands
+pub returns-clause-valid : goal.returns-clause-valid
+returns-clause-valid c = rw c.put.ensures.store (all c).valid
 
 pub returns-clause-enters : goal.returns-clause-enters
 returns-clause-enters c = (all c).enters
 
-pub returns-in_default-next-clause-stands : goal.returns-in_default-next-clause-stands
-returns-in_default-next-clause-stands c = search rules
+pub returns-in_default-next-clause-valid : goal.returns-in_default-next-clause-valid
+returns-in_default-next-clause-valid c = search rules
 
 pub returns-in_default-next-clause-enters : goal.returns-in_default-next-clause-enters
 returns-in_default-next-clause-enters c = search rules

@@ -1,10 +1,10 @@
 use Rattle.cweb_out.proofs.Common.{◌≡◌, ◌+◌, ◌++◌, ◌∷◌, [], ap, sym, ◌∙◌, vec_capacity, list_all, Stored, names, uses, ends_below, suffix, RanksAreBelow, root_list}
-use Rattle.cweb_out.proofs.StackUses.{Stands-one}
+use Rattle.cweb_out.proofs.StackUses.{Valid-one}
 use Rattle.cweb_out.proofs.Roots.{root_below}
 use Rattle.cweb_out.proofs.expander.Expander.restart.Goals as goal
 
-pub returns-clause-stands : goal.returns-clause-stands
-returns-clause-stands c =
+pub returns-clause-valid : goal.returns-clause-valid
+returns-clause-valid c =
     let w : Stored = c.args.self.now.store.now in
     let frame = c.of_root-frame.result in
     let e : c.put.new.self.frames.items ≡ frame ∷ [] = c.put.ensures.frames
@@ -15,7 +15,7 @@ returns-clause-stands c =
     ∙ root_below w c.args.self.now.plan.now c.args.root c.requires.made c.requires.root in
     let r : vec_capacity c.put.new.self.frames ≡ names w + 1 = c.put.ensures.room
     ∙ c.clear.ensures.capacity
-    ∙ c.requires.stands.room in
+    ∙ c.requires.valid.room in
     let l : suffix w frame ≡ root_list w frame.owner = c.of_root-frame.ensures.list
     ∙ ap (root_list w) (sym c.of_root-frame.ensures.owner) in
-    rw c.put.ensures.store (Stands-one e c.of_root-frame.ensures.within b r l)
+    rw c.put.ensures.store (Valid-one e c.of_root-frame.ensures.within b r l)

@@ -1,11 +1,11 @@
 use Rattle.cweb_out.proofs.Common.{◌≡◌, ◌∷◌, ◌∙◌, List, ap, sym, Part, suffix}
-use Rattle.cweb_out.proofs.PrintedPrefixes.{front_more, front_to}
+use Rattle.cweb_out.proofs.PrintedPrefixes.{prefix_more, prefix_to}
 use Rattle.cweb_out.proofs.Suffixes.{suffix-left, suffix-next, IsWithin-next}
 use Rattle.cweb_out.proofs.frame.Frame.append.Goals as goal
 
 pub returns-then-self-2-clause-prints : goal.returns-then-self-2-clause-prints
 returns-then-self-2-clause-prints c =
-    front_more c.parts.invariant.setting c.parts.invariant.prints c.append_part.ensures.prints
+    prefix_more c.parts.invariant.setting c.parts.invariant.prints c.append_part.ensures.prints
 
 pub returns-then-self-2-clause-goes_on : goal.returns-then-self-2-clause-goes_on
 returns-then-self-2-clause-goes_on c = λ _.
@@ -16,9 +16,9 @@ returns-in_default-clause-prints c =
     let w = c.args.store.now in
     let f = c.append_part.new.self in
     let same : f.rest ≡ c.next.new.self = c.in_default.ensures.steps.0 ∙ sym c.in_default.ensures.steps.1 in
-    front_to
+    prefix_to
     (ap (λ (rest : List Part). suffix w (record { owner = f.owner; defs = f.defs; part = f.part; rest = rest })) same)
-    (front_more c.parts.invariant.setting c.parts.invariant.prints c.append_part.ensures.prints)
+    (prefix_more c.parts.invariant.setting c.parts.invariant.prints c.append_part.ensures.prints)
 
 pub parts-preserved : goal.parts-preserved
 parts-preserved c =
@@ -31,7 +31,7 @@ parts-preserved c =
       within = record { part = within.0; rest = within.1 };
       started = c.append_part.ensures.started;
       setting = c.append_part.ensures.setting ∙ c.parts.invariant.setting;
-      prints = front_to (suffix-next w f _ _ c.if-self-2.false h)
-          (front_more c.parts.invariant.setting c.parts.invariant.prints
+      prints = prefix_to (suffix-next w f _ _ c.if-self-2.false h)
+          (prefix_more c.parts.invariant.setting c.parts.invariant.prints
           c.append_part.ensures.prints);
     }

@@ -1,5 +1,5 @@
 use Rattle.cweb_out.proofs.Common.{all_tokens, slice_range}
-use Rattle.cweb_out.proofs.PrintedPrefixes.{front_none}
+use Rattle.cweb_out.proofs.PrintedPrefixes.{prefix_none}
 use Rattle.cweb_out.proofs.Suffixes.{suffix-passed}
 use Rattle.cweb_out.proofs.frame.Frame.append_part.Goals as goal
 
@@ -16,4 +16,4 @@ returns-then-self-clause-prints c =
     }
 
 pub returns-else-self-clause-prints : goal.returns-else-self-clause-prints
-returns-else-self-clause-prints c = front_none
+returns-else-self-clause-prints c = prefix_none

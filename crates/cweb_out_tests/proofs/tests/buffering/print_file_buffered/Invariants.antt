@@ -6,7 +6,7 @@ use Rattle.cweb_out_tests.proofs.tests.buffering.print_file_buffered.Given as go
 
 abbrev pub invariant-tokens : goal.invariant-tokens
 invariant-tokens g l = record {
-  stands : IsFrameStack l.expander.store.now l.expander.frames.items (vec_capacity l.expander.frames);
+  valid : IsFrameStack l.expander.store.now l.expander.frames.items (vec_capacity l.expander.frames);
   store : l.expander.store ≡ l.fn.expander.store;
   plan : l.expander.plan ≡ l.fn.expander.plan;
   files : (setting_of l.printer).files ≡ opened_file_names l.names;

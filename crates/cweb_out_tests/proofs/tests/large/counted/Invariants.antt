@@ -4,5 +4,5 @@ use Rattle.cweb_out_tests.proofs.tests.large.counted.Given as goal
 
 abbrev pub invariant-calls : goal.invariant-calls
 invariant-calls g l = record {
-  stands : IsFrameStack l.expander.store.now l.expander.frames.items (vec_capacity l.expander.frames);
+  valid : IsFrameStack l.expander.store.now l.expander.frames.items (vec_capacity l.expander.frames);
 }

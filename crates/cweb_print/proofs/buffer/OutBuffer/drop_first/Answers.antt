@@ -1,5 +1,5 @@
 use Rattle.cweb_print.proofs.Common.{◌≤◌, ◌-◌, ◌++◌, ◌∙◌, ap, drop, take, length, arith, List, ℕ, length-take-le}
-use Rattle.cweb_print.proofs.OverlappingEnds.{rest_in_front, whole_again}
+use Rattle.cweb_print.proofs.OverlappingEnds.{rest_in_prefix, whole_again}
 use Rattle.cweb_print.proofs.buffer.OutBuffer.drop_first.Goals as goal
 
 pub returns : goal.returns
@@ -14,4 +14,4 @@ returns c =
     (c.rotate_left.ensures.len ∙ c.deref_mut.ensures.len)
     ∙ c.rotate_left.ensures.after
     ∙ ap (λ (t : List ℕ). drop count t ++ take count t) c.deref_mut.ensures.value)
-    ∙ rest_in_front bytes s.used count below within ∙ ap (drop count) c.self.view_is
+    ∙ rest_in_prefix bytes s.used count below within ∙ ap (drop count) c.self.view_is

@@ -8,15 +8,15 @@ returns-clause-put g c =
     let used = c.args.used in
     let text = c.args.text.now in
     let before = take used bytes in
-    let behind : ℕ = length text - g.row.N in
+    let after : ℕ = length text - g.row.N in
     let mid = c.put_chunk.new.bytes in
     let size : length before ≡ used = length-take-le used bytes (omega (arith, c.requires.room)) in
-    let front : take (used + behind) mid ≡ take (used + behind) (before ++ take g.row.N text) = sym (taken_twice (used +
-    behind) c.put_chunk.result mid (omega (arith, c.put_chunk.ensures.end, c.requires.least, c.requires.most))
+    let prefix : take (used + after) mid ≡ take (used + after) (before ++ take g.row.N text) = sym (taken_twice (used +
+    after) c.put_chunk.result mid (omega (arith, c.put_chunk.ensures.end, c.requires.least, c.requires.most))
     (omega (arith, c.put_chunk.ensures.end, c.put_chunk.ensures.size, c.requires.room, c.requires.least)))
     ∙ ap
-    (take (used + behind)) (c.put_chunk.ensures.put ∙ ap (λ (t : List ℕ). before ++ t) c.in-Some.ensures.cases.same) in
+    (take (used + after)) (c.put_chunk.ensures.put ∙ ap (λ (t : List ℕ). before ++ t) c.in-Some.ensures.cases.same) in
     c.put_chunk-2.ensures.put
-    ∙ (λ i. front i ++ c.in-Some-last_chunk.ensures.cases.1.same i)
-    ∙ ap (λ k. take (k + behind) (before ++ take g.row.N text) ++ drop behind text) (sym size)
+    ∙ (λ i. prefix i ++ c.in-Some-last_chunk.ensures.cases.1.same i)
+    ∙ ap (λ k. take (k + after) (before ++ take g.row.N text) ++ drop after text) (sym size)
     ∙ overlapped before text g.row.N c.requires.least c.requires.most

@@ -1,5 +1,5 @@
 use Rattle.cweb_print.proofs.Common.{◌++◌, ◌∙◌, ap, append_assoc, arith, take, List, ℕ, rules, blank_where}
-use Rattle.cweb_print.proofs.OverlappingEnds.{front_stays}
+use Rattle.cweb_print.proofs.OverlappingEnds.{prefix_stays}
 use Rattle.cweb_print.proofs.buffer.copying.put_if_fits.Goals as goal
 
 pub returns-clause-kept : goal.returns-clause-kept
@@ -8,10 +8,10 @@ returns-clause-kept c =
     c.put_slice.ensures.put ∙ ap (λ (t : List ℕ). t ++ text) c.put_blank-begin.ensures.put
     ∙ append_assoc (take c.args.used c.args.bytes.now) (blank_where c.args.is_apart) text
 
-pub returns-clause-front : goal.returns-clause-front
-returns-clause-front c =
+pub returns-clause-prefix : goal.returns-clause-prefix
+returns-clause-prefix c =
     let text = c.args.text.now in
-    front_stays c.args.bytes.now c.put_slice.new.bytes (blank_where c.args.is_apart ++ text)
+    prefix_stays c.args.bytes.now c.put_slice.new.bytes (blank_where c.args.is_apart ++ text)
     c.args.used c.put_slice.result (omega (arith, c.put_slice.ensures.end, c.put_blank-begin.ensures.within.0))
     (omega (arith, c.requires.size, c.requires.within))
     (omega (

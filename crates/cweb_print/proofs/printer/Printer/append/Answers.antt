@@ -35,7 +35,7 @@ returns-then-append_rare-clause-prints g c = λ tells ts is.
     let has = g.W.Sink.written c.make_room.new.out in
     record {
       bytes = bytes;
-      due = print-push s left ts t is;
+      expected = print-push s left ts t is;
       written = ap (λ (u : List ℕ). has ++ u) (c.append_rare.ensures.added c.if-append_rare.true)
           ∙ sym (append_assoc has c.make_room.new.self bytes)
           ∙ ap (λ (u : List ℕ). u ++ bytes) (moved_same _ _ _ _ (c.in_ok-make_room.ensures.moved tells));

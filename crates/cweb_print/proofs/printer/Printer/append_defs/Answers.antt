@@ -34,7 +34,7 @@ returns-clause-prints g c = λ tells ts is.
     let old = has ++ c.args.buffer.now in
     record {
       bytes = added (file_by s) left Defs;
-      due = print-push s left ts Defs is;
+      expected = print-push s left ts Defs is;
       written = c.in_ok-append_macros.ensures.wrote tells
           ∙ ap (λ (u : List ℕ). u ++ macro_lines s)
           (ap (λ (u : List ℕ). has ++ u) c.add.ensures ∙ sym (append_assoc has c.args.buffer.now begin))

@@ -1,6 +1,6 @@
 use Rattle.cweb_print.proofs.Common.{rules, ◌≡◌, ◌++◌, ◌∷◌, [], ◌∙◌, ap, append-nil, sym, subst, refl, List, ℕ, IsTrue, token_model, print, added, file_by, Printer, PrintsToken, left_in_printer, setting_of}
 use Rattle.cweb_print.proofs.FlushedBytes.{moved_same}
-use Rattle.cweb_print.proofs.BufferedAdds.{adds_at, adds_behind, adds_none, adds_ok}
+use Rattle.cweb_print.proofs.BufferedAdds.{adds_at, adds_after, adds_none, adds_ok}
 use Rattle.cweb_print.proofs.Steps.{print-push}
 use Rattle.cweb_print.proofs.printer.Printer.append_other.Goals as goal
 
@@ -9,7 +9,7 @@ returns-then-is_ok-clause-prints g c = λ tells ts is.
     let s = setting_of c.args.self.now in
     let t = token_model c.args.token.now in
     let has = g.W.Sink.written c.args.out.now in
-    adds_behind (print s ts) (print s (ts ++ t ∷ [])) c.new-text.result.bytes.items c.print.new.out.bytes.items
+    adds_after (print s ts) (print s (ts ++ t ∷ [])) c.new-text.result.bytes.items c.print.new.out.bytes.items
     (has ++ c.args.buffer.now) has c.args.buffer.now c.add.new.self
     (adds_ok (print s ts) (print s (ts ++ t ∷ [])) c.new-text.result.bytes.items c.print.new.out.bytes.items
     c.print.result (search rules) (c.print.ensures.prints refl ts is)) c.new-text.ensures.empty refl

@@ -1,6 +1,6 @@
 use Rattle.cweb_print.proofs.Common.{◌≡◌, ◌++◌, ◌∙◌, [], ap, append-nil, sym, subst, List, ℕ, IsTrue, print, file, left_in_printer, setting_of}
 use Rattle.cweb_print.proofs.WrittenPrefixes.{wrote_err}
-use Rattle.cweb_print.proofs.FlushedBytes.{behind, moved_same}
+use Rattle.cweb_print.proofs.FlushedBytes.{then_moved, moved_same}
 use Rattle.cweb_print.proofs.BufferedAdds.{adds_none}
 use Rattle.cweb_print.proofs.Prints.{adds_by}
 use Rattle.cweb_print.proofs.Steps.{file-end}
@@ -17,17 +17,17 @@ pub returns-in_err-flush-clause-ends : goal.returns-in_err-flush-clause-ends
 returns-in_err-flush-clause-ends g c = λ tells ts is.
     let s = setting_of c.args.self.now in
     let end = c.begin_line.result.now in
-    let due : file s ts ≡ print s ts ++ end =
+    let expected : file s ts ≡ print s ts ++ end =
     file-end s (left_in_printer c.args.self.now) ts is
     ∙ ap (λ (t : List ℕ). print s ts ++ t) (sym c.begin_line.ensures) in
     let old = g.W.Sink.written c.args.out.now ++ c.args.buffer.now in
     let new = g.W.Sink.written c.flush.new.out ++ c.flush.new.self in
-    adds_by (print s ts) (file s ts) old new end c.from_residual-in_err-flush.result due
+    adds_by (print s ts) (file s ts) old new end c.from_residual-in_err-flush.result expected
     (wrote_err old new end c.from_residual-in_err-flush.result c.from_residual-in_err-flush.ensures.0
     (record {
-      front = end;
+      prefix = end;
       rest = [];
-      written = behind old (g.W.Sink.written c.make_room.new.out) c.make_room.new.self c.add.new.self
+      written = then_moved old (g.W.Sink.written c.make_room.new.out) c.make_room.new.self c.add.new.self
           (g.W.Sink.written c.flush.new.out) c.flush.new.self end
           (moved_same _ _ _ _ (c.in_ok-make_room.ensures.moved tells)) c.add.ensures (moved_same _ _ _ _
           (c.in_err-flush.ensures.moved (subst IsTrue (sym c.in_ok-make_room.ensures.tells) tells)));
@@ -40,10 +40,10 @@ returns-clause-ends g c = λ tells ts is.
     let end = c.begin_line.result.now in
     record {
       bytes = end;
-      due =
+      expected =
           file-end s (left_in_printer c.args.self.now) ts is
           ∙ ap (λ (t : List ℕ). print s ts ++ t) (sym c.begin_line.ensures);
-      written = behind (g.W.Sink.written c.args.out.now ++ c.args.buffer.now) (g.W.Sink.written c.make_room.new.out)
+      written = then_moved (g.W.Sink.written c.args.out.now ++ c.args.buffer.now) (g.W.Sink.written c.make_room.new.out)
           c.make_room.new.self c.add.new.self (g.W.Sink.written c.flush.new.out) c.flush.new.self end
           (moved_same _ _ _ _ (c.in_ok-make_room.ensures.moved tells)) c.add.ensures (moved_same _ _ _ _
           (c.in_ok-flush.ensures.moved (subst IsTrue (sym c.in_ok-make_room.ensures.tells) tells)));

@@ -9,12 +9,12 @@ returns-in_err-write-clause-prints g c = λ tells ts is.
     let s = setting_of c.args.self.now in
     let t = token_model c.args.token.now in
     let direct = c.in-Some.direct in
-    let due = print-direct s (left_in_printer c.args.self.now) ts t direct.is_apart direct.text.now is
+    let expected = print-direct s (left_in_printer c.args.self.now) ts t direct.is_apart direct.text.now is
     c.in-Some.ensures.apart c.in-Some.ensures.text in
     let old = g.W.Sink.written c.args.out.now in
     let new = g.W.Sink.written c.write.new.out in
     let bytes = blank_where direct.is_apart ++ direct.text.now in
-    adds_by (print s ts) (print s (ts ++ t ∷ [])) old new bytes c.from_residual.result due
+    adds_by (print s ts) (print s (ts ++ t ∷ [])) old new bytes c.from_residual.result expected
     (wrote_err old new bytes c.from_residual.result c.from_residual.ensures.0 (c.in_err-write.ensures.wrote tells))
 
 pub returns-clause-prints : goal.returns-clause-prints
@@ -24,7 +24,7 @@ returns-clause-prints g c = λ tells ts is.
     let direct = c.in-Some.direct in
     record {
       bytes = blank_where direct.is_apart ++ direct.text.now;
-      due = print-direct s (left_in_printer c.args.self.now) ts t direct.is_apart direct.text.now is
+      expected = print-direct s (left_in_printer c.args.self.now) ts t direct.is_apart direct.text.now is
           c.in-Some.ensures.apart c.in-Some.ensures.text;
       written = c.in_ok-write.ensures.wrote tells;
     }

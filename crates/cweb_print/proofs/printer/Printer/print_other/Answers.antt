@@ -21,6 +21,6 @@ returns-clause-prints g c = λ tells ts is.
     let t = token_model c.args.token.now in
     record {
       bytes = added (file_by s) left t;
-      due = print-push s left ts t is;
+      expected = print-push s left ts t is;
       written = c.in_ok-write_token.ensures.wrote tells;
     }

@@ -24,7 +24,7 @@ returns-in-None-clause-none c = λ no.
     ap (take s.used)
     (whole_again s.bytes.items.items new s.bytes.items.len
     (omega (arith, c.put_macro.ensures.room, c.buffer.invariant.0, s.bytes.items.ok.0)))
-    ∙ c.put_macro.ensures.front ∙ ap (take s.used) c.as_mut_slice.ensures.value ∙ c.buffer.view_is
+    ∙ c.put_macro.ensures.prefix ∙ ap (take s.used) c.as_mut_slice.ensures.value ∙ c.buffer.view_is
 
 pub invariant_of-buffer : goal.invariant_of-buffer
 invariant_of-buffer c = grind (arith, common_steps)

@@ -19,7 +19,7 @@ returns-in_err-flush-clause-wrote g c = λ tells.
     wrote_err old (g.W.Sink.written c.flush.new.out ++ c.flush.new.self) line c.from_residual.result
     c.from_residual.ensures.0
     (record {
-      front = [];
+      prefix = [];
       rest = line;
       written = moved_same _ _ _ _ (c.in_err-flush.ensures.moved tells)
           ∙ ap (λ (u : List ℕ). has ++ u) (c.add_macro.ensures.none c.if-add_macro.false) ∙ sym (append-nil old);

@@ -1,5 +1,5 @@
 use Rattle.cweb_print.proofs.Common.{rules, ◌≡◌, ◌≤◌, ◌∷◌, ◌++◌, ◌∙◌, ap, sym, subst, refl, length, List, ℕ, IsTrue, Part, all_tokens, macro_line, replaced_in, tokens_of_part}
-use Rattle.cweb_print.proofs.WrittenPrefixes.{Written, written_none, written_more, written_front, wrote_err}
+use Rattle.cweb_print.proofs.WrittenPrefixes.{Written, written_none, written_more, written_prefix, wrote_err}
 use Rattle.cweb_print.proofs.MacroLines.{All-tail, all_lines, lines, lines_are}
 use Rattle.cweb_print.proofs.printer.defines.append_macros.Goals as goal
 
@@ -46,7 +46,7 @@ returns-in_err-append_macro-clause-wrote g c = λ tells.
     let old = g.W.Sink.written c.args.out.now ++ c.args.buffer.now in
     let had = g.W.Sink.written c.macros.out ++ c.macros.buffer in
     let has = g.W.Sink.written c.append_macro.new.out ++ c.append_macro.new.buffer in
-    wrote_err old has (all_lines w) c.from_residual.result c.from_residual.ensures.0 (written_front old had has
+    wrote_err old has (all_lines w) c.from_residual.result c.from_residual.ensures.0 (written_prefix old had has
     (all_lines w) (macro_line (replaced_in w) (tokens_of_part w c.in-Some.part)) (lines w c.next.new.self)
     (subst (λ (ps : List Part). Written old had (all_lines w) (lines w ps)) is (c.macros.invariant.written tells))
     (c.in_err-append_macro.ensures.wrote (subst IsTrue (sym c.macros.invariant.tells) tells)))

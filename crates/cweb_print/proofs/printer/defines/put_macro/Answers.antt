@@ -1,27 +1,27 @@
 use Rattle.cweb_print.proofs.Common.{◌≡◌, ◌≤◌, ◌++◌, ◌∙◌, ap, arith, codes, sym, take, List, ℕ, all_added, at_start, macro_by, tokens_of_part, replaced_in, macro_line}
 use Rattle.cweb_print.proofs.Continued.{if_some, three_put}
-use Rattle.cweb_print.proofs.OverlappingEnds.{front_within}
+use Rattle.cweb_print.proofs.OverlappingEnds.{prefix_within}
 use Rattle.cweb_print.proofs.Steps.{macro-printed}
 use Rattle.cweb_print.proofs.printer.defines.put_macro.Goals as goal
 
-pub returns-in_err-end-clause-front : goal.returns-in_err-end-clause-front
-returns-in_err-end-clause-front c =
-    front_within c.put_if_fits.new.bytes c.put_macro_tokens.new.bytes c.args.used c.in_ok-begun.begun
+pub returns-in_err-end-clause-prefix : goal.returns-in_err-end-clause-prefix
+returns-in_err-end-clause-prefix c =
+    prefix_within c.put_if_fits.new.bytes c.put_macro_tokens.new.bytes c.args.used c.in_ok-begun.begun
     c.in_ok-begun.ensures.within.0 (omega (arith, c.put_if_fits.ensures.size, c.in_ok-begun.ensures.within.1))
-    (omega (arith, c.put_macro_tokens.ensures.room, c.in_ok-begun.ensures.within.1)) c.put_macro_tokens.ensures.front
-    ∙ c.put_if_fits.ensures.front
+    (omega (arith, c.put_macro_tokens.ensures.room, c.in_ok-begun.ensures.within.1)) c.put_macro_tokens.ensures.prefix
+    ∙ c.put_if_fits.ensures.prefix
 
-pub returns-clause-front : goal.returns-clause-front
-returns-clause-front c =
+pub returns-clause-prefix : goal.returns-clause-prefix
+returns-clause-prefix c =
     let end = c.in_ok-end.end in
     let below : c.args.used ≤ end = omega (arith, c.in_ok-begun.ensures.within.0, c.in_ok-end.ensures.within.0) in
-    front_within c.put_macro_tokens.new.bytes c.put_if_fits-2.new.bytes c.args.used end below
+    prefix_within c.put_macro_tokens.new.bytes c.put_if_fits-2.new.bytes c.args.used end below
     (omega (arith, c.put_macro_tokens.ensures.room, c.in_ok-end.ensures.within.1))
-    (omega (arith, c.put_if_fits-2.ensures.size, c.in_ok-end.ensures.within.1)) c.put_if_fits-2.ensures.front
-    ∙ front_within c.put_if_fits.new.bytes c.put_macro_tokens.new.bytes c.args.used c.in_ok-begun.begun
+    (omega (arith, c.put_if_fits-2.ensures.size, c.in_ok-end.ensures.within.1)) c.put_if_fits-2.ensures.prefix
+    ∙ prefix_within c.put_if_fits.new.bytes c.put_macro_tokens.new.bytes c.args.used c.in_ok-begun.begun
     c.in_ok-begun.ensures.within.0 (omega (arith, c.put_if_fits.ensures.size, c.in_ok-begun.ensures.within.1))
-    (omega (arith, c.put_macro_tokens.ensures.room, c.in_ok-begun.ensures.within.1)) c.put_macro_tokens.ensures.front
-    ∙ c.put_if_fits.ensures.front
+    (omega (arith, c.put_macro_tokens.ensures.room, c.in_ok-begun.ensures.within.1)) c.put_macro_tokens.ensures.prefix
+    ∙ c.put_if_fits.ensures.prefix
 
 pub returns-clause-put : goal.returns-clause-put
 returns-clause-put c =

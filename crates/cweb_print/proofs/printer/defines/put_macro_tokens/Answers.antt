@@ -2,7 +2,7 @@ use Rattle.cweb_print.proofs.Common.{◌++◌, ◌∙◌, List, ℕ, Some, ap, a
 use Rattle.cweb_print.proofs.Continued.{added-continued, left-continued}
 use Rattle.cweb_print.proofs.TokenReaderSteps.{direct-at}
 use Rattle.cweb_print.proofs.MacroLines.{left_more, tokens_more}
-use Rattle.cweb_print.proofs.OverlappingEnds.{front_within}
+use Rattle.cweb_print.proofs.OverlappingEnds.{prefix_within}
 use Rattle.cweb_store.proofs.RangeLemmas.{range-none}
 use Rattle.cweb_print.proofs.printer.defines.put_macro_tokens.Goals as goal
 
@@ -19,7 +19,7 @@ tokens-init c =
       size = c.requires.room.0;
       least = omega arith;
       most = c.requires.room.1;
-      front = refl;
+      prefix = refl;
       left = ap left_after_tokens (sym none);
       put = sym (append-nil old) ∙ ap (λ (us : List Token). old ++ all_added by at_start us) (sym none);
     }
@@ -56,10 +56,11 @@ tokens-preserved c =
       size = c.put_if_fits.ensures.size;
       least = omega (arith, c.in_ok-end.ensures.within.0, c.tokens.invariant.least);
       most = c.in_ok-end.ensures.within.1;
-      front = front_within c.tokens.bytes c.put_if_fits.new.bytes c.args.used c.tokens.reached c.tokens.invariant.least
+      prefix = prefix_within c.tokens.bytes c.put_if_fits.new.bytes c.args.used c.tokens.reached
+          c.tokens.invariant.least
           (omega (arith, c.tokens.invariant.size, c.tokens.invariant.most))
-          (omega (arith, c.put_if_fits.ensures.size, c.tokens.invariant.most)) c.put_if_fits.ensures.front
-          ∙ c.tokens.invariant.front;
+          (omega (arith, c.put_if_fits.ensures.size, c.tokens.invariant.most)) c.put_if_fits.ensures.prefix
+          ∙ c.tokens.invariant.prefix;
       left = left_more ts first n at.token (left_after_edge last)
           (left_after_edge direct.edge) c.tokens.invariant.from at.there
           c.tokens.invariant.left (sym (left-continued last at.token l at.direct));

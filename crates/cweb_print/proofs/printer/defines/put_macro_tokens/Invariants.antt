@@ -8,7 +8,7 @@ invariant-tokens l = record {
   size : length l.bytes ≡ ROOM;
   least : l.fn.used ≤ l.reached;
   most : l.reached ≤ ROOM;
-  front : take l.fn.used l.bytes ≡ take l.fn.used l.fn.bytes;
+  prefix : take l.fn.used l.bytes ≡ take l.fn.used l.fn.bytes;
   left : left_after_edge l.last ≡ left_after_tokens (slice_range (all_tokens l.store.parts) l.fn.part.first l.number);
   put : take l.reached l.bytes ≡ take l.fn.used l.fn.bytes ++ all_added (macro_by (replaced_in l.store)) at_start
       (slice_range (all_tokens l.store.parts) l.fn.part.first l.number);

@@ -1,5 +1,5 @@
 use Rattle.cweb_print.proofs.Common.{◌≡◌, ◌++◌, [], ◌∙◌, ap, sym, subst, List, ℕ, codes, decimal, append_assoc, IsTrue, mark_line, quoted}
-use Rattle.cweb_print.proofs.WrittenPrefixes.{Written, written_none, written_more, written_front, written_last, wrote_err}
+use Rattle.cweb_print.proofs.WrittenPrefixes.{Written, written_none, written_more, written_prefix, written_last, wrote_err}
 use Rattle.cweb_print.proofs.printer.mark.write_quoted_mark.Goals as goal
 
 -- The mark as its three chunks.
@@ -16,7 +16,7 @@ returns-in_err-write_chunks-clause-wrote g c = λ tells.
     let is = in_three c.args.begin.now c.args.name.now c.as_bytes.result.now c.args.line
     (c.as_bytes.ensures.value ∙ c.format.ensures.text) in
     wrote_err old (g.W.Sink.written c.write_chunks.new.out) whole c.from_residual.result c.from_residual.ensures.0
-    (written_front old old (g.W.Sink.written c.write_chunks.new.out) whole _ (quoted c.args.name.now ++ codes "\"\n")
+    (written_prefix old old (g.W.Sink.written c.write_chunks.new.out) whole _ (quoted c.args.name.now ++ codes "\"\n")
     (subst (λ (t : List ℕ). Written old old whole t) is (written_none old whole))
     (c.in_err-write_chunks.ensures.wrote tells))
 
@@ -31,7 +31,8 @@ returns-in_err-write_quoted-clause-wrote g c = λ tells.
     Written old old whole t) is (written_none old whole)) (c.in_ok-write_chunks.ensures.wrote tells) in
     wrote_err old (g.W.Sink.written c.write_quoted.new.out)
     whole c.from_residual-in_err-write_quoted.result c.from_residual-in_err-write_quoted.ensures.0
-    (written_front old mid (g.W.Sink.written c.write_quoted.new.out) whole (quoted c.args.name.now) (codes "\"\n") first
+    (written_prefix old mid (g.W.Sink.written c.write_quoted.new.out) whole (quoted c.args.name.now)
+    (codes "\"\n") first
     (c.in_err-write_quoted.ensures.wrote (subst IsTrue (sym c.in_ok-write_chunks.ensures.tells) tells)))
 
 pub returns-clause-wrote : goal.returns-clause-wrote

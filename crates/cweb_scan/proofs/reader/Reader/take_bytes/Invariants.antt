@@ -1,9 +1,9 @@
 use Rattle.cweb_scan.proofs.Common.{remaining_work}
-use Rattle.cweb_scan.proofs.LineSteps.{TakesFront}
+use Rattle.cweb_scan.proofs.LineSteps.{TakesFirst}
 use Rattle.cweb_scan.proofs.reader.Reader.take_bytes.Given as goal
 
 abbrev pub invariant-turns : goal.invariant-turns
-invariant-turns l = TakesFront l.line l.rest l.fn.self l.self
+invariant-turns l = TakesFirst l.line l.rest l.fn.self l.self
 
 abbrev pub decreases-turns : goal.decreases-turns
 decreases-turns l = remaining_work l.rest l.self.item

@@ -5,9 +5,10 @@ use Rattle.cweb_scan.proofs.reader.Reader.take_line.Goals as goal
 pub returns-then-passes_by-clause-read : goal.returns-then-passes_by-clause-read
 returns-then-passes_by-clause-read c = λ lines.
     let passes = c.passes_by.ensures in
-    let told = c.if-passes_by.true in
+    let reported = c.if-passes_by.true in
     text_passed c.args.self.now c.go_to.new.self (record { bytes = c.args.line.now; place = c.args.place }) lines
-    (passes.begun told) (passes.between told) (passes.text told) (passes.plain told) c.requires.clean c.go_to.ensures
+    (passes.begun reported) (passes.between reported) (passes.text reported)
+    (passes.plain reported) c.requires.clean c.go_to.ensures
 
 pub returns-then-passes_by-clause-cost : goal.returns-then-passes_by-clause-cost
 returns-then-passes_by-clause-cost c = omega (arith, ap cost c.go_to.ensures)

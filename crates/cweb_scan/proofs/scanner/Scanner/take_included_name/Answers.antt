@@ -1,6 +1,6 @@
 use Rattle.cweb_scan.proofs.Common.{◌≡◌, true, ◌+◌, ◌++◌, take, drop, refl, sym, ap, ◌∙◌, subst, reach, unit_bytes, unescaped, Open, emit_literal, in_open_part, HasItemRoom, ScanState}
 use Rattle.cweb_rules.specs.Items.{look_in_include}
-use Rattle.cweb_scan.proofs.VerbatimAndIncludes.{include_gives, name_kept, told}
+use Rattle.cweb_scan.proofs.VerbatimAndIncludes.{include_yields, name_kept, reported}
 use Rattle.cweb_scan.proofs.scanner.Scanner.take_included_name.Goals as goal
 
 pub emit_literal-requires-clause-part : goal.emit_literal-requires-clause-part
@@ -9,7 +9,7 @@ emit_literal-requires-clause-part c =
     let sign = c.split_at.result.0.now in
     let line = c.split_at.result.1.now in
     let close = c.split_at-3.result.0.now in
-    let same = told s _ _ _ sign line close sign
+    let same = reported s _ _ _ sign line close sign
     line close c.in_ok-check_unit.ensures.ok c.in_ok-check_units.ensures c.in_ok-check_unit-2.ensures.ok refl refl refl
     in
     subst (λ (v : ScanState). in_open_part v.context ≡ true)
@@ -21,7 +21,7 @@ emit_literal-requires-clause-room c =
     let sign = c.split_at.result.0.now in
     let line = c.split_at.result.1.now in
     let close = c.split_at-3.result.0.now in
-    let same = told s _ _ _ sign line close sign
+    let same = reported s _ _ _ sign line close sign
     line close c.in_ok-check_unit.ensures.ok c.in_ok-check_units.ensures c.in_ok-check_unit-2.ensures.ok refl refl refl
     in
     subst (HasItemRoom 1) (sym same)
@@ -36,7 +36,7 @@ returns c =
     let z = take r.close (drop (1 + r.size) t) in
     let units = (reach look_in_include Open u).units in
     let closes = c.split_at-3.ensures.front ∙ ap (take r.close) c.split_at-2.ensures.back in
-    let same = told s _ _ _ _ _ _ (take 1 t) u z c.in_ok-check_unit.ensures.ok
+    let same = reported s _ _ _ _ _ _ (take 1 t) u z c.in_ok-check_unit.ensures.ok
     c.in_ok-check_units.ensures c.in_ok-check_unit-2.ensures.ok c.split_at.ensures.front c.split_at.ensures.back closes
     in
     let text = c.deref.ensures.value
@@ -46,6 +46,6 @@ returns c =
     ++ unit_bytes z)
     ∙ (λ i.
     ((c.new-text.ensures.items i ++ unit_bytes (c.split_at.ensures.front i)) ++ unescaped units) ++ unit_bytes z) in
-    include_gives t c.deref.result.now r s c.emit_literal.new.self c.requires.line
+    include_yields t c.deref.result.now r s c.emit_literal.new.self c.requires.line
     (rw c.split_at.ensures.back at c.reach-reached.ensures.value) text (c.in_ok-emit_literal.ensures ∙ (λ i.
     emit_literal c.deref.result.now (c.ended.ensures i) (c.here-begun.ensures i) (same i)))

@@ -1,6 +1,6 @@
 use Rattle.cweb_rules.specs.declared.rule.Rule.TheVariants as rule
 use Rattle.cweb_scan.proofs.Common.{◌≡◌, ◌+◌, List, ℕ, false, length, drop, arith, refl, sym, ap, ◌∙◌, subst, length-drop, Literal, reach, literal_prefix, quote_of, look_in_literal, IsLine, reached, Closed, Open, Reached, emit, IsLine-drop, IsPlainC, is_quoted-size}
-use Rattle.cweb_scan.proofs.FurtherLiterals.{HasNone, literal_reach, literal_turn, none_stands}
+use Rattle.cweb_scan.proofs.FurtherLiterals.{HasNone, literal_reach, literal_turn, none_valid}
 use Rattle.cweb_scan.proofs.Plains.{stays_plain}
 use Rattle.cweb_scan.proofs.FirstMatchTaken.{seen}
 use Rattle.cweb_scan.proofs.scanner.Scanner.take_whole_literal.Goals as goal
@@ -33,12 +33,12 @@ returns-in_ok-emit_plain-in-Some-clause-taken c =
     let seen : r ≡ reached (literal_reach u Open) = sym c.in-Some.ensures.ends
     ∙ (λ i. reached (reach (look_in_literal (quote i)) Open (c.split_at-2.ensures.back i)))
     ∙ ap (λ k. reached (reach (look_in_literal (quote_of (drop k u))) Open (drop (k + 1) u))) p in
-    let front = c.split_at-in-Some.ensures.front in
-    let clean = subst HasNone front (none_stands c.split_at-in-Some.result.0.now
-    (omega (arith, c.skipped_len.ensures.value, c.if-skipped_len-size.false, ap (λ (x : List ℕ). length x) front))) in
+    let prefix = c.split_at-in-Some.ensures.front in
+    let clean = subst HasNone prefix (none_valid c.split_at-in-Some.result.0.now
+    (omega (arith, c.skipped_len.ensures.value, c.if-skipped_len-size.false, ap (λ (x : List ℕ). length x) prefix))) in
     literal_turn n u s c.emit_plain.new.self
     r c.requires.line c.requires.some c.requires.in_c c.requires.first seen refl (ap (λ k. k + 1 + (inner + 1)) p) clean
-    (c.in_ok-emit_plain-in-Some.ensures.ok ∙ ap (λ (x : List ℕ). emit (Literal x) s) front)
+    (c.in_ok-emit_plain-in-Some.ensures.ok ∙ ap (λ (x : List ℕ). emit (Literal x) s) prefix)
 
 pub returns-in_ok-emit_plain-in-Some-clause-stays : goal.returns-in_ok-emit_plain-in-Some-clause-stays
 returns-in_ok-emit_plain-in-Some-clause-stays c =

@@ -7,7 +7,7 @@ use Rattle.cweb_store.proofs.store.Store.name_text.Goals as goal
 pub string-requires : goal.string-requires
 string-requires c =
     let ts = c.self.inside.strings in
-    let gs = c.self.inside.given.items in
+    let gs = c.self.inside.forms.items in
     let os = occurrences_at ts gs in
     let names : length (spec.names os) ≡ length (spec.names c.args.self.now.occurrences) =
     ap (λ v. length (spec.names v.occurrences)) c.self.view_is in
@@ -19,7 +19,7 @@ string-requires c =
 pub returns : goal.returns
 returns c =
     let ts = c.self.inside.strings in
-    let gs = c.self.inside.given.items in
+    let gs = c.self.inside.forms.items in
     let os = occurrences_at ts gs in
     let names : length (spec.names os) ≡ length (spec.names c.args.self.now.occurrences) =
     ap (λ v. length (spec.names v.occurrences)) c.self.view_is in

@@ -24,7 +24,7 @@ invariant_of-store c =
     (ap (ranges_from 0) (sym apart.ensures.parts) ∙ sym (stored-ranges ts ranges apart.ensures.whole)) found.linked in
     let last = subst (AreLast c.in_ok-last_places.last_places.items) (c.as_slice.ensures.value ∙ replaced.bytes)
     c.in_ok-last_places.ensures in
-    rw (strings, closed.given, replaced.bytes)
+    rw (strings, closed.forms, replaced.bytes)
     (stored-are ts ranges all.links os rs _ _ _ _ _ _ apart.ensures.whole linked last found.firsts found.few found.small
     answers)
 
@@ -39,5 +39,5 @@ returns c =
     let replaced = c.in_ok-replaced.ensures in
     let strings : c.close.new.strings ≡ strings_of os rs = replaced.strings
     ∙ ap (λ (us : List (List ℕ)). us ++ map replacement_bytes rs) closed.strings in
-    rw (strings, closed.given, replaced.bytes) (stored-is ts ranges os rs
+    rw (strings, closed.forms, replaced.bytes) (stored-is ts ranges os rs
     ∙ ap (λ ps. stored os ps rs) apart.ensures.parts)

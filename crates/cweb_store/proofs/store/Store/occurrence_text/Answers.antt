@@ -6,7 +6,7 @@ use Rattle.cweb_store.proofs.store.Store.occurrence_text.Goals as goal
 pub string-requires : goal.string-requires
 string-requires c =
     let ts = c.self.inside.strings in
-    let gs = c.self.inside.given.items in
+    let gs = c.self.inside.forms.items in
     let os = occurrences_at ts gs in
     let count : length os ≡ length c.args.self.now.occurrences = ap (λ v. length v.occurrences) c.self.view_is in
     let few : length gs ≤ length ts = omega (arith, c.self.invariant.strings) in
@@ -15,7 +15,7 @@ string-requires c =
 pub returns : goal.returns
 returns c =
     let ts = c.self.inside.strings in
-    let gs = c.self.inside.given.items in
+    let gs = c.self.inside.forms.items in
     let os = occurrences_at ts gs in
     let count : length os ≡ length c.args.self.now.occurrences = ap (λ v. length v.occurrences) c.self.view_is in
     ap (λ v. option_map (λ (o : Occurrence). o.text) (slice_get v.occurrences c.args.name.0)) (sym c.self.view_is)

@@ -20,7 +20,7 @@ string_after-requires c =
       arith,
       last-within c.args.byte s.replaced.items c.in-Some.number last,
       c.len.ensures,
-      s.given.ok.0,
+      s.forms.ok.0,
       c.self.invariant.strings,
     )
 
@@ -30,14 +30,14 @@ returns-in_default c =
     let here = c.self.invariant.last c.args.byte (omega (arith, c.ranges.byte.fits)) in
     let byte = c.args.byte in
     let others = s.strings in
-    let behind = drop (length s.given.items) others in
-    let size : length behind ≡ length s.replaced.items =
-    omega (arith, length-drop (length s.given.items) others, c.self.invariant.strings) in
+    let after = drop (length s.forms.items) others in
+    let size : length after ≡ length s.replaced.items =
+    omega (arith, length-drop (length s.forms.items) others, c.self.invariant.strings) in
     let all =
-    ap (λ v. replacement v.replacements byte) (sym c.self.view_is) ∙ last-is behind s.replaced.items byte size in
+    ap (λ v. replacement v.replacements byte) (sym c.self.view_is) ∙ last-is after s.replaced.items byte size in
     let none : last_from byte None 0 s.replaced.items ≡ None =
     sym (get_or_from_slice_get s.last_places.items _ _ _ here) ∙ sym c.index.ensures ∙ c.in_default.is in
-    sym (all ∙ ap (at_last behind) none)
+    sym (all ∙ ap (at_last after) none)
 
 pub returns : goal.returns
 returns c =
@@ -45,14 +45,14 @@ returns c =
     let here = c.self.invariant.last c.args.byte (omega (arith, c.ranges.byte.fits)) in
     let byte = c.args.byte in
     let others = s.strings in
-    let behind = drop (length s.given.items) others in
-    let size : length behind ≡ length s.replaced.items =
-    omega (arith, length-drop (length s.given.items) others, c.self.invariant.strings) in
+    let after = drop (length s.forms.items) others in
+    let size : length after ≡ length s.replaced.items =
+    omega (arith, length-drop (length s.forms.items) others, c.self.invariant.strings) in
     let all =
-    ap (λ v. replacement v.replacements byte) (sym c.self.view_is) ∙ last-is behind s.replaced.items byte size in
+    ap (λ v. replacement v.replacements byte) (sym c.self.view_is) ∙ last-is after s.replaced.items byte size in
     let k = c.in-Some.number in
     let last : last_from byte None 0 s.replaced.items ≡ Some k =
     sym (get_or_from_slice_get s.last_places.items _ _ _ here) ∙ sym c.index.ensures ∙ c.in-Some.is in
-    let place : length s.given.items + k ≡ c.len.result + k = omega (arith, c.len.ensures, s.given.ok.0) in
-    sym (all ∙ ap (at_last behind) last ∙ get-drop others (length s.given.items) k
+    let place : length s.forms.items + k ≡ c.len.result + k = omega (arith, c.len.ensures, s.forms.ok.0) in
+    sym (all ∙ ap (at_last after) last ∙ get-drop others (length s.forms.items) k
     ∙ ap (slice_get others) place ∙ c.string_after.ensures)

@@ -6,14 +6,14 @@ pub returns-clause-strings : goal.returns-clause-strings
 returns-clause-strings c =
     let s = c.self.inside in
     subst (λ (v : Stored). AreInOneList (c.text_bytes.result + c.text_bytes-2.result) (stored_strings v)) c.self.view_is
-    (store-strings c.text_bytes.result c.text_bytes-2.result s.tokens s.ranges.items s.strings s.given.items
+    (store-strings c.text_bytes.result c.text_bytes-2.result s.tokens s.ranges.items s.strings s.forms.items
     s.replaced.items c.self.invariant.whole c.text_bytes.ensures.strings c.text_bytes-2.ensures.bytes)
 
 once : (c : goal.After-text_bytes-2)
     → c.text_bytes.result + c.text_bytes-2.result ≡ interned_store_bytes c.args.self.now
 once c =
     let s = c.self.inside in
-    let bytes = store-bytes s.tokens s.ranges.items s.strings s.given.items s.replaced.items c.self.invariant.whole
+    let bytes = store-bytes s.tokens s.ranges.items s.strings s.forms.items s.replaced.items c.self.invariant.whole
     c.self.invariant.strings in
     let both = bytes ∙ ap interned_store_bytes c.self.view_is in
     omega (arith, c.text_bytes.ensures.once, c.text_bytes-2.ensures.bytes, both)

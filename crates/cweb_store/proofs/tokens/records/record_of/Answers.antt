@@ -6,7 +6,7 @@ use Rattle.cweb_texts.specs.surface.StringTables.{with_word}
 use Rattle.cweb_store.specs.surface.TokenStrings.{other_bytes, with_word_of}
 use Rattle.std.proofs.lemmas.Option.{slice_get_within}
 use Rattle.cweb_store.specs.Parts as spec
-use Rattle.cweb_store.specs.declared.tokens.interned.InternedToken.TheVariants as packed
+use Rattle.cweb_store.specs.declared.tokens.interned.InternedToken.TheVariants as interned_token
 use Rattle.cweb_store.proofs.tokens.records.record_of.Goals as goal
 
 -- A stored string, and the record with its index.
@@ -15,11 +15,11 @@ kept-packs : {old new : StringTableModel} {string : List ℕ} {number : ℕ} (to
     → (string_at new.strings number ≡ string → token_of_interned new.strings item ≡ token)
     → with_word_of old.words token ≡ old.words
     → other_bytes token ≡ length string → length (filter has_string (token ∷ [])) ≡ 1 → InternsToken old token item new
-kept-packs {new} {string} {number} token item keeps within stands no_word bytes one = record {
+kept-packs {new} {string} {number} token item keeps within stored no_word bytes one = record {
   more = keeps.more;
   grows = keeps.grows;
-  within = within (slice_get_within new.strings number string keeps.stands);
-  stands = stands (get-string new.strings number string keeps.stands);
+  within = within (slice_get_within new.strings number string keeps.stored);
+  stored = stored (get-string new.strings number string keeps.stored);
   words = rw no_word keeps.words;
   bytes = rw no_word (omega (arith, keeps.bytes, bytes));
   few = omega (arith, keeps.few, one);
@@ -31,11 +31,11 @@ word-packs : {old new : StringTableModel} {word : List ℕ} {number : ℕ} (toke
     → (string_at new.strings number ≡ word → token_of_interned new.strings item ≡ token)
     → with_word_of old.words token ≡ with_word old.words word
     → other_bytes token ≡ 0 → length (filter has_string (token ∷ [])) ≡ 1 → InternsToken old token item new
-word-packs {new} {word} {number} token item keeps within stands is_word none one = record {
+word-packs {new} {word} {number} token item keeps within stored is_word none one = record {
   more = keeps.more;
   grows = keeps.grows;
-  within = within (slice_get_within new.strings number word keeps.stands);
-  stands = stands (get-string new.strings number word keeps.stands);
+  within = within (slice_get_within new.strings number word keeps.stored);
+  stored = stored (get-string new.strings number word keeps.stored);
   words = rw is_word keeps.words;
   bytes = rw is_word (omega (arith, keeps.bytes, none));
   few = omega (arith, keeps.few, one);
@@ -43,13 +43,13 @@ word-packs {new} {word} {number} token item keeps within stands is_word none one
 
 pub returns-in_ok-intern_word-in-Word-clause-packs : goal.returns-in_ok-intern_word-in-Word-clause-packs
 returns-in_ok-intern_word-in-Word-clause-packs c =
-    rw c.in-Word.is (word-packs (spec.Word c.in-Word.string.now) (packed.Word
+    rw c.in-Word.is (word-packs (spec.Word c.in-Word.string.now) (interned_token.Word
     c.in_ok-intern_word-in-Word.field-0) c.in_ok-intern_word-in-Word.ensures.ok (λ w. w) (ap spec.Word) refl refl refl)
 
 pub returns-in_ok-intern_punctuator-in-Punct-clause-packs : goal.returns-in_ok-intern_punctuator-in-Punct-clause-packs
 returns-in_ok-intern_punctuator-in-Punct-clause-packs c =
     rw c.in-Punct.is (word-packs (spec.Punct c.in-Punct.string.now)
-    (packed.Punct c.in_ok-intern_punctuator-in-Punct.field-0)
+    (interned_token.Punct c.in_ok-intern_punctuator-in-Punct.field-0)
     c.in_ok-intern_punctuator-in-Punct.ensures.ok (λ w. w) (ap spec.Punct) refl refl refl)
 
 pub returns-in_ok-add_string-in-Number-clause-packs : goal.returns-in_ok-add_string-in-Number-clause-packs

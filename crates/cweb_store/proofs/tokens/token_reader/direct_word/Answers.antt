@@ -1,5 +1,5 @@
 use Rattle.cweb_store.proofs.Common.{rules, ◌≡◌, ◌∙◌, sym, refl, true, is_known_edge, get-string}
-use Rattle.cweb_store.proofs.DirectBytesLemmas.{word-lends}
+use Rattle.cweb_store.proofs.DirectBytesLemmas.{word-borrows}
 use Rattle.cweb_store.proofs.tokens.token_reader.direct_word.Goals as goal
 use Rattle.cweb_store.proofs.tokens.token_reader.direct_word.Goals.{in_default-via-in-Unknown+else-has_high_byte, in_default-via-in_default}
 
@@ -10,6 +10,6 @@ returns-in_default c =
       | in_default-via-in-Unknown+else-has_high_byte w ↦
           rw (sym w.has_high_byte.ensures ∙ w.if-has_high_byte.false) refl
       | in_default-via-in_default w ↦
-          let told : is_known_edge c.edge.result ≡ true = search rules in
-          word-lends t c.edge.result (c.edge.ensures t c.string-word.ensures) told
+          let is_known : is_known_edge c.edge.result ≡ true = search rules in
+          word-borrows t c.edge.result (c.edge.ensures t c.string-word.ensures) is_known
     ])

@@ -4,5 +4,5 @@ use Rattle.cweb_surface_tests.proofs.tests.outputs.count_words.Given as goal
 
 abbrev pub invariant-tokens : goal.invariant-tokens
 invariant-tokens l = record {
-  stands : IsFrameStack l.expander.store.now l.expander.frames.items (vec_capacity l.expander.frames);
+  valid : IsFrameStack l.expander.store.now l.expander.frames.items (vec_capacity l.expander.frames);
 }

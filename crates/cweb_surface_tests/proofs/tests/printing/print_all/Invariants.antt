@@ -6,6 +6,6 @@ use Rattle.cweb_surface_tests.proofs.tests.printing.print_all.Given as goal
 
 abbrev pub invariant-tokens : goal.invariant-tokens
 invariant-tokens g l = record {
-  stands : IsFrameStack l.expander.store.now l.expander.frames.items (vec_capacity l.expander.frames);
+  valid : IsFrameStack l.expander.store.now l.expander.frames.items (vec_capacity l.expander.frames);
   files : (setting_of l.printer).files ≡ opened_file_names l.names;
 }

@@ -8,10 +8,10 @@ negated false e = refl
 negated true e = search
 
 pub returns-in-Some-clause-same : goal.returns-in-Some-clause-same
-returns-in-Some-clause-same g c noted =
+returns-in-Some-clause-same g c recorded =
     let own = c.in-Some.own.now in
     let name = c.args.name.now in
     absurd (other_text own name
     (negated _ (sym c.ne.ensures ∙ c.if-ne.true))
     (ap (λ found. unwrap_or found [])
-    (ap (option_map (λ found. found.now)) (sym c.in-Some.is) ∙ c.name_of.ensures ∙ noted)))
+    (ap (option_map (λ found. found.now)) (sym c.in-Some.is) ∙ c.name_of.ensures ∙ recorded)))

@@ -1,5 +1,5 @@
 use Rattle.cweb_texts.proofs.Common.{◌∙◌, drop, ap, length, arith, slice_get, strings_from}
-use Rattle.cweb_texts.proofs.EdgeLemmas.{told-at, told-count}
+use Rattle.cweb_texts.proofs.EdgeLemmas.{known-at, known-count}
 use Rattle.cweb_texts.proofs.slices.StringSlices.edge.Goals as goal
 
 pub bounds-self-inside-number : goal.bounds-self-inside-number
@@ -9,11 +9,11 @@ bounds-self-inside-number c =
       arith,
       c.requires,
       ap length c.self.view_is,
-      told-count (strings_from s.bytes.now 0 (drop 1 s.offsets.now)) s.edges.now c.self.invariant.told,
+      known-count (strings_from s.bytes.now 0 (drop 1 s.offsets.now)) s.edges.now c.self.invariant.is_known,
     )
 
 pub returns : goal.returns
 returns c = λ string there.
     let s = c.self.inside in
-    told-at (strings_from s.bytes.now 0 (drop 1 s.offsets.now)) s.edges.now c.args.number string _
-    c.self.invariant.told (ap (λ ts. slice_get ts c.args.number) c.self.view_is ∙ there)
+    known-at (strings_from s.bytes.now 0 (drop 1 s.offsets.now)) s.edges.now c.args.number string _
+    c.self.invariant.is_known (ap (λ ts. slice_get ts c.args.number) c.self.view_is ∙ there)

@@ -1,5 +1,5 @@
 use Rattle.cweb_texts.proofs.Common.{◌≡◌, ◌<◌, ◌≤◌, ◌++◌, ◌∷◌, [], ℕ, List, drop, length, subst, sym, ◌∙◌, ap, arith, length-append, AreStoredEdges, AreEnds, strings_from}
-use Rattle.cweb_texts.proofs.EdgeLemmas.{told-count, told-push}
+use Rattle.cweb_texts.proofs.EdgeLemmas.{known-count, known-push}
 use Rattle.cweb_texts.proofs.StringListLemmas.{ends-push, offsets-push, start-push, strings-push}
 use Rattle.cweb_texts.proofs.strings.StringList.add_with_edge.Goals as goal
 
@@ -30,17 +30,18 @@ invariant_of-self-2 c =
       start = start-push offsets (length (bytes ++ string)) some c.in_ok-begin.ensures.start;
       ends_at = subst (λ (es : List ℕ). AreEnds 0 es (length (bytes ++ string))) (sym all)
           (ends-push 0 (length bytes) (length (bytes ++ string)) ends c.self.invariant.ends_at longer);
-      told = subst (λ (es : List ℕ). AreStoredEdges (strings_from (bytes ++ string) 0 es) (edges ++ c.args.edge ∷ []))
+      is_known = subst (λ (es : List ℕ). AreStoredEdges (strings_from (bytes ++ string) 0 es)
+          (edges ++ c.args.edge ∷ []))
           (sym all) (subst (λ (ts : List (List ℕ)). AreStoredEdges ts (edges ++ c.args.edge ∷ []))
           (sym (strings-push bytes string 0 ends c.self.invariant.ends_at))
-          (told-push (strings_from bytes 0 ends) edges string c.args.edge c.self.invariant.told c.requires));
+          (known-push (strings_from bytes 0 ends) edges string c.args.edge c.self.invariant.is_known c.requires));
     })
 
 pub returns-clause-number : goal.returns-clause-number
 returns-clause-number c =
     let s = c.self.inside in
     c.len-number.ensures ∙ c.in_ok-reserve-2.ensures.len ∙ s.edges.ok.0
-    ∙ told-count (strings_from s.bytes.items 0 (drop 1 s.offsets.items)) s.edges.items c.self.invariant.told
+    ∙ known-count (strings_from s.bytes.items 0 (drop 1 s.offsets.items)) s.edges.items c.self.invariant.is_known
     ∙ ap length c.self.view_is
 
 pub returns-clause-added : goal.returns-clause-added

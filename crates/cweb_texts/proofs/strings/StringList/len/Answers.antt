@@ -1,10 +1,10 @@
 use Rattle.cweb_texts.proofs.Common.{drop, length, ◌∙◌, ap, strings_from}
-use Rattle.cweb_texts.proofs.EdgeLemmas.{told-count}
+use Rattle.cweb_texts.proofs.EdgeLemmas.{known-count}
 use Rattle.cweb_texts.proofs.strings.StringList.len.Goals as goal
 
 pub returns : goal.returns
 returns c =
     let s = c.self.inside in
     c.len.ensures ∙ s.edges.ok.0
-    ∙ told-count (strings_from s.bytes.items 0 (drop 1 s.offsets.items)) s.edges.items c.self.invariant.told
+    ∙ known-count (strings_from s.bytes.items 0 (drop 1 s.offsets.items)) s.edges.items c.self.invariant.is_known
     ∙ ap length c.self.view_is

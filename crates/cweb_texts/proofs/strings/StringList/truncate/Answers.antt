@@ -1,5 +1,5 @@
 use Rattle.cweb_texts.proofs.Common.{◌≡◌, ◌<◌, ◌+◌, ℕ, List, drop, length, suc, take, sym, subst, ◌∙◌, ap, arith, AreStoredEdges, AreEnds, IsFromStart, string_start, strings_from}
-use Rattle.cweb_texts.proofs.EdgeLemmas.{told-take}
+use Rattle.cweb_texts.proofs.EdgeLemmas.{known-take}
 use Rattle.cweb_texts.proofs.TruncationLemmas.{strings-cut, ends-are-cut}
 use Rattle.cweb_texts.proofs.StringListLemmas.{offsets-begin, offsets-length, offsets-take, start-take, strings-count}
 use Rattle.cweb_texts.proofs.strings.StringList.truncate.Goals as goal
@@ -31,9 +31,10 @@ invariant_of-self c =
           (start-take c.args.count s.offsets.items c.self.invariant.start);
       ends_at = subst (λ (es : List ℕ). AreEnds 0 es (length bytes)) cut
           (ends-are-cut s.bytes.items ends c.args.count c.self.invariant.ends_at);
-      told = subst (λ (es : List ℕ). AreStoredEdges (strings_from bytes 0 es) edges) cut (subst (λ (ts : List (List ℕ)).
+      is_known = subst (λ (es : List ℕ). AreStoredEdges (strings_from bytes 0 es) edges) cut
+          (subst (λ (ts : List (List ℕ)).
           AreStoredEdges ts edges) (sym (strings-cut s.bytes.items ends c.args.count c.self.invariant.ends_at))
-          (told-take c.args.count (strings_from s.bytes.items 0 ends) s.edges.items c.self.invariant.told));
+          (known-take c.args.count (strings_from s.bytes.items 0 ends) s.edges.items c.self.invariant.is_known));
     })
 
 pub returns : goal.returns

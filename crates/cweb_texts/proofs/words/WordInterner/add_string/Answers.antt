@@ -19,7 +19,7 @@ returns-clause-ok c =
     record {
       more = string ∷ [];
       grows = refl;
-      stands = get-last s.strings string c.in_ok-number.number c.in_ok-number.ensures.number;
+      stored = get-last s.strings string c.in_ok-number.number c.in_ok-number.ensures.number;
       words = λ q. ap (λ ws. list_any (bytes_eq q) (map entry_word s.sorted.entries ++ ws))
           (same-strings s.strings (string ∷ []) s.table c.self.invariant.in_table);
       bytes = omega (arith, length-append string (let none : List ℕ = [] in none));

@@ -1,13 +1,13 @@
 use Rattle.cweb_tools.proofs.Common.{List, ℕ, Act, SinkModel, ShelfModel, Closes, ClosesInLog, false, refl, ap, ◌+◌, SinkFault, fault, refusal_message}
 use Rattle.cweb_tools.proofs.Doing.{closes_on}
-use Rattle.cweb_tools.proofs.DoingFiles.{closes_told, closing_on, log_halts}
+use Rattle.cweb_tools.proofs.DoingFiles.{closes_reported, closing_on, log_halts}
 use Rattle.cweb_tools.proofs.Logging.{said}
 use Rattle.cweb_tools.proofs.Refusals.{each_some, refusal_line}
 use Rattle.cweb_tools.proofs.tangle.unplanned.tangle_refused.Goals as goal
 
-in_log : {acts : List Act} {due status : ℕ} {old new : SinkModel} → ((shelf : ShelfModel) (bins : SinkModel)
-    → Closes acts due (record { shelf = shelf; out = bins; log = old })
-    (record { shelf = shelf; out = bins; log = new }) status) → ClosesInLog acts due old new status
+in_log : {acts : List Act} {expected status : ℕ} {old new : SinkModel} → ((shelf : ShelfModel) (bins : SinkModel)
+    → Closes acts expected (record { shelf = shelf; out = bins; log = old })
+    (record { shelf = shelf; out = bins; log = new }) status) → ClosesInLog acts expected old new status
 in_log closes = closes
 
 pub returns-in-Err : goal.returns-in-Err
@@ -21,5 +21,5 @@ returns g c = each_some _ _ (λ r is. in_log (λ shelf bins. closes_on (said {A 
     (fault (refusal_message c.args.web.scanned.now.store c.args.main.now r))
     (rw (refusal_line c.args.web.scanned.now.store
     c.args.main.now c.args.fault r is) at (rw c.store.ensures at c.in_default.ensures)) shelf bins)
-    (closes_told c.say_end.result (closing_on c.args.shown {missing = false} {missing' = false} c.of.ensures
+    (closes_reported c.say_end.result (closing_on c.args.shown {missing = false} {missing' = false} c.of.ensures
     (ap (λ (n : ℕ). n + 1) c.fault_count-count.ensures.count) refl c.say_end.ensures) refl refl shelf bins)))

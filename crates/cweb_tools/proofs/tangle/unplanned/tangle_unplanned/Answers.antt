@@ -11,6 +11,6 @@ returns-in-Memory-clause-closes g c = λ shelf bins.
 pub returns-clause-closes : goal.returns-clause-closes
 returns-clause-closes g c =
     let why : IsRefused c.args.web.scanned.now.store c.args.main.now c.args.fault =
-    refused_by c.args.fault c.requires.due c.in_default.not-Memory in λ shelf bins. closes_on does_plan
-    (rw (planning_refused c.args.web.scanned.now.store (files_of c.args.web) c.args.main.now why.refusal why.due)
-    (of_some _ why.refusal _ why.told c.tangle_refused.ensures shelf bins))
+    refused_by c.args.fault c.requires.expected c.in_default.not-Memory in λ shelf bins. closes_on does_plan
+    (rw (planning_refused c.args.web.scanned.now.store (files_of c.args.web) c.args.main.now why.refusal why.expected)
+    (of_some _ why.refusal _ why.is_refusal c.tangle_refused.ensures shelf bins))

@@ -6,7 +6,7 @@ use Rattle.cweb_store.proofs.store.answers.Answers.of.Goals as goal
 pub returns-clause-answers : goal.returns-clause-answers
 returns-clause-answers c = record {
   settled = c.in_ok-resolutions.ensures.resolutions;
-  given = c.in_ok-files.ensures ∙ ap (λ ss. files_from ss [] 0 c.args.table.now)
+  forms = c.in_ok-files.ensures ∙ ap (λ ss. files_from ss [] 0 c.args.table.now)
       (c.as_slice.ensures.value ∙ c.in_ok-resolutions.ensures.resolutions);
   found = c.in_ok-faults.ensures;
   defs = c.has_defs_code.ensures;

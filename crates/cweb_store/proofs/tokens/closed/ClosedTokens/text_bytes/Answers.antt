@@ -1,5 +1,5 @@
 use Rattle.cweb_store.proofs.Common.{◌∙◌, ap, sym, List, Token, flat_map, subst, AreInOneList, interned_token_bytes, token_strings}
-use Rattle.cweb_store.proofs.TokenStringLemmas.{tokens-stand}
+use Rattle.cweb_store.proofs.TokenStringLemmas.{tokens-valid}
 use Rattle.cweb_texts.specs.inner.StringLists.{text_bytes}
 use Rattle.cweb_store.proofs.tokens.closed.ClosedTokens.text_bytes.Goals as goal
 
@@ -10,7 +10,7 @@ returns-clause-strings c =
     (record {
       bytes = text_bytes s.strings;
       count = sym c.text_bytes.ensures.bytes;
-      ranges = tokens-stand s.strings s.records.interned c.self.invariant.tokens.interned;
+      ranges = tokens-valid s.strings s.records.interned c.self.invariant.tokens.interned;
     })
 
 pub returns-clause-once : goal.returns-clause-once

@@ -13,11 +13,11 @@ invariant_of-self c =
     let same = subst (λ (v : TokenListModel). filter has_string (take c.args.count v.tokens)
     ≡ filter has_string v.tokens)
     (sym c.self.view_is) c.requires in
-    let front = take-map (token_of_interned s.strings.strings) c.args.count s.records.interned in
+    let prefix = take-map (token_of_interned s.strings.strings) c.args.count s.records.interned in
     rw c.truncate.ensures.interned
     (record {
       tokens = truncate-are s.strings s.records.interned c.args.count c.self.invariant.tokens same;
-      notes = subst (IsTokenIndex c.truncate-2.new.self) front
+      notes = subst (IsTokenIndex c.truncate-2.new.self) prefix
           (c.truncate-2.ensures.token_index
           (map (token_of_interned s.strings.strings) s.records.interned) c.self.invariant.notes);
     })

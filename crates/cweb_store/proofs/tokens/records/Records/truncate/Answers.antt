@@ -10,14 +10,14 @@ invariant_of-self c =
     let count = c.args.count in
     let places = s.places.items in
     let parts = split 0 count s.items.items (length places) c.self.invariant in
-    let behind = take_rest c.deref.result.now count ∙ ap (drop count) c.deref.ensures.value in
+    let after = take_rest c.deref.result.now count ∙ ap (drop count) c.deref.ensures.value in
     let first : c.first_place-places.result ≡ parts.number = c.first_place-places.ensures parts.number
-    (subst (λ (rs : List Record). AreNumbered parts.number rs c.len-2.result) (sym behind)
+    (subst (λ (rs : List Record). AreNumbered parts.number rs c.len-2.result) (sym after)
     (subst (AreNumbered parts.number (drop count s.items.items)) (sym (c.len-2.ensures ∙ s.places.ok.0)) parts.rest)) in
     let size : length (take parts.number places) ≡ parts.number = length-take-le parts.number places
     (numbered-le parts.number (length places) (drop count s.items.items) parts.rest) in
     rw (c.truncate.ensures.items, c.truncate-2.ensures.items, first)
-    (subst (AreNumbered 0 (take count s.items.items)) (sym size) parts.front)
+    (subst (AreNumbered 0 (take count s.items.items)) (sym size) parts.prefix)
 
 pub returns-clause-interned : goal.returns-clause-interned
 returns-clause-interned c =
@@ -25,9 +25,9 @@ returns-clause-interned c =
     let count = c.args.count in
     let places = s.places.items in
     let parts = split 0 count s.items.items (length places) c.self.invariant in
-    let behind = take_rest c.deref.result.now count ∙ ap (drop count) c.deref.ensures.value in
+    let after = take_rest c.deref.result.now count ∙ ap (drop count) c.deref.ensures.value in
     let first : c.first_place-places.result ≡ parts.number = c.first_place-places.ensures parts.number
-    (subst (λ (rs : List Record). AreNumbered parts.number rs c.len-2.result) (sym behind)
+    (subst (λ (rs : List Record). AreNumbered parts.number rs c.len-2.result) (sym after)
     (subst (AreNumbered parts.number (drop count s.items.items)) (sym (c.len-2.ensures ∙ s.places.ok.0)) parts.rest)) in
     rw (c.truncate.ensures.items, c.truncate-2.ensures.items, first, ← c.self.view_is) (cut places 0 parts.number
-    (take count s.items.items) parts.front ∙ sym (take-map (interned_of_record places) count s.items.items))
+    (take count s.items.items) parts.prefix ∙ sym (take-map (interned_of_record places) count s.items.items))

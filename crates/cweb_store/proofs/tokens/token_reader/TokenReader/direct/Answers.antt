@@ -1,6 +1,6 @@
 use Rattle.cweb_store.proofs.Common.{◌<◌, ◌∙◌, Some, ap, arith, length, sym, length-map, slice_get-get_or}
 use Rattle.cweb_store.specs.inner.TokenReaders.{direct_bytes_of_record}
-use Rattle.cweb_store.proofs.TokenReaderLemmas.{record-lends, record-within}
+use Rattle.cweb_store.proofs.TokenReaderLemmas.{record-borrows, record-within}
 use Rattle.cweb_store.proofs.tokens.token_reader.TokenReader.direct.Goals as goal
 
 pub bounds-self-inside-number : goal.bounds-self-inside-number
@@ -32,5 +32,5 @@ returns c =
     let s = c.self.inside in
     let within : c.args.number < length s.records.now =
     omega (arith, c.requires, ap length c.self.view_is, length-map s.records.now (direct_bytes_of_record s.strings)) in
-    rw (← c.self.view_is) (record-lends s.strings s.records.now c.args.number _
+    rw (← c.self.view_is) (record-borrows s.strings s.records.now c.args.number _
     (slice_get-get_or s.records.now c.args.number _ within) ∙ ap Some (sym c.direct.ensures))
