@@ -1,5 +1,5 @@
-# What the scripts of this folder share, which read it with `.`: what each lacks is said, its status is not 0 then, and no figure is
-# printed of a run that failed.
+# Functions for the scripts of this folder, which read this file with `.`. A script that lacks a tool says so and ends with a status
+# other than 0. No figure is printed for a run that failed.
 
 # fails WORD..: says why there is no figure, and ends
 fails() {
@@ -7,21 +7,21 @@ fails() {
     exit 1
 }
 
-# wants TOOL..: ends where one of them isn't there
+# wants TOOL..: ends if one of them is missing
 wants() {
     for tool in "$@"; do
-        command -v "$tool" > /dev/null || fails "it takes $tool, which is not there"
+        command -v "$tool" > /dev/null || fails "$tool is missing"
     done
 }
 
-# program PATH NAME: the whole path of a program that was built
+# program PATH NAME: the absolute path of a program that was built
 program() {
     test -n "$1" || fails "name the program $2"
-    test -x "$1" || fails "$1 is not there, or is no program: make build makes ctangle and wmerge, make bench the others"
+    test -x "$1" || fails "$1 is missing or no program: make build makes ctangle and wmerge, make bench the others"
     realpath "$1"
 }
 
-# runs STATUS COMMAND..: runs it without its output, and ends where its status is another one
+# runs STATUS COMMAND..: runs it without showing its output, and ends if its status differs
 runs() {
     wanted=$1
     shift
@@ -30,7 +30,7 @@ runs() {
     test "$status" = "$wanted" || fails "status $status of: $*: $(tail -n 1 run.log)"
 }
 
-# seconds STATUS COMMAND..: the least wall time of seven runs that end with that status, in `time`
+# seconds STATUS COMMAND..: sets `time` to the least wall time of seven runs that end with that status
 seconds() {
     : > run.times
     for _ in 1 2 3 4 5 6 7; do
@@ -41,14 +41,14 @@ seconds() {
     time=$(sort -n run.times | awk 'NR == 1 { printf "%.4f", $1 / 1e9 }')
 }
 
-# once STATUS COMMAND..: the wall time of one run, in `time`
+# once STATUS COMMAND..: sets `time` to the wall time of one run
 once() {
     begin=$(date +%s%N)
     runs "$@"
     time=$(awk -v begin="$begin" -v end="$(date +%s%N)" 'BEGIN { printf "%.2f", (end - begin) / 1e9 }')
 }
 
-# room STATUS COMMAND..: the peak memory of a run, in KB, in `memory`
+# room STATUS COMMAND..: sets `memory` to the peak memory of a run in KB
 room() {
     wanted=$1
     shift
@@ -56,7 +56,7 @@ room() {
     memory=$(cat run.memory)
 }
 
-# instructions STATUS COMMAND..: those of a run, which callgrind counts, in `count`
+# instructions STATUS COMMAND..: sets `count` to the instructions of a run, counted by callgrind
 instructions() {
     wanted=$1
     shift

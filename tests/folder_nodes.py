@@ -23,9 +23,9 @@ class Node:
     names: int = 1
 
 
-def owner(row):
-    """Who runs the program: if this is the superuser, nobody does, except where a row is for the superuser."""
-    if os.getuid() == 0 and not row.as_root:
+def owner(case):
+    """Who runs the program: if this is the superuser, nobody does, except where a case is for the superuser."""
+    if os.getuid() == 0 and not case.as_root:
         return (NOBODY, NOBODY)
     return (os.getuid(), os.getgid())
 
@@ -56,7 +56,7 @@ def nodes_here():
 
 
 def system_nodes():
-    """What the system has under the names to which rows lead, and the drafts beside it."""
+    """What the system has under the names to which cases lead, and the drafts beside it."""
     return {path: node(path) for path in [*SYSTEM, *glob.glob("/dev/*\x7f")] if os.path.lexists(path)}
 
 
@@ -74,34 +74,34 @@ def put_back(before):
             os.symlink(old.text, path)
 
 
-def expected_nodes(row, before):
+def expected_nodes(case, before):
     """What must be there: a file that is written has the permissions of the old one, or those of a new file."""
-    nodes = {row.moved.get(name, name): node for name, node in before.items() if name not in row.gone}
-    for name, text in row.written.items():
+    nodes = {case.moved.get(name, name): node for name, node in before.items() if name not in case.gone}
+    for name, text in case.written.items():
         old = before.get(name)
-        mode = old.mode & 0o777 if old and old.kind == stat.S_IFREG else 0o666 & ~row.umask
-        nodes[name] = Node(stat.S_IFREG, mode, owner(row), text)
-    for name, text in row.added.items():
+        mode = old.mode & 0o777 if old and old.kind == stat.S_IFREG else 0o666 & ~case.umask
+        nodes[name] = Node(stat.S_IFREG, mode, owner(case), text)
+    for name, text in case.added.items():
         nodes[name] = replace(nodes[name], text=nodes[name].text + text)
     numbers = [node.number for node in nodes.values()]
     return {name: replace(node, names=numbers.count(node.number) if node.number else 1) for name, node in nodes.items()}
 
 
-def is_new(row, name, old, found):
+def is_new(case, name, old, found):
     """Whether a file is another one than before. Where a third one came in between, it may have the first one's number."""
-    return old is None or found.number != old.number or name in row.held.values()
+    return old is None or found.number != old.number or name in case.held.values()
 
 
-def wrong_nodes(row, before, left):
+def wrong_nodes(case, before, left):
     """The paths with something else than what must be there, and what that is."""
-    expected = expected_nodes(row, before)
-    for name, (text, mode) in row.drafts.items():
+    expected = expected_nodes(case, before)
+    for name, (text, mode) in case.drafts.items():
         found = left.pop(name, None)
         if found is None or found.text != text or found.mode & ~mode:
             yield f"{name!r}: {found and replace(found, text=shown(found.text))}"
     for name in sorted(left.keys() | expected.keys()):
         found = left.get(name)
-        if found and name in row.written and is_new(row, name, before.get(name), found):
+        if found and name in case.written and is_new(case, name, before.get(name), found):
             found = replace(found, number=None)
         if found != expected.get(name):
             was = found and replace(found, text=shown(found.text) if isinstance(found.text, bytes) else found.text)

@@ -50,56 +50,56 @@ def make_socket(name):
         made.bind(name)
 
 
-def make_nodes(row):
-    """Makes the files of a row in the current folder."""
-    for name in row.disks:
+def make_nodes(case):
+    """Makes the files of a case in the current folder."""
+    for name in case.disks:
         os.mkdir(name)
-        mount(name, row.disks[name])
-    for name, text in row.files.items():
+        mount(name, case.disks[name])
+    for name, text in case.files.items():
         os.makedirs(name if text is None else os.path.dirname(name) or ".", exist_ok=True)
         if text is not None:
             with open(name, "wb") as file:
                 file.write(text)
-    for name, to in row.names.items():
+    for name, to in case.names.items():
         os.link(to, name)
-    for name, to in row.links.items():
+    for name, to in case.links.items():
         os.symlink(to, name)
-    for name in [*row.pipes, *row.drains]:
+    for name in [*case.pipes, *case.drains]:
         os.mkfifo(name)
-    for name in row.sockets:
+    for name in case.sockets:
         make_socket(name)
-    for name, numbers in row.devices.items():
+    for name, numbers in case.devices.items():
         make_device(name, numbers)
 
 
-def lay_out(row):
-    """Makes the files of a row for the user who runs the program, and returns what is there then."""
-    if row.foreign and os.getuid() != 0:
+def lay_out(case):
+    """Makes the files of a case for the user who runs the program, and returns what is there then."""
+    if case.foreign and os.getuid() != 0:
         raise CannotMake("only the superuser can leave files of another user")
-    if row.as_root and os.getuid() != 0:
+    if case.as_root and os.getuid() != 0:
         raise CannotMake("only the superuser can run a program as root")
-    for path in row.needs:
+    for path in case.needs:
         if not os.path.lexists(path):
             raise CannotMake(f"there is no {path}")
-    make_nodes(row)
+    make_nodes(case)
     for name in all_names():
-        os.chown(name, *owner(row), follow_symlinks=False)
-    for name in row.foreign:
+        os.chown(name, *owner(case), follow_symlinks=False)
+    for name in case.foreign:
         os.chown(name, 0, 0, follow_symlinks=False)
     nodes = nodes_here()
-    for name, mode in row.modes.items():
+    for name, mode in case.modes.items():
         os.chmod(name, mode)
         nodes[name] = replace(nodes[name], mode=mode)
-    for name, options in row.disks.items():
+    for name, options in case.disks.items():
         if options == "ro":
             subprocess.run(["mount", "-o", "remount,ro", name], check=True)
     return nodes
 
 
-def nodes_left(row):
+def nodes_left(case):
     """What is in the current folder. What may not be read gets other permissions first."""
     modes = {}
-    for name in row.modes:
+    for name in case.modes:
         if os.path.lexists(name) and not os.path.islink(name):
             modes[name] = stat.S_IMODE(os.lstat(name).st_mode)
             os.chmod(name, modes[name] | 0o700)
@@ -126,30 +126,30 @@ def drain(pipe, drained):
         drained[pipe] = file.read()
 
 
-def begin_pipes(row):
+def begin_pipes(case):
     """Threads at the other ends of the pipes: those that take texts, and what they have taken."""
-    for pipe, filled in row.pipes.items():
+    for pipe, filled in case.pipes.items():
         if filled is not None:
             threading.Thread(target=fill, args=(os.path.abspath(pipe), *filled), daemon=True).start()
     drained = {}
-    takers = [threading.Thread(target=drain, args=(pipe, drained), daemon=True) for pipe in row.drains]
+    takers = [threading.Thread(target=drain, args=(pipe, drained), daemon=True) for pipe in case.drains]
     for taker in takers:
         taker.start()
     return takers, drained
 
 
-def limited(row):
-    resource.setrlimit(resource.RLIMIT_AS, (row.memory, row.memory))
-    resource.setrlimit(resource.RLIMIT_FSIZE, (row.most, row.most))
+def limited(case):
+    resource.setrlimit(resource.RLIMIT_AS, (case.memory, case.memory))
+    resource.setrlimit(resource.RLIMIT_FSIZE, (case.most, case.most))
     resource.setrlimit(resource.RLIMIT_CORE, (0, 0))
-    for stream in row.closed:
+    for stream in case.closed:
         os.close(stream)
 
 
-def own_pipe(row):
+def own_pipe(case):
     """A pipe. The user who runs the program may open it by its name below /proc, too."""
     reader, writer = os.pipe()
-    os.fchown(writer, *owner(row))
+    os.fchown(writer, *owner(case))
     return open(reader, "rb"), writer
 
 
@@ -157,20 +157,20 @@ def stream_file(number, path):
     return os.open(path, os.O_RDONLY if number == 0 else os.O_WRONLY | os.O_APPEND)
 
 
-def begun(program, row):
-    user, group = owner(row)
+def begun(program, case):
+    user, group = owner(case)
     as_user = {"user": user, "group": group, "extra_groups": []} if os.getuid() == 0 else {}
-    (output, to_output), (log, to_log) = own_pipe(row), own_pipe(row)
-    files = {number: stream_file(number, path) for number, path in row.streams.items()}
+    (output, to_output), (log, to_log) = own_pipe(case), own_pipe(case)
+    files = {number: stream_file(number, path) for number, path in case.streams.items()}
     streams = {0: subprocess.DEVNULL, 1: to_output, 2: to_log} | files
     process = subprocess.Popen(
-        [program, *row.words],
-        env={"CWEBINPUTS": row.inputs} if row.inputs else {},
+        [program, *case.words],
+        env={"CWEBINPUTS": case.inputs} if case.inputs else {},
         stdin=streams[0],
         stdout=streams[1],
         stderr=streams[2],
-        umask=row.umask,
-        preexec_fn=lambda: limited(row),
+        umask=case.umask,
+        preexec_fn=lambda: limited(case),
         **as_user,
     )
     for ours in (to_output, to_log, *files.values()):
@@ -179,12 +179,12 @@ def begun(program, row):
     return process
 
 
-def let_go(row, locked, process):
+def let_go(case, locked, process):
     """Holds files locked for a while. It is wrong if the run has ended by then."""
     time.sleep(HELD)
     if process.poll() is not None:
         yield "it did not wait for the lock"
-    for file, (name, to) in zip(locked, row.held.items()):
+    for file, (name, to) in zip(locked, case.held.items()):
         if to is not None and os.path.lexists(name):
             os.rename(name, to)
         file.close()
@@ -196,33 +196,33 @@ def locked_file(name):
     return file
 
 
-def started(program, row):
+def started(program, case):
     """A run in the current folder: its status, output and log, and what was wrong while it ran."""
-    takers, drained = begin_pipes(row)
-    locked = [locked_file(name) for name in row.held]
-    with begun(program, row) as process:
+    takers, drained = begin_pipes(case)
+    locked = [locked_file(name) for name in case.held]
+    with begun(program, case) as process:
         try:
-            faults = list(let_go(row, locked, process)) if locked else []
-            faults += row.meanwhile(process) if row.meanwhile else []
+            faults = list(let_go(case, locked, process)) if locked else []
+            faults += case.meanwhile(process) if case.meanwhile else []
             output, log = process.communicate(timeout=SECONDS)
         except subprocess.TimeoutExpired:
             process.kill()
             return (None, b"", b""), ["it did not end"]
     for taker in takers:
         taker.join(DRAINED)
-    for name, text in row.drains.items():
+    for name, text in case.drains.items():
         if drained.get(name) != text:
             faults.append(f"out of {name} came {shown(drained.get(name, b''))}")
     return (process.returncode, output, log), faults
 
 
-def wrong(row, ended, before, left):
+def wrong(case, ended, before, left):
     """What isn't as it must be."""
     status, output, log = ended
-    if status != row.status:
+    if status != case.status:
         yield f"status {status}"
-    if log != row.log:
+    if log != case.log:
         yield f"log {shown(log)}"
-    if output != row.output:
+    if output != case.output:
         yield f"output {shown(output)}"
-    yield from wrong_nodes(row, before, left)
+    yield from wrong_nodes(case, before, left)

@@ -19,7 +19,7 @@ MEMORY = 256 << 20
 
 
 @dataclass
-class Row:
+class Case:
     """A run in a folder of its own: what it is given, and the whole of what it leaves. All else that was there stays as it was."""
 
     name: str
@@ -66,17 +66,17 @@ class Row:
     added: dict = field(default_factory=dict)
     # the superuser runs the program
     as_root: bool = False
-    # paths outside the folder that the row needs
+    # paths outside the folder that the case needs
     needs: tuple = ()
     # what is done while it runs: it is given the process, and answers what is wrong
     meanwhile: Callable = None
 
 
-def as_both(rows):
-    """Each row as it is, and once more for the superuser."""
-    for row in rows:
-        yield row
-        yield replace(row, name=f"{row.name}, as root", as_root=True)
+def as_both(cases):
+    """Each case as it is, and once more for the superuser."""
+    for case in cases:
+        yield case
+        yield replace(case, name=f"{case.name}, as root", as_root=True)
 
 
 def section(number, line, text):
@@ -109,30 +109,30 @@ def chain_printed():
 
 def large_webs():
     log = BANNER + b"Writing a.c\n" + NO_ERRORS
-    yield Row("names that use one another", log, 0, {"a.w": chain(b"x;")}, {"a.c": chain_printed()})
+    yield Case("names that use one another", log, 0, {"a.w": chain(b"x;")}, {"a.c": chain_printed()})
     cycle = b"".join(b" <%s>" % name for name in [*used_names(), b"n00001"])
     log = BANNER + b"! Cycle:%s\n(Faults: 1.)\n" % cycle
-    yield Row("names in a cycle", log, 1, {"a.w": chain(b"@<n00001@>"), "a.c": b"old\n"})
+    yield Case("names in a cycle", log, 1, {"a.w": chain(b"@<n00001@>"), "a.c": b"old\n"})
 
     faults = b"a.w:1: ! Section names do not nest\n" * (OPEN_NAMES - 1) + b"a.w:1: ! Section name did not end\n"
     log = BANNER + faults + b"! Not present: <>\nWriting a.c\n(Faults: %d.)\n" % (OPEN_NAMES + 1)
     printed = section(1, 1, line_mark(b"a.w", 1) * OPEN_NAMES) + b"\n"
-    yield Row("names that are open at once", log, 1, {"a.w": b"@ @c " + b"@<" * OPEN_NAMES + b"\n"}, {"a.c": printed})
+    yield Case("names that are open at once", log, 1, {"a.w": b"@ @c " + b"@<" * OPEN_NAMES + b"\n"}, {"a.c": printed})
 
 
 def endless_texts():
     old = {"a.c": b"old\n"}
     log = BANNER + stopped(b"Line too long in /dev/zero")
-    yield Row("a line without an end", log, 1, {"a.w": b"@ @c x\n@i /dev/zero\n"} | old)
+    yield Case("a line without an end", log, 1, {"a.w": b"@ @c x\n@i /dev/zero\n"} | old)
     log = BANNER + stopped(b"Too much text")
-    yield Row("a web without an end", log, 1, old, pipes={"a.w": (b"\n", True)})
-    changed = Row("a change file without an end", log, 1, {"a.w": b"x\n"} | old, words=("a", "m"), pipes={"m.ch": (b"y\n", True)})
+    yield Case("a web without an end", log, 1, old, pipes={"a.w": (b"\n", True)})
+    changed = Case("a change file without an end", log, 1, {"a.w": b"x\n"} | old, words=("a", "m"), pipes={"m.ch": (b"y\n", True)})
     yield changed
     log = BANNER + stopped(b"Out of memory")
-    yield Row("C text without an end", log, 1, old, pipes={"a.w": (b"@ @c x; y; z;\n", True)}, memory=MEMORY)
+    yield Case("C text without an end", log, 1, old, pipes={"a.w": (b"@ @c x; y; z;\n", True)}, memory=MEMORY)
     log = BANNER + b"Writing a.c\n" + NO_ERRORS
     text = section(1, 1, line_mark(b"in.w", 1) + b"x;") + b"\n"
-    yield Row("a pipe that ends", log, 0, {"a.w": b"@ @c\n@i in.w\n"} | old, {"a.c": text}, pipes={"in.w": (b"x;\n", False)})
+    yield Case("a pipe that ends", log, 0, {"a.w": b"@ @c\n@i in.w\n"} | old, {"a.c": text}, pipes={"in.w": (b"x;\n", False)})
 
 
 def closed_files():
@@ -141,23 +141,23 @@ def closed_files():
     web = {"a.w": b"@ @c x\n"}
     text = {"a.c": section(1, 1, b"x") + b"\n"}
     log = BANNER + stopped(b"Cannot open web file a.w")
-    yield Row("a web that may not be read", log, 1, web | old, modes={"a.w": 0})
+    yield Case("a web that may not be read", log, 1, web | old, modes={"a.w": 0})
     log = BANNER + stopped(b"Cannot open change file d/m.ch")
     files = web | old | {"d/m.ch": b""}
-    yield Row("a change file in a closed folder", log, 1, files, words=("a", "d/m"), modes={"d": 0})
+    yield Case("a change file in a closed folder", log, 1, files, words=("a", "d/m"), modes={"d": 0})
     log = BANNER + b"a.w:2: ! Cannot open include file\nWriting a.c\n(Faults: 1.)\n"
     files = {"a.w": b"@ @c x\n@i in.w\n", "d/in.w": b"y\n"} | old
-    yield Row("a closed folder of included files", log, 1, files, text, inputs="d", modes={"d": 0})
+    yield Case("a closed folder of included files", log, 1, files, text, inputs="d", modes={"d": 0})
 
     log = BANNER + b"Writing a.c\n" + stopped(b"Cannot open output file a.c")
-    yield Row("a folder that may not be written", log, 1, web | old, modes={".": 0o555})
+    yield Case("a folder that may not be written", log, 1, web | old, modes={".": 0o555})
     log = BANNER + b"Writing a.c\nWriting d/f\n" + stopped(b"Cannot open output file d/f")
     files = {"a.w": b"@ @c x\n@ @(d/f@>= y\n@ @(g@>= z\n", "d/f": b"old\n", "g": b"old\n"} | old
     two = {"a.c": section(1, 1, b"x\n") + b"\n"}
-    yield Row("an output in a closed folder", log, 1, files, two, modes={"d": 0})
-    yield Row("an output in a folder that may only be read", log, 1, files, two, modes={"d": 0o555})
+    yield Case("an output in a closed folder", log, 1, files, two, modes={"d": 0})
+    yield Case("an output in a folder that may only be read", log, 1, files, two, modes={"d": 0o555})
     log = BANNER + b"Writing a.c\n" + NO_ERRORS
-    yield Row("an output that may not be written is replaced", log, 0, web | old, text, modes={"a.c": 0o444})
+    yield Case("an output that may not be written is replaced", log, 0, web | old, text, modes={"a.c": 0o444})
 
 
 def disks():
@@ -167,31 +167,31 @@ def disks():
     main = {"a.c": section(1, 1, b"x\n") + b"\n"}
     begun = BANNER + b"Writing a.c\nWriting d/f\n"
     failed, not_begun = begun + stopped(b"Write fault on d/f"), begun + stopped(b"Cannot open output file d/f")
-    yield Row("a disk that becomes full", failed, 1, files, main, disks={"d": f"size={DISK}"})
-    yield Row("a disk without room for a file", not_begun, 1, files, main, disks={"d": "nr_inodes=2"})
-    yield Row("a disk that may only be read", not_begun, 1, files, main, disks={"d": "ro"})
+    yield Case("a disk that becomes full", failed, 1, files, main, disks={"d": f"size={DISK}"})
+    yield Case("a disk without room for a file", not_begun, 1, files, main, disks={"d": "nr_inodes=2"})
+    yield Case("a disk that may only be read", not_begun, 1, files, main, disks={"d": "ro"})
 
 
-def tangle_rows():
-    for rows in (large_webs, endless_texts, closed_files, disks):
-        yield from rows()
+def tangle_cases():
+    for cases in (large_webs, endless_texts, closed_files, disks):
+        yield from cases()
 
 
-def merge_rows():
+def merge_cases():
     doubled = "abcdefghijk"
     files = {f"{name}.w": b"@i %s.w\n" % used.encode() * 2 for name, used in zip(doubled, doubled[1:])}
-    yield Row("eleven files, each included twice", b"", 0, files | {"k.w": b"x\n"}, output=b"x\n" * 1024)
+    yield Case("eleven files, each included twice", b"", 0, files | {"k.w": b"x\n"}, output=b"x\n" * 1024)
     log = stopped(b"Line too long in /dev/zero")
-    yield Row("a line without an end", log, 1, {"a.w": b"x\n@i /dev/zero\n"}, output=b"x\n")
+    yield Case("a line without an end", log, 1, {"a.w": b"x\n@i /dev/zero\n"}, output=b"x\n")
     log = stopped(b"Too much text")
-    yield Row("a web without an end", log, 1, {}, output=b"\n" * LINES, pipes={"a.w": (b"\n", True)})
-    yield Row("a change file without an end", log, 1, {"a.w": b"x\n"}, words=("a", "m"), pipes={"m.ch": (b"y\n", True)})
-    yield Row("a pipe that ends", b"", 0, {"a.w": b"x\n@i in.w\n"}, output=b"x\ny\n", pipes={"in.w": (b"y\n", False)})
+    yield Case("a web without an end", log, 1, {}, output=b"\n" * LINES, pipes={"a.w": (b"\n", True)})
+    yield Case("a change file without an end", log, 1, {"a.w": b"x\n"}, words=("a", "m"), pipes={"m.ch": (b"y\n", True)})
+    yield Case("a pipe that ends", b"", 0, {"a.w": b"x\n@i in.w\n"}, output=b"x\ny\n", pipes={"in.w": (b"y\n", False)})
     log = stopped(b"Cannot open web file a.w")
-    yield Row("a web that may not be read", log, 1, {"a.w": b"x\n"}, modes={"a.w": 0})
+    yield Case("a web that may not be read", log, 1, {"a.w": b"x\n"}, modes={"a.w": 0})
     log = stopped(b"Cannot open change file d/m.ch")
-    yield Row("a change file in a closed folder", log, 1, {"a.w": b"x\n", "d/m.ch": b""}, words=("a", "d/m"), modes={"d": 0})
+    yield Case("a change file in a closed folder", log, 1, {"a.w": b"x\n", "d/m.ch": b""}, words=("a", "d/m"), modes={"d": 0})
     files = {"a.w": b"x\n@i in.w\n", "d/in.w": b"y\n"}
     log = b"a.w:2: ! Cannot open include file\n"
-    yield Row("a closed folder of included files", log, 1, files, output=b"x\n", inputs="d", modes={"d": 0})
-    yield Row("a folder that may not be written", b"", 0, {"a.w": b"x\n"}, output=b"x\n", modes={".": 0o555})
+    yield Case("a closed folder of included files", log, 1, files, output=b"x\n", inputs="d", modes={"d": 0})
+    yield Case("a folder that may not be written", b"", 0, {"a.w": b"x\n"}, output=b"x\n", modes={".": 0o555})

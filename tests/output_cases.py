@@ -1,5 +1,5 @@
 """The runs of `folders` that find something under an output's name: files that they have read or written, folders, devices, pipes."""
-from folder_rows import NO_ERRORS, Row, section
+from folder_cases import NO_ERRORS, Case, section
 from shared import BANNER, stopped
 
 WEB = {"a.w": b"@ @c x\n"}
@@ -43,17 +43,17 @@ def modes():
     """A file keeps its permissions, and the draft of a run that is killed is never more open."""
     front = MAIN[:20]
     for umask in (0o022, 0o077):
-        yield Row(f"a new file, umask {umask:03o}", WELL, 0, WEB, {"a.c": MAIN}, umask=umask)
+        yield Case(f"a new file, umask {umask:03o}", WELL, 0, WEB, {"a.c": MAIN}, umask=umask)
         for mode in (0o600, 0o755, 0o444, 0o4755, 0o640, 0o2711, 0):
             of = {"modes": {"a.c": mode}, "umask": umask}
-            yield Row(f"a file of mode {mode:04o}, umask {umask:03o}", WELL, 0, WEB | OLD, {"a.c": MAIN}, **of)
+            yield Case(f"a file of mode {mode:04o}, umask {umask:03o}", WELL, 0, WEB | OLD, {"a.c": MAIN}, **of)
             of |= {"most": len(front), "drafts": {"a.c\x7f": (front, mode & 0o777 | 0o600)}}
-            yield Row(f"a killed run, mode {mode:04o}, umask {umask:03o}", log_of("a.c"), -25, WEB | OLD, **of)
-    yield Row("a file in the place of a killed run's", WELL, 0, WEB | OLD | {"a.c\x7f": front}, {"a.c": MAIN}, gone=("a.c\x7f",))
+            yield Case(f"a killed run, mode {mode:04o}, umask {umask:03o}", log_of("a.c"), -25, WEB | OLD, **of)
+    yield Case("a file in the place of a killed run's", WELL, 0, WEB | OLD | {"a.c\x7f": front}, {"a.c": MAIN}, gone=("a.c\x7f",))
 
 
 def paths_to(name):
-    """The ways to name a file: what a row has beside the web for each."""
+    """The ways to name a file: what a case has beside the web for each."""
     yield name, {}
     yield f"./{name}", {}
     yield f".//./{name}", {}
@@ -63,19 +63,19 @@ def paths_to(name):
 
 
 def files_that_were_read():
-    yield Row("a web as its own main file", not_opened("hello.c"), 1, {"hello.c": b"@ @c x\n"}, words=("hello.c",))
+    yield Case("a web as its own main file", not_opened("hello.c"), 1, {"hello.c": b"@ @c x\n"}, words=("hello.c",))
     links = {"hello.c": "a.w"}
-    yield Row("a web as its own main file, through a link", not_opened("hello.c"), 1, WEB, words=("hello.c",), links=links)
+    yield Case("a web as its own main file, through a link", not_opened("hello.c"), 1, WEB, words=("hello.c",), links=links)
     of = {"links": {"a.c": "a.w"}}
-    yield Row("a main file that leads to the web", not_opened("a.c"), 1, WEB, **of)
-    yield Row("a main file that is the web's further name", not_opened("a.c"), 1, WEB, names={"a.c": "a.w"})
+    yield Case("a main file that leads to the web", not_opened("a.c"), 1, WEB, **of)
+    yield Case("a main file that is the web's further name", not_opened("a.c"), 1, WEB, names={"a.c": "a.w"})
     files = {"m.c": b""} | WEB
-    yield Row("a change file as main file", not_opened("m.c"), 1, files, words=("a", "m.c", "m.c"))
+    yield Case("a change file as main file", not_opened("m.c"), 1, files, words=("a", "m.c", "m.c"))
     for name, of in paths_to("a.w"):
-        yield Row(f"the web as output {name}", not_opened("a.c", name), 1, web_with(name) | OLD, {"a.c": FIRST}, **of)
+        yield Case(f"the web as output {name}", not_opened("a.c", name), 1, web_with(name) | OLD, {"a.c": FIRST}, **of)
     for name, of in paths_to("m.ch"):
         files = web_with(name) | {"m.ch": b""}
-        yield Row(f"the change file as output {name}", not_opened("a.c", name), 1, files, {"a.c": FIRST}, words=("a", "m"), **of)
+        yield Case(f"the change file as output {name}", not_opened("a.c", name), 1, files, {"a.c": FIRST}, words=("a", "m"), **of)
     yield from included_files()
     yield from linked_webs()
 
@@ -85,14 +85,14 @@ def included_files():
     main = {"a.c": section(1, 1, b"x\n" + mark) + b"\n"}
     for name, of in paths_to("in.w"):
         files = web_with(name, b"x\n@i in.w\n") | {"in.w": b"z\n"}
-        yield Row(f"an included file as output {name}", not_opened("a.c", name), 1, files, main, **of)
+        yield Case(f"an included file as output {name}", not_opened("a.c", name), 1, files, main, **of)
     main = {"a.c": main["a.c"].replace(b'"in.w"', b'"d/in.w"')}
     for name, of in paths_to("d/in.w"):
         files = web_with(name, b"x\n@i in.w\n") | {"d/in.w": b"z\n"}
-        yield Row(f"a found file as output {name}", not_opened("a.c", name), 1, files, main, inputs="d", **of)
+        yield Case(f"a found file as output {name}", not_opened("a.c", name), 1, files, main, inputs="d", **of)
     files = web_with("in.w", b"x\n@i in.w\n") | {"d/in.w": b"z\n", "in.w": b"z\n"}
     main = {"a.c": main["a.c"].replace(b'"d/in.w"', b'"in.w"')}
-    yield Row("an included file that another folder has too", not_opened("a.c", "in.w"), 1, files, main, inputs="d")
+    yield Case("an included file that another folder has too", not_opened("a.c", "in.w"), 1, files, main, inputs="d")
 
 
 def linked_webs():
@@ -100,51 +100,51 @@ def linked_webs():
     for name in ("a.w", "real.w"):
         files = {"real.w": web_with(name)["a.w"]} | OLD
         links = {"a.w": "real.w"}
-        yield Row(f"a linked web as output {name}", not_opened("a.c", name), 1, files, {"a.c": FIRST}, links=links)
+        yield Case(f"a linked web as output {name}", not_opened("a.c", name), 1, files, {"a.c": FIRST}, links=links)
     links = {"a.w": "real.w", "link": "a.w"}
     files = {"real.w": web_with("link")["a.w"]} | OLD
-    yield Row("a linked web as output, through another link", not_opened("a.c", "link"), 1, files, {"a.c": FIRST}, links=links)
+    yield Case("a linked web as output, through another link", not_opened("a.c", "link"), 1, files, {"a.c": FIRST}, links=links)
 
 
 def files_that_were_written():
     for name in ("./a.c", ".//a.c", "d/../a.c"):
         files = web_with(name) | OLD | {"d": None}
-        yield Row(f"the main file again, as {name}", not_opened("a.c", name), 1, files, {"a.c": FIRST})
+        yield Case(f"the main file again, as {name}", not_opened("a.c", name), 1, files, {"a.c": FIRST})
     web = {"a.w": b"@ @c x\n@ @(f@>= y\n@ @(./f@>= z\n"}
     written = {"a.c": FIRST, "f": section(2, 2, b"y\n") + b"\n"}
-    yield Row("another file again", not_opened("a.c", "f", "./f"), 1, web | {"f": b"old\n"}, written)
+    yield Case("another file again", not_opened("a.c", "f", "./f"), 1, web | {"f": b"old\n"}, written)
 
 
 def folders():
     for kind, files in {"an empty folder": {"a.c": None}, "a folder": {"a.c/f": b"old\n"}}.items():
-        yield Row(f"{kind} as main file", not_opened("a.c"), 1, WEB | files)
+        yield Case(f"{kind} as main file", not_opened("a.c"), 1, WEB | files)
     for kind, files in {"an empty folder": {"f": None}, "a folder": {"f/g": b"old\n"}}.items():
         files |= web_with("f") | OLD
-        yield Row(f"{kind} as another file", not_opened("a.c", "f"), 1, files, {"a.c": FIRST})
-    yield Row("a file in the place of a folder", not_opened("a.c", "other/f"), 1, web_with("other/f") | OTHER, {"a.c": FIRST})
+        yield Case(f"{kind} as another file", not_opened("a.c", "f"), 1, files, {"a.c": FIRST})
+    yield Case("a file in the place of a folder", not_opened("a.c", "other/f"), 1, web_with("other/f") | OTHER, {"a.c": FIRST})
 
 
 def devices():
     """Devices, pipes and sockets stay what they are."""
     large = {"a.w": b"@ @c\n" + LARGE}
     for kind, web in {"a small": WEB, "a large": large}.items():
-        yield Row(f"{kind} main file on a null device", WELL, 0, web, devices={"a.c": NULL})
-        yield Row(f"{kind} main file on a full device", not_written("a.c"), 1, web, devices={"a.c": FULL})
+        yield Case(f"{kind} main file on a null device", WELL, 0, web, devices={"a.c": NULL})
+        yield Case(f"{kind} main file on a full device", not_written("a.c"), 1, web, devices={"a.c": FULL})
         text = MAIN if web is WEB else whole_large()
-        yield Row(f"{kind} main file into a pipe", WELL, 0, web, drains={"a.c": text})
+        yield Case(f"{kind} main file into a pipe", WELL, 0, web, drains={"a.c": text})
     log = log_of("a.c", "f") + NO_ERRORS
-    yield Row("another file on a null device", log, 0, web_with("f") | OLD, {"a.c": FIRST}, devices={"f": NULL})
+    yield Case("another file on a null device", log, 0, web_with("f") | OLD, {"a.c": FIRST}, devices={"f": NULL})
     log = not_written("a.c", "f")
-    yield Row("another file on a full device", log, 1, web_with("f") | OLD, {"a.c": FIRST}, devices={"f": FULL})
+    yield Case("another file on a full device", log, 1, web_with("f") | OLD, {"a.c": FIRST}, devices={"f": FULL})
     web = {"a.w": b"@ @c x\n@ @(f@>= y\n@ @(g@>= z\n"}
     written = {"a.c": FIRST, "g": section(3, 3, b"z") + b"\n"}
     drains = {"f": section(2, 2, b"y\n") + b"\n"}
-    yield Row("another file into a pipe", log_of("a.c", "f", "g") + NO_ERRORS, 0, web, written, drains=drains)
-    yield Row("a draft beside a device stays", WELL, 0, WEB | {"a.c\x7f": b"draft"}, devices={"a.c": NULL})
-    yield Row("a socket as main file", not_opened("a.c"), 1, WEB, sockets=("a.c",))
-    yield Row("a socket as another file", not_opened("a.c", "f"), 1, web_with("f"), {"a.c": FIRST}, sockets=("f",))
+    yield Case("another file into a pipe", log_of("a.c", "f", "g") + NO_ERRORS, 0, web, written, drains=drains)
+    yield Case("a draft beside a device stays", WELL, 0, WEB | {"a.c\x7f": b"draft"}, devices={"a.c": NULL})
+    yield Case("a socket as main file", not_opened("a.c"), 1, WEB, sockets=("a.c",))
+    yield Case("a socket as another file", not_opened("a.c", "f"), 1, web_with("f"), {"a.c": FIRST}, sockets=("f",))
 
 
-def rows():
+def cases():
     for some in (modes, files_that_were_read, files_that_were_written, folders, devices):
         yield from some()

@@ -4,10 +4,10 @@ import os
 import signal
 import time
 
-from folder_rows import NO_ERRORS, Row, as_both, section
+from folder_cases import NO_ERRORS, Case, as_both, section
 from folder_runs import Missed
-from output_rows import FIRST, FULL, LARGE, MAIN, NULL, OLD, OTHER, WEB, WELL
-from output_rows import log_of, not_opened, not_written, web_with, whole_large
+from output_cases import FIRST, FULL, LARGE, MAIN, NULL, OLD, OTHER, WEB, WELL
+from output_cases import log_of, not_opened, not_written, web_with, whole_large
 
 DRAFT = "a.c\x7f"
 # so long it may take a run to come to where it is watched
@@ -19,72 +19,72 @@ def left_drafts():
     of = {"gone": (DRAFT,)}
     for mode in (0o644, 0o600, 0o444, 0):
         files = WEB | OLD | {DRAFT: b"draft"}
-        yield Row(f"a draft of mode {mode:03o}", WELL, 0, files, {"a.c": MAIN}, modes={DRAFT: mode}, **of)
+        yield Case(f"a draft of mode {mode:03o}", WELL, 0, files, {"a.c": MAIN}, modes={DRAFT: mode}, **of)
     for kind, to in {"a file": "other", "its output": "a.c", "nothing": "gone", "a folder": "d"}.items():
         files = WEB | OLD | OTHER | {"d/f": b"old\n"}
-        yield Row(f"a draft that is a link to {kind}", WELL, 0, files, {"a.c": MAIN}, links={DRAFT: to}, **of)
+        yield Case(f"a draft that is a link to {kind}", WELL, 0, files, {"a.c": MAIN}, links={DRAFT: to}, **of)
     for kind, to in {"a full device": "/dev/full", "itself": DRAFT}.items():
-        yield Row(f"a draft that is a link to {kind}", WELL, 0, WEB | OLD, {"a.c": MAIN}, links={DRAFT: to}, **of)
+        yield Case(f"a draft that is a link to {kind}", WELL, 0, WEB | OLD, {"a.c": MAIN}, links={DRAFT: to}, **of)
         large = {"a.w": b"@ @c\n" + LARGE} | OLD
-        yield Row(f"a large draft's link to {kind}", WELL, 0, large, {"a.c": whole_large()}, links={DRAFT: to}, **of)
+        yield Case(f"a large draft's link to {kind}", WELL, 0, large, {"a.c": whole_large()}, links={DRAFT: to}, **of)
     for kind, name in {"another file": "other", "its output": "a.c"}.items():
-        yield Row(f"a draft that is {kind} too", WELL, 0, WEB | OLD | OTHER, {"a.c": MAIN}, names={DRAFT: name}, **of)
-    yield Row("a draft that is a pipe", WELL, 0, WEB | OLD, {"a.c": MAIN}, pipes={DRAFT: (b"x", False)}, **of)
-    yield Row("a draft that is a socket", WELL, 0, WEB | OLD, {"a.c": MAIN}, sockets=(DRAFT,), **of)
+        yield Case(f"a draft that is {kind} too", WELL, 0, WEB | OLD | OTHER, {"a.c": MAIN}, names={DRAFT: name}, **of)
+    yield Case("a draft that is a pipe", WELL, 0, WEB | OLD, {"a.c": MAIN}, pipes={DRAFT: (b"x", False)}, **of)
+    yield Case("a draft that is a socket", WELL, 0, WEB | OLD, {"a.c": MAIN}, sockets=(DRAFT,), **of)
     for kind, numbers in {"a null": NULL, "a full": FULL}.items():
-        yield Row(f"a draft that is {kind} device", WELL, 0, WEB | OLD, {"a.c": MAIN}, devices={DRAFT: numbers}, **of)
+        yield Case(f"a draft that is {kind} device", WELL, 0, WEB | OLD, {"a.c": MAIN}, devices={DRAFT: numbers}, **of)
     log = log_of("a.c", "f") + NO_ERRORS
     files = web_with("f") | {DRAFT: b"draft", "f\x7f": b"draft"}
     written = {"a.c": FIRST, "f": section(2, 2, b"y") + b"\n"}
-    yield Row("two drafts", log, 0, files, written, gone=(DRAFT, "f\x7f"))
+    yield Case("two drafts", log, 0, files, written, gone=(DRAFT, "f\x7f"))
 
 
 def kept_drafts():
     """What can't be removed stays, and the output can't be opened."""
     for kind, files in {"an empty folder": {DRAFT: None}, "a folder": {f"{DRAFT}/f": b"old\n"}}.items():
-        yield Row(f"a draft that is {kind}", not_opened("a.c"), 1, WEB | OLD | files)
+        yield Case(f"a draft that is {kind}", not_opened("a.c"), 1, WEB | OLD | files)
     for mode in (0o644, 0o600):
         files = web_with("d/f") | {"d/f": b"old\n", "d/f\x7f": b"draft"}
         of = {"foreign": ("d", "d/f\x7f"), "modes": {"d": 0o1777, "d/f\x7f": mode}}
         name = f"another user's draft of mode {mode:03o} in a folder where each deletes its own"
-        yield Row(name, not_opened("a.c", "d/f"), 1, files, {"a.c": FIRST}, **of)
+        yield Case(name, not_opened("a.c", "d/f"), 1, files, {"a.c": FIRST}, **of)
         of = {"foreign": (DRAFT,), "modes": {DRAFT: mode}, "gone": (DRAFT,)}
-        yield Row(f"another user's draft of mode {mode:03o}", WELL, 0, WEB | OLD | {DRAFT: b"draft"}, {"a.c": MAIN}, **of)
+        yield Case(f"another user's draft of mode {mode:03o}", WELL, 0, WEB | OLD | {DRAFT: b"draft"}, {"a.c": MAIN}, **of)
         of = {"foreign": ("a.c",), "modes": {"a.c": mode}}
-        yield Row(f"another user's output of mode {mode:03o}", WELL, 0, WEB | OLD, {"a.c": MAIN}, **of)
+        yield Case(f"another user's output of mode {mode:03o}", WELL, 0, WEB | OLD, {"a.c": MAIN}, **of)
 
 
 def drafts_that_were_read():
     """What the run has read stays, whatever its name, and the output can't be opened."""
     web = {"a.w": b"@ @c x\n@i " + DRAFT.encode() + b"\n"} | OLD
     included, log, text = {"in.w": b"z\n"}, not_opened("a.c"), (b"z\n", False)
-    yield Row("an included draft", log, 1, web | {DRAFT: b"z\n"})
-    yield Row("an included draft that is a link", log, 1, web | included, links={DRAFT: "in.w"})
-    yield Row("an included draft that is a chain of links", log, 1, web | included, links={DRAFT: "link", "link": "in.w"})
-    yield Row("an included draft that is a pipe", log, 1, web, pipes={DRAFT: text})
-    yield Row("an included draft that is a link to a pipe", log, 1, web, pipes={"in.w": text}, links={DRAFT: "in.w"})
-    yield Row("an included draft that is a device", log, 1, web, devices={DRAFT: NULL})
+    yield Case("an included draft", log, 1, web | {DRAFT: b"z\n"})
+    yield Case("an included draft that is a link", log, 1, web | included, links={DRAFT: "in.w"})
+    yield Case("an included draft that is a chain of links", log, 1, web | included, links={DRAFT: "link", "link": "in.w"})
+    yield Case("an included draft that is a pipe", log, 1, web, pipes={DRAFT: text})
+    yield Case("an included draft that is a link to a pipe", log, 1, web, pipes={"in.w": text}, links={DRAFT: "in.w"})
+    yield Case("an included draft that is a device", log, 1, web, devices={DRAFT: NULL})
     web = {"a.w": b"@ @c x\n@i in.w\n"} | OLD
-    yield Row("a draft that is a link to an included file", log, 1, web | included, links={DRAFT: "in.w"})
-    yield Row("a draft that is an included file too", log, 1, web | included, names={DRAFT: "in.w"})
-    yield Row("a draft that is a link to the web", log, 1, WEB | OLD, links={DRAFT: "a.w"})
-    yield Row("a draft that is the web too", log, 1, WEB | OLD, names={DRAFT: "a.w"})
-    yield Row("a web that is a link to a draft", log, 1, {DRAFT: WEB["a.w"]} | OLD, links={"a.w": DRAFT})
+    yield Case("a draft that is a link to an included file", log, 1, web | included, links={DRAFT: "in.w"})
+    yield Case("a draft that is an included file too", log, 1, web | included, names={DRAFT: "in.w"})
+    yield Case("a draft that is a link to the web", log, 1, WEB | OLD, links={DRAFT: "a.w"})
+    yield Case("a draft that is the web too", log, 1, WEB | OLD, names={DRAFT: "a.w"})
+    yield Case("a web that is a link to a draft", log, 1, {DRAFT: WEB["a.w"]} | OLD, links={"a.w": DRAFT})
     files = WEB | OLD | {DRAFT: b""}
-    yield Row("a change file that is a link to a draft", log, 1, files, links={"m.ch": DRAFT}, words=("a", "m", "a"))
+    yield Case("a change file that is a link to a draft", log, 1, files, links={"m.ch": DRAFT}, words=("a", "m", "a"))
     files = web_with("f", b"x\n@i f\x7f\n") | OLD | {"f": b"old\n", "f\x7f": b"z\n"}
     main = section(1, 1, b'x\n#line 1 "f\x7f"\nz\n#line 3 "a.w"\n') + b"\n"
-    yield Row("an included draft of another file", not_opened("a.c", "f"), 1, files, {"a.c": main})
+    yield Case("an included draft of another file", not_opened("a.c", "f"), 1, files, {"a.c": main})
 
 
 def held_drafts():
     """Another run holds the draft, and is waited for."""
     files = WEB | OLD | {DRAFT: b"draft"}
     for kind, to in {"is killed": None, "commits": "a.c"}.items():
-        yield Row(f"the run that holds the draft {kind}", WELL, 0, files, {"a.c": MAIN}, held={DRAFT: to}, gone=(DRAFT,))
+        yield Case(f"the run that holds the draft {kind}", WELL, 0, files, {"a.c": MAIN}, held={DRAFT: to}, gone=(DRAFT,))
     files = web_with("f") | {"f\x7f": b"draft"}
     log, written = log_of("a.c", "f") + NO_ERRORS, {"a.c": FIRST, "f": section(2, 2, b"y") + b"\n"}
-    yield Row("the run that holds another draft commits", log, 0, files, written, held={"f\x7f": "f"}, gone=("f\x7f",))
+    yield Case("the run that holds another draft commits", log, 0, files, written, held={"f\x7f": "f"}, gone=("f\x7f",))
 
 
 def come_to(process, is_there):
@@ -146,12 +146,12 @@ def put_other(process):
 def lost_drafts():
     """What another process does to a draft."""
     large, whole, failed = {"a.w": b"@ @c\n" + LARGE} | OLD, {"a.c": whole_large()}, not_written("a.c")
-    yield Row("a draft that is locked", WELL, 0, large, whole, meanwhile=stopped_while(try_lock))
-    yield Row("a draft that is deleted", failed, 1, large, meanwhile=stopped_while(take_away))
+    yield Case("a draft that is locked", WELL, 0, large, whole, meanwhile=stopped_while(try_lock))
+    yield Case("a draft that is deleted", failed, 1, large, meanwhile=stopped_while(take_away))
     of = {"meanwhile": stopped_while(put_other), "moved": {"other": DRAFT}}
-    yield Row("a draft that is replaced by a file", failed, 1, large | OTHER, **of)
+    yield Case("a draft that is replaced by a file", failed, 1, large | OTHER, **of)
     for kind, to in {"the web": "a.w", "nothing": "gone"}.items():
-        yield Row(f"a draft that is replaced by a link to {kind}", failed, 1, large, links={"other": to}, **of)
+        yield Case(f"a draft that is replaced by a link to {kind}", failed, 1, large, links={"other": to}, **of)
 
 
 def watched(closed):
@@ -182,10 +182,10 @@ def closed_streams():
     for closed in ((), (0,), (1,), (0, 1), (2,), (0, 1, 2)):
         files = {"a.w": b"@ @c\n@i in.w\n"} | OLD
         of = {"words": ("-bph", "a"), "pipes": {"in.w": None}, "closed": closed, "meanwhile": watched(closed)}
-        yield Row(f"closed streams {closed}", b"", 0, files, {"a.c": text}, **of)
+        yield Case(f"closed streams {closed}", b"", 0, files, {"a.c": text}, **of)
 
 
-def rows():
+def cases():
     for some in (left_drafts, kept_drafts, held_drafts, lost_drafts, closed_streams):
         yield from some()
     yield from as_both(drafts_that_were_read())
