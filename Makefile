@@ -32,7 +32,7 @@ WDEP ?= $(DESTDIR)$(bindir)/$(PROGRAM_PREFIX)wdep$(PROGRAM_SUFFIX)
 KIT := rattle-kit-13
 SOURCES := HANDLES crates.txt $(shell find crates -name out -prune -o -type f \( -name '*.rt' -o -name '*.antt' \) -print)
 NOT_PROVED := echo 'NOTHING IN THIS BUILD IS PROVED. "make build" proves all programs (20 minutes the first time, on four processors),'; \
-    echo 'and "make check" tests the proofs, the contracts and the programs as well (about an hour).'
+    echo 'and "make check" tests the proofs, the contracts and the programs as well (an hour or more).'
 
 .PHONY: all help demo build check format faults dist install uninstall installcheck bench clean distclean
 
