@@ -32,7 +32,7 @@ pub use Rattle.cweb_texts.specs.inner.ByteIds.{IsByteId, AreByteIds}
 pub use Rattle.cweb_texts.specs.inner.Chains.{IsLink, AreChains}
 pub use Rattle.cweb_texts.specs.inner.Edges.{AreStoredEdges, IsStoredEdge, is_high, is_numeric, is_known_edge}
 pub use Rattle.cweb_texts.specs.inner.Edges.{punctuator_edge, punctuator_edge_by}
-pub use Rattle.cweb_texts.specs.inner.Keys.{AreBytes, short_key, middle_key, long_key, home_bucket_of}
+pub use Rattle.cweb_texts.specs.inner.Keys.{AreBytes, short_key, middle_key, long_key, hashed_key, home_bucket_of}
 pub use Rattle.cweb_texts.specs.inner.StringLists.{strings_from, AreEnds, string_start, IsFromStart, text_bytes}
 pub use Rattle.cweb_texts.specs.inner.StringLists.{string_at}
 pub use Rattle.cweb_texts.specs.inner.StringTables.{StringTableModel, InternsWord, has_word, table_model, AddsString}

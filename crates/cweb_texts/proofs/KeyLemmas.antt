@@ -1,5 +1,5 @@
 -- The key of a word, by its length.
-use Rattle.cweb_texts.proofs.Common.{◌≡◌, ℕ, zero, suc, ◌+◌, ◌-◌, ◌<◌, ◌≤◌, true, false, List, [], ◌∷◌, ◌++◌, length, take, drop, get_or, refl, sym, ◌∙◌, ap, arith, length-drop, ltb-true, ltb-false, nat_lt, slice_range, w32, w64, from_le_bytes, take_all, take-append-drop, drop-drop, same_number_lists, le_bytes_4, le_bytes_8, length-take-le, Key, AreBytes, short_key, middle_key, long_key}
+use Rattle.cweb_texts.proofs.Common.{◌≡◌, ℕ, zero, suc, ◌+◌, ◌-◌, ◌<◌, ◌≤◌, true, false, List, [], ◌∷◌, ◌++◌, length, take, drop, get_or, refl, sym, ◌∙◌, ap, arith, length-drop, ltb-true, ltb-false, nat_lt, slice_range, w32, w64, from_le_bytes, take_all, take-append-drop, drop-drop, same_number_lists, le_bytes_4, le_bytes_8, length-take-le, Key, AreBytes, short_key, middle_key, long_key, hashed_key}
 use Rattle.cweb_texts.specs.inner.Keys.{key_of}
 
 less : (n m : ℕ) → n < m → nat_lt n m ≡ true
@@ -20,9 +20,14 @@ pub key-middle : (word : List ℕ) → 4 ≤ length word → length word < 8 →
 unfolding key_of
 key-middle word h g = cc (not-less (length word) 4 h, less (length word) 8 g)
 
-pub key-long : (word : List ℕ) → 8 ≤ length word → key_of word ≡ long_key word
+pub key-long : (word : List ℕ) → 8 ≤ length word → length word ≤ 16 → key_of word ≡ long_key word
 unfolding key_of
-key-long word h = cc (not-less (length word) 4 (omega (arith, h)), not-less (length word) 8 h)
+key-long word h g = cc (not-less (length word) 4 (omega (arith, h)), not-less (length word) 8 h, not-less 16 (length word) g)
+
+pub key-hashed : (word : List ℕ) → 16 < length word → key_of word ≡ hashed_key word
+unfolding key_of
+key-hashed word h =
+    cc (not-less (length word) 4 (omega (arith, h)), not-less (length word) 8 (omega (arith, h)), less 16 (length word) h)
 
 -- A key tells a word of at most 16 bytes by its length.
 take-bytes : (n : ℕ) (bytes : List ℕ) → AreBytes bytes → AreBytes (take n bytes)
@@ -113,6 +118,7 @@ key-tells q w len few all_q all_w same =
             | false ↦ λ g.
                 let eight : 8 ≤ length q = ltb-false (length q) 8 g in
                 long-same q w len eight few all_q all_w
-                (sym (key-long q eight) ∙ same ∙ key-long w (omega (arith, len, eight)))
+                (sym (key-long q eight few) ∙ same
+                ∙ key-long w (omega (arith, len, eight)) (omega (arith, len, few)))
           ]) refl
     ]) refl

@@ -11,7 +11,7 @@ ghost use Rattle.cweb_texts.specs.inner.Words.{IsInserted};
 ghost use Rattle.cweb_texts.specs.inner.StringTables.{AddsString, InternsWord, has_word, empty_table};
 
 use crate::strings::StringList;
-use crate::words::key::Key;
+use crate::words::key::{KEY_BYTES, Key};
 use crate::words::table::WordTable;
 use crate::words::word::establish_byte_range;
 use std::alloc::{AllocError, Global};
@@ -61,16 +61,28 @@ impl WordInterner {
     }
 
     /// Interns a word, and returns its number. A refused call changes nothing. The fast path finds a short word that is the
-    /// latest of its bucket.
+    /// latest of its bucket. It calls no function, so long words, whose key is a hash, leave it first.
     pub fn intern_word(&mut self, word: &[u8]) -> Result<usize, AllocError>
         ensures ok { IfOk result (λ number. InternsWord self.old word.now number self.new) }
         ensures err { OnErr result (self.new ≡ self.old) }
     {
+        if word.len() > KEY_BYTES {
+            return self.intern_long(word);
+        }
         let key = Key::of(word);
         match self.table.latest(key) {
             Some(latest) if latest.is_short(key, word) => Ok(latest.number as usize),
             _ => self.intern_uncached(key, word),
         }
+    }
+
+    // Interns a word that its key and its length do not determine.
+    #[inline(never)]
+    fn intern_long(&mut self, word: &[u8]) -> Result<usize, AllocError>
+        ensures ok { IfOk result (λ number. InternsWord self.old word.now number self.new) }
+        ensures err { OnErr result (self.new ≡ self.old) }
+    {
+        self.intern_uncached(Key::of(word), word)
     }
 
     // Interns a word that the fast path did not find.

@@ -2,13 +2,13 @@
 
 ghost use Rattle.std.specs.Prelude.{◌≡◌, ◌≤◌, length, slice_index_or};
 ghost use Rattle.std.specs.Int.{w32, w64, from_le_bytes};
-ghost use Rattle.cweb_texts.specs.inner.Keys.{key_of, home_bucket_of, key_hash};
+ghost use Rattle.cweb_texts.specs.inner.Keys.{key_of, hash_of, home_bucket_of, key_hash};
 
 /// The first bytes of a word and its last bytes, as two numbers. With the length they determine a word of at most
-/// 16 bytes.
+/// 16 bytes. In the key of a longer word the first number is a hash of all bytes.
 #[derive(Clone, Copy)]
 pub struct Key {
-    /// The number that the first bytes make.
+    /// The number that the first bytes make, or the hash of a long word.
     pub first: u64,
     /// The number that the last bytes make.
     pub last: u64,
@@ -20,8 +20,15 @@ const LAST_FACTOR: u64 = 0x8EBC_6AF0_9C88_C6E3;
 
 const BOTH_FACTOR: u64 = 0x9FB2_1C65_1E98_DF25;
 
+// 2 to the 64th, divided by the golden ratio.
+const HASH_FACTOR: u64 = 0x9E37_79B9_7F4A_7C15;
+
+/// The longest word whose key and length determine it.
+pub const KEY_BYTES: usize = 16;
+
 impl Key {
     /// The key of a word.
+    #[inline(always)]
     pub fn of(word: &[u8]) -> Key
         ensures { result ≡ key_of word.now }
     {
@@ -38,11 +45,26 @@ impl Key {
                 last: four(&word[len - 4..]),
             };
         }
+        if len > KEY_BYTES {
+            return Key {
+                first: hash(word),
+                last: eight(&word[len - 8..]),
+            };
+        }
         Key {
             first: eight(&word[..8]),
             last: eight(&word[len - 8..]),
         }
     }
+}
+
+// All bytes of a word, mixed into one number.
+fn hash(word: &[u8]) -> u64
+    ensures { result ≡ hash_of word.now }
+{
+    word.iter().fold(0, |hash: u64, byte| {
+        hash.wrapping_mul(HASH_FACTOR).wrapping_add(*byte as u64)
+    })
 }
 
 /// The bucket of a key in a table of so many slots.

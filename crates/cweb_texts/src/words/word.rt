@@ -5,10 +5,7 @@ ghost use Rattle.cweb_texts.specs.inner.Keys.{AreBytes, key_of};
 ghost use Rattle.cweb_texts.specs.inner.Words.{DescribesString, word_string};
 
 use crate::strings::StringList;
-use crate::words::key::Key;
-
-// The key and the length determine a word of at most so many bytes.
-const KEY_BYTES: usize = 16;
+use crate::words::key::{KEY_BYTES, Key};
 
 /// A word: the key, the length and the number of its string.
 #[derive(Clone, Copy)]

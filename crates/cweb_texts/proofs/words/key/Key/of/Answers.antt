@@ -1,5 +1,5 @@
-use Rattle.cweb_texts.proofs.Common.{◌≡◌, ◌+◌, ◌-◌, ◌*◌, length, sym, ◌∙◌, ap, w32, w64, from_le_bytes, Key, short_key, middle_key, long_key}
-use Rattle.cweb_texts.proofs.KeyLemmas.{key-short, key-middle, key-long, tail}
+use Rattle.cweb_texts.proofs.Common.{◌≡◌, ◌+◌, ◌-◌, ◌*◌, length, sym, ◌∙◌, ap, w32, w64, from_le_bytes, Key, short_key, middle_key, long_key, hashed_key}
+use Rattle.cweb_texts.proofs.KeyLemmas.{key-short, key-middle, key-long, key-hashed, tail}
 use Rattle.cweb_texts.proofs.words.key.Key.of.Goals as goal
 
 pub returns-then-len-lt4 : goal.returns-then-len-lt4
@@ -24,12 +24,22 @@ returns-then-len-lt8 c =
     } in
     is ∙ sym (key-middle c.args.word.now c.if-len-lt4.false c.if-len-lt8.true)
 
+pub returns-then-len-gt-KEY_BYTES : goal.returns-then-len-gt-KEY_BYTES
+returns-then-len-gt-KEY_BYTES c =
+    let word = c.args.word.now in
+    let made : Key = record { first = c.hash.result; last = c.eight.result } in
+    let is : made ≡ hashed_key c.args.word.now = λ i. record {
+      first = c.hash.ensures i;
+      last = (c.eight.ensures ∙ ap (from_le_bytes w64) (tail word (length word - 8))) i;
+    } in
+    is ∙ sym (key-hashed c.args.word.now c.if-len-gt-KEY_BYTES.true)
+
 pub returns : goal.returns
 returns c =
     let word = c.args.word.now in
-    let made : Key = record { first = c.eight.result; last = c.eight-2.result } in
+    let made : Key = record { first = c.eight-2.result; last = c.eight-3.result } in
     let is : made ≡ long_key c.args.word.now = λ i. record {
-      first = c.eight.ensures i;
-      last = (c.eight-2.ensures ∙ ap (from_le_bytes w64) (tail word (length word - 8))) i;
+      first = c.eight-2.ensures i;
+      last = (c.eight-3.ensures ∙ ap (from_le_bytes w64) (tail word (length word - 8))) i;
     } in
-    is ∙ sym (key-long c.args.word.now c.if-len-lt8.false)
+    is ∙ sym (key-long c.args.word.now c.if-len-lt8.false c.if-len-gt-KEY_BYTES.false)
