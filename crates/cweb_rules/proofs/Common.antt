@@ -17,7 +17,8 @@ pub use Rattle.std.specs.Cmp.{second_so}
 pub use Rattle.std.specs.Fmt.{decimal}
 pub use Rattle.std.specs.List.{prefix_len, list_all, flat_map, position_or_len, fold, starts_with}
 pub use Rattle.std.specs.Option.{unwrap_or}
-pub use Rattle.std.specs.Prelude.{codes, if◌then◌else◌, nat_le, nat_lt, min}
+pub use Rattle.std.specs.Prelude.{codes, if◌then◌else◌, nat_le, nat_lt, min, bytes_eq}
+pub use Rattle.std.specs.List.{list_any}
 pub use Rattle.cweb_files.specs.declared.place.Place.{Place}
 pub use Rattle.memchr.specs.Find.{IsFirstByte, is_byte2, is_byte3, is_byte}
 pub use Rattle.cweb_rules.specs.Bytes.{is_blank, is_line_end, is_word_byte, begins, first_is, starts_section, is_one_of}
@@ -65,9 +66,8 @@ pub use Rattle.cweb_rules.specs.inner.LineItems.{c_opens, tex_opens, IsLine, AtL
 pub use Rattle.cweb_rules.specs.inner.LineItems.{opens_in, is_unclosed}
 pub use Rattle.cweb_rules.specs.inner.Looks.{look_of, reached}
 pub use Rattle.cweb_rules.specs.inner.PlainBytes.{is_raw_special, is_special, is_plain}
-pub use Rattle.cweb_rules.specs.inner.PrefixTables.{first_len, descends, second_is}
+pub use Rattle.cweb_rules.specs.inner.Punctuators.{seconds, second_is, is_listed, begins_triple, begins_pair}
 pub use Rattle.cweb_rules.specs.inner.Rules.{c_rule, c_match_by, is_settled}
-pub use Rattle.cweb_rules.specs.inner.Tables.{seconds}
 pub use Rattle.cweb_rules.specs.laws.Follows.{is_quiet, JoinsAll, IsToken, all_join, after_word, after_number}
 pub use Rattle.cweb_rules.specs.laws.Follows.{joins_last, continues_lexeme, emits_at, is_token, begins_as}
 pub use Rattle.cweb_rules.specs.laws.Pays.{at_line_ends, Pays, FitsAndPays}

@@ -1,28 +1,57 @@
--- If longer entries come first, the first entry that matches is the longest.
-use Rattle.cweb_rules.proofs.Common.{◌≡◌, ℕ, ◌≤◌, true, List, [], ◌∷◌, ◌==◌, cond, length, slice_index_or, refl, sym, ◌∙◌, subst, arith, nat_tests, longest, first_len, descends}
+-- The longest listed punctuator has three bytes, or two, or there is none.
+use Rattle.cweb_rules.proofs.Common.{◌≡◌, ℕ, ◌≤◌, Bool, true, false, List, [], ◌∷◌, refl, sym, ◌∙◌, ap, arith, nat_tests, bytes_eq, list_any, if◌then◌else◌, listed, longest, begins_triple, begins_pair}
 
 pub longest_pos : (ps : List (List ℕ)) (t : List ℕ) → 1 ≤ longest ps t
 longest_pos [] t = omega arith
 longest_pos (p ∷ ps) t = omega (arith, longest_pos ps t)
 
-pub longest-le : (ps : List (List ℕ)) (t : List ℕ) (m : ℕ) → descends m ps ≡ true
-    → (longest ps t ≤ m) × (1 ≤ m) × (longest ps t ≡ first_len ps t)
-longest-le [] t m d = let h : 1 ≤ m = grind (arith, nat_tests) in (h, h, refl)
-longest-le (p ∷ ps) t m d = grind (arith, longest-le ps t (length p), longest_pos ps t)
+-- Each entry has two bytes or three.
+abbrev pub are_short : List (List ℕ) → Bool
+are_short [] = true
+are_short ((x ∷ y ∷ []) ∷ ps) = are_short ps
+are_short ((x ∷ y ∷ z ∷ []) ∷ ps) = are_short ps
+are_short (p ∷ ps) = false
 
--- The entries that begin with a byte, which are the only ones that can match.
-abbrev pub starting : ℕ → List (List ℕ) → List (List ℕ)
-starting b [] = []
-starting b ([] ∷ ps) = starting b ps
-starting b ((x ∷ p) ∷ ps) = cond (x == b) ((x ∷ p) ∷ starting b ps) (starting b ps)
+abbrev has : List (List ℕ) → List ℕ → Bool
+has ps sign = list_any (bytes_eq sign) ps
 
-longest-starting : (b : ℕ) (ps : List (List ℕ)) (t : List ℕ) → longest (starting b ps) (b ∷ t) ≡ longest ps (b ∷ t)
-longest-starting b [] t = refl
-longest-starting b ([] ∷ ps) t = omega (arith, longest-starting b ps t)
-longest-starting b ((x ∷ p) ∷ ps) t = grind (arith, starting b ps, longest-starting b ps t, longest_pos ps (b ∷ t))
+of-three : (ps : List (List ℕ)) (a b c : ℕ) (t : List ℕ) → are_short ps ≡ true
+    → longest ps (a ∷ b ∷ c ∷ t)
+    ≡ (if has ps (a ∷ b ∷ c ∷ []) then 3 else (if has ps (a ∷ b ∷ []) then 2 else 1))
+of-three [] a b c t h = refl
+of-three ([] ∷ ps) a b c t h = absurd (cc)
+of-three ((x ∷ []) ∷ ps) a b c t h = absurd (cc)
+of-three ((x ∷ y ∷ []) ∷ ps) a b c t h = grind (arith, nat_tests, of-three ps a b c t h)
+of-three ((x ∷ y ∷ z ∷ []) ∷ ps) a b c t h = grind (arith, nat_tests, of-three ps a b c t h)
+of-three ((x ∷ y ∷ z ∷ w ∷ p) ∷ ps) a b c t h = absurd (cc)
 
-pub among : (ps : List (List ℕ)) (b : ℕ) (t : List ℕ) (m : ℕ) → descends m (starting b ps) ≡ true
-    → 1 ≤ length t → slice_index_or t 0 0 ≡ b → first_len (starting b ps) t ≡ longest ps t
-among ps b [] m d h e = absurd (omega (arith, h))
-among ps b (x ∷ t) m d h e = sym ((longest-le (starting b ps) (x ∷ t) m d).2)
-    ∙ subst (λ y. longest (starting b ps) (y ∷ t) ≡ longest ps (y ∷ t)) (sym e) (longest-starting b ps t)
+of-two : (ps : List (List ℕ)) (a b : ℕ) → are_short ps ≡ true
+    → longest ps (a ∷ b ∷ []) ≡ (if has ps (a ∷ b ∷ []) then 2 else 1)
+of-two [] a b h = refl
+of-two ([] ∷ ps) a b h = absurd (cc)
+of-two ((x ∷ []) ∷ ps) a b h = absurd (cc)
+of-two ((x ∷ y ∷ []) ∷ ps) a b h = grind (arith, nat_tests, of-two ps a b h)
+of-two ((x ∷ y ∷ z ∷ []) ∷ ps) a b h = grind (arith, nat_tests, of-two ps a b h)
+of-two ((x ∷ y ∷ z ∷ w ∷ p) ∷ ps) a b h = absurd (cc)
+
+of-one : (ps : List (List ℕ)) (a : ℕ) → are_short ps ≡ true → longest ps (a ∷ []) ≡ 1
+of-one [] a h = refl
+of-one ([] ∷ ps) a h = absurd (cc)
+of-one ((x ∷ []) ∷ ps) a h = absurd (cc)
+of-one ((x ∷ y ∷ []) ∷ ps) a h = grind (arith, nat_tests, of-one ps a h)
+of-one ((x ∷ y ∷ z ∷ []) ∷ ps) a h = grind (arith, nat_tests, of-one ps a h)
+of-one ((x ∷ y ∷ z ∷ w ∷ p) ∷ ps) a h = absurd (cc)
+
+listed-is : (t : List ℕ) → longest listed t ≡ (if begins_triple t then 3 else (if begins_pair t then 2 else 1))
+listed-is [] = refl
+listed-is (a ∷ []) = of-one listed a refl
+listed-is (a ∷ b ∷ []) = of-two listed a b refl
+listed-is (a ∷ b ∷ c ∷ t) = of-three listed a b c t refl
+
+pub triple-len : (t : List ℕ) → begins_triple t ≡ true → longest listed t ≡ 3
+triple-len t h = listed-is t ∙ ap (λ b. if b then 3 else (if begins_pair t then 2 else 1)) h
+
+pub other-len : (t : List ℕ) (pair : Bool) → begins_triple t ≡ false → pair ≡ begins_pair t
+    → longest listed t ≡ (if pair then 2 else 1)
+other-len t pair h g = listed-is t ∙ ap (λ b. if b then 3 else (if begins_pair t then 2 else 1)) h
+    ∙ ap (λ b. if b then 2 else 1) (sym g)

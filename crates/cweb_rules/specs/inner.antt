@@ -3,8 +3,7 @@ pub mod Firsts
 pub mod Quotes
 pub mod WholeLiterals
 pub mod ByteClasses
-pub mod Tables
-pub mod PrefixTables
+pub mod Punctuators
 pub mod Looks
 pub mod PlainBytes
 pub mod Rules
