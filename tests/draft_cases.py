@@ -7,11 +7,14 @@ import time
 from folder_cases import NO_ERRORS, Case, as_both, section
 from folder_runs import Missed
 from output_cases import FIRST, FULL, LARGE, MAIN, NULL, OLD, OTHER, WEB, WELL
-from output_cases import log_of, not_opened, not_written, web_with, whole_large
+from output_cases import log_of, not_opened, not_written, web_with, whole
 
 DRAFT = "a.c\x7f"
-# so long it may take a run to come to where it is watched
-SECONDS = 60
+# how many seconds a run may take to come to where it is watched
+SECONDS = 300
+# a draft this long is written in many steps, so that a run can be stopped between two of them
+LONG = LARGE * 20
+WHOLE = whole(LONG)
 
 
 def left_drafts():
@@ -26,7 +29,7 @@ def left_drafts():
     for kind, to in {"a full device": "/dev/full", "itself": DRAFT}.items():
         yield Case(f"a draft that is a link to {kind}", WELL, 0, WEB | OLD, {"a.c": MAIN}, links={DRAFT: to}, **of)
         large = {"a.w": b"@ @c\n" + LARGE} | OLD
-        yield Case(f"a large draft's link to {kind}", WELL, 0, large, {"a.c": whole_large()}, links={DRAFT: to}, **of)
+        yield Case(f"a large draft's link to {kind}", WELL, 0, large, {"a.c": whole(LARGE)}, links={DRAFT: to}, **of)
     for kind, name in {"another file": "other", "its output": "a.c"}.items():
         yield Case(f"a draft that is {kind} too", WELL, 0, WEB | OLD | OTHER, {"a.c": MAIN}, names={DRAFT: name}, **of)
     yield Case("a draft that is a pipe", WELL, 0, WEB | OLD, {"a.c": MAIN}, pipes={DRAFT: (b"x", False)}, **of)
@@ -95,29 +98,25 @@ def come_to(process, is_there):
             raise Missed
 
 
-def stop(process):
-    """Stops a run that writes its draft."""
-
-    def is_begun():
-        return os.path.lexists(DRAFT) and os.lstat(DRAFT).st_size > 0
-
+def is_in_part():
+    """Whether the draft has a part of the output. Once it has all, the run may have checked for the last time that it is there."""
     try:
-        come_to(process, is_begun)
-        process.send_signal(signal.SIGSTOP)
-        os.waitid(os.P_PID, process.pid, os.WSTOPPED | os.WEXITED | os.WNOWAIT)
-        if not is_begun():
-            raise Missed
-    except (FileNotFoundError, Missed):
-        process.send_signal(signal.SIGCONT)
-        raise Missed from None
+        return 0 < os.lstat(DRAFT).st_size < len(WHOLE)
+    except FileNotFoundError:
+        return False
 
 
 def stopped_while(act):
-    """Has something done while a run stands still that writes its draft."""
+    """Does something while a run is stopped that has written a part of its draft."""
 
     def meanwhile(process):
-        stop(process)
+        come_to(process, is_in_part)
+        process.send_signal(signal.SIGSTOP)
+        os.waitid(os.P_PID, process.pid, os.WSTOPPED | os.WEXITED | os.WNOWAIT)
         try:
+            # it may have gone on before it was stopped
+            if not is_in_part():
+                raise Missed
             return list(act(process) or ())
         finally:
             process.send_signal(signal.SIGCONT)
@@ -145,8 +144,8 @@ def put_other(process):
 
 def lost_drafts():
     """What another process does to a draft."""
-    large, whole, failed = {"a.w": b"@ @c\n" + LARGE} | OLD, {"a.c": whole_large()}, not_written("a.c")
-    yield Case("a draft that is locked", WELL, 0, large, whole, meanwhile=stopped_while(try_lock))
+    large, failed = {"a.w": b"@ @c\n" + LONG} | OLD, not_written("a.c")
+    yield Case("a draft that is locked", WELL, 0, large, {"a.c": WHOLE}, meanwhile=stopped_while(try_lock))
     yield Case("a draft that is deleted", failed, 1, large, meanwhile=stopped_while(take_away))
     of = {"meanwhile": stopped_while(put_other), "moved": {"other": DRAFT}}
     yield Case("a draft that is replaced by a file", failed, 1, large | OTHER, **of)

@@ -12,11 +12,11 @@ from dataclasses import replace
 from shared import shown
 from folder_nodes import all_names, nodes_here, owner, wrong_nodes
 
-# the longest time that a run may take
-SECONDS = 60
-# the longest time that a pipe may take to end after the run
-DRAINED = 5
-# how long another process holds a lock
+# how many seconds a run may take: many, since a machine may run other tests beside this one
+SECONDS = 300
+# how many seconds a pipe may take to end after the run
+DRAINED = 60
+# how many seconds another process holds a lock. A run that comes to it later passes, too
 HELD = 0.3
 
 
@@ -208,6 +208,9 @@ def started(program, case):
         except subprocess.TimeoutExpired:
             process.kill()
             return (None, b"", b""), ["it did not end"]
+        except Missed:
+            process.kill()
+            raise
     for taker in takers:
         taker.join(DRAINED)
     for name, text in case.drains.items():

@@ -1,7 +1,7 @@
 """The runs of `folders` that find a link under an output's name, each as another user and as the superuser."""
 from folder_cases import NO_ERRORS, Case, as_both, section
 from output_cases import FIRST, LARGE, MAIN, OTHER, WEB, WELL
-from output_cases import log_of, not_opened, not_written, web_with, whole_large
+from output_cases import log_of, not_opened, not_written, web_with, whole
 
 # the text of the other file
 SECOND = section(2, 2, b"y") + b"\n"
@@ -41,7 +41,7 @@ def device_links():
     chain = {"a.c": "link", "link": "d/link", "d/link": "../pipe"}
     for kind, links in {"a link": {"a.c": "pipe"}, "a chain of links": chain}.items():
         yield Case(f"{kind} to a pipe, a small text", WELL, 0, WEB | {"d": None}, links=links, drains={"pipe": MAIN})
-        yield Case(f"{kind} to a pipe, a large text", WELL, 0, large | {"d": None}, links=links, drains={"pipe": whole_large()})
+        yield Case(f"{kind} to a pipe, a large text", WELL, 0, large | {"d": None}, links=links, drains={"pipe": whole(LARGE)})
     yield Case("a chain of links to a device", WELL, 0, WEB, links={"a.c": "link", "link": "/dev/null"})
     yield Case("a draft beside a link to a device stays", WELL, 0, WEB | {"a.c\x7f": b"draft"}, links={"a.c": "/dev/null"})
     yield Case("a link to a socket as main file", not_opened("a.c"), 1, WEB, links={"a.c": "socket"}, sockets=("socket",))

@@ -35,8 +35,9 @@ def not_written(*names):
 WELL = log_of("a.c") + NO_ERRORS
 
 
-def whole_large():
-    return section(1, 1, b"\n" + LARGE[:-1]) + b"\n"
+def whole(lines):
+    """The main file of a web with these lines of C text."""
+    return section(1, 1, b"\n" + lines[:-1]) + b"\n"
 
 
 def modes():
@@ -130,7 +131,7 @@ def devices():
     for kind, web in {"a small": WEB, "a large": large}.items():
         yield Case(f"{kind} main file on a null device", WELL, 0, web, devices={"a.c": NULL})
         yield Case(f"{kind} main file on a full device", not_written("a.c"), 1, web, devices={"a.c": FULL})
-        text = MAIN if web is WEB else whole_large()
+        text = MAIN if web is WEB else whole(LARGE)
         yield Case(f"{kind} main file into a pipe", WELL, 0, web, drains={"a.c": text})
     log = log_of("a.c", "f") + NO_ERRORS
     yield Case("another file on a null device", log, 0, web_with("f") | OLD, {"a.c": FIRST}, devices={"f": NULL})

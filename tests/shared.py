@@ -5,8 +5,8 @@ import subprocess
 import sys
 
 HERE = os.path.dirname(os.path.abspath(__file__))
-# the time limit of a run
-SECONDS = 30
+# the time limit of a run: long, since a machine may run other tests beside this one
+SECONDS = 120
 # a program is given up after this many failed runs
 SHOWN = 20
 BANNER = b"This is CTANGLE, profile of CWEB 3\n"
