@@ -37,12 +37,12 @@ pub use Rattle.cweb_print.specs.declared.buffer.TheConstants.{ROOM}
 pub use Rattle.cweb_print.specs.declared.printer.Printer.{Printer}
 pub use Rattle.cweb_print.specs.declared.printer.class.Class.{Class}
 pub use Rattle.cweb_print.specs.declared.printer.left.Left.{Left}
-pub use Rattle.cweb_print.specs.inner.BufferedPrinting.{AppendsToken, MovesBy, PrintsBy}
+pub use Rattle.cweb_print.specs.inner.BufferedPrinting.{MovesBy, PrintsBy}
 pub use Rattle.cweb_print.specs.inner.Classes.{class_is_glue, class_is_literal, class_is_number, class_is_operator}
 pub use Rattle.cweb_print.specs.inner.Classes.{class_is_point, class_is_wordlike, is_apart, added, continuation_bytes}
 pub use Rattle.cweb_print.specs.inner.Classes.{macro_by, file_by, separator, all_added, begin_by, class_is_line_start}
 pub use Rattle.cweb_print.specs.inner.Classes.{own_line_bytes}
-pub use Rattle.cweb_print.specs.inner.DirectTokens.{direct_unless_dropped, AreDirect, is_direct}
+pub use Rattle.cweb_print.specs.inner.DirectTokens.{AreDirect, is_direct}
 pub use Rattle.cweb_print.specs.inner.EdgeSpacing.{class_after_edge, edge_is_apart, left_after_edge, continued_by}
 pub use Rattle.cweb_print.specs.inner.EdgeSpacing.{edge_ends_line}
 pub use Rattle.cweb_print.specs.inner.Flushing.{blank_where}

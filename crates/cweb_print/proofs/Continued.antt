@@ -1,9 +1,8 @@
--- Direct tokens of a macro: their output, and the state after them.
-use Rattle.cweb_print.proofs.Common.{arith, ◌≡◌, ◌++◌, ◌∙◌, ℕ, Bool, true, false, cond, List, [], Option, None, Some, ap, append_assoc, refl, sym, list_any, IfSome, Token, Word, Number, Literal, Verbatim, Punct, Blank, Newline, Edge, TokenBytesModel, first_is, is_numeric, direct_bytes, punctuator_edge, punctuator_edge_by, class_after_edge, continued_by, edge_ends_line, left_after_edge, edge_is_apart, added, continuation_bytes, left_after_token, macro_by, blank_where, is_high, plain_bytes, word_bytes, is_operator}
+-- Direct tokens of a macro: their output.
+use Rattle.cweb_print.proofs.Common.{arith, ◌≡◌, ◌++◌, ◌∙◌, ℕ, Bool, true, false, cond, List, [], Option, None, Some, ap, append_assoc, refl, list_any, IfSome, Token, Word, Number, Literal, Verbatim, Punct, Blank, Newline, Edge, TokenBytesModel, first_is, is_numeric, direct_bytes, punctuator_edge, punctuator_edge_by, class_after_edge, continued_by, edge_ends_line, left_after_edge, edge_is_apart, added, continuation_bytes, macro_by, blank_where, is_high, plain_bytes, word_bytes, is_operator}
 use Rattle.cweb_texts.specs.declared.edges.Edge.TheVariants as edge_kind
-use Rattle.cweb_print.proofs.DirectEdges.{apart-direct, class-direct, string-direct}
+use Rattle.cweb_print.proofs.DirectEdges.{apart-direct}
 use Rattle.cweb_print.proofs.Bytes.{ascii_word}
-use Rattle.cweb_print.proofs.DirectPrinting.{leaves-direct}
 
 -- The bytes of an optional result.
 abbrev continued_in : Option TokenBytesModel → List ℕ
@@ -48,11 +47,6 @@ pub added-continued : (replaced : ℕ → List ℕ) (last : Edge) (t : Token) (l
     → added (macro_by replaced) (left_after_edge last) t
     ≡ blank_where (edge_is_apart (class_after_edge last) l.edge) ++ continued_by l
 added-continued replaced last t l h = cc (apart-direct (class_after_edge last) t l h, string-continued replaced t l h)
-
-pub left-continued : (last : Edge) (t : Token) (l : TokenBytesModel) → direct_bytes t ≡ Some l
-    → left_after_token (left_after_edge last) t ≡ left_after_edge l.edge
-left-continued last t l h = leaves-direct (left_after_edge last) t l.string (string-direct t l h)
-    ∙ (λ i. record { class = sym (class-direct t l h) i; joined = false })
 
 -- Weakens the property of an optional result.
 pub if_some : (P Q : ℕ → Type 0) (r : Option ℕ) → ((n : ℕ) → P n → Q n) → IfSome r P → IfSome r Q

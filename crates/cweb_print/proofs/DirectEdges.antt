@@ -1,5 +1,5 @@
 -- Direct tokens: their edges, classes, and the blanks before them.
-use Rattle.cweb_print.proofs.Common.{arith, ◌≡◌, ◌==◌, ◌++◌, ◌∙◌, ℕ, Bool, true, false, cond, ◌||◌, ◌&&◌, not, List, [], ◌∷◌, Option, None, Some, refl, ap, sym, option_map, list_any, eqb-true, Token, Word, Number, Literal, Verbatim, Punct, Blank, Newline, Edge, TokenBytesModel, first_is, is_numeric, last_is, direct_bytes, punctuator_edge, punctuator_edge_by, Class, class_after_edge, left_after_edge, edge_is_apart, class_by, class_is_glue, class_is_literal, class_is_number, class_is_operator, class_is_point, class_is_wordlike, class_of, is_apart, AppendsToken, blank_where, is_high, direct_unless_dropped, is_operator}
+use Rattle.cweb_print.proofs.Common.{arith, ◌≡◌, ◌==◌, ◌∙◌, ℕ, Bool, true, false, cond, ◌||◌, ◌&&◌, not, List, [], ◌∷◌, Option, None, Some, refl, ap, sym, list_any, eqb-true, Token, Word, Number, Literal, Verbatim, Punct, Blank, Newline, Edge, TokenBytesModel, first_is, is_numeric, last_is, direct_bytes, punctuator_edge, punctuator_edge_by, Class, class_after_edge, edge_is_apart, class_by, class_is_glue, class_is_literal, class_is_number, class_is_operator, class_is_point, class_is_wordlike, class_of, is_apart, is_high, is_operator}
 use Rattle.cweb_texts.specs.declared.edges.Edge.TheVariants as edge_kind
 use Rattle.cweb_print.specs.declared.printer.class.Class.TheVariants as class
 
@@ -12,10 +12,6 @@ edge_of_class : (b : List ℕ) (d : Edge) (l : TokenBytesModel) (high : Bool)
     → cond high None (Some (record { string = b; edge = d })) ≡ Some l → l.edge ≡ d
 edge_of_class b d l true h = cc
 edge_of_class b d l false h = ap edge_in (sym h)
-
-pub string-direct : (t : Token) (l : TokenBytesModel) → direct_bytes t ≡ Some l
-    → direct_unless_dropped false t ≡ Some l.string
-string-direct t l h = ap (option_map (λ (m : TokenBytesModel). m.string)) h
 
 sign-class : (s o p q : Bool) → class_after_edge (punctuator_edge_by s o p q) ≡ class_by p q
 sign-class true o true q = refl
@@ -125,10 +121,3 @@ apart-direct c (Punct b) l h =
 apart-direct c Blank l h = blank-apart c ∙ ap (λ o. edge_is_apart c (edge_in o)) h
 apart-direct c Newline l h = line_end-apart c ∙ ap (λ o. edge_is_apart c (edge_in o)) h
 apart-direct c _ l h = cc
-
--- The bytes of a token were appended after one with an edge.
-pub buffers-direct : (last : Edge) (t : Token) (l : TokenBytesModel) (old new : List ℕ) → direct_bytes t ≡ Some l
-    → new ≡ old ++ (blank_where (edge_is_apart (class_after_edge last) l.edge) ++ l.string)
-    → AppendsToken (left_after_edge last) t (left_after_edge l.edge) old new
-buffers-direct last t l old new h e =
-    grind (arith, string-direct t l h, class-direct t l h, apart-direct (class_after_edge last) t l h)

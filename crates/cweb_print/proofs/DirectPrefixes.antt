@@ -1,14 +1,7 @@
 -- Printing of consecutive direct tokens.
-use Rattle.cweb_print.proofs.Common.{arith, ◌≡◌, ◌++◌, ◌∙◌, [], ◌∷◌, refl, sym, subst, ap, append_assoc, append-nil, ℕ, List, true, ◌&&◌, None, Some, Option, is_some, option_map, list_all, Token, TokenBytesModel, direct_bytes, print, Left, Printer, is_apart, left_after_tokens, left_after_token, AreDirect, blank_where, is_direct, left_in_printer, setting_of, AppendsToken, MovesBy, PrintsBy, second_so}
-use Rattle.cweb_print.proofs.DirectPrinting.{leaves-direct, direct-open, print-direct}
+use Rattle.cweb_print.proofs.Common.{arith, ◌≡◌, ◌++◌, ◌∙◌, [], ◌∷◌, refl, sym, subst, ap, append_assoc, append-nil, ℕ, List, true, ◌&&◌, is_some, list_all, Token, TokenBytesModel, direct_bytes, print, Left, Printer, left_after_tokens, left_after_token, AreDirect, blank_where, is_direct, left_in_printer, setting_of, MovesBy, PrintsBy, second_so, Some, Edge, class_after_edge, edge_is_apart, left_after_edge}
+use Rattle.cweb_print.proofs.DirectPrinting.{leaves-direct, print-direct}
 use Rattle.cweb_print.proofs.Steps.{leaves-push}
-
--- A direct token has its bytes.
-some-direct : (o : Option TokenBytesModel) (string : List ℕ)
-    → option_map (λ (l : TokenBytesModel). l.string) o ≡ Some string
-    → is_some o ≡ true
-some-direct None string h = cc
-some-direct (Some l) string h = refl
 
 direct-push : (ts : List Token) (t : Token) → AreDirect ts → is_direct t ≡ true → AreDirect (ts ++ t ∷ [])
 direct-push [] t h e = ap (λ b. b && true) e
@@ -32,28 +25,27 @@ passed_none p old = record {
   };
 }
 
-pub passed_more : (p : Printer) (ts : List Token) (left after : Left) (t : Token) (old mid new : List ℕ)
-    → Passed p ts left old mid → AppendsToken left t after mid new → Passed p (ts ++ t ∷ []) after old new
-passed_more p ts left after t old mid new passed g =
+-- One more direct token was appended.
+pub passed_more : (p : Printer) (ts : List Token) (last : Edge) (t : Token) (l : TokenBytesModel) (old mid new : List ℕ)
+    → Passed p ts (left_after_edge last) old mid → direct_bytes t ≡ Some l
+    → new ≡ mid ++ (blank_where (edge_is_apart (class_after_edge last) l.edge) ++ l.string)
+    → Passed p (ts ++ t ∷ []) (left_after_edge l.edge) old new
+passed_more p ts last t l old mid new passed h appended =
     let s = setting_of p in
-    let more : List ℕ = blank_where (is_apart left.class t) ++ g.string in
-    let is_after : left_after_token left t ≡ after =
-    leaves-direct left t g.string g.direct ∙ (λ i. record { class = sym g.class i; joined = sym g.closed i }) in
+    let more : List ℕ = blank_where (edge_is_apart (class_after_edge last) l.edge) ++ l.string in
     record {
-      direct = direct-push ts t passed.direct
-          (some-direct (direct_bytes t) g.string (direct-open left.joined t g.string g.direct));
+      direct = direct-push ts t passed.direct (ap is_some h);
       moves = λ done is. ap left_after_tokens (sym (append_assoc done ts (t ∷ []))) ∙ leaves-push (done ++ ts) t
-          ∙ ap (λ (l : Left). left_after_token l t) (passed.moves done is) ∙ is_after;
+          ∙ ap (λ (left : Left). left_after_token left t) (passed.moves done is) ∙ leaves-direct last t l h;
       prints = λ done is.
           let so_far = passed.prints done is in
           record {
             bytes = so_far.bytes ++ more;
             expected = ap (print s) (sym (append_assoc done ts (t ∷ [])))
-                ∙ print-direct s left (done ++ ts) t (is_apart left.class t) g.string
-                (passed.moves done is) refl g.direct
+                ∙ print-direct s last (done ++ ts) t l (passed.moves done is) h
                 ∙ ap (λ (u : List ℕ). u ++ more) so_far.expected ∙ append_assoc (print s done) so_far.bytes more;
             written =
-                g.added ∙ ap (λ (u : List ℕ). u ++ more) so_far.written ∙ append_assoc old so_far.bytes more;
+                appended ∙ ap (λ (u : List ℕ). u ++ more) so_far.written ∙ append_assoc old so_far.bytes more;
           };
     }
 

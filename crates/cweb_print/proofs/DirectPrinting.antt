@@ -1,71 +1,49 @@
 -- Direct tokens: the state after them, and their output.
-use Rattle.cweb_print.proofs.Common.{◌≡◌, ◌++◌, ◌∙◌, ◌&&◌, refl, Bool, true, false, cond, ℕ, List, [], ◌∷◌, Option, Some, None, option_map, list_any, Token, Word, Punct, Blank, Newline, Join, Head, Tail, Mark, Setting, print, stays_joined, word_bytes, Class, Left, class_of, left_after_token, added, file_by, separator, is_apart, is_layout, left_after_tokens, is_high, direct_bytes, direct_unless_dropped, blank_where, Edge, TokenBytesModel, punctuator_edge}
+use Rattle.cweb_print.proofs.Common.{◌≡◌, ◌++◌, ◌∙◌, ap, sym, refl, Bool, true, false, cond, ℕ, List, [], ◌∷◌, Option, Some, None, list_any, Token, Word, Punct, Join, Setting, print, stays_joined, word_bytes, Class, class_after_edge, left_after_edge, edge_is_apart, left_after_token, added, file_by, left_after_tokens, is_high, direct_bytes, blank_where, Edge, TokenBytesModel, punctuator_edge}
 use Rattle.cweb_texts.specs.declared.edges.Edge.TheVariants as edge_kind
 use Rattle.cweb_print.proofs.Bytes.{ascii_word}
+use Rattle.cweb_print.proofs.DirectEdges.{apart-direct, class-direct}
 use Rattle.cweb_print.proofs.Steps.{print-push}
 
--- A conditional optional result.
-unless : {A : Type 0} → (dropped : Bool) (o : Option A) (x : A) → cond dropped None o ≡ Some x
-    → (dropped ≡ false) × (o ≡ Some x)
-unless true o x h = cc
-unless false o x h = (refl, h)
+-- The bytes of an optional result.
+abbrev string_in : Option TokenBytesModel → List ℕ
+string_in None = []
+string_in (Some l) = l.string
 
--- The bytes, whether a join is open or not.
-abbrev text_by : Option TokenBytesModel → Option (List ℕ)
-text_by o = option_map (λ (l : TokenBytesModel). l.string) o
+word-direct : (replaced : ℕ → List ℕ) (b : List ℕ) (l : TokenBytesModel) (high : Bool) → list_any is_high b ≡ high
+    → cond high None (Some (record { string = b; edge = edge_kind.Word })) ≡ Some l
+    → word_bytes replaced b ≡ l.string
+word-direct replaced b l true e h = cc
+word-direct replaced b l false e h = ascii_word replaced b e ∙ ap string_in h
 
-pub direct-open : (joined : Bool) (t : Token) (string : List ℕ) → direct_unless_dropped joined t ≡ Some string
-    → text_by (direct_bytes t) ≡ Some string
-direct-open joined t string h = (unless (joined && is_layout t) (text_by (direct_bytes t)) string h).1
+sign-direct : (b : List ℕ) (d : Edge) (l : TokenBytesModel) (high : Bool)
+    → cond high None (Some (record { string = b; edge = d })) ≡ Some l → b ≡ l.string
+sign-direct b d l true h = cc
+sign-direct b d l false h = ap string_in h
 
-pub keeps-direct : (joined : Bool) (t : Token) (string : List ℕ) → direct_unless_dropped joined t ≡ Some string
-    → (joined && is_layout t) ≡ false
-keeps-direct joined t string h = (unless (joined && is_layout t) (text_by (direct_bytes t)) string h).0
+file-direct : (s : Setting) (c : Class) (t : Token) (l : TokenBytesModel) → direct_bytes t ≡ Some l
+    → file_by s c t ≡ l.string
+file-direct s c (Word b) l h = word-direct s.replaced b l (list_any is_high b) refl h
+file-direct s c (Punct b) l h = sign-direct b (punctuator_edge b) l (list_any is_high b) h
+file-direct s c _ l h = cc
 
-word-direct : (replaced : ℕ → List ℕ) (b string : List ℕ) (high : Bool) → list_any is_high b ≡ high
-    → text_by (cond high None (Some (record { string = b; edge = edge_kind.Word }))) ≡ Some string
-    → word_bytes replaced b ≡ string
-word-direct replaced b string true e h = cc
-word-direct replaced b string false e h = let same : b ≡ string = cc in ascii_word replaced b e ∙ same
+closes-direct : (t : Token) (l : TokenBytesModel) → direct_bytes t ≡ Some l → stays_joined false t ≡ false
+closes-direct Join l h = cc
+closes-direct _ l h = refl
 
-sign-direct : (b string : List ℕ) (d : Edge) (high : Bool)
-    → text_by (cond high None (Some (record { string = b; edge = d }))) ≡ Some string → b ≡ string
-sign-direct b string d true h = cc
-sign-direct b string d false h = cc
+pub leaves-direct : (last : Edge) (t : Token) (l : TokenBytesModel) → direct_bytes t ≡ Some l
+    → left_after_token (left_after_edge last) t ≡ left_after_edge l.edge
+leaves-direct last t l h = λ i. record { class = sym (class-direct t l h) i; joined = closes-direct t l h i }
 
-file-direct : (s : Setting) (c : Class) (t : Token) (string : List ℕ) → text_by (direct_bytes t) ≡ Some string
-    → file_by s c t ≡ string
-file-direct s c (Word b) string h = word-direct s.replaced b string (list_any is_high b) refl h
-file-direct s c (Punct b) string h = sign-direct b string (punctuator_edge b) (list_any is_high b) h
-file-direct s c _ string h = cc
-
-closes-direct : (joined : Bool) (t : Token) (string : List ℕ) → (joined && is_layout t) ≡ false
-    → text_by (direct_bytes t) ≡ Some string → stays_joined joined t ≡ false
-closes-direct true Blank string d h = cc
-closes-direct false Blank string d h = refl
-closes-direct true Newline string d h = cc
-closes-direct false Newline string d h = refl
-closes-direct joined Join string d h = cc
-closes-direct joined (Head n) string d h = cc
-closes-direct joined (Tail n) string d h = cc
-closes-direct joined (Mark p) string d h = cc
-closes-direct joined _ string d h = refl
-
-pub leaves-direct : (left : Left) (t : Token) (string : List ℕ) → direct_unless_dropped left.joined t ≡ Some string
-    → left_after_token left t ≡ record { class = class_of (Some t); joined = false }
-leaves-direct left t string h =
-    let kept = keeps-direct left.joined t string h in
-    cc (kept, closes-direct left.joined t string kept (direct-open left.joined t string h))
-
-added-direct : (s : Setting) (left : Left) (t : Token) (string : List ℕ)
-    → direct_unless_dropped left.joined t ≡ Some string
-    → added (file_by s) left t ≡ separator left.class t ++ string
-added-direct s left t string h =
-    cc (keeps-direct left.joined t string h, file-direct s left.class t string (direct-open left.joined t string h))
+added-direct : (s : Setting) (last : Edge) (t : Token) (l : TokenBytesModel) → direct_bytes t ≡ Some l
+    → added (file_by s) (left_after_edge last) t
+    ≡ blank_where (edge_is_apart (class_after_edge last) l.edge) ++ l.string
+added-direct s last t l h =
+    cc (apart-direct (class_after_edge last) t l h, file-direct s (class_after_edge last) t l h)
 
 -- One more direct token.
-pub print-direct : (s : Setting) (left : Left) (ts : List Token) (t : Token) (apart : Bool) (string : List ℕ)
-    → left_after_tokens ts ≡ left → apart ≡ is_apart left.class t
-    → direct_unless_dropped left.joined t ≡ Some string
-    → print s (ts ++ t ∷ []) ≡ print s ts ++ (blank_where apart ++ string)
-print-direct s left ts t apart string is blank h = cc (print-push s left ts t is, added-direct s left t string h)
+pub print-direct : (s : Setting) (last : Edge) (ts : List Token) (t : Token) (l : TokenBytesModel)
+    → left_after_tokens ts ≡ left_after_edge last → direct_bytes t ≡ Some l
+    → print s (ts ++ t ∷ []) ≡ print s ts ++ (blank_where (edge_is_apart (class_after_edge last) l.edge) ++ l.string)
+print-direct s last ts t l is h =
+    print-push s (left_after_edge last) ts t is ∙ ap (λ (u : List ℕ). print s ts ++ u) (added-direct s last t l h)

@@ -1,13 +1,9 @@
 // Writes byte chunks in order.
-ghost use Rattle.std.specs.Prelude.{◌≡◌, ◌<◌, ◌+◌, ◌^◌, IsTrue, IfSome, flat_map};
+ghost use Rattle.std.specs.Prelude.{◌≡◌, ◌<◌, ◌+◌, ◌^◌, IsTrue, flat_map};
 ghost use Rattle.cweb_files.specs.Bins.{CountsFailure};
 ghost use Rattle.cweb_print.specs.inner.Writing.{Wrote};
 
-use arrayvec::ArrayVec;
 use cweb_files::{Sink, SinkFault, write_all};
-
-// Chunks of at most this total size are joined into one write.
-const ROOM: usize = 64;
 
 /// Writes a whole chunk, in as many writes as needed. After a fault, a prefix of it is written.
 pub fn write_chunk<W: Sink>(out: &mut W, piece: &[u8]) -> Result<(), SinkFault>
@@ -21,40 +17,8 @@ pub fn write_chunk<W: Sink>(out: &mut W, piece: &[u8]) -> Result<(), SinkFault>
     write_all(out, piece)
 }
 
-/// Writes chunks, in one write if they are short. After a fault, a prefix of them is written.
-#[inline(always)]
+/// Writes chunks in order. After a fault, a prefix of them is written.
 pub fn write_chunks<W: Sink>(out: &mut W, pieces: &[&[u8]]) -> Result<(), SinkFault>
-    requires { W.failed out.old + 1 < 2 ^ 64 }
-    ensures tells { W.tells out.new ≡ W.tells out.old }
-    ensures failed { CountsFailure (W.failed out.old) (W.failed out.new) result }
-    ensures beside { IsTrue (W.tells out.old) → W.beside out.new ≡ W.beside out.old }
-    ensures wrote { IsTrue (W.tells out.old)
-        → Wrote (W.written out.old) (W.written out.new)
-        (flat_map (λ piece. piece.now) pieces.now) result }
-{
-    match concatenate(pieces) {
-        Some(buffer) => write_chunk(out, buffer.as_slice()),
-        None => write_each(out, pieces),
-    }
-}
-
-// The joined bytes of chunks, if they fit.
-#[inline(always)]
-fn concatenate(pieces: &[&[u8]]) -> Option<ArrayVec<u8, ROOM>>
-    ensures { IfSome result
-        (λ buffer. buffer.items ≡ flat_map (λ piece. piece.now) pieces.now) }
-{
-    let mut buffer = ArrayVec::new();
-    'pieces: for piece in pieces {
-        if buffer.try_extend_from_slice(piece).is_err() {
-            return None;
-        }
-    }
-    Some(buffer)
-}
-
-#[inline(never)]
-fn write_each<W: Sink>(out: &mut W, pieces: &[&[u8]]) -> Result<(), SinkFault>
     requires { W.failed out.old + 1 < 2 ^ 64 }
     ensures tells { W.tells out.new ≡ W.tells out.old }
     ensures failed { CountsFailure (W.failed out.old) (W.failed out.new) result }

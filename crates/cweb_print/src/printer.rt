@@ -14,7 +14,6 @@ ghost use Rattle.cweb_print.specs.surface.Printed.{setting_of};
 pub mod buffered;
 pub mod class;
 pub mod defines;
-pub mod direct;
 pub mod direct_range;
 pub mod edges;
 pub mod finishing;
@@ -26,7 +25,6 @@ pub mod rare;
 
 use crate::chunks::write_chunk;
 use crate::printer::class::Class;
-use crate::printer::direct::DirectToken;
 use crate::printer::left::Left;
 use crate::printer::macros::write_macros;
 use crate::printer::mark::write_mark;
@@ -94,33 +92,6 @@ impl<'a> Printer<'a> {
     }
 
     fn print<W: Sink>(&mut self, token: &Token<'_>, out: &mut W) -> Result<(), SinkFault>
-        requires count { W.failed out.old + 1 < 2 ^ 64 }
-        requires named { MarkFileIsNamed (setting_of self.old) (token_model token.now) }
-        ensures tells { W.tells out.new ≡ W.tells out.old }
-        ensures failed { CountsFailure (W.failed out.old) (W.failed out.new) result }
-        ensures beside { IsTrue (W.tells out.old) → W.beside out.new ≡ W.beside out.old }
-        ensures setting { setting_of self.new ≡ setting_of self.old }
-        ensures moves { OnOk result
-            (Moves (left_in_printer self.old) (token_model token.now) (left_in_printer self.new)) }
-        ensures err { OnErr result (self.new ≡ self.old) }
-        ensures prints { IsTrue (W.tells out.old)
-            → PrintsToken self.old (token_model token.now) (W.written out.old)
-            (W.written out.new) result }
-    {
-        let Some(direct) = DirectToken::of(self.left, token) else {
-            return self.print_other(token, out);
-        };
-        direct.write(out)?;
-        self.left = Left {
-            class: direct.class,
-            joined: false,
-        };
-        Ok(())
-    }
-
-    // Slow path of `write`: a token that isn't direct here.
-    #[inline(never)]
-    fn print_other<W: Sink>(&mut self, token: &Token<'_>, out: &mut W) -> Result<(), SinkFault>
         requires count { W.failed out.old + 1 < 2 ^ 64 }
         requires named { MarkFileIsNamed (setting_of self.old) (token_model token.now) }
         ensures tells { W.tells out.new ≡ W.tells out.old }

@@ -1,22 +1,12 @@
 -- Tokens that are printed in order into the buffer of a sink.
-use Rattle.std.specs.Prelude.{◌≡◌, ℕ, false, List, ◌++◌, Some}
+use Rattle.std.specs.Prelude.{◌≡◌, ℕ, List, ◌++◌}
 use Rattle.cweb_store.specs.Parts.{Token}
-use Rattle.cweb_print.specs.inner.Flushing.{blank_where}
 use Rattle.cweb_print.specs.Printing.{print}
-use Rattle.cweb_print.specs.surface.Classes.{class_of, left_after_tokens}
-use Rattle.cweb_print.specs.inner.Classes.{is_apart}
-use Rattle.cweb_print.specs.inner.DirectTokens.{AreDirect, direct_unless_dropped}
+use Rattle.cweb_print.specs.surface.Classes.{left_after_tokens}
+use Rattle.cweb_print.specs.inner.DirectTokens.{AreDirect}
 use Rattle.cweb_print.specs.surface.Printed.{AddsBytes, left_in_printer, setting_of}
 use Rattle.cweb_print.specs.declared.printer.left.Left.{Left}
 use Rattle.cweb_print.specs.declared.printer.Printer.{Printer}
-
--- The token's bytes were appended, and the state after it is `after`.
-pub record AppendsToken (left : Left) (t : Token) (after : Left) (old new : List ℕ) : Type 0 where
-  pub string : List ℕ
-  pub direct : direct_unless_dropped left.joined t ≡ Some string
-  pub class : after.class ≡ class_of (Some t)
-  pub closed : after.joined ≡ false
-  pub added : new ≡ old ++ (blank_where (is_apart left.class t) ++ string)
 
 -- Each list that leads to the old state leads to the new one with these tokens appended.
 abbrev pub MovesBy : Left → List Token → Left → Type 0

@@ -1,14 +1,8 @@
--- Direct tokens after an open join.
-use Rattle.std.specs.Prelude.{◌≡◌, ℕ, Bool, true, ◌&&◌, List, Option, None, is_some, option_map, if◌then◌else◌}
+-- Direct tokens: those that are printed as their own bytes.
+use Rattle.std.specs.Prelude.{◌≡◌, Bool, true, List, is_some}
 use Rattle.std.specs.List.{list_all}
-use Rattle.cweb_texts.specs.inner.Edges.{TokenBytesModel}
 use Rattle.cweb_store.specs.inner.DirectBytes.{direct_bytes}
-use Rattle.cweb_store.specs.Parts.{Token, is_layout}
-
--- The bytes of a token, unless it is dropped. `joined` says whether a join is open.
-abbrev pub direct_unless_dropped : Bool → Token → Option (List ℕ)
-direct_unless_dropped joined t =
-    if joined && is_layout t then None else option_map (λ (l : TokenBytesModel). l.string) (direct_bytes t)
+use Rattle.cweb_store.specs.Parts.{Token}
 
 abbrev pub is_direct : Token → Bool
 is_direct t = is_some (direct_bytes t)

@@ -83,7 +83,7 @@ fn write_word_bytes<W: Sink>(store: &Store, bytes: &[u8], out: &mut W) -> Result
     Ok(())
 }
 
-pub(crate) fn has_high_byte(bytes: &[u8]) -> bool
+fn has_high_byte(bytes: &[u8]) -> bool
     ensures { result ≡ list_any (λ b. nat_le 128 b) bytes.now }
 {
     bytes.iter().any(|byte| *byte >= 128)

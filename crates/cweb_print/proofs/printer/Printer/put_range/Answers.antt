@@ -1,5 +1,4 @@
 use Rattle.cweb_print.proofs.Common.{◌++◌, ◌∙◌, [], List, Some, ap, slice_range, sym, subst, take, arith, length, option_map, length-map, TokenBytesModel, direct_bytes, token_bytes_model, Token, all_tokens, Left, left_after_edge, blank_where}
-use Rattle.cweb_print.proofs.DirectEdges.{buffers-direct}
 use Rattle.cweb_print.proofs.TokenReaderSteps.{direct-at}
 use Rattle.cweb_print.proofs.MacroLines.{range_more}
 use Rattle.cweb_print.proofs.DirectPrefixes.{Passed, passed_more, passed_none, passed_same}
@@ -44,9 +43,6 @@ tokens-preserved c =
     let new = take c.in-Some-put_if_fits.used c.put_if_fits.new.bytes in
     let at = direct-at c.token_reader-token_reader.result ts n l c.token_reader-token_reader.ensures
     (c.direct.ensures ∙ ap (λ o. Some (option_map token_bytes_model o)) c.in-Some.is) in
-    let buffers = buffers-direct c.tokens.reached.last at.token l mid new at.direct
-    (c.in-Some-put_if_fits.ensures.kept
-    ∙ ap (λ a. mid ++ (blank_where a ++ l.string)) c.edge_is_apart-is_apart.ensures) in
     record {
       from = omega (arith, c.tokens.invariant.from);
       upto = omega (arith, c.tokens-test.true);
@@ -54,9 +50,10 @@ tokens-preserved c =
       within = c.in-Some-put_if_fits.ensures.within.1;
       passed = subst (λ (us : List Token). Passed p us (left_after_edge direct.edge) (take c.args.used c.args.bytes.now)
           new) (sym (range_more ts first n at.token c.tokens.invariant.from at.there))
-          (passed_more p (slice_range ts first n) (left_after_edge c.tokens.reached.last)
-          (left_after_edge direct.edge) at.token
-          (take c.args.used c.args.bytes.now) mid new c.tokens.invariant.passed buffers);
+          (passed_more p (slice_range ts first n) c.tokens.reached.last at.token l
+          (take c.args.used c.args.bytes.now) mid new c.tokens.invariant.passed at.direct
+          (c.in-Some-put_if_fits.ensures.kept
+          ∙ ap (λ a. mid ++ (blank_where a ++ l.string)) c.edge_is_apart-is_apart.ensures));
     }
 
 pub returns-in_default-put_if_fits-clause-prints : goal.returns-in_default-put_if_fits-clause-prints

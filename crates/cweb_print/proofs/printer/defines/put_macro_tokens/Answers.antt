@@ -1,5 +1,6 @@
 use Rattle.cweb_print.proofs.Common.{◌++◌, ◌∙◌, List, ℕ, Some, ap, append-nil, arith, length, refl, sym, take, option_map, length-map, TokenBytesModel, direct_bytes, token_bytes_model, Token, all_tokens, class_after_edge, left_after_edge, edge_is_apart, all_added, at_start, left_after_tokens, macro_by, blank_where, replaced_in}
-use Rattle.cweb_print.proofs.Continued.{added-continued, left-continued}
+use Rattle.cweb_print.proofs.Continued.{added-continued}
+use Rattle.cweb_print.proofs.DirectPrinting.{leaves-direct}
 use Rattle.cweb_print.proofs.TokenReaderSteps.{direct-at}
 use Rattle.cweb_print.proofs.MacroLines.{left_more, tokens_more}
 use Rattle.cweb_print.proofs.OverlappingEnds.{prefix_within}
@@ -63,7 +64,7 @@ tokens-preserved c =
           ∙ c.tokens.invariant.prefix;
       left = left_more ts first n at.token (left_after_edge last)
           (left_after_edge direct.edge) c.tokens.invariant.from at.there
-          c.tokens.invariant.left (sym (left-continued last at.token l at.direct));
+          c.tokens.invariant.left (sym (leaves-direct last at.token l at.direct));
       put = tokens_more by ts first n at.token (left_after_edge last) old mid new c.tokens.invariant.from
           at.there c.tokens.invariant.left c.tokens.invariant.put (c.in_ok-end.ensures.kept ∙ ap (λ a.
           mid ++ (blank_where a ++ c.bytes_in_macro.result.now)) c.edge_is_apart-is_apart.ensures ∙ ap (λ (u : List ℕ).

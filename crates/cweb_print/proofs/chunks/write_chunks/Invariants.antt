@@ -1,5 +1,5 @@
 use Rattle.cweb_print.proofs.Common.{◌≡◌, ◌++◌, take, IsTrue, flat_map}
-use Rattle.cweb_print.proofs.chunks.write_each.Given as goal
+use Rattle.cweb_print.proofs.chunks.write_chunks.Given as goal
 
 abbrev pub invariant-pieces : goal.invariant-pieces
 invariant-pieces g l = record {

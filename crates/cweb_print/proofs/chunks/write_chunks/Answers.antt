@@ -1,7 +1,7 @@
 use Rattle.cweb_print.proofs.Common.{take, drop, sym, subst, suc, List, ℕ, arith, common_steps, IsTrue, flat_map}
 use Rattle.std.proofs.Common.{Bor}
 use Rattle.cweb_print.proofs.WrittenPrefixes.{pieces_at, prefix_in, wrote_err}
-use Rattle.cweb_print.proofs.chunks.write_each.Goals as goal
+use Rattle.cweb_print.proofs.chunks.write_chunks.Goals as goal
 
 pub returns-in_err-write_chunk-clause-wrote : goal.returns-in_err-write_chunk-clause-wrote
 returns-in_err-write_chunk-clause-wrote g c = λ tells.
