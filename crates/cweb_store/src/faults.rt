@@ -30,7 +30,7 @@ pub fn name_faults(
     heads: &Heads,
 ) -> Result<Vec<NameFault>, AllocError>
     requires settled { resolutions.now ≡ spec.resolutions table.now }
-    requires forms { files.now.keys ≡ spec.files table.now }
+    requires files { files.now.keys ≡ spec.files table.now }
     requires few { length resolutions.now < 2 ^ 32 }
     requires known { AreWithin resolutions.now (length (spec.names table.now)) }
     requires some { (n : NameId) → has_head heads.now n

@@ -22,12 +22,14 @@ key-middle word h g = cc (not-less (length word) 4 h, less (length word) 8 g)
 
 pub key-long : (word : List ℕ) → 8 ≤ length word → length word ≤ 16 → key_of word ≡ long_key word
 unfolding key_of
-key-long word h g = cc (not-less (length word) 4 (omega (arith, h)), not-less (length word) 8 h, not-less 16 (length word) g)
+key-long word h g =
+    cc (not-less (length word) 4 (omega (arith, h)), not-less (length word) 8 h, not-less 16 (length word) g)
 
 pub key-hashed : (word : List ℕ) → 16 < length word → key_of word ≡ hashed_key word
 unfolding key_of
 key-hashed word h =
-    cc (not-less (length word) 4 (omega (arith, h)), not-less (length word) 8 (omega (arith, h)), less 16 (length word) h)
+    let long : 8 ≤ length word = omega (arith, h) in
+    cc (not-less (length word) 4 (omega (arith, h)), not-less (length word) 8 long, less 16 (length word) h)
 
 -- A key tells a word of at most 16 bytes by its length.
 take-bytes : (n : ℕ) (bytes : List ℕ) → AreBytes bytes → AreBytes (take n bytes)

@@ -22,6 +22,6 @@ returns c =
     let missing : (n : NameId)
     → ((flag_of c.deref.result.now n || list_any (is_id n) c.args.files.now.keys) && not (has_head c.args.heads.now n))
     ≡ is_missing os ps n =
-    λ n i. (used n i || list_any (is_id n) (c.requires.forms i)) && not (present n i) in
+    λ n i. (used n i || list_any (is_id n) (c.requires.files i)) && not (present n i) in
     c.in_ok-add_missing_faults.ensures
     ∙ (λ i. second i ++ faults_where NotPresent (λ n text. missing n i) (c.names-3.ensures.names i))
