@@ -22,7 +22,6 @@ else
 
 PROVED := build/proved
 UNPROVED := build/unproved
-BENCH := crates/bench/out/bench
 PROGRAMS := ctangle wmerge wdep
 # the programs that installcheck tests
 CTANGLE ?= $(DESTDIR)$(bindir)/$(PROGRAM_PREFIX)ctangle$(PROGRAM_SUFFIX)
@@ -108,18 +107,10 @@ uninstall:
 	    { set +x; } 2> /dev/null; \
 	done
 
-$(BENCH): $(SOURCES)
-	$(call kit,bench)
-	@mkdir -p $(@D)
-	@cd crates/bench && rt run --jobs $$(nproc) > out/build.log 2>&1 || { tail -n 20 out/build.log >&2; exit 1; }
-	@touch $@
-
-bench: build $(BENCH)
+bench: build
 	@bench/run $(PROVED)/wmerge
 	@bench/run_tangle $(PROVED)/ctangle
-	@bench/outputs $(BENCH)
-	@bench/run_scan $(BENCH)
-	@bench/store $(BENCH)
+	@bench/run_kinds $(PROVED)/ctangle
 	@bench/run_shapes $(PROVED)/ctangle
 
 clean:

@@ -17,8 +17,27 @@ wants() {
 # program PATH NAME: the absolute path of a program that was built
 program() {
     test -n "$1" || fails "name the program $2"
-    test -x "$1" || fails "$1 is missing or no program: make build makes ctangle and wmerge, make bench the others"
+    test -x "$1" || fails "$1 is missing or no program: make build makes it"
     realpath "$1"
+}
+
+# web PREFIX TEXT BYTES COUNT: prints a web of PREFIX and then TEXT, until it has BYTES bytes or COUNT of TEXT. Each %x is a counter.
+# A TEXT without a newline is repeated in lines of some 4,000 bytes.
+web() {
+    LC_ALL=C awk -v prefix="$1" -v unit="$2" -v bytes="$3" -v most="$4" 'BEGIN {
+        printf "%s", prefix
+        for (size = length(prefix); size < bytes && count < most; size += length(text)) {
+            text = sprintf(unit, count, count)
+            count++
+            line = text ~ /\n/ ? 0 : line + length(text)
+            if (line >= 4000) {
+                text = text "\n"
+                line = 0
+            }
+            printf "%s", text
+        }
+        print ""
+    }'
 }
 
 # runs STATUS COMMAND..: runs it without showing its output, and ends if its status differs
