@@ -23,10 +23,10 @@ edge-last bs x h = ap (λ b. punctuator_edge_by (first_is is_numeric bs) (first_
 
 pub known-push : (ts : List (List ℕ)) (bs : List Edge) (t : List ℕ) (b : Edge) → AreStoredEdges ts bs → IsStoredEdge t b
     → AreStoredEdges (ts ++ t ∷ []) (bs ++ b ∷ [])
-known-push [] [] t b h edges = (edges, tt)
-known-push (u ∷ ts) (c ∷ bs) t b h edges = (h.0, known-push ts bs t b h.1 edges)
-known-push [] (c ∷ bs) t b h edges = absurd h
-known-push (u ∷ ts) [] t b h edges = absurd h
+known-push [] [] t b h is_known = (is_known, tt)
+known-push (u ∷ ts) (c ∷ bs) t b h is_known = (h.0, known-push ts bs t b h.1 is_known)
+known-push [] (c ∷ bs) t b h is_known = absurd h
+known-push (u ∷ ts) [] t b h is_known = absurd h
 
 pub known-take : (n : ℕ) (ts : List (List ℕ)) (bs : List Edge) → AreStoredEdges ts bs
     → AreStoredEdges (take n ts) (take n bs)
@@ -53,8 +53,8 @@ known-at (u ∷ ts) [] k t d h there = absurd h
 pub known-ascii : (t : List ℕ) (b : Edge) (high : Bool) → list_any is_high t ≡ high → IsStoredEdge t b
     → is_known_edge b ≡ true
     → list_any is_high t ≡ false
-known-ascii t b false is edges some = is
-known-ascii t b true is edges some =
-    let none : b ≡ edge_kind.Unknown = edges some ∙ ap (λ a. cond a edge_kind.Unknown (punctuator_edge t)) is in
+known-ascii t b false is is_known some = is
+known-ascii t b true is is_known some =
+    let none : b ≡ edge_kind.Unknown = is_known some ∙ ap (λ a. cond a edge_kind.Unknown (punctuator_edge t)) is in
     let no : is_known_edge b ≡ false = ap is_known_edge none in
     cc

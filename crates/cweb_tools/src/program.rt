@@ -1,4 +1,4 @@
-// Arguments and environment of both programs.
+// Arguments and environment, for all three programs.
 ghost use Rattle.std.specs.Prelude.{◌≡◌, IfOk, map, string_bytes};
 
 use cweb_lines::Stop;

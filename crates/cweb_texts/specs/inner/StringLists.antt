@@ -33,7 +33,7 @@ IsFromStart (n ∷ ends) = n ≡ 0
 pub record IsStringList (bytes offsets : List ℕ) (edges : List Edge) : Type 0 where
   pub start : IsFromStart offsets
   pub ends_at : AreEnds 0 (drop 1 offsets) (length bytes)
-  pub edges : AreStoredEdges (strings_from bytes 0 (drop 1 offsets)) edges
+  pub stored_edges : AreStoredEdges (strings_from bytes 0 (drop 1 offsets)) edges
 
 abbrev pub string_at : List (List ℕ) → ℕ → List ℕ
 string_at strings number = slice_index_or strings number []

@@ -36,7 +36,7 @@ pub fn tangle_unplanned<L: Sink>(
         (planning web.entry.scanned.now.store (files_of web.entry) main.now))
         (sink_model L.Sink log.old) (sink_model L.Sink log.new) result }
     // Any fault but a failed allocation is reported as such.
-    ensures observed { IfSome (refusal_in fault) (λ refusal. ClosesInLog
+    ensures logged { IfSome (refusal_in fault) (λ refusal. ClosesInLog
         (planned_acts shown
         (numbers_of (scanned_model web.entry.scanned.now)) (fault_count (faults_of web.entry))
         (refused (refusal_message web.entry.scanned.now.store main.now refusal)))

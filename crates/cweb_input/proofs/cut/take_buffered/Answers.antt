@@ -29,7 +29,7 @@ returns-in_ok-extend-in-Some-clause-taken g c =
     let bytes = slice_range c.deref.result.now c.args.source.now.start c.args.source.now.end in (
       take c.in-Some.at bytes,
       c.in-Some.ensures.before,
-      rw (← c.deref.ensures.value) (after_newline c.deref.result.now c.args.source.now.start c.args.source.now.end c.in-Some.at
-          c.in-Some.ensures c.args.source.now.ordered),
+      rw (← c.deref.ensures.value) (after_newline c.deref.result.now c.args.source.now.start
+          c.args.source.now.end c.in-Some.at c.in-Some.ensures c.args.source.now.ordered),
       c.in_ok-extend-in-Some.ensures.ok,
     )

@@ -9,11 +9,11 @@ bounds-self-inside-number c =
       arith,
       c.requires,
       ap length c.self.view_is,
-      known-count (strings_from s.bytes.now 0 (drop 1 s.offsets.now)) s.edges.now c.self.invariant.edges,
+      known-count (strings_from s.bytes.now 0 (drop 1 s.offsets.now)) s.edges.now c.self.invariant.stored_edges,
     )
 
 pub returns : goal.returns
 returns c = λ string there.
     let s = c.self.inside in
     known-at (strings_from s.bytes.now 0 (drop 1 s.offsets.now)) s.edges.now c.args.number string _
-    c.self.invariant.edges (ap (λ ts. slice_get ts c.args.number) c.self.view_is ∙ there)
+    c.self.invariant.stored_edges (ap (λ ts. slice_get ts c.args.number) c.self.view_is ∙ there)

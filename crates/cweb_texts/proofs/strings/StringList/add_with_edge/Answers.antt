@@ -30,18 +30,18 @@ invariant_of-self-2 c =
       start = start-push offsets (length (bytes ++ string)) some c.in_ok-begin.ensures.start;
       ends_at = subst (λ (es : List ℕ). AreEnds 0 es (length (bytes ++ string))) (sym all)
           (ends-push 0 (length bytes) (length (bytes ++ string)) ends c.self.invariant.ends_at longer);
-      edges = subst (λ (es : List ℕ). AreStoredEdges (strings_from (bytes ++ string) 0 es)
+      stored_edges = subst (λ (es : List ℕ). AreStoredEdges (strings_from (bytes ++ string) 0 es)
           (edges ++ c.args.edge ∷ []))
           (sym all) (subst (λ (ts : List (List ℕ)). AreStoredEdges ts (edges ++ c.args.edge ∷ []))
           (sym (strings-push bytes string 0 ends c.self.invariant.ends_at))
-          (known-push (strings_from bytes 0 ends) edges string c.args.edge c.self.invariant.edges c.requires));
+          (known-push (strings_from bytes 0 ends) edges string c.args.edge c.self.invariant.stored_edges c.requires));
     })
 
 pub returns-clause-number : goal.returns-clause-number
 returns-clause-number c =
     let s = c.self.inside in
     c.len-number.ensures ∙ c.in_ok-reserve-2.ensures.len ∙ s.edges.ok.0
-    ∙ known-count (strings_from s.bytes.items 0 (drop 1 s.offsets.items)) s.edges.items c.self.invariant.edges
+    ∙ known-count (strings_from s.bytes.items 0 (drop 1 s.offsets.items)) s.edges.items c.self.invariant.stored_edges
     ∙ ap length c.self.view_is
 
 pub returns-clause-added : goal.returns-clause-added

@@ -6,5 +6,5 @@ pub returns : goal.returns
 returns c =
     let s = c.self.inside in
     c.len.ensures ∙ s.edges.ok.0
-    ∙ known-count (strings_from s.bytes.items 0 (drop 1 s.offsets.items)) s.edges.items c.self.invariant.edges
+    ∙ known-count (strings_from s.bytes.items 0 (drop 1 s.offsets.items)) s.edges.items c.self.invariant.stored_edges
     ∙ ap length c.self.view_is

@@ -31,10 +31,10 @@ invariant_of-self c =
           (start-take c.args.count s.offsets.items c.self.invariant.start);
       ends_at = subst (λ (es : List ℕ). AreEnds 0 es (length bytes)) cut
           (ends-are-cut s.bytes.items ends c.args.count c.self.invariant.ends_at);
-      edges = subst (λ (es : List ℕ). AreStoredEdges (strings_from bytes 0 es) edges) cut
+      stored_edges = subst (λ (es : List ℕ). AreStoredEdges (strings_from bytes 0 es) edges) cut
           (subst (λ (ts : List (List ℕ)).
           AreStoredEdges ts edges) (sym (strings-cut s.bytes.items ends c.args.count c.self.invariant.ends_at))
-          (known-take c.args.count (strings_from s.bytes.items 0 ends) s.edges.items c.self.invariant.edges));
+          (known-take c.args.count (strings_from s.bytes.items 0 ends) s.edges.items c.self.invariant.stored_edges));
     })
 
 pub returns : goal.returns
