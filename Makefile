@@ -2,12 +2,16 @@
 
 prefix ?= $(if $(PREFIX),$(PREFIX),/usr/local)
 bindir ?= $(if $(BINDIR),$(BINDIR),$(prefix)/bin)
-mandir ?= $(if $(MANDIR),$(MANDIR),$(prefix)/share/man)
+datarootdir ?= $(prefix)/share
+datadir ?= $(datarootdir)
+mandir ?= $(if $(MANDIR),$(MANDIR),$(datarootdir)/man)
+docdir ?= $(datarootdir)/doc/lozgirpa
 # for the names of installed programs and pages, as in cweb-ctangle
 PROGRAM_PREFIX ?=
 PROGRAM_SUFFIX ?=
 INSTALL ?= install
 INSTALL_PROGRAM ?= $(INSTALL) -m 755
+INSTALL_SCRIPT ?= $(INSTALL) -m 755
 INSTALL_DATA ?= $(INSTALL) -m 644
 
 top := $(dir $(realpath $(lastword $(MAKEFILE_LIST))))
@@ -23,10 +27,17 @@ else
 PROVED := build/proved
 UNPROVED := build/unproved
 PROGRAMS := ctangle wmerge wdep
-# the programs that installcheck tests
-CTANGLE ?= $(DESTDIR)$(bindir)/$(PROGRAM_PREFIX)ctangle$(PROGRAM_SUFFIX)
-WMERGE ?= $(DESTDIR)$(bindir)/$(PROGRAM_PREFIX)wmerge$(PROGRAM_SUFFIX)
-WDEP ?= $(DESTDIR)$(bindir)/$(PROGRAM_PREFIX)wdep$(PROGRAM_SUFFIX)
+# the files that builds include, copied to $(datadir)/lozgirpa
+SHARED := $(wildcard share/*)
+# the documents, copied to $(docdir)
+DOCUMENTS := README.md CHANGELOG.md docs/COMING-FROM-CTANGLE.md \
+    $(wildcard $(addprefix examples/,README.md Makefile CMakeLists.txt build.ninja demo *.w *.ch chapters/*.w))
+# the programs that installcheck tests. GNU make has a CTANGLE of its own, so `?=` would not set it.
+CTANGLE = $(DESTDIR)$(bindir)/$(PROGRAM_PREFIX)ctangle$(PROGRAM_SUFFIX)
+WMERGE = $(DESTDIR)$(bindir)/$(PROGRAM_PREFIX)wmerge$(PROGRAM_SUFFIX)
+WDEP = $(DESTDIR)$(bindir)/$(PROGRAM_PREFIX)wdep$(PROGRAM_SUFFIX)
+# the scripts of tests/ that installcheck runs: all, if none is named
+TESTS ?=
 # with any letter after it: the programs were proved with 13b and with 13f
 KIT := rattle-kit-13
 SOURCES := HANDLES crates.txt $(shell find crates -name out -prune -o -type f \( -name '*.rt' -o -name '*.antt' \) -print)
@@ -40,10 +51,11 @@ all: build
 help:
 	@echo 'make demo          builds all programs in two minutes, without proof, and runs them on the webs of examples/'
 	@echo 'make build         proves and builds ctangle, wmerge and wdep: 20 to 30 minutes the first time, on four processors'
-	@echo 'make install       copies the proved programs and their man pages below "$(prefix)" (prefix, bindir, mandir, DESTDIR,'
-	@echo '                   INSTALL, PROGRAM_PREFIX and PROGRAM_SUFFIX are obeyed); it builds nothing'
+	@echo 'make install       copies the proved programs, their man pages, the documents and the files that builds include below'
+	@echo '                   "$(prefix)" (docs/PACKAGING.md lists the variables); it builds nothing'
 	@echo 'make uninstall     removes what make install copied'
-	@echo 'make installcheck  tests the installed programs, or those that CTANGLE, WMERGE and WDEP name; it needs no kit'
+	@echo 'make installcheck  tests the installed programs, or those that CTANGLE, WMERGE and WDEP name; it needs no kit.'
+	@echo '                   TESTS=tutorial runs this one script of tests/, in a second'
 	@echo 'make dist          makes a tarball of proved static programs, which run on any x86-64 Linux'
 	@echo 'make check         the gate: proves all crates, refuses each mutant, runs all tests and programs'
 	@echo 'make faults        runs the proved programs while their system calls and allocations fail, and on hostile webs and folders'
@@ -82,30 +94,46 @@ faults: build
 	@tests/all $(PROVED)/ctangle $(PROVED)/wmerge $(PROVED)/wdep
 
 installcheck:
-	@tests/all $(CTANGLE) $(WMERGE) $(WDEP)
+	@tests/all "$(CTANGLE)" "$(WMERGE)" "$(WDEP)" $(TESTS)
 
 dist: build
 	$(call kit,dist)
 	@tools/dist
 
+# The pages name the folders of the documents and of the files that builds include.
 install:
 	@for program in $(PROGRAMS); do \
 	    test -x $(PROVED)/$$program || { echo "make: $(PROVED)/$$program is not there: make build first" >&2; exit 1; }; \
 	done
-	$(INSTALL) -d "$(DESTDIR)$(bindir)" "$(DESTDIR)$(mandir)/man1"
+	$(INSTALL) -d "$(DESTDIR)$(bindir)" "$(DESTDIR)$(mandir)/man1" "$(DESTDIR)$(datadir)/lozgirpa" "$(DESTDIR)$(docdir)"
 	@set -e; for program in $(PROGRAMS); do \
 	    name="$(PROGRAM_PREFIX)$$program$(PROGRAM_SUFFIX)"; set -x; \
 	    $(INSTALL_PROGRAM) $(PROVED)/$$program "$(DESTDIR)$(bindir)/$$name"; \
-	    $(INSTALL_DATA) man/$$program.1 "$(DESTDIR)$(mandir)/man1/$$name.1"; \
+	    sed -e 's|/usr/local/share/lozgirpa|$(datadir)/lozgirpa|' -e 's|/usr/local/share/doc/lozgirpa|$(docdir)|' man/$$program.1 | \
+	        $(INSTALL_DATA) /dev/stdin "$(DESTDIR)$(mandir)/man1/$$name.1"; \
+	    { set +x; } 2> /dev/null; \
+	done
+	@set -ex; for file in $(SHARED); do $(INSTALL_DATA) $$file "$(DESTDIR)$(datadir)/lozgirpa"; done
+	@set -e; for file in $(DOCUMENTS); do \
+	    how='$(INSTALL_DATA)'; test ! -x $$file || how='$(INSTALL_SCRIPT)'; set -x; \
+	    $(INSTALL) -d "$(DESTDIR)$(docdir)/$$(dirname $$file)"; \
+	    $$how $$file "$(DESTDIR)$(docdir)/$$file"; \
 	    { set +x; } 2> /dev/null; \
 	done
 
+# A folder that has other files is left.
 uninstall:
 	@set -e; for program in $(PROGRAMS); do \
 	    name="$(PROGRAM_PREFIX)$$program$(PROGRAM_SUFFIX)"; set -x; \
 	    rm -f "$(DESTDIR)$(bindir)/$$name" "$(DESTDIR)$(mandir)/man1/$$name.1"; \
 	    { set +x; } 2> /dev/null; \
 	done
+	@set -ex; for file in $(notdir $(SHARED)); do rm -f "$(DESTDIR)$(datadir)/lozgirpa/$$file"; done
+	@set -ex; for file in $(DOCUMENTS); do rm -f "$(DESTDIR)$(docdir)/$$file"; done
+	@for folder in $$(printf '%s\n' $(sort $(filter-out ./,$(dir $(DOCUMENTS)))) | sort -r); do \
+	    rmdir "$(DESTDIR)$(docdir)/$$folder" 2> /dev/null || :; \
+	done
+	@rmdir "$(DESTDIR)$(docdir)" "$(DESTDIR)$(datadir)/lozgirpa" 2> /dev/null || :
 
 bench: build
 	@bench/run $(PROVED)/wmerge

@@ -1,5 +1,6 @@
 """What the scripts of this folder share: where programs and tools are, the library `faults.c`, files, and lines that the programs write."""
 import os
+import re
 import shutil
 import subprocess
 import sys
@@ -70,3 +71,10 @@ def compiled(folder):
     library, source = os.path.join(folder, "faults.so"), os.path.join(HERE, "faults.c")
     subprocess.run([compiler, "-O2", "-shared", "-fPIC", "-o", library, source, "-ldl"], check=True)
     return library
+
+
+def displays(page):
+    """The texts that a page of man/ displays, as a reader copies them: without the escapes of roff."""
+    with open(os.path.join(HERE, "../man", page), encoding="utf-8") as file:
+        for text in re.findall(r"(?ms)^\.Bd -literal.*?\n(.*?)^\.Ed", file.read()):
+            yield text.replace("\\&", "").replace("\\e", "\\")
