@@ -100,25 +100,29 @@ dist: build
 	$(call kit,dist)
 	@tools/dist
 
-# The pages name the folders of the documents and of the files that builds include.
+# installed FILE: a page or a document, with the folders of this installation
+installed = sed -e 's|/usr/local/share/lozgirpa|$(datadir)/lozgirpa|g' -e 's|/usr/local/share/doc/lozgirpa|$(docdir)|g' $(1)
+
 install:
 	@for program in $(PROGRAMS); do \
 	    test -x $(PROVED)/$$program || { echo "make: $(PROVED)/$$program is not there: make build first" >&2; exit 1; }; \
 	done
 	$(INSTALL) -d "$(DESTDIR)$(bindir)" "$(DESTDIR)$(mandir)/man1" "$(DESTDIR)$(datadir)/lozgirpa" "$(DESTDIR)$(docdir)"
 	@set -e; for program in $(PROGRAMS); do \
-	    name="$(PROGRAM_PREFIX)$$program$(PROGRAM_SUFFIX)"; set -x; \
+	    name="$(PROGRAM_PREFIX)$$program$(PROGRAM_SUFFIX)"; \
+	    echo "$(DESTDIR)$(bindir)/$$name and its page"; \
 	    $(INSTALL_PROGRAM) $(PROVED)/$$program "$(DESTDIR)$(bindir)/$$name"; \
-	    sed -e 's|/usr/local/share/lozgirpa|$(datadir)/lozgirpa|' -e 's|/usr/local/share/doc/lozgirpa|$(docdir)|' man/$$program.1 | \
-	        $(INSTALL_DATA) /dev/stdin "$(DESTDIR)$(mandir)/man1/$$name.1"; \
-	    { set +x; } 2> /dev/null; \
+	    $(call installed,man/$$program.1) | $(INSTALL_DATA) /dev/stdin "$(DESTDIR)$(mandir)/man1/$$name.1"; \
 	done
-	@set -ex; for file in $(SHARED); do $(INSTALL_DATA) $$file "$(DESTDIR)$(datadir)/lozgirpa"; done
+	@set -e; for file in $(SHARED); do \
+	    echo "$(DESTDIR)$(datadir)/lozgirpa/$${file##*/}"; \
+	    $(INSTALL_DATA) $$file "$(DESTDIR)$(datadir)/lozgirpa"; \
+	done
 	@set -e; for file in $(DOCUMENTS); do \
-	    how='$(INSTALL_DATA)'; test ! -x $$file || how='$(INSTALL_SCRIPT)'; set -x; \
+	    echo "$(DESTDIR)$(docdir)/$$file"; \
+	    how='$(INSTALL_DATA)'; test ! -x $$file || how='$(INSTALL_SCRIPT)'; \
 	    $(INSTALL) -d "$(DESTDIR)$(docdir)/$$(dirname $$file)"; \
-	    $$how $$file "$(DESTDIR)$(docdir)/$$file"; \
-	    { set +x; } 2> /dev/null; \
+	    $(call installed,$$file) | $$how /dev/stdin "$(DESTDIR)$(docdir)/$$file"; \
 	done
 
 # A folder that has other files is left.
