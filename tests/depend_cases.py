@@ -1,8 +1,11 @@
 """The runs of wdep that `faults` makes fail, and what happens to their calls. `depfiles` also compares them with runs of ctangle."""
+import os
+import re
+
 import fault_promises as promises
 from fault_cases import Case
 from merge_cases import printer_failures
-from shared import stopped
+from shared import HERE, stopped
 
 # the longest line, if a name is not longer
 WIDTH = 78
@@ -13,14 +16,22 @@ NO_TEXT = b"! No program text\n"
 def rules(outputs, inputs):
     """The text for outputs and inputs whose names need no escapes."""
     *targets, last = outputs
-    first, *words = [*targets, f"{last}:", *inputs]
+    led = ["/dev/null", *inputs] if "=" in inputs[0] else inputs
+    first, *words = [*targets, f"{last}:", *led]
     lines = [first]
     for word in words:
         if len(lines[-1]) + 1 + len(word) <= WIDTH:
             lines[-1] += f" {word}"
         else:
             lines.append(f" {word}")
-    return (" \\\n".join(lines) + "\n" + "".join(f"{name}:\n" for name in inputs[1:])).encode()
+    empty = "".join(f"{led[0]} {name}:\n" if "=" in name else f"{name}:\n" for name in inputs[1:])
+    return (" \\\n".join(lines) + "\n" + empty).encode()
+
+
+def targets(outputs, words):
+    """The outputs that are targets with these words."""
+    letters = [word[0] for word in words if word[0] in "+-" and "m" in word]
+    return outputs[:1] if letters[-1:] == ["+"] else outputs
 
 
 def printed(outputs, inputs, log=b"", status=0):
@@ -56,9 +67,44 @@ def whole_runs():
     yield Case("options and an output", ["-bph", "a", "+s", "m", "out"], files, **printed(outputs, inputs), refused=[
         NO_WEB, NO_CHANGE, {**without_b, "out": rules(outputs, ["a.w", "m.ch", "lib/c.w"])}, NOTHING,
         {**without_c, "out": rules(outputs, ["a.w", "m.ch", "b.w"])}], inputs="lib")
+    # the last m counts, and chooses the targets alone
+    for words in (["+m"], ["-m", "+bm"], ["+sm", "-b"]):
+        yield Case(f"the first target, {words}", [*words, "a", "m", "out"], files, **printed(outputs[:1], inputs), inputs="lib", refused=[
+            NO_WEB, NO_CHANGE, {**without_b, "out": rules(outputs[:1], ["a.w", "m.ch", "lib/c.w"])}, NOTHING,
+            {**without_c, "out": rules(outputs[:1], ["a.w", "m.ch", "b.w"])}])
+    yield Case("all targets", ["+m", "a", "m", "out", "-m"], files, **printed(outputs, inputs), inputs="lib", refused=[
+        NO_WEB, NO_CHANGE, {**without_b, "out": rules(outputs, ["a.w", "m.ch", "lib/c.w"])}, NOTHING,
+        {**without_c, "out": rules(outputs, ["a.w", "m.ch", "b.w"])}])
     web = {"a.web": b"@ @c x\n"}
     yield Case("a web under its second name", ["a"], web, **printed(["a.c"], ["a.web"]), refused=[NOTHING, NO_WEB])
     yield Case("an empty web", ["a"], {"a.w": b""}, **printed(["a.c"], ["a.w"], NO_TEXT), refused=[NO_WEB])
+
+
+def equals_runs():
+    """Names with `=`: none is the first prerequisite, or begins a line."""
+    files = {"a=b.w": b"@ @c x\n@i c\n@i d=e\n", "c": b"", "d=e": b""}
+    text = b"x.c: /dev/null a=b.w c d=e\nc:\n/dev/null d=e:\n"
+    refused = [NO_WEB | {"log": stopped(b"Cannot open web file a=b.w")}, {"out": text.replace(b" c ", b" ").replace(b"c:\n", b""),
+               "log": b"a=b.w:2: ! Cannot open include file\n", "first": b"", "status": 1},
+               {"out": b"x.c: /dev/null a=b.w c\nc:\n", "log": b"a=b.w:3: ! Cannot open include file\n", "first": b"", "status": 1}]
+    yield Case("a web with =", ["a=b", "-", "x"], files, out=text, refused=refused)
+    text = b"a.c: a.w d=e\na.w d=e:\n"
+    refused = [NO_WEB, {"out": b"a.c: a.w\n", "log": b"a.w:2: ! Cannot open include file\n", "first": b"", "status": 1}]
+    yield Case("an included file with =", ["a"], {"a.w": b"@ @c x\n@i d=e\n", "d=e": b""}, out=text, refused=refused)
+
+
+def runs_about():
+    """The words that ask for the version or for help, alone and with others."""
+    version = b"wdep (Lozgirpa) %s\n" % own_version().encode()
+    yield Case("the version", ["--version"], {}, out=version)
+    for words in (["--version", "a"], ["a", "--help"], ["--versions"], ["-version", "--help"], ["--"]):
+        yield Case(f"the words {words}", words, {"a.w": b"@ @c x\n"}, **silent(stopped(USAGE)))
+
+
+def own_version():
+    """The version of the pages."""
+    with open(os.path.join(HERE, "../man/wdep.1")) as file:
+        return re.search(r'"Lozgirpa ([\d.]+)"', file.read())[1]
 
 
 def runs_with_faults():
@@ -120,6 +166,8 @@ def large_runs():
 
 def cases():
     yield from whole_runs()
+    yield from equals_runs()
+    yield from runs_about()
     yield from runs_with_faults()
     yield from stopped_runs()
     yield from large_runs()

@@ -49,6 +49,13 @@ def device_links():
     yield Case("a link to a socket as another file", log, 1, web_with("f"), main, links={"f": "socket"}, sockets=("socket",))
 
 
+def links_into_the_system():
+    """A link below /proc or /dev that leads nowhere is refused: without /proc the links to standard streams lead nowhere."""
+    for to in ("/proc/nothing", "/dev/nothing"):
+        yield Case(f"a link to {to} as main file", not_opened("a.c"), 1, WEB, links={"a.c": to})
+        yield Case(f"a link to {to} as another file", not_opened("a.c", "f"), 1, web_with("f"), {"a.c": FIRST}, links={"f": to})
+
+
 def streams_that_are_pipes():
     """A pipe is written through the links to it."""
     of = {"output": MAIN, "needs": (PROC,)}
@@ -91,5 +98,6 @@ def streams_that_are_closed():
 
 
 def cases():
-    for some in (replaced_links, device_links, streams_that_are_pipes, streams_that_are_files, streams_that_are_closed):
+    for some in (replaced_links, device_links, links_into_the_system, streams_that_are_pipes, streams_that_are_files,
+                 streams_that_are_closed):
         yield from as_both(some())

@@ -1,29 +1,31 @@
 -- A run of `wdep` keeps its promises, by how it ends.
 use Rattle.cweb_tools.proofs.Common.{◌≡◌, ℕ, ◌∷◌, refl, Some, World, OptionsModel, Devices, judges, TangleCourse, unread, not_there, change_not_there, tangling, CanCome, EndsAs, opening_acts, tangle_course, depend_acts, depend_web_acts}
+use Rattle.cweb_tools.specs.declared.rule_targets.Targets.{Targets}
 use Rattle.cweb_tools.proofs.Doing.{closes_on}
 use Rattle.cweb_tools.proofs.Statuses.{depend_status_is}
 use Rattle.cweb_tools.proofs.RunEnds.{EndsRun, Judges, judged}
 
 -- The acts of a run whose words can be read.
-depend_is : (args : OptionsModel) (course : TangleCourse) → CanCome (Some args) course
-    → depend_acts course ≡ judges ∷ opening_acts depend_web_acts course
-depend_is args unread can = absurd can
-depend_is args (not_there web) can = refl
-depend_is args (change_not_there change) can = refl
-depend_is args (tangling files events web) can = refl
+depend_is : (targets : Targets) (args : OptionsModel) (course : TangleCourse) → CanCome (Some args) course
+    → depend_acts targets course ≡ judges ∷ opening_acts (depend_web_acts targets) course
+depend_is targets args unread can = absurd can
+depend_is targets args (not_there web) can = refl
+depend_is targets args (change_not_there change) can = refl
+depend_is targets args (tangling files events web) can = refl
 
-pub depend_judges : (args : OptionsModel) (course : TangleCourse) → CanCome (Some args) course
-    → Judges (depend_acts course)
-depend_judges args course can = (opening_acts depend_web_acts course, depend_is args course can)
+pub depend_judges : (targets : Targets) (args : OptionsModel) (course : TangleCourse) → CanCome (Some args) course
+    → Judges (depend_acts targets course)
+depend_judges targets args course can =
+    (opening_acts (depend_web_acts targets) course, depend_is targets args course can)
 
 -- The run continued after its words were parsed.
-pub depend_ends : (world : World) (args : OptionsModel) (before after : Devices) (status : ℕ)
-    → EndsAs depend_web_acts args (tangle_course world (Some args)) before after status
-    → EndsRun depend_acts world (Some args) before after status
-depend_ends world args before after status follows = record {
+pub depend_ends : (targets : Targets) (world : World) (args : OptionsModel) (before after : Devices) (status : ℕ)
+    → EndsAs (depend_web_acts targets) args (tangle_course world (Some args)) before after status
+    → EndsRun (depend_acts targets) world (Some args) before after status
+depend_ends targets world args before after status follows = record {
   taken = follows.taken;
   can = follows.can;
   is = follows.is;
-  closes = rw (depend_status_is follows.taken) (rw (depend_is args follows.taken follows.can)
+  closes = rw (depend_status_is targets follows.taken) (rw (depend_is targets args follows.taken follows.can)
       (closes_on judged follows.closes));
 }

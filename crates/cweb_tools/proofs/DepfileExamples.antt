@@ -32,3 +32,11 @@ long_line : depfile (codes "a23456789012345678901234567890123456789.c" ∷ [])
     (codes "b2345678901234567890123456789012.w" ∷ codes "c.w" ∷ [])
     ≡ codes "a23456789012345678901234567890123456789.c: b2345678901234567890123456789012.w \\\n c.w\nc.w:\n"
 long_line = refl
+
+-- `/dev/null` comes before a web with `=`, and the first prerequisite before another such name.
+equals : depfile (codes "x.c" ∷ []) (codes "a=b.w" ∷ codes "c" ∷ codes "d=e" ∷ [])
+    ≡ codes "x.c: /dev/null a=b.w c d=e\nc:\n/dev/null d=e:\n"
+equals = refl
+
+equals_later : depfile (codes "x.c" ∷ []) (codes "a.w" ∷ codes "d=e" ∷ []) ≡ codes "x.c: a.w d=e\na.w d=e:\n"
+equals_later = refl

@@ -1,5 +1,5 @@
 -- A merge that stops breaks the act of merging.
-use Rattle.cweb_tools.proofs.Common.{◌≡◌, ◌+◌, ℕ, List, [], ◌++◌, refl, sym, subst, add-zero, append-nil, Event, SoFar, blame, StopsReading, StopsFor, StopsAfter, read_failures_of, emitted_lines, written_lines, StopsWriting, WritingStops, WritesPrefix, write_failures_of, Stop, ReadFault, LineTooLong, TooMuchText, Memory, WriteFault, Logs, stop_line, subject, stopped, SinkModel, merging, merges, Breaks, FailsReading, ending, DeviceState, LogsEnding, bins_blame, log_blame}
+use Rattle.cweb_tools.proofs.Common.{◌≡◌, ◌+◌, ℕ, List, [], ◌++◌, refl, sym, subst, add-zero, append-nil, Event, SoFar, blame, StopsReading, StopsFor, StopsAfter, read_failures_of, emitted_lines, written_lines, StopsWriting, WritingStops, WritesPrefix, write_failures_of, Stop, ReadFault, LineTooLong, TooMuchText, Memory, WriteFault, Logs, stop_line, subject, SinkModel, merges, Breaks, FailsReading, ending, DeviceState, LogsEnding, bins_blame, log_blame}
 use Rattle.cweb_tools.proofs.ReadingStops.{left_by}
 
 pub writing_ends : (stop : Stop) (about : List ℕ) {l l' : SinkModel} → WritingStops stop

@@ -2,6 +2,7 @@
 use Rattle.cweb_tools.proofs.Common.{◌≡◌, ℕ, List, [], ◌∷◌, ◌++◌, map, refl, ◌∙◌, ap, append-nil, true, false, Event, LogItem, Act, says, written_files, printed_bytes, written_lines, emitted_lines, source_item, Planning, planned, refused, Web, dependencies, depend_plan_acts, openings, reported_faults}
 use Rattle.cweb_tools.specs.Course as course
 use Rattle.cweb_tools.specs.Course.{Course}
+use Rattle.cweb_tools.specs.declared.rule_targets.Targets.{Targets}
 use Rattle.cweb_tools.specs.Depend.{depend_acts}
 use Rattle.cweb_tools.specs.MergeActs.{merge_acts}
 use Rattle.cweb_tools.specs.Script.{TangleCourse, unread, not_there, change_not_there, tangling}
@@ -14,26 +15,27 @@ said_bytes : (items : List LogItem) (acts : List Act) → printed_bytes (map say
 said_bytes [] acts = refl
 said_bytes (item ∷ items) acts = said_bytes items acts
 
-plan_files : (files : List (List ℕ)) (plan : Planning) → written_files (depend_plan_acts files plan) ≡ []
-plan_files files (refused text) = refl
-plan_files files (planned outputs true) = refl
-plan_files files (planned outputs false) = refl
+plan_files : (targets : Targets) (files : List (List ℕ)) (plan : Planning)
+    → written_files (depend_plan_acts targets files plan) ≡ []
+plan_files targets files (refused text) = refl
+plan_files targets files (planned outputs true) = refl
+plan_files targets files (planned outputs false) = refl
 
-plan_bytes : (files : List (List ℕ)) (plan : Planning)
-    → printed_bytes (depend_plan_acts files plan) ≡ dependencies files plan
-plan_bytes files (refused text) = refl
-plan_bytes files (planned outputs true) = append-nil (dependencies files (planned outputs true))
-plan_bytes files (planned outputs false) = append-nil (dependencies files (planned outputs false))
+plan_bytes : (targets : Targets) (files : List (List ℕ)) (plan : Planning)
+    → printed_bytes (depend_plan_acts targets files plan) ≡ dependencies targets files plan
+plan_bytes targets files (refused text) = refl
+plan_bytes targets files (planned outputs true) = append-nil (dependencies targets files (planned outputs true))
+plan_bytes targets files (planned outputs false) = append-nil (dependencies targets files (planned outputs false))
 
-pub depend-writes-none : (way : TangleCourse) → written_files (depend_acts way) ≡ []
-depend-writes-none unread = refl
-depend-writes-none (not_there web) = refl
-depend-writes-none (change_not_there change) = refl
-depend-writes-none (tangling files events web) = said_files web.faults _ ∙ plan_files files web.plan
+pub depend-writes-none : (targets : Targets) (way : TangleCourse) → written_files (depend_acts targets way) ≡ []
+depend-writes-none targets unread = refl
+depend-writes-none targets (not_there web) = refl
+depend-writes-none targets (change_not_there change) = refl
+depend-writes-none targets (tangling files events web) = said_files web.faults _ ∙ plan_files targets files web.plan
 
-pub depend-prints : (files : List (List ℕ)) (events : List Event) (web : Web)
-    → printed_bytes (depend_acts (tangling files events web)) ≡ dependencies files web.plan
-depend-prints files events web = said_bytes web.faults _ ∙ plan_bytes files web.plan
+pub depend-prints : (targets : Targets) (files : List (List ℕ)) (events : List Event) (web : Web)
+    → printed_bytes (depend_acts targets (tangling files events web)) ≡ dependencies targets files web.plan
+depend-prints targets files events web = said_bytes web.faults _ ∙ plan_bytes targets files web.plan
 
 only_said : (items : List LogItem) → written_files (map says items) ≡ []
 only_said [] = refl

@@ -1,5 +1,10 @@
 -- Printing to standard output is the doing of an act.
 use Rattle.cweb_tools.proofs.Common.{◌≡◌, inl, inr, ◌+◌, ℕ, List, [], ◌∷◌, ◌++◌, refl, sym, ◌∙◌, ap, subst, add-zero, codes, Option, Some, None, IsSome, IsTrue, WritesPrefix, Beside, WriteFault, SinkModel, ShelfModel, Ending, ending, DeviceState, PerformsActs, prints, AgreesWith, DoesInBins, bins_blame, rise, read_failures_of, log_blame, arith, map, File, Output, Stored, output_file}
+use Rattle.std.proofs.lemmas.List.{take-map}
+use Rattle.std.specs.Prelude.{take}
+use Rattle.cweb_tools.specs.declared.rule_targets.Targets.{Targets}
+use Rattle.cweb_tools.specs.declared.rule_targets.Targets.TheVariants.{All, Main}
+use Rattle.cweb_tools.specs.Depend.{among_outputs}
 use Rattle.cweb_tools.proofs.Logging.{at, prefix_observed}
 
 -- The state after these bytes were printed.
@@ -67,9 +72,17 @@ module _ (text : List ℕ) {old new : SinkModel} (tells : new.tells ≡ old.tell
       ))
 
 -- The targets are the names of the outputs.
-pub target_names : (web : Stored) (files : List (List ℕ)) (outputs : List Output)
+target_names : (web : Stored) (files : List (List ℕ)) (outputs : List Output)
     → map (λ (file : File). file.name) (map (output_file web files) outputs)
     ≡ map (λ (output : Output). output.name) outputs
 target_names web files [] = refl
 target_names web files (output ∷ outputs) =
     ap (λ (names : List (List ℕ)). output.name ∷ names) (target_names web files outputs)
+
+pub target_names_among : (web : Stored) (files : List (List ℕ)) (targets : Targets) (outputs : List Output)
+    → map (λ (file : File). file.name) (among_outputs targets (map (output_file web files) outputs))
+    ≡ map (λ (output : Output). output.name) (among_outputs targets outputs)
+target_names_among web files All outputs = target_names web files outputs
+target_names_among web files Main outputs =
+    ap (map (λ (file : File). file.name)) (take-map (output_file web files) 1 outputs)
+    ∙ target_names web files (take 1 outputs)

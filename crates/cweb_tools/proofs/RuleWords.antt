@@ -7,10 +7,10 @@ use Rattle.std.specs.Str.{bytes_eq}
 use Rattle.indexmap.specs.IndexSet.{insert_key}
 use Rattle.std.specs.Borrow.{Bor}
 use Rattle.std.specs.List.{flat_map, list_any}
-use Rattle.cweb_tools.specs.Depfile.{Wrapped, add_once, add_word, each_once, colon, empty_rule, escaped, position_before, prerequisite_words, target_words}
+use Rattle.cweb_tools.specs.Depfile.{Wrapped, add_once, add_word, each_once, colon, empty_rule, escaped, has_equals, led, position_before, prerequisite_words, target_words}
 use Rattle.cweb_tools.specs.declared.depfile.escape.Position.{Position}
 use Rattle.cweb_tools.specs.declared.depfile.escape.Position.TheVariants.{Target, Inner, Last}
-use Rattle.cweb_tools.specs.inner.RuleModel.{keys_of}
+use Rattle.cweb_tools.specs.inner.RuleModel.{keys_of, lead_words}
 
 -- The next of the remaining names.
 pub next_name : (names : List (Bor (List ℕ))) (at : ℕ) (other : Bor (List ℕ)) → at < length names
@@ -61,15 +61,25 @@ word_added now new names at other position all within at_is is before =
     ∙ before
 
 -- One more empty rule was appended.
-pub rule_added : (text new whole : List ℕ) (names : List (Bor (List ℕ))) (at : ℕ) (other : Bor (List ℕ))
-    → at < length names → new ≡ text ++ empty_rule (get_or names at other).now
-    → text ++ flat_map empty_rule (drop at (keys_of names)) ≡ whole
-    → new ++ flat_map empty_rule (drop (at + 1) (keys_of names)) ≡ whole
-rule_added text new whole names at other within is before =
-    ap (λ (t : List ℕ). t ++ flat_map empty_rule (drop (at + 1) (keys_of names))) is
-    ∙ append_assoc text (empty_rule (get_or names at other).now) _
-    ∙ ap (λ (ns : List (List ℕ)). text ++ flat_map empty_rule ns) (sym (next_name names at other within))
+pub rule_added : (lead text new whole : List ℕ) (names : List (Bor (List ℕ))) (at : ℕ) (other : Bor (List ℕ))
+    → at < length names → new ≡ text ++ empty_rule lead (get_or names at other).now
+    → text ++ flat_map (empty_rule lead) (drop at (keys_of names)) ≡ whole
+    → new ++ flat_map (empty_rule lead) (drop (at + 1) (keys_of names)) ≡ whole
+rule_added lead text new whole names at other within is before =
+    ap (λ (t : List ℕ). t ++ flat_map (empty_rule lead) (drop (at + 1) (keys_of names))) is
+    ∙ append_assoc text (empty_rule lead (get_or names at other).now) _
+    ∙ ap (λ (ns : List (List ℕ)). text ++ flat_map (empty_rule lead) ns) (sym (next_name names at other within))
     ∙ before
+
+-- What comes before the inputs is a prerequisite like others.
+pub lead_is : (names : List (List ℕ)) → prerequisite_words (led names) ≡ lead_words names ++ prerequisite_words names
+lead_is [] = refl
+lead_is (name ∷ names) = by_test (has_equals name) refl
+  where
+    by_test : (test : Bool) → has_equals name ≡ test
+        → prerequisite_words (led (name ∷ names)) ≡ lead_words (name ∷ names) ++ prerequisite_words (name ∷ names)
+    by_test true is = rw is refl
+    by_test false is = rw is refl
 
 -- A colon after the last target.
 no_more : (names : List (List ℕ)) → length names ≡ 0 → codes ":" ≡ colon names

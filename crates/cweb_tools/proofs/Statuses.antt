@@ -1,4 +1,5 @@
 -- The status of a run that nothing stops.
+use Rattle.cweb_tools.specs.declared.rule_targets.Targets.{Targets}
 use Rattle.cweb_tools.proofs.Common.{◌≡◌, ◌<◌, ◌+◌, ℕ, Bool, true, false, cond, ◌||◌, List, [], ◌∷◌, ◌++◌, map, refl, sym, ◌∙◌, ap, arith, nat_tests, sum_by-cons, or-true, or-false, list_any-append, ◌==◌, count_by, if◌then◌else◌, list_any, WebNotOpened, ChangeNotOpened, LogItem, banner, fault_count, faults, is_fault, no_errors, no_text, see_warning, stopped, Shown, Act, opens, reads, says, Numbers, Planning, TangleCourse, logged_items, planned, planned_acts, refused, tangle_status, acts_status, depend_acts, depend_plan_acts, tangling, unread, not_there, change_not_there, web_acts, when, course_status, status_by}
 use Rattle.cweb_tools.proofs.WebActs.{when_on, starred_on, outputs_on, closing_on}
 
@@ -88,16 +89,18 @@ status_is shown (tangling names events web) =
     (fault-planned shown web.numbers (fault_count web.faults) web.plan))))
     ∙ status_planned web.faults web.plan
 
-fault-depend : (files : List (List ℕ)) (plan : Planning) → has_fault (depend_plan_acts files plan) ≡ is_refused plan
-fault-depend files (refused text) = refl
-fault-depend files (planned outputs true) = refl
-fault-depend files (planned outputs false) = refl
+fault-depend : (targets : Targets) (files : List (List ℕ)) (plan : Planning)
+    → has_fault (depend_plan_acts targets files plan) ≡ is_refused plan
+fault-depend targets files (refused text) = refl
+fault-depend targets files (planned outputs true) = refl
+fault-depend targets files (planned outputs false) = refl
 
-pub depend_status_is : (course : TangleCourse) → acts_status (depend_acts course) ≡ course_status course
-depend_status_is unread = refl
-depend_status_is (not_there web) = refl
-depend_status_is (change_not_there change) = refl
-depend_status_is (tangling files events web) =
+pub depend_status_is : (targets : Targets) (course : TangleCourse)
+    → acts_status (depend_acts targets course) ≡ course_status course
+depend_status_is targets unread = refl
+depend_status_is targets (not_there web) = refl
+depend_status_is targets (change_not_there change) = refl
+depend_status_is targets (tangling files events web) =
     let faults = list_any is_fault web.faults in
-    ap status_for (fault-said web.faults _ ∙ ap (λ (f : Bool). faults || f) (fault-depend files web.plan))
+    ap status_for (fault-said web.faults _ ∙ ap (λ (f : Bool). faults || f) (fault-depend targets files web.plan))
     ∙ status_planned web.faults web.plan

@@ -5,6 +5,8 @@ use Rattle.std.specs.Fmt.{digits}
 use Rattle.std.specs.Str.{is_utf8, chars}
 use lib.Utf8.{encode}
 use Rattle.cweb_tools.specs.Course as course
+use Rattle.cweb_tools.specs.Depend.{targets_by}
+use Rattle.cweb_tools.specs.declared.rule_targets.Targets.TheVariants.{All}
 
 -- The effect of a run.
 record Left : Type 0 where
@@ -115,8 +117,13 @@ changed_run = runs_to (record { texts = changed_texts; inputs = None })
     (started (codes "@ @c\na;\nb;\nc;\n") (Some (codes "@x\nb;\n@y\nB;\n@z\n")))
     (codes "v.w" ∷ codes "v.ch" ∷ []) (codes "v.c") (codes "-bph" ∷ codes "v" ∷ codes "v" ∷ []) _ refl refl refl
 
--- `wdep` prints the outputs and the inputs.
-two_depend : printed_bytes (depend_acts (merging (one_web (codes "f.w") two_text) (started two_text None)
+-- `wdep` prints the outputs, or the first one, and the inputs.
+two_depend : printed_bytes (depend_acts All (merging (one_web (codes "f.w") two_text) (started two_text None)
     (codes "f.w" ∷ []) (codes "f.c"))) ≡ codes "f.c a.h: f.w\n"
 unfolding digits is_utf8 chars encode
 two_depend = refl
+
+main_depends : printed_bytes (depend_acts (targets_by (codes "-m" ∷ codes "+bm" ∷ codes "f" ∷ []))
+    (merging (one_web (codes "f.w") two_text) (started two_text None) (codes "f.w" ∷ []) (codes "f.c"))) ≡ codes "f.c: f.w\n"
+unfolding digits is_utf8 chars encode
+main_depends = refl

@@ -1,7 +1,12 @@
 -- The targets that `wdep` prints are the files that `ctangle` writes.
-use Rattle.cweb_tools.proofs.Common.{◌≡◌, ℕ, Bool, true, false, List, [], ◌∷◌, ◌++◌, map, refl, sym, ◌∙◌, ap, File, Event, LogItem, Shown, Act, opens, reads, says, append-nil, printed_bytes, depend_plan_acts, Planning, planned, refused, Web, tangling, written_files, outputs_acts, planned_acts, web_acts, tangle_files, dependencies, fault_count}
+use Rattle.cweb_tools.proofs.Common.{◌≡◌, ℕ, Bool, true, false, List, [], ◌∷◌, ◌++◌, map, refl, sym, ◌∙◌, ap, File, Event, LogItem, Shown, Act, opens, reads, Planning, planned, Web, tangling, written_files, outputs_acts, planned_acts, web_acts, tangle_files, dependencies, fault_count}
 use Rattle.cweb_tools.specs.Depfile.{depfile, each_once}
 use Rattle.cweb_tools.specs.laws.Targets.{TargetsAreWrittenFiles}
+use Rattle.cweb_tools.specs.declared.rule_targets.Targets.{Targets}
+use Rattle.cweb_tools.specs.declared.rule_targets.Targets.TheVariants.{All, Main}
+use Rattle.cweb_tools.specs.Depend.{among_outputs}
+use Rattle.std.proofs.lemmas.List.{take-map}
+use Rattle.cweb_tools.proofs.NoFiles.{depend-prints}
 use Rattle.cweb_tools.proofs.Statuses.{depend_status_is, status_is}
 use Rattle.cweb_tools.proofs.WebActs.{when_on, said_on, starred_on, closing_on}
 
@@ -35,22 +40,21 @@ tangle_written shown files events web outputs missing is =
     (said_on Any (Writes outputs) (says_on outputs) web.faults _ (λ item. tt)
     (ap (λ (p : Planning). written_files (planned_acts shown web.numbers count p)) is ∙ plan)))
 
--- What `wdep` prints.
-said_bytes : (items : List LogItem) (acts : List Act) → printed_bytes (map says items ++ acts) ≡ printed_bytes acts
-said_bytes [] acts = refl
-said_bytes (item ∷ items) acts = said_bytes items acts
+abbrev named : List File → List (List ℕ)
+named outputs = map (λ (file : File). file.name) outputs
 
-plan_bytes : (files : List (List ℕ)) (plan : Planning)
-    → printed_bytes (depend_plan_acts files plan) ≡ dependencies files plan
-plan_bytes files (refused text) = refl
-plan_bytes files (planned outputs true) = append-nil _
-plan_bytes files (planned outputs false) = append-nil _
+-- The names of the targets are those of the outputs.
+among_names : (targets : Targets) (outputs : List File)
+    → named (among_outputs targets outputs) ≡ among_outputs targets (named outputs)
+among_names All outputs = refl
+among_names Main outputs = sym (take-map (λ (file : File). file.name) 1 outputs)
 
 pub targets_are_written : TargetsAreWrittenFiles
 targets_are_written = record {
-  targets = λ shown files events web outputs missing is. said_bytes web.faults _
-      ∙ plan_bytes files web.plan ∙ ap (dependencies files) is
-      ∙ ap (λ (all : List File). depfile (map (λ file. file.name) all) (each_once files))
-      (sym (tangle_written shown files events web outputs missing is));
-  status = λ shown course. depend_status_is course ∙ sym (status_is shown course);
+  targets = λ shown targets files events web outputs missing is. depend-prints targets files events web
+      ∙ ap (dependencies targets files) is
+      ∙ ap (λ (names : List (List ℕ)). depfile names (each_once files)) (among_names targets outputs
+      ∙ ap (λ (all : List File). among_outputs targets (named all))
+      (sym (tangle_written shown files events web outputs missing is)));
+  status = λ shown targets course. depend_status_is targets course ∙ sym (status_is shown course);
 }

@@ -79,9 +79,24 @@ add_word now word =
     then record { text = now.text ++ 32 ∷ word; column = now.column + (1 + length word) }
     else record { text = now.text ++ (codes " \\\n " ++ word); column = 1 + length word })
 
--- A rule without a prerequisite, so that `make` goes on if this file is gone.
-abbrev pub empty_rule : List ℕ → List ℕ
-empty_rule name = escaped Target name ++ codes ":\n"
+-- A line that begins with such a name is an assignment to `make`. So is a rule whose first prerequisite is such a name.
+abbrev pub has_equals : List ℕ → Bool
+has_equals name = list_any (λ b. b == 61) name
+
+-- A file that is always there comes before a first prerequisite with `=`.
+abbrev pub led : List (List ℕ) → List (List ℕ)
+led [] = []
+led (name ∷ names) = if has_equals name then codes "/dev/null" ∷ name ∷ names else name ∷ names
+
+-- The first prerequisite of a rule. It has no `=`.
+abbrev pub leader : List (List ℕ) → List ℕ
+leader [] = []
+leader (name ∷ names) = if has_equals name then codes "/dev/null" else name
+
+-- A rule without a prerequisite, so that `make` goes on if this file is gone. The leader comes before a name with `=`.
+abbrev pub empty_rule : List ℕ → List ℕ → List ℕ
+empty_rule lead name =
+    (if has_equals name then escaped Target lead ++ 32 ∷ [] else []) ++ (escaped Target name ++ codes ":\n")
 
 -- The rule that makes the outputs from the inputs.
 abbrev pub rule_text : List (List ℕ) → List (List ℕ) → List ℕ
@@ -90,4 +105,5 @@ rule_text outputs inputs =
 
 -- That rule, and an empty rule for each input but the first, which is the web.
 abbrev pub depfile : List (List ℕ) → List (List ℕ) → List ℕ
-depfile outputs inputs = rule_text outputs inputs ++ (codes "\n" ++ flat_map empty_rule (drop 1 inputs))
+depfile outputs inputs =
+    rule_text outputs (led inputs) ++ (codes "\n" ++ flat_map (empty_rule (leader inputs)) (drop 1 inputs))

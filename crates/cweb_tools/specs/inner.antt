@@ -1,4 +1,5 @@
 -- Definitions that only the functions of this crate cite.
+pub mod About
 pub mod Acts
 pub mod Begun
 pub mod Course

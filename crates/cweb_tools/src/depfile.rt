@@ -2,13 +2,15 @@
 ghost use Rattle.std.specs.Prelude.{◌≡◌, ◌++◌, [], codes, drop, fold, map, IfOk, OnOk};
 ghost use Rattle.std.specs.List.{flat_map};
 ghost use Rattle.cweb_input.specs.surface.OpenedFileNames.{opened_file_names};
-ghost use Rattle.cweb_tools.specs.Depfile.{add_word, depfile, each_once, empty_rule};
-ghost use Rattle.cweb_tools.specs.Depfile.{escaped, prerequisite_words, target_words};
-ghost use Rattle.cweb_tools.specs.inner.RuleModel.{keys_of, wrapped};
+ghost use Rattle.cweb_tools.specs.Depend.{among_outputs};
+ghost use Rattle.cweb_tools.specs.Depfile.{add_word, depfile, each_once, empty_rule, escaped};
+ghost use Rattle.cweb_tools.specs.Depfile.{has_equals, leader, prerequisite_words, target_words};
+ghost use Rattle.cweb_tools.specs.inner.RuleModel.{keys_of, lead_words, wrapped};
 
 mod escape;
 
 use crate::depfile::escape::{Position, append_escaped};
+use crate::rule_targets::Targets;
 use cweb_files::FileId;
 use cweb_lines::FileNames;
 use cweb_out::Plan;
@@ -18,14 +20,24 @@ use std::alloc::{AllocError, Global};
 /// The length that a line isn't made to exceed. A longer name has a line of its own.
 const WIDTH: usize = 78;
 
+/// A file that is always there.
+const ALWAYS: &str = "/dev/null";
+
 /// The rules for the outputs of a plan, which are made from these files.
-pub(crate) fn depfile(alloc: Global, plan: &Plan, names: &FileNames) -> Result<Vec<u8>, AllocError>
+pub(crate) fn depfile(
+    alloc: Global,
+    plan: &Plan,
+    targets: Targets,
+    names: &FileNames,
+) -> Result<Vec<u8>, AllocError>
     ensures { IfOk result (λ text. text.items ≡ depfile
-        (map (λ output. output.name) plan.now.outputs) (each_once (opened_file_names names.now))) }
+        (map (λ output. output.name) (among_outputs targets plan.now.outputs))
+        (each_once (opened_file_names names.now))) }
 {
     let inputs = each_once(alloc, names)?;
     let mut rule = RuleText::new(alloc);
-    rule.add_targets(plan)?;
+    rule.add_targets(plan, targets)?;
+    rule.add_lead(inputs.as_slice())?;
     rule.add_prerequisites(inputs.as_slice())?;
     rule.finish(inputs.as_slice())
 }
@@ -62,12 +74,12 @@ impl RuleText {
         }
     }
 
-    /// Adds the outputs of a plan.
-    fn add_targets(&mut self, plan: &Plan) -> Result<(), AllocError>
+    /// Adds the outputs of a plan that are targets.
+    fn add_targets(&mut self, plan: &Plan, targets: Targets) -> Result<(), AllocError>
         ensures { OnOk result (wrapped self.new ≡ fold add_word (wrapped self.old)
-            (target_words (map (λ output. output.name) plan.now.outputs))) }
+            (target_words (map (λ output. output.name) (among_outputs targets plan.now.outputs)))) }
     {
-        let outputs = plan.outputs();
+        let outputs = targets.count(plan);
         'targets: for output in 0..outputs {
             self.begin_word(plan.output_name(output), Position::Target)?;
             if output + 1 == outputs {
@@ -76,6 +88,20 @@ impl RuleText {
             self.add_word()?;
         }
         Ok(())
+    }
+
+    /// Adds what comes before the inputs: a file that is always there, if the first input's name has `=`.
+    fn add_lead(&mut self, inputs: &[&str]) -> Result<(), AllocError>
+        ensures { OnOk result (wrapped self.new ≡ fold add_word (wrapped self.old)
+            (lead_words (keys_of inputs.now))) }
+    {
+        match inputs {
+            [first, ..] if has_equals(first) => {
+                self.begin_word(ALWAYS, Position::Inner)?;
+                self.add_word()
+            }
+            _ => Ok(()),
+        }
     }
 
     /// Adds the inputs.
@@ -98,14 +124,14 @@ impl RuleText {
 
     /// Ends the rule, and adds an empty rule for each input but the first.
     fn finish(self, inputs: &[&str]) -> Result<Vec<u8>, AllocError>
-        ensures { IfOk result (λ text. text.items ≡ (wrapped self).text
-            ++ (codes "\n" ++ flat_map empty_rule (drop 1 (keys_of inputs.now)))) }
+        ensures { IfOk result (λ text. text.items ≡ (wrapped self).text ++ (codes "\n"
+            ++ flat_map (empty_rule (leader (keys_of inputs.now))) (drop 1 (keys_of inputs.now)))) }
     {
         let mut text = self.text;
         text.push(b'\n')?;
+        let lead = leader(inputs);
         'inputs: for at in 1..inputs.len() {
-            append_escaped(&mut text, inputs[at].as_bytes(), Position::Target)?;
-            text.extend_from_slice(b":\n")?;
+            append_empty_rule(&mut text, lead, inputs[at])?;
         }
         Ok(text)
     }
@@ -135,4 +161,34 @@ impl RuleText {
         }
         self.text.extend_from_slice(self.word.as_slice())
     }
+}
+
+/// Whether a name has `=`.
+fn has_equals(name: &str) -> bool
+    ensures { result ≡ has_equals name.now }
+{
+    name.as_bytes().contains(&b'=')
+}
+
+/// The first prerequisite of a rule with these inputs. It has no `=`.
+fn leader<'a>(inputs: &[&'a str]) -> &'a str
+    ensures { result.now ≡ leader (keys_of inputs.now) }
+{
+    match inputs {
+        [] => "",
+        [first, ..] if has_equals(first) => ALWAYS,
+        [first, ..] => first,
+    }
+}
+
+/// Appends an empty rule for a name.
+fn append_empty_rule(text: &mut Vec<u8>, lead: &str, name: &str) -> Result<(), AllocError>
+    ensures { OnOk result (text.new.items ≡ text.old.items ++ empty_rule lead.now name.now) }
+{
+    if has_equals(name) {
+        append_escaped(text, lead.as_bytes(), Position::Target)?;
+        text.push(b' ')?;
+    }
+    append_escaped(text, name.as_bytes(), Position::Target)?;
+    text.extend_from_slice(b":\n")
 }

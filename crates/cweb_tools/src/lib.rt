@@ -9,6 +9,7 @@ mod wmerge;
 // a scanned web, its outputs and its depfile
 mod depfile;
 mod outputs;
+mod rule_targets;
 mod scanning;
 mod web;
 
@@ -17,11 +18,13 @@ mod saying;
 mod subjects;
 
 // what the programs do before their run
+mod about;
 mod program;
 
 // laws of runs
 pub mod laws;
 
+pub use about::{about_wdep, write_about};
 pub use cweb_log::{
     MergeWords, Options, Shown, write_banner, write_closing, write_counts, write_faults,
     write_name_faults, write_no_program, write_plan_fault, write_scan_faults, write_starred,

@@ -10,12 +10,15 @@ ghost use Rattle.cweb_log.specs.DeviceModels.{sink_model, devices};
 ghost use Rattle.cweb_tools.specs.Acts.{plans};
 ghost use Rattle.cweb_tools.specs.Course.{world_of};
 ghost use Rattle.cweb_tools.specs.Depend.{DependPromises, DependsFreely, depend_plan_acts, depend_web_acts};
+ghost use Rattle.cweb_tools.specs.Depend.{targets_by};
+ghost use Rattle.cweb_tools.specs.declared.rule_targets.Targets.{Targets};
 ghost use Rattle.cweb_tools.specs.Tangle.{plan_made, planning};
 ghost use Rattle.cweb_tools.specs.inner.Does.{ClosesInBoth, ClosesInLog};
 ghost use Rattle.cweb_tools.specs.inner.Tangle.{status_by, web_status};
 ghost use Rattle.cweb_tools.specs.inner.Web.{IsKnown, faults_of, files_of, web_in};
 
 use crate::depfile::depfile;
+use crate::rule_targets::Targets;
 use crate::saying::say_no_program_text;
 use crate::scanning::scan_web;
 use crate::web::{Web, say_faults, status};
@@ -42,12 +45,14 @@ pub fn run_wdep<S: Shelf, W: Sink, L: Sink>(
     ensures promises { let before = devices S.Shelf W.Sink L.Sink shelf.old out.old log.old in
         let args = options_by (map (λ word. word.now) words.now) in
         let world = world_of before.shelf.texts (option_copied inputs.entry) in
-        DependPromises world args before
+        let targets = targets_by (map (λ word. word.now) words.now) in
+        DependPromises world targets args before
         (devices S.Shelf W.Sink L.Sink shelf.new out.new log.new) result }
     ensures freely { let before = devices S.Shelf W.Sink L.Sink shelf.old out.old log.old in
         let args = options_by (map (λ word. word.now) words.now) in
         let world = world_of before.shelf.texts (option_copied inputs.entry) in
-        DependsFreely world args before
+        let targets = targets_by (map (λ word. word.now) words.now) in
+        DependsFreely world targets args before
         (devices S.Shelf W.Sink L.Sink shelf.new out.new log.new) result }
     ensures untouched { options_by (map (λ word. word.now) words.now) ≡ None →
         (shelf.new ≡ shelf.old) × (out.new ≡ out.old) }
@@ -59,7 +64,8 @@ pub fn run_wdep<S: Shelf, W: Sink, L: Sink>(
     match scan_web(alloc, &options, inputs, shelf, log) {
         Ok((merger, scanned)) => {
             let web = Web::of(&merger, &scanned);
-            depend_web(alloc, options.main.as_str(), web, out, log)
+            let targets = Targets::of(words);
+            depend_web(alloc, options.main.as_str(), web, targets, out, log)
         }
         Err(status) => status,
     }
@@ -70,13 +76,14 @@ fn depend_web<W: Sink, L: Sink>(
     alloc: Global,
     main: &str,
     web: Web<'_>,
+    targets: Targets,
     out: &mut W,
     log: &mut L,
 ) -> u8
     requires known { IsKnown web }
     requires out_count { W.failed out.old + 1 < 2 ^ 64 }
     requires log_count { L.failed log.old + 1 < 2 ^ 64 }
-    ensures { ClosesInBoth (depend_web_acts (files_of web.entry) (web_in web.entry main.now))
+    ensures { ClosesInBoth (depend_web_acts targets (files_of web.entry) (web_in web.entry main.now))
         (web_status (web_in web.entry main.now))
         (sink_model W.Sink out.old) (sink_model W.Sink out.new)
         (sink_model L.Sink log.old) (sink_model L.Sink log.new) result }
@@ -85,7 +92,7 @@ fn depend_web<W: Sink, L: Sink>(
         return 1;
     }
     match plan(alloc, web.store(), main) {
-        Ok(plan) => depend_planned(alloc, web, &plan, out, log),
+        Ok(plan) => depend_planned(alloc, web, &plan, targets, out, log),
         Err(fault) => depend_unplanned(main, web, fault, log),
     }
 }
@@ -94,7 +101,7 @@ fn depend_web<W: Sink, L: Sink>(
 fn depend_unplanned<L: Sink>(main: &str, web: Web<'_>, fault: PlanFault, log: &mut L) -> u8
     requires expected { IsExpectedFault (planned web.scanned.now.store main.now) fault }
     requires count { L.failed log.old + 1 < 2 ^ 64 }
-    ensures { ClosesInLog (plans ∷ depend_plan_acts (files_of web.entry)
+    ensures { (targets : Targets) → ClosesInLog (plans ∷ depend_plan_acts targets (files_of web.entry)
         (planning web.entry.scanned.now.store (files_of web.entry) main.now))
         (status_by (fault_count (faults_of web.entry))
         (planning web.entry.scanned.now.store (files_of web.entry) main.now))
@@ -112,13 +119,14 @@ fn depend_planned<W: Sink, L: Sink>(
     alloc: Global,
     web: Web<'_>,
     plan: &Plan,
+    targets: Targets,
     out: &mut W,
     log: &mut L,
 ) -> u8
     requires made { IsPlanOf web.scanned.now.store plan.now }
     requires out_count { W.failed out.old + 1 < 2 ^ 64 }
     requires log_count { L.failed log.old + 1 < 2 ^ 64 }
-    ensures { ClosesInBoth (depend_plan_acts (files_of web.entry)
+    ensures { ClosesInBoth (depend_plan_acts targets (files_of web.entry)
         (plan_made web.entry.scanned.now.store (files_of web.entry) plan.now))
         (status_by (fault_count (faults_of web.entry))
         (plan_made web.entry.scanned.now.store (files_of web.entry) plan.now))
@@ -128,7 +136,7 @@ fn depend_planned<W: Sink, L: Sink>(
     if let Err(_) = say_no_program_text(plan.no_text(), log) {
         return 1;
     }
-    let Ok(text) = depfile(alloc, plan, web.names) else {
+    let Ok(text) = depfile(alloc, plan, targets, web.names) else {
         return log_stop(log, Stop::Memory, "");
     };
     if let Err(_) = write_all(out, text.as_slice()) {

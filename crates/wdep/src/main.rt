@@ -3,7 +3,8 @@
 #![tactic(auto)]
 
 use cweb_tools::{
-    FolderShelf, StdSink, as_slices, out_of_memory, read_args, read_inputs, run_wdep,
+    FolderShelf, StdSink, about_wdep, as_slices, out_of_memory, read_args, read_inputs, run_wdep,
+    write_about,
 };
 use std::io::Write;
 use std::process::ExitCode;
@@ -29,8 +30,11 @@ fn depend<R: Env + Files + AllocGlobal, W: Write + Drop, L: Write + Drop>(
         return out_of_memory(log);
     };
     let inputs = inputs.as_ref().map(|folder| folder.as_str());
-    let mut shelf = FolderShelf::new(rt);
     let mut out = StdSink::new(out);
     let mut log = StdSink::new(log);
+    if let Some(text) = about_wdep(&words) {
+        return write_about(text, &mut out, &mut log);
+    }
+    let mut shelf = FolderShelf::new(rt);
     run_wdep(rt.alloc(), &words, inputs, &mut shelf, &mut out, &mut log)
 }

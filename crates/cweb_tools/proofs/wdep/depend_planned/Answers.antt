@@ -2,7 +2,7 @@ use Rattle.cweb_tools.proofs.Common.{◌≡◌, refl, sym, ◌∙◌, ap, subst,
 use Rattle.cweb_tools.specs.Depfile.{depfile, each_once}
 use Rattle.cweb_tools.proofs.Doing.{closes_in, closes_on, log_counted}
 use Rattle.cweb_tools.proofs.DoingFiles.{does_reserve, log_halts, memory_halts}
-use Rattle.cweb_tools.proofs.Printing.{printed_prefix, printed_whole, target_names}
+use Rattle.cweb_tools.proofs.Printing.{printed_prefix, printed_whole, target_names_among}
 use Rattle.cweb_tools.proofs.wdep.depend_planned.Goals as goal
 
 pub returns-in-Err : goal.returns-in-Err
@@ -23,10 +23,10 @@ returns-in-Err-write_all g c =
     let wrote = c.in-Err-write_all.ensures in
     let files : List (List ℕ) = files_of c.args.web in
     let text : c.as_slice.result.now
-    ≡ dependencies files (plan_made c.args.web.scanned.now.store files c.args.plan.now) =
+    ≡ dependencies c.args.targets files (plan_made c.args.web.scanned.now.store files c.args.plan.now) =
     c.as_slice.ensures.value ∙ c.in-Ok.ensures
     ∙ ap (λ (names : List (List ℕ)). depfile names (each_once files))
-    (sym (target_names c.args.web.scanned.now.store files c.args.plan.now.outputs)) in
+    (sym (target_names_among c.args.web.scanned.now.store files c.args.targets c.args.plan.now.outputs)) in
     λ shelf. closes_on ((rw c.no_text.ensures at c.in_default.ensures) shelf _) (closes_on does_reserve
     (closes_in [] (subst (λ (t : List ℕ).
     DoesInBins (prints t ∷ []) (Some (ending WriteFault (codes "standard output")))
@@ -40,10 +40,10 @@ returns g c =
     let wrote = c.in_default-write_all.ensures in
     let files : List (List ℕ) = files_of c.args.web in
     let text : c.as_slice.result.now
-    ≡ dependencies files (plan_made c.args.web.scanned.now.store files c.args.plan.now) =
+    ≡ dependencies c.args.targets files (plan_made c.args.web.scanned.now.store files c.args.plan.now) =
     c.as_slice.ensures.value ∙ c.in-Ok.ensures
     ∙ ap (λ (names : List (List ℕ)). depfile names (each_once files))
-    (sym (target_names c.args.web.scanned.now.store files c.args.plan.now.outputs)) in
+    (sym (target_names_among c.args.web.scanned.now.store files c.args.targets c.args.plan.now.outputs)) in
     λ shelf. closes_on ((rw c.no_text.ensures at c.in_default.ensures) shelf _) (closes_on does_reserve
     (done (subst (λ (t : List ℕ). DoesInBins (prints t ∷ []) None
     (sink_model g.W.Sink c.args.out.now) (sink_model g.W.Sink c.write_all.new.out)) text

@@ -19,4 +19,4 @@ returns-in-Ok g c = λ shelf. closes_on (c.in_default.ensures shelf _)
     (rw c.store.ensures at c.in-Ok.ensures)) (c.depend_planned.ensures shelf)))
 
 pub returns-in-Err-plan : goal.returns-in-Err-plan
-returns-in-Err-plan g c = λ shelf. closes_on (c.in_default.ensures shelf _) (c.depend_unplanned.ensures shelf _)
+returns-in-Err-plan g c = λ shelf. closes_on (c.in_default.ensures shelf _) (c.depend_unplanned.ensures _ shelf _)

@@ -1,13 +1,18 @@
 use Rattle.cweb_tools.proofs.Common.{ℕ, List, Bor, map, options_by, ap, refl, Err, option_copied, World, OptionsModel, Some, options_of, sink_model, shelf_model, world_of, depend_acts, depend_usage, depend_web_acts}
+use Rattle.cweb_tools.specs.declared.rule_targets.Targets.{Targets}
+use Rattle.cweb_tools.specs.Depend.{targets_by}
 use Rattle.cweb_tools.proofs.Courses.{same_stop}
 use Rattle.cweb_tools.proofs.DependPromisesProved.{depend_ends, depend_judges}
 use Rattle.cweb_tools.proofs.TanglePromisesProved.{promised, tangled_freely}
 use Rattle.cweb_tools.proofs.RunEnds.{words_end}
 use Rattle.cweb_tools.proofs.wdep.run_wdep.Goals as goal
 
+abbrev targets_of : List (Bor (List ℕ)) → Targets
+targets_of words = targets_by (map (λ (word : Bor (List ℕ)). word.now) words)
+
 pub returns-in-Err-clause-promises : goal.returns-in-Err-clause-promises
-returns-in-Err-clause-promises g c = promised _ _ (words_end depend_usage depend_acts refl _ _
-    (λ one is course can. depend_judges one course can) c.in-Err.stop (shelf_model g.S.Shelf c.args.shelf.now)
+returns-in-Err-clause-promises g c = promised _ _ (words_end depend_usage (depend_acts _) refl _ _
+    (λ one is course can. depend_judges _ one course can) c.in-Err.stop (shelf_model g.S.Shelf c.args.shelf.now)
     (sink_model g.W.Sink c.args.out.now) _ c.in-Err.ensures.stops (λ is. c.in-Err.ensures.usage.0 (ap Err is))
     (λ none. same_stop _ _ _ refl (c.in-Err.ensures.usage.1 none)) c.log_stop.ensures.logs c.log_stop.ensures.status)
 
@@ -21,8 +26,9 @@ returns-in-Ok-scan_web-clause-promises g c =
     let world : World = world_of (g.S.Shelf.texts c.args.shelf.now) (option_copied c.args.inputs) in
     let args : OptionsModel = options_of c.in-Ok.options in
     rw c.in-Ok.ensures.ok (promised world (Some args)
-    (depend_ends world args _ _ _ (c.in-Ok-scan_web.ensures.scans depend_web_acts
+    (depend_ends _ world args _ _ _ (c.in-Ok-scan_web.ensures.scans (depend_web_acts (targets_of c.args.words.now))
     (sink_model g.W.Sink c.args.out.now) _ _ (rw (
+      c.of-targets.ensures,
       c.as_str.ensures.value,
       c.of-web.ensures.names,
       c.of-web.ensures.faults,
@@ -41,7 +47,7 @@ returns-clause-promises g c =
     let world : World = world_of (g.S.Shelf.texts c.args.shelf.now) (option_copied c.args.inputs) in
     let args : OptionsModel = options_of c.in-Ok.options in
     rw c.in-Ok.ensures.ok (promised world (Some args)
-    (depend_ends world args _ _ _ (c.in-Err-scan_web.ensures.stops depend_web_acts
+    (depend_ends _ world args _ _ _ (c.in-Err-scan_web.ensures.stops (depend_web_acts (targets_of c.args.words.now))
     (sink_model g.W.Sink c.args.out.now))))
 
 pub returns-clause-freely : goal.returns-clause-freely

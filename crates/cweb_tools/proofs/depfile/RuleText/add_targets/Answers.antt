@@ -1,5 +1,9 @@
-use Rattle.std.proofs.Common.{◌≡◌, ◌<◌, ◌++◌, List, ℕ, [], arith, length, sym, ◌∙◌, ap, append-nil, get_or}
-use Rattle.std.specs.Prelude.{codes, None}
+use Rattle.std.proofs.Common.{◌≡◌, refl, ◌<◌, ◌++◌, List, ℕ, [], arith, length, sym, ◌∙◌, ap, append-nil, get_or}
+use Rattle.std.specs.Prelude.{codes, None, take}
+use Rattle.std.proofs.lemmas.List.{get_or-take, length-take}
+use Rattle.cweb_tools.specs.Depend.{among_outputs}
+use Rattle.cweb_tools.specs.declared.rule_targets.Targets.{Targets}
+use Rattle.cweb_tools.specs.declared.rule_targets.Targets.TheVariants.{All, Main}
 use Rattle.cweb_out.specs.Outputs.{Output}
 use Rattle.cweb_tools.specs.Depfile.{add_word, escaped}
 use Rattle.cweb_tools.specs.declared.depfile.RuleText.{RuleText}
@@ -12,23 +16,33 @@ use Rattle.cweb_tools.proofs.depfile.RuleText.add_targets.Goals.{then-output-out
 abbrev no_output : Output
 no_output = record { name = []; root = None }
 
+-- The name of an output that is a target.
+name_among : (targets : Targets) (outputs : List Output) (at : ℕ) → at < length (among_outputs targets outputs)
+    → get_or outputs at no_output ≡ get_or (among_outputs targets outputs) at no_output
+name_among All outputs at within = refl
+name_among Main outputs at within = sym (get_or-take 1 outputs at no_output (first outputs within))
+  where
+    first : (outputs : List Output) → at < length (take 1 outputs) → at < 1
+    first outputs within = omega (arith, within, length-take 1 outputs)
+
 pub targets-preserved : goal.targets-preserved
 targets-preserved c =
-    let outputs : List Output = c.args.plan.now.outputs in
+    let outputs : List Output = among_outputs c.args.targets c.args.plan.now.outputs in
     let name_of : Output → List ℕ = λ output. output.name in
-    let within : c.targets.output < length outputs = omega (arith, c.targets-test.true, c.outputs-outputs.ensures) in
+    let within : c.targets.output < length outputs = omega (arith, c.targets-test.true, c.count-outputs.ensures) in
     let name : c.begin_word.new.self.word.items ≡ escaped Target (name_of (get_or outputs c.targets.output no_output)) =
-    c.in_ok-begin_word.ensures.word ∙ ap (escaped Target) c.output_name.ensures in
+    c.in_ok-begin_word.ensures.word ∙ ap (escaped Target) (c.output_name.ensures
+    ∙ ap name_of (name_among c.args.targets c.args.plan.now.outputs c.targets.output within)) in
     elim c.if-output-outputs.branch [
       | then-output-outputs+in_ok-push w ↦ target_added name_of outputs c.targets.output _ _ no_output (codes ":") _
           within (is_last_target name_of outputs c.targets.output
-          (omega (arith, w.if-output-outputs.true, c.outputs-outputs.ensures)))
+          (omega (arith, w.if-output-outputs.true, c.count-outputs.ensures)))
           (c.in_ok-add_word.ensures ∙ ap (λ (rule : RuleText). add_word (wrapped rule) rule.word.items) w.self-is
           ∙ (λ i. add_word (c.in_ok-begin_word.ensures.text i)
           ((w.in_ok-push.ensures.items ∙ ap (λ (xs : List ℕ). xs ++ codes ":") name) i))) c.targets.invariant
       | else-output-outputs w ↦ target_added name_of outputs c.targets.output _ _ no_output [] _ within
           (is_inner_target name_of outputs c.targets.output
-          (omega (arith, w.if-output-outputs.false, within, c.outputs-outputs.ensures)))
+          (omega (arith, w.if-output-outputs.false, within, c.count-outputs.ensures)))
           (c.in_ok-add_word.ensures ∙ ap (λ (rule : RuleText). add_word (wrapped rule) rule.word.items) w.self-is
           ∙ (λ i. add_word (c.in_ok-begin_word.ensures.text i) ((name ∙ sym (append-nil _)) i))) c.targets.invariant
     ]

@@ -1,0 +1,62 @@
+// What `wdep` says of itself.
+ghost use Rattle.std.specs.Prelude.{◌≡◌, ◌<◌, ◌+◌, ◌^◌, codes, map, IsTrue};
+ghost use Rattle.std.specs.Option.{option_copied};
+ghost use Rattle.cweb_files.specs.Bins.{WritesPrefix};
+ghost use Rattle.cweb_files.specs.surface.Frames.{Writes};
+ghost use Rattle.cweb_log.specs.Log.{stop_line};
+ghost use Rattle.cweb_log.specs.DeviceModels.{sink_model};
+ghost use Rattle.cweb_log.specs.inner.LogWriting.{Logs};
+ghost use Rattle.cweb_tools.specs.inner.About.{about_wdep, about_word};
+
+use cweb_lines::{Sink, Stop, write_all};
+use cweb_log::log_stop;
+
+const VERSION: &str = "wdep (Lozgirpa) 0.5.0\n";
+
+const HELP: &str = "Usage: wdep [options] webfile[.w] [{changefile[.ch]|-} [outfile[.c]]]
+
+Prints which files ctangle makes from a web, and from which files, as a rule for make, Ninja or CMake.
+All options of ctangle may be given, and have no effect. +m prints the first target only.
+The manual page wdep(1) has more.
+";
+
+/// The text that these arguments ask for, if they are `--version` or `--help` alone.
+pub fn about_wdep(words: &[&str]) -> Option<&'static str>
+    ensures { option_copied result ≡ about_wdep (map (λ word. word.now) words.now) }
+{
+    match words {
+        [word] => about_word(word),
+        _ => None,
+    }
+}
+
+/// The text that one argument asks for.
+fn about_word(word: &str) -> Option<&'static str>
+    ensures { option_copied result ≡ about_word word.now }
+{
+    if word == "--version" {
+        Some(VERSION)
+    } else if word == "--help" {
+        Some(HELP)
+    } else {
+        None
+    }
+}
+
+/// Prints a text, and returns the status. If that fails, a prefix is printed, and the fault is logged.
+pub fn write_about<W: Sink, L: Sink>(text: &str, out: &mut W, log: &mut L) -> u8
+    requires out_count { W.failed out.old + 1 < 2 ^ 64 }
+    requires log_count { L.failed log.old + 1 < 2 ^ 64 }
+    ensures status { result < 2 }
+    ensures counts { W.failed out.new ≡ W.failed out.old + result }
+    ensures ok { result ≡ 0 → (Writes W.Sink out.old out.new text.now) × (log.new ≡ log.old) }
+    ensures prefix { IsTrue (W.tells out.old) →
+        WritesPrefix (W.written out.old) (W.written out.new) text.now }
+    ensures fault { result ≡ 1 → Logs (stop_line Stop.WriteFault (codes "standard output"))
+        (sink_model L.Sink log.old) (sink_model L.Sink log.new) }
+{
+    if let Err(_) = write_all(out, text.as_bytes()) {
+        return log_stop(log, Stop::WriteFault, "standard output");
+    }
+    0
+}
