@@ -5,13 +5,11 @@ import signal
 import time
 
 from folder_cases import NO_ERRORS, Case, as_both, section
-from folder_runs import Missed
+from folder_runs import HELD, SECONDS, Missed, begun
 from output_cases import FIRST, FULL, LARGE, MAIN, NULL, OLD, OTHER, WEB, WELL
 from output_cases import log_of, not_opened, not_written, web_with, whole
 
 DRAFT = "a.c\x7f"
-# how many seconds a run may take to come to where it is watched
-SECONDS = 300
 # a draft this long is written in many steps, so that a run can be stopped between two of them
 LONG = LARGE * 20
 WHOLE = whole(LONG)
@@ -153,6 +151,30 @@ def lost_drafts():
         yield Case(f"a draft that is replaced by a link to {kind}", failed, 1, large, links={"other": to}, **of)
 
 
+def beside_another(process):
+    """A second run begins while the first one is stopped that has written a part of its draft. It waits, and ends well."""
+    others = []
+
+    def begin_another(first):
+        others.append(begun(first.args[0], Case("", WELL, 0, {})))
+        time.sleep(HELD)
+        if others[0].poll() is not None:
+            yield "another run did not wait for the draft"
+
+    faults = stopped_while(begin_another)(process)
+    ended = (*others[0].communicate(timeout=SECONDS), others[0].returncode)
+    return faults if ended == (b"", WELL, 0) else [*faults, f"another run: {ended}"]
+
+
+def two_runs():
+    """A run waits for the draft of another one, whatever the mode of the output that it replaces."""
+    files = {"a.w": b"@ @c\n" + LONG} | OLD
+    for mode in (0o644, 0o444, 0o200, 0):
+        # the old file keeps a name, so that no new one gets its number
+        of = {"modes": {"a.c": mode, "further": mode}, "names": {"further": "a.c"}, "meanwhile": beside_another}
+        yield Case(f"two runs, an output of mode {mode:03o}", WELL, 0, files, {"a.c": WHOLE}, **of)
+
+
 def watched(closed):
     """Sees that a run which reads a pipe holds the root folder under the numbers of closed streams alone; fills the pipe then."""
     pipe = []
@@ -185,6 +207,6 @@ def closed_streams():
 
 
 def cases():
-    for some in (left_drafts, kept_drafts, held_drafts, lost_drafts, closed_streams):
+    for some in (left_drafts, kept_drafts, held_drafts, lost_drafts, two_runs, closed_streams):
         yield from some()
     yield from as_both(drafts_that_were_read())

@@ -28,7 +28,7 @@ class Case:
     inputs: Optional[str] = None
     # the bytes of a short transfer
     least: int = 1
-    # an output that cannot be written
+    # an output that cannot be written, or a device
     stuck: tuple = ()
     modes: dict = field(default_factory=dict)
     # the size limit of a file; 0 is none
@@ -55,6 +55,8 @@ class Left:
     status: int
     nth: int
     reported: Optional[bytes]
+    # a write followed a failed write to the same file
+    again: bool = False
 
     def drafts(self, before={}):
         """The drafts that are left, without those that existed before."""

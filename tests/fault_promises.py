@@ -7,6 +7,9 @@ from shared import BANNER, stopped
 # how `faults.c` reports the stat of an open file, and one after a write to the last file that was opened
 OPEN_FILE, WRITTEN = b"open ", b"written "
 WRITE_FAULT = stopped(b"Write fault on standard output")
+# the permissions that a new file doesn't get, and those that the owner of a draft always has
+UMASK, OWNERS = 0o022, 0o600
+DEVICES = b"/dev/"
 
 
 def committed(case, left):
@@ -135,6 +138,11 @@ def is_draft(path):
     return path.endswith(DRAFT.encode())
 
 
+def is_input(path):
+    """Whether a file is opened to be read."""
+    return not is_draft(path) and not path.startswith(DEVICES)
+
+
 def missing(case, path):
     """The case whose file at a path, which is read, counts as missing."""
     no_output = {"outputs": {}, "status": 1, "stuck": ()}
@@ -161,7 +169,7 @@ def tangle_open_memory(case, left):
 def tangle_open(case, left):
     if left.reported == b"/":
         return is_whole(case, left)
-    if not is_draft(left.reported):
+    if is_input(left.reported):
         return is_whole(missing(case, left.reported), left)
     # an old draft that cannot be opened is removed
     was_there = left.reported.decode() in case.files and is_whole(case, left)
@@ -182,8 +190,14 @@ def tangle_silence(case, left):
 
 
 def tangle_replace(case, left):
-    """The draft cannot be renamed, or cannot have the mode of the old file."""
+    """The draft cannot be renamed."""
     return stops_at_output(case, left, NOT_WRITTEN)
+
+
+def tangle_mode(case, left):
+    """The draft cannot have the mode of the old file. Its mode is set only where it was created with another one."""
+    mode = case.modes.get(left.reported.decode().removesuffix(DRAFT), 0o666 & ~UMASK)
+    return (mode | OWNERS) & ~UMASK != mode and stops_at_output(case, left, NOT_WRITTEN)
 
 
 def tangle_delete(case, left):
@@ -195,14 +209,14 @@ def tangle_delete(case, left):
 
 def tangle_stat(case, left):
     """A file that is read counts as missing. An output fails when it begins, or when it is renamed."""
-    if left.reported.startswith(OPEN_FILE) and not is_draft(left.reported):
+    if left.reported.startswith(OPEN_FILE) and is_input(left.reported.removeprefix(OPEN_FILE)):
         return is_whole(missing(case, left.reported.removeprefix(OPEN_FILE)), left)
     return output_fails(case, left)
 
 
 def tangle_stat_always(case, left):
     """Each later stat fails too. After that of a file that is read, the first output fails."""
-    if left.reported.startswith(OPEN_FILE) and not is_draft(left.reported):
+    if left.reported.startswith(OPEN_FILE) and is_input(left.reported.removeprefix(OPEN_FILE)):
         case = missing(case, left.reported.removeprefix(OPEN_FILE))
         if not case.expected():
             return is_whole(case, left)

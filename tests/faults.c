@@ -10,6 +10,7 @@
  *   MOST    if it does not fail, the most bytes that it transfers (a write of 0 bytes takes nothing)
  *   REPORT  the file descriptor to which the first affected call is reported: `alloc`, a path, or the number of a stream. For a statx of
  *           an open file it is `open` and the path. After a write to a file, until the next open, `written` comes before it.
+ *           A write to a file or stream whose last write failed is reported too, as a line feed and `again`.
  */
 #define _GNU_SOURCE
 #include <dlfcn.h>
@@ -39,6 +40,9 @@ static char paths[FILES][NAME];
 
 /* Whether something was written to a file since the last one was opened or renamed. */
 static int is_written;
+
+/* The descriptor whose last write failed, or -1. */
+static int failed = -1;
 
 __attribute__((constructor)) static void begin(void)
 {
@@ -115,6 +119,8 @@ int open(const char *path, int flags, ...)
     if (descriptor >= 0 && descriptor < FILES)
         snprintf(paths[descriptor], NAME, "%s", path);
     is_written = 0;
+    if (descriptor == failed)
+        failed = -1;
     return descriptor;
 }
 
@@ -136,7 +142,7 @@ ssize_t read(int descriptor, void *piece, size_t size)
     return syscall(SYS_read, descriptor, piece, size);
 }
 
-ssize_t write(int descriptor, const void *piece, size_t size)
+static ssize_t write_once(int descriptor, const void *piece, size_t size)
 {
     const char number[] = { '0' + descriptor % 10, 0 };
     is_written |= descriptor > 2;
@@ -151,6 +157,18 @@ ssize_t write(int descriptor, const void *piece, size_t size)
             return 0;
     }
     return syscall(SYS_write, descriptor, piece, size);
+}
+
+ssize_t write(int descriptor, const void *piece, size_t size)
+{
+    if (descriptor == failed)
+        report_call("\nagain");
+    ssize_t taken = write_once(descriptor, piece, size);
+    if (descriptor == failed)
+        failed = -1;
+    if (size > 0 && (taken == 0 || (taken < 0 && errno != EINTR)))
+        failed = descriptor;
+    return taken;
 }
 
 int rename(const char *path, const char *other)

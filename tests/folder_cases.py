@@ -52,6 +52,8 @@ class Case:
     moved: dict = field(default_factory=dict)
     # what a folder is mounted with
     disks: dict = field(default_factory=dict)
+    # two files on two disks with one inode number
+    twins: tuple = ()
     memory: int = resource.RLIM_INFINITY
     # a file that grows beyond so many bytes kills the run
     most: int = resource.RLIM_INFINITY

@@ -7,6 +7,7 @@ from dataclasses import dataclass, replace
 from shared import shown
 
 NOBODY = 65534
+OWNERS = 0o600
 SYSTEM = ["/dev/stdin", "/dev/stdout", "/dev/stderr", "/dev/fd", "/dev/null", "/dev/full"]
 
 
@@ -93,11 +94,11 @@ def is_new(case, name, old, found):
 
 
 def wrong_nodes(case, before, left):
-    """The paths with something else than what must be there, and what that is."""
+    """The paths with something else than what must be there, and what that is. A draft's owner may read and write it."""
     expected = expected_nodes(case, before)
     for name, (text, mode) in case.drafts.items():
         found = left.pop(name, None)
-        if found is None or found.text != text or found.mode & ~mode:
+        if found is None or found.text != text or found.mode & ~mode or found.mode & OWNERS != OWNERS:
             yield f"{name!r}: {found and replace(found, text=shown(found.text))}"
     for name in sorted(left.keys() | expected.keys()):
         found = left.get(name)

@@ -82,6 +82,8 @@ def lay_out(case):
         if not os.path.lexists(path):
             raise CannotMake(f"there is no {path}")
     make_nodes(case)
+    if len({os.stat(name).st_ino for name in case.twins}) > 1:
+        raise CannotMake("two disks don't number their files alike here")
     for name in all_names():
         os.chown(name, *owner(case), follow_symlinks=False)
     for name in case.foreign:

@@ -1,6 +1,6 @@
 """The runs of `folders` that find something under an output's name: files that they have read or written, folders, devices, pipes."""
-from folder_cases import NO_ERRORS, Case, section
-from shared import BANNER, stopped
+from folder_cases import DISK, NO_ERRORS, Case, section
+from shared import BANNER, line_mark, stopped
 
 WEB = {"a.w": b"@ @c x\n"}
 MAIN = section(1, 1, b"x") + b"\n"
@@ -10,6 +10,10 @@ OLD = {"a.c": b"old\n"}
 OTHER = {"other": b"other\n"}
 # the numbers of /dev/null and of /dev/full
 NULL, FULL = (1, 3), (1, 7)
+# how many files a web includes that includes many
+MANY = 300
+# an absolute path of the folder of a run
+FOLDER = "/proc/self/cwd"
 # more than a pipe takes at once
 LARGE = b"x=1;\n" * 40_000
 
@@ -58,6 +62,7 @@ def paths_to(name):
     yield name, {}
     yield f"./{name}", {}
     yield f".//./{name}", {}
+    yield f"{FOLDER}/{name}", {"needs": (FOLDER,)}
     yield "further", {"names": {"further": name}}
     yield "link", {"links": {"link": name}}
     yield "second", {"links": {"link": name, "second": "./link"}}
@@ -78,6 +83,7 @@ def files_that_were_read():
         files = web_with(name) | {"m.ch": b""}
         yield Case(f"the change file as output {name}", not_opened("a.c", name), 1, files, {"a.c": FIRST}, words=("a", "m"), **of)
     yield from included_files()
+    yield from many_included_files()
     yield from linked_webs()
 
 
@@ -96,6 +102,18 @@ def included_files():
     yield Case("an included file that another folder has too", not_opened("a.c", "in.w"), 1, files, main, inputs="d")
 
 
+def many_included_files():
+    """Each of many files stays."""
+    names = [b"i%d" % n for n in range(1, MANY + 1)]
+    front = b"x\n" + b"".join(b"@i %s\n" % name for name in names)
+    marks = b"".join(line_mark(name, 1) + b"z\n" for name in names) + line_mark(b"a.w", MANY + 2)
+    main = {"a.c": section(1, 1, b"x\n" + marks) + b"\n"}
+    for number in (1, MANY // 2, MANY):
+        name = f"i{number}"
+        files = web_with(name, front) | {included.decode(): b"z\n" for included in names}
+        yield Case(f"{name} of {MANY} included files as output", not_opened("a.c", name), 1, files, main)
+
+
 def linked_webs():
     """A web that is read through a link."""
     for name in ("a.w", "real.w"):
@@ -108,12 +126,27 @@ def linked_webs():
 
 
 def files_that_were_written():
-    for name in ("./a.c", ".//a.c", "d/../a.c"):
+    for name in ("./a.c", ".//a.c", "d/../a.c", f"{FOLDER}/a.c"):
         files = web_with(name) | OLD | {"d": None}
-        yield Case(f"the main file again, as {name}", not_opened("a.c", name), 1, files, {"a.c": FIRST})
+        needs = (FOLDER,) if name.startswith(FOLDER) else ()
+        yield Case(f"the main file again, as {name}", not_opened("a.c", name), 1, files, {"a.c": FIRST}, needs=needs)
     web = {"a.w": b"@ @c x\n@ @(f@>= y\n@ @(./f@>= z\n"}
     written = {"a.c": FIRST, "f": section(2, 2, b"y\n") + b"\n"}
     yield Case("another file again", not_opened("a.c", "f", "./f"), 1, web | {"f": b"old\n"}, written)
+
+
+def equal_numbers():
+    """Two files with one inode number, on two disks, are two files. The first file of each disk has the disk's first number."""
+    disks, log = {"d": f"size={DISK}", "e": f"size={DISK}"}, log_of("a.c", "e/f") + NO_ERRORS
+    files = web_with("e/f", b"x\n@i d/in.w\n") | {"d/in.w": b"z\n", "e/f": b"old\n"}
+    main = section(1, 1, b'x\n#line 1 "d/in.w"\nz\n#line 3 "a.w"\n') + b"\n"
+    written = {"a.c": main, "e/f": section(2, 3, b"y") + b"\n"}
+    of = {"disks": disks, "twins": ("d/in.w", "e/f")}
+    yield Case("an output with the number of an included file", log, 0, files, written, **of)
+    web = {"a.w": b"@ @c x\n@ @(d/g@>= y\n@ @(e/f@>= z\n", "e/f": b"old\n"}
+    written = {"a.c": FIRST, "d/g": section(2, 2, b"y\n") + b"\n", "e/f": section(3, 3, b"z") + b"\n"}
+    log = log_of("a.c", "d/g", "e/f") + NO_ERRORS
+    yield Case("an output with the number of a written file", log, 0, web, written, disks=disks)
 
 
 def folders():
@@ -147,5 +180,5 @@ def devices():
 
 
 def cases():
-    for some in (modes, files_that_were_read, files_that_were_written, folders, devices):
+    for some in (modes, files_that_were_read, files_that_were_written, equal_numbers, folders, devices):
         yield from some()

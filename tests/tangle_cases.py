@@ -70,6 +70,22 @@ def small_webs():
     yield Case("a string without an end", ["a"], {"a.w": b'@ @d M 1\n@(a.h@>=\nint m="x\n'}, outputs, log, 1)
 
 
+def inputs_as_outputs():
+    """An output that the run has read is refused. One whose file could not be opened was not read."""
+    main = b"/*1:*/\n" + line_mark(b"a.w", 1) + b"x\n/*:1*/\n"
+    log = BANNER + b"Writing a.c\nWriting %s\n" + stopped(b"Cannot open output file %s")
+    web = {"a.w": b"@ @c x\n@ @(a.w@>= y\n"}
+    yield Case("the web as output", ["a"], web, {"a.c": main}, log.replace(b"%s", b"a.w"), 1, stuck=("a.w",))
+    files = {"a.w": b"@ @c x\n@i b.w\n@ @(b.w@>= y\n", "b.w": b"z\n"}
+    included = main.replace(b"x\n", b"x\n" + line_mark(b"b.w", 1) + b"z\n" + line_mark(b"a.w", 3))
+    without = main.replace(b"x\n", b"x\n" + line_mark(b"a.w", 3))
+    outputs = {"a.c": without, "b.w": b"/*2:*/\n" + line_mark(b"a.w", 3) + b"y/*:2*/\n"}
+    faults = BANNER + b"a.w:2: ! Cannot open include file\nWriting a.c\nWriting b.w\n(Faults: 1.)\n"
+    refused = {b"b.w": {"outputs": outputs, "log": faults, "stuck": ()}}
+    log = log.replace(b"%s", b"b.w")
+    yield Case("an included file as output", ["a"], files, {"a.c": included}, log, 1, refused=refused, stuck=("b.w",))
+
+
 def cases():
     yield from small_webs()
     yield two_files()
@@ -99,7 +115,12 @@ def cases():
     outputs = {"a.c": main, "f": b"/*2:*/\n" + line_mark(b"a.w", 2) + b"y/*:2*/\n"}
     files = {"a.w": b"@ @c x\n@ @(f@>= y\n", "f": b"old\n"} | old
     log = BANNER + b"Writing a.c\nWriting f\n(No errors were found.)\n"
-    yield Case("files of their own modes", ["a"], files, outputs, log, modes={"a.c": 0o444, "f": 0o666})
+    for modes in ({"a.c": 0o444, "f": 0o666}, {"a.c": 0o600, "f": 0o755}):
+        yield Case(f"files of the modes {modes}", ["a"], files, outputs, log, modes=modes)
+    web = {"a.w": b"@ @c x\n@ @(/dev/null@>= y\n"}
+    log = log.replace(b"Writing f", b"Writing /dev/null")
+    yield Case("a device", ["a"], web | old, {"a.c": main}, log, stuck=("/dev/null",))
+    yield from inputs_as_outputs()
     # left by a run that was killed
     yield Case("a draft that is there", ["-bph", "a"], {"a.w": b"@ @c x\n", "a.c" + DRAFT: b"draft"}, {"a.c": text}, b"")
     yield many_files()
@@ -119,7 +140,7 @@ def failures():
     yield Failure(promises.tangle_open_memory, "open", errno.ENOMEM)
     for every in (0, 1):
         yield Failure(promises.tangle_delete, "unlink", errno.EACCES, every)
-        yield Failure(promises.tangle_replace, "fchmod", errno.EPERM, every)
+        yield Failure(promises.tangle_mode, "fchmod", errno.EPERM, every)
         for error in (errno.ENOLCK, errno.EOPNOTSUPP):
             yield Failure(promises.is_whole, "flock", error, every)
     for error in (errno.EACCES, errno.EIO):

@@ -8,8 +8,8 @@ use Rattle.std.specs.Cmp.{nat_cmp_is}
 use Rattle.std.specs.Ordering.{is_eq, ordering_then}
 use Rattle.std.proofs.lemmas.List.Folds.{list_any_at, Any-from_list_any}
 use Rattle.std.proofs.lemmas.Map.Lookups.{exact_unsigned}
-use Rattle.cweb_system.specs.inner.Written.{compare_keys}
-use Rattle.cweb_system.specs.declared.system.FileKey.{FileKey}
+use Rattle.cweb_system.specs.inner.Keys.{compare_keys}
+use Rattle.cweb_system.specs.declared.node.FileKey.{FileKey}
 
 both_equal : (a b : Ordering) → is_eq (ordering_then a b) ≡ true → (a ≡ Equal) × (b ≡ Equal)
 both_equal Equal Equal e = (refl, refl)

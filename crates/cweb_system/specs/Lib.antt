@@ -1,1 +1,6 @@
 pub mod inner
+pub mod Tree
+pub mod Steps
+pub mod Folder
+pub mod Bins
+pub mod Shelf

@@ -1,4 +1,10 @@
 -- Definitions that only the functions of this crate cite.
-pub mod Devices
-pub mod WaysToWrite
-pub mod Written
+pub mod DraftPaths
+pub mod Drafts
+pub mod FolderSound
+pub mod Keys
+pub mod Log
+pub mod ShelfState
+pub mod Sound
+pub mod Streams
+pub mod Unknown

@@ -1,247 +1,192 @@
-// The files of the system as bins. Contracts say nothing about their bytes.
-ghost use Rattle.std.specs.Prelude.{◌≡◌, ◌≤◌, ◌<◌, ◌+◌, ◌^◌, [], false, length, option_and_then};
-ghost use Rattle.std.specs.Prelude.{take, IfOk, IfErr, OnOk, OnErr, IfSome, IsSome};
-ghost use Rattle.std.specs.Io.KnownBytes.{Appends};
+// Files of a file system as bins.
+ghost use Rattle.std.specs.Prelude.{◌≡◌, ◌≤◌, ◌<◌, ◌+◌, ◌^◌, ◌++◌, ◌∷◌, [], None, IsTrue, IsSome, IfSome, IfOk, IfErr, OnOk, OnErr};
+ghost use Rattle.std.specs.Prelude.{length, take, vec_len, vec_capacity, false, string_bytes, filter, not};
+ghost use Rattle.std.specs.Str.{bytes_eq};
 ghost use Rattle.cweb_files.specs.Bins.{CountsFailure, CountsDeviceFailure};
-ghost use Rattle.cweb_system.specs.inner.Devices.{target_bytes};
+ghost use Rattle.cweb_system.specs.inner.Drafts.{FilesAreThere, HasDeviceCause, IsClearable, IsReplaceable, KeepsMode};
+ghost use Rattle.cweb_system.specs.Steps.{AreDecent};
+ghost use Rattle.cweb_system.specs.Tree.{at};
 
-use crate::drafts::{Draft, start_fault};
+use crate::drafts::{Draft, WrittenFile, begin, discard, put_in_place, write_to};
+use crate::file_system::FileSystem;
 use crate::files_read::FilesRead;
-use crate::files_written::FilesWritten;
-use crate::path_entry::{PathEntry, Way};
-use crate::system::{FileKey, LockableFile, fill_closed_stream, is_stream};
-use crate::target::Target;
-use cweb_files::{BinFault, Bins, Sink, SinkFault};
+use cweb_files::{BinFault, SinkFault};
 use std::alloc::Global;
-use std::collections::BTreeSet;
-use std::fs::OpenFile;
-use std::io::Write;
-use std::rt::Files;
 
-/// Files of the system, under their paths. An output is written to a draft, whose name is the file's name and byte 127;
-/// no output's name has that byte. A commit renames the draft. An abandoned draft is deleted; if that fails, it stays.
-///
-/// A name that was committed here may be begun again; its file is replaced. A file under another name is refused.
-///
-/// Bytes are buffered, so a write may fail for earlier bytes. The output is abandoned then, and never committed.
+/// The files of a run and its draft.
 #[derive(Drop)]
-pub struct FolderBins<'a, R: Files<File: LockableFile> + Drop> {
-    alloc: Global,
-    files: R,
-    /// Read-only files on the descriptors of closed standard streams, so that no draft gets one. Writing to them fails.
-    streams: [Option<R::File>; 3],
+pub struct Folder<F: FileSystem + Drop> {
+    pub alloc: Global,
+    pub fs: F,
     /// The files that the run has read.
-    read: &'a FilesRead,
-    /// The files that the run has begun or committed.
-    written: FilesWritten,
-    output: Option<Target<R::File>>,
-    failed: u64,
+    pub read: FilesRead,
+    /// The files that were committed, in that order.
+    pub written: Vec<WrittenFile>,
+    pub draft: Option<Draft<F::File>>,
+    /// Why the last draft was refused.
+    pub refused: Option<BinFault>,
+    pub failed: u64,
 }
 
-impl<'a, R: Files<File: LockableFile> + Drop> FolderBins<'a, R> {
-    ghost use Rattle.cweb_system.specs.inner.Devices.{bins_failures, output_bytes, BeginsOutput, IsBegun};
+fn remove_named(files: &mut Vec<WrittenFile>, name: &str)
+    ensures others { files.new.items
+        ≡ filter (λ file. not (bytes_eq (string_bytes file.name) name.now)) files.old.items }
+    ensures capacity { vec_capacity files.new ≡ vec_capacity files.old }
+    ensures len { vec_len files.new ≤ vec_len files.old }
+{
+    files.retain(|file| file.name.as_str() != name);
+}
 
-    /// Call it before any other file is opened. No output replaces a file in `read`.
-    pub fn new(alloc: Global, files: R, read: &'a FilesRead) -> Self
-        ensures { bins_failures result ≡ 0 }
-    {
-        let streams = [
-            fill_closed_stream(&files),
-            fill_closed_stream(&files),
-            fill_closed_stream(&files),
-        ];
-        FolderBins {
-            alloc,
-            files,
-            streams,
-            read,
-            written: FilesWritten::new(alloc),
-            output: None,
-            failed: 0,
-        }
-    }
+impl<F: FileSystem + Drop> Folder<F> {
+    ghost use Rattle.cweb_system.specs.Folder.{folder_beside, folder_bytes, folder_failed};
+    ghost use Rattle.cweb_system.specs.inner.FolderSound.{IsGone, IsSound, folder_is_observable};
+    ghost use Rattle.cweb_files.specs.Bins.{refused_with};
+    ghost use Rattle.cweb_files.specs.Files.{committed, with_draft, without_draft};
 
-    /// Abandons an open output, and begins a new one.
-    fn start(&mut self, name: &str) -> Result<(), BinFault>
-        requires { bins_failures self.old + 1 < 2 ^ 64 }
-        ensures failed { CountsDeviceFailure (bins_failures self.old)
-            (bins_failures self.new) result }
-        ensures begun { OnOk result (IsBegun self.new) }
-        ensures begins { OnOk result (IfSome self.new.output (BeginsOutput name.now self.new)) }
-        ensures gone { OnErr result (IsBegun self.new → ⊥) }
+    /// Begins an empty draft and discards an open one.
+    pub fn start(&mut self, name: &str) -> Result<(), BinFault>
+        requires count { folder_failed self.old + 1 < 2 ^ 64 }
+        requires sound { IsSound F.FileSystem self.old }
+        ensures sound { IsSound F.FileSystem self.new }
+        ensures steps { IsTrue (folder_is_observable F.FileSystem self.old) → AreDecent (F.took self.old.fs) →
+            AreDecent (F.took self.new.fs) }
+        ensures tells { folder_is_observable F.FileSystem self.new ≡ folder_is_observable F.FileSystem self.old }
+        ensures failed { CountsDeviceFailure (folder_failed self.old) (folder_failed self.new) result }
+        ensures begun { IsTrue (folder_is_observable F.FileSystem self.old) → OnOk result
+            (folder_beside F.FileSystem self.new ≡ with_draft name.now (folder_beside F.FileSystem self.old)) }
+        ensures empty { IsTrue (folder_is_observable F.FileSystem self.old) → OnOk result
+            (folder_bytes F.FileSystem self.new ≡ []) }
+        ensures err { IsTrue (folder_is_observable F.FileSystem self.old) → IfErr result (λ fault.
+            folder_beside F.FileSystem self.new ≡ refused_with fault (folder_beside F.FileSystem self.old)) }
+        ensures cause { IsTrue (folder_is_observable F.FileSystem self.old) → self.old.draft ≡ None →
+            IsReplaceable self.old.read.keys.keys self.old.written.items name.now
+            (at (F.tree self.old.fs) name.now) → IsClearable self.old.read.keys.keys self.old.written.items
+            (at (F.tree self.old.fs) (name.now ++ 127 ∷ [])) → HasDeviceCause (F.failed self.new.fs) result }
     {
         self.abandon();
-        match self.begin(name) {
-            Ok(output) => {
-                self.output = Some(output);
+        if self.written.reserve(1).is_err() {
+            self.refused = Some(BinFault::Memory);
+            return Err(BinFault::Memory);
+        }
+        match begin(
+            self.alloc,
+            &mut self.fs,
+            name,
+            self.written.as_slice(),
+            &self.read,
+        ) {
+            Ok(draft) => {
+                self.draft = Some(draft);
+                self.refused = None;
                 Ok(())
             }
-            Err(BinFault::Memory) => Err(BinFault::Memory),
+            Err(BinFault::Memory) => {
+                self.refused = Some(BinFault::Memory);
+                Err(BinFault::Memory)
+            }
             Err(BinFault::Device) => {
+                self.refused = Some(BinFault::Device);
                 self.failed += 1;
                 Err(BinFault::Device)
             }
         }
     }
 
-    /// Begins an output. The run reads no file meanwhile.
-    fn begin(&mut self, name: &str) -> Result<Target<R::File>, BinFault>
-        ensures failed { bins_failures self.new ≡ bins_failures self.old }
-        ensures output { self.new.output ≡ self.old.output }
-        ensures begins { IfOk result (BeginsOutput name.now self.new) }
-    {
-        let read = self.read.take();
-        let begun = self.begin_beside(name, &read);
-        self.read.put_back(read);
-        begun
-    }
-
-    /// Begins an output according to the entry under its name and the files that were read.
-    fn begin_beside(
-        &mut self,
-        name: &str,
-        read: &BTreeSet<FileKey>,
-    ) -> Result<Target<R::File>, BinFault>
-        ensures failed { bins_failures self.new ≡ bins_failures self.old }
-        ensures output { self.new.output ≡ self.old.output }
-        ensures begins { IfOk result (BeginsOutput name.now self.new) }
-    {
-        let path_entry = match PathEntry::of(&self.files, name) {
-            Ok(path_entry) => path_entry,
-            Err(error) => return Err(start_fault(&error)),
-        };
-        let is_own = self.is_own(name, path_entry);
-        match path_entry.way(read, is_own) {
-            Way::Draft(replaced) => self.begin_draft(name, replaced, read),
-            Way::Device(device) => Target::open_device(self.alloc, &self.files, name, device),
-            Way::Refused => Err(BinFault::Device),
-        }
-    }
-
-    /// Whether this file was written under another name, or this link leads to a standard stream.
-    fn is_own(&self, name: &str, path_entry: PathEntry) -> bool {
-        match path_entry {
-            PathEntry::File(file, _) => self.written.has_other_name(&self.files, name, file),
-            PathEntry::Link(Some(target)) => is_stream(&self.files, target),
-            _ => false,
-        }
-    }
-
-    /// Begins a draft, and records its file as written.
-    fn begin_draft(
-        &mut self,
-        name: &str,
-        replaced: Option<u32>,
-        read: &BTreeSet<FileKey>,
-    ) -> Result<Target<R::File>, BinFault>
-        ensures failed { bins_failures self.new ≡ bins_failures self.old }
-        ensures output { self.new.output ≡ self.old.output }
-        ensures begins { IfOk result (BeginsOutput name.now self.new) }
-    {
-        let draft = Draft::begin(self.alloc, &self.files, name, replaced, read)?;
-        if self.written.note(draft.file, name).is_err() {
-            draft.delete(&self.files);
-            return Err(BinFault::Memory);
-        }
-        Ok(Target::Draft(draft))
-    }
-
-    /// Appends bytes to the output; none is lost or added. After a fault the output is abandoned.
-    fn add(&mut self, piece: &[u8]) -> Result<usize, SinkFault>
-        requires { bins_failures self.old + 1 < 2 ^ 64 }
-        ensures failed { CountsFailure (bins_failures self.old) (bins_failures self.new) result }
+    /// Appends bytes to the draft.
+    pub fn add(&mut self, piece: &[u8]) -> Result<usize, SinkFault>
+        requires count { folder_failed self.old + 1 < 2 ^ 64 }
+        requires sound { IsSound F.FileSystem self.old }
+        ensures sound { IsSound F.FileSystem self.new }
+        ensures steps { IsTrue (folder_is_observable F.FileSystem self.old) → AreDecent (F.took self.old.fs) →
+            AreDecent (F.took self.new.fs) }
+        ensures tells { folder_is_observable F.FileSystem self.new ≡ folder_is_observable F.FileSystem self.old }
+        ensures failed { CountsFailure (folder_failed self.old) (folder_failed self.new) result }
         ensures within { IfOk result (λ n. n ≤ length piece.now) }
         ensures some { 0 < length piece.now → IfOk result (λ n. 0 < n) }
-        ensures begun { IfOk result (λ _. IsBegun self.old) }
-        ensures gone { OnErr result (IsBegun self.new → ⊥) }
-        ensures passes { IfOk result (λ n. Appends (output_bytes R.File.contents self.old)
-            (output_bytes R.File.contents self.new) (take n piece.now)) }
+        ensures bytes { IsTrue (folder_is_observable F.FileSystem self.old) → IfOk result (λ n.
+            folder_bytes F.FileSystem self.new ≡ folder_bytes F.FileSystem self.old ++ take n piece.now) }
+        ensures err { IsTrue (folder_is_observable F.FileSystem self.old) → OnErr result
+            (folder_bytes F.FileSystem self.new ≡ folder_bytes F.FileSystem self.old) }
+        ensures begun { IsTrue (folder_is_observable F.FileSystem self.old) → OnOk result
+            (IsSome (folder_beside F.FileSystem self.old).draft) }
+        ensures beside { IsTrue (folder_is_observable F.FileSystem self.old) →
+            folder_beside F.FileSystem self.new ≡ folder_beside F.FileSystem self.old }
     {
-        let taken = write_to(&mut self.output, piece);
-        if taken.is_err() {
-            self.abandon();
+        let Some(mut draft) = self.draft.take() else {
             self.failed += 1;
+            return Err(SinkFault);
+        };
+        let taken = write_to(&mut self.fs, &mut draft.file, piece);
+        self.draft = Some(draft);
+        match taken {
+            Ok(n) => Ok(n),
+            Err(_) => {
+                self.failed += 1;
+                Err(SinkFault)
+            }
         }
-        taken
     }
 
-    /// Abandons an open output.
-    fn abandon(&mut self)
-        ensures failed { bins_failures self.new ≡ bins_failures self.old }
-        ensures gone { IsBegun self.new → ⊥ }
-    {
-        if let Some(output) = self.output.take() {
-            output.abandon(&self.files);
-        }
-    }
-
-    /// Commits the open output.
-    fn commit(&mut self) -> Result<(), BinFault>
-        ensures failed { bins_failures self.new ≡ bins_failures self.old }
+    /// Makes the draft a file of its name.
+    pub fn commit(&mut self) -> Result<(), BinFault>
+        requires count { folder_failed self.old + 1 < 2 ^ 64 }
+        requires sound { IsSound F.FileSystem self.old }
+        ensures sound { IsSound F.FileSystem self.new }
+        ensures steps { IsTrue (folder_is_observable F.FileSystem self.old) → AreDecent (F.took self.old.fs) →
+            AreDecent (F.took self.new.fs) }
+        ensures tells { folder_is_observable F.FileSystem self.new ≡ folder_is_observable F.FileSystem self.old }
+        ensures failed { CountsFailure (folder_failed self.old) (folder_failed self.new) result }
         ensures device { IfErr result (λ fault. fault ≡ BinFault.Device) }
-        ensures begun { IfOk result (λ _. IsBegun self.old) }
-        ensures gone { IsBegun self.new → ⊥ }
+        ensures begun { IsTrue (folder_is_observable F.FileSystem self.old) → OnOk result
+            (IsSome (folder_beside F.FileSystem self.old).draft) }
+        ensures ok { IsTrue (folder_is_observable F.FileSystem self.old) → OnOk result
+            (folder_beside F.FileSystem self.new
+            ≡ committed (folder_beside F.FileSystem self.old) (folder_bytes F.FileSystem self.old)) }
+        ensures mode { IsTrue (folder_is_observable F.FileSystem self.old) → OnOk result
+            (IfSome self.old.draft (λ draft. KeepsMode (string_bytes draft.name) draft.key
+            (F.tree self.old.fs) (F.tree self.new.fs))) }
+        ensures removed { IsTrue (folder_is_observable F.FileSystem self.old) →
+            IfSome self.old.draft (IsGone F.FileSystem self.new.fs) }
+        ensures err { IsTrue (folder_is_observable F.FileSystem self.old) → OnErr result
+            (folder_beside F.FileSystem self.new ≡ without_draft (folder_beside F.FileSystem self.old)) }
     {
-        match self.output.take() {
-            Some(output) => output.commit(&self.files)?,
-            None => return Err(BinFault::Device),
+        let Some(draft) = self.draft.take() else {
+            self.failed += 1;
+            return Err(BinFault::Device);
+        };
+        if put_in_place(&mut self.fs, &draft, self.written.as_slice()).is_err() {
+            discard(&mut self.fs, draft, self.written.as_slice());
+            self.failed += 1;
+            return Err(BinFault::Device);
         }
+        let Draft {
+            name,
+            path: _,
+            key,
+            file: _,
+            is_device: _,
+        } = draft;
+        remove_named(&mut self.written, name.as_str());
+        self.written.push_reserved(WrittenFile { name, key });
         Ok(())
     }
-}
 
-/// Appends bytes to an output, if one is open.
-fn write_to<F: Write + OpenFile + LockableFile + Drop>(
-    output: &mut Option<Target<F>>,
-    piece: &[u8],
-) -> Result<usize, SinkFault>
-    ensures within { IfOk result (λ n. n ≤ length piece.now) }
-    ensures some { 0 < length piece.now → IfOk result (λ n. 0 < n) }
-    ensures begun { IfOk result (λ _. IsSome output.old) }
-    ensures passes { IfOk result (λ n. Appends
-        (option_and_then (target_bytes F.contents) output.old)
-        (option_and_then (target_bytes F.contents) output.new) (take n piece.now)) }
-{
-    match output {
-        Some(output) => output.write(piece),
-        None => Err(SinkFault),
-    }
-}
-
-impl<R: Files<File: LockableFile> + Drop> Sink for FolderBins<'_, R> {
-    ghost use Rattle.cweb_system.specs.inner.Devices.{bins_failures};
-
-    ghost tells = { λ _. false };
-
-    ghost written = { λ _. [] };
-
-    ghost failed = { bins_failures };
-
-    fn write(&mut self, piece: &[u8]) -> Result<usize, SinkFault> {
-        self.add(piece)
-    }
-
-    fn failures(&self) -> u64 {
-        self.failed
-    }
-}
-
-impl<R: Files<File: LockableFile> + Drop> Bins for FolderBins<'_, R> {
-    ghost use Rattle.cweb_system.specs.inner.Devices.{bins_failures};
-
-    fn start_file(&mut self, name: &str) -> Result<(), BinFault> {
-        self.start(name)
-    }
-
-    fn commit_file(&mut self) -> Result<(), BinFault> {
-        let done = self.commit();
-        if done.is_err() {
-            self.failed += 1;
+    /// Discards the draft, if there is one.
+    pub fn abandon(&mut self)
+        requires sound { IsSound F.FileSystem self.old }
+        ensures sound { IsSound F.FileSystem self.new }
+        ensures steps { IsTrue (folder_is_observable F.FileSystem self.old) → AreDecent (F.took self.old.fs) →
+            AreDecent (F.took self.new.fs) }
+        ensures tells { folder_is_observable F.FileSystem self.new ≡ folder_is_observable F.FileSystem self.old }
+        ensures failed { folder_failed self.new ≡ folder_failed self.old }
+        ensures gone { IsTrue (folder_is_observable F.FileSystem self.old) →
+            folder_beside F.FileSystem self.new ≡ without_draft (folder_beside F.FileSystem self.old) }
+        ensures removed { IsTrue (folder_is_observable F.FileSystem self.old) →
+            IfSome self.old.draft (IsGone F.FileSystem self.new.fs) }
+        ensures idle { self.old.draft ≡ None → self.new ≡ self.old }
+    {
+        if let Some(draft) = self.draft.take() {
+            discard(&mut self.fs, draft, self.written.as_slice());
         }
-        done
-    }
-
-    fn abandon_file(&mut self) {
-        self.abandon();
     }
 }

@@ -1,23 +1,29 @@
 //! Files and streams of the system as a shelf, as sinks and as bins.
 #![tactic(auto)]
 
+// the model of a file system
+mod file_system;
+mod node;
+
 // the shelf and the streams
-mod devices;
-mod files_read;
+mod shelf;
+mod streams;
 
 // the bins
 mod bins;
-mod files_written;
-
-// the entry under an output's name, and what the output is written to
 mod drafts;
-mod path_entry;
-mod target;
+mod files_read;
+mod folder_bins;
 
-// calls to the system
-mod system;
+// file systems: that of the system, and one in memory
+mod memory_folder;
+mod std_folder;
 
-pub use bins::FolderBins;
-pub use devices::{FolderShelf, StdSink, read_once};
+pub use file_system::FileSystem;
 pub use files_read::FilesRead;
-pub use system::LockableFile;
+pub use folder_bins::FolderBins;
+pub use memory_folder::{MemoryFile, MemoryFolder};
+pub use node::{FileFault, FileKey, Node};
+pub use shelf::FolderShelf;
+pub use std_folder::{LockableFile, StdFolder};
+pub use streams::{StdSink, read_once};

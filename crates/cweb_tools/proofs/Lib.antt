@@ -1,5 +1,6 @@
 pub mod Common
 pub mod AllDone
+pub mod Arguments
 pub mod Doing
 pub mod DoingFiles
 pub mod Endings
@@ -21,6 +22,7 @@ pub mod MergePromisesProved
 pub mod MergeStarts
 pub mod MergeStops
 pub mod ChangedFilesWereRead
+pub mod InFolder
 pub mod Leaving
 pub mod WebActs
 pub mod Limits

@@ -3,6 +3,7 @@ pub mod Course
 pub mod Depend
 pub mod Depfile
 pub mod Headline
+pub mod InFolder
 pub mod MergeActs
 pub mod Script
 pub mod Tangle

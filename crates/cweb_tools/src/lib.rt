@@ -2,6 +2,7 @@
 #![tactic(auto)]
 
 // the runs
+mod in_folder;
 mod tangle;
 mod wdep;
 mod wmerge;
@@ -19,6 +20,7 @@ mod subjects;
 
 // what the programs do before their run
 mod about;
+mod environment;
 mod program;
 
 // laws of runs
@@ -30,7 +32,12 @@ pub use cweb_log::{
     write_name_faults, write_no_program, write_plan_fault, write_scan_faults, write_starred,
     write_stop, write_writing,
 };
-pub use cweb_system::{FilesRead, FolderBins, FolderShelf, LockableFile, StdSink, read_once};
+pub use cweb_system::{
+    FileSystem, FilesRead, FolderBins, FolderShelf, LockableFile, MemoryFolder, StdFolder, StdSink,
+    read_once,
+};
+pub use environment::{Environment, ProgramEnvironment};
+pub use in_folder::tangle_in_folder;
 pub use program::{as_slices, out_of_memory, read_args, read_inputs};
 pub use tangle::run_ctangle;
 pub use wdep::run_wdep;

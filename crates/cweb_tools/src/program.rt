@@ -1,34 +1,37 @@
-// Arguments and environment, for all three programs.
-ghost use Rattle.std.specs.Prelude.{◌≡◌, IfOk, map, string_bytes};
+// The arguments and the folder of included files, for all three programs.
+ghost use Rattle.std.specs.Prelude.{◌≡◌, ◌<◌, ◌+◌, ◌^◌, ℕ, List, [], None, Some, All, IsTrue, IfOk};
+ghost use Rattle.std.specs.Prelude.{codes, map, option_map, string_bytes};
+ghost use Rattle.std.specs.Prelude.{IsUtf8};
+ghost use Rattle.cweb_log.specs.Log.{stop_line};
+ghost use Rattle.cweb_log.specs.DeviceModels.{sink_model};
+ghost use Rattle.cweb_log.specs.inner.LogWriting.{Logs};
 
-use cweb_lines::Stop;
-use cweb_log::write_stop;
-use cweb_system::StdSink;
+use crate::environment::Environment;
+use cweb_lines::{Sink, Stop};
+use cweb_log::log_stop;
 use std::alloc::{AllocError, Global};
-use std::env;
-use std::env::VarError;
-use std::io::{ErrorKind, Write};
-use std::rt::Env;
 
 /// The variable that names the folder in which included files are also searched.
 const INPUTS: &str = "CWEBINPUTS";
 
 /// The arguments after the program's name. If one isn't UTF-8, the list is empty, so that the run refuses it.
-pub fn read_args<R: Env + AllocGlobal>(rt: &R) -> Result<Vec<String>, AllocError> {
-    let mut words = Vec::new(rt.alloc());
-    match env::args(rt) {
-        Ok(args) => {
-            for word in args.skip(1) {
-                words.push(word)?;
-            }
-        }
-        Err(error) => {
-            if let ErrorKind::OutOfMemory = error.kind() {
-                return Err(AllocError);
-            }
-        }
+pub fn read_args<E: Environment>(alloc: Global, env: &E) -> Result<Vec<String>, AllocError>
+    ensures valid { IsTrue (E.tells env.now) → All IsUtf8 (E.args env.now) → IfOk result (λ words.
+        map string_bytes words.items ≡ E.args env.now) }
+    ensures invalid { IsTrue (E.tells env.now) → (All IsUtf8 (E.args env.now) → ⊥) →
+        IfOk result (λ words. words.items ≡ []) }
+{
+    let mut words = Vec::new(alloc);
+    'words: for index in 0..usize::MAX {
+        let Some(bytes) = env.argument(alloc, index)? else {
+            return Ok(words);
+        };
+        let Ok(word) = String::from_utf8(bytes) else {
+            return Ok(Vec::new(alloc));
+        };
+        words.push(word)?;
     }
-    Ok(words)
+    Err(AllocError)
 }
 
 /// The arguments as slices.
@@ -44,19 +47,30 @@ pub fn as_slices<'a>(alloc: Global, words: &'a [String]) -> Result<Vec<&'a str>,
 }
 
 /// The folder of included files. A value that isn't UTF-8 counts as none.
-pub fn read_inputs<R: Env + AllocGlobal>(rt: &R) -> Result<Option<String>, AllocError> {
-    match env::var(rt, INPUTS) {
+pub fn read_inputs<E: Environment>(alloc: Global, env: &E) -> Result<Option<String>, AllocError>
+    ensures valid { IsTrue (E.tells env.now) → IfOk result (λ folder. (text : List ℕ) →
+        E.value env.now (codes "CWEBINPUTS") ≡ Some text → IsUtf8 text →
+        option_map string_bytes folder ≡ Some text) }
+    ensures invalid { IsTrue (E.tells env.now) → IfOk result (λ folder. (text : List ℕ) →
+        E.value env.now (codes "CWEBINPUTS") ≡ Some text → (IsUtf8 text → ⊥) → folder ≡ None) }
+    ensures unset { IsTrue (E.tells env.now) → IfOk result (λ folder.
+        E.value env.now (codes "CWEBINPUTS") ≡ None → folder ≡ None) }
+{
+    let Some(bytes) = env.variable(alloc, INPUTS)? else {
+        return Ok(None);
+    };
+    match String::from_utf8(bytes) {
         Ok(folder) => Ok(Some(folder)),
-        Err(VarError::OutOfMemory) => Err(AllocError),
         Err(_) => Ok(None),
     }
 }
 
 /// Logs that there was no memory for the arguments, and returns the exit status.
-pub fn out_of_memory<L: Write + Drop>(log: L) -> u8
-    ensures { result ≡ 1 }
+pub fn out_of_memory<L: Sink>(log: &mut L) -> u8
+    requires { L.failed log.old + 1 < 2 ^ 64 }
+    ensures status { result ≡ 1 }
+    ensures logs { Logs (stop_line Stop.Memory [])
+        (sink_model L.Sink log.old) (sink_model L.Sink log.new) }
 {
-    let mut log = StdSink::new(log);
-    let _ = write_stop(&mut log, Stop::Memory, "");
-    1
+    log_stop(log, Stop::Memory, "")
 }

@@ -27,7 +27,7 @@ use cweb_log::{Options, Shown, log_stop};
 use cweb_out::{Bins, Expander, OutBuffer, Plan, plan};
 use std::alloc::Global;
 
-const USAGE: &str = "ctangle [options] webfile[.w] [{changefile[.ch]|-} [outfile[.c]]]";
+pub(crate) const USAGE: &str = "ctangle [options] webfile[.w] [{changefile[.ch]|-} [outfile[.c]]]";
 
 /// Runs `ctangle`: writes C files to the bins and messages to the log. `words` are the arguments. Returns the status.
 pub fn run_ctangle<S: Shelf, B: Bins, L: Sink>(
@@ -79,7 +79,7 @@ pub fn run_ctangle<S: Shelf, B: Bins, L: Sink>(
 }
 
 /// Logs the faults of a scanned web, plans its outputs, and continues with the plan.
-fn tangle_web<B: Bins, L: Sink>(
+pub(crate) fn tangle_web<B: Bins, L: Sink>(
     alloc: Global,
     shown: Shown,
     main: &str,

@@ -1,35 +1,48 @@
 //! `wmerge` prints the merged lines of a web, with a change file's changes: `wmerge webfile[.w] [{changefile[.ch]|-}]`.
 #![tactic(auto)]
 
+ghost use Rattle.std.specs.Prelude.{IsTrue};
+ghost use Rattle.cweb_system.specs.Tree.{Tree};
+
 use cweb_tools::{
-    FolderShelf, StdSink, as_slices, out_of_memory, read_args, read_inputs, run_wmerge,
+    FileSystem, FolderShelf, ProgramEnvironment, StdFolder, StdSink, as_slices, out_of_memory,
+    read_args, read_inputs, run_wmerge,
 };
 use std::io::Write;
 use std::process::ExitCode;
-use std::rt::{Env, Files};
+use std::rt::Env;
 
 fn main(rt: HostRuntime) -> ExitCode {
-    ExitCode::from(merge(&rt, rt.stdout(), rt.stderr()))
+    ExitCode::from(merge(
+        &rt,
+        StdFolder::new(rt.alloc(), &rt),
+        rt.stdout(),
+        rt.stderr(),
+    ))
 }
 
 /// Runs with the arguments, the environment and the files of the program. Returns the exit status.
-fn merge<R: Env + Files + AllocGlobal, W: Write + Drop, L: Write + Drop>(
+fn merge<R: Env + AllocGlobal, F: FileSystem + Drop, W: Write + Drop, L: Write + Drop>(
     rt: &R,
+    fs: F,
     out: W,
     log: L,
-) -> u8 {
-    let Ok(words) = read_args(rt) else {
-        return out_of_memory(log);
+) -> u8
+    requires { IsTrue (F.tells fs) → (a b : Tree) → F.took fs a b → ⊥ }
+{
+    let mut log = StdSink::new(log);
+    let env = ProgramEnvironment { runtime: rt };
+    let Ok(words) = read_args(rt.alloc(), &env) else {
+        return out_of_memory(&mut log);
     };
-    let Ok(inputs) = read_inputs(rt) else {
-        return out_of_memory(log);
+    let Ok(inputs) = read_inputs(rt.alloc(), &env) else {
+        return out_of_memory(&mut log);
     };
     let Ok(words) = as_slices(rt.alloc(), &words) else {
-        return out_of_memory(log);
+        return out_of_memory(&mut log);
     };
     let inputs = inputs.as_ref().map(|folder| folder.as_str());
-    let mut shelf = FolderShelf::new(rt);
+    let mut shelf = FolderShelf::new(fs);
     let mut out = StdSink::new(out);
-    let mut log = StdSink::new(log);
     run_wmerge(rt.alloc(), &words, inputs, &mut shelf, &mut out, &mut log)
 }

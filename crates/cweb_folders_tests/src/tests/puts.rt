@@ -2,7 +2,7 @@
 use super::wanted::*;
 use cweb_lines::{Shelf, write_all};
 use cweb_out::{BinFault, Bins};
-use cweb_tools::{FilesRead, FolderShelf, LockableFile};
+use cweb_tools::{FilesRead, FolderShelf, LockableFile, StdFolder};
 use std::fs;
 use std::os::unix::fs::PermissionsExt;
 use std::process::Abort;
@@ -178,19 +178,18 @@ fn written(rt: &(impl Abort + Files + AllocGlobal), folder: &str, name: &str) ->
 }
 
 /// A file that was read is not replaced.
-pub fn put_what_was_read<B: Bins>(
+pub fn put_what_was_read(
     rt: &(impl Abort + Files<File: LockableFile> + AllocGlobal),
-    read: &FilesRead,
-    bins: &mut B,
     folder: &str,
 ) {
     let path = written(rt, folder, "a.w");
-    holds(
-        rt,
-        opens(rt, &mut FolderShelf::noting(rt, read), path.as_str()),
-    );
-    check_put(rt, bins, folder, "a.w", b"lost", Some(b"x"));
-    check_put(rt, bins, folder, "b.w", b"y", Some(b"y"));
+    let fs = StdFolder::with_streams(rt.alloc(), rt);
+    let mut shelf = FolderShelf::noting(fs, FilesRead::new(rt.alloc()));
+    holds(rt, opens(rt, &mut shelf, path.as_str()));
+    let mut bins = shelf.into_bins(rt.alloc());
+    check_put(rt, &mut bins, folder, "a.w", b"lost", Some(b"x"));
+    check_put(rt, &mut bins, folder, "b.w", b"y", Some(b"y"));
+    holds(rt, bins.failures() == 1);
 }
 
 /// Any error on opening means that the file isn't there.
@@ -202,7 +201,12 @@ pub fn open_what_is_closed(
     fs::set_permissions(rt, path.as_str(), fs::Permissions::from_mode(0)).expect(rt, "a mode");
     // The superuser may read it anyway.
     let may_read = fs::open(rt, path.as_str()).is_ok();
-    opens_if(rt, &mut FolderShelf::new(rt), path.as_str(), may_read);
+    opens_if(
+        rt,
+        &mut FolderShelf::new(StdFolder::new(rt.alloc(), rt)),
+        path.as_str(),
+        may_read,
+    );
 }
 
 fn opens_if<S: Shelf>(rt: &impl Abort, shelf: &mut S, path: &str, may_read: bool) {

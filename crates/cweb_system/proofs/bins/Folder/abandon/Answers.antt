@@ -1,0 +1,15 @@
+use Rattle.std.specs.Prelude.{option_map}
+use Rattle.cweb_files.specs.Bins.{refusal}
+use Rattle.cweb_system.specs.Folder.{draft_name}
+use Rattle.cweb_system.proofs.Views.{files_left}
+use Rattle.cweb_system.proofs.bins.Folder.abandon.Goals as goal
+
+pub returns-in-Some-clause-gone : goal.returns-in-Some-clause-gone
+returns-in-Some-clause-gone g c = λ tells.
+    let left = files_left c.args.self.now.written.items (g.F.FileSystem.tree c.args.self.now.fs)
+    (g.F.FileSystem.tree c.discard.new.fs) (c.requires.sound.files tells) (rw c.as_slice.ensures.value at (c.discard.ensures.leaves tells)) in
+    λ i. record {
+      files = left i;
+      draft = option_map draft_name (c.take.ensures.after i);
+      refused = option_map refusal c.args.self.now.refused;
+    }

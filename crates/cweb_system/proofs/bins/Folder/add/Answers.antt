@@ -1,0 +1,25 @@
+use Rattle.std.proofs.Common.{sym, ◌∙◌, subst, Option}
+use Rattle.std.specs.Prelude.{option_map, take}
+use Rattle.cweb_files.specs.Bins.{refusal}
+use Rattle.cweb_system.specs.declared.drafts.Draft.{Draft}
+use Rattle.cweb_system.specs.Folder.{draft_name}
+use Rattle.cweb_system.specs.inner.FolderSound.{IsDraftSound}
+use Rattle.cweb_system.proofs.Views.{appending, files_left}
+use Rattle.cweb_system.proofs.bins.Folder.add.Goals as goal
+
+pub returns-in-Ok-clause-beside : goal.returns-in-Ok-clause-beside
+returns-in-Ok-clause-beside g c = λ tells.
+    let was = sym c.take.ensures.value ∙ c.in-Some.is in
+    let sound = (subst (λ (o : Option (Draft g.row.F-File.Denot)). IsDraftSound g.F.FileSystem c.args.self.now o) was
+    c.requires.sound.draft).1 tells in
+    let ws = c.args.self.now.written.items in
+    let left = files_left ws (g.F.FileSystem.tree c.args.self.now.fs) (g.F.FileSystem.tree c.write_to-taken.new.fs)
+    (c.requires.sound.files tells)
+    (appending ws c.in-Some.draft.key (g.F.FileSystem.key c.in-Some.draft.file) (take c.in-Ok.n c.args.piece.now)
+    (g.F.FileSystem.tree c.args.self.now.fs) (g.F.FileSystem.tree c.write_to-taken.new.fs) sound.new sound.opened
+    (c.in-Ok.ensures.ok tells)) in
+    λ i. record {
+      files = left i;
+      draft = option_map draft_name (sym was i);
+      refused = option_map refusal c.args.self.now.refused;
+    }

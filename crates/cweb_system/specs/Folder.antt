@@ -1,0 +1,33 @@
+-- What bins over a file system have.
+use Rattle.std.specs.Prelude.{ℕ, List, [], map, Option, Some, None, option_map, string_bytes}
+use Rattle.cweb_files.specs.Bins.{refusal}
+use Rattle.cweb_files.specs.Files.{File, Beside}
+use Rattle.cweb_system.specs.declared.bins.Folder.{Folder}
+use Rattle.cweb_system.specs.declared.drafts.Draft.{Draft}
+use Rattle.cweb_system.specs.declared.drafts.WrittenFile.{WrittenFile}
+use Rattle.cweb_system.specs.declared.file_system.FileSystem.{Ghosts as FileSystem}
+use Rattle.cweb_system.specs.Tree.{Tree, contents}
+
+abbrev pub folder_failed : {F H : Type 0} → Folder F H → ℕ
+folder_failed folder = folder.failed
+
+-- A committed file, as it is in the file system.
+abbrev pub file_in : Tree → WrittenFile → File
+file_in tree w = record { name = string_bytes w.name; bytes = contents tree (string_bytes w.name) }
+
+abbrev pub draft_name : {H : Type 0} → Draft H → List ℕ
+draft_name draft = string_bytes draft.name
+
+abbrev pub draft_bytes : {H : Type 0} → Tree → Option (Draft H) → List ℕ
+draft_bytes tree None = []
+draft_bytes tree (Some draft) = tree.bytes draft.key
+
+abbrev pub folder_bytes : {F H : Type 0} → FileSystem F H → Folder F H → List ℕ
+folder_bytes system folder = draft_bytes (system.tree folder.fs) folder.draft
+
+abbrev pub folder_beside : {F H : Type 0} → FileSystem F H → Folder F H → Beside
+folder_beside system folder = record {
+  files = map (file_in (system.tree folder.fs)) folder.written.items;
+  draft = option_map draft_name folder.draft;
+  refused = option_map refusal folder.refused;
+}

@@ -1,0 +1,18 @@
+-- What a shelf over a file system has.
+use Rattle.std.specs.Prelude.{ℕ, List, Option}
+use Rattle.cweb_system.specs.declared.shelf.FolderShelf.{FolderShelf}
+use Rattle.cweb_system.specs.declared.file_system.FileSystem.{Ghosts as FileSystem}
+use Rattle.cweb_system.specs.Shelf.{contents_in}
+use Rattle.cweb_system.specs.Tree.{rest}
+
+abbrev pub shelf_system : {F H : Type 0} {system : FileSystem F H} → FolderShelf F H system → F
+shelf_system shelf = shelf.fs
+
+abbrev pub shelf_failures : {F H : Type 0} {system : FileSystem F H} → FolderShelf F H system → ℕ
+shelf_failures shelf = shelf.failed
+
+abbrev pub shelf_contents : {F H : Type 0} (system : FileSystem F H) → FolderShelf F H system → List ℕ → Option (List ℕ)
+shelf_contents system shelf = contents_in (system.tree shelf.fs)
+
+abbrev pub shelf_left : {F H : Type 0} (system : FileSystem F H) → FolderShelf F H system → H → List ℕ
+shelf_left system shelf reader = rest (system.tree shelf.fs) (system.key reader) (system.position reader)

@@ -1,0 +1,95 @@
+// Bins over a file system, observable if the file system is.
+ghost use Rattle.cweb_system.specs.inner.FolderSound.{IsSound};
+ghost use Rattle.cweb_system.specs.inner.Sound.{IsSound_prop};
+ghost use Rattle.cweb_system.specs.Steps.{AreDecent};
+ghost use Rattle.cweb_system.specs.Tree.{Tree};
+ghost use Rattle.std.specs.Prelude.{IsTrue};
+
+use crate::bins::Folder;
+use crate::file_system::FileSystem;
+use crate::files_read::FilesRead;
+use cweb_files::{BinFault, Bins, Sink, SinkFault};
+use std::alloc::Global;
+
+/// Files of a file system. An output is written to a draft, which is renamed when it is committed.
+#[derive(Drop)]
+pub struct FolderBins<F: FileSystem + Drop> {
+    folder: Folder<F>,
+    ghost sound: { IsSound F.FileSystem folder } by { IsSound_prop F.FileSystem folder },
+    /// At each moment, each file that is no draft was the old one or a whole draft.
+    ghost steps: { ∥ (IsTrue (F.tells folder.fs) → AreDecent (F.took folder.fs)) ∥₁ },
+}
+
+impl<F: FileSystem + Drop> FolderBins<F> {
+    ghost use Rattle.std.specs.Prelude.{◌≡◌, [], None};
+    ghost use Rattle.cweb_system.specs.Bins.{bins_system, bins_beside, bins_bytes, bins_failed};
+
+    /// Bins that have committed no file. No output replaces a file in `read`.
+    pub fn new(alloc: Global, fs: F, read: FilesRead) -> Self
+        requires { IsTrue (F.tells fs) → (a b : Tree) → F.took fs a b → ⊥ }
+        ensures system { bins_system result ≡ fs }
+        ensures beside { bins_beside F.FileSystem result ≡ record { files = []; draft = None; refused = None } }
+        ensures bytes { bins_bytes F.FileSystem result ≡ [] }
+        ensures failed { bins_failed result ≡ 0 }
+    {
+        FolderBins {
+            folder: Folder {
+                alloc,
+                fs,
+                read,
+                written: Vec::new(alloc),
+                draft: None,
+                refused: None,
+                failed: 0,
+            },
+        }
+    }
+
+    /// At each moment so far, each file that is no draft was the old one or a whole draft. (A law.)
+    pub fn each_moment(&self)
+        ensures { ∥ (IsTrue (F.tells (bins_system self.now)) →
+            AreDecent (F.took (bins_system self.now))) ∥₁ }
+    {}
+
+    /// The file system.
+    pub fn file_system(&self) -> &F
+        ensures { result.now ≡ bins_system self.now }
+    {
+        &self.folder.fs
+    }
+}
+
+impl<F: FileSystem + Drop> Sink for FolderBins<F> {
+    ghost use Rattle.cweb_system.specs.Folder.{folder_beside, folder_bytes, folder_failed};
+    ghost use Rattle.cweb_system.specs.inner.FolderSound.{folder_is_observable};
+
+    ghost tells = { λ b. folder_is_observable F.FileSystem b.folder };
+
+    ghost written = { λ b. folder_bytes F.FileSystem b.folder };
+
+    ghost failed = { λ b. folder_failed b.folder };
+
+    ghost beside = { λ b. folder_beside F.FileSystem b.folder };
+
+    fn write(&mut self, piece: &[u8]) -> Result<usize, SinkFault> {
+        self.folder.add(piece)
+    }
+
+    fn failures(&self) -> u64 {
+        self.folder.failed
+    }
+}
+
+impl<F: FileSystem + Drop> Bins for FolderBins<F> {
+    fn start_file(&mut self, name: &str) -> Result<(), BinFault> {
+        self.folder.start(name)
+    }
+
+    fn commit_file(&mut self) -> Result<(), BinFault> {
+        self.folder.commit()
+    }
+
+    fn abandon_file(&mut self) {
+        self.folder.abandon()
+    }
+}

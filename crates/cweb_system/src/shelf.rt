@@ -1,0 +1,137 @@
+// The files of a file system as a shelf.
+ghost use Rattle.std.specs.Prelude.{◌≡◌, [], None, IsTrue, IfOk, IfErr};
+ghost use Rattle.std.proofs.Props.{props};
+ghost use Rattle.cweb_system.specs.Tree.{IsAbsent, Opens, Tree};
+
+use crate::file_system::FileSystem;
+use crate::files_read::FilesRead;
+use crate::folder_bins::FolderBins;
+use crate::node::FileFault;
+use cweb_files::{Shelf, ShelfFault};
+use std::alloc::{AllocError, Global};
+
+/// Files of a file system, under their paths. A folder of the system can be opened like a file; its first read fails.
+#[derive(Drop)]
+pub struct FolderShelf<F: FileSystem + Drop> {
+    fs: F,
+    /// Each file that was opened, if they are recorded.
+    read: Option<FilesRead>,
+    failed: u64,
+    /// In an observable file system no read fails.
+    ghost whole: { IsTrue (F.tells fs) → failed ≡ 0 } by { Prim.hlevel props },
+    /// Reading changes nothing.
+    ghost unchanged: { IsTrue (F.tells fs) → (a b : Tree) → F.took fs a b → ⊥ } by { Prim.hlevel props },
+}
+
+impl<F: FileSystem + Drop> FolderShelf<F> {
+    ghost use Rattle.cweb_system.specs.Bins.{bins_beside, bins_bytes, bins_failed, bins_system};
+    ghost use Rattle.cweb_system.specs.inner.ShelfState.{shelf_failures, shelf_system};
+
+    /// A shelf that doesn't record what it opens.
+    pub fn new(fs: F) -> Self
+        requires { IsTrue (F.tells fs) → (a b : Tree) → F.took fs a b → ⊥ }
+        ensures fs { shelf_system result ≡ fs }
+        ensures failed { shelf_failures result ≡ 0 }
+    {
+        FolderShelf {
+            fs,
+            read: None,
+            failed: 0,
+        }
+    }
+
+    /// A shelf that records each file that it opens, so that no output of its bins replaces it.
+    pub fn noting(fs: F, read: FilesRead) -> Self
+        requires { IsTrue (F.tells fs) → (a b : Tree) → F.took fs a b → ⊥ }
+        ensures fs { shelf_system result ≡ fs }
+        ensures failed { shelf_failures result ≡ 0 }
+    {
+        FolderShelf {
+            fs,
+            read: Some(read),
+            failed: 0,
+        }
+    }
+
+    /// Bins of the file system. No output replaces a file that was recorded.
+    pub fn into_bins(self, alloc: Global) -> FolderBins<F>
+        ensures system { bins_system result ≡ shelf_system self }
+        ensures beside { bins_beside F.FileSystem result ≡ record { files = []; draft = None; refused = None } }
+        ensures bytes { bins_bytes F.FileSystem result ≡ [] }
+        ensures failed { bins_failed result ≡ 0 }
+    {
+        let FolderShelf {
+            fs,
+            read,
+            failed: _,
+        } = self;
+        FolderBins::new(alloc, fs, recorded(alloc, read))
+    }
+
+    /// Opens a file and records it. It is an error if the system has no identity for the file.
+    fn opened(&mut self, name: &str) -> Result<F::File, FileFault>
+        ensures fs { shelf_system self.new ≡ shelf_system self.old }
+        ensures failed { shelf_failures self.new ≡ shelf_failures self.old }
+        ensures ok { IsTrue (F.tells (shelf_system self.old)) → IfOk result (λ file.
+            Opens name.now (F.key file) (F.position file) (F.opened_as file)
+            (F.tree (shelf_system self.old))) }
+        ensures err { IsTrue (F.tells (shelf_system self.old)) → IfErr result (λ fault.
+            (fault ≡ FileFault.Memory → ⊥) → IsAbsent name.now (F.tree (shelf_system self.old))) }
+    {
+        let file = self.fs.open(name)?;
+        if let Some(read) = &mut self.read {
+            let key = self.fs.key_of(&file)?;
+            if read.note(key).is_err() {
+                return Err(FileFault::Memory);
+            }
+        }
+        Ok(file)
+    }
+}
+
+/// The files that were recorded, if any.
+fn recorded(alloc: Global, read: Option<FilesRead>) -> FilesRead {
+    match read {
+        Some(read) => read,
+        None => FilesRead::new(alloc),
+    }
+}
+
+impl<F: FileSystem + Drop> Shelf for FolderShelf<F> {
+    ghost use Rattle.cweb_system.specs.inner.ShelfState.{shelf_failures, shelf_left, shelf_system, shelf_contents};
+
+    type R = F::File;
+
+    ghost tells = { λ s. F.tells (shelf_system s) };
+
+    ghost texts = { shelf_contents F.FileSystem };
+
+    ghost left = { shelf_left F.FileSystem };
+
+    ghost failed = { shelf_failures };
+
+    ghost opened_as = { λ _. F.opened_as };
+
+    /// Any error but a failed allocation means that the file is not there.
+    fn fetch(&mut self, name: &str) -> Result<Option<F::File>, AllocError> {
+        match self.opened(name) {
+            Ok(file) => Ok(Some(file)),
+            Err(FileFault::Memory) => Err(AllocError),
+            Err(_) => Ok(None),
+        }
+    }
+
+    fn read(&mut self, reader: &mut F::File, piece: &mut [u8]) -> Result<usize, ShelfFault> {
+        match self.fs.read(reader, piece) {
+            Ok(n) => Ok(n),
+            Err(_) => {
+                self.failed += 1;
+                Err(ShelfFault)
+            }
+        }
+    }
+
+    fn failures(&self) -> u64 {
+        self.failed
+    }
+}

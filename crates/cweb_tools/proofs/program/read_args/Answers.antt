@@ -1,0 +1,33 @@
+use Rattle.std.proofs.Common.{◌≡◌, Some, None, map, string_bytes, ◌∙◌, ap, subst, rules}
+use Rattle.std.specs.Prelude.{All, IsUtf8}
+use Rattle.std.specs.List.{slice_get}
+use Rattle.std.proofs.lemmas.Str.{IsUtf8-string_bytes}
+use Rattle.cweb_tools.proofs.Arguments.{all_taken, valid_at, valid_more, words_more}
+use Rattle.cweb_tools.proofs.program.read_args.Goals as goal
+
+pub returns-in_default-clause-invalid : goal.returns-in_default-clause-invalid
+returns-in_default-clause-invalid g c = λ tells invalid.
+    let none : slice_get (g.E.Environment.args c.args.env.now) c.words.index ≡ None = search rules in
+    absurd (invalid (subst (All IsUtf8) (all_taken _ c.words.index none) (c.words.invariant.valid tells)))
+
+pub returns-in_default-from_utf8-clause-valid : goal.returns-in_default-from_utf8-clause-valid
+returns-in_default-from_utf8-clause-valid g c = λ tells valid.
+    let some : slice_get (g.E.Environment.args c.args.env.now) c.words.index ≡ Some c.in-Some.bytes.items =
+    search rules in
+    let utf8 : IsUtf8 c.in-Some.bytes.items = valid_at _ c.words.index _ valid some in
+    search rules
+
+pub words-preserved : goal.words-preserved
+words-preserved g c =
+    let bytes : string_bytes c.in-Ok.word ≡ c.in-Some.bytes.items = search rules in record {
+      words = λ tells.
+          let some : slice_get (g.E.Environment.args c.args.env.now) c.words.index ≡ Some (string_bytes c.in-Ok.word) =
+          search rules in
+          ap (map string_bytes) c.in_ok-push.ensures.items
+          ∙ words_more _ c.in-Ok.word _ c.words.index (c.words.invariant.words tells) some;
+      valid = λ tells.
+          let some : slice_get (g.E.Environment.args c.args.env.now) c.words.index ≡ Some (string_bytes c.in-Ok.word) =
+          search rules in
+          valid_more _ c.words.index (string_bytes c.in-Ok.word) (c.words.invariant.valid tells) some
+          (IsUtf8-string_bytes c.in-Ok.word);
+    }

@@ -1,0 +1,95 @@
+// The arguments and the variables of a run.
+ghost use Rattle.std.specs.Prelude.{◌≡◌, ℕ, List, [], Bool, Option, None, IsTrue, IfOk, false, option_map, slice_get};
+
+use std::alloc::{AllocError, Global};
+use std::env::FillError;
+use std::rt::Env;
+
+/// How long a value may be at the first try. If it is longer, the buffer is doubled.
+const SIZE: usize = 256;
+
+/// How often a buffer can be doubled.
+const TURNS: u32 = 56;
+
+/// The arguments and the variables of a run, as bytes.
+pub trait Environment {
+    /// Whether they are observable.
+    ghost tells: { Self → Bool };
+
+    /// The arguments after the program's name.
+    ghost args: { Self → List (List ℕ) };
+
+    /// The value of each variable that is set.
+    ghost value: { Self → List ℕ → Option (List ℕ) };
+
+    /// The argument at an index, if there is one.
+    fn argument(&self, alloc: Global, index: usize) -> Result<Option<Vec<u8>>, AllocError>
+        ensures { IsTrue (tells self.now) → IfOk result (λ found.
+            option_map (λ bytes. bytes.items) found ≡ slice_get (args self.now) index) };
+
+    /// The value of a variable, if it is set.
+    fn variable(&self, alloc: Global, name: &str) -> Result<Option<Vec<u8>>, AllocError>
+        ensures { IsTrue (tells self.now) → IfOk result (λ found.
+            option_map (λ bytes. bytes.items) found ≡ value self.now name.now) };
+}
+
+/// The arguments and the variables of the program.
+#[derive(Drop)]
+pub struct ProgramEnvironment<'a, R: Env> {
+    pub runtime: &'a R,
+}
+
+/// What is read from the environment.
+#[derive(Clone, Copy)]
+enum Query<'a> {
+    Argument(usize),
+    Variable(&'a str),
+}
+
+impl<R: Env> Environment for ProgramEnvironment<'_, R> {
+    ghost tells = { λ _. false };
+
+    ghost args = { λ _. [] };
+
+    ghost value = { λ _ _. None };
+
+    /// The system's argument 0 is the program's name, which may be any bytes.
+    fn argument(&self, alloc: Global, index: usize) -> Result<Option<Vec<u8>>, AllocError> {
+        match index.checked_add(1) {
+            Some(number) => read(alloc, self.runtime, Query::Argument(number)),
+            None => Ok(None),
+        }
+    }
+
+    fn variable(&self, alloc: Global, name: &str) -> Result<Option<Vec<u8>>, AllocError> {
+        read(alloc, self.runtime, Query::Variable(name))
+    }
+}
+
+/// Reads a value into a buffer that is large enough.
+fn read<R: Env>(
+    alloc: Global,
+    runtime: &R,
+    query: Query<'_>,
+) -> Result<Option<Vec<u8>>, AllocError> {
+    let mut size = SIZE;
+    for _ in 0..TURNS {
+        let mut buffer = vec![in alloc; 0u8; size]?;
+        match fill(runtime, query, buffer.as_mut_slice()) {
+            Ok(len) => {
+                buffer.truncate(len);
+                return Ok(Some(buffer));
+            }
+            Err(FillError::NotPresent) => return Ok(None),
+            Err(FillError::TooLong) => size = size.saturating_mul(2),
+        }
+    }
+    Err(AllocError)
+}
+
+fn fill<R: Env>(runtime: &R, query: Query<'_>, buffer: &mut [u8]) -> Result<usize, FillError> {
+    match query {
+        Query::Argument(number) => runtime.arg(number, buffer),
+        Query::Variable(name) => runtime.var(name, buffer),
+    }
+}
