@@ -44,7 +44,7 @@ SOURCES := HANDLES crates.txt $(shell find crates -name out -prune -o -type f \(
 NOT_PROVED := echo 'NOTHING IN THIS BUILD IS PROVED. "make build" proves all programs (20 to 30 minutes the first time, on four processors),'; \
     echo 'and "make check" tests the proofs, the contracts and the programs as well (an hour or more).'
 
-.PHONY: all help demo build check format faults dist install uninstall installcheck bench clean distclean
+.PHONY: all help demo build check format faults fuzz dist install uninstall installcheck bench clean distclean
 
 all: build
 
@@ -59,6 +59,7 @@ help:
 	@echo 'make dist          makes a tarball of proved static programs, which run on any x86-64 Linux'
 	@echo 'make check         the gate: proves all crates, refuses each mutant, runs all tests and programs'
 	@echo 'make faults        runs the proved programs while their system calls and allocations fail, and on hostile webs and folders'
+	@echo 'make fuzz          compares the proved programs with a model in Python, on random webs, until one differs'
 	@echo 'make format        formats every crate: the gate refuses one that rt fmt would change'
 	@echo 'make bench         measures time, memory and instructions'
 	@echo 'make clean         removes what demo, build, dist and bench made; the proofs that rt keeps stay'
@@ -92,6 +93,9 @@ format:
 
 faults: build
 	@tests/all $(PROVED)/ctangle $(PROVED)/wmerge $(PROVED)/wdep
+
+fuzz: build
+	@tests/differ --forever --seed "$$(date +%s)" $(PROVED)/ctangle $(PROVED)/wmerge $(PROVED)/wdep
 
 installcheck:
 	@tests/all "$(CTANGLE)" "$(WMERGE)" "$(WDEP)" $(TESTS)

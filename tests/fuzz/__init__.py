@@ -1,0 +1,1 @@
+"""Webs for `differ`, and their runs by the programs and by the model."""

@@ -1,0 +1,1 @@
+"""A model of ctangle, wmerge and wdep, written from the rules alone. README.md tells its use."""
