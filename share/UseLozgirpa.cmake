@@ -1,6 +1,6 @@
 # UseLozgirpa.cmake: a function for CMake 3.20 or later that tangles a web.
 #
-#   list(APPEND CMAKE_MODULE_PATH /usr/local/share/lozgirpa)
+#   list(APPEND CMAKE_MODULE_PATH /path/to/lozgirpa)
 #   include(UseLozgirpa)
 #
 #   lozgirpa_web(roman WEB roman.w OUTPUTS roman.c numeral.h numeral.c)

@@ -1,6 +1,6 @@
 # lozgirpa.mk: rules for GNU make 4.3 or later that tangle webs. A Makefile includes it and has a line for each web:
 #
-#   include /usr/local/share/lozgirpa/lozgirpa.mk
+#   include /path/to/lozgirpa/lozgirpa.mk
 #
 #   $(call web,roman.w,roman.c numeral.h numeral.c)
 #

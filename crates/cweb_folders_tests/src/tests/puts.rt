@@ -1,6 +1,6 @@
 // Writes files in a folder and checks the result.
 use super::wanted::*;
-use cweb_lines::{Shelf, write_all};
+use cweb_lines::{Shelf, Sink, write_all};
 use cweb_out::{BinFault, Bins};
 use cweb_tools::{FilesRead, FolderShelf, LockableFile, StdFolder};
 use std::fs;

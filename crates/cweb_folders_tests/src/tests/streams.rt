@@ -1,7 +1,7 @@
 // Streams and files of the system, and streams that transfer parts or are interrupted.
 use super::wanted::*;
 use cweb_lines::{Shelf, ShelfFault, Sink, write_all};
-use cweb_tools::{FolderShelf, StdSink, read_once};
+use cweb_tools::{FolderShelf, StdFolder, StdSink, read_once};
 use std::io;
 use std::io::{Error, ErrorKind, Read, Write};
 use std::process::Abort;
@@ -144,5 +144,5 @@ fn reads_the_system<S: Shelf>(rt: &impl Abort, shelf: &mut S) {
 
 #[test]
 fn files_of_the_system(rt: HostRuntime) {
-    reads_the_system(&rt, &mut FolderShelf::new(&rt));
+    reads_the_system(&rt, &mut FolderShelf::new(StdFolder::new(rt.alloc(), &rt)));
 }
