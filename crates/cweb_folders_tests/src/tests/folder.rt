@@ -44,6 +44,7 @@ enum Step {
 impl Step {
     fn take<B: Bins>(
         &self,
+        host: &HostRuntime,
         rt: &(impl Abort + Env + Files<File: LockableFile> + AllocGlobal),
         bins: &mut B,
         folder: &str,
@@ -56,8 +57,8 @@ impl Step {
             Step::PutOverLeftDraft => put_over_left_draft(rt, bins, folder),
             Step::PutOverLinkedDraft => put_over_linked_draft(rt, bins, folder),
             Step::PutAgain => put_again(rt, bins, folder),
-            Step::PutWhatWasRead => put_what_was_read(rt, folder),
-            Step::OpenWhatIsClosed => open_what_is_closed(rt, folder),
+            Step::PutWhatWasRead => put_what_was_read(host, rt, folder),
+            Step::OpenWhatIsClosed => open_what_is_closed(host, rt, folder),
             Step::TangleTwice => tangle_twice(rt, bins, folder),
             Step::HasFailed(count) => holds(rt, bins.failures() == *count),
         }
@@ -73,7 +74,7 @@ fn run_after(
     steps: &[Step],
 ) {
     let mut first = new_bins(host);
-    run(rt, &mut first, folder, before);
+    run(host, rt, &mut first, folder, before);
     run_once(host, rt, folder, steps);
 }
 
@@ -84,7 +85,7 @@ fn run_once(
     steps: &[Step],
 ) {
     let mut bins = new_bins(host);
-    run(rt, &mut bins, folder, steps);
+    run(host, rt, &mut bins, folder, steps);
 }
 
 fn new_bins(host: &HostRuntime) -> FolderBins<StdFolder<&HostRuntime>> {
@@ -93,13 +94,14 @@ fn new_bins(host: &HostRuntime) -> FolderBins<StdFolder<&HostRuntime>> {
 }
 
 fn run<B: Bins>(
+    host: &HostRuntime,
     rt: &(impl Abort + Env + Files<File: LockableFile> + AllocGlobal),
     bins: &mut B,
     folder: &str,
     steps: &[Step],
 ) {
     for step in steps {
-        step.take(rt, bins, folder);
+        step.take(host, rt, bins, folder);
     }
 }
 

@@ -177,16 +177,22 @@ fn written(rt: &(impl Abort + Files + AllocGlobal), folder: &str, name: &str) ->
     path
 }
 
+/// A shelf that records what it opens.
+fn noting_shelf(host: &HostRuntime) -> FolderShelf<StdFolder<&HostRuntime>> {
+    let fs = StdFolder::with_streams(host.alloc(), host);
+    FolderShelf::noting(fs, FilesRead::new(host.alloc()))
+}
+
 /// A file that was read is not replaced.
 pub fn put_what_was_read(
+    host: &HostRuntime,
     rt: &(impl Abort + Files<File: LockableFile> + AllocGlobal),
     folder: &str,
 ) {
     let path = written(rt, folder, "a.w");
-    let fs = StdFolder::with_streams(rt.alloc(), rt);
-    let mut shelf = FolderShelf::noting(fs, FilesRead::new(rt.alloc()));
+    let mut shelf = noting_shelf(host);
     holds(rt, opens(rt, &mut shelf, path.as_str()));
-    let mut bins = shelf.into_bins(rt.alloc());
+    let mut bins = shelf.into_bins(host.alloc());
     check_put(rt, &mut bins, folder, "a.w", b"lost", Some(b"x"));
     check_put(rt, &mut bins, folder, "b.w", b"y", Some(b"y"));
     holds(rt, bins.failures() == 1);
@@ -194,6 +200,7 @@ pub fn put_what_was_read(
 
 /// Any error on opening means that the file isn't there.
 pub fn open_what_is_closed(
+    host: &HostRuntime,
     rt: &(impl Abort + Files<File: LockableFile> + AllocGlobal),
     folder: &str,
 ) {
@@ -201,12 +208,8 @@ pub fn open_what_is_closed(
     fs::set_permissions(rt, path.as_str(), fs::Permissions::from_mode(0)).expect(rt, "a mode");
     // The superuser may read it anyway.
     let may_read = fs::open(rt, path.as_str()).is_ok();
-    opens_if(
-        rt,
-        &mut FolderShelf::new(StdFolder::new(rt.alloc(), rt)),
-        path.as_str(),
-        may_read,
-    );
+    let mut shelf = noting_shelf(host);
+    opens_if(rt, &mut shelf, path.as_str(), may_read);
 }
 
 fn opens_if<S: Shelf>(rt: &impl Abort, shelf: &mut S, path: &str, may_read: bool) {
