@@ -2,8 +2,7 @@
 //! `ctangle [options] webfile[.w] [{changefile[.ch]|-} [outfile[.c]]]`.
 #![tactic(auto)]
 
-ghost use Rattle.std.specs.Prelude.{IsTrue};
-ghost use Rattle.cweb_system.specs.Tree.{Tree};
+ghost use Rattle.std.specs.Prelude.{◌≡◌, [], IsTrue};
 
 use cweb_tools::{
     FileSystem, ProgramEnvironment, StdFolder, StdSink, as_slices, out_of_memory, read_args,
@@ -21,7 +20,7 @@ fn main(rt: HostRuntime) -> ExitCode {
 
 /// Runs with the arguments, the environment and the files of the program. Returns the exit status.
 fn tangle<R: Env + AllocGlobal, F: FileSystem + Drop, L: Write + Drop>(rt: &R, fs: F, log: L) -> u8
-    requires { IsTrue (F.tells fs) → (a b : Tree) → F.took fs a b → ⊥ }
+    requires { IsTrue (F.disk fs).tells → (F.disk fs).past ≡ [] }
 {
     let mut log = StdSink::new(log);
     let env = ProgramEnvironment { runtime: rt };

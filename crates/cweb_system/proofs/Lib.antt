@@ -1,5 +1,9 @@
 pub mod Faults
 pub mod SetMembership
 pub mod Views
+pub mod Files
+pub mod Folders
 pub mod Changes
+pub mod Keys
+pub mod Scans
 pub mod Steps

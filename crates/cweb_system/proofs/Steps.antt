@@ -1,22 +1,78 @@
 -- Each call is a decent step.
-use Rattle.std.proofs.Common.{◌≡◌, ◌∙◌, ◌⊎◌, inl, inr, ⊎_elim, ℕ, List, Bool, true, false, refl, sym, ap, subst, Option, Some, None}
-use Rattle.std.specs.Prelude.{Result, Ok, Err, OnOk, OnErr, IfOk}
+use Rattle.std.proofs.Common.{◌≡◌, ◌∙◌, ◌⊎◌, inl, inr, ⊎_elim, ◌∷◌, ℕ, List, Bool, true, false, refl, sym, ap, subst, Option, Some, None, Contains, IsTrue}
+use Rattle.std.specs.Prelude.{Result, Ok, Err, OnErr, IfOk, IfSome}
 use Rattle.std.specs.Str.{bytes_eq}
 use Rattle.std.proofs.lemmas.Slice.Eq.{bytes_eq-Decides}
+use Rattle.cweb_system.specs.declared.node.FileFault.{FileFault}
 use Rattle.cweb_system.specs.declared.node.FileKey.{FileKey}
 use Rattle.cweb_system.specs.declared.node.Node.{Node}
-use Rattle.cweb_system.specs.Tree.{Tree, IsFile, bytes_of, Appends, Creates, Removes, Renames, SetsMode}
-use Rattle.cweb_system.specs.inner.Drafts.{IsAlone}
-use Rattle.cweb_system.specs.Steps.{Takes, Stays, Arrives, IsDecent, AreDecent, IsDraftPlace}
+use Rattle.cweb_system.specs.Tree.{Tree, IsFile, at, bytes_of, Appends, Creates, MayCreate, Removes, Renames, SetsMode}
+use Rattle.cweb_system.specs.inner.Drafts.{IsAlone, KeepsDecent}
+use Rattle.cweb_system.specs.Steps.{AreDecent, Arrives, Changes, Disk, IsDecent, IsDraftPlace, NotesFailure, Stays, TakesStep}
 use Rattle.cweb_system.specs.inner.DraftPaths.{IsDraftPath, IsDraftAlone}
 
-pub stepping : (took after : Tree → Tree → Type 0) (a b : Tree) → Takes took after a b → IsDecent a b → AreDecent took → AreDecent after
-stepping took after a b takes decent all x y step = ⊎_elim (all x y)
-    (λ (e : (x ≡ a) × (y ≡ b)). subst (λ (s : Tree). IsDecent s y) (sym e.0) (subst (λ (t : Tree). IsDecent a t) (sym e.1) decent))
-    (takes.nothing_else x y step)
+stepping : (read : List FileKey) (old new : Disk) → TakesStep old new → IsDecent read old.tree new.tree
+    → AreDecent read old.tree old.past → AreDecent read new.tree new.past
+stepping read old new step decent all = ⊎_elim
+    (λ (is : new.past ≡ old.tree ∷ old.past). subst (λ (past : List Tree). AreDecent read new.tree past) (sym is) (decent, all))
+    (λ (same : (new.past ≡ old.past) × (new.tree ≡ old.tree)). subst (λ (past : List Tree). AreDecent read new.tree past)
+    (sym same.0) (subst (λ (t : Tree). AreDecent read t old.past) (sym same.1) all))
+    step
 
-pub same_decent : (a b : Tree) → b ≡ a → IsDecent a b
-same_decent a b same = subst (λ (t : Tree). IsDecent a t) (sym same) (λ p other. inl (record { node = refl; bytes = refl }))
+same_decent : (read : List FileKey) (a b : Tree) → b ≡ a → IsDecent read a b
+same_decent read a b same = subst (λ (t : Tree). IsDecent read a t) (sym same)
+    (λ p other. inl (record { node = refl; bytes = refl }))
+
+by_result : {A : Type 0} (read : List FileKey) (change : A → Tree → Tree → Type 0) (a b : Tree) (r : Result A FileFault)
+    → IfOk r (λ x. change x a b) → OnErr r (b ≡ a) → ((x : A) → change x a b → IsDecent read a b) → IsDecent read a b
+by_result read change a b (Ok x) ok err then = then x ok
+by_result read change a b (Err e) ok err then = same_decent read a b err
+
+noted : {A : Type 0} (was now : Bool) (r : Result A FileFault) → NotesFailure was now r → IsTrue was → IsTrue now
+noted was now (Ok x) same is = same ∙ is
+noted was now (Err e) is' is = is'
+
+-- A call that changes the tree decently.
+pub keeps : {A : Type 0} (read : List FileKey) (change : A → Tree → Tree → Type 0) (old new : Disk) (r : Result A FileFault)
+    → Changes change old new r
+    → (IsTrue old.tells → (x : A) → change x old.tree new.tree → IsDecent read old.tree new.tree) → KeepsDecent read old new
+keeps read change old new r c then = record {
+  tells = c.tells;
+  steps = λ tells. stepping read old new (c.step tells)
+      (by_result read change old.tree new.tree r (c.ok tells) (c.err tells) (then tells));
+  failed = λ tells. noted old.failed new.failed r (c.failed tells);
+}
+
+-- A call that changes the tree in one way changes it in another, too, where the one is a case of the other.
+pub changes_then : {A : Type 0} (one other : A → Tree → Tree → Type 0) (old new : Disk) (r : Result A FileFault)
+    → Changes one old new r → (IsTrue old.tells → (x : A) → one x old.tree new.tree → other x old.tree new.tree)
+    → Changes other old new r
+changes_then {A = A} one other old new r c then = record {
+  tells = c.tells;
+  ok = λ tells. along r (then tells) (c.ok tells);
+  err = c.err;
+  place = c.place;
+  step = c.step;
+  failed = c.failed;
+}
+  where
+    along : (s : Result A FileFault) → ((x : A) → one x old.tree new.tree → other x old.tree new.tree)
+        → IfOk s (λ x. one x old.tree new.tree) → IfOk s (λ x. other x old.tree new.tree)
+    along (Ok x) case is = case x is
+    along (Err e) case is = tt
+
+pub keeps_none : (read : List FileKey) (disk : Disk) → KeepsDecent read disk disk
+keeps_none read disk = record { tells = refl; steps = λ tells all. all; failed = λ tells is. is }
+
+pub keeps_then : {read : List FileKey} {a b c : Disk} → KeepsDecent read a b → KeepsDecent read b c → KeepsDecent read a c
+keeps_then {read} {a} {b} {c} first then = record {
+  tells = then.tells ∙ first.tells;
+  steps = λ tells all. then.steps (on tells) (first.steps tells all);
+  failed = λ tells is. then.failed (on tells) (first.failed tells is);
+}
+  where
+    on : IsTrue a.tells → IsTrue b.tells
+    on tells = first.tells ∙ tells
 
 kept : (old new : Tree) (o : Option Node) → ((k : FileKey) → IsFile k o → new.bytes k ≡ old.bytes k) → bytes_of new o ≡ bytes_of old o
 kept old new None same = refl
@@ -37,39 +93,51 @@ stays old new p node bytes = record {
 pub place_is : (tree : Tree) (path p : List ℕ) → IsDraftPath path → p ≡ tree.place path → IsDraftPlace tree p
 place_is tree path p (name, is) at_path = (name, ap tree.place (sym is) ∙ sym at_path)
 
-pub creates_decent : (path : List ℕ) (key : FileKey) (old new : Tree) → IsDraftPath path → Creates path key old new → IsDecent old new
-creates_decent path key old new draft made p other = inl (stays old new p
+pub creates_decent : (read : List FileKey) (path : List ℕ) (key : FileKey) (old new : Tree) → IsDraftPath path
+    → Creates path key old new → IsDecent read old new
+creates_decent read path key old new draft made p other = inl (stays old new p
     (made.others p (λ e. other (place_is old path p draft e)))
     (λ k is. made.bytes k (λ e. made.fresh p (subst (λ (f : FileKey). IsFile f (old.node p)) e is))))
 
-pub removes_decent : (path : List ℕ) (old new : Tree) → IsDraftPath path → Removes path old new → IsDecent old new
-removes_decent path old new draft gone p other = inl (stays old new p
+-- A file was created, or something was there.
+pub may_create_decent : {H : Type 0} (read : List FileKey) (key : H → FileKey) (path : List ℕ) (made : Option H) (old new : Tree)
+    → IsDraftPath path → MayCreate key path made old new → IsDecent read old new
+may_create_decent read key path (Some file) old new draft made = creates_decent read path (key file) old new draft made
+may_create_decent read key path None old new draft made = same_decent read old new made.1
+
+pub removes_decent : (read : List FileKey) (path : List ℕ) (old new : Tree) → IsDraftPath path → Removes path old new → IsDecent read old new
+removes_decent read path old new draft gone p other = inl (stays old new p
     (gone.others p (λ e. other (place_is old path p draft e))) (λ k is. ap (λ (f : FileKey → List ℕ). f k) gone.bytes))
 
-pub appends_decent : (key : FileKey) (piece : List ℕ) (old new : Tree) → IsDraftAlone key old → Appends key piece old new → IsDecent old new
-appends_decent key piece old new alone appends p other = inl (stays old new p (ap (λ (f : List ℕ → Option Node). f p) appends.node)
+pub appends_decent : (read : List FileKey) (key : FileKey) (piece : List ℕ) (old new : Tree) → IsDraftAlone key old
+    → Appends key piece old new → IsDecent read old new
+appends_decent read key piece old new alone appends p other = inl (stays old new p (ap (λ (f : List ℕ → Option Node). f p) appends.node)
     (λ k is. appends.others k (λ e. other (alone p (subst (λ (f : FileKey). IsFile f (old.node p)) e is)))))
 
-pub sets_mode_decent : (key : FileKey) (mode : ℕ) (old new : Tree) → IsDraftAlone key old → SetsMode key mode old new → IsDecent old new
-sets_mode_decent key mode old new alone sets p other = inl (stays old new p (sets.others p (λ is. other (alone p is)))
+pub sets_mode_decent : (read : List FileKey) (key : FileKey) (mode : ℕ) (old new : Tree) → IsDraftAlone key old
+    → SetsMode key mode old new → IsDecent read old new
+sets_mode_decent read key mode old new alone sets p other = inl (stays old new p (sets.others p (λ is. other (alone p is)))
     (λ k is. ap (λ (f : FileKey → List ℕ). f k) sets.bytes))
 
-pub renames_decent : (from to : List ℕ) (old new : Tree) → IsDraftPath from → Renames from to old new → IsDecent old new
-renames_decent from to old new draft renames p other = by_test (bytes_eq p (old.place to)) refl
+pub renames_decent : (read : List FileKey) (from to : List ℕ) (old new : Tree) → IsDraftPath from → new.place ≡ old.place
+    → ((key : FileKey) → Contains read key → IsFile key (at old to) → ⊥) → Renames from to old new → IsDecent read old new
+renames_decent read from to old new draft places unread renames p other = by_test (bytes_eq p (old.place to)) refl
   where
     bytes_stay : (k : FileKey) → new.bytes k ≡ old.bytes k
     bytes_stay k = ap (λ (f : FileKey → List ℕ). f k) renames.bytes
 
     here : p ≡ old.place to → new.node p ≡ old.node (old.place from)
-    here e = ap new.node (e ∙ ap (λ (f : List ℕ → List ℕ). f to) (sym renames.place)) ∙ renames.moved
+    here e = ap new.node (e ∙ ap (λ (f : List ℕ → List ℕ). f to) (sym places)) ∙ renames.moved
 
-    by_test : (b : Bool) → bytes_eq p (old.place to) ≡ b → Stays old new p ⊎ Arrives old new p
+    by_test : (b : Bool) → bytes_eq p (old.place to) ≡ b → Stays old new p ⊎ Arrives read old new p
     by_test true e = inr (record {
       draft = old.place from;
       was = place_is old from (old.place from) draft refl;
       node = here ((bytes_eq-Decides p (old.place to)).0 e);
       bytes = ap (bytes_of new) (here ((bytes_eq-Decides p (old.place to)).0 e))
           ∙ kept old new (old.node (old.place from)) (λ k is. bytes_stay k);
+      unread = λ key among is. unread key among
+          (subst (λ (q : List ℕ). IsFile key (old.node q)) ((bytes_eq-Decides p (old.place to)).0 e) is);
     })
     by_test false e = inl (stays old new p
         (renames.others p (λ is. other (place_is old from p draft is)) (λ is. absurd (differs is e))) (λ k is. bytes_stay k))
@@ -78,15 +146,6 @@ renames_decent from to old new draft renames p other = by_test (bytes_eq p (old.
         differs is test =
             let both : true ≡ false = sym ((bytes_eq-Decides p (old.place to)).1 is) ∙ test in
             cc
-
-pub by_result : {A E : Type 0} (r : Result A E) (P : Type 0) (a b : Tree) → OnOk r P → OnErr r (b ≡ a) → (P → IsDecent a b) → IsDecent a b
-by_result (Ok x) P a b ok err then = then ok
-by_result (Err e) P a b ok err then = same_decent a b err
-
-pub by_value : {A E : Type 0} (r : Result A E) (P : A → Type 0) (a b : Tree) → IfOk r P → OnErr r (b ≡ a)
-    → ((x : A) → P x → IsDecent a b) → IsDecent a b
-by_value (Ok x) P a b ok err then = then x ok
-by_value (Err e) P a b ok err then = same_decent a b err
 
 at_place : (p place : List ℕ) → ((p ≡ place → ⊥) → ⊥) → p ≡ place
 at_place p place not_apart = by_test (bytes_eq p place) refl
@@ -101,25 +160,28 @@ at_place p place not_apart = by_test (bytes_eq p place) refl
             cc
 
 -- A new file has one name.
-pub alone_new : (path : List ℕ) (key : FileKey) (old new : Tree) → Creates path key old new → IsAlone key path new
-alone_new path key old new made p is = at_place p (old.place path)
-    (λ apart. made.fresh p (subst (λ (o : Option Node). IsFile key o) (made.others p apart) is))
-    ∙ ap (λ (f : List ℕ → List ℕ). f path) (sym made.place)
-
-pub alone_moded : (path : List ℕ) (key : FileKey) (mode : ℕ) (old new : Tree) → SetsMode key mode old new → IsAlone key path old
+alone_new : (path : List ℕ) (key : FileKey) (old new : Tree) → new.place ≡ old.place → Creates path key old new
     → IsAlone key path new
-alone_moded path key mode old new sets alone p is = at_place p (old.place path)
+alone_new path key old new places made p is = at_place p (old.place path)
+    (λ apart. made.fresh p (subst (λ (o : Option Node). IsFile key o) (made.others p apart) is))
+    ∙ ap (λ (f : List ℕ → List ℕ). f path) (sym places)
+
+alone_moded : (path : List ℕ) (key : FileKey) (mode : ℕ) (old new : Tree) → new.place ≡ old.place
+    → SetsMode key mode old new → IsAlone key path old → IsAlone key path new
+alone_moded path key mode old new places sets alone p is = at_place p (old.place path)
     (λ apart. apart (alone p (subst (λ (o : Option Node). IsFile key o) (sets.others p (λ was. apart (alone p was))) is)))
-    ∙ ap (λ (f : List ℕ → List ℕ). f path) (sym sets.place)
+    ∙ ap (λ (f : List ℕ → List ℕ). f path) (sym places)
 
-pub alone_same : (path : List ℕ) (key : FileKey) (old new : Tree) → new ≡ old → IsAlone key path old → IsAlone key path new
-alone_same path key old new same alone = subst (λ (t : Tree). IsAlone key path t) (sym same) alone
+pub alone_created : {H : Type 0} (key : H → FileKey) (path : List ℕ) (old new : Tree) (r : Result (Option H) FileFault)
+    → new.place ≡ old.place → IfOk r (λ made. MayCreate key path made old new)
+    → IfOk r (λ made. IfSome made (λ file. IsAlone (key file) path new))
+alone_created key path old new (Ok (Some file)) places made = alone_new path (key file) old new places made
+alone_created key path old new (Ok None) places made = tt
+alone_created key path old new (Err e) places made = tt
 
-pub by_result_alone : {A E : Type 0} (r : Result A E) (P : Type 0) (path : List ℕ) (key : FileKey) (a b : Tree) → OnOk r P → OnErr r (b ≡ a)
-    → (P → IsAlone key path a → IsAlone key path b) → IsAlone key path a → IsAlone key path b
-by_result_alone (Ok x) P path key a b ok err then = then ok
-by_result_alone (Err e) P path key a b ok err then = alone_same path key a b err
-
-pub by_value_fact : {A E : Type 0} (r : Result A E) (P Q : A → Type 0) → IfOk r P → ((x : A) → P x → Q x) → IfOk r Q
-by_value_fact (Ok x) P Q ok then = then x ok
-by_value_fact (Err e) P Q ok then = tt
+pub alone_set : {A : Type 0} (path : List ℕ) (key : FileKey) (mode : ℕ) (old new : Tree) (r : Result A FileFault)
+    → new.place ≡ old.place → IfOk r (λ _. SetsMode key mode old new) → OnErr r (new ≡ old) → IsAlone key path old
+    → IsAlone key path new
+alone_set path key mode old new (Ok x) places sets same = alone_moded path key mode old new places sets
+alone_set path key mode old new (Err e) places sets same =
+    subst (λ (t : Tree). IsAlone key path t) (sym same)

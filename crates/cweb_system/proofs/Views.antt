@@ -8,9 +8,9 @@ use Rattle.std.specs.Str.{bytes_eq}
 use Rattle.cweb_files.specs.Files.{put_file, without}
 use Rattle.cweb_system.specs.declared.node.FileKey.{FileKey}
 use Rattle.cweb_system.specs.declared.node.Node.{Node}
-use Rattle.cweb_system.specs.declared.drafts.WrittenFile.{WrittenFile}
+use Rattle.cweb_system.specs.declared.written.WrittenFile.{WrittenFile}
 use Rattle.cweb_system.specs.Tree.{Tree, at, bytes_of, contents, IsFile, Appends}
-use Rattle.cweb_system.specs.inner.Drafts.{FilesAreThere, IsNew, Leaves, Places}
+use Rattle.cweb_system.specs.inner.Written.{FilesAreThere, IsNew, IsUnnamed, Leaves, Places}
 use Rattle.cweb_system.specs.Folder.{file_in}
 
 -- A file that was found has the bytes of its key.
@@ -45,6 +45,23 @@ differs : (a b : List ℕ) → bytes_eq a b ≡ false → a ≡ b → ⊥
 differs a b test same =
     let e : true ≡ false = sym ((bytes_eq-Decides a b).1 same) ∙ test in
     cc
+
+apart_other : (a b : List ℕ) → (a ≡ b → ⊥) → not (bytes_eq a b) ≡ true
+apart_other a b apart = by_test (bytes_eq a b) refl
+  where
+    by_test : (t : Bool) → bytes_eq a b ≡ t → not t ≡ true
+    by_test true e = absurd (apart ((bytes_eq-Decides a b).0 e))
+    by_test false e = refl
+
+-- A filter that each element passes.
+filter_all : (p : WrittenFile → Bool) (ws : List WrittenFile) → All (λ (w : WrittenFile). p w ≡ true) ws → filter p ws ≡ ws
+filter_all p [] all = refl
+filter_all p (w ∷ ws) all = ap (λ (b : Bool). cond b (w ∷ filter p ws) (filter p ws)) (All-head (λ v. p v ≡ true) w ws all)
+    ∙ ap (λ (l : List WrittenFile). w ∷ l) (filter_all p ws (All-tail (λ v. p v ≡ true) w ws all))
+
+pub none_removed : (name : List ℕ) (ws : List WrittenFile) → IsUnnamed name ws → ws ≡ filter (is_other name) ws
+none_removed name ws unnamed = sym (filter_all (is_other name) ws
+    (λ k d within. apart_other (string_bytes (slice_index_or ws k d).name) name (unnamed k d within)))
 
 abbrev IfOther : (WrittenFile → Type 0) → List ℕ → WrittenFile → Type 0
 IfOther P name w = (string_bytes w.name ≡ name → ⊥) → P w
@@ -109,12 +126,12 @@ stands_then ws after w name old new places named is = subst (λ (l : List Writte
 
 -- Bytes of a draft leave the committed files alone.
 pub appending : (ws : List WrittenFile) (key file : FileKey) (piece : List ℕ) (old new : Tree) → IsNew key ws → file ≡ key
-    → Appends file piece old new → Leaves ws old new
-appending ws key file piece old new is_new same appends = record {
-  place = appends.place;
+    → new.place ≡ old.place → Appends file piece old new → Leaves ws old new
+appending ws key file piece old new is_new same places appends = record {
+  place = places;
   entries = λ k d within is. subst (λ (o : Option Node). IsFile (slice_index_or ws k d).key o)
       (sym ((λ i. appends.node i (new.place (string_bytes (slice_index_or ws k d).name)))
-      ∙ ap (λ (f : List ℕ → List ℕ). old.node (f (string_bytes (slice_index_or ws k d).name))) appends.place)) is;
+      ∙ ap (λ (f : List ℕ → List ℕ). old.node (f (string_bytes (slice_index_or ws k d).name))) places)) is;
   bytes = λ k d within. appends.others (slice_index_or ws k d).key (λ e. is_new k d within (e ∙ same));
 }
 

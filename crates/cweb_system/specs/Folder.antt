@@ -4,7 +4,7 @@ use Rattle.cweb_files.specs.Bins.{refusal}
 use Rattle.cweb_files.specs.Files.{File, Beside}
 use Rattle.cweb_system.specs.declared.bins.Folder.{Folder}
 use Rattle.cweb_system.specs.declared.drafts.Draft.{Draft}
-use Rattle.cweb_system.specs.declared.drafts.WrittenFile.{WrittenFile}
+use Rattle.cweb_system.specs.declared.written.WrittenFile.{WrittenFile}
 use Rattle.cweb_system.specs.declared.file_system.FileSystem.{Ghosts as FileSystem}
 use Rattle.cweb_system.specs.Tree.{Tree, contents}
 
@@ -23,11 +23,11 @@ draft_bytes tree None = []
 draft_bytes tree (Some draft) = tree.bytes draft.key
 
 abbrev pub folder_bytes : {F H : Type 0} → FileSystem F H → Folder F H → List ℕ
-folder_bytes system folder = draft_bytes (system.tree folder.fs) folder.draft
+folder_bytes system folder = draft_bytes (system.disk folder.fs).tree folder.draft
 
 abbrev pub folder_beside : {F H : Type 0} → FileSystem F H → Folder F H → Beside
 folder_beside system folder = record {
-  files = map (file_in (system.tree folder.fs)) folder.written.items;
+  files = map (file_in (system.disk folder.fs).tree) folder.files.written.items;
   draft = option_map draft_name folder.draft;
   refused = option_map refusal folder.refused;
 }

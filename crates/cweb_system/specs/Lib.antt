@@ -1,6 +1,7 @@
 pub mod inner
 pub mod Tree
 pub mod Steps
+pub mod FileSet
 pub mod Folder
 pub mod Bins
 pub mod Shelf

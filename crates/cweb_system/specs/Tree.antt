@@ -1,5 +1,5 @@
 -- The state of a file system, and what each call does to it.
-use Rattle.std.specs.Prelude.{◌≡◌, ℕ, List, [], ◌++◌, Option, Some, None, drop}
+use Rattle.std.specs.Prelude.{◌≡◌, ℕ, List, [], ◌++◌, Option, Some, None, IsSome, drop}
 use Rattle.cweb_system.specs.declared.node.FileKey.{FileKey}
 use Rattle.cweb_system.specs.declared.node.Node.{Node}
 
@@ -65,33 +65,38 @@ pub record Creates (path : List ℕ) (key : FileKey) (old new : Tree) : Type 0 w
   pub empty : new.bytes key ≡ []
   pub others : OthersStay path old new
   pub bytes : OtherBytesStay key old new
-  pub place : new.place ≡ old.place
+
+-- A file was created, or something is there already, and nothing changes.
+abbrev pub MayCreate : {H : Type 0} → (H → FileKey) → List ℕ → Option H → Tree → Tree → Type 0
+MayCreate key path (Some file) old new = Creates path (key file) old new
+MayCreate key path None old new = IsSome (at old path) × (new ≡ old)
 
 -- Bytes were appended to a file.
 pub record Appends (key : FileKey) (piece : List ℕ) (old new : Tree) : Type 0 where
   pub appended : new.bytes key ≡ old.bytes key ++ piece
   pub others : OtherBytesStay key old new
   pub node : new.node ≡ old.node
-  pub place : new.place ≡ old.place
 
 -- A file's permissions were set.
 pub record SetsMode (key : FileKey) (mode : ℕ) (old new : Tree) : Type 0 where
   pub set : (p : List ℕ) → IsFile key (old.node p) → new.node p ≡ Some (Node.File key mode)
   pub others : (p : List ℕ) → (IsFile key (old.node p) → ⊥) → new.node p ≡ old.node p
   pub bytes : new.bytes ≡ old.bytes
-  pub place : new.place ≡ old.place
 
 -- The entry under a path was removed.
 pub record Removes (path : List ℕ) (old new : Tree) : Type 0 where
   pub gone : at new path ≡ None
   pub others : OthersStay path old new
   pub bytes : new.bytes ≡ old.bytes
-  pub place : new.place ≡ old.place
 
--- The entry under `from` is now under `to` instead, in one step. What was there is gone.
+-- The entry under `from` is now under `to` instead. What was there is gone.
 pub record Renames (from to : List ℕ) (old new : Tree) : Type 0 where
   pub moved : at new to ≡ at old from
   pub gone : at new from ≡ None
   pub others : (p : List ℕ) → (p ≡ old.place from → ⊥) → (p ≡ old.place to → ⊥) → new.node p ≡ old.node p
   pub bytes : new.bytes ≡ old.bytes
-  pub place : new.place ≡ old.place
+
+-- A regular file was renamed. Two names of one file may both stay.
+abbrev pub MayRename : List ℕ → List ℕ → Tree → Tree → Type 0
+MayRename from to old new = (key : FileKey) → IsFile key (at old from) → (IsFile key (at old to) → ⊥)
+    → Renames from to old new

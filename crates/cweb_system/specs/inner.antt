@@ -4,7 +4,9 @@ pub mod Drafts
 pub mod FolderSound
 pub mod Keys
 pub mod Log
+pub mod Memory
 pub mod ShelfState
 pub mod Sound
 pub mod Streams
 pub mod Unknown
+pub mod Written

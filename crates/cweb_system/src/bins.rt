@@ -1,15 +1,15 @@
 // Files of a file system as bins.
 ghost use Rattle.std.specs.Prelude.{◌≡◌, ◌≤◌, ◌<◌, ◌+◌, ◌^◌, ◌++◌, ◌∷◌, [], None, IsTrue, IsSome, IfSome, IfOk, IfErr, OnOk, OnErr};
-ghost use Rattle.std.specs.Prelude.{length, take, vec_len, vec_capacity, false, string_bytes, filter, not};
-ghost use Rattle.std.specs.Str.{bytes_eq};
+ghost use Rattle.std.specs.Prelude.{length, take, string_bytes};
 ghost use Rattle.cweb_files.specs.Bins.{CountsFailure, CountsDeviceFailure};
-ghost use Rattle.cweb_system.specs.inner.Drafts.{FilesAreThere, HasDeviceCause, IsClearable, IsReplaceable, KeepsMode};
-ghost use Rattle.cweb_system.specs.Steps.{AreDecent};
-ghost use Rattle.cweb_system.specs.Tree.{at};
+ghost use Rattle.cweb_system.specs.FileSet.{keys_in};
+ghost use Rattle.cweb_system.specs.Tree.{IsFile, at};
+ghost use Rattle.cweb_system.specs.inner.Drafts.{HasDeviceCause, IsClearable, IsCleared, IsReplaceable, KeepsDecent};
+ghost use Rattle.cweb_system.specs.inner.Drafts.{KeepsMode};
 
-use crate::drafts::{Draft, WrittenFile, begin, discard, put_in_place, write_to};
+use crate::drafts::{Draft, begin, discard, put_in_place, write_to};
 use crate::file_system::FileSystem;
-use crate::files_read::FilesRead;
+use crate::run_files::RunFiles;
 use cweb_files::{BinFault, SinkFault};
 use std::alloc::Global;
 
@@ -18,28 +18,16 @@ use std::alloc::Global;
 pub struct Folder<F: FileSystem + Drop> {
     pub alloc: Global,
     pub fs: F,
-    /// The files that the run has read.
-    pub read: FilesRead,
-    /// The files that were committed, in that order.
-    pub written: Vec<WrittenFile>,
+    pub files: RunFiles,
     pub draft: Option<Draft<F::File>>,
     /// Why the last draft was refused.
     pub refused: Option<BinFault>,
     pub failed: u64,
 }
 
-fn remove_named(files: &mut Vec<WrittenFile>, name: &str)
-    ensures others { files.new.items
-        ≡ filter (λ file. not (bytes_eq (string_bytes file.name) name.now)) files.old.items }
-    ensures capacity { vec_capacity files.new ≡ vec_capacity files.old }
-    ensures len { vec_len files.new ≤ vec_len files.old }
-{
-    files.retain(|file| file.name.as_str() != name);
-}
-
 impl<F: FileSystem + Drop> Folder<F> {
     ghost use Rattle.cweb_system.specs.Folder.{folder_beside, folder_bytes, folder_failed};
-    ghost use Rattle.cweb_system.specs.inner.FolderSound.{IsGone, IsSound, folder_is_observable};
+    ghost use Rattle.cweb_system.specs.inner.FolderSound.{IsSound, KeepsFolder};
     ghost use Rattle.cweb_files.specs.Bins.{refused_with};
     ghost use Rattle.cweb_files.specs.Files.{committed, with_draft, without_draft};
 
@@ -48,33 +36,21 @@ impl<F: FileSystem + Drop> Folder<F> {
         requires count { folder_failed self.old + 1 < 2 ^ 64 }
         requires sound { IsSound F.FileSystem self.old }
         ensures sound { IsSound F.FileSystem self.new }
-        ensures steps { IsTrue (folder_is_observable F.FileSystem self.old) → AreDecent (F.took self.old.fs) →
-            AreDecent (F.took self.new.fs) }
-        ensures tells { folder_is_observable F.FileSystem self.new ≡ folder_is_observable F.FileSystem self.old }
+        ensures keeps { KeepsFolder F.FileSystem self.old self.new }
         ensures failed { CountsDeviceFailure (folder_failed self.old) (folder_failed self.new) result }
-        ensures begun { IsTrue (folder_is_observable F.FileSystem self.old) → OnOk result
+        ensures begun { IsTrue (F.disk self.old.fs).tells → OnOk result
             (folder_beside F.FileSystem self.new ≡ with_draft name.now (folder_beside F.FileSystem self.old)) }
-        ensures empty { IsTrue (folder_is_observable F.FileSystem self.old) → OnOk result
+        ensures empty { IsTrue (F.disk self.old.fs).tells → OnOk result
             (folder_bytes F.FileSystem self.new ≡ []) }
-        ensures err { IsTrue (folder_is_observable F.FileSystem self.old) → IfErr result (λ fault.
+        ensures err { IsTrue (F.disk self.old.fs).tells → IfErr result (λ fault.
             folder_beside F.FileSystem self.new ≡ refused_with fault (folder_beside F.FileSystem self.old)) }
-        ensures cause { IsTrue (folder_is_observable F.FileSystem self.old) → self.old.draft ≡ None →
-            IsReplaceable self.old.read.keys.keys self.old.written.items name.now
-            (at (F.tree self.old.fs) name.now) → IsClearable self.old.read.keys.keys self.old.written.items
-            (at (F.tree self.old.fs) (name.now ++ 127 ∷ [])) → HasDeviceCause (F.failed self.new.fs) result }
+        ensures cause { IsTrue (F.disk self.old.fs).tells → self.old.draft ≡ None →
+            IsReplaceable self.old.files name.now (at (F.disk self.old.fs).tree name.now) →
+            IsClearable self.old.files (at (F.disk self.old.fs).tree (name.now ++ 127 ∷ [])) →
+            HasDeviceCause (F.disk self.new.fs).failed result }
     {
         self.abandon();
-        if self.written.reserve(1).is_err() {
-            self.refused = Some(BinFault::Memory);
-            return Err(BinFault::Memory);
-        }
-        match begin(
-            self.alloc,
-            &mut self.fs,
-            name,
-            self.written.as_slice(),
-            &self.read,
-        ) {
+        match begin(self.alloc, &mut self.fs, name, &mut self.files) {
             Ok(draft) => {
                 self.draft = Some(draft);
                 self.refused = None;
@@ -97,20 +73,20 @@ impl<F: FileSystem + Drop> Folder<F> {
         requires count { folder_failed self.old + 1 < 2 ^ 64 }
         requires sound { IsSound F.FileSystem self.old }
         ensures sound { IsSound F.FileSystem self.new }
-        ensures steps { IsTrue (folder_is_observable F.FileSystem self.old) → AreDecent (F.took self.old.fs) →
-            AreDecent (F.took self.new.fs) }
-        ensures tells { folder_is_observable F.FileSystem self.new ≡ folder_is_observable F.FileSystem self.old }
+        ensures keeps { KeepsFolder F.FileSystem self.old self.new }
         ensures failed { CountsFailure (folder_failed self.old) (folder_failed self.new) result }
         ensures within { IfOk result (λ n. n ≤ length piece.now) }
         ensures some { 0 < length piece.now → IfOk result (λ n. 0 < n) }
-        ensures bytes { IsTrue (folder_is_observable F.FileSystem self.old) → IfOk result (λ n.
+        ensures bytes { IsTrue (F.disk self.old.fs).tells → IfOk result (λ n.
             folder_bytes F.FileSystem self.new ≡ folder_bytes F.FileSystem self.old ++ take n piece.now) }
-        ensures err { IsTrue (folder_is_observable F.FileSystem self.old) → OnErr result
+        ensures err { IsTrue (F.disk self.old.fs).tells → OnErr result
             (folder_bytes F.FileSystem self.new ≡ folder_bytes F.FileSystem self.old) }
-        ensures begun { IsTrue (folder_is_observable F.FileSystem self.old) → OnOk result
+        ensures begun { IsTrue (F.disk self.old.fs).tells → OnOk result
             (IsSome (folder_beside F.FileSystem self.old).draft) }
-        ensures beside { IsTrue (folder_is_observable F.FileSystem self.old) →
+        ensures beside { IsTrue (F.disk self.old.fs).tells →
             folder_beside F.FileSystem self.new ≡ folder_beside F.FileSystem self.old }
+        ensures cause { IsTrue (F.disk self.old.fs).tells → IsSome self.old.draft →
+            OnErr result (IsTrue (F.disk self.new.fs).failed) }
     {
         let Some(mut draft) = self.draft.take() else {
             self.failed += 1;
@@ -132,33 +108,36 @@ impl<F: FileSystem + Drop> Folder<F> {
         requires count { folder_failed self.old + 1 < 2 ^ 64 }
         requires sound { IsSound F.FileSystem self.old }
         ensures sound { IsSound F.FileSystem self.new }
-        ensures steps { IsTrue (folder_is_observable F.FileSystem self.old) → AreDecent (F.took self.old.fs) →
-            AreDecent (F.took self.new.fs) }
-        ensures tells { folder_is_observable F.FileSystem self.new ≡ folder_is_observable F.FileSystem self.old }
+        ensures keeps { KeepsFolder F.FileSystem self.old self.new }
         ensures failed { CountsFailure (folder_failed self.old) (folder_failed self.new) result }
         ensures device { IfErr result (λ fault. fault ≡ BinFault.Device) }
-        ensures begun { IsTrue (folder_is_observable F.FileSystem self.old) → OnOk result
+        ensures begun { IsTrue (F.disk self.old.fs).tells → OnOk result
             (IsSome (folder_beside F.FileSystem self.old).draft) }
-        ensures ok { IsTrue (folder_is_observable F.FileSystem self.old) → OnOk result
+        ensures ok { IsTrue (F.disk self.old.fs).tells → OnOk result
             (folder_beside F.FileSystem self.new
             ≡ committed (folder_beside F.FileSystem self.old) (folder_bytes F.FileSystem self.old)) }
-        ensures mode { IsTrue (folder_is_observable F.FileSystem self.old) → OnOk result
+        ensures mode { IsTrue (F.disk self.old.fs).tells → OnOk result
             (IfSome self.old.draft (λ draft. KeepsMode (string_bytes draft.name) draft.key
-            (F.tree self.old.fs) (F.tree self.new.fs))) }
-        ensures removed { IsTrue (folder_is_observable F.FileSystem self.old) →
-            IfSome self.old.draft (IsGone F.FileSystem self.new.fs) }
-        ensures err { IsTrue (folder_is_observable F.FileSystem self.old) → OnErr result
+            (F.disk self.old.fs).tree (F.disk self.new.fs).tree)) }
+        ensures removed { IsTrue (F.disk self.old.fs).tells →
+            IfSome self.old.draft (λ draft. IsCleared (string_bytes draft.path) (F.disk self.new.fs)) }
+        ensures err { IsTrue (F.disk self.old.fs).tells → OnErr result
             (folder_beside F.FileSystem self.new ≡ without_draft (folder_beside F.FileSystem self.old)) }
+        ensures cause { IsTrue (F.disk self.old.fs).tells → IfSome self.old.draft (λ draft.
+            IsReplaceable self.old.files (string_bytes draft.name)
+            (at (F.disk self.old.fs).tree (string_bytes draft.name)) →
+            (IsFile draft.key (at (F.disk self.old.fs).tree (string_bytes draft.name)) → ⊥) →
+            OnErr result (IsTrue (F.disk self.new.fs).failed)) }
     {
         let Some(draft) = self.draft.take() else {
             self.failed += 1;
             return Err(BinFault::Device);
         };
-        if put_in_place(&mut self.fs, &draft, self.written.as_slice()).is_err() {
-            discard(&mut self.fs, draft, self.written.as_slice());
+        let Ok(replaces) = put_in_place(&mut self.fs, &draft, &self.files) else {
+            discard(&mut self.fs, draft, &self.files);
             self.failed += 1;
             return Err(BinFault::Device);
-        }
+        };
         let Draft {
             name,
             path: _,
@@ -166,8 +145,7 @@ impl<F: FileSystem + Drop> Folder<F> {
             file: _,
             is_device: _,
         } = draft;
-        remove_named(&mut self.written, name.as_str());
-        self.written.push_reserved(WrittenFile { name, key });
+        self.files.put(name, key, replaces);
         Ok(())
     }
 
@@ -175,18 +153,18 @@ impl<F: FileSystem + Drop> Folder<F> {
     pub fn abandon(&mut self)
         requires sound { IsSound F.FileSystem self.old }
         ensures sound { IsSound F.FileSystem self.new }
-        ensures steps { IsTrue (folder_is_observable F.FileSystem self.old) → AreDecent (F.took self.old.fs) →
-            AreDecent (F.took self.new.fs) }
-        ensures tells { folder_is_observable F.FileSystem self.new ≡ folder_is_observable F.FileSystem self.old }
+        ensures keeps { KeepsFolder F.FileSystem self.old self.new }
         ensures failed { folder_failed self.new ≡ folder_failed self.old }
-        ensures gone { IsTrue (folder_is_observable F.FileSystem self.old) →
+        ensures gone { IsTrue (F.disk self.old.fs).tells →
             folder_beside F.FileSystem self.new ≡ without_draft (folder_beside F.FileSystem self.old) }
-        ensures removed { IsTrue (folder_is_observable F.FileSystem self.old) →
-            IfSome self.old.draft (IsGone F.FileSystem self.new.fs) }
+        ensures removed { IsTrue (F.disk self.old.fs).tells →
+            IfSome self.old.draft (λ draft. IsCleared (string_bytes draft.path) (F.disk self.new.fs)) }
         ensures idle { self.old.draft ≡ None → self.new ≡ self.old }
+        ensures files { self.new.files ≡ self.old.files }
+        ensures none { self.new.draft ≡ None }
     {
         if let Some(draft) = self.draft.take() {
-            discard(&mut self.fs, draft, self.written.as_slice());
+            discard(&mut self.fs, draft, &self.files);
         }
     }
 }

@@ -1,13 +1,14 @@
 // Bins over a file system, observable if the file system is.
+ghost use Rattle.std.specs.Prelude.{IsTrue};
+ghost use Rattle.cweb_system.specs.FileSet.{keys_in};
+ghost use Rattle.cweb_system.specs.Steps.{AreDecent};
 ghost use Rattle.cweb_system.specs.inner.FolderSound.{IsSound};
 ghost use Rattle.cweb_system.specs.inner.Sound.{IsSound_prop};
-ghost use Rattle.cweb_system.specs.Steps.{AreDecent};
-ghost use Rattle.cweb_system.specs.Tree.{Tree};
-ghost use Rattle.std.specs.Prelude.{IsTrue};
 
 use crate::bins::Folder;
+use crate::file_set::FileSet;
 use crate::file_system::FileSystem;
-use crate::files_read::FilesRead;
+use crate::run_files::RunFiles;
 use cweb_files::{BinFault, Bins, Sink, SinkFault};
 use std::alloc::Global;
 
@@ -17,17 +18,19 @@ pub struct FolderBins<F: FileSystem + Drop> {
     folder: Folder<F>,
     ghost sound: { IsSound F.FileSystem folder } by { IsSound_prop F.FileSystem folder },
     /// At each moment, each file that is no draft was the old one or a whole draft.
-    ghost steps: { ∥ (IsTrue (F.tells folder.fs) → AreDecent (F.took folder.fs)) ∥₁ },
+    ghost steps: { ∥ (IsTrue (F.disk folder.fs).tells →
+        AreDecent (keys_in folder.files.read) (F.disk folder.fs).tree (F.disk folder.fs).past) ∥₁ },
 }
 
 impl<F: FileSystem + Drop> FolderBins<F> {
     ghost use Rattle.std.specs.Prelude.{◌≡◌, [], None};
-    ghost use Rattle.cweb_system.specs.Bins.{bins_system, bins_beside, bins_bytes, bins_failed};
+    ghost use Rattle.cweb_system.specs.Bins.{bins_system, bins_beside, bins_bytes, bins_failed, bins_read};
 
     /// Bins that have committed no file. No output replaces a file in `read`.
-    pub fn new(alloc: Global, fs: F, read: FilesRead) -> Self
-        requires { IsTrue (F.tells fs) → (a b : Tree) → F.took fs a b → ⊥ }
+    pub fn new(alloc: Global, fs: F, read: FileSet) -> Self
+        requires { IsTrue (F.disk fs).tells → (F.disk fs).past ≡ [] }
         ensures system { bins_system result ≡ fs }
+        ensures read { bins_read result ≡ keys_in read }
         ensures beside { bins_beside F.FileSystem result ≡ record { files = []; draft = None; refused = None } }
         ensures bytes { bins_bytes F.FileSystem result ≡ [] }
         ensures failed { bins_failed result ≡ 0 }
@@ -36,8 +39,7 @@ impl<F: FileSystem + Drop> FolderBins<F> {
             folder: Folder {
                 alloc,
                 fs,
-                read,
-                written: Vec::new(alloc),
+                files: RunFiles::new(alloc, read),
                 draft: None,
                 refused: None,
                 failed: 0,
@@ -47,8 +49,8 @@ impl<F: FileSystem + Drop> FolderBins<F> {
 
     /// At each moment so far, each file that is no draft was the old one or a whole draft. (A law.)
     pub fn each_moment(&self)
-        ensures { ∥ (IsTrue (F.tells (bins_system self.now)) →
-            AreDecent (F.took (bins_system self.now))) ∥₁ }
+        ensures { ∥ (IsTrue (F.disk (bins_system self.now)).tells → AreDecent (bins_read self.now)
+            (F.disk (bins_system self.now)).tree (F.disk (bins_system self.now)).past) ∥₁ }
     {}
 
     /// The file system.
@@ -61,9 +63,8 @@ impl<F: FileSystem + Drop> FolderBins<F> {
 
 impl<F: FileSystem + Drop> Sink for FolderBins<F> {
     ghost use Rattle.cweb_system.specs.Folder.{folder_beside, folder_bytes, folder_failed};
-    ghost use Rattle.cweb_system.specs.inner.FolderSound.{folder_is_observable};
 
-    ghost tells = { λ b. folder_is_observable F.FileSystem b.folder };
+    ghost tells = { λ b. (F.disk b.folder.fs).tells };
 
     ghost written = { λ b. folder_bytes F.FileSystem b.folder };
 

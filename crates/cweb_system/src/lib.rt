@@ -12,15 +12,19 @@ mod streams;
 // the bins
 mod bins;
 mod drafts;
-mod files_read;
 mod folder_bins;
+
+// what a run has read and written
+mod file_set;
+mod run_files;
+mod written;
 
 // file systems: that of the system, and one in memory
 mod memory_folder;
 mod std_folder;
 
+pub use file_set::FileSet;
 pub use file_system::FileSystem;
-pub use files_read::FilesRead;
 pub use folder_bins::FolderBins;
 pub use memory_folder::{MemoryFile, MemoryFolder};
 pub use node::{FileFault, FileKey, Node};

@@ -1,34 +1,27 @@
 // A file system in memory: a log of all changes. Each prefix of the log is the state at an earlier moment.
-ghost use Rattle.std.specs.Prelude.{◌≡◌, ◌<◌, ◌≤◌, ◌+◌, ◌^◌, ◌∷◌, ◌++◌, [], None, ℕ, List, IfErr, IfOk, IfSome, OnOk, OnErr, length, string_bytes, true};
-ghost use Rattle.cweb_system.specs.inner.Log.{bytes_by, bytes_step, tree_of, node_step, IsAbove, KeysBelow, nodes_by};
-ghost use Rattle.cweb_system.specs.inner.Log.{node_with_mode};
+ghost use Rattle.std.specs.Prelude.{◌≡◌, ◌<◌, ◌≤◌, ◌+◌, ◌^◌, ◌∷◌, ◌++◌, [], None, ℕ, List, IfErr, IfOk, IfSome, OnOk, OnErr, length, string_bytes, vec_len, true, false};
+ghost use Rattle.cweb_system.specs.inner.Log.{bytes_by, tree_of, KeysBelow, nodes_by};
 ghost use Rattle.std.specs.List.{slice_get};
 
+mod log;
+
 use crate::file_system::FileSystem;
+use crate::memory_folder::log::{Change, Sought, node_after, number_after, sought_after};
 use crate::node::{FileFault, FileKey, Node};
 use std::alloc::Global;
 
 /// The permissions of a new file.
 const DEFAULT_MODE: u32 = 0o644;
 
-/// A change of the file system.
-#[derive(Drop)]
-pub enum Change {
-    Create(String, FileKey, u32),
-    /// A byte is appended.
-    Append(FileKey, u8),
-    SetMode(FileKey, u32),
-    /// This node is moved from the first path to the second.
-    Move(String, String, Node),
-    Remove(String),
-}
-
 /// A file system in memory.
 #[derive(Drop)]
 pub struct MemoryFolder {
     alloc: Global,
     log: Vec<Change>,
+    /// How many changes are older than the run.
+    begun: usize,
     failed: bool,
+    ghost begun_within: { begun ≤ vec_len log },
 }
 
 /// An open file, and how far it was read.
@@ -39,47 +32,33 @@ pub struct MemoryFile {
     position: usize,
 }
 
-/// A byte of a file, if it has that many, and the size of the file.
-#[derive(Clone, Copy)]
-struct Sought {
-    byte: Option<u8>,
-    size: usize,
-}
-
-fn with_mode(key: FileKey, mode: u32, found: Option<Node>) -> Option<Node>
-    ensures { result ≡ node_with_mode key mode found }
-{
-    match found {
-        Some(Node::File(file, _)) if file == key => Some(Node::File(file, mode)),
-        _ => found,
-    }
-}
-
-/// What lies under a path after a change.
-fn node_after(change: &Change, path: &str, found: Option<Node>) -> Option<Node>
-    ensures { result ≡ node_step change.now path.now found }
-{
-    match change {
-        Change::Create(at, key, mode) if at.as_str() == path => Some(Node::File(*key, *mode)),
-        Change::SetMode(key, mode) => with_mode(*key, *mode, found),
-        Change::Move(_, to, node) if to.as_str() == path => Some(*node),
-        Change::Move(from, _, _) if from.as_str() == path => None,
-        Change::Remove(at) if at.as_str() == path => None,
-        _ => found,
-    }
-}
-
 impl MemoryFolder {
-    ghost use Rattle.cweb_system.specs.inner.Log.{memory_failed, memory_took, memory_tree};
-    ghost use Rattle.cweb_system.specs.Steps.{NotesFailure, Takes};
+    ghost use Rattle.cweb_system.specs.inner.Memory.{memory_disk, memory_failed, memory_tree};
+    ghost use Rattle.cweb_system.specs.Steps.{NotesFailure, TakesStep};
 
     /// An empty file system.
     pub fn new(alloc: Global) -> Self
-        ensures { memory_tree result ≡ tree_of [] }
+        ensures { memory_disk result ≡ record { tells = true; tree = tree_of []; past = []; failed = false } }
     {
         MemoryFolder {
             alloc,
             log: Vec::new(alloc),
+            begun: 0,
+            failed: false,
+        }
+    }
+
+    /// The same files, as the beginning of a run.
+    pub fn begin_run(self) -> Self
+        ensures { memory_disk result
+            ≡ record { tells = true; tree = memory_tree self; past = []; failed = false } }
+    {
+        let MemoryFolder { alloc, log, .. } = self;
+        let begun = log.len();
+        MemoryFolder {
+            alloc,
+            log,
+            begun,
             failed: false,
         }
     }
@@ -124,7 +103,8 @@ impl MemoryFolder {
     /// Records a failure.
     fn failing(&mut self, fault: FileFault) -> FileFault
         ensures fault { result ≡ fault }
-        ensures log { self.new.log.items ≡ self.old.log.items }
+        ensures log { self.new.log ≡ self.old.log }
+        ensures begun { self.new.begun ≡ self.old.begun }
         ensures failed { self.new.failed ≡ true }
     {
         self.failed = true;
@@ -137,7 +117,7 @@ impl MemoryFolder {
         ensures err { OnErr result (memory_tree self.new ≡ memory_tree self.old) }
         ensures memory { IfErr result (λ fault. fault ≡ FileFault.Memory) }
         ensures failed { NotesFailure (memory_failed self.old) (memory_failed self.new) result }
-        ensures step { Takes (memory_took self.old) (memory_took self.new) (memory_tree self.old) (memory_tree self.new) }
+        ensures step { TakesStep (memory_disk self.old) (memory_disk self.new) }
     {
         if self.log.reserve(1).is_err() {
             return Err(self.failing(FileFault::Memory));
@@ -147,57 +127,12 @@ impl MemoryFolder {
     }
 }
 
-/// The byte of a file at a position, after a change.
-fn sought_after(change: &Change, key: FileKey, position: usize, sought: Sought) -> Sought
-    requires { sought.size + 1 < 2 ^ 64 }
-    ensures size { (bytes : List ℕ) → sought.size ≡ length bytes →
-        result.size ≡ length (bytes_step change.now key bytes) }
-    ensures byte { (bytes : List ℕ) → sought.size ≡ length bytes → sought.byte ≡ slice_get bytes position →
-        result.byte ≡ slice_get (bytes_step change.now key bytes) position }
-{
-    match change {
-        Change::Create(_, file, _) if *file == key => Sought {
-            byte: None,
-            size: 0,
-        },
-        Change::Append(file, byte) if *file == key => Sought {
-            byte: if sought.size == position {
-                Some(*byte)
-            } else {
-                sought.byte
-            },
-            size: sought.size + 1,
-        },
-        _ => sought,
-    }
-}
-
-/// A number above the one of a change's file, and not below `next`.
-fn number_after(change: &Change, next: u64) -> Option<u64>
-    ensures above { IfSome result (λ after. IsAbove change.now after) }
-    ensures grows { IfSome result (λ after. next ≤ after) }
-{
-    match change {
-        Change::Create(_, key, _) | Change::Move(_, _, Node::File(key, _)) => {
-            Some(key.number.checked_add(1)?.max(next))
-        }
-        _ => Some(next),
-    }
-}
-
 impl FileSystem for MemoryFolder {
-    ghost use Rattle.cweb_system.specs.inner.Log.{memory_failed, memory_took, memory_tree};
-    ghost use Rattle.cweb_system.specs.inner.Log.{handle_key, handle_name, handle_position};
+    ghost use Rattle.cweb_system.specs.inner.Memory.{memory_disk, handle_key, handle_name, handle_position};
 
     type File = MemoryFile;
 
-    ghost tells = { λ _. true };
-
-    ghost tree = { memory_tree };
-
-    ghost took = { memory_took };
-
-    ghost failed = { memory_failed };
+    ghost disk = { memory_disk };
 
     ghost key = { handle_key };
 
@@ -248,9 +183,9 @@ impl FileSystem for MemoryFolder {
         Err(FileFault::NotFound)
     }
 
-    fn create(&mut self, path: &str, mode: Option<u32>) -> Result<MemoryFile, FileFault> {
+    fn create(&mut self, path: &str, mode: Option<u32>) -> Result<Option<MemoryFile>, FileFault> {
         if self.node_at(path).is_some() {
-            return Err(FileFault::Exists);
+            return Ok(None);
         }
         let Some(number) = self.new_number() else {
             return Err(self.failing(FileFault::Other));
@@ -260,11 +195,11 @@ impl FileSystem for MemoryFolder {
         };
         let key = FileKey { device: 0, number };
         self.make(Change::Create(at, key, mode.unwrap_or(DEFAULT_MODE)))?;
-        Ok(MemoryFile {
+        Ok(Some(MemoryFile {
             key,
             name: String::new(self.alloc),
             position: 0,
-        })
+        }))
     }
 
     fn lock(&self, _file: &MemoryFile) -> Result<(), FileFault> {

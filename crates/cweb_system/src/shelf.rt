@@ -1,10 +1,12 @@
 // The files of a file system as a shelf.
-ghost use Rattle.std.specs.Prelude.{◌≡◌, [], None, IsTrue, IfOk, IfErr};
+ghost use Rattle.std.specs.Prelude.{◌≡◌, [], None, Some, IsTrue, IfOk, IfSome, MatchResult, length};
 ghost use Rattle.std.proofs.Props.{props};
-ghost use Rattle.cweb_system.specs.Tree.{IsAbsent, Opens, Tree};
+ghost use Rattle.cweb_system.specs.FileSet.{keys_in};
+ghost use Rattle.cweb_system.specs.Tree.{IsAbsent, Opens};
+ghost use Rattle.cweb_system.specs.inner.Keys.{KeepsRead, is_among};
 
+use crate::file_set::FileSet;
 use crate::file_system::FileSystem;
-use crate::files_read::FilesRead;
 use crate::folder_bins::FolderBins;
 use crate::node::FileFault;
 use cweb_files::{Shelf, ShelfFault};
@@ -15,22 +17,22 @@ use std::alloc::{AllocError, Global};
 pub struct FolderShelf<F: FileSystem + Drop> {
     fs: F,
     /// Each file that was opened, if they are recorded.
-    read: Option<FilesRead>,
+    read: Option<FileSet>,
     failed: u64,
     /// In an observable file system no read fails.
-    ghost whole: { IsTrue (F.tells fs) → failed ≡ 0 } by { Prim.hlevel props },
-    /// Reading changes nothing.
-    ghost unchanged: { IsTrue (F.tells fs) → (a b : Tree) → F.took fs a b → ⊥ } by { Prim.hlevel props },
+    ghost whole: { IsTrue (F.disk fs).tells → failed ≡ 0 } by { Prim.hlevel props },
+    /// Reading takes no step.
+    ghost unchanged: { IsTrue (F.disk fs).tells → length (F.disk fs).past ≡ 0 } by { Prim.hlevel props },
 }
 
 impl<F: FileSystem + Drop> FolderShelf<F> {
-    ghost use Rattle.cweb_system.specs.Bins.{bins_beside, bins_bytes, bins_failed, bins_system};
-    ghost use Rattle.cweb_system.specs.inner.ShelfState.{shelf_failures, shelf_system};
+    ghost use Rattle.cweb_system.specs.Bins.{bins_beside, bins_bytes, bins_failed, bins_read, bins_system};
+    ghost use Rattle.cweb_system.specs.inner.ShelfState.{shelf_failures, shelf_read, shelf_system};
 
     /// A shelf that doesn't record what it opens.
     pub fn new(fs: F) -> Self
-        requires { IsTrue (F.tells fs) → (a b : Tree) → F.took fs a b → ⊥ }
-        ensures fs { shelf_system result ≡ fs }
+        requires { IsTrue (F.disk fs).tells → (F.disk fs).past ≡ [] }
+        ensures system { shelf_system result ≡ fs }
         ensures failed { shelf_failures result ≡ 0 }
     {
         FolderShelf {
@@ -40,11 +42,12 @@ impl<F: FileSystem + Drop> FolderShelf<F> {
         }
     }
 
-    /// A shelf that records each file that it opens, so that no output of its bins replaces it.
-    pub fn noting(fs: F, read: FilesRead) -> Self
-        requires { IsTrue (F.tells fs) → (a b : Tree) → F.took fs a b → ⊥ }
-        ensures fs { shelf_system result ≡ fs }
+    /// A shelf that records each file that it opens, so that no output replaces it.
+    pub fn noting(fs: F, read: FileSet) -> Self
+        requires { IsTrue (F.disk fs).tells → (F.disk fs).past ≡ [] }
+        ensures system { shelf_system result ≡ fs }
         ensures failed { shelf_failures result ≡ 0 }
+        ensures read { shelf_read result ≡ Some (keys_in read) }
     {
         FolderShelf {
             fs,
@@ -56,6 +59,7 @@ impl<F: FileSystem + Drop> FolderShelf<F> {
     /// Bins of the file system. No output replaces a file that was recorded.
     pub fn into_bins(self, alloc: Global) -> FolderBins<F>
         ensures system { bins_system result ≡ shelf_system self }
+        ensures read { IfSome (shelf_read self) (λ keys. bins_read result ≡ keys) }
         ensures beside { bins_beside F.FileSystem result ≡ record { files = []; draft = None; refused = None } }
         ensures bytes { bins_bytes F.FileSystem result ≡ [] }
         ensures failed { bins_failed result ≡ 0 }
@@ -70,18 +74,21 @@ impl<F: FileSystem + Drop> FolderShelf<F> {
 
     /// Opens a file and records it. It is an error if the system has no identity for the file.
     fn opened(&mut self, name: &str) -> Result<F::File, FileFault>
-        ensures fs { shelf_system self.new ≡ shelf_system self.old }
+        ensures system { shelf_system self.new ≡ shelf_system self.old }
         ensures failed { shelf_failures self.new ≡ shelf_failures self.old }
-        ensures ok { IsTrue (F.tells (shelf_system self.old)) → IfOk result (λ file.
-            Opens name.now (F.key file) (F.position file) (F.opened_as file)
-            (F.tree (shelf_system self.old))) }
-        ensures err { IsTrue (F.tells (shelf_system self.old)) → IfErr result (λ fault.
-            (fault ≡ FileFault.Memory → ⊥) → IsAbsent name.now (F.tree (shelf_system self.old))) }
+        ensures opens { IsTrue (F.disk (shelf_system self.old)).tells → MatchResult result
+            (λ file. Opens name.now (F.key file) (F.position file) (F.opened_as file)
+            (F.disk (shelf_system self.old)).tree)
+            (λ fault. (fault ≡ FileFault.Memory → ⊥) →
+            IsAbsent name.now (F.disk (shelf_system self.old)).tree) }
+        ensures recorded { IsTrue (F.disk (shelf_system self.old)).tells → IfOk result (λ file.
+            IfSome (shelf_read self.new) (λ keys. IsTrue (is_among keys (F.key file)))) }
+        ensures kept { KeepsRead (shelf_read self.old) (shelf_read self.new) }
     {
         let file = self.fs.open(name)?;
         if let Some(read) = &mut self.read {
             let key = self.fs.key_of(&file)?;
-            if read.note(key).is_err() {
+            if read.insert(key).is_err() {
                 return Err(FileFault::Memory);
             }
         }
@@ -90,19 +97,21 @@ impl<F: FileSystem + Drop> FolderShelf<F> {
 }
 
 /// The files that were recorded, if any.
-fn recorded(alloc: Global, read: Option<FilesRead>) -> FilesRead {
+fn recorded(alloc: Global, read: Option<FileSet>) -> FileSet
+    ensures { IfSome read (λ set. result ≡ set) }
+{
     match read {
         Some(read) => read,
-        None => FilesRead::new(alloc),
+        None => FileSet::new(alloc),
     }
 }
 
 impl<F: FileSystem + Drop> Shelf for FolderShelf<F> {
-    ghost use Rattle.cweb_system.specs.inner.ShelfState.{shelf_failures, shelf_left, shelf_system, shelf_contents};
+    ghost use Rattle.cweb_system.specs.inner.ShelfState.{shelf_contents, shelf_failures, shelf_left, shelf_system};
 
     type R = F::File;
 
-    ghost tells = { λ s. F.tells (shelf_system s) };
+    ghost tells = { λ s. (F.disk (shelf_system s)).tells };
 
     ghost texts = { shelf_contents F.FileSystem };
 

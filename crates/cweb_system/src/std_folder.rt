@@ -1,5 +1,6 @@
 // The files of the system as a file system. Their state isn't observable in contracts.
-ghost use Rattle.std.specs.Prelude.{◌≡◌, ◌≤◌, ◌<◌, [], None, false, true, length, IfOk};
+ghost use Rattle.std.specs.Prelude.{◌≡◌, ◌≤◌, ◌<◌, ◌%◌, [], None, length, IfOk};
+ghost use Rattle.std.specs.Io.KnownBytes.{ReadConsumes, WriteAppends};
 
 use crate::file_system::FileSystem;
 use crate::node::{FileFault, FileKey, Node};
@@ -125,10 +126,17 @@ fn file_fault(error: &Error) -> FileFault {
     }
 }
 
+/// The nine permission bits of a mode.
+fn permissions(mode: u32) -> u32
+    ensures { result ≡ mode % 512 }
+{
+    mode & PERMISSIONS
+}
+
 fn node_of(found: &Metadata) -> Node {
     let key = key_of(found);
     if found.is_file() {
-        Node::File(key, found.mode() & PERMISSIONS)
+        Node::File(key, permissions(found.mode()))
     } else if found.is_dir() {
         Node::Folder(key)
     } else {
@@ -137,17 +145,11 @@ fn node_of(found: &Metadata) -> Node {
 }
 
 impl<R: Files<File: LockableFile> + Drop> FileSystem for StdFolder<R> {
-    ghost use Rattle.cweb_system.specs.inner.Unknown.{no_tree, no_key};
+    ghost use Rattle.cweb_system.specs.inner.Unknown.{no_key, unknown};
 
     type File = R::File;
 
-    ghost tells = { λ _. false };
-
-    ghost tree = { λ _. no_tree };
-
-    ghost took = { λ _ _ _. ⊥ };
-
-    ghost failed = { λ _. true };
+    ghost disk = { λ _. unknown };
 
     ghost key = { λ _. no_key };
 
@@ -194,7 +196,12 @@ impl<R: Files<File: LockableFile> + Drop> FileSystem for StdFolder<R> {
         }
     }
 
-    fn read(&self, file: &mut R::File, piece: &mut [u8]) -> Result<usize, FileFault> {
+    /// The bytes come from the file in order; none is lost or added.
+    fn read(&self, file: &mut R::File, piece: &mut [u8]) -> Result<usize, FileFault>
+        ensures within { IfOk result (λ n. n ≤ length piece.new) }
+        ensures passes { ReadConsumes (R.File.remaining file.old) (R.File.remaining file.new)
+            result piece.new }
+    {
         match read_once(file, piece) {
             Ok(n) => Ok(n),
             Err(_) => Err(FileFault::Other),
@@ -208,19 +215,28 @@ impl<R: Files<File: LockableFile> + Drop> FileSystem for StdFolder<R> {
         }
     }
 
-    fn create(&mut self, path: &str, mode: Option<u32>) -> Result<R::File, FileFault> {
+    fn create(&mut self, path: &str, mode: Option<u32>) -> Result<Option<R::File>, FileFault> {
         let mut how = OpenOptions::new();
         how.write(true).create_new(true);
         if let Some(mode) = mode {
             how.mode(mode);
         }
         match how.open(&self.files, path) {
-            Ok(file) => Ok(file),
-            Err(error) => Err(file_fault(&error)),
+            Ok(file) => Ok(Some(file)),
+            Err(error) => match file_fault(&error) {
+                FileFault::Exists => Ok(None),
+                fault => Err(fault),
+            },
         }
     }
 
-    fn write(&mut self, file: &mut R::File, piece: &[u8]) -> Result<usize, FileFault> {
+    /// The bytes go to the file in order; none is lost or added.
+    fn write(&mut self, file: &mut R::File, piece: &[u8]) -> Result<usize, FileFault>
+        ensures within { IfOk result (λ n. n ≤ length piece.now) }
+        ensures some { 0 < length piece.now → IfOk result (λ n. 0 < n) }
+        ensures passes { WriteAppends (R.File.contents file.old) (R.File.contents file.new)
+            result piece.now }
+    {
         match write_once(file, piece) {
             Ok(n) => Ok(n),
             Err(_) => Err(FileFault::Other),

@@ -1,5 +1,8 @@
 // Standard streams as sinks, and single reads and writes.
-ghost use Rattle.std.specs.Prelude.{◌≡◌, ◌≤◌, ◌<◌, ◌+◌, ◌^◌, [], false, length, IfOk};
+ghost use Rattle.std.specs.Prelude.{◌≡◌, ◌≤◌, ◌<◌, ◌+◌, ◌^◌, ◌++◌, [], false, true, length, take, IfOk, OnErr};
+ghost use Rattle.std.specs.Prelude.{IsTrue};
+ghost use Rattle.std.specs.Option.{is_some, unwrap_or};
+ghost use Rattle.std.proofs.Props.{props};
 ghost use Rattle.std.specs.Io.KnownBytes.{WriteAppends, ReadConsumes};
 ghost use Rattle.cweb_files.specs.Bins.{CountsFailure};
 
@@ -28,34 +31,61 @@ pub fn read_once<F: Read>(file: &mut F, piece: &mut [u8]) -> Result<usize, Shelf
 pub struct StdSink<W: Write + Drop> {
     stream: W,
     failed: u64,
+    /// Whether contracts know what the stream contains. It never changes.
+    is_known: bool,
+    ghost known: { IsTrue is_known → is_some (W.contents stream) ≡ true } by { Prim.hlevel props },
 }
 
 impl<W: Write + Drop> StdSink<W> {
-    ghost use Rattle.cweb_system.specs.inner.Streams.{sink_failures};
+    ghost use Rattle.cweb_system.specs.inner.Streams.{sink_bytes, sink_failures, sink_is_known};
 
-    /// A sink without failures so far.
+    /// A sink without failures so far. It isn't observable.
     pub fn new(stream: W) -> Self
-        ensures { sink_failures result ≡ 0 }
+        ensures failed { sink_failures result ≡ 0 }
+        ensures tells { sink_is_known result ≡ false }
     {
-        StdSink { stream, failed: 0 }
+        StdSink {
+            stream,
+            failed: 0,
+            is_known: false,
+        }
+    }
+
+    /// A sink over a stream whose contents are known, such as a `Vec`. It is observable.
+    pub fn observable(stream: W) -> Self
+        requires { is_some (W.contents stream) ≡ true }
+        ensures failed { sink_failures result ≡ 0 }
+        ensures tells { sink_is_known result ≡ true }
+        ensures bytes { sink_bytes W.Write result ≡ unwrap_or (W.contents stream) [] }
+    {
+        StdSink {
+            stream,
+            failed: 0,
+            is_known: true,
+        }
     }
 }
 
 impl<W: Write + Drop> Sink for StdSink<W> {
-    ghost use Rattle.cweb_system.specs.inner.Streams.{sink_failures, stream_of};
+    ghost use Rattle.cweb_system.specs.inner.Streams.{sink_bytes, sink_failures, sink_is_known, stream_of};
 
-    ghost tells = { λ _. false };
+    ghost tells = { sink_is_known };
 
-    ghost written = { λ _. [] };
+    ghost written = { sink_bytes W.Write };
 
     ghost failed = { sink_failures };
 
     /// The bytes go to the stream in order; none is lost or added.
     fn write(&mut self, piece: &[u8]) -> Result<usize, SinkFault>
         requires { sink_failures self.old + 1 < 2 ^ 64 }
+        ensures tells { sink_is_known self.new ≡ sink_is_known self.old }
         ensures failed { CountsFailure (sink_failures self.old) (sink_failures self.new) result }
         ensures within { IfOk result (λ n. n ≤ length piece.now) }
         ensures some { 0 < length piece.now → IfOk result (λ n. 0 < n) }
+        ensures bytes { IsTrue (sink_is_known self.old) → IfOk result (λ n.
+            sink_bytes W.Write self.new ≡ sink_bytes W.Write self.old ++ take n piece.now) }
+        ensures err { IsTrue (sink_is_known self.old) →
+            OnErr result (sink_bytes W.Write self.new ≡ sink_bytes W.Write self.old) }
         ensures passes { WriteAppends (W.contents (stream_of self.old))
             (W.contents (stream_of self.new)) result piece.now }
     {

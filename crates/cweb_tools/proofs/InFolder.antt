@@ -1,24 +1,21 @@
 -- What a run in a folder leaves there.
 use Rattle.cweb_tools.proofs.Common.{◌≡◌, ◌∙◌, refl, sym, ap, subst, ℕ, Bool, List, [], ◌∷◌, map, Option, None, IsTrue, World, OptionsModel, TangleCourse, IsTangleCourse, RanFreely, All-nil, All-cons, File}
-use Rattle.cweb_system.specs.declared.drafts.WrittenFile.{WrittenFile}
+use Rattle.cweb_system.specs.declared.written.WrittenFile.{WrittenFile}
 use Rattle.cweb_system.specs.declared.file_system.FileSystem.{Ghosts as FileSystem}
 use Rattle.cweb_system.specs.declared.folder_bins.FolderBins.{FolderBins}
 use Rattle.cweb_system.specs.declared.shelf.FolderShelf.{FolderShelf}
 use Rattle.cweb_system.specs.Bins.{bins_beside, bins_bytes, bins_failed, bins_system}
 use Rattle.cweb_system.specs.Folder.{file_in}
 use Rattle.cweb_system.specs.Shelf.{contents_in}
+use Rattle.cweb_system.specs.inner.ShelfState.{shelf_failures, shelf_system}
 use Rattle.cweb_system.specs.Tree.{Tree, contents}
-use Rattle.cweb_log.specs.DeviceModels.{ShelfModel, SinkModel}
+use Rattle.cweb_log.specs.DeviceModels.{Devices, ShelfModel, SinkModel}
 use Rattle.cweb_tools.specs.Course.{world_of}
 use Rattle.cweb_tools.specs.Headline.{put_files, written_files}
-use Rattle.cweb_tools.specs.InFolder.{AreIn, TanglesInFolder, bins_after, devices_before}
+use Rattle.cweb_tools.specs.InFolder.{AreIn, KeepsInFolder, bins_after, devices_before, shelf_in}
 use Rattle.cweb_tools.specs.Script.{script}
 use Rattle.cweb_tools.specs.Tangle.{TanglePromises, shown_by}
 use Rattle.cweb_tools.proofs.TanglePromisesProved.{tangled_freely}
-
--- Bins that have committed nothing.
-abbrev empty : Bool → SinkModel
-empty tells = record { tells = tells; failed = 0; bytes = []; beside = record { files = []; draft = None; refused = None } }
 
 all_in : (tree : Tree) (written : List WrittenFile) → AreIn tree (map (file_in tree) written)
 all_in tree [] = All-nil (λ (file : File). contents tree file.name ≡ file.bytes)
@@ -28,11 +25,11 @@ all_in tree (w ∷ written) = All-cons (λ (file : File). contents tree file.nam
 -- The files of the course are in the folder, if nothing failed.
 pub left_in_folder : {F H : Type 0} (system : FileSystem F H) (fs : F) (bins : FolderBins F H system) (world : World)
     (args : Option OptionsModel) (log log' : SinkModel) (status : ℕ)
-    → TanglesInFolder world args (devices_before system fs log) (bins_after system bins) log' status
-    → IsTrue (system.tells fs) → IsTrue log.tells → (course : TangleCourse) → IsTangleCourse world args course
+    → KeepsInFolder (TanglePromises world args) (devices_before system fs log) (bins_after system bins) log' status
+    → IsTrue (system.disk fs).tells → IsTrue log.tells → (course : TangleCourse) → IsTangleCourse world args course
     → RanFreely (script (shown_by args) course) (devices_before system fs log)
     (record { shelf = (devices_before system fs log).shelf; out = bins_after system bins; log = log' })
-    → AreIn (system.tree (bins_system bins)) (put_files [] (written_files (script (shown_by args) course)))
+    → AreIn (system.disk (bins_system bins)).tree (put_files [] (written_files (script (shown_by args) course)))
 left_in_folder system fs bins world args log log' status run tells logs course is free =
     let done = tangled_freely world args run.promises (tells, tells, logs) course is (record {
       shelf = run.reads tells;
@@ -41,56 +38,93 @@ left_in_folder system fs bins world args log log' status run tells logs course i
       within = free.within;
       memory = free.memory;
     }) in
-    subst (λ (files : List File). AreIn (system.tree (bins_system bins)) files) done.files
-    (all_in (system.tree (bins_system bins)) bins.folder.written.items)
-
--- A run over a shelf and bins of one file system.
-pub in_folder : {F H : Type 0} (system : FileSystem F H) (fs : F) (inputs : Option (List ℕ)) (args : Option OptionsModel)
-    (shelf shelf' : ShelfModel) (start out log log' : SinkModel) (status : ℕ)
-    → shelf ≡ (devices_before system fs log).shelf
-    → (IsTrue shelf'.tells → shelf'.failed ≡ 0)
-    → start ≡ empty shelf'.tells
-    → TanglePromises (world_of shelf.texts inputs) args (record { shelf = shelf; out = start; log = log })
-    (record { shelf = shelf'; out = out; log = log' }) status
-    → TanglesInFolder (world_of (contents_in (system.tree fs)) inputs) args (devices_before system fs log) out log' status
-in_folder system fs inputs args shelf shelf' start out log log' status shelf_is whole start_is run =
-    subst (λ (s : ShelfModel). TanglesInFolder (world_of s.texts inputs) args
-    (record { shelf = s; out = empty s.tells; log = log }) out log' status) shelf_is
-    (record {
-      shelf = shelf';
-      reads = λ tells. whole (run.shelf_tells ∙ tells) ∙ sym (ap (λ (s : ShelfModel). s.failed) shelf_is);
-      promises = subst (λ (m : SinkModel). TanglePromises (world_of shelf.texts inputs) args
-          (record { shelf = shelf; out = m; log = log }) (record { shelf = shelf'; out = out; log = log' }) status)
-          (start_is ∙ ap empty run.shelf_tells) run;
-    })
+    subst (λ (files : List File). AreIn (system.disk (bins_system bins)).tree files) done.files
+    (all_in (system.disk (bins_system bins)).tree bins.folder.files.written.items)
 
 -- The model of a shelf over a file system.
 abbrev pub shelf_seen : {F H : Type 0} (system : FileSystem F H) → FolderShelf F H system → ShelfModel
 shelf_seen system shelf = record {
-  tells = system.tells shelf.fs;
+  tells = (system.disk shelf.fs).tells;
   failed = shelf.failed;
-  texts = contents_in (system.tree shelf.fs);
+  texts = contents_in (system.disk shelf.fs).tree;
   blamed = [];
 }
 
-pub run_in_folder : {F H : Type 0} (system : FileSystem F H) (fs : F) (inputs : Option (List ℕ)) (args : Option OptionsModel)
-    (shelf shelf' : FolderShelf F H system) (bins : FolderBins F H system) (out log log' : SinkModel) (status : ℕ)
-    → shelf.fs ≡ fs → shelf.failed ≡ 0 → bins_system bins ≡ shelf'.fs → bins_failed bins ≡ 0 → bins_bytes system bins ≡ []
+-- A new shelf over a file system.
+pub begins_in : {F H : Type 0} (system : FileSystem F H) (fs : F) (shelf : FolderShelf F H system) → shelf_system shelf ≡ fs
+    → shelf_failures shelf ≡ 0 → shelf_seen system shelf ≡ shelf_in system fs
+begins_in system fs shelf same zero = λ i. record {
+  tells = (system.disk (same i)).tells;
+  failed = zero i;
+  texts = contents_in (system.disk (same i)).tree;
+  blamed = [];
+}
+
+-- A run over a new shelf runs in the folder.
+pub runs_in : {F H : Type 0} (system : FileSystem F H) (fs : F) (Promises : World → Devices → Devices → ℕ → Type 0)
+    (inputs : Option (List ℕ)) (shelf shelf' : FolderShelf F H system) (out out' log log' : SinkModel) (status : ℕ)
+    → shelf_system shelf ≡ fs → shelf_failures shelf ≡ 0
+    → (shelf_seen system shelf').tells ≡ (shelf_seen system shelf).tells
+    → Promises (world_of (shelf_seen system shelf).texts inputs) (record { shelf = shelf_seen system shelf; out = out; log = log })
+    (record { shelf = shelf_seen system shelf'; out = out'; log = log' }) status
+    → KeepsInFolder (Promises (world_of (contents_in (system.disk fs).tree) inputs))
+    (record { shelf = shelf_in system fs; out = out; log = log }) out' log' status
+runs_in system fs Promises inputs shelf shelf' out out' log log' status same zero stays run =
+    subst (λ (s : ShelfModel). KeepsInFolder (Promises (world_of s.texts inputs)) (record { shelf = s; out = out; log = log }) out' log' status)
+    (begins_in system fs shelf same zero)
+    (record {
+      shelf = shelf_seen system shelf';
+      reads = λ tells. shelf'.whole (stays ∙ tells) ∙ sym zero;
+      promises = run;
+    })
+
+-- New bins over a file system.
+pub bins_in : {F H : Type 0} (system : FileSystem F H) (fs : F) (log : SinkModel) (bins : FolderBins F H system)
+    → bins_system bins ≡ fs → bins_failed bins ≡ 0 → bins_bytes system bins ≡ []
     → bins_beside system bins ≡ record { files = []; draft = None; refused = None }
-    → TanglePromises (world_of (contents_in (system.tree shelf.fs)) inputs) args
+    → bins_after system bins ≡ (devices_before system fs log).out
+bins_in system fs log bins of none no_bytes beside = λ i. record {
+  tells = (system.disk (of i)).tells;
+  failed = none i;
+  bytes = no_bytes i;
+  beside = beside i;
+}
+
+-- A run of `ctangle` that ends before it reads.
+pub unread_in : {F H : Type 0} (system : FileSystem F H) (fs : F) (inputs : Option (List ℕ)) (args : Option OptionsModel)
+    (out log log' : SinkModel) (status : ℕ) → out ≡ (devices_before system fs log).out
+    → TanglePromises (world_of (contents_in (system.disk fs).tree) inputs) args (record { shelf = shelf_in system fs; out = out; log = log })
+    (record { shelf = shelf_in system fs; out = out; log = log' }) status
+    → KeepsInFolder (TanglePromises (world_of (contents_in (system.disk fs).tree) inputs) args) (devices_before system fs log) out log' status
+unread_in system fs inputs args out log log' status is run =
+    subst (λ (m : SinkModel). KeepsInFolder (TanglePromises (world_of (contents_in (system.disk fs).tree) inputs) args)
+    (record { shelf = shelf_in system fs; out = m; log = log }) out log' status) is
+    (record { shelf = shelf_in system fs; reads = λ tells. refl; promises = run })
+
+-- Bins that have committed nothing.
+abbrev empty : Bool → SinkModel
+empty tells = record { tells = tells; failed = 0; bytes = []; beside = record { files = []; draft = None; refused = None } }
+
+-- A run of `ctangle` over a new shelf, whose bins take over the file system from the shelf.
+pub tangles_in : {F H : Type 0} (system : FileSystem F H) (fs : F) (inputs : Option (List ℕ)) (args : Option OptionsModel)
+    (shelf shelf' : FolderShelf F H system) (bins : FolderBins F H system) (out log log' : SinkModel) (status : ℕ)
+    → shelf_system shelf ≡ fs → shelf_failures shelf ≡ 0 → bins_system bins ≡ shelf_system shelf' → bins_failed bins ≡ 0
+    → bins_bytes system bins ≡ [] → bins_beside system bins ≡ record { files = []; draft = None; refused = None }
+    → TanglePromises (world_of (shelf_seen system shelf).texts inputs) args
     (record { shelf = shelf_seen system shelf; out = bins_after system bins; log = log })
     (record { shelf = shelf_seen system shelf'; out = out; log = log' }) status
-    → TanglesInFolder (world_of (contents_in (system.tree fs)) inputs) args (devices_before system fs log) out log' status
-run_in_folder system fs inputs args shelf shelf' bins out log log' status same zero of none no_bytes beside run =
-    in_folder system fs inputs args (shelf_seen system shelf) (shelf_seen system shelf') (bins_after system bins) out log log'
-    status (λ i. record {
-      tells = system.tells (same i);
-      failed = zero i;
-      texts = contents_in (system.tree (same i));
-      blamed = [];
-    }) shelf'.whole (λ i. record {
-      tells = system.tells (of i);
+    → KeepsInFolder (TanglePromises (world_of (contents_in (system.disk fs).tree) inputs) args) (devices_before system fs log) out log'
+    status
+tangles_in {F = F} system fs inputs args shelf shelf' bins out log log' status same zero of none no_bytes beside run =
+    subst (λ (m : SinkModel). KeepsInFolder (TanglePromises (world_of (contents_in (system.disk fs).tree) inputs) args)
+    (record { shelf = shelf_in system fs; out = m; log = log }) out log' status) begun
+    (runs_in system fs (λ world. TanglePromises world args) inputs shelf shelf' (bins_after system bins) out log log' status same
+    zero run.shelf_tells run)
+  where
+    begun : bins_after system bins ≡ (devices_before system fs log).out
+    begun = (λ i. record {
+      tells = (system.disk (of i)).tells;
       failed = none i;
       bytes = no_bytes i;
       beside = beside i;
-    }) run
+    }) ∙ ap empty (run.shelf_tells ∙ ap (λ (f : F). (system.disk f).tells) same)

@@ -1,22 +1,28 @@
--- A run of `ctangle` in a folder.
-use Rattle.std.specs.Prelude.{◌≡◌, ℕ, List, [], Option, None, IsTrue, All}
+-- Runs in a folder.
+use Rattle.std.specs.Prelude.{◌≡◌, ℕ, List, [], None, IsTrue, All}
 use Rattle.cweb_files.specs.Files.{File}
-use Rattle.cweb_input.specs.Include.{World}
 use Rattle.cweb_system.specs.declared.file_system.FileSystem.{Ghosts as FileSystem}
 use Rattle.cweb_system.specs.declared.folder_bins.FolderBins.{FolderBins}
 use Rattle.cweb_system.specs.Bins.{bins_beside, bins_bytes, bins_failed, bins_system}
 use Rattle.cweb_system.specs.Shelf.{contents_in}
 use Rattle.cweb_system.specs.Tree.{Tree, contents}
-use Rattle.cweb_log.specs.CommandLine.{OptionsModel}
 use Rattle.cweb_log.specs.DeviceModels.{Devices, ShelfModel, SinkModel}
-use Rattle.cweb_tools.specs.Tangle.{TanglePromises}
 
--- The devices before a run: the files of a folder, and bins that have committed none.
+-- The files of a folder, before a run.
+abbrev pub shelf_in : {F H : Type 0} → FileSystem F H → F → ShelfModel
+shelf_in system fs = record {
+  tells = (system.disk fs).tells;
+  failed = 0;
+  texts = contents_in (system.disk fs).tree;
+  blamed = [];
+}
+
+-- The devices before a run of `ctangle`: the files of a folder, and bins that have committed none.
 abbrev pub devices_before : {F H : Type 0} → FileSystem F H → F → SinkModel → Devices
 devices_before system fs log = record {
-  shelf = record { tells = system.tells fs; failed = 0; texts = contents_in (system.tree fs); blamed = [] };
+  shelf = shelf_in system fs;
   out = record {
-    tells = system.tells fs;
+    tells = (system.disk fs).tells;
     failed = 0;
     bytes = [];
     beside = record { files = []; draft = None; refused = None };
@@ -27,18 +33,18 @@ devices_before system fs log = record {
 -- The model of bins after a run.
 abbrev pub bins_after : {F H : Type 0} (system : FileSystem F H) → FolderBins F H system → SinkModel
 bins_after system bins = record {
-  tells = system.tells (bins_system bins);
+  tells = (system.disk (bins_system bins)).tells;
   failed = bins_failed bins;
   bytes = bins_bytes system bins;
   beside = bins_beside system bins;
 }
 
--- A run keeps the promises of `ctangle`. No file was read in vain, if the file system is observable.
-pub record TanglesInFolder (world : World) (args : Option OptionsModel) (before : Devices) (out log : SinkModel)
-    (status : ℕ) : Type 0 where
+-- A run in a folder keeps these promises. If the file system is observable, no read failed.
+pub record KeepsInFolder (Promises : Devices → Devices → ℕ → Type 0) (before : Devices) (out log : SinkModel) (status : ℕ)
+    : Type 0 where
   pub shelf : ShelfModel
   pub reads : IsTrue before.shelf.tells → shelf.failed ≡ before.shelf.failed
-  pub promises : TanglePromises world args before (record { shelf = shelf; out = out; log = log }) status
+  pub promises : Promises before (record { shelf = shelf; out = out; log = log }) status
 
 -- Each file has its bytes under its name.
 abbrev pub AreIn : Tree → List File → Type 0

@@ -1,25 +1,28 @@
-// A run of `ctangle` in a folder.
+// Runs in a folder.
 ghost use Rattle.std.specs.Prelude.{◌≡◌, ◌<◌, ◌+◌, ◌^◌, IsTrue, [], map};
 ghost use Rattle.std.specs.Option.{option_copied};
-ghost use Rattle.cweb_system.specs.Bins.{bins_system};
+ghost use Rattle.cweb_system.specs.Bins.{bins_read, bins_system};
 ghost use Rattle.cweb_system.specs.Shelf.{contents_in};
 ghost use Rattle.cweb_system.specs.Steps.{AreDecent};
-ghost use Rattle.cweb_system.specs.Tree.{Tree};
-ghost use Rattle.cweb_log.specs.CommandLine.{options_by};
+ghost use Rattle.cweb_log.specs.CommandLine.{options_by, web_names_by};
 ghost use Rattle.cweb_log.specs.DeviceModels.{sink_model};
 ghost use Rattle.cweb_tools.specs.Course.{world_of};
+ghost use Rattle.cweb_tools.specs.Depend.{DependPromises, DependsFreely, targets_by};
 ghost use Rattle.cweb_tools.specs.Headline.{RanFreely, put_files, written_files};
-ghost use Rattle.cweb_tools.specs.InFolder.{AreIn, TanglesInFolder, bins_after, devices_before};
+ghost use Rattle.cweb_tools.specs.InFolder.{AreIn, KeepsInFolder, bins_after, devices_before, shelf_in};
+ghost use Rattle.cweb_tools.specs.MergeActs.{MergePromises, MergesFreely};
 ghost use Rattle.cweb_tools.specs.Script.{TangleCourse, script};
-ghost use Rattle.cweb_tools.specs.Tangle.{IsTangleCourse, shown_by};
+ghost use Rattle.cweb_tools.specs.Tangle.{IsTangleCourse, TanglePromises, shown_by};
 
 use crate::saying::say_banner;
 use crate::scanning::scan_web;
 use crate::tangle::{USAGE, tangle_web};
+use crate::wdep::run_wdep;
 use crate::web::Web;
+use crate::wmerge::run_wmerge;
 use cweb_lines::Sink;
 use cweb_log::{Options, log_stop};
-use cweb_system::{FileSystem, FilesRead, FolderBins, FolderShelf};
+use cweb_system::{FileSet, FileSystem, FolderBins, FolderShelf};
 use std::alloc::Global;
 
 /// Runs `ctangle` in a folder: reads the web from it, and writes the outputs to it. Returns the status, and the bins that
@@ -31,37 +34,41 @@ pub fn tangle_in_folder<F: FileSystem + Drop, L: Sink>(
     fs: F,
     log: &mut L,
 ) -> (u8, FolderBins<F>)
-    requires begun { IsTrue (F.tells fs) → (a b : Tree) → F.took fs a b → ⊥ }
+    requires begun { IsTrue (F.disk fs).tells → (F.disk fs).past ≡ [] }
     requires count { L.failed log.old + 1 < 2 ^ 64 }
     // If nothing failed, the folder has the files of the course, with their bytes.
     ensures files { let before = devices_before F.FileSystem fs (sink_model L.Sink log.old) in
         let args = options_by (map (λ word. word.now) words.now) in
-        let world = world_of (contents_in (F.tree fs)) (option_copied inputs.entry) in
-        IsTrue (F.tells fs) → IsTrue (L.tells log.old) →
+        let world = world_of (contents_in (F.disk fs).tree) (option_copied inputs.entry) in
+        IsTrue (F.disk fs).tells → IsTrue (L.tells log.old) →
         (course : TangleCourse) → IsTangleCourse world args course →
         RanFreely (script (shown_by args) course) before (record before {
           out = bins_after F.FileSystem result.1;
           log = sink_model L.Sink log.new;
         }) →
-        AreIn (F.tree (bins_system result.1))
+        AreIn (F.disk (bins_system result.1)).tree
         (put_files [] (written_files (script (shown_by args) course))) }
-    // In any run, at each moment, each file that is no draft is the old one or a whole new one.
-    ensures moments { ∥ (IsTrue (F.tells (bins_system result.1)) →
-        AreDecent (F.took (bins_system result.1))) ∥₁ }
+    // In any run, at each moment, each file that is no draft is the old one or a whole new one, and no file that was
+    // read is replaced.
+    ensures moments { ∥ (IsTrue (F.disk (bins_system result.1)).tells → AreDecent (bins_read result.1)
+        (F.disk (bins_system result.1)).tree (F.disk (bins_system result.1)).past) ∥₁ }
     ensures promises { let args = options_by (map (λ word. word.now) words.now) in
-        let world = world_of (contents_in (F.tree fs)) (option_copied inputs.entry) in
-        TanglesInFolder world args
+        let world = world_of (contents_in (F.disk fs).tree) (option_copied inputs.entry) in
+        KeepsInFolder (TanglePromises world args)
         (devices_before F.FileSystem fs (sink_model L.Sink log.old))
         (bins_after F.FileSystem result.1) (sink_model L.Sink log.new) result.0 }
 {
-    let mut shelf = FolderShelf::noting(fs, FilesRead::new(alloc));
     let options = match Options::read(alloc, words) {
         Ok(options) => options,
-        Err(stop) => return (log_stop(log, stop, USAGE), shelf.into_bins(alloc)),
+        Err(stop) => {
+            let status = log_stop(log, stop, USAGE);
+            return (status, FolderBins::new(alloc, fs, FileSet::new(alloc)));
+        }
     };
     if let Err(_) = say_banner(options.banner, log) {
-        return (1, shelf.into_bins(alloc));
+        return (1, FolderBins::new(alloc, fs, FileSet::new(alloc)));
     }
+    let mut shelf = FolderShelf::noting(fs, FileSet::new(alloc));
     match scan_web(alloc, &options, inputs, &mut shelf, log) {
         Ok((merger, scanned)) => {
             let web = Web::of(&merger, &scanned);
@@ -78,4 +85,59 @@ pub fn tangle_in_folder<F: FileSystem + Drop, L: Sink>(
         }
         Err(status) => (status, shelf.into_bins(alloc)),
     }
+}
+
+/// Runs `wmerge` on the files of a folder. Returns the status.
+pub fn merge_in_folder<F: FileSystem + Drop, W: Sink, L: Sink>(
+    alloc: Global,
+    words: &[&str],
+    inputs: Option<&str>,
+    fs: F,
+    out: &mut W,
+    log: &mut L,
+) -> u8
+    requires begun { IsTrue (F.disk fs).tells → (F.disk fs).past ≡ [] }
+    requires out_count { W.failed out.old + 1 < 2 ^ 64 }
+    requires log_count { L.failed log.old + 1 < 2 ^ 64 }
+    ensures promises { let args = web_names_by (map (λ word. word.now) words.now) in
+        let world = world_of (contents_in (F.disk fs).tree) (option_copied inputs.entry) in
+        KeepsInFolder (λ before after status.
+        MergePromises world args before after status × MergesFreely world args before after status)
+        (record {
+          shelf = shelf_in F.FileSystem fs;
+          out = sink_model W.Sink out.old;
+          log = sink_model L.Sink log.old;
+        })
+        (sink_model W.Sink out.new) (sink_model L.Sink log.new) result }
+{
+    let mut shelf = FolderShelf::new(fs);
+    run_wmerge(alloc, words, inputs, &mut shelf, out, log)
+}
+
+/// Runs `wdep` on the files of a folder. Returns the status.
+pub fn depend_in_folder<F: FileSystem + Drop, W: Sink, L: Sink>(
+    alloc: Global,
+    words: &[&str],
+    inputs: Option<&str>,
+    fs: F,
+    out: &mut W,
+    log: &mut L,
+) -> u8
+    requires begun { IsTrue (F.disk fs).tells → (F.disk fs).past ≡ [] }
+    requires out_count { W.failed out.old + 1 < 2 ^ 64 }
+    requires log_count { L.failed log.old + 1 < 2 ^ 64 }
+    ensures promises { let args = options_by (map (λ word. word.now) words.now) in
+        let world = world_of (contents_in (F.disk fs).tree) (option_copied inputs.entry) in
+        let targets = targets_by (map (λ word. word.now) words.now) in
+        KeepsInFolder (λ before after status. DependPromises world targets args before after status
+        × DependsFreely world targets args before after status)
+        (record {
+          shelf = shelf_in F.FileSystem fs;
+          out = sink_model W.Sink out.old;
+          log = sink_model L.Sink log.old;
+        })
+        (sink_model W.Sink out.new) (sink_model L.Sink log.new) result }
+{
+    let mut shelf = FolderShelf::new(fs);
+    run_wdep(alloc, words, inputs, &mut shelf, out, log)
 }

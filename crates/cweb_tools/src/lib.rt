@@ -33,11 +33,11 @@ pub use cweb_log::{
     write_stop, write_writing,
 };
 pub use cweb_system::{
-    FileSystem, FilesRead, FolderBins, FolderShelf, LockableFile, MemoryFolder, StdFolder, StdSink,
+    FileSet, FileSystem, FolderBins, FolderShelf, LockableFile, MemoryFolder, StdFolder, StdSink,
     read_once,
 };
 pub use environment::{Environment, ProgramEnvironment};
-pub use in_folder::tangle_in_folder;
+pub use in_folder::{depend_in_folder, merge_in_folder, tangle_in_folder};
 pub use program::{as_slices, out_of_memory, read_args, read_inputs};
 pub use tangle::run_ctangle;
 pub use wdep::run_wdep;

@@ -2,12 +2,11 @@
 //! `wdep [options] webfile[.w] [{changefile[.ch]|-} [outfile[.c]]]`.
 #![tactic(auto)]
 
-ghost use Rattle.std.specs.Prelude.{IsTrue};
-ghost use Rattle.cweb_system.specs.Tree.{Tree};
+ghost use Rattle.std.specs.Prelude.{◌≡◌, [], IsTrue};
 
 use cweb_tools::{
-    FileSystem, FolderShelf, ProgramEnvironment, StdFolder, StdSink, about_wdep, as_slices,
-    out_of_memory, read_args, read_inputs, run_wdep, write_about,
+    FileSystem, ProgramEnvironment, StdFolder, StdSink, about_wdep, as_slices, depend_in_folder,
+    out_of_memory, read_args, read_inputs, write_about,
 };
 use std::io::Write;
 use std::process::ExitCode;
@@ -29,7 +28,7 @@ fn depend<R: Env + AllocGlobal, F: FileSystem + Drop, W: Write + Drop, L: Write 
     out: W,
     log: L,
 ) -> u8
-    requires { IsTrue (F.tells fs) → (a b : Tree) → F.took fs a b → ⊥ }
+    requires { IsTrue (F.disk fs).tells → (F.disk fs).past ≡ [] }
 {
     let mut log = StdSink::new(log);
     let env = ProgramEnvironment { runtime: rt };
@@ -47,6 +46,5 @@ fn depend<R: Env + AllocGlobal, F: FileSystem + Drop, W: Write + Drop, L: Write 
     if let Some(text) = about_wdep(&words) {
         return write_about(text, &mut out, &mut log);
     }
-    let mut shelf = FolderShelf::new(fs);
-    run_wdep(rt.alloc(), &words, inputs, &mut shelf, &mut out, &mut log)
+    depend_in_folder(rt.alloc(), &words, inputs, fs, &mut out, &mut log)
 }

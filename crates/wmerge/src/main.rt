@@ -1,12 +1,11 @@
 //! `wmerge` prints the merged lines of a web, with a change file's changes: `wmerge webfile[.w] [{changefile[.ch]|-}]`.
 #![tactic(auto)]
 
-ghost use Rattle.std.specs.Prelude.{IsTrue};
-ghost use Rattle.cweb_system.specs.Tree.{Tree};
+ghost use Rattle.std.specs.Prelude.{◌≡◌, [], IsTrue};
 
 use cweb_tools::{
-    FileSystem, FolderShelf, ProgramEnvironment, StdFolder, StdSink, as_slices, out_of_memory,
-    read_args, read_inputs, run_wmerge,
+    FileSystem, ProgramEnvironment, StdFolder, StdSink, as_slices, merge_in_folder, out_of_memory,
+    read_args, read_inputs,
 };
 use std::io::Write;
 use std::process::ExitCode;
@@ -28,7 +27,7 @@ fn merge<R: Env + AllocGlobal, F: FileSystem + Drop, W: Write + Drop, L: Write +
     out: W,
     log: L,
 ) -> u8
-    requires { IsTrue (F.tells fs) → (a b : Tree) → F.took fs a b → ⊥ }
+    requires { IsTrue (F.disk fs).tells → (F.disk fs).past ≡ [] }
 {
     let mut log = StdSink::new(log);
     let env = ProgramEnvironment { runtime: rt };
@@ -42,7 +41,6 @@ fn merge<R: Env + AllocGlobal, F: FileSystem + Drop, W: Write + Drop, L: Write +
         return out_of_memory(&mut log);
     };
     let inputs = inputs.as_ref().map(|folder| folder.as_str());
-    let mut shelf = FolderShelf::new(fs);
     let mut out = StdSink::new(out);
-    run_wmerge(rt.alloc(), &words, inputs, &mut shelf, &mut out, &mut log)
+    merge_in_folder(rt.alloc(), &words, inputs, fs, &mut out, &mut log)
 }

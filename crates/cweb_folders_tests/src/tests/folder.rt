@@ -3,7 +3,7 @@ use super::puts::*;
 use super::runs::tangle_twice;
 use super::wanted::holds;
 use cweb_out::Bins;
-use cweb_tools::{FilesRead, FolderBins, LockableFile, StdFolder};
+use cweb_tools::{FileSet, FolderBins, LockableFile, StdFolder};
 use std::process::Abort;
 use std::rt::{Env, Files};
 use std::{env, fs};
@@ -90,7 +90,7 @@ fn run_once(
 
 fn new_bins(host: &HostRuntime) -> FolderBins<StdFolder<&HostRuntime>> {
     let fs = StdFolder::with_streams(host.alloc(), host);
-    FolderBins::new(host.alloc(), fs, FilesRead::new(host.alloc()))
+    FolderBins::new(host.alloc(), fs, FileSet::new(host.alloc()))
 }
 
 fn run<B: Bins>(

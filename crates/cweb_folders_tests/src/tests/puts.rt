@@ -2,7 +2,7 @@
 use super::wanted::*;
 use cweb_lines::{Shelf, Sink, write_all};
 use cweb_out::{BinFault, Bins};
-use cweb_tools::{FilesRead, FolderShelf, LockableFile, StdFolder};
+use cweb_tools::{FileSet, FolderShelf, LockableFile, StdFolder};
 use std::fs;
 use std::os::unix::fs::PermissionsExt;
 use std::process::Abort;
@@ -180,7 +180,7 @@ fn written(rt: &(impl Abort + Files + AllocGlobal), folder: &str, name: &str) ->
 /// A shelf that records what it opens.
 fn noting_shelf(host: &HostRuntime) -> FolderShelf<StdFolder<&HostRuntime>> {
     let fs = StdFolder::with_streams(host.alloc(), host);
-    FolderShelf::noting(fs, FilesRead::new(host.alloc()))
+    FolderShelf::noting(fs, FileSet::new(host.alloc()))
 }
 
 /// A file that was read is not replaced.

@@ -1,12 +1,10 @@
 -- The state of a file system in memory, from its log.
-use Rattle.std.specs.Prelude.{◌≡◌, ◌<◌, ◌&&◌, ℕ, Bool, List, [], ◌∷◌, ◌++◌, Option, Some, None, if◌then◌else◌, nat_eq, string_bytes, ⊤, ◌+◌, length, take}
+use Rattle.std.specs.Prelude.{◌<◌, ◌&&◌, ℕ, Bool, List, [], ◌∷◌, ◌++◌, Option, Some, None, if◌then◌else◌, nat_eq, string_bytes, ⊤}
 use Rattle.std.specs.Str.{bytes_eq}
 use Rattle.cweb_system.specs.declared.node.FileKey.{FileKey}
 use Rattle.cweb_system.specs.declared.node.Node.{Node}
-use Rattle.cweb_system.specs.declared.memory_folder.Change.{Change}
-use Rattle.cweb_system.specs.declared.memory_folder.Change.TheVariants.{Create, Append, SetMode, Move, Remove}
-use Rattle.cweb_system.specs.declared.memory_folder.MemoryFolder.{MemoryFolder}
-use Rattle.cweb_system.specs.declared.memory_folder.MemoryFile.{MemoryFile}
+use Rattle.cweb_system.specs.declared.memory_folder.log.Change.{Change}
+use Rattle.cweb_system.specs.declared.memory_folder.log.Change.TheVariants.{Create, Append, SetMode, Move, Remove}
 use Rattle.cweb_system.specs.Tree.{Tree, IsFile}
 
 abbrev pub key_eq : FileKey → FileKey → Bool
@@ -48,15 +46,6 @@ file_key found = None
 abbrev pub tree_of : List Change → Tree
 tree_of log = record { place = λ p. p; node = λ p. nodes_by log p None; target = λ p. file_key (nodes_by log p None); bytes = λ k. bytes_by log k [] }
 
-abbrev pub memory_tree : MemoryFolder → Tree
-memory_tree folder = tree_of folder.log.items
-
-abbrev pub memory_failed : MemoryFolder → Bool
-memory_failed folder = folder.failed
-
-abbrev pub handle_key : MemoryFile → FileKey
-handle_key handle = handle.key
-
 -- The number of each file is below this one.
 abbrev pub KeysBelow : ℕ → List Change → Type 0
 KeysBelow next log = (p : List ℕ) (key : FileKey) → IsFile key (nodes_by log p None) → key.number < next
@@ -67,15 +56,7 @@ IsAbove (Create at key mode) next = key.number < next
 IsAbove (Move from to (Node.File key mode)) next = key.number < next
 IsAbove _ next = ⊤
 
--- The steps of a log: from each prefix to the next.
-abbrev pub took_by : List Change → Tree → Tree → Type 0
-took_by log a b = (n : ℕ) × (n < length log) × (a ≡ tree_of (take n log)) × (b ≡ tree_of (take (n + 1) log))
-
-abbrev pub memory_took : MemoryFolder → Tree → Tree → Type 0
-memory_took folder = took_by folder.log.items
-
-abbrev pub handle_position : MemoryFile → ℕ
-handle_position handle = handle.position
-
-abbrev pub handle_name : MemoryFile → List ℕ
-handle_name handle = string_bytes handle.name
+-- The states before each change of a log that follows `base`, the latest first.
+abbrev pub past_by : List Change → List Change → List Tree
+past_by base [] = []
+past_by base (c ∷ log) = past_by (base ++ c ∷ []) log ++ tree_of base ∷ []

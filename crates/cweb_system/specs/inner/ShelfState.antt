@@ -1,7 +1,9 @@
--- What a shelf over a file system has.
-use Rattle.std.specs.Prelude.{ℕ, List, Option}
-use Rattle.cweb_system.specs.declared.shelf.FolderShelf.{FolderShelf}
+-- A shelf over a file system.
+use Rattle.std.specs.Prelude.{ℕ, List, Option, option_map}
 use Rattle.cweb_system.specs.declared.file_system.FileSystem.{Ghosts as FileSystem}
+use Rattle.cweb_system.specs.declared.node.FileKey.{FileKey}
+use Rattle.cweb_system.specs.declared.shelf.FolderShelf.{FolderShelf}
+use Rattle.cweb_system.specs.FileSet.{keys_in}
 use Rattle.cweb_system.specs.Shelf.{contents_in}
 use Rattle.cweb_system.specs.Tree.{rest}
 
@@ -11,8 +13,12 @@ shelf_system shelf = shelf.fs
 abbrev pub shelf_failures : {F H : Type 0} {system : FileSystem F H} → FolderShelf F H system → ℕ
 shelf_failures shelf = shelf.failed
 
+-- The files that were opened, if they are recorded.
+abbrev pub shelf_read : {F H : Type 0} {system : FileSystem F H} → FolderShelf F H system → Option (List FileKey)
+shelf_read shelf = option_map keys_in shelf.read
+
 abbrev pub shelf_contents : {F H : Type 0} (system : FileSystem F H) → FolderShelf F H system → List ℕ → Option (List ℕ)
-shelf_contents system shelf = contents_in (system.tree shelf.fs)
+shelf_contents system shelf = contents_in (system.disk shelf.fs).tree
 
 abbrev pub shelf_left : {F H : Type 0} (system : FileSystem F H) → FolderShelf F H system → H → List ℕ
-shelf_left system shelf reader = rest (system.tree shelf.fs) (system.key reader) (system.position reader)
+shelf_left system shelf reader = rest (system.disk shelf.fs).tree (system.key reader) (system.position reader)

@@ -1,9 +1,18 @@
--- The failure count of a stream, and the stream itself.
-use Rattle.std.specs.Prelude.{ℕ}
+-- What contracts know of a stream.
+use Rattle.std.specs.Prelude.{ℕ, Bool, List, []}
+use Rattle.std.specs.Option.{unwrap_or}
+use Rattle.std.specs.declared.io.traits.Write.{Ghosts as Write}
 use Rattle.cweb_system.specs.declared.streams.StdSink.{StdSink}
 
-abbrev pub sink_failures : {W : Type 0} → StdSink W → ℕ
+abbrev pub sink_failures : {W : Type 0} {write : Write W} → StdSink W write → ℕ
 sink_failures sink = sink.failed
 
-abbrev pub stream_of : {W : Type 0} → StdSink W → W
+abbrev pub sink_is_known : {W : Type 0} {write : Write W} → StdSink W write → Bool
+sink_is_known sink = sink.is_known
+
+abbrev pub stream_of : {W : Type 0} {write : Write W} → StdSink W write → W
 stream_of sink = sink.stream
+
+-- The bytes of the stream, if they are known.
+abbrev pub sink_bytes : {W : Type 0} (write : Write W) → StdSink W write → List ℕ
+sink_bytes write sink = unwrap_or (write.contents sink.stream) []

@@ -12,12 +12,12 @@ returns-in-Ok-clause-beside g c = λ tells.
     let was = sym c.take.ensures.value ∙ c.in-Some.is in
     let sound = (subst (λ (o : Option (Draft g.row.F-File.Denot)). IsDraftSound g.F.FileSystem c.args.self.now o) was
     c.requires.sound.draft).1 tells in
-    let ws = c.args.self.now.written.items in
-    let left = files_left ws (g.F.FileSystem.tree c.args.self.now.fs) (g.F.FileSystem.tree c.write_to-taken.new.fs)
-    (c.requires.sound.files tells)
+    let ws = c.args.self.now.files.written.items in
+    let old = (g.F.FileSystem.disk c.args.self.now.fs).tree in
+    let new = (g.F.FileSystem.disk c.write_to-taken.new.fs).tree in
+    let left = files_left ws old new (c.requires.sound.files tells)
     (appending ws c.in-Some.draft.key (g.F.FileSystem.key c.in-Some.draft.file) (take c.in-Ok.n c.args.piece.now)
-    (g.F.FileSystem.tree c.args.self.now.fs) (g.F.FileSystem.tree c.write_to-taken.new.fs) sound.new sound.opened
-    (c.in-Ok.ensures.ok tells)) in
+    old new sound.new sound.opened (c.in-Ok.ensures.changes.place tells) (c.in-Ok.ensures.changes.ok tells)) in
     λ i. record {
       files = left i;
       draft = option_map draft_name (sym was i);

@@ -2,7 +2,7 @@ use Rattle.std.proofs.Common.{◌∙◌, ap, sym, arith, length, take, [], List,
 use Rattle.std.proofs.lemmas.List.{length-take}
 use Rattle.std.specs.List.{slice_get}
 use Rattle.cweb_system.specs.inner.Log.{bytes_by}
-use Rattle.cweb_system.proofs.Changes.{bytes_next, bytes_short, some_within}
+use Rattle.cweb_system.proofs.Scans.{bytes_next, bytes_short, some_within}
 use Rattle.cweb_system.proofs.memory_folder.MemoryFolder.byte_at.Goals as goal
 
 pub sought_after-sought-requires : goal.sought_after-sought-requires

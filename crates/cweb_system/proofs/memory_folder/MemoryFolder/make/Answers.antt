@@ -1,19 +1,13 @@
-use Rattle.std.proofs.Common.{◌∙◌, ◌∷◌, ◌++◌, [], sym, ap, subst, List}
-use Rattle.cweb_system.specs.declared.memory_folder.Change.{Change}
-use Rattle.cweb_system.specs.inner.Log.{tree_of, took_by}
-use Rattle.cweb_system.specs.Steps.{Takes}
-use Rattle.cweb_system.proofs.Changes.{took_more, took_none}
+use Rattle.std.proofs.Common.{◌≡◌, ◌∙◌, ◌∷◌, ◌++◌, [], inl, ap, arith, List, take, drop}
+use Rattle.cweb_system.specs.declared.memory_folder.log.Change.{Change}
+use Rattle.cweb_system.specs.inner.Log.{past_by}
+use Rattle.cweb_system.proofs.Changes.{past_push}
 use Rattle.cweb_system.proofs.memory_folder.MemoryFolder.make.Goals as goal
 
 pub returns-clause-step : goal.returns-clause-step
 returns-clause-step c =
-    let old = c.args.self.now.log.items in
-    subst (λ (l : List Change). Takes (took_by old) (took_by l) (tree_of old) (tree_of l))
-    (sym (c.push_reserved.ensures.items ∙ ap (λ (l : List Change). l ++ c.args.change ∷ []) c.reserve.ensures.items))
-    (took_more old c.args.change)
-
-pub returns-then-is_err-clause-step : goal.returns-then-is_err-clause-step
-returns-then-is_err-clause-step c =
-    let old = c.args.self.now.log.items in
-    subst (λ (l : List Change). Takes (took_by old) (took_by l) (tree_of old) (tree_of l))
-    (sym (c.failing.ensures.log ∙ c.reserve.ensures.items)) (took_none old)
+    let begun = c.args.self.now.begun in
+    let items : c.push_reserved.new.self.items ≡ c.args.self.now.log.items ++ c.args.change ∷ [] =
+    c.push_reserved.ensures.items ∙ ap (λ (l : List Change). l ++ c.args.change ∷ []) c.reserve.ensures.items in
+    inl (ap (λ (l : List Change). past_by (take begun l) (drop begun l)) items
+    ∙ past_push c.args.self.now.log.items begun c.args.change (omega (arith, c.args.self.now.begun_within)))

@@ -1,8 +1,8 @@
 use Rattle.std.proofs.Common.{subst, take, List, ◌≡◌, ◌∙◌}
 use Rattle.std.proofs.lemmas.List.{take_all}
-use Rattle.cweb_system.specs.declared.memory_folder.Change.{Change}
+use Rattle.cweb_system.specs.declared.memory_folder.log.Change.{Change}
 use Rattle.cweb_system.specs.inner.Log.{KeysBelow}
-use Rattle.cweb_system.proofs.Changes.{below_next}
+use Rattle.cweb_system.proofs.Scans.{below_next}
 use Rattle.cweb_system.proofs.memory_folder.MemoryFolder.new_number.Goals as goal
 
 pub loop-change-preserved : goal.loop-change-preserved

@@ -1,7 +1,7 @@
 use Rattle.std.proofs.Common.{ap, sym, ◌∙◌, Option}
 use Rattle.cweb_system.specs.declared.node.Node.{Node}
 use Rattle.cweb_system.specs.inner.Log.{node_step}
-use Rattle.cweb_system.proofs.Changes.{nodes_next}
+use Rattle.cweb_system.proofs.Scans.{nodes_next}
 use Rattle.cweb_system.proofs.memory_folder.MemoryFolder.node_at.Goals as goal
 
 pub loop-change-preserved : goal.loop-change-preserved

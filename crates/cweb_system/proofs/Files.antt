@@ -1,0 +1,90 @@
+-- What calls for drafts leave.
+use Rattle.std.proofs.Common.{◌≡◌, ◌∙◌, ⊎_elim, slice_index_or, ℕ, List, Bool, true, false, refl, sym, ap, subst, Option, Some, None, string_bytes}
+use Rattle.std.specs.Prelude.{All}
+use Rattle.cweb_system.specs.declared.drafts.Draft.{Draft}
+use Rattle.cweb_system.specs.declared.node.FileKey.{FileKey}
+use Rattle.cweb_system.specs.declared.node.Node.{Node}
+use Rattle.cweb_system.specs.declared.run_files.RunFiles.{RunFiles}
+use Rattle.cweb_system.specs.declared.written.WrittenFile.{WrittenFile}
+use Rattle.cweb_system.specs.Steps.{Disk}
+use Rattle.cweb_system.specs.Tree.{Tree, IsFile, Removes, SetsMode, at}
+use Rattle.cweb_system.specs.inner.Drafts.{Clears, DraftIsThere, IsAlone, LeavesFiles}
+use Rattle.cweb_system.specs.inner.Written.{Leaves}
+use Rattle.cweb_system.specs.inner.Log.{key_eq}
+use Rattle.cweb_system.proofs.Keys.{key_is, key_self}
+use Rattle.cweb_system.proofs.Steps.{keeps_then}
+use Rattle.cweb_system.proofs.Views.{leaves_then}
+
+pub leaves_files_then : {files : RunFiles} {a b c : Disk} → LeavesFiles files a b → LeavesFiles files b c → LeavesFiles files a c
+leaves_files_then {files} {a} {b} {c} first then = record {
+  decent = keeps_then first.decent then.decent;
+  leaves = λ tells. leaves_then files.written.items a.tree b.tree c.tree (first.leaves tells)
+      (then.leaves (first.decent.tells ∙ tells));
+}
+
+-- What is cleared is no committed file.
+pub cleared_leaves : (ws : List WrittenFile) (path : List ℕ) (old new : Tree) → new.place ≡ old.place → Clears path old new
+    → All (λ (w : WrittenFile). IsFile w.key (at old path) → ⊥) ws → Leaves ws old new
+cleared_leaves ws path old new places clears other = ⊎_elim
+    (λ (gone : Removes path old new). record {
+      place = places;
+      entries = λ k d within is. stays gone (slice_index_or ws k d) (other k d within) is;
+      bytes = λ k d within. ap (λ (f : FileKey → List ℕ). f (slice_index_or ws k d).key) gone.bytes;
+    })
+    (λ (same : new ≡ old). subst (Leaves ws old) (sym same)
+    (record { place = refl; entries = λ k d within is. is; bytes = λ k d within. refl }))
+    clears
+  where
+    stays : Removes path old new → (w : WrittenFile) → (IsFile w.key (at old path) → ⊥)
+        → IsFile w.key (at old (string_bytes w.name)) → IsFile w.key (at new (string_bytes w.name))
+    stays gone w apart is = subst (IsFile w.key) (sym (gone.others (new.place (string_bytes w.name))
+        (λ e. apart (subst (λ (p : List ℕ). IsFile w.key (old.node p)) (place ∙ e) is)) ∙ ap old.node (sym place))) is
+      where
+        place : old.place (string_bytes w.name) ≡ new.place (string_bytes w.name)
+        place = ap (λ (f : List ℕ → List ℕ). f (string_bytes w.name)) (sym places)
+
+-- A file keeps its key where permissions are set.
+pub set_back : (key : FileKey) (mode : ℕ) (old new : Tree) → SetsMode key mode old new → (k : FileKey) (p : List ℕ)
+    → IsFile k (new.node p) → IsFile k (old.node p)
+set_back key mode old new sets k p is = by_node (old.node p) refl
+  where
+    same : (o : Option Node) → old.node p ≡ o → (IsFile key o → ⊥) → IsFile k o
+    same o e other = subst (IsFile k) (sets.others p (λ f. other (subst (IsFile key) e f)) ∙ e) is
+
+    by_key : (f : FileKey) (m : ℕ) → old.node p ≡ Some (Node.File f m) → (b : Bool) → key_eq f key ≡ b → f ≡ k
+    by_key f m e true test = key_is f key test
+        ∙ subst (IsFile k) (sets.set p (subst (IsFile key) (sym e) (key_is f key test))) is
+    by_key f m e false test = same (Some (Node.File f m)) e (λ itself. absurd (apart itself))
+      where
+        apart : f ≡ key → ⊥
+        apart itself =
+            let both : true ≡ false = sym (subst (λ (g : FileKey). key_eq f g ≡ true) itself (key_self f)) ∙ test in
+            cc
+
+    by_node : (o : Option Node) → old.node p ≡ o → IsFile k o
+    by_node None e = same None e (λ f. f)
+    by_node (Some (Node.File f m)) e = by_key f m e (key_eq f key) refl
+    by_node (Some Node.Link) e = same (Some Node.Link) e (λ f. f)
+    by_node (Some (Node.Unknown why)) e = same (Some (Node.Unknown why)) e (λ f. f)
+    by_node (Some (Node.Folder f)) e = same (Some (Node.Folder f)) e (λ g. g)
+    by_node (Some (Node.Device f)) e = same (Some (Node.Device f)) e (λ g. g)
+
+-- The draft is still there after its permissions were set.
+pub draft_set : {H : Type 0} (key : H → FileKey) (ws : List WrittenFile) (draft : Draft H) (mode : ℕ) (old new : Tree)
+    → new.place ≡ old.place → SetsMode (key draft.file) mode old new
+    → ((path : List ℕ) → IsAlone (key draft.file) path old → IsAlone (key draft.file) path new)
+    → DraftIsThere key ws draft old → DraftIsThere key ws draft new
+draft_set key ws draft mode old new places sets alone there = record {
+  file = there.file;
+  opened = there.opened;
+  there = subst (λ (k : FileKey). IsFile k (at new (string_bytes draft.path))) there.opened
+      (subst (IsFile (key draft.file)) (sym (sets.set (new.place (string_bytes draft.path)) here)) refl);
+  new = there.new;
+  path = there.path;
+  alone = subst (λ (k : FileKey). IsAlone k (string_bytes draft.path) new) there.opened
+      (alone (string_bytes draft.path) (subst (λ (k : FileKey). IsAlone k (string_bytes draft.path) old) (sym there.opened) there.alone));
+}
+  where
+    here : IsFile (key draft.file) (old.node (new.place (string_bytes draft.path)))
+    here = subst (λ (f : List ℕ → List ℕ). IsFile (key draft.file) (old.node (f (string_bytes draft.path)))) (sym places)
+        (subst (λ (k : FileKey). IsFile k (at old (string_bytes draft.path))) (sym there.opened) there.there)

@@ -1,7 +1,0 @@
-use Rattle.std.specs.Prelude.{◌≡◌, All, IsTrue, take, string_bytes}
-use Rattle.cweb_system.specs.declared.drafts.WrittenFile.{WrittenFile}
-use Rattle.cweb_system.proofs.drafts.has_other_name.Given as goal
-
-abbrev pub invariant-loop-file : goal.invariant-loop-file
-invariant-loop-file g l = IsTrue (g.F.FileSystem.tells l.fs)
-    → All (λ (w : WrittenFile). w.key ≡ l.key → string_bytes w.name ≡ l.name) (take l.file-index l.written)

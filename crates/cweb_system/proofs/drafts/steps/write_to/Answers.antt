@@ -1,0 +1,9 @@
+use Rattle.std.proofs.Common.{take}
+use Rattle.cweb_system.specs.Tree.{Appends}
+use Rattle.cweb_system.proofs.Steps.{appends_decent, keeps}
+use Rattle.cweb_system.proofs.drafts.steps.write_to.Goals as goal
+
+pub returns-clause-decent : goal.returns-clause-decent
+returns-clause-decent g c read = keeps read (λ n. Appends (g.F.FileSystem.key c.args.file.now) (take n c.args.piece.now)) _ _
+    c.write.result c.write.ensures.changes
+    (λ tells n. appends_decent read (g.F.FileSystem.key c.args.file.now) (take n c.args.piece.now) _ _ (c.requires tells))

@@ -1,0 +1,18 @@
+use Rattle.std.proofs.Common.{◌≡◌, subst, string_bytes, arith, List}
+use Rattle.std.proofs.lemmas.List.{take_all}
+use Rattle.std.proofs.lemmas.List.Elements.{All-more}
+use Rattle.std.specs.Prelude.{All}
+use Rattle.cweb_system.specs.declared.written.WrittenFile.{WrittenFile}
+use Rattle.cweb_system.proofs.written.has_other_name.Goals as goal
+
+pub loop-file-preserved : goal.loop-file-preserved
+loop-file-preserved g c = λ tells.
+    All-more (λ (w : WrittenFile). w.key ≡ c.args.key → string_bytes w.name ≡ c.args.name.now) c.args.written.now
+    c.loop-file.file-index c.file-item.result (omega arith) (c.loop-file.invariant tells)
+    (subst (λ (w : WrittenFile). w.key ≡ c.args.key → string_bytes w.name ≡ c.args.name.now) c.file-item.is
+    (c.is_other_name.ensures.value tells c.if-is_other_name.false))
+
+pub returns-clause-value : goal.returns-clause-value
+returns-clause-value g c = λ tells is.
+    subst (λ (ws : List WrittenFile). All (λ (w : WrittenFile). w.key ≡ c.args.key → string_bytes w.name ≡ c.args.name.now) ws)
+    (take_all c.loop-file.file-index c.args.written.now (omega arith)) (c.loop-file.invariant tells)

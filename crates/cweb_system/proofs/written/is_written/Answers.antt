@@ -1,0 +1,18 @@
+use Rattle.std.proofs.Common.{◌≡◌, subst, arith, List}
+use Rattle.std.proofs.lemmas.List.{take_all}
+use Rattle.std.proofs.lemmas.List.Elements.{All-more}
+use Rattle.std.specs.Prelude.{All}
+use Rattle.cweb_system.specs.declared.written.WrittenFile.{WrittenFile}
+use Rattle.cweb_system.proofs.written.is_written.Goals as goal
+
+pub loop-file-preserved : goal.loop-file-preserved
+loop-file-preserved g c = λ tells.
+    All-more (λ (w : WrittenFile). w.key ≡ c.args.key → ⊥) c.args.written.now
+    c.loop-file.file-index c.file-item.result (omega arith) (c.loop-file.invariant tells)
+    (subst (λ (w : WrittenFile). w.key ≡ c.args.key → ⊥) c.file-item.is
+    (c.is_of_key.ensures.value tells c.if-is_of_key.false))
+
+pub returns-clause-value : goal.returns-clause-value
+returns-clause-value g c = λ tells is.
+    subst (λ (ws : List WrittenFile). All (λ (w : WrittenFile). w.key ≡ c.args.key → ⊥) ws)
+    (take_all c.loop-file.file-index c.args.written.now (omega arith)) (c.loop-file.invariant tells)

@@ -1,0 +1,133 @@
+// Drafts are put in place, or discarded.
+ghost use Rattle.std.specs.Prelude.{◌≡◌, None, Some, IsTrue, IsOk, IfOk, OnOk, OnErr, false, string_bytes};
+ghost use Rattle.cweb_system.specs.FileSet.{keys_in};
+ghost use Rattle.cweb_system.specs.Tree.{IsFile, at};
+ghost use Rattle.cweb_system.specs.inner.Drafts.{DraftIsThere, IsApart, IsCleared, IsReplaceable, KeepsDecent};
+ghost use Rattle.cweb_system.specs.inner.Drafts.{KeepsMode, LeavesFiles, TakesMode};
+ghost use Rattle.cweb_system.specs.inner.Written.{FilesAreThere, IsUnnamed, Leaves, Places};
+
+use crate::drafts::Draft;
+use crate::drafts::steps::{remove_at, rename_draft, set_draft_mode};
+use crate::file_system::FileSystem;
+use crate::node::{FileFault, Node};
+use crate::run_files::RunFiles;
+use crate::written::is_at;
+
+/// Renames the draft. A device needs no more. It is an error if another file has its path by now: that one would be
+/// renamed. Returns whether the name may have been committed before.
+pub fn put_in_place<F: FileSystem>(
+    fs: &mut F,
+    draft: &Draft<F::File>,
+    files: &RunFiles,
+) -> Result<bool, FileFault>
+    requires files { IsTrue (F.disk fs.old).tells →
+        FilesAreThere (F.disk fs.old).tree files.now.written.items }
+    requires draft { IsTrue (F.disk fs.old).tells →
+        DraftIsThere F.key files.now.written.items draft.now (F.disk fs.old).tree }
+    ensures decent { KeepsDecent (keys_in files.now.read) (F.disk fs.old) (F.disk fs.new) }
+    ensures ok { IsTrue (F.disk fs.old).tells → OnOk result (Places (string_bytes draft.now.name) draft.now.key
+        files.now.written.items (F.disk fs.old).tree (F.disk fs.new).tree) }
+    ensures err { IsTrue (F.disk fs.old).tells → OnErr result
+        (Leaves files.now.written.items (F.disk fs.old).tree (F.disk fs.new).tree) }
+    ensures stays { IsTrue (F.disk fs.old).tells → OnErr result
+        (DraftIsThere F.key files.now.written.items draft.now (F.disk fs.new).tree) }
+    ensures mode { IsTrue (F.disk fs.old).tells → OnOk result (KeepsMode (string_bytes draft.now.name)
+        draft.now.key (F.disk fs.old).tree (F.disk fs.new).tree) }
+    ensures gone { IsTrue (F.disk fs.old).tells → OnOk result
+        (at (F.disk fs.new).tree (string_bytes draft.now.path) ≡ None) }
+    ensures first { IsTrue (F.disk fs.old).tells → IfOk result (λ replaces. replaces ≡ false →
+        IsUnnamed (string_bytes draft.now.name) files.now.written.items) }
+    ensures cause { IsTrue (F.disk fs.old).tells → IsReplaceable files.now (string_bytes draft.now.name)
+        (at (F.disk fs.old).tree (string_bytes draft.now.name)) →
+        (IsFile draft.now.key (at (F.disk fs.old).tree (string_bytes draft.now.name)) → ⊥) →
+        OnErr result (IsTrue (F.disk fs.new).failed) }
+{
+    if draft.is_device {
+        return Ok(true);
+    }
+    let mode = own_mode(fs, draft)?;
+    let replaces = keep_mode(fs, draft, mode, files)?;
+    rename_draft(fs, draft, files)?;
+    Ok(replaces)
+}
+
+/// The permissions of the draft. It is an error if it isn't there.
+fn own_mode<F: FileSystem>(fs: &F, draft: &Draft<F::File>) -> Result<u32, FileFault>
+    ensures ok { IsTrue (F.disk fs.now).tells → IfOk result (λ mode.
+        at (F.disk fs.now).tree (string_bytes draft.now.path) ≡ Some (Node.File draft.now.key mode)) }
+    ensures never { IsTrue (F.disk fs.now).tells →
+        IsFile draft.now.key (at (F.disk fs.now).tree (string_bytes draft.now.path)) → IsOk result }
+{
+    match fs.look(draft.path.as_str()) {
+        Some(Node::File(key, mode)) if key == draft.key => Ok(mode),
+        Some(Node::Unknown(fault)) => Err(fault),
+        _ => Err(FileFault::NotFound),
+    }
+}
+
+/// Gives the draft the permissions of the file that it replaces. It is an error if that file was read or was written
+/// under another name, or if a folder is there. Returns whether the run has created that file.
+fn keep_mode<F: FileSystem>(
+    fs: &mut F,
+    draft: &Draft<F::File>,
+    mode: u32,
+    files: &RunFiles,
+) -> Result<bool, FileFault>
+    requires files { IsTrue (F.disk fs.old).tells →
+        FilesAreThere (F.disk fs.old).tree files.now.written.items }
+    requires draft { IsTrue (F.disk fs.old).tells →
+        DraftIsThere F.key files.now.written.items draft.now (F.disk fs.old).tree }
+    ensures leaves { LeavesFiles files.now (F.disk fs.old) (F.disk fs.new) }
+    ensures stays { IsTrue (F.disk fs.old).tells →
+        DraftIsThere F.key files.now.written.items draft.now (F.disk fs.new).tree }
+    ensures bytes { IsTrue (F.disk fs.old).tells → (F.disk fs.new).tree.bytes ≡ (F.disk fs.old).tree.bytes }
+    ensures mode { IsTrue (F.disk fs.old).tells →
+        at (F.disk fs.old).tree (string_bytes draft.now.path) ≡ Some (Node.File draft.now.key mode) →
+        OnOk result (TakesMode draft.now (F.disk fs.old).tree (F.disk fs.new).tree) }
+    ensures apart { IsTrue (F.disk fs.old).tells → OnOk result
+        (IsApart (string_bytes draft.now.name) draft.now.key files.now (F.disk fs.new).tree) }
+    ensures first { IsTrue (F.disk fs.old).tells → IfOk result (λ replaces. replaces ≡ false →
+        IsUnnamed (string_bytes draft.now.name) files.now.written.items) }
+    ensures cause { IsTrue (F.disk fs.old).tells → IsReplaceable files.now (string_bytes draft.now.name)
+        (at (F.disk fs.old).tree (string_bytes draft.now.name)) →
+        (IsFile draft.now.key (at (F.disk fs.old).tree (string_bytes draft.now.name)) → ⊥) →
+        OnErr result (IsTrue (F.disk fs.new).failed) }
+{
+    match fs.look(draft.name.as_str()) {
+        Some(Node::File(found, kept)) => {
+            if found == draft.key || !files.may_replace(fs, found, draft.name.as_str()) {
+                return Err(FileFault::Exists);
+            }
+            let replaces = files.created.contains(found);
+            if kept == mode {
+                return Ok(replaces);
+            }
+            set_draft_mode(fs, &draft.file, kept)?;
+            Ok(replaces)
+        }
+        Some(Node::Folder(_)) => Err(FileFault::Other),
+        Some(Node::Unknown(fault)) => Err(fault),
+        _ => Ok(false),
+    }
+}
+
+/// Deletes the draft. Another file that has its path by now stays.
+pub fn discard<F: FileSystem>(fs: &mut F, draft: Draft<F::File>, files: &RunFiles)
+    requires files { IsTrue (F.disk fs.old).tells →
+        FilesAreThere (F.disk fs.old).tree files.now.written.items }
+    requires draft { IsTrue (F.disk fs.old).tells →
+        DraftIsThere F.key files.now.written.items draft (F.disk fs.old).tree }
+    ensures leaves { LeavesFiles files.now (F.disk fs.old) (F.disk fs.new) }
+    ensures gone { IsTrue (F.disk fs.old).tells → IsCleared (string_bytes draft.path) (F.disk fs.new) }
+{
+    let Draft {
+        name: _,
+        path,
+        key,
+        file: _held,
+        is_device,
+    } = draft;
+    if !is_device && is_at(fs, path.as_str(), key) {
+        let _ = remove_at(fs, path.as_str());
+    }
+}

@@ -1,0 +1,243 @@
+// Drafts are created, and what was left at their paths is cleared.
+ghost use Rattle.std.specs.Prelude.{◌≡◌, None, Some, Ok, List, Contains, IsTrue, IsErr, IsSome, IfErr, IfOk, IfSome, OnOk};
+ghost use Rattle.std.specs.Prelude.{true};
+ghost use Rattle.cweb_system.specs.declared.node.FileKey.{FileKey};
+ghost use Rattle.cweb_system.specs.FileSet.{keys_in};
+ghost use Rattle.cweb_system.specs.Tree.{IsFile, at};
+ghost use Rattle.cweb_system.specs.inner.DraftPaths.{IsDraftPath};
+ghost use Rattle.cweb_system.specs.inner.Drafts.{Begins, Clears, HasCause, IsClearable, IsCleared, KeepsDecent};
+ghost use Rattle.cweb_system.specs.inner.Drafts.{LeavesFiles};
+ghost use Rattle.cweb_system.specs.inner.Written.{FilesAreThere};
+
+use crate::drafts::steps::{create_at, remove_at};
+use crate::file_set::FileSet;
+use crate::file_system::FileSystem;
+use crate::node::{FileFault, FileKey, Node};
+use crate::run_files::RunFiles;
+
+/// How often a run tries to create a draft while other runs interfere.
+const TURNS: u32 = 100_000;
+
+/// Clears the draft's path and creates the draft.
+pub fn created<F: FileSystem>(
+    fs: &mut F,
+    path: &str,
+    mode: Option<u32>,
+    files: &RunFiles,
+) -> Result<(F::File, FileKey), FileFault>
+    requires files { IsTrue (F.disk fs.old).tells →
+        FilesAreThere (F.disk fs.old).tree files.now.written.items }
+    requires draft { IsDraftPath path.now }
+    ensures leaves { LeavesFiles files.now (F.disk fs.old) (F.disk fs.new) }
+    ensures begun { IsTrue (F.disk fs.old).tells → IfOk result (λ made.
+        Begins path.now (F.key made.0) made.1 files.now.written.items (F.disk fs.new).tree) }
+    ensures cause { IsTrue (F.disk fs.old).tells →
+        IsClearable files.now (at (F.disk fs.old).tree path.now) →
+        HasCause (F.disk fs.new).failed result }
+{
+    for _ in 0..TURNS {
+        if let Some(made) = created_now(fs, path, mode, files)? {
+            return Ok(made);
+        }
+    }
+    Err(FileFault::Exists)
+}
+
+/// Tries once to create a draft. `None`: its path was taken and is cleared now, or another run removed the new draft.
+fn created_now<F: FileSystem>(
+    fs: &mut F,
+    path: &str,
+    mode: Option<u32>,
+    files: &RunFiles,
+) -> Result<Option<(F::File, FileKey)>, FileFault>
+    requires files { IsTrue (F.disk fs.old).tells →
+        FilesAreThere (F.disk fs.old).tree files.now.written.items }
+    requires draft { IsDraftPath path.now }
+    ensures leaves { LeavesFiles files.now (F.disk fs.old) (F.disk fs.new) }
+    ensures begun { IsTrue (F.disk fs.old).tells → IfOk result (λ tried. IfSome tried (λ made.
+        Begins path.now (F.key made.0) made.1 files.now.written.items (F.disk fs.new).tree)) }
+    ensures cause { IsTrue (F.disk fs.old).tells →
+        IsClearable files.now (at (F.disk fs.old).tree path.now) →
+        HasCause (F.disk fs.new).failed result }
+    ensures gone { IsTrue (F.disk fs.old).tells → IfOk result (λ tried. tried ≡ None →
+        IsCleared path.now (F.disk fs.new)) }
+    ensures free { IsTrue (F.disk fs.old).tells → at (F.disk fs.old).tree path.now ≡ None →
+        IfOk result IsSome }
+{
+    match create_at(fs, path, mode)? {
+        Some(file) => match locked(fs, path, &file)? {
+            Some(key) => Ok(Some((file, key))),
+            None => Ok(None),
+        },
+        None => {
+            clear(fs, path, files)?;
+            Ok(None)
+        }
+    }
+}
+
+/// Locks a draft that was just created. `None`: another run has locked and removed it first, as a leftover.
+fn locked<F: FileSystem>(
+    fs: &mut F,
+    path: &str,
+    file: &F::File,
+) -> Result<Option<FileKey>, FileFault>
+    requires draft { IsDraftPath path.now }
+    requires made { IsTrue (F.disk fs.old).tells →
+        IsFile (F.key file.now) (at (F.disk fs.old).tree path.now) }
+    ensures tells { (F.disk fs.new).tells ≡ (F.disk fs.old).tells }
+    ensures same { IsTrue (F.disk fs.old).tells → F.disk fs.new ≡ F.disk fs.old }
+    ensures key { IsTrue (F.disk fs.old).tells → result ≡ Ok (Some (F.key file.now)) }
+{
+    // A system without locks is no error.
+    let _ = fs.lock(file);
+    match key_at(fs, path, file) {
+        Ok(key) => Ok(key),
+        Err(fault) => {
+            let _ = remove_at(fs, path);
+            Err(fault)
+        }
+    }
+}
+
+/// The identity of an open file, if a path names that file.
+fn key_at<F: FileSystem>(fs: &F, path: &str, file: &F::File) -> Result<Option<FileKey>, FileFault>
+    ensures { IsTrue (F.disk fs.now).tells → IsFile (F.key file.now) (at (F.disk fs.now).tree path.now) →
+        result ≡ Ok (Some (F.key file.now)) }
+{
+    let key = fs.key_of(file)?;
+    match fs.look(path) {
+        Some(Node::File(found, _)) if found == key => Ok(Some(key)),
+        Some(Node::Unknown(fault)) => Err(fault),
+        _ => Ok(None),
+    }
+}
+
+/// Removes a leftover at the draft's path. It is an error if a folder is there, or a file that was read or written.
+fn clear<F: FileSystem>(fs: &mut F, path: &str, files: &RunFiles) -> Result<(), FileFault>
+    requires files { IsTrue (F.disk fs.old).tells →
+        FilesAreThere (F.disk fs.old).tree files.now.written.items }
+    requires draft { IsDraftPath path.now }
+    ensures leaves { LeavesFiles files.now (F.disk fs.old) (F.disk fs.new) }
+    ensures read { IsTrue (F.disk fs.old).tells → (key : FileKey) →
+        IsFile key (at (F.disk fs.old).tree path.now) →
+        Contains (keys_in files.now.read) key → IsErr result }
+    ensures gone { IsTrue (F.disk fs.old).tells → OnOk result (IsCleared path.now (F.disk fs.new)) }
+    ensures cause { IsTrue (F.disk fs.old).tells →
+        IsClearable files.now (at (F.disk fs.old).tree path.now) →
+        HasCause (F.disk fs.new).failed result }
+{
+    match fs.look(path) {
+        None => Ok(()),
+        Some(Node::File(key, _)) => {
+            if files.has_written(fs, key) || files.read.contains(key) {
+                return Err(FileFault::Exists);
+            }
+            clear_file(fs, path, key)
+        }
+        Some(Node::Folder(_)) => Err(FileFault::Other),
+        Some(Node::Unknown(fault)) => Err(fault),
+        Some(Node::Link) => clear_other(fs, path, files),
+        Some(Node::Device(_)) => clear_other(fs, path, files),
+    }
+}
+
+/// Removes a link or a device at the draft's path. It is an error if the run has read what is there.
+fn clear_other<F: FileSystem>(fs: &mut F, path: &str, files: &RunFiles) -> Result<(), FileFault>
+    requires draft { IsDraftPath path.now }
+    requires other { IsTrue (F.disk fs.old).tells → (key : FileKey) →
+        IsFile key (at (F.disk fs.old).tree path.now) → ⊥ }
+    ensures leaves { LeavesFiles files.now (F.disk fs.old) (F.disk fs.new) }
+    ensures gone { IsTrue (F.disk fs.old).tells → OnOk result (IsCleared path.now (F.disk fs.new)) }
+{
+    if is_read(fs, path, &files.read) {
+        return Err(FileFault::Exists);
+    }
+    remove_left(fs, path)
+}
+
+/// Whether the run has read what a path leads to.
+fn is_read<F: FileSystem>(fs: &F, path: &str, read: &FileSet) -> bool {
+    match fs.follow(path) {
+        Some(Node::File(key, _)) | Some(Node::Folder(key)) | Some(Node::Device(key)) => {
+            read.contains(key)
+        }
+        _ => false,
+    }
+}
+
+/// Waits until no run holds a draft, and removes it if it is still there. If it may not be opened, there is no wait.
+fn clear_file<F: FileSystem>(fs: &mut F, path: &str, left: FileKey) -> Result<(), FileFault>
+    requires draft { IsDraftPath path.now }
+    ensures decent { (read : List FileKey) → KeepsDecent read (F.disk fs.old) (F.disk fs.new) }
+    ensures clears { IsTrue (F.disk fs.old).tells →
+        Clears path.now (F.disk fs.old).tree (F.disk fs.new).tree }
+    ensures place { IsTrue (F.disk fs.old).tells →
+        (F.disk fs.new).tree.place ≡ (F.disk fs.old).tree.place }
+    ensures gone { IsTrue (F.disk fs.old).tells → IsFile left (at (F.disk fs.old).tree path.now) →
+        OnOk result (IsCleared path.now (F.disk fs.new)) }
+    ensures cause { IsTrue (F.disk fs.old).tells → IsFile left (at (F.disk fs.old).tree path.now) →
+        HasCause (F.disk fs.new).failed result }
+{
+    let (is_there, _held) = locked_left(fs, path, left)?;
+    if is_there {
+        return remove_left(fs, path);
+    }
+    Ok(())
+}
+
+/// Locks a leftover, if it may be opened. Whether it is still there.
+fn locked_left<F: FileSystem>(
+    fs: &F,
+    path: &str,
+    left: FileKey,
+) -> Result<(bool, Option<F::File>), FileFault>
+    ensures there { IsTrue (F.disk fs.now).tells → IsFile left (at (F.disk fs.now).tree path.now) →
+        IfOk result (λ found. found.0 ≡ true) }
+    ensures memory { IsTrue (F.disk fs.now).tells → IsFile left (at (F.disk fs.now).tree path.now) →
+        IfErr result (λ fault. fault ≡ FileFault.Memory) }
+{
+    match fs.open(path) {
+        Ok(file) => {
+            let _ = fs.lock(&file);
+            let is_there = is_open_at(fs, path, &file, left)?;
+            Ok((is_there, Some(file)))
+        }
+        Err(FileFault::NotFound) => Ok((false, None)),
+        Err(FileFault::Denied) => Ok((true, None)),
+        Err(fault) => Err(fault),
+    }
+}
+
+/// Whether an open file has this key, and a path names it.
+fn is_open_at<F: FileSystem>(
+    fs: &F,
+    path: &str,
+    file: &F::File,
+    key: FileKey,
+) -> Result<bool, FileFault>
+    ensures { IsTrue (F.disk fs.now).tells → IsFile key (at (F.disk fs.now).tree path.now) →
+        key ≡ F.key file.now → result ≡ Ok true }
+{
+    match key_at(fs, path, file)? {
+        Some(found) => Ok(found == key),
+        None => Ok(false),
+    }
+}
+
+/// Removes a leftover at a draft's path, if it is still there.
+fn remove_left<F: FileSystem>(fs: &mut F, path: &str) -> Result<(), FileFault>
+    requires { IsDraftPath path.now }
+    ensures decent { (read : List FileKey) → KeepsDecent read (F.disk fs.old) (F.disk fs.new) }
+    ensures clears { IsTrue (F.disk fs.old).tells →
+        Clears path.now (F.disk fs.old).tree (F.disk fs.new).tree }
+    ensures place { IsTrue (F.disk fs.old).tells →
+        (F.disk fs.new).tree.place ≡ (F.disk fs.old).tree.place }
+    ensures gone { IsTrue (F.disk fs.old).tells → OnOk result (IsCleared path.now (F.disk fs.new)) }
+    ensures cause { IsTrue (F.disk fs.old).tells → HasCause (F.disk fs.new).failed result }
+{
+    match remove_at(fs, path) {
+        Err(FileFault::NotFound) => Ok(()),
+        removed => removed,
+    }
+}

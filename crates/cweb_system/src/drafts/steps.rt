@@ -1,0 +1,86 @@
+// The calls that change a file system, each with a decent step.
+ghost use Rattle.std.specs.Prelude.{◌≤◌, ◌<◌, ◌≡◌, ℕ, List, IsTrue, IfOk, IfSome, length, string_bytes, take};
+ghost use Rattle.cweb_system.specs.declared.node.FileKey.{FileKey};
+ghost use Rattle.cweb_system.specs.FileSet.{keys_in};
+ghost use Rattle.cweb_system.specs.Steps.{Changes};
+ghost use Rattle.cweb_system.specs.Tree.{Appends, IsFile, MayCreate, Removes, Renames, SetsMode, at};
+ghost use Rattle.cweb_system.specs.inner.DraftPaths.{IsDraftAlone, IsDraftPath};
+ghost use Rattle.cweb_system.specs.inner.Drafts.{IsAlone, IsApart, KeepsDecent};
+
+use crate::drafts::Draft;
+use crate::file_system::FileSystem;
+use crate::node::FileFault;
+use crate::run_files::RunFiles;
+
+/// Creates a draft. `None`: something is there.
+pub fn create_at<F: FileSystem>(
+    fs: &mut F,
+    path: &str,
+    mode: Option<u32>,
+) -> Result<Option<F::File>, FileFault>
+    requires { IsDraftPath path.now }
+    ensures decent { (read : List FileKey) → KeepsDecent read (F.disk fs.old) (F.disk fs.new) }
+    ensures changes { Changes (MayCreate F.key path.now) (F.disk fs.old) (F.disk fs.new) result }
+    ensures alone { IsTrue (F.disk fs.old).tells → IfOk result (λ made. IfSome made (λ file.
+        IsAlone (F.key file) path.now (F.disk fs.new).tree)) }
+{
+    fs.create(path, mode)
+}
+
+/// Removes what is at a draft's path.
+pub fn remove_at<F: FileSystem>(fs: &mut F, path: &str) -> Result<(), FileFault>
+    requires { IsTrue (F.disk fs.old).tells → IsDraftPath path.now }
+    ensures decent { (read : List FileKey) → KeepsDecent read (F.disk fs.old) (F.disk fs.new) }
+    ensures changes { Changes (λ _. Removes path.now) (F.disk fs.old) (F.disk fs.new) result }
+{
+    fs.remove(path)
+}
+
+/// Sets the permissions of a draft.
+pub fn set_draft_mode<F: FileSystem>(fs: &mut F, file: &F::File, mode: u32) -> Result<(), FileFault>
+    requires { IsTrue (F.disk fs.old).tells → IsDraftAlone (F.key file.now) (F.disk fs.old).tree }
+    ensures decent { (read : List FileKey) → KeepsDecent read (F.disk fs.old) (F.disk fs.new) }
+    ensures changes { Changes (λ _. SetsMode (F.key file.now) mode)
+        (F.disk fs.old) (F.disk fs.new) result }
+    ensures alone { IsTrue (F.disk fs.old).tells → (path : List ℕ) →
+        IsAlone (F.key file.now) path (F.disk fs.old).tree →
+        IsAlone (F.key file.now) path (F.disk fs.new).tree }
+{
+    fs.set_mode(file, mode)
+}
+
+/// Renames a draft. What it replaces is neither the draft itself nor a file that was read.
+pub fn rename_draft<F: FileSystem>(
+    fs: &mut F,
+    draft: &Draft<F::File>,
+    files: &RunFiles,
+) -> Result<(), FileFault>
+    requires path { IsTrue (F.disk fs.old).tells → IsDraftPath (string_bytes draft.now.path) }
+    requires there { IsTrue (F.disk fs.old).tells →
+        IsFile draft.now.key (at (F.disk fs.old).tree (string_bytes draft.now.path)) }
+    requires apart { IsTrue (F.disk fs.old).tells →
+        IsApart (string_bytes draft.now.name) draft.now.key files.now (F.disk fs.old).tree }
+    ensures decent { KeepsDecent (keys_in files.now.read) (F.disk fs.old) (F.disk fs.new) }
+    ensures changes { Changes (λ _. Renames (string_bytes draft.now.path) (string_bytes draft.now.name))
+        (F.disk fs.old) (F.disk fs.new) result }
+{
+    let _ = files;
+    fs.rename(draft.path.as_str(), draft.name.as_str())
+}
+
+/// Appends bytes to a draft.
+pub fn write_to<F: FileSystem>(
+    fs: &mut F,
+    file: &mut F::File,
+    piece: &[u8],
+) -> Result<usize, FileFault>
+    requires { IsTrue (F.disk fs.old).tells → IsDraftAlone (F.key file.old) (F.disk fs.old).tree }
+    ensures decent { (read : List FileKey) → KeepsDecent read (F.disk fs.old) (F.disk fs.new) }
+    ensures changes { Changes (λ n. Appends (F.key file.old) (take n piece.now))
+        (F.disk fs.old) (F.disk fs.new) result }
+    ensures within { IfOk result (λ n. n ≤ length piece.now) }
+    ensures some { 0 < length piece.now → IfOk result (λ n. 0 < n) }
+    ensures key { IsTrue (F.disk fs.old).tells → F.key file.new ≡ F.key file.old }
+{
+    fs.write(file, piece)
+}

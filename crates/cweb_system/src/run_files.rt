@@ -1,0 +1,122 @@
+// The files that a run has read and written.
+ghost use Rattle.std.specs.Prelude.{◌≡◌, ◌≤◌, ◌<◌, ◌++◌, ◌∷◌, [], All, Contains, IsTrue, OnOk, false, true, filter, not};
+ghost use Rattle.std.specs.Prelude.{string_bytes, vec_len, vec_capacity};
+ghost use Rattle.std.specs.Str.{bytes_eq};
+ghost use Rattle.std.proofs.Props.{props};
+ghost use Rattle.cweb_system.specs.FileSet.{keys_in};
+ghost use Rattle.cweb_system.specs.inner.Keys.{is_among};
+ghost use Rattle.cweb_system.specs.inner.Written.{FilesAreThere, HasNameAlone, IsNew, IsUnnamed};
+ghost use Rattle.cweb_system.specs.declared.written.WrittenFile.{WrittenFile};
+ghost use Rattle.cweb_system.specs.declared.node.FileKey.{FileKey};
+
+use crate::file_set::FileSet;
+use crate::file_system::FileSystem;
+use crate::node::FileKey;
+use crate::written::{WrittenFile, has_other_name, is_written, remove_named};
+use std::alloc::{AllocError, Global};
+
+/// The files that a run has read and written.
+#[derive(Drop)]
+pub struct RunFiles {
+    /// No output replaces one of these.
+    pub read: FileSet,
+    /// The files that were committed, in that order.
+    pub written: Vec<WrittenFile>,
+    /// The files that were drafts of the run, those in `written` among them. A lookup here spares a walk along that list.
+    pub created: FileSet,
+    ghost known: { All (λ (w : WrittenFile). IsTrue (is_among (keys_in created) w.key)) written.items } by { Prim.hlevel props },
+}
+
+impl RunFiles {
+    /// A run that has read these files and written none.
+    pub fn new(alloc: Global, read: FileSet) -> Self
+        ensures read { result.read ≡ read }
+        ensures written { result.written.items ≡ [] }
+    {
+        RunFiles {
+            read,
+            written: Vec::new(alloc),
+            created: FileSet::new(alloc),
+        }
+    }
+
+    /// Whether the file of this key was written, and is still there.
+    pub fn has_written<F: FileSystem>(&self, fs: &F, key: FileKey) -> bool
+        requires { IsTrue (F.disk fs.now).tells → FilesAreThere (F.disk fs.now).tree self.now.written.items }
+        ensures value { IsTrue (F.disk fs.now).tells → result ≡ false → IsNew key self.now.written.items }
+        ensures none { IsNew key self.now.written.items → result ≡ false }
+    {
+        self.created.contains(key) && is_written(fs, self.written.as_slice(), key)
+    }
+
+    /// Whether a file of this key was written under another name.
+    pub fn has_other_name<F: FileSystem>(&self, fs: &F, key: FileKey, name: &str) -> bool
+        requires { IsTrue (F.disk fs.now).tells → FilesAreThere (F.disk fs.now).tree self.now.written.items }
+        ensures value { IsTrue (F.disk fs.now).tells → result ≡ false →
+            HasNameAlone name.now key self.now.written.items }
+        ensures none { HasNameAlone name.now key self.now.written.items → result ≡ false }
+    {
+        self.created.contains(key) && has_other_name(fs, self.written.as_slice(), key, name)
+    }
+
+    /// Whether an output of this name may replace a file: the run has neither read it nor written it under another name.
+    pub fn may_replace<F: FileSystem>(&self, fs: &F, key: FileKey, name: &str) -> bool
+        requires { IsTrue (F.disk fs.now).tells → FilesAreThere (F.disk fs.now).tree self.now.written.items }
+        ensures unread { result ≡ true → Contains (keys_in self.now.read) key → ⊥ }
+        ensures name { IsTrue (F.disk fs.now).tells → result ≡ true →
+            HasNameAlone name.now key self.now.written.items }
+        ensures free { (Contains (keys_in self.now.read) key → ⊥) →
+            HasNameAlone name.now key self.now.written.items → result ≡ true }
+    {
+        !self.read.contains(key) && !self.has_other_name(fs, key, name)
+    }
+
+    /// Makes room for one more committed file.
+    pub fn reserve(&mut self) -> Result<(), AllocError>
+        ensures read { self.new.read ≡ self.old.read }
+        ensures created { self.new.created ≡ self.old.created }
+        ensures written { self.new.written.items ≡ self.old.written.items }
+        ensures room { OnOk result (vec_len self.new.written < vec_capacity self.new.written) }
+    {
+        self.written.reserve(1)
+    }
+
+    /// Records the file of a new draft.
+    pub fn create(&mut self, key: FileKey) -> Result<(), AllocError>
+        ensures read { self.new.read ≡ self.old.read }
+        ensures written { self.new.written ≡ self.old.written }
+        ensures created { OnOk result (IsTrue (is_among (keys_in self.new.created) key)) }
+    {
+        self.created.insert(key)
+    }
+
+    /// Records a committed file. `replaces`: one of its name may have been committed before.
+    pub fn put(&mut self, name: String, key: FileKey, replaces: bool)
+        requires room { vec_len self.old.written < vec_capacity self.old.written }
+        requires known { IsTrue (is_among (keys_in self.old.created) key) }
+        ensures read { self.new.read ≡ self.old.read }
+        ensures written { (replaces ≡ false → IsUnnamed (string_bytes name) self.old.written.items) →
+            self.new.written.items
+            ≡ filter (λ file. not (bytes_eq (string_bytes file.name) (string_bytes name)))
+            self.old.written.items ++ record { name = name; key = key } ∷ [] }
+    {
+        self.forget(name.as_str(), replaces);
+        self.written.push_reserved(WrittenFile { name, key });
+    }
+
+    /// Forgets the committed file of this name, if there is one.
+    fn forget(&mut self, name: &str, may_be_there: bool)
+        ensures read { self.new.read ≡ self.old.read }
+        ensures created { self.new.created ≡ self.old.created }
+        ensures written { (may_be_there ≡ false → IsUnnamed name.now self.old.written.items) →
+            self.new.written.items
+            ≡ filter (λ file. not (bytes_eq (string_bytes file.name) name.now)) self.old.written.items }
+        ensures capacity { vec_capacity self.new.written ≡ vec_capacity self.old.written }
+        ensures len { vec_len self.new.written ≤ vec_len self.old.written }
+    {
+        if !may_be_there {
+            return;
+        }
+        remove_named(&mut self.written, name);
+    }
+}
