@@ -33,14 +33,14 @@ free {before = before} within none = record {
 }
 
 -- The files of the folder, and the words of each run.
-abbrev pub hello_texts : List ℕ → Option (List ℕ)
-hello_texts = text_in (codes "hello.w") hello_text
+abbrev pub hello_contents : List ℕ → Option (List ℕ)
+hello_contents = text_in (codes "hello.w") hello_text
 
 abbrev pub hello_words : List (List ℕ)
 hello_words = codes "hello" ∷ []
 
 abbrev there : World
-there = world_of hello_texts None
+there = world_of hello_contents None
 
 abbrev args : Option OptionsModel
 args = options_by hello_words
@@ -87,7 +87,7 @@ unfolding digits is_utf8 chars encode
 tangle_within = search (rules, few_lines)
 
 -- A run on a shelf with these files, by the effect that is computed for it.
-pub hello_tangled : (before after : Devices) (status : ℕ) → AreObservable before → before.shelf.texts ≡ hello_texts
+pub hello_tangled : (before after : Devices) (status : ℕ) → AreObservable before → before.shelf.texts ≡ hello_contents
     → NothingFailed before after
     → TanglesFreely (world_of before.shelf.texts None) (options_by hello_words) before after status
     → HelloTangled before after status
@@ -115,7 +115,7 @@ merge_within = search (rules, few_lines)
 merge_text : printed_bytes (merge_acts course) ≡ hello_text
 merge_text = refl
 
-pub hello_merged : (before after : Devices) (status : ℕ) → AreObservable before → before.shelf.texts ≡ hello_texts
+pub hello_merged : (before after : Devices) (status : ℕ) → AreObservable before → before.shelf.texts ≡ hello_contents
     → NothingFailed before after
     → MergesFreely (world_of before.shelf.texts None) (web_names_by hello_words) before after status
     → HelloMerged before after status
@@ -149,7 +149,7 @@ rule_only : RuleOnly (depend_acts All web_course)
 unfolding digits is_utf8 chars encode
 rule_only = record { within = search (rules, few_lines); none = refl; printed = refl; logged = refl; answered = refl }
 
-pub hello_depends : (before after : Devices) (status : ℕ) → AreObservable before → before.shelf.texts ≡ hello_texts
+pub hello_depends : (before after : Devices) (status : ℕ) → AreObservable before → before.shelf.texts ≡ hello_contents
     → IsSome before.out.beside.draft → NothingFailed before after → DependsFreely (world_of before.shelf.texts None)
     (targets_by hello_words) (options_by hello_words) before after status → HelloDepends before after status
 hello_depends before after status tell alone is_open none run =
