@@ -1,6 +1,6 @@
 // A client that relies on the headlines: it runs each program on one web in memory, and its contracts have the bytes.
 ghost use Rattle.std.specs.Prelude.{◌≡◌, IfOk};
-ghost use Rattle.cweb_surface_tests.specs.inner.Hello.{IsDependedHello, IsMergedHello, IsTangledHello, NoneFailed};
+ghost use Rattle.cweb_surface_tests.specs.inner.Hello.{IsMergedHello, IsRuleOfHello, IsTangledHello, NoneFailed};
 ghost use Rattle.cweb_surface_tests.specs.inner.Hello.{hello_contents};
 
 use cweb_lines::{MemoryShelf, MemorySink, Shelf, Sink};
@@ -40,7 +40,8 @@ fn hello_shelf(alloc: Global) -> Result<MemoryShelf, AllocError>
 /// Tangles hello.w.
 pub fn tangle_hello(alloc: Global) -> Result<Tangled, AllocError>
     ensures { IfOk result (λ run. let log = ⟦<MemorySink as Sink>⟧.written run.log in
-        NoneFailed (⟦<MemoryBins as Sink>⟧.failed run.bins) (⟦<MemorySink as Sink>⟧.failed run.log) log
+        NoneFailed (⟦<MemoryBins as Sink>⟧.failed run.bins)
+        (⟦<MemorySink as Sink>⟧.failed run.log) log
         → IsTangledHello (⟦<MemoryBins as Sink>⟧.beside run.bins).files log run.status) }
 {
     let mut shelf = hello_shelf(alloc)?;
@@ -53,7 +54,8 @@ pub fn tangle_hello(alloc: Global) -> Result<Tangled, AllocError>
 /// Prints the merged lines of hello.w.
 pub fn merge_hello(alloc: Global) -> Result<Printed, AllocError>
     ensures { IfOk result (λ run. let log = ⟦<MemorySink as Sink>⟧.written run.log in
-        NoneFailed (⟦<MemorySink as Sink>⟧.failed run.out) (⟦<MemorySink as Sink>⟧.failed run.log) log
+        NoneFailed (⟦<MemorySink as Sink>⟧.failed run.out)
+        (⟦<MemorySink as Sink>⟧.failed run.log) log
         → IsMergedHello (⟦<MemorySink as Sink>⟧.written run.out) log run.status) }
 {
     let mut shelf = hello_shelf(alloc)?;
@@ -66,8 +68,9 @@ pub fn merge_hello(alloc: Global) -> Result<Printed, AllocError>
 /// Prints the dependencies of hello.w.
 pub fn depend_hello(alloc: Global) -> Result<Printed, AllocError>
     ensures { IfOk result (λ run. let log = ⟦<MemorySink as Sink>⟧.written run.log in
-        NoneFailed (⟦<MemorySink as Sink>⟧.failed run.out) (⟦<MemorySink as Sink>⟧.failed run.log) log
-        → IsDependedHello (⟦<MemorySink as Sink>⟧.written run.out) log run.status) }
+        NoneFailed (⟦<MemorySink as Sink>⟧.failed run.out)
+        (⟦<MemorySink as Sink>⟧.failed run.log) log
+        → IsRuleOfHello (⟦<MemorySink as Sink>⟧.written run.out) log run.status) }
 {
     let mut shelf = hello_shelf(alloc)?;
     let mut out = MemorySink::with_room(alloc, 4096)?;

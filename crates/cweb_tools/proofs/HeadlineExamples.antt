@@ -96,7 +96,8 @@ hello_tangled before after status tell alone none run =
     args before after status) alone run in
     let is : web_course ≡ tangle_course there args = sym (ap (tangled (codes "hello.c")) course_is) in
     let did = run_there tell web_course web_comes (free tangle_within none) in record {
-      files = did.files ∙ ap (λ (c : TangleCourse). put_files before.out.beside.files (tangle_files (shown_by args) c)) is
+      files = did.files
+          ∙ ap (λ (c : TangleCourse). put_files before.out.beside.files (tangle_files (shown_by args) c)) is
           ∙ ap (λ (left : Left). put_files before.out.beside.files left.files) hello_run;
       log = did.logged ∙ ap (λ (c : TangleCourse). before.log.bytes ++ tangle_log (shown_by args) c) is
           ∙ ap (λ (left : Left). before.log.bytes ++ left.log) hello_run;

@@ -1,5 +1,5 @@
 -- Worked examples: what each field of the headlines' records says of a run and its devices.
-use Rattle.cweb_tools.proofs.Common.{◌≡◌, ◌+◌, ℕ, List, [], ◌∷◌, ◌++◌, refl, sym, ◌∙◌, ap, arith, codes, Option, Some, None, IsTrue, IsSome, File, no_device, Line, SourceLine, Event, took, fault, World, Found, web_at, change_at, found_course, OptionsModel, WebNames, Devices, AreObservable, DeviceState, Act, says, reads, writes, prints, after_act, RunEnds, completes, stops, RanFreely, DoesActs, put_files, AgreesWith, observed_state, acts_status, script, shown_by, Course, change_name, CanCome, MergeCanCome, TangleCourse, unread, not_there, change_not_there, tangling, tangled, planning, Web, Scanned, TanglePromises}
+use Rattle.cweb_tools.proofs.Common.{◌≡◌, ◌+◌, ℕ, List, [], ◌∷◌, ◌++◌, refl, sym, ◌∙◌, ap, arith, codes, Option, Some, None, IsTrue, IsSome, File, no_device, Line, Event, took, fault, World, Found, web_at, change_at, found_course, OptionsModel, WebNames, Devices, AreObservable, DeviceState, Act, says, reads, writes, prints, after_act, RunEnds, completes, stops, RanFreely, DoesActs, put_files, AgreesWith, observed_state, acts_status, script, shown_by, Course, change_name, CanCome, MergeCanCome, TangleCourse, unread, not_there, change_not_there, tangling, tangled, planning, Web, Scanned, TanglePromises}
 use Rattle.cweb_log.specs.Items.{writing}
 use Rattle.cweb_tools.specs.Acts.{bins_fail, begin_fails, read_fails}
 use Rattle.cweb_tools.specs.Course as course

@@ -1,11 +1,10 @@
 -- What runs leave in observable bins and shelves.
-use Rattle.cweb_tools.proofs.Common.{◌≡◌, ◌≢◌, ◌⊎◌, ◌+◌, inl, inr, ℕ, List, [], ◌∷◌, ◌++◌, refl, sym, ◌∙◌, ap, subst, add-zero, append-nil, arith, Option, Some, None, IsTrue, flat_map, line, Beside, Event, World, OptionsModel, Devices, Stop, ReadFault, LineTooLong, TooMuchText, Memory, OutNotOpened, WriteFault, LogFault, read_failures_of, stop_line, DeviceState, Act, judges, says, opens, reads, merges, plans, reserves, writes, prints, after_act, ending, Ending, Breaks, FailsReading, PerformsActs, LogsStop, RunEnds, completes, stops, AgreesWith, EndsIn, FollowsActs, observed_state, TangleCourse, script, shown_by, Shown, TanglePromises, ActsKeepLimits, ReadAll}
+use Rattle.cweb_tools.proofs.Common.{◌≡◌, ◌≢◌, ◌⊎◌, inl, inr, ℕ, List, [], ◌∷◌, ◌++◌, refl, sym, ◌∙◌, ap, append-nil, Some, None, IsTrue, Beside, Event, Devices, Stop, ReadFault, LineTooLong, TooMuchText, Memory, OutNotOpened, WriteFault, LogFault, DeviceState, Act, judges, says, reads, merges, writes, prints, after_act, ending, Breaks, FailsReading, PerformsActs, RunEnds, completes, stops, AgreesWith, observed_state, TangleCourse, script, shown_by, Shown, ReadAll}
 use Rattle.cweb_files.specs.Files.{Refused}
 use Rattle.cweb_tools.specs.laws.LeftDevices.{EveryRunLeavesBins, HasReadAll}
 use Rattle.cweb_tools.proofs.ChangedFilesWereRead.{ReadsFirst, keeps_none, script_reads_first, shelf_none, shelf_stays}
 use Rattle.cweb_tools.proofs.Endings.{counts_all, limits_all}
-use Rattle.cweb_tools.proofs.Leaving.{broken, ends_draft, ends_files, stop_logged}
-use Rattle.cweb_tools.proofs.Stopping.{is_stopped}
+use Rattle.cweb_tools.proofs.Leaving.{ends_draft, ends_files, stop_logged}
 use Rattle.cweb_tools.proofs.TanglePromisesProved.{shown_reported}
 
 -- The bins, without their failure count.

@@ -1,5 +1,5 @@
 -- What runs leave in an observable shelf.
-use Rattle.cweb_tools.proofs.Common.{◌≡◌, ◌≢◌, ◌+◌, ℕ, List, ◌∷◌, [], ◌++◌, sym, ◌∙◌, ap, add-zero, append-nil, arith, codes, None, IsTrue, flat_map, line, Devices, Stop, ReadFault, DeviceState, Act, ending, PerformsActs, LogsStop, RunEnds, completes, stops, AgreesWith, FollowsActs, observed_state, IsStopped}
+use Rattle.cweb_tools.proofs.Common.{◌≡◌, ◌≢◌, ◌+◌, ℕ, List, ◌∷◌, [], ◌++◌, sym, ◌∙◌, ap, add-zero, append-nil, arith, codes, IsTrue, flat_map, line, Devices, Stop, ReadFault, DeviceState, Act, ending, RunEnds, completes, stops, FollowsActs, observed_state, IsStopped}
 use Rattle.cweb_log.specs.Log.{message_line}
 use Rattle.cweb_tools.specs.laws.LeftDevices.{LeavesShelf}
 use Rattle.cweb_tools.proofs.Endings.{counts_all}

@@ -49,14 +49,14 @@ pub fn every_run_leaves_devices()
     ensures { EveryRunLeavesDevices }
 {}
 
-/// Observable bins have the first expected files, each whole, and no draft, whatever stopped the run. No file is begun
-/// unless all was read within the limits. A file that the bins refuse makes the status 1.
+/// Observable bins have the first expected files, each whole, and no draft, whatever stopped the run. They change only
+/// if all was read within the limits. A file that the bins refuse makes the status 1.
 pub fn every_run_leaves_bins()
     ensures { EveryRunLeavesBins }
 {}
 
-/// An observable shelf blames the file whose read failed, and no other. The log's last line names that file, unless the
-/// log failed. So does every run of `ctangle`, `wmerge` and `wdep`.
+/// After a run of `ctangle`, `wmerge` or `wdep`, an observable shelf blames the file whose read failed, and no other. The
+/// last line of an observable log names that file, unless the log failed.
 pub fn every_run_leaves_the_shelf()
     ensures { EveryRunLeavesTheShelf }
 {}

@@ -30,7 +30,7 @@ pub record IsMergedHello (out log : List ℕ) (status : ℕ) : Type 0 where
   pub logged : log ≡ []
   pub answered : status ≡ 0
 
-pub record IsDependedHello (out log : List ℕ) (status : ℕ) : Type 0 where
+pub record IsRuleOfHello (out log : List ℕ) (status : ℕ) : Type 0 where
   pub printed : out ≡ codes "hello.c: hello.w\n"
   pub logged : log ≡ []
   pub answered : status ≡ 0

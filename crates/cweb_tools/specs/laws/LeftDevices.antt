@@ -25,7 +25,7 @@ pub record LeavesBins (acts : List Act) (before after : Devices) (status : ℕ) 
   pub files : LeavesFiles (written_files acts) before.out.beside.files after.out.beside.files
   -- No draft is left.
   pub draft : before.out.beside.draft ≡ None → after.out.beside.draft ≡ None
-  -- If a file was begun or refused, all was read.
+  -- The bins change only if all was read.
   pub read : after.out.beside ≢ before.out.beside → HasReadAll acts before after
   -- If a file was refused, the status is 1.
   pub refused : (why : Refused) → after.out.beside.refused ≡ Some why
@@ -54,7 +54,7 @@ pub record LeavesShelf (old new : ShelfModel) (log log' : SinkModel) (status : �
   pub none : new.failed ≡ old.failed → new.blamed ≡ old.blamed
   pub one : new.failed ≢ old.failed → BlamesOneFile old new log log' status
 
--- The same for `ctangle`, `wmerge` and `wdep`.
+-- Each of the three programs leaves the shelf so.
 pub record EveryRunLeavesTheShelf : Type 0 where
   pub tangle : (world : World) (args : Option OptionsModel) (before after : Devices) (status : ℕ)
       → TanglePromises world args before after status → IsTrue before.shelf.tells

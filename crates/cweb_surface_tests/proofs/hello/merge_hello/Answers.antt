@@ -7,7 +7,8 @@ pub returns : goal.returns
 returns c = λ none.
     let left = hello_merged
     (record { shelf = _; out = record { tells = _; failed = _; bytes = _; beside = always_open }; log = _ })
-    (record { shelf = _; out = record { tells = _; failed = _; bytes = _; beside = always_open }; log = _ }) _ (refl, refl, refl) c.in_ok-shelf.ensures (record {
+    (record { shelf = _; out = record { tells = _; failed = _; bytes = _; beside = always_open }; log = _ })
+    _ (refl, refl, refl) c.in_ok-shelf.ensures (record {
       shelf = refl;
       out = none.out ∙ sym c.in_ok-out.ensures.failed;
       log = none.logged ∙ sym c.in_ok-log.ensures.failed;
