@@ -1,1 +1,2 @@
+pub mod Hello
 pub mod OneBin

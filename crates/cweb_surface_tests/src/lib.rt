@@ -1,6 +1,9 @@
 //! The public calls and types of the libraries, used by a client that depends only on the crates that export them.
 #![tactic(auto)]
 
+// runs on one web, with their bytes in contracts
+mod hello;
+
 // devices of a client's own
 mod own_bins;
 mod own_shelf;
@@ -8,6 +11,7 @@ mod own_sink;
 #[cfg(test)]
 mod tests;
 
+pub use hello::{HELLO, Printed, Tangled, depend_hello, merge_hello, tangle_hello};
 pub use own_bins::{NamedFile, OneBin};
 pub use own_shelf::{OneReader, OneShelf};
 pub use own_sink::ByteSink;

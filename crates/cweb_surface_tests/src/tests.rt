@@ -10,6 +10,7 @@ mod sections;
 // calls and types
 mod bins;
 mod building;
+mod hello;
 mod merging;
 mod types;
 mod wanted;

@@ -5,14 +5,14 @@ use Rattle.cweb_tools.proofs.WebActs.{when_on, said_on, starred_on, outputs_on, 
 use Rattle.cweb_tools.proofs.Endings.{counts_all, limits_all}
 
 -- These acts read nothing.
-abbrev ReadsNone : List Act → Type 0
+abbrev pub ReadsNone : List Act → Type 0
 ReadsNone [] = Unit {0}
 ReadsNone (reads names events ∷ acts) = ⊥
 ReadsNone (merges names events ∷ acts) = ⊥
 ReadsNone (_ ∷ acts) = ReadsNone acts
 
 -- Nothing is read after the first file is written.
-abbrev ReadsFirst : List Act → Type 0
+abbrev pub ReadsFirst : List Act → Type 0
 ReadsFirst [] = Unit {0}
 ReadsFirst (writes name text ∷ acts) = ReadsNone acts
 ReadsFirst (_ ∷ acts) = ReadsFirst acts
@@ -26,21 +26,21 @@ reads_first (writes name text ∷ acts) none = none
 reads_first (act ∷ acts) none = reads_first acts none
 
 -- Acts that read nothing keep the limits and don't increase the shelf's failure count.
-keeps_none : (acts : List Act) → ReadsNone acts → ActsKeepLimits acts
+pub keeps_none : (acts : List Act) → ReadsNone acts → ActsKeepLimits acts
 keeps_none [] none = tt
 keeps_none (reads names events ∷ acts) none = absurd none
 keeps_none (merges names events ∷ acts) none = absurd none
 keeps_none (act ∷ acts) none = (tt, keeps_none acts none)
 
 -- The shelf stops only acts of reading.
-shelf_stays : (act : Act) (stop : Stop) (about : List ℕ) (old new : DeviceState) → ReadsNone (act ∷ [])
+pub shelf_stays : (act : Act) (stop : Stop) (about : List ℕ) (old new : DeviceState) → ReadsNone (act ∷ [])
     → Breaks act (ending stop about) old new → new.shelf_failed ≡ old.shelf_failed
 shelf_stays (reads names events) stop about old new none broke = absurd none
 shelf_stays (merges names events) stop about old new none broke = absurd none
 shelf_stays act (ReadFault file) about old new none broke = absurd broke
 shelf_stays act stop about old new none broke = (broken act stop about old new broke).shelf ∙ add-zero old.shelf_failed
 
-shelf_none : (acts : List Act) (stop : Stop) (about : List ℕ) (old new : DeviceState) → ReadsNone acts
+pub shelf_none : (acts : List Act) (stop : Stop) (about : List ℕ) (old new : DeviceState) → ReadsNone acts
     → PerformsActs acts (Some (ending stop about)) old new → new.shelf_failed ≡ old.shelf_failed
 shelf_none [] stop about old new none run = absurd run
 shelf_none (reads names events ∷ acts) stop about old new none run = absurd none
@@ -74,7 +74,7 @@ reads_first-banner shown acts first =
     when_on (λ item. Unit {0}) ReadsFirst (λ item acts said rest. rest) shown.banner banner acts tt first
 
 -- A script reads nothing after the first file is written.
-script_reads_first : (shown : Shown) (course : TangleCourse) → ReadsFirst (script shown course)
+pub script_reads_first : (shown : Shown) (course : TangleCourse) → ReadsFirst (script shown course)
 script_reads_first shown unread = tt
 script_reads_first shown (not_there web) = reads_first-banner shown (opens ∷ says _ ∷ []) tt
 script_reads_first shown (change_not_there change) = reads_first-banner shown (opens ∷ says _ ∷ []) tt

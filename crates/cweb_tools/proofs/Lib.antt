@@ -24,6 +24,8 @@ pub mod MergeStops
 pub mod ChangedFilesWereRead
 pub mod InFolder
 pub mod Leaving
+pub mod LeftDevices
+pub mod LeftShelves
 pub mod WebActs
 pub mod Limits
 pub mod Logging
@@ -35,7 +37,9 @@ pub mod OutputActs
 pub mod Targets
 mod NoFiles
 mod WorkedExamples
-mod TangleExamples
+pub mod TangleExamples
+pub mod HeadlineExamples
+mod HeadlineFieldExamples
 pub mod RunLaws
 pub mod Running
 mod ScriptExamples

@@ -1,5 +1,5 @@
 -- Worked examples of the law of blanks, and tokens that satisfy its premise.
-use Rattle.cweb_tools.proofs.Common.{◌++◌, ◌≡◌, List, [], ◌∷◌, refl, codes, empty, with_open, Token, Word, Number, Literal, Punct, Head, Quoted, Numeral, Punctuator, Code, CText, EmitAt, Closed, Reading, ReadsAlone, InPlainC, doubled, start_state, open_part_tokens, Setting, print}
+use Rattle.cweb_tools.proofs.Common.{◌++◌, ◌≡◌, List, [], ◌∷◌, refl, codes, empty, with_open, Token, Word, Number, Literal, Punct, Blank, Newline, Head, Tail, significant, Quoted, Numeral, Punctuator, Code, CText, EmitAt, Closed, Reading, ReadsAlone, InPlainC, doubled, start_state, open_part_tokens, Setting, print}
 use Rattle.std.specs.Fmt.{digits}
 use Rattle.cweb_store.specs.declared.parts.PartKind.TheVariants as part
 use Rattle.cweb_scan.specs.Alone.{lex}
@@ -63,6 +63,10 @@ raw =
 record Computed : Type 0 where
   row_printed : print settled row ≡ codes "0xe +1 . .5 \"a\"R\"(b)\" R \"(c)\""
   row_read : reread row ≡ row
+  -- Words, numbers, literals and punctuators count, layout and section comments don't.
+  all_count : significant row ≡ row
+  some_count : significant (Blank ∷ Punct (codes "/") ∷ Head 1 ∷ Newline ∷ Tail 1 ∷ Word (codes "x") ∷ [])
+      ≡ Punct (codes "/") ∷ Word (codes "x") ∷ []
   comment_printed : print settled (Punct (codes "/") ∷ Head 1 ∷ Punct (codes "*") ∷ []) ≡ codes "/ /*1:*/*"
   comment_read : reread (Punct (codes "/") ∷ Head 1 ∷ Punct (codes "*") ∷ [])
       ≡ Punct (codes "/") ∷ Punct (codes "*") ∷ []

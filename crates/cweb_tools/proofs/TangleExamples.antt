@@ -9,12 +9,12 @@ use Rattle.cweb_tools.specs.Depend.{targets_by}
 use Rattle.cweb_tools.specs.declared.rule_targets.Targets.TheVariants.{All}
 
 -- The effect of a run.
-record Left : Type 0 where
-  log : List ℕ
-  files : List File
-  status : ℕ
+pub record Left : Type 0 where
+  pub log : List ℕ
+  pub files : List File
+  pub status : ℕ
 
-abbrev left_of : Option OptionsModel → TangleCourse → Left
+abbrev pub left_of : Option OptionsModel → TangleCourse → Left
 left_of args course =
     record {
       log = tangle_log (shown_by args) course;
@@ -23,26 +23,26 @@ left_of args course =
     }
 
 -- The effect for these files and words.
-abbrev left_by : World → List (List ℕ) → Left
+abbrev pub left_by : World → List (List ℕ) → Left
 left_by there words = left_of (options_by words) (tangle_course there (options_by words))
 
-abbrev file : List ℕ → List ℕ → File
+abbrev pub file : List ℕ → List ℕ → File
 file name bytes = record { name = name; bytes = bytes }
 
-abbrev text_in : List ℕ → List ℕ → List ℕ → Option (List ℕ)
-text_in name text sought = cond (bytes_eq sought name) (Some text) None
+abbrev pub text_in : List ℕ → List ℕ → List ℕ → Option (List ℕ)
+text_in name text sought = cond (bytes_eq name sought) (Some text) None
 
 -- A folder with only a web.
-abbrev one_web : List ℕ → List ℕ → World
+abbrev pub one_web : List ℕ → List ℕ → World
 one_web name text = record { texts = text_in name text; inputs = None }
 
 -- The events of a merge that has ended.
-abbrev events_of : Option (List Event) → List Event
+abbrev pub events_of : Option (List Event) → List Event
 events_of None = []
 events_of (Some events) = events
 
 -- The course of a run whose merge begins with these files open. Its steps are few.
-abbrev merging : World → MergeStateModel → List (List ℕ) → List ℕ → TangleCourse
+abbrev pub merging : World → MergeStateModel → List (List ℕ) → List ℕ → TangleCourse
 merging there begun files main = tangled main (course.merging files (events_of (run_steps 40 there begun)))
 
 -- The effect of such a run follows from its lines.
@@ -57,11 +57,11 @@ runs_to there begun files main words left is few computed = ap (left_of (options
     ∙ computed
 
 -- Two sections. The first uses the name of the second.
-abbrev hello_text : List ℕ
+abbrev pub hello_text : List ℕ
 hello_text =
     codes "@ Hello.\n@c\n#include <stdio.h>\nint main(void) { @<Greet@> return 0; }\n@ @<Greet@>=\nputs(\"hi\");\n"
 
-hello_run : left_by (one_web (codes "hello.w") hello_text) (codes "hello" ∷ []) ≡ record {
+pub hello_run : left_by (one_web (codes "hello.w") hello_text) (codes "hello" ∷ []) ≡ record {
   log = codes "This is CTANGLE, profile of CWEB 3\nWriting hello.c\n(No errors were found.)\n";
   files = file (codes "hello.c") (codes "/*1:*/\n#line 2 \"hello.w\"\n\n#include <stdio.h>\nint main(void){/*2:*/\n"
       ++ codes "#line 5 \"hello.w\"\n\nputs(\"hi\");/*:2*/\n#line 4 \"hello.w\"\nreturn 0;}\n/*:1*/\n")

@@ -4,6 +4,7 @@ ghost use Rattle.cweb_lines.specs.Merge.{Event};
 ghost use Rattle.cweb_log.specs.declared.shown.Shown.{Shown};
 ghost use Rattle.cweb_tools.specs.Acts.{DeviceState, RunEnds};
 ghost use Rattle.cweb_tools.specs.laws.Leaves.{LeavesFiles, tangle_files};
+ghost use Rattle.cweb_tools.specs.laws.LeftDevices.{EveryRunLeavesBins, EveryRunLeavesTheShelf};
 ghost use Rattle.cweb_tools.specs.laws.MakeReads.{MakeReadsNames};
 ghost use Rattle.cweb_tools.specs.laws.Targets.{TargetsAreWrittenFiles};
 ghost use Rattle.cweb_tools.specs.laws.RunEffects.{EveryRunLeavesDevices, EveryMergeLeavesOutput, EveryRunLeavesStates};
@@ -46,6 +47,18 @@ pub fn every_run_leaves_states()
 /// device fails twice, and a failed device makes the status 1.
 pub fn every_run_leaves_devices()
     ensures { EveryRunLeavesDevices }
+{}
+
+/// Observable bins have the first expected files, each whole, and no draft, whatever stopped the run. They change only
+/// if all was read within the limits. A file that the bins refuse makes the status 1.
+pub fn every_run_leaves_bins()
+    ensures { EveryRunLeavesBins }
+{}
+
+/// After a run of `ctangle`, `wmerge` or `wdep`, an observable shelf blames the file whose read failed, and no other. The
+/// last line of an observable log names that file, unless the log failed.
+pub fn every_run_leaves_the_shelf()
+    ensures { EveryRunLeavesTheShelf }
 {}
 
 /// A run of `wmerge` prints a prefix of the merged lines, and all of them if its status is 0. No failed device and no

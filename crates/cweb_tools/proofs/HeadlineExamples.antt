@@ -1,0 +1,165 @@
+-- The headline theorems on the web hello.w, alone in its folder: if nothing fails, the files or the output, the log and
+-- the status are these. So the premises of the headlines can be met, and what they promise is what users see.
+use Rattle.cweb_tools.proofs.Common.{◌≡◌, ◌≢◌, ℕ, List, [], ◌∷◌, ◌++◌, refl, sym, ◌∙◌, ap, subst, append-nil, append_assoc, rules, and_from, Option, None, IsSome, codes, flat_map, World, world_of, Event, run_steps, started, merge, merge-run_steps, taken_lines, IsWithinLimits, Memory, LogItem, line, stop_line, OptionsModel, options_by, WebNames, web_names_by, Devices, AreObservable, Act, logged_items, acts_status, ActsKeepLimits, put_files, written_files, RanFreely, Course, IsMergeCourse, merging, merge_course, merge_acts, merge_devices, TangleCourse, IsTangleCourse, tangle_course, tangle_files, tangle_status, tangled, printed_bytes, script, shown_by, depend_acts}
+use Rattle.std.specs.Fmt.{digits}
+use Rattle.std.specs.Str.{is_utf8, chars}
+use lib.Utf8.{encode}
+use Rattle.cweb_tools.specs.Depend.{DependsFreely, targets_by}
+use Rattle.cweb_tools.specs.MergeActs.{MergesFreely}
+use Rattle.cweb_tools.specs.Tangle.{TanglesFreely}
+use Rattle.cweb_tools.specs.declared.rule_targets.Targets.TheVariants.{All}
+use Rattle.cweb_tools.proofs.Courses.{merge_comes, tangle_comes}
+use Rattle.cweb_tools.proofs.ScriptExamples.{tangle_log}
+use Rattle.cweb_tools.proofs.TangleExamples.{Left, events_of, file, hello_run, hello_text, text_in}
+
+-- No count of failures rose, and the log doesn't end with the line that memory ran out.
+pub record NothingFailed (before after : Devices) : Type 0 where
+  pub shelf : after.shelf.failed ≡ before.shelf.failed
+  pub out : after.out.failed ≡ before.out.failed
+  pub log : after.log.failed ≡ before.log.failed
+  pub memory : (first : List ℕ) → after.log.bytes ≢ first ++ stop_line Memory []
+
+-- Then a run within the limits ran freely.
+free : {acts : List Act} {before after : Devices} → ActsKeepLimits acts → NothingFailed before after
+    → RanFreely acts before after
+free {before = before} within none = record {
+  shelf = none.shelf;
+  out = none.out;
+  log = none.log;
+  within = within;
+  memory = λ done later act is needs same.
+      none.memory (before.log.bytes ++ flat_map line (logged_items done))
+      (same ∙ sym (append_assoc before.log.bytes (flat_map line (logged_items done)) (stop_line Memory [])));
+}
+
+-- The files of the folder, and the words of each run.
+abbrev pub hello_contents : List ℕ → Option (List ℕ)
+hello_contents = text_in (codes "hello.w") hello_text
+
+abbrev pub hello_words : List (List ℕ)
+hello_words = codes "hello" ∷ []
+
+abbrev there : World
+there = world_of hello_contents None
+
+abbrev args : Option OptionsModel
+args = options_by hello_words
+
+abbrev names : Option WebNames
+names = web_names_by hello_words
+
+-- The merge takes few steps, and few short lines.
+abbrev events : List Event
+events = events_of (run_steps 40 there (started hello_text None))
+
+few_steps : merge there (started hello_text None) ≡ events
+few_steps = merge-run_steps 40 there (started hello_text None) events refl
+
+few_lines : IsWithinLimits (taken_lines events)
+few_lines = search rules
+
+abbrev course : Course
+course = merging (codes "hello.w" ∷ []) events
+
+course_is : merge_course there names ≡ course
+course_is = ap (λ (es : List Event). merging (codes "hello.w" ∷ []) es) few_steps
+
+comes : IsMergeCourse there names course
+comes = subst (IsMergeCourse there names) course_is (merge_comes there names)
+
+abbrev web_course : TangleCourse
+web_course = tangled (codes "hello.c") course
+
+web_comes : IsTangleCourse there args web_course
+web_comes = subst (IsTangleCourse there args) (ap (tangled (codes "hello.c")) course_is) (tangle_comes there args)
+
+-- What the headline of `ctangle` says of this web.
+pub record HelloTangled (before after : Devices) (status : ℕ) : Type 0 where
+  pub files : after.out.beside.files ≡ put_files before.out.beside.files (file (codes "hello.c")
+      (codes "/*1:*/\n#line 2 \"hello.w\"\n\n#include <stdio.h>\nint main(void){/*2:*/\n"
+      ++ codes "#line 5 \"hello.w\"\n\nputs(\"hi\");/*:2*/\n#line 4 \"hello.w\"\nreturn 0;}\n/*:1*/\n") ∷ [])
+  pub log : after.log.bytes ≡ before.log.bytes
+      ++ codes "This is CTANGLE, profile of CWEB 3\nWriting hello.c\n(No errors were found.)\n"
+  pub status_is : status ≡ 0
+
+tangle_within : ActsKeepLimits (script (shown_by args) web_course)
+unfolding digits is_utf8 chars encode
+tangle_within = search (rules, few_lines)
+
+-- A run on a shelf with these files, by the effect that is computed for it.
+pub hello_tangled : (before after : Devices) (status : ℕ) → AreObservable before → before.shelf.texts ≡ hello_contents
+    → NothingFailed before after
+    → TanglesFreely (world_of before.shelf.texts None) (options_by hello_words) before after status
+    → HelloTangled before after status
+hello_tangled before after status tell alone none run =
+    let run_there = subst (λ (texts : List ℕ → Option (List ℕ)). TanglesFreely (world_of texts None)
+    args before after status) alone run in
+    let is : web_course ≡ tangle_course there args = sym (ap (tangled (codes "hello.c")) course_is) in
+    let did = run_there tell web_course web_comes (free tangle_within none) in record {
+      files = did.files
+          ∙ ap (λ (c : TangleCourse). put_files before.out.beside.files (tangle_files (shown_by args) c)) is
+          ∙ ap (λ (left : Left). put_files before.out.beside.files left.files) hello_run;
+      log = did.logged ∙ ap (λ (c : TangleCourse). before.log.bytes ++ tangle_log (shown_by args) c) is
+          ∙ ap (λ (left : Left). before.log.bytes ++ left.log) hello_run;
+      status_is = did.answered ∙ ap (tangle_status (shown_by args)) is ∙ ap (λ (left : Left). left.status) hello_run;
+    }
+
+-- What the headline of `wmerge` says of this web. No line has a blank at its end, so the lines are printed as they are.
+pub record HelloMerged (before after : Devices) (status : ℕ) : Type 0 where
+  pub printed : after.out.bytes ≡ before.out.bytes ++ hello_text
+  pub log : after.log.bytes ≡ before.log.bytes
+  pub status_is : status ≡ 0
+
+merge_within : ActsKeepLimits (merge_acts course)
+merge_within = search (rules, few_lines)
+
+merge_text : printed_bytes (merge_acts course) ≡ hello_text
+merge_text = refl
+
+pub hello_merged : (before after : Devices) (status : ℕ) → AreObservable before → before.shelf.texts ≡ hello_contents
+    → NothingFailed before after
+    → MergesFreely (world_of before.shelf.texts None) (web_names_by hello_words) before after status
+    → HelloMerged before after status
+hello_merged before after status tell alone none run =
+    let run_there = subst (λ (texts : List ℕ → Option (List ℕ)). MergesFreely (world_of texts None)
+    names before after status) alone run in
+    let both : AreObservable (merge_devices before) =
+    (tell.0, and_from before.shelf.tells before.out.tells tell.0 tell.1, tell.2) in
+    let did = run_there both course comes (free merge_within
+    (record { shelf = none.shelf; out = none.out; log = none.log; memory = none.memory })) in record {
+      printed = did.printed refl refl ∙ ap (λ (text : List ℕ). before.out.bytes ++ text) merge_text;
+      log = did.logged ∙ append-nil before.log.bytes;
+      status_is = did.answered;
+    }
+
+-- What the headline of `wdep` says of this web.
+pub record HelloDepends (before after : Devices) (status : ℕ) : Type 0 where
+  pub printed : after.out.bytes ≡ before.out.bytes ++ codes "hello.c: hello.w\n"
+  pub log : after.log.bytes ≡ before.log.bytes
+  pub status_is : status ≡ 0
+
+-- What its acts leave.
+record RuleOnly (acts : List Act) : Type 0 where
+  within : ActsKeepLimits acts
+  none : written_files acts ≡ []
+  printed : printed_bytes acts ≡ codes "hello.c: hello.w\n"
+  logged : logged_items acts ≡ []
+  answered : acts_status acts ≡ 0
+
+rule_only : RuleOnly (depend_acts All web_course)
+unfolding digits is_utf8 chars encode
+rule_only = record { within = search (rules, few_lines); none = refl; printed = refl; logged = refl; answered = refl }
+
+pub hello_depends : (before after : Devices) (status : ℕ) → AreObservable before → before.shelf.texts ≡ hello_contents
+    → IsSome before.out.beside.draft → NothingFailed before after → DependsFreely (world_of before.shelf.texts None)
+    (targets_by hello_words) (options_by hello_words) before after status → HelloDepends before after status
+hello_depends before after status tell alone is_open none run =
+    let run_there = subst (λ (texts : List ℕ → Option (List ℕ)). DependsFreely (world_of texts None)
+    All args before after status) alone run in
+    let did = run_there tell web_course web_comes (free rule_only.within none) in record {
+      printed = did.printed rule_only.none is_open ∙ ap (λ (text : List ℕ). before.out.bytes ++ text) rule_only.printed;
+      log = did.logged
+          ∙ ap (λ (items : List LogItem). before.log.bytes ++ flat_map line items) rule_only.logged
+          ∙ append-nil before.log.bytes;
+      status_is = did.answered ∙ rule_only.answered;
+    }

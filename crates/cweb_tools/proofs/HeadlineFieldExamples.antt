@@ -1,0 +1,166 @@
+-- Worked examples: what each field of the headlines' records says of a run and its devices.
+use Rattle.cweb_tools.proofs.Common.{◌≡◌, ◌+◌, ℕ, List, [], ◌∷◌, ◌++◌, refl, sym, ◌∙◌, ap, arith, codes, Option, Some, None, IsTrue, IsSome, File, no_device, Line, Event, took, fault, World, Found, web_at, change_at, found_course, OptionsModel, WebNames, Devices, AreObservable, DeviceState, Act, says, reads, writes, prints, after_act, RunEnds, completes, stops, RanFreely, DoesActs, put_files, AgreesWith, observed_state, acts_status, script, shown_by, Course, change_name, CanCome, MergeCanCome, TangleCourse, unread, not_there, change_not_there, tangling, tangled, planning, Web, Scanned, TanglePromises}
+use Rattle.cweb_log.specs.Items.{writing}
+use Rattle.cweb_tools.specs.Acts.{bins_fail, begin_fails, read_fails}
+use Rattle.cweb_tools.specs.Course as course
+use Rattle.cweb_tools.proofs.Courses.{tangle_only}
+use Rattle.cweb_tools.proofs.TangleExamples.{file}
+use Rattle.cweb_tools.proofs.TanglePromisesProved.{shown_reported}
+
+-- The acts of one output.
+abbrev output : List Act
+output = says (writing (codes "a.c")) ∷ writes (codes "a.c") (codes "x\n") ∷ []
+
+-- `RanFreely`: no run of these is a free one.
+module _ {acts : List Act} {before after : Devices} (free : RanFreely acts before after) where
+  failed_read : after.shelf.failed ≡ before.shelf.failed + 1 → ⊥
+  failed_read failed = omega (arith, failed, free.shelf)
+
+  failed_output : after.out.failed ≡ before.out.failed + 1 → ⊥
+  failed_output failed = omega (arith, failed, free.out)
+
+  failed_log : after.log.failed ≡ before.log.failed + 1 → ⊥
+  failed_log failed = omega (arith, failed, free.log)
+
+-- A line of a MiB.
+long_line : (line : Line) (before after : Devices) → RanFreely (reads (codes "a.w" ∷ [])
+    (took (record { line = line; length = 1_048_576; size = 1_048_577 }) ∷ []) ∷ []) before after → ⊥
+long_line line before after free = omega (arith, free.within.0.short.0)
+
+-- Memory ran out in a file, after the line that it is written.
+out_of_memory : (before after : Devices)
+    → after.log.bytes ≡ before.log.bytes ++ codes "Writing a.c\n! Out of memory\n"
+    → RanFreely output before after → ⊥
+out_of_memory before after logged free =
+    free.memory (says (writing (codes "a.c")) ∷ []) [] (writes (codes "a.c") (codes "x\n")) refl refl logged
+
+-- `DoesActs`: an older a.c is replaced.
+replaced : (before after : Devices) (status : ℕ) → DoesActs output before after status
+    → before.out.beside.files ≡ file (codes "a.c") (codes "old\n") ∷ file (codes "b.c") (codes "y\n") ∷ []
+    → after.out.beside.files ≡ file (codes "b.c") (codes "y\n") ∷ file (codes "a.c") (codes "x\n") ∷ []
+replaced before after status did older =
+    did.files ∙ ap (λ (files : List File). put_files files (file (codes "a.c") (codes "x\n") ∷ [])) older
+
+announced : (before after : Devices) (status : ℕ) → DoesActs output before after status
+    → after.log.bytes ≡ before.log.bytes ++ codes "Writing a.c\n"
+announced before after status did = did.logged
+
+no_fault : (before after : Devices) (status : ℕ) → DoesActs output before after status → status ≡ 0
+no_fault before after status did = did.answered
+
+one_fault : (before after : Devices) (status : ℕ) → DoesActs (says (fault (codes "Cycle: <A> <A>")) ∷ output)
+    before after status → status ≡ 1
+one_fault before after status did = did.answered
+
+-- An output that is open gets what is printed.
+rule : (before after : Devices) (status : ℕ) → DoesActs (prints (codes "a.c: a.w\n") ∷ []) before after status
+    → IsSome before.out.beside.draft → after.out.bytes ≡ before.out.bytes ++ codes "a.c: a.w\n"
+rule before after status did is_open = did.printed refl is_open
+
+-- `AgreesWith`: a read of a.w failed. The shelf counts it and blames a.w.
+module _ (now : DeviceState) (after : Devices) (held : AgreesWith (read_fails (codes "a.w") now) after) where
+  read_is_counted : after.shelf.failed ≡ now.shelf_failed + 1
+  read_is_counted = sym held.shelf_failed
+
+  reader_is_blamed : IsTrue after.shelf.tells → after.shelf.blamed ≡ now.blamed ++ codes "a.w" ∷ []
+  reader_is_blamed tells = sym (held.blamed tells)
+
+-- A file could not be begun. The bins count that and have the reason, the old files and no draft.
+module _ (now : DeviceState) (after : Devices) (held : AgreesWith (bins_fail (begin_fails no_device now)) after) where
+  refusal_is_counted : after.out.failed ≡ now.bins_failed + 1
+  refusal_is_counted = sym held.bins_failed
+
+  files_stay : IsTrue after.out.tells → after.out.beside.files ≡ now.files
+  files_stay tells = sym (held.files tells)
+
+  no_draft : IsTrue after.out.tells → after.out.beside.draft ≡ None
+  no_draft tells = sym (held.draft tells)
+
+  refusal_has_a_reason : IsTrue after.out.tells → after.out.beside.refused ≡ Some no_device
+  refusal_has_a_reason tells = sym (held.refused tells)
+
+-- The log failed within a line.
+module _ (now : DeviceState) (after : Devices)
+    (held : AgreesWith (record now { log_failed = now.log_failed + 1; log = now.log ++ codes "Writ" }) after) where
+  log_is_counted : after.log.failed ≡ now.log_failed + 1
+  log_is_counted = sym held.log_failed
+
+  log_has_a_prefix : IsTrue after.log.tells → after.log.bytes ≡ now.log ++ codes "Writ"
+  log_has_a_prefix tells = sym (held.log tells)
+
+-- A rule was printed to an open output.
+rule_is_printed : (now : DeviceState) (after : Devices) → AgreesWith (after_act (prints (codes "a.c: a.w\n")) now) after
+    → IsTrue after.out.tells → IsSome after.out.beside.draft → after.out.bytes ≡ now.printed ++ codes "a.c: a.w\n"
+rule_is_printed now after held tells is_open = sym (held.printed tells is_open)
+
+-- `CanCome`: words that can be read don't lead to the usage line, and others only to that.
+never_unread : (args : OptionsModel) → CanCome (Some args) unread → ⊥
+never_unread args can = can
+
+only_unread : (course : TangleCourse) → CanCome None course → course ≡ unread
+only_unread unread can = refl
+only_unread course can = absurd can
+
+-- A missing file is one of the words' names.
+missing_web : (args : OptionsModel) (web : List ℕ) → CanCome (Some args) (not_there web) → web ≡ args.names.merge.web
+missing_web args web can = can
+
+missing_change : (args : OptionsModel) (change : List ℕ) → CanCome (Some args) (change_not_there change)
+    → change ≡ change_name args.names.merge.change
+missing_change args change can = can
+
+-- The outputs are those of what was scanned, and the first is named by the words.
+planned_web : (args : OptionsModel) (files : List (List ℕ)) (events : List Event) (web : Web)
+    → CanCome (Some args) (tangling files events web)
+    → (made : Scanned) × (web.plan ≡ planning made.store files args.names.main)
+planned_web args files events web can = (can.made, ap (λ (w : Web). w.plan) can.is)
+
+-- `MergeCanCome`, likewise.
+merge_never_unread : (names : WebNames) → MergeCanCome (Some names) course.unread → ⊥
+merge_never_unread names can = can
+
+merge_only_unread : (taken : Course) → MergeCanCome None taken → taken ≡ course.unread
+merge_only_unread course.unread can = refl
+merge_only_unread taken can = absurd can
+
+merge_missing_web : (names : WebNames) (web : List ℕ) → MergeCanCome (Some names) (course.not_there web)
+    → web ≡ names.web
+merge_missing_web names web can = can
+
+merge_missing_change : (names : WebNames) (change : List ℕ)
+    → MergeCanCome (Some names) (course.change_not_there change) → change ≡ change_name names.change
+merge_missing_change names change can = can
+
+-- `FollowsActs`: whatever the shelf, a run of `ctangle` with unreadable words ends with status 1.
+one_by : {acts : List Act} {old new : DeviceState} {status : ℕ} (expected : ℕ) → expected ≡ 1
+    → RunEnds acts expected old new status → status ≡ 1
+one_by expected is (completes run answered) = answered ∙ is
+one_by expected is (stops why mid run logs answered) = answered
+
+unread_words : (world : World) (before after : Devices) (status : ℕ) → TanglePromises world None before after status
+    → status ≡ 1
+unread_words world before after status run =
+    let last = run.ends (observed_state before) shown_reported in
+    one_by _ (ap (λ (c : TangleCourse). acts_status (script (shown_by None) c)) (only_unread run.course run.can))
+    last.ends
+
+-- Over an observable shelf a run goes as the files ask for: without any file, no web is there.
+abbrev empty_folder : World
+empty_folder = record { texts = λ name. None; inputs = None }
+
+no_web : (web : List ℕ) (second : Option (List ℕ)) → web_at empty_folder.texts web second ≡ None
+no_web web None = refl
+no_web web (Some second) = refl
+
+no_files : (args : OptionsModel) (before after : Devices) (status : ℕ)
+    → (run : TanglePromises empty_folder (Some args) before after status) → IsTrue before.shelf.tells
+    → run.course ≡ not_there args.names.merge.web
+no_files args before after status run tells = tangle_only empty_folder (Some args) run.course (run.is tells)
+    ∙ ap (λ (found : Option Found). tangled args.names.main (found_course empty_folder args.names.merge found
+    (change_at empty_folder.texts args.names.merge.change))) (no_web args.names.merge.web args.names.merge.second)
+
+-- Observable devices stay so.
+stay_observable : (world : World) (args : Option OptionsModel) (before after : Devices) (status : ℕ)
+    → TanglePromises world args before after status → AreObservable before → AreObservable after
+stay_observable world args before after status run tell =
+    (run.shelf_tells ∙ tell.0, run.bins_tell ∙ tell.1, run.log_tells ∙ tell.2)
