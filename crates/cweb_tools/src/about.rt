@@ -11,7 +11,7 @@ ghost use Rattle.cweb_tools.specs.inner.About.{about_wdep, about_word};
 use cweb_lines::{Sink, Stop, write_all};
 use cweb_log::log_stop;
 
-const VERSION: &str = "wdep (Lozgirpa) 0.5.1-dev\n";
+const VERSION: &str = "wdep (Lozgirpa) 0.5.1\n";
 
 const HELP: &str = "Usage: wdep [options] webfile[.w] [{changefile[.ch]|-} [outfile[.c]]]
 
