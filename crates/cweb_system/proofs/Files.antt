@@ -23,9 +23,9 @@ leaves_files_then {files} {a} {b} {c} first then = record {
 }
 
 -- What is cleared is no committed file.
-pub cleared_leaves : (ws : List WrittenFile) (path : List ℕ) (old new : Tree) → new.place ≡ old.place → Clears path old new
+pub cleared_leaves : (ws : List WrittenFile) (path : List ℕ) (old new : Tree) → Clears path old new
     → All (λ (w : WrittenFile). IsFile w.key (at old path) → ⊥) ws → Leaves ws old new
-cleared_leaves ws path old new places clears other = ⊎_elim
+cleared_leaves ws path old new (places, clears) other = ⊎_elim
     (λ (gone : Removes path old new). record {
       place = places;
       entries = λ k d within is. stays gone (slice_index_or ws k d) (other k d within) is;

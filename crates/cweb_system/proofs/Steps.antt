@@ -9,7 +9,7 @@ use Rattle.cweb_system.specs.declared.node.Node.{Node}
 use Rattle.cweb_system.specs.Tree.{Tree, IsFile, at, bytes_of, Appends, Creates, MayCreate, Removes, Renames, SetsMode}
 use Rattle.cweb_system.specs.inner.Drafts.{IsAlone, KeepsDecent}
 use Rattle.cweb_system.specs.Steps.{AreDecent, Arrives, Changes, Disk, IsDecent, IsDraftPlace, NotesFailure, Stays, TakesStep}
-use Rattle.cweb_system.specs.inner.DraftPaths.{IsDraftPath, IsDraftAlone}
+use Rattle.cweb_system.specs.inner.Drafts.{IsDraftPath, IsDraftAlone}
 
 stepping : (read : List FileKey) (old new : Disk) → TakesStep old new → IsDecent read old.tree new.tree
     → AreDecent read old.tree old.past → AreDecent read new.tree new.past

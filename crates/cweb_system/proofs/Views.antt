@@ -5,13 +5,13 @@ use Rattle.std.proofs.lemmas.List.Elements.{All-nil, All-cons, All-head, All-tai
 use Rattle.std.proofs.lemmas.Slice.Eq.{bytes_eq-Decides}
 use Rattle.std.specs.Prelude.{All, filter}
 use Rattle.std.specs.Str.{bytes_eq}
-use Rattle.cweb_files.specs.Files.{put_file, without}
+use Rattle.cweb_files.specs.Files.{File, put_file, without}
 use Rattle.cweb_system.specs.declared.node.FileKey.{FileKey}
 use Rattle.cweb_system.specs.declared.node.Node.{Node}
 use Rattle.cweb_system.specs.declared.written.WrittenFile.{WrittenFile}
 use Rattle.cweb_system.specs.Tree.{Tree, at, bytes_of, contents, IsFile, Appends}
 use Rattle.cweb_system.specs.inner.Written.{FilesAreThere, IsNew, IsUnnamed, Leaves, Places}
-use Rattle.cweb_system.specs.Folder.{file_in}
+use Rattle.cweb_system.specs.Bins.{file_in}
 
 -- A file that was found has the bytes of its key.
 pub bytes_is : (tree : Tree) (o : Option Node) (key : FileKey) → IsFile key o → bytes_of tree o ≡ tree.bytes key
@@ -36,6 +36,12 @@ pub files_left : (written : List WrittenFile) (old new : Tree) → FilesAreThere
     → map (file_in new) written ≡ map (file_in old) written
 files_left written old new stand leaves = map_same (file_in new) (file_in old) written
     (λ k d within. file_same old new (slice_index_or written k d) (stand k d within) (leaves.entries k d within (stand k d within)) (leaves.bytes k d within))
+
+-- They show what they showed, if the list is the same.
+pub files_then : {ws now : List WrittenFile} {old new : Tree} {files : List File} → now ≡ ws → FilesAreThere old ws
+    → Leaves ws old new → map (file_in old) ws ≡ files → map (file_in new) now ≡ files
+files_then {ws} {now} {old} {new} {files} same there leaves is =
+    ap (λ (l : List WrittenFile). map (file_in new) l) same ∙ files_left ws old new there leaves ∙ is
 
 -- Whether a file isn't of this name.
 abbrev pub is_other : List ℕ → WrittenFile → Bool

@@ -1,11 +1,36 @@
--- The model of bins over a file system.
-use Rattle.std.specs.Prelude.{ℕ, List}
-use Rattle.cweb_files.specs.Files.{Beside}
-use Rattle.cweb_system.specs.declared.folder_bins.FolderBins.{FolderBins}
+-- What bins over a file system have.
+use Rattle.std.specs.Prelude.{ℕ, List, [], map, Option, Some, None, option_map, string_bytes}
+use Rattle.cweb_files.specs.Bins.{refusal}
+use Rattle.cweb_files.specs.Files.{File, Beside}
+use Rattle.cweb_system.specs.declared.bins.Folder.{Folder}
+use Rattle.cweb_system.specs.declared.drafts.Draft.{Draft}
 use Rattle.cweb_system.specs.declared.file_system.FileSystem.{Ghosts as FileSystem}
+use Rattle.cweb_system.specs.declared.folder_bins.FolderBins.{FolderBins}
 use Rattle.cweb_system.specs.declared.node.FileKey.{FileKey}
+use Rattle.cweb_system.specs.declared.written.WrittenFile.{WrittenFile}
 use Rattle.cweb_system.specs.FileSet.{keys_in}
-use Rattle.cweb_system.specs.Folder.{folder_beside, folder_bytes, folder_failed}
+use Rattle.cweb_system.specs.Tree.{Tree, contents}
+
+-- A committed file, as it is in the file system.
+abbrev pub file_in : Tree → WrittenFile → File
+file_in tree w = record { name = string_bytes w.name; bytes = contents tree (string_bytes w.name) }
+
+abbrev pub draft_name : {H : Type 0} → Draft H → List ℕ
+draft_name draft = string_bytes draft.name
+
+abbrev pub draft_bytes : {H : Type 0} → Tree → Option (Draft H) → List ℕ
+draft_bytes tree None = []
+draft_bytes tree (Some draft) = tree.bytes draft.key
+
+abbrev pub folder_bytes : {F H : Type 0} → FileSystem F H → Folder F H → List ℕ
+folder_bytes system folder = draft_bytes (system.disk folder.fs).tree folder.draft
+
+abbrev pub folder_beside : {F H : Type 0} → FileSystem F H → Folder F H → Beside
+folder_beside system folder = record {
+  files = map (file_in (system.disk folder.fs).tree) folder.files.written.items;
+  draft = option_map draft_name folder.draft;
+  refused = option_map refusal folder.refused;
+}
 
 abbrev pub bins_system : {F H : Type 0} {system : FileSystem F H} → FolderBins F H system → F
 bins_system bins = bins.folder.fs
@@ -15,7 +40,7 @@ abbrev pub bins_read : {F H : Type 0} {system : FileSystem F H} → FolderBins F
 bins_read bins = keys_in bins.folder.files.read
 
 abbrev pub bins_failed : {F H : Type 0} {system : FileSystem F H} → FolderBins F H system → ℕ
-bins_failed bins = folder_failed bins.folder
+bins_failed bins = bins.folder.failed
 
 abbrev pub bins_beside : {F H : Type 0} (system : FileSystem F H) → FolderBins F H system → Beside
 bins_beside system bins = folder_beside system bins.folder

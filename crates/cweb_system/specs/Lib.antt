@@ -2,6 +2,4 @@ pub mod inner
 pub mod Tree
 pub mod Steps
 pub mod FileSet
-pub mod Folder
 pub mod Bins
-pub mod Shelf

@@ -1,5 +1,4 @@
 -- Definitions that only the functions of this crate cite.
-pub mod DraftPaths
 pub mod Drafts
 pub mod FolderSound
 pub mod Keys

@@ -1,14 +1,13 @@
 // Files of a file system as bins.
-ghost use Rattle.std.specs.Prelude.{◌≡◌, ◌≤◌, ◌<◌, ◌+◌, ◌^◌, ◌++◌, ◌∷◌, [], None, IsTrue, IsSome, IfSome, IfOk, IfErr, OnOk, OnErr};
+ghost use Rattle.std.specs.Prelude.{◌≡◌, ◌≤◌, ◌<◌, ◌+◌, ◌^◌, ◌++◌, [], None, IsTrue, IsSome, IfSome, IfOk, IfErr, OnOk, OnErr};
 ghost use Rattle.std.specs.Prelude.{length, take, string_bytes};
 ghost use Rattle.cweb_files.specs.Bins.{CountsFailure, CountsDeviceFailure};
-ghost use Rattle.cweb_system.specs.FileSet.{keys_in};
-ghost use Rattle.cweb_system.specs.Tree.{IsFile, at};
-ghost use Rattle.cweb_system.specs.inner.Drafts.{HasDeviceCause, IsClearable, IsCleared, IsReplaceable, KeepsDecent};
+ghost use Rattle.cweb_system.specs.inner.Drafts.{IfCanBegin, IfCanPlace, IsCleared};
 ghost use Rattle.cweb_system.specs.inner.Drafts.{KeepsMode};
 
 use crate::drafts::{Draft, begin, discard, put_in_place, write_to};
 use crate::file_system::FileSystem;
+use crate::node::FileFault;
 use crate::run_files::RunFiles;
 use cweb_files::{BinFault, SinkFault};
 use std::alloc::Global;
@@ -26,28 +25,26 @@ pub struct Folder<F: FileSystem + Drop> {
 }
 
 impl<F: FileSystem + Drop> Folder<F> {
-    ghost use Rattle.cweb_system.specs.Folder.{folder_beside, folder_bytes, folder_failed};
+    ghost use Rattle.cweb_system.specs.Bins.{folder_beside, folder_bytes};
     ghost use Rattle.cweb_system.specs.inner.FolderSound.{IsSound, KeepsFolder};
     ghost use Rattle.cweb_files.specs.Bins.{refused_with};
     ghost use Rattle.cweb_files.specs.Files.{committed, with_draft, without_draft};
 
     /// Begins an empty draft and discards an open one.
     pub fn start(&mut self, name: &str) -> Result<(), BinFault>
-        requires count { folder_failed self.old + 1 < 2 ^ 64 }
+        requires count { self.old.failed + 1 < 2 ^ 64 }
         requires sound { IsSound F.FileSystem self.old }
         ensures sound { IsSound F.FileSystem self.new }
         ensures keeps { KeepsFolder F.FileSystem self.old self.new }
-        ensures failed { CountsDeviceFailure (folder_failed self.old) (folder_failed self.new) result }
+        ensures failed { CountsDeviceFailure self.old.failed self.new.failed result }
         ensures begun { IsTrue (F.disk self.old.fs).tells → OnOk result
             (folder_beside F.FileSystem self.new ≡ with_draft name.now (folder_beside F.FileSystem self.old)) }
         ensures empty { IsTrue (F.disk self.old.fs).tells → OnOk result
             (folder_bytes F.FileSystem self.new ≡ []) }
         ensures err { IsTrue (F.disk self.old.fs).tells → IfErr result (λ fault.
             folder_beside F.FileSystem self.new ≡ refused_with fault (folder_beside F.FileSystem self.old)) }
-        ensures cause { IsTrue (F.disk self.old.fs).tells → self.old.draft ≡ None →
-            IsReplaceable self.old.files name.now (at (F.disk self.old.fs).tree name.now) →
-            IsClearable self.old.files (at (F.disk self.old.fs).tree (name.now ++ 127 ∷ [])) →
-            HasDeviceCause (F.disk self.new.fs).failed result }
+        ensures cause { self.old.draft ≡ None → IfCanBegin self.old.files name.now (F.disk self.old.fs)
+            (IfErr result (λ fault. fault ≡ BinFault.Device → IsTrue (F.disk self.new.fs).failed)) }
     {
         self.abandon();
         match begin(self.alloc, &mut self.fs, name, &mut self.files) {
@@ -56,25 +53,24 @@ impl<F: FileSystem + Drop> Folder<F> {
                 self.refused = None;
                 Ok(())
             }
-            Err(BinFault::Memory) => {
-                self.refused = Some(BinFault::Memory);
-                Err(BinFault::Memory)
-            }
-            Err(BinFault::Device) => {
-                self.refused = Some(BinFault::Device);
-                self.failed += 1;
-                Err(BinFault::Device)
+            Err(fault) => {
+                let fault = bin_fault(fault);
+                self.refused = Some(fault);
+                if fault == BinFault::Device {
+                    self.failed += 1;
+                }
+                Err(fault)
             }
         }
     }
 
     /// Appends bytes to the draft.
     pub fn add(&mut self, piece: &[u8]) -> Result<usize, SinkFault>
-        requires count { folder_failed self.old + 1 < 2 ^ 64 }
+        requires count { self.old.failed + 1 < 2 ^ 64 }
         requires sound { IsSound F.FileSystem self.old }
         ensures sound { IsSound F.FileSystem self.new }
         ensures keeps { KeepsFolder F.FileSystem self.old self.new }
-        ensures failed { CountsFailure (folder_failed self.old) (folder_failed self.new) result }
+        ensures failed { CountsFailure self.old.failed self.new.failed result }
         ensures within { IfOk result (λ n. n ≤ length piece.now) }
         ensures some { 0 < length piece.now → IfOk result (λ n. 0 < n) }
         ensures bytes { IsTrue (F.disk self.old.fs).tells → IfOk result (λ n.
@@ -105,11 +101,11 @@ impl<F: FileSystem + Drop> Folder<F> {
 
     /// Makes the draft a file of its name.
     pub fn commit(&mut self) -> Result<(), BinFault>
-        requires count { folder_failed self.old + 1 < 2 ^ 64 }
+        requires count { self.old.failed + 1 < 2 ^ 64 }
         requires sound { IsSound F.FileSystem self.old }
         ensures sound { IsSound F.FileSystem self.new }
         ensures keeps { KeepsFolder F.FileSystem self.old self.new }
-        ensures failed { CountsFailure (folder_failed self.old) (folder_failed self.new) result }
+        ensures failed { CountsFailure self.old.failed self.new.failed result }
         ensures device { IfErr result (λ fault. fault ≡ BinFault.Device) }
         ensures begun { IsTrue (F.disk self.old.fs).tells → OnOk result
             (IsSome (folder_beside F.FileSystem self.old).draft) }
@@ -117,17 +113,14 @@ impl<F: FileSystem + Drop> Folder<F> {
             (folder_beside F.FileSystem self.new
             ≡ committed (folder_beside F.FileSystem self.old) (folder_bytes F.FileSystem self.old)) }
         ensures mode { IsTrue (F.disk self.old.fs).tells → OnOk result
-            (IfSome self.old.draft (λ draft. KeepsMode (string_bytes draft.name) draft.key
-            (F.disk self.old.fs).tree (F.disk self.new.fs).tree)) }
+            (IfSome self.old.draft (λ draft. KeepsMode (string_bytes draft.name)
+            (string_bytes draft.name) draft.key (F.disk self.old.fs).tree (F.disk self.new.fs).tree)) }
         ensures removed { IsTrue (F.disk self.old.fs).tells →
             IfSome self.old.draft (λ draft. IsCleared (string_bytes draft.path) (F.disk self.new.fs)) }
         ensures err { IsTrue (F.disk self.old.fs).tells → OnErr result
             (folder_beside F.FileSystem self.new ≡ without_draft (folder_beside F.FileSystem self.old)) }
-        ensures cause { IsTrue (F.disk self.old.fs).tells → IfSome self.old.draft (λ draft.
-            IsReplaceable self.old.files (string_bytes draft.name)
-            (at (F.disk self.old.fs).tree (string_bytes draft.name)) →
-            (IsFile draft.key (at (F.disk self.old.fs).tree (string_bytes draft.name)) → ⊥) →
-            OnErr result (IsTrue (F.disk self.new.fs).failed)) }
+        ensures cause { IfSome self.old.draft (λ draft. IfCanPlace self.old.files draft
+            (F.disk self.old.fs) (OnErr result (IsTrue (F.disk self.new.fs).failed))) }
     {
         let Some(draft) = self.draft.take() else {
             self.failed += 1;
@@ -154,7 +147,7 @@ impl<F: FileSystem + Drop> Folder<F> {
         requires sound { IsSound F.FileSystem self.old }
         ensures sound { IsSound F.FileSystem self.new }
         ensures keeps { KeepsFolder F.FileSystem self.old self.new }
-        ensures failed { folder_failed self.new ≡ folder_failed self.old }
+        ensures failed { self.new.failed ≡ self.old.failed }
         ensures gone { IsTrue (F.disk self.old.fs).tells →
             folder_beside F.FileSystem self.new ≡ without_draft (folder_beside F.FileSystem self.old) }
         ensures removed { IsTrue (F.disk self.old.fs).tells →
@@ -166,5 +159,16 @@ impl<F: FileSystem + Drop> Folder<F> {
         if let Some(draft) = self.draft.take() {
             discard(&mut self.fs, draft, &self.files);
         }
+    }
+}
+
+/// Only want of memory has a fault of its own.
+fn bin_fault(fault: FileFault) -> BinFault
+    ensures memory { fault ≡ FileFault.Memory → result ≡ BinFault.Memory }
+    ensures device { (fault ≡ FileFault.Memory → ⊥) → result ≡ BinFault.Device }
+{
+    match fault {
+        FileFault::Memory => BinFault::Memory,
+        _ => BinFault::Device,
     }
 }

@@ -2,10 +2,10 @@
 ghost use Rattle.std.specs.Prelude.{◌≡◌, ◌++◌, ◌∷◌, [], IsTrue, IsErr, IfErr, IfOk, OnOk, string_bytes};
 ghost use Rattle.cweb_system.specs.FileSet.{keys_in};
 ghost use Rattle.cweb_system.specs.Tree.{at};
-ghost use Rattle.cweb_system.specs.inner.Drafts.{CanPut, DraftIsThere, HasDeviceCause, IsClearable};
-ghost use Rattle.cweb_system.specs.inner.Drafts.{IsReplaceable, LeavesFiles, SameFiles};
+ghost use Rattle.cweb_system.specs.inner.Drafts.{BeginsDraft, CanPut, HasCause, HasDraft, IfCanBegin, IsClearable};
+ghost use Rattle.cweb_system.specs.inner.Drafts.{LeavesFiles};
 ghost use Rattle.cweb_system.specs.inner.Keys.{is_among};
-ghost use Rattle.cweb_system.specs.inner.Written.{FilesAreThere};
+ghost use Rattle.cweb_system.specs.inner.Written.{HasFiles};
 
 mod committing;
 mod creating;
@@ -18,7 +18,6 @@ use crate::file_system::FileSystem;
 use crate::node::{FileFault, FileKey};
 use crate::run_files::RunFiles;
 pub use committing::{discard, put_in_place};
-use cweb_files::BinFault;
 use std::alloc::{AllocError, Global};
 pub use steps::write_to;
 
@@ -44,58 +43,24 @@ pub fn begin<F: FileSystem>(
     fs: &mut F,
     name: &str,
     files: &mut RunFiles,
-) -> Result<Draft<F::File>, BinFault>
-    requires { IsTrue (F.disk fs.old).tells → FilesAreThere (F.disk fs.old).tree files.old.written.items }
+) -> Result<Draft<F::File>, FileFault>
+    requires { HasFiles files.old.written.items (F.disk fs.old) }
     ensures leaves { LeavesFiles files.old (F.disk fs.old) (F.disk fs.new) }
-    ensures files { SameFiles files.old files.new }
+    ensures read { files.new.read ≡ files.old.read }
+    ensures written { files.new.written.items ≡ files.old.written.items }
     ensures room { IfOk result (λ draft. CanPut files.new draft.key) }
     ensures named { IfOk result (λ draft. string_bytes draft.name ≡ name.now) }
-    ensures begun { IsTrue (F.disk fs.old).tells → IfOk result (λ draft.
-        DraftIsThere F.key files.old.written.items draft (F.disk fs.new).tree) }
-    ensures empty { IsTrue (F.disk fs.old).tells → IfOk result (λ draft.
-        (F.disk fs.new).tree.bytes draft.key ≡ []) }
-    ensures cause { IsTrue (F.disk fs.old).tells →
-        IsReplaceable files.old name.now (at (F.disk fs.old).tree name.now) →
-        IsClearable files.old (at (F.disk fs.old).tree (name.now ++ 127 ∷ [])) →
-        HasDeviceCause (F.disk fs.new).failed result }
+    ensures begun { BeginsDraft F.key files.old (F.disk fs.old) (F.disk fs.new) result }
+    ensures cause { IfCanBegin files.old name.now (F.disk fs.old) (HasCause (F.disk fs.new).failed result) }
 {
-    if files.reserve().is_err() {
-        return Err(BinFault::Memory);
-    }
-    let draft = begin_unrecorded(alloc, fs, name, files)?;
+    files.reserve()?;
+    let path = draft_path(alloc, name)?;
+    let name = String::from_str(alloc, name)?;
+    let draft = match way_to(fs, name.as_str(), files)? {
+        Way::Draft(mode) => begin_draft(fs, name, path, mode, files)?,
+        Way::Device(device) => begin_device(fs, name, path, device)?,
+    };
     record(fs, files, draft)
-}
-
-/// Begins an output that isn't recorded yet.
-fn begin_unrecorded<F: FileSystem>(
-    alloc: Global,
-    fs: &mut F,
-    name: &str,
-    files: &RunFiles,
-) -> Result<Draft<F::File>, BinFault>
-    requires { IsTrue (F.disk fs.old).tells → FilesAreThere (F.disk fs.old).tree files.now.written.items }
-    ensures leaves { LeavesFiles files.now (F.disk fs.old) (F.disk fs.new) }
-    ensures named { IfOk result (λ draft. string_bytes draft.name ≡ name.now) }
-    ensures begun { IsTrue (F.disk fs.old).tells → IfOk result (λ draft.
-        DraftIsThere F.key files.now.written.items draft (F.disk fs.new).tree) }
-    ensures empty { IsTrue (F.disk fs.old).tells → IfOk result (λ draft.
-        (F.disk fs.new).tree.bytes draft.key ≡ []) }
-    ensures cause { IsTrue (F.disk fs.old).tells →
-        IsReplaceable files.now name.now (at (F.disk fs.old).tree name.now) →
-        IsClearable files.now (at (F.disk fs.old).tree (name.now ++ 127 ∷ [])) →
-        HasDeviceCause (F.disk fs.new).failed result }
-{
-    let Ok(path) = draft_path(alloc, name) else {
-        return Err(BinFault::Memory);
-    };
-    let Ok(name) = String::from_str(alloc, name) else {
-        return Err(BinFault::Memory);
-    };
-    match way_to(fs, name.as_str(), files) {
-        Ok(Way::Draft(mode)) => begin_draft(fs, name, path, mode, files),
-        Ok(Way::Device(device)) => begin_device(fs, name, path, device),
-        Err(fault) => Err(bin_fault(fault)),
-    }
 }
 
 /// Records the file of a new draft, or discards the draft.
@@ -103,21 +68,19 @@ fn record<F: FileSystem>(
     fs: &mut F,
     files: &mut RunFiles,
     draft: Draft<F::File>,
-) -> Result<Draft<F::File>, BinFault>
-    requires files { IsTrue (F.disk fs.old).tells →
-        FilesAreThere (F.disk fs.old).tree files.old.written.items }
-    requires draft { IsTrue (F.disk fs.old).tells →
-        DraftIsThere F.key files.old.written.items draft (F.disk fs.old).tree }
+) -> Result<Draft<F::File>, FileFault>
+    requires files { HasFiles files.old.written.items (F.disk fs.old) }
+    requires draft { HasDraft F.key files.old draft (F.disk fs.old) }
     ensures leaves { LeavesFiles files.old (F.disk fs.old) (F.disk fs.new) }
-    ensures files { SameFiles files.old files.new }
+    ensures read { files.new.read ≡ files.old.read }
     ensures written { files.new.written ≡ files.old.written }
     ensures created { OnOk result (IsTrue (is_among (keys_in files.new.created) draft.key)) }
     ensures same { IfOk result (λ kept. (kept ≡ draft) × (F.disk fs.new ≡ F.disk fs.old)) }
-    ensures memory { IfErr result (λ fault. fault ≡ BinFault.Memory) }
+    ensures memory { IfErr result (λ fault. fault ≡ FileFault.Memory) }
 {
     if files.create(draft.key).is_err() {
         discard(fs, draft, files);
-        return Err(BinFault::Memory);
+        return Err(FileFault::Memory);
     }
     Ok(draft)
 }
@@ -129,30 +92,24 @@ fn begin_draft<F: FileSystem>(
     path: String,
     mode: Option<u32>,
     files: &RunFiles,
-) -> Result<Draft<F::File>, BinFault>
-    requires files { IsTrue (F.disk fs.old).tells →
-        FilesAreThere (F.disk fs.old).tree files.now.written.items }
+) -> Result<Draft<F::File>, FileFault>
+    requires files { HasFiles files.now.written.items (F.disk fs.old) }
     requires path { string_bytes path ≡ string_bytes name ++ 127 ∷ [] }
     ensures leaves { LeavesFiles files.now (F.disk fs.old) (F.disk fs.new) }
     ensures named { IfOk result (λ draft. draft.name ≡ name) }
-    ensures begun { IsTrue (F.disk fs.old).tells → IfOk result (λ draft.
-        DraftIsThere F.key files.now.written.items draft (F.disk fs.new).tree) }
-    ensures empty { IsTrue (F.disk fs.old).tells → IfOk result (λ draft.
-        (F.disk fs.new).tree.bytes draft.key ≡ []) }
+    ensures begun { BeginsDraft F.key files.now (F.disk fs.old) (F.disk fs.new) result }
     ensures cause { IsTrue (F.disk fs.old).tells →
         IsClearable files.now (at (F.disk fs.old).tree (string_bytes path)) →
-        HasDeviceCause (F.disk fs.new).failed result }
+        HasCause (F.disk fs.new).failed result }
 {
-    match created(fs, path.as_str(), mode, files) {
-        Ok((file, key)) => Ok(Draft {
-            name,
-            path,
-            key,
-            file,
-            is_device: false,
-        }),
-        Err(fault) => Err(bin_fault(fault)),
-    }
+    let (file, key) = created(fs, path.as_str(), mode, files)?;
+    Ok(Draft {
+        name,
+        path,
+        key,
+        file,
+        is_device: false,
+    })
 }
 
 /// Opens a device for writing, also through links. It is an error if the name leads elsewhere by now.
@@ -161,36 +118,22 @@ fn begin_device<F: FileSystem>(
     name: String,
     path: String,
     device: FileKey,
-) -> Result<Draft<F::File>, BinFault>
+) -> Result<Draft<F::File>, FileFault>
     ensures named { IfOk result (λ draft. draft.name ≡ name) }
     ensures unseen { IsTrue (F.disk fs.now).tells → IsErr result }
 {
-    let file = match fs.open_device(name.as_str()) {
-        Ok(file) => file,
-        Err(fault) => return Err(bin_fault(fault)),
-    };
-    match fs.key_of(&file) {
-        Ok(key) if key == device => Ok(Draft {
-            name,
-            path,
-            key,
-            file,
-            is_device: true,
-        }),
-        Ok(_) => Err(BinFault::Device),
-        Err(fault) => Err(bin_fault(fault)),
+    let file = fs.open_device(name.as_str())?;
+    let key = fs.key_of(&file)?;
+    if key != device {
+        return Err(FileFault::Other);
     }
-}
-
-/// Only want of memory has a fault of its own.
-fn bin_fault(fault: FileFault) -> BinFault
-    ensures memory { fault ≡ FileFault.Memory → result ≡ BinFault.Memory }
-    ensures device { (fault ≡ FileFault.Memory → ⊥) → result ≡ BinFault.Device }
-{
-    match fault {
-        FileFault::Memory => BinFault::Memory,
-        _ => BinFault::Device,
-    }
+    Ok(Draft {
+        name,
+        path,
+        key,
+        file,
+        is_device: true,
+    })
 }
 
 fn draft_path(alloc: Global, name: &str) -> Result<String, AllocError>

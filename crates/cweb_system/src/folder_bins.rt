@@ -62,13 +62,13 @@ impl<F: FileSystem + Drop> FolderBins<F> {
 }
 
 impl<F: FileSystem + Drop> Sink for FolderBins<F> {
-    ghost use Rattle.cweb_system.specs.Folder.{folder_beside, folder_bytes, folder_failed};
+    ghost use Rattle.cweb_system.specs.Bins.{folder_beside, folder_bytes};
 
     ghost tells = { λ b. (F.disk b.folder.fs).tells };
 
     ghost written = { λ b. folder_bytes F.FileSystem b.folder };
 
-    ghost failed = { λ b. folder_failed b.folder };
+    ghost failed = { λ b. b.folder.failed };
 
     ghost beside = { λ b. folder_beside F.FileSystem b.folder };
 

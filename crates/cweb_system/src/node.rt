@@ -1,4 +1,8 @@
 // What lies under a path.
+ghost use Rattle.std.specs.Prelude.{◌≡◌};
+ghost use Rattle.cweb_system.specs.declared.node.FileFault.TheVariants.{Memory};
+
+use std::alloc::AllocError;
 
 /// The identity of a file: its device and inode number. It is the same under all names of the file.
 #[derive(Clone, Copy, Debug, PartialEq, Eq, PartialOrd, Ord)]
@@ -28,4 +32,12 @@ pub enum FileFault {
     Exists,
     Denied,
     Other,
+}
+
+impl From<AllocError> for FileFault {
+    ghost from_gives = { λ _ fault. fault ≡ Memory };
+
+    fn from(_: AllocError) -> Self {
+        FileFault::Memory
+    }
 }

@@ -5,7 +5,7 @@ ghost use Rattle.std.specs.Str.{bytes_eq};
 ghost use Rattle.std.proofs.Props.{props};
 ghost use Rattle.cweb_system.specs.FileSet.{keys_in};
 ghost use Rattle.cweb_system.specs.inner.Keys.{is_among};
-ghost use Rattle.cweb_system.specs.inner.Written.{FilesAreThere, HasNameAlone, IsNew, IsUnnamed};
+ghost use Rattle.cweb_system.specs.inner.Written.{HasFiles, HasNameAlone, IsNew, IsUnnamed};
 ghost use Rattle.cweb_system.specs.declared.written.WrittenFile.{WrittenFile};
 ghost use Rattle.cweb_system.specs.declared.node.FileKey.{FileKey};
 
@@ -42,7 +42,7 @@ impl RunFiles {
 
     /// Whether the file of this key was written, and is still there.
     pub fn has_written<F: FileSystem>(&self, fs: &F, key: FileKey) -> bool
-        requires { IsTrue (F.disk fs.now).tells → FilesAreThere (F.disk fs.now).tree self.now.written.items }
+        requires { HasFiles self.now.written.items (F.disk fs.now) }
         ensures value { IsTrue (F.disk fs.now).tells → result ≡ false → IsNew key self.now.written.items }
         ensures none { IsNew key self.now.written.items → result ≡ false }
     {
@@ -51,7 +51,7 @@ impl RunFiles {
 
     /// Whether a file of this key was written under another name.
     pub fn has_other_name<F: FileSystem>(&self, fs: &F, key: FileKey, name: &str) -> bool
-        requires { IsTrue (F.disk fs.now).tells → FilesAreThere (F.disk fs.now).tree self.now.written.items }
+        requires { HasFiles self.now.written.items (F.disk fs.now) }
         ensures value { IsTrue (F.disk fs.now).tells → result ≡ false →
             HasNameAlone name.now key self.now.written.items }
         ensures none { HasNameAlone name.now key self.now.written.items → result ≡ false }
@@ -61,7 +61,7 @@ impl RunFiles {
 
     /// Whether an output of this name may replace a file: the run has neither read it nor written it under another name.
     pub fn may_replace<F: FileSystem>(&self, fs: &F, key: FileKey, name: &str) -> bool
-        requires { IsTrue (F.disk fs.now).tells → FilesAreThere (F.disk fs.now).tree self.now.written.items }
+        requires { HasFiles self.now.written.items (F.disk fs.now) }
         ensures unread { result ≡ true → Contains (keys_in self.now.read) key → ⊥ }
         ensures name { IsTrue (F.disk fs.now).tells → result ≡ true →
             HasNameAlone name.now key self.now.written.items }

@@ -1,5 +1,6 @@
 // The files of a file system as a shelf.
-ghost use Rattle.std.specs.Prelude.{◌≡◌, [], None, Some, IsTrue, IfOk, IfSome, MatchResult, length};
+ghost use Rattle.std.specs.Prelude.{◌≡◌, [], None, Some, IsTrue, IfOk, IfSome, MatchResult, length, option_map};
+ghost use Rattle.std.specs.Option.{unwrap_or};
 ghost use Rattle.std.proofs.Props.{props};
 ghost use Rattle.cweb_system.specs.FileSet.{keys_in};
 ghost use Rattle.cweb_system.specs.Tree.{IsAbsent, Opens};
@@ -34,6 +35,7 @@ impl<F: FileSystem + Drop> FolderShelf<F> {
         requires { IsTrue (F.disk fs).tells → (F.disk fs).past ≡ [] }
         ensures system { shelf_system result ≡ fs }
         ensures failed { shelf_failures result ≡ 0 }
+        ensures read { shelf_read result ≡ None }
     {
         FolderShelf {
             fs,
@@ -59,7 +61,7 @@ impl<F: FileSystem + Drop> FolderShelf<F> {
     /// Bins of the file system. No output replaces a file that was recorded.
     pub fn into_bins(self, alloc: Global) -> FolderBins<F>
         ensures system { bins_system result ≡ shelf_system self }
-        ensures read { IfSome (shelf_read self) (λ keys. bins_read result ≡ keys) }
+        ensures read { bins_read result ≡ unwrap_or (shelf_read self) [] }
         ensures beside { bins_beside F.FileSystem result ≡ record { files = []; draft = None; refused = None } }
         ensures bytes { bins_bytes F.FileSystem result ≡ [] }
         ensures failed { bins_failed result ≡ 0 }
@@ -88,9 +90,7 @@ impl<F: FileSystem + Drop> FolderShelf<F> {
         let file = self.fs.open(name)?;
         if let Some(read) = &mut self.read {
             let key = self.fs.key_of(&file)?;
-            if read.insert(key).is_err() {
-                return Err(FileFault::Memory);
-            }
+            read.insert(key)?;
         }
         Ok(file)
     }
@@ -98,7 +98,7 @@ impl<F: FileSystem + Drop> FolderShelf<F> {
 
 /// The files that were recorded, if any.
 fn recorded(alloc: Global, read: Option<FileSet>) -> FileSet
-    ensures { IfSome read (λ set. result ≡ set) }
+    ensures { keys_in result ≡ unwrap_or (option_map keys_in read) [] }
 {
     match read {
         Some(read) => read,

@@ -88,7 +88,7 @@ impl<R: Files + Drop> StdFolder<R> {
         match self.files.read_link(self.alloc, path) {
             Ok(target) if is_of_system(target.as_str()) => Some(FileFault::Other),
             Ok(_) => None,
-            Err(error) => match file_fault(&error) {
+            Err(error) => match FileFault::from(error) {
                 FileFault::Memory => Some(FileFault::Memory),
                 _ => None,
             },
@@ -116,13 +116,15 @@ fn key_of(found: &Metadata) -> FileKey {
     }
 }
 
-fn file_fault(error: &Error) -> FileFault {
-    match error.kind() {
-        ErrorKind::OutOfMemory => FileFault::Memory,
-        ErrorKind::NotFound => FileFault::NotFound,
-        ErrorKind::AlreadyExists => FileFault::Exists,
-        ErrorKind::PermissionDenied => FileFault::Denied,
-        _ => FileFault::Other,
+impl From<Error> for FileFault {
+    fn from(error: Error) -> Self {
+        match error.kind() {
+            ErrorKind::OutOfMemory => FileFault::Memory,
+            ErrorKind::NotFound => FileFault::NotFound,
+            ErrorKind::AlreadyExists => FileFault::Exists,
+            ErrorKind::PermissionDenied => FileFault::Denied,
+            _ => FileFault::Other,
+        }
     }
 }
 
@@ -161,7 +163,7 @@ impl<R: Files<File: LockableFile> + Drop> FileSystem for StdFolder<R> {
         match fs::symlink_metadata(&self.files, path) {
             Ok(found) if found.is_symlink() => Some(Node::Link),
             Ok(found) => Some(node_of(&found)),
-            Err(error) => match file_fault(&error) {
+            Err(error) => match FileFault::from(error) {
                 FileFault::NotFound => None,
                 fault => Some(Node::Unknown(fault)),
             },
@@ -176,24 +178,15 @@ impl<R: Files<File: LockableFile> + Drop> FileSystem for StdFolder<R> {
     }
 
     fn key_of(&self, file: &R::File) -> Result<FileKey, FileFault> {
-        match file.metadata() {
-            Ok(found) => Ok(key_of(&found)),
-            Err(error) => Err(file_fault(&error)),
-        }
+        Ok(key_of(&file.metadata()?))
     }
 
     fn lock(&self, file: &R::File) -> Result<(), FileFault> {
-        match file.lock() {
-            Ok(()) => Ok(()),
-            Err(error) => Err(file_fault(&error)),
-        }
+        Ok(file.lock()?)
     }
 
     fn open(&self, path: &str) -> Result<R::File, FileFault> {
-        match fs::open(&self.files, path) {
-            Ok(file) => Ok(file),
-            Err(error) => Err(file_fault(&error)),
-        }
+        Ok(fs::open(&self.files, path)?)
     }
 
     /// The bytes come from the file in order; none is lost or added.
@@ -209,10 +202,7 @@ impl<R: Files<File: LockableFile> + Drop> FileSystem for StdFolder<R> {
     }
 
     fn open_device(&self, path: &str) -> Result<R::File, FileFault> {
-        match OpenOptions::new().write(true).open(&self.files, path) {
-            Ok(file) => Ok(file),
-            Err(error) => Err(file_fault(&error)),
-        }
+        Ok(OpenOptions::new().write(true).open(&self.files, path)?)
     }
 
     fn create(&mut self, path: &str, mode: Option<u32>) -> Result<Option<R::File>, FileFault> {
@@ -223,7 +213,7 @@ impl<R: Files<File: LockableFile> + Drop> FileSystem for StdFolder<R> {
         }
         match how.open(&self.files, path) {
             Ok(file) => Ok(Some(file)),
-            Err(error) => match file_fault(&error) {
+            Err(error) => match FileFault::from(error) {
                 FileFault::Exists => Ok(None),
                 fault => Err(fault),
             },
@@ -244,23 +234,14 @@ impl<R: Files<File: LockableFile> + Drop> FileSystem for StdFolder<R> {
     }
 
     fn set_mode(&mut self, file: &R::File, mode: u32) -> Result<(), FileFault> {
-        match file.set_permissions(Permissions::from_mode(mode)) {
-            Ok(()) => Ok(()),
-            Err(error) => Err(file_fault(&error)),
-        }
+        Ok(file.set_permissions(Permissions::from_mode(mode))?)
     }
 
     fn rename(&mut self, from: &str, to: &str) -> Result<(), FileFault> {
-        match fs::rename(&self.files, from, to) {
-            Ok(()) => Ok(()),
-            Err(error) => Err(file_fault(&error)),
-        }
+        Ok(fs::rename(&self.files, from, to)?)
     }
 
     fn remove(&mut self, path: &str) -> Result<(), FileFault> {
-        match fs::remove_file(&self.files, path) {
-            Ok(()) => Ok(()),
-            Err(error) => Err(file_fault(&error)),
-        }
+        Ok(fs::remove_file(&self.files, path)?)
     }
 }

@@ -2,7 +2,7 @@
 ghost use Rattle.std.specs.Prelude.{◌≡◌, ◌≤◌, IsTrue, false, true, filter, not};
 ghost use Rattle.std.specs.Prelude.{string_bytes, vec_len, vec_capacity};
 ghost use Rattle.std.specs.Str.{bytes_eq};
-ghost use Rattle.cweb_system.specs.inner.Written.{FilesAreThere, HasNameAlone, IsNew};
+ghost use Rattle.cweb_system.specs.inner.Written.{HasFiles, HasNameAlone, IsNew};
 ghost use Rattle.cweb_system.specs.Tree.{IsFile, at};
 
 use crate::file_system::FileSystem;
@@ -17,7 +17,7 @@ pub struct WrittenFile {
 
 /// Whether the file of this key was written, and is still there.
 pub fn is_written<F: FileSystem>(fs: &F, written: &[WrittenFile], key: FileKey) -> bool
-    requires { IsTrue (F.disk fs.now).tells → FilesAreThere (F.disk fs.now).tree written.now }
+    requires { HasFiles written.now (F.disk fs.now) }
     ensures value { IsTrue (F.disk fs.now).tells → result ≡ false → IsNew key written.now }
     ensures none { IsNew key written.now → result ≡ false }
 {
@@ -47,7 +47,7 @@ pub fn has_other_name<F: FileSystem>(
     key: FileKey,
     name: &str,
 ) -> bool
-    requires { IsTrue (F.disk fs.now).tells → FilesAreThere (F.disk fs.now).tree written.now }
+    requires { HasFiles written.now (F.disk fs.now) }
     ensures value { IsTrue (F.disk fs.now).tells → result ≡ false →
         HasNameAlone name.now key written.now }
     ensures none { HasNameAlone name.now key written.now → result ≡ false }

@@ -5,8 +5,8 @@ use Rattle.cweb_system.specs.declared.file_system.FileSystem.{Ghosts as FileSyst
 use Rattle.cweb_system.specs.declared.folder_bins.FolderBins.{FolderBins}
 use Rattle.cweb_system.specs.declared.shelf.FolderShelf.{FolderShelf}
 use Rattle.cweb_system.specs.Bins.{bins_beside, bins_bytes, bins_failed, bins_system}
-use Rattle.cweb_system.specs.Folder.{file_in}
-use Rattle.cweb_system.specs.Shelf.{contents_in}
+use Rattle.cweb_system.specs.Bins.{file_in}
+use Rattle.cweb_system.specs.Tree.{contents_in}
 use Rattle.cweb_system.specs.inner.ShelfState.{shelf_failures, shelf_system}
 use Rattle.cweb_system.specs.Tree.{Tree, contents}
 use Rattle.cweb_log.specs.DeviceModels.{Devices, ShelfModel, SinkModel}

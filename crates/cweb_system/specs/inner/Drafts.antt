@@ -1,6 +1,5 @@
 -- Drafts in a tree, and what the calls for them do.
-use Rattle.std.specs.Prelude.{◌≡◌, ◌<◌, ◌⊎◌, ℕ, List, [], ◌∷◌, ◌++◌, Bool, Contains, IfErr, IsTrue, Option, Result, Some, None, ⊤, false, string_bytes, vec_len, vec_capacity}
-use Rattle.cweb_files.specs.declared.bins.BinFault.{BinFault}
+use Rattle.std.specs.Prelude.{◌≡◌, ◌<◌, ◌⊎◌, ℕ, List, [], ◌∷◌, ◌++◌, Bool, Contains, IfErr, IfOk, IsTrue, Option, Result, Some, None, ⊤, false, string_bytes, vec_len, vec_capacity}
 use Rattle.cweb_system.specs.declared.drafts.Draft.{Draft}
 use Rattle.cweb_system.specs.declared.drafts.way.Way.{Way}
 use Rattle.cweb_system.specs.declared.node.FileFault.{FileFault}
@@ -9,10 +8,18 @@ use Rattle.cweb_system.specs.declared.node.Node.{Node}
 use Rattle.cweb_system.specs.declared.run_files.RunFiles.{RunFiles}
 use Rattle.cweb_system.specs.declared.written.WrittenFile.{WrittenFile}
 use Rattle.cweb_system.specs.FileSet.{keys_in}
-use Rattle.cweb_system.specs.Steps.{AreDecent, Disk}
+use Rattle.cweb_system.specs.Steps.{AreDecent, Disk, IsDraftPlace}
 use Rattle.cweb_system.specs.Tree.{Tree, at, IsFile, Removes}
 use Rattle.cweb_system.specs.inner.Keys.{is_among}
 use Rattle.cweb_system.specs.inner.Written.{HasNameAlone, IsNew, Leaves}
+
+-- A draft's path: a name with byte 127 after it.
+abbrev pub IsDraftPath : List ℕ → Type 0
+IsDraftPath path = (name : List ℕ) × (path ≡ name ++ 127 ∷ [])
+
+-- A file is only under drafts' paths.
+abbrev pub IsDraftAlone : FileKey → Tree → Type 0
+IsDraftAlone key tree = (p : List ℕ) → IsFile key (tree.node p) → IsDraftPlace tree p
 
 -- Calls whose steps are decent. Whether the state is observable stays, and no failure is forgotten.
 pub record KeepsDecent (read : List FileKey) (old new : Disk) : Type 0 where
@@ -47,35 +54,37 @@ pub record DraftIsThere {H : Type 0} (key : H → FileKey) (written : List Writt
   pub path : string_bytes draft.path ≡ string_bytes draft.name ++ 127 ∷ []
   pub alone : IsAlone draft.key (string_bytes draft.path) tree
 
+-- The draft is there, as far as contracts know.
+abbrev pub HasDraft : {H : Type 0} → (H → FileKey) → RunFiles → Draft H → Disk → Type 0
+HasDraft key files draft disk = IsTrue disk.tells → DraftIsThere key files.written.items draft disk.tree
+
+-- An empty draft was begun.
+abbrev pub BeginsDraft : {H : Type 0} → (H → FileKey) → RunFiles → Disk → Disk → Result (Draft H) FileFault → Type 0
+BeginsDraft key files old new result = IsTrue old.tells → IfOk result (λ draft.
+    DraftIsThere key files.written.items draft new.tree × (new.tree.bytes draft.key ≡ []))
+
 -- The file of a draft can be recorded when it is committed.
 abbrev pub CanPut : RunFiles → FileKey → Type 0
 CanPut files key = (vec_len files.written < vec_capacity files.written) × IsTrue (is_among (keys_in files.created) key)
 
--- No file was read or committed in between.
-pub record SameFiles (old new : RunFiles) : Type 0 where
-  pub read : new.read ≡ old.read
-  pub written : new.written.items ≡ old.written.items
+-- No file that was read is under a path.
+abbrev pub IsUnread : List FileKey → List ℕ → Tree → Type 0
+IsUnread read path tree = (found : FileKey) → Contains read found → IsFile found (at tree path) → ⊥
 
 -- A name is no other spelling of a committed file's name, and not the draft itself. A file that was read isn't there.
 pub record IsApart (name : List ℕ) (key : FileKey) (files : RunFiles) (tree : Tree) : Type 0 where
   pub own : IsFile key (at tree name) → ⊥
-  pub unread : (found : FileKey) → Contains (keys_in files.read) found → IsFile found (at tree name) → ⊥
+  pub unread : IsUnread (keys_in files.read) name tree
   pub others : (found : FileKey) → IsFile found (at tree name) → HasNameAlone name found files.written.items
 
 -- The entry under a path is removed, or nothing changes.
 abbrev pub Clears : List ℕ → Tree → Tree → Type 0
-Clears path old new = Removes path old new ⊎ (new ≡ old)
+Clears path old new = (new.place ≡ old.place) × (Removes path old new ⊎ (new ≡ old))
 
--- The file that is put in place has the permissions of the one that it replaces.
-abbrev pub KeepsMode : List ℕ → FileKey → Tree → Tree → Type 0
-KeepsMode name key old new = (replaced : FileKey) (mode : ℕ)
-    → at old name ≡ Some (Node.File replaced mode) → at new name ≡ Some (Node.File key mode)
-
--- A draft takes the permissions of the file that it will replace.
-abbrev pub TakesMode : {H : Type 0} → Draft H → Tree → Tree → Type 0
-TakesMode draft old new = (replaced : FileKey) (mode : ℕ)
-    → at old (string_bytes draft.name) ≡ Some (Node.File replaced mode)
-    → at new (string_bytes draft.path) ≡ Some (Node.File draft.key mode)
+-- What is at `path` now has this key and the permissions of the file that was under `name`.
+abbrev pub KeepsMode : List ℕ → List ℕ → FileKey → Tree → Tree → Type 0
+KeepsMode name path key old new = (replaced : FileKey) (mode : ℕ)
+    → at old name ≡ Some (Node.File replaced mode) → at new path ≡ Some (Node.File key mode)
 
 -- A draft's path can be cleared: nothing is there, or a file that the run has neither read nor written.
 abbrev pub IsClearable : RunFiles → Option Node → Type 0
@@ -90,13 +99,20 @@ IsReplaceable files name (Some (Node.File key mode)) =
     (Contains (keys_in files.read) key → ⊥) × HasNameAlone name key files.written.items
 IsReplaceable files name (Some _) = ⊥
 
+-- `P` holds if nothing is in the way of an output's draft.
+abbrev pub IfCanBegin : RunFiles → List ℕ → Disk → Type 0 → Type 0
+IfCanBegin files name disk P = IsTrue disk.tells → IsReplaceable files name (at disk.tree name)
+    → IsClearable files (at disk.tree (name ++ 127 ∷ [])) → P
+
+-- `P` holds if nothing is in the way of a commit.
+abbrev pub IfCanPlace : {H : Type 0} → RunFiles → Draft H → Disk → Type 0 → Type 0
+IfCanPlace files draft disk P = IsTrue disk.tells
+    → IsReplaceable files (string_bytes draft.name) (at disk.tree (string_bytes draft.name))
+    → (IsFile draft.key (at disk.tree (string_bytes draft.name)) → ⊥) → P
+
 -- An error that isn't for want of memory comes from a failed call.
 abbrev pub HasCause : {A : Type 0} → Bool → Result A FileFault → Type 0
 HasCause failed result = IfErr result (λ fault. (fault ≡ FileFault.Memory → ⊥) → IsTrue failed)
-
--- A fault of the device comes from a failed call.
-abbrev pub HasDeviceCause : {A : Type 0} → Bool → Result A BinFault → Type 0
-HasDeviceCause failed result = IfErr result (λ fault. fault ≡ BinFault.Device → IsTrue failed)
 
 -- Nothing is at a path, or a call has failed.
 abbrev pub IsCleared : List ℕ → Disk → Type 0

@@ -2,9 +2,9 @@
 ghost use Rattle.std.specs.Prelude.{◌≡◌, None, Some, IsTrue, IsOk, IfOk, OnOk, OnErr, false, string_bytes};
 ghost use Rattle.cweb_system.specs.FileSet.{keys_in};
 ghost use Rattle.cweb_system.specs.Tree.{IsFile, at};
-ghost use Rattle.cweb_system.specs.inner.Drafts.{DraftIsThere, IsApart, IsCleared, IsReplaceable, KeepsDecent};
-ghost use Rattle.cweb_system.specs.inner.Drafts.{KeepsMode, LeavesFiles, TakesMode};
-ghost use Rattle.cweb_system.specs.inner.Written.{FilesAreThere, IsUnnamed, Leaves, Places};
+ghost use Rattle.cweb_system.specs.inner.Drafts.{DraftIsThere, HasDraft, IfCanPlace, IsApart, IsCleared, KeepsDecent};
+ghost use Rattle.cweb_system.specs.inner.Drafts.{KeepsMode, LeavesFiles};
+ghost use Rattle.cweb_system.specs.inner.Written.{HasFiles, IsUnnamed, Leaves, Places};
 
 use crate::drafts::Draft;
 use crate::drafts::steps::{remove_at, rename_draft, set_draft_mode};
@@ -20,10 +20,8 @@ pub fn put_in_place<F: FileSystem>(
     draft: &Draft<F::File>,
     files: &RunFiles,
 ) -> Result<bool, FileFault>
-    requires files { IsTrue (F.disk fs.old).tells →
-        FilesAreThere (F.disk fs.old).tree files.now.written.items }
-    requires draft { IsTrue (F.disk fs.old).tells →
-        DraftIsThere F.key files.now.written.items draft.now (F.disk fs.old).tree }
+    requires files { HasFiles files.now.written.items (F.disk fs.old) }
+    requires draft { HasDraft F.key files.now draft.now (F.disk fs.old) }
     ensures decent { KeepsDecent (keys_in files.now.read) (F.disk fs.old) (F.disk fs.new) }
     ensures ok { IsTrue (F.disk fs.old).tells → OnOk result (Places (string_bytes draft.now.name) draft.now.key
         files.now.written.items (F.disk fs.old).tree (F.disk fs.new).tree) }
@@ -32,22 +30,20 @@ pub fn put_in_place<F: FileSystem>(
     ensures stays { IsTrue (F.disk fs.old).tells → OnErr result
         (DraftIsThere F.key files.now.written.items draft.now (F.disk fs.new).tree) }
     ensures mode { IsTrue (F.disk fs.old).tells → OnOk result (KeepsMode (string_bytes draft.now.name)
-        draft.now.key (F.disk fs.old).tree (F.disk fs.new).tree) }
+        (string_bytes draft.now.name) draft.now.key (F.disk fs.old).tree (F.disk fs.new).tree) }
     ensures gone { IsTrue (F.disk fs.old).tells → OnOk result
         (at (F.disk fs.new).tree (string_bytes draft.now.path) ≡ None) }
     ensures first { IsTrue (F.disk fs.old).tells → IfOk result (λ replaces. replaces ≡ false →
         IsUnnamed (string_bytes draft.now.name) files.now.written.items) }
-    ensures cause { IsTrue (F.disk fs.old).tells → IsReplaceable files.now (string_bytes draft.now.name)
-        (at (F.disk fs.old).tree (string_bytes draft.now.name)) →
-        (IsFile draft.now.key (at (F.disk fs.old).tree (string_bytes draft.now.name)) → ⊥) →
-        OnErr result (IsTrue (F.disk fs.new).failed) }
+    ensures cause { IfCanPlace files.now draft.now (F.disk fs.old)
+        (OnErr result (IsTrue (F.disk fs.new).failed)) }
 {
     if draft.is_device {
         return Ok(true);
     }
     let mode = own_mode(fs, draft)?;
     let replaces = keep_mode(fs, draft, mode, files)?;
-    rename_draft(fs, draft, files)?;
+    rename_draft(fs, draft)?;
     Ok(replaces)
 }
 
@@ -73,25 +69,22 @@ fn keep_mode<F: FileSystem>(
     mode: u32,
     files: &RunFiles,
 ) -> Result<bool, FileFault>
-    requires files { IsTrue (F.disk fs.old).tells →
-        FilesAreThere (F.disk fs.old).tree files.now.written.items }
-    requires draft { IsTrue (F.disk fs.old).tells →
-        DraftIsThere F.key files.now.written.items draft.now (F.disk fs.old).tree }
+    requires files { HasFiles files.now.written.items (F.disk fs.old) }
+    requires draft { HasDraft F.key files.now draft.now (F.disk fs.old) }
     ensures leaves { LeavesFiles files.now (F.disk fs.old) (F.disk fs.new) }
     ensures stays { IsTrue (F.disk fs.old).tells →
         DraftIsThere F.key files.now.written.items draft.now (F.disk fs.new).tree }
     ensures bytes { IsTrue (F.disk fs.old).tells → (F.disk fs.new).tree.bytes ≡ (F.disk fs.old).tree.bytes }
     ensures mode { IsTrue (F.disk fs.old).tells →
         at (F.disk fs.old).tree (string_bytes draft.now.path) ≡ Some (Node.File draft.now.key mode) →
-        OnOk result (TakesMode draft.now (F.disk fs.old).tree (F.disk fs.new).tree) }
+        OnOk result (KeepsMode (string_bytes draft.now.name)
+        (string_bytes draft.now.path) draft.now.key (F.disk fs.old).tree (F.disk fs.new).tree) }
     ensures apart { IsTrue (F.disk fs.old).tells → OnOk result
         (IsApart (string_bytes draft.now.name) draft.now.key files.now (F.disk fs.new).tree) }
     ensures first { IsTrue (F.disk fs.old).tells → IfOk result (λ replaces. replaces ≡ false →
         IsUnnamed (string_bytes draft.now.name) files.now.written.items) }
-    ensures cause { IsTrue (F.disk fs.old).tells → IsReplaceable files.now (string_bytes draft.now.name)
-        (at (F.disk fs.old).tree (string_bytes draft.now.name)) →
-        (IsFile draft.now.key (at (F.disk fs.old).tree (string_bytes draft.now.name)) → ⊥) →
-        OnErr result (IsTrue (F.disk fs.new).failed) }
+    ensures cause { IfCanPlace files.now draft.now (F.disk fs.old)
+        (OnErr result (IsTrue (F.disk fs.new).failed)) }
 {
     match fs.look(draft.name.as_str()) {
         Some(Node::File(found, kept)) => {
@@ -113,10 +106,8 @@ fn keep_mode<F: FileSystem>(
 
 /// Deletes the draft. Another file that has its path by now stays.
 pub fn discard<F: FileSystem>(fs: &mut F, draft: Draft<F::File>, files: &RunFiles)
-    requires files { IsTrue (F.disk fs.old).tells →
-        FilesAreThere (F.disk fs.old).tree files.now.written.items }
-    requires draft { IsTrue (F.disk fs.old).tells →
-        DraftIsThere F.key files.now.written.items draft (F.disk fs.old).tree }
+    requires files { HasFiles files.now.written.items (F.disk fs.old) }
+    requires draft { HasDraft F.key files.now draft (F.disk fs.old) }
     ensures leaves { LeavesFiles files.now (F.disk fs.old) (F.disk fs.new) }
     ensures gone { IsTrue (F.disk fs.old).tells → IsCleared (string_bytes draft.path) (F.disk fs.new) }
 {

@@ -4,10 +4,10 @@ ghost use Rattle.std.specs.Prelude.{true};
 ghost use Rattle.cweb_system.specs.declared.node.FileKey.{FileKey};
 ghost use Rattle.cweb_system.specs.FileSet.{keys_in};
 ghost use Rattle.cweb_system.specs.Tree.{IsFile, at};
-ghost use Rattle.cweb_system.specs.inner.DraftPaths.{IsDraftPath};
+ghost use Rattle.cweb_system.specs.inner.Drafts.{IsDraftPath};
 ghost use Rattle.cweb_system.specs.inner.Drafts.{Begins, Clears, HasCause, IsClearable, IsCleared, KeepsDecent};
 ghost use Rattle.cweb_system.specs.inner.Drafts.{LeavesFiles};
-ghost use Rattle.cweb_system.specs.inner.Written.{FilesAreThere};
+ghost use Rattle.cweb_system.specs.inner.Written.{HasFiles};
 
 use crate::drafts::steps::{create_at, remove_at};
 use crate::file_set::FileSet;
@@ -25,8 +25,7 @@ pub fn created<F: FileSystem>(
     mode: Option<u32>,
     files: &RunFiles,
 ) -> Result<(F::File, FileKey), FileFault>
-    requires files { IsTrue (F.disk fs.old).tells →
-        FilesAreThere (F.disk fs.old).tree files.now.written.items }
+    requires files { HasFiles files.now.written.items (F.disk fs.old) }
     requires draft { IsDraftPath path.now }
     ensures leaves { LeavesFiles files.now (F.disk fs.old) (F.disk fs.new) }
     ensures begun { IsTrue (F.disk fs.old).tells → IfOk result (λ made.
@@ -50,8 +49,7 @@ fn created_now<F: FileSystem>(
     mode: Option<u32>,
     files: &RunFiles,
 ) -> Result<Option<(F::File, FileKey)>, FileFault>
-    requires files { IsTrue (F.disk fs.old).tells →
-        FilesAreThere (F.disk fs.old).tree files.now.written.items }
+    requires files { HasFiles files.now.written.items (F.disk fs.old) }
     requires draft { IsDraftPath path.now }
     ensures leaves { LeavesFiles files.now (F.disk fs.old) (F.disk fs.new) }
     ensures begun { IsTrue (F.disk fs.old).tells → IfOk result (λ tried. IfSome tried (λ made.
@@ -115,8 +113,7 @@ fn key_at<F: FileSystem>(fs: &F, path: &str, file: &F::File) -> Result<Option<Fi
 
 /// Removes a leftover at the draft's path. It is an error if a folder is there, or a file that was read or written.
 fn clear<F: FileSystem>(fs: &mut F, path: &str, files: &RunFiles) -> Result<(), FileFault>
-    requires files { IsTrue (F.disk fs.old).tells →
-        FilesAreThere (F.disk fs.old).tree files.now.written.items }
+    requires files { HasFiles files.now.written.items (F.disk fs.old) }
     requires draft { IsDraftPath path.now }
     ensures leaves { LeavesFiles files.now (F.disk fs.old) (F.disk fs.new) }
     ensures read { IsTrue (F.disk fs.old).tells → (key : FileKey) →
@@ -172,8 +169,6 @@ fn clear_file<F: FileSystem>(fs: &mut F, path: &str, left: FileKey) -> Result<()
     ensures decent { (read : List FileKey) → KeepsDecent read (F.disk fs.old) (F.disk fs.new) }
     ensures clears { IsTrue (F.disk fs.old).tells →
         Clears path.now (F.disk fs.old).tree (F.disk fs.new).tree }
-    ensures place { IsTrue (F.disk fs.old).tells →
-        (F.disk fs.new).tree.place ≡ (F.disk fs.old).tree.place }
     ensures gone { IsTrue (F.disk fs.old).tells → IsFile left (at (F.disk fs.old).tree path.now) →
         OnOk result (IsCleared path.now (F.disk fs.new)) }
     ensures cause { IsTrue (F.disk fs.old).tells → IsFile left (at (F.disk fs.old).tree path.now) →
@@ -200,28 +195,12 @@ fn locked_left<F: FileSystem>(
     match fs.open(path) {
         Ok(file) => {
             let _ = fs.lock(&file);
-            let is_there = is_open_at(fs, path, &file, left)?;
-            Ok((is_there, Some(file)))
+            let found = key_at(fs, path, &file)?;
+            Ok((found == Some(left), Some(file)))
         }
         Err(FileFault::NotFound) => Ok((false, None)),
         Err(FileFault::Denied) => Ok((true, None)),
         Err(fault) => Err(fault),
-    }
-}
-
-/// Whether an open file has this key, and a path names it.
-fn is_open_at<F: FileSystem>(
-    fs: &F,
-    path: &str,
-    file: &F::File,
-    key: FileKey,
-) -> Result<bool, FileFault>
-    ensures { IsTrue (F.disk fs.now).tells → IsFile key (at (F.disk fs.now).tree path.now) →
-        key ≡ F.key file.now → result ≡ Ok true }
-{
-    match key_at(fs, path, file)? {
-        Some(found) => Ok(found == key),
-        None => Ok(false),
     }
 }
 
@@ -231,8 +210,6 @@ fn remove_left<F: FileSystem>(fs: &mut F, path: &str) -> Result<(), FileFault>
     ensures decent { (read : List FileKey) → KeepsDecent read (F.disk fs.old) (F.disk fs.new) }
     ensures clears { IsTrue (F.disk fs.old).tells →
         Clears path.now (F.disk fs.old).tree (F.disk fs.new).tree }
-    ensures place { IsTrue (F.disk fs.old).tells →
-        (F.disk fs.new).tree.place ≡ (F.disk fs.old).tree.place }
     ensures gone { IsTrue (F.disk fs.old).tells → OnOk result (IsCleared path.now (F.disk fs.new)) }
     ensures cause { IsTrue (F.disk fs.old).tells → HasCause (F.disk fs.new).failed result }
 {

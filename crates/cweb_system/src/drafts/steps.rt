@@ -1,16 +1,14 @@
 // The calls that change a file system, each with a decent step.
 ghost use Rattle.std.specs.Prelude.{◌≤◌, ◌<◌, ◌≡◌, ℕ, List, IsTrue, IfOk, IfSome, length, string_bytes, take};
 ghost use Rattle.cweb_system.specs.declared.node.FileKey.{FileKey};
-ghost use Rattle.cweb_system.specs.FileSet.{keys_in};
 ghost use Rattle.cweb_system.specs.Steps.{Changes};
 ghost use Rattle.cweb_system.specs.Tree.{Appends, IsFile, MayCreate, Removes, Renames, SetsMode, at};
-ghost use Rattle.cweb_system.specs.inner.DraftPaths.{IsDraftAlone, IsDraftPath};
-ghost use Rattle.cweb_system.specs.inner.Drafts.{IsAlone, IsApart, KeepsDecent};
+ghost use Rattle.cweb_system.specs.inner.Drafts.{IsDraftAlone, IsDraftPath, IsUnread};
+ghost use Rattle.cweb_system.specs.inner.Drafts.{IsAlone, KeepsDecent};
 
 use crate::drafts::Draft;
 use crate::file_system::FileSystem;
 use crate::node::FileFault;
-use crate::run_files::RunFiles;
 
 /// Creates a draft. `None`: something is there.
 pub fn create_at<F: FileSystem>(
@@ -49,22 +47,19 @@ pub fn set_draft_mode<F: FileSystem>(fs: &mut F, file: &F::File, mode: u32) -> R
     fs.set_mode(file, mode)
 }
 
-/// Renames a draft. What it replaces is neither the draft itself nor a file that was read.
-pub fn rename_draft<F: FileSystem>(
-    fs: &mut F,
-    draft: &Draft<F::File>,
-    files: &RunFiles,
-) -> Result<(), FileFault>
+/// Renames a draft. What it replaces isn't the draft itself.
+pub fn rename_draft<F: FileSystem>(fs: &mut F, draft: &Draft<F::File>) -> Result<(), FileFault>
     requires path { IsTrue (F.disk fs.old).tells → IsDraftPath (string_bytes draft.now.path) }
     requires there { IsTrue (F.disk fs.old).tells →
         IsFile draft.now.key (at (F.disk fs.old).tree (string_bytes draft.now.path)) }
-    requires apart { IsTrue (F.disk fs.old).tells →
-        IsApart (string_bytes draft.now.name) draft.now.key files.now (F.disk fs.old).tree }
-    ensures decent { KeepsDecent (keys_in files.now.read) (F.disk fs.old) (F.disk fs.new) }
+    requires own { IsTrue (F.disk fs.old).tells →
+        IsFile draft.now.key (at (F.disk fs.old).tree (string_bytes draft.now.name)) → ⊥ }
+    ensures decent { (read : List FileKey) →
+        (IsTrue (F.disk fs.old).tells → IsUnread read (string_bytes draft.now.name) (F.disk fs.old).tree) →
+        KeepsDecent read (F.disk fs.old) (F.disk fs.new) }
     ensures changes { Changes (λ _. Renames (string_bytes draft.now.path) (string_bytes draft.now.name))
         (F.disk fs.old) (F.disk fs.new) result }
 {
-    let _ = files;
     fs.rename(draft.path.as_str(), draft.name.as_str())
 }
 

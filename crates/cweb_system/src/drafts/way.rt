@@ -4,7 +4,7 @@ ghost use Rattle.cweb_system.specs.declared.node.FileKey.{FileKey};
 ghost use Rattle.cweb_system.specs.FileSet.{keys_in};
 ghost use Rattle.cweb_system.specs.Tree.{IsFile, at};
 ghost use Rattle.cweb_system.specs.inner.Drafts.{IsDraftWay, IsReplaceable};
-ghost use Rattle.cweb_system.specs.inner.Written.{FilesAreThere};
+ghost use Rattle.cweb_system.specs.inner.Written.{HasFiles};
 
 use crate::file_set::FileSet;
 use crate::file_system::FileSystem;
@@ -26,7 +26,7 @@ pub enum Way {
 
 /// How an output of this name is written. A file that the run has read, or wrote under another name, is refused.
 pub fn way_to<F: FileSystem>(fs: &F, name: &str, files: &RunFiles) -> Result<Way, FileFault>
-    requires { IsTrue (F.disk fs.now).tells → FilesAreThere (F.disk fs.now).tree files.now.written.items }
+    requires { HasFiles files.now.written.items (F.disk fs.now) }
     ensures read { IsTrue (F.disk fs.now).tells → (key : FileKey) →
         IsFile key (at (F.disk fs.now).tree name.now) →
         Contains (keys_in files.now.read) key → IsErr result }

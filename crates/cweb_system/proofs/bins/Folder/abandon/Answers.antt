@@ -1,6 +1,6 @@
 use Rattle.std.specs.Prelude.{option_map}
 use Rattle.cweb_files.specs.Bins.{refusal}
-use Rattle.cweb_system.specs.Folder.{draft_name}
+use Rattle.cweb_system.specs.Bins.{draft_name}
 use Rattle.cweb_system.proofs.Views.{files_left}
 use Rattle.cweb_system.proofs.bins.Folder.abandon.Goals as goal
 

@@ -2,7 +2,7 @@ use Rattle.std.proofs.Common.{sym, ◌∙◌, subst, Option}
 use Rattle.std.specs.Prelude.{option_map, take}
 use Rattle.cweb_files.specs.Bins.{refusal}
 use Rattle.cweb_system.specs.declared.drafts.Draft.{Draft}
-use Rattle.cweb_system.specs.Folder.{draft_name}
+use Rattle.cweb_system.specs.Bins.{draft_name}
 use Rattle.cweb_system.specs.inner.FolderSound.{IsDraftSound}
 use Rattle.cweb_system.proofs.Views.{appending, files_left}
 use Rattle.cweb_system.proofs.bins.Folder.add.Goals as goal

@@ -4,7 +4,7 @@ use Rattle.cweb_files.specs.Bins.{refusal}
 use Rattle.cweb_files.specs.Files.{with_bytes}
 use Rattle.cweb_system.specs.declared.drafts.Draft.{Draft}
 use Rattle.cweb_system.specs.declared.written.WrittenFile.{WrittenFile}
-use Rattle.cweb_system.specs.Folder.{draft_bytes, draft_name, file_in}
+use Rattle.cweb_system.specs.Bins.{draft_bytes, draft_name, file_in}
 use Rattle.cweb_system.specs.inner.FolderSound.{IsDraftSound}
 use Rattle.cweb_system.specs.inner.Written.{Leaves}
 use Rattle.cweb_system.proofs.Views.{committing, files_left, leaves_then, stands_then}

@@ -1,16 +1,19 @@
-use Rattle.std.proofs.Common.{◌≡◌, Ok, true}
+use Rattle.std.proofs.Common.{◌≡◌, ◌∙◌, Some}
 use Rattle.cweb_system.proofs.Faults.{is_memory}
+use Rattle.cweb_system.proofs.Keys.{key_self}
 use Rattle.cweb_system.proofs.drafts.creating.locked_left.Goals as goal
 
-pub returns-in_err-is_there-in-Ok-clause-memory : goal.returns-in_err-is_there-in-Ok-clause-memory
-returns-in_err-is_there-in-Ok-clause-memory g c = λ tells is.
-    let found : c.is_open_at.result ≡ Ok true = c.is_open_at.ensures tells is ((c.in-Ok.ensures tells).same c.args.left is) in
-    absurd (cc (found, c.in_err-is_there-in-Ok.was))
+pub returns-in_err-found-in-Ok-clause-memory : goal.returns-in_err-found-in-Ok-clause-memory
+returns-in_err-found-in-Ok-clause-memory g c = λ tells is.
+    let found = c.key_at.ensures tells (rw ((c.in-Ok.ensures tells).same c.args.left is) at is) in
+    absurd (cc (found, c.in_err-found-in-Ok.was))
 
-pub returns-in_ok-is_there-in-Ok-clause-there : goal.returns-in_ok-is_there-in-Ok-clause-there
-returns-in_ok-is_there-in-Ok-clause-there g c = λ tells is.
-    let found : c.is_open_at.result ≡ Ok true = c.is_open_at.ensures tells is ((c.in-Ok.ensures tells).same c.args.left is) in
-    cc (found, c.in_ok-is_there-in-Ok.was)
+pub returns-in_ok-found-in-Ok-clause-there : goal.returns-in_ok-found-in-Ok-clause-there
+returns-in_ok-found-in-Ok-clause-there g c = λ tells is.
+    let same = (c.in-Ok.ensures tells).same c.args.left is in
+    let found = c.key_at.ensures tells (rw same at is) in
+    let left : c.in_ok-found-in-Ok.found ≡ Some c.args.left = cc (found, c.in_ok-found-in-Ok.was, same) in
+    (rw left at c.eq.ensures) ∙ key_self c.args.left
 
 pub returns-in-Err-NotFound-clause-there : goal.returns-in-Err-NotFound-clause-there
 returns-in-Err-NotFound-clause-there g c = λ tells is.

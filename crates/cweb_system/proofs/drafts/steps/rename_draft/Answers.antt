@@ -1,5 +1,4 @@
 use Rattle.std.proofs.Common.{string_bytes}
-use Rattle.cweb_system.specs.FileSet.{keys_in}
 use Rattle.cweb_system.specs.Tree.{MayRename, Renames}
 use Rattle.cweb_system.proofs.Steps.{changes_then, keeps, renames_decent}
 use Rattle.cweb_system.proofs.drafts.steps.rename_draft.Goals as goal
@@ -7,11 +6,11 @@ use Rattle.cweb_system.proofs.drafts.steps.rename_draft.Goals as goal
 pub returns-clause-changes : goal.returns-clause-changes
 returns-clause-changes g c = changes_then (λ _. MayRename _ _) _ _ _ c.rename.result
     (rw (c.as_str.ensures.value, c.as_str-2.ensures.value) at c.rename.ensures)
-    (λ tells done may. may c.args.draft.now.key (c.requires.there tells) (c.requires.apart tells).own)
+    (λ tells done may. may c.args.draft.now.key (c.requires.there tells) (c.requires.own tells))
 
 pub returns-clause-decent : goal.returns-clause-decent
-returns-clause-decent g c = keeps (keys_in c.args.files.now.read)
+returns-clause-decent g c read unread = keeps read
     (λ _. Renames (string_bytes c.args.draft.now.path) (string_bytes c.args.draft.now.name)) _ _ c.rename.result
     (returns-clause-changes g c)
-    (λ tells done. renames_decent _ (string_bytes c.args.draft.now.path) (string_bytes c.args.draft.now.name) _ _
-    (c.requires.path tells) (c.rename.ensures.place tells) (c.requires.apart tells).unread)
+    (λ tells done. renames_decent read (string_bytes c.args.draft.now.path) (string_bytes c.args.draft.now.name) _ _
+    (c.requires.path tells) (c.rename.ensures.place tells) (unread tells))
