@@ -3,8 +3,6 @@ pub mod DraftPaths
 pub mod Drafts
 pub mod FolderSound
 pub mod Keys
-pub mod Log
-pub mod Memory
 pub mod ShelfState
 pub mod Sound
 pub mod Streams
