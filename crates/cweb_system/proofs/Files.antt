@@ -10,7 +10,7 @@ use Rattle.cweb_system.specs.Steps.{Disk}
 use Rattle.cweb_system.specs.Tree.{Tree, IsFile, Removes, SetsMode, at}
 use Rattle.cweb_system.specs.inner.Drafts.{Clears, DraftIsThere, IsAlone, LeavesFiles}
 use Rattle.cweb_system.specs.inner.Written.{Leaves}
-use Rattle.cweb_system.specs.inner.Log.{key_eq}
+use Rattle.cweb_system.specs.inner.Keys.{key_eq}
 use Rattle.cweb_system.proofs.Keys.{key_is, key_self}
 use Rattle.cweb_system.proofs.Steps.{keeps_then}
 use Rattle.cweb_system.proofs.Views.{leaves_then}

@@ -3,7 +3,5 @@ pub mod SetMembership
 pub mod Views
 pub mod Files
 pub mod Folders
-pub mod Changes
 pub mod Keys
-pub mod Scans
 pub mod Steps

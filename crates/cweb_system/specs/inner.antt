@@ -2,8 +2,6 @@
 pub mod Drafts
 pub mod FolderSound
 pub mod Keys
-pub mod Log
-pub mod Memory
 pub mod ShelfState
 pub mod Sound
 pub mod Streams

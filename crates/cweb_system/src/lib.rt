@@ -19,14 +19,12 @@ mod file_set;
 mod run_files;
 mod written;
 
-// file systems: that of the system, and one in memory
-mod memory_folder;
+// the file system of the system
 mod std_folder;
 
 pub use file_set::FileSet;
 pub use file_system::FileSystem;
 pub use folder_bins::FolderBins;
-pub use memory_folder::{MemoryFile, MemoryFolder};
 pub use node::{FileFault, FileKey, Node};
 pub use shelf::FolderShelf;
 pub use std_folder::{LockableFile, StdFolder};

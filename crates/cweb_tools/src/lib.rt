@@ -33,8 +33,7 @@ pub use cweb_log::{
     write_stop, write_writing,
 };
 pub use cweb_system::{
-    FileSet, FileSystem, FolderBins, FolderShelf, LockableFile, MemoryFolder, StdFolder, StdSink,
-    read_once,
+    FileSet, FileSystem, FolderBins, FolderShelf, LockableFile, StdFolder, StdSink, read_once,
 };
 pub use environment::{Environment, ProgramEnvironment};
 pub use in_folder::{depend_in_folder, merge_in_folder, tangle_in_folder};

@@ -1,9 +1,0 @@
-use Rattle.std.proofs.Common.{◌∙◌, sym, arith, []}
-use Rattle.cweb_system.specs.inner.Log.{bytes_by}
-use Rattle.cweb_system.proofs.Scans.{next_byte}
-use Rattle.cweb_system.proofs.memory_folder.MemoryFolderFileSystem.read.Goals as goal
-
-pub returns-clause-ok : goal.returns-clause-ok
-returns-clause-ok c = λ tells.
-    next_byte (bytes_by c.args.self.now.log.items c.args.file.now.key []) c.args.piece.now c.args.file.now.position
-    c.in-Some.byte (sym c.byte_at.ensures.value ∙ c.in-Some.is) (grind (arith, c.is_empty.ensures, c.if-is_empty.false))

@@ -1,0 +1,3 @@
+pub mod Keys
+pub mod Changes
+pub mod Scans

@@ -1,0 +1,3 @@
+-- Definitions that only the functions of this crate cite.
+pub mod Log
+pub mod Memory
