@@ -3,7 +3,5 @@ pub mod Drafts
 pub mod FolderSound
 pub mod Keys
 pub mod ShelfState
-pub mod Sound
 pub mod Streams
-pub mod Unknown
 pub mod Written

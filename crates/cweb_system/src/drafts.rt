@@ -2,7 +2,7 @@
 ghost use Rattle.std.specs.Prelude.{◌≡◌, ◌++◌, ◌∷◌, [], IsTrue, IsErr, IfErr, IfOk, OnOk, string_bytes};
 ghost use Rattle.cweb_system.specs.FileSet.{keys_in};
 ghost use Rattle.cweb_system.specs.Tree.{at};
-ghost use Rattle.cweb_system.specs.inner.Drafts.{BeginsDraft, CanPut, HasCause, HasDraft, IfCanBegin, IsClearable};
+ghost use Rattle.cweb_system.specs.inner.Drafts.{DraftIsThere, CanPut, HasCause, HasDraft, IfCanBegin, IsClearable};
 ghost use Rattle.cweb_system.specs.inner.Drafts.{LeavesFiles};
 ghost use Rattle.cweb_system.specs.inner.Keys.{is_among};
 ghost use Rattle.cweb_system.specs.inner.Written.{HasFiles};
@@ -50,7 +50,9 @@ pub fn begin<F: FileSystem>(
     ensures written { files.new.written.items ≡ files.old.written.items }
     ensures room { IfOk result (λ draft. CanPut files.new draft.key) }
     ensures named { IfOk result (λ draft. string_bytes draft.name ≡ name.now) }
-    ensures begun { BeginsDraft F.key files.old (F.disk fs.old) (F.disk fs.new) result }
+    ensures begun { IsTrue (F.disk fs.old).tells → IfOk result (λ draft.
+        DraftIsThere F.key files.old.written.items draft (F.disk fs.new).tree ×
+        ((F.disk fs.new).tree.bytes draft.key ≡ [])) }
     ensures cause { IfCanBegin files.old name.now (F.disk fs.old) (HasCause (F.disk fs.new).failed result) }
 {
     files.reserve()?;
@@ -97,7 +99,9 @@ fn begin_draft<F: FileSystem>(
     requires path { string_bytes path ≡ string_bytes name ++ 127 ∷ [] }
     ensures leaves { LeavesFiles files.now (F.disk fs.old) (F.disk fs.new) }
     ensures named { IfOk result (λ draft. draft.name ≡ name) }
-    ensures begun { BeginsDraft F.key files.now (F.disk fs.old) (F.disk fs.new) result }
+    ensures begun { IsTrue (F.disk fs.old).tells → IfOk result (λ draft.
+        DraftIsThere F.key files.now.written.items draft (F.disk fs.new).tree ×
+        ((F.disk fs.new).tree.bytes draft.key ≡ [])) }
     ensures cause { IsTrue (F.disk fs.old).tells →
         IsClearable files.now (at (F.disk fs.old).tree (string_bytes path)) →
         HasCause (F.disk fs.new).failed result }

@@ -2,8 +2,7 @@
 ghost use Rattle.std.specs.Prelude.{IsTrue};
 ghost use Rattle.cweb_system.specs.FileSet.{keys_in};
 ghost use Rattle.cweb_system.specs.Steps.{AreDecent};
-ghost use Rattle.cweb_system.specs.inner.FolderSound.{IsSound};
-ghost use Rattle.cweb_system.specs.inner.Sound.{IsSound_prop};
+ghost use Rattle.cweb_system.specs.inner.FolderSound.{IsSound, IsSound_prop};
 
 use crate::bins::Folder;
 use crate::file_set::FileSet;

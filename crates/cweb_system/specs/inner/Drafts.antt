@@ -1,7 +1,6 @@
 -- Drafts in a tree, and what the calls for them do.
-use Rattle.std.specs.Prelude.{◌≡◌, ◌<◌, ◌⊎◌, ℕ, List, [], ◌∷◌, ◌++◌, Bool, Contains, IfErr, IfOk, IsTrue, Option, Result, Some, None, ⊤, false, string_bytes, vec_len, vec_capacity}
+use Rattle.std.specs.Prelude.{◌≡◌, ◌<◌, ◌⊎◌, ℕ, List, [], ◌∷◌, ◌++◌, Bool, Contains, IfErr, IsTrue, Option, Result, Some, None, ⊤, false, string_bytes, vec_len, vec_capacity}
 use Rattle.cweb_system.specs.declared.drafts.Draft.{Draft}
-use Rattle.cweb_system.specs.declared.drafts.way.Way.{Way}
 use Rattle.cweb_system.specs.declared.node.FileFault.{FileFault}
 use Rattle.cweb_system.specs.declared.node.FileKey.{FileKey}
 use Rattle.cweb_system.specs.declared.node.Node.{Node}
@@ -58,11 +57,6 @@ pub record DraftIsThere {H : Type 0} (key : H → FileKey) (written : List Writt
 abbrev pub HasDraft : {H : Type 0} → (H → FileKey) → RunFiles → Draft H → Disk → Type 0
 HasDraft key files draft disk = IsTrue disk.tells → DraftIsThere key files.written.items draft disk.tree
 
--- An empty draft was begun.
-abbrev pub BeginsDraft : {H : Type 0} → (H → FileKey) → RunFiles → Disk → Disk → Result (Draft H) FileFault → Type 0
-BeginsDraft key files old new result = IsTrue old.tells → IfOk result (λ draft.
-    DraftIsThere key files.written.items draft new.tree × (new.tree.bytes draft.key ≡ []))
-
 -- The file of a draft can be recorded when it is committed.
 abbrev pub CanPut : RunFiles → FileKey → Type 0
 CanPut files key = (vec_len files.written < vec_capacity files.written) × IsTrue (is_among (keys_in files.created) key)
@@ -117,8 +111,3 @@ HasCause failed result = IfErr result (λ fault. (fault ≡ FileFault.Memory →
 -- Nothing is at a path, or a call has failed.
 abbrev pub IsCleared : List ℕ → Disk → Type 0
 IsCleared path disk = (at disk.tree path ≡ None) ⊎ IsTrue disk.failed
-
--- An output is written to a draft.
-abbrev pub IsDraftWay : Way → Type 0
-IsDraftWay (Way.Draft mode) = ⊤
-IsDraftWay (Way.Device device) = ⊥

@@ -1,9 +1,9 @@
 // How an output is written.
-ghost use Rattle.std.specs.Prelude.{◌≡◌, Contains, Some, Ok, IsTrue, IsErr, IsOk, IfOk};
+ghost use Rattle.std.specs.Prelude.{◌≡◌, Contains, Some, Ok, IsTrue, IsErr};
 ghost use Rattle.cweb_system.specs.declared.node.FileKey.{FileKey};
 ghost use Rattle.cweb_system.specs.FileSet.{keys_in};
 ghost use Rattle.cweb_system.specs.Tree.{IsFile, at};
-ghost use Rattle.cweb_system.specs.inner.Drafts.{IsDraftWay, IsReplaceable};
+ghost use Rattle.cweb_system.specs.inner.Drafts.{IsReplaceable};
 ghost use Rattle.cweb_system.specs.inner.Written.{HasFiles};
 
 use crate::file_set::FileSet;
@@ -32,7 +32,7 @@ pub fn way_to<F: FileSystem>(fs: &F, name: &str, files: &RunFiles) -> Result<Way
         Contains (keys_in files.now.read) key → IsErr result }
     ensures free { IsTrue (F.disk fs.now).tells →
         IsReplaceable files.now name.now (at (F.disk fs.now).tree name.now) →
-        IsOk result × IfOk result IsDraftWay }
+        (IsErr result → ⊥) × ((key : FileKey) → result ≡ Ok (Way.Device key) → ⊥) }
     ensures folder { IsTrue (F.disk fs.now).tells → (key : FileKey) →
         at (F.disk fs.now).tree name.now ≡ Some (Node.Folder key) → IsErr result }
     ensures device { IsTrue (F.disk fs.now).tells → (key : FileKey) →
