@@ -1,4 +1,4 @@
--- What bins over a file system have.
+-- What bins and shelf over a file system have.
 use Rattle.std.specs.Prelude.{ℕ, List, [], map, Option, Some, None, option_map, string_bytes}
 use Rattle.cweb_files.specs.Bins.{refusal}
 use Rattle.cweb_files.specs.Files.{File, Beside}
@@ -10,6 +10,10 @@ use Rattle.cweb_system.specs.declared.node.FileKey.{FileKey}
 use Rattle.cweb_system.specs.declared.written.WrittenFile.{WrittenFile}
 use Rattle.cweb_system.specs.FileSet.{keys_in}
 use Rattle.cweb_system.specs.Tree.{Tree, contents}
+
+-- The contents of each file that can be opened, by its path.
+abbrev pub contents_in : Tree → List ℕ → Option (List ℕ)
+contents_in tree path = option_map tree.bytes (tree.target path)
 
 -- A committed file, as it is in the file system.
 abbrev pub file_in : Tree → WrittenFile → File

@@ -1,5 +1,5 @@
 -- The state of a file system, and what each call does to it.
-use Rattle.std.specs.Prelude.{◌≡◌, ℕ, List, [], ◌++◌, Option, Some, None, IsSome, drop, option_map}
+use Rattle.std.specs.Prelude.{◌≡◌, ℕ, List, [], ◌++◌, Option, Some, None, IsSome, drop}
 use Rattle.cweb_system.specs.declared.node.FileKey.{FileKey}
 use Rattle.cweb_system.specs.declared.node.Node.{Node}
 
@@ -32,10 +32,6 @@ bytes_of tree _ = []
 -- The contents of the file under a path.
 abbrev pub contents : Tree → List ℕ → List ℕ
 contents tree path = bytes_of tree (at tree path)
-
--- The contents of each file that can be opened, by its path.
-abbrev pub contents_in : Tree → List ℕ → Option (List ℕ)
-contents_in tree path = option_map tree.bytes (tree.target path)
 
 -- The bytes of a file after a position.
 abbrev pub rest : Tree → FileKey → ℕ → List ℕ

@@ -29,7 +29,6 @@ pub enum Node {
 pub enum FileFault {
     Memory,
     NotFound,
-    Exists,
     Denied,
     Other,
 }

@@ -121,7 +121,6 @@ impl From<Error> for FileFault {
         match error.kind() {
             ErrorKind::OutOfMemory => FileFault::Memory,
             ErrorKind::NotFound => FileFault::NotFound,
-            ErrorKind::AlreadyExists => FileFault::Exists,
             ErrorKind::PermissionDenied => FileFault::Denied,
             _ => FileFault::Other,
         }
@@ -216,9 +215,9 @@ impl<R: Files<File: LockableFile> + Drop> FileSystem for StdFolder<R> {
         }
         match how.open(&self.files, path) {
             Ok(file) => Ok(Some(file)),
-            Err(error) => match FileFault::from(error) {
-                FileFault::Exists => Ok(None),
-                fault => Err(fault),
+            Err(error) => match error.kind() {
+                ErrorKind::AlreadyExists => Ok(None),
+                _ => Err(FileFault::from(error)),
             },
         }
     }

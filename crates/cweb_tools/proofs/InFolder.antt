@@ -4,9 +4,7 @@ use Rattle.cweb_system.specs.declared.written.WrittenFile.{WrittenFile}
 use Rattle.cweb_system.specs.declared.file_system.FileSystem.{Ghosts as FileSystem}
 use Rattle.cweb_system.specs.declared.folder_bins.FolderBins.{FolderBins}
 use Rattle.cweb_system.specs.declared.shelf.FolderShelf.{FolderShelf}
-use Rattle.cweb_system.specs.Bins.{bins_beside, bins_bytes, bins_failed, bins_system}
-use Rattle.cweb_system.specs.Bins.{file_in}
-use Rattle.cweb_system.specs.Tree.{contents_in}
+use Rattle.cweb_system.specs.Bins.{bins_beside, bins_bytes, bins_failed, bins_system, contents_in, file_in}
 use Rattle.cweb_system.specs.inner.ShelfState.{shelf_failures, shelf_system}
 use Rattle.cweb_system.specs.Tree.{Tree, contents}
 use Rattle.cweb_log.specs.DeviceModels.{Devices, ShelfModel, SinkModel}

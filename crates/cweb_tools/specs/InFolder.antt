@@ -3,8 +3,7 @@ use Rattle.std.specs.Prelude.{◌≡◌, ℕ, List, [], None, IsTrue, All}
 use Rattle.cweb_files.specs.Files.{File}
 use Rattle.cweb_system.specs.declared.file_system.FileSystem.{Ghosts as FileSystem}
 use Rattle.cweb_system.specs.declared.folder_bins.FolderBins.{FolderBins}
-use Rattle.cweb_system.specs.Bins.{bins_beside, bins_bytes, bins_failed, bins_system}
-use Rattle.cweb_system.specs.Tree.{contents_in}
+use Rattle.cweb_system.specs.Bins.{bins_beside, bins_bytes, bins_failed, bins_system, contents_in}
 use Rattle.cweb_system.specs.Tree.{Tree, contents}
 use Rattle.cweb_log.specs.DeviceModels.{Devices, ShelfModel, SinkModel}
 

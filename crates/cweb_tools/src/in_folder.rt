@@ -1,8 +1,7 @@
 // Runs in a folder.
 ghost use Rattle.std.specs.Prelude.{◌≡◌, ◌<◌, ◌+◌, ◌^◌, IsTrue, [], map};
 ghost use Rattle.std.specs.Option.{option_copied};
-ghost use Rattle.cweb_system.specs.Bins.{bins_read, bins_system};
-ghost use Rattle.cweb_system.specs.Tree.{contents_in};
+ghost use Rattle.cweb_system.specs.Bins.{bins_read, bins_system, contents_in};
 ghost use Rattle.cweb_system.specs.Steps.{AreDecent};
 ghost use Rattle.cweb_log.specs.CommandLine.{options_by, web_names_by};
 ghost use Rattle.cweb_log.specs.DeviceModels.{sink_model};

@@ -4,7 +4,7 @@ use Rattle.cweb_system.specs.declared.file_system.FileSystem.{Ghosts as FileSyst
 use Rattle.cweb_system.specs.declared.node.FileKey.{FileKey}
 use Rattle.cweb_system.specs.declared.shelf.FolderShelf.{FolderShelf}
 use Rattle.cweb_system.specs.FileSet.{keys_in}
-use Rattle.cweb_system.specs.Tree.{contents_in}
+use Rattle.cweb_system.specs.Bins.{contents_in}
 use Rattle.cweb_system.specs.Tree.{rest}
 
 abbrev pub shelf_system : {F H : Type 0} {system : FileSystem F H} → FolderShelf F H system → F

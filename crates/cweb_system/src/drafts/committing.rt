@@ -89,7 +89,7 @@ fn keep_mode<F: FileSystem>(
     match fs.look(draft.name.as_str()) {
         Some(Node::File(found, kept)) => {
             if found == draft.key || !files.may_replace(fs, found, draft.name.as_str()) {
-                return Err(FileFault::Exists);
+                return Err(FileFault::Other);
             }
             let replaces = files.created.contains(found);
             if kept == mode {

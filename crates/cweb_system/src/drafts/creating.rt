@@ -39,7 +39,7 @@ pub fn created<F: FileSystem>(
             return Ok(made);
         }
     }
-    Err(FileFault::Exists)
+    Err(FileFault::Other)
 }
 
 /// Tries once to create a draft. `None`: its path was taken and is cleared now, or another run removed the new draft.
@@ -128,7 +128,7 @@ fn clear<F: FileSystem>(fs: &mut F, path: &str, files: &RunFiles) -> Result<(), 
         None => Ok(()),
         Some(Node::File(key, _)) => {
             if files.has_written(fs, key) || files.read.contains(key) {
-                return Err(FileFault::Exists);
+                return Err(FileFault::Other);
             }
             clear_file(fs, path, key)
         }
@@ -148,7 +148,7 @@ fn clear_other<F: FileSystem>(fs: &mut F, path: &str, files: &RunFiles) -> Resul
     ensures gone { IsTrue (F.disk fs.old).tells → OnOk result (IsCleared path.now (F.disk fs.new)) }
 {
     if is_read(fs, path, &files.read) {
-        return Err(FileFault::Exists);
+        return Err(FileFault::Other);
     }
     remove_left(fs, path)
 }

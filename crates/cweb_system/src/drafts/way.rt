@@ -42,7 +42,7 @@ pub fn way_to<F: FileSystem>(fs: &F, name: &str, files: &RunFiles) -> Result<Way
         None => Ok(Way::Draft(None)),
         Some(Node::File(key, mode)) => {
             if !files.may_replace(fs, key, name) {
-                return Err(FileFault::Exists);
+                return Err(FileFault::Other);
             }
             Ok(Way::Draft(Some(mode | OWNERS)))
         }
@@ -59,7 +59,7 @@ fn way_of_link<F: FileSystem>(fs: &F, name: &str, read: &FileSet) -> Result<Way,
     match fs.follow(name) {
         Some(Node::File(target, _)) | Some(Node::Folder(target)) => {
             if read.contains(target) || is_stream(fs, target) {
-                return Err(FileFault::Exists);
+                return Err(FileFault::Other);
             }
             Ok(Way::Draft(None))
         }

@@ -1,5 +1,5 @@
 use Rattle.cweb_tools.proofs.Common.{ℕ, List, Bor, map, options_by, ap, refl, arith, Err, option_copied, World, OptionsModel, Option, Some, options_of, sink_model, world_of, tangle_usage, tangle_later}
-use Rattle.cweb_system.specs.Tree.{contents_in}
+use Rattle.cweb_system.specs.Bins.{contents_in}
 use Rattle.cweb_log.specs.DeviceModels.{ShelfModel, SinkModel}
 use Rattle.cweb_tools.specs.InFolder.{bins_after, shelf_in}
 use Rattle.cweb_tools.proofs.Courses.{same_stop}
