@@ -4,6 +4,7 @@ mod changes;
 mod command_line;
 mod depends;
 mod devices;
+mod environment;
 mod expected;
 mod failing;
 mod items;
