@@ -149,10 +149,10 @@ impl<R: Files<File: LockableFile> + Drop> FileSystem for StdFolder<R> {
     type File = R::File;
 
     ghost disk = { λ _. record {
-        tells = false;
-        tree = record { place = λ p. p; node = λ p. None; target = λ p. None; bytes = λ k. [] };
-        past = [];
-        failed = true;
+      tells = false;
+      tree = record { place = λ p. p; node = λ p. None; target = λ p. None; bytes = λ k. [] };
+      past = [];
+      failed = true;
     } };
 
     ghost key = { λ _. record { device = 0; number = 0 } };

@@ -44,7 +44,11 @@ fn copied(alloc: Global, bytes: &[u8]) -> Result<Option<Vec<u8>>, AllocError>
 }
 
 /// An environment with these arguments and this value of CWEBINPUTS.
-fn environment(rt: &(impl Abort + AllocGlobal), words: &[&[u8]], inputs: Option<&[u8]>) -> FixedEnvironment {
+fn environment(
+    rt: &(impl Abort + AllocGlobal),
+    words: &[&[u8]],
+    inputs: Option<&[u8]>,
+) -> FixedEnvironment {
     let mut owned = Vec::new(rt.alloc());
     for word in words {
         let word = Vec::from_slice(rt.alloc(), word).expect(rt, "memory");
@@ -74,7 +78,11 @@ fn check_inputs(rt: &(impl Abort + AllocGlobal), inputs: Option<&[u8]>, want: Op
 #[test]
 fn arguments_are_words_if_all_are_text(rt: HostRuntime) {
     check_words(&rt, &[], &[]);
-    check_words(&rt, &[b"hello", b"", b"+s", b"b \xc3\xa4"], &["hello", "", "+s", "b \u{e4}"]);
+    check_words(
+        &rt,
+        &[b"hello", b"", b"+s", b"b \xc3\xa4"],
+        &["hello", "", "+s", "b \u{e4}"],
+    );
     check_words(&rt, &[b"hello", b"\xff"], &[]);
 }
 
