@@ -12,6 +12,7 @@ pub mod FaultItems
 pub mod Printing
 pub mod Prints
 pub mod ReadyExpanders
+pub mod NamesOnce
 pub mod RuleWords
 pub mod Refusals
 pub mod ObservedRunEnds

@@ -1,13 +1,10 @@
 -- The words of a rule, one after the other.
 use Rattle.std.proofs.Common.{◌≡◌, ◌<◌, ◌+◌, ℕ, List, [], ◌∷◌, ◌++◌, map, length, drop, drop-cons, get_or, refl, sym, ◌∙◌, ap, arith, suc, add-one, append_assoc}
-use Rattle.std.proofs.lemmas.List.{drop-map, length-drop, length-map, map-append, take_more}
-use Rattle.std.specs.Prelude.{fold, codes, slice_index_or, if◌then◌else◌, Bool, true, false, ◌||◌, take}
-use Rattle.std.proofs.lemmas.List.Sums.{fold-append}
-use Rattle.std.specs.Str.{bytes_eq}
-use Rattle.indexmap.specs.IndexSet.{insert_key}
+use Rattle.std.proofs.lemmas.List.{drop-map, length-drop, length-map}
+use Rattle.std.specs.Prelude.{fold, codes, Bool, true, false}
 use Rattle.std.specs.Borrow.{Bor}
-use Rattle.std.specs.List.{flat_map, list_any}
-use Rattle.cweb_tools.specs.Depfile.{Wrapped, add_once, add_word, each_once, colon, empty_rule, escaped, has_equals, led, position_before, prerequisite_words, target_words}
+use Rattle.std.specs.List.{flat_map}
+use Rattle.cweb_tools.specs.Depfile.{Wrapped, add_word, colon, empty_rule, escaped, has_equals, led, position_before, prerequisite_words, target_words}
 use Rattle.cweb_tools.specs.declared.depfile.escape.Position.{Position}
 use Rattle.cweb_tools.specs.declared.depfile.escape.Position.TheVariants.{Target, Inner, Last}
 use Rattle.cweb_tools.specs.inner.RuleModel.{keys_of, lead_words}
@@ -124,27 +121,3 @@ module _ {X : Type 0} (name_of : X → List ℕ) (outputs : List X) (at : ℕ) w
           ∙ ap (λ (rest : List (List ℕ)). name_of (get_or outputs at other) ∷ rest)
           (sym (drop-map name_of (suc at) outputs)
           ∙ ap (λ (n : ℕ). drop n (map name_of outputs)) (sym (add-one at)))
-
--- A name is in a set of names if its bytes are.
-any_same : (names : List (Bor (List ℕ))) (name : Bor (List ℕ))
-    → list_any (λ (other : Bor (List ℕ)). bytes_eq name.now other.now) names
-    ≡ list_any (bytes_eq name.now) (keys_of names)
-any_same [] name = refl
-any_same (other ∷ names) name = ap (λ (b : Bool). bytes_eq name.now other.now || b) (any_same names name)
-
--- A name was inserted into a set of names, if it wasn't there.
-pub once_added : (names : List (Bor (List ℕ))) (name : Bor (List ℕ))
-    → keys_of (insert_key (λ (a b : Bor (List ℕ)). bytes_eq a.now b.now) names name) ≡ add_once (keys_of names) name.now
-once_added names name =
-    ap (λ (b : Bool). keys_of (if b then names else names ++ name ∷ [])) (any_same names name) ∙ by_test _
-  where
-    by_test : (b : Bool) → keys_of (if b then names else names ++ name ∷ [])
-        ≡ (if b then keys_of names else keys_of names ++ name.now ∷ [])
-    by_test true = refl
-    by_test false = map-append (λ (name : Bor (List ℕ)). name.now) names (name ∷ [])
-
--- One more of the names was inserted.
-pub name_added : (names : List (List ℕ)) (at : ℕ) → at < length names
-    → add_once (each_once (take at names)) (slice_index_or names at []) ≡ each_once (take (at + 1) names)
-name_added names at within = sym (ap each_once (take_more names at [] within)
-    ∙ fold-append add_once [] (take at names) (get_or names at [] ∷ []))

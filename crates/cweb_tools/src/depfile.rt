@@ -14,8 +14,9 @@ use crate::rule_targets::Targets;
 use cweb_files::FileId;
 use cweb_lines::FileNames;
 use cweb_out::Plan;
-use indexmap::IndexSet;
+use cweb_texts::Key;
 use std::alloc::{AllocError, Global};
+use std::collections::BTreeSet;
 
 /// The length that a line isn't made to exceed. A longer name has a line of its own.
 const WIDTH: usize = 78;
@@ -42,13 +43,19 @@ pub(crate) fn depfile(
     rule.finish(inputs.as_slice())
 }
 
-/// The names of the opened files, each once.
-fn each_once<'a>(alloc: Global, names: &'a FileNames) -> Result<IndexSet<&'a str>, AllocError>
-    ensures { IfOk result (λ set. keys_of set.keys ≡ each_once (opened_file_names names.now)) }
+/// The names of the opened files, each once. The set is sorted, so no choice of names makes this slow. Most comparisons
+/// end at the two numbers of a key.
+fn each_once<'a>(alloc: Global, names: &'a FileNames) -> Result<Vec<&'a str>, AllocError>
+    ensures { IfOk result (λ list. keys_of list.items ≡ each_once (opened_file_names names.now)) }
 {
-    let mut inputs = IndexSet::new(alloc);
+    let mut inputs = Vec::new(alloc);
+    let mut known = BTreeSet::new(alloc);
     'names: for id in 0..names.count() {
-        inputs.insert(names.get(FileId(id)))?;
+        let name = names.get(FileId(id));
+        let key = Key::of(name.as_bytes());
+        if known.insert((key.first, key.last, name))? {
+            inputs.push(name)?;
+        }
     }
     Ok(inputs)
 }

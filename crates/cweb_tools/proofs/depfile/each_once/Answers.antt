@@ -1,14 +1,24 @@
-use Rattle.std.proofs.Common.{◌<◌, length, arith, ◌∙◌, ap}
+use Rattle.std.proofs.Common.{◌≡◌, ◌+◌, arith, ◌∙◌, ap, take}
 use Rattle.cweb_input.specs.surface.OpenedFileNames.{opened_file_names}
-use Rattle.cweb_tools.specs.Depfile.{add_once}
-use Rattle.cweb_tools.specs.inner.RuleModel.{keys_of}
-use Rattle.cweb_tools.proofs.RuleWords.{name_added, once_added}
+use Rattle.cweb_texts.specs.inner.Keys.{key_of}
+use Rattle.cweb_tools.specs.Depfile.{add_once, each_once}
+use Rattle.cweb_tools.proofs.NamesOnce.{name_added, pushes_new, skips_known}
 use Rattle.cweb_tools.proofs.depfile.each_once.Goals as goal
+use Rattle.cweb_tools.proofs.depfile.each_once.Goals.{then-branch+in_ok-push, else-branch}
 
 pub names-preserved : goal.names-preserved
 names-preserved c =
-    let within : c.names.id < length (opened_file_names c.args.names.now) =
-    omega (arith, c.names-test.true, c.count-id-end.ensures) in
-    ap keys_of c.in_ok-insert.ensures.keys ∙ once_added c.names.inputs.keys c.get.result
-    ∙ (λ i. add_once (c.names.invariant i) (c.get.ensures i))
-    ∙ name_added (opened_file_names c.args.names.now) c.names.id within
+    let names = opened_file_names c.args.names.now in
+    let next : add_once (each_once (take c.names.id names)) c.get-name.result.now
+    ≡ each_once (take (c.names.id + 1) names) =
+    ap (add_once (each_once (take c.names.id names))) c.get-name.ensures
+    ∙ name_added names c.names.id (omega (arith, c.names-test.true, c.count-id-end.ensures)) in
+    let is_key = c.of-key.ensures ∙ ap key_of c.as_bytes.ensures.value in
+    elim c.if-branch.branch [
+      | then-branch+in_ok-push w ↦ pushes_new _ _ _ _ _ c.get-name.result _ _ _ c.names.invariant is_key
+          c.in_ok-insert.ensures.added next w.if-branch.true c.in_ok-insert.ensures.updates
+          (rw w.inputs-is w.in_ok-push.ensures.items)
+      | else-branch w ↦ skips_known _ _ _ _ _ c.get-name.result _ _ _ c.names.invariant is_key
+          c.in_ok-insert.ensures.added next w.if-branch.false c.in_ok-insert.ensures.unchanged
+          (ap (λ v. v.items) w.inputs-is)
+    ]
