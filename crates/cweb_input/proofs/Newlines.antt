@@ -1,5 +1,6 @@
 -- The first newline, and the first line.
-use Rattle.cweb_input.proofs.Common.{◌≡◌, ◌≢◌, ◌≤◌, ◌<◌, ◌+◌, ◌-◌, ℕ, suc, true, false, List, [], ◌∷◌, ◌++◌, Option, Some, None, sym, ◌∙◌, ap, take, drop, get_or, length, subst, arith, take-append-drop, append_assoc, length-append, drop-append-add, take-append_seam, drop_more, get_or-take, length-take, drop-take, drop-drop, nat_tests, IsFirstByte, is_byte, HasNoNewline, SplitsAt, IsNewlineAt, CutLine, cut_lines, onto_first, IsLongerThan, TakesRawLine, TakesFromBuffer, Full}
+use Rattle.cweb_input.specs.declared.source.Source.{Source}
+use Rattle.cweb_input.proofs.Common.{◌≡◌, ◌≢◌, ◌≤◌, ◌<◌, ◌+◌, ◌-◌, ℕ, suc, true, false, List, [], ◌∷◌, ◌++◌, Option, Some, None, sym, ◌∙◌, ap, take, drop, get_or, length, subst, arith, take-append-drop, append_assoc, length-append, drop-append-add, take-append_seam, drop_more, get_or-take, length-take, drop-take, drop-drop, nat_tests, IsFirstByte, is_byte, HasNoNewline, SplitsAt, IsNewlineAt, CutLine, cut_lines, onto_first, IsLongerThan, TakesRawLine, TakesFromBuffer, Full, buffered}
 
 pub no_newline : (xs : List ℕ) → ((k : ℕ) → k < length xs → get_or xs k 0 ≢ 10) → HasNoNewline xs
 no_newline [] none = tt
@@ -128,3 +129,11 @@ splits_after text prefix run after at is none splits =
 
     count : length before ≡ length prefix + at
     count = omega (arith, length-append prefix (take at run), length-take at run, splits.within)
+
+-- Nothing is buffered.
+pub none_buffered : {R : Type 0} (source : Source R) → source.end ≤ source.start → HasNoNewline (buffered source)
+none_buffered source past = subst HasNoNewline
+    (sym (ap (λ (n : ℕ). take n (drop source.start source.buffer.items)) none)) tt
+  where
+    none : source.end - source.start ≡ 0
+    none = omega (arith, past)

@@ -111,6 +111,8 @@ fn refill<S: Shelf>(shelf: &mut S, source: &mut Source<S::R>) -> Result<(), Line
         BlamesReader (S.opened_as shelf.old source.old.reader.value)
         (S.blamed shelf.old) (S.blamed shelf.new) result }
     ensures read { IsErrOf result LineFault.TooLong → ⊥ }
+    ensures needed { IsErrOf result LineFault.Read → source.old.start ≡ source.old.end }
+    ensures kept { source.old.start < source.old.end → source.new ≡ source.old }
     ensures same { IsTrue (S.tells shelf.old) →
         OnOk result (bytes_left S.left shelf.new source.new ≡ bytes_left S.left shelf.old source.old) }
     ensures end { IsTrue (S.tells shelf.old) →
@@ -151,6 +153,7 @@ pub fn next_line<S: Shelf>(
         (bytes_left S.left shelf.new source.new)) }
     ensures too_long { IsTrue (S.tells shelf.old) → IsErrOf result LineFault.TooLong →
         IsLongerThan LINE_LENGTH (bytes_left S.left shelf.old source.old) }
+    ensures needed { IsErrOf result LineFault.Read → HasNoNewline (buffered source.old) }
     ensures within { length line.new.items ≤ LINE_LENGTH }
     ensures clean { OnOk result (HasNoNewline line.new.items) }
 {

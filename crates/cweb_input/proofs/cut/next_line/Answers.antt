@@ -1,5 +1,6 @@
-use Rattle.cweb_input.proofs.Common.{◌≡◌, ◌++◌, [], ℕ, List, sym, ◌∙◌, ap, subst, rules, refl, Err, arith, common_steps, IsTrue, append_assoc, err_from_is_err_and, bytes_left, buffered, IsLongerThan, TakesFromBuffer, TooLong, LINE_LENGTH}
-use Rattle.cweb_input.proofs.Newlines.{longer_more, taken_full, taken_more}
+use Rattle.std.proofs.Common.{inr}
+use Rattle.cweb_input.proofs.Common.{◌≡◌, ◌<◌, ⊎_elim, cases_lt, HasNoNewline, ◌++◌, [], ℕ, List, sym, ◌∙◌, ap, subst, rules, refl, Err, arith, common_steps, IsTrue, append_assoc, err_from_is_err_and, bytes_left, buffered, IsLongerThan, TakesFromBuffer, TooLong, LINE_LENGTH}
+use Rattle.cweb_input.proofs.Newlines.{longer_more, none_buffered, taken_full, taken_more}
 use Rattle.cweb_input.proofs.cut.next_line.Given as given
 use Rattle.cweb_input.proofs.cut.next_line.Goals as goal
 use Rattle.cweb_input.proofs.cut.next_line.Goals.{In_ok-refill}
@@ -39,6 +40,11 @@ pieces-preserved g c =
     let takes = subst (λ b. TakesFromBuffer
     (buffered c.refill.new.source) c.pieces.line.items b c.take_buffered.new.line.items
     (buffered c.take_buffered.new.source)) c.if-branch.false c.in_ok-take_buffered.ensures.taken in
+    let unread : c.pieces.source ≡ c.args.source.now → HasNoNewline (buffered c.args.source.now) =
+    λ same. subst (λ source. HasNoNewline (buffered source)) same (⊎_elim
+    (λ (some : c.pieces.source.start < c.pieces.source.end).
+    subst (λ source. HasNoNewline (buffered source)) (c.in_ok-refill.ensures.kept some) takes.0)
+    (λ past. none_buffered c.pieces.source past) (cases_lt c.pieces.source.start c.pieces.source.end)) in
     record {
       tells = search rules;
       failed = search rules;
@@ -56,6 +62,7 @@ pieces-preserved g c =
           (so_far g (goal.at.pieces-preserved g c).In_ok-refill tells) c.pieces.invariant.none takes).0);
       none = (taken_more _ c.pieces.line.items (buffered c.refill.new.source) [] c.take_buffered.new.line.items
           (buffered c.take_buffered.new.source) refl c.pieces.invariant.none takes).1;
+      needed = inr (⊎_elim unread (λ clean. clean) c.pieces.invariant.needed);
       within = c.in_ok-take_buffered.ensures.within;
     }
 

@@ -1,4 +1,5 @@
-use Rattle.cweb_input.proofs.Common.{◌≡◌, ◌≤◌, ◌-◌, ◌++◌, length, IsTrue, HasNoNewline, bytes_left, LINE_LENGTH}
+use Rattle.std.specs.Prelude.{◌⊎◌}
+use Rattle.cweb_input.proofs.Common.{◌≡◌, ◌≤◌, ◌-◌, ◌++◌, length, IsTrue, HasNoNewline, buffered, bytes_left, LINE_LENGTH}
 use Rattle.cweb_input.proofs.cut.next_line.Given as goal
 
 abbrev pub invariant-pieces : goal.invariant-pieces
@@ -14,6 +15,7 @@ invariant-pieces g l = record {
   bytes : IsTrue (g.S.Shelf.tells l.fn.shelf) → bytes_left g.S.Shelf.left l.fn.shelf l.fn.source ≡ l.line.items
       ++ bytes_left g.S.Shelf.left l.shelf l.source;
   none : HasNoNewline l.line.items;
+  needed : (l.source ≡ l.fn.source) ⊎ HasNoNewline (buffered l.fn.source);
   within : length l.line.items ≤ LINE_LENGTH;
 }
 
