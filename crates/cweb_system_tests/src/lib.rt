@@ -3,4 +3,4 @@
 
 mod memory_folder;
 
-pub use memory_folder::{MemoryFile, MemoryFolder};
+pub use memory_folder::{Fact, Layout, MemoryFile, MemoryFolder};
