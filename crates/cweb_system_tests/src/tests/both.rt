@@ -139,20 +139,10 @@ impl<F: FileSystem + Drop> Both<F> {
         )
     }
 
-    /// The first path whose entries differ.
-    pub fn different_node<'a>(&self, paths: &'a [PathPair]) -> Option<&'a PathPair> {
+    /// The first path where entries or contents differ.
+    pub fn first_difference<'a>(&self, paths: &'a [PathPair]) -> Option<&'a PathPair> {
         for path in paths {
-            if !self.look(path) || !self.follow(path) {
-                return Some(path);
-            }
-        }
-        None
-    }
-
-    /// The first path whose contents differ.
-    pub fn different_contents<'a>(&self, paths: &'a [PathPair]) -> Option<&'a PathPair> {
-        for path in paths {
-            if !self.has_same_contents(path) {
+            if !self.look(path) || !self.follow(path) || !self.has_same_contents(path) {
                 return Some(path);
             }
         }
@@ -261,11 +251,15 @@ impl<F: FileSystem + Drop> Both<F> {
         if from.is_fixed || to.is_fixed || matches!(found, Some(Node::Link | Node::Folder(_))) {
             return true;
         }
+        let is_onto_folder = self.leads_to_folder(to);
         let real = self.real.rename(from.real.as_str(), to.real.as_str());
-        same_results(
-            real,
-            self.memory.rename(from.memory.as_str(), to.memory.as_str()),
-        )
+        let memory = self
+            .memory
+            .rename(from.memory.as_str(), to.memory.as_str());
+        if is_onto_folder {
+            return real.is_err() && memory.is_err();
+        }
+        same_results(real, memory)
     }
 
     pub fn remove(&mut self, path: &PathPair) -> bool {

@@ -222,12 +222,9 @@ fn hold_alike(rt: &impl Abort, alike: bool, seed: u64, call: &Call<'_>) {
     assert!(rt; alike, "seed {seed}: {call:?}");
 }
 
-/// Fails with the path where both sides differ.
-fn hold_same(rt: &impl Abort, difference: Option<&PathPair>, seed: u64, after: usize) {
-    assert!(rt;
-        difference.is_none(),
-        "seed {seed}, {after} calls: {difference:?}"
-    );
+/// Fails with the path where both sides differ after a call.
+fn hold_same(rt: &impl Abort, difference: Option<&PathPair>, seed: u64, call: &Call<'_>) {
+    assert!(rt; difference.is_none(), "seed {seed}: {call:?} leaves {difference:?}");
 }
 
 /// A sequence of random calls.
@@ -241,14 +238,13 @@ fn compare<F: FileSystem + Drop>(
         both.pair_first(path)?;
     }
     let mut random = Pcg32::new(seed, 1);
-    for number in 0..CALLS {
+    for _ in 0..CALLS {
         let Some(call) = random_call(&mut random, paths) else {
             break;
         };
         hold_alike(rt, take(both, &call)?, seed, &call);
-        hold_same(rt, both.different_node(paths), seed, number);
+        hold_same(rt, both.first_difference(paths), seed, &call);
     }
-    hold_same(rt, both.different_contents(paths), seed, CALLS);
     Ok(())
 }
 
