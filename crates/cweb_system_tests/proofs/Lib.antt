@@ -1,3 +1,4 @@
 pub mod Keys
 pub mod Changes
 pub mod Scans
+pub mod Layouts

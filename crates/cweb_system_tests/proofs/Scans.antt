@@ -3,11 +3,11 @@ use Rattle.std.proofs.Common.{◌≡◌, ◌∙◌, ◌<◌, ◌≤◌, ◌+◌,
 use Rattle.std.proofs.lemmas.List.{take_more, length-append}
 use Rattle.std.proofs.lemmas.Option.{slice_get_within}
 use Rattle.std.specs.List.{slice_get}
-use Rattle.std.specs.Option.{is_some}
+use Rattle.std.specs.Option.{is_some, MatchOption}
 use Rattle.std.specs.Prelude.{Result, Ok, Err, OnOk, IfSome}
 use Rattle.std.specs.Str.{bytes_eq}
 use Rattle.cweb_system_tests.specs.declared.memory_folder.log.Change.{Change}
-use Rattle.cweb_system_tests.specs.declared.memory_folder.log.Change.TheVariants.{Create, Append, SetMode, Move, Remove}
+use Rattle.cweb_system_tests.specs.declared.memory_folder.log.Change.TheVariants.{Put, Create, Append, SetMode, Move, Remove}
 use Rattle.cweb_system.specs.declared.node.FileKey.{FileKey}
 use Rattle.cweb_system.specs.declared.node.Node.{Node}
 use Rattle.cweb_system.specs.Tree.{IsFile}
@@ -27,6 +27,7 @@ bytes_next log i c k within is = ap (λ (l : List Change). bytes_by l k []) (tak
     ∙ ap (λ (d : Change). bytes_by (take i log ++ d ∷ []) k []) (sym is) ∙ bytes_more (take i log) c k []
 
 step_longer : (c : Change) (k : FileKey) (bytes : List ℕ) → length (bytes_step c k bytes) ≤ length bytes + 1
+step_longer (Put at node) k bytes = omega arith
 step_longer (Create at key mode) k bytes = by_test (key_eq k key)
   where
     by_test : (b : Bool) → length (cond b [] bytes) ≤ length bytes + 1
@@ -86,15 +87,28 @@ moded_file k key mode (Some (Node.Unknown why)) is = is
 moded_file k key mode (Some (Node.Folder f)) is = is
 moded_file k key mode (Some (Node.Device f)) is = is
 
-above : (k : FileKey) (from to : _) (node : Node) (m : ℕ) → IsAbove (Move from to node) m → IsFile k (Some node) → k.number < m
-above k from to (Node.File f mode) m is same = subst (λ (g : FileKey). g.number < m) same is
-above k from to Node.Link m is same = absurd same
-above k from to (Node.Unknown why) m is same = absurd same
-above k from to (Node.Folder f) m is same = absurd same
-above k from to (Node.Device f) m is same = absurd same
+above : (k : FileKey) (at : _) (node : Node) (m : ℕ) → IsAbove (Put at node) m → IsFile k (Some node) → k.number < m
+above k at (Node.File f mode) m is same = subst (λ (g : FileKey). g.number < m) same is
+above k at Node.Link m is same = absurd same
+above k at (Node.Unknown why) m is same = absurd same
+above k at (Node.Folder f) m is same = absurd same
+above k at (Node.Device f) m is same = absurd same
+
+-- The node that a change moves is one that it puts there.
+moves : (from to : _) (node : Node) (m : ℕ) → IsAbove (Move from to node) m → IsAbove (Put to node) m
+moves from to (Node.File f mode) m is = is
+moves from to Node.Link m is = is
+moves from to (Node.Unknown why) m is = is
+moves from to (Node.Folder f) m is = is
+moves from to (Node.Device f) m is = is
 
 step_below : (c : Change) (found : Option Node) (p : List ℕ) (k : FileKey) (m : ℕ) → IsAbove c m
     → (IsFile k found → k.number < m) → IsFile k (node_step c p found) → k.number < m
+step_below (Put at node) found p k m is old = by_test (bytes_eq (string_bytes at) p)
+  where
+    by_test : (b : Bool) → IsFile k (cond b (Some node) found) → k.number < m
+    by_test true now = above k at node m is now
+    by_test false now = old now
 step_below (Create at key mode) found p k m is old = by_test (bytes_eq (string_bytes at) p)
   where
     by_test : (b : Bool) → IsFile k (cond b (Some (Node.File key mode)) found) → k.number < m
@@ -105,7 +119,7 @@ step_below (SetMode key mode) found p k m is old = λ now. old (moded_file k key
 step_below (Move from to node) found p k m is old = by_test (bytes_eq (string_bytes to) p) (bytes_eq (string_bytes from) p)
   where
     by_test : (a b : Bool) → IsFile k (cond a (Some node) (cond b None found)) → k.number < m
-    by_test true b now = above k from to node m is now
+    by_test true b now = above k to node m (moves from to node m is) now
     by_test false true now = absurd now
     by_test false false now = old now
 step_below (Remove at) found p k m is old = by_test (bytes_eq (string_bytes at) p)
@@ -129,3 +143,9 @@ on_ok (Err e) P Q then holds = tt
 pub none_is : (o : Option Node) → is_some o ≡ false → o ≡ None
 none_is None test = refl
 none_is (Some x) test = cc
+
+pub match_some : {A : Type 0} (o : Option A) (a : A) (P : Type 0) (Q : A → Type 0) → o ≡ Some a → MatchOption o P Q → Q a
+match_some {A} o a P Q is holds = subst (λ (x : Option A). MatchOption x P Q) is holds
+
+pub match_none : {A : Type 0} (o : Option A) (P : Type 0) (Q : A → Type 0) → o ≡ None → MatchOption o P Q → P
+match_none {A} o P Q is holds = subst (λ (x : Option A). MatchOption x P Q) is holds

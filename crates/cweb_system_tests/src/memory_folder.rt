@@ -1,21 +1,23 @@
 // A file system in memory: a log of all changes. Each prefix of the log is the state at an earlier moment.
 ghost use Rattle.std.specs.Prelude.{◌≡◌, ◌<◌, ◌≤◌, ◌+◌, ◌^◌, ◌∷◌, ◌++◌, [], None, ℕ, List, IfErr, IfOk, IfSome, OnOk, OnErr, length, string_bytes, vec_len, true, false};
-ghost use Rattle.cweb_system_tests.specs.inner.Log.{bytes_by, tree_of, KeysBelow, nodes_by};
+ghost use Rattle.cweb_system_tests.specs.inner.Log.{bytes_by, nodes_by, tree_of, KeysBelow, Puts};
 ghost use Rattle.std.specs.List.{slice_get};
 
+mod calls;
+mod layout;
 mod log;
+mod steps;
 
+pub use crate::memory_folder::layout::{Fact, Layout};
 use crate::memory_folder::log::{Change, Sought, node_after, number_after, sought_after};
-use cweb_system::{FileFault, FileKey, FileSystem, Node};
+use cweb_system::{FileFault, FileKey, Node};
 use std::alloc::Global;
-
-/// The permissions of a new file.
-const DEFAULT_MODE: u32 = 0o644;
 
 /// A file system in memory.
 #[derive(Drop)]
 pub struct MemoryFolder {
     alloc: Global,
+    layout: Layout,
     log: Vec<Change>,
     /// How many changes are older than the run.
     begun: usize,
@@ -29,18 +31,22 @@ pub struct MemoryFile {
     key: FileKey,
     name: String,
     position: usize,
+    is_writable: bool,
 }
 
 impl MemoryFolder {
-    ghost use Rattle.cweb_system_tests.specs.inner.Memory.{memory_disk, memory_failed, memory_tree};
+    ghost use Rattle.cweb_system_tests.specs.inner.Memory.{memory_disk, memory_failed, memory_layout, memory_tree};
+    ghost use Rattle.cweb_system_tests.specs.inner.Layout.{followed};
     ghost use Rattle.cweb_system.specs.Steps.{NotesFailure, TakesStep};
 
-    /// An empty file system.
-    pub fn new(alloc: Global) -> Self
-        ensures { memory_disk result ≡ record { tells = true; tree = tree_of []; past = []; failed = false } }
+    /// A file system without entries.
+    pub fn new(alloc: Global, layout: Layout) -> Self
+        ensures { memory_disk result
+            ≡ record { tells = true; tree = tree_of layout []; past = []; failed = false } }
     {
         MemoryFolder {
             alloc,
+            layout,
             log: Vec::new(alloc),
             begun: 0,
             failed: false,
@@ -52,25 +58,54 @@ impl MemoryFolder {
         ensures { memory_disk result
             ≡ record { tells = true; tree = memory_tree self; past = []; failed = false } }
     {
-        let MemoryFolder { alloc, log, .. } = self;
+        let MemoryFolder {
+            alloc,
+            layout,
+            log,
+            ..
+        } = self;
         let begun = log.len();
         MemoryFolder {
             alloc,
+            layout,
             log,
             begun,
             failed: false,
         }
     }
 
-    /// What lies under a path.
-    fn node_at(&self, path: &str) -> Option<Node>
-        ensures { result ≡ nodes_by self.now.log.items path.now None }
+    /// Puts a node at a path, before the run begins.
+    pub fn put(&mut self, path: &str, node: Node) -> Result<(), FileFault>
+        ensures ok { OnOk result
+            (Puts path.now node (memory_tree self.old) (memory_tree self.new)) }
+        ensures err { OnErr result (memory_tree self.new ≡ memory_tree self.old) }
+    {
+        let Ok(at) = String::from_str(self.alloc, self.layout.place(path)) else {
+            return Err(FileFault::Memory);
+        };
+        self.make(Change::Put(at, node))
+    }
+
+    /// What is at a place.
+    fn node_at(&self, place: &str) -> Option<Node>
+        ensures { result ≡ nodes_by self.now.log.items place.now None }
     {
         let mut found = None;
         for change in &self.log {
-            found = node_after(change, path, found);
+            found = node_after(change, place, found);
         }
         found
+    }
+
+    /// What is at a place, or where the link there leads to.
+    fn followed(&self, place: &str) -> Option<Node>
+        ensures { result
+            ≡ followed self.now.layout (λ p. nodes_by self.now.log.items p None) place.now }
+    {
+        match (self.node_at(place), self.layout.target(place)) {
+            (Some(Node::Link), Some(target)) => self.node_at(self.layout.place(target)),
+            (found, _) => found,
+        }
     }
 
     /// The byte of a file at a position.
@@ -102,6 +137,7 @@ impl MemoryFolder {
     /// Records a failure.
     fn failing(&mut self, fault: FileFault) -> FileFault
         ensures fault { result ≡ fault }
+        ensures layout { self.new.layout ≡ self.old.layout }
         ensures log { self.new.log ≡ self.old.log }
         ensures begun { self.new.begun ≡ self.old.begun }
         ensures failed { self.new.failed ≡ true }
@@ -112,8 +148,10 @@ impl MemoryFolder {
 
     /// Makes a change.
     fn make(&mut self, change: Change) -> Result<(), FileFault>
-        ensures ok { OnOk result (memory_tree self.new ≡ tree_of (self.old.log.items ++ change ∷ [])) }
+        ensures ok { OnOk result (memory_tree self.new
+            ≡ tree_of self.old.layout (self.old.log.items ++ change ∷ [])) }
         ensures err { OnErr result (memory_tree self.new ≡ memory_tree self.old) }
+        ensures layout { memory_layout self.new ≡ memory_layout self.old }
         ensures memory { IfErr result (λ fault. fault ≡ FileFault.Memory) }
         ensures failed { NotesFailure (memory_failed self.old) (memory_failed self.new) result }
         ensures step { TakesStep (memory_disk self.old) (memory_disk self.new) }
@@ -123,124 +161,5 @@ impl MemoryFolder {
         }
         self.log.push_reserved(change);
         Ok(())
-    }
-}
-
-impl FileSystem for MemoryFolder {
-    ghost use Rattle.cweb_system_tests.specs.inner.Memory.{memory_disk, handle_key, handle_name, handle_position};
-
-    type File = MemoryFile;
-
-    ghost disk = { memory_disk };
-
-    ghost key = { handle_key };
-
-    ghost opened_as = { handle_name };
-
-    ghost position = { handle_position };
-
-    fn look(&self, path: &str) -> Option<Node> {
-        self.node_at(path)
-    }
-
-    fn follow(&self, path: &str) -> Option<Node> {
-        self.node_at(path)
-    }
-
-    fn key_of(&self, file: &MemoryFile) -> Result<FileKey, FileFault> {
-        Ok(file.key)
-    }
-
-    fn open(&self, path: &str) -> Result<MemoryFile, FileFault> {
-        let Some(Node::File(key, _)) = self.node_at(path) else {
-            return Err(FileFault::NotFound);
-        };
-        let Ok(name) = String::from_str(self.alloc, path) else {
-            return Err(FileFault::Memory);
-        };
-        Ok(MemoryFile {
-            key,
-            name,
-            position: 0,
-        })
-    }
-
-    /// Reads one byte.
-    fn read(&self, file: &mut MemoryFile, piece: &mut [u8]) -> Result<usize, FileFault> {
-        if piece.is_empty() {
-            return Ok(0);
-        }
-        let Some(byte) = self.byte_at(file.key, file.position) else {
-            return Ok(0);
-        };
-        piece[0] = byte;
-        file.position += 1;
-        Ok(1)
-    }
-
-    fn open_device(&self, _path: &str) -> Result<MemoryFile, FileFault> {
-        Err(FileFault::NotFound)
-    }
-
-    fn create(&mut self, path: &str, mode: Option<u32>) -> Result<Option<MemoryFile>, FileFault> {
-        if self.node_at(path).is_some() {
-            return Ok(None);
-        }
-        let Some(number) = self.new_number() else {
-            return Err(self.failing(FileFault::Other));
-        };
-        let Ok(at) = String::from_str(self.alloc, path) else {
-            return Err(self.failing(FileFault::Memory));
-        };
-        let key = FileKey { device: 0, number };
-        self.make(Change::Create(at, key, mode.unwrap_or(DEFAULT_MODE)))?;
-        Ok(Some(MemoryFile {
-            key,
-            name: String::new(self.alloc),
-            position: 0,
-        }))
-    }
-
-    fn lock(&self, _file: &MemoryFile) -> Result<(), FileFault> {
-        Ok(())
-    }
-
-    /// Writes one byte.
-    fn write(&mut self, file: &mut MemoryFile, piece: &[u8]) -> Result<usize, FileFault> {
-        if piece.is_empty() {
-            return Ok(0);
-        }
-        self.make(Change::Append(file.key, piece[0]))?;
-        Ok(1)
-    }
-
-    fn set_mode(&mut self, file: &MemoryFile, mode: u32) -> Result<(), FileFault> {
-        self.make(Change::SetMode(file.key, mode))
-    }
-
-    fn rename(&mut self, from: &str, to: &str) -> Result<(), FileFault> {
-        let Some(node) = self.node_at(from) else {
-            return Err(self.failing(FileFault::NotFound));
-        };
-        if from == to {
-            return Ok(());
-        }
-        let Ok(old) = String::from_str(self.alloc, from) else {
-            return Err(self.failing(FileFault::Memory));
-        };
-        let Ok(new) = String::from_str(self.alloc, to) else {
-            return Err(self.failing(FileFault::Memory));
-        };
-        self.make(Change::Move(old, new, node))
-    }
-
-    fn remove(&mut self, path: &str) -> Result<(), FileFault> {
-        if self.node_at(path).is_none() {
-            return Err(self.failing(FileFault::NotFound));
-        }
-        let Ok(at) = String::from_str(self.alloc, path) else {
-            return Err(self.failing(FileFault::Memory));
-        };
-        self.make(Change::Remove(at))
     }
 }

@@ -1,11 +1,15 @@
 -- The state of a file system in memory, from its log.
-use Rattle.std.specs.Prelude.{◌<◌, ℕ, List, [], ◌∷◌, ◌++◌, Option, Some, None, if◌then◌else◌, string_bytes, ⊤}
+use Rattle.std.specs.Prelude.{◌≡◌, ◌<◌, ℕ, List, [], ◌∷◌, ◌++◌, Option, Some, None, if◌then◌else◌, string_bytes, ⊤}
 use Rattle.std.specs.Str.{bytes_eq}
 use Rattle.cweb_system.specs.declared.node.FileKey.{FileKey}
 use Rattle.cweb_system.specs.declared.node.Node.{Node}
 use Rattle.cweb_system_tests.specs.declared.memory_folder.log.Change.{Change}
-use Rattle.cweb_system_tests.specs.declared.memory_folder.log.Change.TheVariants.{Create, Append, SetMode, Move, Remove}
-use Rattle.cweb_system.specs.Tree.{Tree, IsFile}
+use Rattle.cweb_system_tests.specs.declared.memory_folder.log.Change.TheVariants.{Put, Create, Append, SetMode, Move, Remove}
+use Rattle.cweb_system_tests.specs.declared.memory_folder.layout.Layout.{Layout}
+use Rattle.cweb_system_tests.specs.declared.memory_folder.steps.NewFile.{NewFile}
+use Rattle.cweb_system_tests.specs.declared.memory_folder.steps.Renaming.{Renaming}
+use Rattle.cweb_system.specs.Tree.{Tree, IsFile, OthersStay, at}
+use Rattle.cweb_system_tests.specs.inner.Layout.{followed, place_in}
 use Rattle.cweb_system.specs.inner.Keys.{key_eq}
 
 abbrev pub node_with_mode : FileKey → ℕ → Option Node → Option Node
@@ -14,6 +18,7 @@ node_with_mode key mode found = found
 
 -- What lies at a place after a change.
 abbrev pub node_step : Change → List ℕ → Option Node → Option Node
+node_step (Put at node) p found = if bytes_eq (string_bytes at) p then Some node else found
 node_step (Create at key mode) p found = if bytes_eq (string_bytes at) p then Some (Node.File key mode) else found
 node_step (Append key byte) p found = found
 node_step (SetMode key mode) p found = node_with_mode key mode found
@@ -40,9 +45,14 @@ abbrev pub file_key : Option Node → Option FileKey
 file_key (Some (Node.File key mode)) = Some key
 file_key found = None
 
--- The state after these changes. Each path is a place of its own.
-abbrev pub tree_of : List Change → Tree
-tree_of log = record { place = λ p. p; node = λ p. nodes_by log p None; target = λ p. file_key (nodes_by log p None); bytes = λ k. bytes_by log k [] }
+-- The state after these changes.
+abbrev pub tree_of : Layout → List Change → Tree
+tree_of layout log = record {
+  place = place_in layout;
+  node = λ p. nodes_by log p None;
+  target = λ path. file_key (followed layout (λ p. nodes_by log p None) (place_in layout path));
+  bytes = λ k. bytes_by log k [];
+}
 
 -- The number of each file is below this one.
 abbrev pub KeysBelow : ℕ → List Change → Type 0
@@ -50,11 +60,36 @@ KeysBelow next log = (p : List ℕ) (key : FileKey) → IsFile key (nodes_by log
 
 -- This number is above that of the file that a change names.
 abbrev pub IsAbove : Change → ℕ → Type 0
+IsAbove (Put at (Node.File key mode)) next = key.number < next
 IsAbove (Create at key mode) next = key.number < next
 IsAbove (Move from to (Node.File key mode)) next = key.number < next
 IsAbove _ next = ⊤
 
 -- The states before each change of a log that follows `base`, the latest first.
-abbrev pub past_by : List Change → List Change → List Tree
-past_by base [] = []
-past_by base (c ∷ log) = past_by (base ++ c ∷ []) log ++ tree_of base ∷ []
+abbrev pub past_by : Layout → List Change → List Change → List Tree
+past_by layout base [] = []
+past_by layout base (c ∷ log) = past_by layout (base ++ c ∷ []) log ++ tree_of layout base ∷ []
+
+-- A node was put at a path.
+pub record Puts (path : List ℕ) (node : Node) (old new : Tree) : Type 0 where
+  pub there : at new path ≡ Some node
+  pub others : OthersStay path old new
+  pub bytes : new.bytes ≡ old.bytes
+
+-- A file can be created under a path.
+pub record IsNewFile (layout : Layout) (log : List Change) (path : List ℕ) (new : NewFile) : Type 0 where
+  pub named : string_bytes new.at ≡ place_in layout path
+  pub free : nodes_by log (place_in layout path) None ≡ None
+  pub fresh : KeysBelow new.key.number log
+
+-- Two paths name one regular file.
+abbrev pub IsSameFile : Layout → List Change → List ℕ → List ℕ → Type 0
+IsSameFile layout log from to = (key : FileKey) → IsFile key (nodes_by log (place_in layout from) None)
+    → IsFile key (nodes_by log (place_in layout to) None)
+
+-- What is under `from` can be renamed to the different place of `to`.
+pub record IsRenaming (layout : Layout) (log : List Change) (from to : List ℕ) (renaming : Renaming) : Type 0 where
+  pub old : string_bytes renaming.old ≡ place_in layout from
+  pub new : string_bytes renaming.new ≡ place_in layout to
+  pub node : nodes_by log (place_in layout from) None ≡ Some renaming.node
+  pub apart : place_in layout from ≡ place_in layout to → ⊥

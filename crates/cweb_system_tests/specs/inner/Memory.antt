@@ -1,5 +1,6 @@
 -- The state of a file system in memory.
 use Rattle.std.specs.Prelude.{ℕ, Bool, List, drop, string_bytes, take, true}
+use Rattle.cweb_system_tests.specs.declared.memory_folder.layout.Layout.{Layout}
 use Rattle.cweb_system_tests.specs.declared.memory_folder.MemoryFile.{MemoryFile}
 use Rattle.cweb_system_tests.specs.declared.memory_folder.MemoryFolder.{MemoryFolder}
 use Rattle.cweb_system.specs.declared.node.FileKey.{FileKey}
@@ -8,7 +9,10 @@ use Rattle.cweb_system.specs.Tree.{Tree}
 use Rattle.cweb_system_tests.specs.inner.Log.{past_by, tree_of}
 
 abbrev pub memory_tree : MemoryFolder → Tree
-memory_tree folder = tree_of folder.log.items
+memory_tree folder = tree_of folder.layout folder.log.items
+
+abbrev pub memory_layout : MemoryFolder → Layout
+memory_layout folder = folder.layout
 
 abbrev pub memory_failed : MemoryFolder → Bool
 memory_failed folder = folder.failed
@@ -20,7 +24,7 @@ abbrev pub memory_disk : MemoryFolder → Disk
 memory_disk folder = record {
   tells = true;
   tree = memory_tree folder;
-  past = past_by (take folder.begun folder.log.items) (drop folder.begun folder.log.items);
+  past = past_by folder.layout (take folder.begun folder.log.items) (drop folder.begun folder.log.items);
   failed = folder.failed;
 }
 

@@ -8,6 +8,8 @@ use cweb_system::{FileKey, Node};
 /// A change of the file system.
 #[derive(Drop)]
 pub enum Change {
+    /// This node is at a path from now on.
+    Put(String, Node),
     Create(String, FileKey, u32),
     /// A byte is appended.
     Append(FileKey, u8),
@@ -38,6 +40,7 @@ pub fn node_after(change: &Change, path: &str, found: Option<Node>) -> Option<No
     ensures { result ≡ node_step change.now path.now found }
 {
     match change {
+        Change::Put(at, node) if at.as_str() == path => Some(*node),
         Change::Create(at, key, mode) if at.as_str() == path => Some(Node::File(*key, *mode)),
         Change::SetMode(key, mode) => with_mode(*key, *mode, found),
         Change::Move(_, to, node) if to.as_str() == path => Some(*node),
@@ -52,7 +55,8 @@ pub fn sought_after(change: &Change, key: FileKey, position: usize, sought: Soug
     requires { sought.size + 1 < 2 ^ 64 }
     ensures size { (bytes : List ℕ) → sought.size ≡ length bytes →
         result.size ≡ length (bytes_step change.now key bytes) }
-    ensures byte { (bytes : List ℕ) → sought.size ≡ length bytes → sought.byte ≡ slice_get bytes position →
+    ensures byte { (bytes : List ℕ) → sought.size ≡ length bytes →
+        sought.byte ≡ slice_get bytes position →
         result.byte ≡ slice_get (bytes_step change.now key bytes) position }
 {
     match change {
@@ -78,9 +82,9 @@ pub fn number_after(change: &Change, next: u64) -> Option<u64>
     ensures grows { IfSome result (λ after. next ≤ after) }
 {
     match change {
-        Change::Create(_, key, _) | Change::Move(_, _, Node::File(key, _)) => {
-            Some(key.number.checked_add(1)?.max(next))
-        }
+        Change::Put(_, Node::File(key, _))
+        | Change::Create(_, key, _)
+        | Change::Move(_, _, Node::File(key, _)) => Some(key.number.checked_add(1)?.max(next)),
         _ => Some(next),
     }
 }

@@ -9,5 +9,5 @@ returns-clause-step c =
     let begun = c.args.self.now.begun in
     let items : c.push_reserved.new.self.items ≡ c.args.self.now.log.items ++ c.args.change ∷ [] =
     c.push_reserved.ensures.items ∙ ap (λ (l : List Change). l ++ c.args.change ∷ []) c.reserve.ensures.items in
-    inl (ap (λ (l : List Change). past_by (take begun l) (drop begun l)) items
-    ∙ past_push c.args.self.now.log.items begun c.args.change (omega (arith, c.args.self.now.begun_within)))
+    inl (ap (λ (l : List Change). past_by c.args.self.now.layout (take begun l) (drop begun l)) items
+    ∙ past_push c.args.self.now.layout c.args.self.now.log.items begun c.args.change (omega (arith, c.args.self.now.begun_within)))

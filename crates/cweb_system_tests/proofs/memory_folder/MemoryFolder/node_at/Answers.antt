@@ -6,6 +6,6 @@ use Rattle.cweb_system_tests.proofs.memory_folder.MemoryFolder.node_at.Goals as 
 
 pub loop-change-preserved : goal.loop-change-preserved
 loop-change-preserved c = c.node_after-found.ensures
-    ∙ ap (λ (o : Option Node). node_step c.change-item.result c.args.path.now o) c.loop-change.invariant
-    ∙ sym (nodes_next c.deref-change-items.result.now c.loop-change.change-index c.change-item.result c.args.path.now
+    ∙ ap (λ (o : Option Node). node_step c.change-item.result c.args.place.now o) c.loop-change.invariant
+    ∙ sym (nodes_next c.deref-change-items.result.now c.loop-change.change-index c.change-item.result c.args.place.now
     c.loop-change-test.true c.change-item.is)

@@ -1,7 +1,7 @@
 use Rattle.std.proofs.Common.{◌∙◌, sym, arith, []}
 use Rattle.cweb_system_tests.specs.inner.Log.{bytes_by}
 use Rattle.cweb_system_tests.proofs.Scans.{next_byte}
-use Rattle.cweb_system_tests.proofs.memory_folder.MemoryFolderFileSystem.read.Goals as goal
+use Rattle.cweb_system_tests.proofs.memory_folder.calls.MemoryFolderFileSystem.read.Goals as goal
 
 pub returns-clause-ok : goal.returns-clause-ok
 returns-clause-ok c = λ tells.

@@ -1,11 +1,12 @@
-use Rattle.std.proofs.Common.{◌≡◌, ◌∷◌, ◌++◌, [], refl, sym, subst, ℕ, List, take, arith, get_or}
+use Rattle.std.proofs.Common.{◌≡◌, ◌∷◌, ◌++◌, [], ap, refl, sym, subst, ℕ, List, take, arith, get_or}
 use Rattle.cweb_system_tests.specs.declared.memory_folder.log.Change.TheVariants.{Append}
 use Rattle.cweb_system.specs.Tree.{Tree, Appends}
+use Rattle.cweb_system_tests.specs.inner.Layout.{place_in}
 use Rattle.cweb_system_tests.specs.inner.Log.{tree_of}
 use Rattle.cweb_system_tests.specs.inner.Memory.{handle_key, memory_tree}
 use Rattle.cweb_system_tests.proofs.Changes.{appends}
 use Rattle.cweb_system_tests.proofs.Scans.{first_byte}
-use Rattle.cweb_system_tests.proofs.memory_folder.MemoryFolderFileSystem.write.Goals as goal
+use Rattle.cweb_system_tests.proofs.memory_folder.calls.MemoryFolderFileSystem.write.Goals as goal
 
 pub returns-clause-changes : goal.returns-clause-changes
 returns-clause-changes c = record {
@@ -17,10 +18,10 @@ returns-clause-changes c = record {
       subst (λ (t : Tree). Appends (handle_key c.args.file.now) (take 1 c.args.piece.now) (memory_tree c.args.self.now) t)
       (sym c.in_ok-make.ensures.ok)
       (subst (λ (l : List ℕ). Appends (handle_key c.args.file.now) l (memory_tree c.args.self.now)
-      (tree_of (c.args.self.now.log.items ++ Append c.args.file.now.key byte ∷ []))) (sym first)
-      (appends c.args.self.now.log.items c.args.file.now.key byte));
+      (tree_of c.args.self.now.layout (c.args.self.now.log.items ++ Append c.args.file.now.key byte ∷ []))) (sym first)
+      (appends c.args.self.now.layout c.args.self.now.log.items c.args.file.now.key byte));
   err = λ tells. tt;
-  place = λ tells. refl;
+  place = λ tells. ap place_in c.in_ok-make.ensures.layout;
   step = λ tells. c.in_ok-make.ensures.step;
   failed = λ tells. c.in_ok-make.ensures.failed;
 }

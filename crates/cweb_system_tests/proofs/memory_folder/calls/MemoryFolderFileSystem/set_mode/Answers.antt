@@ -1,21 +1,22 @@
-use Rattle.std.proofs.Common.{◌≡◌, ◌∷◌, ◌++◌, [], refl, sym, subst}
+use Rattle.std.proofs.Common.{◌≡◌, ◌∷◌, ◌++◌, [], ap, refl, sym, subst}
 use Rattle.cweb_system_tests.specs.declared.memory_folder.log.Change.TheVariants.{SetMode}
 use Rattle.cweb_system.specs.Tree.{Tree, SetsMode}
+use Rattle.cweb_system_tests.specs.inner.Layout.{place_in}
 use Rattle.cweb_system_tests.specs.inner.Log.{tree_of}
 use Rattle.cweb_system_tests.specs.inner.Memory.{handle_key, memory_tree}
 use Rattle.cweb_system_tests.proofs.Changes.{sets_mode}
 use Rattle.cweb_system_tests.proofs.Scans.{on_ok}
-use Rattle.cweb_system_tests.proofs.memory_folder.MemoryFolderFileSystem.set_mode.Goals as goal
+use Rattle.cweb_system_tests.proofs.memory_folder.calls.MemoryFolderFileSystem.set_mode.Goals as goal
 
 pub returns : goal.returns
 returns c = record {
   tells = refl;
   ok = λ tells. on_ok c.make.result _ _
-      (λ (e : memory_tree c.make.new.self ≡ tree_of (c.args.self.now.log.items ++ SetMode c.args.file.now.key c.args.mode ∷ [])).
+      (λ (e : memory_tree c.make.new.self ≡ tree_of c.args.self.now.layout (c.args.self.now.log.items ++ SetMode c.args.file.now.key c.args.mode ∷ [])).
       subst (λ (t : Tree). SetsMode (handle_key c.args.file.now) c.args.mode (memory_tree c.args.self.now) t) (sym e)
-      (sets_mode c.args.self.now.log.items c.args.file.now.key c.args.mode)) c.make.ensures.ok;
+      (sets_mode c.args.self.now.layout c.args.self.now.log.items c.args.file.now.key c.args.mode)) c.make.ensures.ok;
   err = λ tells. c.make.ensures.err;
-  place = λ tells. refl;
+  place = λ tells. ap place_in c.make.ensures.layout;
   step = λ tells. c.make.ensures.step;
   failed = λ tells. c.make.ensures.failed;
 }

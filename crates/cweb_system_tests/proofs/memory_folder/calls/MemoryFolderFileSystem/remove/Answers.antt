@@ -1,21 +1,22 @@
-use Rattle.std.proofs.Common.{◌≡◌, ◌∷◌, ◌++◌, [], refl, sym, subst}
+use Rattle.std.proofs.Common.{◌≡◌, ◌∷◌, ◌++◌, [], ap, refl, sym, subst}
 use Rattle.cweb_system_tests.specs.declared.memory_folder.log.Change.TheVariants.{Remove}
 use Rattle.cweb_system.specs.Tree.{Tree, Removes}
+use Rattle.cweb_system_tests.specs.inner.Layout.{place_in}
 use Rattle.cweb_system_tests.specs.inner.Log.{tree_of}
 use Rattle.cweb_system_tests.specs.inner.Memory.{memory_tree}
 use Rattle.cweb_system_tests.proofs.Changes.{removes}
 use Rattle.cweb_system_tests.proofs.Scans.{on_ok}
-use Rattle.cweb_system_tests.proofs.memory_folder.MemoryFolderFileSystem.remove.Goals as goal
+use Rattle.cweb_system_tests.proofs.memory_folder.calls.MemoryFolderFileSystem.remove.Goals as goal
 
-pub returns : goal.returns
-returns c = record {
+pub returns-in-Ok : goal.returns-in-Ok
+returns-in-Ok c = record {
   tells = refl;
   ok = λ tells. on_ok c.make.result _ _
-      (λ (e : memory_tree c.make.new.self ≡ tree_of (c.args.self.now.log.items ++ Remove c.in-Ok.at ∷ [])).
+      (λ (e : memory_tree c.make.new.self ≡ tree_of c.args.self.now.layout (c.args.self.now.log.items ++ Remove c.in-Ok.at ∷ [])).
       subst (λ (t : Tree). Removes c.args.path.now (memory_tree c.args.self.now) t) (sym e)
-      (removes c.args.self.now.log.items c.in-Ok.at c.args.path.now c.in-Ok.ensures.ok)) c.make.ensures.ok;
+      (removes c.args.self.now.layout c.args.self.now.log.items c.in-Ok.at c.args.path.now c.in-Ok.ensures)) c.make.ensures.ok;
   err = λ tells. c.make.ensures.err;
-  place = λ tells. refl;
+  place = λ tells. ap place_in c.make.ensures.layout;
   step = λ tells. c.make.ensures.step;
   failed = λ tells. c.make.ensures.failed;
 }

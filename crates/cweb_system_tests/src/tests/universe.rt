@@ -1,0 +1,85 @@
+// The files, links and paths of the comparison.
+use cweb_system::FileFault;
+
+/// A link, its text, and the path that it leads to.
+pub struct Link {
+    pub at: &'static str,
+    pub text: &'static str,
+    pub to: &'static str,
+}
+
+/// The folder that may refuse changes.
+pub const LOCKED: &str = "locked";
+
+/// A file that is never changed.
+pub const FIXED: &str = "fixed";
+
+/// A link to a folder, which is never changed.
+pub const FOLDER_LINK: &str = "l";
+
+/// A file with the permissions of new files.
+pub const NEW_FILE: &str = "a";
+
+pub const FOLDERS: &[&str] = &["d", LOCKED];
+
+/// Regular files and their contents.
+pub const FILES: &[(&str, &str)] = &[(NEW_FILE, "first"), ("h", "hard"), (FIXED, "")];
+
+/// Hard links, and the files that they name, too.
+pub const HARD_LINKS: &[(&str, &str)] = &[("d/h", "h"), ("locked/h", "h"), ("locked/i", "h")];
+
+pub const LINKS: &[Link] = &[
+    Link {
+        at: FOLDER_LINK,
+        text: "d",
+        to: "d",
+    },
+    Link {
+        at: "m",
+        text: "a",
+        to: "a",
+    },
+    Link {
+        at: "n",
+        text: "missing/x",
+        to: "missing/x",
+    },
+    Link {
+        at: "d/m",
+        text: "../l/a",
+        to: "d/a",
+    },
+    Link {
+        at: "d/n",
+        text: "../locked/h",
+        to: "locked/h",
+    },
+];
+
+/// Paths, and the places that they name.
+pub const SPELLINGS: &[(&str, &str)] = &[
+    ("./a", "a"),
+    ("d/../a", "a"),
+    ("d//a", "d/a"),
+    ("l/a", "d/a"),
+    ("l/h", "d/h"),
+    ("l/m", "d/m"),
+    ("l/../locked/new", "locked/new"),
+];
+
+/// Paths through a folder that isn't there.
+pub const MISSING: &[&str] = &["missing/x", "missing/a\x7f"];
+
+/// Paths below a regular file.
+pub const BELOW_FILES: &[&str] = &["fixed/b", "fixed/b/c"];
+
+/// Places in the folder that may refuse changes.
+pub const IN_LOCKED: &[&str] = &["locked/h", "locked/i", "locked/new"];
+
+/// Other paths, where nothing is at first.
+pub const FREE: &[&str] = &[
+    "b", " ", "=", "a\x7f", "\x7f", "\u{e9}", "d/a", "d/a\x7f", "d/ b=",
+];
+
+/// The kinds of faults that are compared.
+pub const BELOW_FAULT: FileFault = FileFault::Other;
