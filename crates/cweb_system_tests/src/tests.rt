@@ -8,5 +8,6 @@
 mod both;
 mod calls;
 mod folder;
+mod sink;
 mod streams;
 mod universe;

@@ -253,9 +253,7 @@ impl<F: FileSystem + Drop> Both<F> {
         }
         let is_onto_folder = self.leads_to_folder(to);
         let real = self.real.rename(from.real.as_str(), to.real.as_str());
-        let memory = self
-            .memory
-            .rename(from.memory.as_str(), to.memory.as_str());
+        let memory = self.memory.rename(from.memory.as_str(), to.memory.as_str());
         if is_onto_folder {
             return real.is_err() && memory.is_err();
         }

@@ -224,7 +224,10 @@ fn hold_alike(rt: &impl Abort, alike: bool, seed: u64, call: &Call<'_>) {
 
 /// Fails with the path where both sides differ after a call.
 fn hold_same(rt: &impl Abort, difference: Option<&PathPair>, seed: u64, call: &Call<'_>) {
-    assert!(rt; difference.is_none(), "seed {seed}: {call:?} leaves {difference:?}");
+    assert!(rt;
+        difference.is_none(),
+        "seed {seed}: {call:?} leaves {difference:?}"
+    );
 }
 
 /// A sequence of random calls.

@@ -50,6 +50,6 @@ pub fn write_all<F: FileSystem>(
 pub fn put_file<F: FileSystem>(fs: &mut F, path: &str, bytes: &[u8]) -> Result<(), FileFault> {
     match fs.create(path, None)? {
         Some(mut file) => write_all(fs, &mut file, bytes),
-        None => Err(FileFault::Exists),
+        None => Err(FileFault::Other),
     }
 }
