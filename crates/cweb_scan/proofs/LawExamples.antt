@@ -1,5 +1,5 @@
 -- Worked examples of the laws.
-use Rattle.cweb_scan.proofs.Common.{◌≡◌, true, false, List, [], ◌∷◌, map, Line, Blank, Join, Defs, Part, scanned}
+use Rattle.cweb_scan.proofs.Common.{◌≡◌, true, false, List, [], ◌∷◌, map, Line, Blank, Join, Defs, Part, scanned, significant}
 use Rattle.std.specs.List.{filter_map}
 use Rattle.std.specs.Fmt.{digits}
 use Rattle.cweb_scan.specs.laws.Counted.{lexemes_of_lines, section_starts, starred_numbers, occurrence_of_kind}
@@ -29,6 +29,8 @@ record Computed : Type 0 where
       ≡ unnamed 1 1 (named 0 ∷ Join ∷ word "x" ∷ named 1 ∷ mark 1 ∷ word "y" ∷ []) ∷ []
   it_follows_in_place_of_the_mark : map (λ (p : Part). marks_follow p.tokens) (scanned joins).store.parts ≡ true ∷ []
   a_use_without_a_mark : marks_follow (named 0 ∷ word "x" ∷ []) ≡ false
+  words_and_numbers_are_significant : significant (word "x" ∷ Blank ∷ number "1" ∷ mark 1 ∷ [])
+      ≡ word "x" ∷ number "1" ∷ []
   a_macro_begins_with_its_name : map (λ (p : Part). first_token_is is_word p.tokens) (scanned two).store.parts
       ≡ true ∷ false ∷ []
 
