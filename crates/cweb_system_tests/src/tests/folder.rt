@@ -56,7 +56,7 @@ fn compare_in_folder(
     seed: u64,
 ) -> Result<(), Fail> {
     let alloc = rt.alloc();
-    let top = new_folder(rt, seed)?;
+    let top = new_folder(rt)?;
     let mut real = StdFolder::new(alloc, host);
     let memory = memory_like(alloc, &mut real, top.as_str())?;
     let paths = all_paths(alloc, top.as_str())?;

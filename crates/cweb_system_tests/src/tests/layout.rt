@@ -140,12 +140,21 @@ pub fn memory_like<F: FileSystem>(
     Ok(memory.begin_run())
 }
 
+/// Creates a folder under a free name.
+fn free_folder(rt: &(impl Files + AllocGlobal), temporary: &str) -> Result<String, Fail> {
+    for number in 0..10_000 {
+        let path = format!(in rt.alloc(); "{temporary}/cweb_system-{number}")?;
+        if fs::create_dir(rt, path.as_str()).is_ok() {
+            return Ok(path);
+        }
+    }
+    Err("no name is free".into())
+}
+
 /// A new folder, laid out.
-pub fn new_folder(rt: &(impl Files + Env + AllocGlobal), number: u64) -> Result<String, Fail> {
+pub fn new_folder(rt: &(impl Files + Env + AllocGlobal)) -> Result<String, Fail> {
     let temporary = env::temp_dir(rt)?;
-    let name = format!(in rt.alloc(); "cweb_system-{number}")?;
-    let top = path_in(rt.alloc(), temporary.as_str(), name.as_str())?;
-    fs::create_dir(rt, top.as_str())?;
+    let top = free_folder(rt, temporary.as_str())?;
     lay_out(rt, top.as_str())?;
     Ok(top)
 }
