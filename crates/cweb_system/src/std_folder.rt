@@ -161,13 +161,14 @@ impl<R: Files<File: LockableFile> + Drop> FileSystem for StdFolder<R> {
 
     ghost position = { λ _. 0 };
 
+    /// Nothing is below a regular file.
     fn look(&self, path: &str) -> Option<Node> {
         match fs::symlink_metadata(&self.files, path) {
             Ok(found) if found.is_symlink() => Some(Node::Link),
             Ok(found) => Some(node_of(&found)),
-            Err(error) => match FileFault::from(error) {
-                FileFault::NotFound => None,
-                fault => Some(Node::Unknown(fault)),
+            Err(error) => match error.kind() {
+                ErrorKind::NotFound | ErrorKind::NotADirectory => None,
+                _ => Some(Node::Unknown(FileFault::from(error))),
             },
         }
     }

@@ -22,7 +22,7 @@ impl FileSystem for MemoryFolder {
 
     fn follow(&self, path: &str) -> Option<Node> {
         match self.followed(self.layout.place(path)) {
-            Some(Node::Unknown(_)) => None,
+            Some(Node::Unknown(_) | Node::Link) => None,
             found => found,
         }
     }
@@ -39,6 +39,7 @@ impl FileSystem for MemoryFolder {
         let key = match self.followed(self.layout.place(path)) {
             Some(Node::File(key, _)) => key,
             Some(Node::Unknown(fault)) => return Err(fault),
+            Some(Node::Link) => return Err(FileFault::Other),
             _ => return Err(FileFault::NotFound),
         };
         let Ok(name) = String::from_str(self.alloc, path) else {

@@ -10,7 +10,7 @@ const MODES: [u32; 4] = [0o600, 0o700, 0o400, 0o500];
 
 const CHANGED_MODES: [u32; 4] = [0o644, 0o755, 0o400, 0o777];
 
-const TEXTS: [&str; 4] = ["", "x", "ab", "\x00\u{ff}long"];
+const CONTENTS: [&str; 4] = ["", "x", "ab", "\x00\u{ff}long"];
 
 /// A call. Open files have numbers.
 #[derive(Drop, Debug)]
@@ -56,7 +56,7 @@ pub fn random_call<'a>(random: &mut Pcg32, paths: &'a [PathPair]) -> Option<Call
         4 | 5 | 6 => Call::Create(path, mode_of(random)),
         7 => Call::KeyOf(number),
         8 => Call::Read(number, below(random, 4)),
-        9 | 10 => Call::Write(number, any_of(random, &TEXTS)?),
+        9 | 10 => Call::Write(number, any_of(random, &CONTENTS)?),
         11 => Call::SetMode(number, *any_of(random, &CHANGED_MODES)?),
         12 | 13 | 14 => Call::Rename(path, any_of(random, paths)?),
         _ => Call::Remove(path),

@@ -1,6 +1,4 @@
 // The files, links and paths of the comparison.
-use cweb_system::FileFault;
-
 /// A link, its text, and the path that it leads to.
 pub struct Link {
     pub at: &'static str,
@@ -11,11 +9,11 @@ pub struct Link {
 /// The folder that may refuse changes.
 pub const LOCKED: &str = "locked";
 
-/// A file that is never changed.
-pub const FIXED: &str = "fixed";
-
 /// A link to a folder, which is never changed.
 pub const FOLDER_LINK: &str = "l";
+
+/// A link to itself, which is never changed.
+pub const LOOP: &str = "o";
 
 /// A file with the permissions of new files.
 pub const NEW_FILE: &str = "a";
@@ -23,7 +21,7 @@ pub const NEW_FILE: &str = "a";
 pub const FOLDERS: &[&str] = &["d", LOCKED];
 
 /// Regular files and their contents.
-pub const FILES: &[(&str, &str)] = &[(NEW_FILE, "first"), ("h", "hard"), (FIXED, "")];
+pub const FILES: &[(&str, &str)] = &[(NEW_FILE, "first"), ("h", "hard"), ("fixed", "")];
 
 /// Hard links, and the files that they name, too.
 pub const HARD_LINKS: &[(&str, &str)] = &[("d/h", "h"), ("locked/h", "h"), ("locked/i", "h")];
@@ -33,6 +31,11 @@ pub const LINKS: &[Link] = &[
         at: FOLDER_LINK,
         text: "d",
         to: "d",
+    },
+    Link {
+        at: LOOP,
+        text: LOOP,
+        to: LOOP,
     },
     Link {
         at: "m",
@@ -70,8 +73,11 @@ pub const SPELLINGS: &[(&str, &str)] = &[
 /// Paths through a folder that isn't there.
 pub const MISSING: &[&str] = &["missing/x", "missing/a\x7f"];
 
-/// Paths below a regular file.
-pub const BELOW_FILES: &[&str] = &["fixed/b", "fixed/b/c"];
+/// Paths below regular files, also below files that come and go. Nothing is ever there.
+pub const BELOW_FILES: &[&str] = &["fixed/b", "fixed/b/c", "a/", "a/b", "m/b"];
+
+/// Paths that can't be looked up.
+pub const UNKNOWN: &[&str] = &["o/x"];
 
 /// Places in the folder that may refuse changes.
 pub const IN_LOCKED: &[&str] = &["locked/h", "locked/i", "locked/new"];
@@ -80,6 +86,3 @@ pub const IN_LOCKED: &[&str] = &["locked/h", "locked/i", "locked/new"];
 pub const FREE: &[&str] = &[
     "b", " ", "=", "a\x7f", "\x7f", "\u{e9}", "d/a", "d/a\x7f", "d/ b=",
 ];
-
-/// The kinds of faults that are compared.
-pub const BELOW_FAULT: FileFault = FileFault::Other;
