@@ -40,7 +40,8 @@ fn lay_out(rt: &(impl Files + AllocGlobal), top: &str) -> io::Result<()> {
     )
 }
 
-/// Whether the kernel refuses to create a file in the locked folder. It doesn't for the superuser.
+/// Whether the kernel refuses to create a file in the locked folder. It refuses the superuser nothing, so the gate runs
+/// tests as nobody.
 fn is_refused<F: FileSystem>(real: &mut F, path: &str) -> bool {
     match real.create(path, None) {
         Err(FileFault::Denied) => true,

@@ -68,13 +68,14 @@ pub const SPELLINGS: &[(&str, &str)] = &[
     ("l/h", "d/h"),
     ("l/m", "d/m"),
     ("l/../locked/new", "locked/new"),
+    ("d/.", "d"),
 ];
 
 /// Paths through a folder that isn't there.
 pub const MISSING: &[&str] = &["missing/x", "missing/a\x7f"];
 
 /// Paths below regular files, also below files that come and go. Nothing is ever there.
-pub const BELOW_FILES: &[&str] = &["fixed/b", "fixed/b/c", "a/", "a/b", "m/b"];
+pub const BELOW_FILES: &[&str] = &["fixed/b", "fixed/b/c", "a/", "a/.", "a/b", "m/b"];
 
 /// Paths that can't be looked up.
 pub const UNKNOWN: &[&str] = &["o/x"];
