@@ -1,5 +1,5 @@
 // What holds of paths and places, whatever the calls of a run change.
-ghost use Rattle.std.specs.Prelude.{◌≡◌};
+ghost use Rattle.std.specs.Prelude.{◌≡◌, ℕ, List};
 ghost use Rattle.std.specs.Option.{option_copied};
 ghost use Rattle.cweb_system_tests.specs.inner.Layout.{place_in, target_in, value_of};
 
@@ -16,7 +16,7 @@ pub struct Fact<V: Drop> {
 /// What the calls of a run don't change.
 #[derive(Drop)]
 pub struct Layout {
-    /// The place of a path. A path without an entry names the place of its own text.
+    /// The place that a path names. Without an entry, it is a place of its own.
     pub spellings: Vec<Fact<String>>,
     /// The path that the link at a place leads to.
     pub links: Vec<Fact<String>>,
@@ -39,8 +39,10 @@ fn first_of<'a, V: Drop>(facts: &'a [Fact<V>], path: &str) -> Option<&'a V>
 }
 
 impl Layout {
-    /// No spellings, links or refusals.
-    pub fn new(alloc: Global, new_mode: u32) -> Layout {
+    /// Each path is a place of its own. There are no links or refusals.
+    pub fn new(alloc: Global, new_mode: u32) -> Layout
+        ensures { (path : List ℕ) → place_in result path ≡ path }
+    {
         Layout {
             spellings: Vec::new(alloc),
             links: Vec::new(alloc),

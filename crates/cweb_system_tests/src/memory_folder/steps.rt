@@ -9,14 +9,14 @@ use cweb_system::{FileFault, FileKey, Node};
 
 /// A file to create.
 #[derive(Drop)]
-pub struct NewFile {
+pub(crate) struct NewFile {
     pub at: String,
     pub key: FileKey,
 }
 
 /// A regular file to rename, and its old and new places.
 #[derive(Drop)]
-pub struct Renaming {
+pub(crate) struct Renaming {
     pub old: String,
     pub new: String,
     pub node: Node,
@@ -46,7 +46,7 @@ impl MemoryFolder {
     }
 
     /// A file to create. `None`: something is there.
-    pub fn new_file(&self, path: &str) -> Result<Option<NewFile>, FileFault>
+    pub(crate) fn new_file(&self, path: &str) -> Result<Option<NewFile>, FileFault>
         ensures { IfOk result (λ found. MatchOption found
             (IsSome (nodes_by self.now.log.items (place_in self.now.layout path.now) None))
             (IsNewFile self.now.layout self.now.log.items path.now)) }
@@ -69,7 +69,7 @@ impl MemoryFolder {
     }
 
     /// The place of an entry that can be removed.
-    pub fn removable(&self, path: &str) -> Result<String, FileFault>
+    pub(crate) fn removable(&self, path: &str) -> Result<String, FileFault>
         ensures { IfOk result (λ at. string_bytes at ≡ place_in self.now.layout path.now) }
     {
         let place = self.layout.place(path);
@@ -86,7 +86,7 @@ impl MemoryFolder {
     }
 
     /// A regular file to rename. `None`: both paths name it, and nothing happens.
-    pub fn renaming(&self, from: &str, to: &str) -> Result<Option<Renaming>, FileFault>
+    pub(crate) fn renaming(&self, from: &str, to: &str) -> Result<Option<Renaming>, FileFault>
         ensures { IfOk result (λ found. MatchOption found
             (IsSameFile self.now.layout self.now.log.items from.now to.now)
             (IsRenaming self.now.layout self.now.log.items from.now to.now)) }

@@ -2,8 +2,7 @@
 use super::paths::path_in;
 use super::streams::put_file;
 use super::universe::{
-    BELOW_FILES, FILES, FOLDERS, HARD_LINKS, IN_LOCKED, LINKS, LOCKED, MISSING, NEW_FILE,
-    SPELLINGS, UNKNOWN,
+    BELOW_FILES, ENTRIES, Entry, IN_LOCKED, LOCKED, MISSING, NEW_FILE, SPELLINGS,
 };
 use crate::{Fact, Layout, MemoryFolder};
 use cweb_system::{FileFault, FileKey, FileSystem, Node};
@@ -14,33 +13,29 @@ use std::rt::{Env, Files};
 use std::test::Fail;
 use std::{env, fs, io};
 
-/// Makes the files, folders and links of the comparison.
-fn lay_out(rt: &(impl Files + AllocGlobal), top: &str) -> io::Result<()> {
+/// Makes what is at a path at first.
+fn make(rt: &(impl Files + AllocGlobal), top: &str, name: &str, entry: &Entry) -> io::Result<()> {
     let alloc = rt.alloc();
-    for name in FOLDERS {
-        fs::create_dir(rt, path_in(alloc, top, name)?)?;
+    let path = path_in(alloc, top, name)?;
+    match entry {
+        Entry::Folder => fs::create_dir(rt, path),
+        Entry::File(text) => fs::write(rt, path, *text),
+        Entry::HardLink(original) => fs::hard_link(rt, path_in(alloc, top, original)?, path),
+        Entry::Link(text, _) => symlink(rt, *text, path),
+        Entry::Unknown => Ok(()),
     }
-    for (name, text) in FILES {
-        fs::write(rt, path_in(alloc, top, name)?, *text)?;
-    }
-    for (name, original) in HARD_LINKS {
-        fs::hard_link(
-            rt,
-            path_in(alloc, top, original)?,
-            path_in(alloc, top, name)?,
-        )?;
-    }
-    for link in LINKS {
-        symlink(rt, link.text, path_in(alloc, top, link.at)?)?;
-    }
-    fs::set_permissions(
-        rt,
-        path_in(alloc, top, LOCKED)?,
-        Permissions::from_mode(0o555),
-    )
 }
 
-/// Whether the kernel refuses to create a file in the locked folder. It doesn't for the superuser.
+fn lay_out(rt: &(impl Files + AllocGlobal), top: &str) -> io::Result<()> {
+    for (name, entry) in ENTRIES {
+        make(rt, top, name, entry)?;
+    }
+    let locked = path_in(rt.alloc(), top, LOCKED)?;
+    fs::set_permissions(rt, locked, Permissions::from_mode(0o555))
+}
+
+/// Whether the kernel refuses to create a file in the locked folder. It refuses the superuser nothing, so the gate runs
+/// tests as nobody.
 fn is_refused<F: FileSystem>(real: &mut F, path: &str) -> bool {
     match real.create(path, None) {
         Err(FileFault::Denied) => true,
@@ -63,58 +58,66 @@ fn add<V: Drop>(
     Ok(())
 }
 
+fn add_spellings(alloc: Global, facts: &mut Vec<Fact<String>>) -> Result<(), AllocError> {
+    for (path, place) in SPELLINGS {
+        add(alloc, facts, path, String::from_str(alloc, place)?)?;
+    }
+    Ok(())
+}
+
+fn add_links(alloc: Global, facts: &mut Vec<Fact<String>>) -> Result<(), AllocError> {
+    for (name, entry) in ENTRIES {
+        if let Entry::Link(_, to) = entry {
+            add(alloc, facts, name, String::from_str(alloc, to)?)?;
+        }
+    }
+    Ok(())
+}
+
+fn add_refusals(
+    alloc: Global,
+    facts: &mut Vec<Fact<FileFault>>,
+    names: &[&str],
+    fault: FileFault,
+) -> Result<(), AllocError> {
+    for name in names {
+        add(alloc, facts, name, fault)?;
+    }
+    Ok(())
+}
+
 /// What calls don't change.
 fn layout(alloc: Global, new_mode: u32, is_locked: bool) -> Result<Layout, AllocError> {
     let mut layout = Layout::new(alloc, new_mode);
-    for (path, place) in SPELLINGS {
-        add(
-            alloc,
-            &mut layout.spellings,
-            path,
-            String::from_str(alloc, place)?,
-        )?;
-    }
-    for link in LINKS {
-        add(
-            alloc,
-            &mut layout.links,
-            link.at,
-            String::from_str(alloc, link.to)?,
-        )?;
-    }
-    for path in MISSING {
-        add(alloc, &mut layout.refusals, path, FileFault::NotFound)?;
-    }
-    for path in BELOW_FILES {
-        add(alloc, &mut layout.refusals, path, FileFault::Other)?;
-    }
+    add_spellings(alloc, &mut layout.spellings)?;
+    add_links(alloc, &mut layout.links)?;
+    let refusals = &mut layout.refusals;
+    add_refusals(alloc, refusals, MISSING, FileFault::NotFound)?;
+    add_refusals(alloc, refusals, BELOW_FILES, FileFault::Other)?;
     if is_locked {
-        for path in IN_LOCKED {
-            add(alloc, &mut layout.refusals, path, FileFault::Denied)?;
-        }
+        add_refusals(alloc, refusals, IN_LOCKED, FileFault::Denied)?;
     }
     Ok(layout)
 }
 
-/// Makes the files, folders and links of the comparison in memory.
+/// Puts into memory what is at a path at first.
+fn put(memory: &mut MemoryFolder, name: &str, entry: &Entry) -> Result<(), FileFault> {
+    let node = match entry {
+        Entry::File(text) => return put_file(memory, name, text.as_bytes()),
+        Entry::Folder => Node::Folder(FileKey {
+            device: 1,
+            number: name.len() as u64,
+        }),
+        Entry::HardLink(original) => memory.look(original).ok_or(FileFault::NotFound)?,
+        Entry::Link(_, _) => Node::Link,
+        Entry::Unknown => Node::Unknown(FileFault::Other),
+    };
+    memory.put(name, node)
+}
+
 fn lay_out_memory(memory: &mut MemoryFolder) -> Result<(), FileFault> {
-    for name in FOLDERS {
-        let number = name.len() as u64;
-        memory.put(name, Node::Folder(FileKey { device: 1, number }))?;
-    }
-    for (name, text) in FILES {
-        put_file(memory, name, text.as_bytes())?;
-    }
-    for (name, original) in HARD_LINKS {
-        if let Some(node) = memory.look(original) {
-            memory.put(name, node)?;
-        }
-    }
-    for link in LINKS {
-        memory.put(link.at, Node::Link)?;
-    }
-    for name in UNKNOWN {
-        memory.put(name, Node::Unknown(FileFault::Other))?;
+    for (name, entry) in ENTRIES {
+        put(memory, name, entry)?;
     }
     Ok(())
 }
@@ -160,10 +163,7 @@ pub fn new_folder(rt: &(impl Files + Env + AllocGlobal)) -> Result<String, Fail>
 }
 
 pub fn remove_folder(rt: &(impl Files + AllocGlobal), top: &str) -> io::Result<()> {
-    fs::set_permissions(
-        rt,
-        path_in(rt.alloc(), top, LOCKED)?,
-        Permissions::from_mode(0o755),
-    )?;
+    let locked = path_in(rt.alloc(), top, LOCKED)?;
+    fs::set_permissions(rt, locked, Permissions::from_mode(0o755))?;
     fs::remove_dir_all(rt, top)
 }

@@ -1,8 +1,7 @@
 // The paths of the comparison, in a real folder and in memory.
 use super::both::PathPair;
 use super::universe::{
-    BELOW_FILES, FILES, FOLDER_LINK, FOLDERS, FREE, HARD_LINKS, IN_LOCKED, LINKS, LOOP, MISSING,
-    SPELLINGS, UNKNOWN,
+    BELOW_FILES, ENTRIES, FOLDER_LINK, FREE, IN_LOCKED, LOOP, MISSING, SPELLINGS,
 };
 use std::alloc::{AllocError, Global};
 
@@ -33,13 +32,15 @@ fn add_paths(
     Ok(())
 }
 
-fn add_first_paths(
-    alloc: Global,
-    paths: &mut Vec<PathPair>,
-    top: &str,
-    names: &[(&str, &str)],
-) -> Result<(), AllocError> {
-    for (name, _) in names {
+fn add_entries(alloc: Global, paths: &mut Vec<PathPair>, top: &str) -> Result<(), AllocError> {
+    for (name, _) in ENTRIES {
+        paths.push(path_pair(alloc, top, name)?)?;
+    }
+    Ok(())
+}
+
+fn add_spellings(alloc: Global, paths: &mut Vec<PathPair>, top: &str) -> Result<(), AllocError> {
+    for (name, _) in SPELLINGS {
         paths.push(path_pair(alloc, top, name)?)?;
     }
     Ok(())
@@ -48,14 +49,10 @@ fn add_first_paths(
 /// All paths of the comparison.
 pub fn all_paths(alloc: Global, top: &str) -> Result<Vec<PathPair>, AllocError> {
     let mut paths = Vec::new(alloc);
-    for names in [FOLDERS, MISSING, BELOW_FILES, UNKNOWN, IN_LOCKED, FREE] {
+    add_entries(alloc, &mut paths, top)?;
+    add_spellings(alloc, &mut paths, top)?;
+    for names in [MISSING, BELOW_FILES, IN_LOCKED, FREE] {
         add_paths(alloc, &mut paths, top, names)?;
-    }
-    for names in [FILES, HARD_LINKS, SPELLINGS] {
-        add_first_paths(alloc, &mut paths, top, names)?;
-    }
-    for link in LINKS {
-        paths.push(path_pair(alloc, top, link.at)?)?;
     }
     Ok(paths)
 }

@@ -1,9 +1,16 @@
 // The files, links and paths of the comparison.
-/// A link, its text, and the path that it leads to.
-pub struct Link {
-    pub at: &'static str,
-    pub text: &'static str,
-    pub to: &'static str,
+
+/// What is at a path at first.
+pub enum Entry {
+    Folder,
+    /// A regular file with these contents.
+    File(&'static str),
+    /// Another name of this file.
+    HardLink(&'static str),
+    /// A link with this text, and the path that it leads to.
+    Link(&'static str, &'static str),
+    /// It can't be looked up.
+    Unknown,
 }
 
 /// The folder that may refuse changes.
@@ -18,45 +25,22 @@ pub const LOOP: &str = "o";
 /// A file with the permissions of new files.
 pub const NEW_FILE: &str = "a";
 
-pub const FOLDERS: &[&str] = &["d", LOCKED];
-
-/// Regular files and their contents.
-pub const FILES: &[(&str, &str)] = &[(NEW_FILE, "first"), ("h", "hard"), ("fixed", "")];
-
-/// Hard links, and the files that they name, too.
-pub const HARD_LINKS: &[(&str, &str)] = &[("d/h", "h"), ("locked/h", "h"), ("locked/i", "h")];
-
-pub const LINKS: &[Link] = &[
-    Link {
-        at: FOLDER_LINK,
-        text: "d",
-        to: "d",
-    },
-    Link {
-        at: LOOP,
-        text: LOOP,
-        to: LOOP,
-    },
-    Link {
-        at: "m",
-        text: "a",
-        to: "a",
-    },
-    Link {
-        at: "n",
-        text: "missing/x",
-        to: "missing/x",
-    },
-    Link {
-        at: "d/m",
-        text: "../l/a",
-        to: "d/a",
-    },
-    Link {
-        at: "d/n",
-        text: "../locked/h",
-        to: "locked/h",
-    },
+pub const ENTRIES: &[(&str, Entry)] = &[
+    ("d", Entry::Folder),
+    (LOCKED, Entry::Folder),
+    (NEW_FILE, Entry::File("first")),
+    ("h", Entry::File("hard")),
+    ("fixed", Entry::File("")),
+    ("d/h", Entry::HardLink("h")),
+    ("locked/h", Entry::HardLink("h")),
+    ("locked/i", Entry::HardLink("h")),
+    (FOLDER_LINK, Entry::Link("d", "d")),
+    (LOOP, Entry::Link(LOOP, LOOP)),
+    ("m", Entry::Link("a", "a")),
+    ("n", Entry::Link("missing/x", "missing/x")),
+    ("d/m", Entry::Link("../l/a", "d/a")),
+    ("d/n", Entry::Link("../locked/h", "locked/h")),
+    ("o/x", Entry::Unknown),
 ];
 
 /// Paths, and the places that they name.
@@ -68,16 +52,14 @@ pub const SPELLINGS: &[(&str, &str)] = &[
     ("l/h", "d/h"),
     ("l/m", "d/m"),
     ("l/../locked/new", "locked/new"),
+    ("d/.", "d"),
 ];
 
 /// Paths through a folder that isn't there.
 pub const MISSING: &[&str] = &["missing/x", "missing/a\x7f"];
 
 /// Paths below regular files, also below files that come and go. Nothing is ever there.
-pub const BELOW_FILES: &[&str] = &["fixed/b", "fixed/b/c", "a/", "a/b", "m/b"];
-
-/// Paths that can't be looked up.
-pub const UNKNOWN: &[&str] = &["o/x"];
+pub const BELOW_FILES: &[&str] = &["fixed/b", "fixed/b/c", "a/", "a/.", "a/b", "m/b"];
 
 /// Places in the folder that may refuse changes.
 pub const IN_LOCKED: &[&str] = &["locked/h", "locked/i", "locked/new"];
