@@ -44,7 +44,8 @@ pub trait FileSystem {
             (λ file. Opens path.now (key file) (position file) (opened_as file) (disk self.now).tree)
             (λ fault. (fault ≡ FileFault.Memory → ⊥) → IsAbsent path.now (disk self.now).tree) };
 
-    /// Reads into a prefix of `piece`. In an observable file system it doesn't fail, and reads no byte only at the end.
+    /// Reads from a file that `open` opened, into a prefix of `piece`. In an observable file system it doesn't fail, and
+    /// reads no byte only at the end.
     fn read(&self, file: &mut Self::File, piece: &mut [u8]) -> Result<usize, FileFault>
         ensures within { IfOk result (λ n. n ≤ length piece.new) }
         ensures same { IsTrue (disk self.now).tells →
@@ -56,7 +57,7 @@ pub trait FileSystem {
             rest (disk self.now).tree (key file.old) (position file.old) ≡ [] }
         ensures err { IsTrue (disk self.now).tells → IsErr result → ⊥ };
 
-    /// Opens a device for writing. An observable file system has none.
+    /// Opens a device for writing; the path leads to one. An observable file system has none.
     fn open_device(&self, path: &str) -> Result<Self::File, FileFault>
         ensures { IsTrue (disk self.now).tells → IsErr result };
 
@@ -72,7 +73,7 @@ pub trait FileSystem {
         ensures some { 0 < length piece.now → IfOk result (λ n. 0 < n) }
         ensures key { IsTrue (disk self.old).tells → key file.new ≡ key file.old };
 
-    /// Sets the permission bits of an open file.
+    /// Sets the nine permission bits of an open file.
     fn set_mode(&mut self, file: &Self::File, mode: u32) -> Result<(), FileFault>
         ensures { Changes (λ _. SetsMode (key file.now) mode) (disk self.old) (disk self.new) result };
 
