@@ -51,12 +51,11 @@ pub record IsWithinLimits (lines : List SourceLine) : Type 0 where
 abbrev pub counts_of : List SourceLine → TakenCountersModel
 counts_of lines = record { lines = length lines; bytes = size_of_lines lines }
 
--- The first line that breaks a limit causes the stop.
-pub record BreaksLimit (stop : Stop) (events : List Event) : Type 0 where
-  pub earlier : List Event
+-- After the events `earlier` the next line breaks a limit, the first to do so.
+pub record BreaksLimit (stop : Stop) (earlier later : List Event) : Type 0 where
   pub line : SourceLine
-  pub later : List Event
-  pub whole : events ≡ earlier ++ took line ∷ later
+  pub more : List Event
+  pub next : later ≡ took line ∷ more
   pub within : IsWithinLimits (taken_lines earlier)
   pub why : RefusesLine stop (counts_of (taken_lines earlier)) line
 

@@ -13,7 +13,7 @@ pub use Rattle.std.proofs.lemmas.Str.Pattern.{rfind_char}
 pub use Rattle.std.specs.List.{flat_map, after_last, before_last, list_any, suffix_len}
 pub use Rattle.std.specs.Option.{option_copied}
 pub use Rattle.std.specs.Prelude.{IfOk, IsErrOf, is_some, option_and_then, option_map, slice_get, IsTrue, OnOk, OnErr}
-pub use Rattle.std.specs.Prelude.{IsErr, ◌==◌, if◌then◌else◌, codes, slice_range}
+pub use Rattle.std.specs.Prelude.{IsErr, ◌==◌, if◌then◌else◌, codes, slice_index_or, slice_range}
 pub use Rattle.cweb_files.specs.Bins.{CountsFailure, WritesPrefix}
 pub use Rattle.cweb_files.specs.declared.device.SinkFault.{SinkFault}
 pub use Rattle.cweb_input.specs.declared.fault.SourceFault.{SourceFault}
@@ -44,7 +44,7 @@ pub use Rattle.cweb_log.specs.CommandLine.{has_extension}
 pub use Rattle.cweb_log.specs.DeviceModels.{SinkModel, sink_model}
 pub use Rattle.cweb_log.specs.Items.{LogItem, line, star, source_item, name_items, refusal_message}
 pub use Rattle.cweb_log.specs.inner.WebItems.{fault_lines}
-pub use Rattle.cweb_log.specs.Items.{scan_items, cycle_step, scan_item, occurrence_spelling, name_item}
+pub use Rattle.cweb_log.specs.Items.{cycle_step, scan_item, name_item}
 pub use Rattle.cweb_log.specs.inner.LogWriting.{Logs}
 pub use Rattle.cweb_log.specs.declared.options.Options.{Options}
 pub use Rattle.cweb_log.specs.declared.shown.Shown.{Shown}

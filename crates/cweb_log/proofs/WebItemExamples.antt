@@ -1,5 +1,5 @@
 -- Worked examples: log lines for the faults of a web.
-use Rattle.cweb_log.proofs.Common.{◌≡◌, true, false, List, ℕ, [], ◌∷◌, ◌++◌, codes, Some, None, flat_map, Stored, Occurrence, id, Part, Name, NameRef, PartKind, Full, Prefix, Unnamed, Named, ScanFault, ScanKind, DoubleAtInLimbo, ImproperHexNumber, ReplacementTooLong, LetterOutsideLimbo, NameDidNotEnd, NamesDoNotNest, CommentDidNotEnd, StringDidNotEnd, DoubleAtInString, ControlTextDidNotEnd, FaultyConstant, IgnoredInCText, MissingAt, DefsInMacro, DefinitionDropped, bad_name, same_name, cycle, cycle_from, first_endless, program, line, name_items, refusal_message, scan_items}
+use Rattle.cweb_log.proofs.Common.{◌≡◌, true, false, List, ℕ, [], ◌∷◌, ◌++◌, codes, Some, None, flat_map, Stored, Occurrence, id, Part, Name, NameRef, PartKind, Full, Prefix, Unnamed, Named, ScanFault, ScanKind, DoubleAtInLimbo, ImproperHexNumber, ReplacementTooLong, LetterOutsideLimbo, NameDidNotEnd, NamesDoNotNest, CommentDidNotEnd, StringDidNotEnd, DoubleAtInString, ControlTextDidNotEnd, FaultyConstant, IgnoredInCText, MissingAt, DefsInMacro, DefinitionDropped, bad_name, same_name, cycle, cycle_from, first_endless, program, line, name_items, refusal_message, scan_item, map}
 use Rattle.std.specs.Fmt.{digits}
 
 abbrev met : ScanKind → ℕ → ScanFault
@@ -55,7 +55,7 @@ one_file =
     }
 
 record Computed : Type 0 where
-  scan_lines : flat_map line (scan_items (codes "u.w" ∷ []) faults)
+  scan_lines : flat_map line (map (scan_item (codes "u.w" ∷ [])) faults)
       ≡ codes "u.w:1: ! Double @ in limbo\nu.w:2: ! Improper hex number after @l\n"
       ++ codes "u.w:3: ! Replacement after @l too long\nu.w:4: ! Use @l in limbo only\n"
       ++ codes "u.w:5: ! Section name did not end\nu.w:6: ! Section names do not nest\n"

@@ -2,6 +2,7 @@
 use Rattle.std.specs.Prelude.{ℕ, Bool, false, not, ◌&&◌, ◌||◌, ◌==◌, length, List, [], ◌∷◌, ◌++◌, codes, Option, None}
 use Rattle.std.specs.Prelude.{Some, option_map, if◌then◌else◌, true, option_and_then, filter}
 use Rattle.std.specs.List.{list_any, after_last, before_last}
+use Rattle.std.specs.Str.{bytes_eq}
 use Rattle.cweb_out.specs.Outputs.{is_control, is_slash}
 use Rattle.cweb_rules.specs.Bytes.{is_letter}
 use Rattle.cweb_log.specs.declared.shown.Shown.{Shown}
@@ -10,21 +11,14 @@ use Rattle.cweb_log.specs.declared.shown.Shown.{Shown}
 abbrev pub has_control : List ℕ → Bool
 has_control word = list_any is_control word
 
--- `-` or `+`.
-abbrev pub is_option_prefix : ℕ → Bool
-is_option_prefix b = b == 45 || b == 43
-
 -- A lone `-`.
 abbrev pub is_dash : List ℕ → Bool
-is_dash [] = false
-is_dash (a ∷ []) = a == 45
-is_dash (a ∷ b ∷ rest) = false
+is_dash word = bytes_eq word (codes "-")
 
 -- A word of at least two bytes that begins with `-` or `+`.
 abbrev pub is_option : List ℕ → Bool
-is_option [] = false
-is_option (a ∷ []) = false
-is_option (a ∷ b ∷ rest) = is_option_prefix a
+is_option (a ∷ b ∷ rest) = a == 45 || a == 43
+is_option _ = false
 
 -- Whether a word can name a file.
 abbrev pub can_name_file : List ℕ → Bool
@@ -70,10 +64,9 @@ web_names_with web change =
 
 -- The names from a list of words: one or two that can be read.
 abbrev pub web_names_by : List (List ℕ) → Option WebNames
-web_names_by [] = None
 web_names_by (web ∷ []) = web_names_for web None
 web_names_by (web ∷ change ∷ []) = web_names_with web change
-web_names_by (web ∷ change ∷ other ∷ rest) = None
+web_names_by _ = None
 
 -- Without options the log has everything but statistics.
 abbrev pub shown_by_default : Shown
@@ -134,11 +127,10 @@ named_by web change out =
 
 -- One to three words name the web, the change file and the main output.
 abbrev pub names_by : List (List ℕ) → Option TangleNames
-names_by [] = None
 names_by (web ∷ []) = named_by web None None
 names_by (web ∷ change ∷ []) = named_by web (Some change) None
 names_by (web ∷ change ∷ out ∷ []) = named_by web (Some change) (Some out)
-names_by (web ∷ change ∷ out ∷ more ∷ rest) = None
+names_by _ = None
 
 -- The parsed command line.
 pub record OptionsModel : Type 0 where

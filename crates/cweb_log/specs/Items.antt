@@ -113,10 +113,6 @@ scan_message DefinitionDropped = codes "Definition dropped, no identifier"
 abbrev pub scan_item : List (List ℕ) → ScanFault → LogItem
 scan_item files met = located (file_name_at files met.place.file.0) met.place.line (scan_message met.kind)
 
--- The scan faults, in order.
-abbrev pub scan_items : List (List ℕ) → List ScanFault → List LogItem
-scan_items files found = map (scan_item files) found
-
 -- A name is printed between angle brackets, an abbreviation with its three dots.
 abbrev pub name_message : NameKind → List ℕ → List ℕ
 name_message Ambiguous prefix = codes "Ambiguous prefix: <" ++ (prefix ++ codes "...>")
@@ -124,13 +120,10 @@ name_message NeverFull prefix = codes "Never given in full: <" ++ (prefix ++ cod
 name_message PrefixOfAnother name = codes "Name is a prefix of another: <" ++ (name ++ codes ">")
 name_message NotPresent name = codes "Not present: <" ++ (name ++ codes ">")
 
--- The bytes of an occurrence.
-abbrev pub occurrence_spelling : List Occurrence → ℕ → List ℕ
-occurrence_spelling occurrences number = slice_index_or (map (λ o. o.text) occurrences) number []
-
 -- A fault of a name.
 abbrev pub name_item : List Occurrence → NameFault → LogItem
-name_item occurrences met = fault (name_message met.kind (occurrence_spelling occurrences met.occurrence.0))
+name_item occurrences met =
+    fault (name_message met.kind (slice_index_or (map (λ o. o.text) occurrences) met.occurrence.0 []))
 
 -- The faults of a web's names, in order.
 abbrev pub name_items : Stored → List LogItem

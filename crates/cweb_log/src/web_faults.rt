@@ -6,7 +6,7 @@ ghost use Rattle.cweb_out.specs.Outputs.{name_spelling, output_name};
 ghost use Rattle.cweb_log.specs.inner.LogBuffer.{unwritten_bytes};
 ghost use Rattle.cweb_log.specs.inner.LogWriting.{WritesToStream, AppendsToLog};
 ghost use Rattle.cweb_log.specs.Items.{line, fault, cycle_step, name_item, name_items, scan_item};
-ghost use Rattle.cweb_log.specs.Items.{scan_items, scan_message};
+ghost use Rattle.cweb_log.specs.Items.{scan_message};
 ghost use Rattle.cweb_log.specs.DeviceModels.{sink_model};
 ghost use Rattle.cweb_log.specs.inner.WebItems.{plan_item};
 
@@ -28,7 +28,8 @@ pub fn write_scan_faults<L: Sink>(
     requires count { L.failed log.old + 1 < 2 ^ 64 }
     requires known { All
         (λ fault. fault.place.file.0 < length (opened_file_names names.now)) faults.now }
-    ensures { WritesToStream (flat_map line (scan_items (opened_file_names names.now) faults.now))
+    ensures { WritesToStream
+        (flat_map line (map (scan_item (opened_file_names names.now)) faults.now))
         (sink_model L.Sink log.old) (sink_model L.Sink log.new) result }
 {
     let mut log_buffer = LogBuffer::new();

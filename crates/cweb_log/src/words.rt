@@ -58,7 +58,7 @@ impl MergeWords {
         ensures usage { IsErrOf result Stop.Usage ↔ (web_names_with web.now change.now ≡ None) }
         ensures stops { IfErr result (λ stop. (stop ≡ Stop.Usage) ⊎ (stop ≡ Stop.Memory)) }
     {
-        if is_dash(change.as_bytes()) {
+        if is_dash(change) {
             return MergeWords::named(alloc, web, None);
         }
         if !can_name_file(change) {
@@ -107,7 +107,7 @@ pub(crate) fn can_name_file(word: &str) -> bool
     ensures { result ≡ can_name_file word.now }
 {
     let bytes = word.as_bytes();
-    !bytes.is_empty() && !has_control(bytes) && !is_dash(bytes) && !is_option(bytes)
+    !bytes.is_empty() && !has_control(bytes) && !is_dash(word) && !is_option(bytes)
 }
 
 fn has_control(word: &[u8]) -> bool
@@ -123,13 +123,10 @@ fn is_control(byte: u8) -> bool
 }
 
 /// Whether the word is a lone `-`, which means no change file.
-fn is_dash(word: &[u8]) -> bool
+fn is_dash(word: &str) -> bool
     ensures { result ≡ is_dash word.now }
 {
-    match word {
-        [only] => *only == b'-',
-        _ => false,
-    }
+    word == "-"
 }
 
 /// Whether the word has at least two bytes and begins with `-` or `+`.

@@ -55,7 +55,7 @@ pub use Rattle.cweb_log.specs.DeviceModels.{devices}
 pub use Rattle.cweb_log.specs.Items.{line, LogItem, fault_count, is_fault, source_item, fault, starred}
 pub use Rattle.cweb_log.specs.inner.WebItems.{fault_lines}
 pub use Rattle.cweb_log.specs.Items.{located, banner, closing, faults, no_errors, no_text, see_warning, stopped}
-pub use Rattle.cweb_log.specs.Items.{name_item, name_items, scan_item, scan_items, refusal_message}
+pub use Rattle.cweb_log.specs.Items.{name_item, name_items, scan_item, refusal_message}
 pub use Rattle.cweb_log.specs.Log.{stop_line, file_name_at}
 pub use Rattle.cweb_log.specs.inner.LogWriting.{Logs}
 pub use Rattle.cweb_log.specs.declared.shown.Shown.{Shown}
@@ -104,7 +104,7 @@ pub use Rattle.cweb_store.specs.surface.Parts.{numbers_from, numbers_where}
 pub use Rattle.cweb_texts.specs.Edges.{is_operator, last_is}
 pub use Rattle.cweb_tools.specs.Acts.{DeviceState, Act, judges, says, opens, reads, plans, reserves, writes, after_act}
 pub use Rattle.cweb_tools.specs.Acts.{PerformsActs, Breaks, Ending, ending, RunEnds, completes, stops, LogsLine}
-pub use Rattle.cweb_tools.specs.Acts.{LogsStop, IsOfFile, read_fails, AgreesWith, prints, merges, FailsReading}
+pub use Rattle.cweb_tools.specs.Acts.{LogsStop, IsOfFile, AgreesWith, prints, merges, FailsReading}
 pub use Rattle.cweb_tools.specs.Acts.{logged_items, acts_status, EndsIn, FollowsActs}
 pub use Rattle.cweb_tools.specs.Course.{Course, merging, IsMergeCourse, change_name, world_of}
 pub use Rattle.cweb_tools.specs.Headline.{written_files, put_files, printed_bytes, ActsKeepLimits, RanFreely, DoesActs}

@@ -1,5 +1,5 @@
 -- The effect of consecutive calls on the devices.
-use Rattle.cweb_tools.proofs.Common.{◌≡◌, inl, inr, ◌+◌, ℕ, List, [], ◌∷◌, ◌++◌, refl, sym, ◌∙◌, ap, add-zero, arith, subst, false, Option, Some, None, IsErr, IsSome, IsTrue, Result, Ok, Err, Beside, always_open, read_failures_of, LogFault, SinkModel, Devices, ShelfModel, Act, Breaks, Ending, ending, DeviceState, PerformsActs, after_act, says, merges, AgreesWith, Closes, ClosesLog, Does, DoesInBins, DoesInBoth, DoesInLog, bins_blame, done, halted, log_blame, rise, log_ending}
+use Rattle.cweb_tools.proofs.Common.{reads, ◌≡◌, inl, inr, ◌+◌, ℕ, List, [], ◌∷◌, ◌++◌, refl, sym, ◌∙◌, ap, add-zero, arith, subst, false, Option, Some, None, IsErr, IsSome, IsTrue, Result, Ok, Err, Beside, always_open, read_failures_of, LogFault, SinkModel, Devices, ShelfModel, Act, Breaks, Ending, ending, DeviceState, PerformsActs, after_act, says, merges, AgreesWith, Closes, ClosesLog, Does, DoesInBins, DoesInBoth, DoesInLog, bins_blame, done, halted, log_blame, rise, log_ending}
 use Rattle.cweb_tools.proofs.Running.{runs_on, stops_in}
 
 -- Nothing observable was done.
@@ -96,7 +96,8 @@ log_fails e (Err f) ys does is = λ shelf bins. does_in ys (does shelf bins)
 break_about : (act : Act) (a b : List ℕ) (old new : DeviceState)
     → Breaks act (ending LogFault a) old new → Breaks act (ending LogFault b) old new
 break_about (says item) a b old new broke = broke
-break_about (merges names events) a b old new broke = absurd broke.2
+break_about (reads names events) a b old new broke = absurd broke.fails
+break_about (merges names events) a b old new broke = absurd broke.fails
 break_about act a b old new broke = absurd broke
 
 log_about : (acts : List Act) (a b : List ℕ) (old new : DeviceState)

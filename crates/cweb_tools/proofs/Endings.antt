@@ -53,16 +53,19 @@ cause_more stop within more part cause = tt
 cause_at : (act : Act) (acts : List Act) (stop : Stop) (about : List ℕ) (old new : DeviceState)
     → Breaks act (ending stop about) old new → Cause stop (ActsKeepLimits (act ∷ acts))
 cause_at (reads names events) acts (LineTooLong file) about old new broke =
-    λ within. beyond (LineTooLong file) events broke.1 within.0
+    λ within. beyond (LineTooLong file) broke.whole broke.fails.1 within.0
 cause_at (reads names events) acts TooMuchText about old new broke =
-    λ within. beyond TooMuchText events broke.0 within.0
+    λ within. beyond TooMuchText broke.whole broke.fails.0 within.0
 cause_at (merges names events) acts (LineTooLong file) about old new broke =
-    λ within. beyond (LineTooLong file) events broke.2.1 within.0
+    λ within. beyond (LineTooLong file) broke.whole broke.fails.1 within.0
 cause_at (merges names events) acts TooMuchText about old new broke =
-    λ within. beyond TooMuchText events broke.2.0 within.0
-cause_at (merges names events) acts Usage about old new broke = absurd broke.2
-cause_at (merges names events) acts WebNotOpened about old new broke = absurd broke.2
-cause_at (merges names events) acts ChangeNotOpened about old new broke = absurd broke.2
+    λ within. beyond TooMuchText broke.whole broke.fails.0 within.0
+cause_at (reads names events) acts Usage about old new broke = absurd broke.fails
+cause_at (reads names events) acts WebNotOpened about old new broke = absurd broke.fails
+cause_at (reads names events) acts ChangeNotOpened about old new broke = absurd broke.fails
+cause_at (merges names events) acts Usage about old new broke = absurd broke.fails
+cause_at (merges names events) acts WebNotOpened about old new broke = absurd broke.fails
+cause_at (merges names events) acts ChangeNotOpened about old new broke = absurd broke.fails
 cause_at act acts (ReadFault file) about old new broke = tt
 cause_at act acts Memory about old new broke = tt
 cause_at act acts OutNotOpened about old new broke = tt

@@ -1,5 +1,5 @@
 -- The faults of a web as items: their number and their lines.
-use Rattle.cweb_tools.proofs.Common.{◌≡◌, ◌<◌, ◌+◌, ℕ, zero, suc, Bool, true, false, cond, List, [], ◌∷◌, ◌++◌, length, map, refl, sym, ◌∙◌, ap, subst, append_assoc, arith, length-append, flat_map-append, length-map, sum_by-append, sum_by-cons, flat_map, IsTrue, IsErr, None, Result, Ok, Err, count_by, SourceFault, Part, is_macro, numbers_from, numbers_where, PartKind, Scanned, WritesToStream, LogItem, fault_count, is_fault, line, source_item, fault_lines, SinkModel, name_item, name_items, scan_item, scan_items, says, DoesInLog, ClosesInLog, acts_status, log_ending, fault_items}
+use Rattle.cweb_tools.proofs.Common.{◌≡◌, ◌<◌, ◌+◌, ℕ, zero, suc, Bool, true, false, cond, List, [], ◌∷◌, ◌++◌, length, map, refl, sym, ◌∙◌, ap, subst, append_assoc, arith, length-append, flat_map-append, length-map, sum_by-append, sum_by-cons, flat_map, IsTrue, IsErr, None, Result, Ok, Err, count_by, SourceFault, Part, is_macro, numbers_from, numbers_where, PartKind, Scanned, WritesToStream, LogItem, fault_count, is_fault, line, source_item, fault_lines, SinkModel, name_item, name_items, scan_item, says, DoesInLog, ClosesInLog, acts_status, log_ending, fault_items}
 use Rattle.cweb_store.specs.Faults as store
 use Rattle.cweb_tools.proofs.DoingFiles.{closes_reported}
 use Rattle.cweb_tools.proofs.Logging.{said_all, said_none}
@@ -19,14 +19,14 @@ all_counted files faults made =
     let names = store.faults made.store.occurrences made.store.parts in
     let first : fault_count (map (source_item files) faults) ≡ length faults =
     all_count (source_item files) faults (λ x. refl) in
-    let next : fault_count (scan_items files made.faults) ≡ length made.faults =
+    let next : fault_count (map (scan_item files) made.faults) ≡ length made.faults =
     all_count (scan_item files) made.faults (λ x. refl) in
     let last : fault_count (name_items made.store) ≡ length names =
     all_count (name_item made.store.occurrences) names (λ x. refl) in
     sum_by-append (λ (item : LogItem). cond (is_fault item) 1 0)
-    (map (source_item files) faults) (scan_items files made.faults ++ name_items made.store)
+    (map (source_item files) faults) (map (scan_item files) made.faults ++ name_items made.store)
     ∙ (λ i. first i + (sum_by-append (λ (item : LogItem). cond (is_fault item) 1 0)
-    (scan_items files made.faults) (name_items made.store) ∙ (λ j. next j + last j)) i)
+    (map (scan_item files) made.faults) (name_items made.store) ∙ (λ j. next j + last j)) i)
 
 -- The fault count is the number of items.
 pub counted_all : (files : List (List ℕ)) (faults : List SourceFault) (made : Scanned)
@@ -36,8 +36,8 @@ counted_all files faults made =
     omega (
       arith,
       all_counted files faults made,
-      length-append (map (source_item files) faults) (scan_items files made.faults ++ name_items made.store),
-      length-append (scan_items files made.faults) (name_items made.store),
+      length-append (map (source_item files) faults) (map (scan_item files) made.faults ++ name_items made.store),
+      length-append (map (scan_item files) made.faults) (name_items made.store),
       length-map faults (source_item files),
       length-map made.faults (scan_item files),
       length-map names (name_item made.store.occurrences),
@@ -115,11 +115,11 @@ faults_said r files (met ∷ faults) some writes = closes_reported r
 -- The lines of a web's faults are those of its files, its source and its names.
 pub fault_text : (files : List (List ℕ)) (faults : List SourceFault) (made : Scanned)
     → flat_map line (fault_items files faults made) ≡
-    fault_lines files faults ++ (flat_map line (scan_items files made.faults) ++ flat_map line (name_items made.store))
+    fault_lines files faults ++ (flat_map line (map (scan_item files) made.faults) ++ flat_map line (name_items made.store))
 fault_text files faults made =
-    flat_map-append line (map (source_item files) faults) (scan_items files made.faults ++ name_items made.store)
+    flat_map-append line (map (source_item files) faults) (map (scan_item files) made.faults ++ name_items made.store)
     ∙ (λ i.
-    sym (same_lines files faults) i ++ flat_map-append line (scan_items files made.faults) (name_items made.store) i)
+    sym (same_lines files faults) i ++ flat_map-append line (map (scan_item files) made.faults) (name_items made.store) i)
 
 -- The number of macros.
 numbers_counted : (test : PartKind → Bool) (parts : List Part) (n : ℕ)

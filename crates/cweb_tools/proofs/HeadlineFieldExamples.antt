@@ -1,7 +1,8 @@
 -- Worked examples: what each field of the headlines' records says of a run and its devices.
-use Rattle.cweb_tools.proofs.Common.{◌≡◌, ◌+◌, ℕ, List, [], ◌∷◌, ◌++◌, refl, sym, ◌∙◌, ap, arith, codes, Option, Some, None, IsTrue, IsSome, File, no_device, Line, Event, took, fault, World, Found, web_at, change_at, found_course, OptionsModel, WebNames, Devices, AreObservable, DeviceState, Act, says, reads, writes, prints, after_act, RunEnds, completes, stops, RanFreely, DoesActs, put_files, AgreesWith, observed_state, acts_status, script, shown_by, Course, change_name, CanCome, MergeCanCome, TangleCourse, unread, not_there, change_not_there, tangling, tangled, planning, Web, Scanned, TanglePromises}
+use Rattle.cweb_tools.proofs.Common.{FileId, SourceLine, emitted_lines, written_lines, BreaksLimit, LineTooLong, Breaks, merges, ending, ◌≡◌, ◌+◌, ℕ, List, [], ◌∷◌, ◌++◌, refl, sym, ◌∙◌, ap, arith, codes, Option, Some, None, IsTrue, IsSome, File, no_device, Line, Event, took, fault, World, Found, web_at, change_at, found_course, OptionsModel, WebNames, Devices, AreObservable, DeviceState, Act, says, reads, writes, prints, after_act, RunEnds, completes, stops, RanFreely, DoesActs, put_files, AgreesWith, observed_state, acts_status, script, shown_by, Course, change_name, CanCome, MergeCanCome, TangleCourse, unread, not_there, change_not_there, tangling, tangled, planning, Web, Scanned, TanglePromises}
 use Rattle.cweb_log.specs.Items.{writing}
-use Rattle.cweb_tools.specs.Acts.{bins_fail, begin_fails, read_fails}
+use Rattle.cweb_files.specs.declared.place.Place.{Place}
+use Rattle.cweb_lines.specs.Merge.{emitted}
 use Rattle.cweb_tools.specs.Course as course
 use Rattle.cweb_tools.proofs.Courses.{tangle_only}
 use Rattle.cweb_tools.proofs.TangleExamples.{file}
@@ -58,7 +59,8 @@ rule : (before after : Devices) (status : ℕ) → DoesActs (prints (codes "a.c:
 rule before after status did is_open = did.printed refl is_open
 
 -- `AgreesWith`: a read of a.w failed. The shelf counts it and blames a.w.
-module _ (now : DeviceState) (after : Devices) (held : AgreesWith (read_fails (codes "a.w") now) after) where
+module _ (now : DeviceState) (after : Devices) (held : AgreesWith
+    (record now { shelf_failed = now.shelf_failed + 1; blamed = now.blamed ++ codes "a.w" ∷ [] }) after) where
   read_is_counted : after.shelf.failed ≡ now.shelf_failed + 1
   read_is_counted = sym held.shelf_failed
 
@@ -66,7 +68,8 @@ module _ (now : DeviceState) (after : Devices) (held : AgreesWith (read_fails (c
   reader_is_blamed tells = sym (held.blamed tells)
 
 -- A file could not be begun. The bins count that and have the reason, the old files and no draft.
-module _ (now : DeviceState) (after : Devices) (held : AgreesWith (bins_fail (begin_fails no_device now)) after) where
+module _ (now : DeviceState) (after : Devices) (held : AgreesWith
+    (record now { bins_failed = now.bins_failed + 1; draft = None; refused = Some no_device }) after) where
   refusal_is_counted : after.out.failed ≡ now.bins_failed + 1
   refusal_is_counted = sym held.bins_failed
 
@@ -164,3 +167,37 @@ stay_observable : (world : World) (args : Option OptionsModel) (before after : D
     → TanglePromises world args before after status → AreObservable before → AreObservable after
 stay_observable world args before after status run tell =
     (run.shelf_tells ∙ tell.0, run.bins_tell ∙ tell.1, run.log_tells ∙ tell.2)
+
+-- `BreaksReading`: a merge that comes to a line of a MiB has printed the line before it.
+module _ (file : FileId) (place : Place) (long : Line) where
+  abbrev short : SourceLine
+  short = record { line = record { bytes = codes "a"; place = place }; length = 1; size = 2 }
+
+  abbrev events : List Event
+  events = took short ∷ emitted short.line
+      ∷ took (record { line = long; length = 1_048_576; size = 1_048_577 }) ∷ []
+
+  printed_by : (earlier later : List Event) → events ≡ earlier ++ later → BreaksLimit (LineTooLong file) earlier later
+      → written_lines (emitted_lines earlier) ≡ codes "a\n"
+  printed_by [] later whole limit =
+      let first : took short ≡ took limit.line = cc in
+      let same : short ≡ limit.line = cc in
+      absurd (omega (arith, limit.why.1, ap (λ (line : SourceLine). line.length) same))
+  printed_by (e ∷ []) later whole limit = let second : emitted short.line ≡ took limit.line = cc in absurd (cc)
+  printed_by (e ∷ f ∷ []) later whole limit =
+      let first : e ≡ took short = cc in
+      let second : f ≡ emitted short.line = cc in
+      λ i. written_lines (emitted_lines (first i ∷ second i ∷ []))
+  printed_by (e ∷ f ∷ g ∷ earlier) later whole limit =
+      let none : [] ≡ earlier ++ (took limit.line ∷ limit.more) = cc in
+      absurd (no_more earlier (took limit.line) limit.more none)
+    where
+      no_more : (earlier : List Event) (e : Event) (later : List Event) → [] ≡ earlier ++ (e ∷ later) → ⊥
+      no_more [] e later none = cc
+      no_more (x ∷ earlier) e later none = cc
+
+  printed_before_limit : (about : List ℕ) (old new : DeviceState)
+      → Breaks (merges (codes "a.w" ∷ []) events) (ending (LineTooLong file) about) old new
+      → new.printed ≡ old.printed ++ codes "a\n"
+  printed_before_limit about old new broke = ap (λ (now : DeviceState). now.printed) broke.fails.2
+      ∙ ap (λ (text : List ℕ). old.printed ++ text) (printed_by broke.earlier broke.later broke.whole broke.fails.1)

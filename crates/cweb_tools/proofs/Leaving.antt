@@ -44,9 +44,9 @@ after_printing {stop} is broke = record {
   );
 }
 
-reading_broken : (names : List (List ℕ)) (events : List Event) (stop : Stop) (about : List ℕ) (old new : DeviceState)
-    → FailsReading names events (ending stop about) old new → Broken stop old new
-reading_broken names events (ReadFault file) about old new broke =
+reading_broken : (names : List (List ℕ)) (earlier later : List Event) (stop : Stop) (about : List ℕ)
+    (old new : DeviceState) → FailsReading names earlier later (ending stop about) old new → Broken stop old new
+reading_broken names earlier later (ReadFault file) about old new broke =
     subst (Broken (ReadFault file) old) (sym broke.1) (record {
       files = refl;
       draft = λ none. none;
@@ -54,10 +54,10 @@ reading_broken names events (ReadFault file) about old new broke =
       bins = sym (add-zero old.bins_failed);
       log = λ never. (refl, refl);
     })
-reading_broken names events (LineTooLong file) about old new broke = quiet refl refl broke.2
-reading_broken names events TooMuchText about old new broke = quiet refl refl broke.1
-reading_broken names events Memory about old new broke = quiet refl refl broke
-reading_broken names events stop about old new broke = absurd broke
+reading_broken names earlier later (LineTooLong file) about old new broke = quiet refl refl broke.2
+reading_broken names earlier later TooMuchText about old new broke = quiet refl refl broke.1
+reading_broken names earlier later Memory about old new broke = quiet refl refl broke
+reading_broken names earlier later stop about old new broke = absurd broke
 
 -- Standard output failed.
 output_broken : {old new : DeviceState}
@@ -79,17 +79,18 @@ broken (says item) LogFault about old new broke = subst (Broken LogFault old) (s
   bins = sym (add-zero old.bins_failed);
   log = λ never. absurd (never refl);
 })
-broken (reads names events) stop about old new broke = reading_broken names events stop about old new broke
-broken (merges names events) WriteFault about old new broke = output_broken broke.1.1
-broken (merges names events) stop about old new broke =
-    after_printing broke.1.1 (reading_broken names events stop about broke.0 new broke.2)
+broken (reads names events) stop about old new broke =
+    reading_broken names broke.earlier broke.later stop about old new broke.fails
+broken (merges names events) WriteFault about old new broke = output_broken broke.2
+broken (merges names events) stop about old new broke = after_printing refl (reading_broken names broke.earlier
+    broke.later stop about (after_act (merges names broke.earlier) old) new broke.fails)
 broken (writes name text) Memory about old new broke =
     unwritten _ broke refl refl (sym (add-zero _)) (sym (add-zero _)) refl refl
 broken (writes name text) OutNotOpened about old new broke =
     unwritten _ broke.1 refl refl (sym (add-zero _)) refl refl refl
 broken (writes name text) WriteFault about old new broke =
     unwritten _ broke.1 refl refl (sym (add-zero _)) refl refl refl
-broken (prints text) WriteFault about old new broke = output_broken broke.1.1
+broken (prints text) WriteFault about old new broke = output_broken broke.2
 broken (says item) Memory about old new broke = absurd broke
 broken (prints text) Memory about old new broke = absurd broke
 broken act Memory about old new broke = quiet refl refl broke

@@ -44,17 +44,18 @@ writing {old = old} none blamed = record {
 abbrev blames : DeviceState → List (List ℕ)
 blames now = now.blamed
 
-reading : (act : Act) (names : List (List ℕ)) (events : List Event) (stop : Stop) (about : List ℕ)
-    (old new : DeviceState) → FailsReading names events (ending stop about) old new → Stopped act stop about old new
-reading act names events (ReadFault file) about old new fails =
+reading : (act : Act) (names : List (List ℕ)) (earlier later : List Event) (stop : Stop) (about : List ℕ)
+    (old new : DeviceState) → FailsReading names earlier later (ending stop about) old new
+    → Stopped act stop about old new
+reading act names earlier later (ReadFault file) about old new fails =
     record { bins = λ not. ap bins_of fails.1; blamed = ap blames fails.1 }
-reading act names events (LineTooLong file) about old new fails =
+reading act names earlier later (LineTooLong file) about old new fails =
     quiet refl (ap bins_of fails.2) (ap blames fails.2)
-reading act names events TooMuchText about old new fails = quiet refl (ap bins_of fails.1) (ap blames fails.1)
-reading act names events Memory about old new fails = quiet refl (ap bins_of fails) (ap blames fails)
-reading act names events stop about old new fails = absurd fails
+reading act names earlier later TooMuchText about old new fails = quiet refl (ap bins_of fails.1) (ap blames fails.1)
+reading act names earlier later Memory about old new fails = quiet refl (ap bins_of fails) (ap blames fails)
+reading act names earlier later stop about old new fails = absurd fails
 
--- A prefix of the merged lines was printed before that.
+-- Merged lines were printed before that.
 printed_before : {act : Act} {stop : Stop} {about : List ℕ} {old mid new : DeviceState}
     → mid ≡ record old { printed = mid.printed } → Stopped act stop about mid new → Stopped act stop about old new
 printed_before {stop = stop} {about = about} is stopped = record {
@@ -65,15 +66,16 @@ printed_before {stop = stop} {about = about} is stopped = record {
 stopped : (act : Act) (stop : Stop) (about : List ℕ) (old new : DeviceState) → Breaks act (ending stop about) old new
     → Stopped act stop about old new
 stopped (says item) LogFault about old new broke = quiet refl (ap bins_of broke.1) (ap blames broke.1)
-stopped (reads names events) stop about old new broke = reading _ names events stop about old new broke
-stopped (merges names events) WriteFault about old new broke =
-    quiet refl (ap bins_of broke.1.1) (ap blames broke.1.1)
+stopped (reads names events) stop about old new broke =
+    reading _ names broke.earlier broke.later stop about old new broke.fails
+stopped (merges names events) WriteFault about old new broke = quiet refl (ap bins_of broke.2) (ap blames broke.2)
 stopped (merges names events) stop about old new broke =
-    printed_before broke.1.1 (reading _ names events stop about broke.0 new broke.2)
+    printed_before refl (reading _ names broke.earlier broke.later stop about
+    (after_act (merges names broke.earlier) old) new broke.fails)
 stopped (writes name text) Memory about old new broke = writing refl (ap blames broke)
 stopped (writes name text) OutNotOpened about old new broke = writing refl (ap blames broke.1)
 stopped (writes name text) WriteFault about old new broke = writing refl (ap blames broke.1)
-stopped (prints text) WriteFault about old new broke = quiet refl (ap bins_of broke.1.1) (ap blames broke.1.1)
+stopped (prints text) WriteFault about old new broke = quiet refl (ap bins_of broke.2) (ap blames broke.2)
 stopped (says item) Memory about old new broke = absurd broke
 stopped (prints text) Memory about old new broke = absurd broke
 stopped act Memory about old new broke = quiet refl (ap bins_of broke) (ap blames broke)

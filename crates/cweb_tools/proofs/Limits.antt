@@ -1,17 +1,37 @@
 -- A merge that breaks a limit is not within the limits.
-use Rattle.cweb_tools.proofs.Common.{◌≡◌, ◌≤◌, ◌<◌, ◌+◌, ◌⊎◌, inl, inr, List, [], ◌∷◌, ◌++◌, refl, sym, ◌∙◌, ap, subst, arith, length, length-append, append_assoc, map, map-append, ℕ, SourceLine, Event, took, SoFar, Line, BreaksLimit, counts_of, StopsAfterLines, begun_with, AreShort, IsWithinLimits, taken_lines, LINE_LENGTH, LINES, BYTES, Stop, LineTooLong, TooMuchText}
+use Rattle.cweb_tools.proofs.Common.{◌≡◌, ◌≤◌, ◌<◌, ◌+◌, ◌⊎◌, inl, inr, List, [], ◌∷◌, ◌++◌, refl, sym, ◌∙◌, ap, subst, append-nil, arith, emitted_lines, length, length-append, append_assoc, map, map-append, ℕ, SourceLine, Event, took, SoFar, Line, BreaksLimit, counts_of, StopsAfterLines, begun_with, AreShort, IsWithinLimits, taken_lines, LINE_LENGTH, LINES, BYTES, Stop, LineTooLong, TooMuchText}
 use Rattle.cweb_input.specs.OpenSources.{RefusesLine, TakenCountersModel}
 use Rattle.cweb_lines.specs.Merge.{fault}
 use Rattle.cweb_lines.specs.surface.MergeProgress.{step_events}
 use Rattle.cweb_lines.specs.Events.{size_of_lines}
-use Rattle.cweb_lines.proofs.AddedEvents.{taken-took}
-use Rattle.cweb_lines.proofs.EmittedLinesAddUp.{size-append, short-append, taken-append}
+use Rattle.cweb_lines.proofs.AddedEvents.{emitted-took, taken-took}
+use Rattle.cweb_lines.proofs.EmittedLinesAddUp.{emitted-append, size-append, short-append, taken-append}
 
 -- Each taken line is within the limit of its length.
 short_at : (before after : List SourceLine) (line : SourceLine) → AreShort (before ++ line ∷ after) →
     line.length ≤ LINE_LENGTH
 short_at [] after line short = short.0
 short_at (l ∷ before) after line short = short_at before after line short.1
+
+-- If a limit stops reading, the next line breaks it.
+abbrev pub NextBreaks : Stop → List Event → List Event → Type 0
+NextBreaks (LineTooLong file) earlier later = BreaksLimit (LineTooLong file) earlier later
+NextBreaks TooMuchText earlier later = BreaksLimit TooMuchText earlier later
+NextBreaks stop earlier later = Unit {0}
+
+next_breaks : (stop : Stop) {earlier later : List Event} → BreaksLimit stop earlier later
+    → NextBreaks stop earlier later
+next_breaks (LineTooLong file) b = b
+next_breaks TooMuchText b = b
+next_breaks stop b = tt
+
+-- The events before a stop of reading, which emit these lines, and those after it.
+pub record CutAt (stop : Stop) (lines : List Line) (events : List Event) : Type 0 where
+  pub earlier : List Event
+  pub later : List Event
+  pub whole : events ≡ earlier ++ later
+  pub emits : emitted_lines earlier ≡ lines
+  pub next : NextBreaks stop earlier later
 
 -- A merge that begins with these files comes to a line that breaks a limit.
 module _ {stop : Stop} {first : List (List ℕ)} {emitted : List Line} {old new : SoFar} {events : List Event}
@@ -49,53 +69,64 @@ module _ {stop : Stop} {first : List (List ℕ)} {emitted : List Line} {old new 
   counts : new.count ≡ counts_of (taken_lines earlier)
   counts i = record { lines = lines_are i; bytes = bytes_are i }
 
-  pub breaks_limit : BreaksLimit stop events
-  breaks_limit = record {
+  -- The events before that line, and the rest.
+  pub cut_at_limit : CutAt stop emitted events
+  cut_at_limit = record {
     earlier = earlier;
-    line = b.stops.line;
-    later = map took b.stops.more ++ (map fault b.faults ++ b.later);
+    later = took b.stops.line ∷ (map took b.stops.more ++ (map fault b.faults ++ b.later));
     whole = b.yields.whole ∙ ap (λ (ls : List SourceLine). b.yields.events ++ step_events ls b.faults b.later)
         (b.stops.begun.lines_are ∙ ap (λ (ls : List SourceLine). begun ++ ls) b.stops.next)
         ∙ simp (map-append, append_assoc);
-    within = record {
-      short = rw taken_are (short-append (taken_lines b.yields.events) begun b.yields.short b.stops.begun.adds.short);
-      few = omega (arith, few, lines_are);
-      small = omega (arith, small, bytes_are);
-    };
-    why = subst (λ (c : TakenCountersModel). RefusesLine stop c b.stops.line) counts b.stops.why;
+    emits = emitted-append b.yields.events (map took begun)
+        ∙ simp (emitted-took begun, append-nil, b.yields.emitted);
+    next = next_breaks stop (record {
+      line = b.stops.line;
+      more = map took b.stops.more ++ (map fault b.faults ++ b.later);
+      next = refl;
+      within = record {
+        short =
+            rw taken_are (short-append (taken_lines b.yields.events) begun b.yields.short b.stops.begun.adds.short);
+        few = omega (arith, few, lines_are);
+        small = omega (arith, small, bytes_are);
+      };
+      why = subst (λ (c : TakenCountersModel). RefusesLine stop c b.stops.line) counts b.stops.why;
+    });
   }
 
-module _ {stop : Stop} {events : List Event} (b : BreaksLimit stop events) where
-  lines_whole : taken_lines events ≡ taken_lines b.earlier ++ b.line ∷ taken_lines b.later
-  lines_whole = ap taken_lines b.whole ∙ taken-append b.earlier (took b.line ∷ b.later)
+module _ {stop : Stop} {events earlier later : List Event} (whole : events ≡ earlier ++ later)
+    (b : BreaksLimit stop earlier later) where
+  lines_whole : taken_lines events ≡ taken_lines earlier ++ b.line ∷ taken_lines b.more
+  lines_whole = ap taken_lines (whole ∙ ap (λ (es : List Event). earlier ++ es) b.next)
+      ∙ taken-append earlier (took b.line ∷ b.more)
 
   long : LINE_LENGTH < b.line.length → AreShort (taken_lines events) → ⊥
   long longer short = omega (
     arith,
     longer,
-    short_at (taken_lines b.earlier) (taken_lines b.later) b.line (subst AreShort lines_whole short),
+    short_at (taken_lines earlier) (taken_lines b.more) b.line (subst AreShort lines_whole short),
   )
 
-  lines_all : length (taken_lines events) ≡ length (taken_lines b.earlier) + (1 + length (taken_lines b.later))
+  lines_all : length (taken_lines events) ≡ length (taken_lines earlier) + (1 + length (taken_lines b.more))
   lines_all = omega (
     arith,
     ap (λ (ls : List SourceLine). length ls) lines_whole,
-    length-append (taken_lines b.earlier) (b.line ∷ taken_lines b.later),
+    length-append (taken_lines earlier) (b.line ∷ taken_lines b.more),
   )
 
   bytes_all : size_of_lines (taken_lines events)
-      ≡ size_of_lines (taken_lines b.earlier) + (b.line.size + size_of_lines (taken_lines b.later))
-  bytes_all = ap size_of_lines lines_whole ∙ size-append (taken_lines b.earlier) (b.line ∷ taken_lines b.later)
+      ≡ size_of_lines (taken_lines earlier) + (b.line.size + size_of_lines (taken_lines b.more))
+  bytes_all = ap size_of_lines lines_whole ∙ size-append (taken_lines earlier) (b.line ∷ taken_lines b.more)
 
-  much : (length (taken_lines b.earlier) ≡ LINES) ⊎ (BYTES < size_of_lines (taken_lines b.earlier) + b.line.size)
+  much : (length (taken_lines earlier) ≡ LINES) ⊎ (BYTES < size_of_lines (taken_lines earlier) + b.line.size)
       → IsWithinLimits (taken_lines events) → ⊥
   much (inl full) within = omega (arith, full, within.few, lines_all)
   much (inr larger) within = omega (arith, larger, within.small, bytes_all)
 
-pub beyond : (stop : Stop) (events : List Event) → BreaksLimit stop events → IsWithinLimits (taken_lines events) → ⊥
-beyond (LineTooLong file) events b within = long b b.why.1 within.short
-beyond TooMuchText events b within = much b b.why.passes within
-beyond stop events b within = absurd b.why
+pub beyond : (stop : Stop) {events earlier later : List Event} → events ≡ earlier ++ later
+    → BreaksLimit stop earlier later → IsWithinLimits (taken_lines events) → ⊥
+beyond (LineTooLong file) whole b within = long whole b b.why.1 within.short
+beyond TooMuchText whole b within = much whole b b.why.passes within
+beyond stop whole b within = absurd b.why
 
 -- Where two lists of events are equal, a line of one is the same line of the other, or it comes before or after that.
 first_only : (a b : List Event) (x y : SourceLine) (s t : List Event) → a ++ took x ∷ s ≡ b ++ took y ∷ t
@@ -128,30 +159,23 @@ refuses_only TooMuchText other count line a b = absurd b
 refuses_only stop other count line a b = absurd a
 
 -- Only one limit can be named.
-pub limit_only : (stop other : Stop) (events : List Event) → BreaksLimit stop events → BreaksLimit other events
-    → stop ≡ other
-limit_only stop other events a b =
-    by (first_only a.earlier b.earlier a.line b.line a.later b.later (sym a.whole ∙ b.whole))
-  where
-    by : ((a.earlier ≡ b.earlier) × (a.line ≡ b.line))
-        ⊎ (((more : List Event) × (b.earlier ≡ a.earlier ++ took a.line ∷ more))
-        ⊎ ((more : List Event) × (a.earlier ≡ b.earlier ++ took b.line ∷ more))) → stop ≡ other
-    by (inl same) = refuses_only stop other (counts_of (taken_lines b.earlier)) b.line
-        (subst (λ (es : List Event). RefusesLine stop (counts_of (taken_lines es)) b.line) same.0
-        (subst (λ (l : SourceLine). RefusesLine stop (counts_of (taken_lines a.earlier)) l) same.1 a.why)) b.why
-    by (inr (inl after)) = absurd (beyond stop b.earlier (record {
-      earlier = a.earlier;
-      line = a.line;
-      later = after.0;
-      whole = after.1;
-      within = a.within;
-      why = a.why;
-    }) b.within)
-    by (inr (inr after)) = absurd (beyond other a.earlier (record {
-      earlier = b.earlier;
-      line = b.line;
-      later = after.0;
-      whole = after.1;
-      within = b.within;
-      why = b.why;
-    }) a.within)
+module _ (stop other : Stop) {events earlier later earlier' later' : List Event} (whole : events ≡ earlier ++ later)
+    (a : BreaksLimit stop earlier later) (whole' : events ≡ earlier' ++ later')
+    (b : BreaksLimit other earlier' later') where
+  same_events : earlier ++ took a.line ∷ a.more ≡ earlier' ++ took b.line ∷ b.more
+  same_events = ap (λ (es : List Event). earlier ++ es) (sym a.next) ∙ sym whole ∙ whole'
+      ∙ ap (λ (es : List Event). earlier' ++ es) b.next
+
+  pub limit_only : stop ≡ other
+  limit_only = by (first_only earlier earlier' a.line b.line a.more b.more same_events)
+    where
+      by : ((earlier ≡ earlier') × (a.line ≡ b.line))
+          ⊎ (((more : List Event) × (earlier' ≡ earlier ++ took a.line ∷ more))
+          ⊎ ((more : List Event) × (earlier ≡ earlier' ++ took b.line ∷ more))) → stop ≡ other
+      by (inl same) = refuses_only stop other (counts_of (taken_lines earlier')) b.line
+          (subst (λ (es : List Event). RefusesLine stop (counts_of (taken_lines es)) b.line) same.0
+          (subst (λ (l : SourceLine). RefusesLine stop (counts_of (taken_lines earlier)) l) same.1 a.why)) b.why
+      by (inr (inl after)) = absurd (beyond stop after.1
+          (record { line = a.line; more = after.0; next = refl; within = a.within; why = a.why }) b.within)
+      by (inr (inr after)) = absurd (beyond other after.1
+          (record { line = b.line; more = after.0; next = refl; within = b.within; why = b.why }) a.within)

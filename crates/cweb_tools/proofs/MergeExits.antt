@@ -1,20 +1,15 @@
 -- The exits of a merge that has begun.
-use Rattle.cweb_tools.proofs.Common.{◌≤◌, ◌≡◌, ◌+◌, ◌&&◌, inl, inr, ℕ, List, [], ◌∷◌, ◌++◌, length, map, refl, sym, subst, ◌∙◌, ap, append-nil, Option, Some, IsTrue, names_found, World, Found, Event, SoFar, EmitsLines, ReportsPrefix, blame, files_named, read_failures_of, emitted_lines, reported_faults, openings, taken_lines, IsWithinLimits, BeginsMerge, written_lines, StopsWriting, WritingStops, WritesPrefix, write_failures_of, SourceFault, LINES, BYTES, Stop, LineTooLong, TooMuchText, Logs, stop_line, subject, source_item, SinkModel, ShelfModel, LogItem, WebNames, merging, found_course, EndsMerge, merge_acts, acts_status, judges, opens, says, merges, Breaks, FailsReading, ending, DeviceState, Closes, ClosesInLog, halted}
+use Rattle.cweb_tools.proofs.Common.{◌≤◌, ◌≡◌, ◌+◌, ◌&&◌, inl, inr, ℕ, List, [], ◌∷◌, ◌++◌, length, map, refl, sym, subst, ◌∙◌, ap, append-nil, Option, Some, IsTrue, names_found, World, Found, Event, SoFar, EmitsLines, ReportsPrefix, blame, files_named, read_failures_of, emitted_lines, reported_faults, openings, taken_lines, IsWithinLimits, BeginsMerge, written_lines, StopsWriting, WritingStops, WritesPrefix, write_failures_of, SourceFault, LINES, BYTES, Stop, Logs, stop_line, subject, source_item, SinkModel, ShelfModel, LogItem, WebNames, merging, found_course, EndsMerge, merge_acts, acts_status, judges, opens, says, merges, Breaks, ending, DeviceState, Closes, ClosesInLog, halted}
 use Rattle.cweb_lines.specs.Merge.{fault}
 use Rattle.cweb_tools.proofs.Doing.{closes_on}
 use Rattle.cweb_tools.proofs.Exits.{begins_course, opened_by, names_reported, faults_reported, limits_kept}
-use Rattle.cweb_tools.proofs.Logging.{at, prefix_observed}
+use Rattle.cweb_tools.proofs.Logging.{at}
 use Rattle.cweb_tools.proofs.MergeDevices.{out_of, shelf_part, out_part, does_so, does_well}
-use Rattle.cweb_tools.proofs.MergeStops.{writing_ends, writing_only, reading_why, left_after, merges_broke}
-use Rattle.cweb_tools.proofs.ReadingStops.{left_by, reads_broke, read_by, silent_broke, nothing_passes}
+use Rattle.cweb_tools.proofs.MergeStops.{writing_ends, writing_only, left_after, prints_so, prints_none}
+use Rattle.cweb_tools.proofs.ReadingStops.{read_by, nothing_passes}
 use Rattle.cweb_tools.proofs.TangleExits.{either}
 
--- Events that an unobservable shelf may have had.
-no_openings : (stop : Stop) → openings (read_by stop) ≡ []
-no_openings (LineTooLong file) = refl
-no_openings TooMuchText = refl
-no_openings stop = refl
-
+-- Faults that an unobservable shelf may have had.
 opens_none : (faults : List SourceFault) → openings (map fault faults) ≡ []
 opens_none [] = refl
 opens_none (met ∷ faults) = opens_none faults
@@ -106,7 +101,9 @@ module _ (world : World) (names : WebNames) (found : Option Found) (changes : Op
 
   pub halted_early : (stop : Stop) (new : SoFar) (opened : List (List ℕ)) (Wrote : List ℕ → Type 0)
       → opened ≡ new.names → new.count.lines ≤ LINES → new.count.bytes ≤ BYTES → WritingStops stop
-      → (IsTrue shelf.tells → StopsWriting stop old new all Wrote) → files_named stop ≤ length new.names
+      → (IsTrue shelf.tells → StopsWriting stop old new all Wrote)
+      → ((bytes : List ℕ) → Wrote bytes → IsTrue out.tells → out'.bytes ≡ out.bytes ++ bytes)
+      → files_named stop ≤ length new.names
       → (IsTrue shelf.tells → ReportsPrefix old new all) → shelf'.failed ≡ shelf.failed + read_failures_of stop
       → (IsTrue shelf.tells → shelf'.blamed ≡ shelf.blamed ++ blame new.names stop)
       → out'.failed ≡ out.failed + write_failures_of stop
@@ -114,7 +111,7 @@ module _ (world : World) (names : WebNames) (found : Option Found) (changes : Op
       → WritesPrefix out.bytes out'.bytes (written_lines (emitted_lines all)))
       → Logs (stop_line stop (subject opened stop)) l l' → status ≡ 1
       → EndsMerge (Some names) (found_course world names found changes) (at shelf out l) (at shelf' out' l') status
-  halted_early stop new opened Wrote opened_are few small kind why named reports read whose wrote printed logs
+  halted_early stop new opened Wrote opened_are few small kind why wrote_is named reports read whose wrote printed logs
       answered =
       let blames : IsTrue shelf.tells → shelf'.blamed ≡ shelf.blamed ++ blame opened stop = λ tell. whose tell
       ∙ ap (λ (ns : List (List ℕ)). shelf.blamed ++ blame ns stop) (sym opened_are) in
@@ -123,32 +120,23 @@ module _ (world : World) (names : WebNames) (found : Option Found) (changes : Op
         | inl tell ↦
             let first = (begins tell).name ∷ names_found (begins tell).change in
             let later = opened_by first (begins tell).so_far_is (reports tell) opened opened_are in
-            let prefix = prefix_observed (shelf.tells && out.tells) {old = out.bytes} {new = out'.bytes}
-            {text = written_lines (emitted_lines all)}
+            let prints = prints_so _ opened later.0 later.1 all stop new Wrote (shelf.tells && out.tells)
+            {out = out.bytes} {out' = out'.bytes} (begins tell).so_far_is few small kind known (why tell)
+            (λ bytes wrote_so both. wrote_is bytes wrote_so (out_part _ _ both))
             (λ both. printed (shelf_part _ _ both) (out_part _ _ both)) in record {
               taken = merging first all;
               can = tt;
               is = λ again. sym (begun tell);
-              closes = stops_so stop first opened all prefix.prefix kind read blames wrote prefix.written
-                  (λ now. merges_broke (first ++ openings all) all opened prefix.prefix prefix.rest prefix.whole now
-                  stop
-                  kind (λ reading. reads_broke stop first opened later.0 old new all
-                  (record now { printed = now.printed ++ prefix.prefix }) (begins tell).so_far_is few small reading
-                  (reading_why stop old new all Wrote reading (why tell)) later.1 known)) logs answered;
+              closes = stops_so stop first opened all prints.prefix kind read blames wrote prints.written prints.breaks
+                  logs answered;
             }
         | inr silent ↦
-            let events = read_by stop in
-            let files : opened ≡ opened ++ openings events =
-            sym (ap (λ (ns : List (List ℕ)). opened ++ ns) (no_openings stop) ∙ append-nil opened) in record {
-              taken = merging opened events;
+            let prints = prints_none stop opened (openings (read_by stop)) (IsTrue (shelf.tells && out.tells))
+            {out = out.bytes} {out' = out'.bytes} kind known (λ both. silent (shelf_part _ _ both)) in record {
+              taken = merging opened (read_by stop);
               can = tt;
               is = λ tell. absurd (silent tell);
-              closes = stops_so stop opened opened events [] kind read blames wrote
-                  (λ both. absurd (silent (shelf_part _ _ both)))
-                  (λ now. let quiet : DeviceState = record now { printed = now.printed ++ [] } in
-                  merges_broke (opened ++ openings events) events opened [] (written_lines (emitted_lines events)) refl
-                  now stop kind (λ reading. subst (λ (ns : List (List ℕ)). FailsReading ns events
-                  (ending stop (subject opened stop)) quiet (left_by stop (subject opened stop) quiet)) files
-                  (silent_broke stop opened quiet reading known))) logs answered;
+              closes = stops_so stop opened opened (read_by stop) prints.prefix kind read blames wrote prints.written
+                  prints.breaks logs answered;
             }
       ]

@@ -1,5 +1,7 @@
 -- The ends of a run of `wmerge` keep its promises.
 use Rattle.cweb_tools.proofs.Common.{◌≤◌, ◌≡◌, inl, inr, ℕ, ◌+◌, List, [], ◌∷◌, ◌++◌, refl, sym, ◌∙◌, ap, append-nil, append_assoc, arith, subst, Option, Some, IsTrue, World, read_failures_of, bins_blame, WritesPrefix, Event, emitted_lines, written_lines, Stop, ReadFault, LineTooLong, TooMuchText, Memory, OutNotOpened, WriteFault, LogFault, WebNames, Course, IsMergeCourse, merge_acts, merge_devices, PrintsActs, ActsKeepLimits, Act, judges, says, opens, reads, plans, reserves, writes, merges, prints, after_act, ending, Breaks, FailsReading, DeviceState, PerformsActs, RunEnds, completes, stops, printed_bytes, observed_state, and_from, RisesOnce}
+use Rattle.cweb_lines.proofs.EmittedLinesAddUp.{emitted-append}
+use Rattle.cweb_lines.proofs.WrittenLinesAddUp.{text_of-append}
 use Rattle.cweb_tools.specs.laws.RunEffects.{EveryMergeLeavesOutput}
 use Rattle.cweb_tools.proofs.AllDone.{printed_all}
 use Rattle.cweb_tools.proofs.Courses.{merge_only}
@@ -15,13 +17,13 @@ pub one_course : (world : World) (args : Option WebNames) (one other : Course) �
 one_course world args one other is too = merge_only world args one is ∙ sym (merge_only world args other too)
 
 -- A stop of reading prints nothing.
-reading_prints : (names : List (List ℕ)) (events : List Event) (stop : Stop) (about : List ℕ) (old new : DeviceState)
-    → FailsReading names events (ending stop about) old new → new.printed ≡ old.printed
-reading_prints names events (ReadFault file) about old new fails = ap (λ (d : DeviceState). d.printed) fails.1
-reading_prints names events (LineTooLong file) about old new fails = ap (λ (d : DeviceState). d.printed) fails.2
-reading_prints names events TooMuchText about old new fails = ap (λ (d : DeviceState). d.printed) fails.1
-reading_prints names events Memory about old new fails = ap (λ (d : DeviceState). d.printed) fails
-reading_prints names events stop about old new fails = absurd fails
+reading_prints : (names : List (List ℕ)) (earlier later : List Event) (stop : Stop) (about : List ℕ)
+    (old new : DeviceState) → FailsReading names earlier later (ending stop about) old new → new.printed ≡ old.printed
+reading_prints names earlier later (ReadFault file) about old new fails = ap (λ (d : DeviceState). d.printed) fails.1
+reading_prints names earlier later (LineTooLong file) about old new fails = ap (λ (d : DeviceState). d.printed) fails.2
+reading_prints names earlier later TooMuchText about old new fails = ap (λ (d : DeviceState). d.printed) fails.1
+reading_prints names earlier later Memory about old new fails = ap (λ (d : DeviceState). d.printed) fails
+reading_prints names earlier later stop about old new fails = absurd fails
 
 prints_none : (acts : List Act) (old new : DeviceState) → new.printed ≡ old.printed
     → WritesPrefix old.printed new.printed (printed_bytes acts)
@@ -50,12 +52,19 @@ more_before old text wrote = record {
 printed_at : (act : Act) (acts : List Act) (stop : Stop) (about : List ℕ) (old new : DeviceState)
     → Breaks act (ending stop about) old new → WritesPrefix old.printed new.printed (printed_bytes (act ∷ acts))
 printed_at (reads names events) acts stop about old new broke =
-    prints_none (reads names events ∷ acts) old new (reading_prints names events stop about old new broke)
-printed_at (merges names events) acts WriteFault about old new broke = more_after (printed_bytes acts) broke.1.0
-printed_at (merges names events) acts stop about old new broke = more_after (printed_bytes acts)
-    (subst (λ (t : List ℕ). WritesPrefix old.printed t (written_lines (emitted_lines events)))
-    (sym (reading_prints names events stop about broke.0 new broke.2)) broke.1.0)
-printed_at (prints text) acts WriteFault about old new broke = more_after (printed_bytes acts) broke.1.0
+    prints_none (reads names events ∷ acts) old new
+    (reading_prints names broke.earlier broke.later stop about old new broke.fails)
+printed_at (merges names events) acts WriteFault about old new broke = more_after (printed_bytes acts) broke.1
+printed_at (merges names events) acts stop about old new broke = more_after (printed_bytes acts) (record {
+  prefix = written_lines (emitted_lines broke.earlier);
+  rest = written_lines (emitted_lines broke.later);
+  written = reading_prints names broke.earlier broke.later stop about (after_act (merges names broke.earlier) old) new
+      broke.fails;
+  whole = ap (λ (es : List Event). written_lines (emitted_lines es)) broke.whole
+      ∙ ap written_lines (emitted-append broke.earlier broke.later)
+      ∙ text_of-append (emitted_lines broke.earlier) (emitted_lines broke.later);
+})
+printed_at (prints text) acts WriteFault about old new broke = more_after (printed_bytes acts) broke.1
 printed_at (says item) acts LogFault about old new broke =
     prints_none (says item ∷ acts) old new (ap (λ (d : DeviceState). d.printed) broke.1)
 printed_at (writes name text) acts Memory about old new broke =

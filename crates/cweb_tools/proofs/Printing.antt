@@ -65,10 +65,8 @@ module _ (text : List ℕ) {old new : SinkModel} (tells : new.tells ≡ old.tell
       does_printed (λ n. n + 1) wrote.prefix refl refl (λ n. refl) counts wrote.written
       (λ now. inr (
         refl,
-        (
-          record { prefix = wrote.prefix; rest = wrote.rest; written = refl; whole = wrote.whole },
-          refl,
-        ),
+        record { prefix = wrote.prefix; rest = wrote.rest; written = refl; whole = wrote.whole },
+        refl,
       ))
 
 -- The targets are the names of the outputs.

@@ -1,7 +1,7 @@
 -- The state after a stop of reading, and its cause.
-use Rattle.cweb_tools.proofs.Common.{◌≤◌, ◌≡◌, ◌+◌, inr, ℕ, List, [], ◌∷◌, ◌++◌, length, length-append, refl, sym, ◌∙◌, ap, add-zero, append-nil, arith, get_or-append, IsTrue, FileId, SourceLine, Event, took, SoFar, BreaksLimit, counts_of, begun_with, blame, StopsFor, StopsReading, files_named, read_failures_of, openings, IsWithinLimits, LINE_LENGTH, LINES, BYTES, Stop, ReadFault, LineTooLong, TooMuchText, Memory, OutNotOpened, WriteFault, LogFault, StopsAfter, file_name_at, stop_line, subject, Logs, SinkModel, ShelfModel, Breaks, ending, DeviceState, IsOfFile, reads, read_fails, AgreesWith, LogsEnding, bins_blame, log_blame}
+use Rattle.cweb_tools.proofs.Common.{◌≤◌, ◌≡◌, ◌+◌, inr, ℕ, List, [], ◌∷◌, ◌++◌, length, length-append, refl, sym, ◌∙◌, ap, add-zero, append-nil, arith, get_or-append, IsTrue, FileId, SourceLine, Event, took, SoFar, BreaksLimit, counts_of, begun_with, blame, StopsFor, StopsReading, files_named, read_failures_of, openings, IsWithinLimits, LINE_LENGTH, LINES, BYTES, Stop, ReadFault, LineTooLong, TooMuchText, Memory, OutNotOpened, WriteFault, LogFault, StopsAfter, file_name_at, stop_line, subject, Logs, SinkModel, ShelfModel, Breaks, FailsReading, Line, ending, DeviceState, IsOfFile, reads, AgreesWith, LogsEnding, bins_blame, log_blame}
 use Rattle.cweb_input.specs.OpenSources.{RefusesLine}
-use Rattle.cweb_tools.proofs.Limits.{breaks_limit}
+use Rattle.cweb_tools.proofs.Limits.{CutAt, NextBreaks, cut_at_limit}
 use Rattle.cweb_tools.proofs.Logging.{at}
 use Rattle.cweb_tools.proofs.TangleExits.{looked, shelf_observed}
 
@@ -16,7 +16,8 @@ of_file files opened rest file are known = record {
 
 -- The state after a stop of reading with this name.
 abbrev pub left_by : Stop → List ℕ → DeviceState → DeviceState
-left_by (ReadFault file) about now = read_fails about now
+left_by (ReadFault file) about now =
+    record now { shelf_failed = now.shelf_failed + 1; blamed = now.blamed ++ about ∷ [] }
 left_by stop about now = now
 
 pub left_observed : (stop : Stop) (files : List (List ℕ)) {now : DeviceState} (shelf shelf' : ShelfModel)
@@ -33,23 +34,47 @@ left_observed (ReadFault file) files {now} shelf shelf' bins l kind observed tel
 left_observed stop files {now} shelf shelf' bins l kind observed tells blames blamed = looked shelf shelf' tells
     (blames ∙ add-zero shelf.failed) (λ tell. blamed tell ∙ append-nil shelf.blamed) bins l l now observed
 
+-- A stop of reading, whatever was read before.
+pub fails_so : (stop : Stop) (files opened rest : List (List ℕ)) (earlier later : List Event) (now : DeviceState)
+    → StopsReading stop → files ≡ opened ++ rest → files_named stop ≤ length opened → NextBreaks stop earlier later
+    → FailsReading files earlier later (ending stop (subject opened stop)) now (left_by stop (subject opened stop) now)
+fails_so (ReadFault file) files opened rest earlier later now kind names known next =
+    (of_file files opened rest file.0 names known, refl)
+fails_so (LineTooLong file) files opened rest earlier later now kind names known next = (
+  of_file files opened rest file.0 names known,
+  next,
+  refl,
+)
+fails_so TooMuchText files opened rest earlier later now kind names known next = (next, refl)
+fails_so Memory files opened rest earlier later now kind names known next = refl
+fails_so stop files opened rest earlier later now kind names known next = absurd kind
+
+-- Where reading ended.
+cut_so : (stop : Stop) {first : List (List ℕ)} {old : SoFar} (new : SoFar) (all : List Event) → old ≡ begun_with first
+    → new.count.lines ≤ LINES → new.count.bytes ≤ BYTES → StopsReading stop
+    → StopsFor (StopsAfter stop old new all) stop → (lines : List Line) × CutAt stop lines all
+cut_so (ReadFault file) new all began few small kind why =
+    ([], record { earlier = []; later = all; whole = refl; emits = refl; next = tt })
+cut_so (LineTooLong file) new all began few small kind why = (why.lines, cut_at_limit began few small why.stops)
+cut_so TooMuchText new all began few small kind why = (why.lines, cut_at_limit began few small why.stops)
+cut_so Memory new all began few small kind why =
+    ([], record { earlier = []; later = all; whole = refl; emits = refl; next = tt })
+cut_so stop new all began few small kind why = absurd kind
+
 -- Why reading ended early.
 pub reads_broke : (stop : Stop) (first opened rest : List (List ℕ)) (old new : SoFar) (all : List Event)
     (now : DeviceState) → old ≡ begun_with first → new.count.lines ≤ LINES → new.count.bytes ≤ BYTES → StopsReading stop
     → StopsFor (StopsAfter stop old new all) stop → first ++ openings all ≡ opened ++ rest
     → files_named stop ≤ length opened → Breaks
     (reads (first ++ openings all) all) (ending stop (subject opened stop)) now (left_by stop (subject opened stop) now)
-reads_broke (ReadFault file) first opened rest old new all now began few small kind why names known =
-    (of_file _ opened rest file.0 names known, refl)
-reads_broke (LineTooLong file) first opened rest old new all now began few small kind why names known = (
-  of_file _ opened rest file.0 names known,
-  breaks_limit began few small why.stops,
-  refl,
-)
-reads_broke TooMuchText first opened rest old new all now began few small kind why names known =
-    (breaks_limit began few small why.stops, refl)
-reads_broke Memory first opened rest old new all now began few small kind why names known = refl
-reads_broke stop first opened rest old new all now began few small kind why names known = absurd kind
+reads_broke stop first opened rest old new all now began few small kind why names known =
+    let cut = (cut_so stop new all began few small kind why).1 in
+    record {
+      earlier = cut.earlier;
+      later = cut.later;
+      whole = cut.whole;
+      fails = fails_so stop _ opened rest cut.earlier cut.later now kind names known cut.next;
+    }
 
 -- A line that is too long, and a line beyond the total limit.
 abbrev line_of : FileId → ℕ → ℕ → SourceLine
@@ -67,35 +92,39 @@ nothing_passes = record { short = tt; few = omega arith; small = omega arith }
 
 -- The first line breaks a limit.
 breaks_first : (stop : Stop) (line : SourceLine) → RefusesLine stop (counts_of []) line
-    → BreaksLimit stop (took line ∷ [])
-breaks_first stop line why = record {
+    → BreaksLimit stop [] (took line ∷ [])
+breaks_first stop line why = record { line = line; more = []; next = refl; within = nothing_passes; why = why }
+
+-- Nothing was read before the stop.
+pub cut_first : (stop : Stop) → CutAt stop [] (read_by stop)
+cut_first (LineTooLong file) = record {
   earlier = [];
-  line = line;
-  later = [];
+  later = read_by (LineTooLong file);
   whole = refl;
-  within = nothing_passes;
-  why = why;
+  emits = refl;
+  next = breaks_first (LineTooLong file) (line_of file (LINE_LENGTH + 1) 0) (refl, omega arith);
 }
-
-pub long_line : (file : FileId) → BreaksLimit (LineTooLong file) (read_by (LineTooLong file))
-long_line file = breaks_first (LineTooLong file) (line_of file (LINE_LENGTH + 1) 0) (refl, omega arith)
-
-pub large_line : BreaksLimit TooMuchText (read_by TooMuchText)
-large_line = breaks_first TooMuchText (line_of (record { 0 = 0 }) 0 (BYTES + 1))
-    (record { passes = inr (omega arith); short = omega arith })
+cut_first TooMuchText = record {
+  earlier = [];
+  later = read_by TooMuchText;
+  whole = refl;
+  emits = refl;
+  next = breaks_first TooMuchText (line_of (record { 0 = 0 }) 0 (BYTES + 1))
+      (record { passes = inr (omega arith); short = omega arith });
+}
+cut_first stop = record { earlier = []; later = []; whole = refl; emits = refl; next = tt }
 
 pub silent_broke : (stop : Stop) (files : List (List ℕ)) (now : DeviceState) → StopsReading stop
     → files_named stop ≤ length files
     → Breaks (reads files (read_by stop)) (ending stop (subject files stop)) now (left_by stop (subject files stop) now)
-silent_broke (ReadFault file) files now kind known = (record { known = omega (arith, known); named = refl }, refl)
-silent_broke (LineTooLong file) files now kind known = (
-  record { known = omega (arith, known); named = refl },
-  long_line file,
-  refl,
-)
-silent_broke TooMuchText files now kind known = (large_line, refl)
-silent_broke Memory files now kind known = refl
-silent_broke stop files now kind known = absurd kind
+silent_broke stop files now kind known =
+    let cut = cut_first stop in
+    record {
+      earlier = cut.earlier;
+      later = cut.later;
+      whole = cut.whole;
+      fails = fails_so stop files files [] cut.earlier cut.later now kind (sym (append-nil files)) known cut.next;
+    }
 
 pub reading_ends : (stop : Stop) (about : List ℕ) {l l' : SinkModel} → StopsReading stop
     → Logs (stop_line stop about) l l' → LogsEnding (ending stop about) l l'

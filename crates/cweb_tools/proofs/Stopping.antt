@@ -1,5 +1,5 @@
 -- The log after a stop, and the failure counts that rise.
-use Rattle.cweb_tools.proofs.Common.{◌≡◌, inl, inr, ℕ, List, [], ◌∷◌, ◌++◌, refl, sym, ◌∙◌, ap, append-nil, append_assoc, WritesPrefix, arith, add-zero, Some, flat_map, Stop, LogFault, Memory, stop_line, LogItem, line, DeviceState, Act, says, merges, after_act, ending, Breaks, PerformsActs, LogsLine, LogsStop, logged_items, IsStopped, RisesOnce}
+use Rattle.cweb_tools.proofs.Common.{reads, ◌≡◌, inl, inr, ℕ, List, [], ◌∷◌, ◌++◌, refl, sym, ◌∙◌, ap, append-nil, append_assoc, WritesPrefix, arith, add-zero, Some, flat_map, Stop, LogFault, Memory, stop_line, LogItem, line, DeviceState, Act, says, merges, after_act, ending, Breaks, PerformsActs, LogsLine, LogsStop, logged_items, IsStopped, RisesOnce}
 use Rattle.cweb_tools.proofs.Leaving.{broken, stop_logged}
 
 -- A line was logged, or the log failed within it.
@@ -37,7 +37,8 @@ stopped_at (says item) LogFault {old} mid fails is acts = record {
   log_fails = λ _. ap (λ (d : DeviceState). d.log_failed) (is ∙ fails.1);
   log_once = inr (ap (λ (d : DeviceState). d.log_failed) (is ∙ fails.1));
 }
-stopped_at (merges names events) LogFault mid broke logs acts = absurd broke.2
+stopped_at (reads names events) LogFault mid broke logs acts = absurd broke.fails
+stopped_at (merges names events) LogFault mid broke logs acts = absurd broke.fails
 stopped_at act LogFault mid broke logs acts = absurd broke
 stopped_at act stop {about} {old} mid {new} broke logs acts =
     let left = broken act stop about old mid broke in

@@ -73,62 +73,52 @@ abbrev pub FailsLog : List ℕ → DeviceState → DeviceState → Type 0
 FailsLog text old new = WritesPrefix old.log new.log text
     × (new ≡ record old { log_failed = old.log_failed + 1; log = new.log })
 
--- A file could not be begun. The files are unchanged, there is no draft, and the bins have the reason.
-abbrev pub begin_fails : Refused → DeviceState → DeviceState
-begin_fails why now = record now { draft = None; refused = Some why }
-
--- The bins failed.
-abbrev pub bins_fail : DeviceState → DeviceState
-bins_fail now = record now { bins_failed = now.bins_failed + 1 }
-
--- A file that was begun is lost. The files are unchanged, and there is no draft.
-abbrev pub abandon_draft : DeviceState → DeviceState
-abandon_draft now = record now { draft = None; refused = None }
-
--- A prefix of the bytes was printed.
-abbrev pub PrintsPrefix : List ℕ → DeviceState → DeviceState → Type 0
-PrintsPrefix text old new = WritesPrefix old.printed new.printed text × (new ≡ record old { printed = new.printed })
-
 -- Standard output failed, and a prefix of the bytes was printed.
 abbrev pub FailsOutput : List ℕ → List ℕ → DeviceState → DeviceState → Type 0
-FailsOutput text about old new = (about ≡ codes "standard output") × PrintsPrefix text (bins_fail old) new
+FailsOutput text about old new = (about ≡ codes "standard output") × WritesPrefix old.printed new.printed text
+    × (new ≡ record old { bins_failed = old.bins_failed + 1; printed = new.printed })
 
 -- A stop of reading is about one of the files that are read, and its line ends in that file's name.
 pub record IsOfFile (names : List (List ℕ)) (file : ℕ) (about : List ℕ) : Type 0 where
   pub known : file < length names
   pub named : about ≡ file_name_at names file
 
--- A read of the file of this name failed.
-abbrev pub read_fails : List ℕ → DeviceState → DeviceState
-read_fails name now = record now { shelf_failed = now.shelf_failed + 1; blamed = now.blamed ++ name ∷ [] }
+-- Reading stops after the events `earlier`: a read fails, the next line breaks a limit, or memory is refused.
+abbrev pub FailsReading : List (List ℕ) → List Event → List Event → Ending → DeviceState → DeviceState → Type 0
+FailsReading names earlier later (ending (ReadFault file) about) old new = IsOfFile names file.0 about
+    × (new ≡ record old { shelf_failed = old.shelf_failed + 1; blamed = old.blamed ++ about ∷ [] })
+FailsReading names earlier later (ending (LineTooLong file) about) old new =
+    IsOfFile names file.0 about × BreaksLimit (LineTooLong file) earlier later × (new ≡ old)
+FailsReading names earlier later (ending TooMuchText about) old new =
+    BreaksLimit TooMuchText earlier later × (new ≡ old)
+FailsReading names earlier later (ending Memory about) old new = new ≡ old
+FailsReading names earlier later why old new = ⊥
 
--- The state after a stop of reading.
-abbrev pub FailsReading : List (List ℕ) → List Event → Ending → DeviceState → DeviceState → Type 0
-FailsReading names events (ending (ReadFault file) about) old new = IsOfFile names file.0 about
-    × (new ≡ read_fails about old)
-FailsReading names events (ending (LineTooLong file) about) old new =
-    IsOfFile names file.0 about × BreaksLimit (LineTooLong file) events × (new ≡ old)
-FailsReading names events (ending TooMuchText about) old new =
-    BreaksLimit TooMuchText events × (new ≡ old)
-FailsReading names events (ending Memory about) old new = new ≡ old
-FailsReading names events why old new = ⊥
+-- Reading stops after some of the events. The lines that they emit have been printed, if the act prints lines.
+pub record BreaksReading (act : List Event → Act) (names : List (List ℕ)) (events : List Event) (why : Ending)
+    (old new : DeviceState) : Type 0 where
+  pub earlier : List Event
+  pub later : List Event
+  pub whole : events ≡ earlier ++ later
+  pub fails : FailsReading names earlier later why (after_act (act earlier) old) new
 
--- The state after a stop within an act. Each act has its own stops.
+-- The state after a stop within an act. Each act has its own stops. A file that can't be begun or written to its end is
+-- as it was, and there is no draft. If it couldn't be begun, the bins have the reason.
 abbrev pub Breaks : Act → Ending → DeviceState → DeviceState → Type 0
 Breaks judges (ending Memory about) old new = new ≡ old
 Breaks (says item) (ending LogFault about) old new = FailsLog (line item) old new
 Breaks opens (ending Memory about) old new = new ≡ old
-Breaks (reads names events) why old new = FailsReading names events why old new
+Breaks (reads names events) why old new = BreaksReading (reads names) names events why old new
 Breaks (merges names events) (ending WriteFault about) old new =
     FailsOutput (written_lines (emitted_lines events)) about old new
-Breaks (merges names events) why old new = (mid : DeviceState)
-    × PrintsPrefix (written_lines (emitted_lines events)) old mid × FailsReading names events why mid new
+Breaks (merges names events) why old new = BreaksReading (merges names) names events why old new
 Breaks plans (ending Memory about) old new = new ≡ old
 Breaks reserves (ending Memory about) old new = new ≡ old
-Breaks (writes name text) (ending Memory about) old new = new ≡ begin_fails no_memory old
+Breaks (writes name text) (ending Memory about) old new = new ≡ record old { draft = None; refused = Some no_memory }
 Breaks (writes name text) (ending OutNotOpened about) old new = (about ≡ name)
-    × (new ≡ bins_fail (begin_fails no_device old))
-Breaks (writes name text) (ending WriteFault about) old new = (about ≡ name) × (new ≡ bins_fail (abandon_draft old))
+    × (new ≡ record old { bins_failed = old.bins_failed + 1; draft = None; refused = Some no_device })
+Breaks (writes name text) (ending WriteFault about) old new = (about ≡ name)
+    × (new ≡ record old { bins_failed = old.bins_failed + 1; draft = None; refused = None })
 Breaks (prints text) (ending WriteFault about) old new = FailsOutput text about old new
 Breaks _ _ old new = ⊥
 

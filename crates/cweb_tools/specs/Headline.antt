@@ -1,6 +1,6 @@
 -- The headline theorem of the programs: if no device and no allocation fails and the web is within the limits, a run
 -- does all acts of its course.
-use Rattle.std.specs.Prelude.{◌≡◌, ◌≢◌, ℕ, Bool, true, false, List, [], ◌∷◌, ◌++◌, IsSome, IsTrue}
+use Rattle.std.specs.Prelude.{fold, ◌≡◌, ◌≢◌, ℕ, Bool, true, false, List, [], ◌∷◌, ◌++◌, IsSome, IsTrue}
 use Rattle.std.specs.List.{flat_map}
 use Rattle.cweb_files.specs.Files.{File, put_file}
 use Rattle.cweb_lines.specs.Events.{emitted_lines, written_lines}
@@ -18,8 +18,7 @@ written_files (_ ∷ acts) = written_files acts
 
 -- Files are put into bins in order.
 abbrev pub put_files : List File → List File → List File
-put_files files [] = files
-put_files files (file ∷ more) = put_files (put_file files file) more
+put_files files more = fold put_file files more
 
 -- The bytes that acts print.
 abbrev pub printed_bytes : List Act → List ℕ

@@ -11,7 +11,7 @@ use Rattle.cweb_out.specs.Expansion.{expand, names}
 use Rattle.cweb_out.specs.Outputs as out
 use Rattle.cweb_out.specs.Outputs.{Output, Planned, Refusal, root_list}
 use Rattle.cweb_print.specs.Printing.{setting, file}
-use Rattle.cweb_log.specs.Items.{LogItem, source_item, name_items, refusal_message, scan_items}
+use Rattle.cweb_log.specs.Items.{LogItem, source_item, name_items, refusal_message, scan_item}
 use Rattle.cweb_log.specs.CommandLine.{OptionsModel, shown_by_default}
 use Rattle.cweb_log.specs.declared.shown.Shown.{Shown}
 use Rattle.cweb_tools.specs.Course as course
@@ -51,7 +51,7 @@ numbers_of made = record {
 -- The faults of the files, the source and the names.
 abbrev pub fault_items : List (List ℕ) → List SourceFault → Scanned → List LogItem
 fault_items files faults made =
-    map (source_item files) faults ++ (scan_items files made.faults ++ name_items made.store)
+    map (source_item files) faults ++ (map (scan_item files) made.faults ++ name_items made.store)
 
 -- A scanned web, from its file names, the faults of web and change file, the scan, and the main output's name.
 abbrev pub web_of : List (List ℕ) → List SourceFault → Scanned → List ℕ → Web

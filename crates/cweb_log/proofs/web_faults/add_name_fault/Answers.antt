@@ -1,8 +1,9 @@
-use Rattle.cweb_log.proofs.Common.{◌≡◌, ◌∙◌, ℕ, List, [], map, Some, slice_get, option_map, get_or_from_slice_get, slice_get-map, Occurrence, occurrence_spelling}
+use Rattle.cweb_log.proofs.Common.{◌≡◌, ◌∙◌, ℕ, List, [], map, Some, slice_get, option_map, get_or_from_slice_get, slice_get-map, Occurrence, slice_index_or}
 use Rattle.cweb_log.proofs.web_faults.add_name_fault.Goals as goal
 
 name_bytes : (os : List Occurrence) (n : ℕ) (text : List ℕ)
-    → option_map (λ (o : Occurrence). o.text) (slice_get os n) ≡ Some text → occurrence_spelling os n ≡ text
+    → option_map (λ (o : Occurrence). o.text) (slice_get os n) ≡ Some text
+    → slice_index_or (map (λ (o : Occurrence). o.text) os) n [] ≡ text
 name_bytes os n text is = get_or_from_slice_get
     (map (λ (o : Occurrence). o.text) os) n text [] (slice_get-map (λ (o : Occurrence). o.text) os n ∙ is)
 

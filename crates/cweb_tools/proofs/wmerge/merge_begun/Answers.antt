@@ -30,7 +30,7 @@ returns-in-Err g c = λ names first world found changes begun.
     (sink_model g.W.Sink c.write_merged_in_chunks.new.out) wrote.keeps.1.tells _ _ _ _ _ begun.begins stop _ _
     (Writes g.W.Sink c.args.out.now c.write_merged_in_chunks.new.out) c.names-in-Err.ensures wrote.grows.lines
     wrote.grows.bytes blames.kind
-    (λ tells. (wrote.stops (tells-2 tells) running).why) blames.named (λ tells.
+    (λ tells. (wrote.stops (tells-2 tells) running).why) (λ bytes wrote_so. wrote_so) blames.named (λ tells.
     (wrote.stops (tells-2 tells) running).reported) (blames.shelf ∙ ap
     (λ (n : ℕ). n + read_failures_of stop) begun.failed)
     (λ tells. (wrote.known (tells-2 tells) (begun.known tells)).blamed running ∙ ap (λ (files : List (List ℕ)). files
