@@ -7,10 +7,6 @@ use Rattle.cweb_out.specs.Outputs.{is_control, is_slash}
 use Rattle.cweb_rules.specs.Bytes.{is_letter}
 use Rattle.cweb_log.specs.declared.shown.Shown.{Shown}
 
--- A byte of the word is a control byte.
-abbrev pub has_control : List ℕ → Bool
-has_control word = list_any is_control word
-
 -- A lone `-`.
 abbrev pub is_dash : List ℕ → Bool
 is_dash word = bytes_eq word (codes "-")
@@ -22,7 +18,8 @@ is_option _ = false
 
 -- Whether a word can name a file.
 abbrev pub can_name_file : List ℕ → Bool
-can_name_file word = not (length word == 0) && not (has_control word) && not (is_dash word) && not (is_option word)
+can_name_file word =
+    not (length word == 0) && not (list_any is_control word) && not (is_dash word) && not (is_option word)
 
 -- The byte is `.`.
 abbrev pub is_dot : ℕ → Bool

@@ -1,10 +1,11 @@
 // The command line of `wmerge`.
 ghost use Rattle.std.specs.Prelude.{◌≡◌, ◌↔◌, ◌⊎◌, ◌++◌, Some, None, map, codes, string_bytes};
 ghost use Rattle.std.specs.Prelude.{option_map, IfOk, IfErr, IsErrOf};
+ghost use Rattle.std.specs.List.{list_any};
 ghost use Rattle.std.specs.Option.{option_copied};
 ghost use Rattle.cweb_log.specs.CommandLine.{web_names_by, web_names_with, web_names_for};
 ghost use Rattle.cweb_out.specs.Outputs.{is_control};
-ghost use Rattle.cweb_log.specs.CommandLine.{is_dash, is_option, has_control, can_name_file};
+ghost use Rattle.cweb_log.specs.CommandLine.{is_dash, is_option, can_name_file};
 ghost use Rattle.cweb_log.specs.CommandLine.{has_extension, extended, second_try};
 
 use cweb_lines::Stop;
@@ -111,7 +112,7 @@ pub(crate) fn can_name_file(word: &str) -> bool
 }
 
 fn has_control(word: &[u8]) -> bool
-    ensures { result ≡ has_control word.now }
+    ensures { result ≡ list_any is_control word.now }
 {
     word.iter().any(|byte| is_control(*byte))
 }

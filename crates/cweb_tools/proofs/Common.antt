@@ -109,11 +109,11 @@ pub use Rattle.cweb_tools.specs.Acts.{logged_items, acts_status, EndsIn, Follows
 pub use Rattle.cweb_tools.specs.Course.{Course, merging, IsMergeCourse, change_name, world_of}
 pub use Rattle.cweb_tools.specs.Headline.{written_files, put_files, printed_bytes, ActsKeepLimits, RanFreely, DoesActs}
 pub use Rattle.cweb_tools.specs.Headline.{DoesActsFreely}
-pub use Rattle.cweb_tools.specs.MergeActs.{merge_acts, MergeCanCome, merge_devices, usage}
+pub use Rattle.cweb_tools.specs.MergeActs.{merge_acts, MergeCanCome, merge_devices}
 pub use Rattle.cweb_tools.specs.Script.{Numbers, closing_acts, unread, not_there}
 pub use Rattle.cweb_tools.specs.Script.{change_not_there, Planning, refused, Web, planned_acts, script, starred_acts}
-pub use Rattle.cweb_tools.specs.Script.{tangling, when, output_acts, outputs_acts, TangleCourse, tangle_usage}
-pub use Rattle.cweb_tools.specs.Depend.{depend_acts, depend_plan_acts, depend_web_acts, depend_usage}
+pub use Rattle.cweb_tools.specs.Script.{tangling, when, output_acts, outputs_acts, TangleCourse}
+pub use Rattle.cweb_tools.specs.Depend.{depend_acts, depend_plan_acts, depend_web_acts}
 pub use Rattle.cweb_tools.specs.Depend.{dependencies}
 pub use Rattle.cweb_tools.specs.Script.{web_acts, planned}
 pub use Rattle.cweb_tools.specs.Spacing.{IsPlain, Spacing, is_ascii}

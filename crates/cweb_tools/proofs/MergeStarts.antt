@@ -1,11 +1,14 @@
 -- A run of `wmerge` that can't begin its merge.
-use Rattle.cweb_tools.proofs.Common.{◌≡◌, ◌⊎◌, inl, inr, ℕ, List, [], ◌∷◌, refl, sym, subst, ◌∙◌, arith, Option, Some, None, IsTrue, World, Found, StartStops, read_failures_of, StopsAtStart, Stop, Usage, WebNotOpened, ChangeNotOpened, Memory, Logs, stop_line, start_subject, stopped, SinkModel, ShelfModel, LogItem, line, WebNames, Course, merging, merge_course, change_name, found_course, EndsMerge, merge_acts, MergeCanCome, usage, Act, judges, opens, says, Ending, ending, DeviceState, PerformsActs, Closes, Does, rise, bins_blame, log_blame}
+use Rattle.cweb_tools.proofs.Common.{codes, ◌≡◌, ◌⊎◌, inl, inr, ℕ, List, [], ◌∷◌, refl, sym, subst, ◌∙◌, arith, Option, Some, None, IsTrue, World, Found, StartStops, read_failures_of, StopsAtStart, Stop, Usage, WebNotOpened, ChangeNotOpened, Memory, Logs, stop_line, start_subject, stopped, SinkModel, ShelfModel, LogItem, line, WebNames, Course, merging, merge_course, change_name, found_course, EndsMerge, merge_acts, MergeCanCome, Act, judges, opens, says, Ending, ending, DeviceState, PerformsActs, Closes, Does, rise, bins_blame, log_blame}
 use Rattle.cweb_tools.proofs.Doing.{closes_in, closes_on, quietly}
 use Rattle.cweb_tools.proofs.Logging.{at}
 use Rattle.cweb_tools.proofs.MergeDevices.{out_of, both_tell, agrees_on}
 use Rattle.cweb_tools.proofs.RunEnds.{Judges}
 use Rattle.cweb_tools.proofs.TangleExits.{reported_last}
 use Rattle.cweb_tools.specs.Course.{unread, not_there, change_not_there}
+
+abbrev usage : List ℕ
+usage = codes "wmerge webfile[.w] [{changefile[.ch]|-}]"
 
 -- The acts of a course that the words allow.
 begins_acts : (names : WebNames) (course : Course) → MergeCanCome (Some names) course → Judges (merge_acts course)

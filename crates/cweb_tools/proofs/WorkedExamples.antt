@@ -1,5 +1,5 @@
 -- Worked examples of command lines and merges.
-use Rattle.cweb_tools.proofs.Common.{◌≡◌, ℕ, List, [], ◌∷◌, Option, Some, None, refl, ap, cond, codes, bytes_eq, Place, NotThere, Unequal, Usage, WebNotOpened, ChangeNotOpened, LineTooLong, WriteFault, Memory, World, Event, MergeStateModel, run_steps, started, merge-run_steps, line, source_item, fault_lines, stop_line, subject, web_names_by, Course, merging, course_of, merge_acts, logged_items, printed_bytes, acts_status, flat_map, usage}
+use Rattle.cweb_tools.proofs.Common.{◌≡◌, ℕ, List, [], ◌∷◌, Option, Some, None, refl, ap, cond, codes, bytes_eq, Place, NotThere, Unequal, Usage, WebNotOpened, ChangeNotOpened, LineTooLong, WriteFault, Memory, World, Event, MergeStateModel, run_steps, started, merge-run_steps, line, source_item, fault_lines, stop_line, subject, web_names_by, Course, merging, course_of, merge_acts, logged_items, printed_bytes, acts_status, flat_map}
 use Rattle.std.specs.Fmt.{digits}
 use Rattle.cweb_tools.specs.Course.{unread, change_not_there}
 
@@ -74,7 +74,8 @@ record Computed : Type 0 where
   two_faults : fault_lines (codes "m.w" ∷ codes "c.ch" ∷ []) (record
       { kind = Unequal; place = place 1 10; count = 1 } ∷ record { kind = NotThere; place = place 0 3; count = 0 } ∷ [])
       ≡ codes "c.ch:10: ! Lines that failed to match: 1\nm.w:3: ! Cannot open include file\n"
-  usage_line : stop_line Usage usage ≡ codes "! Usage: wmerge webfile[.w] [{changefile[.ch]|-}]\n"
+  usage_line : stop_line Usage (codes "wmerge webfile[.w] [{changefile[.ch]|-}]")
+      ≡ codes "! Usage: wmerge webfile[.w] [{changefile[.ch]|-}]\n"
   web_line : stop_line WebNotOpened (codes "gone.w") ≡ codes "! Cannot open web file gone.w\n"
   change_line : stop_line ChangeNotOpened (codes "gone.ch") ≡ codes "! Cannot open change file gone.ch\n"
   memory_line : stop_line Memory (codes "gone.ch") ≡ codes "! Out of memory\n"

@@ -127,14 +127,10 @@ abbrev pub StopsAt : Act → Option Ending → DeviceState → DeviceState → T
 StopsAt act None old new = ⊥
 StopsAt act (Some why) old new = Breaks act why old new
 
--- Nothing stopped the run, and nothing more changes.
-abbrev pub Ended : Option Ending → DeviceState → DeviceState → Type 0
-Ended None old new = new ≡ old
-Ended (Some why) old new = ⊥
-
 -- The acts are done in order: all of them, or up to one within which something stops the run.
 abbrev pub PerformsActs : List Act → Option Ending → DeviceState → DeviceState → Type 0
-PerformsActs [] why old new = Ended why old new
+PerformsActs [] None old new = new ≡ old
+PerformsActs [] (Some why) old new = ⊥
 PerformsActs (act ∷ acts) why old new = (ActKeepsLimits act × PerformsActs acts why (after_act act old) new)
     ⊎ StopsAt act why old new
 

@@ -15,10 +15,6 @@ use Rattle.cweb_tools.specs.Script.{Planning, TangleCourse, Web, unread, not_the
 use Rattle.cweb_tools.specs.Script.{refused, planned, when}
 use Rattle.cweb_tools.specs.Tangle.{CanCome, IsTangleCourse}
 
--- The usage line of `wdep`.
-abbrev pub depend_usage : List ℕ
-depend_usage = codes "wdep [options] webfile[.w] [{changefile[.ch]|-} [outfile[.c]]]"
-
 -- An option word with the letter `m`: after `+` the main file alone is a target, after `-` all outputs are.
 abbrev pub targets_by_prefix : Targets → ℕ → Targets
 targets_by_prefix targets prefix = if prefix == 43 then Main else (if prefix == 45 then All else targets)
@@ -55,7 +51,8 @@ depend_web_acts targets files web = map says web.faults ++ (plans ∷ depend_pla
 
 -- The acts of a run. Its course is that of `ctangle`.
 abbrev pub depend_acts : Targets → TangleCourse → List Act
-depend_acts targets unread = says (stopped Usage depend_usage) ∷ []
+depend_acts targets unread =
+    says (stopped Usage (codes "wdep [options] webfile[.w] [{changefile[.ch]|-} [outfile[.c]]]")) ∷ []
 depend_acts targets (not_there web) = judges ∷ opens ∷ says (stopped WebNotOpened web) ∷ []
 depend_acts targets (change_not_there change) = judges ∷ opens ∷ says (stopped ChangeNotOpened change) ∷ []
 depend_acts targets (tangling files events web) = judges ∷ opens ∷ reads files events ∷ depend_web_acts targets files web

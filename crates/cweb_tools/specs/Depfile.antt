@@ -1,6 +1,6 @@
 -- The text that `wdep` prints: the rules of a compiler's depfile, as `make` reads them.
 use Rattle.std.specs.Prelude.{ℕ, zero, suc, ◌+◌, ◌==◌, Bool, ◌||◌, nat_le, List, [], ◌∷◌, ◌++◌, codes, length, drop, fold}
-use Rattle.std.specs.Prelude.{if◌then◌else◌, replicate}
+use Rattle.std.specs.Prelude.{if◌then◌else◌, replicate, slice_index_or}
 use Rattle.std.specs.List.{flat_map, list_any}
 use Rattle.std.specs.Str.{bytes_eq}
 use Rattle.cweb_tools.specs.declared.depfile.TheConstants.{WIDTH}
@@ -90,8 +90,7 @@ led (name ∷ names) = if has_equals name then codes "/dev/null" ∷ name ∷ na
 
 -- The first prerequisite of a rule. It has no `=`.
 abbrev pub leader : List (List ℕ) → List ℕ
-leader [] = []
-leader (name ∷ names) = if has_equals name then codes "/dev/null" else name
+leader names = slice_index_or (led names) 0 []
 
 -- A rule without a prerequisite, so that `make` goes on if this file is gone. The leader comes before a name with `=`.
 abbrev pub empty_rule : List ℕ → List ℕ → List ℕ

@@ -11,13 +11,9 @@ use Rattle.cweb_tools.specs.Acts.{Act, judges, says, opens, merges, FollowsActs}
 use Rattle.cweb_tools.specs.Course.{Course, unread, not_there, change_not_there, merging, change_name, IsMergeCourse}
 use Rattle.cweb_tools.specs.Headline.{DoesActsFreely}
 
--- The usage line of `wmerge`.
-abbrev pub usage : List ℕ
-usage = codes "wmerge webfile[.w] [{changefile[.ch]|-}]"
-
 -- The acts of a run. The faults are logged after the merged lines are printed.
 abbrev pub merge_acts : Course → List Act
-merge_acts unread = says (stopped Usage usage) ∷ []
+merge_acts unread = says (stopped Usage (codes "wmerge webfile[.w] [{changefile[.ch]|-}]")) ∷ []
 merge_acts (not_there web) = judges ∷ opens ∷ says (stopped WebNotOpened web) ∷ []
 merge_acts (change_not_there change) = judges ∷ opens ∷ says (stopped ChangeNotOpened change) ∷ []
 merge_acts (merging first events) =

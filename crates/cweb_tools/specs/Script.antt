@@ -70,13 +70,10 @@ web_acts shown web =
     starred_acts shown.progress web.starred
     ++ (map says web.faults ++ (plans ∷ planned_acts shown web.numbers (fault_count web.faults) web.plan))
 
--- The usage line of `ctangle`.
-abbrev pub tangle_usage : List ℕ
-tangle_usage = codes "ctangle [options] webfile[.w] [{changefile[.ch]|-} [outfile[.c]]]"
-
 -- The acts of a run, from its options and its course.
 abbrev pub script : Shown → TangleCourse → List Act
-script shown unread = says (stopped Usage tangle_usage) ∷ []
+script shown unread =
+    says (stopped Usage (codes "ctangle [options] webfile[.w] [{changefile[.ch]|-} [outfile[.c]]]")) ∷ []
 script shown (not_there web) = judges ∷ (when shown.banner banner ++ (opens ∷ says (stopped WebNotOpened web) ∷ []))
 script shown (change_not_there change) =
     judges ∷ (when shown.banner banner ++ (opens ∷ says (stopped ChangeNotOpened change) ∷ []))

@@ -1,4 +1,4 @@
-use Rattle.cweb_tools.proofs.Common.{ℕ, List, Bor, map, options_by, ap, refl, arith, Err, option_copied, World, OptionsModel, Option, Some, options_of, sink_model, world_of, tangle_usage, tangle_later}
+use Rattle.cweb_tools.proofs.Common.{ℕ, List, Bor, map, options_by, ap, refl, arith, Err, option_copied, World, OptionsModel, Option, Some, options_of, sink_model, world_of, tangle_later}
 use Rattle.cweb_system.specs.Bins.{contents_in}
 use Rattle.cweb_log.specs.DeviceModels.{ShelfModel, SinkModel}
 use Rattle.cweb_tools.specs.InFolder.{bins_after, shelf_in}
@@ -34,7 +34,7 @@ returns-in-Err-clause-promises g c =
     (sink_model g.L.Sink c.log_stop-status.new.log) c.log_stop-status.result
     (bins_in g.F.FileSystem c.args.fs log c.new-in-Err.result c.new-in-Err.ensures.system c.new-in-Err.ensures.failed c.new-in-Err.ensures.bytes
     c.new-in-Err.ensures.beside)
-    (promised _ _ (words_end tangle_usage _ refl _ _ (script_judges _) c.in-Err.stop shelf out _ c.in-Err.ensures.stops
+    (promised _ _ (words_end _ _ refl _ _ (script_judges _) c.in-Err.stop shelf out _ c.in-Err.ensures.stops
     (λ is. c.in-Err.ensures.usage.0 (ap Err is)) (λ none. same_stop _ _ _ refl (c.in-Err.ensures.usage.1 none))
     c.log_stop-status.ensures.logs c.log_stop-status.ensures.status))
 

@@ -1,4 +1,4 @@
-use Rattle.cweb_tools.proofs.Common.{ℕ, List, Bor, map, options_by, ap, refl, arith, Err, option_copied, World, OptionsModel, Some, options_of, sink_model, devices, shelf_model, world_of, tangle_usage, tangle_later}
+use Rattle.cweb_tools.proofs.Common.{ℕ, List, Bor, map, options_by, ap, refl, arith, Err, option_copied, World, OptionsModel, Some, options_of, sink_model, devices, shelf_model, world_of, tangle_later}
 use Rattle.cweb_tools.proofs.Courses.{same_stop}
 use Rattle.cweb_tools.proofs.Doing.{log_counted}
 use Rattle.cweb_tools.proofs.TanglePromisesProved.{promised, tangled_freely}
@@ -9,7 +9,7 @@ pub scan_web-requires : goal.scan_web-requires
 scan_web-requires g c = omega (arith, log_counted c.in_default.ensures, c.requires.log_count)
 
 pub returns-in-Err-clause-promises : goal.returns-in-Err-clause-promises
-returns-in-Err-clause-promises g c = promised _ _ (words_end tangle_usage _ refl _ _ (script_judges _) c.in-Err.stop
+returns-in-Err-clause-promises g c = promised _ _ (words_end _ _ refl _ _ (script_judges _) c.in-Err.stop
     (shelf_model g.S.Shelf c.args.shelf.now)
     (sink_model g.B.Sink c.args.bins.now) _ c.in-Err.ensures.stops (λ is. c.in-Err.ensures.usage.0 (ap Err is))
     (λ none. same_stop _ _ _ refl (c.in-Err.ensures.usage.1 none)) c.log_stop.ensures.logs c.log_stop.ensures.status)

@@ -1,4 +1,4 @@
-use Rattle.cweb_tools.proofs.Common.{ℕ, List, Bor, map, options_by, ap, refl, Err, option_copied, World, OptionsModel, Some, options_of, sink_model, shelf_model, world_of, depend_acts, depend_usage, depend_web_acts}
+use Rattle.cweb_tools.proofs.Common.{ℕ, List, Bor, map, options_by, ap, refl, Err, option_copied, World, OptionsModel, Some, options_of, sink_model, shelf_model, world_of, depend_acts, depend_web_acts}
 use Rattle.cweb_tools.specs.declared.rule_targets.Targets.{Targets}
 use Rattle.cweb_tools.specs.Depend.{targets_by}
 use Rattle.cweb_tools.proofs.Courses.{same_stop}
@@ -11,7 +11,7 @@ abbrev targets_of : List (Bor (List ℕ)) → Targets
 targets_of words = targets_by (map (λ (word : Bor (List ℕ)). word.now) words)
 
 pub returns-in-Err-clause-promises : goal.returns-in-Err-clause-promises
-returns-in-Err-clause-promises g c = promised _ _ (words_end depend_usage (depend_acts _) refl _ _
+returns-in-Err-clause-promises g c = promised _ _ (words_end _ (depend_acts _) refl _ _
     (λ one is course can. depend_judges _ one course can) c.in-Err.stop (shelf_model g.S.Shelf c.args.shelf.now)
     (sink_model g.W.Sink c.args.out.now) _ c.in-Err.ensures.stops (λ is. c.in-Err.ensures.usage.0 (ap Err is))
     (λ none. same_stop _ _ _ refl (c.in-Err.ensures.usage.1 none)) c.log_stop.ensures.logs c.log_stop.ensures.status)
