@@ -2,6 +2,7 @@
 use Rattle.std.specs.Prelude.{ℕ, Bool, false, not, ◌&&◌, ◌||◌, ◌==◌, length, List, [], ◌∷◌, ◌++◌, codes, Option, None}
 use Rattle.std.specs.Prelude.{Some, option_map, if◌then◌else◌, true, option_and_then, filter}
 use Rattle.std.specs.List.{list_any, after_last, before_last}
+use Rattle.std.specs.Option.{option_map_or}
 use Rattle.std.specs.Str.{bytes_eq}
 use Rattle.cweb_out.specs.Outputs.{is_control, is_slash}
 use Rattle.cweb_rules.specs.Bytes.{is_letter}
@@ -108,8 +109,7 @@ pub record TangleNames : Type 0 where
 
 -- The merge's names, from the words for the web and the change file.
 abbrev pub merge_by : List ℕ → Option (List ℕ) → Option WebNames
-merge_by web None = web_names_for web None
-merge_by web (Some change) = web_names_with web change
+merge_by web change = option_map_or (web_names_with web) change (web_names_for web None)
 
 -- The main output's name: its own word, or one made from the web's. `None` if its word can't name a file.
 abbrev pub main_by : List ℕ → Option (List ℕ) → Option (List ℕ)

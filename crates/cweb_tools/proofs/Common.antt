@@ -114,11 +114,12 @@ pub use Rattle.cweb_tools.specs.Script.{Numbers, closing_acts, unread, not_there
 pub use Rattle.cweb_tools.specs.Script.{change_not_there, Planning, refused, Web, planned_acts, script, starred_acts}
 pub use Rattle.cweb_tools.specs.Script.{tangling, when, output_acts, outputs_acts, TangleCourse}
 pub use Rattle.cweb_tools.specs.Depend.{depend_acts, depend_plan_acts, depend_web_acts}
-pub use Rattle.cweb_tools.specs.Depend.{dependencies}
+pub use Rattle.cweb_tools.specs.inner.RuleModel.{dependencies}
 pub use Rattle.cweb_tools.specs.Script.{web_acts, planned}
 pub use Rattle.cweb_tools.specs.Spacing.{IsPlain, Spacing, is_ascii}
-pub use Rattle.cweb_tools.specs.Tangle.{fault_items, CanCome, shown_by, IsTangleCourse, output_file, tangled, web_of}
-pub use Rattle.cweb_tools.specs.Tangle.{plan_made, planning, planning_by, TanglePromises}
+pub use Rattle.cweb_tools.specs.Tangle.{CanCome, shown_by, IsTangleCourse, output_file, tangled, web_of}
+pub use Rattle.cweb_tools.specs.inner.Tangle.{plan_made}
+pub use Rattle.cweb_tools.specs.Tangle.{planning, planning_by, TanglePromises}
 pub use Rattle.cweb_tools.specs.declared.outputs.Failed.{Failed}
 pub use Rattle.cweb_tools.specs.inner.Acts.{ending_of}
 pub use Rattle.cweb_tools.specs.inner.Course.{found_course, merge_course, EndsMerge, course_of}

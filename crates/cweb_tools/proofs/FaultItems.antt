@@ -1,8 +1,12 @@
 -- The faults of a web as items: their number and their lines.
-use Rattle.cweb_tools.proofs.Common.{◌≡◌, ◌<◌, ◌+◌, ℕ, zero, suc, Bool, true, false, cond, List, [], ◌∷◌, ◌++◌, length, map, refl, sym, ◌∙◌, ap, subst, append_assoc, arith, length-append, flat_map-append, length-map, sum_by-append, sum_by-cons, flat_map, IsTrue, IsErr, None, Result, Ok, Err, count_by, SourceFault, Part, is_macro, numbers_from, numbers_where, PartKind, Scanned, WritesToStream, LogItem, fault_count, is_fault, line, source_item, fault_lines, SinkModel, name_item, name_items, scan_item, says, DoesInLog, ClosesInLog, acts_status, log_ending, fault_items}
+use Rattle.cweb_tools.proofs.Common.{◌≡◌, ◌<◌, ◌+◌, ℕ, zero, suc, Bool, true, false, cond, List, [], ◌∷◌, ◌++◌, length, map, refl, sym, ◌∙◌, ap, subst, append_assoc, arith, length-append, flat_map-append, length-map, sum_by-append, sum_by-cons, flat_map, IsTrue, IsErr, None, Result, Ok, Err, count_by, SourceFault, Part, is_macro, numbers_from, numbers_where, PartKind, Scanned, WritesToStream, LogItem, fault_count, is_fault, line, source_item, fault_lines, SinkModel, name_item, name_items, scan_item, says, DoesInLog, ClosesInLog, acts_status, log_ending, web_of}
 use Rattle.cweb_store.specs.Faults as store
 use Rattle.cweb_tools.proofs.DoingFiles.{closes_reported}
 use Rattle.cweb_tools.proofs.Logging.{said_all, said_none}
+
+-- The faults of the files, the source and the names.
+abbrev fault_items : List (List ℕ) → List SourceFault → Scanned → List LogItem
+fault_items files faults made = (web_of files faults made []).faults
 
 -- A list of items that are all faults.
 all_count : {X : Type 0} (f : X → LogItem) (xs : List X)

@@ -8,11 +8,11 @@ use Rattle.cweb_tools.proofs.TangleExits.{looked, shelf_observed}
 -- The file of a stop is among those that the whole merge opens.
 of_file : (files opened rest : List (List ℕ)) (file : ℕ) → files ≡ opened ++ rest
     → file + 1 ≤ length opened → IsOfFile files file (file_name_at opened file)
-of_file files opened rest file are known = record {
-  known = rw are (omega (arith, known, length-append opened rest));
-  named = sym (get_or-append opened rest [] file (omega (arith, known)))
-      ∙ ap (λ (ns : List (List ℕ)). file_name_at ns file) (sym are);
-}
+of_file files opened rest file are known = (
+  rw are (omega (arith, known, length-append opened rest)),
+  sym (get_or-append opened rest [] file (omega (arith, known)))
+      ∙ ap (λ (ns : List (List ℕ)). file_name_at ns file) (sym are),
+)
 
 -- The state after a stop of reading with this name.
 abbrev pub left_by : Stop → List ℕ → DeviceState → DeviceState

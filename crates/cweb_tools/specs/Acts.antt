@@ -79,9 +79,8 @@ FailsOutput text about old new = (about ≡ codes "standard output") × WritesPr
     × (new ≡ record old { bins_failed = old.bins_failed + 1; printed = new.printed })
 
 -- A stop of reading is about one of the files that are read, and its line ends in that file's name.
-pub record IsOfFile (names : List (List ℕ)) (file : ℕ) (about : List ℕ) : Type 0 where
-  pub known : file < length names
-  pub named : about ≡ file_name_at names file
+abbrev pub IsOfFile : List (List ℕ) → ℕ → List ℕ → Type 0
+IsOfFile names file about = (file < length names) × (about ≡ file_name_at names file)
 
 -- Reading stops after the events `earlier`: a read fails, the next line breaks a limit, or memory is refused.
 abbrev pub FailsReading : List (List ℕ) → List Event → List Event → Ending → DeviceState → DeviceState → Type 0

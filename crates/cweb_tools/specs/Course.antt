@@ -1,5 +1,5 @@
 -- The course of a run of `wmerge`, from the files, the words and the folder of included files.
-use Rattle.std.specs.Prelude.{◌≡◌, List, [], ◌∷◌, Option, None, Some, ℕ}
+use Rattle.std.specs.Prelude.{unwrap_or, ◌≡◌, List, [], ◌∷◌, Option, None, Some, ℕ}
 use Rattle.cweb_input.specs.Include.{names_found, contents_found, World, Found, web_at, change_at}
 use Rattle.cweb_lines.specs.Merge.{Event, started, Yields}
 use Rattle.cweb_log.specs.CommandLine.{WebNames}
@@ -20,8 +20,7 @@ pub data Course : Type 0 where
 
 -- The change file's name, or no bytes if none is named.
 abbrev pub change_name : Option (List ℕ) → List ℕ
-change_name None = []
-change_name (Some name) = name
+change_name name = unwrap_or name []
 
 -- A run goes this way where its search found this web and this change file. A merge yields all its events, whatever the number of steps.
 abbrev pub IsFoundCourse : World → WebNames → Option Found → Option (Option Found) → Course → Type 0

@@ -33,17 +33,12 @@ abbrev pub among_outputs : {A : Type 0} → Targets → List A → List A
 among_outputs All outputs = outputs
 among_outputs Main outputs = take 1 outputs
 
--- The text for a plan of a web with these input files. A refused plan has none.
-abbrev pub dependencies : Targets → List (List ℕ) → Planning → List ℕ
-dependencies targets files (refused text) = []
-dependencies targets files (planned outputs missing) =
-    depfile (map (λ output. output.name) (among_outputs targets outputs)) (each_once files)
-
--- The acts for a plan.
+-- The acts for a plan of a web with these input files.
 abbrev pub depend_plan_acts : Targets → List (List ℕ) → Planning → List Act
 depend_plan_acts targets files (refused text) = says (fault text) ∷ []
 depend_plan_acts targets files (planned outputs missing) =
-    when missing no_text ++ (reserves ∷ prints (dependencies targets files (planned outputs missing)) ∷ [])
+    let targets = map (λ output. output.name) (among_outputs targets outputs) in
+    when missing no_text ++ (reserves ∷ prints (depfile targets (each_once files)) ∷ [])
 
 -- The acts for a scanned web.
 abbrev pub depend_web_acts : Targets → List (List ℕ) → Web → List Act

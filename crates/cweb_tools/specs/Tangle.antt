@@ -1,5 +1,6 @@
 -- How a run of `ctangle` goes, its promise, and its headline theorem.
 use Rattle.std.specs.Prelude.{◌≡◌, ℕ, List, ◌++◌, map, count_by, Option, None, Some, Result, Ok, Err}
+use Rattle.std.specs.Option.{option_map_or}
 use Rattle.cweb_files.specs.Files.{File}
 use Rattle.cweb_input.specs.Include.{World}
 use Rattle.cweb_lines.specs.Events.{emitted_lines, reported_faults, openings}
@@ -11,7 +12,7 @@ use Rattle.cweb_out.specs.Expansion.{expand, names}
 use Rattle.cweb_out.specs.Outputs as out
 use Rattle.cweb_out.specs.Outputs.{Output, Planned, Refusal, root_list}
 use Rattle.cweb_print.specs.Printing.{setting, file}
-use Rattle.cweb_log.specs.Items.{LogItem, source_item, name_items, refusal_message, scan_item}
+use Rattle.cweb_log.specs.Items.{source_item, name_items, refusal_message, scan_item}
 use Rattle.cweb_log.specs.CommandLine.{OptionsModel, shown_by_default}
 use Rattle.cweb_log.specs.declared.shown.Shown.{Shown}
 use Rattle.cweb_tools.specs.Course as course
@@ -27,13 +28,9 @@ abbrev pub output_file : Stored → List (List ℕ) → Output → File
 output_file web files output =
     record { name = output.name; bytes = file (setting web files) (expand web (names web) (root_list web output.root)) }
 
--- The outputs of a plan, as files.
-abbrev pub plan_made : Stored → List (List ℕ) → Planned → Planning
-plan_made web files plan = planned (map (output_file web files) plan.outputs) plan.no_text
-
 -- The result of planning, from a plan or a refusal.
 abbrev pub planning_by : Stored → List (List ℕ) → List ℕ → Result Planned Refusal → Planning
-planning_by web files main (Ok plan) = plan_made web files plan
+planning_by web files main (Ok plan) = planned (map (output_file web files) plan.outputs) plan.no_text
 planning_by web files main (Err refusal) = refused (refusal_message web main refusal)
 
 -- The result of planning for a main output of this name.
@@ -48,16 +45,12 @@ numbers_of made = record {
   macros = count_by (λ (part : Part). is_macro part.kind) made.store.parts;
 }
 
--- The faults of the files, the source and the names.
-abbrev pub fault_items : List (List ℕ) → List SourceFault → Scanned → List LogItem
-fault_items files faults made =
-    map (source_item files) faults ++ (map (scan_item files) made.faults ++ name_items made.store)
-
--- A scanned web, from its file names, the faults of web and change file, the scan, and the main output's name.
+-- A scanned web, from its file names, the faults of web and change file, the scan, and the main output's name. Its faults
+-- are those of the files, then of the source, then of the names.
 abbrev pub web_of : List (List ℕ) → List SourceFault → Scanned → List ℕ → Web
 web_of files faults made main = record {
   starred = made.starred;
-  faults = fault_items files faults made;
+  faults = map (source_item files) faults ++ (map (scan_item files) made.faults ++ name_items made.store);
   numbers = numbers_of made;
   plan = planning made.store files main;
 }
@@ -93,8 +86,7 @@ CanCome args course = ⊥
 
 -- The log options of the words.
 abbrev pub shown_by : Option OptionsModel → Shown
-shown_by None = shown_by_default
-shown_by (Some args) = args.shown
+shown_by args = option_map_or (λ (args : OptionsModel). args.shown) args shown_by_default
 
 -- A run of `ctangle` follows its script.
 abbrev pub TanglePromises : World → Option OptionsModel → Devices → Devices → ℕ → Type 0

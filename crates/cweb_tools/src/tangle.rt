@@ -11,8 +11,8 @@ ghost use Rattle.cweb_tools.specs.Acts.{ending, plans};
 ghost use Rattle.cweb_tools.specs.Course.{world_of};
 ghost use Rattle.cweb_tools.specs.inner.Does.{ClosesInBoth, LogsEnding};
 ghost use Rattle.cweb_tools.specs.Script.{planned_acts, web_acts};
-ghost use Rattle.cweb_tools.specs.Tangle.{numbers_of, plan_made, TanglePromises, TanglesFreely};
-ghost use Rattle.cweb_tools.specs.inner.Tangle.{status_by, web_status};
+ghost use Rattle.cweb_tools.specs.Tangle.{numbers_of, TanglePromises, TanglesFreely};
+ghost use Rattle.cweb_tools.specs.inner.Tangle.{plan_made, status_by, web_status};
 ghost use Rattle.cweb_tools.specs.inner.Web.{IsKnown, faults_of, files_of, web_in};
 
 mod unplanned;

@@ -12,9 +12,9 @@ ghost use Rattle.cweb_tools.specs.Course.{world_of};
 ghost use Rattle.cweb_tools.specs.Depend.{DependPromises, DependsFreely, depend_plan_acts, depend_web_acts};
 ghost use Rattle.cweb_tools.specs.Depend.{targets_by};
 ghost use Rattle.cweb_tools.specs.declared.rule_targets.Targets.{Targets};
-ghost use Rattle.cweb_tools.specs.Tangle.{plan_made, planning};
+ghost use Rattle.cweb_tools.specs.Tangle.{planning};
 ghost use Rattle.cweb_tools.specs.inner.Does.{ClosesInBoth, ClosesInLog};
-ghost use Rattle.cweb_tools.specs.inner.Tangle.{status_by, web_status};
+ghost use Rattle.cweb_tools.specs.inner.Tangle.{plan_made, status_by, web_status};
 ghost use Rattle.cweb_tools.specs.inner.Web.{IsKnown, faults_of, files_of, web_in};
 
 use crate::depfile::depfile;

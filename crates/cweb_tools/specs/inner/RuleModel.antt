@@ -1,7 +1,10 @@
 -- The text of a rule so far.
 use Rattle.std.specs.Prelude.{ℕ, List, [], ◌∷◌, codes, map, if◌then◌else◌}
 use Rattle.std.specs.Borrow.{Bor}
-use Rattle.cweb_tools.specs.Depfile.{Wrapped, has_equals}
+use Rattle.cweb_tools.specs.Depend.{among_outputs}
+use Rattle.cweb_tools.specs.Depfile.{Wrapped, depfile, each_once, has_equals}
+use Rattle.cweb_tools.specs.Script.{Planning, planned, refused}
+use Rattle.cweb_tools.specs.declared.rule_targets.Targets.{Targets}
 use Rattle.cweb_tools.specs.declared.depfile.RuleText.{RuleText}
 
 -- The bytes of borrowed names.
@@ -16,3 +19,9 @@ wrapped rule = record { text = rule.text.items; column = rule.column }
 abbrev pub lead_words : List (List ℕ) → List (List ℕ)
 lead_words [] = []
 lead_words (name ∷ names) = if has_equals name then codes "/dev/null" ∷ [] else []
+
+-- The text for a plan of a web with these input files. A refused plan has none.
+abbrev pub dependencies : Targets → List (List ℕ) → Planning → List ℕ
+dependencies targets files (refused text) = []
+dependencies targets files (planned outputs missing) =
+    depfile (map (λ output. output.name) (among_outputs targets outputs)) (each_once files)

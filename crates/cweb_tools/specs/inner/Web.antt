@@ -1,5 +1,5 @@
 -- The model of a scanned web.
-use Rattle.std.specs.Prelude.{ℕ, List, All, ◌<◌, length, map, Option, Some, None}
+use Rattle.std.specs.Prelude.{ℕ, List, [], All, ◌<◌, length, map, Option, Some, None}
 use Rattle.cweb_input.specs.surface.OpenedFileNames.{opened_file_names}
 use Rattle.cweb_scan.specs.surface.ScannedModel.{scanned_model}
 use Rattle.cweb_scan.specs.surface.Scan.{IsScanBelow}
@@ -9,7 +9,7 @@ use Rattle.cweb_out.specs.declared.outputs.fault.PlanFault.TheVariants as fault
 use Rattle.cweb_log.specs.Items.{LogItem}
 use Rattle.cweb_tools.specs.Acts.{Act, says}
 use Rattle.cweb_tools.specs.Script as script
-use Rattle.cweb_tools.specs.Tangle.{fault_items, web_of}
+use Rattle.cweb_tools.specs.Tangle.{web_of}
 use Rattle.cweb_tools.specs.declared.web.Numbers.{Numbers}
 use Rattle.cweb_tools.specs.declared.web.Web.{Web}
 
@@ -20,12 +20,12 @@ counted numbers = record { sections = numbers.sections; names = numbers.names; m
 abbrev pub files_of : Web → List (List ℕ)
 files_of web = opened_file_names web.names.now
 
-abbrev pub faults_of : Web → List LogItem
-faults_of web = fault_items (files_of web) web.faults.now (scanned_model web.scanned.now)
-
 -- The model, for a main output of this name.
 abbrev pub web_in : Web → List ℕ → script.Web
 web_in web main = web_of (files_of web) web.faults.now (scanned_model web.scanned.now) main
+
+abbrev pub faults_of : Web → List LogItem
+faults_of web = (web_in web []).faults
 
 -- The files of its faults and line marks have names.
 pub record IsKnown (web : Web) : Type 0 where
