@@ -1,5 +1,5 @@
 -- The log of `ctangle`: its items, those for the faults of a web, and the line of each.
-use Rattle.std.specs.Prelude.{ℕ, Bool, true, false, List, ◌++◌, ◌==◌, codes, decimal, count_by, if◌then◌else◌, [], map}
+use Rattle.std.specs.Prelude.{ℕ, Bool, true, false, List, ◌++◌, ◌==◌, codes, decimal, if◌then◌else◌, [], map}
 use Rattle.std.specs.Prelude.{slice_index_or}
 use Rattle.std.specs.List.{flat_map}
 use Rattle.cweb_input.specs.declared.fault.SourceFault.{SourceFault}
@@ -72,10 +72,6 @@ is_fault (located file number text) = true
 is_fault (fault text) = true
 is_fault (stopped stop about) = true
 is_fault _ = false
-
--- The number of faults among items.
-abbrev pub fault_count : List LogItem → ℕ
-fault_count items = count_by is_fault items
 
 -- Only the message on unequal lines has a count.
 abbrev pub message_with_count : SourceKind → ℕ → List ℕ

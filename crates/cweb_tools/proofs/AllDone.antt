@@ -1,9 +1,11 @@
 -- The state after all acts were done.
-use Rattle.cweb_tools.proofs.Common.{◌≡◌, inl, inr, List, [], ◌∷◌, ◌++◌, sym, ◌∙◌, ap, append-nil, append_assoc, None, flat_map, line, DeviceState, Act, judges, says, writes, after_act, PerformsActs, put_files, written_files, logged_items, prints, merges, printed_bytes, written_lines, emitted_lines}
+use Rattle.cweb_tools.proofs.Common.{◌≡◌, inl, inr, List, [], ◌∷◌, ◌++◌, sym, ◌∙◌, ap, append-nil, append_assoc, None, flat_map, line, DeviceState, Act, judges, says, writes, after_act, PerformsActs, written_files, logged_items, prints, merges, printed_bytes, written_lines, emitted_lines}
+use Rattle.cweb_files.specs.Files.{put_file}
+use Rattle.std.specs.Prelude.{fold}
 
 -- The files.
 pub files_all : (acts : List Act) (old new : DeviceState) → PerformsActs acts None old new
-    → new.files ≡ put_files old.files (written_files acts)
+    → new.files ≡ fold put_file old.files (written_files acts)
 files_all [] old new is = ap (λ (d : DeviceState). d.files) is
 files_all (judges ∷ acts) old new (inl run) = files_all acts old new run.1
 files_all (act ∷ acts) old new (inl run) = files_all acts (after_act act old) new run.1

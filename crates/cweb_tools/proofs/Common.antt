@@ -52,7 +52,7 @@ pub use Rattle.cweb_lines.specs.surface.Writing.{StopsWriting, WritingStops}
 pub use Rattle.cweb_log.specs.CommandLine.{OptionsModel, options_by, shown_by_default, WebNames, web_names_by}
 pub use Rattle.cweb_log.specs.DeviceModels.{SinkModel, Devices, ShelfModel, AreObservable, sink_model, shelf_model}
 pub use Rattle.cweb_log.specs.DeviceModels.{devices}
-pub use Rattle.cweb_log.specs.Items.{line, LogItem, fault_count, is_fault, source_item, fault, starred}
+pub use Rattle.cweb_log.specs.Items.{line, LogItem, is_fault, source_item, fault, starred}
 pub use Rattle.cweb_log.specs.inner.WebItems.{fault_lines}
 pub use Rattle.cweb_log.specs.Items.{located, banner, closing, faults, no_errors, no_text, see_warning, stopped}
 pub use Rattle.cweb_log.specs.Items.{name_item, name_items, scan_item, refusal_message}
@@ -107,7 +107,7 @@ pub use Rattle.cweb_tools.specs.Acts.{PerformsActs, Breaks, Ending, ending, RunE
 pub use Rattle.cweb_tools.specs.Acts.{LogsStop, IsOfFile, AgreesWith, prints, merges, FailsReading}
 pub use Rattle.cweb_tools.specs.Acts.{logged_items, acts_status, EndsIn, FollowsActs}
 pub use Rattle.cweb_tools.specs.Course.{Course, merging, IsMergeCourse, change_name, world_of}
-pub use Rattle.cweb_tools.specs.Headline.{written_files, put_files, printed_bytes, ActsKeepLimits, RanFreely, DoesActs}
+pub use Rattle.cweb_tools.specs.Headline.{written_files, printed_bytes, ActsKeepLimits, RanFreely, DoesActs}
 pub use Rattle.cweb_tools.specs.Headline.{DoesActsFreely}
 pub use Rattle.cweb_tools.specs.MergeActs.{merge_acts, MergeCanCome, merge_devices}
 pub use Rattle.cweb_tools.specs.Script.{Numbers, closing_acts, unread, not_there}
@@ -118,7 +118,7 @@ pub use Rattle.cweb_tools.specs.inner.RuleModel.{dependencies}
 pub use Rattle.cweb_tools.specs.Script.{web_acts, planned}
 pub use Rattle.cweb_tools.specs.Spacing.{IsPlain, Spacing, is_ascii}
 pub use Rattle.cweb_tools.specs.Tangle.{CanCome, shown_by, IsTangleCourse, output_file, tangled, web_of}
-pub use Rattle.cweb_tools.specs.inner.Tangle.{plan_made}
+pub use Rattle.cweb_tools.specs.inner.Tangle.{plan_made, fault_count}
 pub use Rattle.cweb_tools.specs.Tangle.{planning, planning_by, TanglePromises}
 pub use Rattle.cweb_tools.specs.declared.outputs.Failed.{Failed}
 pub use Rattle.cweb_tools.specs.inner.Acts.{ending_of}

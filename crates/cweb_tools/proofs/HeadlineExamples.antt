@@ -1,6 +1,8 @@
 -- The headline theorems on the web hello.w, alone in its folder: if nothing fails, the files or the output, the log and
 -- the status are these. So the premises of the headlines can be met, and what they promise is what users see.
-use Rattle.cweb_tools.proofs.Common.{◌≡◌, ◌≢◌, ℕ, List, [], ◌∷◌, ◌++◌, refl, sym, ◌∙◌, ap, subst, append-nil, append_assoc, rules, and_from, Option, None, IsSome, codes, flat_map, World, world_of, Event, run_steps, started, merge, merge-run_steps, taken_lines, IsWithinLimits, Memory, LogItem, line, stop_line, OptionsModel, options_by, WebNames, web_names_by, Devices, AreObservable, Act, logged_items, acts_status, ActsKeepLimits, put_files, written_files, RanFreely, Course, IsMergeCourse, merging, merge_course, merge_acts, merge_devices, TangleCourse, IsTangleCourse, tangle_course, tangle_files, tangle_status, tangled, printed_bytes, script, shown_by, depend_acts}
+use Rattle.cweb_tools.proofs.Common.{◌≡◌, ◌≢◌, ℕ, List, [], ◌∷◌, ◌++◌, refl, sym, ◌∙◌, ap, subst, append-nil, append_assoc, rules, and_from, Option, None, IsSome, codes, flat_map, World, world_of, Event, run_steps, started, merge, merge-run_steps, taken_lines, IsWithinLimits, Memory, LogItem, line, stop_line, OptionsModel, options_by, WebNames, web_names_by, Devices, AreObservable, Act, logged_items, acts_status, ActsKeepLimits, written_files, RanFreely, Course, IsMergeCourse, merging, merge_course, merge_acts, merge_devices, TangleCourse, IsTangleCourse, tangle_course, tangle_files, tangle_status, tangled, printed_bytes, script, shown_by, depend_acts}
+use Rattle.cweb_files.specs.Files.{put_file}
+use Rattle.std.specs.Prelude.{fold}
 use Rattle.std.specs.Fmt.{digits}
 use Rattle.std.specs.Str.{is_utf8, chars}
 use lib.Utf8.{encode}
@@ -75,7 +77,7 @@ web_comes = subst (IsTangleCourse there args) (ap (tangled (codes "hello.c")) co
 
 -- What the headline of `ctangle` says of this web.
 pub record HelloTangled (before after : Devices) (status : ℕ) : Type 0 where
-  pub files : after.out.beside.files ≡ put_files before.out.beside.files (file (codes "hello.c")
+  pub files : after.out.beside.files ≡ fold put_file before.out.beside.files (file (codes "hello.c")
       (codes "/*1:*/\n#line 2 \"hello.w\"\n\n#include <stdio.h>\nint main(void){/*2:*/\n"
       ++ codes "#line 5 \"hello.w\"\n\nputs(\"hi\");/*:2*/\n#line 4 \"hello.w\"\nreturn 0;}\n/*:1*/\n") ∷ [])
   pub log : after.log.bytes ≡ before.log.bytes
@@ -97,8 +99,8 @@ hello_tangled before after status tell alone none run =
     let is : web_course ≡ tangle_course there args = sym (ap (tangled (codes "hello.c")) course_is) in
     let did = run_there tell web_course web_comes (free tangle_within none) in record {
       files = did.files
-          ∙ ap (λ (c : TangleCourse). put_files before.out.beside.files (tangle_files (shown_by args) c)) is
-          ∙ ap (λ (left : Left). put_files before.out.beside.files left.files) hello_run;
+          ∙ ap (λ (c : TangleCourse). fold put_file before.out.beside.files (tangle_files (shown_by args) c)) is
+          ∙ ap (λ (left : Left). fold put_file before.out.beside.files left.files) hello_run;
       log = did.logged ∙ ap (λ (c : TangleCourse). before.log.bytes ++ tangle_log (shown_by args) c) is
           ∙ ap (λ (left : Left). before.log.bytes ++ left.log) hello_run;
       status_is = did.answered ∙ ap (tangle_status (shown_by args)) is ∙ ap (λ (left : Left). left.status) hello_run;

@@ -1,5 +1,7 @@
 -- Worked examples: what each field of the headlines' records says of a run and its devices.
-use Rattle.cweb_tools.proofs.Common.{FileId, SourceLine, emitted_lines, written_lines, BreaksLimit, LineTooLong, Breaks, merges, ending, ◌≡◌, ◌+◌, ℕ, List, [], ◌∷◌, ◌++◌, refl, sym, ◌∙◌, ap, arith, codes, Option, Some, None, IsTrue, IsSome, File, no_device, Line, Event, took, fault, World, Found, web_at, change_at, found_course, OptionsModel, WebNames, Devices, AreObservable, DeviceState, Act, says, reads, writes, prints, after_act, RunEnds, completes, stops, RanFreely, DoesActs, put_files, AgreesWith, observed_state, acts_status, script, shown_by, Course, change_name, CanCome, MergeCanCome, TangleCourse, unread, not_there, change_not_there, tangling, tangled, planning, Web, Scanned, TanglePromises}
+use Rattle.cweb_tools.proofs.Common.{FileId, SourceLine, emitted_lines, written_lines, BreaksLimit, LineTooLong, Breaks, merges, ending, ◌≡◌, ◌+◌, ℕ, List, [], ◌∷◌, ◌++◌, refl, sym, ◌∙◌, ap, arith, codes, Option, Some, None, IsTrue, IsSome, File, no_device, Line, Event, took, fault, World, Found, web_at, change_at, found_course, OptionsModel, WebNames, Devices, AreObservable, DeviceState, Act, says, reads, writes, prints, after_act, RunEnds, completes, stops, RanFreely, DoesActs, AgreesWith, observed_state, acts_status, script, shown_by, Course, change_name, CanCome, MergeCanCome, TangleCourse, unread, not_there, change_not_there, tangling, tangled, planning, Web, Scanned, TanglePromises}
+use Rattle.cweb_files.specs.Files.{put_file}
+use Rattle.std.specs.Prelude.{fold}
 use Rattle.cweb_log.specs.Items.{writing}
 use Rattle.cweb_files.specs.declared.place.Place.{Place}
 use Rattle.cweb_lines.specs.Merge.{emitted}
@@ -40,7 +42,7 @@ replaced : (before after : Devices) (status : ℕ) → DoesActs output before af
     → before.out.beside.files ≡ file (codes "a.c") (codes "old\n") ∷ file (codes "b.c") (codes "y\n") ∷ []
     → after.out.beside.files ≡ file (codes "b.c") (codes "y\n") ∷ file (codes "a.c") (codes "x\n") ∷ []
 replaced before after status did older =
-    did.files ∙ ap (λ (files : List File). put_files files (file (codes "a.c") (codes "x\n") ∷ [])) older
+    did.files ∙ ap (λ (files : List File). fold put_file files (file (codes "a.c") (codes "x\n") ∷ [])) older
 
 announced : (before after : Devices) (status : ℕ) → DoesActs output before after status
     → after.log.bytes ≡ before.log.bytes ++ codes "Writing a.c\n"

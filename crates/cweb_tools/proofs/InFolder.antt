@@ -1,5 +1,7 @@
 -- What a run in a folder leaves there.
 use Rattle.cweb_tools.proofs.Common.{◌≡◌, ◌∙◌, refl, sym, ap, subst, ℕ, Bool, List, [], ◌∷◌, map, Option, None, IsTrue, World, OptionsModel, TangleCourse, IsTangleCourse, RanFreely, All-nil, All-cons, File}
+use Rattle.cweb_files.specs.Files.{put_file}
+use Rattle.std.specs.Prelude.{fold}
 use Rattle.cweb_system.specs.declared.written.WrittenFile.{WrittenFile}
 use Rattle.cweb_system.specs.declared.file_system.FileSystem.{Ghosts as FileSystem}
 use Rattle.cweb_system.specs.declared.folder_bins.FolderBins.{FolderBins}
@@ -9,7 +11,7 @@ use Rattle.cweb_system.specs.inner.ShelfState.{shelf_failures, shelf_system}
 use Rattle.cweb_system.specs.Tree.{Tree, contents}
 use Rattle.cweb_log.specs.DeviceModels.{Devices, ShelfModel, SinkModel}
 use Rattle.cweb_tools.specs.Course.{world_of}
-use Rattle.cweb_tools.specs.Headline.{put_files, written_files}
+use Rattle.cweb_tools.specs.Headline.{written_files}
 use Rattle.cweb_tools.specs.InFolder.{AreIn, KeepsInFolder, bins_after, devices_before, shelf_in}
 use Rattle.cweb_tools.specs.Script.{script}
 use Rattle.cweb_tools.specs.Tangle.{TanglePromises, shown_by}
@@ -27,7 +29,7 @@ pub left_in_folder : {F H : Type 0} (system : FileSystem F H) (fs : F) (bins : F
     → IsTrue (system.disk fs).tells → IsTrue log.tells → (course : TangleCourse) → IsTangleCourse world args course
     → RanFreely (script (shown_by args) course) (devices_before system fs log)
     (record { shelf = (devices_before system fs log).shelf; out = bins_after system bins; log = log' })
-    → AreIn (system.disk (bins_system bins)).tree (put_files [] (written_files (script (shown_by args) course)))
+    → AreIn (system.disk (bins_system bins)).tree (fold put_file [] (written_files (script (shown_by args) course)))
 left_in_folder system fs bins world args log log' status run tells logs course is free =
     let done = tangled_freely world args run.promises (tells, tells, logs) course is (record {
       shelf = run.reads tells;

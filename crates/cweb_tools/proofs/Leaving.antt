@@ -1,5 +1,7 @@
 -- The files and drafts after a run, act by act.
-use Rattle.cweb_tools.proofs.Common.{◌≡◌, inl, inr, ℕ, ◌+◌, false, List, [], ◌∷◌, ◌++◌, refl, sym, ◌∙◌, ap, subst, add-zero, arith, Option, Some, None, read_failures_of, bins_blame, File, Event, Stop, ReadFault, LineTooLong, TooMuchText, Memory, OutNotOpened, WriteFault, LogFault, LogItem, fault_count, Shown, DeviceState, Act, says, reads, merges, FailsReading, writes, prints, after_act, Ending, ending, Breaks, PerformsActs, LogsStop, RunEnds, completes, stops, LeavesFiles, put_files, refused, Web, written_files, script, tangling}
+use Rattle.cweb_tools.proofs.Common.{◌≡◌, inl, inr, ℕ, ◌+◌, false, List, [], ◌∷◌, ◌++◌, refl, sym, ◌∙◌, ap, subst, add-zero, arith, Option, Some, None, read_failures_of, bins_blame, File, Event, Stop, ReadFault, LineTooLong, TooMuchText, Memory, OutNotOpened, WriteFault, LogFault, LogItem, fault_count, Shown, DeviceState, Act, says, reads, merges, FailsReading, writes, prints, after_act, Ending, ending, Breaks, PerformsActs, LogsStop, RunEnds, completes, stops, LeavesFiles, refused, Web, written_files, script, tangling}
+use Rattle.cweb_files.specs.Files.{put_file}
+use Rattle.std.specs.Prelude.{fold}
 use Rattle.cweb_tools.proofs.WebActs.{when_on, said_on, starred_on, closing_on}
 
 -- A stop changes no file and leaves no draft. The failure count of its device rises. Only a log fault changes the log.
@@ -167,7 +169,7 @@ refused_files shown names events web text is =
 none_expected : {expected old new : List File} → expected ≡ [] → LeavesFiles expected old new → new ≡ old
 none_expected {old} {new} none leaves = nothing leaves.done leaves.undone (sym none ∙ leaves.whole) leaves.is
   where
-    nothing : (done undone : List File) → [] ≡ done ++ undone → new ≡ put_files old done → new ≡ old
+    nothing : (done undone : List File) → [] ≡ done ++ undone → new ≡ fold put_file old done → new ≡ old
     nothing [] undone whole is = is
     nothing (file ∷ done) undone whole is = cc
 

@@ -6,9 +6,8 @@ use Rattle.cweb_log.specs.CommandLine.{WebNames}
 
 -- The folder in which included files are also searched. An empty one counts as none.
 abbrev pub folder_of : Option (List ℕ) → Option (List ℕ)
-folder_of None = None
-folder_of (Some []) = None
 folder_of (Some (b ∷ bs)) = Some (b ∷ bs)
+folder_of _ = None
 
 -- The course of a run: the words can't be read; the web isn't there; its change file isn't there; or a merge begins
 -- with these open files and has these events.

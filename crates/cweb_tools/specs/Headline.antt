@@ -16,10 +16,6 @@ written_files [] = []
 written_files (writes name text ∷ acts) = record { name = name; bytes = text } ∷ written_files acts
 written_files (_ ∷ acts) = written_files acts
 
--- Files are put into bins in order.
-abbrev pub put_files : List File → List File → List File
-put_files files more = fold put_file files more
-
 -- The bytes that acts print.
 abbrev pub printed_bytes : List Act → List ℕ
 printed_bytes [] = []
@@ -49,7 +45,7 @@ pub record RanFreely (acts : List Act) (before after : Devices) : Type 0 where
 
 -- All acts were done, and the status is theirs.
 pub record DoesActs (acts : List Act) (before after : Devices) (status : ℕ) : Type 0 where
-  pub files : after.out.beside.files ≡ put_files before.out.beside.files (written_files acts)
+  pub files : after.out.beside.files ≡ fold put_file before.out.beside.files (written_files acts)
   -- An open output has the printed bytes, if no file is written.
   pub printed : written_files acts ≡ [] → IsSome before.out.beside.draft
       → after.out.bytes ≡ before.out.bytes ++ printed_bytes acts

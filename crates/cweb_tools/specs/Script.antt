@@ -1,10 +1,10 @@
 -- The acts of a run of `ctangle`, from its words and its web.
-use Rattle.std.specs.Prelude.{ℕ, ◌+◌, Bool, true, false, List, [], ◌∷◌, ◌++◌, codes, map}
+use Rattle.std.specs.Prelude.{count_by, ℕ, ◌+◌, Bool, true, false, List, [], ◌∷◌, ◌++◌, codes, map}
 use Rattle.std.specs.List.{flat_map}
 use Rattle.cweb_files.specs.Files.{File}
 use Rattle.cweb_lines.specs.Merge.{Event}
 use Rattle.cweb_input.specs.declared.stop.Stop.TheVariants.{Usage, WebNotOpened, ChangeNotOpened}
-use Rattle.cweb_log.specs.Items.{LogItem, banner, starred, fault, fault_count, no_text, writing, counts, closing}
+use Rattle.cweb_log.specs.Items.{LogItem, banner, starred, fault, is_fault, no_text, writing, counts, closing}
 use Rattle.cweb_log.specs.Items.{stopped}
 use Rattle.cweb_log.specs.declared.shown.Shown.{Shown}
 use Rattle.cweb_tools.specs.Acts.{Act, judges, says, opens, reads, plans, reserves, writes}
@@ -68,7 +68,7 @@ starred_acts progress (n ∷ numbers) = when progress (starred (n ∷ numbers))
 abbrev pub web_acts : Shown → Web → List Act
 web_acts shown web =
     starred_acts shown.progress web.starred
-    ++ (map says web.faults ++ (plans ∷ planned_acts shown web.numbers (fault_count web.faults) web.plan))
+    ++ (map says web.faults ++ (plans ∷ planned_acts shown web.numbers (count_by is_fault web.faults) web.plan))
 
 -- The acts of a run, from its options and its course.
 abbrev pub script : Shown → TangleCourse → List Act

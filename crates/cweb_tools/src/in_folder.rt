@@ -1,5 +1,6 @@
 // Runs in a folder.
-ghost use Rattle.std.specs.Prelude.{◌≡◌, ◌<◌, ◌+◌, ◌^◌, IsTrue, [], map};
+ghost use Rattle.std.specs.Prelude.{◌≡◌, ◌<◌, ◌+◌, ◌^◌, IsTrue, [], fold, map};
+ghost use Rattle.cweb_files.specs.Files.{put_file};
 ghost use Rattle.std.specs.Option.{option_copied};
 ghost use Rattle.cweb_system.specs.Bins.{bins_read, bins_system, contents_in};
 ghost use Rattle.cweb_system.specs.Steps.{AreDecent};
@@ -7,7 +8,7 @@ ghost use Rattle.cweb_log.specs.CommandLine.{options_by, web_names_by};
 ghost use Rattle.cweb_log.specs.DeviceModels.{sink_model};
 ghost use Rattle.cweb_tools.specs.Course.{world_of};
 ghost use Rattle.cweb_tools.specs.Depend.{DependPromises, DependsFreely, targets_by};
-ghost use Rattle.cweb_tools.specs.Headline.{RanFreely, put_files, written_files};
+ghost use Rattle.cweb_tools.specs.Headline.{RanFreely, written_files};
 ghost use Rattle.cweb_tools.specs.InFolder.{AreIn, KeepsInFolder, bins_after, devices_before, shelf_in};
 ghost use Rattle.cweb_tools.specs.MergeActs.{MergePromises, MergesFreely};
 ghost use Rattle.cweb_tools.specs.Script.{TangleCourse, script};
@@ -46,7 +47,7 @@ pub fn tangle_in_folder<F: FileSystem + Drop, L: Sink>(
           log = sink_model L.Sink log.new;
         }) →
         AreIn (F.disk (bins_system result.1)).tree
-        (put_files [] (written_files (script (shown_by args) course))) }
+        (fold put_file [] (written_files (script (shown_by args) course))) }
     // In any run, at each moment, each file that is no draft is the old one or a whole new one, and no file that was
     // read is replaced.
     ensures moments { ∥ (IsTrue (F.disk (bins_system result.1)).tells → AreDecent (bins_read result.1)

@@ -4,7 +4,6 @@ ghost use Rattle.std.specs.Prelude.{map};
 ghost use Rattle.std.specs.Option.{option_copied};
 ghost use Rattle.cweb_scan.specs.surface.ScannedModel.{scanned_model};
 ghost use Rattle.cweb_out.specs.surface.Outputs.{IsPlanOf};
-ghost use Rattle.cweb_log.specs.Items.{fault_count};
 ghost use Rattle.cweb_log.specs.CommandLine.{options_by};
 ghost use Rattle.cweb_log.specs.DeviceModels.{sink_model, devices};
 ghost use Rattle.cweb_tools.specs.Acts.{ending, plans};
@@ -12,7 +11,7 @@ ghost use Rattle.cweb_tools.specs.Course.{world_of};
 ghost use Rattle.cweb_tools.specs.inner.Does.{ClosesInBoth, LogsEnding};
 ghost use Rattle.cweb_tools.specs.Script.{planned_acts, web_acts};
 ghost use Rattle.cweb_tools.specs.Tangle.{numbers_of, TanglePromises, TanglesFreely};
-ghost use Rattle.cweb_tools.specs.inner.Tangle.{plan_made, status_by, web_status};
+ghost use Rattle.cweb_tools.specs.inner.Tangle.{fault_count, plan_made, status_by, web_status};
 ghost use Rattle.cweb_tools.specs.inner.Web.{IsKnown, faults_of, files_of, web_in};
 
 mod unplanned;

@@ -4,7 +4,6 @@ ghost use Rattle.std.specs.Option.{option_copied};
 ghost use Rattle.cweb_out.specs.Outputs.{planned};
 ghost use Rattle.cweb_out.specs.surface.Outputs.{IsPlanOf};
 ghost use Rattle.cweb_out.specs.surface.Planning.{IsExpectedFault};
-ghost use Rattle.cweb_log.specs.Items.{fault_count};
 ghost use Rattle.cweb_log.specs.CommandLine.{options_by};
 ghost use Rattle.cweb_log.specs.DeviceModels.{sink_model, devices};
 ghost use Rattle.cweb_tools.specs.Acts.{plans};
@@ -14,7 +13,7 @@ ghost use Rattle.cweb_tools.specs.Depend.{targets_by};
 ghost use Rattle.cweb_tools.specs.declared.rule_targets.Targets.{Targets};
 ghost use Rattle.cweb_tools.specs.Tangle.{planning};
 ghost use Rattle.cweb_tools.specs.inner.Does.{ClosesInBoth, ClosesInLog};
-ghost use Rattle.cweb_tools.specs.inner.Tangle.{plan_made, status_by, web_status};
+ghost use Rattle.cweb_tools.specs.inner.Tangle.{fault_count, plan_made, status_by, web_status};
 ghost use Rattle.cweb_tools.specs.inner.Web.{IsKnown, faults_of, files_of, web_in};
 
 use crate::depfile::depfile;

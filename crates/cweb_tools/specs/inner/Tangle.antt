@@ -1,11 +1,11 @@
 -- The acts and status of a run after its words are parsed.
-use Rattle.std.specs.Prelude.{Ok, ℕ, ◌==◌, List, [], ◌∷◌, Option, None, Some, if◌then◌else◌}
+use Rattle.std.specs.Prelude.{Ok, count_by, ℕ, ◌==◌, List, [], ◌∷◌, Option, None, Some, if◌then◌else◌}
 use Rattle.cweb_input.specs.Include.{World}
 use Rattle.cweb_input.specs.declared.stop.Stop.TheVariants.{WebNotOpened, ChangeNotOpened}
 use Rattle.cweb_out.specs.Expansion.{names}
 use Rattle.cweb_out.specs.Outputs.{Planned}
 use Rattle.cweb_store.specs.Calls.{Stored}
-use Rattle.cweb_log.specs.Items.{fault_count, stopped}
+use Rattle.cweb_log.specs.Items.{LogItem, is_fault, stopped}
 use Rattle.cweb_log.specs.CommandLine.{OptionsModel}
 use Rattle.cweb_log.specs.declared.shown.Shown.{Shown}
 use Rattle.cweb_tools.specs.Acts.{Act, opens, reads, says}
@@ -17,6 +17,10 @@ use Rattle.cweb_tools.specs.inner.Course.{merge_course}
 -- The outputs of a plan, as files.
 abbrev pub plan_made : Stored → List (List ℕ) → Planned → Planning
 plan_made web files plan = planning_by web files [] (Ok plan)
+
+-- The number of faults among items.
+abbrev pub fault_count : List LogItem → ℕ
+fault_count items = count_by is_fault items
 
 -- The status of a run with this number of faults that nothing stopped. A refused plan is a fault.
 abbrev pub status_by : ℕ → Planning → ℕ

@@ -1,11 +1,11 @@
 -- The files after a run of `ctangle`, however it ends.
-use Rattle.std.specs.Prelude.{◌≡◌, ℕ, List, ◌++◌}
-use Rattle.cweb_files.specs.Files.{File}
+use Rattle.std.specs.Prelude.{fold, ◌≡◌, ℕ, List, ◌++◌}
+use Rattle.cweb_files.specs.Files.{put_file, File}
 use Rattle.cweb_input.specs.declared.stop.Stop.{Stop}
 use Rattle.cweb_input.specs.declared.stop.Stop.TheVariants.{OutNotOpened, WriteFault}
 use Rattle.cweb_log.specs.declared.shown.Shown.{Shown}
 use Rattle.cweb_tools.specs.Acts.{acts_status}
-use Rattle.cweb_tools.specs.Headline.{put_files, written_files}
+use Rattle.cweb_tools.specs.Headline.{written_files}
 use Rattle.cweb_tools.specs.Script.{TangleCourse, script}
 
 -- The files of a whole run.
@@ -21,7 +21,7 @@ pub record LeavesFiles (expected old new : List File) : Type 0 where
   pub done : List File
   pub undone : List File
   pub whole : expected ≡ done ++ undone
-  pub is : new ≡ put_files old done
+  pub is : new ≡ fold put_file old done
 
 -- The increase of the bins' failure count at a stop.
 abbrev pub bins_blame : Stop → ℕ

@@ -1,6 +1,7 @@
 -- Laws of whole runs. Each follows from the definition of how a run ends.
-use Rattle.std.specs.Prelude.{◌≡◌, ◌≢◌, ◌≤◌, ◌⊎◌, ℕ, ◌+◌, List, ◌++◌, Option, IsTrue}
+use Rattle.std.specs.Prelude.{fold, ◌≡◌, ◌≢◌, ◌≤◌, ◌⊎◌, ℕ, ◌+◌, List, ◌++◌, Option, IsTrue}
 use Rattle.std.specs.List.{flat_map}
+use Rattle.cweb_files.specs.Files.{put_file}
 use Rattle.cweb_files.specs.Bins.{WritesPrefix}
 use Rattle.cweb_input.specs.Include.{World}
 use Rattle.cweb_input.specs.surface.OpenSources.{read_failures_of}
@@ -13,7 +14,7 @@ use Rattle.cweb_log.specs.DeviceModels.{Devices, SinkModel}
 use Rattle.cweb_log.specs.declared.shown.Shown.{Shown}
 use Rattle.cweb_tools.specs.Acts.{Act, DeviceState, RunEnds, logged_items}
 use Rattle.cweb_tools.specs.Course.{Course, IsMergeCourse}
-use Rattle.cweb_tools.specs.Headline.{ActsKeepLimits, printed_bytes, put_files, written_files}
+use Rattle.cweb_tools.specs.Headline.{ActsKeepLimits, printed_bytes, written_files}
 use Rattle.cweb_tools.specs.MergeActs.{MergePromises, merge_acts}
 use Rattle.cweb_tools.specs.Script.{TangleCourse, script}
 use Rattle.cweb_tools.specs.Tangle.{shown_by, TanglePromises}
@@ -21,7 +22,7 @@ use Rattle.cweb_tools.specs.laws.Leaves.{LeavesFiles, bins_blame, tangle_status}
 
 -- All acts were done: the files were committed, the items logged, and the status is `expected`.
 pub record DoesAll (acts : List Act) (expected : ℕ) (old new : DeviceState) (status : ℕ) : Type 0 where
-  pub files : new.files ≡ put_files old.files (written_files acts)
+  pub files : new.files ≡ fold put_file old.files (written_files acts)
   pub log : new.log ≡ old.log ++ flat_map line (logged_items acts)
   pub answered : status ≡ expected
 

@@ -3,13 +3,13 @@ ghost use Rattle.std.specs.Prelude.{◌≡◌, ◌<◌, ◌+◌, ◌^◌, ◌∷
 ghost use Rattle.cweb_scan.specs.surface.ScannedModel.{scanned_model};
 ghost use Rattle.cweb_out.specs.Outputs.{planned};
 ghost use Rattle.cweb_out.specs.surface.Planning.{IsExpectedFault};
-ghost use Rattle.cweb_log.specs.Items.{fault_count, refusal_message};
+ghost use Rattle.cweb_log.specs.Items.{refusal_message};
 ghost use Rattle.cweb_log.specs.DeviceModels.{sink_model};
 ghost use Rattle.cweb_tools.specs.Acts.{plans};
 ghost use Rattle.cweb_tools.specs.inner.Does.{ClosesInLog};
 ghost use Rattle.cweb_tools.specs.Script.{planned_acts, refused};
 ghost use Rattle.cweb_tools.specs.Tangle.{numbers_of, planning};
-ghost use Rattle.cweb_tools.specs.inner.Tangle.{status_by};
+ghost use Rattle.cweb_tools.specs.inner.Tangle.{fault_count, status_by};
 ghost use Rattle.cweb_tools.specs.inner.Web.{faults_of, files_of, refusal_in};
 
 use crate::saying::say_end;
