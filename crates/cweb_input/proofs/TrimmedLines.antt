@@ -6,7 +6,10 @@ use Rattle.cweb_files.specs.declared.place.FileId.{FileId}
 use Rattle.cweb_input.specs.Lines.{SourceLine, trimmed, before_blanks, is_blank, numbered_lines}
 use Rattle.cweb_input.specs.surface.Lines.{IsOneLine}
 use Rattle.cweb_input.specs.OpenSources.{TakenCountersModel}
-use Rattle.cweb_input.specs.inner.OpenSources.{TakesNextLine, FirstStops, NamesFile, newline_bytes, stop_for}
+use Rattle.cweb_input.specs.inner.OpenSources.{TakesNextLine, FirstStops, NamesFile, NeedsRead, newline_bytes, stop_for}
+use Rattle.cweb_input.specs.surface.Lines.{HasNoNewline}
+use Rattle.cweb_input.specs.surface.Source.{buffered}
+use Rattle.cweb_input.specs.declared.open_source.OpenSource.{OpenSource}
 use Rattle.cweb_input.specs.surface.OpenSources.{StopsFor, StopsReading}
 use Rattle.cweb_input.specs.declared.limits.TheConstants.{LINES, BYTES}
 use Rattle.cweb_input.specs.declared.source.LineFault.{LineFault}
@@ -107,6 +110,11 @@ line_reads _ stop file is = subst StopsReading (sym is) tt
 pub line_names : (fault : LineFault) (stop : Stop) (file : FileId) → stop ≡ stop_for fault file → NamesFile file stop
 line_names NoMemory stop file is = subst (NamesFile file) (sym is) tt
 line_names _ stop file is = subst (NamesFile file) (sym is) refl
+
+pub line_needs : {R : Type 0} (fault : LineFault) (stop : Stop) (text : OpenSource R) → stop ≡ stop_for fault text.file
+    → (fault ≡ Read → HasNoNewline (buffered text.source)) → NeedsRead (Some text) stop
+line_needs Read stop text is clean = subst (NeedsRead (Some text)) (sym is) (refl, clean refl)
+line_needs _ stop text is clean = subst (NeedsRead (Some text)) (sym is) tt
 
 pub first_passes : (stop : Stop) (taken : LineTermination) (old new bytes : List ℕ) (file number : ℕ)
     (count : TakenCountersModel)

@@ -14,6 +14,8 @@ use Rattle.cweb_input.specs.declared.stop.Stop.{Stop}
 use Rattle.cweb_input.specs.declared.stop.Stop.TheVariants.{ReadFault, LineTooLong, Memory}
 use Rattle.cweb_input.specs.declared.open_source.LineAt.{LineAt}
 use Rattle.cweb_input.specs.declared.open_source.OpenSource.{OpenSource}
+use Rattle.cweb_input.specs.surface.Lines.{HasNoNewline}
+use Rattle.cweb_input.specs.surface.Source.{buffered}
 use Rattle.cweb_input.specs.surface.OpenSources.{number_or_zero, things_at, things_over, things_above}
 use Rattle.cweb_input.specs.OpenSources.{TakenCountersModel, RefusesLine}
 use Rattle.cweb_input.specs.surface.OpenSources.{files_named}
@@ -138,6 +140,12 @@ abbrev pub stop_for : LineFault → FileId → Stop
 stop_for Read file = ReadFault file
 stop_for TooLong file = LineTooLong file
 stop_for NoMemory file = Memory
+
+-- A read fails only if no whole line of its file, the slot's source, is buffered.
+abbrev pub NeedsRead : {R : Type 0} → Option (OpenSource R) → Stop → Type 0
+NeedsRead (Some text) (ReadFault file) = (text.file ≡ file) × HasNoNewline (buffered text.source)
+NeedsRead None (ReadFault file) = ⊥
+NeedsRead slot _ = Unit {0}
 
 abbrev pub newline_bytes : LineTermination → ℕ
 newline_bytes Ended = 0

@@ -10,7 +10,7 @@ ghost use Rattle.cweb_input.specs.declared.limits.TheConstants.{OPEN_FILES};
 ghost use Rattle.cweb_input.specs.inner.OpenSources.{maximum_of, line_number, files_up_to};
 ghost use Rattle.cweb_input.specs.surface.OpenSources.{CountsReadStop, StopsFor, StopsReading};
 ghost use Rattle.cweb_input.specs.inner.OpenSources.{Counted, NamesFiles, AreDeep, TakesTop, TakesAbove};
-ghost use Rattle.cweb_input.specs.inner.OpenSources.{StopsTop, StopsAbove};
+ghost use Rattle.cweb_input.specs.inner.OpenSources.{NeedsRead, StopsTop, StopsAbove};
 ghost use Rattle.cweb_input.specs.inner.OpenSources.{StaysBelow, DepthAfter, Pushes};
 ghost use Rattle.cweb_input.specs.inner.ReaderNames.{BlamesSources, KeepsReaderNames};
 
@@ -101,6 +101,10 @@ fn take_top<S: Shelf>(
         IfErr result (λ stop. StopsFor (StopsTop (S.left shelf.old) stack.old stop
         (counters_of limits.old)) stop) }
     ensures closes { ClosesTop stack.old stack.new result }
+    ensures needed { IfErr result (λ stop.
+        NeedsRead (slice_index_or stack.old.texts (stack.old.depth - 1) None) stop) }
+    ensures closed { result ≡ Ok None →
+        stack.new.texts ≡ slice_set stack.old.texts (stack.old.depth - 1) None }
     ensures named { KeepsReaderNames S.Shelf shelf.old shelf.new stack.old.texts stack.new.texts }
     ensures blamed { BlamesSources S.Shelf shelf.old shelf.new stack.old.texts result }
     ensures stack { KeepsStack stack.old stack.new (counters_of limits.new) }
@@ -144,6 +148,8 @@ pub fn take_above<S: Shelf>(
         IfErr result (λ stop. StopsFor (StopsAbove (S.left shelf.old) low stack.old stop
         (counters_of limits.old)) stop) }
     ensures closes { ClosesAbove low stack.old stack.new result }
+    ensures needed { IfErr result (λ stop. (place : ℕ)
+        × NeedsRead (slice_index_or stack.old.texts place None) stop) }
     ensures named { KeepsReaderNames S.Shelf shelf.old shelf.new stack.old.texts stack.new.texts }
     ensures blamed { BlamesSources S.Shelf shelf.old shelf.new stack.old.texts result }
     ensures stack { KeepsStack stack.old stack.new (counters_of limits.new) }

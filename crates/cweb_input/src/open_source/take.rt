@@ -7,7 +7,8 @@ ghost use Rattle.cweb_input.specs.inner.Source.{bytes_left, IsLongerThan, Counts
 ghost use Rattle.cweb_input.specs.inner.Source.{BlamesReader};
 ghost use Rattle.cweb_input.specs.inner.TrimmedLines.{TakesTrimmedOrEnds};
 ghost use Rattle.cweb_input.specs.Lines.{trimmed};
-ghost use Rattle.cweb_input.specs.surface.Lines.{IsOneLine};
+ghost use Rattle.cweb_input.specs.surface.Lines.{HasNoNewline, IsOneLine};
+ghost use Rattle.cweb_input.specs.surface.Source.{buffered};
 ghost use Rattle.cweb_input.specs.Lines as spec;
 ghost use Rattle.cweb_input.specs.surface.Counters.{counters_of};
 ghost use Rattle.cweb_input.specs.surface.OpenSources.{lines_left, lines_at, number_or_zero};
@@ -15,7 +16,7 @@ ghost use Rattle.cweb_input.specs.surface.OpenSources.{StopsFor};
 ghost use Rattle.cweb_input.specs.surface.OpenSources.{CountsReadStop};
 ghost use Rattle.cweb_input.specs.inner.OpenSources.{line_number, DeepAt, files_up_to};
 ghost use Rattle.cweb_input.specs.inner.OpenSources.{TakesNextLine, FirstStops, NamesFile};
-ghost use Rattle.cweb_input.specs.inner.OpenSources.{stop_for, newline_bytes};
+ghost use Rattle.cweb_input.specs.inner.OpenSources.{stop_for, newline_bytes, NeedsRead};
 ghost use Rattle.cweb_input.specs.inner.ReaderNames.{BlamesSource, KeepsReaderName};
 
 use crate::counters::TakenCounters;
@@ -95,6 +96,7 @@ fn take_trimmed<S: Shelf>(
         (bytes_left S.left shelf.new source.new)) }
     ensures too_long { IsTrue (S.tells shelf.old) → IsErrOf result LineFault.TooLong →
         IsLongerThan LINE_LENGTH (bytes_left S.left shelf.old source.old) }
+    ensures needed { IsErrOf result LineFault.Read → HasNoNewline (buffered source.old) }
     ensures line { IfOk result (λ size. OnSome size (IsOneLine line.new.items)) }
     ensures gains { IfOk result (λ size. IfSome size (λ n. length line.new.items ≤ n)) }
 {
@@ -133,6 +135,7 @@ fn take_line<S: Shelf>(
     ensures text { KeepsOpenSource (Some text.old) (Some text.new) (counters_of limits.old)
         (counters_of limits.new) result }
     ensures names { IfErr result (λ stop. NamesFile text.old.file stop) }
+    ensures needed { IfErr result (λ stop. NeedsRead (Some text.old) stop) }
     ensures answers { AnswersLine (text.old.file.0 + 1) (counters_of limits.old)
         (counters_of limits.new) line.new.items result }
 {
@@ -179,6 +182,7 @@ pub fn take_from<S: Shelf>(
     ensures blamed { BlamesSource S.Shelf shelf.old shelf.new slot.old result }
     ensures text { KeepsOpenSource slot.old slot.new (counters_of limits.old)
         (counters_of limits.new) result }
+    ensures needed { IfErr result (λ stop. NeedsRead slot.old stop) }
     ensures answers { AnswersLine (number_or_zero files_up_to slot.old) (counters_of limits.old)
         (counters_of limits.new) line.new.items result }
     ensures deep { (place : ℕ) → DeepAt place slot.old →

@@ -1,4 +1,6 @@
-use Rattle.cweb_input.proofs.Common.{rules, Some, sym, subst, ◌∙◌, arith, IsTrue}
+use Rattle.cweb_input.proofs.Common.{None, ap, ◌-◌, rules, Some, sym, subst, ◌∙◌, arith, IsTrue}
+use Rattle.std.proofs.Common.{get_or-set_other}
+use Rattle.std.specs.Prelude.{Ok, slice_index_or}
 use Rattle.cweb_input.proofs.ReadersStayNamed.{stop_after}
 use Rattle.cweb_input.proofs.SourceStacks.{takes_same}
 use Rattle.cweb_input.proofs.open_source.stack.take_above.Goals as goal
@@ -52,8 +54,16 @@ texts-preserved g c =
           ∙ c.texts.invariant.below left n le rest;
       kept = λ place below. (rw c.in_default.is at c.in-Ok.ensures.closes.numbers) place below
           ∙ c.texts.invariant.kept place (omega (arith, depth, below));
+      same = λ place below. ap (λ texts. slice_index_or texts place None) (c.in-Ok.ensures.closed (ap Ok c.in_default.is))
+          ∙ get_or-set_other c.texts.stack.texts (c.texts.stack.depth - 1) place None None (omega (arith, depth, below)) ∙ c.texts.invariant.same place (omega (arith, depth, below));
       counted = (λ i. record { lines = counted.0 i; bytes = counted.1 i }) ∙ c.texts.invariant.counted;
       things = λ tells rest.
           let top = rw c.in_default.is at (c.in-Ok.ensures.taken (subst IsTrue (sym c.texts.invariant.tells) tells)) in
           c.texts.invariant.things tells rest ∙ top c.args.low c.texts-test.true rest;
     }
+
+pub returns-in-Err-clause-needed : goal.returns-in-Err-clause-needed
+returns-in-Err-clause-needed g c = (
+  c.texts.stack.depth - 1,
+  rw (← c.texts.invariant.same (c.texts.stack.depth - 1) (omega (arith, c.texts-test.true))) c.in-Err.ensures.needed,
+)

@@ -1,4 +1,5 @@
-use Rattle.cweb_input.proofs.Common.{◌≡◌, ◌≤◌, List, ℕ, IsTrue, counters_of}
+use Rattle.cweb_input.proofs.Common.{◌<◌, None, ◌≡◌, ◌≤◌, List, ℕ, IsTrue, counters_of}
+use Rattle.std.specs.Prelude.{slice_index_or}
 use Rattle.cweb_input.specs.Lines.{Thing}
 use Rattle.cweb_input.specs.surface.ReaderNames.{AreReadersNamed}
 use Rattle.cweb_input.specs.inner.ReaderNames.{KeepsReaderNames}
@@ -25,6 +26,8 @@ invariant-texts g l = record {
   files : maximum_of files_up_to l.stack.texts ≤ maximum_of files_up_to l.fn.stack.texts;
   below : StaysBelow l.low l.fn.stack.texts l.stack.texts;
   kept : KeepsNumbers l.fn.stack l.stack;
+  same : (place : ℕ) → place < l.stack.depth
+      → slice_index_or l.stack.texts place None ≡ slice_index_or l.fn.stack.texts place None;
   counted : counters_of l.limits ≡ counters_of l.fn.limits;
   things : IsTrue (g.S.Shelf.tells l.fn.shelf) → (rest : List Thing)
       → things_above (g.S.Shelf.left l.fn.shelf) l.low l.fn.stack rest ≡ things_above

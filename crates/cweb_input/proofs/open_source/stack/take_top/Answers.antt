@@ -1,5 +1,5 @@
 use Rattle.cweb_input.proofs.Common.{rules, ◌<◌, ◌-◌, length, refl, ◌∙◌, arith, None, counters_of}
-use Rattle.std.proofs.lemmas.List.{set-set}
+use Rattle.std.proofs.lemmas.List.{get_or_default, set-set}
 use Rattle.cweb_input.specs.inner.OpenSources.{line_number, files_up_to}
 use Rattle.cweb_input.proofs.ReadersStayNamed.{named_at, names_set}
 use Rattle.cweb_input.proofs.SourceStacks.{keeps_stack, most_read, top_taken, top_closed, top_stops, stops_map, stays_below, numbers_below, numbers_set, deep-at}
@@ -29,6 +29,8 @@ returns-in-Err g c =
           (g.S.Shelf.left c.args.shelf.now) refl stack.texts slot c.take_from.new.slot stack.depth within
           (counters_of c.args.limits.now) (counters_of c.take_from.new.limits) c.take_from.new.line.items low above rest
           c.in-Err.stop first) (c.in-Err.ensures.stops tells);
+      needed = rw (get_or_default stack.texts (stack.depth - 1) None slot within) c.in-Err.ensures.needed;
+      closed = λ is. absurd (cc);
       closes = record {
         depth = search rules;
         below = λ low above. stays_below stack.texts _ (stack.depth - 1) low c.take_from.new.slot (omega arith) refl;
@@ -67,6 +69,8 @@ returns-in_default g c =
           c.take_from.new.slot stack.depth within (counters_of c.args.limits.now) (counters_of c.take_from.new.limits)
           c.take_from.new.line.items low above rest _ closed (rw c.in_default.is at (c.in-Ok.ensures.taken tells));
       stops = λ tells. tt;
+      needed = tt;
+      closed = λ is. closed;
       closes = record {
         depth = search rules;
         below = λ low above. stays_below stack.texts _ (stack.depth - 1) low None (omega arith) closed;
@@ -100,6 +104,8 @@ returns g c =
           c.take_from.new.line.items low above rest c.in-Some.at level.0 level.1 c.in-Ok.ensures.text.depth
           c.in-Ok.ensures.text.may_match (rw c.in-Some.is at (c.in-Ok.ensures.taken tells));
       stops = λ tells. tt;
+      needed = tt;
+      closed = λ is. absurd (cc);
       closes = record {
         depth = search rules;
         below = λ low above. stays_below stack.texts _ (stack.depth - 1) low c.take_from.new.slot (omega arith) refl;

@@ -1,7 +1,7 @@
 use Rattle.cweb_input.proofs.Common.{rules, ◌+◌, ◌∙◌, ap, Err, bytes_left, counters_of}
 use Rattle.cweb_input.specs.surface.OpenSources.{read_failures_of}
 use Rattle.cweb_input.proofs.ReadersStayNamed.{blames_line, blames_none}
-use Rattle.cweb_input.proofs.TrimmedLines.{takes_first, line_stops, line_reads, line_names, first_passes}
+use Rattle.cweb_input.proofs.TrimmedLines.{takes_first, line_stops, line_reads, line_names, line_needs, first_passes}
 use Rattle.cweb_input.proofs.open_source.take.take_line.Goals as goal
 
 pub returns-in-Err-clause-stops : goal.returns-in-Err-clause-stops
@@ -20,6 +20,13 @@ returns-in-Err-clause-answers g c = record {
 
 pub returns-in-Err-clause-names : goal.returns-in-Err-clause-names
 returns-in-Err-clause-names g c = line_names c.in-Err.fault _ c.args.text.now.file c.stop_of.ensures
+
+pub returns-in-Err-clause-needed : goal.returns-in-Err-clause-needed
+returns-in-Err-clause-needed g c = line_needs c.in-Err.fault _ c.args.text.now c.stop_of.ensures
+    (λ is. c.in-Err.ensures.needed (ap Err is))
+
+pub returns-in-Err-add-clause-needed : goal.returns-in-Err-add-clause-needed
+returns-in-Err-add-clause-needed g c = rw c.in-Err-add.ensures.stop tt
 
 pub returns-in-Err-add-clause-stops : goal.returns-in-Err-add-clause-stops
 returns-in-Err-add-clause-stops g c = λ tells.

@@ -18,6 +18,7 @@ returns g c = record {
     size_is = omega (arith, c.len.ensures, c.next_line.new.line.ok.0, c.newline_size.ensures.value);
   };
   too_long = search rules;
+  needed = search rules;
   line = rw c.trim.ensures (trimmed-line c.next_line.new.line.items c.in-Ok.ensures.clean c.in-Ok.ensures.within);
   gains = omega (
     arith,
