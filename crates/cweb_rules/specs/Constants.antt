@@ -77,11 +77,10 @@ hex_value b = if is_digit b then b - 48 else lower b - 87
 
 -- The value of two hexadecimal digits, if it is 0x80 or more.
 abbrev pub hex_at : List ℕ → Option ℕ
-hex_at [] = None
-hex_at (a ∷ []) = None
 hex_at (a ∷ b ∷ t) =
     let n = 16 * hex_value a + hex_value b in
     if is_hex a && is_hex b && nat_le 128 n then Some n else None
+hex_at _ = None
 
 -- At least one space or tab, then the longest span of letters, digits and `_`, which may be empty.
 abbrev pub letter_with : ℕ → ℕ → ℕ → List ℕ → Option Transliteration

@@ -107,9 +107,8 @@ effect_match e with_opener t = rule_match (Code e) 2
 
 -- A control code: `@` and the next byte.
 abbrev pub code_match : (ℕ → Effect) → Bool → List ℕ → RuleMatch
-code_match effect with_opener [] = rule_match Skipped 0
-code_match effect with_opener (a ∷ []) = rule_match Skipped 1
 code_match effect with_opener (a ∷ b ∷ t) = effect_match (effect b) with_opener (a ∷ b ∷ t)
+code_match effect with_opener t = rule_match Skipped (length t)
 
 -- In limbo and TeX every byte except `@` is skipped.
 abbrev pub tex_match : (ℕ → Effect) → List ℕ → RuleMatch
