@@ -1,6 +1,6 @@
 -- The ASCII constants of `@'` and the transliterations of `@l`.
 use Rattle.std.specs.Prelude.{ℕ, ◌+◌, ◌*◌, ◌-◌, Bool, ◌||◌, ◌&&◌, ◌==◌, nat_le, nat_lt, min, List, [], ◌∷◌, length}
-use Rattle.std.specs.Prelude.{take, drop, codes, if◌then◌else◌, Option, Some, None, not}
+use Rattle.std.specs.Prelude.{take, drop, codes, if◌then◌else◌, Option, Some, None, not, option_and_then}
 use Rattle.std.specs.List.{fold, prefix_len, position_or_len}
 use Rattle.cweb_rules.specs.declared.constants.Character.{Character}
 use Rattle.cweb_rules.specs.declared.constants.Valued.{Valued}
@@ -90,10 +90,8 @@ letter_with byte start gap t =
 
 -- The two digits, and their replacement.
 abbrev pub letter_after : ℕ → List ℕ → Option Transliteration
-letter_after gap t = elim (hex_at t) [
-  | None ↦ None
-  | Some byte ↦ letter_with byte (gap + 2) (prefix_len is_gap (drop 2 t)) (drop 2 t)
-]
+letter_after gap t =
+    option_and_then (λ byte. letter_with byte (gap + 2) (prefix_len is_gap (drop 2 t)) (drop 2 t)) (hex_at t)
 
 -- What follows `@l`: spaces and tabs, then the two digits.
 abbrev pub letter : List ℕ → Option Transliteration
