@@ -185,8 +185,7 @@ raw_match t =
 
 -- The item ended by its closer.
 abbrev pub is_closed : End → Bool
-is_closed Closed = true
-is_closed _ = false
+is_closed how = elim how [ Closed ↦ true | _ ↦ false ]
 
 -- An included name is next: `<` with a `>` later in its line.
 abbrev pub starts_include : List ℕ → Bool
