@@ -21,9 +21,12 @@ pub use Rattle.std.specs.Prelude.{IsTrue, slice_range, nat_lt, vec_capacity}
 pub use Rattle.cweb_files.specs.declared.place.Place.{Place}
 pub use Rattle.cweb_names.proofs.NameLemmas.{prefix_at}
 pub use Rattle.cweb_names.specs.Names.{is_prefix_of_another, Occurrence, Name, Resolution, id, spellings}
-pub use Rattle.cweb_names.specs.Names.{with_full_name, with_occurrence_name, names_from, names, beginning_from, the_one}
-pub use Rattle.cweb_names.specs.Names.{resolved_among, resolutions_from, resolutions, resolved_at, with_some, with_file}
-pub use Rattle.cweb_names.specs.Names.{files_from, files, is_id, beginning, with_id}
+pub use Rattle.cweb_names.specs.Names.{with_full_name, with_occurrence_name, names, beginning_from, the_one}
+pub use Rattle.cweb_names.specs.surface.Names.{names_from}
+pub use Rattle.cweb_names.specs.Names.{resolved_among, resolutions_from, resolutions, resolved_at, with_file}
+pub use Rattle.cweb_names.specs.surface.Names.{with_some}
+pub use Rattle.cweb_names.specs.Names.{files, is_id, beginning, with_id}
+pub use Rattle.cweb_names.specs.surface.Names.{files_from}
 pub use Rattle.cweb_names.specs.declared.name.How.{How}
 pub use Rattle.cweb_names.specs.declared.name.How.TheVariants.{Full, Prefix}
 pub use Rattle.cweb_names.specs.declared.name.NameFault.{NameFault}
