@@ -22,7 +22,8 @@ pub use Rattle.std.specs.Prelude.{Err, bytes_eq, if◌then◌else◌, nat_eq, fi
 pub use Rattle.std.specs.declared.cmp.Ordering.TheVariants.{Less, Equal, Greater}
 pub use Rattle.cweb_texts.specs.inner.Keys.{AreBytes}
 pub use Rattle.cweb_names.specs.Names.{is_prefix_of_another, Occurrence, Name, Resolution, id, spellings}
-pub use Rattle.cweb_names.specs.Names.{with_full_name, with_occurrence_name, names, beginning_from, the_one}
+pub use Rattle.cweb_names.specs.Names.{with_full_name, with_occurrence_name, names, the_one}
+pub use Rattle.cweb_names.specs.surface.Names.{beginning_from}
 pub use Rattle.cweb_names.specs.surface.Names.{names_from}
 pub use Rattle.cweb_names.specs.Names.{resolved_among, resolutions_from, resolutions, beginning}
 pub use Rattle.cweb_names.specs.surface.Names.{files_from}

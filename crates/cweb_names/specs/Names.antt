@@ -1,7 +1,7 @@
 -- Occurrences of names, the names that they resolve to, and how section names are spelled.
 use Rattle.std.specs.Prelude.{ℕ, ◌+◌, Bool, not, ◌&&◌, nat_eq, List, [], ◌∷◌, ◌++◌, Option, Some, None, Result, Ok, Err}
 use Rattle.std.specs.Prelude.{map, slice_get, bytes_eq, if◌then◌else◌, true, false, nat_lt, length, codes}
-use Rattle.std.specs.Prelude.{fold, option_to_list}
+use Rattle.std.specs.Prelude.{filter, fold, option_to_list}
 use Rattle.std.specs.List.{starts_with, list_any, position_or_len, ends_with, enumerate_from}
 use Rattle.cweb_names.specs.declared.name.How.{How}
 use Rattle.cweb_names.specs.declared.name.How.TheVariants.{Full, Prefix}
@@ -47,16 +47,11 @@ names os = fold (λ names (o : ℕ × Occurrence). with_occurrence_name o.0 name
 abbrev pub id : ℕ → NameId
 id n = record { 0 = n }
 
--- The names that begin with a prefix. The first name has number `n`.
-abbrev pub beginning_from : ℕ → List ℕ → List Name → List NameId
-beginning_from n prefix [] = []
-beginning_from n prefix (name ∷ names) =
-    let rest = beginning_from (n + 1) prefix names in
-    if starts_with nat_eq name.text prefix then id n ∷ rest else rest
-
 -- The names that begin with a prefix.
 abbrev pub beginning : List ℕ → List Name → List NameId
-beginning prefix names = beginning_from 0 prefix names
+beginning prefix names =
+    map (λ (n : ℕ × Name). id n.0)
+    (filter (λ (n : ℕ × Name). starts_with nat_eq n.1.text prefix) (enumerate_from 0 names))
 
 -- What an occurrence resolves to: a name or a fault.
 abbrev pub Resolution : Type 0

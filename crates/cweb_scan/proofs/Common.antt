@@ -96,8 +96,10 @@ pub use Rattle.cweb_rules.specs.inner.Quotes.{quote_byte}
 pub use Rattle.cweb_rules.specs.inner.Rules.{c_rule, c_match_by}
 pub use Rattle.cweb_rules.specs.laws.Follows.{JoinsAll, IsToken, is_token, is_quiet, begins_as}
 pub use Rattle.cweb_rules.specs.laws.Pays.{owed_tokens, at_line_ends, Pays}
-pub use Rattle.cweb_store.specs.Calls.{finished, with_dropped, with_open, PartsSoFar, all_parts, with_opened_part}
-pub use Rattle.cweb_store.specs.Calls.{with_pushed_token, part_with_token, with_dropped_layout, with_closed_part}
+pub use Rattle.cweb_store.specs.Calls.{finished, with_dropped, with_open, PartsSoFar}
+pub use Rattle.cweb_store.specs.surface.OpenParts.{all_parts, with_opened_part}
+pub use Rattle.cweb_store.specs.Calls.{part_with_token}
+pub use Rattle.cweb_store.specs.surface.OpenParts.{with_pushed_token, with_dropped_layout, with_closed_part}
 pub use Rattle.cweb_store.specs.Calls.{Replacement, Contents}
 pub use Rattle.cweb_store.specs.Parts.{before_last, without_last, without_blank, without_layout, protected_count}
 pub use Rattle.cweb_store.specs.Parts.{is_newline, is_layout, at_close, Token, Word, Number, Literal, Verbatim, Punct}

@@ -1,5 +1,6 @@
 -- Definitions that public calls cite and the headline does not.
 pub mod Parts
+pub mod OpenParts
 pub mod Growing
 pub mod TokenModels
 pub mod TokenStrings
