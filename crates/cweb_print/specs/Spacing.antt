@@ -6,32 +6,23 @@ use Rattle.cweb_store.specs.Parts.{Token, Word, Number, Literal, Verbatim, Punct
 
 -- Words, numbers and literals.
 abbrev pub is_wordlike : Token → Bool
-is_wordlike (Word b) = true
-is_wordlike (Number b) = true
-is_wordlike (Literal b) = true
-is_wordlike t = false
+is_wordlike t = elim t [ Word b ↦ true | Number b ↦ true | Literal b ↦ true | _ ↦ false ]
 
 -- The token is a Literal.
 abbrev pub is_literal : Token → Bool
-is_literal (Literal b) = true
-is_literal t = false
+is_literal t = elim t [ Literal b ↦ true | _ ↦ false ]
 
 -- The token is a Number.
 abbrev pub is_number : Token → Bool
-is_number (Number b) = true
-is_number t = false
+is_number t = elim t [ Number b ↦ true | _ ↦ false ]
 
 -- A section comment.
 abbrev pub is_comment : Token → Bool
-is_comment (Head n) = true
-is_comment (Tail n) = true
-is_comment t = false
+is_comment t = elim t [ Head n ↦ true | Tail n ↦ true | _ ↦ false ]
 
 -- A Join or Verbatim bytes.
 abbrev pub is_join_or_verbatim : Token → Bool
-is_join_or_verbatim Join = true
-is_join_or_verbatim (Verbatim b) = true
-is_join_or_verbatim t = false
+is_join_or_verbatim t = elim t [ Join ↦ true | Verbatim b ↦ true | _ ↦ false ]
 
 -- A punctuator whose first byte passes a test.
 abbrev pub begins_with : (ℕ → Bool) → Token → Bool
