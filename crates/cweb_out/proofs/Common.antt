@@ -37,9 +37,11 @@ pub use Rattle.cweb_store.specs.Parts.{Punct, Blank, Join, Head, Tail}
 pub use Rattle.cweb_store.specs.declared.parts.Part.{Part}
 pub use Rattle.cweb_store.specs.surface.TokenModels.{token_model}
 pub use Rattle.cweb_texts.specs.Edges.{last_is}
-pub use Rattle.cweb_out.specs.Expansion.{expand, expanded_name, put, tokens_for, cycle_from, walk, ends_below, has_rank}
+pub use Rattle.cweb_out.specs.Expansion.{expand, expanded_name, put, cycle_from, walk, ends_below, has_rank}
+pub use Rattle.cweb_out.specs.surface.RootTokens.{tokens_for}
 pub use Rattle.cweb_out.specs.Expansion.{first_endless, list_ends, joined, uses, names, program, resolved_use, use_of}
-pub use Rattle.cweb_out.specs.Outputs.{Planned, Refusal, bad_name, same_name, cycle, defs_first, file_outputs}
+pub use Rattle.cweb_out.specs.Outputs.{Planned, Refusal, bad_name, same_name, cycle, file_outputs}
+pub use Rattle.cweb_out.specs.surface.RootTokens.{defs_first}
 pub use Rattle.cweb_out.specs.Outputs.{has_no_program, is_good_name, name_spelling, output_name, output_of, outputs}
 pub use Rattle.cweb_out.specs.Outputs.{planned, planned_apart, planned_ending, root_list, start_of, Output, is_slash}
 pub use Rattle.cweb_out.specs.declared.frame.Frame.{Frame}

@@ -64,8 +64,10 @@ pub use Rattle.cweb_log.specs.inner.LogWriting.{WritesToStream}
 pub use Rattle.cweb_log.specs.inner.WebItems.{plan_item}
 pub use Rattle.cweb_log.specs.surface.Options.{options_of}
 pub use Rattle.cweb_names.specs.declared.name.NameId.{NameId}
-pub use Rattle.cweb_out.specs.Expansion.{expand, expanded_name, put, tokens_for, joined, names, program, resolved_use}
-pub use Rattle.cweb_out.specs.Outputs.{defs_first, root_list, Planned, Refusal, bad_name, same_name, cycle, Output}
+pub use Rattle.cweb_out.specs.Expansion.{expand, expanded_name, put, joined, names, program, resolved_use}
+pub use Rattle.cweb_out.specs.surface.RootTokens.{tokens_for}
+pub use Rattle.cweb_out.specs.Outputs.{root_list, Planned, Refusal, bad_name, same_name, cycle, Output}
+pub use Rattle.cweb_out.specs.surface.RootTokens.{defs_first}
 pub use Rattle.cweb_out.specs.declared.expander.Expander.{Expander}
 pub use Rattle.cweb_out.specs.declared.outputs.fault.PlanFault.{PlanFault}
 pub use Rattle.cweb_out.specs.declared.outputs.fault.PlanFault.TheVariants.{Cycle, SameName, BadName}
