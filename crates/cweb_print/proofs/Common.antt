@@ -34,7 +34,8 @@ pub use Rattle.cweb_print.specs.Printing.{printed_tokens, without_joined_layout,
 pub use Rattle.cweb_print.specs.Printing.{left_after, starts_line, begin_line, mark_line, file_name}
 pub use Rattle.cweb_print.specs.surface.Pieces.{last_token}
 pub use Rattle.cweb_print.specs.Printing.{quoted_byte, word_byte}
-pub use Rattle.cweb_print.specs.Spacing.{is_wordlike, is_literal, is_number, is_comment, begins_with, are_apart, sep}
+pub use Rattle.cweb_print.specs.Spacing.{is_wordlike, is_literal, is_number, begins_with, are_apart, sep}
+pub use Rattle.cweb_store.specs.Parts.{is_comment}
 pub use Rattle.cweb_print.specs.declared.buffer.TheConstants.{ROOM}
 pub use Rattle.cweb_print.specs.declared.printer.Printer.{Printer}
 pub use Rattle.cweb_print.specs.declared.printer.class.Class.{Class}

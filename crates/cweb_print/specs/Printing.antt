@@ -7,7 +7,8 @@ use Rattle.cweb_files.specs.declared.place.Place.{Place}
 use Rattle.cweb_store.specs.Parts.{Token, Word, Number, Literal, Verbatim, Punct, Blank, Newline, Join, Defs, Head}
 use Rattle.cweb_store.specs.Parts.{Tail, Mark, is_layout, is_macro}
 use Rattle.cweb_texts.specs.Edges.{is_one_of}
-use Rattle.cweb_print.specs.Spacing.{is_comment, sep}
+use Rattle.cweb_print.specs.Spacing.{sep}
+use Rattle.cweb_store.specs.Parts.{is_comment}
 use Rattle.cweb_store.specs.Parts as parts
 use Rattle.cweb_store.specs.Calls.{Stored, replacement}
 

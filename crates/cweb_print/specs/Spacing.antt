@@ -2,7 +2,7 @@
 use Rattle.std.specs.Prelude.{ℕ, Bool, true, false, ◌||◌, ◌&&◌, ◌==◌, not, List, [], codes, if◌then◌else◌, Option, Some}
 use Rattle.std.specs.Prelude.{None}
 use Rattle.cweb_texts.specs.Edges.{first_is, is_one_of, is_operator, last_is}
-use Rattle.cweb_store.specs.Parts.{Token, Word, Number, Literal, Verbatim, Punct, Join, Head, Tail}
+use Rattle.cweb_store.specs.Parts.{Token, Word, Number, Literal, Verbatim, Punct, Join, is_comment}
 
 -- Words, numbers and literals.
 abbrev pub is_wordlike : Token → Bool
@@ -15,10 +15,6 @@ is_literal t = elim t [ Literal b ↦ true | _ ↦ false ]
 -- The token is a Number.
 abbrev pub is_number : Token → Bool
 is_number t = elim t [ Number b ↦ true | _ ↦ false ]
-
--- A section comment.
-abbrev pub is_comment : Token → Bool
-is_comment t = elim t [ Head n ↦ true | Tail n ↦ true | _ ↦ false ]
 
 -- A Join or Verbatim bytes.
 abbrev pub is_join_or_verbatim : Token → Bool

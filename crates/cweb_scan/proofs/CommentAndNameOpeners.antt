@@ -93,6 +93,7 @@ opened_as r a is_file w file in_line h =
       name_size-two (takes_in c) n sign,
       enter_name c is_file m.units m.how (nat_lt 0 sign) r.state,
       each_line_end,
+      fold,
       in_line,
       here_same c r.state,
       takes_same c r.state refl,

@@ -1,8 +1,8 @@
 -- The lexemes of a text, what a scan makes of them, and C text that is one token alone.
-use Rattle.std.specs.Prelude.{◌≡◌, ℕ, Bool, true, false, ◌==◌, not, List, [], ◌∷◌, ◌++◌, length, codes, if◌then◌else◌}
+use Rattle.std.specs.Prelude.{◌≡◌, ℕ, Bool, true, false, ◌==◌, ◌||◌, not, List, [], ◌∷◌, ◌++◌, length, codes, if◌then◌else◌}
 use Rattle.std.specs.Prelude.{Option, Some, None, bytes_eq, filter, ◌-◌, take, map, zero, suc}
 use Rattle.std.specs.List.{flat_map, list_all, fold}
-use Rattle.cweb_store.specs.Parts.{Part, Token, Word, Number, Literal, Punct, Blank, Newline, Head, Tail, Mark}
+use Rattle.cweb_store.specs.Parts.{Part, Token, Word, Number, Literal, Punct, is_layout, is_comment}
 use Rattle.cweb_rules.specs.Matches.{match_in, Kind, Quoted, Identifier, Numeral, Punctuator, Code, rule_match}
 use Rattle.cweb_rules.specs.Matches.{RuleMatch, Lexeme}
 use Rattle.cweb_rules.specs.Items.{unescaped}
@@ -29,12 +29,7 @@ doubled bytes = flat_map at_doubled bytes
 
 -- Layout, section comments and line marks are insignificant.
 abbrev pub is_insignificant : Token → Bool
-is_insignificant Blank = true
-is_insignificant Newline = true
-is_insignificant (Head section) = true
-is_insignificant (Tail section) = true
-is_insignificant (Mark place) = true
-is_insignificant token = false
+is_insignificant token = is_layout token || is_comment token
 
 -- The significant tokens.
 abbrev pub significant : List Token → List Token
@@ -49,28 +44,20 @@ abbrev pub literal_token : List (List ℕ) → End → Option Token
 literal_token units how =
     elim how [ Closed ↦ (if is_clean units then Some (Literal (unescaped units)) else None) | _ ↦ None ]
 
--- The token of a control code: only `@@` stands for a token of its own.
-abbrev pub code_token : Effect → Option Token
-code_token effect = elim effect [ EmitAt ↦ Some (Punct (codes "@")) | _ ↦ None ]
-
--- The token of a lexeme of C text, if it has no fault.
+-- The token of a lexeme of C text, if it has no fault. Of the control codes only `@@` stands for a token of its own.
 abbrev pub token_of : Kind → List ℕ → Option Token
 token_of kind bytes = elim kind [
   | Quoted units how ↦ literal_token units how
   | Identifier ↦ Some (Word bytes)
   | Numeral ↦ Some (Number bytes)
   | Punctuator ↦ Some (Punct bytes)
-  | Code effect ↦ code_token effect
+  | Code effect ↦ elim effect [ EmitAt ↦ Some (Punct (codes "@")) | _ ↦ None ]
   | _ ↦ None
 ]
 
 -- The bytes of a token.
 abbrev pub spelling_of : Token → List ℕ
-spelling_of (Word bytes) = bytes
-spelling_of (Number bytes) = bytes
-spelling_of (Literal bytes) = bytes
-spelling_of (Punct bytes) = bytes
-spelling_of token = []
+spelling_of t = elim t [ Word b ↦ b | Number b ↦ b | Literal b ↦ b | Punct b ↦ b | _ ↦ [] ]
 
 -- The token's bytes with each `@` doubled, read as C text, are exactly this token, without a fault.
 pub record ReadsAlone (t : Token) : Type 0 where
@@ -116,11 +103,6 @@ lexemes r t = lexemes_in 0 r t
 abbrev pub lex : Reading → List ℕ → Reading
 lex r t = fold after_lexeme r (lexemes r t)
 
--- The lines, with a newline before each.
-abbrev pub newline_prefixed : List Line → List ℕ
-newline_prefixed [] = []
-newline_prefixed (line ∷ lines) = 10 ∷ line.bytes ++ newline_prefixed lines
-
 -- The result of a scan.
 pub record Scanned : Type 0 where
   pub store : Stored
@@ -142,7 +124,7 @@ abbrev pub read_lines : List Line → Reading
 read_lines [] = record { state = start_state no_place; later = [] }
 read_lines (line ∷ lines) =
     lex (record { state = start_state line.place; later = map (λ l. l.place) lines })
-    (line.bytes ++ newline_prefixed lines)
+    (line.bytes ++ flat_map (λ (l : Line). 10 ∷ l.bytes) lines)
 
 -- The result of a scan of the merged lines.
 abbrev pub scanned : List Line → Scanned

@@ -63,6 +63,10 @@ has_defs_code parts = list_any is_defs (joined_where is_c_part parts)
 abbrev pub is_layout : Token → Bool
 is_layout token = elim token [ Blank ↦ true | Newline ↦ true | Mark place ↦ true | _ ↦ false ]
 
+-- A section comment.
+abbrev pub is_comment : Token → Bool
+is_comment token = elim token [ Head section ↦ true | Tail section ↦ true | _ ↦ false ]
+
 -- The token is a Blank.
 abbrev pub is_blank : Token → Bool
 is_blank token = elim token [ Blank ↦ true | _ ↦ false ]

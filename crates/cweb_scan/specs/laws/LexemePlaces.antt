@@ -7,7 +7,8 @@ use Rattle.cweb_rules.specs.Matches.{Lexeme}
 use Rattle.cweb_rules.specs.laws.Pays.{at_line_ends}
 use Rattle.cweb_scan.specs.After.{Reading, after_lexeme}
 use Rattle.cweb_scan.specs.laws.ReaderModel.{places}
-use Rattle.cweb_scan.specs.Alone.{newline_prefixed, lexemes}
+use Rattle.cweb_scan.specs.Alone.{lexemes}
+use Rattle.cweb_scan.specs.inner.Pieces.{newline_prefixed}
 use Rattle.cweb_scan.specs.State.{start_state}
 
 -- The reading before the first lexeme of some lines.
