@@ -23,10 +23,10 @@ pub use Rattle.std.specs.declared.cmp.Ordering.TheVariants.{Less, Equal, Greater
 pub use Rattle.cweb_texts.specs.inner.Keys.{AreBytes}
 pub use Rattle.cweb_names.specs.Names.{is_prefix_of_another, Occurrence, Name, Resolution, id, spellings}
 pub use Rattle.cweb_names.specs.Names.{with_full_name, with_occurrence_name, names, the_one}
-pub use Rattle.cweb_names.specs.surface.Names.{beginning_from}
-pub use Rattle.cweb_names.specs.surface.Names.{names_from}
+pub use Rattle.cweb_names.specs.inner.FromNumbers.{beginning_from}
+pub use Rattle.cweb_names.specs.inner.FromNumbers.{names_from}
 pub use Rattle.cweb_names.specs.Names.{resolved_among, resolutions_from, resolutions, beginning}
-pub use Rattle.cweb_names.specs.surface.Names.{files_from}
+pub use Rattle.cweb_names.specs.inner.FromNumbers.{files_from}
 pub use Rattle.cweb_names.specs.declared.found.Found.{Found}
 pub use Rattle.cweb_names.specs.declared.found.Found.TheVariants.{Nothing, One, Several}
 pub use Rattle.cweb_names.specs.declared.known.KnownName.{KnownName}

@@ -20,7 +20,7 @@ pub use Rattle.cweb_names.specs.declared.name.NameId.{NameId}
 pub use Rattle.cweb_names.specs.declared.name.NameRef.{NameRef}
 pub use Rattle.cweb_print.specs.Printing.{without_joined_layout, macro_token_bytes, file_token_bytes, printed_tokens}
 pub use Rattle.cweb_print.specs.Printing.{stays_joined, macro_lines, print_after, starts_line, begin_line}
-pub use Rattle.cweb_print.specs.surface.Pieces.{last_token}
+pub use Rattle.cweb_print.specs.inner.Pieces.{last_token}
 pub use Rattle.cweb_print.specs.Printing.{left_after, macro_line, mark_line, file_name, Setting, quoted, print, file}
 pub use Rattle.cweb_print.specs.Spacing.{sep}
 pub use Rattle.cweb_print.specs.declared.printer.class.Class.{Class}
@@ -38,7 +38,7 @@ pub use Rattle.cweb_store.specs.declared.parts.Part.{Part}
 pub use Rattle.cweb_store.specs.surface.TokenModels.{token_model}
 pub use Rattle.cweb_texts.specs.Edges.{last_is}
 pub use Rattle.cweb_out.specs.Expansion.{expand, expanded_name, put, cycle_from, walk, ends_below, has_rank}
-pub use Rattle.cweb_out.specs.surface.RootTokens.{tokens_for}
+pub use Rattle.cweb_out.specs.inner.TokensFor.{tokens_for}
 pub use Rattle.cweb_out.specs.Expansion.{first_endless, list_ends, joined, uses, names, program, resolved_use, use_of}
 pub use Rattle.cweb_out.specs.Outputs.{Planned, Refusal, bad_name, same_name, cycle, file_outputs}
 pub use Rattle.cweb_out.specs.surface.RootTokens.{defs_first}

@@ -2,7 +2,7 @@
 use Rattle.cweb_out.proofs.Common.{◌≡◌, ◌≤◌, ◌<◌, ◌+◌, ℕ, suc, Bool, true, false, List, [], ◌∷◌, ◌++◌, refl, arith, length, Option, Some, None, inl, inr, All, list_any, length-map, NameId, is_id, Stored, names, file_outputs, outputs, AreNew, or_cases}
 use Rattle.std.specs.Prelude.{if◌then◌else◌}
 use Rattle.cweb_names.specs.Names.{Occurrence, Resolution, with_id, with_file, resolved_at}
-use Rattle.cweb_names.specs.surface.Names.{with_some, files_from}
+use Rattle.cweb_names.specs.inner.FromNumbers.{with_some, files_from}
 use Rattle.cweb_names.specs.Names as spec
 use Rattle.cweb_store.proofs.BoundLemmas.{files-within}
 use Rattle.cweb_out.proofs.Paths.{new-push, is-same}

@@ -54,7 +54,8 @@ pub use Rattle.cweb_rules.proofs.Reaches.{IsEnd, IsLocal}
 pub use Rattle.cweb_rules.proofs.Seams.{begins_line, in_line, stops}
 pub use Rattle.cweb_rules.proofs.UnitNewlines.{drop-sum, Tells, ends-append}
 pub use Rattle.cweb_rules.proofs.Walks.{punctuator_fits}
-pub use Rattle.cweb_rules.specs.Bytes.{begins, starts_section, is_blank, is_line_end, is_digit, is_word_byte, first_is}
+pub use Rattle.cweb_rules.specs.Bytes.{begins, starts_section, is_blank, is_line_end, is_digit, is_word_byte}
+pub use Rattle.cweb_texts.specs.Edges.{first_is}
 pub use Rattle.cweb_rules.specs.Bytes.{at_line_end, is_white, listed, longest, number_len, starts_number}
 pub use Rattle.cweb_rules.specs.Codes.{in_tex, in_macro, in_c}
 pub use Rattle.cweb_rules.specs.Items.{reach_size, Reach, body, with_unit, reach_in, reach, unescaped, look_in_raw}
@@ -97,9 +98,10 @@ pub use Rattle.cweb_rules.specs.inner.Rules.{c_rule, c_match_by}
 pub use Rattle.cweb_rules.specs.laws.Follows.{JoinsAll, IsToken, is_token, is_quiet, begins_as}
 pub use Rattle.cweb_rules.specs.laws.Pays.{owed_tokens, at_line_ends, Pays}
 pub use Rattle.cweb_store.specs.Calls.{finished, with_dropped, with_open, PartsSoFar}
-pub use Rattle.cweb_store.specs.surface.OpenParts.{all_parts, with_opened_part}
+pub use Rattle.cweb_store.specs.inner.OpenParts.{with_opened_part}
+pub use Rattle.cweb_store.specs.surface.Growing.{all_parts}
 pub use Rattle.cweb_store.specs.Calls.{part_with_token}
-pub use Rattle.cweb_store.specs.surface.OpenParts.{with_pushed_token, with_dropped_layout, with_closed_part}
+pub use Rattle.cweb_store.specs.inner.OpenParts.{with_pushed_token, with_dropped_layout, with_closed_part}
 pub use Rattle.cweb_store.specs.Calls.{Replacement, Contents}
 pub use Rattle.cweb_store.specs.Parts.{before_last, without_last, without_blank, without_layout, protected_count}
 pub use Rattle.cweb_store.specs.Parts.{is_newline, is_layout, at_close, Token, Word, Number, Literal, Verbatim, Punct}

@@ -5,7 +5,8 @@ ghost use Rattle.std.specs.Prelude.{◌≡◌, ◌∷◌, ◌++◌, [], All, Boo
 ghost use Rattle.cweb_files.specs.declared.place.Place.{Place};
 ghost use Rattle.cweb_input.specs.surface.Lines.{HasNoNewline};
 ghost use Rattle.cweb_input.specs.Lines.{Line};
-ghost use Rattle.cweb_rules.specs.Bytes.{first_is, is_blank};
+ghost use Rattle.cweb_rules.specs.Bytes.{is_blank};
+ghost use Rattle.cweb_texts.specs.Edges.{first_is};
 ghost use Rattle.cweb_rules.specs.laws.Follows.{JoinsAll, is_quiet};
 ghost use Rattle.cweb_rules.specs.Matches.{Lexeme};
 ghost use Rattle.cweb_rules.specs.declared.context.Context.TheVariants.{CText};

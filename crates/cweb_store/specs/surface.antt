@@ -1,6 +1,5 @@
 -- Definitions that public calls cite and the headline does not.
 pub mod Parts
-pub mod OpenParts
 pub mod Growing
 pub mod TokenModels
 pub mod TokenStrings

@@ -9,10 +9,6 @@ use Rattle.cweb_store.specs.Calls.{PartsSoFar, Replacement, part_with_token}
 abbrev pub no_parts : PartsSoFar
 no_parts = record { closed = []; current = None }
 
--- All parts, the open one included.
-abbrev pub all_parts : PartsSoFar → List Part
-all_parts v = v.closed ++ option_to_list v.current
-
 -- A new part is open.
 abbrev pub with_opened_part : PartKind → PartsSoFar → PartsSoFar
 with_opened_part kind v = record v { current = Some (record { kind = kind; tokens = [] }) }
