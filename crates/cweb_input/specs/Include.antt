@@ -1,6 +1,7 @@
 -- Include lines, and how the files of a run are found.
 use Rattle.std.specs.Prelude.{ℕ, ◌||◌, ◌&&◌, Bool, true, false, ◌==◌, List, [], ◌∷◌, ◌++◌, Option, None, Some}
 use Rattle.std.specs.Prelude.{drop, option_map, option_and_then, option_to_list, if◌then◌else◌}
+use Rattle.std.specs.List.{before_first}
 use Rattle.std.specs.Option.{option_or}
 use Rattle.std.specs.Str.{is_utf8}
 
@@ -23,17 +24,12 @@ abbrev pub ends_name : Bool → ℕ → Bool
 ends_name true b = b == 34
 ends_name false b = is_space b || b == 34
 
--- The bytes before the end of a name.
-abbrev pub until_name_end : Bool → List ℕ → List ℕ
-until_name_end quoted [] = []
-until_name_end quoted (b ∷ bs) = if ends_name quoted b then [] else b ∷ until_name_end quoted bs
-
 -- The name after leading spaces: in double quotes, or one word.
 abbrev pub name_after_spaces : List ℕ → List ℕ
 name_after_spaces [] = []
 name_after_spaces (b ∷ bs) =
     if is_space b then name_after_spaces bs
-    else (if b == 34 then until_name_end true bs else until_name_end false (b ∷ bs))
+    else (if b == 34 then before_first (ends_name true) bs else before_first (ends_name false) (b ∷ bs))
 
 -- The name in an include line, empty if it has none.
 abbrev pub include_name : List ℕ → List ℕ

@@ -31,7 +31,8 @@ pub use Rattle.cweb_print.specs.Printing.{macros, replaced_in, word_bytes, quote
 pub use Rattle.cweb_print.specs.inner.Pieces.{wants_backslash}
 pub use Rattle.cweb_print.specs.Printing.{Setting, print, stays_joined, macro_line, macro_lines, macro_token_bytes}
 pub use Rattle.cweb_print.specs.Printing.{printed_tokens, without_joined_layout, print_after, file, file_token_bytes}
-pub use Rattle.cweb_print.specs.Printing.{left_after, starts_line, begin_line, mark_line, file_name}
+pub use Rattle.cweb_print.specs.Printing.{left_after, starts_line, begin_line, mark_line}
+pub use Rattle.cweb_print.specs.inner.Pieces.{file_name}
 pub use Rattle.cweb_print.specs.inner.Pieces.{last_token}
 pub use Rattle.cweb_print.specs.Printing.{quoted_byte, word_byte}
 pub use Rattle.cweb_print.specs.Spacing.{is_wordlike, is_literal, is_number, begins_with, are_apart, sep}

@@ -93,13 +93,9 @@ quoted name = flat_map quoted_byte name
 abbrev pub mark_line : List ℕ → ℕ → List ℕ
 mark_line name line = codes "#line " ++ (decimal line ++ (codes " \"" ++ (quoted name ++ codes "\"\n")))
 
--- The file name of a line mark.
-abbrev pub file_name : Setting → Place → List ℕ
-file_name s p = slice_index_or s.files p.file.0 []
-
 -- The bytes of a token in a file, after the token to its left.
 abbrev pub file_token_bytes : Setting → Option Token → Token → List ℕ
-file_token_bytes s left (Mark p) = begin_line left ++ mark_line (file_name s p) p.line
+file_token_bytes s left (Mark p) = begin_line left ++ mark_line (slice_index_or s.files p.file.0 []) p.line
 file_token_bytes s left Defs = begin_line left ++ macro_lines s
 file_token_bytes s left t = plain_bytes s.replaced t
 

@@ -26,9 +26,11 @@ pub use Rattle.cweb_texts.specs.Edges.{first_is, is_one_of}
 pub use Rattle.cweb_rules.specs.Bytes.{at_line_end, is_delimiter, is_digit, is_gap, is_octal, is_hex}
 pub use Rattle.cweb_rules.specs.Bytes.{is_replacing, starts_number, listed, longest, number_len, continues_number}
 pub use Rattle.cweb_rules.specs.Codes.{in_c, in_limbo, in_tex, in_macro}
-pub use Rattle.cweb_rules.specs.Constants.{letter, constant, character, escapes, escaped, octal_value, octal}
+pub use Rattle.cweb_rules.specs.Constants.{letter, constant, character, escapes, escaped, octal}
+pub use Rattle.cweb_rules.specs.inner.FaultyConstants.{octal_value}
 pub use Rattle.cweb_rules.specs.Constants.{after_backslash, is_plain_character, character_at, faulty_size, constant_of}
-pub use Rattle.cweb_rules.specs.Constants.{hex_at, letter_with, letter_after, ends_faulty}
+pub use Rattle.cweb_rules.specs.Constants.{hex_at, letter_with, letter_after}
+pub use Rattle.cweb_rules.specs.inner.FaultyConstants.{ends_faulty}
 pub use Rattle.cweb_rules.specs.Items.{Reach, reach_in, with_unit, reach_size, body, reach}
 pub use Rattle.cweb_rules.specs.Items.{look_in_literal, look_in_comment}
 pub use Rattle.cweb_rules.specs.Items.{look_in_control, look_in_name, look_in_include}

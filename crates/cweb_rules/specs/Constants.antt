@@ -23,14 +23,10 @@ abbrev pub escaped : List (ℕ × ℕ) → List ℕ → Option Character
 escaped [] t = None
 escaped (e ∷ es) t = if begins (e.0 ∷ []) t then character e.1 2 else escaped es t
 
--- The value of octal digits.
-abbrev pub octal_value : List ℕ → ℕ
-octal_value digits = fold (λ n b. n * 8 + (b - 48)) 0 digits
-
--- The escape sequence of octal digits, if it is at most octal 377.
+-- The escape sequence of octal digits, if their value is at most octal 377.
 abbrev pub octal : List ℕ → Option Character
 octal digits =
-    let n = octal_value digits in
+    let n = fold (λ n b. n * 8 + (b - 48)) 0 digits in
     if nat_le n 255 then character n (1 + length digits) else None
 
 -- The escape sequence after `\`: up to three octal digits, or a letter.
@@ -51,14 +47,10 @@ character_at (b ∷ t) =
     else (if begins (codes "\\") (b ∷ t) then after_backslash t
     else (if is_plain_character b then character b 1 else None))
 
--- A faulty constant ends at `'` or a newline.
-abbrev pub ends_faulty : ℕ → Bool
-ends_faulty b = (b == 39) || is_line_end b
-
--- The size of a faulty constant, which includes its `'`, but not a newline.
+-- The size of a faulty constant. It ends at `'`, which is included, or at a newline.
 abbrev pub faulty_size : List ℕ → ℕ
 faulty_size t =
-    let n = position_or_len ends_faulty t in
+    let n = position_or_len (λ b. (b == 39) || is_line_end b) t in
     if begins (codes "'") (drop n t) then n + 1 else n
 
 -- A constant is one character and `'`. Anything else is faulty.

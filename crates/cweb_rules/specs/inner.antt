@@ -9,3 +9,4 @@ pub mod PlainBytes
 pub mod Rules
 pub mod LineItems
 pub mod Reaches
+pub mod FaultyConstants

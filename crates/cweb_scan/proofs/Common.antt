@@ -120,8 +120,11 @@ pub use Rattle.cweb_scan.specs.After.{next_line, enter, line_end_token}
 pub use Rattle.cweb_scan.specs.Alone.{HasReadTokens, InPlainC, significant, is_hash, is_clean, token_of}
 pub use Rattle.cweb_scan.specs.inner.Pieces.{code_token}
 pub use Rattle.cweb_scan.specs.Alone.{is_insignificant, ReadsAlone, doubled, literal_token, spelling_of, read_lines}
-pub use Rattle.cweb_scan.specs.Alone.{next_match, lexemes_in, lex, scanned, lexemes, scanned_of}
-pub use Rattle.cweb_scan.specs.inner.Pieces.{newline_prefixed}
+pub use Rattle.cweb_scan.specs.Alone.{lexemes_in, lex, scanned}
+pub use Rattle.cweb_scan.specs.inner.Pieces.{scanned_of}
+pub use Rattle.cweb_scan.specs.laws.LexemePlaces.{lexemes}
+pub use Rattle.cweb_scan.specs.laws.Law.{next_match}
+pub use Rattle.cweb_scan.specs.laws.ReaderModel.{newline_prefixed}
 pub use Rattle.cweb_scan.specs.Alone.{Scanned}
 pub use Rattle.cweb_scan.specs.DirectiveTokens.{directive_of, directive_tokens, directive_after, is_punct, ends_line}
 pub use Rattle.cweb_scan.specs.DirectiveTokens.{some_include, is_last_blank}

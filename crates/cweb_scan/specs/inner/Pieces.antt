@@ -1,10 +1,9 @@
 -- Pieces of the definitions of a scan.
-use Rattle.std.specs.Prelude.{ℕ, Bool, List, [], ◌∷◌, ◌++◌, ◌-◌, Option, Some, None, flat_map, length, take, codes}
+use Rattle.std.specs.Prelude.{ℕ, Bool, List, [], ◌-◌, Option, Some, None, length, take, codes}
 use Rattle.std.specs.Prelude.{if◌then◌else◌}
 use Rattle.std.specs.List.{list_all}
 use Rattle.std.specs.Option.{option_map_or}
 use Rattle.cweb_files.specs.declared.place.Place.{Place}
-use Rattle.cweb_input.specs.Lines.{Line}
 use Rattle.cweb_names.specs.Names.{Occurrence, is_abbreviation}
 use Rattle.cweb_names.specs.declared.name.How.TheVariants.{Full, Prefix}
 use Rattle.cweb_store.specs.Parts.{Token, Part, Punct, Newline, is_blank}
@@ -13,7 +12,9 @@ use Rattle.cweb_rules.specs.declared.context.Context.TheVariants.{Definition, Ma
 use Rattle.cweb_rules.specs.declared.effect.Effect.{Effect}
 use Rattle.cweb_rules.specs.declared.effect.Effect.TheVariants.{EmitAt}
 use Rattle.cweb_rules.specs.Matches.{Kind}
-use Rattle.cweb_scan.specs.State.{ScanState, emit, move_to, end_part, drop_definition}
+use Rattle.cweb_store.specs.Calls.{finished}
+use Rattle.cweb_scan.specs.Alone.{Scanned}
+use Rattle.cweb_scan.specs.State.{ScanState, emit, move_to, end_part, drop_definition, leave}
 use Rattle.cweb_scan.specs.After.{line_end_token, stays_in_head}
 
 -- The directive has only Blanks.
@@ -54,6 +55,11 @@ enter_in c k s = elim c [ Definition begun ↦ if stays_in_head k then s else dr
 abbrev pub code_token : Effect → Option Token
 code_token effect = elim effect [ EmitAt ↦ Some (Punct (codes "@")) | _ ↦ None ]
 
--- The lines, with a newline before each.
-abbrev pub newline_prefixed : List Line → List ℕ
-newline_prefixed lines = flat_map (λ (line : Line). 10 ∷ line.bytes) lines
+-- The result at the end of the source.
+abbrev pub scanned_of : ScanState → Scanned
+scanned_of s = let t = leave s in
+    record { store = finished t.contents; faults = t.faults; sections = t.sections; starred = t.starred }
+
+-- The place of an empty web.
+abbrev pub no_place : Place
+no_place = record { file = record { 0 = 0 }; line = 0 }
