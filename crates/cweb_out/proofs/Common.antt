@@ -20,9 +20,9 @@ pub use Rattle.cweb_names.specs.declared.name.NameId.{NameId}
 pub use Rattle.cweb_names.specs.declared.name.NameRef.{NameRef}
 pub use Rattle.cweb_print.specs.Printing.{without_joined_layout, macro_token_bytes, file_token_bytes, printed_tokens}
 pub use Rattle.cweb_print.specs.Printing.{stays_joined, macro_lines, print_after, starts_line, begin_line}
-pub use Rattle.cweb_print.specs.inner.Pieces.{last_token}
+pub use Rattle.cweb_print.specs.inner.PrintParts.{last_token}
 pub use Rattle.cweb_print.specs.Printing.{left_after, macro_line, mark_line, Setting, quoted, print, file}
-pub use Rattle.cweb_print.specs.inner.Pieces.{file_name}
+pub use Rattle.cweb_print.specs.inner.PrintParts.{file_name}
 pub use Rattle.cweb_print.specs.Spacing.{sep}
 pub use Rattle.cweb_print.specs.declared.printer.class.Class.{Class}
 pub use Rattle.cweb_print.specs.inner.BufferedPrinting.{PrintsPrefix}

@@ -28,12 +28,12 @@ pub use Rattle.cweb_texts.specs.inner.Edges.{TokenBytesModel, is_high, is_numeri
 pub use Rattle.cweb_texts.specs.inner.Edges.{token_bytes_model}
 pub use denote.Enum.Declared.{tag_of}
 pub use Rattle.cweb_print.specs.Printing.{macros, replaced_in, word_bytes, quoted, plain_bytes}
-pub use Rattle.cweb_print.specs.inner.Pieces.{wants_backslash}
+pub use Rattle.cweb_print.specs.inner.PrintParts.{wants_backslash}
 pub use Rattle.cweb_print.specs.Printing.{Setting, print, stays_joined, macro_line, macro_lines, macro_token_bytes}
 pub use Rattle.cweb_print.specs.Printing.{printed_tokens, without_joined_layout, print_after, file, file_token_bytes}
 pub use Rattle.cweb_print.specs.Printing.{left_after, starts_line, begin_line, mark_line}
-pub use Rattle.cweb_print.specs.inner.Pieces.{file_name}
-pub use Rattle.cweb_print.specs.inner.Pieces.{last_token}
+pub use Rattle.cweb_print.specs.inner.PrintParts.{file_name}
+pub use Rattle.cweb_print.specs.inner.PrintParts.{last_token}
 pub use Rattle.cweb_print.specs.Printing.{quoted_byte, word_byte}
 pub use Rattle.cweb_print.specs.Spacing.{is_wordlike, is_literal, is_number, begins_with, are_apart, sep}
 pub use Rattle.cweb_store.specs.Parts.{is_comment}

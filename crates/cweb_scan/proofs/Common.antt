@@ -111,17 +111,17 @@ pub use Rattle.cweb_store.specs.declared.parts.PartKind.TheVariants.{Unnamed}
 pub use Rattle.cweb_store.specs.surface.TokenModels.{token_model}
 pub use Rattle.cweb_texts.proofs.WordLemmas.{total-append}
 pub use Rattle.cweb_scan.specs.After.{Reading, after_lexeme, blank, stays_in_head, item, punctuator}
-pub use Rattle.cweb_scan.specs.inner.Pieces.{enter_in}
+pub use Rattle.cweb_scan.specs.inner.ScanParts.{enter_in}
 pub use Rattle.cweb_scan.specs.After.{apply_effect, pass_control_text, emit_verbatim, define, pass_comment}
 pub use Rattle.cweb_scan.specs.After.{report_name_fault, use_name, open_name, name_in_context, emit_literal, on}
 pub use Rattle.cweb_scan.specs.After.{each_line_end, occurrence, line_end, comment_line_end, literal_unit}
-pub use Rattle.cweb_scan.specs.inner.Pieces.{line_end_in}
+pub use Rattle.cweb_scan.specs.inner.ScanParts.{line_end_in}
 pub use Rattle.cweb_scan.specs.After.{next_line, enter, line_end_token}
 pub use Rattle.cweb_scan.specs.Alone.{HasReadTokens, InPlainC, significant, is_hash, is_clean, token_of}
-pub use Rattle.cweb_scan.specs.inner.Pieces.{code_token}
+pub use Rattle.cweb_scan.specs.inner.ScanParts.{code_token}
 pub use Rattle.cweb_scan.specs.Alone.{is_insignificant, ReadsAlone, doubled, literal_token, spelling_of, read_lines}
 pub use Rattle.cweb_scan.specs.Alone.{lexemes_in, lex, scanned}
-pub use Rattle.cweb_scan.specs.inner.Pieces.{scanned_of}
+pub use Rattle.cweb_scan.specs.inner.ScanParts.{scanned_of}
 pub use Rattle.cweb_scan.specs.laws.LexemePlaces.{lexemes}
 pub use Rattle.cweb_scan.specs.laws.Law.{next_match}
 pub use Rattle.cweb_scan.specs.laws.ReaderModel.{newline_prefixed}
@@ -129,13 +129,13 @@ pub use Rattle.cweb_scan.specs.Alone.{Scanned}
 pub use Rattle.cweb_scan.specs.DirectiveTokens.{directive_of, directive_tokens, directive_after, is_punct, ends_line}
 pub use Rattle.cweb_scan.specs.DirectiveTokens.{some_include, is_last_blank}
 pub use Rattle.cweb_scan.specs.State.{is_next_line, is_c, directive, in_directive, names_include, name_occurrence}
-pub use Rattle.cweb_scan.specs.inner.Pieces.{full}
+pub use Rattle.cweb_scan.specs.inner.ScanParts.{full}
 pub use Rattle.cweb_scan.specs.State.{ScanState, leave, start_state, emit, drop_definition}
-pub use Rattle.cweb_scan.specs.inner.Pieces.{prefix, as_occurrence}
+pub use Rattle.cweb_scan.specs.inner.ScanParts.{prefix, as_occurrence}
 pub use Rattle.cweb_scan.specs.State.{end_macro, move_to, report, add_name, begin_section, open_part_tokens}
-pub use Rattle.cweb_scan.specs.inner.Pieces.{tokens_of}
+pub use Rattle.cweb_scan.specs.inner.ScanParts.{tokens_of}
 pub use Rattle.cweb_scan.specs.State.{leave_in, report_at, begin_part, end_part}
-pub use Rattle.cweb_scan.specs.inner.Pieces.{end_macro_in}
+pub use Rattle.cweb_scan.specs.inner.ScanParts.{end_macro_in}
 pub use Rattle.cweb_scan.specs.declared.directive.Directive.{Directive}
 pub use Rattle.cweb_scan.specs.declared.directive.Stage.{Stage}
 pub use Rattle.cweb_scan.specs.declared.directive.Stage.TheVariants.{Outside, Bare, Further}

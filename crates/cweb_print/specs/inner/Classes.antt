@@ -5,7 +5,7 @@ use Rattle.cweb_texts.specs.Edges.{is_operator, is_one_of}
 use Rattle.cweb_print.specs.Spacing.{is_wordlike, is_literal, is_number, begins_with}
 use Rattle.cweb_store.specs.Parts.{is_comment}
 use Rattle.cweb_print.specs.Printing.{Setting, mark_line, macro_lines, plain_bytes}
-use Rattle.cweb_print.specs.inner.Pieces.{file_name}
+use Rattle.cweb_print.specs.inner.PrintParts.{file_name}
 use Rattle.cweb_print.specs.declared.printer.class.Class.{Class}
 use Rattle.cweb_print.specs.declared.printer.class.Class.TheVariants as class
 use Rattle.cweb_print.specs.declared.printer.left.Left.{Left}

@@ -6,7 +6,7 @@ use Rattle.cweb_rules.specs.declared.context.Context.TheVariants.{Limbo, TeX, De
 use Rattle.cweb_scan.specs.inner.Stages.{after_tokens}
 use Rattle.cweb_scan.specs.declared.directive.Directive.{Directive}
 use Rattle.cweb_scan.specs.State.{is_c}
-use Rattle.cweb_scan.specs.inner.Pieces.{tokens_of}
+use Rattle.cweb_scan.specs.inner.ScanParts.{tokens_of}
 
 abbrev pub is_part_open : Option Part → Bool
 is_part_open None = false

@@ -10,7 +10,7 @@ use Rattle.cweb_scan.specs.inner.Resume.{PendingItem, Between, InComment, InName
 use Rattle.cweb_scan.specs.inner.Resume.{resume}
 use Rattle.cweb_scan.specs.inner.Room.{weight}
 use Rattle.cweb_scan.specs.Alone.{read_lines}
-use Rattle.cweb_scan.specs.inner.Pieces.{no_place}
+use Rattle.cweb_scan.specs.inner.ScanParts.{no_place}
 use Rattle.cweb_scan.specs.laws.ReaderModel.{newline_prefixed}
 use Rattle.cweb_scan.specs.laws.ReaderModel.{places}
 

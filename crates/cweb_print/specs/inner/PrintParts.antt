@@ -1,4 +1,4 @@
--- Pieces of what is printed.
+-- Parts of what is printed.
 use Rattle.std.specs.Prelude.{ℕ, Bool, List, [], ◌++◌, Option, codes, decimal, slice_index_or}
 use Rattle.std.specs.List.{last_or}
 use Rattle.cweb_files.specs.declared.place.Place.{Place}

@@ -1,4 +1,4 @@
--- Pieces of the definitions of a scan.
+-- Parts of the definitions of a scan.
 use Rattle.std.specs.Prelude.{ℕ, Bool, List, [], ◌-◌, Option, Some, None, length, take, codes}
 use Rattle.std.specs.Prelude.{if◌then◌else◌}
 use Rattle.std.specs.List.{list_all}
