@@ -3,7 +3,6 @@ use Rattle.std.specs.Prelude.{slice_index_or, ℕ, Bool, true, false, ◌&&◌, 
 use Rattle.std.specs.Prelude.{if◌then◌else◌, Option, Some, None, flat_map, ◌/◌, ◌%◌, map, filter, slice_index}
 use Rattle.std.specs.Prelude.{◌||◌, unwrap_or}
 use Rattle.std.specs.List.{last_or}
-use Rattle.cweb_files.specs.declared.place.Place.{Place}
 use Rattle.cweb_store.specs.Parts.{Token, Word, Number, Literal, Verbatim, Punct, Blank, Newline, Join, Defs, Head}
 use Rattle.cweb_store.specs.Parts.{Tail, Mark, is_layout, is_macro}
 use Rattle.cweb_texts.specs.Edges.{is_one_of}

@@ -1,19 +1,17 @@
 -- The lexemes of a text, what a scan makes of them, and C text that is one token alone.
-use Rattle.std.specs.Prelude.{◌≡◌, ℕ, Bool, true, false, ◌==◌, ◌||◌, not, List, [], ◌∷◌, ◌++◌, length, codes, if◌then◌else◌}
+use Rattle.std.specs.Prelude.{◌≡◌, ℕ, Bool, false, ◌==◌, ◌||◌, not, List, [], ◌∷◌, ◌++◌, length, codes, if◌then◌else◌}
 use Rattle.std.specs.Prelude.{Option, Some, None, bytes_eq, filter, ◌-◌, take, map, zero, suc}
 use Rattle.std.specs.List.{flat_map, list_all, fold}
 use Rattle.cweb_store.specs.Parts.{Part, Token, Word, Number, Literal, Punct, is_layout, is_comment}
 use Rattle.cweb_rules.specs.Matches.{match_in, Kind, Quoted, Identifier, Numeral, Punctuator, Code, rule_match}
-use Rattle.cweb_rules.specs.Matches.{RuleMatch, Lexeme}
+use Rattle.cweb_rules.specs.Matches.{Lexeme}
 use Rattle.cweb_rules.specs.Items.{unescaped}
 use Rattle.cweb_rules.specs.declared.context.Context.TheVariants.{CText}
-use Rattle.cweb_rules.specs.declared.effect.Effect.{Effect}
 use Rattle.cweb_rules.specs.declared.effect.Effect.TheVariants.{EmitAt}
 use Rattle.cweb_rules.specs.declared.end.End.{End}
 use Rattle.cweb_rules.specs.declared.end.End.TheVariants.{Closed}
 use Rattle.cweb_scan.specs.State.{directive, ScanState, open_part_tokens, names_include, start_state, leave}
 use Rattle.cweb_scan.specs.DirectiveTokens.{is_punct}
-use Rattle.cweb_files.specs.declared.place.Place.{Place}
 use Rattle.cweb_input.specs.Lines.{Line}
 use Rattle.cweb_store.specs.Calls.{Stored, finished}
 use Rattle.cweb_rules.specs.declared.fault.ScanFault.{ScanFault}
@@ -82,7 +80,8 @@ pub record HasReadTokens (before after : ScanState) (ts : List Token) : Type 0 w
   pub tokens : significant (open_part_tokens after) ≡ significant (open_part_tokens before) ++ ts
   pub faults : after.faults ≡ before.faults
 
--- The lexemes of a source. The first `inner` bytes belong to the previous lexeme.
+-- The lexemes of a source, each by the context after the lexemes before it. The first `inner` bytes belong to the
+-- previous lexeme.
 abbrev pub lexemes_in : ℕ → Reading → List ℕ → List Lexeme
 lexemes_in inner r [] = []
 lexemes_in (suc inner) r (b ∷ t) = lexemes_in inner r t
@@ -102,14 +101,15 @@ pub record Scanned : Type 0 where
   pub sections : ℕ
   pub starred : List ℕ
 
--- The reading after the merged lines. The source is these lines joined by newlines.
+-- The reading after the merged lines. The source is these lines joined by newlines. An empty web has the place of line 0
+-- of file 0.
 abbrev pub read_lines : List Line → Reading
 read_lines [] = record { state = start_state (record { file = record { 0 = 0 }; line = 0 }); later = [] }
 read_lines (line ∷ lines) =
     lex (record { state = start_state line.place; later = map (λ l. l.place) lines })
     (line.bytes ++ flat_map (λ (l : Line). 10 ∷ l.bytes) lines)
 
--- The result of a scan of the merged lines.
+-- The result of a scan of the merged lines, at the end of the source.
 abbrev pub scanned : List Line → Scanned
 scanned lines = let s = leave (read_lines lines).state in
     record { store = finished s.contents; faults = s.faults; sections = s.sections; starred = s.starred }

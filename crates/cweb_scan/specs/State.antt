@@ -1,5 +1,5 @@
 -- The state of a scan: what it has made of the text so far, and the directive that is open.
-use Rattle.std.specs.Prelude.{ℕ, ◌+◌, Bool, true, false, List, [], ◌∷◌, ◌++◌, Option, Some, None, if◌then◌else◌, ◌&&◌}
+use Rattle.std.specs.Prelude.{ℕ, ◌+◌, Bool, true, false, List, [], ◌∷◌, ◌++◌, if◌then◌else◌, ◌&&◌}
 use Rattle.std.specs.Prelude.{◌-◌, length, take, ◌==◌}
 use Rattle.std.specs.Option.{is_some, option_map_or}
 use Rattle.cweb_files.specs.declared.place.Place.{Place}

@@ -1,5 +1,5 @@
 -- Parts and their tokens, and the layout at the end of a part.
-use Rattle.std.specs.Prelude.{ℕ, Bool, true, false, not, List, Option, Some, None, filter, flat_map, [], ◌∷◌, ◌++◌}
+use Rattle.std.specs.Prelude.{ℕ, Bool, true, false, not, List, Option, filter, flat_map, [], ◌∷◌, ◌++◌}
 use Rattle.std.specs.Prelude.{take, drop, if◌then◌else◌}
 use Rattle.std.specs.List.{list_any}
 use Rattle.std.specs.Option.{option_map_or}

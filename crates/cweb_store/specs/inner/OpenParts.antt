@@ -2,7 +2,7 @@
 use Rattle.std.specs.Prelude.{List, [], ◌++◌, Option, Some, None, option_map, option_to_list, fold, ℕ, nat_eq}
 use Rattle.std.specs.Prelude.{if◌then◌else◌}
 use Rattle.cweb_store.specs.declared.parts.PartKind.{PartKind}
-use Rattle.cweb_store.specs.Parts.{Token, Part, without_layout, at_close}
+use Rattle.cweb_store.specs.Parts.{Token, without_layout, at_close}
 use Rattle.cweb_store.specs.Calls.{PartsSoFar, Replacement, part_with_token}
 
 -- No part.
