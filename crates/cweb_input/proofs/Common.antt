@@ -16,7 +16,8 @@ pub use Rattle.std.specs.Int.{bit_at, trailing_zeros}
 pub use Rattle.std.specs.Prelude.{slice_range, IsTrue}
 pub use Rattle.std.specs.Simd.Lanes.{mask_l, zip2, top}
 pub use Rattle.memchr.specs.Find.{IsFirstByte, is_byte}
-pub use Rattle.cweb_input.specs.Include.{name_after_spaces, until_name_end}
+pub use Rattle.cweb_input.specs.Include.{name_after_spaces}
+pub use Rattle.cweb_input.specs.inner.NameEnds.{until_name_end}
 pub use Rattle.cweb_input.specs.Lines.{CutLine, onto_first, cut_lines, trimmed}
 pub use Rattle.cweb_input.specs.declared.limits.TheConstants.{LINE_LENGTH}
 pub use Rattle.cweb_input.specs.declared.source.LineFault.TheVariants.{TooLong}

@@ -1,14 +1,18 @@
 -- What a search under two names finds.
 use Rattle.cweb_input.proofs.Common.{◌≡◌, ℕ, Bool, true, false, List, Option, Some, None, Err, refl, sym, ◌∙◌, ap}
-use Rattle.std.specs.Prelude.{Result, Ok, IfOk, OnOk}
+use Rattle.std.specs.Prelude.{Result, Ok, IfOk, OnOk, if◌then◌else◌}
 use Rattle.std.specs.Str.{IsUtf8, is_utf8}
 use Rattle.std.proofs.lemmas.Str.{IsUtf8-from_is_utf8, is_utf8-from_IsUtf8}
-use Rattle.cweb_input.specs.Include.{World, Found, found_under, first_found, in_folder, found_if, found_at}
+use Rattle.std.specs.Option.{option_or}
+use Rattle.cweb_input.specs.Include.{World, Found, found_under, in_folder, found_at}
+
+abbrev found_when : Bool → World → List ℕ → Option Found
+found_when b world name = if b then option_or (found_under world.texts name) (in_folder world name) else None
 
 pub found_nothing : (world : World) (name : List ℕ) → (IsUtf8 name → ⊥) → None ≡ found_at world name
 found_nothing world name not = by (is_utf8 name) refl
   where
-    by : (b : Bool) → is_utf8 name ≡ b → None ≡ found_if b world name
+    by : (b : Bool) → is_utf8 name ≡ b → None ≡ found_when b world name
     by false is = refl
     by true is = absurd (not (IsUtf8-from_is_utf8 name is))
 
@@ -17,17 +21,16 @@ module _ (texts : List ℕ → Option (List ℕ)) (inputs : Option (List ℕ)) (
   abbrev world : World
   world = record { texts = texts; inputs = inputs }
 
-  pub found_first : (found : Found) → Some found ≡ found_under bytes (texts bytes) → Some found ≡ found_at world name
+  pub found_first : (found : Found) → Some found ≡ found_under texts bytes → Some found ≡ found_at world name
   found_first found is =
-      ap (λ f. first_found f (in_folder inputs texts name)) (is ∙ ap (λ n. found_under n (texts n)) same)
-      ∙ ap (λ b. found_if b world name) (sym (is_utf8-from_IsUtf8 name text))
+      ap (λ f. option_or f (in_folder world name)) (is ∙ ap (found_under texts) same)
+      ∙ ap (λ b. found_when b world name) (sym (is_utf8-from_IsUtf8 name text))
 
-  pub found_second : (found : Option (Found)) → None ≡ found_under bytes (texts bytes)
-      → found ≡ in_folder inputs texts name →
+  pub found_second : (found : Option (Found)) → None ≡ found_under texts bytes → found ≡ in_folder world name →
       found ≡ found_at world name
   found_second found none is =
-      is ∙ ap (λ f. first_found f (in_folder inputs texts name)) (none ∙ ap (λ n. found_under n (texts n)) same)
-      ∙ ap (λ b. found_if b world name) (sym (is_utf8-from_IsUtf8 name text))
+      is ∙ ap (λ f. option_or f (in_folder world name)) (none ∙ ap (found_under texts) same)
+      ∙ ap (λ b. found_when b world name) (sym (is_utf8-from_IsUtf8 name text))
 
 pub IfOk-map : {A E : Type 0} {P Q : A → Type 0} (r : Result A E) → ((x : A) → P x → Q x) → IfOk r P → IfOk r Q
 IfOk-map (Ok x) f p = f x p

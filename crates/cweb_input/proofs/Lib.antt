@@ -1,5 +1,6 @@
 pub mod Common
 pub mod Found
+mod NameEnds
 pub mod ReadersStayNamed
 pub mod SourceStacks
 pub mod TrimmedLines

@@ -1,6 +1,8 @@
 -- Include lines, and how the files of a run are found.
 use Rattle.std.specs.Prelude.{ℕ, ◌||◌, ◌&&◌, Bool, true, false, ◌==◌, List, [], ◌∷◌, ◌++◌, Option, None, Some}
-use Rattle.std.specs.Prelude.{option_map, if◌then◌else◌}
+use Rattle.std.specs.Prelude.{drop, option_map, option_and_then, option_to_list, if◌then◌else◌}
+use Rattle.std.specs.List.{before_first}
+use Rattle.std.specs.Option.{option_or}
 use Rattle.std.specs.Str.{is_utf8}
 
 -- The contents of each name, and the folder that is searched for included files.
@@ -10,9 +12,8 @@ pub record World : Type 0 where
 
 -- The line begins with `@i` or `@I`.
 abbrev pub is_include_line : List ℕ → Bool
-is_include_line [] = false
-is_include_line (a ∷ []) = false
 is_include_line (a ∷ b ∷ rest) = a == 64 && (b == 105 || b == 73)
+is_include_line _ = false
 
 -- A blank or a tab.
 abbrev pub is_space : ℕ → Bool
@@ -23,68 +24,46 @@ abbrev pub ends_name : Bool → ℕ → Bool
 ends_name true b = b == 34
 ends_name false b = is_space b || b == 34
 
--- The bytes before the end of a name.
-abbrev pub until_name_end : Bool → List ℕ → List ℕ
-until_name_end quoted [] = []
-until_name_end quoted (b ∷ bs) = if ends_name quoted b then [] else b ∷ until_name_end quoted bs
-
 -- The name after leading spaces: in double quotes, or one word.
 abbrev pub name_after_spaces : List ℕ → List ℕ
 name_after_spaces [] = []
 name_after_spaces (b ∷ bs) =
     if is_space b then name_after_spaces bs
-    else (if b == 34 then until_name_end true bs else until_name_end false (b ∷ bs))
+    else (if b == 34 then before_first (ends_name true) bs else before_first (ends_name false) (b ∷ bs))
 
 -- The name in an include line, empty if it has none.
 abbrev pub include_name : List ℕ → List ℕ
-include_name [] = []
-include_name (a ∷ []) = []
-include_name (a ∷ b ∷ rest) = name_after_spaces rest
+include_name line = name_after_spaces (drop 2 line)
 
 -- A file that was found: its name and contents.
 abbrev pub Found : Type 0
 Found = List ℕ × List ℕ
 
 -- The file of a name that has contents.
-abbrev pub found_under : List ℕ → Option (List ℕ) → Option Found
-found_under name None = None
-found_under name (Some text) = Some (name, text)
-
--- The first file that was found.
-abbrev pub first_found : Option Found → Option Found → Option Found
-first_found None other = other
-first_found (Some found) other = Some found
+abbrev pub found_under : (List ℕ → Option (List ℕ)) → List ℕ → Option Found
+found_under texts name = option_map (λ text. (name, text)) (texts name)
 
 -- The file of a name in the folder: the folder, a slash and the name.
-abbrev pub in_folder : Option (List ℕ) → (List ℕ → Option (List ℕ)) → List ℕ → Option Found
-in_folder None texts name = None
-in_folder (Some folder) texts name = found_under (folder ++ 47 ∷ name) (texts (folder ++ 47 ∷ name))
-
--- The file of a name, if it is UTF-8: under that name, else in the folder.
-abbrev pub found_if : Bool → World → List ℕ → Option Found
-found_if false world name = None
-found_if true world name = first_found (found_under name (world.texts name)) (in_folder world.inputs world.texts name)
+abbrev pub in_folder : World → List ℕ → Option Found
+in_folder world name = option_and_then (λ folder. found_under world.texts (folder ++ 47 ∷ name)) world.inputs
 
 -- The file of an include name: under that name, else in the folder. A name that isn't UTF-8 has none.
 abbrev pub found_at : World → List ℕ → Option Found
-found_at world name = found_if (is_utf8 name) world name
+found_at world name = if is_utf8 name then option_or (found_under world.texts name) (in_folder world name) else None
 
 -- The web: under its name, else under the second name.
 abbrev pub web_at : (List ℕ → Option (List ℕ)) → List ℕ → Option (List ℕ) → Option Found
-web_at texts web None = found_under web (texts web)
-web_at texts web (Some second) = first_found (found_under web (texts web)) (found_under second (texts second))
+web_at texts web second = option_or (found_under texts web) (option_and_then (found_under texts) second)
 
 -- The change file. `Some None` means that none is named, and `None` that the named file isn't there.
 abbrev pub change_at : (List ℕ → Option (List ℕ)) → Option (List ℕ) → Option (Option Found)
 change_at texts None = Some None
-change_at texts (Some name) = option_map (λ found. Some found) (found_under name (texts name))
+change_at texts (Some name) = option_map Some (found_under texts name)
 
 -- The name of a file that was found, as a list.
 abbrev pub names_found : Option Found → List (List ℕ)
-names_found None = []
-names_found (Some found) = found.0 ∷ []
+names_found found = option_to_list (option_map (λ f. f.0) found)
 
 -- The contents of a file that was found.
 abbrev pub contents_found : Option Found → Option (List ℕ)
-contents_found None = None
-contents_found (Some found) = Some found.1
+contents_found found = option_map (λ f. f.1) found

@@ -6,3 +6,4 @@ pub mod TrimmedLines
 pub mod OpenSources
 pub mod Lines
 pub mod Source
+pub mod NameEnds

@@ -1,6 +1,7 @@
 // Include lines, and the names in them.
 ghost use Rattle.std.specs.Prelude.{◌≡◌, ◌≤◌, ◌<◌, ◌+◌, ℕ, List, length, take, drop};
 ghost use Rattle.cweb_input.specs.Include as spec;
+ghost use Rattle.cweb_input.specs.inner.NameEnds.{until_name_end};
 
 /// Whether a line begins with `@i` or `@I` (CWEB manual, `@i`). No blank is needed after it.
 pub fn is_include_line(line: &[u8]) -> bool
@@ -26,7 +27,7 @@ fn ends_name(quoted: bool, b: u8) -> bool
 }
 
 fn until_name_end(quoted: bool, bytes: &[u8]) -> &[u8]
-    ensures { result.now ≡ spec.until_name_end quoted bytes.now }
+    ensures { result.now ≡ until_name_end quoted bytes.now }
 {
     for i in 0..bytes.len() {
         if ends_name(quoted, bytes[i]) {

@@ -22,8 +22,11 @@ pub use Rattle.std.specs.Prelude.{Err, bytes_eq, if◌then◌else◌, nat_eq, fi
 pub use Rattle.std.specs.declared.cmp.Ordering.TheVariants.{Less, Equal, Greater}
 pub use Rattle.cweb_texts.specs.inner.Keys.{AreBytes}
 pub use Rattle.cweb_names.specs.Names.{is_prefix_of_another, Occurrence, Name, Resolution, id, spellings}
-pub use Rattle.cweb_names.specs.Names.{with_full_name, with_occurrence_name, names_from, names, beginning_from, the_one}
-pub use Rattle.cweb_names.specs.Names.{resolved_among, resolutions_from, resolutions, files_from, beginning}
+pub use Rattle.cweb_names.specs.Names.{with_full_name, with_occurrence_name, names, the_one}
+pub use Rattle.cweb_names.specs.inner.FromNumbers.{beginning_from}
+pub use Rattle.cweb_names.specs.inner.FromNumbers.{names_from}
+pub use Rattle.cweb_names.specs.Names.{resolved_among, resolutions_from, resolutions, beginning}
+pub use Rattle.cweb_names.specs.inner.FromNumbers.{files_from}
 pub use Rattle.cweb_names.specs.declared.found.Found.{Found}
 pub use Rattle.cweb_names.specs.declared.found.Found.TheVariants.{Nothing, One, Several}
 pub use Rattle.cweb_names.specs.declared.known.KnownName.{KnownName}

@@ -6,7 +6,7 @@ mod SortPrefixLemmas
 mod PrefixLemmas
 mod InsertLemmas
 pub mod NameLemmas
-mod LongerLemmas
+pub mod LongerLemmas
 pub mod OccurrenceLemmas
 pub mod OccurrenceTableLemmas
 mod NeighbourLemmas

@@ -1,5 +1,7 @@
 -- Longer names that begin with a spelling.
 use Rattle.cweb_names.proofs.Common.{◌≡◌, ℕ, zero, suc, ◌+◌, ◌<◌, Bool, true, false, not, ◌||◌, ◌&&◌, List, [], ◌∷◌, Some, length, refl, sym, ◌∙◌, ap, arith, bytes_eq, if◌then◌else◌, nat_eq, slice_get, option_map, list_any, starts_with, take-length, bytes_eq-Decides, NameId, Found, Nothing, Name, id, spellings, beginning_from, beginning, found_of, is_several, Distinct, is_prefix_of_another, not-not}
+use Rattle.std.specs.Prelude.{filter, map}
+use Rattle.std.specs.List.{enumerate_from}
 use Rattle.cweb_names.proofs.InsertLemmas.{grown, found-first}
 use Rattle.cweb_names.proofs.NameLemmas.{bytes_eq-same, bytes_eq-sym, prefix_at}
 
@@ -47,13 +49,21 @@ some-begins i q (n ∷ ns) h =
       some-begins (i + 1) q ns,
     )
 
+-- The names that begin with a prefix, with and without the first.
+pub beginning-step : (i : ℕ) (p : List ℕ) (n : Name) (ns : List Name) → beginning_from i p (n ∷ ns)
+    ≡ (if starts_with nat_eq n.text p then id i ∷ beginning_from (i + 1) p ns else beginning_from (i + 1) p ns)
+beginning-step i p n ns =
+    let rest = filter (λ (m : ℕ × Name). starts_with nat_eq m.1.text p) (enumerate_from (i + 1) ns) in
+    elim (starts_with nat_eq n.text p) as (λ b. map (λ (m : ℕ × Name). id m.0) (if b then (i, n) ∷ rest else rest)
+    ≡ (if b then id i ∷ beginning_from (i + 1) p ns else beginning_from (i + 1) p ns)) [ true ↦ refl | false ↦ refl ]
+
 -- Several names begin with a name if and only if one of them is longer.
 pub several-longer : (i : ℕ) (q : List ℕ) (ns : List Name) → Distinct (spellings ns)
     → list_any (bytes_eq q) (spellings ns) ≡ true → is_several (found_of (beginning_from i q ns)) ≡ longer ns q
 several-longer i q [] d h = cc
 several-longer i q (n ∷ ns) d h =
     let rest = found_of (beginning_from (i + 1) q ns) in
-    (elim (bytes_eq q n.text) as (λ e. bytes_eq q n.text ≡ e → (e || list_any (bytes_eq q) (spellings ns)) ≡ true →
+    ap (λ ids. is_several (found_of ids)) (beginning-step i q n ns) ∙ (elim (bytes_eq q n.text) as (λ e. bytes_eq q n.text ≡ e → (e || list_any (bytes_eq q) (spellings ns)) ≡ true →
     is_several (found_of
     (if starts_with nat_eq n.text q then id i ∷ beginning_from (i + 1) q ns else beginning_from (i + 1) q ns))
     ≡ ((starts_with nat_eq n.text q && not (bytes_eq n.text q)) || longer ns q)) [

@@ -5,7 +5,8 @@ use Rattle.std.specs.Prelude.{codes}
 use Rattle.std.specs.List.{list_all}
 use Rattle.std.proofs.lemmas.Bool.{and_parts, and_from}
 use Rattle.std.proofs.lemmas.List.Elements.{filter-append}
-use Rattle.cweb_rules.specs.Bytes.{first_is, is_white}
+use Rattle.cweb_rules.specs.Bytes.{is_white}
+use Rattle.cweb_texts.specs.Edges.{first_is}
 use Rattle.cweb_names.specs.inner.Squeezing.{is_squeezed, is_squeezed_after}
 use Rattle.cweb_names.specs.Names.{squeezed, squeezed_after}
 use Rattle.cweb_names.specs.laws.Squeezed.{is_other, HasSingleBlanks, SpellingsAreSqueezed}

@@ -1,7 +1,8 @@
 -- Occurrences of names, the names that they resolve to, and how section names are spelled.
 use Rattle.std.specs.Prelude.{ℕ, ◌+◌, Bool, not, ◌&&◌, nat_eq, List, [], ◌∷◌, ◌++◌, Option, Some, None, Result, Ok, Err}
 use Rattle.std.specs.Prelude.{map, slice_get, bytes_eq, if◌then◌else◌, true, false, nat_lt, length, codes}
-use Rattle.std.specs.List.{starts_with, list_any, position_or_len, ends_with}
+use Rattle.std.specs.Prelude.{filter, fold, option_to_list}
+use Rattle.std.specs.List.{starts_with, list_any, position_or_len, ends_with, enumerate_from}
 use Rattle.cweb_names.specs.declared.name.How.{How}
 use Rattle.cweb_names.specs.declared.name.How.TheVariants.{Full, Prefix}
 use Rattle.cweb_names.specs.declared.name.NameId.{NameId}
@@ -38,29 +39,19 @@ with_full_name i names text =
 abbrev pub with_occurrence_name : ℕ → List Name → Occurrence → List Name
 with_occurrence_name i names o = elim o.how [ Full ↦ with_full_name i names o.text | Prefix ↦ names ]
 
--- Appends the names of the occurrences from number `i` on.
-abbrev pub names_from : ℕ → List Name → List Occurrence → List Name
-names_from i names [] = names
-names_from i names (o ∷ os) = names_from (i + 1) (with_occurrence_name i names o) os
-
 -- The distinct names that are given in full, in order of their first occurrence in full.
 abbrev pub names : List Occurrence → List Name
-names os = names_from 0 [] os
+names os = fold (λ names (o : ℕ × Occurrence). with_occurrence_name o.0 names o.1) [] (enumerate_from 0 os)
 
 -- A name by its number.
 abbrev pub id : ℕ → NameId
 id n = record { 0 = n }
 
--- The names that begin with a prefix. The first name has number `n`.
-abbrev pub beginning_from : ℕ → List ℕ → List Name → List NameId
-beginning_from n prefix [] = []
-beginning_from n prefix (name ∷ names) =
-    let rest = beginning_from (n + 1) prefix names in
-    if starts_with nat_eq name.text prefix then id n ∷ rest else rest
-
 -- The names that begin with a prefix.
 abbrev pub beginning : List ℕ → List Name → List NameId
-beginning prefix names = beginning_from 0 prefix names
+beginning prefix names =
+    map (λ (n : ℕ × Name). id n.0)
+    (filter (λ (n : ℕ × Name). starts_with nat_eq n.1.text prefix) (enumerate_from 0 names))
 
 -- What an occurrence resolves to: a name or a fault.
 abbrev pub Resolution : Type 0
@@ -101,23 +92,13 @@ is_id n m = nat_eq n.0 m.0
 abbrev pub with_id : List NameId → NameId → List NameId
 with_id ns n = if list_any (is_id n) ns then ns else ns ++ n ∷ []
 
--- Appends a name, if there is one.
-abbrev pub with_some : List NameId → Option NameId → List NameId
-with_some ns None = ns
-with_some ns (Some n) = with_id ns n
-
--- Appends the name of occurrence `i`, if that names a file.
+-- Appends the name that occurrence `i` resolves to, if that names a file.
 abbrev pub with_file : List Resolution → List NameId → ℕ → Occurrence → List NameId
-with_file rs files i o = if o.is_file then with_some files (resolved_at rs i) else files
-
--- Appends the names of files from occurrence `i` on.
-abbrev pub files_from : List Resolution → List NameId → ℕ → List Occurrence → List NameId
-files_from rs files i [] = files
-files_from rs files i (o ∷ os) = files_from rs (with_file rs files i o) (i + 1) os
+with_file rs files i o = if o.is_file then fold with_id files (option_to_list (resolved_at rs i)) else files
 
 -- The names of files, in order of their first occurrence as a file.
 abbrev pub files : List Occurrence → List NameId
-files os = files_from (resolutions os) [] 0 os
+files os = fold (λ files (o : ℕ × Occurrence). with_file (resolutions os) files o.0 o.1) [] (enumerate_from 0 os)
 
 -- Replaces spans of white space by one space and trims. `gap` is the space that comes before the next other byte.
 abbrev pub squeezed_after : Bool → List ℕ → List ℕ → List ℕ

@@ -4,3 +4,4 @@ pub mod Found
 pub mod Known
 pub mod OccurrenceTables
 pub mod SortPrefixes
+pub mod FromNumbers

@@ -2,7 +2,8 @@
 
 ghost use Rattle.std.specs.Prelude.{◌≡◌, ◌<◌, ◌+◌, ◌^◌, ◌++◌, ◌∷◌, [], map, length, IfOk, OnOk};
 ghost use Rattle.std.specs.Prelude.{OnErr};
-ghost use Rattle.cweb_names.specs.Names.{files_from, names, resolutions};
+ghost use Rattle.cweb_names.specs.Names.{names, resolutions};
+ghost use Rattle.cweb_names.specs.inner.FromNumbers.{files_from};
 ghost use Rattle.cweb_names.specs.surface.Names.{occurrence_of, occurrence_text, too_many};
 ghost use Rattle.cweb_names.specs.inner.OccurrenceTables.{occurrence_form};
 

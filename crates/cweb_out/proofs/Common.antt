@@ -19,8 +19,10 @@ pub use Rattle.cweb_names.specs.Names.{is_id, id}
 pub use Rattle.cweb_names.specs.declared.name.NameId.{NameId}
 pub use Rattle.cweb_names.specs.declared.name.NameRef.{NameRef}
 pub use Rattle.cweb_print.specs.Printing.{without_joined_layout, macro_token_bytes, file_token_bytes, printed_tokens}
-pub use Rattle.cweb_print.specs.Printing.{stays_joined, macro_lines, print_after, starts_line, begin_line, last_token}
-pub use Rattle.cweb_print.specs.Printing.{left_after, macro_line, mark_line, file_name, Setting, quoted, print, file}
+pub use Rattle.cweb_print.specs.Printing.{stays_joined, macro_lines, print_after, starts_line, begin_line}
+pub use Rattle.cweb_print.specs.inner.PrintParts.{last_token}
+pub use Rattle.cweb_print.specs.Printing.{left_after, macro_line, mark_line, Setting, quoted, print, file}
+pub use Rattle.cweb_print.specs.inner.PrintParts.{file_name}
 pub use Rattle.cweb_print.specs.Spacing.{sep}
 pub use Rattle.cweb_print.specs.declared.printer.class.Class.{Class}
 pub use Rattle.cweb_print.specs.inner.BufferedPrinting.{PrintsPrefix}
@@ -36,9 +38,11 @@ pub use Rattle.cweb_store.specs.Parts.{Punct, Blank, Join, Head, Tail}
 pub use Rattle.cweb_store.specs.declared.parts.Part.{Part}
 pub use Rattle.cweb_store.specs.surface.TokenModels.{token_model}
 pub use Rattle.cweb_texts.specs.Edges.{last_is}
-pub use Rattle.cweb_out.specs.Expansion.{expand, expanded_name, put, tokens_for, cycle_from, walk, ends_below, has_rank}
+pub use Rattle.cweb_out.specs.Expansion.{expand, expanded_name, put, cycle_from, walk, ends_below, has_rank}
+pub use Rattle.cweb_out.specs.inner.TokensFor.{tokens_for}
 pub use Rattle.cweb_out.specs.Expansion.{first_endless, list_ends, joined, uses, names, program, resolved_use, use_of}
-pub use Rattle.cweb_out.specs.Outputs.{Planned, Refusal, bad_name, same_name, cycle, defs_first, file_outputs}
+pub use Rattle.cweb_out.specs.Outputs.{Planned, Refusal, bad_name, same_name, cycle, file_outputs}
+pub use Rattle.cweb_out.specs.surface.RootTokens.{defs_first}
 pub use Rattle.cweb_out.specs.Outputs.{has_no_program, is_good_name, name_spelling, output_name, output_of, outputs}
 pub use Rattle.cweb_out.specs.Outputs.{planned, planned_apart, planned_ending, root_list, start_of, Output, is_slash}
 pub use Rattle.cweb_out.specs.declared.frame.Frame.{Frame}

@@ -1,7 +1,8 @@
 -- There is at most one output more than names.
 use Rattle.cweb_out.proofs.Common.{◌≡◌, ◌≤◌, ◌<◌, ◌+◌, ℕ, suc, Bool, true, false, List, [], ◌∷◌, ◌++◌, refl, arith, length, Option, Some, None, inl, inr, All, list_any, length-map, NameId, is_id, Stored, names, file_outputs, outputs, AreNew, or_cases}
 use Rattle.std.specs.Prelude.{if◌then◌else◌}
-use Rattle.cweb_names.specs.Names.{Occurrence, Resolution, with_id, with_some, with_file, files_from, resolved_at}
+use Rattle.cweb_names.specs.Names.{Occurrence, Resolution, with_id, with_file, resolved_at}
+use Rattle.cweb_names.specs.inner.FromNumbers.{with_some, files_from}
 use Rattle.cweb_names.specs.Names as spec
 use Rattle.cweb_store.proofs.BoundLemmas.{files-within}
 use Rattle.cweb_out.proofs.Paths.{new-push, is-same}

@@ -3,7 +3,7 @@ use Rattle.cweb_out.proofs.Common.{◌≡◌, ℕ, Bool, true, false, List, [], 
 use Rattle.std.specs.Prelude.{if◌then◌else◌}
 use Rattle.cweb_store.specs.Parts.{Mark}
 use Rattle.cweb_print.specs.Printing.{plain_bytes}
-use Rattle.cweb_print.specs.Spacing.{is_comment}
+use Rattle.cweb_store.specs.Parts.{is_comment}
 use Rattle.cweb_out.specs.laws.JoinedTokens.{blank_if, section_comments, OnlySectionCommentsComeBetweenJoinedTokens}
 use Rattle.cweb_out.proofs.LawLemmas.{print_goes_on}
 

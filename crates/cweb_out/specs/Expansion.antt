@@ -2,6 +2,7 @@
 use Rattle.std.specs.Prelude.{ℕ, List, [], Option, length, flat_map, option_to_list, suc, zero, ◌∷◌, None, Some, Bool}
 use Rattle.std.specs.Prelude.{false, not, find, true, ◌++◌, drop}
 use Rattle.std.specs.List.{list_all, list_any, position_or_len}
+use Rattle.std.specs.Option.{option_map_or}
 use Rattle.cweb_names.specs.declared.name.NameId.{NameId}
 use Rattle.cweb_names.specs.declared.name.NameRef.{NameRef}
 use Rattle.cweb_names.specs.Names as spec
@@ -35,14 +36,9 @@ use_of w token = []
 abbrev pub uses : Stored → List Token → List NameId
 uses w tokens = flat_map (use_of w) tokens
 
--- The tokens of an optional name.
-abbrev pub tokens_for : (NameId → List Token) → Option NameId → List Token
-tokens_for text None = []
-tokens_for text (Some n) = text n
-
 -- A use becomes the list of the name that it resolves to, or nothing if unresolved. Any other token stays.
 abbrev pub put : Stored → (NameId → List Token) → Token → List Token
-put w text (Name name) = tokens_for text (resolved_use w name)
+put w text (Name name) = option_map_or text (resolved_use w name) []
 put w text token = token ∷ []
 
 -- The list of a name, expanded to a depth. At depth 0 it is dropped.

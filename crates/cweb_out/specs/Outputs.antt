@@ -1,7 +1,9 @@
 -- The outputs of a web, their names, and the reasons to refuse them.
-use Rattle.std.specs.Prelude.{ℕ, Bool, true, false, not, ◌&&◌, ◌||◌, ◌==◌, nat_lt, List, [], ◌∷◌, ◌++◌, map, filter}
+use Rattle.std.specs.Prelude.{ℕ, Bool, not, ◌&&◌, ◌||◌, ◌==◌, nat_lt, List, [], ◌∷◌, ◌++◌, map, filter}
 use Rattle.std.specs.Prelude.{find, codes, bytes_eq, length, Option, Some, None, Result, Ok, Err, slice_index_or}
+use Rattle.std.specs.Prelude.{if◌then◌else◌}
 use Rattle.std.specs.List.{list_all, list_any, after_last}
+use Rattle.std.specs.Option.{option_map_or, option_or}
 use Rattle.std.specs.Str.{is_utf8}
 use Rattle.cweb_names.specs.declared.name.NameId.{NameId}
 use Rattle.cweb_names.specs.Names as spec
@@ -19,14 +21,10 @@ file_outputs w = filter (has_part (spec.resolutions w.occurrences) w.parts) (spe
 abbrev pub outputs : Stored → List (Option NameId)
 outputs w = None ∷ map Some (file_outputs w)
 
--- The macro definitions come first in the main file, unless a C part places them with `@h`.
-abbrev pub defs_first : Bool → List Token
-defs_first true = Defs ∷ []
-defs_first false = []
-
--- The unexpanded tokens of an output.
+-- The unexpanded tokens of an output. The macro definitions come first in the main file, unless a C part places them
+-- with `@h`.
 abbrev pub root_list : Stored → Option NameId → List Token
-root_list w None = defs_first (not (has_defs_code w.parts)) ++ program w
+root_list w None = (if not (has_defs_code w.parts) then Defs ∷ [] else []) ++ program w
 root_list w (Some n) = joined w n
 
 -- The bytes of a name.
@@ -35,8 +33,7 @@ name_spelling w n = slice_index_or (spec.spellings (spec.names w.occurrences)) n
 
 -- The file name of an output.
 abbrev pub output_name : Stored → List ℕ → Option NameId → List ℕ
-output_name w main None = main
-output_name w main (Some n) = name_spelling w n
+output_name w main output = option_map_or (name_spelling w) output main
 
 -- The byte is `/`.
 abbrev pub is_slash : ℕ → Bool
@@ -81,8 +78,7 @@ has_no_program w = not (list_any (λ (p : parts.Part). is_unnamed p.kind) w.part
 
 -- The walk begins at the file's own name, or at the first name without a rank that the program uses.
 abbrev pub start_of : Stored → Option NameId → Option NameId
-start_of w None = first_endless w (program w)
-start_of w (Some n) = Some n
+start_of w output = option_or output (first_endless w (program w))
 
 -- The first output whose expansion doesn't end is refused with its cycle.
 abbrev pub planned_ending : Stored → List ℕ → Result Planned Refusal

@@ -5,3 +5,4 @@ pub mod Plans
 pub mod Search
 pub mod Planning
 pub mod FrameStacks
+pub mod TokensFor

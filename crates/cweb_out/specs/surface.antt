@@ -1,4 +1,5 @@
 -- Definitions that public calls cite and the headline does not.
+pub mod RootTokens
 pub mod Ranks
 pub mod Outputs
 pub mod FrameSuffixes

@@ -27,12 +27,16 @@ pub use Rattle.cweb_texts.specs.declared.edges.Edge.{Edge}
 pub use Rattle.cweb_texts.specs.inner.Edges.{TokenBytesModel, is_high, is_numeric, punctuator_edge, punctuator_edge_by}
 pub use Rattle.cweb_texts.specs.inner.Edges.{token_bytes_model}
 pub use denote.Enum.Declared.{tag_of}
-pub use Rattle.cweb_print.specs.Printing.{macros, replaced_in, word_bytes, wants_backslash, quoted, plain_bytes}
+pub use Rattle.cweb_print.specs.Printing.{macros, replaced_in, word_bytes, quoted, plain_bytes}
+pub use Rattle.cweb_print.specs.inner.PrintParts.{wants_backslash}
 pub use Rattle.cweb_print.specs.Printing.{Setting, print, stays_joined, macro_line, macro_lines, macro_token_bytes}
 pub use Rattle.cweb_print.specs.Printing.{printed_tokens, without_joined_layout, print_after, file, file_token_bytes}
-pub use Rattle.cweb_print.specs.Printing.{last_token, left_after, starts_line, begin_line, mark_line, file_name}
+pub use Rattle.cweb_print.specs.Printing.{left_after, starts_line, begin_line, mark_line}
+pub use Rattle.cweb_print.specs.inner.PrintParts.{file_name}
+pub use Rattle.cweb_print.specs.inner.PrintParts.{last_token}
 pub use Rattle.cweb_print.specs.Printing.{quoted_byte, word_byte}
-pub use Rattle.cweb_print.specs.Spacing.{is_wordlike, is_literal, is_number, is_comment, begins_with, are_apart, sep}
+pub use Rattle.cweb_print.specs.Spacing.{is_wordlike, is_literal, is_number, begins_with, are_apart, sep}
+pub use Rattle.cweb_store.specs.Parts.{is_comment}
 pub use Rattle.cweb_print.specs.declared.buffer.TheConstants.{ROOM}
 pub use Rattle.cweb_print.specs.declared.printer.Printer.{Printer}
 pub use Rattle.cweb_print.specs.declared.printer.class.Class.{Class}

@@ -1,23 +1,20 @@
 -- How a list of tokens is printed, and the settings of a printer.
 use Rattle.std.specs.Prelude.{slice_index_or, ℕ, Bool, true, false, ◌&&◌, nat_le, List, [], ◌∷◌, ◌++◌, codes, decimal}
 use Rattle.std.specs.Prelude.{if◌then◌else◌, Option, Some, None, flat_map, ◌/◌, ◌%◌, map, filter, slice_index}
-use Rattle.cweb_files.specs.declared.place.Place.{Place}
+use Rattle.std.specs.Prelude.{◌||◌, unwrap_or}
+use Rattle.std.specs.List.{last_or}
 use Rattle.cweb_store.specs.Parts.{Token, Word, Number, Literal, Verbatim, Punct, Blank, Newline, Join, Defs, Head}
 use Rattle.cweb_store.specs.Parts.{Tail, Mark, is_layout, is_macro}
 use Rattle.cweb_texts.specs.Edges.{is_one_of}
 use Rattle.cweb_print.specs.Spacing.{sep}
+use Rattle.cweb_store.specs.Parts.{is_comment}
 use Rattle.cweb_store.specs.Parts as parts
 use Rattle.cweb_store.specs.Calls.{Stored, replacement}
 
 -- Whether a join is open after a token: only layout and section comments follow it.
 abbrev pub stays_joined : Bool → Token → Bool
 stays_joined joined Join = true
-stays_joined joined Blank = joined
-stays_joined joined Newline = joined
-stays_joined joined (Mark p) = joined
-stays_joined joined (Head n) = joined
-stays_joined joined (Tail n) = joined
-stays_joined joined t = false
+stays_joined joined t = (is_layout t || is_comment t) && joined
 
 -- The tokens without the layout after a join.
 abbrev pub without_joined_layout : Bool → List Token → List Token
@@ -42,10 +39,6 @@ word_byte replaced b = if nat_le 128 b then replaced b else b ∷ []
 abbrev pub word_bytes : (ℕ → List ℕ) → List ℕ → List ℕ
 word_bytes replaced bytes = flat_map (word_byte replaced) bytes
 
--- A section's number between the two parts of a comment.
-abbrev pub numbered_comment : List ℕ → ℕ → List ℕ → List ℕ
-numbered_comment before n after = before ++ (decimal n ++ after)
-
 -- The bytes of a token that don't depend on the token to its left.
 abbrev pub plain_bytes : (ℕ → List ℕ) → Token → List ℕ
 plain_bytes replaced (Word b) = word_bytes replaced b
@@ -55,8 +48,8 @@ plain_bytes replaced (Verbatim b) = b
 plain_bytes replaced (Punct b) = b
 plain_bytes replaced Blank = codes " "
 plain_bytes replaced Newline = codes "\n"
-plain_bytes replaced (Head n) = numbered_comment (codes "/*") n (codes ":*/")
-plain_bytes replaced (Tail n) = numbered_comment (codes "/*:") n (codes "*/")
+plain_bytes replaced (Head n) = codes "/*" ++ (decimal n ++ codes ":*/")
+plain_bytes replaced (Tail n) = codes "/*:" ++ (decimal n ++ codes "*/")
 plain_bytes replaced t = []
 
 -- A newline in a macro is preceded by a backslash.
@@ -81,22 +74,15 @@ macro_lines s = flat_map (macro_line s.replaced) s.macros
 -- The next token begins a line.
 abbrev pub starts_line : Option Token → Bool
 starts_line None = true
-starts_line (Some Newline) = true
-starts_line (Some (Mark p)) = true
-starts_line (Some Defs) = true
-starts_line (Some t) = false
+starts_line (Some t) = elim t [ Newline ↦ true | Mark p ↦ true | Defs ↦ true | _ ↦ false ]
 
 -- A newline, or nothing at the start of a line.
 abbrev pub begin_line : Option Token → List ℕ
 begin_line left = if starts_line left then [] else codes "\n"
 
--- A quote or a backslash.
-abbrev pub wants_backslash : ℕ → Bool
-wants_backslash b = is_one_of (codes "\"\\") b
-
--- A byte of a quoted file name.
+-- A byte of a quoted file name. A quote or a backslash is preceded by a backslash.
 abbrev pub quoted_byte : ℕ → List ℕ
-quoted_byte b = if wants_backslash b then 92 ∷ b ∷ [] else b ∷ []
+quoted_byte b = if is_one_of (codes "\"\\") b then 92 ∷ b ∷ [] else b ∷ []
 
 -- The bytes of a quoted file name.
 abbrev pub quoted : List ℕ → List ℕ
@@ -106,13 +92,9 @@ quoted name = flat_map quoted_byte name
 abbrev pub mark_line : List ℕ → ℕ → List ℕ
 mark_line name line = codes "#line " ++ (decimal line ++ (codes " \"" ++ (quoted name ++ codes "\"\n")))
 
--- The file name of a line mark.
-abbrev pub file_name : Setting → Place → List ℕ
-file_name s p = slice_index_or s.files p.file.0 []
-
 -- The bytes of a token in a file, after the token to its left.
 abbrev pub file_token_bytes : Setting → Option Token → Token → List ℕ
-file_token_bytes s left (Mark p) = begin_line left ++ mark_line (file_name s p) p.line
+file_token_bytes s left (Mark p) = begin_line left ++ mark_line (slice_index_or s.files p.file.0 []) p.line
 file_token_bytes s left Defs = begin_line left ++ macro_lines s
 file_token_bytes s left t = plain_bytes s.replaced t
 
@@ -120,14 +102,9 @@ file_token_bytes s left t = plain_bytes s.replaced t
 abbrev pub print : Setting → List Token → List ℕ
 print s ts = printed_tokens (file_token_bytes s) ts
 
--- The last token of a list, or the one before it.
-abbrev pub last_token : Option Token → List Token → Option Token
-last_token left [] = left
-last_token left (t ∷ ts) = last_token (Some t) ts
-
 -- The last printed token of a list.
 abbrev pub left_after : List Token → Option Token
-left_after ts = last_token None (without_joined_layout false ts)
+left_after ts = last_or None (without_joined_layout false ts)
 
 -- All bytes of a file. Its last line is ended.
 abbrev pub file : Setting → List Token → List ℕ
@@ -141,14 +118,9 @@ hex_digit n = slice_index (codes "0123456789ABCDEF") n
 abbrev pub default_replacement : ℕ → List ℕ
 default_replacement b = 88 ∷ hex_digit (b / 16) ∷ hex_digit (b % 16) ∷ []
 
--- Optional bytes, or a default.
-abbrev pub bytes_or : List ℕ → Option (List ℕ) → List ℕ
-bytes_or default None = default
-bytes_or default (Some text) = text
-
 -- The replacement of a byte in a store.
 abbrev pub replaced_in : Stored → ℕ → List ℕ
-replaced_in w b = bytes_or (default_replacement b) (replacement w.replacements b)
+replaced_in w b = unwrap_or (replacement w.replacements b) (default_replacement b)
 
 -- The tokens of each macro, in order.
 abbrev pub macros : Stored → List (List Token)

@@ -2,36 +2,23 @@
 use Rattle.std.specs.Prelude.{ℕ, Bool, true, false, ◌||◌, ◌&&◌, ◌==◌, not, List, [], codes, if◌then◌else◌, Option, Some}
 use Rattle.std.specs.Prelude.{None}
 use Rattle.cweb_texts.specs.Edges.{first_is, is_one_of, is_operator, last_is}
-use Rattle.cweb_store.specs.Parts.{Token, Word, Number, Literal, Verbatim, Punct, Join, Head, Tail}
+use Rattle.cweb_store.specs.Parts.{Token, Word, Number, Literal, Verbatim, Punct, Join, is_comment}
 
 -- Words, numbers and literals.
 abbrev pub is_wordlike : Token → Bool
-is_wordlike (Word b) = true
-is_wordlike (Number b) = true
-is_wordlike (Literal b) = true
-is_wordlike t = false
+is_wordlike t = elim t [ Word b ↦ true | Number b ↦ true | Literal b ↦ true | _ ↦ false ]
 
 -- The token is a Literal.
 abbrev pub is_literal : Token → Bool
-is_literal (Literal b) = true
-is_literal t = false
+is_literal t = elim t [ Literal b ↦ true | _ ↦ false ]
 
 -- The token is a Number.
 abbrev pub is_number : Token → Bool
-is_number (Number b) = true
-is_number t = false
-
--- A section comment.
-abbrev pub is_comment : Token → Bool
-is_comment (Head n) = true
-is_comment (Tail n) = true
-is_comment t = false
+is_number t = elim t [ Number b ↦ true | _ ↦ false ]
 
 -- A Join or Verbatim bytes.
 abbrev pub is_join_or_verbatim : Token → Bool
-is_join_or_verbatim Join = true
-is_join_or_verbatim (Verbatim b) = true
-is_join_or_verbatim t = false
+is_join_or_verbatim t = elim t [ Join ↦ true | Verbatim b ↦ true | _ ↦ false ]
 
 -- A punctuator whose first byte passes a test.
 abbrev pub begins_with : (ℕ → Bool) → Token → Bool

@@ -21,17 +21,20 @@ pub use Rattle.std.specs.Prelude.{codes, if◌then◌else◌, nat_le, nat_lt, mi
 pub use Rattle.std.specs.List.{list_any}
 pub use Rattle.cweb_files.specs.declared.place.Place.{Place}
 pub use Rattle.memchr.specs.Find.{IsFirstByte, is_byte2, is_byte3, is_byte}
-pub use Rattle.cweb_rules.specs.Bytes.{is_blank, is_line_end, is_word_byte, begins, first_is, starts_section, is_one_of}
+pub use Rattle.cweb_rules.specs.Bytes.{is_blank, is_line_end, is_word_byte, begins, starts_section}
+pub use Rattle.cweb_texts.specs.Edges.{first_is, is_one_of}
 pub use Rattle.cweb_rules.specs.Bytes.{at_line_end, is_delimiter, is_digit, is_gap, is_octal, is_hex}
 pub use Rattle.cweb_rules.specs.Bytes.{is_replacing, starts_number, listed, longest, number_len, continues_number}
 pub use Rattle.cweb_rules.specs.Codes.{in_c, in_limbo, in_tex, in_macro}
-pub use Rattle.cweb_rules.specs.Constants.{letter, constant, character, escapes, escaped, octal_value, octal}
+pub use Rattle.cweb_rules.specs.Constants.{letter, constant, character, escapes, escaped, octal}
+pub use Rattle.cweb_rules.specs.inner.FaultyConstants.{octal_value}
 pub use Rattle.cweb_rules.specs.Constants.{after_backslash, is_plain_character, character_at, faulty_size, constant_of}
-pub use Rattle.cweb_rules.specs.Constants.{hex_at, letter_with, letter_after, ends_faulty}
-pub use Rattle.cweb_rules.specs.Items.{Reach, reach_in, with_unit, reach_size, body, reach, reach_of_literal}
-pub use Rattle.cweb_rules.specs.Items.{look_in_literal, look_in_comment, reach_of_control_text, reach_of_name}
-pub use Rattle.cweb_rules.specs.Items.{reach_of_included_name, look_in_control, look_in_name, look_in_include}
-pub use Rattle.cweb_rules.specs.Items.{look_in_raw, reach_of_raw_literal, reach_of_comment, reach_of_line_comment}
+pub use Rattle.cweb_rules.specs.Constants.{hex_at, letter_with, letter_after}
+pub use Rattle.cweb_rules.specs.inner.FaultyConstants.{ends_faulty}
+pub use Rattle.cweb_rules.specs.Items.{Reach, reach_in, with_unit, reach_size, body, reach}
+pub use Rattle.cweb_rules.specs.Items.{look_in_literal, look_in_comment}
+pub use Rattle.cweb_rules.specs.Items.{look_in_control, look_in_name, look_in_include}
+pub use Rattle.cweb_rules.specs.Items.{look_in_raw, reach_of_comment, reach_of_line_comment}
 pub use Rattle.cweb_rules.specs.Items.{opener_len, unit_bytes, unescaped}
 pub use Rattle.cweb_rules.specs.Matches.{c_match, tex_match, starts_raw, starts_literal, starts_include, section_match}
 pub use Rattle.cweb_rules.specs.Matches.{found_letter_match, effect_match, code_match, comment_match}
@@ -42,6 +45,8 @@ pub use Rattle.cweb_rules.specs.Matches.{raw_closer, include_match, macro_match,
 pub use Rattle.cweb_rules.specs.Matches.{head_match, RuleMatch, Kind, Code, Section, Blanks, LineEnd, Quoted}
 pub use Rattle.cweb_rules.specs.Matches.{Identifier, Numeral, Punctuator, rule_match, Comment, Skipped, Letter}
 pub use Rattle.cweb_rules.specs.Matches.{Verbatim, Constant, Occurrence, Defined}
+pub use Rattle.cweb_rules.specs.inner.Reaches.{reach_of_control_text, reach_of_name, reach_of_literal}
+pub use Rattle.cweb_rules.specs.inner.Reaches.{reach_of_included_name, reach_of_raw_literal}
 pub use Rattle.cweb_rules.specs.declared.constants.Character.{Character}
 pub use Rattle.cweb_rules.specs.declared.constants.Transliteration.{Transliteration}
 pub use Rattle.cweb_rules.specs.declared.constants.Valued.{Valued}

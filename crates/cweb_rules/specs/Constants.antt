@@ -1,11 +1,12 @@
 -- The ASCII constants of `@'` and the transliterations of `@l`.
 use Rattle.std.specs.Prelude.{ℕ, ◌+◌, ◌*◌, ◌-◌, Bool, ◌||◌, ◌&&◌, ◌==◌, nat_le, nat_lt, min, List, [], ◌∷◌, length}
-use Rattle.std.specs.Prelude.{take, drop, codes, if◌then◌else◌, Option, Some, None, not}
+use Rattle.std.specs.Prelude.{take, drop, codes, if◌then◌else◌, Option, Some, None, not, option_and_then}
 use Rattle.std.specs.List.{fold, prefix_len, position_or_len}
 use Rattle.cweb_rules.specs.declared.constants.Character.{Character}
 use Rattle.cweb_rules.specs.declared.constants.Valued.{Valued}
 use Rattle.cweb_rules.specs.declared.constants.Transliteration.{Transliteration}
-use Rattle.cweb_rules.specs.Bytes.{begins, is_one_of, is_octal, is_hex, is_digit, is_gap, is_replacing, is_line_end}
+use Rattle.cweb_rules.specs.Bytes.{begins, is_octal, is_hex, is_digit, is_gap, is_replacing, is_line_end}
+use Rattle.cweb_texts.specs.Edges.{is_one_of}
 use Rattle.cweb_rules.specs.Bytes.{lower}
 
 -- A character with its code and the bytes that it is written with.
@@ -22,14 +23,10 @@ abbrev pub escaped : List (ℕ × ℕ) → List ℕ → Option Character
 escaped [] t = None
 escaped (e ∷ es) t = if begins (e.0 ∷ []) t then character e.1 2 else escaped es t
 
--- The value of octal digits.
-abbrev pub octal_value : List ℕ → ℕ
-octal_value digits = fold (λ n b. n * 8 + (b - 48)) 0 digits
-
--- The escape sequence of octal digits, if it is at most octal 377.
+-- The escape sequence of octal digits, if their value is at most octal 377.
 abbrev pub octal : List ℕ → Option Character
 octal digits =
-    let n = octal_value digits in
+    let n = fold (λ n b. n * 8 + (b - 48)) 0 digits in
     if nat_le n 255 then character n (1 + length digits) else None
 
 -- The escape sequence after `\`: up to three octal digits, or a letter.
@@ -50,14 +47,10 @@ character_at (b ∷ t) =
     else (if begins (codes "\\") (b ∷ t) then after_backslash t
     else (if is_plain_character b then character b 1 else None))
 
--- A faulty constant ends at `'` or a newline.
-abbrev pub ends_faulty : ℕ → Bool
-ends_faulty b = (b == 39) || is_line_end b
-
--- The size of a faulty constant, which includes its `'`, but not a newline.
+-- The size of a faulty constant. It ends at `'`, which is included, or at a newline.
 abbrev pub faulty_size : List ℕ → ℕ
 faulty_size t =
-    let n = position_or_len ends_faulty t in
+    let n = position_or_len (λ b. (b == 39) || is_line_end b) t in
     if begins (codes "'") (drop n t) then n + 1 else n
 
 -- A constant is one character and `'`. Anything else is faulty.
@@ -77,11 +70,10 @@ hex_value b = if is_digit b then b - 48 else lower b - 87
 
 -- The value of two hexadecimal digits, if it is 0x80 or more.
 abbrev pub hex_at : List ℕ → Option ℕ
-hex_at [] = None
-hex_at (a ∷ []) = None
 hex_at (a ∷ b ∷ t) =
     let n = 16 * hex_value a + hex_value b in
     if is_hex a && is_hex b && nat_le 128 n then Some n else None
+hex_at _ = None
 
 -- At least one space or tab, then the longest span of letters, digits and `_`, which may be empty.
 abbrev pub letter_with : ℕ → ℕ → ℕ → List ℕ → Option Transliteration
@@ -91,10 +83,8 @@ letter_with byte start gap t =
 
 -- The two digits, and their replacement.
 abbrev pub letter_after : ℕ → List ℕ → Option Transliteration
-letter_after gap t = elim (hex_at t) [
-  | None ↦ None
-  | Some byte ↦ letter_with byte (gap + 2) (prefix_len is_gap (drop 2 t)) (drop 2 t)
-]
+letter_after gap t =
+    option_and_then (λ byte. letter_with byte (gap + 2) (prefix_len is_gap (drop 2 t)) (drop 2 t)) (hex_at t)
 
 -- What follows `@l`: spaces and tabs, then the two digits.
 abbrev pub letter : List ℕ → Option Transliteration

@@ -55,10 +55,6 @@ look_in_control t =
     else (if begins (codes "@") t || at_line_end t then Ends 0 Cut
     else Goes 1))
 
--- The control text after its code.
-abbrev pub reach_of_control_text : List ℕ → Reach
-reach_of_control_text t = reach look_in_control Cut t
-
 -- `@>` closes a name. `@<`, `@(` and a section start end it before their `@`. Another `@` and its next byte are a unit.
 abbrev pub look_in_name : List ℕ → Look
 look_in_name t =
@@ -66,10 +62,6 @@ look_in_name t =
     else (if begins (codes "@<") t || begins (codes "@(") t then Ends 0 Nested
     else (if starts_section t then Ends 0 Cut
     else (if begins (codes "@") t then Goes 2 else Goes 1)))
-
--- The name after `@<` or `@(`.
-abbrev pub reach_of_name : List ℕ → Reach
-reach_of_name t = reach look_in_name Cut t
 
 -- The length of an opener of a part: spaces and tabs, then `=` or `+=` without a further `=`. It is 0 if there is none.
 abbrev pub opener_len : List ℕ → ℕ
@@ -102,10 +94,6 @@ look_in_literal quote t =
     else (if begins (codes "\\@") t then Goes 1
     else (if begins (codes "\\") t || begins (codes "@@") t then Goes 2 else Goes 1)))
 
--- The literal after its opening quote.
-abbrev pub reach_of_literal : ℕ → List ℕ → Reach
-reach_of_literal quote t = reach (look_in_literal quote) Cut t
-
 -- `>` closes an included name, and a line end cuts it. `@@` is a unit.
 abbrev pub look_in_include : List ℕ → Look
 look_in_include t =
@@ -113,17 +101,9 @@ look_in_include t =
     else (if at_line_end t then Ends 0 Cut
     else (if begins (codes "@@") t then Goes 2 else Goes 1))
 
--- The included name after its `<`.
-abbrev pub reach_of_included_name : List ℕ → Reach
-reach_of_included_name t = reach look_in_include Cut t
-
 -- Its closer or a section start ends a raw literal. `@@` is a unit.
 abbrev pub look_in_raw : List ℕ → List ℕ → Look
 look_in_raw sign t =
     if begins sign t then Ends (length sign) Closed
     else (if starts_section t then Ends 0 Cut
     else (if begins (codes "@@") t then Goes 2 else Goes 1))
-
--- The raw literal after its `(`.
-abbrev pub reach_of_raw_literal : List ℕ → List ℕ → Reach
-reach_of_raw_literal sign t = reach (look_in_raw sign) Cut t

@@ -5,7 +5,8 @@ use Rattle.std.specs.List.{prefix_len}
 use Rattle.cweb_rules.specs.declared.effect.Effect.{Effect}
 use Rattle.cweb_rules.specs.declared.end.End.{End}
 use Rattle.cweb_rules.specs.declared.fault.ScanKind.TheVariants.{ImproperHexNumber}
-use Rattle.cweb_rules.specs.Bytes.{is_blank, is_line_end, is_word_byte, is_delimiter, begins, first_is, at_line_end}
+use Rattle.cweb_rules.specs.Bytes.{is_blank, is_line_end, is_word_byte, is_delimiter, begins, at_line_end}
+use Rattle.cweb_texts.specs.Edges.{first_is}
 use Rattle.cweb_rules.specs.Bytes.{starts_section, listed, longest, number_len, starts_number}
 use Rattle.cweb_rules.specs.declared.effect.Effect.TheVariants.{Named, Faulty}
 use Rattle.cweb_rules.specs.declared.context.Context.{Context}
@@ -14,10 +15,9 @@ use Rattle.cweb_rules.specs.Codes.{in_limbo, in_tex, in_macro, in_c}
 use Rattle.cweb_rules.specs.declared.effect.Effect.TheVariants as effect
 use Rattle.cweb_rules.specs.Constants.{constant, letter}
 use Rattle.cweb_rules.specs.declared.constants.Transliteration.{Transliteration}
-use Rattle.cweb_rules.specs.Items.{Reach, body, reach_size, reach_of_control_text, reach_of_name, opener_len}
-use Rattle.cweb_rules.specs.Items.{reach_of_comment, reach_of_line_comment, reach_of_literal, reach_of_included_name}
-use Rattle.cweb_rules.specs.Items.{reach_of_raw_literal}
-use Rattle.cweb_rules.specs.declared.end.End.TheVariants.{Closed}
+use Rattle.cweb_rules.specs.Items.{Reach, body, reach, reach_size, reach_of_comment, reach_of_line_comment, opener_len}
+use Rattle.cweb_rules.specs.Items.{look_in_control, look_in_name, look_in_literal, look_in_include, look_in_raw}
+use Rattle.cweb_rules.specs.declared.end.End.TheVariants.{Closed, Cut}
 use Rattle.cweb_rules.specs.declared.constants.TheConstants.{MAX_REPLACEMENT}
 use Rattle.cweb_rules.specs.declared.literals.TheConstants.{MAX_DELIMITER}
 
@@ -61,11 +61,11 @@ section_match t = if begins (codes "@*") t then rule_match (Section true) 2 else
 
 -- A control text with its code and closer.
 abbrev pub control_text_match : List ℕ → RuleMatch
-control_text_match t = let r = reach_of_control_text (drop 2 t) in rule_match (ControlText r.how) (2 + reach_size r)
+control_text_match t = let r = reach look_in_control Cut (drop 2 t) in rule_match (ControlText r.how) (2 + reach_size r)
 
 -- A control text that is emitted verbatim.
 abbrev pub verbatim_match : List ℕ → RuleMatch
-verbatim_match t = let r = reach_of_control_text (drop 2 t) in rule_match (Verbatim r.units r.how) (2 + reach_size r)
+verbatim_match t = let r = reach look_in_control Cut (drop 2 t) in rule_match (Verbatim r.units r.how) (2 + reach_size r)
 
 -- An ASCII constant with its `@'`.
 abbrev pub constant_match : List ℕ → RuleMatch
@@ -90,7 +90,7 @@ opener_after _ t = 0
 -- A name. Its size includes the opener where that opens a part (`takes_sign`).
 abbrev pub name_match : Bool → List ℕ → RuleMatch
 name_match with_opener t =
-    let r = reach_of_name (drop 2 t) in
+    let r = reach look_in_name Cut (drop 2 t) in
     let size = 2 + reach_size r in
     let sign = opener_after r.how (drop size t) in
     rule_match (Occurrence (begins (codes "@(") t) r.units r.how (nat_lt 0 sign))
@@ -107,9 +107,8 @@ effect_match e with_opener t = rule_match (Code e) 2
 
 -- A control code: `@` and the next byte.
 abbrev pub code_match : (ℕ → Effect) → Bool → List ℕ → RuleMatch
-code_match effect with_opener [] = rule_match Skipped 0
-code_match effect with_opener (a ∷ []) = rule_match Skipped 1
 code_match effect with_opener (a ∷ b ∷ t) = effect_match (effect b) with_opener (a ∷ b ∷ t)
+code_match effect with_opener t = rule_match Skipped (length t)
 
 -- In limbo and TeX every byte except `@` is skipped.
 abbrev pub tex_match : (ℕ → Effect) → List ℕ → RuleMatch
@@ -154,7 +153,7 @@ quote_of t = if begins (codes "'") t then 39 else 34
 abbrev pub literal_match : List ℕ → RuleMatch
 literal_match t =
     let n = literal_prefix t in
-    quoted_match (n + 1) (reach_of_literal (quote_of (drop n t)) (drop (n + 1) t)) t
+    quoted_match (n + 1) (reach (look_in_literal (quote_of (drop n t))) Cut (drop (n + 1) t)) t
 
 -- The length of `L`, `u`, `U` or `u8` before `R"`.
 abbrev pub raw_prefix : List ℕ → ℕ
@@ -183,20 +182,19 @@ abbrev pub raw_match : List ℕ → RuleMatch
 raw_match t =
     let m = raw_prefix t + 2 in
     let n = m + length (delimiter (drop m t)) + 1 in
-    quoted_match n (reach_of_raw_literal (raw_closer (drop m t)) (drop n t)) t
+    quoted_match n (reach (look_in_raw (raw_closer (drop m t))) Cut (drop n t)) t
 
 -- The item ended by its closer.
 abbrev pub is_closed : End → Bool
-is_closed Closed = true
-is_closed _ = false
+is_closed how = elim how [ Closed ↦ true | _ ↦ false ]
 
 -- An included name is next: `<` with a `>` later in its line.
 abbrev pub starts_include : List ℕ → Bool
-starts_include t = begins (codes "<") t && is_closed (reach_of_included_name (drop 1 t)).how
+starts_include t = begins (codes "<") t && is_closed (reach look_in_include Cut (drop 1 t)).how
 
 -- An included name with its `<` and `>`.
 abbrev pub include_match : List ℕ → RuleMatch
-include_match t = quoted_match 1 (reach_of_included_name (drop 1 t)) t
+include_match t = quoted_match 1 (reach look_in_include Cut (drop 1 t)) t
 
 -- C text: the first rule that applies.
 abbrev pub c_match : (ℕ → Effect) → Bool → Bool → List ℕ → RuleMatch

@@ -8,3 +8,5 @@ pub mod Looks
 pub mod PlainBytes
 pub mod Rules
 pub mod LineItems
+pub mod Reaches
+pub mod FaultyConstants

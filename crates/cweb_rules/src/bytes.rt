@@ -2,6 +2,7 @@
 ghost use Rattle.std.specs.Prelude.{◌≡◌, ◌≤◌, IsTrue, length, take, true};
 ghost use Rattle.std.specs.List.{prefix_len};
 ghost use Rattle.cweb_rules.specs.Bytes as spec;
+ghost use Rattle.cweb_texts.specs.Edges.{first_is};
 ghost use Rattle.cweb_rules.specs.inner.ByteClasses.{in_class};
 
 /// A class of bytes.
@@ -113,7 +114,7 @@ impl Class {
 
 /// Whether the first byte is in a class.
 pub fn starts(class: Class, text: &[u8]) -> bool
-    ensures { result ≡ spec.first_is (in_class class) text.now }
+    ensures { result ≡ first_is (in_class class) text.now }
 {
     match text {
         [first, ..] => class.has(*first),
@@ -188,7 +189,7 @@ fn span_len_bytewise(class: Class, text: &[u8]) -> usize
 /// `span_len` if the first byte is known to be in the class. That byte isn't tested again.
 #[inline(always)]
 pub fn nonempty_span_len(class: Class, text: &[u8]) -> usize
-    requires first { spec.first_is (in_class class) text.now ≡ true }
+    requires first { first_is (in_class class) text.now ≡ true }
     ensures value { result ≡ prefix_len (in_class class) text.now }
     ensures within { result ≤ length text.now }
     ensures some { 1 ≤ result }

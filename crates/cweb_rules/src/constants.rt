@@ -3,6 +3,7 @@ ghost use Rattle.std.specs.Prelude.{◌≡◌, ◌≤◌, ◌<◌, ◌+◌, leng
 ghost use Rattle.std.specs.List.{position_or_len};
 ghost use Rattle.cweb_rules.specs.Bytes as bytes;
 ghost use Rattle.cweb_rules.specs.Constants as spec;
+ghost use Rattle.cweb_rules.specs.inner.FaultyConstants.{ends_faulty, octal_value};
 
 use crate::bytes::{Class, begins, is_digit, is_hex, span_len};
 
@@ -57,7 +58,7 @@ fn escaped(text: &[u8]) -> Option<Character>
 
 fn octal_value(digits: &[u8]) -> u32
     requires { length digits.now ≤ 3 }
-    ensures { result ≡ spec.octal_value digits.now }
+    ensures { result ≡ octal_value digits.now }
 {
     let mut value = 0;
     for digit in digits {
@@ -125,7 +126,7 @@ fn character_at(text: &[u8]) -> Option<Character>
 
 // The length up to the first `'` or newline, where a faulty constant ends.
 fn faulty_len(text: &[u8]) -> usize
-    ensures value { result ≡ position_or_len spec.ends_faulty text.now }
+    ensures value { result ≡ position_or_len ends_faulty text.now }
     ensures within { result ≤ length text.now }
 {
     for (i, byte) in text.iter().enumerate() {

@@ -2,7 +2,7 @@
 
 ghost use Rattle.std.specs.Prelude.{◌≡◌, ◌+◌, ℕ, Bool, true, false, List, ◌∷◌, ◌++◌, codes, length};
 ghost use Rattle.std.specs.List.{list_all};
-ghost use Rattle.cweb_rules.specs.Bytes.{first_is};
+ghost use Rattle.cweb_texts.specs.Edges.{first_is};
 ghost use Rattle.cweb_rules.specs.laws.Follows.{JoinsAll, IsToken, continues_lexeme, begins_as};
 ghost use Rattle.cweb_rules.specs.laws.Follows.{is_quiet};
 ghost use Rattle.cweb_rules.specs.Matches.{match_in, Kind, Comment, rule_match};

@@ -1,6 +1,7 @@
 // Punctuators of C text.
 ghost use Rattle.std.specs.Prelude.{◌≡◌, ◌∷◌, []};
-ghost use Rattle.cweb_rules.specs.Bytes.{is_one_of, listed, longest};
+ghost use Rattle.cweb_rules.specs.Bytes.{listed, longest};
+ghost use Rattle.cweb_texts.specs.Edges.{is_one_of};
 ghost use Rattle.cweb_rules.specs.inner.Punctuators.{begins_pair, begins_triple, is_listed, second_is, seconds};
 
 // Whether a byte is the second one of a listed punctuator. Most punctuators in a program have another byte after them.

@@ -1,6 +1,7 @@
 -- Openers of comments and names: reading on is reading with the item open.
 use Rattle.cweb_scan.proofs.Common.{◌≡◌, ℕ, suc, ◌+◌, Bool, true, false, List, [], ◌∷◌, take, drop, refl, ap, ◌∙◌, arith, if◌then◌else◌, codes, nat_lt, fold, Reading, on, each_line_end, enter_in, after_lexeme, blank, begins, is_line_end, reach_size, names_include, reads_c, reads_names, name_match, opener_after, comment_match, End, Comment, RuleMatch, InComment, InName, takes_opener, resume, match_in, lex, Context, Limbo, TeX, Definition, CText, ScanState, drop_definition}
 use Rattle.cweb_rules.specs.Items as items
+use Rattle.cweb_rules.specs.inner.Reaches as reaches
 use Rattle.cweb_rules.specs.Matches.{Occurrence}
 use Rattle.cweb_scan.proofs.NextMatchPays.{fair}
 use Rattle.cweb_scan.proofs.FirstLexeme.{pieces_first}
@@ -79,7 +80,7 @@ opened_as : (r : Reading) (a : ℕ) (is_file : Bool) (w : List ℕ)
     → match_in r.state.context (names_include r.state) (64 ∷ a ∷ w) ≡ name_match (takes_in r.state.context) (64 ∷ a ∷ w)
     → lex r (64 ∷ a ∷ w) ≡ resume (InName r.state.here is_file []) w (on leave_head r)
 opened_as r a is_file w file in_line h =
-    let m = items.reach_of_name w in
+    let m = reaches.reach_of_name w in
     let n = reach_size m in
     let c = r.state.context in
     let t = 64 ∷ a ∷ w in
@@ -92,6 +93,7 @@ opened_as r a is_file w file in_line h =
       name_size-two (takes_in c) n sign,
       enter_name c is_file m.units m.how (nat_lt 0 sign) r.state,
       each_line_end,
+      fold,
       in_line,
       here_same c r.state,
       takes_same c r.state refl,

@@ -54,7 +54,8 @@ pub use Rattle.cweb_rules.proofs.Reaches.{IsEnd, IsLocal}
 pub use Rattle.cweb_rules.proofs.Seams.{begins_line, in_line, stops}
 pub use Rattle.cweb_rules.proofs.UnitNewlines.{drop-sum, Tells, ends-append}
 pub use Rattle.cweb_rules.proofs.Walks.{punctuator_fits}
-pub use Rattle.cweb_rules.specs.Bytes.{begins, starts_section, is_blank, is_line_end, is_digit, is_word_byte, first_is}
+pub use Rattle.cweb_rules.specs.Bytes.{begins, starts_section, is_blank, is_line_end, is_digit, is_word_byte}
+pub use Rattle.cweb_texts.specs.Edges.{first_is}
 pub use Rattle.cweb_rules.specs.Bytes.{at_line_end, is_white, listed, longest, number_len, starts_number}
 pub use Rattle.cweb_rules.specs.Codes.{in_tex, in_macro, in_c}
 pub use Rattle.cweb_rules.specs.Items.{reach_size, Reach, body, with_unit, reach_in, reach, unescaped, look_in_raw}
@@ -96,8 +97,11 @@ pub use Rattle.cweb_rules.specs.inner.Quotes.{quote_byte}
 pub use Rattle.cweb_rules.specs.inner.Rules.{c_rule, c_match_by}
 pub use Rattle.cweb_rules.specs.laws.Follows.{JoinsAll, IsToken, is_token, is_quiet, begins_as}
 pub use Rattle.cweb_rules.specs.laws.Pays.{owed_tokens, at_line_ends, Pays}
-pub use Rattle.cweb_store.specs.Calls.{finished, with_dropped, with_open, PartsSoFar, all_parts, with_opened_part}
-pub use Rattle.cweb_store.specs.Calls.{with_pushed_token, part_with_token, with_dropped_layout, with_closed_part}
+pub use Rattle.cweb_store.specs.Calls.{finished, with_dropped, with_open, PartsSoFar}
+pub use Rattle.cweb_store.specs.inner.OpenParts.{with_opened_part}
+pub use Rattle.cweb_store.specs.surface.Growing.{all_parts}
+pub use Rattle.cweb_store.specs.Calls.{part_with_token}
+pub use Rattle.cweb_store.specs.inner.OpenParts.{with_pushed_token, with_dropped_layout, with_closed_part}
 pub use Rattle.cweb_store.specs.Calls.{Replacement, Contents}
 pub use Rattle.cweb_store.specs.Parts.{before_last, without_last, without_blank, without_layout, protected_count}
 pub use Rattle.cweb_store.specs.Parts.{is_newline, is_layout, at_close, Token, Word, Number, Literal, Verbatim, Punct}
@@ -106,21 +110,32 @@ pub use Rattle.cweb_store.specs.declared.parts.PartKind.{PartKind}
 pub use Rattle.cweb_store.specs.declared.parts.PartKind.TheVariants.{Unnamed}
 pub use Rattle.cweb_store.specs.surface.TokenModels.{token_model}
 pub use Rattle.cweb_texts.proofs.WordLemmas.{total-append}
-pub use Rattle.cweb_scan.specs.After.{Reading, after_lexeme, blank, enter_in, stays_in_head, item, punctuator}
+pub use Rattle.cweb_scan.specs.After.{Reading, after_lexeme, blank, stays_in_head, item, punctuator}
+pub use Rattle.cweb_scan.specs.inner.ScanParts.{enter_in}
 pub use Rattle.cweb_scan.specs.After.{apply_effect, pass_control_text, emit_verbatim, define, pass_comment}
 pub use Rattle.cweb_scan.specs.After.{report_name_fault, use_name, open_name, name_in_context, emit_literal, on}
-pub use Rattle.cweb_scan.specs.After.{each_line_end, occurrence, line_end_in, line_end, comment_line_end, literal_unit}
+pub use Rattle.cweb_scan.specs.After.{each_line_end, occurrence, line_end, comment_line_end, literal_unit}
+pub use Rattle.cweb_scan.specs.inner.ScanParts.{line_end_in}
 pub use Rattle.cweb_scan.specs.After.{next_line, enter, line_end_token}
-pub use Rattle.cweb_scan.specs.Alone.{HasReadTokens, InPlainC, significant, is_hash, is_clean, token_of, code_token}
+pub use Rattle.cweb_scan.specs.Alone.{HasReadTokens, InPlainC, significant, is_hash, is_clean, token_of}
+pub use Rattle.cweb_scan.specs.inner.ScanParts.{code_token}
 pub use Rattle.cweb_scan.specs.Alone.{is_insignificant, ReadsAlone, doubled, literal_token, spelling_of, read_lines}
-pub use Rattle.cweb_scan.specs.Alone.{next_match, lexemes_in, lex, newline_prefixed, scanned, lexemes, scanned_of}
+pub use Rattle.cweb_scan.specs.Alone.{lexemes_in, lex, scanned}
+pub use Rattle.cweb_scan.specs.inner.ScanParts.{scanned_of}
+pub use Rattle.cweb_scan.specs.laws.LexemePlaces.{lexemes}
+pub use Rattle.cweb_scan.specs.laws.Law.{next_match}
+pub use Rattle.cweb_scan.specs.laws.ReaderModel.{newline_prefixed}
 pub use Rattle.cweb_scan.specs.Alone.{Scanned}
 pub use Rattle.cweb_scan.specs.DirectiveTokens.{directive_of, directive_tokens, directive_after, is_punct, ends_line}
 pub use Rattle.cweb_scan.specs.DirectiveTokens.{some_include, is_last_blank}
-pub use Rattle.cweb_scan.specs.State.{is_next_line, is_c, directive, in_directive, names_include, name_occurrence, full}
-pub use Rattle.cweb_scan.specs.State.{prefix, as_occurrence, ScanState, leave, start_state, emit, drop_definition}
-pub use Rattle.cweb_scan.specs.State.{end_macro, move_to, report, add_name, begin_section, open_part_tokens, tokens_of}
-pub use Rattle.cweb_scan.specs.State.{end_macro_in, leave_in, report_at, begin_part, end_part}
+pub use Rattle.cweb_scan.specs.State.{is_next_line, is_c, directive, in_directive, names_include, name_occurrence}
+pub use Rattle.cweb_scan.specs.inner.ScanParts.{full}
+pub use Rattle.cweb_scan.specs.State.{ScanState, leave, start_state, emit, drop_definition}
+pub use Rattle.cweb_scan.specs.inner.ScanParts.{prefix, as_occurrence}
+pub use Rattle.cweb_scan.specs.State.{end_macro, move_to, report, add_name, begin_section, open_part_tokens}
+pub use Rattle.cweb_scan.specs.inner.ScanParts.{tokens_of}
+pub use Rattle.cweb_scan.specs.State.{leave_in, report_at, begin_part, end_part}
+pub use Rattle.cweb_scan.specs.inner.ScanParts.{end_macro_in}
 pub use Rattle.cweb_scan.specs.declared.directive.Directive.{Directive}
 pub use Rattle.cweb_scan.specs.declared.directive.Stage.{Stage}
 pub use Rattle.cweb_scan.specs.declared.directive.Stage.TheVariants.{Outside, Bare, Further}

@@ -1,6 +1,6 @@
 -- The start of a line for any reader, and the end of the source.
 use Rattle.cweb_scan.proofs.Common.{◌≡◌, ◌≤◌, ℕ, ◌+◌, Bool, true, false, List, [], ◌∷◌, ◌++◌, take, drop, refl, ap, sym, ◌∙◌, subst, arith, ◌==◌, if◌then◌else◌, append-nil, Place, Line, Cut, reach_size, opener_after, Reading, on, each_line_end, emit_literal, occurrence, ReaderModel, begun_reader, after_line_end, read_on, read_after, source_ended, BeginsLine, TakesLineEnd, TakesBytes, cost, pending_cost, awaits_line_end, item_of, quote_byte, PendingItem, takes_opener, weight, lex, ScanState, move_to, AfterBackslash, Raw, Quote, Single, Double}
-use Rattle.cweb_rules.specs.Items as items
+use Rattle.cweb_rules.specs.inner.Reaches as reaches
 use Rattle.cweb_scan.specs.inner.Resume as item
 use Rattle.cweb_scan.specs.declared.reader.open.Open.{Open}
 use Rattle.cweb_scan.specs.declared.reader.open.Open.TheVariants.{Between, Comment, Name, Literal}
@@ -73,7 +73,7 @@ line_taken old mid new line lines begins took = by old.begun refl
     by false h = first_taken old mid new line lines h (begins.first h) took
 
 abbrev sign_size : Bool → ℕ
-sign_size takes = let r = items.reach_of_name [] in
+sign_size takes = let r = reaches.reach_of_name [] in
     reach_size r + (if takes then opener_after r.how (drop (reach_size r) []) else 0)
 
 no_sign : (takes : Bool) → sign_size takes ≡ 0

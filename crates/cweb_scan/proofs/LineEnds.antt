@@ -1,6 +1,7 @@
 -- The effect of a newline on a reader, for each open item.
 use Rattle.cweb_scan.proofs.Common.{◌≡◌, ℕ, suc, ◌+◌, ◌-◌, Bool, true, false, List, [], ◌∷◌, ◌++◌, take, drop, refl, ap, ◌∙◌, arith, append_assoc, ◌&&◌, ◌==◌, if◌then◌else◌, fold, Place, Context, Limbo, TeX, End, Closed, Cut, Goes, Ends, Reach, reach_size, with_unit, reach_in, match_in, opener_after, Kind, Skipped, LineEnd, RuleMatch, rule_match, Lexeme, ScanState, move_to, names_include, Reading, on, line_end_in, line_end, comment_line_end, each_line_end, pass_comment, enter_in, item, after_lexeme, lexemes_in, lex, InComment, InName, InLiteral, takes_opener, resume_literal, resume, resume_comment}
 use Rattle.cweb_rules.specs.Items as items
+use Rattle.cweb_rules.specs.inner.Reaches as reaches
 use Rattle.cweb_scan.specs.inner.Resume.{AfterBackslash}
 use Rattle.cweb_scan.proofs.TakenItems.{reading}
 use Rattle.cweb_scan.proofs.PendingLiterals.{unit_first}
@@ -40,7 +41,7 @@ comment-newline : (t : List ℕ) → items.reach_of_comment (10 ∷ t) ≡ with_
 comment-newline [] = refl
 comment-newline (b ∷ t) = refl
 
-name-newline : (t : List ℕ) → items.reach_of_name (10 ∷ t) ≡ with_unit (10 ∷ []) (items.reach_of_name t)
+name-newline : (t : List ℕ) → reaches.reach_of_name (10 ∷ t) ≡ with_unit (10 ∷ []) (reaches.reach_of_name t)
 name-newline [] = refl
 name-newline (b ∷ t) = refl
 
@@ -67,7 +68,7 @@ pub resume-name : (begun : Place) (is_file : Bool) (us : List ℕ) (q : Place)
     → resume (InName begun is_file us) (10 ∷ t) (reading s (q ∷ later))
     ≡ resume (InName begun is_file (us ++ 10 ∷ [])) t (reading (move_to q s) later)
 resume-name begun is_file us q s later t =
-    let r = items.reach_of_name t in
+    let r = reaches.reach_of_name t in
     let sign = opener_after r.how (drop (reach_size r) t) in
     let e : reach_size (with_unit (10 ∷ []) r) ≡ suc (reach_size r) = omega arith in
     let f : suc (reach_size r) + sign_size s sign ≡ suc (reach_size r + sign_size s sign) = omega arith in
@@ -75,7 +76,7 @@ resume-name begun is_file us q s later t =
 
 -- In a literal, after `\`.
 literal-newline : (quote : ℕ) (t : List ℕ) → (quote == 92) ≡ false
-    → items.reach_of_literal quote (92 ∷ 10 ∷ t) ≡ with_unit (92 ∷ 10 ∷ []) (items.reach_of_literal quote t)
+    → reaches.reach_of_literal quote (92 ∷ 10 ∷ t) ≡ with_unit (92 ∷ 10 ∷ []) (reaches.reach_of_literal quote t)
 literal-newline quote t h = ap (λ v. elim (if v && true then Ends 1 Closed else Goes 2) as (λ w. Reach) [
   | Goes n ↦ with_unit (take n (92 ∷ 10 ∷ t)) (reach_in (items.look_in_literal quote) Cut (n - 1) (10 ∷ t))
   | Ends n e ↦ record { units = []; close = n; how = e }
@@ -87,4 +88,4 @@ pub resume-literal : (begun : Place) (quote : ℕ) (us : List ℕ) (q : Place) (
     ≡ resume (InLiteral begun quote (us ++ 92 ∷ 10 ∷ [])) t (reading (move_to q s) later)
 resume-literal begun quote us q s later t h = ap (λ (v : Reach). resume_literal begun us v (92 ∷ 10 ∷ t)
     (reading s (q ∷ later))) (literal-newline quote t h)
-    ∙ unit_first begun us (92 ∷ 10 ∷ []) t (items.reach_of_literal quote t) (reading s (q ∷ later))
+    ∙ unit_first begun us (92 ∷ 10 ∷ []) t (reaches.reach_of_literal quote t) (reading s (q ∷ later))

@@ -3,7 +3,8 @@ use Rattle.cweb_scan.proofs.Common.{◌≡◌, ℕ, Bool, true, false, ◌&&◌,
 use Rattle.cweb_rules.specs.Constants.{letter}
 use Rattle.cweb_rules.specs.declared.constants.Transliteration.{Transliteration}
 use Rattle.cweb_rules.specs.declared.effect.Effect.TheVariants as effect
-use Rattle.cweb_rules.specs.Bytes.{is_one_of, lower}
+use Rattle.cweb_rules.specs.Bytes.{lower}
+use Rattle.cweb_texts.specs.Edges.{is_one_of}
 use Rattle.cweb_rules.specs.Codes.{CodeEntry, code_table, entry_for, in_limbo}
 
 -- The code begins a definition or a part.

@@ -2,7 +2,7 @@
 use Rattle.cweb_scan.proofs.Common.{◌≡◌, ◌≤◌, ℕ, suc, ◌+◌, ◌-◌, ◌&&◌, true, false, ◌==◌, List, [], ◌∷◌, ◌++◌, length, take, drop, refl, ap, sym, ◌∙◌, arith, append_assoc, length-append, take-append-drop, if◌then◌else◌, fold, take-append-le, drop-append-le, length-drop, drop-append-add, Place, Reading, on, emit_literal, literal_unit, Look, Goes, Ends, Reach, reach, reach_in, with_unit, body, reach_size, Closed, Cut, Open, unit_bytes, unescaped, look_in_literal, AtLineEnd, is_unclosed, InLiteral, InRaw, resume_literal, closer_of, resume, lex, ScanState, move_to, reach_ends}
 use Rattle.cweb_scan.proofs.Ends.{at_start}
 use Rattle.cweb_rules.proofs.Ranges.{reach_in-drop}
-use Rattle.cweb_rules.specs.Items as items
+use Rattle.cweb_rules.specs.inner.Reaches as reaches
 use Rattle.cweb_rules.proofs.Reaches.{IsLocal, IsWhole}
 use Rattle.cweb_rules.proofs.Sizes.{IsWithin, reach-size}
 use Rattle.cweb_scan.proofs.LineHasNoNewline.{append-nil'}
@@ -48,8 +48,8 @@ unit_first begun us u w r m =
 
 -- A newline in a raw literal is a unit of it.
 raw-newline : (d t : List ℕ)
-    → items.reach_of_raw_literal (closer_of d) (10 ∷ t)
-    ≡ with_unit (10 ∷ []) (items.reach_of_raw_literal (closer_of d) t)
+    → reaches.reach_of_raw_literal (closer_of d) (10 ∷ t)
+    ≡ with_unit (10 ∷ []) (reaches.reach_of_raw_literal (closer_of d) t)
 raw-newline d [] = refl
 raw-newline d (b ∷ t) = refl
 
@@ -59,7 +59,7 @@ pub raw_line_end : (begun : Place) (d : List ℕ) (us : List ℕ) (q : Place) (s
     ≡ resume (InRaw begun d (us ++ 10 ∷ [])) t (record { state = move_to q s; later = later })
 raw_line_end begun d us q s later t =
     ap (λ (v : Reach). resume_literal begun us v (10 ∷ t) (record { state = s; later = q ∷ later })) (raw-newline d t)
-    ∙ unit_first begun us (10 ∷ []) t (items.reach_of_raw_literal (closer_of d) t)
+    ∙ unit_first begun us (10 ∷ []) t (reaches.reach_of_raw_literal (closer_of d) t)
     (record { state = s; later = q ∷ later })
 
 -- A literal that the line neither ends nor continues.
@@ -68,9 +68,9 @@ pub literal_cut : (begun : Place) (quote : ℕ) (us : List ℕ) (more : List ℕ
 literal_cut begun quote us [] m h e = ap (λ x. lex (on (emit_literal x Cut begun) m) []) (append-nil' us)
 literal_cut begun quote us (b ∷ more) m h e =
     let cut : Reach = record { units = []; close = 0; how = Cut } in
-    let same : items.reach_of_literal quote (10 ∷ more) ≡ cut = ap
+    let same : reaches.reach_of_literal quote (10 ∷ more) ≡ cut = ap
     (λ v. at_start (look_in_literal quote) (if v && true then Ends 1 Closed else Ends 0 Cut) (10 ∷ more) Cut more) h in
-    ap (λ (v : Reach). resume_literal begun us v (b ∷ more) m) (ap (λ n. items.reach_of_literal quote (n ∷ more)) e
+    ap (λ (v : Reach). resume_literal begun us v (b ∷ more) m) (ap (λ n. reaches.reach_of_literal quote (n ∷ more)) e
     ∙ same)
     ∙ ap (λ x. lex (on (emit_literal x Cut begun) m) (b ∷ more)) (append-nil' us)
 

@@ -1,6 +1,6 @@
 -- An open name over the rest of a line.
 use Rattle.cweb_scan.proofs.Common.{◌≡◌, ◌≤◌, ℕ, ◌+◌, Bool, true, false, List, [], ◌++◌, length, take, drop, refl, arith, if◌then◌else◌, nat_lt, take-append-le, drop-append-le, length-drop, Place, Reading, on, each_line_end, occurrence, reach, reach_size, opener_after, End, Cut, Open, unescaped, look_in_name, AtLineEnd, is_unclosed, InName, takes_opener, resume, IsLine, lex, move_to, IsLine-take}
-use Rattle.cweb_rules.specs.Items as items
+use Rattle.cweb_rules.specs.inner.Reaches as reaches
 use Rattle.cweb_rules.proofs.Looks.{reach_ends, whole, name-local, name-units}
 use Rattle.cweb_rules.proofs.Sizes.{reach-size, name-within, opener_after-size}
 use Rattle.cweb_rules.proofs.LineCodes.{opener_after-line}
@@ -20,12 +20,12 @@ sign_size-fits m n =
 -- A name that ends in the line, with its part opener.
 pub name_ends : (begun : Place) (is_file : Bool) (us : List ℕ) (t more : List ℕ) (m : Reading)
     → AtLineEnd more → IsLine t → is_unclosed (reach look_in_name Open t).how ≡ false
-    → resume (InName begun is_file us) (t ++ more) m ≡ (let r = items.reach_of_name t in
+    → resume (InName begun is_file us) (t ++ more) m ≡ (let r = reaches.reach_of_name t in
     let sign = opener_after r.how (drop (reach_size r) t) in
     lex (on (occurrence is_file (us ++ unescaped r.units) r.how (nat_lt 0 sign) begun) m)
     (drop (reach_size r + sign_size m sign) t ++ more))
 name_ends begun is_file us t more m e line h =
-    let r = items.reach_of_name t in
+    let r = reaches.reach_of_name t in
     let rest = drop (reach_size r) t in
     let sign = opener_after r.how rest in
     let n = reach_size r + sign_size m sign in

@@ -2,7 +2,8 @@
 use Rattle.cweb_scan.proofs.Common.{◌≡◌, Bool, true, false, ◌&&◌, not, List, [], ◌∷◌, ◌++◌, Option, Some, None, refl, ap, sym, ◌∙◌, codes, bytes_eq, if◌then◌else◌, Token, Word, Number, Literal, Verbatim, Punct, Blank, Newline, Join, Defs, Name, Head, Tail, Mark, Stage, is_some}
 use Rattle.std.proofs.lemmas.List.Sums.{fold-append}
 use Rattle.cweb_scan.specs.declared.directive.Stage.TheVariants.{Outside, Bare, Include, Further}
-use Rattle.cweb_scan.specs.DirectiveTokens.{is_bare, is_bare_include, is_punct, ends_line, directive_tokens, directive_after, directive_of, some_include, is_line_continued}
+use Rattle.cweb_scan.specs.DirectiveTokens.{is_bare_include, is_punct, ends_line, directive_tokens, directive_after, directive_of, some_include, is_line_continued}
+use Rattle.cweb_scan.specs.inner.ScanParts.{is_bare}
 use Rattle.cweb_scan.specs.inner.Stages.{last_kind, maybe_last_kind, stage_of, directive_model, is_after_line_end, is_after_backslash, is_outside, is_bare_stage, is_include_stage, next_open_stage, next_stage, after_token}
 use Rattle.cweb_scan.specs.declared.directive.Last.TheVariants as last
 use Rattle.cweb_scan.specs.DirectiveTokens as spec

@@ -1,7 +1,7 @@
 -- One unit of an open item, and its end, in a line.
 use Rattle.cweb_scan.proofs.Common.{◌≡◌, ◌≤◌, ◌<◌, ℕ, zero, suc, ◌+◌, ◌-◌, Bool, true, false, ◌==◌, List, [], ◌∷◌, ◌++◌, length, take, drop, refl, ap, sym, ◌∙◌, subst, arith, append_assoc, length-append, take-append-drop, nat_lt, fold, list_all, take-append-le, drop-append-le, take-append-add, drop-append-add, Place, Reach, reach, reach_in, with_unit, body, reach_size, opener_after, unit_bytes, unescaped, look_in_name, look_in_literal, look_in_raw, IsLine, AtLineEnd, is_unclosed, End, Cut, Open, Look, Goes, Ends, Reading, on, occurrence, emit_literal, literal_unit, unit_state, InName, InLiteral, InRaw, resume_name, resume_literal, closer_of, resume, lex, ScanState, move_to, IsLine-take, IsLocal, IsEnd, in_line, stops}
 use Rattle.cweb_scan.proofs.Ends.{at_start}
-use Rattle.cweb_rules.specs.Items as items
+use Rattle.cweb_rules.specs.inner.Reaches as reaches
 use Rattle.cweb_rules.proofs.Ranges.{reach_in-drop}
 use Rattle.cweb_rules.proofs.Looks.{ended_whole, whole, IsWithin, AllWithin, AllSome, IsSome, name-local, name-units, raw-local, raw-units, literal-local, literal-some}
 use Rattle.cweb_scan.proofs.LineUnits.{one-unit}
@@ -37,11 +37,11 @@ some_end : (look : List ℕ → Look) (how : End) (n b : ℕ) (t : List ℕ)
 some_end look how n b t some h = subst IsSome h (some b t)
 
 name_after : (begun : Place) (is_file : Bool) (us t more : List ℕ) (m : Reading) → IsLine t
-    → (let w = with_unit t (items.reach_of_name more) in
+    → (let w = with_unit t (reaches.reach_of_name more) in
     resume_name begun is_file us w (opener_after w.how (drop (reach_size w) (t ++ more))) (t ++ more) m)
     ≡ resume (InName begun is_file (us ++ unit_bytes t)) more m
 name_after begun is_file us t more m line =
-    let r = items.reach_of_name more in
+    let r = reaches.reach_of_name more in
     let n = reach_size r + sign_size m (opener_after r.how (drop (reach_size r) more)) in
     let f : length t + reach_size r + sign_size m (opener_after r.how (drop (reach_size r) more)) ≡ length t + n =
     omega arith in
@@ -68,9 +68,9 @@ name_unit begun is_file us (suc n) b t more m e line h some fits =
     let rest : drop (suc n) (u ++ more) ≡ drop (suc n) u ++ more = drop-append-le (suc n) u more fits in
     let cut : u ++ more ≡ unit ++ (drop (suc n) u ++ more) = sym (take-append-drop (suc n) (u ++ more))
     ∙ (λ i. first i ++ rest i) in
-    let seen : items.reach_of_name (u ++ more) ≡ with_unit unit (items.reach_of_name (drop (suc n) u ++ more)) =
+    let seen : reaches.reach_of_name (u ++ more) ≡ with_unit unit (reaches.reach_of_name (drop (suc n) u ++ more)) =
     reach_unit look_in_name Cut n b (t ++ more) (name-local more e b t ∙ h)
-    ∙ (λ i. with_unit (first i) (items.reach_of_name (rest i))) in
+    ∙ (λ i. with_unit (first i) (reaches.reach_of_name (rest i))) in
     (λ i. resume_name begun is_file us (seen i) (opener_after (seen i).how (drop (reach_size (seen i)) (cut i)))
     (cut i) m)
     ∙ name_after begun is_file us unit (drop (suc n) u ++ more) m (IsLine-take (suc n) u line)

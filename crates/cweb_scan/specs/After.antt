@@ -35,14 +35,9 @@ line_end_token next s =
     else Newline)
 
 -- The state after a newline, by context.
-abbrev pub line_end_in : Context → Place → ScanState → ScanState
-line_end_in Macro next s = move_to next (emit Newline s)
-line_end_in CText next s = move_to next (emit (line_end_token next s) s)
-line_end_in _ next s = move_to next s
-
--- The state after a newline.
 abbrev pub line_end : Place → ScanState → ScanState
-line_end next s = line_end_in s.context next s
+line_end next s =
+    move_to next (elim s.context [ Macro ↦ emit Newline s | CText ↦ emit (line_end_token next s) s | _ ↦ s ])
 
 -- A newline in a comment emits nothing in a directive.
 abbrev pub comment_line_end : Place → ScanState → ScanState
@@ -75,8 +70,7 @@ set_letter byte (Some text) s =
 
 -- A control text emits nothing. It is a fault if it doesn't end.
 abbrev pub pass_control_text : End → ScanState → ScanState
-pass_control_text Cut s = report ControlTextDidNotEnd s
-pass_control_text _ s = s
+pass_control_text how s = elim how [ Cut ↦ report ControlTextDidNotEnd s | _ ↦ s ]
 
 -- `@=` emits verbatim bytes, if it ends.
 abbrev pub emit_verbatim : List ℕ → End → ScanState → ScanState
@@ -97,8 +91,7 @@ define bytes tight s =
 
 -- A comment that doesn't end is a fault. `begun` is the place of an item's start, here and below.
 abbrev pub pass_comment : End → Place → ScanState → ScanState
-pass_comment Cut begun s = report_at CommentDidNotEnd begun s
-pass_comment _ begun s = s
+pass_comment how begun s = elim how [ Cut ↦ report_at CommentDidNotEnd begun s | _ ↦ s ]
 
 -- A name that doesn't end at its closer is a fault.
 abbrev pub report_name_fault : End → Place → ScanState → ScanState
@@ -150,8 +143,7 @@ next_line f r = elim r.later [ [] ↦ r | place ∷ later ↦ record { state = f
 
 -- Applies a step for each newline of some bytes.
 abbrev pub each_line_end : (Place → ScanState → ScanState) → List ℕ → Reading → Reading
-each_line_end f [] r = r
-each_line_end f (b ∷ t) r = each_line_end f t (if is_line_end b then next_line f r else r)
+each_line_end f bytes r = fold (λ r b. if is_line_end b then next_line f r else r) r bytes
 
 -- A unit of a literal. An `@` that isn't doubled is a fault on its line.
 abbrev pub literal_unit : Reading → List ℕ → Reading
@@ -162,14 +154,9 @@ abbrev pub stays_in_head : Kind → Bool
 stays_in_head k = elim k
     [ kind.Blanks ↦ true | kind.LineEnd ↦ true | kind.Comment how ↦ true | kind.Defined tight ↦ true | _ ↦ false ]
 
--- Any other lexeme ends a head; TeX continues there.
-abbrev pub enter_in : Context → Kind → ScanState → ScanState
-enter_in (Definition begun) k s = if stays_in_head k then s else drop_definition begun s
-enter_in _ k s = s
-
--- The state in which a lexeme is read.
+-- The state in which a lexeme is read. A lexeme that may not be in a head ends it; TeX continues there.
 abbrev pub enter : Kind → ScanState → ScanState
-enter k s = enter_in s.context k s
+enter k s = elim s.context [ Definition begun ↦ if stays_in_head k then s else drop_definition begun s | _ ↦ s ]
 
 -- The reading after a lexeme of a kind, by its bytes.
 abbrev pub item : Kind → List ℕ → Reading → Reading

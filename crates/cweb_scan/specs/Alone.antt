@@ -1,19 +1,17 @@
 -- The lexemes of a text, what a scan makes of them, and C text that is one token alone.
-use Rattle.std.specs.Prelude.{◌≡◌, ℕ, Bool, true, false, ◌==◌, not, List, [], ◌∷◌, ◌++◌, length, codes, if◌then◌else◌}
+use Rattle.std.specs.Prelude.{◌≡◌, ℕ, Bool, false, ◌==◌, ◌||◌, not, List, [], ◌∷◌, ◌++◌, length, codes, if◌then◌else◌}
 use Rattle.std.specs.Prelude.{Option, Some, None, bytes_eq, filter, ◌-◌, take, map, zero, suc}
 use Rattle.std.specs.List.{flat_map, list_all, fold}
-use Rattle.cweb_store.specs.Parts.{Part, Token, Word, Number, Literal, Punct, Blank, Newline, Head, Tail, Mark}
+use Rattle.cweb_store.specs.Parts.{Part, Token, Word, Number, Literal, Punct, is_layout, is_comment}
 use Rattle.cweb_rules.specs.Matches.{match_in, Kind, Quoted, Identifier, Numeral, Punctuator, Code, rule_match}
-use Rattle.cweb_rules.specs.Matches.{RuleMatch, Lexeme}
+use Rattle.cweb_rules.specs.Matches.{Lexeme}
 use Rattle.cweb_rules.specs.Items.{unescaped}
 use Rattle.cweb_rules.specs.declared.context.Context.TheVariants.{CText}
-use Rattle.cweb_rules.specs.declared.effect.Effect.{Effect}
 use Rattle.cweb_rules.specs.declared.effect.Effect.TheVariants.{EmitAt}
 use Rattle.cweb_rules.specs.declared.end.End.{End}
 use Rattle.cweb_rules.specs.declared.end.End.TheVariants.{Closed}
 use Rattle.cweb_scan.specs.State.{directive, ScanState, open_part_tokens, names_include, start_state, leave}
 use Rattle.cweb_scan.specs.DirectiveTokens.{is_punct}
-use Rattle.cweb_files.specs.declared.place.Place.{Place}
 use Rattle.cweb_input.specs.Lines.{Line}
 use Rattle.cweb_store.specs.Calls.{Stored, finished}
 use Rattle.cweb_rules.specs.declared.fault.ScanFault.{ScanFault}
@@ -29,12 +27,7 @@ doubled bytes = flat_map at_doubled bytes
 
 -- Layout, section comments and line marks are insignificant.
 abbrev pub is_insignificant : Token → Bool
-is_insignificant Blank = true
-is_insignificant Newline = true
-is_insignificant (Head section) = true
-is_insignificant (Tail section) = true
-is_insignificant (Mark place) = true
-is_insignificant token = false
+is_insignificant token = is_layout token || is_comment token
 
 -- The significant tokens.
 abbrev pub significant : List Token → List Token
@@ -49,28 +42,20 @@ abbrev pub literal_token : List (List ℕ) → End → Option Token
 literal_token units how =
     elim how [ Closed ↦ (if is_clean units then Some (Literal (unescaped units)) else None) | _ ↦ None ]
 
--- The token of a control code: only `@@` stands for a token of its own.
-abbrev pub code_token : Effect → Option Token
-code_token effect = elim effect [ EmitAt ↦ Some (Punct (codes "@")) | _ ↦ None ]
-
--- The token of a lexeme of C text, if it has no fault.
+-- The token of a lexeme of C text, if it has no fault. Of the control codes only `@@` stands for a token of its own.
 abbrev pub token_of : Kind → List ℕ → Option Token
 token_of kind bytes = elim kind [
   | Quoted units how ↦ literal_token units how
   | Identifier ↦ Some (Word bytes)
   | Numeral ↦ Some (Number bytes)
   | Punctuator ↦ Some (Punct bytes)
-  | Code effect ↦ code_token effect
+  | Code effect ↦ elim effect [ EmitAt ↦ Some (Punct (codes "@")) | _ ↦ None ]
   | _ ↦ None
 ]
 
 -- The bytes of a token.
 abbrev pub spelling_of : Token → List ℕ
-spelling_of (Word bytes) = bytes
-spelling_of (Number bytes) = bytes
-spelling_of (Literal bytes) = bytes
-spelling_of (Punct bytes) = bytes
-spelling_of token = []
+spelling_of t = elim t [ Word b ↦ b | Number b ↦ b | Literal b ↦ b | Punct b ↦ b | _ ↦ [] ]
 
 -- The token's bytes with each `@` doubled, read as C text, are exactly this token, without a fault.
 pub record ReadsAlone (t : Token) : Type 0 where
@@ -95,31 +80,19 @@ pub record HasReadTokens (before after : ScanState) (ts : List Token) : Type 0 w
   pub tokens : significant (open_part_tokens after) ≡ significant (open_part_tokens before) ++ ts
   pub faults : after.faults ≡ before.faults
 
--- The next lexeme, by the context after the lexemes before it.
-abbrev pub next_match : ScanState → List ℕ → RuleMatch
-next_match s t = match_in s.context (names_include s) t
-
--- The lexemes of a source. The first `inner` bytes belong to the previous lexeme.
+-- The lexemes of a source, each by the context after the lexemes before it. The first `inner` bytes belong to the
+-- previous lexeme.
 abbrev pub lexemes_in : ℕ → Reading → List ℕ → List Lexeme
 lexemes_in inner r [] = []
 lexemes_in (suc inner) r (b ∷ t) = lexemes_in inner r t
 lexemes_in zero r (b ∷ t) =
-    let f = next_match r.state (b ∷ t) in
+    let f = match_in r.state.context (names_include r.state) (b ∷ t) in
     let p : Lexeme = record { kind = f.kind; bytes = take f.size (b ∷ t) } in
     p ∷ lexemes_in (f.size - 1) (after_lexeme r p) t
 
--- The lexemes of a source.
-abbrev pub lexemes : Reading → List ℕ → List Lexeme
-lexemes r t = lexemes_in 0 r t
-
 -- The reading after a source.
 abbrev pub lex : Reading → List ℕ → Reading
-lex r t = fold after_lexeme r (lexemes r t)
-
--- The lines, with a newline before each.
-abbrev pub newline_prefixed : List Line → List ℕ
-newline_prefixed [] = []
-newline_prefixed (line ∷ lines) = 10 ∷ line.bytes ++ newline_prefixed lines
+lex r t = fold after_lexeme r (lexemes_in 0 r t)
 
 -- The result of a scan.
 pub record Scanned : Type 0 where
@@ -128,22 +101,15 @@ pub record Scanned : Type 0 where
   pub sections : ℕ
   pub starred : List ℕ
 
--- The result at the end of the source.
-abbrev pub scanned_of : ScanState → Scanned
-scanned_of s = let t = leave s in
-    record { store = finished t.contents; faults = t.faults; sections = t.sections; starred = t.starred }
-
--- The place of an empty web.
-abbrev pub no_place : Place
-no_place = record { file = record { 0 = 0 }; line = 0 }
-
--- The reading after the merged lines. The source is these lines joined by newlines.
+-- The reading after the merged lines. The source is these lines joined by newlines. An empty web has the place of line 0
+-- of file 0.
 abbrev pub read_lines : List Line → Reading
-read_lines [] = record { state = start_state no_place; later = [] }
+read_lines [] = record { state = start_state (record { file = record { 0 = 0 }; line = 0 }); later = [] }
 read_lines (line ∷ lines) =
     lex (record { state = start_state line.place; later = map (λ l. l.place) lines })
-    (line.bytes ++ newline_prefixed lines)
+    (line.bytes ++ flat_map (λ (l : Line). 10 ∷ l.bytes) lines)
 
--- The result of a scan of the merged lines.
+-- The result of a scan of the merged lines, at the end of the source.
 abbrev pub scanned : List Line → Scanned
-scanned lines = scanned_of (read_lines lines).state
+scanned lines = let s = leave (read_lines lines).state in
+    record { store = finished s.contents; faults = s.faults; sections = s.sections; starred = s.starred }

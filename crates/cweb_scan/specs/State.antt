@@ -1,7 +1,7 @@
 -- The state of a scan: what it has made of the text so far, and the directive that is open.
-use Rattle.std.specs.Prelude.{ℕ, ◌+◌, Bool, true, false, List, [], ◌∷◌, ◌++◌, Option, Some, None, if◌then◌else◌, ◌&&◌}
+use Rattle.std.specs.Prelude.{ℕ, ◌+◌, Bool, true, false, List, [], ◌∷◌, ◌++◌, if◌then◌else◌, ◌&&◌}
 use Rattle.std.specs.Prelude.{◌-◌, length, take, ◌==◌}
-use Rattle.std.specs.Option.{is_some}
+use Rattle.std.specs.Option.{is_some, option_map_or}
 use Rattle.cweb_files.specs.declared.place.Place.{Place}
 use Rattle.cweb_store.specs.declared.parts.PartKind.{PartKind}
 use Rattle.cweb_store.specs.Parts.{Token, Head, Tail, Mark, Part}
@@ -40,14 +40,9 @@ start_state place = record {
   folded = false;
 }
 
--- The tokens of the open part.
-abbrev pub tokens_of : Option Part → List Token
-tokens_of None = []
-tokens_of (Some p) = p.tokens
-
 -- The tokens of the open part of a state.
 abbrev pub open_part_tokens : ScanState → List Token
-open_part_tokens s = tokens_of s.contents.parts.current
+open_part_tokens s = option_map_or (λ (p : Part). p.tokens) s.contents.parts.current []
 
 -- One more token in the open part.
 abbrev pub emit : Token → ScanState → ScanState
@@ -79,14 +74,9 @@ begin_part kind s =
 abbrev pub end_part : ScanState → ScanState
 end_part s = record s { context = TeX; contents = with_closed s.contents }
 
--- Another definition or a part ends a macro.
-abbrev pub end_macro_in : Context → ScanState → ScanState
-end_macro_in Macro s = end_part s
-end_macro_in _ s = s
-
--- Ends an open macro.
+-- Ends an open macro. Another definition or a part does this.
 abbrev pub end_macro : ScanState → ScanState
-end_macro s = end_macro_in s.context s
+end_macro s = elim s.context [ Macro ↦ end_part s | _ ↦ s ]
 
 -- A definition without an identifier is dropped.
 abbrev pub drop_definition : Place → ScanState → ScanState
@@ -125,22 +115,13 @@ in_directive s = is_c s.context && is_some (directive s).tokens
 abbrev pub names_include : ScanState → Bool
 names_include s = some_include (directive s).tokens
 
--- A full name.
-abbrev pub full : Bool → List ℕ → Occurrence
-full is_file text = record { text = text; how = Full; is_file = is_file }
-
--- The prefix of an abbreviation.
-abbrev pub prefix : Bool → List ℕ → Occurrence
-prefix is_file text = record { text = text; how = Prefix; is_file = is_file }
-
--- An abbreviation gives its prefix, and any other name its bytes.
-abbrev pub as_occurrence : Bool → List ℕ → Occurrence
-as_occurrence is_file text =
-    if is_abbreviation text then prefix is_file (take (length text - 3) text) else full is_file text
-
--- The occurrence of a name's bytes, with blanks squeezed.
+-- The occurrence of a name's bytes, with blanks squeezed. An abbreviation gives its prefix, and any other name its
+-- bytes.
 abbrev pub name_occurrence : Bool → List ℕ → Occurrence
-name_occurrence is_file text = as_occurrence is_file (squeezed text)
+name_occurrence is_file text =
+    let name = squeezed text in
+    if is_abbreviation name then record { text = take (length name - 3) name; how = Prefix; is_file = is_file }
+    else record { text = name; how = Full; is_file = is_file }
 
 -- The second place is the line after the first one in the same file.
 abbrev pub is_next_line : Place → Place → Bool

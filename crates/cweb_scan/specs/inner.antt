@@ -1,4 +1,5 @@
 -- Definitions that only the functions of this crate cite.
+pub mod ScanParts
 pub mod Stages
 pub mod Skipped
 pub mod Resume

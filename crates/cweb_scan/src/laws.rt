@@ -5,13 +5,15 @@ ghost use Rattle.std.specs.Prelude.{◌≡◌, ◌∷◌, ◌++◌, [], All, Boo
 ghost use Rattle.cweb_files.specs.declared.place.Place.{Place};
 ghost use Rattle.cweb_input.specs.surface.Lines.{HasNoNewline};
 ghost use Rattle.cweb_input.specs.Lines.{Line};
-ghost use Rattle.cweb_rules.specs.Bytes.{first_is, is_blank};
+ghost use Rattle.cweb_rules.specs.Bytes.{is_blank};
+ghost use Rattle.cweb_texts.specs.Edges.{first_is};
 ghost use Rattle.cweb_rules.specs.laws.Follows.{JoinsAll, is_quiet};
 ghost use Rattle.cweb_rules.specs.Matches.{Lexeme};
 ghost use Rattle.cweb_rules.specs.declared.context.Context.TheVariants.{CText};
 ghost use Rattle.cweb_scan.specs.After.{Reading};
 ghost use Rattle.cweb_scan.specs.Alone.{InPlainC, ReadsAlone, spelling_of, doubled, is_hash};
-ghost use Rattle.cweb_scan.specs.Alone.{significant, lexemes, lex, scanned};
+ghost use Rattle.cweb_scan.specs.Alone.{significant, lex, scanned};
+ghost use Rattle.cweb_scan.specs.laws.LexemePlaces.{lexemes};
 ghost use Rattle.cweb_scan.specs.laws.Alone.{IsReadAs, continues_token};
 ghost use Rattle.cweb_scan.specs.State.{in_directive};
 ghost use Rattle.cweb_scan.specs.laws.Counted.{OccurrencesAreLexemes, SectionsAreSectionStarts};

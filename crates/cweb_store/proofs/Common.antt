@@ -21,9 +21,13 @@ pub use Rattle.std.specs.Prelude.{IsTrue, slice_range, nat_lt, vec_capacity}
 pub use Rattle.cweb_files.specs.declared.place.Place.{Place}
 pub use Rattle.cweb_names.proofs.NameLemmas.{prefix_at}
 pub use Rattle.cweb_names.specs.Names.{is_prefix_of_another, Occurrence, Name, Resolution, id, spellings}
-pub use Rattle.cweb_names.specs.Names.{with_full_name, with_occurrence_name, names_from, names, beginning_from, the_one}
-pub use Rattle.cweb_names.specs.Names.{resolved_among, resolutions_from, resolutions, resolved_at, with_some, with_file}
-pub use Rattle.cweb_names.specs.Names.{files_from, files, is_id, beginning, with_id}
+pub use Rattle.cweb_names.specs.Names.{with_full_name, with_occurrence_name, names, the_one}
+pub use Rattle.cweb_names.specs.inner.FromNumbers.{beginning_from}
+pub use Rattle.cweb_names.specs.inner.FromNumbers.{names_from}
+pub use Rattle.cweb_names.specs.Names.{resolved_among, resolutions_from, resolutions, resolved_at, with_file}
+pub use Rattle.cweb_names.specs.inner.FromNumbers.{with_some}
+pub use Rattle.cweb_names.specs.Names.{files, is_id, beginning, with_id}
+pub use Rattle.cweb_names.specs.inner.FromNumbers.{files_from}
 pub use Rattle.cweb_names.specs.declared.name.How.{How}
 pub use Rattle.cweb_names.specs.declared.name.How.TheVariants.{Full, Prefix}
 pub use Rattle.cweb_names.specs.declared.name.NameFault.{NameFault}
@@ -39,10 +43,15 @@ pub use Rattle.cweb_texts.proofs.StringListLemmas.{get-string}
 pub use Rattle.cweb_texts.specs.inner.Edges.{is_known_edge}
 pub use Rattle.cweb_texts.specs.inner.StringLists.{string_at}
 pub use Rattle.cweb_texts.specs.surface.StringTables.{total}
-pub use Rattle.cweb_store.specs.Calls.{PartsSoFar, with_closed_part, with_dropped_layout, with_opened_part}
-pub use Rattle.cweb_store.specs.Calls.{with_pushed_token, part_with_token, all_parts, Contents, empty, Stored, finished}
-pub use Rattle.cweb_store.specs.Calls.{stored, replacement, Replacement, replaced_by}
-pub use Rattle.cweb_store.specs.Faults.{fault_of_name, unresolved_faults_from, unresolved_faults, faults_from}
+pub use Rattle.cweb_store.specs.Calls.{PartsSoFar}
+pub use Rattle.cweb_store.specs.inner.OpenParts.{with_closed_part, with_dropped_layout, with_opened_part}
+pub use Rattle.cweb_store.specs.Calls.{part_with_token, Contents, empty, Stored, finished}
+pub use Rattle.cweb_store.specs.inner.OpenParts.{with_pushed_token}
+pub use Rattle.cweb_store.specs.surface.Growing.{all_parts}
+pub use Rattle.cweb_store.specs.Calls.{stored, replacement, Replacement}
+pub use Rattle.cweb_store.specs.inner.OpenParts.{replaced_by}
+pub use Rattle.cweb_store.specs.Faults.{fault_of_name, unresolved_faults}
+pub use Rattle.cweb_store.specs.inner.Faults.{unresolved_faults_from, faults_from}
 pub use Rattle.cweb_store.specs.Faults.{faults_where, faults, is_missing, is_use, is_used, has_part, unresolved_fault}
 pub use Rattle.cweb_store.specs.Parts.{before_last, without_last, without_blank, without_layout, at_close}
 pub use Rattle.cweb_store.specs.Parts.{protected_count, is_layout, is_newline, is_blank, without_last_after, Part}

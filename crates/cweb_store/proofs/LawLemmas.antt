@@ -1,6 +1,7 @@
 -- The laws of names and parts.
 use Rattle.cweb_store.proofs.Common.{◌≡◌, ℕ, zero, suc, ◌+◌, Bool, true, false, List, [], ◌∷◌, ◌++◌, Some, None, Option, length, take, refl, sym, ◌∙◌, ap, arith, append_assoc, append-nil, Ok, Err, bytes_eq, if◌then◌else◌, nat_eq, slice_get, option_map, option_and_then, fold, filter_map, list_any, starts_with, position_or_len, map-append, bytes_eq-Decides, list_any-append, How, Full, Prefix, NameId, NeverFull, PartKind, Occurrence, Name, Resolution, id, spellings, with_full_name, with_occurrence_name, names_from, names, beginning_from, beginning, the_one, resolved_among, resolutions_from, resolutions, resolved_at, Part, joined_where, Call, Occurs, Opens, Pushes, Drops, Closes, Transliterates, Contents, after_call, empty, defines_with_prefix, AbbreviationsStay, EarlierNamesDecide, FullNamesResolveToThemselves, JoiningConcatenates, OccurrencesAreThoseOfCalls, occurrence_of_call, take-append_seam}
 use Rattle.cweb_store.specs.laws.NameLaws.{NamesDecideResolutions}
+use Rattle.cweb_names.proofs.LongerLemmas.{beginning-step}
 use Rattle.cweb_names.proofs.OccurrenceLemmas.{Grows, names_from-grows, with_text-has}
 
 -- The resolution of occurrence k, from the names before it and all names.
@@ -32,8 +33,12 @@ names_from-append i j ns (o ∷ os) later e =
 
 beginning-other : (i : ℕ) (p : List ℕ) (ns : List Name) (n : Name)
     → starts_with nat_eq n.text p ≡ false → beginning_from i p (ns ++ n ∷ []) ≡ beginning_from i p ns
-beginning-other i p [] n h = ap (λ b. if b then id i ∷ [] else []) h
-beginning-other i p (m ∷ ns) n h = cc (beginning-other (i + 1) p ns n h)
+beginning-other i p [] n h = beginning-step i p n [] ∙ ap (λ b. if b then id i ∷ [] else []) h
+beginning-other i p (m ∷ ns) n h = cc (
+  beginning-step i p m (ns ++ n ∷ []),
+  beginning-step i p m ns,
+  beginning-other (i + 1) p ns n h,
+)
 
 beginning-with_text : (j : ℕ) (p : List ℕ) (ns : List Name) (text : List ℕ)
     → starts_with nat_eq text p ≡ false → beginning p (with_full_name j ns text) ≡ beginning p ns

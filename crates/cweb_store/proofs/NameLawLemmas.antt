@@ -3,6 +3,7 @@ use Rattle.cweb_store.proofs.Common.{◌≡◌, ℕ, zero, suc, ◌+◌, ◌<◌
 use Rattle.cweb_store.specs.laws.MoreLaws.{is_at}
 use Rattle.cweb_store.proofs.RangeLemmas.{drop-here}
 use Rattle.cweb_names.proofs.NameLemmas.{Distinct-push, strings-push}
+use Rattle.cweb_names.proofs.LongerLemmas.{beginning-step}
 use Rattle.cweb_names.proofs.OccurrenceLemmas.{Grows, names_from-grows}
 use Rattle.cweb_store.proofs.LawLemmas.{resolutions-at, among-prefix, names_from-append}
 
@@ -39,7 +40,7 @@ first-begins all (m ∷ ns) i p n more h found =
           subst (λ (k : NameId). Begins p all k) same
           (ap (option_map (λ (x : Name). starts_with nat_eq x.text p)) here.0 ∙ ap Some yes)
       | false ↦ λ not_here is. first-begins all ns (i + 1) p n more (ap (λ k. drop k all) (sym next) ∙ here.1) is
-    ]) refl found
+    ]) refl (sym (beginning-step i p m ns) ∙ found)
 
 get-grows : (ns more : List Name) (k : ℕ) (p : List ℕ)
     → option_map (λ (m : Name). starts_with nat_eq m.text p) (slice_get ns k) ≡ Some true

@@ -20,23 +20,15 @@ abbrev pub unresolved_fault : ℕ → Resolution → Option NameFault
 unresolved_fault i (Ok n) = None
 unresolved_fault i (Err kind) = Some (fault_of_name kind i)
 
--- The faults of resolutions that begin at occurrence i.
-abbrev pub unresolved_faults_from : ℕ → List Resolution → List NameFault
-unresolved_faults_from i rs = filter_map (λ (p : ℕ × Resolution). unresolved_fault p.0 p.1) (enumerate_from i rs)
-
 -- The faults of unresolved occurrences, in order.
 abbrev pub unresolved_faults : List Resolution → List NameFault
-unresolved_faults rs = unresolved_faults_from 0 rs
+unresolved_faults rs = filter_map (λ (p : ℕ × Resolution). unresolved_fault p.0 p.1) (enumerate_from 0 rs)
 
--- A fault for each failing name, at its first full occurrence. The first name of the list has number n.
-abbrev pub faults_from : ℕ → NameKind → (NameId → List ℕ → Bool) → List spec.Name → List NameFault
-faults_from n kind fails names =
-    map (λ (p : ℕ × spec.Name). fault_of_name kind p.1.first)
-    (filter (λ (p : ℕ × spec.Name). fails (id p.0) p.1.text) (enumerate_from n names))
-
--- A fault for each name of a list that fails.
+-- A fault for each name of a list that fails, at its first full occurrence.
 abbrev pub faults_where : NameKind → (NameId → List ℕ → Bool) → List spec.Name → List NameFault
-faults_where kind fails names = faults_from 0 kind fails names
+faults_where kind fails names =
+    map (λ (p : ℕ × spec.Name). fault_of_name kind p.1.first)
+    (filter (λ (p : ℕ × spec.Name). fails (id p.0) p.1.text) (enumerate_from 0 names))
 
 -- A token uses a name.
 abbrev pub is_use : List Resolution → NameId → Token → Bool

@@ -1,7 +1,8 @@
 -- Parts and their tokens, and the layout at the end of a part.
-use Rattle.std.specs.Prelude.{ℕ, Bool, true, false, not, List, Option, Some, None, filter, flat_map, [], ◌∷◌, ◌++◌}
+use Rattle.std.specs.Prelude.{ℕ, Bool, true, false, not, List, Option, filter, flat_map, [], ◌∷◌, ◌++◌}
 use Rattle.std.specs.Prelude.{take, drop, if◌then◌else◌}
 use Rattle.std.specs.List.{list_any}
+use Rattle.std.specs.Option.{option_map_or}
 use Rattle.cweb_files.specs.declared.place.Place.{Place}
 use Rattle.cweb_names.specs.declared.name.NameRef.{NameRef}
 use Rattle.cweb_names.specs.declared.name.NameId.{NameId}
@@ -24,8 +25,7 @@ pub record Part : Type 0 where
 
 -- The optional name is this one.
 abbrev pub is_some_id : NameId → Option NameId → Bool
-is_some_id n None = false
-is_some_id n (Some m) = is_id n m
+is_some_id n name = option_map_or (is_id n) name false
 
 -- The part belongs to the program.
 abbrev pub is_unnamed : PartKind → Bool
@@ -53,8 +53,7 @@ joined_where test parts = all_tokens (filter (λ p. test p.kind) parts)
 
 -- The token is a Defs.
 abbrev pub is_defs : Token → Bool
-is_defs Defs = true
-is_defs token = false
+is_defs token = elim token [ Defs ↦ true | _ ↦ false ]
 
 -- A part of C text asks for the macro definitions (`@h`).
 abbrev pub has_defs_code : List Part → Bool
@@ -62,20 +61,19 @@ has_defs_code parts = list_any is_defs (joined_where is_c_part parts)
 
 -- Blanks, Newlines and Marks are layout.
 abbrev pub is_layout : Token → Bool
-is_layout Blank = true
-is_layout Newline = true
-is_layout (Mark place) = true
-is_layout token = false
+is_layout token = elim token [ Blank ↦ true | Newline ↦ true | Mark place ↦ true | _ ↦ false ]
+
+-- A section comment.
+abbrev pub is_comment : Token → Bool
+is_comment token = elim token [ Head section ↦ true | Tail section ↦ true | _ ↦ false ]
 
 -- The token is a Blank.
 abbrev pub is_blank : Token → Bool
-is_blank Blank = true
-is_blank token = false
+is_blank token = elim token [ Blank ↦ true | _ ↦ false ]
 
 -- The token is a Newline.
 abbrev pub is_newline : Token → Bool
-is_newline Newline = true
-is_newline token = false
+is_newline token = elim token [ Newline ↦ true | _ ↦ false ]
 
 -- A token before a list without the trailing ones that pass a test.
 abbrev pub before_last : (Token → Bool) → Token → List Token → List Token

@@ -1,4 +1,5 @@
 -- Definitions that only the functions of this crate cite.
+pub mod OpenParts
 pub mod Rooms
 pub mod PartRanges
 pub mod TokenStrings

@@ -64,8 +64,10 @@ pub use Rattle.cweb_log.specs.inner.LogWriting.{WritesToStream}
 pub use Rattle.cweb_log.specs.inner.WebItems.{plan_item}
 pub use Rattle.cweb_log.specs.surface.Options.{options_of}
 pub use Rattle.cweb_names.specs.declared.name.NameId.{NameId}
-pub use Rattle.cweb_out.specs.Expansion.{expand, expanded_name, put, tokens_for, joined, names, program, resolved_use}
-pub use Rattle.cweb_out.specs.Outputs.{defs_first, root_list, Planned, Refusal, bad_name, same_name, cycle, Output}
+pub use Rattle.cweb_out.specs.Expansion.{expand, expanded_name, put, joined, names, program, resolved_use}
+pub use Rattle.cweb_out.specs.inner.TokensFor.{tokens_for}
+pub use Rattle.cweb_out.specs.Outputs.{root_list, Planned, Refusal, bad_name, same_name, cycle, Output}
+pub use Rattle.cweb_out.specs.surface.RootTokens.{defs_first}
 pub use Rattle.cweb_out.specs.declared.expander.Expander.{Expander}
 pub use Rattle.cweb_out.specs.declared.outputs.fault.PlanFault.{PlanFault}
 pub use Rattle.cweb_out.specs.declared.outputs.fault.PlanFault.TheVariants.{Cycle, SameName, BadName}
@@ -79,7 +81,8 @@ pub use Rattle.cweb_print.specs.declared.printer.Printer.{Printer}
 pub use Rattle.cweb_print.specs.inner.BufferedPrinting.{PrintsPrefix}
 pub use Rattle.cweb_print.specs.surface.Printed.{AddsBytes, Moves, PrintsToken, left_in_printer, setting_of}
 pub use Rattle.cweb_print.specs.surface.Printers.{MarkFileIsNamed}
-pub use Rattle.cweb_rules.specs.Bytes.{first_is, is_one_of, is_digit, is_letter, is_word_byte, is_white}
+pub use Rattle.cweb_rules.specs.Bytes.{is_digit, is_letter, is_word_byte, is_white}
+pub use Rattle.cweb_texts.specs.Edges.{first_is, is_one_of}
 pub use Rattle.cweb_rules.specs.Items.{unescaped}
 pub use Rattle.cweb_rules.specs.Matches.{Quoted, Numeral, Punctuator, Code, Kind}
 pub use Rattle.cweb_rules.specs.declared.context.Context.TheVariants.{CText}

@@ -23,7 +23,7 @@ fn fetch_named<S: Shelf>(shelf: &mut S, name: String) -> Result<Option<Opening<S
     ensures blamed { IsTrue (S.tells shelf.old) → S.blamed shelf.new ≡ S.blamed shelf.old }
     ensures found { IsTrue (S.tells shelf.old) →
         IfOk result (λ opening. found_as (S.left shelf.new) opening
-        ≡ found_under (string_bytes name) (S.texts shelf.old (string_bytes name))) }
+        ≡ found_under (S.texts shelf.old) (string_bytes name)) }
 {
     match shelf.fetch(name.as_str())? {
         Some(reader) => Ok(Some(Opening { name, reader })),

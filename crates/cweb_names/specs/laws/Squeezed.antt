@@ -1,7 +1,8 @@
 -- The spelling of a name.
 use Rattle.std.specs.Prelude.{◌≡◌, ◌≢◌, ℕ, Bool, true, not, List, [], ◌∷◌, ◌++◌, filter}
 use Rattle.std.specs.List.{list_all}
-use Rattle.cweb_rules.specs.Bytes.{first_is, is_white}
+use Rattle.cweb_rules.specs.Bytes.{is_white}
+use Rattle.cweb_texts.specs.Edges.{first_is}
 use Rattle.cweb_names.specs.Names.{squeezed}
 
 -- The byte isn't white.

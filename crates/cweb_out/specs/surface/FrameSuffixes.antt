@@ -4,7 +4,7 @@ use Rattle.cweb_store.specs.declared.parts.Part.{Part}
 use Rattle.cweb_store.specs.Parts.{Token, all_tokens}
 use Rattle.cweb_store.specs.Calls.{Stored}
 use Rattle.cweb_print.specs.surface.TokenRanges.{tokens_of_part, tokens_of_parts}
-use Rattle.cweb_out.specs.Outputs.{defs_first}
+use Rattle.cweb_out.specs.surface.RootTokens.{defs_first}
 use Rattle.cweb_out.specs.declared.frame.Frame.{Frame}
 
 abbrev pub suffix : Stored → Frame → List Token

@@ -2,8 +2,10 @@
 use Rattle.std.specs.Prelude.{ℕ, Bool, true, false, ◌&&◌, ◌||◌, not, List, [], ◌∷◌, ◌++◌, codes, if◌then◌else◌}
 use Rattle.cweb_store.specs.Parts.{Token, Newline, Defs, Mark}
 use Rattle.cweb_texts.specs.Edges.{is_operator, is_one_of}
-use Rattle.cweb_print.specs.Spacing.{is_wordlike, is_literal, is_number, is_comment, begins_with}
-use Rattle.cweb_print.specs.Printing.{Setting, mark_line, macro_lines, plain_bytes, file_name}
+use Rattle.cweb_print.specs.Spacing.{is_wordlike, is_literal, is_number, begins_with}
+use Rattle.cweb_store.specs.Parts.{is_comment}
+use Rattle.cweb_print.specs.Printing.{Setting, mark_line, macro_lines, plain_bytes}
+use Rattle.cweb_print.specs.inner.PrintParts.{file_name}
 use Rattle.cweb_print.specs.declared.printer.class.Class.{Class}
 use Rattle.cweb_print.specs.declared.printer.class.Class.TheVariants as class
 use Rattle.cweb_print.specs.declared.printer.left.Left.{Left}

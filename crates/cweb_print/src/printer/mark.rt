@@ -3,7 +3,8 @@ ghost use Rattle.std.specs.Prelude.{◌≡◌, ◌<◌, ◌+◌, ◌^◌, ◌++�
 ghost use Rattle.std.specs.List.{list_any};
 ghost use Rattle.cweb_files.specs.Bins.{CountsFailure};
 ghost use Rattle.cweb_print.specs.inner.Writing.{Wrote};
-ghost use Rattle.cweb_print.specs.Printing.{mark_line, quoted, quoted_byte, wants_backslash};
+ghost use Rattle.cweb_print.specs.Printing.{mark_line, quoted, quoted_byte};
+ghost use Rattle.cweb_print.specs.inner.PrintParts.{wants_backslash};
 
 use crate::chunks::{write_chunk, write_chunks};
 use cweb_files::{Sink, SinkFault};

@@ -4,7 +4,8 @@ ghost use Rattle.std.specs.List.{list_any};
 ghost use Rattle.cweb_files.specs.Bins.{CountsFailure};
 ghost use Rattle.cweb_store.specs.surface.TokenModels.{token_model};
 ghost use Rattle.cweb_print.specs.inner.Writing.{Wrote};
-ghost use Rattle.cweb_print.specs.Printing.{numbered_comment, plain_bytes, word_byte, word_bytes};
+ghost use Rattle.cweb_print.specs.Printing.{plain_bytes, word_byte, word_bytes};
+ghost use Rattle.cweb_print.specs.inner.PrintParts.{numbered_comment};
 ghost use Rattle.cweb_print.specs.Printing.{default_replacement, hex_digit, replaced_in};
 
 use crate::chunks::{write_chunk, write_chunks};

@@ -6,7 +6,8 @@ ghost use Rattle.cweb_print.specs.inner.Classes.{added, file_by, separator};
 ghost use Rattle.cweb_print.specs.surface.Classes.{left_after_token};
 ghost use Rattle.cweb_print.specs.surface.Printed.{left_in_printer, setting_of};
 ghost use Rattle.cweb_print.specs.surface.Printers.{MarkFileIsNamed};
-ghost use Rattle.cweb_print.specs.Printing.{mark_line, numbered_comment, quoted};
+ghost use Rattle.cweb_print.specs.Printing.{mark_line, quoted};
+ghost use Rattle.cweb_print.specs.inner.PrintParts.{numbered_comment};
 
 use crate::buffer::OutBuffer;
 use crate::printer::Printer;

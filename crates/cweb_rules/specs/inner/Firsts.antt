@@ -1,6 +1,7 @@
 -- Classes of the first byte of a lexeme of C text.
 use Rattle.std.specs.Prelude.{ℕ, Bool, ◌==◌, List, [], ◌∷◌, codes, if◌then◌else◌}
-use Rattle.cweb_rules.specs.Bytes.{is_blank, is_one_of, is_word_byte}
+use Rattle.cweb_rules.specs.Bytes.{is_blank, is_word_byte}
+use Rattle.cweb_texts.specs.Edges.{is_one_of}
 use Rattle.cweb_rules.specs.inner.Rules.{is_settled}
 use Rattle.cweb_rules.specs.declared.firsts.Plain.{Plain}
 use Rattle.cweb_rules.specs.declared.firsts.Plain.TheVariants as plain

@@ -1,7 +1,8 @@
 -- Items that are still open at the end of their line.
 use Rattle.std.specs.Prelude.{◌≡◌, ◌≢◌, ℕ, ◌+◌, Bool, true, false, ◌&&◌, ◌||◌, List, [], ◌∷◌, length, drop, codes}
 use Rattle.std.specs.Prelude.{if◌then◌else◌}
-use Rattle.cweb_rules.specs.Bytes.{is_blank, is_line_end, begins, first_is, at_line_end, starts_section}
+use Rattle.cweb_rules.specs.Bytes.{is_blank, is_line_end, begins, at_line_end, starts_section}
+use Rattle.cweb_texts.specs.Edges.{first_is}
 use Rattle.cweb_rules.specs.declared.effect.Effect.{Effect}
 use Rattle.cweb_rules.specs.declared.effect.Effect.TheVariants.{Named}
 use Rattle.cweb_rules.specs.Codes.{in_limbo, in_tex, in_macro, in_c}

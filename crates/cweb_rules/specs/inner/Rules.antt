@@ -1,7 +1,8 @@
 -- The rules as values of the types `Rule` and `TexRule`.
 use Rattle.std.specs.Prelude.{ℕ, Bool, ◌&&◌, ◌||◌, not, ◌==◌, List, [], ◌∷◌, codes, if◌then◌else◌}
 use Rattle.std.specs.List.{prefix_len}
-use Rattle.cweb_rules.specs.Bytes.{is_blank, is_digit, is_line_end, is_one_of, is_word_byte, begins, first_is}
+use Rattle.cweb_rules.specs.Bytes.{is_blank, is_digit, is_line_end, is_word_byte, begins}
+use Rattle.cweb_texts.specs.Edges.{is_one_of, first_is}
 use Rattle.cweb_rules.specs.Bytes.{starts_section, listed, longest, number_len, starts_number}
 use Rattle.cweb_rules.specs.Matches.{comment_match, line_comment_match, section_match, code_match, raw_match}
 use Rattle.cweb_rules.specs.Matches.{literal_match, include_match, starts_raw, starts_literal, starts_include}

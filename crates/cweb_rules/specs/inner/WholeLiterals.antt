@@ -1,6 +1,6 @@
 -- Literals that end in their line.
 use Rattle.std.specs.Prelude.{◌≡◌, ◌≤◌, ◌<◌, ℕ, Bool, ◌==◌, List, codes, length}
-use Rattle.cweb_rules.specs.Bytes.{is_one_of}
+use Rattle.cweb_texts.specs.Edges.{is_one_of}
 use Rattle.cweb_rules.specs.Items.{reach, look_in_literal}
 use Rattle.cweb_rules.specs.inner.Looks.{reached}
 use Rattle.cweb_rules.specs.declared.end.End.TheVariants.{Closed, Open}

@@ -1,7 +1,8 @@
 -- Which bytes may continue a token of C text, and which ones may begin it.
 use Rattle.std.specs.Prelude.{◌≡◌, ℕ, Bool, true, false, ◌||◌, ◌&&◌, ◌==◌, not, List, [], ◌∷◌, length, codes}
 use Rattle.std.specs.List.{list_all}
-use Rattle.cweb_rules.specs.Bytes.{is_one_of, is_digit, is_white, is_word_byte, listed}
+use Rattle.cweb_rules.specs.Bytes.{is_digit, is_white, is_word_byte, listed}
+use Rattle.cweb_texts.specs.Edges.{is_one_of}
 use Rattle.cweb_rules.specs.Matches.{match_in, is_closed}
 use Rattle.cweb_rules.specs.Matches.{Kind, Code, Quoted, Identifier, Numeral, Punctuator, rule_match}
 use Rattle.cweb_rules.specs.declared.context.Context.TheVariants.{CText}

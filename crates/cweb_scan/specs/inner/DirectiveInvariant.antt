@@ -5,7 +5,8 @@ use Rattle.cweb_rules.specs.declared.context.Context.{Context}
 use Rattle.cweb_rules.specs.declared.context.Context.TheVariants.{Limbo, TeX, Definition, Macro, CText}
 use Rattle.cweb_scan.specs.inner.Stages.{after_tokens}
 use Rattle.cweb_scan.specs.declared.directive.Directive.{Directive}
-use Rattle.cweb_scan.specs.State.{is_c, tokens_of}
+use Rattle.cweb_scan.specs.State.{is_c}
+use Rattle.cweb_scan.specs.inner.ScanParts.{tokens_of}
 
 abbrev pub is_part_open : Option Part → Bool
 is_part_open None = false

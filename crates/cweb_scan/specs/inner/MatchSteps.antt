@@ -1,6 +1,7 @@
 -- The state after the next lexeme, if it ends in its line and no head is open.
 use Rattle.std.specs.Prelude.{◌≡◌, ℕ, Bool, true, false, not, List, [], take, codes, bytes_eq, if◌then◌else◌}
-use Rattle.cweb_rules.specs.Bytes.{begins, first_is, is_blank, is_line_end, starts_section}
+use Rattle.cweb_rules.specs.Bytes.{begins, is_blank, is_line_end, starts_section}
+use Rattle.cweb_texts.specs.Edges.{first_is}
 use Rattle.cweb_rules.specs.Codes.{in_limbo, in_tex, in_macro, in_c}
 use Rattle.cweb_rules.specs.Matches.{RuleMatch}
 use Rattle.cweb_rules.specs.declared.context.Context.{Context}

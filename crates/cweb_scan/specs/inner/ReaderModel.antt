@@ -9,7 +9,9 @@ use Rattle.cweb_scan.specs.After.{Reading, line_end, comment_line_end, pass_comm
 use Rattle.cweb_scan.specs.inner.Resume.{PendingItem, Between, InComment, InName, InLiteral, AfterBackslash, InRaw}
 use Rattle.cweb_scan.specs.inner.Resume.{resume}
 use Rattle.cweb_scan.specs.inner.Room.{weight}
-use Rattle.cweb_scan.specs.Alone.{no_place, read_lines, newline_prefixed}
+use Rattle.cweb_scan.specs.Alone.{read_lines}
+use Rattle.cweb_scan.specs.inner.ScanParts.{no_place}
+use Rattle.cweb_scan.specs.laws.ReaderModel.{newline_prefixed}
 use Rattle.cweb_scan.specs.laws.ReaderModel.{places}
 
 pub record ReaderModel : Type 0 where

@@ -6,6 +6,7 @@ use Rattle.cweb_files.specs.declared.place.Place.{Place}
 use Rattle.cweb_rules.specs.Items.{Reach, body, reach_size}
 use Rattle.cweb_rules.specs.Matches.{opener_after}
 use Rattle.cweb_rules.specs.Items as items
+use Rattle.cweb_rules.specs.inner.Reaches as reaches
 use Rattle.cweb_scan.specs.State.{ScanState, move_to}
 use Rattle.cweb_rules.specs.declared.context.Context.TheVariants.{Limbo, TeX, Definition, Macro, CText}
 use Rattle.cweb_scan.specs.After.{Reading, on, each_line_end, comment_line_end, pass_comment, occurrence}
@@ -50,10 +51,10 @@ closer_of delimiter = codes ")" ++ delimiter ++ codes "\""
 abbrev pub resume : PendingItem → List ℕ → Reading → Reading
 resume Between t m = lex m t
 resume (InComment begun) t m = resume_comment begun (items.reach_of_comment t) t m
-resume (InName begun is_file text) t m = let r = items.reach_of_name t in
+resume (InName begun is_file text) t m = let r = reaches.reach_of_name t in
     resume_name begun is_file text r (opener_after r.how (drop (reach_size r) t)) t m
-resume (InLiteral begun quote text) t m = resume_literal begun text (items.reach_of_literal quote t) t m
+resume (InLiteral begun quote text) t m = resume_literal begun text (reaches.reach_of_literal quote t) t m
 resume (AfterBackslash begun quote text) t m =
-    resume_literal begun text (items.reach_of_literal quote (92 ∷ t)) (92 ∷ t) m
+    resume_literal begun text (reaches.reach_of_literal quote (92 ∷ t)) (92 ∷ t) m
 resume (InRaw begun delimiter text) t m =
-    resume_literal begun text (items.reach_of_raw_literal (closer_of delimiter) t) t m
+    resume_literal begun text (reaches.reach_of_raw_literal (closer_of delimiter) t) t m

@@ -5,7 +5,8 @@ use Rattle.cweb_lines.specs.Merge.{Event}
 use Rattle.cweb_lines.specs.surface.MergeProgress.{SoFar, EmitsLines}
 use Rattle.cweb_scan.specs.inner.ReaderModel.{ReaderModel, read_after}
 use Rattle.cweb_scan.specs.surface.Law.{web_size}
-use Rattle.cweb_scan.specs.Alone.{Scanned, read_lines, scanned_of}
+use Rattle.cweb_scan.specs.Alone.{Scanned, read_lines}
+use Rattle.cweb_scan.specs.inner.ScanParts.{scanned_of}
 use Rattle.cweb_scan.specs.surface.Scan.{AreLinesBelow}
 
 -- The result of a scan if no line follows.

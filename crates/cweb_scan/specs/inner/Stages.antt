@@ -7,7 +7,8 @@ use Rattle.cweb_scan.specs.declared.directive.Stage.{Stage}
 use Rattle.cweb_scan.specs.declared.directive.Stage.TheVariants.{Outside, Bare, Include, Further}
 use Rattle.cweb_scan.specs.declared.directive.Directive.{Directive}
 use Rattle.cweb_scan.specs.DirectiveTokens as spec
-use Rattle.cweb_scan.specs.DirectiveTokens.{is_bare, is_bare_include, is_punct}
+use Rattle.cweb_scan.specs.DirectiveTokens.{is_bare_include, is_punct}
+use Rattle.cweb_scan.specs.inner.ScanParts.{is_bare}
 
 abbrev pub last_kind : Token → Last
 last_kind (Punct b) = if bytes_eq b (codes "\\") then last.Backslash else last.Other

@@ -3,8 +3,14 @@ use Rattle.std.specs.Prelude.{◌≡◌, ◌<◌, ℕ, Bool, true, List, [], ◌
 use Rattle.cweb_files.specs.declared.place.Place.{Place}
 use Rattle.cweb_store.specs.Parts.{Token, Mark, all_tokens}
 use Rattle.cweb_rules.specs.Matches.{Lexeme}
+use Rattle.cweb_rules.specs.Matches.{RuleMatch, match_in}
+use Rattle.cweb_scan.specs.State.{ScanState, names_include}
 use Rattle.cweb_scan.specs.After.{Reading, after_lexeme}
-use Rattle.cweb_scan.specs.Alone.{next_match, Scanned}
+use Rattle.cweb_scan.specs.Alone.{Scanned}
+
+-- The next lexeme, by the context after the lexemes before it.
+abbrev pub next_match : ScanState → List ℕ → RuleMatch
+next_match s t = match_in s.context (names_include s) t
 
 -- The lexeme is a prefix of the source, and the one that the rules determine.
 pub record IsRuleMatch (r : Reading) (t : List ℕ) (p : Lexeme) : Type 0 where

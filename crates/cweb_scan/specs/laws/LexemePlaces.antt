@@ -7,8 +7,13 @@ use Rattle.cweb_rules.specs.Matches.{Lexeme}
 use Rattle.cweb_rules.specs.laws.Pays.{at_line_ends}
 use Rattle.cweb_scan.specs.After.{Reading, after_lexeme}
 use Rattle.cweb_scan.specs.laws.ReaderModel.{places}
-use Rattle.cweb_scan.specs.Alone.{newline_prefixed, lexemes}
+use Rattle.cweb_scan.specs.Alone.{lexemes_in}
+use Rattle.cweb_scan.specs.laws.ReaderModel.{newline_prefixed}
 use Rattle.cweb_scan.specs.State.{start_state}
+
+-- The lexemes of a source.
+abbrev pub lexemes : Reading → List ℕ → List Lexeme
+lexemes r t = lexemes_in 0 r t
 
 -- The reading before the first lexeme of some lines.
 abbrev pub source_start : Line → List Line → Reading

@@ -10,7 +10,8 @@ use std::alloc::AllocError;
 
 impl Scanner {
     ghost use Rattle.cweb_scan.specs.After as spec;
-    ghost use Rattle.cweb_scan.specs.State.{as_occurrence, name_occurrence, add_name};
+    ghost use Rattle.cweb_scan.specs.State.{name_occurrence, add_name};
+    ghost use Rattle.cweb_scan.specs.inner.ScanParts.{as_occurrence};
     ghost use Rattle.cweb_scan.specs.inner.Resume.{takes_opener};
     ghost use Rattle.cweb_scan.specs.inner.Room.{HasItemRoom};
 

@@ -1,7 +1,7 @@
 // The result of a scan.
 ghost use Rattle.std.specs.Prelude.{◌≡◌, IfOk};
 ghost use Rattle.cweb_scan.specs.inner.Room.{HasItemRoom};
-ghost use Rattle.cweb_scan.specs.Alone.{scanned_of};
+ghost use Rattle.cweb_scan.specs.inner.ScanParts.{scanned_of};
 ghost use Rattle.cweb_scan.specs.surface.ScannedModel.{scanned_model};
 
 use crate::scanner::Scanner;

@@ -1,7 +1,8 @@
 -- The tokens of a builder's parts are those that were pushed.
 use Rattle.std.specs.Prelude.{◌≡◌, ◌⊎◌, true, List, [], ◌∷◌, Option, Some, None, IsSome, IsNone, filter_map}
 use Rattle.cweb_store.specs.Parts.{Token, all_tokens, is_layout}
-use Rattle.cweb_store.specs.Calls.{all_parts, Contents, empty}
+use Rattle.cweb_store.specs.Calls.{Contents, empty}
+use Rattle.cweb_store.specs.surface.Growing.{all_parts}
 use Rattle.cweb_store.specs.laws.Calls.{Call, Opens, Pushes, after_call, contents}
 
 abbrev pub token_of_call : Call → Option Token

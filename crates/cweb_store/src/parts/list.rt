@@ -2,8 +2,9 @@
 
 ghost use Rattle.std.specs.Prelude.{◌≡◌, ◌<◌, ◌+◌, IsSome, IsNone, IsTrue, is_some, OnOk};
 ghost use Rattle.std.specs.Prelude.{OnErr};
-ghost use Rattle.cweb_store.specs.Calls.{with_closed_part, all_parts, with_dropped_layout};
-ghost use Rattle.cweb_store.specs.Calls.{no_parts, with_opened_part, with_pushed_token};
+ghost use Rattle.cweb_store.specs.inner.OpenParts.{with_closed_part, with_dropped_layout};
+ghost use Rattle.cweb_store.specs.surface.Growing.{all_parts};
+ghost use Rattle.cweb_store.specs.inner.OpenParts.{no_parts, with_opened_part, with_pushed_token};
 ghost use Rattle.cweb_store.specs.surface.Growing.{part_count, token_count};
 ghost use Rattle.cweb_names.specs.surface.Names.{too_many};
 ghost use Rattle.cweb_store.specs.inner.PartRanges.{last_range};

@@ -1,13 +1,15 @@
 use Rattle.cweb_input.proofs.Common.{◌≡◌, ◌∷◌, ◌++◌, ℕ, List, Some, ap, sym, ◌∙◌, subst, IsTrue}
 use Rattle.std.proofs.Common.{string_bytes}
-use Rattle.cweb_input.specs.Include.{found_under, in_folder}
+use Rattle.std.specs.Prelude.{option_and_then}
+use Rattle.cweb_input.specs.Include.{found_under}
 use Rattle.cweb_input.specs.inner.Finding.{found_as}
-use Rattle.cweb_input.specs.surface.Finding.{optional_string_bytes}
+use Rattle.cweb_input.specs.surface.Finding.{optional_string_bytes, world_in}
 use Rattle.cweb_input.proofs.Found.{found_nothing, found_first, found_second, IfOk-map}
 use Rattle.cweb_input.proofs.files.find.find.Goals as goal
 
 pub returns-in_default-clause-found : goal.returns-in_default-clause-found
-returns-in_default-clause-found g c = λ tells. found_nothing _ c.args.name.now c.in_default.ensures.cases.0
+returns-in_default-clause-found g c = λ tells. found_nothing (world_in (g.S.Shelf.texts c.args.shelf.now)
+    c.args.inputs.now) c.args.name.now c.in_default.ensures.cases.0
 
 pub returns-clause-found : goal.returns-clause-found
 returns-clause-found g c = λ tells. found_first (g.S.Shelf.texts c.args.shelf.now)
@@ -30,5 +32,5 @@ returns-in_default-2-clause-found g c = λ tells.
     IfOk-map _ (λ opening is. found_second (g.S.Shelf.texts c.args.shelf.now) (optional_string_bytes c.args.inputs.now)
     c.args.name.now (string_bytes c.in_ok-from_str.field-0) c.in-Ok.ensures.cases.1 (c.in_ok-from_str.ensures.ok
     ∙ c.in-Ok.ensures.cases.0) (found_as (g.S.Shelf.left c.fetch_named-in_default-2.new.shelf) opening) none
-    (is ∙ (λ i. found_under (longer i) (c.in_ok-opening.ensures.keeps.texts tells i (longer i))) ∙ ap (λ f. in_folder f
-    (g.S.Shelf.texts c.args.shelf.now) c.args.name.now) (sym folder))) (c.fetch_named-in_default-2.ensures.found tells')
+    (is ∙ (λ i. found_under (c.in_ok-opening.ensures.keeps.texts tells i) (longer i)) ∙ ap (λ f. option_and_then (λ folder.
+    found_under (g.S.Shelf.texts c.args.shelf.now) (folder ++ 47 ∷ c.args.name.now)) f) (sym folder))) (c.fetch_named-in_default-2.ensures.found tells')
