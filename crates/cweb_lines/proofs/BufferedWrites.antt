@@ -1,9 +1,9 @@
 -- Emitted lines are buffered, written or lost.
-use Rattle.cweb_lines.proofs.Common.{◌≡◌, ℕ, List, [], ◌∷◌, ◌++◌, length, refl, sym, ◌∙◌, ap, arith, length-append, IsTrue, append-nil, append_assoc, KeepsPlace, Writes, Line, Event, SoFar, EmitsLines, BuffersLines, emitted_lines, written_lines, WritesPrefix, HasWritten, FailsAmong, LosesLine}
+use Rattle.cweb_lines.proofs.Common.{◌≡◌, ◌+◌, ◌<◌, ℕ, List, [], ◌∷◌, ◌++◌, length, ◌∙◌, ap, arith, length-append, IsTrue, append-nil, append_assoc, KeepsPlace, Writes, Line, Event, SoFar, EmitsLines, BuffersLines, emitted_lines, written_lines, all_but_last, WritesPrefix, HasWritten, FailsAmong, LosesLine}
 use Rattle.cweb_files.specs.declared.device.Sink.{Ghosts as Sink}
 use Rattle.cweb_files.proofs.FramesCompose.{place_known, writes_then}
 use Rattle.cweb_lines.proofs.EmittedLinesAddUp.{yields_both}
-use Rattle.cweb_lines.proofs.WrittenLinesAddUp.{prefix_of_all, emitted_prefix, text_of-append}
+use Rattle.cweb_lines.proofs.WrittenLinesAddUp.{prefix_of_all, emitted_prefix, text_of-append, written-all_but_last}
 
 pub held : (room : ℕ) (old so : SoFar) (all now : List Event) (Wrote : List ℕ → Type 0) →
     HasWritten old so all now Wrote
@@ -17,31 +17,35 @@ held room old so all now Wrote g line so' later next buffer more none is = recor
   wrote = g.wrote;
   piece_is = simp (is, none);
   some = omega arith;
-  alone = λ none. refl;
+  within = λ more. absurd (omega (arith, more));
 }
 
-no_lines : (lines : List Line) (buffer : List ℕ) → buffer ++ written_lines lines ≡ buffer → lines ≡ []
-no_lines [] buffer same = refl
-no_lines (line ∷ lines) buffer same =
-    absurd (omega (
-      arith,
-      ap (λ (t : List ℕ). length t) same,
-      length-append buffer (written_lines (line ∷ lines)),
-      length-append line.bytes (10 ∷ written_lines lines),
-    ))
+within_on : (room : ℕ) (buffer : List ℕ) (a b : List Line) → buffer ≡ written_lines a
+    → (1 < length a → length (written_lines (all_but_last a)) < room)
+    → (0 < length b → length buffer + length (written_lines (all_but_last b)) < room)
+    → 1 < length (a ++ b) → length (written_lines (all_but_last (a ++ b))) < room
+within_on room buffer a [] is first then = rw append-nil first
+within_on room buffer a (line ∷ b) is first then = λ more. omega (
+  arith,
+  ap (λ (t : List ℕ). length t) is,
+  then (omega arith),
+  written-all_but_last a (line ∷ b) (omega arith),
+)
 
 pub held_on : (room : ℕ) (old so : SoFar) (all now : List Event) (Wrote : List ℕ → Type 0) (buffer : List ℕ) →
     BuffersLines room old so all now Wrote buffer
     → (lines : List Line) (so' : SoFar) (later : List Event) → EmitsLines lines so so' now later → (more : List ℕ) →
-    more ≡ buffer ++ written_lines lines → (room ≡ 0 → more ≡ buffer) → BuffersLines room old so' all later Wrote more
-held_on room old so all now Wrote buffer h lines so' later next more is alone = record {
+    more ≡ buffer ++ written_lines lines
+    → (0 < length lines → length buffer + length (written_lines (all_but_last lines)) < room)
+    → BuffersLines room old so' all later Wrote more
+held_on room old so all now Wrote buffer h lines so' later next more is within = record {
   done = h.done;
   buffered = h.buffered ++ lines;
   yields = rw append_assoc at (yields_both (h.done ++ h.buffered) lines old so so' all now later h.yields next);
   wrote = h.wrote;
   piece_is = simp (is, h.piece_is, text_of-append);
   some = omega (arith, h.some, length-append h.buffered lines);
-  alone = λ none. simp (no_lines lines buffer (sym is ∙ alone none), append-nil, h.alone none);
+  within = within_on room buffer h.buffered lines h.piece_is h.within within;
 }
 
 module _ {W : Type 0} (sink : Sink W) (first mid : W) (keeps : KeepsPlace sink first mid) (room : ℕ) (old so : SoFar)
@@ -71,17 +75,21 @@ module _ {W : Type 0} (sink : Sink W) (first mid : W) (keeps : KeepsPlace sink f
     yields = h.yields;
     prefix = rw (h.wrote tells, h.piece_is) at (prefix (place_known sink first mid keeps tells));
     some = h.some;
-    alone = h.alone;
+    within = h.within;
   }
 
 -- Without buffering a write fault loses only one line.
 pub loses_line : (old new : SoFar) (all later : List Event) (before after : List ℕ) →
     FailsAmong 0 old new all later before after → LosesLine old new all later before after
-loses_line old new all later before after failed = by failed.buffered (failed.alone refl) failed.yields failed.prefix
+loses_line old new all later before after failed =
+    by failed.buffered failed.some failed.within failed.yields failed.prefix
   where
-    by : (buffered : List Line) → length buffered ≡ 1 → EmitsLines (failed.done ++ buffered) old new all later →
-        WritesPrefix (before ++ written_lines failed.done) after (written_lines buffered)
+    by : (buffered : List Line) → 0 < length buffered
+        → (1 < length buffered → length (written_lines (all_but_last buffered)) < 0)
+        → EmitsLines (failed.done ++ buffered) old new all later
+        → WritesPrefix (before ++ written_lines failed.done) after (written_lines buffered)
         → LosesLine old new all later before after
-    by [] one yields prefix = absurd (omega (arith, one))
-    by (line ∷ []) one yields prefix = record { done = failed.done; line = line; yields = yields; prefix = prefix }
-    by (line ∷ other ∷ rest) one yields prefix = absurd (omega (arith, one))
+    by [] some within yields prefix = absurd (omega (arith, some))
+    by (line ∷ []) some within yields prefix =
+        record { done = failed.done; line = line; yields = yields; prefix = prefix }
+    by (line ∷ other ∷ rest) some within yields prefix = absurd (omega (arith, within (omega arith)))

@@ -5,7 +5,7 @@ pub use Rattle.std.proofs.Common.{◌||◌, if◌then◌else◌, ◌≢◌, ◌=
 pub use Rattle.std.proofs.Common.{get_or-set_same, rules, string_bytes, Vec, Global}
 pub use Rattle.std.proofs.Math.Bool.{or-true, or-false}
 pub use Rattle.std.proofs.Math.Nat.{le-max_left, le-max_right, max-le}
-pub use Rattle.std.proofs.Math.Seq.{take-add}
+pub use Rattle.std.proofs.Math.Seq.{take-add, take-append-add}
 pub use Rattle.std.proofs.lemmas.Bool.{or_parts}
 pub use Rattle.std.proofs.lemmas.Bool.Decides.{nat_tests}
 pub use Rattle.std.proofs.lemmas.Grind.{common_steps}
@@ -87,7 +87,7 @@ pub use Rattle.cweb_lines.specs.inner.Passing.{ComesNext, EmitsBufferedLines, Ha
 pub use Rattle.cweb_lines.specs.inner.Passing.{IsStretchAt, IsStretchOf, line_with_newline, lines_next, top_of}
 pub use Rattle.cweb_lines.specs.inner.Passing.{AppendsPassedLines, BuffersLines, AllPassThrough, trimmed_with_newlines}
 pub use Rattle.cweb_lines.specs.inner.Passing.{sources_next, with_newlines, stretch_bytes, PassesThrough, buffer_of}
-pub use Rattle.cweb_lines.specs.inner.Passing.{PassesTop, KeepsLevel, PassesSlot}
+pub use Rattle.cweb_lines.specs.inner.Passing.{PassesTop, KeepsLevel, PassesSlot, all_but_last, OnlyLastExceeds}
 pub use Rattle.cweb_lines.specs.inner.Replacing.{Compares, IsReplaced, Replaces, lines_replaced, taken_away}
 pub use Rattle.cweb_lines.specs.inner.Replacing.{closing_faults, faults_replaced, IsChanged, fault_list_if}
 pub use Rattle.cweb_lines.specs.inner.Seeking.{ReportsFaultPrefix, Searched, SeeksTo, search_after, BegunKnown}

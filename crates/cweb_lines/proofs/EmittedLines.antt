@@ -1,6 +1,7 @@
 -- Lines that pass through are taken and emitted one by one.
-use Rattle.cweb_lines.proofs.Common.{◌≡◌, ◌+◌, ℕ, Bool, List, [], ◌∷◌, ◌++◌, length, map, Option, Some, None, refl, sym, ◌∙◌, ap, arith, length-append, Place, WaitingEntry, World, SourceLine, numbered_lines, trimmed, Event, Thing, took, emitted, raws, AllPassThrough, IsStretchAt, line_with_newline, lines_next, trimmed_with_newlines, sources_next, with_newlines, stretch_bytes, matches_at, number_or_zero, source_depth, AreShort, emitted_lines, openings, size_of_lines, taken_lines, reported_faults, merge, written_lines, Stretch, OpenSource}
+use Rattle.cweb_lines.proofs.Common.{◌≡◌, ◌≤◌, ◌<◌, ◌+◌, ◌-◌, ℕ, zero, suc, Bool, List, [], ◌∷◌, ◌++◌, length, map, take, Option, Some, None, refl, sym, ◌∙◌, ap, arith, length-append, length-map, Place, WaitingEntry, World, SourceLine, numbered_lines, trimmed, Event, Thing, took, emitted, raws, AllPassThrough, IsStretchAt, line_with_newline, lines_next, trimmed_with_newlines, sources_next, with_newlines, all_but_last, OnlyLastExceeds, stretch_bytes, matches_at, number_or_zero, source_depth, AreShort, emitted_lines, openings, size_of_lines, taken_lines, reported_faults, merge, written_lines, Stretch, OpenSource}
 use Rattle.cweb_lines.proofs.Merges.{merge_emitted, state}
+use Rattle.cweb_input.proofs.TrimmedLines.{trimmed-length}
 
 abbrev pub events_of : List SourceLine → List Event
 events_of [] = []
@@ -94,6 +95,39 @@ pub next-short : {R : Type 0} (entry : Option WaitingEntry) (slot : Option (Open
     → IsStretchAt entry slot s lines → AreShort (sources_next slot lines)
 next-short entry None s lines in_place = absurd in_place
 next-short entry (Some text) s lines in_place = numbered-short _ _ _ _ _ in_place.is.passing
+
+-- A line is emitted without trailing blanks, so it takes no more bytes than in the buffer.
+numbered-prefix : (file number n : ℕ) (lines : List (List ℕ)) → length (written_lines (take n
+    (map (λ source. source.line) (numbered_lines file number (map line_with_newline lines)))))
+    ≤ length (with_newlines (take n lines))
+numbered-prefix file number zero lines = omega arith
+numbered-prefix file number (suc n) [] = omega arith
+numbered-prefix file number (suc n) (line ∷ lines) = omega (
+  arith,
+  numbered-prefix file (number + 1) n lines,
+  trimmed-length line,
+  length-append (trimmed line) (10 ∷ written_lines (take n
+      (map (λ source. source.line) (numbered_lines file (number + 1) (map line_with_newline lines))))),
+  length-append line (10 ∷ with_newlines (take n lines)),
+)
+
+pub next-within : {R : Type 0} (slot : Option (OpenSource R)) (lines : List (List ℕ)) (room : ℕ)
+    → OnlyLastExceeds room lines → 0 < room
+    → length (written_lines (all_but_last (lines_next slot lines))) < room
+next-within None lines room within some = some
+next-within (Some text) [] room within some = some
+next-within (Some text) (line ∷ []) room within some = some
+next-within (Some text) (line ∷ other ∷ lines) room within some =
+    let all = line ∷ other ∷ lines in
+    let count : length (lines_next (Some text) all) ≡ length all =
+    length-map (sources_next (Some text) all) (λ source. source.line)
+    ∙ numbered-length text.file.0 (text.line + 1) all in
+    omega (
+      arith,
+      within (omega arith),
+      ap (λ n. length (written_lines (take (n - 1) (lines_next (Some text) all)))) count,
+      numbered-prefix text.file.0 (text.line + 1) (length all - 1) all,
+    )
 
 pub next-text : {R : Type 0} (entry : Option WaitingEntry) (slot : Option (OpenSource R)) (s : Stretch)
     (lines : List (List ℕ)) → IsStretchAt entry slot s lines

@@ -1,5 +1,5 @@
 -- Adjacent lines in the buffer, and the lines of the source that they are.
-use Rattle.cweb_lines.proofs.Common.{◌≡◌, ◌≤◌, ◌<◌, ◌+◌, ◌-◌, ℕ, Bool, List, [], ◌∷◌, ◌++◌, length, map, take, drop, Option, Some, None, refl, sym, ◌∙◌, ap, arith, take-add, append_assoc, append_cancel_right, drop-drop, length-append, length-map, length-take, map-append, take-take, take_all, slice_range, IfSome, WaitingEntry, SplitsAt, CutLine, numbered_lines, cut_lines, trimmed, AllPassThrough, HasRoomFor, IsStretch, PassesThrough, Reaches, IsStretchOf, line_with_newline, trimmed_with_newlines, sources_next, with_newlines, buffered, lines_at, TakenCounters, LINES, BYTES, Stretch, OpenSource}
+use Rattle.cweb_lines.proofs.Common.{◌≡◌, ◌≤◌, ◌<◌, ◌+◌, ◌-◌, ℕ, Bool, List, [], ◌∷◌, ◌++◌, length, map, take, drop, Option, Some, None, refl, sym, ◌∙◌, ap, arith, take-add, take-append-add, append-nil, append_assoc, append_cancel_right, drop-drop, length-append, length-map, length-take, map-append, take-take, take_all, slice_range, IfSome, WaitingEntry, SplitsAt, CutLine, numbered_lines, cut_lines, trimmed, AllPassThrough, HasRoomFor, IsStretch, OnlyLastExceeds, PassesThrough, Reaches, IsStretchOf, line_with_newline, trimmed_with_newlines, sources_next, with_newlines, all_but_last, buffered, lines_at, TakenCounters, LINES, BYTES, Stretch, OpenSource}
 use Rattle.cweb_input.proofs.Newlines.{after_newline, text_lines-full}
 
 pub standing-append : (a b : List (List ℕ)) → with_newlines (a ++ b) ≡ with_newlines a ++ with_newlines b
@@ -9,6 +9,19 @@ standing-append (line ∷ a) b = simp (standing-append a b, append_assoc)
 printed-append : (a b : List (List ℕ))
     → trimmed_with_newlines (a ++ b) ≡ trimmed_with_newlines a ++ trimmed_with_newlines b
 printed-append a b = simp (map-append, standing-append)
+
+pub all_but_last-append : {A : Type 0} (a b : List A) → 0 < length b → all_but_last (a ++ b) ≡ a ++ all_but_last b
+all_but_last-append a b some =
+    let count : length (a ++ b) - 1 ≡ length a + (length b - 1) = omega (arith, length-append a b, some) in
+    ap (λ n. take n (a ++ b)) count ∙ take-append-add a b (length b - 1)
+
+-- One line after others that have fewer bytes.
+within_before : (room : ℕ) (a b : List (List ℕ)) → length b ≡ 1 → length (with_newlines a) < room
+    → OnlyLastExceeds room (a ++ b)
+within_before room a (line ∷ []) one few = λ more.
+    rw (all_but_last-append a (line ∷ []) (omega arith), append-nil) few
+within_before room a [] one few = absurd (omega (arith, one))
+within_before room a (line ∷ other ∷ b) one few = absurd (omega (arith, one))
 
 passing-append : (entry : Option WaitingEntry) (may_match : Bool) (a b : List (List ℕ))
     → AllPassThrough entry may_match a
@@ -111,30 +124,41 @@ pub lines_within : {entry : Option WaitingEntry} {may_match : Bool} {buffer : Li
     → Reaches entry may_match buffer start end s → start + s.lines ≤ s.end
 lines_within reaches = omega (arith, reaches.1.lines, reaches.1.size, few_lines reaches.0)
 
-pub reaches_more : {entry : Option WaitingEntry} {may_match : Bool} {buffer : List ℕ} {start end : ℕ} (s t u : Stretch)
-    → Reaches entry may_match buffer start end s → s.text + 1 ≡ s.end → Reaches entry may_match buffer s.end end t
-    → u.text ≡ t.text → u.end ≡ t.end → u.lines ≡ s.lines + t.lines → Reaches entry may_match buffer start end u
-reaches_more {entry = e} {may_match = m} {buffer = buffer} {start = start} s t u first whole then text ends lines = (
-  first.0 ++ then.0,
-  joined e m buffer start s t u first.0 then.0 first.1 whole then.1 text ends lines,
-  omega (arith, ends, then.2),
-)
+-- One more line is added while they have fewer than `room` bytes.
+pub reaches_more : {entry : Option WaitingEntry} {may_match : Bool} {buffer : List ℕ} {start end : ℕ} (room : ℕ)
+    (s t u : Stretch) → Reaches entry may_match buffer start end s → s.text + 1 ≡ s.end
+    → Reaches entry may_match buffer s.end end t → t.lines ≡ 1 → s.end - start < room
+    → u.text ≡ t.text → u.end ≡ t.end → u.lines ≡ s.lines + t.lines
+    → (found : Reaches entry may_match buffer start end u) × OnlyLastExceeds room found.0
+reaches_more {entry = e} {may_match = m} {buffer = buffer} {start = start} room s t u first whole then one few text ends
+    lines = (
+      (
+        first.0 ++ then.0,
+        joined e m buffer start s t u first.0 then.0 first.1 whole then.1 text ends lines,
+        omega (arith, ends, then.2),
+      ),
+      within_before room first.0 then.0 (omega (arith, then.1.lines, one)) (omega (arith, first.1.size, few)),
+    )
 
 pub in_place_of : {R : Type 0} (entry : Option WaitingEntry) (text : OpenSource R) (limits : TakenCounters)
-    (next : Option Stretch)
+    (next : Option Stretch) (room : ℕ)
     → limits.lines + (text.source.end - text.source.start) ≤ LINES
     → limits.bytes + (text.source.end - text.source.start) ≤ BYTES
-    → IfSome next (λ s. Reaches entry text.may_match text.source.buffer.items text.source.start text.source.end s)
-    → IfSome next (λ s. (lines : List (List ℕ)) × IsStretchOf entry text s lines × HasRoomFor limits lines)
-in_place_of entry text limits None few small reaches = tt
-in_place_of entry text limits (Some s) few small reaches = (
-  reaches.0,
-  record { is = reaches.1; within = reaches.2 },
-  record {
-    few = omega (arith, few, few_lines reaches.0, reaches.1.size, reaches.2);
-    small = omega (arith, small, reaches.1.size, reaches.2);
-  },
-)
+    → IfSome next (λ s. (found : Reaches entry text.may_match text.source.buffer.items text.source.start text.source.end
+    s) × OnlyLastExceeds room found.0)
+    → IfSome next (λ s. (lines : List (List ℕ)) × IsStretchOf entry text s lines × HasRoomFor limits lines
+    × OnlyLastExceeds room lines)
+in_place_of entry text limits None room few small found = tt
+in_place_of entry text limits (Some s) room few small found =
+    let reaches = found.0 in (
+      reaches.0,
+      record { is = reaches.1; within = reaches.2 },
+      record {
+        few = omega (arith, few, few_lines reaches.0, reaches.1.size, reaches.2);
+        small = omega (arith, small, reaches.1.size, reaches.2);
+      },
+      found.1,
+    )
 
 text_lines-standing : (entry : Option WaitingEntry) (may_match : Bool) (lines : List (List ℕ)) (rest : List ℕ)
     → AllPassThrough entry may_match lines

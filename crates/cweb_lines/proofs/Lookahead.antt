@@ -1,5 +1,5 @@
 -- Lookahead at consecutive lines in the buffer.
-use Rattle.cweb_lines.proofs.Common.{◌≡◌, ◌≤◌, ◌<◌, ◌+◌, ◌-◌, ℕ, List, [], ◌∷◌, ◌++◌, length, map, Option, None, Some, refl, sym, ◌∙◌, ap, subst, arith, append_cancel_right, length-append, length-map, map-append, slice_range, unwrap_or, IfSome, OnSome, Place, FitsLimits, FitsLimitsAt, IsAhead, LooksAhead, LooksAheadIn, WaitingEntry, BorrowsLines, line_span_at, Line, IsOneLine, SourceLine, numbered_lines, trimmed, pending_of, so_far_of, ComesNext, EmitsBufferedLines, HasRoomFor, IsStretch, Reaches, IsStretchAt, IsStretchOf, line_with_newline, lines_next, top_of, IsSettled, floor_of, files_up_to, TakenCounters, LINES, Ahead, LineSpan, Stretch, MergeState, OpenSource}
+use Rattle.cweb_lines.proofs.Common.{◌≡◌, ◌≤◌, ◌<◌, ◌+◌, ◌-◌, ℕ, List, [], ◌∷◌, ◌++◌, length, map, Option, None, Some, refl, sym, ◌∙◌, ap, subst, arith, append_cancel_right, length-append, length-map, map-append, slice_range, unwrap_or, IfSome, OnSome, Place, FitsLimits, FitsLimitsAt, IsAhead, LooksAhead, LooksAheadIn, WaitingEntry, BorrowsLines, line_span_at, Line, IsOneLine, SourceLine, numbered_lines, trimmed, pending_of, so_far_of, ComesNext, EmitsBufferedLines, HasRoomFor, IsStretch, Reaches, IsStretchAt, IsStretchOf, OnlyLastExceeds, line_with_newline, lines_next, top_of, IsSettled, floor_of, files_up_to, TakenCounters, LINES, Ahead, LineSpan, Stretch, MergeState, OpenSource}
 use Rattle.cweb_lines.proofs.ReportsOnlyGrow.{grows_reported, reported_emitted, reported_then}
 use Rattle.cweb_input.proofs.SourceStacks.{most_at}
 use Rattle.cweb_lines.proofs.LinesInBuffer.{few_lines, joined, numbered-append}
@@ -47,13 +47,14 @@ module _ {R : Type 0} (entry : Option WaitingEntry) (text : OpenSource R) (lines
 
 pub looks_first : {R : Type 0} (entry : Option WaitingEntry) (slot : Option (OpenSource R)) (s : Stretch)
     (line : LineSpan)
-    (lines : List (List ℕ)) → IsStretchAt entry slot s lines → s.lines ≡ 1 → Some line ≡ line_span_at slot s
+    (lines : List (List ℕ)) → IsStretchAt entry slot s lines → OnlyLastExceeds 0 lines → Some line ≡ line_span_at slot s
     → LooksAheadIn entry slot [] (record { line = line; stretch = s })
-looks_first entry None s line lines in_place one is = absurd in_place
-looks_first entry (Some text) s line [] in_place one is = absurd (omega (arith, one, in_place.is.lines))
-looks_first entry (Some text) s line (raw ∷ more ∷ lines) in_place one is =
-    absurd (omega (arith, one, in_place.is.lines))
-looks_first entry (Some text) s line (raw ∷ []) in_place one is = subst (λ (l : LineSpan). LooksAheadIn entry
+looks_first entry None s line lines in_place within is = absurd in_place
+looks_first entry (Some text) s line [] in_place within is =
+    absurd (omega (arith, in_place.is.size, in_place.is.forth, in_place.is.before))
+looks_first entry (Some text) s line (raw ∷ more ∷ lines) in_place within is =
+    absurd (omega (arith, within (omega arith)))
+looks_first entry (Some text) s line (raw ∷ []) in_place within is = subst (λ (l : LineSpan). LooksAheadIn entry
     (Some text) [] (record { line = l; stretch = s })) (sym (ap (λ (o : Option LineSpan). unwrap_or o here) is))
     (looks_one entry text [] raw s (record { line = here; stretch = s }) in_place.is in_place.within refl place
     in_place)

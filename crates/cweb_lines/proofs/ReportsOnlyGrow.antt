@@ -59,8 +59,8 @@ pub grows_reported : {R : Type 0} {old : SoFar} (run : MergeState R) → KeepsRe
     → Grows old (so_far_of run)
 grows_reported run reported = record { reported = reported; lines = run.limits.few; bytes = run.limits.small }
 
-pub reported_passed : {R : Type 0} {old new : MergeState R} {buffer more : List ℕ}
-    → AppendsPassedLines old new buffer more
+pub reported_passed : {R : Type 0} {room : ℕ} {old new : MergeState R} {buffer more : List ℕ}
+    → AppendsPassedLines room old new buffer more
     → KeepsReported (so_far_of old) (so_far_of new)
 reported_passed {old = old} {new = new} passes = reported_emitted _ _ _ _ _ (passes.yields (λ _. None) (λ _. []))
 

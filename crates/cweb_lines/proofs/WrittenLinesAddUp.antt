@@ -1,6 +1,7 @@
 -- The written lines of consecutive calls are concatenated.
-use Rattle.cweb_lines.proofs.Common.{◌≡◌, ℕ, List, [], ◌∷◌, ◌++◌, refl, sym, ◌∙◌, IsTrue, append-nil, append_assoc, Writes, Line, Event, SoFar, EmitsLines, Stopped, StopsAfterLines, ReportsPrefix, emitted_lines, written_lines, WritesPrefix, WritesAll, WritesSome, WritesUpTo, HasWritten, StopsWriting, Stop, ReadFault, LineTooLong, TooMuchText, Memory}
+use Rattle.cweb_lines.proofs.Common.{◌≡◌, ◌<◌, ◌+◌, ℕ, List, [], ◌∷◌, ◌++◌, length, refl, sym, ◌∙◌, ap, length-append, IsTrue, append-nil, append_assoc, Writes, Line, Event, SoFar, EmitsLines, Stopped, StopsAfterLines, ReportsPrefix, emitted_lines, written_lines, all_but_last, WritesPrefix, WritesAll, WritesSome, WritesUpTo, HasWritten, StopsWriting, Stop, ReadFault, LineTooLong, TooMuchText, Memory}
 use Rattle.cweb_files.specs.declared.device.Sink.{Ghosts as Sink}
+use Rattle.cweb_lines.proofs.LinesInBuffer.{all_but_last-append}
 use Rattle.cweb_lines.proofs.Merges.{yields_nothing}
 use Rattle.cweb_lines.proofs.EmittedLinesAddUp.{emitted-append, reported-append, openings-append, yields_both, after_both, reads_both}
 
@@ -25,6 +26,13 @@ yields_all lines old new all later yields none = record {
 pub text_of-append : (a b : List Line) → written_lines (a ++ b) ≡ written_lines a ++ written_lines b
 text_of-append [] b = refl
 text_of-append (line ∷ a) b = simp (text_of-append a b, append_assoc)
+
+pub written-all_but_last : (a b : List Line) → 0 < length b → length (written_lines (all_but_last (a ++ b)))
+    ≡ length (written_lines a) + length (written_lines (all_but_last b))
+written-all_but_last a b some =
+    ap (λ (ls : List Line). length (written_lines ls)) (all_but_last-append a b some)
+    ∙ ap (λ (t : List ℕ). length t) (text_of-append a (all_but_last b))
+    ∙ length-append (written_lines a) (written_lines (all_but_last b))
 
 -- A prefix of the whole output: whole lines, then a prefix of the buffered lines.
 pub prefix_of_all : (all done buffered now : List Line) (old mid new buffer : List ℕ) → all ≡ done ++

@@ -191,9 +191,8 @@ impl<S: Shelf> Merger<S> {
 
     /// Appends buffered lines that pass through, while `buffer` has fewer than `room` bytes.
     pub(crate) fn pass_lines(&mut self, buffer: &mut Vec<u8>, room: usize) -> Result<(), AllocError>
-        ensures passes { AppendsPassedLines self.old.run self.new.run buffer.old.items
+        ensures passes { AppendsPassedLines room self.old.run self.new.run buffer.old.items
             buffer.new.items }
-        ensures alone { room ≡ 0 → buffer.new.items ≡ buffer.old.items }
     {
         pass_lines(&mut self.run, buffer, room)
     }

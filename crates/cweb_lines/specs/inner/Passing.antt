@@ -1,6 +1,6 @@
 -- Lines that pass through: what they are in the buffer, and how they are taken and appended.
 use Rattle.std.specs.Prelude.{◌≡◌, ℕ, ◌+◌, ◌-◌, ◌<◌, ◌≤◌, Bool, false, List, [], ◌∷◌, ◌++◌, length, map, slice_range}
-use Rattle.std.specs.Prelude.{slice_index_or, Option, None, Some}
+use Rattle.std.specs.Prelude.{slice_index_or, Option, None, Some, take}
 use Rattle.cweb_lines.specs.Change.{WaitingEntry}
 use Rattle.cweb_input.specs.Include.{is_include_line}
 use Rattle.cweb_input.specs.Lines.{Line, SourceLine, CutLine, numbered_lines, trimmed, Thing, raws}
@@ -38,6 +38,13 @@ with_newlines (line ∷ lines) = line ++ 10 ∷ with_newlines lines
 
 abbrev pub trimmed_with_newlines : List (List ℕ) → List ℕ
 trimmed_with_newlines lines = with_newlines (map trimmed lines)
+
+abbrev pub all_but_last : {A : Type 0} → List A → List A
+all_but_last list = take (length list - 1) list
+
+-- If there are several lines, all but the last have fewer than `room` bytes, newlines included.
+abbrev pub OnlyLastExceeds : ℕ → List (List ℕ) → Type 0
+OnlyLastExceeds room raw_lines = 1 < length raw_lines → length (with_newlines (all_but_last raw_lines)) < room
 
 -- Adjacent lines in the buffer that pass through. All but the last are printed as they are, and the last one trimmed.
 pub record IsStretch (entry : Option WaitingEntry) (may_match : Bool) (buffer : List ℕ) (start : ℕ) (s : Stretch)
@@ -150,18 +157,20 @@ pub record EmitsBufferedLines {R : Type 0} (old new : MergeState R) (lines : Lis
   pub counted : new.limits.lines ≡ old.limits.lines + length lines
   pub readers : (opened_as : R → List ℕ) → AreReadersKnown opened_as old → AreReadersKnown opened_as new
 
--- Lines are emitted and appended to a buffer. No file is opened.
-pub record AppendsPassedLines {R : Type 0} (old new : MergeState R) (buffer more : List ℕ) : Type 0 where
+-- Lines are emitted and appended to a buffer. Each begins before the buffer has `room` bytes. No file is opened.
+pub record AppendsPassedLines {R : Type 0} (room : ℕ) (old new : MergeState R) (buffer more : List ℕ) : Type 0 where
   pub lines : List Line
   pub yields : (texts : List ℕ → Option (List ℕ)) (left : R → List ℕ) →
       EmitsLines lines (so_far_of old) (so_far_of new) (events_to_come texts left old) (events_to_come texts left new)
   pub buffered : more ≡ buffer ++ written_lines lines
+  pub within : 0 < length lines → length buffer + length (written_lines (all_but_last lines)) < room
   pub stopped : new.stopped ≡ old.stopped
   pub names : new.names ≡ old.names
   pub counted : old.limits.lines ≤ new.limits.lines
   pub readers : (opened_as : R → List ℕ) → AreReadersKnown opened_as old → AreReadersKnown opened_as new
 
--- Some lines were written, and others are buffered: at least one, and only one if there is no room.
+-- Some lines were written, and others are buffered: at least one. If there are several, all but the last have fewer
+-- than `room` bytes.
 pub record BuffersLines (room : ℕ) (old new : SoFar) (all now : List Event) (Wrote : List ℕ → Type 0)
     (buffer : List ℕ) : Type 0 where
   pub done : List Line
@@ -170,4 +179,4 @@ pub record BuffersLines (room : ℕ) (old new : SoFar) (all now : List Event) (W
   pub wrote : Wrote (written_lines done)
   pub piece_is : buffer ≡ written_lines buffered
   pub some : 0 < length buffered
-  pub alone : room ≡ 0 → length buffered ≡ 1
+  pub within : 1 < length buffered → length (written_lines (all_but_last buffered)) < room

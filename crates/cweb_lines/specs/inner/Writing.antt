@@ -1,19 +1,21 @@
 -- How far the output of a merge is.
-use Rattle.std.specs.Prelude.{◌≡◌, ◌<◌, ℕ, List, ◌++◌, length}
+use Rattle.std.specs.Prelude.{◌<◌, ℕ, List, ◌++◌, length}
 use Rattle.cweb_files.specs.Bins.{WritesPrefix}
 use Rattle.cweb_input.specs.Lines.{Line}
 use Rattle.cweb_lines.specs.Merge.{Event}
 use Rattle.cweb_lines.specs.surface.MergeProgress.{SoFar, EmitsLines}
 use Rattle.cweb_lines.specs.Events.{written_lines}
+use Rattle.cweb_lines.specs.inner.Passing.{all_but_last}
 
--- A write failed within the buffered lines. The next line is the one after them.
+-- A write failed within the buffered lines. The next line is the one after them. If there are several, all but the last
+-- have fewer than `room` bytes.
 pub record FailsAmong (room : ℕ) (old new : SoFar) (all later : List Event) (before after : List ℕ) : Type 0 where
   pub done : List Line
   pub buffered : List Line
   pub yields : EmitsLines (done ++ buffered) old new all later
   pub prefix : WritesPrefix (before ++ written_lines done) after (written_lines buffered)
   pub some : 0 < length buffered
-  pub alone : room ≡ 0 → length buffered ≡ 1
+  pub within : 1 < length buffered → length (written_lines (all_but_last buffered)) < room
 
 -- All emitted lines were written.
 pub record HasWritten (old new : SoFar) (all now : List Event) (Wrote : List ℕ → Type 0) : Type 0 where

@@ -2,6 +2,7 @@
 ghost use Rattle.std.specs.Prelude.{◌≡◌, ◌≤◌, ◌+◌, ◌-◌, ℕ, List, IfSome, OnSome};
 ghost use Rattle.cweb_lines.specs.inner.Ahead.{FitsLimits, FitsLimitsAt};
 ghost use Rattle.cweb_lines.specs.inner.Passing.{Reaches, IsStretchOf, ComesNext, HasRoomFor};
+ghost use Rattle.cweb_lines.specs.inner.Passing.{OnlyLastExceeds};
 ghost use Rattle.cweb_lines.specs.inner.Passing.{stretch_bytes, top_of};
 ghost use Rattle.cweb_lines.specs.surface.Stages.{pending_in};
 ghost use Rattle.cweb_input.specs.declared.limits.TheConstants.{LINES};
@@ -87,9 +88,8 @@ fn stretch_from<R: Drop>(
     room: usize,
 ) -> Option<Stretch>
     requires { source.now.end - source.now.start ≤ LINES }
-    ensures lines { IfSome result (λ s. Reaches (pending_in stage first.now) may_match
-        source.now.buffer.items source.now.start source.now.end s) }
-    ensures one { room ≡ 0 → IfSome result (λ s. s.lines ≡ 1) }
+    ensures lines { IfSome result (λ s. (found : Reaches (pending_in stage first.now) may_match
+        source.now.buffer.items source.now.start source.now.end s) × OnlyLastExceeds room found.0) }
 {
     if source.start >= source.lines_end {
         return None;
@@ -120,9 +120,9 @@ fn stretch_of<R: Drop>(
     room: usize,
 ) -> Option<Stretch>
     ensures lines { IfSome result (λ s. (lines : List (List ℕ))
-        × IsStretchOf (pending_in stage first.now) text.now s lines × HasRoomFor limits.now lines) }
+        × IsStretchOf (pending_in stage first.now) text.now s lines × HasRoomFor limits.now lines
+        × OnlyLastExceeds room lines) }
     ensures fits { OnSome result (FitsLimits limits.now text.now) }
-    ensures one { room ≡ 0 → IfSome result (λ s. s.lines ≡ 1) }
 {
     let source = &text.source;
     if !limits.has_room(source.end - source.start) {
@@ -135,9 +135,9 @@ impl<R: Drop> MergeState<R> {
     /// The next lines that pass through, until they have `room` bytes, but at least one. `None` is always allowed.
     #[inline(always)]
     pub fn stretch(&self, room: usize) -> Option<Stretch>
-        ensures lines { IfSome result (λ s. (lines : List (List ℕ)) × ComesNext self.now s lines) }
+        ensures lines { IfSome result (λ s. (lines : List (List ℕ)) × ComesNext self.now s lines
+            × OnlyLastExceeds room lines) }
         ensures fits { OnSome result (FitsLimitsAt self.now.limits (top_of self.now.stack)) }
-        ensures one { room ≡ 0 → IfSome result (λ s. s.lines ≡ 1) }
     {
         if let Stage::Seeking = self.stage {
             return None;

@@ -1,5 +1,5 @@
 // Appends lines that pass through to a caller's buffer.
-ghost use Rattle.std.specs.Prelude.{◌≡◌, ◌<◌, OnErr};
+ghost use Rattle.std.specs.Prelude.{◌<◌, OnErr};
 ghost use Rattle.cweb_lines.specs.inner.Passing.{AppendsPassedLines};
 
 use crate::merge_state::MergeState;
@@ -12,8 +12,7 @@ pub fn pass_lines<R: Drop>(
     buffer: &mut Vec<u8>,
     room: usize,
 ) -> Result<(), AllocError>
-    ensures passes { AppendsPassedLines run.old run.new buffer.old.items buffer.new.items }
-    ensures alone { room ≡ 0 → buffer.new.items ≡ buffer.old.items }
+    ensures passes { AppendsPassedLines room run.old run.new buffer.old.items buffer.new.items }
     ensures err { OnErr result (0 < room) }
 {
     'lines: while buffer.len() < room {

@@ -43,7 +43,7 @@ more g c tells =
     held_on _ _ _ _ _ _ _ (held _ _ _ _ _ _ (c.lines.invariant.written tells) line _ _ next _ _ c.lines.invariant.empty
     (rw c.deref.ensures.value at c.in_default-append_line.ensures.ok)) passes.lines _ _
     (passes.yields (g.S.Shelf.texts c.next_line.new.shelf) (g.S.Shelf.left c.next_line.new.shelf))
-    _ passes.buffered c.pass_lines-passed.ensures.alone
+    _ passes.buffered passes.within
 
 pub returns-in-Some-clause-grows : goal.returns-in-Some-clause-grows
 returns-in-Some-clause-grows g c = grows_reported c.args.merger.now.run (reported_same _ _ refl refl)

@@ -1,4 +1,4 @@
-use Rattle.cweb_lines.proofs.Common.{[], refl, pending_of, top_of}
+use Rattle.cweb_lines.proofs.Common.{[], pending_of, top_of}
 use Rattle.cweb_lines.proofs.Lookahead.{is_ahead, looks_at, looks_first}
 use Rattle.cweb_lines.proofs.merger.Merger.first_ahead.Goals as goal
 
@@ -8,7 +8,7 @@ returns-clause-looks g c =
     let next = c.in-Some-stretch.ensures.lines in
     looks_at run [] _ next.1.settled next.1.above c.in-Some-stretch.ensures.fits
     (looks_first (pending_of run) (top_of run.stack) c.in-Some-stretch.stretch
-    c.in-Some-line_at.line next.0 next.1.in_place (c.in-Some-stretch.ensures.one refl) c.in-Some-line_at.ensures)
+    c.in-Some-line_at.line next.0 next.1.in_place next.2 c.in-Some-line_at.ensures)
 
 pub returns-clause-ahead : goal.returns-clause-ahead
 returns-clause-ahead g c = is_ahead c.args.self.now.run [] _ c.in-Some-stretch.ensures.fits (returns-clause-looks g c)

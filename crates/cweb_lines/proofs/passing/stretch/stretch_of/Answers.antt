@@ -5,7 +5,7 @@ use Rattle.cweb_lines.proofs.passing.stretch.stretch_of.Goals as goal
 
 pub returns-clause-lines : goal.returns-clause-lines
 returns-clause-lines g c = in_place_of (pending_in c.args.stage c.args.first.now) c.args.text.now c.args.limits.now
-    c.stretch_from.result (c.if-not-has_room.ensures.lines refl) (c.if-not-has_room.ensures.bytes refl)
+    c.stretch_from.result c.args.room (c.if-not-has_room.ensures.lines refl) (c.if-not-has_room.ensures.bytes refl)
     c.stretch_from.ensures.lines
 
 pub returns-clause-fits : goal.returns-clause-fits

@@ -1,17 +1,19 @@
-use Rattle.cweb_lines.proofs.Common.{ℕ, List, [], ◌∷◌, ◌++◌, ◌∙◌, ap, refl, arith}
+use Rattle.cweb_lines.proofs.Common.{◌≡◌, ◌-◌, ℕ, List, [], ◌∷◌, ◌++◌, ◌∙◌, ap, subst, arith, length, OnlyLastExceeds}
 use Rattle.cweb_lines.proofs.Passes.{passes_next, passes_nothing, passes_then}
 use Rattle.cweb_lines.proofs.writing.pass.pass_lines.Goals as goal
 
 pub lines-init : goal.lines-init
-lines-init g c = record { passes = passes_nothing c.args.run.now c.args.buffer.now.items; alone = λ none. refl }
+lines-init g c = record { passes = passes_nothing c.args.room c.args.run.now c.args.buffer.now.items }
 
 pub lines-preserved : goal.lines-preserved
 lines-preserved g c =
     let next = c.in-Some.ensures.lines in
+    let buffer = c.lines.buffer in
+    let size : c.len-in-lines.result ≡ length buffer.items = omega (arith, c.len-in-lines.ensures, buffer.ok.0) in
     record {
-      passes = passes_then _ _ _ _ _ _ c.lines.invariant.passes
-          (passes_next _ _ c.in-Some.stretch next.0 _ _ next.1 (c.advance.ensures.emitted next.0 next.1)
-          (c.in_ok-append_line.ensures.ok ∙ ap (λ (t : List ℕ). c.lines.buffer.items ++ t ++ 10 ∷ [])
-          c.printed.ensures));
-      alone = λ none. absurd (omega (arith, none, c.lines-test.true));
+      passes = passes_then _ _ _ _ _ _ _ c.lines.invariant.passes
+          (passes_next _ _ _ c.in-Some.stretch next.0 _ _ next.1 (c.advance.ensures.emitted next.0 next.1)
+          (c.in_ok-append_line.ensures.ok ∙ ap (λ (t : List ℕ). buffer.items ++ t ++ 10 ∷ []) c.printed.ensures)
+          (omega (arith, c.lines-test.true, c.len.ensures, buffer.ok.0))
+          (subst (λ (n : ℕ). OnlyLastExceeds (c.args.room - n) next.0) size next.2));
     }

@@ -1,10 +1,9 @@
-use Rattle.cweb_lines.proofs.Common.{◌≡◌, ◌-◌, AppendsPassedLines}
+use Rattle.cweb_lines.proofs.Common.{◌-◌, AppendsPassedLines}
 use Rattle.cweb_lines.proofs.writing.pass.pass_lines.Given as goal
 
 abbrev pub invariant-lines : goal.invariant-lines
 invariant-lines g l = record {
-  passes : AppendsPassedLines l.fn.run l.run l.fn.buffer.items l.buffer.items;
-  alone : l.room ≡ 0 → l.buffer.items ≡ l.fn.buffer.items;
+  passes : AppendsPassedLines l.room l.fn.run l.run l.fn.buffer.items l.buffer.items;
 }
 
 abbrev pub decreases-lines : goal.decreases-lines
