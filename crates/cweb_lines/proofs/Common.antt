@@ -58,12 +58,14 @@ pub use Rattle.cweb_input.specs.surface.ReaderNames.{AreReadersNamed, IsReaderNa
 pub use Rattle.cweb_input.specs.surface.Source.{buffered}
 pub use denote.Enum.Bare.{sameb}
 pub use Rattle.cweb_lines.specs.Change.{WaitingEntry, at_place, OldSide, change_code, old_after, old_at, old_lines}
-pub use Rattle.cweb_lines.specs.Change.{one_more, out_of_lines, dropping, Sought, after_x, outside, sought, sought_after}
+pub use Rattle.cweb_lines.specs.Change.{one_more, dropping, Sought, after_x, outside, sought, sought_after}
 pub use Rattle.cweb_lines.specs.Events.{emitted_lines, reported_faults, openings, taken_lines, size_of_lines, AreShort}
 pub use Rattle.cweb_lines.specs.Events.{written_lines}
 pub use Rattle.cweb_lines.specs.surface.Writing.{write_failures_of}
-pub use Rattle.cweb_lines.specs.Merge.{Event, took, fault, Next, MergeStateModel, at_raw, emitted, included, obeyed}
-pub use Rattle.cweb_lines.specs.Merge.{open_include, opening, past, plain, run_steps, taking, NewSide, new_at}
+pub use Rattle.cweb_lines.specs.Events.{Event, took, fault, emitted}
+pub use Rattle.cweb_lines.specs.Merge.{Next, MergeStateModel, at_raw, included, obeyed}
+pub use Rattle.cweb_lines.specs.Events.{opening}
+pub use Rattle.cweb_lines.specs.Merge.{open_include, past, plain, run_steps, taking, NewSide, new_at}
 pub use Rattle.cweb_lines.specs.Merge.{new_things, after_old, at_entry, change_events, closing_faults, fault_if}
 pub use Rattle.cweb_lines.specs.Merge.{new_lines, started, onto}
 pub use Rattle.cweb_lines.specs.contracts.change.code.Code.{the_type}

@@ -188,8 +188,8 @@ module _ {R : Type 0} (t t' : List ℕ → Option (List ℕ)) (l l' : R → List
         let all = first _ rest
         ∙ new_fault world change under files taken.line (change_lines l' mid) bytes place taken.is code test other
         ∙ ap (λ (es : List Event). took taken.line ∷ fault (at_place WantsZ place) ∷ es) more in
-        subst (λ (es : List Event). EmitsLines [] (so_far_of run) (so_far_of new) es (events_to_come t' l' new)) (sym all)
-        (yields_both [] [] _ (so_far_of mid) _ _ _ _ (one _) (yields_fault (so_far_of mid) (so_far_of new) _ _
+        subst (λ (es : List Event). EmitsLines [] (so_far_of run) (so_far_of new) es (events_to_come t' l' new))
+        (sym all) (yields_both [] [] _ (so_far_of mid) _ _ _ _ (one _) (yields_fault (so_far_of mid) (so_far_of new) _ _
         (ap counters_of tells.limits) (at_place WantsZ place) refl is (ap opened_file_names tells.names)))
 
     pub new_first : change_lines l run ≡ taken.line ∷ change_lines l' mid → change_code bytes ≡ None

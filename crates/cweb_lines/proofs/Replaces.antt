@@ -60,8 +60,8 @@ module _ (all now : OldSide) (so_far : Replaced) (old mid : SoFar) (r : Replaces
 
   yields_in : (begin : Place) (later : List Event) (new : SoFar) → new ≡ mid
       → EmitsLines [] old new (change_events begin all ++ later) (now.events ++ after begin later)
-  yields_in begin later new same = subst (λ (es : List Event). EmitsLines [] old new es (now.events ++ after begin later))
-      (sym (append_assoc all.events (map fault (closing_faults begin all.ended all.ran_out all.unequal)) later))
+  yields_in begin later new same = subst (λ (es : List Event).
+      EmitsLines [] old new es (now.events ++ after begin later)) (sym (append_assoc all.events (map fault (closing_faults begin all.ended all.ran_out all.unequal)) later))
       (yields_more (after begin later) (rw same r.yields))
 
   stops_at : (stop : Stop) (new : SoFar) → new ≡ mid → (line : SourceLine) (more : List Event)
@@ -70,8 +70,8 @@ module _ (all now : OldSide) (so_far : Replaced) (old mid : SoFar) (r : Replaces
   stops_at stop new same line more first why begin later = record {
     line = line;
     later = more ++ after begin later;
-    yields = subst (λ (es : List Event). EmitsLines [] old new (change_events begin all ++ later) (es ++ after begin later))
-        first (yields_in begin later new same);
+    yields = subst (λ (es : List Event).
+        EmitsLines [] old new (change_events begin all ++ later) (es ++ after begin later)) first (yields_in begin later new same);
     why = rw same why;
   }
 
@@ -107,7 +107,8 @@ module _ (all now : OldSide) (so_far : Replaced) (old mid : SoFar) (r : Replaces
       → now ≡ old_after (took t.line) side → Replaces all side so_far old new
   replaces_took side new bytes place t faults names is = record {
     yields = yields_both [] [] old mid new _ _ _ r.yields (subst (λ (o : OldSide).
-        EmitsLines [] mid new o.events side.events) (sym is) (takes_one mid new bytes place t side.events faults names));
+        EmitsLines [] mid new o.events side.events) (sym is)
+        (takes_one mid new bytes place t side.events faults names));
     unequal = r.unequal ∙ ap (λ (o : OldSide). so_far.unequal + o.unequal) is;
     ran_out = r.ran_out ∙ ap (λ (o : OldSide). so_far.ran_out || o.ran_out) is;
     ended = r.ended ∙ ap (λ (o : OldSide). o.ended) is;

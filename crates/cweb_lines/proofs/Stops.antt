@@ -100,7 +100,8 @@ stopped_first stop Why old new all same next first = by stop first
 
 pub stopped_by : (stop : Stop) (old new : SoFar) (world : World) (things : List Thing) (pending : Option WaitingEntry)
     (change : List SourceLine) (files : ℕ) → new ≡ old → ReadsFirst things
-    → StopsFor (TopStops stop old.count things) stop → Stopped stop old new (merge world (state things pending change files))
+    → StopsFor (TopStops stop old.count things) stop
+    → Stopped stop old new (merge world (state things pending change files))
 stopped_by stop old new world things pending change files same first stops = stopped_first _ _ old new _ same
     (reads_next world things pending change files first) (λ top.
     let taken = merge_takes _ _ _ _ _ _ in (

@@ -42,7 +42,8 @@ module _ {R : Type 0} (t : List ℕ → Option (List ℕ)) (l : R
   pub sought_stops : (stop : Stop) (new : SoFar) → Stopped stop (so_far_of run) new found.events
       → Stopped stop (so_far_of run) new (events_to_come t l run)
   sought_stops stop new stopped = subst (λ (es : List Event). Stopped stop (so_far_of run) new es) (sym sought_first)
-      (stopped_more stop _ new found.events after_search (reads_next _ _ _ _ _ (above_first l 0 run.stack [] tt)) stopped)
+      (stopped_more stop _ new found.events after_search
+      (reads_next _ _ _ _ _ (above_first l 0 run.stack [] tt)) stopped)
 
   pub sought_yields : (t' : List ℕ → Option (List ℕ)) (l' : R → List ℕ) (run' : MergeState R) → t' ≡ t → l' ≡ l
       → run'.inputs ≡ run.inputs → run'.stack ≡ run.stack → run'.names ≡ run.names → Searched found (so_far_of run)
@@ -166,8 +167,8 @@ module _ {R : Type 0} (t : List ℕ → Option (List ℕ)) (l : R → List ℕ) 
         (changed.after (length (opened_file_names new.names)) new.first.items)
         ∙ (λ i. later_old (world_in (texts i) (inputs i)) (length (opened_file_names (names i))) at.depth begin)) in
         yields_both [] [] (so_far_of old) (so_far_of run) (so_far_of new) _ _ _ one
-        (subst (λ (es : List Event). EmitsLines [] (so_far_of run) (so_far_of new) (change_events begin side ++ later) es)
-        same (yields_more later changed.yields))
+        (subst (λ (es : List Event).
+        EmitsLines [] (so_far_of run) (so_far_of new) (change_events begin side ++ later) es) same (yields_more later changed.yields))
 
 pub untaken : {R : Type 0} (Says : SoFar → List Event → Type 0) (t t' : List ℕ → Option (List ℕ)) (l l' : R → List ℕ)
     (old new : MergeState R) (bytes : List ℕ) → t' ≡ t → l' ≡ l → IsSettled old.stage

@@ -89,13 +89,9 @@ one_more equal line side = record side {
   unequal = if equal then side.unequal else side.unequal + 1;
 }
 
--- No raw line is left to drop.
-abbrev pub out_of_lines : OldSide → OldSide
-out_of_lines side = record side { ran_out = true }
-
 -- An old line drops the next raw line, whether they are equal or not. Other things are skipped.
 abbrev pub dropping : List ℕ → List Thing → (List Thing → OldSide) → OldSide
-dropping old [] later = out_of_lines (later [])
+dropping old [] later = record (later []) { ran_out = true }
 dropping old (raw r ∷ things) later = one_more (bytes_eq r.source.line.bytes old) r.source (later things)
 dropping old (thing ∷ things) later = dropping old things later
 

@@ -6,7 +6,7 @@ use Rattle.cweb_files.specs.declared.place.Place.{Place}
 use Rattle.cweb_input.specs.Lines.{SourceLine, lines_in, RawLine, Thing, seek, raw, reported, passed, raws}
 use Rattle.cweb_input.specs.Include.{World, Found, is_include_line, include_name, found_at}
 use Rattle.cweb_lines.specs.Change.{change_code, at_place, WaitingEntry, sought, OldSide, old_lines}
-pub use Rattle.cweb_lines.specs.Events.{Event, took, emitted, fault, opening}
+use Rattle.cweb_lines.specs.Events.{Event, took, emitted, fault, opening}
 use Rattle.cweb_input.specs.declared.limits.TheConstants.{OPEN_FILES}
 use Rattle.cweb_lines.specs.declared.change.code.Code.{Code}
 use Rattle.cweb_lines.specs.declared.change.code.Code.TheVariants.{EndSide as end_side}

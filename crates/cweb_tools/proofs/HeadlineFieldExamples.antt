@@ -2,7 +2,7 @@
 use Rattle.cweb_tools.proofs.Common.{FileId, SourceLine, emitted_lines, written_lines, BreaksLimit, LineTooLong, Breaks, merges, ending, ◌≡◌, ◌+◌, ℕ, List, [], ◌∷◌, ◌++◌, refl, sym, ◌∙◌, ap, arith, codes, Option, Some, None, IsTrue, IsSome, File, no_device, Line, Event, took, fault, World, Found, web_at, change_at, found_course, OptionsModel, WebNames, Devices, AreObservable, DeviceState, Act, says, reads, writes, prints, after_act, RunEnds, completes, stops, RanFreely, DoesActs, put_files, AgreesWith, observed_state, acts_status, script, shown_by, Course, change_name, CanCome, MergeCanCome, TangleCourse, unread, not_there, change_not_there, tangling, tangled, planning, Web, Scanned, TanglePromises}
 use Rattle.cweb_log.specs.Items.{writing}
 use Rattle.cweb_files.specs.declared.place.Place.{Place}
-use Rattle.cweb_lines.specs.Merge.{emitted}
+use Rattle.cweb_lines.specs.Events.{emitted}
 use Rattle.cweb_tools.specs.Course as course
 use Rattle.cweb_tools.proofs.Courses.{tangle_only}
 use Rattle.cweb_tools.proofs.TangleExamples.{file}

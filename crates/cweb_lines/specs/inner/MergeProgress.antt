@@ -2,7 +2,7 @@
 use Rattle.std.specs.Prelude.{◌≡◌, ◌<◌, ◌≤◌, ◌+◌, ◌*◌, ◌-◌, ℕ, length, List, [], ◌∷◌, Option}
 use Rattle.cweb_input.specs.Lines.{Line, SourceLine}
 use Rattle.cweb_input.specs.surface.Lines.{IsOneLine}
-use Rattle.cweb_lines.specs.Merge.{Event, took}
+use Rattle.cweb_lines.specs.Events.{Event, took}
 use Rattle.cweb_lines.specs.surface.Total.{merge}
 use Rattle.cweb_input.specs.surface.Finding.{world_in}
 use Rattle.cweb_lines.specs.inner.Stages.{weight_of}

@@ -3,7 +3,8 @@ use Rattle.std.specs.Prelude.{◌≡◌, ◌+◌, ◌||◌, ℕ, List, [], ◌++
 use Rattle.cweb_files.specs.declared.place.Place.{Place}
 use Rattle.cweb_lines.specs.Change.{OldSide, dropping, old_lines}
 use Rattle.cweb_input.specs.Lines.{SourceLine, Thing}
-use Rattle.cweb_lines.specs.Merge.{Event, after_old, change_events}
+use Rattle.cweb_lines.specs.Events.{Event}
+use Rattle.cweb_lines.specs.Merge.{after_old, change_events}
 use Rattle.cweb_lines.specs.surface.MergeProgress.{SoFar, EmitsLines, Stopped, change_lines}
 use Rattle.cweb_lines.specs.inner.Stages.{IsSettled}
 use Rattle.cweb_lines.specs.surface.Stages.{change_in, pending_in}

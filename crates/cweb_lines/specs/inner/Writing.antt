@@ -2,9 +2,8 @@
 use Rattle.std.specs.Prelude.{◌≡◌, ◌<◌, ℕ, List, ◌++◌, length}
 use Rattle.cweb_files.specs.Bins.{WritesPrefix}
 use Rattle.cweb_input.specs.Lines.{Line}
-use Rattle.cweb_lines.specs.Merge.{Event}
+use Rattle.cweb_lines.specs.Events.{Event, written_lines}
 use Rattle.cweb_lines.specs.surface.MergeProgress.{SoFar, EmitsLines}
-use Rattle.cweb_lines.specs.Events.{written_lines}
 
 -- A write failed within the buffered lines. The next line is the one after them.
 pub record FailsAmong (room : ℕ) (old new : SoFar) (all later : List Event) (before after : List ℕ) : Type 0 where

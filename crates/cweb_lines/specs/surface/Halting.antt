@@ -13,7 +13,8 @@ use Rattle.cweb_input.specs.declared.limits.TheConstants.{OPEN_FILES}
 use Rattle.cweb_lines.specs.declared.change.code.Code.{Code}
 use Rattle.cweb_lines.specs.declared.change.code.Code.TheVariants.{OldSide as old_side, NewSide as new_side}
 use Rattle.cweb_lines.specs.declared.change.code.Code.TheVariants.{EndSide as end_side}
-use Rattle.cweb_lines.specs.Merge.{Event, MergeStateModel, NewSide, new_at}
+use Rattle.cweb_lines.specs.Events.{Event}
+use Rattle.cweb_lines.specs.Merge.{MergeStateModel, NewSide, new_at}
 use Rattle.cweb_lines.specs.Merge.{new_lines, after_old, Next, obeyed, open_include, included, plain}
 use Rattle.cweb_lines.specs.Merge.{at_entry, at_raw, step, onto, step_then_run, run_steps}
 

@@ -1,7 +1,8 @@
 -- How far a merger is, and why it stops.
 use Rattle.std.specs.Prelude.{◌≡◌, ◌+◌, ℕ, length, List, ◌∷◌, ◌++◌, [], Option}
 use Rattle.cweb_input.specs.Lines.{Line, SourceLine, Thing}
-use Rattle.cweb_lines.specs.Merge.{Event, took, fault, MergeStateModel}
+use Rattle.cweb_lines.specs.Events.{Event, took, fault}
+use Rattle.cweb_lines.specs.Merge.{MergeStateModel}
 use Rattle.cweb_lines.specs.Events.{emitted_lines, reported_faults, openings, taken_lines, size_of_lines}
 use Rattle.cweb_lines.specs.Events.{AreShort}
 use Rattle.cweb_input.specs.OpenSources.{TakenCountersModel, RefusesLine}
@@ -61,7 +62,7 @@ pub record ReportsPrefix (old new : SoFar) (all : List Event) : Type 0 where
   pub faults : new.faults ≡ old.faults ++ reported_faults events
   pub names : new.names ≡ old.names ++ openings events
 
--- A fault of this kind may be reported at the end of a file.
+-- A fault of this kind may be reported at the end of a file. `NoOldLines` may also follow a code line.
 abbrev pub IsAtEnd : SourceKind → Type 0
 IsAtEnd NoOldLines = Unit {0}
 IsAtEnd EndedBeforeY = Unit {0}

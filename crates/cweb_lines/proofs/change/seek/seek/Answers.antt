@@ -91,8 +91,8 @@ returns-in-Err-clause-still g c = reported_then _ _ _ c.lines.invariant.quiet.re
 pub returns-in_default-clause-still : goal.returns-in_default-clause-still
 returns-in_default-clause-still g c = reported_then _ _ _
     (quiet g (goal.at.returns-in_default-clause-still g c).In-Ok).reported
-    (reported_if c.end.result _ _ (reported_faults (sought [] c.lines.begin).events) c.end.ensures.reported c.end.ensures.err
-    (ap opened_file_names c.end.ensures.names))
+    (reported_if c.end.result _ _ (reported_faults (sought [] c.lines.begin).events) c.end.ensures.reported
+    c.end.ensures.err (ap opened_file_names c.end.ensures.names))
 
 pub returns-in-Err-look_at-clause-still : goal.returns-in-Err-look_at-clause-still
 returns-in-Err-look_at-clause-still g c =
@@ -114,7 +114,8 @@ returns-in_default-clause-searched g c = λ tells.
     let counted = rw c.in_default.is at c.in-Ok.ensures.answers.counted in
     OnOk-both c.end.result (λ reported done.
     seeks_ended _ _ c.lines.begin _ (so_far_of c.lines.run) (c.lines.invariant.seeks tells) taken.0 _ (reported ∙ ap
-    (λ (v : Vec SourceFault Global). v.items ++ (reported_faults (sought [] c.lines.begin).events)) c.in-Ok.ensures.only.faults)
+    (λ (v : Vec SourceFault Global). v.items ++ reported_faults (sought [] c.lines.begin).events)
+    c.in-Ok.ensures.only.faults)
     (ap opened_file_names (c.end.ensures.names ∙ c.in-Ok.ensures.only.names)) (ap counters_of c.end.ensures.limits
     ∙ (λ i. record { lines = counted.0 i; bytes = counted.1 i })) _ done _ _) c.end.ensures.reported c.end.ensures.stage
 
