@@ -1,165 +1,105 @@
 -- Taken lines and reported faults as events of a merge.
-use Rattle.cweb_lines.proofs.Common.{◌≡◌, ℕ, List, [], ◌∷◌, ◌++◌, refl, ◌∙◌, ap, arith, length-append, map, append-nil, append_assoc, Place, SourceLine, Event, took, fault, SoFar, EmitsLines, ReportsPrefix, AddsFaultsAndLines, ReportsSomeFaults, HasBegunStep, StopsIn, EndsStep, TakenCountersModel, CountsLine, emitted_lines, reported_faults, openings, taken_lines, SourceFault, Stop, ReadFault, LineTooLong, TooMuchText, Memory, map-append}
-use Rattle.cweb_lines.proofs.EmittedLinesAddUp.{size-append, short-append}
+use Rattle.cweb_lines.proofs.Common.{◌≡◌, ℕ, List, [], ◌∷◌, ◌++◌, refl, arith, map, append-nil, append_assoc, Place, Line, Event, took, emitted, fault, opening, SoFar, EmitsLines, ReadsNext, ReportsPrefix, StopsAfterLines, Stopped, CountsLine, emitted_lines, reported_faults, openings, taken_lines, SourceFault, Stop, ReadFault, LineTooLong, TooMuchText, Memory}
 
-abbrev pub events : List SourceLine → List SourceFault → List Event
-events lines faults = map took lines ++ map fault faults
-
-pub emitted_none : (lines : List SourceLine) (faults : List SourceFault) → emitted_lines (events lines faults) ≡ []
-emitted_none [] [] = refl
-emitted_none [] (f ∷ faults) = emitted_none [] faults
-emitted_none (line ∷ lines) faults = emitted_none lines faults
-
-reported_all : (lines : List SourceLine) (faults : List SourceFault) → reported_faults (events lines faults) ≡ faults
-reported_all [] [] = refl
-reported_all [] (f ∷ faults) = simp (reported_all [] faults)
-reported_all (line ∷ lines) faults = reported_all lines faults
-
-opened_none : (lines : List SourceLine) (faults : List SourceFault) → openings (events lines faults) ≡ []
-opened_none [] [] = refl
-opened_none [] (f ∷ faults) = opened_none [] faults
-opened_none (line ∷ lines) faults = opened_none lines faults
-
-taken_all : (lines : List SourceLine) (faults : List SourceFault) → taken_lines (events lines faults) ≡ lines
-taken_all [] [] = refl
-taken_all [] (f ∷ faults) = taken_all [] faults
-taken_all (line ∷ lines) faults = simp (taken_all lines faults)
-
-pub emitted-took : (lines : List SourceLine) → emitted_lines (map took lines) ≡ []
-emitted-took [] = refl
-emitted-took (line ∷ lines) = emitted-took lines
-
-pub taken-took : (lines : List SourceLine) → taken_lines (map took lines) ≡ lines
-taken-took [] = refl
-taken-took (line ∷ lines) = simp (taken-took lines)
-
-pub yields_adds : (lines : List SourceLine) (faults : List SourceFault) (old new : SoFar) (all later : List Event) →
-    all ≡ map took lines ++ (map fault faults ++ later) → AddsFaultsAndLines faults lines old new
-    → EmitsLines [] old new all later
-yields_adds lines faults old new all later whole adds = record {
-  events = events lines faults;
-  whole = simp (whole, append_assoc);
-  emitted = emitted_none lines faults;
-  faults = simp (adds.reported, reported_all);
-  names = simp (adds.names, opened_none, append-nil);
-  lines_are = simp (adds.lines_are, taken_all);
-  bytes_are = simp (adds.bytes_are, taken_all);
-  short = rw taken_all adds.short;
+-- A line was taken.
+pub takes_one : (old new : SoFar) (bytes : List ℕ) (place : Place) (t : CountsLine bytes place old.count new.count)
+    (later : List Event) → new.faults ≡ old.faults → new.names ≡ old.names
+    → EmitsLines [] old new (took t.line ∷ later) later
+takes_one old new bytes place t later faults names = record {
+  events = took t.line ∷ [];
+  whole = refl;
+  emitted = refl;
+  faults = simp (faults, append-nil);
+  names = simp (names, append-nil);
+  lines_are = omega (arith, t.lines);
+  bytes_are = omega (arith, t.bytes_are);
+  short = (t.short, tt);
 }
 
-pub tells_some : (lines : List SourceLine) (faults : List SourceFault) (old new : SoFar) (all later : List Event) →
-    all ≡ map took lines ++ (map fault faults ++ later) → ReportsSomeFaults faults old new → ReportsPrefix old new all
-tells_some lines faults old new all later whole some = record {
-  events = events lines some.prefix;
-  later = map fault some.rest ++ later;
-  whole = simp (whole, some.whole, map-append, append_assoc);
-  faults = simp (some.reported, reported_all);
-  names = simp (some.names, opened_none, append-nil);
+pub emitted-faults : (faults : List SourceFault) → emitted_lines (map fault faults) ≡ []
+emitted-faults [] = refl
+emitted-faults (f ∷ faults) = emitted-faults faults
+
+reported-faults : (faults : List SourceFault) → reported_faults (map fault faults) ≡ faults
+reported-faults [] = refl
+reported-faults (f ∷ faults) = simp (reported-faults faults)
+
+opened-faults : (faults : List SourceFault) → openings (map fault faults) ≡ []
+opened-faults [] = refl
+opened-faults (f ∷ faults) = opened-faults faults
+
+taken-faults : (faults : List SourceFault) → taken_lines (map fault faults) ≡ []
+taken-faults [] = refl
+taken-faults (f ∷ faults) = taken-faults faults
+
+-- Faults were reported.
+pub reports : (faults : List SourceFault) (old new : SoFar) (later : List Event) → new.faults ≡ old.faults ++ faults
+    → new.names ≡ old.names → new.count ≡ old.count → EmitsLines [] old new (map fault faults ++ later) later
+reports faults old new later reported names count = record {
+  events = map fault faults;
+  whole = refl;
+  emitted = emitted-faults faults;
+  faults = simp (reported, reported-faults);
+  names = simp (names, opened-faults, append-nil);
+  lines_are = simp (count, taken-faults) (omega arith);
+  bytes_are = simp (count, taken-faults) (omega arith);
+  short = rw (taken-faults faults) tt;
 }
 
-pub adds_none : (old new : SoFar) → new ≡ old → AddsFaultsAndLines [] [] old new
-adds_none old new same = record {
-  reported = simp (same, append-nil);
-  names = simp same;
-  lines_are = simp same (omega arith);
-  bytes_are = simp same (omega arith);
-  short = tt;
+-- A prefix of the faults was reported.
+pub reports_some : (faults : List SourceFault) (old new : SoFar) (later : List Event)
+    → new.faults ≡ old.faults ++ faults → new.names ≡ old.names → ReportsPrefix old new (map fault faults ++ later)
+reports_some faults old new later reported names = record {
+  events = map fault faults;
+  later = later;
+  whole = refl;
+  faults = simp (reported, reported-faults);
+  names = simp (names, opened-faults, append-nil);
 }
 
-abbrev pub begun_none : (old new : SoFar) (lines : List SourceLine) (faults : List SourceFault) → new ≡ old →
-    HasBegunStep old new lines faults
-begun_none old new lines faults same = record {
-  prefix = [];
-  rest = lines;
-  reported = [];
-  more = faults;
-  lines_are = refl;
-  faults_are = refl;
-  adds = adds_none old new same;
-}
+reads-append : (events more : List Event) → ReadsNext events → ReadsNext more → ReadsNext (events ++ more)
+reads-append [] more first then = then
+reads-append (took line ∷ events) more first then = tt
+reads-append (fault f ∷ events) more first then = first
+reads-append (emitted line ∷ events) more first then = absurd first
+reads-append (opening name ∷ events) more first then = absurd first
 
-pub adds_line : (faults : List SourceFault) (lines : List SourceLine) (old mid new : SoFar) (bytes : List ℕ)
-    (place : Place) (t : CountsLine bytes place mid.count new.count) → AddsFaultsAndLines faults lines old mid
-    → new.faults ≡ mid.faults → new.names ≡ mid.names → AddsFaultsAndLines faults (lines ++ t.line ∷ []) old new
-adds_line faults lines old mid new bytes place t adds reported names = record {
-  reported = reported ∙ adds.reported;
-  names = names ∙ adds.names;
-  lines_are = omega (arith, adds.lines_are, t.lines, length-append lines (t.line ∷ []));
-  bytes_are = omega (arith, adds.bytes_are, t.bytes_are, size-append lines (t.line ∷ []));
-  short = short-append lines (t.line ∷ []) adds.short (t.short, tt);
-}
-
-pub adds_faults : (faults more : List SourceFault) (lines : List SourceLine) (old mid new : SoFar) →
-    AddsFaultsAndLines faults lines old mid → new.faults ≡ mid.faults ++ more → new.names ≡ mid.names
-    → new.count ≡ mid.count
-    → AddsFaultsAndLines (faults ++ more) lines old new
-adds_faults faults more lines old mid new adds reported names count = record {
-  reported = simp (reported, adds.reported, append_assoc);
-  names = names ∙ adds.names;
-  lines_are = ap (λ (c : TakenCountersModel). c.lines) count ∙ adds.lines_are;
-  bytes_are = ap (λ (c : TakenCountersModel). c.bytes) count ∙ adds.bytes_are;
-  short = adds.short;
-}
-
-pub adds_both : (faults more : List SourceFault) (lines further : List SourceLine) (old mid new : SoFar) →
-    AddsFaultsAndLines faults lines old mid → AddsFaultsAndLines more further mid new
-    → AddsFaultsAndLines (faults ++ more) (lines ++ further) old new
-adds_both faults more lines further old mid new first second = record {
-  reported = simp (second.reported, first.reported, append_assoc);
-  names = second.names ∙ first.names;
-  lines_are = omega (arith, first.lines_are, second.lines_are, length-append lines further);
-  bytes_are = omega (arith, first.bytes_are, second.bytes_are, size-append lines further);
-  short = short-append lines further first.short second.short;
-}
-
--- The rest of a step after its first line was taken.
-module _ (old mid : SoFar) (bytes : List ℕ) (place : Place) (t : CountsLine bytes place old.count mid.count)
-    (reported : mid.faults ≡ old.faults) (names : mid.names ≡ old.names) where
-  pub adds_one : AddsFaultsAndLines [] (t.line ∷ []) old mid
-  adds_one = record {
-    reported = simp (reported, append-nil);
-    names = names;
-    lines_are = omega (arith, t.lines);
-    bytes_are = omega (arith, t.bytes_are);
-    short = (t.short, tt);
+-- More events follow.
+module _ {old new : SoFar} {all : List Event} (more : List Event) where
+  pub yields_more : {lines : List Line} {now : List Event} → EmitsLines lines old new all now
+      → EmitsLines lines old new (all ++ more) (now ++ more)
+  yields_more yields = record {
+    events = yields.events;
+    whole = simp (yields.whole, append_assoc);
+    emitted = yields.emitted;
+    faults = yields.faults;
+    names = yields.names;
+    lines_are = yields.lines_are;
+    bytes_are = yields.bytes_are;
+    short = yields.short;
   }
 
-  pub tells_after : (faults : List SourceFault) (new : SoFar) → ReportsSomeFaults faults mid new
-      → ReportsSomeFaults faults old new
-  tells_after faults new some = record {
-    prefix = some.prefix;
-    rest = some.rest;
-    whole = some.whole;
-    reported = simp (some.reported, reported);
-    names = some.names ∙ names;
+  pub prefix_more : ReportsPrefix old new all → ReportsPrefix old new (all ++ more)
+  prefix_more prefix = record {
+    events = prefix.events;
+    later = prefix.later ++ more;
+    whole = simp (prefix.whole, append_assoc);
+    faults = prefix.faults;
+    names = prefix.names;
   }
 
-  abbrev begun_after : (lines : List SourceLine) (faults : List SourceFault) (new : SoFar)
-      → HasBegunStep mid new lines faults → HasBegunStep old new (t.line ∷ lines) faults
-  begun_after lines faults new begun = record {
-    prefix = t.line ∷ begun.prefix;
-    rest = begun.rest;
-    reported = begun.reported;
-    more = begun.more;
-    lines_are = simp begun.lines_are;
-    faults_are = begun.faults_are;
-    adds = adds_both [] begun.reported (t.line ∷ []) begun.prefix old mid new adds_one begun.adds;
-  }
+  after_more : {stop : Stop} → StopsAfterLines [] stop old new all → StopsAfterLines [] stop old new (all ++ more)
+  after_more stops =
+      record { line = stops.line; later = stops.later ++ more; yields = yields_more stops.yields; why = stops.why }
 
-  stops_after : (stop : Stop) (lines : List SourceLine) (faults : List SourceFault) (new : SoFar)
-      → StopsIn stop mid new lines faults → StopsIn stop old new (t.line ∷ lines) faults
-  stops_after stop lines faults new stops = record {
-    begun = begun_after lines faults new stops.begun;
-    line = stops.line;
-    more = stops.more;
-    next = stops.next;
-    why = stops.why;
-  }
-
-  pub ends_after : (stop : Stop) (lines : List SourceLine) (faults : List SourceFault) (new : SoFar)
-      → EndsStep stop mid new lines faults → EndsStep stop old new (t.line ∷ lines) faults
-  ends_after (ReadFault file) lines faults new ends = begun_after lines faults new ends
-  ends_after (LineTooLong file) lines faults new ends = stops_after _ lines faults new ends
-  ends_after TooMuchText lines faults new ends = stops_after _ lines faults new ends
-  ends_after Memory lines faults new ends = tt
-  ends_after stop lines faults new ends = absurd ends
+pub stopped_more : (stop : Stop) (old new : SoFar) (all more : List Event) → ReadsNext more → Stopped stop old new all
+    → Stopped stop old new (all ++ more)
+stopped_more (ReadFault file) old new all more reads stopped = record {
+  later = stopped.later ++ more;
+  yields = yields_more more stopped.yields;
+  next = reads-append stopped.later more stopped.next reads;
+}
+stopped_more (LineTooLong file) old new all more reads stopped = after_more more stopped
+stopped_more TooMuchText old new all more reads stopped = after_more more stopped
+stopped_more Memory old new all more reads stopped = tt
+stopped_more stop old new all more reads stopped = absurd stopped

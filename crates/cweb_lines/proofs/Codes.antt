@@ -1,26 +1,25 @@
 -- Code lines within a change.
-use Rattle.cweb_lines.proofs.Common.{◌≡◌, ℕ, true, false, List, [], ◌∷◌, Some, Option, refl, ◌∙◌, ap, Place, OldSide, change_code, old_at, old_code, old_lines, at_place, Line, SourceLine, sameb, the_type, Code, NewSide, new_at, new_things, passed, reported, WantsZ}
+use Rattle.cweb_lines.proofs.Common.{◌≡◌, ℕ, true, false, List, [], ◌∷◌, Some, Option, refl, ◌∙◌, ap, Place, OldSide, change_code, old_after, old_at, old_lines, at_place, Line, SourceLine, Thing, took, fault, WantsY, sameb, the_type, Code, NewSide, new_at, new_things, passed, reported, WantsZ}
 use Rattle.cweb_lines.specs.declared.change.code.Code.TheVariants.{NewSide as new_side, EndSide as end_side}
 
 pub is_new : (code : Code) → sameb the_type code new_side ≡ true → code ≡ new_side
 is_new new_side same = refl
 is_new _ same = absurd (cc)
 
-pub is_faulty : (code : Code) (line : SourceLine) (lines : List SourceLine) (later : OldSide) →
-    sameb the_type code new_side ≡ false → old_at (Some code) line lines later ≡ old_code line later
-is_faulty new_side line lines later other = absurd (cc)
-is_faulty _ line lines later other = refl
+pub is_faulty : (code : Code) (line : Line) (lines : List SourceLine) (things : List Thing)
+    (later : List Thing → OldSide) → sameb the_type code new_side ≡ false
+    → old_at (Some code) line lines things later ≡ old_after (fault (at_place WantsY line.place)) (later things)
+is_faulty new_side line lines things later other = absurd (cc)
+is_faulty _ line lines things later other = refl
 
-pub taken_at : (code : Option Code) (line : SourceLine) (lines : List SourceLine) (later : OldSide) →
-    (more : List SourceLine) × ((old_at code line lines later).taken ≡ line ∷ more)
-taken_at (Some new_side) line lines later = ([], refl)
-taken_at _ line lines later = (later.taken, refl)
-
-pub old_code_at : (code : Option Code) (line : SourceLine) (lines : List SourceLine) (bytes : List ℕ) (place : Place) →
-    line.line ≡ record { bytes = bytes; place = place } → change_code bytes ≡ code
-    → old_lines (line ∷ lines) ≡ old_at code line lines (old_lines lines)
-old_code_at code line lines bytes place is test = ap (λ (l : Line). old_at (change_code l.bytes) line lines
-    (old_lines lines)) is ∙ ap (λ k. old_at k line lines (old_lines lines)) test
+pub old_code_at : (code : Option Code) (line : SourceLine) (lines : List SourceLine) (things : List Thing)
+    (bytes : List ℕ) (place : Place) → line.line ≡ record { bytes = bytes; place = place } → change_code bytes ≡ code
+    → old_lines (line ∷ lines) things ≡ old_after (took line)
+    (old_at code (record { bytes = bytes; place = place }) lines things (λ rest. old_lines lines rest))
+old_code_at code line lines things bytes place is test = ap (λ (l : Line). old_after (took line)
+    (old_at (change_code l.bytes) l lines things (λ rest. old_lines lines rest))) is
+    ∙ ap (λ k. old_after (took line)
+    (old_at k (record { bytes = bytes; place = place }) lines things (λ rest. old_lines lines rest))) test
 
 pub is_end : (code : Code) → sameb the_type code end_side ≡ true → code ≡ end_side
 is_end end_side same = refl

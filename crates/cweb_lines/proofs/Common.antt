@@ -57,15 +57,17 @@ pub use Rattle.cweb_input.specs.surface.OpenedFileNames.{opened_file_names}
 pub use Rattle.cweb_input.specs.surface.ReaderNames.{AreReadersNamed, IsReaderNamed}
 pub use Rattle.cweb_input.specs.surface.Source.{buffered}
 pub use denote.Enum.Bare.{sameb}
-pub use Rattle.cweb_lines.specs.Change.{WaitingEntry, at_place, OldSide, change_code, old_at, old_code, old_lines}
-pub use Rattle.cweb_lines.specs.Change.{Sought, after_x, outside, sought, passing}
+pub use Rattle.cweb_lines.specs.Change.{WaitingEntry, at_place, OldSide, change_code, old_after, old_at, old_lines}
+pub use Rattle.cweb_lines.specs.Change.{one_more, dropping, Sought, after_x, outside, sought, sought_after}
 pub use Rattle.cweb_lines.specs.Events.{emitted_lines, reported_faults, openings, taken_lines, size_of_lines, AreShort}
 pub use Rattle.cweb_lines.specs.Events.{written_lines}
 pub use Rattle.cweb_lines.specs.surface.Writing.{write_failures_of}
-pub use Rattle.cweb_lines.specs.Merge.{Event, took, fault, Next, MergeStateModel, at_raw, emitted, included, obeyed}
-pub use Rattle.cweb_lines.specs.Merge.{open_include, opening, past, plain, run_steps, taking, NewSide, new_at}
-pub use Rattle.cweb_lines.specs.Merge.{new_things, compared, Compared, after_old, at_entry, change_events}
-pub use Rattle.cweb_lines.specs.Merge.{fault_event_if, new_lines, started, dropping, in_turn, onto}
+pub use Rattle.cweb_lines.specs.Events.{Event, took, fault, emitted}
+pub use Rattle.cweb_lines.specs.Merge.{Next, MergeStateModel, at_raw, included, obeyed}
+pub use Rattle.cweb_lines.specs.Events.{opening}
+pub use Rattle.cweb_lines.specs.Merge.{open_include, past, plain, run_steps, taking, NewSide, new_at}
+pub use Rattle.cweb_lines.specs.Merge.{new_things, after_old, at_entry, change_events, closing_faults, fault_if}
+pub use Rattle.cweb_lines.specs.Merge.{new_lines, started, onto}
 pub use Rattle.cweb_lines.specs.contracts.change.code.Code.{the_type}
 pub use Rattle.cweb_lines.specs.declared.change.Change.{Change}
 pub use Rattle.cweb_lines.specs.declared.change.Stage.{Stage}
@@ -80,17 +82,16 @@ pub use Rattle.cweb_lines.specs.declared.step.Turn.{Turn}
 pub use Rattle.cweb_lines.specs.declared.step.Turn.TheVariants.{Emitted, On, Ended}
 pub use Rattle.cweb_lines.specs.inner.Ahead.{FitsLimits, FitsLimitsAt, IsAhead, LooksAhead, LooksAheadIn}
 pub use Rattle.cweb_lines.specs.inner.LineSpans.{BorrowsLines, line_span_at}
-pub use Rattle.cweb_lines.specs.inner.MergeProgress.{ReportsSomeFaults, events_after_line, EmitsAfterLine, turns_left}
-pub use Rattle.cweb_lines.specs.inner.MergeProgress.{turn_lines, EndsStep}
+pub use Rattle.cweb_lines.specs.inner.MergeProgress.{events_after_line, EmitsAfterLine, turns_left, turn_lines}
 pub use Rattle.cweb_lines.specs.inner.MergeReaderNames.{KeepsReaders}
 pub use Rattle.cweb_lines.specs.inner.Passing.{ComesNext, EmitsBufferedLines, HasRoomFor, IsStretch, Reaches}
 pub use Rattle.cweb_lines.specs.inner.Passing.{IsStretchAt, IsStretchOf, line_with_newline, lines_next, top_of}
 pub use Rattle.cweb_lines.specs.inner.Passing.{AppendsPassedLines, BuffersLines, AllPassThrough, trimmed_with_newlines}
 pub use Rattle.cweb_lines.specs.inner.Passing.{sources_next, with_newlines, stretch_bytes, PassesThrough, buffer_of}
 pub use Rattle.cweb_lines.specs.inner.Passing.{PassesTop, KeepsLevel, PassesSlot, all_but_last, OnlyLastExceeds}
-pub use Rattle.cweb_lines.specs.inner.Replacing.{Compares, IsReplaced, Replaces, lines_replaced, taken_away}
-pub use Rattle.cweb_lines.specs.inner.Replacing.{closing_faults, faults_replaced, IsChanged, fault_list_if}
-pub use Rattle.cweb_lines.specs.inner.Seeking.{ReportsFaultPrefix, Searched, SeeksTo, search_after, BegunKnown}
+pub use Rattle.cweb_lines.specs.inner.Replacing.{Compares, IsReplaced, Replaces, IsChanged, ReportsFaultPrefix}
+pub use Rattle.cweb_lines.specs.inner.Replacing.{StopsOldSide, old_side_of}
+pub use Rattle.cweb_lines.specs.inner.Seeking.{LooksInPart, Searched, SeeksTo, search_after, BegunKnown}
 pub use Rattle.cweb_lines.specs.inner.Stages.{IsSettled, floor_of, begun_by, begun_stage, files_begun, stage_for}
 pub use Rattle.cweb_lines.specs.inner.Stages.{IsOutside}
 pub use Rattle.cweb_lines.specs.inner.StepCalls.{OnlyOpens}
@@ -106,11 +107,11 @@ pub use Rattle.cweb_lines.specs.laws.MergeOutcome.{fault_renumbered, line_renumb
 pub use Rattle.cweb_lines.specs.laws.MergeOutcome.{followed_by, only_lines, MergeOutcome, outcome_of_lines, placed}
 pub use Rattle.cweb_lines.specs.laws.MergeOutcome.{placed_line, only_fault}
 pub use Rattle.cweb_lines.specs.surface.Halting.{halts}
-pub use Rattle.cweb_lines.specs.surface.MergeProgress.{SoFar, EmitsLines, AddsFaultsAndLines, ReportsPrefix}
-pub use Rattle.cweb_lines.specs.surface.MergeProgress.{HasBegunStep, Stopped, pending_of, so_far_of, IsPrefix}
+pub use Rattle.cweb_lines.specs.surface.MergeProgress.{SoFar, EmitsLines, ReportsPrefix, ReadsNext, IsAtEnd}
+pub use Rattle.cweb_lines.specs.surface.MergeProgress.{Stopped, pending_of, so_far_of, IsPrefix}
 pub use Rattle.cweb_lines.specs.surface.MergeProgress.{KeepsReported, change_lines, events_to_come, things_of}
-pub use Rattle.cweb_lines.specs.surface.MergeProgress.{NothingLeft, StopsAfterLines, StopsIn, step_events}
-pub use Rattle.cweb_lines.specs.surface.MergeProgress.{ReadFailsAfterLines, TakesBeforeEmitting}
+pub use Rattle.cweb_lines.specs.surface.MergeProgress.{NothingLeft, StopsAfterLines}
+pub use Rattle.cweb_lines.specs.surface.MergeProgress.{ReadFailsAfterLines}
 pub use Rattle.cweb_lines.specs.surface.MergeReaderNames.{AreReadersKnown}
 pub use Rattle.cweb_lines.specs.surface.MergerCalls.{Grows, to_come, so_far, stop_in}
 pub use Rattle.cweb_lines.specs.surface.Stages.{change_in, pending_in, things_below, things_in}

@@ -72,24 +72,18 @@ pub after_both : (lines more : List Line) (stop : Stop) (old mid new : SoFar) (a
     EmitsLines lines old mid all rest → StopsAfterLines more stop mid new rest
     → StopsAfterLines (lines ++ more) stop old new all
 after_both lines more stop old mid new all rest yields stops = record {
-  mid = stops.mid;
-  lines = stops.lines;
-  faults = stops.faults;
+  line = stops.line;
   later = stops.later;
-  yields = yields_both lines more old mid stops.mid all rest _ yields stops.yields;
-  stops = stops.stops;
+  yields = yields_both lines more old mid new all rest _ yields stops.yields;
+  why = stops.why;
 }
 
 pub reads_both : (lines more : List Line) (old mid new : SoFar) (all rest : List Event) →
     EmitsLines lines old mid all rest → ReadFailsAfterLines more mid new rest
     → ReadFailsAfterLines (lines ++ more) old new all
 reads_both lines more old mid new all rest yields reads = record {
-  mid = reads.mid;
-  lines = reads.lines;
-  faults = reads.faults;
   later = reads.later;
-  yields = yields_both lines more old mid reads.mid all rest _ yields reads.yields;
-  begun = reads.begun;
+  yields = yields_both lines more old mid new all rest _ yields reads.yields;
   next = reads.next;
 }
 

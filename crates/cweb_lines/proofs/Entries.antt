@@ -1,5 +1,5 @@
 -- The lines of an entry, and lines that begin no change.
-use Rattle.cweb_lines.proofs.Common.{◌≡◌, ◌≢◌, ◌&&◌, ℕ, Bool, true, false, List, [], ◌∷◌, ◌++◌, map, None, Some, Option, refl, sym, ◌∙◌, ap, append-nil, bytes_eq-Decides, list_any, bytes_eq, Place, Line, SourceLine, World, is_include_line, WaitingEntry, Sought, after_x, change_code, old_at, old_lines, outside, passing, sought, is_change_code, followed_by, only_lines, outcome_of_events, Event, RawLine, Thing, at_entry, compared, emitted, new_at, new_lines, passed, plain, raws, taking, took, merge, merge_end, merge_next, Code, or_parts}
+use Rattle.cweb_lines.proofs.Common.{◌≡◌, ◌≢◌, ◌&&◌, ℕ, Bool, true, false, List, [], ◌∷◌, ◌++◌, map, None, Some, Option, refl, sym, ◌∙◌, ap, append-nil, bytes_eq-Decides, list_any, bytes_eq, Place, Line, SourceLine, World, is_include_line, WaitingEntry, Sought, after_x, change_code, old_at, old_lines, outside, old_after, OldSide, sought, sought_after, is_change_code, followed_by, only_lines, outcome_of_events, Event, RawLine, Thing, at_entry, emitted, new_at, new_lines, passed, plain, raws, taking, took, merge, merge_end, merge_next, Code, or_parts}
 use Rattle.cweb_lines.specs.declared.change.code.Code.TheVariants.{EndSide as end_side, NewSide as new_side, OldSide as old_side}
 use Rattle.cweb_lines.proofs.Merges.{state}
 use Rattle.cweb_lines.proofs.OutcomeOfEvents.{line_first, no_code}
@@ -11,7 +11,7 @@ abbrev pub lines_of : List SourceLine → List Line
 lines_of lines = map (λ source. source.line) lines
 
 pub finds_none : (lines : List SourceLine) → list_any is_change_code (bytes_in lines) ≡ false
-    → sought lines None ≡ record { faults = []; taken = lines; entry = None; rest = [] }
+    → sought lines None ≡ record { events = map took lines; entry = None; rest = [] }
 finds_none [] none = refl
 finds_none (line ∷ lines) none =
     let parts = or_parts (is_change_code line.line.bytes) (list_any is_change_code (bytes_in lines)) none in
@@ -22,36 +22,51 @@ entry_of x first = record { begin = x.line.place; first = first.line.bytes }
 
 first_old : (bytes : List ℕ) (code : Option Code) (begin : Place) (first : SourceLine) (rest : List SourceLine)
     (later : Option Place → Sought) → bytes ≢ [] → code ≡ None → after_x bytes code begin first rest later
-    ≡ record { faults = []; taken = first ∷ []; entry = Some (record { begin = begin; first = bytes }); rest = rest }
+    ≡ record { events = []; entry = Some (record { begin = begin; first = bytes }); rest = rest }
 first_old [] code begin first rest later some none = absurd (some refl)
 first_old (b ∷ bs) code begin first rest later some none = ap (λ c. after_x (b ∷ bs) c begin first rest later) none
 
 pub finds : (comment : List SourceLine) (x first : SourceLine) (rest : List SourceLine)
     → list_any is_change_code (bytes_in comment) ≡ false → change_code x.line.bytes ≡ Some old_side
     → first.line.bytes ≢ [] → change_code first.line.bytes ≡ None → sought (comment ++ (x ∷ first ∷ rest)) None
-    ≡ record { faults = []; taken = comment ++ (x ∷ first ∷ []); entry = Some (entry_of x first); rest = rest }
+    ≡ record { events = map took (comment ++ (x ∷ first ∷ [])); entry = Some (entry_of x first); rest = rest }
 finds [] x first rest no_codes begins some none =
-    ap (λ code. passing x (outside code x.line.place (λ begin. sought (first ∷ rest) begin))) begins
-    ∙ ap (passing x) (first_old _ _ _ _ _ (λ next. sought _ next) some none)
+    ap (λ code. sought_after (took x) (outside code x.line.place (λ begin. sought (first ∷ rest) begin))) begins
+    ∙ ap (λ (s : Sought). sought_after (took x) (sought_after (took first) s))
+    (first_old _ _ _ _ _ (λ next. sought _ next) some none)
 finds (line ∷ comment) x first rest no_codes begins some none =
     let parts = or_parts (is_change_code line.line.bytes) (list_any is_change_code (bytes_in comment)) no_codes in
     simp (no_code (change_code line.line.bytes) parts.0, finds comment x first rest parts.1 begins some none)
 
-pub old_splits : (further : List SourceLine) (y : SourceLine) (rest : List SourceLine)
-    → list_any is_change_code (bytes_in further) ≡ false → change_code y.line.bytes ≡ Some new_side
-    → old_lines (further ++ (y ∷ rest))
-    ≡ record { faults = []; lines = bytes_in further; taken = further ++ (y ∷ []); ended = false; rest = rest }
-old_splits [] y rest no_codes turns = ap (λ code. old_at code y rest (old_lines rest)) turns
-old_splits (line ∷ further) y rest no_codes turns =
-    let parts = or_parts (is_change_code line.line.bytes) (list_any is_change_code (bytes_in further)) no_codes in
-    simp (no_code (change_code line.line.bytes) parts.0, old_splits further y rest parts.1 turns)
+-- An old side whose lines equal those of the web: no fault, and these lines are taken.
+pub record Splits (all : OldSide) (rest : List SourceLine) (things : List Thing) : Type 0 where
+  pub taken : List SourceLine
+  pub is : all
+      ≡ record { events = map took taken; unequal = 0; ran_out = false; ended = false; rest = rest; things = things }
 
-pub compares : (depth : ℕ) (may_match : Bool) (lines : List SourceLine) (later : List Thing)
-    → compared (bytes_in lines) (raws depth may_match lines ++ later)
-    ≡ record { unequal = 0; taken = lines; ran_out = false; rest = later }
-compares depth may_match [] later = refl
-compares depth may_match (line ∷ lines) later =
-    simp ((bytes_eq-Decides line.line.bytes line.line.bytes).1 refl, compares depth may_match lines later)
+pub old_splits : (further : List SourceLine) (y : SourceLine) (rest : List SourceLine) (depth : ℕ) (may_match : Bool)
+    (old : List SourceLine) (later : List Thing)
+    → list_any is_change_code (bytes_in further) ≡ false → change_code y.line.bytes ≡ Some new_side
+    → bytes_in old ≡ bytes_in further
+    → Splits (old_lines (further ++ (y ∷ rest)) (raws depth may_match old ++ later)) rest later
+old_splits [] y rest depth may_match [] later no_codes turns same = record {
+  taken = y ∷ [];
+  is = ap (λ code. old_after (took y) (old_at code y.line rest later (λ ts. old_lines rest ts))) turns;
+}
+old_splits [] y rest depth may_match (o ∷ old) later no_codes turns same = absurd (cc)
+old_splits (line ∷ further) y rest depth may_match [] later no_codes turns same = absurd (cc)
+old_splits (line ∷ further) y rest depth may_match (o ∷ old) later no_codes turns same =
+    let parts = or_parts (is_change_code line.line.bytes) (list_any is_change_code (bytes_in further)) no_codes in
+    let head : o.line.bytes ≡ line.line.bytes = cc in
+    let all = old_splits further y rest depth may_match old later parts.1 turns (cc) in
+    record {
+      taken = line ∷ o ∷ all.taken;
+      is = simp (
+        no_code (change_code line.line.bytes) parts.0,
+        (bytes_eq-Decides o.line.bytes line.line.bytes).1 head,
+        all.is,
+      );
+    }
 
 pub new_splits : (depth : ℕ) (begin : Place) (new : List SourceLine) (z : SourceLine) (rest : List SourceLine)
     → list_any is_change_code (bytes_in new) ≡ false → change_code z.line.bytes ≡ Some end_side

@@ -1,5 +1,6 @@
 -- Worked examples of merges.
-use Rattle.cweb_lines.proofs.Common.{◌≡◌, ◌+◌, ℕ, zero, suc, List, [], ◌∷◌, ◌++◌, map, Option, Some, None, cond, codes, bytes_eq, Place, SourceFault, SourceKind, TooDeep, NotThere, MissingX, NoOldLines, EndedBeforeY, WebEnded, WantsY, Unequal, WantsZ, EndedBeforeZ, NoMatch, Line, lines, World, Event, run_steps, started, emitted_lines, reported_faults, openings, taken_lines, OPEN_FILES, LINE_LENGTH, LINES, BYTES}
+use Rattle.cweb_lines.proofs.Common.{◌≡◌, ◌+◌, ℕ, zero, suc, List, [], ◌∷◌, ◌++◌, map, Option, Some, None, cond, codes, bytes_eq, ◌⊎◌, inl, inr, Place, SourceFault, SourceKind, TooDeep, NotThere, MissingX, NoOldLines, EndedBeforeY, WebEnded, WantsY, Unequal, WantsZ, EndedBeforeZ, NoMatch, Line, lines, World, Event, run_steps, started, emitted_lines, reported_faults, openings, taken_lines, OPEN_FILES, LINE_LENGTH, LINES, BYTES}
+use Rattle.cweb_lines.specs.Events.{took, fault as fault_event}
 use Rattle.std.specs.Str.{is_utf8, chars}
 use lib.Utf8.{encode}
 
@@ -21,6 +22,17 @@ outcome_of (Some events) = Some (record {
 abbrev taken_of : Option (List Event) → Option (List Line)
 taken_of None = None
 taken_of (Some events) = Some (map (λ source. source.line) (taken_lines events))
+
+-- The lines taken and the faults, in order.
+abbrev in_order : List Event → List (Line ⊎ SourceFault)
+in_order [] = []
+in_order (took source ∷ events) = inl source.line ∷ in_order events
+in_order (fault_event f ∷ events) = inr f ∷ in_order events
+in_order (_ ∷ events) = in_order events
+
+abbrev order_of : Option (List Event) → Option (List (Line ⊎ SourceFault))
+order_of None = None
+order_of (Some events) = Some (in_order events)
 
 abbrev place : ℕ → ℕ → Place
 place file number = record { file = record { 0 = file }; line = number }
@@ -92,6 +104,13 @@ record Computed : Type 0 where
       ≡ Some (line (codes "@x") 1 1 ∷ line (codes "A") 1 2 ∷ line (codes "A") 0 1 ∷ line (codes "B") 1 3
       ∷ line (codes "B") 0 2 ∷ line (codes "@x") 1 4 ∷ line (codes "D") 1 5 ∷ line (codes "C") 0 3
       ∷ line (codes "@y") 1 6 ∷ line (codes "@z") 1 7 ∷ [])
+  -- the fault of a line comes after it, before the next line; the faults of a whole old side come after all its lines
+  faults_among_the_lines : order_of (run_steps 20 no_texts (started (codes "A\nB\n")
+      (Some (codes "@y\n@x\nA\n@x\nQ\n@y\n@z\n"))))
+      ≡ Some (inl (line (codes "@y") 1 1) ∷ inr (fault MissingX 1 1) ∷ inl (line (codes "@x") 1 2)
+      ∷ inl (line (codes "A") 1 3) ∷ inl (line (codes "A") 0 1) ∷ inl (line (codes "@x") 1 4)
+      ∷ inr (fault WantsY 1 4) ∷ inl (line (codes "Q") 1 5) ∷ inl (line (codes "B") 0 2) ∷ inl (line (codes "@y") 1 6)
+      ∷ inr (unequal 1 2 1) ∷ inl (line (codes "@z") 1 7) ∷ [])
   entry_without_old_lines : outcome_of (run_steps 20 no_texts (started (codes "A\n") (Some (codes "@x\n"))))
       ≡ Some (record { lines = line (codes "A") 0 1 ∷ []; faults = fault NoOldLines 1 1 ∷ []; names = [] })
   entry_that_matches_nothing : outcome_of

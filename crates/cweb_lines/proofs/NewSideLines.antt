@@ -1,10 +1,11 @@
 -- The new side of a change, line by line.
-use Rattle.cweb_lines.proofs.Common.{AddsFaultsAndLines, OnlyTakes, OnlyReports, lines_at, ◌≡◌, ◌-◌, ℕ, false, List, [], ◌∷◌, ◌++◌, Some, None, Option, refl, sym, ◌∙◌, ap, arith, length, sameb, Place, at_place, change_code, world_in, World, Line, SourceLine, Event, NewSide, Thing, fault, new_at, new_lines, passed, raw, seek, reported, took, EmitsLines, SoFar, Stopped, change_lines, events_to_come, events_after_line, things_of, so_far_of, counters_of, opened_file_names, change_in, pending_in, things_below, things_in, FirstStops, StopsFor, CountsLine, raw_thing, things_above, things_over, merge, merge_next, the_type, Code, EndedBeforeZ, WantsZ, MergeState, Change, Changing, Stack, Stop, LineAt, over-none}
+use Rattle.cweb_lines.proofs.Common.{subst, OnlyTakes, OnlyReports, lines_at, ◌≡◌, ◌-◌, ℕ, false, List, [], ◌∷◌, ◌++◌, Some, None, Option, refl, sym, ◌∙◌, ap, arith, length, sameb, Place, at_place, change_code, world_in, World, Line, SourceLine, Event, NewSide, Thing, fault, new_at, new_lines, passed, raw, seek, reported, took, EmitsLines, SoFar, Stopped, change_lines, events_to_come, events_after_line, things_of, so_far_of, counters_of, opened_file_names, change_in, pending_in, things_below, things_in, FirstStops, StopsFor, CountsLine, raw_thing, things_above, things_over, merge, merge_next, the_type, Code, EndedBeforeZ, WantsZ, MergeState, Change, Changing, Stack, Stop, LineAt, over-none}
 use Rattle.cweb_lines.specs.declared.change.code.Code.TheVariants.{OldSide as old_side, NewSide as new_side, EndSide as end_side}
-use Rattle.cweb_lines.proofs.AddedEvents.{adds_faults, adds_one, yields_adds}
+use Rattle.cweb_lines.proofs.AddedEvents.{takes_one}
+use Rattle.cweb_lines.proofs.EmittedLinesAddUp.{yields_both}
 use Rattle.cweb_lines.proofs.ReportsOnlyGrow.{took_faults, took_names}
 use Rattle.cweb_lines.proofs.Merges.{yields_fault, merge_takes, state}
-use Rattle.cweb_lines.proofs.Stops.{stopped_first, takes_next}
+use Rattle.cweb_lines.proofs.Stops.{stopped_first, reads_next, new_first as reads_new}
 use Rattle.cweb_lines.proofs.Codes.{is_faulty_new}
 
 -- The events of the remaining new lines, the next search and the sources below.
@@ -80,7 +81,7 @@ module _ (world : World) (change : Change) (below : List Thing) (files : ℕ) wh
   pub new_stops : (stop : Stop) (lines : List SourceLine) (old new : SoFar) → new ≡ old → StopsFor
       (FirstStops stop old.count lines) stop → Stopped stop old new (coming_new world change lines below files)
   new_stops stop lines old new same stops = stopped_first stop (FirstStops stop old.count lines) old new _ same
-      (takes_next _ _) (λ first.
+      (reads_next _ _ _ _ _ (reads_new change.depth change.begin lines _)) (λ first.
       let taken = new_takes first.line first.rest in (
         first.line,
         (taken.0, ap (λ (ls : List SourceLine). coming_new world change ls below files) first.first ∙ taken.1),
@@ -153,8 +154,8 @@ module _ {R : Type 0} (t t' : List ℕ → Option (List ℕ)) (l l' : R → List
 
   module _ (bytes : List ℕ) (place : Place)
       (taken : CountsLine bytes place (counters_of run.limits) (counters_of mid.limits)) where
-    counted : AddsFaultsAndLines [] (taken.line ∷ []) (so_far_of run) (so_far_of mid)
-    counted = adds_one (so_far_of run) (so_far_of mid) bytes place taken (took_faults only) (took_names only)
+    one : (later : List Event) → EmitsLines [] (so_far_of run) (so_far_of mid) (took taken.line ∷ later) later
+    one later = takes_one (so_far_of run) (so_far_of mid) bytes place taken later (took_faults only) (took_names only)
 
     first : (rest : List SourceLine) → change_lines l run ≡ taken.line ∷ rest
         → events_to_come t l run ≡ coming_new world change (taken.line ∷ rest) under files
@@ -165,9 +166,12 @@ module _ {R : Type 0} (t t' : List ℕ → Option (List ℕ)) (l l' : R → List
         ≡ Some end_side → EmitsLines [] (so_far_of run) (so_far_of mid) (events_to_come t l run)
         (merge (world_in t' mid.inputs)
         (state (seek ∷ things_above l' 0 mid.stack []) None rest (length (opened_file_names mid.names))))
-    new_side_ended rest is test = yields_adds (taken.line ∷ []) [] (so_far_of run) (so_far_of mid) _ _ (first rest is
+    new_side_ended rest is test = subst (λ (es : List Event). EmitsLines [] (so_far_of run) (so_far_of mid) es
+        (merge (world_in t' mid.inputs)
+        (state (seek ∷ things_above l' 0 mid.stack []) None rest (length (opened_file_names mid.names)))))
+        (sym (first rest is
         ∙ new_end world change under files taken.line rest bytes place taken.is test ∙ ap (λ (es : List Event).
-        took taken.line ∷ es) (later_is mid only.inputs stack only.names (λ ts. seek ∷ ts) rest)) counted
+        took taken.line ∷ es) (later_is mid only.inputs stack only.names (λ ts. seek ∷ ts) rest))) (one _)
 
     pub new_faulty : (new : MergeState R) → OnlyReports mid new → change_lines l run ≡ taken.line ∷ change_lines l' mid
         → (code :
@@ -181,12 +185,12 @@ module _ {R : Type 0} (t t' : List ℕ → Option (List ℕ)) (l l' : R → List
         (tells.stack ∙ stack) ∙ low) ∙ (λ i. coming_new (world_in (texts i) ((tells.inputs ∙ only.inputs) i)) change
         (lines_at l' (tells.change i)) (things_over (left i) 0 change.below (((tells.stack ∙ stack) i).texts) [])
         (length (opened_file_names ((tells.names ∙ only.names) i))))) in
-        yields_adds (taken.line ∷ []) (at_place WantsZ place ∷ []) (so_far_of run) (so_far_of new) _ _ (first _ rest
+        let all = first _ rest
         ∙ new_fault world change under files taken.line (change_lines l' mid) bytes place taken.is code test other
-        ∙ ap (λ (es : List Event). took taken.line ∷ fault (at_place WantsZ place) ∷ es) more)
-        (adds_faults [] (at_place WantsZ place ∷ []) (taken.line ∷ [])
-        (so_far_of run) (so_far_of mid) (so_far_of new) counted is (ap opened_file_names tells.names)
-        (ap counters_of tells.limits))
+        ∙ ap (λ (es : List Event). took taken.line ∷ fault (at_place WantsZ place) ∷ es) more in
+        subst (λ (es : List Event). EmitsLines [] (so_far_of run) (so_far_of new) es (events_to_come t' l' new))
+        (sym all) (yields_both [] [] _ (so_far_of mid) _ _ _ _ (one _) (yields_fault (so_far_of mid) (so_far_of new) _ _
+        (ap counters_of tells.limits) (at_place WantsZ place) refl is (ap opened_file_names tells.names)))
 
     pub new_first : change_lines l run ≡ taken.line ∷ change_lines l' mid → change_code bytes ≡ None
         → events_to_come t l run

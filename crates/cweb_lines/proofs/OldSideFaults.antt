@@ -1,57 +1,28 @@
--- The faults that were reported of an old side that a stop interrupted.
-use Rattle.cweb_lines.proofs.Common.{◌≡◌, List, ◌++◌, ◌∙◌, append_assoc, Place, old_lines, SourceLine, Thing, SoFar, ReportsSomeFaults, HasBegunStep, StopsIn, EndsStep, IsReplaced, closing_faults, faults_replaced, ReportsFaultPrefix, SourceFault, Replaced, Stop, ReadFault, LineTooLong, TooMuchText, Memory}
+-- The faults of an old side as a whole.
+use Rattle.cweb_lines.proofs.Common.{◌≡◌, List, [], ◌++◌, sym, ◌∙◌, ap, subst, append-nil, map, map-append, Place, OldSide, SourceLine, Thing, Event, fault, change_events, closing_faults, SoFar, EmitsLines, ReportsPrefix, IsReplaced, ReportsFaultPrefix, Replaced}
+use Rattle.cweb_lines.proofs.AddedEvents.{reports, reports_some, yields_more}
+use Rattle.cweb_lines.proofs.EmittedLinesAddUp.{yields_both}
+use Rattle.cweb_lines.proofs.WrittenLinesAddUp.{tells_more}
 
-pub tells_prefix : (faults more : List SourceFault) (old new : SoFar) → ReportsSomeFaults faults old new →
-    ReportsSomeFaults (faults ++ more) old new
-tells_prefix faults more old new some = record {
-  prefix = some.prefix;
-  rest = some.rest ++ more;
-  whole = simp (some.whole, append_assoc);
-  reported = some.reported;
-  names = some.names;
-}
+module _ (begin : Place) (side : OldSide) (so_far : Replaced) (change : List SourceLine) (things : List Thing)
+    (old mid new : SoFar) (by : IsReplaced side so_far change things old mid) where
+  abbrev closing : List Event
+  closing = map fault (closing_faults begin so_far.ended so_far.ran_out so_far.unequal)
 
-abbrev begun_more : {old new : SoFar} {lines : List SourceLine} {faults : List SourceFault}
-    (more : List SourceFault) → HasBegunStep old new lines faults
-    → HasBegunStep old new lines (faults ++ more)
-begun_more more begun = record {
-  prefix = begun.prefix;
-  rest = begun.rest;
-  reported = begun.reported;
-  more = begun.more ++ more;
-  lines_are = begun.lines_are;
-  faults_are = simp (begun.faults_are, append_assoc);
-  adds = begun.adds;
-}
+  closing_are : map fault (closing_faults begin side.ended side.ran_out side.unequal) ≡ closing
+  closing_are i = map fault (closing_faults begin (by.ended i) (by.ran_out i) (by.unequal i))
 
-stops_more : {stop : Stop} {old new : SoFar} {lines : List SourceLine} {faults : List SourceFault}
-    (more : List SourceFault) → StopsIn stop old new lines faults
-    → StopsIn stop old new lines (faults ++ more)
-stops_more more stops =
-    record {
-      begun = begun_more more stops.begun;
-      line = stops.line;
-      more = stops.more;
-      next = stops.next;
-      why = stops.why;
-    }
+  lines_taken : EmitsLines [] old mid (change_events begin side) closing
+  lines_taken = subst (λ (es : List Event). EmitsLines [] old mid (side.events ++ es) closing) (sym closing_are)
+      (yields_more closing by.yields)
 
-pub ends_more : (stop : Stop) (old new : SoFar) (lines : List SourceLine) (faults more : List SourceFault) →
-    EndsStep stop old new lines faults → EndsStep stop old new lines (faults ++ more)
-ends_more (ReadFault file) old new lines faults more ends = begun_more more ends
-ends_more (LineTooLong file) old new lines faults more ends = stops_more more ends
-ends_more TooMuchText old new lines faults more ends = stops_more more ends
-ends_more Memory old new lines faults more ends = tt
-ends_more stop old new lines faults more ends = absurd ends
+  pub closes_some : ReportsFaultPrefix (closing_faults begin so_far.ended so_far.ran_out so_far.unequal) mid.faults
+      new.faults → new.names ≡ mid.names → ReportsPrefix old new (change_events begin side)
+  closes_some part names = tells_more [] old mid new _ _ lines_taken (subst (λ (es : List Event).
+      ReportsPrefix mid new es) (sym (ap (map fault) part.whole ∙ map-append fault part.prefix part.rest))
+      (reports_some part.prefix mid new (map fault part.rest) part.reported names))
 
-module _ (begin : Place) (change : List SourceLine) (things : List Thing) (r : Replaced) (change' : List SourceLine)
-    (things' : List Thing) (old mid new : SoFar) (by : IsReplaced change things r change' things' old mid) where
-  pub closes_some : ReportsFaultPrefix (closing_faults begin r.ended r.ran_out r.unequal) mid.faults new.faults →
-      new.names ≡ mid.names → ReportsSomeFaults (faults_replaced begin change things) old new
-  closes_some prefix names = record {
-    prefix = (old_lines change).faults ++ prefix.prefix;
-    rest = prefix.rest;
-    whole = simp (by.ended, by.ran_out, by.unequal, prefix.whole, append_assoc);
-    reported = simp (prefix.reported, by.adds.reported, append_assoc);
-    names = names ∙ by.adds.names;
-  }
+  pub closes_all : new.faults ≡ mid.faults ++ closing_faults begin so_far.ended so_far.ran_out so_far.unequal
+      → new.names ≡ mid.names → new.count ≡ mid.count → EmitsLines [] old new (change_events begin side) []
+  closes_all reported names count = yields_both [] [] old mid new _ _ _ lines_taken (subst (λ (es : List Event).
+      EmitsLines [] mid new es []) (append-nil closing) (reports _ mid new [] reported names count))

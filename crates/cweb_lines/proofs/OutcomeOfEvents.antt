@@ -16,20 +16,20 @@ abbrev pub name_first : List ℕ → MergeOutcome → MergeOutcome
 name_first name s = record { lines = s.lines; faults = s.faults; included = name ∷ s.included }
 
 pub took_unseen : (lines : List SourceLine) (events : List Event)
-    → outcome_of_events (map took lines ++ [] ++ events) ≡ outcome_of_events events
+    → outcome_of_events (map took lines ++ events) ≡ outcome_of_events events
 took_unseen [] events = refl
 took_unseen (line ∷ lines) events = took_unseen lines events
 
 -- A search without faults doesn't show in the outcome.
 pub seek_unseen : (world : World) (things : List Thing) (change : List SourceLine) (files : ℕ) (taken : List SourceLine)
     (entry : Option WaitingEntry) (rest : List SourceLine)
-    → sought change None ≡ record { faults = []; taken = taken; entry = entry; rest = rest }
+    → sought change None ≡ record { events = map took taken; entry = entry; rest = rest }
     → outcome_of_events (merge world (state (seek ∷ things) None change files))
     ≡ outcome_of_events (merge world (state things entry rest files))
 seek_unseen world things change files taken entry rest is =
     ap outcome_of_events (merge_next world (state (seek ∷ things)
-    None change files) (map took taken ++ [], state things entry rest files) (ap (λ (found : Sought).
-    Some (map took found.taken ++ map fault found.faults, state things found.entry found.rest files)) is))
+    None change files) (map took taken, state things entry rest files) (ap (λ (found : Sought).
+    Some (found.events, state things found.entry found.rest files)) is))
     ∙ took_unseen taken (merge world (state things entry rest files))
 
 pub seen-append : (a b : List Event)

@@ -1,8 +1,7 @@
 -- The output of a merge merges to itself: its lines are trimmed, and none is an include line.
-use Rattle.cweb_lines.proofs.Common.{◌≡◌, ◌+◌, ℕ, zero, suc, true, false, List, [], ◌∷◌, ◌++◌, map, None, Some, Option, refl, sym, ◌∙◌, ap, subst, AllByRecursion, list_any, Line, SourceLine, lines, lines_in, World, is_include_line, WaitingEntry, at_place, sought, PrintedMergesComeAgain, MergeOutcome, placed, Event, Next, MergeStateModel, Thing, at_raw, fault, onto, passed, raw, run_steps, seek, started, reported, took, emitted_lines, merge, merge-run_steps, halts, written_lines, NoMatch}
+use Rattle.cweb_lines.proofs.Common.{◌≡◌, ◌+◌, ℕ, zero, suc, true, false, List, [], ◌∷◌, map, None, Some, Option, refl, sym, ◌∙◌, ap, subst, AllByRecursion, list_any, Line, SourceLine, lines, lines_in, World, is_include_line, WaitingEntry, at_place, sought, PrintedMergesComeAgain, MergeOutcome, placed, Event, Next, MergeStateModel, Thing, at_raw, fault, onto, passed, raw, run_steps, seek, started, reported, took, emitted_lines, merge, merge-run_steps, halts, written_lines, NoMatch}
 use Rattle.cweb_lines.proofs.IndependentLines.{onto_some}
 use Rattle.cweb_lines.proofs.Merges.{state}
-use Rattle.cweb_lines.proofs.AddedEvents.{emitted_none}
 use Rattle.cweb_lines.proofs.EmittedLinesAddUp.{emitted-append}
 use Rattle.cweb_input.proofs.Newlines.{text_lines-full}
 use Rattle.cweb_lines.proofs.WebLaws.{webs_without_includes}
@@ -37,10 +36,9 @@ module _ (world : World) where
       step_prints n (reported ∷ [], state [] None change files) events each (tt, (tt, cut')) is
   thing_prints n (seek ∷ things) pending change files events each cut cut' is =
       let found = sought change None in
-      let first = map took found.taken ++ map fault found.faults in
       let next = state things found.entry found.rest files in
-      step_prints n (first, next) events each (silent_keeps first next
-      (emitted_none found.taken found.faults) (cut.1, sought-cut change None cut')) is
+      let left = sought-cut change None cut' in
+      step_prints n (found.events, next) events each (silent_keeps found.events next left.0 (cut.1, left.1)) is
   thing_prints n (reported f ∷ things) pending change files events each cut cut' is =
       step_prints n (fault f ∷ [], state things pending change files) events each (tt, (cut.1, cut')) is
   thing_prints n (passed line ∷ things) pending change files events each cut cut' is =

@@ -1,204 +1,188 @@
 -- The old side of a change, line by line.
-use Rattle.cweb_lines.proofs.Common.{◌≡◌, ◌+◌, ◌||◌, ℕ, Bool, false, List, [], ◌∷◌, ◌++◌, Some, None, Option, refl, ◌∙◌, ap, arith, append-nil, append_assoc, Place, OldSide, at_place, change_code, old_at, old_code, old_lines, Line, SourceLine, Compared, Thing, compared, SoFar, AddsFaultsAndLines, HasBegunStep, StopsIn, EndsStep, Compares, IsReplaced, Replaces, lines_replaced, taken_away, dropping, in_turn, FirstStops, CountsLine, TopStops, Code, WantsY, Replaced, StopsFor, Stop, ReadFault, LineTooLong, TooMuchText, Memory, or-false}
+use Rattle.cweb_lines.proofs.Common.{◌≡◌, ◌+◌, ◌||◌, ℕ, Bool, false, List, [], ◌∷◌, ◌++◌, Some, None, Option, refl, sym, ◌∙◌, ap, arith, subst, append_assoc, map, Place, OldSide, at_place, change_code, change_events, closing_faults, dropping, old_after, old_at, old_lines, SourceLine, Thing, raw, seek, reported, passed, Event, took, fault, SoFar, EmitsLines, ReadsNext, ReportsPrefix, StopsAfterLines, StopsOldSide, Compares, IsReplaced, Replaces, FirstStops, CountsLine, TopStops, RefusesLine, Code, WantsY, Replaced, StopsFor, Stop, ReadFault, LineTooLong, TooMuchText, Memory, or-false}
 use Rattle.cweb_lines.specs.declared.change.code.Code.TheVariants.{NewSide as new_side}
-use Rattle.cweb_lines.proofs.AddedEvents.{adds_none, adds_both, adds_line, adds_faults}
-use Rattle.cweb_lines.proofs.Codes.{old_code_at, taken_at}
+use Rattle.cweb_lines.proofs.AddedEvents.{takes_one, yields_more}
+use Rattle.cweb_lines.proofs.EmittedLinesAddUp.{yields_both}
+use Rattle.cweb_lines.proofs.Merges.{yields_fault, yields_nothing}
+use Rattle.cweb_lines.proofs.Codes.{old_code_at}
 
-pub replaces_from : (change : List SourceLine) (things : List Thing) (old : SoFar) →
-    Replaces change things (record { unequal = 0; ran_out = false; ended = false }) change things old old
-replaces_from change things old = record {
-  reported = [];
-  taken = [];
-  faults_are = refl;
-  taken_are = refl;
-  ended = refl;
-  rest = refl;
+pub replaces_from : (all : OldSide) (old : SoFar) →
+    Replaces all all (record { unequal = 0; ran_out = false; ended = false }) old old
+replaces_from all old = record {
+  yields = yields_nothing old old all.events all.events refl refl refl refl;
   unequal = omega arith;
   ran_out = refl;
-  raw_rest = refl;
-  adds = adds_none old old refl;
+  ended = refl;
+  rest = refl;
+  things = refl;
 }
 
-pub replaces_same : (change : List SourceLine) (things : List Thing) (so_far : Replaced) (ls ls' : List SourceLine)
-    (ts ts' : List Thing) (old new : SoFar) → ls ≡ ls' → ts ≡ ts' → Replaces change things so_far ls ts old new
-    → Replaces change things so_far ls' ts' old new
-replaces_same change things so_far ls ls' ts ts' old new l t r = rw (l, t) at r
+-- The rest is equal.
+pub replaces_same : (all : OldSide) (so_far : Replaced) (ls ls' : List SourceLine) (ts ts' : List Thing)
+    (old new : SoFar) → ls ≡ ls' → ts ≡ ts' → Replaces all (old_lines ls ts) so_far old new
+    → Replaces all (old_lines ls' ts') so_far old new
+replaces_same all so_far ls ls' ts ts' old new l t r = rw (l, t) at r
 
-pub is_replaced_same : (change : List SourceLine) (things : List Thing) (so_far : Replaced)
-    (ended : Bool) (ls : List SourceLine) (ts ts' : List Thing) (old new : SoFar) → ended ≡ so_far.ended
-    → ts ≡ ts' → IsReplaced change things (record { unequal = so_far.unequal; ran_out = so_far.ran_out; ended = ended })
-    ls ts old new → IsReplaced change things so_far ls ts' old new
-is_replaced_same change things so_far ended ls ts ts' old new e t r = rw (e, t) at r
+pub is_replaced_same : (all : OldSide) (so_far : Replaced) (ended : Bool) (ls : List SourceLine) (ts ts' : List Thing)
+    (old new : SoFar) → ended ≡ so_far.ended → ts ≡ ts'
+    → IsReplaced all (record { unequal = so_far.unequal; ran_out = so_far.ran_out; ended = ended }) ls ts old new
+    → IsReplaced all so_far ls ts' old new
+is_replaced_same all so_far ended ls ts ts' old new e t r = rw (e, t) at r
 
 pub compares_same : (bytes bytes' : List ℕ) (so_far after : Replaced) (ts ts' us : List Thing) (old new : SoFar) → bytes
     ≡ bytes' → ts ≡ ts' → Compares bytes so_far after ts us old new → Compares bytes' so_far after ts' us old new
 compares_same bytes bytes' so_far after ts ts' us old new b t r = rw (b, t) at r
 
-drops_none : (code : Option Code) (later : List SourceLine → List SourceLine) → dropping code [] later ≡ later []
-drops_none None later = refl
-drops_none (Some code) later = refl
+-- The next event of this side takes a line, or the change file has ended.
+abbrev Reads : OldSide → Type 0
+Reads side = (begin : Place) (ran_out : Bool) (unequal : ℕ) (later : List Event)
+    → ReadsNext (side.events ++ (map fault (closing_faults begin side.ended ran_out unequal) ++ later))
 
-in_turn-nil : (lines : List SourceLine) → in_turn lines [] ≡ lines
-in_turn-nil [] = refl
-in_turn-nil (line ∷ lines) = ap (λ (ls : List SourceLine). line ∷ ls)
-    (drops_none (change_code line.line.bytes) (λ rest. in_turn lines rest) ∙ in_turn-nil lines)
+reads_old : (lines : List SourceLine) (things : List Thing) → Reads (old_lines lines things)
+reads_old [] things begin ran_out unequal later = tt
+reads_old (line ∷ lines) things begin ran_out unequal later = tt
 
-module _ (change : List SourceLine) (things : List Thing) (so_far : Replaced) (lines : List SourceLine)
-    (raws : List Thing) (old mid : SoFar) (r : Replaces change things so_far lines raws old mid) where
-  abbrev replaces_begun : (new : SoFar) → new ≡ mid → HasBegunStep old new (lines_replaced change things)
-      (old_lines change).faults
-  replaces_begun new same = record {
-    prefix = r.taken;
-    rest = lines_replaced lines raws;
-    reported = r.reported;
-    more = (old_lines lines).faults;
-    lines_are = r.taken_are;
-    faults_are = r.faults_are;
-    adds = rw same r.adds;
+reads_dropping : (bytes : List ℕ) (things : List Thing) (lines : List SourceLine)
+    → Reads (dropping bytes things (λ rest. old_lines lines rest))
+reads_dropping bytes [] lines begin ran_out unequal later = reads_old lines [] begin ran_out unequal later
+reads_dropping bytes (raw r ∷ things) lines begin ran_out unequal later = tt
+reads_dropping bytes (seek ∷ things) lines begin ran_out unequal later =
+    reads_dropping bytes things lines begin ran_out unequal later
+reads_dropping bytes (reported f ∷ things) lines begin ran_out unequal later =
+    reads_dropping bytes things lines begin ran_out unequal later
+reads_dropping bytes (passed line ∷ things) lines begin ran_out unequal later =
+    reads_dropping bytes things lines begin ran_out unequal later
+
+module _ (all now : OldSide) (so_far : Replaced) (old mid : SoFar) (r : Replaces all now so_far old mid) where
+  -- The faults of the side as a whole, and what follows.
+  abbrev after : Place → List Event → List Event
+  after begin later = map fault (closing_faults begin all.ended all.ran_out all.unequal) ++ later
+
+  yields_in : (begin : Place) (later : List Event) (new : SoFar) → new ≡ mid
+      → EmitsLines [] old new (change_events begin all ++ later) (now.events ++ after begin later)
+  yields_in begin later new same = subst (λ (es : List Event).
+      EmitsLines [] old new es (now.events ++ after begin later)) (sym (append_assoc all.events (map fault (closing_faults begin all.ended all.ran_out all.unequal)) later))
+      (yields_more (after begin later) (rw same r.yields))
+
+  stops_at : (stop : Stop) (new : SoFar) → new ≡ mid → (line : SourceLine) (more : List Event)
+      → now.events ≡ took line ∷ more → RefusesLine stop mid.count line → (begin : Place) (later : List Event)
+      → StopsAfterLines [] stop old new (change_events begin all ++ later)
+  stops_at stop new same line more first why begin later = record {
+    line = line;
+    later = more ++ after begin later;
+    yields = subst (λ (es : List Event).
+        EmitsLines [] old new (change_events begin all ++ later) (es ++ after begin later)) first (yields_in begin later new same);
+    why = rw same why;
   }
 
-  replaces_stop : (stop : Stop) (new : SoFar) → new ≡ mid → FirstStops stop mid.count lines → StopsIn stop old new
-      (lines_replaced change things) (old_lines change).faults
-  replaces_stop stop new same stops =
-      let takes = taken_at (change_code stops.line.line.bytes) stops.line stops.rest (old_lines stops.rest) in
-      record {
-        begun = replaces_begun new same;
-        line = stops.line;
-        more = _;
-        next = ap (λ ls. lines_replaced ls raws) stops.first
-            ∙ ap (λ ts. in_turn ts (taken_away (stops.line ∷ stops.rest) raws).taken) takes.1;
-        why = rw same stops.why;
-      }
+  -- A line of this side can't be taken.
+  side_stops : (stop : Stop) (new : SoFar) (Why : Type 0) → new ≡ mid → Reads now
+      → (Why → (line : SourceLine) × ((more : List Event) × (now.events ≡ took line ∷ more))
+      × RefusesLine stop mid.count line) → StopsFor Why stop → StopsOldSide stop old new all
+  side_stops (ReadFault file) new Why same reads first why begin later = record {
+    later = now.events ++ after begin later;
+    yields = yields_in begin later new same;
+    next = rw r.ended (reads begin all.ran_out all.unequal later);
+  }
+  side_stops (LineTooLong file) new Why same reads first why begin later =
+      let at = first why in stops_at _ new same at.0 at.1.0 at.1.1 at.2 begin later
+  side_stops TooMuchText new Why same reads first why begin later =
+      let at = first why in stops_at _ new same at.0 at.1.0 at.1.1 at.2 begin later
+  side_stops Memory new Why same reads first why begin later = tt
+  side_stops stop new Why same reads first why begin later = absurd why
 
-  pub replaces_ends : (stop : Stop) (new : SoFar) → new ≡ mid → StopsFor (FirstStops stop mid.count lines) stop →
-      EndsStep stop old new (lines_replaced change things) (old_lines change).faults
-  replaces_ends (ReadFault file) new same stops = replaces_begun new same
-  replaces_ends (LineTooLong file) new same stops = replaces_stop _ new same stops
-  replaces_ends TooMuchText new same stops = replaces_stop _ new same stops
-  replaces_ends Memory new same stops = tt
-  replaces_ends stop new same stops = absurd stops
+  pub prefix_of_side : (new : SoFar) → new.faults ≡ mid.faults → new.names ≡ mid.names
+      → ReportsPrefix old new all.events
+  prefix_of_side new faults names = record {
+    events = r.yields.events;
+    later = now.events;
+    whole = r.yields.whole;
+    faults = faults ∙ r.yields.faults;
+    names = names ∙ r.yields.names;
+  }
 
-  pub replaces_done : (new : SoFar) (last rest : List SourceLine) (ended : Bool)
-      → old_lines lines ≡ record { faults = []; lines = []; taken = last; ended = ended; rest = rest }
-      → AddsFaultsAndLines r.reported (r.taken ++ last) old new → IsReplaced change things
-      (record { unequal = so_far.unequal; ran_out = so_far.ran_out; ended = ended }) rest raws old new
-  replaces_done new last rest ended is adds =
-      record {
-        adds = simp (r.faults_are, r.taken_are, is, in_turn-nil, append-nil) adds;
-        ended = simp (r.ended, is);
-        rest = simp (r.rest, is);
-        unequal = simp (r.unequal, is) (omega arith);
-        ran_out = simp (r.ran_out, is, or-false);
-        raw_rest = simp (r.raw_rest, is);
-      }
+  -- A line was taken.
+  replaces_took : (side : OldSide) (new : SoFar) (bytes : List ℕ) (place : Place)
+      (t : CountsLine bytes place mid.count new.count) → new.faults ≡ mid.faults → new.names ≡ mid.names
+      → now ≡ old_after (took t.line) side → Replaces all side so_far old new
+  replaces_took side new bytes place t faults names is = record {
+    yields = yields_both [] [] old mid new _ _ _ r.yields (subst (λ (o : OldSide).
+        EmitsLines [] mid new o.events side.events) (sym is)
+        (takes_one mid new bytes place t side.events faults names));
+    unequal = r.unequal ∙ ap (λ (o : OldSide). so_far.unequal + o.unequal) is;
+    ran_out = r.ran_out ∙ ap (λ (o : OldSide). so_far.ran_out || o.ran_out) is;
+    ended = r.ended ∙ ap (λ (o : OldSide). o.ended) is;
+    rest = r.rest ∙ ap (λ (o : OldSide). o.rest) is;
+    things = r.things ∙ ap (λ (o : OldSide). o.things) is;
+  }
+
+  -- The side has ended.
+  pub replaces_done : (new : SoFar) (ended : Bool) (rest : List SourceLine) (things : List Thing) → new ≡ mid
+      → now ≡ record { events = []; unequal = 0; ran_out = false; ended = ended; rest = rest; things = things }
+      → IsReplaced all (record { unequal = so_far.unequal; ran_out = so_far.ran_out; ended = ended }) rest things old
+      new
+  replaces_done new ended rest things same is = record {
+    yields = subst (λ (o : OldSide). EmitsLines [] old new all.events o.events) is (rw same r.yields);
+    unequal = simp (r.unequal, is) (omega arith);
+    ran_out = simp (r.ran_out, is, or-false);
+    ended = simp (r.ended, is);
+    rest = simp (r.rest, is);
+    things_are = simp (r.things, is);
+  }
+
+module _ (all : OldSide) (so_far : Replaced) (lines : List SourceLine) (raws : List Thing) (old mid : SoFar)
+    (r : Replaces all (old_lines lines raws) so_far old mid) where
+  pub replaces_ends : (stop : Stop) (new : SoFar) → new ≡ mid → StopsFor (FirstStops stop mid.count lines) stop
+      → StopsOldSide stop old new all
+  replaces_ends stop new same = side_stops all (old_lines lines raws) so_far old mid r stop new
+      (FirstStops stop mid.count lines) same (reads_old lines raws) (λ stops. (
+        stops.line,
+        (_, ap (λ ls. (old_lines ls raws).events) stops.first),
+        stops.why,
+      ))
 
   -- A line of the change file was taken.
   module _ (now : SoFar) (bytes : List ℕ) (place : Place) (t : CountsLine bytes place mid.count now.count)
       (rest : List SourceLine) (is : lines ≡ t.line ∷ rest) (reported : now.faults ≡ mid.faults)
       (names : now.names ≡ mid.names) where
-    counted : AddsFaultsAndLines r.reported (r.taken ++ t.line ∷ []) old now
-    counted = adds_line r.reported r.taken old mid now bytes place t r.adds reported names
+    taken : (code : Option Code) → change_code bytes ≡ code → Replaces all
+        (old_at code (record { bytes = bytes; place = place }) rest raws (λ ts. old_lines rest ts)) so_far old now
+    taken code test = replaces_took all (old_lines lines raws) so_far old mid r _ now bytes place t reported names
+        (ap (λ ls. old_lines ls raws) is ∙ old_code_at code t.line rest raws bytes place t.is test)
 
-    side : (code : Option Code) → change_code bytes ≡ code → old_lines lines ≡ old_at code t.line rest (old_lines rest)
-    side code test = ap old_lines is ∙ old_code_at code t.line rest bytes place t.is test
-
-    -- The code of the line that was taken decides whether it drops a raw line.
-    drops : (code : Option Code) (dropped : List SourceLine) → change_code bytes ≡ code
-        → in_turn (t.line ∷ (old_lines rest).taken) dropped
-        ≡ t.line ∷ dropping code dropped (λ ls. in_turn (old_lines rest).taken ls)
-    drops code dropped test = ap (λ (c : Option Code). t.line
-        ∷ dropping c dropped (λ ls. in_turn (old_lines rest).taken ls)) (ap (λ (l : Line). change_code l.bytes) t.is
-        ∙ test)
-
-    -- The remaining lines of the old side after an old line, before the raw line that it drops.
-    abbrev left : List SourceLine
-    left = dropping None (compared (bytes ∷ (old_lines rest).lines) raws).taken
-        (λ ls. in_turn (old_lines rest).taken ls)
-
-    left_are : change_code bytes ≡ None → lines_replaced lines raws ≡ t.line ∷ left
-    left_are test = ap (λ (o : OldSide). in_turn o.taken (compared o.lines raws).taken) (side None test)
-        ∙ drops None (compared (t.line.line.bytes ∷ (old_lines rest).lines) raws).taken test
-        ∙ ap (λ (l : Line). t.line ∷ dropping None (compared (l.bytes ∷ (old_lines rest).lines) raws).taken
-        (λ ls. in_turn (old_lines rest).taken ls)) t.is
-
-    pub replaces_code : (code : Code) (new : SoFar) → change_code bytes ≡ Some code → old_at (Some code) t.line rest
-        (old_lines rest) ≡ old_code t.line (old_lines rest) → new.faults ≡ now.faults ++ at_place WantsY place ∷ []
-        → new.names ≡ now.names → new.count ≡ now.count → Replaces change things so_far rest raws old new
+    pub replaces_code : (code : Code) (new : SoFar) → change_code bytes ≡ Some code
+        → old_at (Some code) (record { bytes = bytes; place = place }) rest raws (λ ts. old_lines rest ts)
+        ≡ old_after (fault (at_place WantsY place)) (old_lines rest raws)
+        → new.faults ≡ now.faults ++ at_place WantsY place ∷ [] → new.names ≡ now.names → new.count ≡ now.count
+        → Replaces all (old_lines rest raws) so_far old new
     replaces_code code new test faulty reported' names' count =
-        let s = side _ test ∙ faulty in
-        let fault = ap (λ (l : Line). at_place WantsY l.place) t.is in
+        let r' : Replaces all (old_after (fault (at_place WantsY place)) (old_lines rest raws)) so_far old now =
+        subst (λ (o : OldSide). Replaces all o so_far old now) faulty (taken (Some code) test) in
         record {
-          reported = r.reported ++ at_place _ _ ∷ [];
-          taken = r.taken ++ t.line ∷ [];
-          faults_are = simp (r.faults_are, s, fault, append_assoc);
-          taken_are = r.taken_are ∙ ap (λ (ls : List SourceLine). r.taken ++ ls)
-              (ap (λ (o : OldSide). in_turn o.taken (compared o.lines raws).taken) s
-              ∙ drops (Some code) (taken_away rest raws).taken test) ∙ simp append_assoc;
-          ended = simp (r.ended, s);
-          rest = simp (r.rest, s);
-          unequal = simp (r.unequal, s);
-          ran_out = simp (r.ran_out, s);
-          raw_rest = simp (r.raw_rest, s);
-          adds = adds_faults _ _
-              _ old now new counted reported' names' count;
+          yields = yields_both [] [] old now new _ _ _ r'.yields
+              (yields_fault now new _ _ count (at_place WantsY place) refl reported' names');
+          unequal = r'.unequal;
+          ran_out = r'.ran_out;
+          ended = r'.ended;
+          rest = r'.rest;
+          things = r'.things;
         }
 
     pub replaces_line : (after : Replaced) (raws' : List Thing) (new : SoFar) → change_code bytes ≡ None →
-        Compares bytes so_far after raws raws' now new → Replaces change things after rest raws' old new
-    replaces_line after raws' new test by =
-        let s = side _ test in
-        let away = ap (λ (o : OldSide). compared o.lines raws) s
-        ∙ ap (λ (l : Line). compared (l.bytes ∷ (old_lines rest).lines) raws) t.is in
-        record {
-          reported = r.reported;
-          taken = (r.taken ++ t.line ∷ []) ++ by.taken;
-          faults_are = simp (r.faults_are, s);
-          taken_are = r.taken_are ∙ ap (λ (ls : List SourceLine). r.taken ++ ls) (left_are test
-              ∙ ap (λ (ls : List SourceLine). t.line ∷ ls) (by.taken_are (old_lines rest).lines
-              (λ ls. in_turn (old_lines rest).taken ls))) ∙ simp append_assoc;
-          ended = simp (r.ended, s);
-          rest = simp (r.rest, s);
-          unequal = r.unequal ∙ ap (λ (c : Compared). so_far.unequal + c.unequal) away
-              ∙ by.unequal _;
-          ran_out = r.ran_out ∙ ap (λ (c : Compared). so_far.ran_out || c.ran_out) away
-              ∙ by.ran_out _;
-          raw_rest = simp (r.raw_rest, away, by.rest (old_lines rest).lines);
-          adds = rw append-nil at (adds_both r.reported [] _ _ old now new counted by.adds);
-        }
-
-    abbrev raw_begun : (new : SoFar) → new ≡ now → change_code bytes ≡ None
-        → HasBegunStep old new (lines_replaced change things) (old_lines change).faults
-    raw_begun new same test = record {
-      prefix = r.taken ++ t.line ∷ [];
-      rest = left;
-      reported = r.reported;
-      more = (old_lines lines).faults;
-      lines_are = simp (r.taken_are, left_are test, append_assoc);
-      faults_are = r.faults_are;
-      adds = rw same counted;
-    }
-
-    raw_stop : (stop : Stop) (new : SoFar) → new ≡ now → change_code bytes ≡ None → TopStops stop now.count raws
-        → StopsIn stop old new (lines_replaced change things) (old_lines change).faults
-    raw_stop stop new same test stops = record {
-      begun = raw_begun new same test;
-      line = stops.raw_line.source;
-      more = _;
-      next = ap (λ (ts : List Thing). dropping None (compared (bytes ∷ (old_lines rest).lines) ts).taken
-          (λ ls. in_turn (old_lines rest).taken ls)) stops.first;
-      why = rw same stops.why;
-    }
+        Compares bytes so_far after raws raws' now new → Replaces all (old_lines rest raws') after old new
+    replaces_line after raws' new test by = by old all (λ ts. old_lines rest ts) (taken None test)
 
     -- The raw line that an old line would drop can't be taken.
     pub raw_ends : (stop : Stop) (new : SoFar) → new ≡ now → change_code bytes ≡ None
-        → StopsFor (TopStops stop now.count raws) stop
-        → EndsStep stop old new (lines_replaced change things) (old_lines change).faults
-    raw_ends (ReadFault file) new same test stops = raw_begun new same test
-    raw_ends (LineTooLong file) new same test stops = raw_stop _ new same test stops
-    raw_ends TooMuchText new same test stops = raw_stop _ new same test stops
-    raw_ends Memory new same test stops = tt
-    raw_ends stop new same test stops = absurd stops
+        → StopsFor (TopStops stop now.count raws) stop → StopsOldSide stop old new all
+    raw_ends stop new same test = side_stops all (dropping bytes raws (λ ts. old_lines rest ts)) so_far old now
+        (taken None test) stop new (TopStops stop now.count raws) same (reads_dropping bytes raws rest) (λ stops. (
+          stops.raw_line.source,
+          (_, ap (λ (ts : List Thing). (dropping bytes ts (λ us. old_lines rest us)).events) stops.first),
+          stops.why,
+        ))
 
-    pub replaces_new : change_code bytes ≡ Some new_side → IsReplaced change things
+    pub replaces_new : change_code bytes ≡ Some new_side → IsReplaced all
         (record { unequal = so_far.unequal; ran_out = so_far.ran_out; ended = false }) rest raws old now
-    replaces_new test = replaces_done now (t.line ∷ []) rest false (side (Some new_side) test) counted
+    replaces_new test =
+        replaces_done all _ so_far old now (taken (Some new_side) test) now false rest raws refl refl

@@ -1,10 +1,10 @@
 -- One change and the lines around it.
-use Rattle.cweb_lines.proofs.Common.{◌≡◌, ◌≢◌, ◌&&◌, ℕ, true, false, List, [], ◌∷◌, ◌++◌, map, None, Some, refl, sym, ◌∙◌, ap, append_assoc, bytes_eq-Decides, list_any, bytes_eq, SourceLine, World, is_include_line, WaitingEntry, OldSide, change_code, is_change_code, followed_by, only_lines, outcome_of_events, Compared, Event, NewSide, Next, RawLine, Thing, after_old, at_entry, in_turn, change_events, compared, passed, raw, raws, seek, taking, took, merge, merge_next}
+use Rattle.cweb_lines.proofs.Common.{◌≡◌, ◌≢◌, ◌&&◌, ℕ, true, false, List, [], ◌∷◌, ◌++◌, map, None, Some, refl, sym, ◌∙◌, ap, subst, append-nil, append_assoc, bytes_eq-Decides, list_any, bytes_eq, SourceLine, World, is_include_line, WaitingEntry, OldSide, change_code, is_change_code, followed_by, only_lines, outcome_of_events, Event, NewSide, Next, RawLine, Thing, after_old, at_entry, change_events, old_lines, passed, raw, raws, seek, taking, took, merge, merge_next}
 use Rattle.cweb_lines.specs.declared.change.code.Code.TheVariants.{EndSide as end_side, NewSide as new_side, OldSide as old_side}
 use Rattle.cweb_input.proofs.SourceStacks.{raws-append}
 use Rattle.cweb_lines.proofs.Merges.{state}
-use Rattle.cweb_lines.proofs.OutcomeOfEvents.{seek_unseen}
-use Rattle.cweb_lines.proofs.Entries.{bytes_in, compares, entry_of, finds, yields_out, lines_of, new_splits, old_splits, passes_by}
+use Rattle.cweb_lines.proofs.OutcomeOfEvents.{seek_unseen, took_unseen}
+use Rattle.cweb_lines.proofs.Entries.{Splits, bytes_in, entry_of, finds, yields_out, lines_of, new_splits, old_splits, passes_by}
 
 -- The lines of one change. In the change file: a comment, @x, the first old line, further ones, @y, the new lines and
 -- @z. In the web: lines that stay, the first old line and further ones.
@@ -43,11 +43,6 @@ pub record IsPlain (e : Edit) : Type 0 where
   pub stays_plain : list_any is_include_line (bytes_in e.stays) ≡ false
   pub others : list_any (λ line. bytes_eq line e.first.line.bytes) (bytes_in e.stays) ≡ false
 
-lines_unseen : (lines : List SourceLine) (events : List Event) → outcome_of_events
-    (map took lines ++ [] ++ [] ++ [] ++ [] ++ events) ≡ outcome_of_events events
-lines_unseen [] events = refl
-lines_unseen (line ∷ lines) events = lines_unseen lines events
-
 -- A change whose old lines equal those of the web.
 module _ (world : World) (files : ℕ) (e : Edit) (plain_edit : IsPlain e) (change after : List SourceLine) where
   abbrev entry : WaitingEntry
@@ -65,27 +60,24 @@ module _ (world : World) (files : ℕ) (e : Edit) (plain_edit : IsPlain e) (chan
   abbrev replaced_on : List SourceLine
   replaced_on = e.line ∷ (e.old ++ after)
 
-  abbrev next_by : OldSide → Compared → Next
-  next_by side by = (change_events entry side by, after_old side.ended files 1 entry side by.rest)
+  abbrev next_by : OldSide → Next
+  next_by side = (change_events entry.begin side, after_old side.ended files 1 entry.begin side)
+
+  splits : Splits (old_lines old_on (raws 1 true (e.old ++ after))) new_on rest
+  splits = subst (λ (ts : List Thing). Splits (old_lines old_on ts) new_on rest) (sym (raws-append 1 true e.old after))
+      (old_splits e.further e.y new_on 1 true e.old rest plain_edit.no_old plain_edit.turns plain_edit.same_old)
 
   abbrev side_is : OldSide
   side_is = record {
-    faults = [];
-    lines = bytes_in e.further;
-    taken = e.further ++ (e.y ∷ []);
+    events = map took splits.taken;
+    unequal = 0;
+    ran_out = false;
     ended = false;
     rest = new_on;
+    things = rest;
   }
 
-  abbrev by_is : Compared
-  by_is = record { unequal = 0; taken = e.old; ran_out = false; rest = rest }
-
-  compares_so : compared (bytes_in e.further) (raws 1 true (e.old ++ after)) ≡ by_is
-  compares_so = ap (compared (bytes_in e.further)) (raws-append 1 true e.old after)
-      ∙ ap (λ (olds : List (List ℕ)). compared olds (raws 1 true e.old ++ rest)) (sym plain_edit.same_old)
-      ∙ compares 1 true e.old rest
-
-  new_come : outcome_of_events (merge world (after_old false files 1 entry side_is rest))
+  new_come : outcome_of_events (merge world (after_old false files 1 entry.begin side_is))
       ≡ followed_by (only_lines (lines_of e.new))
       (outcome_of_events (merge world (state (seek ∷ rest) None change files)))
   new_come = ap (λ (side : NewSide). outcome_of_events
@@ -106,12 +98,12 @@ module _ (world : World) (files : ℕ) (e : Edit) (plain_edit : IsPlain e) (chan
       let things = raws 1 true (e.old ++ after) in
       let s = state (raw r ∷ things) (Some entry) old_on files in
       let equal = (bytes_eq-Decides e.line.line.bytes e.first.line.bytes).1 plain_edit.same_first in
-      ap outcome_of_events (merge_next world s (taking e.line (next_by side_is by_is))
+      ap outcome_of_events (merge_next world s (taking e.line (next_by side_is))
       (ap (λ b. Some (taking e.line (at_entry (true && b) entry world s r things))) equal
-      ∙ ap (λ side. Some (taking e.line (next_by side (compared side.lines things)))) (old_splits e.further e.y
-      new_on plain_edit.no_old plain_edit.turns) ∙ ap (λ by. Some (taking e.line (next_by side_is by))) compares_so))
-      ∙ lines_unseen (in_turn (e.further ++ (e.y ∷ [])) e.old)
-      (merge world (after_old false files 1 entry side_is rest))
+      ∙ ap (λ (side : OldSide). Some (taking e.line (next_by side))) splits.is))
+      ∙ ap (λ (es : List Event). outcome_of_events (es ++ merge world (after_old false files 1 entry.begin side_is)))
+      (append-nil (map took splits.taken))
+      ∙ took_unseen splits.taken (merge world (after_old false files 1 entry.begin side_is))
       ∙ new_come
 
   -- One change: the lines that stay, the new lines, and then the rest.

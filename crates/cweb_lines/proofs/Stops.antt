@@ -1,97 +1,78 @@
 -- The events before a stop.
-use Rattle.cweb_lines.proofs.Common.{◌≡◌, ◌++◌, ℕ, zero, suc, List, [], ◌∷◌, Option, Some, None, refl, sym, ◌∙◌, ap, subst, map, WaitingEntry, World, SourceLine, MergeStateModel, Thing, seek, raw, reported, passed, Event, took, emitted, fault, opening, at_place, NoMatch, at_raw, sought, onto, SoFar, StopsIn, EndsStep, StopsAfterLines, TakesBeforeEmitting, Stopped, step_events, TopStops, StopsFor, RefusesLine, run_steps, merge, merge-run_steps, halts, so_far_of, counters_of, opened_file_names, OnlyTakes, MergeState, SourceFault, Stop, ReadFault, LineTooLong, TooMuchText, Memory}
-use Rattle.cweb_lines.specs.Merge.{step_at, step_then_run}
-use Rattle.cweb_lines.proofs.AddedEvents.{begun_none}
+use Rattle.cweb_lines.proofs.Common.{◌≡◌, ◌++◌, ℕ, zero, suc, List, [], ◌∷◌, Option, Some, None, refl, sym, ◌∙◌, ap, subst, Bool, Place, WaitingEntry, World, SourceLine, NewSide, Thing, seek, raw, raws, reported, passed, Event, took, fault, at_place, NoMatch, sought, new_at, new_lines, things_over, things_above, things_in, lines_at, matches_at, number_or_zero, source_depth, ◌+◌, SoFar, ReadsNext, IsAtEnd, StopsAfterLines, Stopped, TopStops, StopsFor, RefusesLine, change_code, Code, Stage, Seeking, Changing, Stack, OpenSource, merge, merge_end, merge_next, so_far_of, counters_of, opened_file_names, OnlyTakes, MergeState, Stop, ReadFault, LineTooLong, TooMuchText, Memory}
+use Rattle.cweb_lines.specs.declared.change.code.Code.TheVariants.{OldSide as old_side, NewSide as new_side, EndSide as end_side}
+use Rattle.std.specs.Prelude.{slice_index_or}
 use Rattle.cweb_lines.proofs.Merges.{yields_nothing, merge_takes, state}
 
-onto_first : (e : Event) (es events : List Event) (later : Option (List Event)) → TakesBeforeEmitting (e ∷ [])
-    → onto (e ∷ es) later
-    ≡ Some events → TakesBeforeEmitting events
-onto_first (took line) es events None first is = absurd (cc)
-onto_first (took line) es events (Some more) first is = let all : took line ∷ (es ++ more) ≡ events = cc in
-    subst TakesBeforeEmitting all tt
-onto_first (fault f) es events None first is = absurd (cc)
-onto_first (fault f) es events (Some more) first is = let all : fault f ∷ (es ++ more) ≡ events = cc in
-    subst TakesBeforeEmitting all tt
-onto_first (emitted line) es events later first is = absurd first
-onto_first (opening name) es events None first is = absurd (cc)
-onto_first (opening name) es events (Some more) first is = let all : opening name ∷ (es ++ more) ≡ events = cc in
-    subst TakesBeforeEmitting all tt
+-- The first thing but searches is a line, or is reported at the end of a file.
+abbrev pub ReadsFirst : List Thing → Type 0
+ReadsFirst [] = Unit {0}
+ReadsFirst (seek ∷ things) = ReadsFirst things
+ReadsFirst (raw r ∷ things) = Unit {0}
+ReadsFirst (passed line ∷ things) = Unit {0}
+ReadsFirst (reported f ∷ things) = IsAtEnd f.kind
 
-takes_search : (lines : List SourceLine) (faults : List SourceFault) (events : List Event) (later : Option (List Event))
-    → onto (map took lines ++ map fault faults) later ≡ Some events
-    → ((rest : List Event) → later ≡ Some rest → TakesBeforeEmitting rest) → TakesBeforeEmitting events
-takes_search (line ∷ lines) faults events later is next =
-    onto_first (took line) (map took lines ++ map fault faults) events later tt is
-takes_search [] (f ∷ faults) events later is next =
-    onto_first (fault f) (map fault faults) events later tt is
-takes_search [] [] events None is next = absurd (cc)
-takes_search [] [] events (Some more) is next = next events is
+pub reads_next : (world : World) (things : List Thing) (pending : Option WaitingEntry) (change : List SourceLine)
+    (files : ℕ) → ReadsFirst things → ReadsNext (merge world (state things pending change files))
+reads_next world [] None change files first =
+    subst ReadsNext (sym (merge_end world (state [] None change files) refl)) tt
+reads_next world [] (Some entry) change files first =
+    subst ReadsNext (sym (merge_next world (state [] (Some entry) change files)
+    (fault (at_place NoMatch entry.begin) ∷ [], state [] None change files) refl)) tt
+reads_next world (seek ∷ things) pending [] files first =
+    subst ReadsNext (sym (merge_next world (state (seek ∷ things) pending [] files) ([], state things None [] files)
+    refl)) (reads_next world things None [] files first)
+reads_next world (seek ∷ things) pending (line ∷ lines) files first =
+    let found = sought (line ∷ lines) None in
+    subst ReadsNext (sym (merge_next world (state (seek ∷ things) pending (line ∷ lines) files)
+    (found.events, state things found.entry found.rest files) refl)) tt
+reads_next world (raw r ∷ things) pending change files first =
+    subst ReadsNext (sym (merge_takes world r things pending change files).1) tt
+reads_next world (reported f ∷ things) pending change files first =
+    subst ReadsNext (sym (merge_next world (state (reported f ∷ things) pending change files)
+    (fault f ∷ [], state things pending change files) refl)) first
+reads_next world (passed line ∷ things) pending change files first =
+    subst ReadsNext (sym (merge_next world (state (passed line ∷ things) pending change files)
+    (took line ∷ [], state things pending change files) refl)) tt
 
-takes_run : (n : ℕ) (world : World) (s : MergeStateModel) (events : List Event) → run_steps n world s ≡ Some events
-    → TakesBeforeEmitting events
-takes_run zero world s events is = absurd (cc)
-takes_run (suc n) world s events is = by s.things s.pending is (λ s' rest more. takes_run n world s' rest more)
-  where
-    by : (things : List Thing) (pending : Option WaitingEntry)
-        → step_then_run (step_at things world (state things pending s.change s.files)) (λ s'. run_steps n world s')
-        ≡ Some events
-        → ((s' : MergeStateModel) (rest : List Event) → run_steps n world s' ≡ Some rest → TakesBeforeEmitting rest)
-        → TakesBeforeEmitting events
-    by [] None is later = let none : [] ≡ events = cc in subst TakesBeforeEmitting none tt
-    by [] (Some entry) is later = onto_first (fault (at_place NoMatch entry.begin)) [] events
-        (run_steps n world (state [] None s.change s.files)) tt is
-    by (seek ∷ things) pending is later = takes_search (sought s.change None).taken (sought s.change None).faults
-        events _ is (λ rest more. later (state things (sought s.change None).entry (sought s.change None).rest s.files)
-        rest more)
-    by (raw r ∷ things) pending is later =
-        let next = at_raw pending world (state (raw r ∷ things) pending s.change s.files) r things in
-        onto_first (took r.source) next.0 events (run_steps n world next.1) tt is
-    by (reported f ∷ things) pending is later =
-        onto_first (fault f) [] events (run_steps n world (state things pending s.change s.files)) tt is
-    by (passed line ∷ things) pending is later =
-        onto_first (took line) [] events (run_steps n world (state things pending s.change s.files)) tt is
+raws_first : (depth : ℕ) (may_match : Bool) (lines : List SourceLine) (rest : List Thing) → ReadsFirst rest
+    → ReadsFirst (raws depth may_match lines ++ rest)
+raws_first depth may_match [] rest first = first
+raws_first depth may_match (line ∷ lines) rest first = tt
 
--- A merge never begins with an emitted line, since the line is taken first.
-pub takes_next : (world : World) (s : MergeStateModel) → TakesBeforeEmitting (merge world s)
-takes_next world s =
-    let h = halts world s in
-    subst TakesBeforeEmitting (sym (merge-run_steps h.steps world s h.events h.comes))
-    (takes_run h.steps world s h.events h.comes)
+over_first : {R : Type 0} (left : R → List ℕ) (low n : ℕ) (texts : List (Option (OpenSource R))) (rest : List Thing)
+    → ReadsFirst rest → ReadsFirst (things_over left low n texts rest)
+over_first left low zero texts rest first = first
+over_first left low (suc n) texts rest first =
+    let slot = slice_index_or texts (low + n) None in
+    raws_first (number_or_zero source_depth slot) (matches_at slot) (lines_at left slot)
+    (things_over left low n texts rest) (over_first left low n texts rest first)
 
-pub stops_first : (stop : Stop) (lines : List SourceLine) (faults : List SourceFault) (old new : SoFar)
-    (all later : List Event) → all ≡ step_events lines faults later → StopsIn stop old new lines faults
-    → StopsAfterLines [] stop old new all
-stops_first stop lines faults old new all later whole stops = record {
-  mid = old;
-  lines = lines;
-  faults = faults;
-  later = later;
-  yields = yields_nothing old old all _ refl whole refl refl;
-  stops = stops;
-}
+pub above_first : {R : Type 0} (left : R → List ℕ) (low : ℕ) (stack : Stack R) (rest : List Thing) → ReadsFirst rest
+    → ReadsFirst (things_above left low stack rest)
+above_first left low stack rest first = over_first left low _ stack.texts rest first
 
-pub stopped_in : (stop : Stop) (lines : List SourceLine) (faults : List SourceFault) (old new : SoFar)
-    (all later : List Event) → all ≡ step_events lines faults later → TakesBeforeEmitting later
-    → EndsStep stop old new lines faults → Stopped stop old new all
-stopped_in (ReadFault file) lines faults old new all later whole next begun = record {
-  mid = old;
-  lines = lines;
-  faults = faults;
-  later = later;
-  yields = yields_nothing old old all _ refl whole refl refl;
-  begun = begun;
-  next = next;
-}
-stopped_in (LineTooLong file) lines faults old new all later whole next stops =
-    stops_first _ lines faults old new all later whole stops
-stopped_in TooMuchText lines faults old new all later whole next stops =
-    stops_first _ lines faults old new all later whole stops
-stopped_in Memory lines faults old new all later whole next stops = tt
-stopped_in stop lines faults old new all later whole next stops = absurd stops
+new_at_first : (code : Option Code) (depth : ℕ) (line : SourceLine) (lines : List SourceLine) (side : NewSide)
+    (rest : List Thing) → ReadsFirst ((new_at code depth line lines side).things ++ rest)
+new_at_first None depth line lines side rest = tt
+new_at_first (Some old_side) depth line lines side rest = tt
+new_at_first (Some new_side) depth line lines side rest = tt
+new_at_first (Some end_side) depth line lines side rest = tt
 
-pub stopped_first : (stop : Stop) (Why : Type 0) (old new : SoFar) (all : List Event) → new ≡ old
-    → TakesBeforeEmitting all
+pub new_first : (depth : ℕ) (begin : Place) (lines : List SourceLine) (rest : List Thing)
+    → ReadsFirst ((new_lines depth begin lines).things ++ rest)
+new_first depth begin [] rest = tt
+new_first depth begin (line ∷ lines) rest =
+    new_at_first (change_code line.line.bytes) depth line lines (new_lines depth begin lines) rest
+
+pub things_first : {R : Type 0} (left : R → List ℕ) (stage : Stage) (lines : List SourceLine) (stack : Stack R)
+    → ReadsFirst (things_in left stage lines stack)
+things_first left (Changing change) lines stack =
+    above_first left change.below stack _ (new_first change.depth change.begin lines _)
+things_first left Seeking lines stack = above_first left 0 stack [] tt
+things_first left _ lines stack = above_first left 0 stack [] tt
+
+pub stopped_first : (stop : Stop) (Why : Type 0) (old new : SoFar) (all : List Event) → new ≡ old → ReadsNext all
     → (Why → (line : SourceLine) × ((later : List Event) × (all ≡ took line ∷ later))
     × RefusesLine stop old.count line) →
     StopsFor Why stop → Stopped stop old new all
@@ -99,30 +80,30 @@ stopped_first stop Why old new all same next first = by stop first
   where
     one : (stop : Stop) → (line : SourceLine) × ((later : List Event) × (all ≡ took line ∷ later)) × RefusesLine stop
         old.count line → StopsAfterLines [] stop old new all
-    one stop first = stops_first stop (first.0 ∷ []) [] old new all first.1.0 first.1.1 (record {
-      begun = begun_none old new (first.0 ∷ []) [] same;
+    one stop first = record {
       line = first.0;
-      more = [];
-      next = refl;
+      later = first.1.0;
+      yields = rw same (yields_nothing old old all _ refl first.1.1 refl refl);
       why = rw same first.2;
-    })
+    }
 
     by : (stop : Stop)
         → (Why → (line : SourceLine) × ((later : List Event) × (all ≡ took line ∷ later))
         × RefusesLine stop old.count line)
         → StopsFor Why stop → Stopped stop old new all
-    by (ReadFault file) first why = stopped_in (ReadFault file) [] [] old new all all refl next
-        (begun_none old new [] [] same)
+    by (ReadFault file) first why =
+        record { later = all; yields = rw same (yields_nothing old old all all refl refl refl refl); next = next }
     by (LineTooLong file) first why = one (LineTooLong file) (first why)
     by TooMuchText first why = one TooMuchText (first why)
     by Memory first why = tt
     by stop first why = absurd why
 
 pub stopped_by : (stop : Stop) (old new : SoFar) (world : World) (things : List Thing) (pending : Option WaitingEntry)
-    (change : List SourceLine) (files : ℕ) → new ≡ old → StopsFor (TopStops stop old.count things) stop
+    (change : List SourceLine) (files : ℕ) → new ≡ old → ReadsFirst things
+    → StopsFor (TopStops stop old.count things) stop
     → Stopped stop old new (merge world (state things pending change files))
-stopped_by stop old new world things pending change files same stops = stopped_first _ _ old new _ same
-    (takes_next world (state things pending change files)) (λ top.
+stopped_by stop old new world things pending change files same first stops = stopped_first _ _ old new _ same
+    (reads_next world things pending change files first) (λ top.
     let taken = merge_takes _ _ _ _ _ _ in (
       top.raw_line.source,
       (taken.0, ap (λ (ts : List Thing). merge world (state ts pending change files)) top.first ∙ taken.1),

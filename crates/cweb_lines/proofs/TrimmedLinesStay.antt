@@ -1,7 +1,7 @@
 -- Each step leaves lines trimmed and emits no include line.
-use Rattle.cweb_lines.proofs.Common.{◌≡◌, ◌≢◌, ◌+◌, ◌==◌, ◌&&◌, ℕ, Bool, true, false, cond, List, [], ◌∷◌, ◌++◌, map, None, Some, Option, refl, sym, ap, subst, arith, AllByRecursion, if◌then◌else◌, bytes_eq, nat_tests, Place, HasNoNewline, Line, SourceLine, CutLine, before_blanks, is_blank, lines, lines_in, numbered_lines, onto_first, cut_lines, trimmed, Found, World, found_at, include_name, is_include_line, WaitingEntry, OldSide, Sought, after_x, change_code, old_at, old_lines, outside, sought, Compared, Event, NewSide, Next, RawLine, MergeStateModel, Thing, after_old, at_entry, at_raw, change_events, compared, fault, fault_event_if, included, new_at, new_lines, obeyed, open_include, passed, plain, raw, raws, seek, reported, emitted_lines, Code, SourceFault}
+use Rattle.cweb_lines.proofs.Common.{◌≡◌, ◌≢◌, ◌+◌, ◌==◌, ◌&&◌, ℕ, Bool, true, false, cond, List, [], ◌∷◌, ◌++◌, None, Some, Option, refl, sym, ap, subst, arith, AllByRecursion, if◌then◌else◌, bytes_eq, nat_tests, Place, HasNoNewline, Line, SourceLine, CutLine, before_blanks, is_blank, lines, lines_in, numbered_lines, onto_first, cut_lines, trimmed, Found, World, found_at, include_name, is_include_line, WaitingEntry, OldSide, Sought, after_x, change_code, old_at, old_lines, outside, dropping, sought, Event, NewSide, Next, RawLine, MergeStateModel, Thing, after_old, at_entry, at_raw, change_events, included, new_at, new_lines, obeyed, open_include, passed, plain, raw, raws, seek, reported, emitted_lines, Code}
 use Rattle.cweb_lines.specs.declared.change.code.Code.TheVariants.{EndSide as end_side, NewSide as new_side, OldSide as old_side}
-use Rattle.cweb_lines.proofs.AddedEvents.{emitted-took, emitted_none}
+use Rattle.cweb_lines.proofs.AddedEvents.{emitted-faults}
 use Rattle.cweb_lines.proofs.EmittedLinesAddUp.{emitted-append}
 use Rattle.cweb_input.proofs.TrimmedLines.{trimmed-clean}
 
@@ -69,42 +69,61 @@ pub raws-cut : (depth : ℕ) (may_match : Bool) (lines : List SourceLine) → Al
 raws-cut depth may_match [] all = tt
 raws-cut depth may_match (line ∷ lines) all = (all.0, raws-cut depth may_match lines all.1)
 
--- What a search, an old side, a new side and a comparison leave.
+abbrev pub IsSilent : List Event → Type 0
+IsSilent events = emitted_lines events ≡ []
+
+-- A search emits nothing. What is left is cut.
+abbrev pub IsCutSearch : Sought → Type 0
+IsCutSearch found = IsSilent found.events × AllByRecursion IsCutLine found.rest
+
 outside-cut : (code : Option Code) (place : Place) (later : Option Place → Sought)
-    → ((p : Option Place) → AllByRecursion IsCutLine (later p).rest) → AllByRecursion IsCutLine
-    (outside code place later).rest
+    → ((p : Option Place) → IsCutSearch (later p)) → IsCutSearch (outside code place later)
 outside-cut (Some old_side) place later all = all (Some place)
 outside-cut _ place later all = all None
 
 after-cut : (bytes : List ℕ) (code : Option Code) (begin : Place) (line : SourceLine) (lines : List SourceLine)
     (later : Option Place → Sought) → AllByRecursion IsCutLine lines
-    → ((p : Option Place) → AllByRecursion IsCutLine (later p).rest) → AllByRecursion IsCutLine
-    (after_x bytes code begin line lines later).rest
+    → ((p : Option Place) → IsCutSearch (later p)) → IsCutSearch (after_x bytes code begin line lines later)
 after-cut [] code begin line lines later cut all = all (Some begin)
-after-cut (b ∷ bs) None begin line lines later cut all = cut
+after-cut (b ∷ bs) None begin line lines later cut all = (refl, cut)
 after-cut (b ∷ bs) (Some code) begin line lines later cut all = outside-cut (Some code) line.line.place later all
 
 pub sought-cut : (lines : List SourceLine) (begin : Option Place) → AllByRecursion IsCutLine lines
-    → AllByRecursion IsCutLine (sought lines begin).rest
-sought-cut [] None cut = tt
-sought-cut [] (Some begin) cut = tt
+    → IsCutSearch (sought lines begin)
+sought-cut [] None cut = (refl, tt)
+sought-cut [] (Some begin) cut = (refl, tt)
 sought-cut (line ∷ lines) None cut = outside-cut (change_code line.line.bytes) line.line.place
     (λ begin. sought lines begin) (λ p. sought-cut lines p cut.1)
 sought-cut (line ∷ lines) (Some begin) cut = after-cut line.line.bytes
     (change_code line.line.bytes) begin line lines (λ next. sought lines next) cut.1 (λ p. sought-cut lines p cut.1)
 
-old_at-cut : (code : Option Code) (line : SourceLine) (lines : List SourceLine) (later : OldSide)
-    → AllByRecursion IsCutLine lines → AllByRecursion IsCutLine later.rest
-    → AllByRecursion IsCutLine (old_at code line lines later).rest
-old_at-cut (Some new_side) line lines later cut all = cut
-old_at-cut _ line lines later cut all = all
+-- An old side emits nothing. What is left is cut.
+abbrev IsCutOld : OldSide → Type 0
+IsCutOld side = IsSilent side.events × (AllByRecursion IsCutLine side.rest × AllByRecursion IsCutThing side.things)
 
-old_lines-cut : (lines : List SourceLine) → AllByRecursion IsCutLine lines
-    → AllByRecursion IsCutLine (old_lines lines).rest
-old_lines-cut [] cut = tt
-old_lines-cut (line ∷ lines) cut = old_at-cut (change_code line.line.bytes) line lines (old_lines lines) cut.1
-    (old_lines-cut lines cut.1)
+abbrev LeavesCut : (List Thing → OldSide) → Type 0
+LeavesCut later = (things : List Thing) → AllByRecursion IsCutThing things → IsCutOld (later things)
 
+dropping-cut : (old : List ℕ) (things : List Thing) (later : List Thing → OldSide) → AllByRecursion IsCutThing things
+    → LeavesCut later → IsCutOld (dropping old things later)
+dropping-cut old [] later cut all = all [] tt
+dropping-cut old (raw r ∷ things) later cut all = all things cut.1
+dropping-cut old (_ ∷ things) later cut all = dropping-cut old things later cut.1 all
+
+old_at-cut : (code : Option Code) (line : Line) (lines : List SourceLine) (things : List Thing)
+    (later : List Thing → OldSide) → AllByRecursion IsCutLine lines → AllByRecursion IsCutThing things
+    → LeavesCut later → IsCutOld (old_at code line lines things later)
+old_at-cut None line lines things later cut cut' all = dropping-cut line.bytes things later cut' all
+old_at-cut (Some new_side) line lines things later cut cut' all = (refl, (cut, cut'))
+old_at-cut (Some code) line lines things later cut cut' all = all things cut'
+
+old_lines-cut : (lines : List SourceLine) (things : List Thing) → AllByRecursion IsCutLine lines
+    → AllByRecursion IsCutThing things → IsCutOld (old_lines lines things)
+old_lines-cut [] things cut cut' = (refl, (tt, cut'))
+old_lines-cut (line ∷ lines) things cut cut' = old_at-cut (change_code line.line.bytes) line.line lines things
+    (λ rest. old_lines lines rest) cut.1 cut' (λ rest all. old_lines-cut lines rest cut.1 all)
+
+-- What a new side leaves.
 abbrev IsCutSide : NewSide → Type 0
 IsCutSide side = AllByRecursion IsCutThing side.things × AllByRecursion IsCutLine side.rest
 
@@ -120,25 +139,8 @@ new_lines-cut depth begin [] cut = ((tt, tt), tt)
 new_lines-cut depth begin (line ∷ lines) cut = new_at-cut (change_code line.line.bytes) depth line lines
     (new_lines depth begin lines) cut.0 cut.1 (new_lines-cut depth begin lines cut.1)
 
-compared-cut : (olds : List (List ℕ)) (things : List Thing) → AllByRecursion IsCutThing things
-    → AllByRecursion IsCutThing (compared olds things).rest
-compared-cut [] things cut = cut
-compared-cut (old ∷ olds) [] cut = tt
-compared-cut (old ∷ olds) (raw r ∷ things) cut = compared-cut olds things cut.1
-compared-cut (old ∷ olds) (_ ∷ things) cut = compared-cut (old ∷ olds) things cut.1
-
-abbrev pub IsSilent : List Event → Type 0
-IsSilent events = emitted_lines events ≡ []
-
-pub faults-silent : (faults : List SourceFault) → IsSilent (map fault faults)
-faults-silent faults = emitted_none [] faults
-
-fault_if-silent : (b : Bool) (f : SourceFault) → IsSilent (fault_event_if b f)
-fault_if-silent true f = refl
-fault_if-silent false f = refl
-
-change-silent : (entry : WaitingEntry) (old : OldSide) (by : Compared) → IsSilent (change_events entry old by)
-change-silent entry old by = simp (emitted-append, emitted-took, faults-silent, fault_if-silent)
+change-silent : (begin : Place) (old : OldSide) → IsSilent old.events → IsSilent (change_events begin old)
+change-silent begin old silent = simp (emitted-append, silent, emitted-faults)
 
 abbrev pub IsCutState : MergeStateModel → Type 0
 IsCutState s = AllByRecursion IsCutThing s.things × AllByRecursion IsCutLine s.change
@@ -149,13 +151,13 @@ Keeps next = AllByRecursion IsPrinted (emitted_lines next.0) × IsCutState next.
 pub silent_keeps : (events : List Event) (s : MergeStateModel) → IsSilent events → IsCutState s → Keeps (events, s)
 silent_keeps events s silent cut = (subst (AllByRecursion IsPrinted) (sym silent) tt, cut)
 
-after_old-cut : (ended : Bool) (files depth : ℕ) (entry : WaitingEntry) (old : OldSide) (rest : List Thing)
-    → AllByRecursion IsCutLine old.rest → AllByRecursion IsCutThing rest
-    → IsCutState (after_old ended files depth entry old rest)
-after_old-cut true files depth entry old rest cut_old cut = (cut, tt)
-after_old-cut false files depth entry old rest cut_old cut =
-    let new = new_lines-cut depth entry.begin old.rest cut_old in
-    (all-append IsCutThing (new_lines depth entry.begin old.rest).things (seek ∷ rest) new.0 (tt, cut), new.1)
+after_old-cut : (ended : Bool) (files depth : ℕ) (begin : Place) (old : OldSide)
+    → AllByRecursion IsCutLine old.rest → AllByRecursion IsCutThing old.things
+    → IsCutState (after_old ended files depth begin old)
+after_old-cut true files depth begin old cut_old cut = (cut, tt)
+after_old-cut false files depth begin old cut_old cut =
+    let new = new_lines-cut depth begin old.rest cut_old in
+    (all-append IsCutThing (new_lines depth begin old.rest).things (seek ∷ old.things) new.0 (tt, cut), new.1)
 
 -- A raw line before other things.
 module _ (world : World) (r : RawLine) (things : List Thing) (s : MergeStateModel) (first : IsCutLine r.source)
@@ -186,11 +188,11 @@ module _ (world : World) (r : RawLine) (things : List Thing) (s : MergeStateMode
 
   entry_keeps : (b : Bool) (entry : WaitingEntry) → Keeps (at_entry b entry world s r things)
   entry_keeps true entry =
-      let old = old_lines s.change in
-      let by = compared old.lines things in
-      silent_keeps (change_events entry old by) (after_old old.ended s.files r.depth entry old by.rest)
-      (change-silent entry old by) (after_old-cut old.ended s.files r.depth entry old by.rest
-      (old_lines-cut s.change change) (compared-cut old.lines things cut))
+      let old = old_lines s.change things in
+      let all = old_lines-cut s.change things change cut in
+      silent_keeps (change_events entry.begin old) (after_old old.ended s.files r.depth entry.begin old)
+      (change-silent entry.begin old all.0)
+      (after_old-cut old.ended s.files r.depth entry.begin old all.1.0 all.1.1)
   entry_keeps false entry = plain_keeps (is_include_line r.source.line.bytes) refl
 
   pub raw_keeps : (pending : Option WaitingEntry) → Keeps (at_raw pending world s r things)

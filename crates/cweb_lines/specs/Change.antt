@@ -1,7 +1,10 @@
 -- Change files: entries of old and new lines between the code lines @x, @y and @z.
-use Rattle.std.specs.Prelude.{ℕ, Bool, true, false, ◌||◌, ◌==◌, List, [], ◌∷◌, Option, None, Some, if◌then◌else◌}
+use Rattle.std.specs.Prelude.{ℕ, ◌+◌, Bool, true, false, ◌||◌, ◌==◌, List, [], ◌∷◌, Option, None, Some}
+use Rattle.std.specs.Prelude.{if◌then◌else◌}
+use Rattle.std.specs.Str.{bytes_eq}
 use Rattle.cweb_files.specs.declared.place.Place.{Place}
-use Rattle.cweb_input.specs.Lines.{SourceLine}
+use Rattle.cweb_input.specs.Lines.{Line, SourceLine, Thing, raw}
+use Rattle.cweb_lines.specs.Events.{Event, took, fault}
 use Rattle.cweb_lines.specs.declared.change.code.Code.{Code}
 use Rattle.cweb_lines.specs.declared.change.code.Code.TheVariants.{OldSide as old_side, NewSide as new_side}
 use Rattle.cweb_lines.specs.declared.change.code.Code.TheVariants.{EndSide as end_side}
@@ -30,69 +33,78 @@ pub record WaitingEntry : Type 0 where
   pub begin : Place
   pub first : List ℕ
 
--- The search for an entry: its faults, the lines that it takes, the entry, and the lines after it.
+-- The search for an entry: its events, the entry, and the lines after it.
 pub record Sought : Type 0 where
-  pub faults : List SourceFault
-  pub taken : List SourceLine
+  pub events : List Event
   pub entry : Option WaitingEntry
   pub rest : List SourceLine
 
--- Prepends a fault.
-abbrev pub met : SourceFault → Sought → Sought
-met f sought = record sought { faults = f ∷ sought.faults }
-
--- Prepends a line that was taken.
-abbrev pub passing : SourceLine → Sought → Sought
-passing line sought = record sought { taken = line ∷ sought.taken }
+-- Prepends an event.
+abbrev pub sought_after : Event → Sought → Sought
+sought_after event found = record found { events = event ∷ found.events }
 
 -- A line with this code outside an entry. `later` is the rest of the search: a function, so that one case is computed.
 abbrev pub outside : Option Code → Place → (Option Place → Sought) → Sought
 outside None place later = later None
 outside (Some old_side) place later = later (Some place)
-outside (Some code) place later = met (at_place MissingX place) (later None)
+outside (Some code) place later = sought_after (fault (at_place MissingX place)) (later None)
 
 -- A line after @x: empty lines are skipped, a code line restarts the search, and any other line is the first old line.
 abbrev pub after_x : List ℕ → Option Code → Place → SourceLine → List SourceLine → (Option Place → Sought) → Sought
-after_x [] code begin line lines later = passing line (later (Some begin))
+after_x [] code begin line lines later = later (Some begin)
 after_x (b ∷ bs) None begin line lines later =
-    record { faults = []; taken = line ∷ []; entry = Some (record { begin = begin; first = b ∷ bs }); rest = lines }
+    record { events = []; entry = Some (record { begin = begin; first = b ∷ bs }); rest = lines }
 after_x (b ∷ bs) (Some code) begin line lines later =
-    met (at_place NoOldLines begin) (passing line (outside (Some code) line.line.place later))
+    sought_after (fault (at_place NoOldLines begin)) (outside (Some code) line.line.place later)
 
 -- The search for the next entry. `Some begin` is the place of an @x that has no old line yet.
 abbrev pub sought : List SourceLine → Option Place → Sought
-sought [] None = record { faults = []; taken = []; entry = None; rest = [] }
-sought [] (Some begin) = record { faults = at_place NoOldLines begin ∷ []; taken = []; entry = None; rest = [] }
-sought (line ∷ lines) None =
-    passing line (outside (change_code line.line.bytes) line.line.place (λ begin. sought lines begin))
-sought (line ∷ lines) (Some begin) =
-    after_x line.line.bytes (change_code line.line.bytes) begin line lines (λ next. sought lines next)
+sought [] None = record { events = []; entry = None; rest = [] }
+sought [] (Some begin) = record { events = fault (at_place NoOldLines begin) ∷ []; entry = None; rest = [] }
+sought (line ∷ lines) None = sought_after (took line)
+    (outside (change_code line.line.bytes) line.line.place (λ begin. sought lines begin))
+sought (line ∷ lines) (Some begin) = sought_after (took line)
+    (after_x line.line.bytes (change_code line.line.bytes) begin line lines (λ next. sought lines next))
 
--- The further old lines of an entry, up to its @y.
+-- The further old lines of an entry, up to its @y, and the raw lines that they drop.
 pub record OldSide : Type 0 where
-  pub faults : List SourceFault
-  pub lines : List (List ℕ)
-  pub taken : List SourceLine
+  pub events : List Event
+  -- the number of old lines that differ from their raw lines
+  pub unequal : ℕ
+  -- the raw lines ended before the old lines
+  pub ran_out : Bool
   -- the change file ended before @y
   pub ended : Bool
   pub rest : List SourceLine
+  pub things : List Thing
 
--- Prepends an old line.
-abbrev pub old_line : SourceLine → OldSide → OldSide
-old_line line side = record side { lines = line.line.bytes ∷ side.lines; taken = line ∷ side.taken }
+-- Prepends an event.
+abbrev pub old_after : Event → OldSide → OldSide
+old_after event side = record side { events = event ∷ side.events }
 
--- @x or @z among the old lines is a fault and skipped.
-abbrev pub old_code : SourceLine → OldSide → OldSide
-old_code line side = record side { faults = at_place WantsY line.line.place ∷ side.faults; taken = line ∷ side.taken }
+-- A raw line was dropped, which equals its old line or not.
+abbrev pub one_more : Bool → SourceLine → OldSide → OldSide
+one_more equal line side = record side {
+  events = took line ∷ side.events;
+  unequal = if equal then side.unequal else side.unequal + 1;
+}
 
--- A line of the old side by its code: @y ends the side.
-abbrev pub old_at : Option Code → SourceLine → List SourceLine → OldSide → OldSide
-old_at None line lines later = old_line line later
-old_at (Some new_side) line lines later =
-    record { faults = []; lines = []; taken = line ∷ []; ended = false; rest = lines }
-old_at (Some code) line lines later = old_code line later
+-- An old line drops the next raw line, whether they are equal or not. Other things are skipped.
+abbrev pub dropping : List ℕ → List Thing → (List Thing → OldSide) → OldSide
+dropping old [] later = record (later []) { ran_out = true }
+dropping old (raw r ∷ things) later = one_more (bytes_eq r.source.line.bytes old) r.source (later things)
+dropping old (thing ∷ things) later = dropping old things later
 
--- The old side at the start of these lines.
-abbrev pub old_lines : List SourceLine → OldSide
-old_lines [] = record { faults = []; lines = []; taken = []; ended = true; rest = [] }
-old_lines (line ∷ lines) = old_at (change_code line.line.bytes) line lines (old_lines lines)
+-- A line of the old side by its code: @y ends the side, and another code is a fault and skipped.
+abbrev pub old_at : Option Code → Line → List SourceLine → List Thing → (List Thing → OldSide) → OldSide
+old_at None line lines things later = dropping line.bytes things later
+old_at (Some new_side) line lines things later =
+    record { events = []; unequal = 0; ran_out = false; ended = false; rest = lines; things = things }
+old_at (Some code) line lines things later = old_after (fault (at_place WantsY line.place)) (later things)
+
+-- The old side at the start of these lines and things.
+abbrev pub old_lines : List SourceLine → List Thing → OldSide
+old_lines [] things =
+    record { events = []; unequal = 0; ran_out = false; ended = true; rest = []; things = things }
+old_lines (line ∷ lines) things = old_after (took line)
+    (old_at (change_code line.line.bytes) line.line lines things (λ rest. old_lines lines rest))

@@ -3,9 +3,15 @@ use Rattle.std.specs.Prelude.{◌≡◌, ℕ, ◌+◌, ◌≤◌, List, [], ◌�
 use Rattle.cweb_input.specs.OpenSources.{TakenCountersModel, RefusesLine}
 use Rattle.cweb_input.specs.declared.stop.Stop.{Stop}
 use Rattle.cweb_input.specs.Lines.{Line, SourceLine}
-use Rattle.cweb_lines.specs.Merge.{Event, took, emitted, fault, opening}
 use Rattle.cweb_input.specs.declared.fault.SourceFault.{SourceFault}
 use Rattle.cweb_input.specs.declared.limits.TheConstants.{LINES, BYTES, LINE_LENGTH}
+
+-- An event: a line is taken from its file, a merged line is emitted, a fault is reported, or a file is opened.
+pub data Event : Type 0 where
+  took : SourceLine → Event
+  emitted : Line → Event
+  fault : SourceFault → Event
+  opening : List ℕ → Event
 
 -- The lines that are emitted.
 abbrev pub emitted_lines : List Event → List Line

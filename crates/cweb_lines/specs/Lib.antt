@@ -1,6 +1,6 @@
+pub mod Events
 pub mod Change
 pub mod Merge
-pub mod Events
 pub mod surface
 pub mod laws
 pub mod inner

@@ -3,22 +3,16 @@ use Rattle.std.specs.Prelude.{◌≡◌, ℕ, zero, suc, ◌+◌, Bool, true, fa
 use Rattle.std.specs.Prelude.{None, Some, if◌then◌else◌}
 use Rattle.std.specs.Str.{bytes_eq}
 use Rattle.cweb_files.specs.declared.place.Place.{Place}
-use Rattle.cweb_input.specs.Lines.{Line, SourceLine, lines_in, RawLine, Thing, seek, raw, reported, passed, raws}
+use Rattle.cweb_input.specs.Lines.{SourceLine, lines_in, RawLine, Thing, seek, raw, reported, passed, raws}
 use Rattle.cweb_input.specs.Include.{World, Found, is_include_line, include_name, found_at}
 use Rattle.cweb_lines.specs.Change.{change_code, at_place, WaitingEntry, sought, OldSide, old_lines}
+use Rattle.cweb_lines.specs.Events.{Event, took, emitted, fault, opening}
 use Rattle.cweb_input.specs.declared.limits.TheConstants.{OPEN_FILES}
 use Rattle.cweb_lines.specs.declared.change.code.Code.{Code}
 use Rattle.cweb_lines.specs.declared.change.code.Code.TheVariants.{EndSide as end_side}
 use Rattle.cweb_input.specs.declared.fault.SourceKind.TheVariants.{NoName, TooDeep, NotThere, EndedBeforeY, WebEnded}
 use Rattle.cweb_input.specs.declared.fault.SourceKind.TheVariants.{Unequal, WantsZ, EndedBeforeZ, NoMatch}
 use Rattle.cweb_input.specs.declared.fault.SourceFault.{SourceFault}
-
--- An event: a line is taken from its file, a merged line is emitted, a fault is reported, or a file is opened.
-pub data Event : Type 0 where
-  took : SourceLine → Event
-  emitted : Line → Event
-  fault : SourceFault → Event
-  opening : List ℕ → Event
 
 -- The state of a merge.
 pub record MergeStateModel : Type 0 where
@@ -52,64 +46,36 @@ new_lines depth begin [] = record { things = reported (at_place EndedBeforeZ beg
 new_lines depth begin (line ∷ lines) =
     new_at (change_code line.line.bytes) depth line lines (new_lines depth begin lines)
 
--- The raw lines that a change drops, compared with its further old lines.
-pub record Compared : Type 0 where
-  pub unequal : ℕ
-  pub taken : List SourceLine
-  -- the raw lines ended first
-  pub ran_out : Bool
-  pub rest : List Thing
-
--- Prepends a raw line, which equals its old line or not.
-abbrev pub one_more : Bool → SourceLine → Compared → Compared
-one_more equal line by = record by { unequal = if equal then by.unequal else by.unequal + 1; taken = line ∷ by.taken }
-
--- Each further old line drops the next raw line, whether they are equal or not.
-abbrev pub compared : List (List ℕ) → List Thing → Compared
-compared [] things = record { unequal = 0; taken = []; ran_out = false; rest = things }
-compared (old ∷ olds) [] = record { unequal = 0; taken = []; ran_out = true; rest = [] }
-compared (old ∷ olds) (raw r ∷ things) = one_more (bytes_eq r.source.line.bytes old) r.source (compared olds things)
-compared (old ∷ olds) (thing ∷ things) = compared (old ∷ olds) things
-
--- A line of the old side was taken. If it is an old line, it drops the next raw line.
-abbrev pub dropping : Option Code → List SourceLine → (List SourceLine → List SourceLine) → List SourceLine
-dropping None (line ∷ lines) later = line ∷ later lines
-dropping code lines later = later lines
-
--- The lines of an old side and the raw lines that they drop, in the order in which they are taken.
-abbrev pub in_turn : List SourceLine → List SourceLine → List SourceLine
-in_turn [] dropped = dropped
-in_turn (line ∷ lines) dropped = line ∷ dropping (change_code line.line.bytes) dropped (λ rest. in_turn lines rest)
-
 -- The events of a step, and the next state.
 abbrev pub Next : Type 0
 Next = List Event × MergeStateModel
 
 -- A fault, if there is one.
-abbrev pub fault_event_if : Bool → SourceFault → List Event
-fault_event_if b f = if b then fault f ∷ [] else []
+abbrev pub fault_if : Bool → SourceFault → List SourceFault
+fault_if b f = if b then f ∷ [] else []
 
--- The old side of a change: the lines that are taken, then the faults.
-abbrev pub change_events : WaitingEntry → OldSide → Compared → List Event
-change_events entry old by =
-    map took (in_turn old.taken by.taken)
-    ++ map fault old.faults ++ fault_event_if old.ended (at_place EndedBeforeY entry.begin)
-    ++ fault_event_if by.ran_out (at_place WebEnded entry.begin)
-    ++ fault_event_if (nat_lt 0 by.unequal) (record { kind = Unequal; place = entry.begin; count = by.unequal })
+-- The faults of an old side as a whole.
+abbrev pub closing_faults : Place → Bool → Bool → ℕ → List SourceFault
+closing_faults begin ended ran_out unequal =
+    fault_if ended (at_place EndedBeforeY begin) ++ fault_if ran_out (at_place WebEnded begin)
+    ++ fault_if (nat_lt 0 unequal) (record { kind = Unequal; place = begin; count = unequal })
+
+-- The old side of a change: its events, then its faults as a whole.
+abbrev pub change_events : Place → OldSide → List Event
+change_events begin old = old.events ++ map fault (closing_faults begin old.ended old.ran_out old.unequal)
 
 -- After the old side the new lines come first, then the search for the next entry, unless the change file has ended.
-abbrev pub after_old : Bool → ℕ → ℕ → WaitingEntry → OldSide → List Thing → MergeStateModel
-after_old true files depth entry old rest = record { things = rest; pending = None; change = []; files = files }
-after_old false files depth entry old rest =
-    let new = new_lines depth entry.begin old.rest in
-    record { things = new.things ++ seek ∷ rest; pending = None; change = new.rest; files = files }
+abbrev pub after_old : Bool → ℕ → ℕ → Place → OldSide → MergeStateModel
+after_old true files depth begin old = record { things = old.things; pending = None; change = []; files = files }
+after_old false files depth begin old =
+    let new = new_lines depth begin old.rest in
+    record { things = new.things ++ seek ∷ old.things; pending = None; change = new.rest; files = files }
 
 -- A change whose first old line equals this raw line.
 abbrev pub changed : MergeStateModel → WaitingEntry → RawLine → List Thing → Next
 changed s entry r things =
-    let old = old_lines s.change in
-    let by = compared old.lines things in
-    (change_events entry old by, after_old old.ended s.files r.depth entry old by.rest)
+    let old = old_lines s.change things in
+    (change_events entry.begin old, after_old old.ended s.files r.depth entry.begin old)
 
 -- The state with these things to come.
 abbrev pub past : MergeStateModel → List Thing → MergeStateModel
@@ -162,15 +128,7 @@ abbrev pub step_at : List Thing → World → MergeStateModel → Option Next
 step_at [] world s = at_end s.pending s
 step_at (seek ∷ things) world s =
     let found = sought s.change None in
-    Some (
-      map took found.taken ++ map fault found.faults,
-      record s {
-        things = things;
-        pending = found.entry;
-        change =
-            found.rest;
-      },
-    )
+    Some (found.events, record s { things = things; pending = found.entry; change = found.rest })
 step_at (raw r ∷ things) world s = Some (taking r.source (at_raw s.pending world s r things))
 step_at (reported f ∷ things) world s = Some (fault f ∷ [], past s things)
 step_at (passed line ∷ things) world s = Some (took line ∷ [], past s things)

@@ -31,8 +31,7 @@ pub use Rattle.cweb_input.specs.surface.Lines.{HasNoNewline}
 pub use Rattle.cweb_input.specs.surface.OpenSources.{StopsFor}
 pub use Rattle.cweb_input.specs.surface.OpenedFileNames.{opened_file_names}
 pub use Rattle.cweb_lines.proofs.EmittedLinesAddUp.{yields_both}
-pub use Rattle.cweb_lines.specs.Events.{emitted_lines}
-pub use Rattle.cweb_lines.specs.Merge.{Event}
+pub use Rattle.cweb_lines.specs.Events.{emitted_lines, Event}
 pub use Rattle.cweb_lines.specs.declared.merge_state.MergeState.{MergeState}
 pub use Rattle.cweb_lines.specs.declared.merger.Merger.{Merger}
 pub use Rattle.cweb_lines.specs.declared.merger.ahead.Ahead.{Ahead}

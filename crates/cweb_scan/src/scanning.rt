@@ -4,7 +4,7 @@ ghost use Rattle.std.specs.Prelude.{length, IsTrue, Err, IfErr, IfOk, IfSome, On
 ghost use Rattle.cweb_files.specs.surface.Frames.{KeepsShelf};
 ghost use Rattle.cweb_lines.specs.inner.Ahead.{IsAhead, LooksAhead};
 ghost use Rattle.cweb_lines.specs.inner.LineSpans.{BorrowsLines};
-ghost use Rattle.cweb_lines.specs.Merge.{Event};
+ghost use Rattle.cweb_lines.specs.Events.{Event};
 ghost use Rattle.cweb_lines.specs.surface.MergeProgress.{SoFar, events_to_come};
 ghost use Rattle.cweb_input.specs.surface.OpenSources.{files_named};
 ghost use Rattle.cweb_input.specs.surface.ReaderNames.{BlamesFile};

@@ -42,7 +42,8 @@ pub use Rattle.cweb_input.specs.surface.OpenedFileNames.{opened_file_names}
 pub use Rattle.cweb_lines.specs.Events.{emitted_lines, reported_faults, openings, taken_lines, IsWithinLimits, AreShort}
 pub use Rattle.cweb_lines.specs.Events.{written_lines, BreaksLimit, counts_of}
 pub use Rattle.cweb_lines.specs.surface.Writing.{write_failures_of}
-pub use Rattle.cweb_lines.specs.Merge.{Event, took, MergeStateModel, run_steps, started}
+pub use Rattle.cweb_lines.specs.Events.{Event, took}
+pub use Rattle.cweb_lines.specs.Merge.{MergeStateModel, run_steps, started}
 pub use Rattle.cweb_lines.specs.inner.MergeProgress.{begun_with}
 pub use Rattle.cweb_lines.specs.inner.Total.{merge-run_steps}
 pub use Rattle.cweb_lines.specs.surface.MergeProgress.{SoFar, EmitsLines, StopsAfterLines, ReportsPrefix}

@@ -4,7 +4,7 @@ use Rattle.cweb_files.specs.Files.{put_file}
 use Rattle.std.specs.Prelude.{fold}
 use Rattle.cweb_log.specs.Items.{writing}
 use Rattle.cweb_files.specs.declared.place.Place.{Place}
-use Rattle.cweb_lines.specs.Merge.{emitted}
+use Rattle.cweb_lines.specs.Events.{emitted}
 use Rattle.cweb_tools.specs.Course as course
 use Rattle.cweb_tools.proofs.Courses.{tangle_only}
 use Rattle.cweb_tools.proofs.TangleExamples.{file}

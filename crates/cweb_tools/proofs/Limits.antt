@@ -1,11 +1,8 @@
 -- A merge that breaks a limit is not within the limits.
-use Rattle.cweb_tools.proofs.Common.{◌≡◌, ◌≤◌, ◌<◌, ◌+◌, ◌⊎◌, inl, inr, List, [], ◌∷◌, ◌++◌, refl, sym, ◌∙◌, ap, subst, append-nil, arith, emitted_lines, length, length-append, append_assoc, map, map-append, ℕ, SourceLine, Event, took, SoFar, Line, BreaksLimit, counts_of, StopsAfterLines, begun_with, AreShort, IsWithinLimits, taken_lines, LINE_LENGTH, LINES, BYTES, Stop, LineTooLong, TooMuchText}
+use Rattle.cweb_tools.proofs.Common.{◌≡◌, ◌≤◌, ◌<◌, ◌+◌, ◌⊎◌, inl, inr, List, [], ◌∷◌, ◌++◌, refl, sym, ◌∙◌, ap, subst, arith, emitted_lines, length, length-append, ℕ, SourceLine, Event, took, SoFar, Line, BreaksLimit, counts_of, StopsAfterLines, begun_with, AreShort, IsWithinLimits, taken_lines, LINE_LENGTH, LINES, BYTES, Stop, LineTooLong, TooMuchText}
 use Rattle.cweb_input.specs.OpenSources.{RefusesLine, TakenCountersModel}
-use Rattle.cweb_lines.specs.Merge.{fault}
-use Rattle.cweb_lines.specs.surface.MergeProgress.{step_events}
 use Rattle.cweb_lines.specs.Events.{size_of_lines}
-use Rattle.cweb_lines.proofs.AddedEvents.{emitted-took, taken-took}
-use Rattle.cweb_lines.proofs.EmittedLinesAddUp.{emitted-append, size-append, short-append, taken-append}
+use Rattle.cweb_lines.proofs.EmittedLinesAddUp.{size-append, taken-append}
 
 -- Each taken line is within the limit of its length.
 short_at : (before after : List SourceLine) (line : SourceLine) → AreShort (before ++ line ∷ after) →
@@ -37,59 +34,32 @@ pub record CutAt (stop : Stop) (lines : List Line) (events : List Event) : Type 
 module _ {stop : Stop} {first : List (List ℕ)} {emitted : List Line} {old new : SoFar} {events : List Event}
     (began : old ≡ begun_with first) (few : new.count.lines ≤ LINES) (small : new.count.bytes ≤ BYTES)
     (b : StopsAfterLines emitted stop old new events) where
-  abbrev begun : List SourceLine
-  begun = b.stops.begun.prefix
+  lines_are : new.count.lines ≡ length (taken_lines b.yields.events)
+  lines_are = omega (arith, b.yields.lines_are, ap (λ (s : SoFar). s.count.lines) began)
 
-  abbrev earlier : List Event
-  earlier = b.yields.events ++ map took begun
+  bytes_are : new.count.bytes ≡ size_of_lines (taken_lines b.yields.events)
+  bytes_are = omega (arith, b.yields.bytes_are, ap (λ (s : SoFar). s.count.bytes) began)
 
-  taken_are : taken_lines earlier ≡ taken_lines b.yields.events ++ begun
-  taken_are = simp (taken-append, taken-took)
-
-  lines_are : new.count.lines ≡ length (taken_lines earlier)
-  lines_are = omega (
-    arith,
-    b.stops.begun.adds.lines_are,
-    b.yields.lines_are,
-    ap (λ (s : SoFar). s.count.lines) began,
-    length-append (taken_lines b.yields.events) begun,
-    ap (λ (ls : List SourceLine). length ls) taken_are,
-  )
-
-  bytes_are : new.count.bytes ≡ size_of_lines (taken_lines earlier)
-  bytes_are = omega (
-    arith,
-    b.stops.begun.adds.bytes_are,
-    b.yields.bytes_are,
-    ap (λ (s : SoFar). s.count.bytes) began,
-    size-append (taken_lines b.yields.events) begun,
-    ap size_of_lines taken_are,
-  )
-
-  counts : new.count ≡ counts_of (taken_lines earlier)
+  counts : new.count ≡ counts_of (taken_lines b.yields.events)
   counts i = record { lines = lines_are i; bytes = bytes_are i }
 
   -- The events before that line, and the rest.
   pub cut_at_limit : CutAt stop emitted events
   cut_at_limit = record {
-    earlier = earlier;
-    later = took b.stops.line ∷ (map took b.stops.more ++ (map fault b.faults ++ b.later));
-    whole = b.yields.whole ∙ ap (λ (ls : List SourceLine). b.yields.events ++ step_events ls b.faults b.later)
-        (b.stops.begun.lines_are ∙ ap (λ (ls : List SourceLine). begun ++ ls) b.stops.next)
-        ∙ simp (map-append, append_assoc);
-    emits = emitted-append b.yields.events (map took begun)
-        ∙ simp (emitted-took begun, append-nil, b.yields.emitted);
+    earlier = b.yields.events;
+    later = took b.line ∷ b.later;
+    whole = b.yields.whole;
+    emits = b.yields.emitted;
     next = next_breaks stop (record {
-      line = b.stops.line;
-      more = map took b.stops.more ++ (map fault b.faults ++ b.later);
+      line = b.line;
+      more = b.later;
       next = refl;
       within = record {
-        short =
-            rw taken_are (short-append (taken_lines b.yields.events) begun b.yields.short b.stops.begun.adds.short);
+        short = b.yields.short;
         few = omega (arith, few, lines_are);
         small = omega (arith, small, bytes_are);
       };
-      why = subst (λ (c : TakenCountersModel). RefusesLine stop c b.stops.line) counts b.stops.why;
+      why = subst (λ (c : TakenCountersModel). RefusesLine stop c b.line) counts b.why;
     });
   }
 

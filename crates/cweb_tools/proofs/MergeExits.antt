@@ -1,6 +1,6 @@
 -- The exits of a merge that has begun.
 use Rattle.cweb_tools.proofs.Common.{◌≤◌, ◌≡◌, ◌+◌, ◌&&◌, inl, inr, ℕ, List, [], ◌∷◌, ◌++◌, length, map, refl, sym, subst, ◌∙◌, ap, append-nil, Option, Some, IsTrue, names_found, World, Found, Event, SoFar, EmitsLines, ReportsPrefix, blame, files_named, read_failures_of, emitted_lines, reported_faults, openings, taken_lines, IsWithinLimits, BeginsMerge, written_lines, StopsWriting, WritingStops, WritesPrefix, write_failures_of, SourceFault, LINES, BYTES, Stop, Logs, stop_line, subject, source_item, SinkModel, ShelfModel, LogItem, WebNames, merging, found_course, EndsMerge, merge_acts, acts_status, judges, opens, says, merges, Breaks, ending, DeviceState, Closes, ClosesInLog, halted}
-use Rattle.cweb_lines.specs.Merge.{fault}
+use Rattle.cweb_lines.specs.Events.{fault}
 use Rattle.cweb_tools.proofs.Doing.{closes_on}
 use Rattle.cweb_tools.proofs.Exits.{begins_course, opened_by, names_reported, faults_reported, limits_kept}
 use Rattle.cweb_tools.proofs.Logging.{at}

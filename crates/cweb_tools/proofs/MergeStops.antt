@@ -1,7 +1,6 @@
 -- A merge that stops breaks the act of merging.
 use Rattle.cweb_tools.proofs.Common.{◌∙◌, ap, ◌∷◌, ◌≤◌, Bool, Line, IsTrue, length, files_named, begun_with, LINES, BYTES, after_act, ◌≡◌, ◌+◌, ℕ, List, [], ◌++◌, refl, sym, subst, add-zero, append-nil, Event, SoFar, blame, StopsReading, read_failures_of, emitted_lines, written_lines, StopsWriting, WritingStops, WritesPrefix, write_failures_of, Stop, ReadFault, LineTooLong, TooMuchText, Memory, WriteFault, Logs, stop_line, subject, SinkModel, merges, Breaks, FailsReading, ending, DeviceState, LogsEnding, bins_blame, log_blame}
-use Rattle.cweb_lines.specs.Merge.{took, emitted, fault, opening}
-use Rattle.cweb_lines.specs.surface.MergeProgress.{step_events}
+use Rattle.cweb_lines.specs.Events.{took, emitted, fault, opening}
 use Rattle.cweb_tools.specs.Acts.{BreaksReading}
 use Rattle.cweb_tools.proofs.Limits.{CutAt, cut_at_limit}
 use Rattle.cweb_tools.proofs.Logging.{prefix_observed}
@@ -160,7 +159,7 @@ module _ (files opened rest : List (List ℕ)) (names : files ≡ opened ++ rest
     written = wrote _ why.wrote;
     breaks = cut_broke (ReadFault file) tt known why.lines (record {
       earlier = why.reads.yields.events;
-      later = step_events why.reads.lines why.reads.faults why.reads.later;
+      later = why.reads.later;
       whole = why.reads.yields.whole;
       emits = why.reads.yields.emitted;
       next = tt;

@@ -2,7 +2,7 @@
 use Rattle.std.specs.Prelude.{count_by, ℕ, ◌+◌, Bool, true, false, List, [], ◌∷◌, ◌++◌, codes, map}
 use Rattle.std.specs.List.{flat_map}
 use Rattle.cweb_files.specs.Files.{File}
-use Rattle.cweb_lines.specs.Merge.{Event}
+use Rattle.cweb_lines.specs.Events.{Event}
 use Rattle.cweb_input.specs.declared.stop.Stop.TheVariants.{Usage, WebNotOpened, ChangeNotOpened}
 use Rattle.cweb_log.specs.Items.{LogItem, banner, starred, fault, is_fault, no_text, writing, counts, closing}
 use Rattle.cweb_log.specs.Items.{stopped}

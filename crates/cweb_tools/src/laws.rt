@@ -1,6 +1,6 @@
 //! Laws of whole runs, for all device failures and failed allocations, of blanks between tokens, and of depfiles.
 ghost use Rattle.std.specs.Prelude.{◌≡◌, ℕ, List, None};
-ghost use Rattle.cweb_lines.specs.Merge.{Event};
+ghost use Rattle.cweb_lines.specs.Events.{Event};
 ghost use Rattle.cweb_log.specs.declared.shown.Shown.{Shown};
 ghost use Rattle.cweb_tools.specs.Acts.{DeviceState, RunEnds};
 ghost use Rattle.cweb_tools.specs.laws.Leaves.{LeavesFiles, tangle_files};

@@ -1,21 +1,18 @@
 -- How far a merge is: steps and turns.
-use Rattle.std.specs.Prelude.{◌≡◌, ◌<◌, ◌≤◌, ◌+◌, ◌*◌, ◌-◌, ℕ, length, List, [], ◌∷◌, ◌++◌, Option}
+use Rattle.std.specs.Prelude.{◌≡◌, ◌<◌, ◌≤◌, ◌+◌, ◌*◌, ◌-◌, ℕ, length, List, [], ◌∷◌, Option}
 use Rattle.cweb_input.specs.Lines.{Line, SourceLine}
 use Rattle.cweb_input.specs.surface.Lines.{IsOneLine}
-use Rattle.cweb_lines.specs.Merge.{Event, took}
+use Rattle.cweb_lines.specs.Events.{Event, took}
 use Rattle.cweb_lines.specs.surface.Total.{merge}
 use Rattle.cweb_input.specs.surface.Finding.{world_in}
 use Rattle.cweb_lines.specs.inner.Stages.{weight_of}
 use Rattle.cweb_input.specs.inner.OpenSources.{raw_thing}
-use Rattle.cweb_input.specs.declared.fault.SourceFault.{SourceFault}
 use Rattle.cweb_lines.specs.declared.merge_state.MergeState.{MergeState}
 use Rattle.cweb_lines.specs.declared.change.Stage.{Stage}
-use Rattle.cweb_input.specs.declared.stop.Stop.{Stop}
-use Rattle.cweb_input.specs.declared.stop.Stop.TheVariants.{ReadFault, LineTooLong, TooMuchText, Memory}
 use Rattle.cweb_input.specs.declared.open_source.LineAt.{LineAt}
 use Rattle.cweb_lines.specs.declared.step.Turn.{Turn}
 use Rattle.cweb_lines.specs.declared.step.Turn.TheVariants.{Emitted, On, Ended}
-use Rattle.cweb_lines.specs.surface.MergeProgress.{SoFar, EmitsLines, HasBegunStep, StopsIn}
+use Rattle.cweb_lines.specs.surface.MergeProgress.{SoFar, EmitsLines}
 use Rattle.cweb_lines.specs.surface.MergeProgress.{state_of, things_of, NothingLeft}
 
 -- A line was taken, and then these lines are emitted.
@@ -24,22 +21,6 @@ pub record EmitsAfterLine (source : SourceLine) (lines : List Line) (old new : S
   pub rest : List Event
   pub first : all ≡ took source ∷ rest
   pub yields : EmitsLines lines old new rest later
-
--- A prefix of these faults was reported.
-pub record ReportsSomeFaults (faults : List SourceFault) (old new : SoFar) : Type 0 where
-  pub prefix : List SourceFault
-  pub rest : List SourceFault
-  pub whole : faults ≡ prefix ++ rest
-  pub reported : new.faults ≡ old.faults ++ prefix
-  pub names : new.names ≡ old.names
-
--- How far a step is that ends with a stop.
-abbrev pub EndsStep : Stop → SoFar → SoFar → List SourceLine → List SourceFault → Type 0
-EndsStep (ReadFault file) old new lines faults = HasBegunStep old new lines faults
-EndsStep (LineTooLong file) old new lines faults = StopsIn (LineTooLong file) old new lines faults
-EndsStep TooMuchText old new lines faults = StopsIn TooMuchText old new lines faults
-EndsStep Memory old new lines faults = Unit {0}
-EndsStep _ old new lines faults = ⊥
 
 -- All events after this line was taken.
 abbrev pub events_after_line : {R : Type 0} → (List ℕ → Option (List ℕ)) → (R → List ℕ) → MergeState R → LineAt

@@ -5,14 +5,13 @@ use Rattle.cweb_lines.specs.Change.{WaitingEntry}
 use Rattle.cweb_input.specs.Include.{is_include_line}
 use Rattle.cweb_input.specs.Lines.{Line, SourceLine, CutLine, numbered_lines, trimmed, Thing, raws}
 use Rattle.cweb_input.specs.surface.Lines.{HasNoNewline}
-use Rattle.cweb_lines.specs.Merge.{Event}
+use Rattle.cweb_lines.specs.Events.{Event, written_lines}
 use Rattle.cweb_lines.specs.surface.MergeProgress.{SoFar, EmitsLines, so_far_of, events_to_come, pending_of}
 use Rattle.cweb_input.specs.surface.ReaderNames.{AreReadersNamed, IsReaderNamed}
 use Rattle.cweb_lines.specs.surface.MergeReaderNames.{AreReadersKnown}
 use Rattle.cweb_lines.specs.inner.Stages.{IsSettled, begun_by, floor_of}
 use Rattle.cweb_input.specs.inner.OpenSources.{AreDeep, DeepAt, StaysBelow, files_up_to, maximum_of}
 use Rattle.cweb_input.specs.surface.OpenSources.{lines_at, matches_at, number_or_zero, source_depth, things_above}
-use Rattle.cweb_lines.specs.Events.{written_lines}
 use Rattle.cweb_input.specs.declared.counters.TakenCounters.{TakenCounters}
 use Rattle.cweb_input.specs.declared.limits.TheConstants.{LINES, BYTES, LINE_LENGTH}
 use Rattle.cweb_lines.specs.declared.passing.stretch.Stretch.{Stretch}

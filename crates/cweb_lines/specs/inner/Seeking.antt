@@ -1,9 +1,10 @@
 -- How far the search for an entry is.
-use Rattle.std.specs.Prelude.{◌≡◌, ◌<◌, ℕ, List, [], ◌∷◌, ◌++◌, Option, None, Some}
+use Rattle.std.specs.Prelude.{◌≡◌, ◌<◌, ℕ, List, [], ◌∷◌, ◌++◌, map, Option, None, Some}
 use Rattle.cweb_files.specs.declared.place.Place.{Place}
 use Rattle.cweb_lines.specs.Change.{Sought, at_place, sought}
 use Rattle.cweb_input.specs.Lines.{SourceLine}
-use Rattle.cweb_lines.specs.surface.MergeProgress.{SoFar, AddsFaultsAndLines}
+use Rattle.cweb_lines.specs.Events.{Event, took, fault}
+use Rattle.cweb_lines.specs.surface.MergeProgress.{SoFar, EmitsLines}
 use Rattle.cweb_lines.specs.inner.Stages.{IsOutside}
 use Rattle.cweb_lines.specs.surface.Stages.{pending_in, change_in}
 use Rattle.cweb_lines.specs.declared.change.code.Code.{Code}
@@ -15,14 +16,9 @@ use Rattle.cweb_lines.specs.declared.change.seek.Look.{Look}
 use Rattle.cweb_lines.specs.declared.change.seek.Look.TheVariants.{Entry as first_line, On as goes_on}
 use Rattle.cweb_lines.specs.declared.change.Stage.{Stage}
 
--- A search after these faults and lines.
-abbrev pub search_after : List SourceFault → List SourceLine → Sought → Sought
-search_after faults taken found = record {
-  faults = faults ++ found.faults;
-  taken = taken ++ found.taken;
-  entry = found.entry;
-  rest = found.rest;
-}
+-- A search after this line and its faults.
+abbrev pub search_after : SourceLine → List SourceFault → Sought → Sought
+search_after line faults found = record found { events = took line ∷ map fault faults ++ found.events }
 
 -- A code line outside an entry: its fault, and the place of an @x.
 abbrev pub faults_outside : Option Code → Place → List SourceFault
@@ -40,15 +36,13 @@ begun_outside (Some end_side) place = None
 -- A line continues the search, or is the first old line of an entry.
 abbrev pub Looks : Look → Option Place → SourceLine → List SourceLine → List SourceFault → Type 0
 Looks (goes_on next) begin line lines reported =
-    sought (line ∷ lines) begin ≡ search_after reported (line ∷ []) (sought lines next)
+    sought (line ∷ lines) begin ≡ search_after line reported (sought lines next)
 Looks (first_line entry) begin line lines reported =
-    sought (line ∷ lines) begin ≡ record {
-      faults = reported;
-      taken = line ∷ [];
-      entry =
-          Some (record { begin = entry; first = line.line.bytes });
+    sought (line ∷ lines) begin ≡ search_after line reported (record {
+      events = [];
+      entry = Some (record { begin = entry; first = line.line.bytes });
       rest = lines;
-    }
+    })
 
 -- The faults of a line and what it is, whatever follows it.
 pub record LooksAt (look : Look) (begin : Option Place) (bytes : List ℕ) (place : Place)
@@ -58,23 +52,23 @@ pub record LooksAt (look : Look) (begin : Option Place) (bytes : List ℕ) (plac
   pub looks : (line : SourceLine) → line.line ≡ record { bytes = bytes; place = place } → (lines : List SourceLine) →
       Looks look begin line lines reported
 
-pub record ReportsFaultPrefix (all old new : List SourceFault) : Type 0 where
+-- Only some faults of a line were reported.
+pub record LooksInPart (line : SourceLine) (all : List Event) (old new : List SourceFault) : Type 0 where
   pub prefix : List SourceFault
-  pub rest : List SourceFault
-  pub whole : all ≡ prefix ++ rest
+  pub rest : List Event
+  pub whole : all ≡ took line ∷ map fault prefix ++ rest
   pub reported : new ≡ old ++ prefix
 
--- Some of a search was done.
+-- Some of a search was done, and `now` is the rest of it.
 pub record SeeksTo (all now : Sought) (old new : SoFar) : Type 0 where
-  pub reported : List SourceFault
-  pub taken : List SourceLine
-  pub whole : all ≡ search_after reported taken now
-  pub adds : AddsFaultsAndLines reported taken old new
+  pub yields : EmitsLines [] old new all.events now.events
+  pub entry : all.entry ≡ now.entry
+  pub rest : all.rest ≡ now.rest
 
 -- The search has ended. Its entry waits, or no entry is left.
 pub record Searched (found : Sought) (old new : SoFar) (stage : Stage) (first : List ℕ)
     (lines : List SourceLine) : Type 0 where
-  pub adds : AddsFaultsAndLines found.faults found.taken old new
+  pub yields : EmitsLines [] old new found.events []
   pub outside : IsOutside stage
   pub entry : pending_in stage first ≡ found.entry
   pub rest : change_in stage lines ≡ found.rest

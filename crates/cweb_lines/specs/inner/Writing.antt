@@ -2,9 +2,8 @@
 use Rattle.std.specs.Prelude.{◌<◌, ℕ, List, ◌++◌, length}
 use Rattle.cweb_files.specs.Bins.{WritesPrefix}
 use Rattle.cweb_input.specs.Lines.{Line}
-use Rattle.cweb_lines.specs.Merge.{Event}
+use Rattle.cweb_lines.specs.Events.{Event, written_lines}
 use Rattle.cweb_lines.specs.surface.MergeProgress.{SoFar, EmitsLines}
-use Rattle.cweb_lines.specs.Events.{written_lines}
 use Rattle.cweb_lines.specs.inner.Passing.{all_but_last}
 
 -- A write failed within the buffered lines. The next line is the one after them. If there are several, all but the last

@@ -5,8 +5,8 @@ use Rattle.cweb_input.specs.Lines.{Line, SourceLine, raws}
 use Rattle.cweb_input.specs.laws.Lines.{lines}
 use Rattle.cweb_input.specs.Include.{World}
 use Rattle.cweb_lines.specs.Change.{at_place}
-use Rattle.cweb_lines.specs.Merge.{Event, started}
-use Rattle.cweb_lines.specs.Events.{emitted_lines, reported_faults, openings}
+use Rattle.cweb_lines.specs.Events.{Event, emitted_lines, reported_faults, openings}
+use Rattle.cweb_lines.specs.Merge.{started}
 use Rattle.cweb_lines.specs.surface.Total.{merge}
 use Rattle.cweb_input.specs.declared.fault.SourceFault.{SourceFault}
 use Rattle.cweb_input.specs.declared.fault.SourceKind.{SourceKind}

@@ -1,7 +1,8 @@
 -- Every merge has one result.
 use Rattle.std.specs.Prelude.{◌≡◌, List}
 use Rattle.cweb_input.specs.Include.{World}
-use Rattle.cweb_lines.specs.Merge.{Event, MergeStateModel, Yields}
+use Rattle.cweb_lines.specs.Events.{Event}
+use Rattle.cweb_lines.specs.Merge.{MergeStateModel, Yields}
 
 -- Some number of steps is enough, and each one that is enough yields the same events.
 pub record IsTheAnswer (world : World) (s : MergeStateModel) : Type 0 where

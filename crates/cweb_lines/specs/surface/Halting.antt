@@ -5,16 +5,17 @@ use Rattle.std.specs.Prelude.{nat_lt}
 use Rattle.std.specs.Str.{bytes_eq}
 use Rattle.std.proofs.lemmas.Bool.Decides.{nat_tests}
 use Rattle.cweb_files.specs.declared.place.Place.{Place}
-use Rattle.cweb_input.specs.Lines.{SourceLine, lines_in, RawLine, Thing, seek, raw, reported, passed, raws}
+use Rattle.cweb_input.specs.Lines.{Line, SourceLine, lines_in, RawLine, Thing, seek, raw, reported, passed, raws}
 use Rattle.cweb_input.specs.Include.{World, Found, include_name, is_include_line, found_at}
 use Rattle.cweb_lines.specs.Change.{change_code, WaitingEntry, Sought, sought, outside, after_x, OldSide, old_at}
-use Rattle.cweb_lines.specs.Change.{old_lines}
+use Rattle.cweb_lines.specs.Change.{dropping, old_lines}
 use Rattle.cweb_input.specs.declared.limits.TheConstants.{OPEN_FILES}
 use Rattle.cweb_lines.specs.declared.change.code.Code.{Code}
 use Rattle.cweb_lines.specs.declared.change.code.Code.TheVariants.{OldSide as old_side, NewSide as new_side}
 use Rattle.cweb_lines.specs.declared.change.code.Code.TheVariants.{EndSide as end_side}
-use Rattle.cweb_lines.specs.Merge.{Event, MergeStateModel, NewSide, new_at}
-use Rattle.cweb_lines.specs.Merge.{new_lines, compared, after_old, Next, obeyed, open_include, included, plain}
+use Rattle.cweb_lines.specs.Events.{Event}
+use Rattle.cweb_lines.specs.Merge.{MergeStateModel, NewSide, new_at}
+use Rattle.cweb_lines.specs.Merge.{new_lines, after_old, Next, obeyed, open_include, included, plain}
 use Rattle.cweb_lines.specs.Merge.{at_entry, at_raw, step, onto, step_then_run, run_steps}
 
 -- A number of steps that is enough, and the events.
@@ -72,16 +73,33 @@ sought_less (line ∷ lines) None = omega (
 sought_less (line ∷ lines) (Some begin) = after_x_less line.line.bytes (change_code line.line.bytes) begin line lines
     (λ next. sought lines next) (sought_less lines)
 
-old_at_less : (code : Option Code) (line : SourceLine) (lines : List SourceLine) (later : OldSide) →
-    length later.rest ≤ length lines → length (old_at code line lines later).rest ≤ suc (length lines)
-old_at_less None line lines later less = omega arith
-old_at_less (Some old_side) line lines later less = omega arith
-old_at_less (Some new_side) line lines later less = omega arith
-old_at_less (Some end_side) line lines later less = omega arith
+-- What an old side leaves has no more lines than this.
+Leaves : ℕ → (List Thing → OldSide) → Type 0
+Leaves n later = (things : List Thing) → length (later things).rest ≤ n
 
-old_less : (lines : List SourceLine) → length (old_lines lines).rest ≤ length lines
-old_less [] = omega arith
-old_less (line ∷ lines) = old_at_less (change_code line.line.bytes) line lines (old_lines lines) (old_less lines)
+dropping_less : (old : List ℕ) (things : List Thing) (later : List Thing → OldSide) (n : ℕ) → Leaves n later
+    → length (dropping old things later).rest ≤ n
+unfolding Leaves
+dropping_less old [] later n less = less []
+dropping_less old (raw r ∷ things) later n less = less things
+dropping_less old (_ ∷ things) later n less = dropping_less old things later n less
+
+old_at_less : (code : Option Code) (line : Line) (lines : List SourceLine) (things : List Thing)
+    (later : List Thing → OldSide) → Leaves (length lines) later
+    → length (old_at code line lines things later).rest ≤ length lines
+unfolding Leaves
+old_at_less None line lines things later less = dropping_less line.bytes things later (length lines) less
+old_at_less (Some old_side) line lines things later less = less things
+old_at_less (Some new_side) line lines things later less = omega arith
+old_at_less (Some end_side) line lines things later less = less things
+
+old_less : (lines : List SourceLine) (things : List Thing) → length (old_lines lines things).rest ≤ length lines
+unfolding Leaves
+old_less [] things = omega arith
+old_less (line ∷ lines) things = omega (
+  arith,
+  old_at_less (change_code line.line.bytes) line.line lines things (λ rest. old_lines lines rest) (old_less lines),
+)
 
 new_at_less : (code : Option Code) (depth : ℕ) (line : SourceLine) (lines : List SourceLine) (later : NewSide) →
     length later.rest ≤ length lines
@@ -111,12 +129,12 @@ module _ (world : World) (most : ℕ) (fewer : (things : List Thing) (change : L
     good_none None change files within = record { steps = 1; events = []; comes = refl }
     good_none (Some entry) change files within = record { steps = 2; events = _; comes = refl }
 
-    after_old_good : (ended : Bool) (files depth : ℕ) (entry : WaitingEntry) (old : OldSide) (rest : List Thing) →
-        length old.rest < most → Halts world (after_old ended files depth entry old rest)
-    after_old_good true files depth entry old rest less = fewer rest [] files (omega arith)
-    after_old_good false files depth entry old rest less =
-        fewer ((new_lines depth entry.begin old.rest).things ++ seek ∷ rest)
-        (new_lines depth entry.begin old.rest).rest files (omega (arith, new_less depth entry.begin old.rest))
+    after_old_good : (ended : Bool) (files depth : ℕ) (begin : Place) (old : OldSide) → length old.rest < most
+        → Halts world (after_old ended files depth begin old)
+    after_old_good true files depth begin old less = fewer old.things [] files (omega arith)
+    after_old_good false files depth begin old less =
+        fewer ((new_lines depth begin old.rest).things ++ seek ∷ old.things)
+        (new_lines depth begin old.rest).rest files (omega (arith, new_less depth begin old.rest))
 
     -- A raw line, if the lines of a file that it opens are good.
     module _ (r : RawLine) (rest : List Thing) (good : Good rest)
@@ -160,8 +178,8 @@ module _ (world : World) (most : ℕ) (fewer : (things : List Thing) (change : L
             Halts world (at_entry b entry world (before (Some entry) change files) r rest).1
         unfolding waiting
         at_entry_good true entry change files within =
-            after_old_good (old_lines change).ended files r.depth entry (old_lines change)
-            (compared (old_lines change).lines rest).rest (omega (arith, old_less change))
+            after_old_good (old_lines change rest).ended files r.depth entry.begin (old_lines change rest)
+            (omega (arith, old_less change rest))
         at_entry_good false entry change files within = plain_good (is_include_line r.source.line.bytes)
             (Some entry) change files within
 

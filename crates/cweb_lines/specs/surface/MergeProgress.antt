@@ -1,11 +1,14 @@
 -- How far a merger is, and why it stops.
-use Rattle.std.specs.Prelude.{◌≡◌, ◌+◌, ℕ, length, map, List, ◌∷◌, ◌++◌, [], Option}
+use Rattle.std.specs.Prelude.{◌≡◌, ◌+◌, ℕ, length, List, ◌∷◌, ◌++◌, [], Option}
 use Rattle.cweb_input.specs.Lines.{Line, SourceLine, Thing}
-use Rattle.cweb_lines.specs.Merge.{Event, took, fault, MergeStateModel, emitted}
+use Rattle.cweb_lines.specs.Events.{Event, took, fault}
+use Rattle.cweb_lines.specs.Merge.{MergeStateModel}
 use Rattle.cweb_lines.specs.Events.{emitted_lines, reported_faults, openings, taken_lines, size_of_lines}
 use Rattle.cweb_lines.specs.Events.{AreShort}
 use Rattle.cweb_input.specs.OpenSources.{TakenCountersModel, RefusesLine}
 use Rattle.cweb_input.specs.declared.fault.SourceFault.{SourceFault}
+use Rattle.cweb_input.specs.declared.fault.SourceKind.{SourceKind}
+use Rattle.cweb_input.specs.declared.fault.SourceKind.TheVariants.{NoOldLines, EndedBeforeY, EndedBeforeZ, NoMatch}
 use Rattle.cweb_input.specs.declared.stop.Stop.{Stop}
 use Rattle.cweb_lines.specs.Change.{WaitingEntry}
 use Rattle.cweb_lines.specs.surface.Total.{merge}
@@ -36,44 +39,12 @@ pub record EmitsLines (lines : List Line) (old new : SoFar) (all later : List Ev
   pub bytes_are : new.count.bytes ≡ old.count.bytes + size_of_lines (taken_lines events)
   pub short : AreShort (taken_lines events)
 
--- These faults were reported, and these lines were taken and counted.
-pub record AddsFaultsAndLines (faults : List SourceFault) (lines : List SourceLine) (old new : SoFar) : Type 0 where
-  pub reported : new.faults ≡ old.faults ++ faults
-  pub names : new.names ≡ old.names
-  pub lines_are : new.count.lines ≡ old.count.lines + length lines
-  pub bytes_are : new.count.bytes ≡ old.count.bytes + size_of_lines lines
-  pub short : AreShort lines
-
--- A step has begun: prefixes of its lines and of its faults were taken and reported.
-pub record HasBegunStep (old new : SoFar) (lines : List SourceLine) (faults : List SourceFault) : Type 0 where
-  pub prefix : List SourceLine
-  pub rest : List SourceLine
-  pub reported : List SourceFault
-  pub more : List SourceFault
-  pub lines_are : lines ≡ prefix ++ rest
-  pub faults_are : faults ≡ reported ++ more
-  pub adds : AddsFaultsAndLines reported prefix old new
-
--- The next line of a step that has begun causes the stop.
-pub record StopsIn (stop : Stop) (old new : SoFar) (lines : List SourceLine) (faults : List SourceFault) : Type 0 where
-  pub begun : HasBegunStep old new lines faults
-  pub line : SourceLine
-  pub more : List SourceLine
-  pub next : begun.rest ≡ line ∷ more
-  pub why : RefusesLine stop new.count line
-
--- The events of a step that takes lines and reports faults, and then `later`.
-abbrev pub step_events : List SourceLine → List SourceFault → List Event → List Event
-step_events lines faults later = map took lines ++ (map fault faults ++ later)
-
--- All events before a step happened and emitted these lines. A line in the step causes the stop.
+-- All events before a line happened and emitted these lines. The line causes the stop.
 pub record StopsAfterLines (emitted : List Line) (stop : Stop) (old new : SoFar) (all : List Event) : Type 0 where
-  pub mid : SoFar
-  pub lines : List SourceLine
-  pub faults : List SourceFault
+  pub line : SourceLine
   pub later : List Event
-  pub yields : EmitsLines emitted old mid all (step_events lines faults later)
-  pub stops : StopsIn stop mid new lines faults
+  pub yields : EmitsLines emitted old new all (took line ∷ later)
+  pub why : RefusesLine stop new.count line
 
 abbrev pub IsPrefix : {A : Type 0} → List A → List A → Type 0
 IsPrefix {A = A} prefix list = (rest : List A) × (list ≡ prefix ++ rest)
@@ -91,20 +62,26 @@ pub record ReportsPrefix (old new : SoFar) (all : List Event) : Type 0 where
   pub faults : new.faults ≡ old.faults ++ reported_faults events
   pub names : new.names ≡ old.names ++ openings events
 
--- The next event emits no line.
-abbrev pub TakesBeforeEmitting : List Event → Type 0
-TakesBeforeEmitting (emitted line ∷ events) = ⊥
-TakesBeforeEmitting _ = Unit {0}
+-- A fault of this kind may be reported at the end of a file. `NoOldLines` may also follow a code line.
+abbrev pub IsAtEnd : SourceKind → Type 0
+IsAtEnd NoOldLines = Unit {0}
+IsAtEnd EndedBeforeY = Unit {0}
+IsAtEnd EndedBeforeZ = Unit {0}
+IsAtEnd NoMatch = Unit {0}
+IsAtEnd _ = ⊥
 
--- A read failed in a step. All lines that were taken before were emitted.
+-- The next event takes a line or is reported at the end of a file, or there is none.
+abbrev pub ReadsNext : List Event → Type 0
+ReadsNext [] = Unit {0}
+ReadsNext (took line ∷ events) = Unit {0}
+ReadsNext (fault f ∷ events) = IsAtEnd f.kind
+ReadsNext _ = ⊥
+
+-- A read failed. All events before it happened and emitted these lines.
 pub record ReadFailsAfterLines (emitted : List Line) (old new : SoFar) (all : List Event) : Type 0 where
-  pub mid : SoFar
-  pub lines : List SourceLine
-  pub faults : List SourceFault
   pub later : List Event
-  pub yields : EmitsLines emitted old mid all (step_events lines faults later)
-  pub begun : HasBegunStep mid new lines faults
-  pub next : TakesBeforeEmitting later
+  pub yields : EmitsLines emitted old new all later
+  pub next : ReadsNext later
 
 -- Why there is no line: a read failed, a line breaks a limit, or memory was refused.
 abbrev pub Stopped : Stop → SoFar → SoFar → List Event → Type 0

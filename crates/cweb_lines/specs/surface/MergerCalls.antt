@@ -6,14 +6,14 @@ use Rattle.cweb_files.specs.declared.place.Place.{Place}
 use Rattle.cweb_input.specs.Include.{names_found, contents_found, World, Found}
 use Rattle.cweb_input.specs.Lines.{Line}
 use Rattle.cweb_input.specs.surface.Lines.{IsOneLine}
-use Rattle.cweb_lines.specs.Merge.{Event, started}
+use Rattle.cweb_lines.specs.Events.{Event, emitted_lines}
+use Rattle.cweb_lines.specs.Merge.{started}
 use Rattle.cweb_lines.specs.surface.MergeProgress.{SoFar, EmitsLines, KeepsReported, NothingLeft, Stopped}
 use Rattle.cweb_lines.specs.surface.MergeProgress.{ReportsPrefix, so_far_of, events_to_come}
 use Rattle.cweb_lines.specs.surface.MergeReaderNames.{AreReadersKnown}
 use Rattle.cweb_input.specs.surface.ReaderNames.{BlamesFile}
 use Rattle.cweb_input.specs.surface.OpenSources.{CountsReadStop, StopsReading}
 use Rattle.cweb_input.specs.surface.OpenSources.{files_named}
-use Rattle.cweb_lines.specs.Events.{emitted_lines}
 use Rattle.cweb_lines.specs.surface.Total.{merge}
 use Rattle.cweb_input.specs.declared.limits.TheConstants.{LINES, BYTES}
 use Rattle.cweb_lines.specs.declared.merger.Merger.{Merger}

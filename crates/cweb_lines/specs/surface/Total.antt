@@ -1,7 +1,8 @@
 -- All events of a merge.
 use Rattle.std.proofs.Common.{List}
 use Rattle.cweb_input.specs.Include.{World}
-use Rattle.cweb_lines.specs.Merge.{Event, MergeStateModel}
+use Rattle.cweb_lines.specs.Events.{Event}
+use Rattle.cweb_lines.specs.Merge.{MergeStateModel}
 use Rattle.cweb_lines.specs.surface.Halting.{halts}
 
 -- All events from a state on.

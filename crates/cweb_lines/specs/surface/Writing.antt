@@ -2,11 +2,10 @@
 use Rattle.std.specs.Prelude.{◌≡◌, ◌≤◌, ◌+◌, ℕ, List, [], ◌∷◌, ◌++◌, Option, None, Some}
 use Rattle.cweb_files.specs.Bins.{WritesPrefix}
 use Rattle.cweb_input.specs.Lines.{Line}
-use Rattle.cweb_lines.specs.Merge.{Event}
+use Rattle.cweb_lines.specs.Events.{Event, emitted_lines, written_lines}
 use Rattle.cweb_lines.specs.surface.MergeProgress.{SoFar, EmitsLines, StopsAfterLines}
 use Rattle.cweb_lines.specs.surface.MergeProgress.{ReadFailsAfterLines, ReportsPrefix}
 use Rattle.cweb_input.specs.surface.OpenSources.{read_failures_of, files_named}
-use Rattle.cweb_lines.specs.Events.{emitted_lines, written_lines}
 use Rattle.cweb_input.specs.declared.stop.Stop.{Stop}
 use Rattle.cweb_input.specs.declared.stop.Stop.TheVariants.{ReadFault, LineTooLong, TooMuchText, Memory, WriteFault}
 

@@ -3,15 +3,13 @@ ghost use Rattle.std.specs.Prelude.{◌≡◌, ◌≤◌, ◌<◌, ◌+◌, ◌^
 ghost use Rattle.std.specs.Prelude.{IfErr, OnOk, OnErr, false};
 ghost use Rattle.cweb_files.specs.surface.Frames.{KeepsShelf};
 ghost use Rattle.cweb_lines.specs.inner.StepCalls.{GoesOn, TakesAway};
-ghost use Rattle.cweb_lines.specs.Change.{old_lines};
+ghost use Rattle.cweb_lines.specs.Merge.{change_events, closing_faults, fault_if};
 ghost use Rattle.cweb_input.specs.surface.Counters.{counters_of};
-ghost use Rattle.cweb_lines.specs.inner.MergeProgress.{EndsStep, ReportsSomeFaults};
-ghost use Rattle.cweb_lines.specs.surface.MergeProgress.{KeepsReported};
+ghost use Rattle.cweb_lines.specs.surface.MergeProgress.{KeepsReported, ReportsPrefix};
 ghost use Rattle.cweb_lines.specs.surface.MergeProgress.{change_lines, things_of, so_far_of};
 ghost use Rattle.cweb_input.specs.surface.OpenedFileNames.{opened_file_names};
-ghost use Rattle.cweb_lines.specs.inner.Replacing.{Compares, IsChanged, IsReplaced, closing_faults};
-ghost use Rattle.cweb_lines.specs.inner.Replacing.{faults_replaced, fault_list_if, lines_replaced};
-ghost use Rattle.cweb_lines.specs.inner.Seeking.{ReportsFaultPrefix};
+ghost use Rattle.cweb_lines.specs.inner.Replacing.{Compares, IsChanged, IsReplaced, old_side_of};
+ghost use Rattle.cweb_lines.specs.inner.Replacing.{ReportsFaultPrefix, StopsOldSide};
 ghost use Rattle.cweb_lines.specs.inner.Stages.{floor_of};
 ghost use Rattle.cweb_input.specs.surface.OpenSources.{CountsReadStop, StopsFor, StopsReading};
 ghost use Rattle.cweb_input.specs.inner.OpenSources.{TopStops};
@@ -97,19 +95,16 @@ fn replace<S: Shelf>(
     ensures readers { KeepsReaders S.Shelf shelf.old shelf.new run.old run.new }
     ensures blamed { BlamesReaders S.Shelf shelf.old shelf.new run.old run.new result }
     ensures replaced { IsTrue (S.tells shelf.old) →
-        IfOk result (λ replaced. IsReplaced (change_lines (S.left shelf.old) run.old)
-        (things_above (S.left shelf.old) 0 run.old.stack []) replaced
+        IfOk result (λ replaced. IsReplaced (old_side_of (S.left shelf.old) run.old) replaced
         (change_lines (S.left shelf.new) run.new)
         (things_above (S.left shelf.new) 0 run.new.stack []) (so_far_of run.old)
         (so_far_of run.new)) }
     ensures stops { IsTrue (S.tells shelf.old) →
-        IfErr result (λ stop. EndsStep stop (so_far_of run.old) (so_far_of run.new)
-        (lines_replaced (change_lines (S.left shelf.old) run.old)
-        (things_above (S.left shelf.old) 0 run.old.stack []))
-        (old_lines (change_lines (S.left shelf.old) run.old)).faults) }
+        IfErr result (λ stop. StopsOldSide stop (so_far_of run.old) (so_far_of run.new)
+        (old_side_of (S.left shelf.old) run.old)) }
     ensures reported { IsTrue (S.tells shelf.old) →
-        OnErr result (ReportsSomeFaults (old_lines (change_lines (S.left shelf.old) run.old)).faults
-        (so_far_of run.old) (so_far_of run.new)) }
+        OnErr result (ReportsPrefix (so_far_of run.old) (so_far_of run.new)
+        (old_side_of (S.left shelf.old) run.old).events) }
     ensures still { KeepsReported (so_far_of run.old) (so_far_of run.new) }
     ensures goes { GoesOn run.old run.new result }
     ensures stage { run.new.stage ≡ run.old.stage }
@@ -159,7 +154,7 @@ fn report_if<R: Drop>(
 ) -> Result<(), Stop>
     requires known { place.file.0 < length (opened_file_names run.old.names) }
     ensures reported { OnOk result (run.new.faults.items ≡ run.old.faults.items
-        ++ fault_list_if reported (record { kind = kind; place = place; count = count })) }
+        ++ fault_if reported (record { kind = kind; place = place; count = count })) }
     ensures err { OnErr result (run.new.faults.items ≡ run.old.faults.items) }
     ensures memory { IfErr result (λ stop. stop ≡ Stop.Memory) }
     ensures only { OnlyReports run.old run.new }
@@ -209,20 +204,15 @@ pub fn begin_change<S: Shelf>(
     ensures readers { KeepsReaders S.Shelf shelf.old shelf.new run.old run.new }
     ensures blamed { BlamesReaders S.Shelf shelf.old shelf.new run.old run.new result }
     ensures changed { IsTrue (S.tells shelf.old) →
-        OnOk result (IsChanged begin depth (change_lines (S.left shelf.old) run.old)
-        (things_above (S.left shelf.old) 0 run.old.stack []) run.new.stage
+        OnOk result (IsChanged begin depth (old_side_of (S.left shelf.old) run.old) run.new.stage
         (change_lines (S.left shelf.new) run.new) (things_of (S.left shelf.new) run.new)
         (so_far_of run.old) (so_far_of run.new)) }
     ensures stops { IsTrue (S.tells shelf.old) →
-        IfErr result (λ stop. EndsStep stop (so_far_of run.old) (so_far_of run.new)
-        (lines_replaced (change_lines (S.left shelf.old) run.old)
-        (things_above (S.left shelf.old) 0 run.old.stack []))
-        (faults_replaced begin (change_lines (S.left shelf.old) run.old)
-        (things_above (S.left shelf.old) 0 run.old.stack []))) }
+        IfErr result (λ stop. StopsOldSide stop (so_far_of run.old) (so_far_of run.new)
+        (old_side_of (S.left shelf.old) run.old)) }
     ensures reported { IsTrue (S.tells shelf.old) →
-        OnErr result (ReportsSomeFaults (faults_replaced begin (change_lines (S.left shelf.old) run.old)
-        (things_above (S.left shelf.old) 0 run.old.stack [])) (so_far_of run.old)
-        (so_far_of run.new)) }
+        OnErr result (ReportsPrefix (so_far_of run.old) (so_far_of run.new)
+        (change_events begin (old_side_of (S.left shelf.old) run.old))) }
     ensures still { KeepsReported (so_far_of run.old) (so_far_of run.new) }
     ensures goes { GoesOn run.old run.new result }
 {

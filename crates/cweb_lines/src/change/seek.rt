@@ -5,11 +5,13 @@ ghost use Rattle.cweb_files.specs.surface.Frames.{KeepsShelf};
 ghost use Rattle.cweb_lines.specs.inner.StepCalls.{OnlySeeks};
 ghost use Rattle.cweb_lines.specs.Change.{sought};
 ghost use Rattle.cweb_input.specs.Lines.{SourceLine};
-ghost use Rattle.cweb_lines.specs.inner.MergeProgress.{EndsStep, ReportsSomeFaults, turns_left};
-ghost use Rattle.cweb_lines.specs.surface.MergeProgress.{KeepsReported, change_lines, so_far_of};
+ghost use Rattle.cweb_lines.specs.inner.MergeProgress.{turns_left};
+ghost use Rattle.cweb_lines.specs.surface.MergeProgress.{KeepsReported, ReportsPrefix, Stopped};
+ghost use Rattle.cweb_lines.specs.surface.MergeProgress.{change_lines, so_far_of};
+ghost use Rattle.cweb_lines.specs.Events.{reported_faults};
 ghost use Rattle.cweb_input.specs.surface.OpenedFileNames.{opened_file_names};
 ghost use Rattle.cweb_lines.specs.inner.Seeking.{BegunKnown, LooksAt, LooksKnown, Searched};
-ghost use Rattle.cweb_lines.specs.inner.Seeking.{ReportsFaultPrefix, begun_outside, faults_outside};
+ghost use Rattle.cweb_lines.specs.inner.Seeking.{LooksInPart, begun_outside, faults_outside};
 ghost use Rattle.cweb_input.specs.surface.OpenSources.{CountsReadStop, StopsReading};
 ghost use Rattle.cweb_input.specs.surface.OpenSources.{files_named};
 ghost use Rattle.cweb_lines.specs.inner.Steps.{OnlyReports};
@@ -71,7 +73,7 @@ fn look_after_x<R: Drop>(
         (Some begin) line.now place run.old.faults.items run.new.faults.items) }
     ensures err { OnErr result ((source : SourceLine) →
         source.line ≡ record { bytes = line.now; place = place } → (lines : List SourceLine) →
-        ReportsFaultPrefix (sought (source ∷ lines) (Some begin)).faults run.old.faults.items
+        LooksInPart source (sought (source ∷ lines) (Some begin)).events run.old.faults.items
         run.new.faults.items) }
     ensures known { IfOk result
         (λ look. LooksKnown (length (opened_file_names run.old.names)) look) }
@@ -106,7 +108,7 @@ fn look_at<R: Drop>(
         run.new.faults.items) }
     ensures err { OnErr result ((source : SourceLine) →
         source.line ≡ record { bytes = line.now; place = place } → (lines : List SourceLine) →
-        ReportsFaultPrefix (sought (source ∷ lines) begin).faults run.old.faults.items
+        LooksInPart source (sought (source ∷ lines) begin).events run.old.faults.items
         run.new.faults.items) }
     ensures known { IfOk result
         (λ look. LooksKnown (length (opened_file_names run.old.names)) look) }
@@ -126,7 +128,7 @@ fn look_at<R: Drop>(
 fn end<R: Drop>(run: &mut MergeState<R>, begin: Option<Place>) -> Result<(), Stop>
     requires begun { BegunKnown (length (opened_file_names run.old.names)) begin }
     ensures reported { OnOk result (run.new.faults.items ≡ run.old.faults.items
-        ++ (sought [] begin).faults) }
+        ++ reported_faults (sought [] begin).events) }
     ensures err { OnErr result (run.new.faults.items ≡ run.old.faults.items) }
     ensures stage { OnOk result (run.new.stage ≡ Stage.Done) }
     ensures memory { IfErr result (λ stop. stop ≡ Stop.Memory) }
@@ -163,12 +165,11 @@ pub fn seek<S: Shelf>(
         (so_far_of run.old) (so_far_of run.new) run.new.stage run.new.first.items
         (change_lines (S.left shelf.new) run.new)) }
     ensures stops { IsTrue (S.tells shelf.old) →
-        IfErr result (λ stop. EndsStep stop (so_far_of run.old) (so_far_of run.new)
-        (sought (change_lines (S.left shelf.old) run.old) None).taken
-        (sought (change_lines (S.left shelf.old) run.old) None).faults) }
+        IfErr result (λ stop. Stopped stop (so_far_of run.old) (so_far_of run.new)
+        (sought (change_lines (S.left shelf.old) run.old) None).events) }
     ensures reported { IsTrue (S.tells shelf.old) →
-        OnErr result (ReportsSomeFaults (sought (change_lines (S.left shelf.old) run.old) None).faults
-        (so_far_of run.old) (so_far_of run.new)) }
+        OnErr result (ReportsPrefix (so_far_of run.old) (so_far_of run.new)
+        (sought (change_lines (S.left shelf.old) run.old) None).events) }
     ensures still { KeepsReported (so_far_of run.old) (so_far_of run.new) }
     ensures only { OnlySeeks run.old run.new result }
 {

@@ -1,7 +1,7 @@
 -- The invariant of a scan of a merger's lines.
 use Rattle.std.specs.Prelude.{◌≡◌, ◌≤◌, ◌+◌, List, [], ◌++◌, length, Bool, IsTrue}
 use Rattle.cweb_input.specs.Lines.{Line}
-use Rattle.cweb_lines.specs.Merge.{Event}
+use Rattle.cweb_lines.specs.Events.{Event}
 use Rattle.cweb_lines.specs.surface.MergeProgress.{SoFar, EmitsLines}
 use Rattle.cweb_scan.specs.inner.ReaderModel.{ReaderModel, read_after}
 use Rattle.cweb_scan.specs.surface.Law.{web_size}

@@ -1,11 +1,10 @@
 -- The result of a scan, and how a scan ends early.
 use Rattle.std.specs.Prelude.{◌≡◌, ◌<◌, ◌≤◌, ◌+◌, ℕ, List, [], length, All, Option, Some}
 use Rattle.cweb_input.specs.Lines.{Line}
-use Rattle.cweb_lines.specs.Merge.{Event}
+use Rattle.cweb_lines.specs.Events.{Event, emitted_lines}
 use Rattle.cweb_lines.specs.surface.MergeProgress.{SoFar, EmitsLines, StopsAfterLines, ReportsPrefix}
 use Rattle.cweb_input.specs.surface.OpenSources.{StopsFor, StopsReading}
 use Rattle.cweb_input.specs.surface.OpenSources.{read_failures_of}
-use Rattle.cweb_lines.specs.Events.{emitted_lines}
 use Rattle.cweb_input.specs.declared.limits.TheConstants.{LINES, BYTES}
 use Rattle.cweb_input.specs.declared.stop.Stop.{Stop}
 use Rattle.cweb_store.specs.Parts.{Token, Mark, all_tokens}

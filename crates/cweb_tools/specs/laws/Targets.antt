@@ -1,7 +1,7 @@
 -- What `wdep` prints is what `ctangle` does with the same words.
 use Rattle.std.specs.Prelude.{◌≡◌, ℕ, Bool, List, map}
 use Rattle.cweb_files.specs.Files.{File}
-use Rattle.cweb_lines.specs.Merge.{Event}
+use Rattle.cweb_lines.specs.Events.{Event}
 use Rattle.cweb_log.specs.declared.shown.Shown.{Shown}
 use Rattle.cweb_tools.specs.Acts.{acts_status}
 use Rattle.cweb_tools.specs.Depend.{among_outputs, depend_acts}

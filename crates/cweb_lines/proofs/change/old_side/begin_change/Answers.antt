@@ -1,18 +1,25 @@
-use Rattle.cweb_lines.proofs.Common.{ap, opened_file_names, read_failures_of, blames_none}
+use Rattle.cweb_lines.proofs.Common.{rules, ap, counters_of, opened_file_names, read_failures_of, blames_none}
 use Rattle.cweb_lines.proofs.MergeReadersStayNamed.{knows_only}
 use Rattle.cweb_lines.proofs.ReportsOnlyGrow.{reported_after, reported_then}
-use Rattle.cweb_lines.proofs.OldSideFaults.{tells_prefix, ends_more, closes_some}
+use Rattle.cweb_lines.proofs.OldSideFaults.{closes_all, closes_some}
+use Rattle.cweb_lines.proofs.AddedEvents.{prefix_more}
 use Rattle.cweb_lines.proofs.change.old_side.begin_change.Goals as goal
 
 pub returns-in-Err-clause-reported : goal.returns-in-Err-clause-reported
-returns-in-Err-clause-reported g c = λ tells. tells_prefix _ _ _ _ (c.in-Err.ensures.reported tells)
+returns-in-Err-clause-reported g c = λ tells. prefix_more _ (c.in-Err.ensures.reported tells)
 
 pub returns-in-Err-close-clause-reported : goal.returns-in-Err-close-clause-reported
-returns-in-Err-close-clause-reported g c = λ tells. closes_some c.args.begin _ _ _ _ _ _ _ _
+returns-in-Err-close-clause-reported g c = λ tells. closes_some c.args.begin _ c.in-Ok.replaced _ _ _ _ _
     (c.in-Ok.ensures.replaced tells) c.in-Err-close.ensures.err (ap opened_file_names c.in-Err-close.ensures.only.names)
 
-pub returns-in-Err-clause-stops : goal.returns-in-Err-clause-stops
-returns-in-Err-clause-stops g c = λ tells. ends_more c.in-Err.stop _ _ _ _ _ (c.in-Err.ensures.stops tells)
+pub returns-clause-changed : goal.returns-clause-changed
+returns-clause-changed g c = λ tells. record {
+  yields = closes_all c.args.begin _ c.in-Ok.replaced _ _ _ _ _ (c.in-Ok.ensures.replaced tells)
+      c.in_default.ensures.reported (ap opened_file_names c.in_default.ensures.only.names)
+      (ap counters_of c.in_default.ensures.only.limits);
+  settled = search rules;
+  after = search rules;
+}
 
 pub returns-in-Err-close-clause-still : goal.returns-in-Err-close-clause-still
 returns-in-Err-close-clause-still g c = reported_then _ _ _ c.in-Ok.ensures.still

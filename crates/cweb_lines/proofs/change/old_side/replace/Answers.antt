@@ -15,7 +15,7 @@ lines-init g c = record {
   quiet = quiet_same g.S.Shelf _ _;
   frame = search rules;
   goes_on = refl;
-  replaces = λ tells. replaces_from _ _ _;
+  replaces = λ tells. replaces_from _ _;
 }
 
 quiet : (g : given.Over) (c : In-Ok g) → Quiet g.S.Shelf c.args.shelf.now c.take_change.new.shelf c.args.run.now
@@ -31,7 +31,7 @@ raws g c tells =
     λ i. things_above (c.in-Ok.ensures.keeps.left still i) 0 (c.in-Ok.ensures.stack i) []
 
 pub returns-in-Err-clause-stops : goal.returns-in-Err-clause-stops
-returns-in-Err-clause-stops g c = λ tells. replaces_ends _ _ c.lines.so_far _ _ _ _
+returns-in-Err-clause-stops g c = λ tells. replaces_ends _ c.lines.so_far _ _ _ _
     (c.lines.invariant.replaces tells) c.in-Err.stop (so_far_of c.take_change.new.run)
     (reported_stays c.lines.run _ c.in-Err.ensures.only c.in-Err.ensures.answers.counted)
     (c.in-Err.ensures.stops (still_tells g.S.Shelf c.lines.invariant.quiet tells))
@@ -43,7 +43,7 @@ returns-in-Err-compare-clause-stops g c = λ tells.
     let test = ap change_code (sym c.deref.ensures.value) ∙ sym c.change_code.ensures ∙ c.in-None.is in
     let same = reported_uncounted _ c.compare.new.run c.in-Err-compare.ensures.only c.in-Err-compare.ensures.away.same
     in
-    raw_ends _ _ c.lines.so_far _ _ _ _ (c.lines.invariant.replaces tells) (so_far_of c.take_change.new.run)
+    raw_ends _ c.lines.so_far _ _ _ _ (c.lines.invariant.replaces tells) (so_far_of c.take_change.new.run)
     c.take_change.new.line.items c.in-Some.at.place taken.0 _ taken.1 (took_faults c.in-Ok.ensures.only)
     (took_names c.in-Ok.ensures.only) c.in-Err-compare.stop (so_far_of c.compare.new.run) same test
     (subst (λ (ts : List Thing). StopsFor (TopStops c.in-Err-compare.stop (counters_of c.take_change.new.run.limits) ts)
@@ -56,8 +56,8 @@ returns-then-eq-clause-replaced g c = λ tells.
     let test : change_code c.take_change.new.line.items ≡ Some new_side = ap change_code (sym c.deref.ensures.value)
     ∙ sym c.change_code.ensures ∙ c.in-Some-change_code.is
     ∙ ap Some (is_new c.in-Some-change_code.code (sym c.eq.ensures ∙ c.if-eq.true)) in
-    is_replaced_same _ _ _ _ _ _ _ _ _ (sym c.lines.invariant.goes_on)
-    (sym (raws g (goal.at.returns-then-eq-clause-replaced g c).In-Ok tells)) (replaces_new _ _ c.lines.so_far _ _ _ _
+    is_replaced_same _ _ _ _ _ _ _ _ (sym c.lines.invariant.goes_on)
+    (sym (raws g (goal.at.returns-then-eq-clause-replaced g c).In-Ok tells)) (replaces_new _ c.lines.so_far _ _ _ _
     (c.lines.invariant.replaces tells) (so_far_of c.take_change.new.run) c.take_change.new.line.items
     c.in-Some.at.place taken.0 _ taken.1 (took_faults c.in-Ok.ensures.only) (took_names c.in-Ok.ensures.only) test)
 
@@ -78,11 +78,11 @@ lines-preserved g c = record {
       ∙ ap (λ s. things_above (g.S.Shelf.left c.take_change.new.shelf) 0 s [])
       (sym c.in_default-report.ensures.only.stack) in
       let test = ap change_code (sym c.deref.ensures.value) ∙ sym c.change_code.ensures ∙ c.in-Some-change_code.is in
-      replaces_same _ _ _ _ _ _ _ _ _ change same (replaces_code _ _ c.lines.so_far _ _ _ _
+      replaces_same _ _ _ _ _ _ _ _ change same (replaces_code _ c.lines.so_far _ _ _ _
       (c.lines.invariant.replaces tells) (so_far_of c.take_change.new.run) c.take_change.new.line.items
       c.in-Some.at.place taken.0 _ taken.1 (took_faults c.in-Ok.ensures.only) (took_names c.in-Ok.ensures.only)
       c.in-Some-change_code.code (so_far_of c.report.new.self) test
-      (is_faulty c.in-Some-change_code.code taken.0.line _ _
+      (is_faulty c.in-Some-change_code.code _ _ _ _
       (sym c.eq.ensures ∙ c.if-eq.false)) c.in_default-report.ensures.reported
       (ap opened_file_names c.in_default-report.ensures.only.names)
       (ap counters_of c.in_default-report.ensures.only.limits));
@@ -105,7 +105,7 @@ lines-preserved-in-None g c = record {
       λ i. lines_at (sym (c.in-Ok-compare.ensures.keeps.left later) i) (sym c.in-Ok-compare.ensures.change i) in
       let compares = compares_same _ _ _ _ _ _ _ _ _ (ap (λ (v : Vec ℕ Global). v.items) c.swap.ensures.x_after)
       (raws g (goal.at.lines-preserved-in-None g c).In-Ok tells) (c.in-Ok-compare.ensures.compares later) in
-      replaces_same _ _ _ _ _ _ _ _ _ change refl (replaces_line _ _ c.lines.so_far _ _ _ _
+      replaces_same _ _ _ _ _ _ _ _ change refl (replaces_line _ c.lines.so_far _ _ _ _
       (c.lines.invariant.replaces tells) (so_far_of c.take_change.new.run) c.take_change.new.line.items
       c.in-Some.at.place taken.0 _ taken.1 (took_faults c.in-Ok.ensures.only) (took_names c.in-Ok.ensures.only)
       c.in-Ok-compare.replaced _ (so_far_of c.compare.new.run) test compares);

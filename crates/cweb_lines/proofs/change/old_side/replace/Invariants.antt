@@ -1,4 +1,4 @@
-use Rattle.cweb_lines.proofs.Common.{◌≡◌, ◌≤◌, ◌-◌, [], false, IsTrue, change_lines, so_far_of, Replaces, things_above}
+use Rattle.cweb_lines.proofs.Common.{◌≡◌, ◌≤◌, ◌-◌, false, IsTrue, so_far_of, Replaces, old_side_of}
 use Rattle.cweb_lines.proofs.NoReadFails.{Quiet}
 use Rattle.cweb_lines.proofs.change.old_side.replace.Given as goal
 
@@ -20,10 +20,8 @@ invariant-lines g l = record {
     few : l.so_far.unequal ≤ l.run.limits.lines;
   };
   goes_on : l.so_far.ended ≡ false;
-  replaces : IsTrue (g.S.Shelf.tells l.fn.shelf) → Replaces (change_lines (g.S.Shelf.left l.fn.shelf) l.fn.run)
-      (things_above (g.S.Shelf.left l.fn.shelf) 0 l.fn.run.stack []) l.so_far
-      (change_lines (g.S.Shelf.left l.shelf) l.run) (things_above (g.S.Shelf.left l.shelf) 0 l.run.stack [])
-      (so_far_of l.fn.run) (so_far_of l.run);
+  replaces : IsTrue (g.S.Shelf.tells l.fn.shelf) → Replaces (old_side_of (g.S.Shelf.left l.fn.shelf) l.fn.run)
+      (old_side_of (g.S.Shelf.left l.shelf) l.run) l.so_far (so_far_of l.fn.run) (so_far_of l.run);
 }
 
 abbrev pub decreases-lines : goal.decreases-lines

@@ -1,9 +1,9 @@
-use Rattle.cweb_lines.proofs.Common.{rules, ℕ, [], ◌∷◌, ◌++◌, List, Vec, Global, None, refl, ap, sym, subst, ◌∙◌, sought, counters_of, SourceLine, change_lines, so_far_of, opened_file_names, Searched, SeeksTo, ReportsFaultPrefix, lines_at, read_failures_of, SourceFault, Waiting, blames_memory, blames_none}
+use Rattle.cweb_lines.proofs.Common.{rules, ℕ, [], ◌++◌, Vec, Global, None, refl, ap, sym, subst, ◌∙◌, sought, counters_of, SourceLine, change_lines, so_far_of, opened_file_names, Searched, SeeksTo, reported_faults, lines_at, read_failures_of, SourceFault, Waiting, blames_memory, blames_none}
 use Rattle.cweb_lines.proofs.MergeReadersStayNamed.{knows_only, knows_same}
 use Rattle.cweb_input.proofs.Found.{OnOk-both}
 use Rattle.cweb_lines.proofs.ReportsOnlyGrow.{reported_after, reported_if, reported_then, reported_took, took_faults, took_names}
 use Rattle.cweb_lines.proofs.NoReadFails.{Quiet, blamed_stop, quiet_same, quiet_set, quiet_tells, quiet_then, quiet_by, readers_after, still_tells}
-use Rattle.cweb_lines.proofs.Seeks.{seeks_ended, seeks_from, seeks_ends, seeks_reported_more, seeks_on, seeks_found}
+use Rattle.cweb_lines.proofs.Seeks.{seeks_ended, seeks_from, seeks_ends, seeks_in_part, seeks_on, seeks_found}
 use Rattle.cweb_lines.proofs.Stops.{reported_stays}
 use Rattle.cweb_lines.proofs.change.seek.seek.Given as given
 use Rattle.cweb_lines.proofs.change.seek.seek.Goals as goal
@@ -37,17 +37,13 @@ returns-in-Err-clause-stops g c = λ tells.
 pub returns-in-Err-look_at-clause-reported : goal.returns-in-Err-look_at-clause-reported
 returns-in-Err-look_at-clause-reported g c = λ tells.
     let taken = rw c.in-Some.is at (c.in-Ok.ensures.taken (still_tells g.S.Shelf c.lines.invariant.quiet tells)) in
-    let prefix = c.in-Err-look_at.ensures.err taken.0.line
+    let part = c.in-Err-look_at.ensures.err taken.0.line
     (taken.0.is ∙ ap (λ b. record { bytes = b; place = c.in-Some.at.place }) (sym c.deref.ensures.value))
     (lines_at (g.S.Shelf.left c.take_change.new.shelf) c.take_change.new.run.change) in
-    seeks_reported_more _ (change_lines (g.S.Shelf.left c.lines.shelf) c.lines.run) c.lines.begin _ _
-    (c.lines.invariant.seeks tells) (so_far_of c.look_at.new.run) (subst (λ (ls : List SourceLine).
-    ReportsFaultPrefix (sought ls c.lines.begin).faults c.lines.run.faults.items c.look_at.new.run.faults.items)
-    (sym taken.1) (subst (λ (v : Vec SourceFault Global).
-    ReportsFaultPrefix (sought
-    (taken.0.line ∷ lines_at (g.S.Shelf.left c.take_change.new.shelf) c.take_change.new.run.change)
-    c.lines.begin).faults v.items c.look_at.new.run.faults.items) c.in-Ok.ensures.only.faults prefix))
-    (ap opened_file_names (c.in-Err-look_at.ensures.only.names ∙ c.in-Ok.ensures.only.names))
+    seeks_in_part _ (change_lines (g.S.Shelf.left c.lines.shelf) c.lines.run) c.lines.begin _ (so_far_of c.lines.run)
+    (c.lines.invariant.seeks tells) (so_far_of c.take_change.new.run) (so_far_of c.look_at.new.run)
+    c.take_change.new.line.items c.in-Some.at.place taken.0 _ taken.1 (took_faults c.in-Ok.ensures.only)
+    (took_names c.in-Ok.ensures.only) (ap opened_file_names c.in-Err-look_at.ensures.only.names) part
 
 pub lines-preserved : goal.lines-preserved
 lines-preserved g c = record {
@@ -95,8 +91,8 @@ returns-in-Err-clause-still g c = reported_then _ _ _ c.lines.invariant.quiet.re
 pub returns-in_default-clause-still : goal.returns-in_default-clause-still
 returns-in_default-clause-still g c = reported_then _ _ _
     (quiet g (goal.at.returns-in_default-clause-still g c).In-Ok).reported
-    (reported_if c.end.result _ _ (sought [] c.lines.begin).faults c.end.ensures.reported c.end.ensures.err
-    (ap opened_file_names c.end.ensures.names))
+    (reported_if c.end.result _ _ (reported_faults (sought [] c.lines.begin).events) c.end.ensures.reported
+    c.end.ensures.err (ap opened_file_names c.end.ensures.names))
 
 pub returns-in-Err-look_at-clause-still : goal.returns-in-Err-look_at-clause-still
 returns-in-Err-look_at-clause-still g c =
@@ -105,9 +101,9 @@ returns-in-Err-look_at-clause-still g c =
       length = 0;
       size = 0;
     } in
-    let prefix = c.in-Err-look_at.ensures.err source refl [] in
+    let part = c.in-Err-look_at.ensures.err source refl [] in
     reported_then _ _ _ (quiet g (goal.at.returns-in-Err-look_at-clause-still g c).In-Ok).reported
-    (reported_after _ _ prefix.prefix prefix.reported (ap opened_file_names c.in-Err-look_at.ensures.only.names))
+    (reported_after _ _ part.prefix part.reported (ap opened_file_names c.in-Err-look_at.ensures.only.names))
 
 pub returns-in-Entry-clause-still : goal.returns-in-Entry-clause-still
 returns-in-Entry-clause-still g c = (looked g (goal.at.returns-in-Entry-clause-still g c).In-Ok-look_at).reported
@@ -118,7 +114,8 @@ returns-in_default-clause-searched g c = λ tells.
     let counted = rw c.in_default.is at c.in-Ok.ensures.answers.counted in
     OnOk-both c.end.result (λ reported done.
     seeks_ended _ _ c.lines.begin _ (so_far_of c.lines.run) (c.lines.invariant.seeks tells) taken.0 _ (reported ∙ ap
-    (λ (v : Vec SourceFault Global). v.items ++ (sought [] c.lines.begin).faults) c.in-Ok.ensures.only.faults)
+    (λ (v : Vec SourceFault Global). v.items ++ reported_faults (sought [] c.lines.begin).events)
+    c.in-Ok.ensures.only.faults)
     (ap opened_file_names (c.end.ensures.names ∙ c.in-Ok.ensures.only.names)) (ap counters_of c.end.ensures.limits
     ∙ (λ i. record { lines = counted.0 i; bytes = counted.1 i })) _ done _ _) c.end.ensures.reported c.end.ensures.stage
 

@@ -2,7 +2,7 @@ use Rattle.cweb_lines.proofs.Common.{rules, List, Vec, Global, Some, ◌≡◌, 
 use Rattle.cweb_input.proofs.ReadersStayNamed.{blames_after, blames_memory, stop_after}
 use Rattle.cweb_lines.proofs.ReportsOnlyGrow.{reported_then, reported_took}
 use Rattle.cweb_input.proofs.Found.{IfOk-map}
-use Rattle.cweb_lines.proofs.Stops.{stopped_by, reported_stays}
+use Rattle.cweb_lines.proofs.Stops.{stopped_by, reported_stays, things_first}
 use Rattle.cweb_lines.proofs.EmittedLinesAddUp.{yields_took}
 use Rattle.cweb_lines.proofs.MergeStateEvents.{stops_in}
 use Rattle.cweb_input.proofs.SourceStacks.{stops_map}
@@ -17,6 +17,7 @@ returns-in-Err-clause-stops g c =
     λ tells. stopped_by c.in-Err.stop (so_far_of c.args.run.now) (so_far_of c.take_raw.new.run) _
     (things_of (g.S.Shelf.left c.args.shelf.now) c.args.run.now) (pending_of c.args.run.now) _ _
     (reported_stays c.args.run.now _ c.in-Err.ensures.only c.in-Err.ensures.answers.counted)
+    (things_first (g.S.Shelf.left c.args.shelf.now) c.args.run.now.stage _ c.args.run.now.stack)
     (stops_map c.in-Err.stop (stops_in (g.S.Shelf.left c.args.shelf.now) c.args.run.now.stage
     (change_lines (g.S.Shelf.left c.args.shelf.now) c.args.run.now) c.args.run.now.stack c.in-Err.stop
     (counters_of c.args.run.now.limits) c.requires.settled) (c.in-Err.ensures.stops tells))
