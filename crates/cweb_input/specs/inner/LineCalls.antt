@@ -1,6 +1,6 @@
 -- What calls that take lines promise for any shelf, observable or not.
 use Rattle.std.specs.Prelude.{◌≡◌, ◌≤◌, ◌<◌, ◌+◌, ℕ, List, length, Option, None, Some, Result, Ok, Err, IfOk, IfErr}
-use Rattle.std.specs.Prelude.{IfSome, OnSome, OnErr}
+use Rattle.std.specs.Prelude.{IfSome, OnSome, OnErr, ◌-◌, slice_set}
 use Rattle.cweb_input.specs.inner.OpenSources.{AreDeep, Counted, DepthAfter, NamesFiles, StaysBelow}
 use Rattle.cweb_input.specs.OpenSources.{TakenCountersModel}
 use Rattle.cweb_input.specs.surface.OpenSources.{StopsReading, matches_at, number_or_zero, source_depth}
@@ -51,6 +51,7 @@ UnlessTaken (Err stop) Says = Says
 -- The deepest source is closed if it has no line. Otherwise the line is its next one.
 pub record ClosesTop {R : Type 0} (old new : Stack R) (result : Result (Option LineAt) Stop) : Type 0 where
   pub depth : DepthAfter old.depth new.depth result
+  pub closed : result ≡ Ok None → new.texts ≡ slice_set old.texts (old.depth - 1) None
   pub below : (low : ℕ) → low < old.depth → StaysBelow low old.texts new.texts
   pub numbers : UnlessTaken result (KeepsNumbers old new)
   pub deeper : IfOk result (λ at. IfSome at (λ a. new.depth ≤ a.depth))

@@ -103,8 +103,6 @@ fn take_top<S: Shelf>(
     ensures closes { ClosesTop stack.old stack.new result }
     ensures needed { IfErr result (λ stop.
         NeedsRead (slice_index_or stack.old.texts (stack.old.depth - 1) None) stop) }
-    ensures closed { result ≡ Ok None →
-        stack.new.texts ≡ slice_set stack.old.texts (stack.old.depth - 1) None }
     ensures named { KeepsReaderNames S.Shelf shelf.old shelf.new stack.old.texts stack.new.texts }
     ensures blamed { BlamesSources S.Shelf shelf.old shelf.new stack.old.texts result }
     ensures stack { KeepsStack stack.old stack.new (counters_of limits.new) }

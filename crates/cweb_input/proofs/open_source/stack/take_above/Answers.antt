@@ -54,7 +54,7 @@ texts-preserved g c =
           ∙ c.texts.invariant.below left n le rest;
       kept = λ place below. (rw c.in_default.is at c.in-Ok.ensures.closes.numbers) place below
           ∙ c.texts.invariant.kept place (omega (arith, depth, below));
-      same = λ place below. ap (λ texts. slice_index_or texts place None) (c.in-Ok.ensures.closed (ap Ok c.in_default.is))
+      same = λ place below. ap (λ texts. slice_index_or texts place None) (c.in-Ok.ensures.closes.closed (ap Ok c.in_default.is))
           ∙ get_or-set_other c.texts.stack.texts (c.texts.stack.depth - 1) place None None (omega (arith, depth, below)) ∙ c.texts.invariant.same place (omega (arith, depth, below));
       counted = (λ i. record { lines = counted.0 i; bytes = counted.1 i }) ∙ c.texts.invariant.counted;
       things = λ tells rest.

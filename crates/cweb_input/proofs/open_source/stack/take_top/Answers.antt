@@ -30,9 +30,9 @@ returns-in-Err g c =
           (counters_of c.args.limits.now) (counters_of c.take_from.new.limits) c.take_from.new.line.items low above rest
           c.in-Err.stop first) (c.in-Err.ensures.stops tells);
       needed = rw (get_or_default stack.texts (stack.depth - 1) None slot within) c.in-Err.ensures.needed;
-      closed = λ is. absurd (cc);
       closes = record {
         depth = search rules;
+        closed = λ is. absurd (cc);
         below = λ low above. stays_below stack.texts _ (stack.depth - 1) low c.take_from.new.slot (omega arith) refl;
         numbers = λ place below. numbers_set stack.texts _ (stack.depth - 1) place slot c.take_from.new.slot within refl
             c.in-Err.ensures.text.uncounted;
@@ -70,9 +70,9 @@ returns-in_default g c =
           c.take_from.new.line.items low above rest _ closed (rw c.in_default.is at (c.in-Ok.ensures.taken tells));
       stops = λ tells. tt;
       needed = tt;
-      closed = λ is. closed;
       closes = record {
         depth = search rules;
+        closed = λ is. closed;
         below = λ low above. stays_below stack.texts _ (stack.depth - 1) low None (omega arith) closed;
         numbers = λ place below. numbers_below stack.texts _ (stack.depth - 1) place None below closed;
         deeper = search rules;
@@ -105,9 +105,9 @@ returns g c =
           c.in-Ok.ensures.text.may_match (rw c.in-Some.is at (c.in-Ok.ensures.taken tells));
       stops = λ tells. tt;
       needed = tt;
-      closed = λ is. absurd (cc);
       closes = record {
         depth = search rules;
+        closed = λ is. absurd (cc);
         below = λ low above. stays_below stack.texts _ (stack.depth - 1) low c.take_from.new.slot (omega arith) refl;
         numbers = tt;
         deeper = let below = rw c.in-Some.is at deep.1 in omega (arith, below);
