@@ -9,16 +9,14 @@ use crate::tokens::Token;
 use crate::tokens::closed::ClosedTokens;
 use crate::tokens::interned::token_of_interned;
 use crate::tokens::records::Records;
-use crate::tokens::token_index::TokenIndex;
 use cweb_texts::StringTable;
 use std::alloc::{AllocError, Global};
 use std::marker::Model;
 
-/// Tokens as records, their strings, and an index of uses and Defs.
+/// Tokens as records, and their strings.
 pub struct TokenList {
     strings: StringTable,
     records: Records,
-    token_index: TokenIndex,
 }
 
 // One call frees it, not one per field.
@@ -27,19 +25,18 @@ impl Drop for TokenList {
         let TokenList {
             strings: _,
             records: _,
-            token_index: _,
         } = self;
     }
 }
 
 impl Model for TokenList {
-    ghost use Rattle.std.specs.Prelude.{map, vec_capacity};
+    ghost use Rattle.std.specs.Prelude.{map};
     ghost use Rattle.cweb_store.specs.inner.Rooms.{TokenListModel};
 
     ghost Value = { TokenListModel };
 
     ghost use Rattle.cweb_store.specs.inner.InternedTokens.{token_of_interned};
-    ghost use Rattle.cweb_store.specs.inner.TokenIndexes.{AreIndexedTokens};
+    ghost use Rattle.cweb_store.specs.inner.ClosedTokens.{AreTokens};
 
     ghost view = { λ s.
         record {
@@ -47,12 +44,10 @@ impl Model for TokenList {
           rooms = record {
             for_records = s.records.room;
             for_places = s.records.place_room;
-            for_uses = vec_capacity s.token_index.uses;
-            for_defs = vec_capacity s.token_index.defs;
           };
         } };
 
-    ghost invariant = { λ s. AreIndexedTokens s.strings s.records.interned s.token_index };
+    ghost invariant = { λ s. AreTokens s.strings s.records.interned };
 }
 
 impl TokenList {
@@ -65,7 +60,6 @@ impl TokenList {
         TokenList {
             strings: StringTable::new(alloc),
             records: Records::new(alloc),
-            token_index: TokenIndex::new(alloc),
         }
     }
 
@@ -85,10 +79,7 @@ impl TokenList {
         ensures err { OnErr result (self.new.tokens ≡ self.old.tokens) }
     {
         self.records.reserve(token)?;
-        self.token_index.reserve(token)?;
-        let number = self.records.len();
         self.records.put(&mut self.strings, token)?;
-        self.token_index.add_number(number, token);
         Ok(())
     }
 
@@ -109,22 +100,16 @@ impl TokenList {
         ensures rooms { self.new.rooms ≡ self.old.rooms }
     {
         self.records.truncate(count);
-        self.token_index.truncate(count);
     }
 
     /// The finished tokens.
     pub fn close(self) -> ClosedTokens
         ensures { result ≡ self.tokens }
     {
-        let TokenList {
-            strings,
-            records,
-            token_index,
-        } = self;
+        let TokenList { strings, records } = self;
         ClosedTokens {
             strings: strings.close(),
             records,
-            token_index,
         }
     }
 }
