@@ -12,7 +12,7 @@ use std::alloc::Global;
 use std::marker::Model;
 
 // How many buckets there are at first.
-const FIRST_BUCKETS: usize = 64;
+const FIRST_BUCKETS: usize = 1024;
 
 /// Words in the order in which they were added. Those of one bucket are linked, the latest first.
 #[derive(Drop)]
