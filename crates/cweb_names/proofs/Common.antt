@@ -37,9 +37,9 @@ pub use Rattle.cweb_names.specs.declared.table.OccurrenceForm.{OccurrenceForm}
 pub use Rattle.cweb_names.specs.inner.Found.{found_of, is_several, NameEntry, compare_bytes, entry_has_prefix}
 pub use Rattle.cweb_names.specs.inner.Found.{IsNameMap, id_of_spelling, next_begins, any_next, ids_with_prefix}
 pub use Rattle.cweb_names.specs.inner.Known.{early, earlies_from, by_found, has_spelling_at, name_at, names_at}
-pub use Rattle.cweb_names.specs.inner.Known.{AreKnown}
+pub use Rattle.cweb_names.specs.inner.Known.{AreKnown, NamesSoFar}
 pub use Rattle.cweb_names.specs.inner.OccurrenceTables.{IsOccurrenceTable, resolve, resolve_all, occurrence_form}
 pub use Rattle.cweb_names.specs.inner.OccurrenceTables.{occurrences_at}
 pub use Rattle.cweb_names.specs.inner.SortPrefixes.{sort_prefix_of}
 pub use Rattle.cweb_names.specs.laws.Found.{Distinct}
-pub use Rattle.cweb_names.specs.surface.Names.{occurrence_of, too_many, occurrence_text, NamesSoFar}
+pub use Rattle.cweb_names.specs.surface.Names.{occurrence_of, too_many, occurrence_text}

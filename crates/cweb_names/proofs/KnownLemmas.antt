@@ -58,13 +58,13 @@ known-new es ns text next v known sorted is last =
     ]) refl is
 
 -- Names keep their spellings where occurrences are added.
-pub names-grow : (texts more : List (List ℕ)) (firsts : List ℕ) → AllByRecursion (λ (f : ℕ). f < length texts) firsts
-    → names_at (texts ++ more) firsts ≡ names_at texts firsts
-names-grow texts more [] within = refl
-names-grow texts more (f ∷ firsts) within =
-    ap (λ (t : List ℕ). let n : Name = record { text = t; first = f } in n ∷ names_at (texts ++ more) firsts)
-    (text-grows texts more f within.0)
-    ∙ ap (λ (ns : List Name). name_at texts f ∷ ns) (names-grow texts more firsts within.1)
+pub names-grow : (strings more : List (List ℕ)) (firsts : List ℕ) → AllByRecursion (λ (f : ℕ). f < length strings) firsts
+    → names_at (strings ++ more) firsts ≡ names_at strings firsts
+names-grow strings more [] within = refl
+names-grow strings more (f ∷ firsts) within =
+    ap (λ (t : List ℕ). let n : Name = record { text = t; first = f } in n ∷ names_at (strings ++ more) firsts)
+    (text-grows strings more f within.0)
+    ∙ ap (λ (ns : List Name). name_at strings f ∷ ns) (names-grow strings more firsts within.1)
   where
     text-grows : (ts us : List (List ℕ)) (n : ℕ) → n < length ts → string_at (ts ++ us) n ≡ string_at ts n
     text-grows [] us n h = absurd (let none : ⊥ = omega arith in none)
@@ -87,39 +87,39 @@ within-at n [] i f within here = cc
 within-at n (g ∷ firsts) zero f within here = let same : g ≡ f = cc in subst (λ (h : ℕ). h < n) same within.0
 within-at n (g ∷ firsts) (suc i) f within here = within-at n firsts i f within.1 here
 
-pub firsts-back : (texts : List (List ℕ)) (firsts : List ℕ) → map (λ (n : Name). n.first) (names_at texts firsts) ≡ firsts
-firsts-back texts [] = refl
-firsts-back texts (f ∷ firsts) = ap (λ (fs : List ℕ). f ∷ fs) (firsts-back texts firsts)
+pub firsts-back : (strings : List (List ℕ)) (firsts : List ℕ) → map (λ (n : Name). n.first) (names_at strings firsts) ≡ firsts
+firsts-back strings [] = refl
+firsts-back strings (f ∷ firsts) = ap (λ (fs : List ℕ). f ∷ fs) (firsts-back strings firsts)
 
 -- One more name, that of an occurrence with this text.
-pub names-push : (texts : List (List ℕ)) (firsts : List ℕ) (f : ℕ) (text : List ℕ) → slice_get texts f ≡ Some text
-    → names_at texts (firsts ++ f ∷ []) ≡ names_at texts firsts ++ (record { text = text; first = f }) ∷ []
-names-push texts firsts f text given =
-    map-append (name_at texts) firsts (f ∷ [])
-    ∙ ap (λ (t : List ℕ). let n : Name = record { text = t; first = f } in names_at texts firsts ++ n ∷ [])
-    (get-string texts f text given)
+pub names-push : (strings : List (List ℕ)) (firsts : List ℕ) (f : ℕ) (text : List ℕ) → slice_get strings f ≡ Some text
+    → names_at strings (firsts ++ f ∷ []) ≡ names_at strings firsts ++ (record { text = text; first = f }) ∷ []
+names-push strings firsts f text given =
+    map-append (name_at strings) firsts (f ∷ [])
+    ∙ ap (λ (t : List ℕ). let n : Name = record { text = t; first = f } in names_at strings firsts ++ n ∷ [])
+    (get-string strings f text given)
 
 -- A refused name leaves the names as they were, once its occurrence is dropped.
-pub known-undone : (texts : List (List ℕ)) (text : List ℕ) (firsts : List ℕ) (es more : List NameEntry)
-    → AreKnown texts firsts es → AreKnown (texts ++ text ∷ []) firsts more → AreKnown texts firsts more
-known-undone texts text firsts es more before after = record {
-  sorted = subst (IsNameMap more) (names-grow texts (text ∷ []) firsts before.within) after.sorted;
+pub known-undone : (strings : List (List ℕ)) (text : List ℕ) (firsts : List ℕ) (es more : List NameEntry)
+    → AreKnown strings firsts es → AreKnown (strings ++ text ∷ []) firsts more → AreKnown strings firsts more
+known-undone strings text firsts es more before after = record {
+  sorted = subst (IsNameMap more) (names-grow strings (text ∷ []) firsts before.within) after.sorted;
   within = before.within;
 }
 
 -- An occurrence without a name of its own.
-pub known-grown : (texts : List (List ℕ)) (text : List ℕ) (firsts : List ℕ) (es : List NameEntry)
-    → AreKnown texts firsts es → AreKnown (texts ++ text ∷ []) firsts es
-known-grown texts text firsts es known = record {
-  sorted = subst (IsNameMap es) (sym (names-grow texts (text ∷ []) firsts known.within)) known.sorted;
-  within = within-grow (length texts) (length (texts ++ text ∷ [])) firsts
-      (omega (arith, length-append texts (text ∷ []))) known.within;
+pub known-grown : (strings : List (List ℕ)) (text : List ℕ) (firsts : List ℕ) (es : List NameEntry)
+    → AreKnown strings firsts es → AreKnown (strings ++ text ∷ []) firsts es
+known-grown strings text firsts es known = record {
+  sorted = subst (IsNameMap es) (sym (names-grow strings (text ∷ []) firsts known.within)) known.sorted;
+  within = within-grow (length strings) (length (strings ++ text ∷ [])) firsts
+      (omega (arith, length-append strings (text ∷ []))) known.within;
 }
 
-pub last-text : (texts : List (List ℕ)) (text : List ℕ) → slice_get (texts ++ text ∷ []) (length texts) ≡ Some text
+pub last-text : (strings : List (List ℕ)) (text : List ℕ) → slice_get (strings ++ text ∷ []) (length strings) ≡ Some text
 last-text [] text = refl
-last-text (t ∷ texts) text = last-text texts text
+last-text (t ∷ strings) text = last-text strings text
 
-pub texts-back : (texts : List (List ℕ)) (text : List ℕ) → take (length texts) (texts ++ text ∷ []) ≡ texts
-texts-back [] text = refl
-texts-back (t ∷ texts) text = ap (λ (ts : List (List ℕ)). t ∷ ts) (texts-back texts text)
+pub dropped-last : (strings : List (List ℕ)) (text : List ℕ) → take (length strings) (strings ++ text ∷ []) ≡ strings
+dropped-last [] text = refl
+dropped-last (t ∷ strings) text = ap (λ (ts : List (List ℕ)). t ∷ ts) (dropped-last strings text)

@@ -4,10 +4,10 @@ ghost use Rattle.std.specs.Prelude.{false, ◌≡◌, ◌<◌, ◌^◌, ◌++◌
 ghost use Rattle.std.specs.Prelude.{bytes_eq, option_map, take, Some, IfOk, IfSome, true, OnOk, OnErr};
 ghost use Rattle.std.specs.List.{list_any, position_or_len};
 ghost use Rattle.cweb_names.specs.Names.{beginning, is_prefix_of_another, spellings};
-ghost use Rattle.cweb_names.specs.surface.Names.{occurrence_of, no_names};
+ghost use Rattle.cweb_names.specs.surface.Names.{occurrence_of};
 ghost use Rattle.cweb_names.specs.Names.{with_occurrence_name, with_full_name};
 ghost use Rattle.cweb_names.specs.inner.Found.{found_of};
-ghost use Rattle.cweb_names.specs.inner.Known.{early, has_spelling_at};
+ghost use Rattle.cweb_names.specs.inner.Known.{early, has_spelling_at, no_names};
 
 use crate::found::{Found, find_one, has_prefix, number_in};
 use crate::index::NameIndex;
@@ -23,7 +23,7 @@ use std::marker::Model;
 #[derive(Drop)]
 pub struct KnownNames {
     alloc: Global,
-    texts: StringList,
+    strings: StringList,
     // for each name the number of the occurrence that first gave it in full
     firsts: Vec<u32>,
     sorted: BTreeMap<SortKey, NameId>,
@@ -31,15 +31,15 @@ pub struct KnownNames {
 }
 
 impl Model for KnownNames {
-    ghost use Rattle.cweb_names.specs.surface.Names.{NamesSoFar};
+    ghost use Rattle.cweb_names.specs.inner.Known.{NamesSoFar};
 
     ghost Value = { NamesSoFar };
 
     ghost use Rattle.cweb_names.specs.inner.Known.{AreKnown, names_at};
 
-    ghost view = { λ s. record { texts = s.texts; names = names_at s.texts s.firsts.items } };
+    ghost view = { λ s. record { strings = s.strings; names = names_at s.strings s.firsts.items } };
 
-    ghost invariant = { λ s. AreKnown s.texts s.firsts.items s.sorted.entries };
+    ghost invariant = { λ s. AreKnown s.strings s.firsts.items s.sorted.entries };
 }
 
 impl KnownNames {
@@ -49,7 +49,7 @@ impl KnownNames {
     {
         KnownNames {
             alloc,
-            texts: StringList::new(alloc),
+            strings: StringList::new(alloc),
             firsts: Vec::new(alloc),
             sorted: BTreeMap::new(alloc),
             index: NameIndex::new(alloc),
@@ -65,20 +65,20 @@ impl KnownNames {
 
     /// Adds an occurrence, and its name if in full. Returns which names fit so far. A refused call changes nothing.
     pub fn take(&mut self, text: &[u8], how: How) -> Result<Found, AllocError>
-        requires few_texts { length self.old.texts < 2 ^ 32 }
+        requires few_strings { length self.old.strings < 2 ^ 32 }
         requires few { length self.old.names < 2 ^ 32 }
         ensures found { IfOk result
             (λ found. found ≡ early self.old.names (occurrence_of text.now how false)) }
-        ensures texts { OnOk result (self.new.texts ≡ self.old.texts ++ text.now ∷ []) }
+        ensures strings { OnOk result (self.new.strings ≡ self.old.strings ++ text.now ∷ []) }
         ensures names { OnOk result (self.new.names ≡ with_occurrence_name
-            (length self.old.texts) self.old.names (occurrence_of text.now how false)) }
+            (length self.old.strings) self.old.names (occurrence_of text.now how false)) }
         ensures err { OnErr result (self.new ≡ self.old) }
     {
         match how {
             How::Full => Ok(Found::One(self.know(text)?)),
             How::Prefix => {
                 let found = self.find(text)?;
-                self.texts.add(text)?;
+                self.strings.add(text)?;
                 Ok(found)
             }
         }
@@ -86,20 +86,20 @@ impl KnownNames {
 
     // Adds an occurrence that gives a name in full. Returns the number of the name, which is added if new.
     fn know(&mut self, text: &[u8]) -> Result<NameId, AllocError>
-        requires few_texts { length self.old.texts < 2 ^ 32 }
+        requires few_strings { length self.old.strings < 2 ^ 32 }
         requires few { length self.old.names < 2 ^ 32 }
         ensures number { IfOk result
             (λ id. id.0 ≡ position_or_len (bytes_eq text.now) (spellings self.old.names)) }
-        ensures texts { OnOk result (self.new.texts ≡ self.old.texts ++ text.now ∷ []) }
+        ensures strings { OnOk result (self.new.strings ≡ self.old.strings ++ text.now ∷ []) }
         ensures names { OnOk result (self.new.names
-            ≡ with_full_name (length self.old.texts) self.old.names text.now) }
+            ≡ with_full_name (length self.old.strings) self.old.names text.now) }
         ensures err { OnErr result (self.new ≡ self.old) }
     {
-        let first = self.texts.add(text)?;
+        let first = self.strings.add(text)?;
         match self.number_of(text, first as u32) {
             Ok(id) => Ok(id),
             Err(refusal) => {
-                self.texts.truncate(first);
+                self.strings.truncate(first);
                 Err(refusal)
             }
         }
@@ -108,10 +108,10 @@ impl KnownNames {
     // The number of the name with this spelling, that of occurrence `first`. The name is added if new.
     fn number_of(&mut self, text: &[u8], first: u32) -> Result<NameId, AllocError>
         requires few { length self.old.names < 2 ^ 32 }
-        requires given { slice_get self.old.texts first ≡ Some text.now }
+        requires spelled { slice_get self.old.strings first ≡ Some text.now }
         ensures number { IfOk result
             (λ id. id.0 ≡ position_or_len (bytes_eq text.now) (spellings self.old.names)) }
-        ensures texts { self.new.texts ≡ self.old.texts }
+        ensures strings { self.new.strings ≡ self.old.strings }
         ensures names { OnOk result (self.new.names ≡ with_full_name first self.old.names text.now) }
         ensures err { OnErr result (self.new ≡ self.old) }
     {
@@ -156,7 +156,7 @@ impl KnownNames {
     fn larger_index(&self) -> Option<NameIndex> {
         let mut index = NameIndex::with_slots_for(self.alloc, self.firsts.len())?;
         for (number, first) in self.firsts.iter().enumerate() {
-            index.put(self.texts.string(*first as usize), number);
+            index.put(self.strings.string(*first as usize), number);
         }
         Some(index)
     }
@@ -165,7 +165,7 @@ impl KnownNames {
         ensures { result ≡ has_spelling_at self.now.names id.0 text.now }
     {
         match self.firsts.get(id.0 as usize) {
-            Some(first) => self.texts.string(*first as usize) == text,
+            Some(first) => self.strings.string(*first as usize) == text,
             None => false,
         }
     }
@@ -173,10 +173,10 @@ impl KnownNames {
     // The slow path of `number_of`: looks the name up in the map.
     fn add(&mut self, text: &[u8], first: u32) -> Result<NameId, AllocError>
         requires few { length self.old.names < 2 ^ 32 }
-        requires given { slice_get self.old.texts first ≡ Some text.now }
+        requires spelled { slice_get self.old.strings first ≡ Some text.now }
         ensures number { IfOk result
             (λ id. id.0 ≡ position_or_len (bytes_eq text.now) (spellings self.old.names)) }
-        ensures texts { self.new.texts ≡ self.old.texts }
+        ensures strings { self.new.strings ≡ self.old.strings }
         ensures names { OnOk result (self.new.names ≡ with_full_name first self.old.names text.now) }
         ensures err { OnErr result (self.new ≡ self.old) }
     {
@@ -204,7 +204,7 @@ impl KnownNames {
         requires { id.0 < length self.now.names }
         ensures { option_map (λ n. n.text) (slice_get self.now.names id.0) ≡ Some result.now }
     {
-        self.texts.string(self.firsts[id.0 as usize] as usize)
+        self.strings.string(self.firsts[id.0 as usize] as usize)
     }
 
     /// The number of the occurrence that first gave a name in full.
@@ -216,25 +216,25 @@ impl KnownNames {
     }
 
     /// The spellings of the occurrences.
-    pub fn texts(&self) -> &StringList
-        ensures { result.now ≡ self.now.texts }
+    pub fn strings(&self) -> &StringList
+        ensures { result.now ≡ self.now.strings }
     {
-        &self.texts
+        &self.strings
     }
 
     /// The spellings of the occurrences, and for each name the number of the one that first gave it in full.
     pub fn close(self) -> (StringList, Vec<u32>)
-        ensures texts { result.0 ≡ self.texts }
+        ensures strings { result.0 ≡ self.strings }
         ensures firsts { result.1.items ≡ map (λ n. n.first) self.names }
     {
         let KnownNames {
             alloc: _,
-            texts,
+            strings,
             firsts,
             sorted: _,
             index: _,
         } = self;
-        (texts, firsts)
+        (strings, firsts)
     }
 
     /// Whether any name is a proper prefix of another one.

@@ -52,10 +52,10 @@ impl Model for NameTable {
 
     ghost use Rattle.cweb_names.specs.inner.OccurrenceTables.{IsOccurrenceTable, occurrences_at};
 
-    ghost view = { λ s. occurrences_at s.known.texts s.forms.items };
+    ghost view = { λ s. occurrences_at s.known.strings s.forms.items };
 
     ghost invariant = { λ s.
-        IsOccurrenceTable s.known.names s.known.texts s.forms.items s.found.items };
+        IsOccurrenceTable s.known.names s.known.strings s.forms.items s.found.items };
 }
 
 impl NameTable {
@@ -110,7 +110,7 @@ impl NameTable {
     {
         let mut all = Vec::with_capacity(self.alloc, self.found.len())?;
         for (i, found) in self.found.iter().enumerate() {
-            all.push(resolve(&self.known, self.known.texts().string(i), *found)?)?;
+            all.push(resolve(&self.known, self.known.strings().string(i), *found)?)?;
         }
         Ok(all)
     }

@@ -9,17 +9,25 @@ use Rattle.cweb_names.specs.declared.found.Found.TheVariants.{Nothing, One, Seve
 use Rattle.cweb_names.specs.Names.{Occurrence, Name, Resolution, id, spellings, beginning, with_occurrence_name}
 use Rattle.cweb_names.specs.inner.Found.{found_of, IsNameMap, NameEntry}
 
+-- The spellings of the occurrences so far, and the names that are given in full among them.
+pub record NamesSoFar : Type 0 where
+  pub strings : List (List ℕ)
+  pub names : List Name
+
+abbrev pub no_names : NamesSoFar
+no_names = record { strings = []; names = [] }
+
 -- The name that an occurrence first gives in full.
 abbrev pub name_at : List (List ℕ) → ℕ → Name
-name_at texts first = record { text = string_at texts first; first = first }
+name_at strings first = record { text = string_at strings first; first = first }
 
 abbrev pub names_at : List (List ℕ) → List ℕ → List Name
-names_at texts firsts = map (name_at texts) firsts
+names_at strings firsts = map (name_at strings) firsts
 
 -- The names are those of the map. Each has an occurrence of its own.
-pub record AreKnown (texts : List (List ℕ)) (firsts : List ℕ) (es : List NameEntry) : Type 0 where
-  pub sorted : IsNameMap es (names_at texts firsts)
-  pub within : AllByRecursion (λ (first : ℕ). first < length texts) firsts
+pub record AreKnown (strings : List (List ℕ)) (firsts : List ℕ) (es : List NameEntry) : Type 0 where
+  pub sorted : IsNameMap es (names_at strings firsts)
+  pub within : AllByRecursion (λ (first : ℕ). first < length strings) firsts
 
 abbrev pub has_spelling_at : List Name → ℕ → List ℕ → Bool
 has_spelling_at names i text = elim (slice_get names i) [ Some n ↦ bytes_eq n.text text | None ↦ false ]

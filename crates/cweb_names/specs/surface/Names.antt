@@ -1,7 +1,7 @@
 -- Occurrences and their spellings.
-use Rattle.std.specs.Prelude.{ℕ, Bool, List, []}
+use Rattle.std.specs.Prelude.{ℕ, Bool, List}
 use Rattle.cweb_names.specs.declared.name.How.{How}
-use Rattle.cweb_names.specs.Names.{Occurrence, Name}
+use Rattle.cweb_names.specs.Names.{Occurrence}
 
 abbrev pub occurrence_of : List ℕ → How → Bool → Occurrence
 occurrence_of text how is_file = record { text = text; how = how; is_file = is_file }
@@ -12,11 +12,3 @@ occurrence_text o = o.text
 -- The maximum number of occurrences is less than this.
 abbrev pub too_many : ℕ
 too_many = 4294967295
-
--- The spellings of the occurrences so far, and the names that are given in full among them.
-pub record NamesSoFar : Type 0 where
-  pub texts : List (List ℕ)
-  pub names : List Name
-
-abbrev pub no_names : NamesSoFar
-no_names = record { texts = []; names = [] }

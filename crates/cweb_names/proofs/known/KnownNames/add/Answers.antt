@@ -6,7 +6,7 @@ use Rattle.cweb_names.proofs.known.KnownNames.add.Goals as goal
 pub returns-then-id-next-clause-number : goal.returns-then-id-next-clause-number
 returns-then-id-next-clause-number c =
     let s = c.self.inside in
-    let ns = names_at s.texts s.firsts.items in
+    let ns = names_at s.strings s.firsts.items in
     let is : c.in_ok-key.key ≡ c.args.text.now = c.in_ok-key.ensures in
     let stays = known-old s.sorted.entries ns c.in_ok-key.key
     _ c.in_ok-id.id c.self.invariant.sorted c.in_ok-id.ensures.ordered c.in_ok-id.ensures.number c.if-id-next.true in
@@ -15,7 +15,7 @@ returns-then-id-next-clause-number c =
 pub returns-then-id-next-clause-names : goal.returns-then-id-next-clause-names
 returns-then-id-next-clause-names c =
     let s = c.self.inside in
-    let ns = names_at s.texts s.firsts.items in
+    let ns = names_at s.strings s.firsts.items in
     let text = c.args.text.now in
     let is : c.in_ok-key.key ≡ text = c.in_ok-key.ensures in
     let stays = known-old s.sorted.entries ns c.in_ok-key.key
@@ -26,7 +26,7 @@ returns-then-id-next-clause-names c =
 pub invariant_of-self-then-id-next : goal.invariant_of-self-then-id-next
 invariant_of-self-then-id-next c =
     let s = c.self.inside in
-    let ns = names_at s.texts s.firsts.items in
+    let ns = names_at s.strings s.firsts.items in
     let stays = known-old s.sorted.entries ns c.in_ok-key.key
     _ c.in_ok-id.id c.self.invariant.sorted c.in_ok-id.ensures.ordered c.in_ok-id.ensures.number c.if-id-next.true in
     rw (c.in_ok-reserve.ensures.items, c.in_ok-id.ensures.entries, stays.same) c.self.invariant
@@ -34,34 +34,34 @@ invariant_of-self-then-id-next c =
 pub invariant_of-self-2 : goal.invariant_of-self-2
 invariant_of-self-2 c =
     let s = c.self.inside in
-    let ns = names_at s.texts s.firsts.items in
+    let ns = names_at s.strings s.firsts.items in
     let key = c.in_ok-key.key in
     let v = c.in_ok-id.id in
     let is : key ≡ c.args.text.now = c.in_ok-key.ensures in
     let last : v.0 ≡ length ns =
-    c.if-id-next.false ∙ c.len.ensures ∙ s.firsts.ok.0 ∙ sym (length-map s.firsts.items (name_at s.texts)) in
+    c.if-id-next.false ∙ c.len.ensures ∙ s.firsts.ok.0 ∙ sym (length-map s.firsts.items (name_at s.strings)) in
     let new : list_any (bytes_eq key) (spellings ns) ≡ false =
     known-new s.sorted.entries ns key _ v c.self.invariant.sorted c.in_ok-id.ensures.ordered
     c.in_ok-id.ensures.number last in
-    let given = ap (λ (m : NamesSoFar). slice_get m.texts c.args.first) c.self.view_is ∙ c.requires.given in
+    let given = ap (λ (m : NamesSoFar). slice_get m.strings c.args.first) c.self.view_is ∙ c.requires.spelled in
     let known = known-push s.sorted.entries ns key c.args.first v c.self.invariant.sorted new (ap id last) in
     rw (c.push_reserved.ensures.items, c.in_ok-reserve.ensures.items, c.in_ok-id.ensures.entries)
     (record {
-      sorted = rw (names-push s.texts s.firsts.items c.args.first c.args.text.now given, ← is) known;
-      within = within-push (length s.texts) s.firsts.items c.args.first c.self.invariant.within
-          (slice_get_within s.texts c.args.first c.args.text.now given);
+      sorted = rw (names-push s.strings s.firsts.items c.args.first c.args.text.now given, ← is) known;
+      within = within-push (length s.strings) s.firsts.items c.args.first c.self.invariant.within
+          (slice_get_within s.strings c.args.first c.args.text.now given);
     })
 
 pub returns-clause-number : goal.returns-clause-number
 returns-clause-number c =
     let s = c.self.inside in
-    let ns = names_at s.texts s.firsts.items in
+    let ns = names_at s.strings s.firsts.items in
     let key = c.in_ok-key.key in
     let v = c.in_ok-id.id in
     let text = c.args.text.now in
     let is : key ≡ text = c.in_ok-key.ensures in
     let last : v.0 ≡ length ns =
-    c.if-id-next.false ∙ c.len.ensures ∙ s.firsts.ok.0 ∙ sym (length-map s.firsts.items (name_at s.texts)) in
+    c.if-id-next.false ∙ c.len.ensures ∙ s.firsts.ok.0 ∙ sym (length-map s.firsts.items (name_at s.strings)) in
     let new : list_any (bytes_eq key) (spellings ns) ≡ false =
     known-new s.sorted.entries ns key _ v c.self.invariant.sorted c.in_ok-id.ensures.ordered
     c.in_ok-id.ensures.number last in
@@ -73,18 +73,18 @@ returns-clause-number c =
 pub returns-clause-names : goal.returns-clause-names
 returns-clause-names c =
     let s = c.self.inside in
-    let ns = names_at s.texts s.firsts.items in
+    let ns = names_at s.strings s.firsts.items in
     let key = c.in_ok-key.key in
     let v = c.in_ok-id.id in
     let text = c.args.text.now in
     let is : key ≡ text = c.in_ok-key.ensures in
     let last : v.0 ≡ length ns =
-    c.if-id-next.false ∙ c.len.ensures ∙ s.firsts.ok.0 ∙ sym (length-map s.firsts.items (name_at s.texts)) in
+    c.if-id-next.false ∙ c.len.ensures ∙ s.firsts.ok.0 ∙ sym (length-map s.firsts.items (name_at s.strings)) in
     let new : list_any (bytes_eq key) (spellings ns) ≡ false =
     known-new s.sorted.entries ns key _ v c.self.invariant.sorted c.in_ok-id.ensures.ordered
     c.in_ok-id.ensures.number last in
     let absent : list_any (bytes_eq text) (spellings ns) ≡ false =
     ap (λ q. list_any (bytes_eq q) (spellings ns)) (sym is) ∙ new in
-    let given = ap (λ (m : NamesSoFar). slice_get m.texts c.args.first) c.self.view_is ∙ c.requires.given in
+    let given = ap (λ (m : NamesSoFar). slice_get m.strings c.args.first) c.self.view_is ∙ c.requires.spelled in
     rw (c.push_reserved.ensures.items, c.in_ok-reserve.ensures.items, ← c.self.view_is)
-    (names-push s.texts s.firsts.items c.args.first text given ∙ sym (with_text-new c.args.first ns text absent))
+    (names-push s.strings s.firsts.items c.args.first text given ∙ sym (with_text-new c.args.first ns text absent))

@@ -6,14 +6,14 @@ pub invariant_of-self-in-Prefix : goal.invariant_of-self-in-Prefix
 invariant_of-self-in-Prefix c =
     let s = c.self.inside in
     rw c.in_ok-add-in-Prefix.ensures.added
-    (known-grown s.texts c.args.text.now s.firsts.items s.sorted.entries c.self.invariant)
+    (known-grown s.strings c.args.text.now s.firsts.items s.sorted.entries c.self.invariant)
 
 pub returns-in_ok-add-in-Prefix-clause-names : goal.returns-in_ok-add-in-Prefix-clause-names
 returns-in_ok-add-in-Prefix-clause-names c =
     let s = c.self.inside in
     let now = c.args.self.now in
     ap (λ (ts : List (List ℕ)). names_at ts s.firsts.items) c.in_ok-add-in-Prefix.ensures.added
-    ∙ names-grow s.texts (c.args.text.now ∷ []) s.firsts.items c.self.invariant.within
+    ∙ names-grow s.strings (c.args.text.now ∷ []) s.firsts.items c.self.invariant.within
     ∙ ap (λ (m : NamesSoFar). m.names) c.self.view_is
-    ∙ ap (λ (how : How). with_occurrence_name (length now.texts) now.names (occurrence_of c.args.text.now how false))
+    ∙ ap (λ (how : How). with_occurrence_name (length now.strings) now.names (occurrence_of c.args.text.now how false))
     (sym c.in-Prefix.is)

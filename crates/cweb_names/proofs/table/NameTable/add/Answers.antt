@@ -9,8 +9,8 @@ take-requires-clause-few c =
     omega (
       arith,
       ap length c.self.invariant.known_names,
-      names-few (occurrences_at s.known.texts s.forms.items),
-      occurrences-count s.known.texts s.forms.items (omega (arith, c.self.invariant.count)),
+      names-few (occurrences_at s.known.strings s.forms.items),
+      occurrences-count s.known.strings s.forms.items (omega (arith, c.self.invariant.count)),
       c.self.invariant.few,
     )
 
@@ -24,7 +24,7 @@ invariant_of-self-2 c =
       arith,
       c.requires,
       ap length c.self.view_is,
-      occurrences-count s.known.texts s.forms.items (omega (arith, c.self.invariant.count)),
+      occurrences-count s.known.strings s.forms.items (omega (arith, c.self.invariant.count)),
     ) in
     let new : c.take.new.self.names
     ≡ with_occurrence_name (length s.forms.items) s.known.names (occurrence_of t c.args.how c.args.is_file) =
@@ -34,11 +34,11 @@ invariant_of-self-2 c =
     rw (
       c.push_reserved.ensures.items,
       c.push_reserved-2.ensures.items,
-      c.in_ok-found.ensures.texts,
+      c.in_ok-found.ensures.strings,
       c.in_ok-reserve.ensures.items,
       c.in_ok-reserve-2.ensures.items,
     )
-    (forms-push s.known.names c.take.new.self.names s.known.texts s.forms.items s.found.items t g
+    (forms-push s.known.names c.take.new.self.names s.known.strings s.forms.items s.found.items t g
     c.in_ok-found.found c.self.invariant few c.in_ok-found.ensures.found new)
 
 pub returns-clause-number : goal.returns-clause-number
@@ -51,12 +51,12 @@ returns-clause-number c =
       ap length c.in_ok-reserve.ensures.items,
       c.in_ok-reserve.ensures.len,
       ap length c.self.view_is,
-      occurrences-count s.known.texts s.forms.items (omega (arith, c.self.invariant.count)),
+      occurrences-count s.known.strings s.forms.items (omega (arith, c.self.invariant.count)),
     )
 
 pub returns-clause-added : goal.returns-clause-added
 returns-clause-added c =
     let s = c.self.inside in
     let g : OccurrenceForm = record { how = c.args.how; is_file = c.args.is_file } in
-    rw (c.push_reserved.ensures.items, c.in_ok-found.ensures.texts, c.in_ok-reserve.ensures.items, ← c.self.view_is)
-    (occurrences-push s.known.texts s.forms.items c.args.name.now g c.self.invariant.count)
+    rw (c.push_reserved.ensures.items, c.in_ok-found.ensures.strings, c.in_ok-reserve.ensures.items, ← c.self.view_is)
+    (occurrences-push s.known.strings s.forms.items c.args.name.now g c.self.invariant.count)

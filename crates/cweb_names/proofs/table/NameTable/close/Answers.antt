@@ -5,12 +5,12 @@ use Rattle.cweb_names.proofs.table.NameTable.close.Goals as goal
 pub returns-clause-strings : goal.returns-clause-strings
 returns-clause-strings c =
     let s = c.self.inside in
-    c.close-strings.ensures.texts ∙ sym (strings-back s.known.texts s.forms.items c.self.invariant.count) ∙ ap (map occurrence_text) c.self.view_is
+    c.close-strings.ensures.strings ∙ sym (strings-back s.known.strings s.forms.items c.self.invariant.count) ∙ ap (map occurrence_text) c.self.view_is
 
 pub returns-clause-forms : goal.returns-clause-forms
 returns-clause-forms c =
     let s = c.self.inside in
-    sym (forms-back s.known.texts s.forms.items c.self.invariant.count) ∙ ap (map occurrence_form) c.self.view_is
+    sym (forms-back s.known.strings s.forms.items c.self.invariant.count) ∙ ap (map occurrence_form) c.self.view_is
 
 pub returns-clause-firsts : goal.returns-clause-firsts
 returns-clause-firsts c =
