@@ -44,7 +44,7 @@ returns-in_default-clause-obeys g c = λ tells. OnOk-map c.report-in_default.res
           (none ∙ ap (found_at (world_in (g.S.Shelf.texts c.args.shelf.now) c.args.run.now.inputs))
           c.include_name-name.ensures);
       yields = yields_reported _ _ _ _ c.args.run.now c.report-in_default.new.self (at_place NotThere c.args.at.place)
-          (c.in_ok-opening.ensures.keeps.texts tells) (c.in_ok-opening.ensures.keeps.left tells)
+          (c.in_ok-opening.ensures.reads.keeps.texts tells) (c.in_ok-opening.ensures.reads.keeps.left tells)
           c.report-in_default.ensures.only reported;
     }) c.report-in_default.ensures.reported
 
@@ -64,8 +64,8 @@ returns-clause-obeys g c = λ tells. OnOk-map c.open.result (λ names source is.
           (ap (λ (es : List Event). opening (string_bytes c.in-Some.opening.name) ∷ es) (coming_opened
           (g.S.Shelf.texts c.args.shelf.now) (g.S.Shelf.texts c.find.new.shelf) (g.S.Shelf.left c.args.shelf.now)
           (g.S.Shelf.left c.find.new.shelf) c.args.run.now c.open.new.run c.in-Some.opening.reader
-          (string_bytes c.in-Some.opening.name) c.args.at (c.in_ok-opening.ensures.keeps.texts tells)
-          (c.in_ok-opening.ensures.keeps.left tells) c.open.ensures.only names.0 c.requires.settled names.1
+          (string_bytes c.in-Some.opening.name) c.args.at (c.in_ok-opening.ensures.reads.keeps.texts tells)
+          (c.in_ok-opening.ensures.reads.keeps.left tells) c.open.ensures.only names.0 c.requires.settled names.1
           c.open.ensures.below))
           (ap (λ (v : Vec SourceFault Global). v.items) c.open.ensures.only.faults) names.0;
     }) c.open.ensures.opens
@@ -99,16 +99,16 @@ returns-then-at-ge-OPEN_FILES-clause-readers g c = λ tells known. knows_only
 
 pub returns-in_default-clause-readers : goal.returns-in_default-clause-readers
 returns-in_default-clause-readers g c = λ tells known. knows_only c.report-in_default.ensures.only
-    (subst (λ f. AreReadersKnown f c.args.run.now) (sym (c.in_ok-opening.ensures.keeps.names tells)) known)
+    (subst (λ f. AreReadersKnown f c.args.run.now) (sym (c.in_ok-opening.ensures.reads.keeps.names tells)) known)
 
 pub returns-clause-readers : goal.returns-clause-readers
 returns-clause-readers g c = λ tells known. c.open.ensures.readers
     (g.S.Shelf.opened_as c.find.new.shelf) (rw c.in-Some.is at (c.in_ok-opening.ensures.opened tells))
-    (subst (λ f. AreReadersKnown f c.args.run.now) (sym (c.in_ok-opening.ensures.keeps.names tells)) known)
+    (subst (λ f. AreReadersKnown f c.args.run.now) (sym (c.in_ok-opening.ensures.reads.keeps.names tells)) known)
 
 pub returns-in_err-opening-clause-readers : goal.returns-in_err-opening-clause-readers
 returns-in_err-opening-clause-readers g c = λ tells known.
-    subst (λ f. AreReadersKnown f c.args.run.now) (sym (c.in_err-opening.ensures.keeps.names tells)) known
+    subst (λ f. AreReadersKnown f c.args.run.now) (sym (c.in_err-opening.ensures.reads.keeps.names tells)) known
 
 pub returns-clause-only : goal.returns-clause-only
 returns-clause-only g c = grind (arith, common_steps)
