@@ -1,12 +1,22 @@
-use Rattle.cweb_lines.proofs.Common.{sym, subst, opened_file_names, IsReaderNamed}
+use Rattle.cweb_lines.proofs.Common.{sym, subst, rules, refl, opened_file_names, IsReaderNamed}
+use Rattle.cweb_lines.proofs.ReportsOnlyGrow.{reported_same}
 use Rattle.cweb_lines.proofs.step.progress.take_raw.Goals as goal
 
-pub returns-clause-readers : goal.returns-clause-readers
-returns-clause-readers g c = λ tells known. record {
-  texts = c.take_above.ensures.takes.named tells _ known.texts;
-  change = subst (λ f. IsReaderNamed f (opened_file_names c.args.run.now.names) c.args.run.now.change)
-      (sym (c.take_above.ensures.takes.keeps.names tells)) known.change;
-}
-
-pub returns-clause-blamed : goal.returns-clause-blamed
-returns-clause-blamed g c = λ tells known. c.take_above.ensures.takes.blamed tells _ known.texts
+pub returns-clause-takes : goal.returns-clause-takes
+returns-clause-takes g c =
+    let takes = c.take_above.ensures.takes in
+    record {
+      reads = record {
+        keeps = takes.keeps;
+        failed = takes.failed;
+        readers = λ tells known. record {
+          texts = takes.named tells _ known.texts;
+          change = subst (λ f. IsReaderNamed f (opened_file_names c.args.run.now.names) c.args.run.now.change)
+              (sym (takes.keeps.names tells)) known.change;
+        };
+        blamed = λ tells known. takes.blamed tells _ known.texts;
+        still = reported_same _ _ refl refl;
+      };
+      answers = search rules;
+      only = search rules;
+    }
