@@ -1,5 +1,5 @@
 -- What the calls of a step promise.
-use Rattle.std.specs.Prelude.{◌≡◌, ◌≤◌, ◌<◌, ℕ, List, length, None, Option, Result, IsTrue, IfOk, IfErr, OnOk, OnErr, ◌+◌}
+use Rattle.std.specs.Prelude.{◌≡◌, ◌≤◌, ◌<◌, ℕ, List, length, None, Option, Result, Ok, Err, IsTrue, IfOk, IfErr, OnOk, OnErr, ◌+◌}
 use Rattle.cweb_files.specs.declared.device.Shelf.{Ghosts as Shelf}
 use Rattle.cweb_files.specs.surface.Frames.{KeepsShelf}
 use Rattle.cweb_input.specs.inner.Finding.{ReadsNothing}
@@ -27,10 +27,15 @@ use Rattle.cweb_input.specs.declared.stop.Stop.TheVariants.{Memory}
 abbrev pub coming : {S R : Type 0} → Shelf S R → S → MergeState R → List Event
 coming shelf s run = events_to_come (shelf.texts s) (shelf.left s) run
 
+-- A result without its value.
+abbrev pub outcome : {A : Type 0} → Result A Stop → Result (Unit {0}) Stop
+outcome (Ok x) = Ok tt
+outcome (Err stop) = Err stop
+
 -- Lines may be read. The rest of the shelf stays, and readers keep the names of their files. A failed read is counted and
 -- blames its file. Reports only grow.
-pub record Reads {S R A : Type 0} (shelf : Shelf S R) (old new : S) (run run' : MergeState R)
-    (result : Result A Stop) : Type 0 where
+pub record Reads {S R : Type 0} (shelf : Shelf S R) (old new : S) (run run' : MergeState R)
+    (result : Result (Unit {0}) Stop) : Type 0 where
   pub keeps : KeepsShelf shelf old new
   pub failed : CountsReadStop (shelf.failed old) (shelf.failed new) result
   pub readers : KeepsReaders shelf old new run run'
@@ -40,7 +45,7 @@ pub record Reads {S R A : Type 0} (shelf : Shelf S R) (old new : S) (run run' : 
 -- A line of a file is taken and counted. Nothing is reported.
 pub record TakesLine {S R : Type 0} (shelf : Shelf S R) (old new : S) (run run' : MergeState R) (bytes : List ℕ)
     (result : Result (Option LineAt) Stop) : Type 0 where
-  pub reads : Reads shelf old new run run' result
+  pub reads : Reads shelf old new run run' (outcome result)
   pub answers : AnswersLine (length (opened_file_names run.names)) (counters_of run.limits) (counters_of run'.limits)
       bytes result
   pub only : OnlyTakes run run'
@@ -136,7 +141,7 @@ pub record Obeys {S R A : Type 0} (shelf : Shelf S R) (old new : S) (run run' : 
 -- A step. Its line, if it emits one, comes next. If it stops, it says why.
 pub record TakesTurn {S R : Type 0} (shelf : Shelf S R) (old new : S) (run run' : MergeState R) (bytes : List ℕ)
     (result : Result Turn Stop) : Type 0 where
-  pub reads : Reads shelf old new run run' result
+  pub reads : Reads shelf old new run run' (outcome result)
   pub turns : Turns run run' bytes result
   pub yields : IsTrue (shelf.tells old) → IfOk result (λ turn. EmitsLines (turn_lines turn bytes) (so_far_of run)
       (so_far_of run') (coming shelf old run) (coming shelf new run'))

@@ -1,7 +1,7 @@
 // The old side of a change: its further old lines, and the raw lines that they replace.
 ghost use Rattle.std.specs.Prelude.{◌≡◌, ◌≤◌, ◌<◌, ◌+◌, ◌^◌, ◌++◌, ◌∷◌, [], length, IsTrue, IfOk};
 ghost use Rattle.std.specs.Prelude.{IfErr, OnOk, OnErr, false};
-ghost use Rattle.cweb_lines.specs.inner.StepCalls.{GoesOn, Reads, TakesAway};
+ghost use Rattle.cweb_lines.specs.inner.StepCalls.{GoesOn, Reads, TakesAway, outcome};
 ghost use Rattle.cweb_lines.specs.Merge.{change_events, closing_faults, fault_if};
 ghost use Rattle.cweb_input.specs.surface.Counters.{counters_of};
 ghost use Rattle.cweb_lines.specs.surface.MergeProgress.{ReportsPrefix, change_lines, things_of, so_far_of};
@@ -43,7 +43,7 @@ fn compare<S: Shelf>(
     requires count { S.failed shelf.old + 1 < 2 ^ 64 }
     requires floor { floor_of run.old.stage ≡ 0 }
     requires few { so_far.unequal ≤ run.old.limits.lines }
-    ensures reads { Reads S.Shelf shelf.old shelf.new run.old run.new result }
+    ensures reads { Reads S.Shelf shelf.old shelf.new run.old run.new (outcome result) }
     ensures compares { IsTrue (S.tells shelf.old) →
         IfOk result (λ replaced. Compares run.old.first.items so_far replaced
         (things_above (S.left shelf.old) 0 run.old.stack [])
@@ -83,7 +83,7 @@ fn replace<S: Shelf>(
 ) -> Result<Replaced, Stop>
     requires count { S.failed shelf.old + 1 < 2 ^ 64 }
     requires floor { floor_of run.old.stage ≡ 0 }
-    ensures reads { Reads S.Shelf shelf.old shelf.new run.old run.new result }
+    ensures reads { Reads S.Shelf shelf.old shelf.new run.old run.new (outcome result) }
     ensures replaced { IsTrue (S.tells shelf.old) →
         IfOk result (λ replaced. IsReplaced (old_side_of (S.left shelf.old) run.old) replaced
         (change_lines (S.left shelf.new) run.new)
@@ -188,7 +188,7 @@ pub fn begin_change<S: Shelf>(
     requires floor { floor_of run.old.stage ≡ 0 }
     requires known { begin.file.0 < length (opened_file_names run.old.names) }
     requires deep { run.old.stack.depth ≤ depth }
-    ensures reads { Reads S.Shelf shelf.old shelf.new run.old run.new result }
+    ensures reads { Reads S.Shelf shelf.old shelf.new run.old run.new (outcome result) }
     ensures changed { IsTrue (S.tells shelf.old) →
         OnOk result (IsChanged begin depth (old_side_of (S.left shelf.old) run.old) run.new.stage
         (change_lines (S.left shelf.new) run.new) (things_of (S.left shelf.new) run.new)

@@ -1,7 +1,7 @@
 // The search for the next entry of a change file.
 ghost use Rattle.std.specs.Prelude.{◌≡◌, ◌≤◌, ◌<◌, ◌+◌, ◌^◌, ◌++◌, ◌∷◌, [], List, length, IsTrue};
 ghost use Rattle.std.specs.Prelude.{IfOk, IfErr, OnOk, OnErr, None, Some};
-ghost use Rattle.cweb_lines.specs.inner.StepCalls.{OnlySeeks, Reads};
+ghost use Rattle.cweb_lines.specs.inner.StepCalls.{OnlySeeks, Reads, outcome};
 ghost use Rattle.cweb_lines.specs.Change.{sought};
 ghost use Rattle.cweb_input.specs.Lines.{SourceLine};
 ghost use Rattle.cweb_lines.specs.surface.MergeProgress.{change_lines, so_far_of};
@@ -151,7 +151,7 @@ pub fn seek<S: Shelf>(
 ) -> Result<(), Stop>
     requires count { S.failed shelf.old + 1 < 2 ^ 64 }
     requires seeking { run.old.stage ≡ Stage.Seeking }
-    ensures reads { Reads S.Shelf shelf.old shelf.new run.old run.new result }
+    ensures reads { Reads S.Shelf shelf.old shelf.new run.old run.new (outcome result) }
     ensures searched { IsTrue (S.tells shelf.old) →
         OnOk result (Searched (sought (change_lines (S.left shelf.old) run.old) None)
         (so_far_of run.old) (so_far_of run.new) run.new.stage run.new.first.items

@@ -2,7 +2,7 @@ use Rattle.cweb_lines.proofs.Common.{rules, [], Ok, Line, ◌+◌, refl, ap, sym
 use Rattle.cweb_lines.proofs.ReportsOnlyGrow.{grows_reported, reported_halted, reported_passed, reported_same, reported_then}
 use Rattle.cweb_lines.proofs.BufferedWrites.{held, held_on, fails_prefix, fails_among, place_of, written_on}
 use Rattle.cweb_files.proofs.FramesCompose.{keeps_same, keeps_then, place_same, place_then}
-use Rattle.cweb_lines.proofs.NoReadFails.{Quiet, quiet_same, quiet_then, reads_none, reads_nothing, reads_then, still_tells}
+use Rattle.cweb_lines.proofs.NoReadFails.{Quiet, quiet_same, reads_none, reads_nothing, reads_then, still_tells}
 use Rattle.cweb_lines.proofs.WrittenLinesAddUp.{nothing_yet, written_by, written_prefix, written_some, written_whole, tells_some, tells_more, tells_same}
 use Rattle.cweb_lines.proofs.WriteStops.{blames_own, blames_write, memory_failed, memory_write, none_before}
 use Rattle.cweb_lines.proofs.writing.write_merged_in_chunks.Given as given
@@ -11,7 +11,7 @@ use Rattle.cweb_lines.proofs.writing.write_merged_in_chunks.Goals.{After-pass_li
 
 pub lines-init : goal.lines-init
 lines-init g c = record {
-  quiet = quiet_same g.S.Shelf _ _;
+  quiet = quiet_same _ _;
   place = place_same g.W.Sink _;
   out_failed = refl;
   running = sym c.stopped.ensures.stop ∙ c.in_default.is;
@@ -22,7 +22,7 @@ lines-init g c = record {
 
 quiet : (g : given.Over) (c : In-Ok g) → Quiet g.S.Shelf c.args.shelf.now c.next_line.new.shelf c.args.merger.now.run
     c.next_line.new.self.run
-quiet g c = reads_then g.S.Shelf c.lines.invariant.quiet (Ok tt) (record {
+quiet g c = reads_then c.lines.invariant.quiet (record {
   keeps = c.in-Ok.ensures.keeps;
   failed = (c.in-Ok.ensures.blames c.lines.invariant.running).failed;
   readers = λ tells known. (c.in-Ok.ensures.known tells known).readers;
@@ -38,7 +38,7 @@ more : (g : given.Over) (c : After-pass_lines-passed g) → IsTrue (g.S.Shelf.te
     (g.S.Shelf.left c.next_line.new.shelf) c.pass_lines-passed.new.self.run)
     (Writes g.W.Sink c.args.out.now c.lines.out) c.pass_lines-passed.new.buffer.items
 more g c tells =
-    let next = rw c.in-Some-next.is at (c.in-Ok.ensures.next (still_tells g.S.Shelf c.lines.invariant.quiet tells)) in
+    let next = rw c.in-Some-next.is at (c.in-Ok.ensures.next (still_tells c.lines.invariant.quiet tells)) in
     let line : Line = record { bytes = c.next_line.new.line.items; place = c.in-Some-next.field-0 } in
     let passes = c.pass_lines-passed.ensures.passes in
     held_on _ _ _ _ _ _ _ (held _ _ _ _ _ _ (c.lines.invariant.written tells) line _ _ next _ _ c.lines.invariant.empty
@@ -62,7 +62,7 @@ returns-in-Some g c = record {
 
 pub returns-in-Err : goal.returns-in-Err
 returns-in-Err g c =
-    let still = still_tells g.S.Shelf c.lines.invariant.quiet in
+    let still = still_tells c.lines.invariant.quiet in
     let blames = c.in-Err.ensures.blames c.lines.invariant.running in
     record {
       keeps = (
@@ -107,7 +107,7 @@ returns-in_default-next g c =
       grows = grows_reported c.next_line.new.self.run q.still;
       ok = λ tells.
           let last = rw c.in_default-next.is at
-          (c.in-Ok.ensures.next (still_tells g.S.Shelf c.lines.invariant.quiet tells)) in
+          (c.in-Ok.ensures.next (still_tells c.lines.invariant.quiet tells)) in
           written_whole g.W.Sink _ _ _ _ _ _ (c.lines.invariant.written tells) _ _ last.0 last.1;
       ended = search rules;
       prefix = search rules;
@@ -132,7 +132,7 @@ returns-in-Err-append_line g c =
       stops = λ tells before.
           let written = c.lines.invariant.written tells in
           let next = rw c.in-Some-next.is at
-          (c.in-Ok.ensures.next (still_tells g.S.Shelf c.lines.invariant.quiet tells)) in
+          (c.in-Ok.ensures.next (still_tells c.lines.invariant.quiet tells)) in
           record {
             why = memory_failed _ _ _ _ _ is_memory (written_some g.W.Sink _ _ _ _ _ _ written);
             reported = tells_same _ _ _ _ c.halt.ensures.so_far (tells_more _ _ _ _ _ _ written.yields
@@ -229,7 +229,7 @@ lines-preserved g c =
     let passes = c.pass_lines-passed.ensures.passes in
     let appends = c.in_default-write_all.ensures.appends in
     record {
-      quiet = quiet_then g.S.Shelf (quiet g at.In-Ok) (reads_none g.S.Shelf (Ok passes.lines) (reads_nothing g.S.Shelf _)
+      quiet = reads_then (quiet g at.In-Ok) (reads_none (reads_nothing _)
           (λ tells known. passes.readers _ known) (reported_passed passes) tt);
       place = place_then g.W.Sink _ _ _ c.lines.invariant.place (place_of appends.keeps);
       out_failed = appends.keeps.failed ∙ c.lines.invariant.out_failed;

@@ -1,7 +1,7 @@
 use Rattle.cweb_lines.proofs.Common.{rules, ◌≡◌, [], ℕ, List, Vec, Global, Some, refl, ap, sym, subst, ◌∙◌, IsTrue, change_code, counters_of, Thing, change_lines, so_far_of, opened_file_names, lines_at, things_above, StopsFor, TopStops, Ok}
 use Rattle.cweb_lines.specs.declared.change.code.Code.TheVariants.{NewSide as new_side}
 use Rattle.cweb_lines.proofs.ReportsOnlyGrow.{took_faults, took_names}
-use Rattle.cweb_lines.proofs.NoReadFails.{Quiet, quiet_same, quiet_then, reads_ok, reads_reported, reads_set, reads_then, reads_unreported, still_tells, stops_then}
+use Rattle.cweb_lines.proofs.NoReadFails.{Quiet, quiet_same, reads_reported, reads_set, reads_then, reads_unreported, still_tells}
 use Rattle.cweb_lines.proofs.Replaces.{compares_same, is_replaced_same, replaces_same, replaces_from, replaces_ends, replaces_new, replaces_code, replaces_line, raw_ends}
 use Rattle.cweb_lines.proofs.Codes.{is_new, is_faulty}
 use Rattle.cweb_lines.proofs.Stops.{reported_stays, reported_uncounted}
@@ -11,7 +11,7 @@ use Rattle.cweb_lines.proofs.change.old_side.replace.Goals.{In-Ok}
 
 pub lines-init : goal.lines-init
 lines-init g c = record {
-  quiet = quiet_same g.S.Shelf _ _;
+  quiet = quiet_same _ _;
   frame = search rules;
   goes_on = refl;
   replaces = λ tells. replaces_from _ _;
@@ -19,24 +19,24 @@ lines-init g c = record {
 
 quiet : (g : given.Over) (c : In-Ok g) → Quiet g.S.Shelf c.args.shelf.now c.take_change.new.shelf c.args.run.now
     c.take_change.new.run
-quiet g c = quiet_then g.S.Shelf c.lines.invariant.quiet c.in-Ok.ensures.takes.reads
+quiet g c = reads_then c.lines.invariant.quiet c.in-Ok.ensures.takes.reads
 
 raws : (g : given.Over) (c : In-Ok g) → IsTrue (g.S.Shelf.tells c.args.shelf.now)
     → things_above (g.S.Shelf.left c.take_change.new.shelf) 0 c.take_change.new.run.stack []
     ≡ things_above (g.S.Shelf.left c.lines.shelf) 0 c.lines.run.stack []
 raws g c tells =
-    let still = still_tells g.S.Shelf c.lines.invariant.quiet tells in
+    let still = still_tells c.lines.invariant.quiet tells in
     λ i. things_above (c.in-Ok.ensures.takes.reads.keeps.left still i) 0 (c.in-Ok.ensures.stack i) []
 
 pub returns-in-Err-clause-stops : goal.returns-in-Err-clause-stops
 returns-in-Err-clause-stops g c = λ tells. replaces_ends _ c.lines.so_far _ _ _ _
     (c.lines.invariant.replaces tells) c.in-Err.stop (so_far_of c.take_change.new.run)
     (reported_stays c.lines.run _ c.in-Err.ensures.takes.only c.in-Err.ensures.takes.answers.counted)
-    (c.in-Err.ensures.stops (still_tells g.S.Shelf c.lines.invariant.quiet tells))
+    (c.in-Err.ensures.stops (still_tells c.lines.invariant.quiet tells))
 
 pub returns-in-Err-compare-clause-stops : goal.returns-in-Err-compare-clause-stops
 returns-in-Err-compare-clause-stops g c = λ tells.
-    let still = still_tells g.S.Shelf c.lines.invariant.quiet tells in
+    let still = still_tells c.lines.invariant.quiet tells in
     let taken = rw c.in-Some.is at (c.in-Ok.ensures.taken still) in
     let test = ap change_code (sym c.deref.ensures.value) ∙ sym c.change_code.ensures ∙ c.in-None.is in
     let same = reported_uncounted _ c.compare.new.run c.in-Err-compare.ensures.only c.in-Err-compare.ensures.away.same
@@ -50,7 +50,7 @@ returns-in-Err-compare-clause-stops g c = λ tells.
 
 pub returns-then-eq-clause-replaced : goal.returns-then-eq-clause-replaced
 returns-then-eq-clause-replaced g c = λ tells.
-    let taken = rw c.in-Some.is at (c.in-Ok.ensures.taken (still_tells g.S.Shelf c.lines.invariant.quiet tells)) in
+    let taken = rw c.in-Some.is at (c.in-Ok.ensures.taken (still_tells c.lines.invariant.quiet tells)) in
     let test : change_code c.take_change.new.line.items ≡ Some new_side = ap change_code (sym c.deref.ensures.value)
     ∙ sym c.change_code.ensures ∙ c.in-Some-change_code.is
     ∙ ap Some (is_new c.in-Some-change_code.code (sym c.eq.ensures ∙ c.if-eq.true)) in
@@ -61,12 +61,11 @@ returns-then-eq-clause-replaced g c = λ tells.
 
 pub lines-preserved : goal.lines-preserved
 lines-preserved g c = record {
-  quiet = quiet_then g.S.Shelf (quiet g (goal.at.lines-preserved g c).In-Ok) (reads_reported g.S.Shelf (Ok c.lines.so_far) _ _
-      c.in_default-report.ensures.only c.in_default-report.ensures.reported tt);
+  quiet = reads_then (quiet g (goal.at.lines-preserved g c).In-Ok) (reads_reported _ c.in_default-report.ensures.only c.in_default-report.ensures.reported tt);
   frame = search rules;
   goes_on = c.lines.invariant.goes_on;
   replaces = λ tells.
-      let taken = rw c.in-Some.is at (c.in-Ok.ensures.taken (still_tells g.S.Shelf c.lines.invariant.quiet tells)) in
+      let taken = rw c.in-Some.is at (c.in-Ok.ensures.taken (still_tells c.lines.invariant.quiet tells)) in
       let change : change_lines (g.S.Shelf.left c.take_change.new.shelf) c.take_change.new.run
       ≡ change_lines (g.S.Shelf.left c.take_change.new.shelf) c.report.new.self =
       ap (λ ch. lines_at (g.S.Shelf.left c.take_change.new.shelf) ch) (sym c.in_default-report.ensures.only.change) in
@@ -88,12 +87,12 @@ lines-preserved g c = record {
 
 pub lines-preserved-in-None : goal.lines-preserved-in-None
 lines-preserved-in-None g c = record {
-  quiet = quiet_then g.S.Shelf (reads_set g.S.Shelf _ refl refl refl
+  quiet = reads_then (reads_set _ refl refl refl
       (quiet g (goal.at.lines-preserved-in-None g c).In-Ok)) c.in-Ok-compare.ensures.reads;
   frame = search rules;
   goes_on = c.in-Ok-compare.ensures.away.ended ∙ c.lines.invariant.goes_on;
   replaces = λ tells.
-      let still = still_tells g.S.Shelf c.lines.invariant.quiet tells in
+      let still = still_tells c.lines.invariant.quiet tells in
       let later = subst IsTrue (sym c.in-Ok.ensures.takes.reads.keeps.tells) still in
       let taken = rw c.in-Some.is at (c.in-Ok.ensures.taken still) in
       let test = ap change_code (sym c.deref.ensures.value) ∙ sym c.change_code.ensures ∙ c.in-None.is in
@@ -110,21 +109,18 @@ lines-preserved-in-None g c = record {
 
 pub returns-in-Err-clause-reads : goal.returns-in-Err-clause-reads
 returns-in-Err-clause-reads g c =
-    stops_then g.S.Shelf c.lines.invariant.quiet c.in-Err.stop c.in-Err.ensures.takes.reads
+    reads_then c.lines.invariant.quiet c.in-Err.ensures.takes.reads
 
 pub returns-in_default-clause-reads : goal.returns-in_default-clause-reads
 returns-in_default-clause-reads g c =
-    reads_ok g.S.Shelf (quiet g (goal.at.returns-in_default-clause-reads g c).In-Ok)
+    (quiet g (goal.at.returns-in_default-clause-reads g c).In-Ok)
 
 pub returns-in-Err-compare-clause-reads : goal.returns-in-Err-compare-clause-reads
-returns-in-Err-compare-clause-reads g c = stops_then g.S.Shelf (reads_set g.S.Shelf _ refl refl refl
-    (quiet g (goal.at.returns-in-Err-compare-clause-reads g c).In-Ok)) c.in-Err-compare.stop
-    c.in-Err-compare.ensures.reads
+returns-in-Err-compare-clause-reads g c = reads_then (reads_set _ refl refl refl
+    (quiet g (goal.at.returns-in-Err-compare-clause-reads g c).In-Ok)) c.in-Err-compare.ensures.reads
 
 pub returns-then-eq-clause-reads : goal.returns-then-eq-clause-reads
-returns-then-eq-clause-reads g c = reads_ok g.S.Shelf (quiet g (goal.at.returns-then-eq-clause-reads g c).In-Ok)
+returns-then-eq-clause-reads g c = (quiet g (goal.at.returns-then-eq-clause-reads g c).In-Ok)
 
 pub returns-in-Err-report-clause-reads : goal.returns-in-Err-report-clause-reads
-returns-in-Err-report-clause-reads g c = reads_then g.S.Shelf
-    (quiet g (goal.at.returns-in-Err-report-clause-reads g c).In-Ok) _ (reads_unreported g.S.Shelf _ _
-    c.in-Err-report.ensures.only c.in-Err-report.ensures.err c.in-Err-report.ensures.memory)
+returns-in-Err-report-clause-reads g c = reads_then (quiet g (goal.at.returns-in-Err-report-clause-reads g c).In-Ok) (reads_unreported c.in-Err-report.ensures.only c.in-Err-report.ensures.err c.in-Err-report.ensures.memory)

@@ -2,7 +2,7 @@ use Rattle.cweb_lines.proofs.Common.{rules, ◌≡◌, ℕ, [], ◌∷◌, ◌++
 use Rattle.cweb_input.proofs.Found.{OnOk-both}
 use Rattle.cweb_lines.proofs.MergeReadersStayNamed.{knows_same}
 use Rattle.cweb_lines.proofs.ReportsOnlyGrow.{reported_if, took_faults, took_names}
-use Rattle.cweb_lines.proofs.NoReadFails.{Quiet, quiet_same, quiet_then, reads_none, reads_nothing, reads_ok, reads_reported, reads_set, reads_then, still_tells, stops_then}
+use Rattle.cweb_lines.proofs.NoReadFails.{Quiet, outcome_memory, quiet_same, reads_none, reads_nothing, reads_reported, reads_set, reads_then, still_tells}
 use Rattle.cweb_lines.proofs.Seeks.{seeks_ended, seeks_from, seeks_ends, seeks_in_part, seeks_on, seeks_found}
 use Rattle.cweb_lines.proofs.Stops.{reported_stays}
 use Rattle.cweb_lines.proofs.WrittenLinesAddUp.{tells_same, tells_some}
@@ -12,7 +12,7 @@ use Rattle.cweb_lines.proofs.change.seek.seek.Goals.{In-Ok, In-Ok-look_at, In-Er
 
 pub lines-init : goal.lines-init
 lines-init g c = record {
-  quiet = quiet_same g.S.Shelf _ _;
+  quiet = quiet_same _ _;
   frame = search rules;
   begun = tt;
   seeks = λ tells. seeks_from _ _;
@@ -20,16 +20,15 @@ lines-init g c = record {
 
 quiet : (g : given.Over) (c : In-Ok g) → Quiet g.S.Shelf c.args.shelf.now c.take_change.new.shelf c.args.run.now
     c.take_change.new.run
-quiet g c = quiet_then g.S.Shelf c.lines.invariant.quiet c.in-Ok.ensures.takes.reads
+quiet g c = reads_then c.lines.invariant.quiet c.in-Ok.ensures.takes.reads
 
 looked : (g : given.Over) (c : In-Ok-look_at g) → Quiet g.S.Shelf c.args.shelf.now c.take_change.new.shelf
     c.args.run.now c.look_at.new.run
-looked g c = quiet_then g.S.Shelf (quiet g (goal.at.In-Ok-look_at g c).In-Ok) (reads_reported g.S.Shelf (Ok c.in-Ok-look_at.looked) _ _
-    c.in-Ok-look_at.ensures.only c.in-Ok-look_at.ensures.looks.faults tt)
+looked g c = reads_then (quiet g (goal.at.In-Ok-look_at g c).In-Ok) (reads_reported _ c.in-Ok-look_at.ensures.only c.in-Ok-look_at.ensures.looks.faults tt)
 
 pub returns-in-Err-clause-reads : goal.returns-in-Err-clause-reads
 returns-in-Err-clause-reads g c =
-    stops_then g.S.Shelf c.lines.invariant.quiet c.in-Err.stop c.in-Err.ensures.takes.reads
+    reads_then c.lines.invariant.quiet c.in-Err.ensures.takes.reads
 
 pub returns-in-Err-clause-stops : goal.returns-in-Err-clause-stops
 returns-in-Err-clause-stops g c = λ tells.
@@ -37,7 +36,7 @@ returns-in-Err-clause-stops g c = λ tells.
     let same = reported_stays c.lines.run _ c.in-Err.ensures.takes.only c.in-Err.ensures.takes.answers.counted in
     record {
       why = seeks_ends _ _ _ _ _ seeks c.in-Err.stop (so_far_of c.take_change.new.run) same
-          (c.in-Err.ensures.stops (still_tells g.S.Shelf c.lines.invariant.quiet tells));
+          (c.in-Err.ensures.stops (still_tells c.lines.invariant.quiet tells));
       reported = tells_same _ _ _ _ same (tells_some _ _ _ _ _ seeks.yields);
     }
 
@@ -57,13 +56,13 @@ returns-in-Err-look_at-clause-reads g c =
       length = 0;
       size = 0;
     } in
-    reads_then g.S.Shelf (quiet g at.In-Ok) _ (reads_reported g.S.Shelf _ _ _ c.in-Err-look_at.ensures.only
+    reads_then (quiet g at.In-Ok) (reads_reported _ c.in-Err-look_at.ensures.only
     (part g at.In-Err-look_at source refl []).reported c.in-Err-look_at.ensures.memory)
 
 pub returns-in-Err-look_at-clause-stops : goal.returns-in-Err-look_at-clause-stops
 returns-in-Err-look_at-clause-stops g c = λ tells.
     let at = goal.at.returns-in-Err-look_at-clause-stops g c in
-    let taken = rw c.in-Some.is at (c.in-Ok.ensures.taken (still_tells g.S.Shelf c.lines.invariant.quiet tells)) in
+    let taken = rw c.in-Some.is at (c.in-Ok.ensures.taken (still_tells c.lines.invariant.quiet tells)) in
     record {
       why = rw c.in-Err-look_at.ensures.memory tt;
       reported = seeks_in_part _ (change_lines (g.S.Shelf.left c.lines.shelf) c.lines.run) c.lines.begin _
@@ -81,7 +80,7 @@ lines-preserved g c = record {
   frame = search rules;
   begun = rw (sym c.in-Ok-look_at.ensures.only.names, c.in-On.is) at c.in-Ok-look_at.ensures.known;
   seeks = λ tells.
-      let taken = rw c.in-Some.is at (c.in-Ok.ensures.taken (still_tells g.S.Shelf c.lines.invariant.quiet tells)) in
+      let taken = rw c.in-Some.is at (c.in-Ok.ensures.taken (still_tells c.lines.invariant.quiet tells)) in
       subst (λ ch. SeeksTo (sought (change_lines (g.S.Shelf.left c.args.shelf.now) c.args.run.now) None)
       (sought (lines_at (g.S.Shelf.left c.take_change.new.shelf) ch) c.in-On.next)
       (so_far_of c.args.run.now) (so_far_of c.look_at.new.run)) (sym c.in-Ok-look_at.ensures.only.change)
@@ -98,7 +97,7 @@ lines-preserved g c = record {
 
 pub returns-in-Entry-clause-searched : goal.returns-in-Entry-clause-searched
 returns-in-Entry-clause-searched g c = λ tells.
-    let taken = rw c.in-Some.is at (c.in-Ok.ensures.taken (still_tells g.S.Shelf c.lines.invariant.quiet tells)) in
+    let taken = rw c.in-Some.is at (c.in-Ok.ensures.taken (still_tells c.lines.invariant.quiet tells)) in
     let found = seeks_found (sought (change_lines (g.S.Shelf.left c.args.shelf.now) c.args.run.now) None)
     (change_lines (g.S.Shelf.left c.lines.shelf) c.lines.run) c.lines.begin
     (so_far_of c.args.run.now) (so_far_of c.lines.run) (c.lines.invariant.seeks tells) (so_far_of c.take_change.new.run)
@@ -116,7 +115,7 @@ returns-in-Entry-clause-searched g c = λ tells.
 
 pub returns-in_default-clause-searched : goal.returns-in_default-clause-searched
 returns-in_default-clause-searched g c = λ tells.
-    let taken = rw c.in_default.is at (c.in-Ok.ensures.taken (still_tells g.S.Shelf c.lines.invariant.quiet tells)) in
+    let taken = rw c.in_default.is at (c.in-Ok.ensures.taken (still_tells c.lines.invariant.quiet tells)) in
     let counted = rw c.in_default.is at c.in-Ok.ensures.takes.answers.counted in
     OnOk-both c.end.result (λ reported done.
     seeks_ended _ _ c.lines.begin _ (so_far_of c.lines.run) (c.lines.invariant.seeks tells) taken.0 _ (reported ∙ ap
@@ -126,12 +125,11 @@ returns-in_default-clause-searched g c = λ tells.
     ∙ (λ i. record { lines = counted.0 i; bytes = counted.1 i })) _ done _ _) c.end.ensures.reported c.end.ensures.stage
 
 pub returns-in_default-clause-reads : goal.returns-in_default-clause-reads
-returns-in_default-clause-reads g c = reads_then g.S.Shelf
-    (quiet g (goal.at.returns-in_default-clause-reads g c).In-Ok) _ (reads_none g.S.Shelf _ (reads_nothing g.S.Shelf _) (λ tells known. knows_same _ c.take_change.new.run c.end.new.run (ap (λ s. s.texts) c.end.ensures.stack)
+returns-in_default-clause-reads g c = reads_then (quiet g (goal.at.returns-in_default-clause-reads g c).In-Ok) (reads_none (reads_nothing _) (λ tells known. knows_same _ c.take_change.new.run c.end.new.run (ap (λ s. s.texts) c.end.ensures.stack)
     c.end.ensures.change (ap opened_file_names c.end.ensures.names) known) (reported_if c.end.result _ _
     (reported_faults (sought [] c.lines.begin).events) c.end.ensures.reported c.end.ensures.err
-    (ap opened_file_names c.end.ensures.names)) c.end.ensures.memory)
+    (ap opened_file_names c.end.ensures.names)) (outcome_memory c.end.result c.end.ensures.memory))
 
 pub returns-in-Entry-clause-reads : goal.returns-in-Entry-clause-reads
-returns-in-Entry-clause-reads g c = reads_set g.S.Shelf _ refl refl refl
-    (reads_ok g.S.Shelf (looked g (goal.at.returns-in-Entry-clause-reads g c).In-Ok-look_at))
+returns-in-Entry-clause-reads g c = reads_set _ refl refl refl
+    (looked g (goal.at.returns-in-Entry-clause-reads g c).In-Ok-look_at)

@@ -7,8 +7,8 @@ use Rattle.cweb_lines.proofs.step.turning.take_end.Goals as goal
 
 pub returns-in_default : goal.returns-in_default
 returns-in_default g c = record {
-  reads = reads_set g.S.Shelf _ refl refl refl
-      (reads_reported g.S.Shelf _ _ _ c.in_default.ensures.only c.in_default.ensures.reported tt);
+  reads = reads_set _ refl refl refl
+      (reads_reported _ c.in_default.ensures.only c.in_default.ensures.reported tt);
   turns = search rules;
   yields = λ tells.
       let none = c.requires.floor ∙ ap floor_of c.in-Waiting.is in
@@ -28,7 +28,7 @@ pub returns-in-Err : goal.returns-in-Err
 returns-in-Err g c =
     let report = c.in-Err.ensures in
     record {
-      reads = reads_unreported g.S.Shelf _ _ report.only report.err report.memory;
+      reads = reads_unreported report.only report.err report.memory;
       turns = search rules;
       yields = λ tells. tt;
       stops = λ tells. stops_unreported {A = Turn} (Err c.in-Err.stop) _ (so_far_of c.args.run.now) _ _ refl refl report.memory

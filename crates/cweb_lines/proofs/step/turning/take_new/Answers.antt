@@ -3,14 +3,14 @@ use Rattle.cweb_lines.proofs.ReportsOnlyGrow.{took_faults, took_names}
 use Rattle.cweb_input.proofs.Found.{IfOk-map}
 use Rattle.cweb_lines.proofs.EmittedLinesAddUp.{yields_took}
 use Rattle.cweb_lines.proofs.NewSideLines.{coming_is, new_ended, new_faulty, new_first, new_side_ended, new_stops}
-use Rattle.cweb_lines.proofs.NoReadFails.{reads_obeyed, reads_ok, reads_reported, reads_set, reads_stop, reads_then, reads_unreported}
+use Rattle.cweb_lines.proofs.NoReadFails.{reads_obeyed, reads_reported, reads_set, reads_then, reads_unreported}
 use Rattle.cweb_lines.proofs.Codes.{is_end}
 use Rattle.cweb_lines.proofs.Stops.{reported_stays, stops_unreported, unreported}
 use Rattle.cweb_lines.proofs.step.turning.take_new.Goals as goal
 
 pub returns-in-Err : goal.returns-in-Err
 returns-in-Err g c = record {
-  reads = reads_stop g.S.Shelf c.in-Err.ensures.takes.reads;
+  reads = c.in-Err.ensures.takes.reads;
   turns = search rules;
   yields = λ tells. tt;
   stops = λ tells. record {
@@ -28,8 +28,7 @@ pub returns-in-Err-report : goal.returns-in-Err-report
 returns-in-Err-report g c =
     let report = c.in-Err-report.ensures in
     record {
-      reads = reads_then g.S.Shelf (reads_ok g.S.Shelf c.in-Ok.ensures.takes.reads) _
-          (reads_unreported g.S.Shelf _ _ report.only report.err report.memory);
+      reads = reads_then c.in-Ok.ensures.takes.reads (reads_unreported report.only report.err report.memory);
       turns = search rules;
       yields = λ tells. tt;
       stops = λ tells. stops_unreported {A = Turn} (Err c.in-Err-report.stop) _ (so_far_of c.take_change.new.run) _ _
@@ -39,8 +38,7 @@ returns-in-Err-report g c =
 
 pub returns-in_default : goal.returns-in_default
 returns-in_default g c = record {
-  reads = reads_set g.S.Shelf _ refl refl refl (reads_then g.S.Shelf (reads_ok g.S.Shelf c.in-Ok.ensures.takes.reads) _
-      (reads_reported g.S.Shelf _ _ _ c.in_default-report.ensures.only c.in_default-report.ensures.reported tt));
+  reads = reads_set _ refl refl refl (reads_then c.in-Ok.ensures.takes.reads (reads_reported _ c.in_default-report.ensures.only c.in_default-report.ensures.reported tt));
   turns = search rules;
   yields = λ tells.
       let taken = rw c.in_default.is at (c.in-Ok.ensures.taken tells) in
@@ -54,8 +52,7 @@ returns-in_default g c = record {
 
 pub returns-in-None : goal.returns-in-None
 returns-in-None g c = record {
-  reads = reads_then g.S.Shelf (reads_ok g.S.Shelf c.in-Ok.ensures.takes.reads) _
-      (reads_obeyed g.S.Shelf _ c.emit_or_obey.ensures.obeys);
+  reads = reads_then c.in-Ok.ensures.takes.reads (reads_obeyed c.emit_or_obey.ensures.obeys);
   turns = search rules;
   yields = λ tells.
       let taken = rw c.in-Some.is at (c.in-Ok.ensures.taken tells) in
@@ -75,7 +72,7 @@ returns-in-None g c = record {
 
 pub returns-then-eq : goal.returns-then-eq
 returns-then-eq g c = record {
-  reads = reads_set g.S.Shelf _ refl refl refl (reads_ok g.S.Shelf c.in-Ok.ensures.takes.reads);
+  reads = reads_set _ refl refl refl c.in-Ok.ensures.takes.reads;
   turns = search rules;
   yields = λ tells.
       let taken = rw c.in-Some.is at (c.in-Ok.ensures.taken tells) in
@@ -91,8 +88,7 @@ pub returns-in-Err-report-2 : goal.returns-in-Err-report-2
 returns-in-Err-report-2 g c =
     let report = c.in-Err-report-2.ensures in
     record {
-      reads = reads_then g.S.Shelf (reads_ok g.S.Shelf c.in-Ok.ensures.takes.reads) _
-          (reads_unreported g.S.Shelf _ _ report.only report.err report.memory);
+      reads = reads_then c.in-Ok.ensures.takes.reads (reads_unreported report.only report.err report.memory);
       turns = search rules;
       yields = λ tells. tt;
       stops = λ tells. stops_unreported {A = Turn} (Err c.in-Err-report-2.stop) _ (so_far_of c.take_change.new.run) _ _
@@ -102,8 +98,7 @@ returns-in-Err-report-2 g c =
 
 pub returns-in_default-report-2 : goal.returns-in_default-report-2
 returns-in_default-report-2 g c = record {
-  reads = reads_then g.S.Shelf (reads_ok g.S.Shelf c.in-Ok.ensures.takes.reads) _
-      (reads_reported g.S.Shelf _ _ _ c.in_default-report-2.ensures.only c.in_default-report-2.ensures.reported tt);
+  reads = reads_then c.in-Ok.ensures.takes.reads (reads_reported _ c.in_default-report-2.ensures.only c.in_default-report-2.ensures.reported tt);
   turns = search rules;
   yields = λ tells.
       let taken = rw c.in-Some.is at (c.in-Ok.ensures.taken tells) in

@@ -9,7 +9,7 @@ use Rattle.cweb_lines.proofs.MergeStateEvents.{stops_in}
 use Rattle.cweb_input.proofs.SourceStacks.{stops_map}
 use Rattle.cweb_lines.proofs.Turns.{began_yields, began_stops, began_tells, raw_taken, untaken}
 use Rattle.cweb_files.proofs.FramesCompose.{keeps_known}
-use Rattle.cweb_lines.proofs.NoReadFails.{reads_obeyed, reads_ok, reads_stop, reads_then, stops_then}
+use Rattle.cweb_lines.proofs.NoReadFails.{reads_obeyed, reads_then}
 use Rattle.cweb_lines.proofs.step.turning.take_settled.Given as given
 use Rattle.cweb_lines.proofs.step.turning.take_settled.Goals as goal
 use Rattle.cweb_lines.proofs.step.turning.take_settled.Goals.{In-Some, In-Some-begun_at}
@@ -18,7 +18,7 @@ pub returns-in-Err : goal.returns-in-Err
 returns-in-Err g c =
     let took = c.in-Err.ensures.takes in
     record {
-      reads = reads_stop g.S.Shelf took.reads;
+      reads = took.reads;
       turns = search rules;
       yields = λ tells. tt;
       stops = λ tells. record {
@@ -42,7 +42,7 @@ returns-in_default g c =
     (took.reads.keeps.left tells) c.requires.settled (rw c.in_default.is at (c.in-Ok.ensures.taken tells))
     c.in-Ok.ensures.closes.below took.only c.in-Ok.ensures.change (rw c.in_default.is at took.answers.counted) in
     record {
-      reads = reads_then g.S.Shelf (reads_ok g.S.Shelf took.reads) _ c.take_end.ensures.reads;
+      reads = reads_then took.reads c.take_end.ensures.reads;
       turns = search rules;
       yields = λ tells. same tells (λ reported all. IfOk c.take_end.result (λ turn. EmitsLines
           (turn_lines turn c.take_end.new.line.items) reported (so_far_of c.take_end.new.run) all
@@ -73,7 +73,7 @@ returns-in_default-begun_at g c =
     let took = c.in-Ok.ensures.takes in
     let obeys = c.emit_or_obey.ensures.obeys in
     record {
-      reads = reads_then g.S.Shelf (reads_ok g.S.Shelf took.reads) _ (reads_obeyed g.S.Shelf _ obeys);
+      reads = reads_then took.reads (reads_obeyed obeys);
       turns = search rules;
       yields = λ tells.
           let t = taken g (goal.at.returns-in_default-begun_at g c).In-Some tells in
@@ -92,8 +92,7 @@ returns-in-Err-begin_change g c =
     let took = c.in-Ok.ensures.takes in
     let still = keeps_known g.S.Shelf _ _ took.reads.keeps in
     record {
-      reads = stops_then g.S.Shelf (reads_ok g.S.Shelf took.reads) c.in-Err-begin_change.stop
-          c.in-Err-begin_change.ensures.reads;
+      reads = reads_then took.reads c.in-Err-begin_change.ensures.reads;
       turns = search rules;
       yields = λ tells. tt;
       stops = λ tells.
@@ -116,7 +115,7 @@ returns g c =
     let still = keeps_known g.S.Shelf _ _ took.reads.keeps in
     let change = c.in_default-begin_change.ensures in
     record {
-      reads = reads_then g.S.Shelf (reads_ok g.S.Shelf took.reads) _ (reads_ok g.S.Shelf change.reads);
+      reads = reads_then took.reads change.reads;
       turns = search rules;
       yields = λ tells.
           let t = taken g at.In-Some tells in

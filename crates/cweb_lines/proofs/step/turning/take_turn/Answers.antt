@@ -1,12 +1,12 @@
 use Rattle.cweb_lines.proofs.Common.{rules}
-use Rattle.cweb_lines.proofs.NoReadFails.{quiet_same, reads_ok, reads_stop}
+use Rattle.cweb_lines.proofs.NoReadFails.{quiet_same}
 use Rattle.cweb_lines.proofs.Turns.{sought_yields, sought_stops, sought_tells}
 use Rattle.cweb_lines.proofs.ExclusiveAnswers.{true_false}
 use Rattle.cweb_lines.proofs.step.turning.take_turn.Goals as goal
 
 pub returns-then-has_ended-clause-turn : goal.returns-then-has_ended-clause-turn
 returns-then-has_ended-clause-turn g c = record {
-  reads = reads_ok g.S.Shelf (quiet_same g.S.Shelf _ _);
+  reads = (quiet_same _ _);
   turns = search rules;
   yields = search rules;
   stops = λ tells. tt;
@@ -14,7 +14,7 @@ returns-then-has_ended-clause-turn g c = record {
 
 pub returns-in-Err-clause-turn : goal.returns-in-Err-clause-turn
 returns-in-Err-clause-turn g c = record {
-  reads = reads_stop g.S.Shelf c.in-Err.ensures.reads;
+  reads = c.in-Err.ensures.reads;
   turns = search rules;
   yields = λ tells. tt;
   stops = λ tells.
@@ -31,7 +31,7 @@ pub returns-in-Seeking-clause-turn : goal.returns-in-Seeking-clause-turn
 returns-in-Seeking-clause-turn g c =
     let seek = c.in_default-seek.ensures in
     record {
-      reads = reads_ok g.S.Shelf seek.reads;
+      reads = seek.reads;
       turns = search rules;
       yields = λ tells. sought_yields _ _ c.args.run.now c.in-Seeking.is _ _ c.seek.new.run (seek.reads.keeps.texts tells)
           (seek.reads.keeps.left tells) seek.only.inputs seek.only.stack seek.only.names (seek.searched tells);
