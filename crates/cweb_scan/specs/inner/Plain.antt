@@ -1,10 +1,10 @@
 -- Lexemes of C text that their first byte determines, outside directives.
-use Rattle.std.specs.Prelude.{◌≡◌, ℕ, Bool, ◌&&◌, false, List, codes, Option, Some, None}
+use Rattle.std.specs.Prelude.{◌≡◌, ℕ, Bool, false, List, codes, Option, Some, None}
 use Rattle.cweb_store.specs.Parts.{Token, is_layout}
 use Rattle.cweb_rules.specs.declared.context.Context.TheVariants.{CText}
-use Rattle.cweb_scan.specs.inner.Stages.{is_further_stage, last_kind, stage_of}
+use Rattle.cweb_scan.specs.inner.Stages.{last_kind}
 use Rattle.cweb_scan.specs.declared.directive.Last.TheVariants as last
-use Rattle.cweb_scan.specs.State.{directive, in_directive, is_c, ScanState}
+use Rattle.cweb_scan.specs.State.{in_directive, ScanState}
 use Rattle.cweb_scan.specs.DirectiveTokens.{is_punct}
 use Rattle.cweb_scan.specs.inner.ReaderModel.{TakesPrefix}
 use Rattle.cweb_scan.specs.inner.Resume.{Between}
@@ -18,10 +18,6 @@ taken_size (Some n) = n
 pub record IsPlainC (s : ScanState) : Type 0 where
   pub in_c : s.context ≡ CText
   pub outside : in_directive s ≡ false
-
--- C text in a directive that is past an included name: it has more than blanks and `include`.
-abbrev pub in_directive_body : ScanState → Bool
-in_directive_body s = is_c s.context && is_further_stage (stage_of (directive s).tokens)
 
 -- A token that is neither layout nor `#` nor `\`.
 pub record IsPlainToken (t : Token) : Type 0 where

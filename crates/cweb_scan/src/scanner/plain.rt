@@ -13,7 +13,7 @@ use std::alloc::AllocError;
 
 // `None` for an empty lexeme.
 #[inline(always)]
-pub(crate) fn nonempty_len(size: usize) -> Option<usize>
+fn nonempty_len(size: usize) -> Option<usize>
     ensures size { taken_size result ≡ size }
     ensures some { IfSome result (λ n. 1 ≤ n) }
 {
@@ -79,11 +79,8 @@ impl Scanner {
         requires room { weight self.old + 3 * length rest.now + 8 < too_many }
         ensures { IfOk result (λ n. TakesPlain n rest.now self.old self.new) }
     {
-        if !matches!(self.context(), Context::CText) {
+        if !matches!(self.context(), Context::CText) || self.in_directive() {
             return Ok(0);
-        }
-        if self.in_directive() {
-            return self.take_directive_body(rest);
         }
         let mut left = rest;
         'pieces: while !left.is_empty() {
