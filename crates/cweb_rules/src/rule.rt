@@ -67,15 +67,15 @@ fn first_rule(includes: bool, text: &[u8]) -> Rule
 {
     if starts(Class::Blank, text) {
         Rule::Blanks
-    } else if begins(b"\n", text) {
+    } else if matches!(text, [b'\n', ..]) {
         Rule::LineEnd
-    } else if begins(b"/*", text) {
+    } else if matches!(text, [b'/', b'*', ..]) {
         Rule::Comment
-    } else if begins(b"//", text) {
+    } else if matches!(text, [b'/', b'/', ..]) {
         Rule::LineComment
     } else if starts_section(text) {
         Rule::Section
-    } else if begins(b"@", text) {
+    } else if matches!(text, [b'@', ..]) {
         Rule::Code
     } else if starts_raw(text) {
         Rule::RawLiteral
