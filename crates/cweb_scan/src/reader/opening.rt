@@ -3,6 +3,7 @@ ghost use Rattle.std.specs.Prelude.{◌≡◌, IfOk, codes, true, false};
 
 use crate::reader::Reader;
 use crate::reader::open::Open;
+use crate::rest::Rest;
 use cweb_rules::Quote;
 use cweb_rules::bytes::begins;
 use cweb_rules::literals::{delimiter, literal_prefix, raw_prefix};
@@ -67,20 +68,19 @@ impl Reader {
 
     /// A quote with an optional prefix.
     #[inline(never)]
-    pub(crate) fn open_literal(&mut self, rest: &[u8]) -> Result<usize, AllocError>
+    pub(crate) fn open_literal(&mut self, rest: Rest<'_>) -> Result<usize, AllocError>
         requires between { self.old.item ≡ Between }
         requires reads { reads_literals self.old.state.context ≡ true }
-        requires line { IsLine rest.now }
-        requires past { IsPast rest.now }
-        requires plain { starts_raw rest.now ≡ false }
-        requires sign { starts_literal rest.now ≡ true }
-        ensures { IfOk result (λ n. MakesProgress n rest.now self.old self.new) }
+        requires past { IsPast rest.bytes.now }
+        requires plain { starts_raw rest.bytes.now ≡ false }
+        requires sign { starts_literal rest.bytes.now ≡ true }
+        ensures { IfOk result (λ n. MakesProgress n rest.entry.bytes.now self.old self.new) }
     {
-        let prefix = literal_prefix(rest);
-        let (opener, _) = rest.split_at(prefix + 1);
+        let prefix = literal_prefix(rest.bytes);
+        let (opener, _) = rest.bytes.split_at(prefix + 1);
         self.text.clear();
         self.text.extend_from_slice(opener)?;
-        let (_, quoted) = rest.split_at(prefix);
+        let (_, quoted) = rest.bytes.split_at(prefix);
         let quote = Quote::of(quoted);
         self.item = Open::Literal {
             begun: self.scanner.here(),
@@ -91,20 +91,19 @@ impl Reader {
 
     /// `R"` with an optional prefix, a delimiter and `(`.
     #[inline(never)]
-    pub(crate) fn open_raw(&mut self, rest: &[u8]) -> Result<usize, AllocError>
+    pub(crate) fn open_raw(&mut self, rest: Rest<'_>) -> Result<usize, AllocError>
         requires between { self.old.item ≡ Between }
         requires reads { reads_literals self.old.state.context ≡ true }
-        requires line { IsLine rest.now }
-        requires past { IsPast rest.now }
-        requires sign { starts_raw rest.now ≡ true }
-        ensures { IfOk result (λ n. MakesProgress n rest.now self.old self.new) }
+        requires past { IsPast rest.bytes.now }
+        requires sign { starts_raw rest.bytes.now ≡ true }
+        ensures { IfOk result (λ n. MakesProgress n rest.entry.bytes.now self.old self.new) }
     {
-        let start = raw_prefix(rest) + 2;
-        let (_, named) = rest.split_at(start);
+        let start = raw_prefix(rest.bytes) + 2;
+        let (_, named) = rest.bytes.split_at(start);
         let name = delimiter(named);
         let size = start + name.len() + 1;
         self.text.clear();
-        self.text.extend_from_slice(rest.split_at(size).0)?;
+        self.text.extend_from_slice(rest.bytes.split_at(size).0)?;
         self.delimiter.clear();
         self.delimiter.extend_from_slice(name)?;
         self.sign.clear();

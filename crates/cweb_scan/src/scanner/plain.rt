@@ -5,6 +5,7 @@ ghost use Rattle.cweb_store.specs.surface.TokenModels.{token_model};
 ghost use Rattle.cweb_scan.specs.inner.Plain.{taken_size, IsPlainC, IsPlainToken, TakesPlain};
 
 use crate::directive::Directive;
+use crate::rest::Rest;
 use crate::scanner::Scanner;
 use cweb_rules::bytes::{Class, nonempty_span_len};
 use cweb_rules::{Context, Plain, first_byte_class, past_blank};
@@ -44,24 +45,22 @@ impl Scanner {
 
     // Takes the next lexeme if its first byte determines its rule.
     #[inline(always)]
-    fn take_lexeme(&mut self, rest: &[u8]) -> Result<Option<usize>, AllocError>
+    fn take_lexeme(&mut self, rest: Rest<'_>) -> Result<Option<usize>, AllocError>
         requires in_c { IsPlainC self.old }
-        requires line { IsLine rest.now }
-        requires some { 1 ≤ length rest.now }
         requires room { weight self.old + 1 < too_many }
-        ensures taken { IfOk result (λ o. TakesPlain (taken_size o) rest.now self.old self.new) }
+        ensures taken { IfOk result (λ o. TakesPlain (taken_size o) rest.entry.bytes.now self.old self.new) }
         ensures some { IfOk result (λ o. IfSome o (λ n. 1 ≤ n)) }
         ensures stays { OnOk result (IsPlainC self.new) }
     {
-        match first_byte_class(rest[0]) {
-            Plain::Blank => Ok(Some(nonempty_span_len(Class::Blank, rest))),
+        match first_byte_class(rest.bytes[0]) {
+            Plain::Blank => Ok(Some(nonempty_span_len(Class::Blank, rest.bytes))),
             Plain::Word => {
-                let size = nonempty_span_len(Class::Word, rest);
-                self.emit_plain(Token::Word(rest.split_at(size).0))?;
+                let size = nonempty_span_len(Class::Word, rest.bytes);
+                self.emit_plain(Token::Word(rest.bytes.split_at(size).0))?;
                 Ok(Some(size))
             }
             Plain::Lone => {
-                self.emit_plain(Token::Punct(rest.split_at(1).0))?;
+                self.emit_plain(Token::Punct(rest.bytes.split_at(1).0))?;
                 self.folded = false;
                 Ok(Some(1))
             }
@@ -88,7 +87,7 @@ impl Scanner {
             if piece.is_empty() {
                 return Ok(rest.len() - piece.len());
             }
-            match self.take_lexeme(piece)? {
+            match self.take_lexeme(Rest { bytes: piece })? {
                 Some(size) => left = piece.split_at(size).1,
                 None => return Ok(rest.len() - piece.len()),
             }

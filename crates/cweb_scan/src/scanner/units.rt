@@ -5,6 +5,7 @@ ghost use Rattle.cweb_rules.specs.inner.Looks.{look_of, reached};
 ghost use Rattle.cweb_rules.specs.declared.end.End.TheVariants as how;
 ghost use Rattle.cweb_scan.specs.inner.MatchSteps.{unit_state};
 
+use crate::rest::Rest;
 use crate::scanner::Scanner;
 use crate::scanner::codes::ended;
 use cweb_rules::items::{Item, reach};
@@ -66,17 +67,15 @@ impl Scanner {
 
     /// Takes an included name in a directive, delimiters included. Returns the number of bytes.
     #[inline(never)]
-    pub fn take_included_name(&mut self, rest: &[u8]) -> Result<usize, AllocError>
-        requires line { IsLine rest.now }
-        requires some { 1 ≤ length rest.now }
+    pub fn take_included_name(&mut self, rest: Rest<'_>) -> Result<usize, AllocError>
         requires part { in_open_part self.old.context ≡ true }
         requires room { HasItemRoom 1 self.old }
-        ensures { IfOk result (λ n. Applies (include_match rest.now) rest.now n self.old self.new) }
+        ensures { IfOk result (λ n. Applies (include_match rest.entry.bytes.now) rest.entry.bytes.now n self.old self.new) }
     {
         let begun = self.here();
-        let (sign, line) = rest.split_at(1);
+        let (sign, line) = rest.bytes.split_at(1);
         let reached = reach(Item::IncludedName, line);
-        let (_, closing) = rest.split_at(1 + reached.size);
+        let (_, closing) = rest.bytes.split_at(1 + reached.size);
         let (close, _) = closing.split_at(reached.close);
         let mut text = Vec::new(self.alloc);
         push_unit(&mut text, sign)?;

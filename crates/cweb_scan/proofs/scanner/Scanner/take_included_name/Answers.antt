@@ -30,7 +30,7 @@ emit_literal-requires-clause-room c =
 pub returns : goal.returns
 returns c =
     let s = c.args.self.now in
-    let t = c.args.rest.now in
+    let t = c.args.rest.bytes.now in
     let r = c.reach-reached.result in
     let u = drop 1 t in
     let z = take r.close (drop (1 + r.size) t) in
@@ -46,6 +46,6 @@ returns c =
     ++ unit_bytes z)
     ∙ (λ i.
     ((c.new-text.ensures.items i ++ unit_bytes (c.split_at.ensures.front i)) ++ unescaped units) ++ unit_bytes z) in
-    include_yields t c.deref.result.now r s c.emit_literal.new.self c.requires.line
+    include_yields t c.deref.result.now r s c.emit_literal.new.self c.args.rest.line
     (rw c.split_at.ensures.back at c.reach-reached.ensures.value) text (c.in_ok-emit_literal.ensures ∙ (λ i.
     emit_literal c.deref.result.now (c.ended.ensures i) (c.here-begun.ensures i) (same i)))

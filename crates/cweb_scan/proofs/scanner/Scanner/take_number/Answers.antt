@@ -6,7 +6,7 @@ use Rattle.cweb_scan.proofs.scanner.Scanner.take_number.Goals as goal
 pub returns-clause-taken : goal.returns-clause-taken
 returns-clause-taken c =
     let s = c.args.self.now in
-    number_turn c.number_len-size.result c.args.rest.now s c.emit_plain.new.self c.requires.line c.requires.some
+    number_turn c.number_len-size.result c.args.rest.bytes.now s c.emit_plain.new.self c.args.rest.line c.args.rest.some
     c.requires.in_c c.requires.first c.number_len-size.ensures.value
     (c.in_ok-emit_plain.ensures.ok ∙ ap (λ (x : List ℕ). emit (Number x) s) c.split_at.ensures.front)
 

@@ -3,8 +3,8 @@ use Rattle.cweb_scan.proofs.Blanks.{blank_passed}
 use Rattle.cweb_scan.proofs.PlainLexemes.{left_line, none_taken, piece_within, some_ended, some_goes_on, some_taken, TakesSome}
 use Rattle.cweb_scan.proofs.scanner.Scanner.take_plain.Goals as goal
 
-pub take_lexeme-requires-clause-line : goal.take_lexeme-requires-clause-line
-take_lexeme-requires-clause-line c =
+pub invariant_of-take_lexeme-clause-line : goal.invariant_of-take_lexeme-clause-line
+invariant_of-take_lexeme-clause-line c =
     let text = c.args.rest.now in
     let old = c.args.self.now in
     left_line text c.past_blank-piece.result.now old c.pieces.self c.requires.line

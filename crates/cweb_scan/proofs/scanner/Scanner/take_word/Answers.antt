@@ -6,8 +6,8 @@ use Rattle.cweb_scan.proofs.scanner.Scanner.take_word.Goals as goal
 pub returns-clause-taken : goal.returns-clause-taken
 returns-clause-taken c =
     let s = c.args.self.now in
-    let u = c.args.rest.now in
-    word_turn c.span_len-size.result u s c.emit_plain.new.self c.requires.line c.requires.some
+    let u = c.args.rest.bytes.now in
+    word_turn c.span_len-size.result u s c.emit_plain.new.self c.args.rest.line c.args.rest.some
     c.requires.in_c.in_c (seen_word s u c.requires.in_c c.requires.first) c.span_len-size.ensures.value
     (c.in_ok-emit_plain.ensures.ok ∙ ap (λ (x : List ℕ). emit (Word x) s) c.split_at.ensures.front)
 
