@@ -1,5 +1,5 @@
 // The ASCII constants of `@'` and the transliterations of `@l`.
-ghost use Rattle.std.specs.Prelude.{◌≡◌, ◌≤◌, ◌<◌, ◌+◌, length, IsTrue, IfSome, true};
+ghost use Rattle.std.specs.Prelude.{◌≡◌, ◌≤◌, ◌<◌, ◌+◌, length, IfSome, true};
 ghost use Rattle.std.specs.List.{position_or_len};
 ghost use Rattle.cweb_rules.specs.Bytes as bytes;
 ghost use Rattle.cweb_rules.specs.Constants as spec;

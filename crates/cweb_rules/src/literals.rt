@@ -1,5 +1,5 @@
 // How literals of C text begin.
-ghost use Rattle.std.specs.Prelude.{◌≡◌, ◌≤◌, ◌<◌, ◌+◌, length, drop, IsTrue};
+ghost use Rattle.std.specs.Prelude.{◌≡◌, ◌≤◌, ◌<◌, ◌+◌, length, IsTrue};
 ghost use Rattle.cweb_rules.specs.Matches as spec;
 
 use crate::bytes::{Class, begins, span_len};

@@ -1,5 +1,5 @@
 // Which rule applies next.
-ghost use Rattle.std.specs.Prelude.{◌≡◌, ◌<◌, length};
+ghost use Rattle.std.specs.Prelude.{◌≡◌, ◌<◌};
 ghost use Rattle.cweb_rules.specs.Matches as spec;
 ghost use Rattle.cweb_rules.specs.inner.Rules as rules;
 

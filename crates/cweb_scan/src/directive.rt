@@ -1,5 +1,5 @@
 // Tracks the open directive of a part.
-ghost use Rattle.std.specs.Prelude.{◌≡◌, true, Some, codes};
+ghost use Rattle.std.specs.Prelude.{◌≡◌, Some, codes};
 ghost use Rattle.cweb_store.specs.surface.TokenModels.{token_model};
 ghost use Rattle.cweb_scan.specs.DirectiveTokens.{is_punct};
 ghost use Rattle.cweb_scan.specs.inner.Stages.{after_token, new_directive};

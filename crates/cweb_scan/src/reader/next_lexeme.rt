@@ -1,5 +1,5 @@
 // One step in a line without an open item: takes the next lexeme.
-ghost use Rattle.std.specs.Prelude.{◌≡◌, ◌≤◌, IfOk, codes, length, true, false};
+ghost use Rattle.std.specs.Prelude.{◌≡◌, ⊤, IfOk, codes, true, false};
 
 use crate::reader::Reader;
 use crate::reader::codes::{effect_of, is_name_effect};
@@ -13,11 +13,8 @@ use std::alloc::AllocError;
 
 impl Reader {
     ghost use Rattle.cweb_rules.specs.Bytes as bytes;
-    ghost use Rattle.cweb_rules.specs.inner.LineItems.{IsLine};
     ghost use Rattle.cweb_scan.specs.inner.MatchSteps.{is_head, reads_c};
-    ghost use Rattle.cweb_scan.specs.inner.ReaderSteps.{MakesProgress};
-    ghost use Rattle.cweb_scan.specs.inner.Resume.{Between};
-    ghost use Rattle.cweb_scan.specs.inner.Room.{HasItemRoom};
+    ghost use Rattle.cweb_scan.specs.inner.ReaderSteps.{AwaitsLexeme, MakesProgress};
     ghost use Rattle.cweb_rules.specs.declared.context.Context.TheVariants as context;
     ghost use Rattle.cweb_rules.specs.inner.Rules as spec;
     ghost use Rattle.cweb_rules.specs.declared.rule.Rule.TheVariants as rule;
@@ -27,19 +24,14 @@ impl Reader {
     // Takes a control code that begins no section.
     #[inline(never)]
     fn take_code(&mut self, rest: Rest<'_>) -> Result<usize, AllocError>
-        requires between { self.old.item ≡ Between }
-        requires head { is_head self.old.state.context ≡ false }
+        requires next { AwaitsLexeme (is_head self.old.state.context ≡ false) self.old }
         requires section { bytes.starts_section rest.bytes.now ≡ false }
         requires sign { bytes.begins (codes "@") rest.bytes.now ≡ true }
-        requires room { HasItemRoom 2 self.old.state }
         ensures { IfOk result (λ n. MakesProgress n rest.entry.bytes.now self.old self.new) }
     {
         let effect = effect_of(self.scanner.context(), rest.bytes[1]);
         if is_name_effect(effect) {
-            if begins(b"@<", rest.bytes) {
-                return Ok(self.open_name(rest.bytes));
-            }
-            return Ok(self.open_file(rest.bytes));
+            return Ok(self.open_name(begins(b"@(", rest.bytes), rest.bytes));
         }
         let size = self.scanner.take_item(effect, rest.bytes)?;
         Ok(size)
@@ -47,9 +39,7 @@ impl Reader {
 
     // In limbo and TeX: takes the bytes before the next `@`, a section start or a code.
     fn take_tex(&mut self, rest: Rest<'_>) -> Result<usize, AllocError>
-        requires between { self.old.item ≡ Between }
-        requires text { reads_c self.old.state.context ≡ false }
-        requires room { HasItemRoom 2 self.old.state }
+        requires { AwaitsLexeme (reads_c self.old.state.context ≡ false) self.old }
         ensures { IfOk result (λ n. MakesProgress n rest.entry.bytes.now self.old self.new) }
     {
         let skipped = skipped_len(rest.bytes);
@@ -66,11 +56,9 @@ impl Reader {
     // In a macro and in C text: takes the lexeme of the first rule that applies.
     #[inline(always)]
     fn take_by(&mut self, rule: Rule, rest: Rest<'_>) -> Result<usize, AllocError>
-        requires between { self.old.item ≡ Between }
-        requires part { in_open_part self.old.state.context ≡ true }
+        requires next { AwaitsLexeme (in_open_part self.old.state.context ≡ true) self.old }
         requires plain { ends_macro_line self.old.state.context rest.bytes.now ≡ false }
         requires first { rule ≡ rule_in self.old.state rest.bytes.now }
-        requires room { HasItemRoom 2 self.old.state }
         ensures { IfOk result (λ n. MakesProgress n rest.entry.bytes.now self.old self.new) }
     {
         match rule {
@@ -91,9 +79,7 @@ impl Reader {
 
     // In a macro: a `\` at the end of a line emits nothing.
     fn take_macro(&mut self, rest: Rest<'_>) -> Result<usize, AllocError>
-        requires between { self.old.item ≡ Between }
-        requires in_macro { self.old.state.context ≡ context.Macro }
-        requires room { HasItemRoom 2 self.old.state }
+        requires { AwaitsLexeme (self.old.state.context ≡ context.Macro) self.old }
         ensures { IfOk result (λ n. MakesProgress n rest.entry.bytes.now self.old self.new) }
     {
         if begins(b"\\", rest.bytes) {
@@ -107,10 +93,8 @@ impl Reader {
 
     // In a head: the identifier begins the macro.
     fn take_macro_name(&mut self, begun: Place, rest: Rest<'_>) -> Result<usize, AllocError>
-        requires between { self.old.item ≡ Between }
-        requires in_head { self.old.state.context ≡ context.Definition begun }
+        requires next { AwaitsLexeme (self.old.state.context ≡ context.Definition begun) self.old }
         requires first { spec.c_rule false rest.bytes.now ≡ rule.Identifier }
-        requires room { HasItemRoom 2 self.old.state }
         ensures { IfOk result (λ n. MakesProgress n rest.entry.bytes.now self.old self.new) }
     {
         let size = span_len(Class::Word, rest.bytes);
@@ -121,9 +105,7 @@ impl Reader {
 
     // In a head: takes blanks, comments or the identifier. Anything else drops the definition, and TeX continues.
     fn take_head(&mut self, begun: Place, rest: Rest<'_>) -> Result<usize, AllocError>
-        requires between { self.old.item ≡ Between }
-        requires in_head { self.old.state.context ≡ context.Definition begun }
-        requires room { HasItemRoom 2 self.old.state }
+        requires { AwaitsLexeme (self.old.state.context ≡ context.Definition begun) self.old }
         ensures { IfOk result (λ n. MakesProgress n rest.entry.bytes.now self.old self.new) }
     {
         let rule = c_rule(false, rest.bytes);
@@ -145,9 +127,7 @@ impl Reader {
 
     // In C text, where an included name may be the next lexeme.
     fn take_c(&mut self, rest: Rest<'_>) -> Result<usize, AllocError>
-        requires between { self.old.item ≡ Between }
-        requires in_c { self.old.state.context ≡ context.CText }
-        requires room { HasItemRoom 2 self.old.state }
+        requires { AwaitsLexeme (self.old.state.context ≡ context.CText) self.old }
         ensures { IfOk result (λ n. MakesProgress n rest.entry.bytes.now self.old self.new) }
     {
         let rule = c_rule(self.scanner.names_include(), rest.bytes);
@@ -156,8 +136,7 @@ impl Reader {
 
     /// Takes the next lexeme of a line without an open item. Returns its size.
     pub(crate) fn take_between(&mut self, rest: Rest<'_>) -> Result<usize, AllocError>
-        requires between { self.old.item ≡ Between }
-        requires room { HasItemRoom 2 self.old.state }
+        requires { AwaitsLexeme ⊤ self.old }
         ensures { IfOk result (λ n. MakesProgress n rest.entry.bytes.now self.old self.new) }
     {
         match self.scanner.context() {

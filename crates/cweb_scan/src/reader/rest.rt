@@ -17,7 +17,6 @@ impl Reader {
     ghost use Rattle.cweb_rules.specs.Bytes as bytes;
     ghost use Rattle.cweb_rules.specs.declared.items.Item.TheVariants.{Name};
     ghost use Rattle.cweb_rules.specs.inner.PlainBytes.{is_plain};
-    ghost use Rattle.cweb_rules.specs.inner.LineItems.{IsLine};
     ghost use Rattle.cweb_scan.specs.inner.ReaderModel.{cost};
     ghost use Rattle.cweb_scan.specs.inner.PendingRest.{awaits_line_end, is_pending_literal};
     ghost use Rattle.cweb_scan.specs.inner.PendingRest.{is_pending, literal_item, literal_step};

@@ -1,7 +1,6 @@
 // Fast path for C text outside directives: whole lexemes that their first byte doesn't determine.
-ghost use Rattle.std.specs.Prelude.{◌≡◌, ◌≤◌, ◌<◌, ◌+◌, IfOk, OnOk, false, length};
-ghost use Rattle.cweb_names.specs.surface.Names.{too_many};
-ghost use Rattle.cweb_scan.specs.inner.Plain.{IsPlainC, TakesPlain};
+ghost use Rattle.std.specs.Prelude.{◌≡◌, ◌≤◌, ◌<◌, ◌+◌, IfOk, false, length};
+ghost use Rattle.cweb_scan.specs.inner.Plain.{HasPlainRoom, IsPlainC, PassesPlain, TakesPlain};
 ghost use Rattle.cweb_rules.specs.inner.Firsts.{stops_plain};
 
 use crate::rest::Rest;
@@ -19,18 +18,14 @@ use std::alloc::AllocError;
 
 impl Scanner {
     ghost use Rattle.cweb_texts.specs.Edges.{first_is};
-    ghost use Rattle.cweb_rules.specs.inner.LineItems.{IsLine};
     ghost use Rattle.cweb_rules.specs.inner.Rules as spec;
     ghost use Rattle.cweb_rules.specs.declared.rule.Rule.TheVariants as rule;
-    ghost use Rattle.cweb_scan.specs.inner.Room.{weight};
 
     #[inline(always)]
     pub(crate) fn take_number(&mut self, rest: Rest<'_>) -> Result<usize, AllocError>
-        requires in_c { IsPlainC self.old }
+        requires plain { HasPlainRoom self.old }
         requires first { rule.Number ≡ spec.c_rule false rest.bytes.now }
-        requires room { weight self.old + 1 < too_many }
-        ensures taken { IfOk result (λ n. TakesPlain n rest.entry.bytes.now self.old self.new) }
-        ensures stays { OnOk result (IsPlainC self.new) }
+        ensures { IfOk result (λ n. PassesPlain n rest.entry.bytes.now self.old self.new) }
     {
         let size = number_len(rest.bytes);
         self.emit_plain(Token::Number(rest.bytes.split_at(size).0))?;
@@ -40,11 +35,9 @@ impl Scanner {
     // Takes a Word that looked like a literal's prefix.
     #[inline(always)]
     fn take_word(&mut self, rest: Rest<'_>) -> Result<usize, AllocError>
-        requires in_c { IsPlainC self.old }
+        requires plain { HasPlainRoom self.old }
         requires first { rule.Identifier ≡ spec.c_rule false rest.bytes.now }
-        requires room { weight self.old + 1 < too_many }
-        ensures taken { IfOk result (λ n. TakesPlain n rest.entry.bytes.now self.old self.new) }
-        ensures stays { OnOk result (IsPlainC self.new) }
+        ensures { IfOk result (λ n. PassesPlain n rest.entry.bytes.now self.old self.new) }
     {
         let size = span_len(Class::Word, rest.bytes);
         self.emit_plain(Token::Word(rest.bytes.split_at(size).0))?;
@@ -54,12 +47,10 @@ impl Scanner {
     // Takes a punctuator other than `#` and `\`.
     #[inline(always)]
     pub(crate) fn take_operator(&mut self, rest: Rest<'_>) -> Result<usize, AllocError>
-        requires in_c { IsPlainC self.old }
+        requires plain { HasPlainRoom self.old }
         requires first { rule.Punctuator ≡ spec.c_rule false rest.bytes.now }
         requires kept { first_is stops_plain rest.bytes.now ≡ false }
-        requires room { weight self.old + 1 < too_many }
-        ensures taken { IfOk result (λ n. TakesPlain n rest.entry.bytes.now self.old self.new) }
-        ensures stays { OnOk result (IsPlainC self.new) }
+        ensures { IfOk result (λ n. PassesPlain n rest.entry.bytes.now self.old self.new) }
     {
         let size = punctuator_len(rest.bytes);
         self.emit_plain(Token::Punct(rest.bytes.split_at(size).0))?;
@@ -99,11 +90,9 @@ impl Scanner {
 
     // Takes a literal that ends in its line and has no `@`.
     pub(crate) fn take_whole_literal(&mut self, rest: Rest<'_>) -> Result<usize, AllocError>
-        requires in_c { IsPlainC self.old }
+        requires plain { HasPlainRoom self.old }
         requires first { rule.Literal ≡ spec.c_rule false rest.bytes.now }
-        requires room { weight self.old + 1 < too_many }
-        ensures taken { IfOk result (λ n. TakesPlain n rest.entry.bytes.now self.old self.new) }
-        ensures stays { OnOk result (IsPlainC self.new) }
+        ensures { IfOk result (λ n. PassesPlain n rest.entry.bytes.now self.old self.new) }
     {
         let prefix = literal_prefix(rest.bytes);
         let quote = Quote::of(rest.bytes.split_at(prefix).1);
@@ -125,11 +114,9 @@ impl Scanner {
     /// line, may concern a directive, or may have a code, a section start or a fault in it.
     #[inline(always)]
     pub fn take_further(&mut self, rest: Rest<'_>) -> Result<usize, AllocError>
-        requires in_c { IsPlainC self.old }
+        requires plain { HasPlainRoom self.old }
         requires kept { first_is stops_plain rest.bytes.now ≡ false }
-        requires room { weight self.old + 1 < too_many }
-        ensures taken { IfOk result (λ n. TakesPlain n rest.entry.bytes.now self.old self.new) }
-        ensures stays { OnOk result (IsPlainC self.new) }
+        ensures { IfOk result (λ n. PassesPlain n rest.entry.bytes.now self.old self.new) }
     {
         match c_rule(false, rest.bytes) {
             Rule::Number => self.take_number(rest),

@@ -2,7 +2,7 @@
 ghost use Rattle.std.specs.Prelude.{◌≡◌, ◌≤◌, ◌<◌, ◌+◌, ◌*◌, IfOk, IfSome, OnOk, OnErr, length};
 ghost use Rattle.cweb_names.specs.surface.Names.{too_many};
 ghost use Rattle.cweb_store.specs.surface.TokenModels.{token_model};
-ghost use Rattle.cweb_scan.specs.inner.Plain.{taken_size, IsPlainC, IsPlainToken, TakesPlain};
+ghost use Rattle.cweb_scan.specs.inner.Plain.{taken_size, HasPlainRoom, IsPlainC, IsPlainToken, PassesPlain, TakesPlain};
 
 use crate::directive::Directive;
 use crate::rest::Rest;
@@ -46,11 +46,10 @@ impl Scanner {
     // Takes the next lexeme if its first byte determines its rule.
     #[inline(always)]
     fn take_lexeme(&mut self, rest: Rest<'_>) -> Result<Option<usize>, AllocError>
-        requires in_c { IsPlainC self.old }
-        requires room { weight self.old + 1 < too_many }
-        ensures taken { IfOk result (λ o. TakesPlain (taken_size o) rest.entry.bytes.now self.old self.new) }
+        requires { HasPlainRoom self.old }
+        ensures taken { IfOk result (λ o.
+            PassesPlain (taken_size o) rest.entry.bytes.now self.old self.new) }
         ensures some { IfOk result (λ o. IfSome o (λ n. 1 ≤ n)) }
-        ensures stays { OnOk result (IsPlainC self.new) }
     {
         match first_byte_class(rest.bytes[0]) {
             Plain::Blank => Ok(Some(nonempty_span_len(Class::Blank, rest.bytes))),

@@ -12,18 +12,15 @@ use std::alloc::AllocError;
 
 impl Scanner {
     ghost use Rattle.cweb_rules.specs.Codes.{in_c};
-    ghost use Rattle.cweb_rules.specs.inner.LineItems.{IsLine};
     ghost use Rattle.cweb_rules.specs.inner.Rules.{c_match_by};
     ghost use Rattle.cweb_scan.specs.inner.MatchSteps.{ends_in_line, needs_two, Applies};
-    ghost use Rattle.cweb_scan.specs.inner.DirectiveInvariant.{in_open_part};
-    ghost use Rattle.cweb_scan.specs.inner.Room.{HasItemRoom};
+    ghost use Rattle.cweb_scan.specs.inner.Room.{CanEmit};
 
     /// Takes the lexeme of a rule, if it ends in its line and is no code. Returns its size.
     #[inline(always)]
     pub fn take_rule(&mut self, rule: Rule, rest: Rest<'_>) -> Result<usize, AllocError>
         requires ends { ends_in_line rule ≡ true }
-        requires part { in_open_part self.old.context ≡ true }
-        requires room { HasItemRoom 1 self.old }
+        requires part { CanEmit 1 self.old }
         requires two { needs_two rule ≡ true → 2 ≤ length rest.bytes.now }
         ensures { IfOk result
             (λ n. Applies (c_match_by in_c false rest.entry.bytes.now rule) rest.entry.bytes.now n self.old self.new) }

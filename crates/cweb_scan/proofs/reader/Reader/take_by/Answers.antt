@@ -50,9 +50,9 @@ returns-in_ok-size-in-Section c =
     let u = c.args.rest.bytes.now in
     let h = c.args.self.now in
     let f = rule_closed h.state.context (names_include h.state)
-    u c.args.rule c.requires.part c.requires.plain c.requires.first (ap closes c.in-Section.is) in
-    closed_at c.in_ok-size-in-Section.size u h _ _ (section_match u) c.self.view_is c.requires.between
-    (part_head h.state.context c.requires.part) c.args.rest.line c.args.rest.some
+    u c.args.rule c.requires.next.context c.requires.plain c.requires.first (ap closes c.in-Section.is) in
+    closed_at c.in_ok-size-in-Section.size u h _ _ (section_match u) c.self.view_is c.requires.next.between
+    (part_head h.state.context c.requires.next.context) c.args.rest.line c.args.rest.some
     (f.0 ∙ ap (c_match_by in_c false u) c.in-Section.is) f.1 c.in_ok-size-in-Section.ensures
 
 pub returns-in_ok-size-in_default : goal.returns-in_ok-size-in_default
@@ -65,7 +65,7 @@ returns-in_ok-size-in_default c =
     let ends = left_ends r c.in_default.not-Comment
     c.in_default.not-Section c.in_default.not-Code c.in_default.not-RawLiteral c.in_default.not-Literal no_end in
     let f = rule_closed s.context
-    (names_include s) u r c.requires.part c.requires.plain c.requires.first (ends_closes r ends) in
+    (names_include s) u r c.requires.next.context c.requires.plain c.requires.first (ends_closes r ends) in
     closed_at c.in_ok-size-in_default.size u h _ _
-    (c_match_by in_c false u r) c.self-in_default.view_is c.requires.between
-    (part_head s.context c.requires.part) c.args.rest.line c.args.rest.some f.0 f.1 c.in_ok-size-in_default.ensures
+    (c_match_by in_c false u r) c.self-in_default.view_is c.requires.next.between
+    (part_head s.context c.requires.next.context) c.args.rest.line c.args.rest.some f.0 f.1 c.in_ok-size-in_default.ensures

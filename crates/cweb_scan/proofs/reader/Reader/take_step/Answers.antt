@@ -39,8 +39,8 @@ pub invariant_of-take_between-clause-line : goal.invariant_of-take_between-claus
 invariant_of-take_between-clause-line c = subst IsLine
     (sym c.split_at.ensures.back) (IsLine-drop c.in_ok-plain-in-Between.plain c.args.rest.bytes.now c.args.rest.line)
 
-pub take_between-requires-clause-room : goal.take_between-requires-clause-room
-take_between-requires-clause-room c =
+pub take_between-requires : goal.take_between-requires
+take_between-requires c =
     let r = c.self.inside in
     let u = c.args.rest.bytes.now in
     let h = c.args.self.now in
@@ -48,7 +48,7 @@ take_between-requires-clause-room c =
     let item = ap (λ (k : Open). item_of k r.delimiter.items r.text.items) c.in-Between.is in
     let none = sym (ap (λ (h : ReaderModel). h.item) c.self.view_is) ∙ item in
     let t = plain_held n u h _ c.take_plain.new.self c.self.view_is none c.in_ok-plain-in-Between.ensures in
-    plain_room n u h _ t c.requires.room
+    record { between = item; context = tt; room = plain_room n u h _ t c.requires.room }
 
 pub returns-in_ok-size-in_default : goal.returns-in_ok-size-in_default
 returns-in_ok-size-in_default c =
