@@ -1,6 +1,7 @@
 // How literals of C text begin.
-ghost use Rattle.std.specs.Prelude.{◌≡◌, ◌≤◌, ◌<◌, ◌+◌, length, IsTrue};
+ghost use Rattle.std.specs.Prelude.{◌≡◌, ◌<◌, ◌+◌, length, IsTrue};
 ghost use Rattle.cweb_rules.specs.Matches as spec;
+ghost use Rattle.cweb_rules.specs.inner.Spans.{IsSizeIn};
 
 use crate::bytes::{Class, begins, span_len};
 
@@ -9,8 +10,7 @@ pub const MAX_DELIMITER: usize = 16;
 
 /// The length of `L`, `u`, `U` or `u8` before a quote.
 pub fn literal_prefix(text: &[u8]) -> usize
-    ensures value { result ≡ spec.literal_prefix text.now }
-    ensures within { result ≤ length text.now }
+    ensures { IsSizeIn spec.literal_prefix text.now result }
 {
     match text {
         [b'u', b'8', b'"' | b'\'', ..] => 2,
@@ -30,8 +30,7 @@ pub fn starts_literal(text: &[u8]) -> bool
 
 /// The length of `L`, `u`, `U` or `u8` before `R"`.
 pub fn raw_prefix(text: &[u8]) -> usize
-    ensures value { result ≡ spec.raw_prefix text.now }
-    ensures within { result ≤ length text.now }
+    ensures { IsSizeIn spec.raw_prefix text.now result }
 {
     match text {
         [b'u', b'8', b'R', b'"', ..] => 2,
