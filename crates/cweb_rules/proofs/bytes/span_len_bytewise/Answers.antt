@@ -3,9 +3,3 @@ use Rattle.cweb_rules.proofs.bytes.span_len_bytewise.Goals as goal
 
 pub loop-i-preserved : goal.loop-i-preserved
 loop-i-preserved c = grind (arith, common_steps)
-
-pub returns-then-not-has-clause-value : goal.returns-then-not-has-clause-value
-returns-then-not-has-clause-value c = grind (arith, common_steps)
-
-pub returns-clause-value : goal.returns-clause-value
-returns-clause-value c = grind (arith, common_steps)
