@@ -1,5 +1,5 @@
 -- A spelling is inserted with its number, or with the next one. Names by their first occurrences.
-use Rattle.cweb_names.proofs.Common.{◌≡◌, ℕ, zero, suc, ◌≤◌, ◌<◌, true, false, List, [], ◌∷◌, ◌++◌, Some, None, length, map, map-append, subst, slice_get, AllByRecursion, name_at, names_at, AreKnown, take, length-append, refl, sym, ◌∙◌, ap, arith, bytes_eq, unwrap_or, list_any, position_or_len, keys_of, lookup, insert_entry, is_at, length-map, NameId, Name, spellings, NameEntry, compare_bytes, IsNameMap}
+use Rattle.cweb_names.proofs.Common.{◌≡◌, ℕ, zero, suc, ◌≤◌, ◌<◌, true, false, List, [], ◌∷◌, ◌++◌, Some, None, length, map, map-append, subst, slice_get, AllByRecursion, name_at, names_at, AreKnown, length-append, refl, sym, ◌∙◌, ap, arith, bytes_eq, unwrap_or, list_any, position_or_len, keys_of, lookup, insert_entry, is_at, length-map, NameId, Name, spellings, NameEntry, compare_bytes, IsNameMap}
 use Rattle.std.specs.List.Sorted.{IsStrictlySortedBy}
 use Rattle.cweb_texts.specs.inner.StringLists.{string_at}
 use Rattle.cweb_texts.proofs.StringListLemmas.{get-string}
@@ -115,11 +115,3 @@ known-grown strings text firsts es known = record {
   within = within-grow (length strings) (length (strings ++ text ∷ [])) firsts
       (omega (arith, length-append strings (text ∷ []))) known.within;
 }
-
-pub last-text : (strings : List (List ℕ)) (text : List ℕ) → slice_get (strings ++ text ∷ []) (length strings) ≡ Some text
-last-text [] text = refl
-last-text (t ∷ strings) text = last-text strings text
-
-pub dropped-last : (strings : List (List ℕ)) (text : List ℕ) → take (length strings) (strings ++ text ∷ []) ≡ strings
-dropped-last [] text = refl
-dropped-last (t ∷ strings) text = ap (λ (ts : List (List ℕ)). t ∷ ts) (dropped-last strings text)

@@ -73,6 +73,12 @@ impl WordTable {
         None
     }
 
+    /// Whether the chain of a key takes no more words.
+    pub fn is_full(&self, key: Key) -> bool {
+        self.chains
+            .is_full(home_bucket(key, self.chains.heads.len()))
+    }
+
     /// Appends a word. Returns false and changes nothing if its chain is full, a number does not fit, or memory is refused.
     pub fn push(&mut self, key: Key, len: usize, number: usize) -> bool
         ensures { MatchBool result (PushesWord self.old key len number self.new)

@@ -1,5 +1,6 @@
 use Rattle.cweb_names.proofs.Common.{◌≡◌, ◌++◌, ◌∷◌, [], ℕ, List, ap, bytes_eq, length, map, position_or_len, spellings, subst, sym, take, with_full_name, ◌∙◌, AreKnown, Name, names_at, NamesSoFar}
-use Rattle.cweb_names.proofs.KnownLemmas.{firsts-back, known-grown, known-undone, last-text, names-grow, dropped-last}
+use Rattle.cweb_texts.proofs.StringListLemmas.{dropped-last, get-last}
+use Rattle.cweb_names.proofs.KnownLemmas.{firsts-back, known-grown, known-undone, names-grow}
 use Rattle.cweb_names.proofs.known.KnownNames.know.Goals as goal
 
 pub invariant_of-self-2 : goal.invariant_of-self-2
@@ -11,7 +12,8 @@ invariant_of-self-2 c =
 pub number_of-requires-clause-spelled : goal.number_of-requires-clause-spelled
 number_of-requires-clause-spelled c =
     let s = c.self.inside in
-    rw (c.in_ok-first.ensures.added, c.in_ok-first.ensures.number) (last-text s.strings c.args.text.now)
+    rw c.in_ok-first.ensures.added
+    (get-last s.strings c.args.text.now c.in_ok-first.first c.in_ok-first.ensures.number)
 
 -- The names don't change where an occurrence is added.
 pub returns-in-Ok-clause-number : goal.returns-in-Ok-clause-number
