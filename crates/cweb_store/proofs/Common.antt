@@ -78,6 +78,7 @@ pub use Rattle.cweb_store.specs.inner.PartRanges.{ranges_from, IsWhole, closed_i
 pub use Rattle.cweb_store.specs.inner.Records.{interned_of_record, AreNumbered}
 pub use Rattle.cweb_store.specs.inner.Replaced.{replacement_in}
 pub use Rattle.cweb_store.specs.inner.Stored.{replacements_at, stored_in, AreLast, AreStored, last_from}
+pub use Rattle.cweb_store.specs.inner.TokenIndexes.{token_numbers, IsTokenIndex}
 pub use Rattle.cweb_store.specs.inner.TokenStrings.{has_string}
 pub use Rattle.cweb_store.specs.inner.Trailing.{is_trailing}
 pub use Rattle.cweb_store.specs.inner.Wanted.{is_wanted, wanted_in}

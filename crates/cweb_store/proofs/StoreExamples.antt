@@ -1,5 +1,5 @@
 -- Worked examples of the definitions.
-use Rattle.cweb_store.proofs.Common.{◌≡◌, ℕ, List, [], ◌∷◌, ◌++◌, Some, None, map, true, false, codes, Ok, Err, How, Full, Prefix, NameFault, Ambiguous, NeverFull, PrefixOfAnother, NotPresent, NameRef, PartKind, Unnamed, Named, Macro, Occurrence, id, names, spellings, resolutions, resolved_among, files, Token, Word, Punct, Mark, Blank, Newline, joined_where, is_of, is_unnamed, is_macro, numbers_where, has_defs_code, replacement, replacement_of, fault_of_name, faults, left_of_macro, uninterned_store_bytes, interned_store_bytes, Call, Occurs, Opens, Pushes, Drops, Closes, Transliterates, Stored, contents, finished, occurrence_of}
+use Rattle.cweb_store.proofs.Common.{◌≡◌, ℕ, List, [], ◌∷◌, ◌++◌, Some, None, map, true, false, codes, Ok, Err, How, Full, Prefix, NameFault, Ambiguous, NeverFull, PrefixOfAnother, NotPresent, NameRef, PartKind, Unnamed, Named, Macro, Occurrence, id, names, spellings, resolutions, resolved_among, files, Token, Word, Punct, Mark, Blank, Newline, joined_where, is_of, is_unnamed, is_macro, numbers_where, has_defs_code, is_defs, replacement, replacement_of, fault_of_name, faults, left_of_macro, is_name_use, token_numbers, uninterned_store_bytes, interned_store_bytes, Call, Occurs, Opens, Pushes, Drops, Closes, Transliterates, Stored, contents, finished, occurrence_of}
 use Rattle.cweb_store.specs.Parts.{Number, Name, Join, Defs}
 
 abbrev stored : List Call → Stored
@@ -80,6 +80,10 @@ three_times = Opens Unnamed ∷ Pushes x ∷ Pushes x ∷ Pushes x ∷ []
 abbrev arrow : Token
 arrow = Punct (codes "->")
 
+-- Entries of the token index.
+abbrev recorded : List Token
+recorded = Blank ∷ Name (ref 0) ∷ Defs ∷ Name (ref 1) ∷ []
+
 record Computed : Type 0 where
   -- An abbreviation before the only name that matches.
   before_the_only_name : resolutions (glob ∷ variables ∷ []) ≡ Ok (id 0) ∷ Ok (id 0) ∷ []
@@ -134,6 +138,8 @@ record Computed : Type 0 where
   words_given : uninterned_store_bytes (stored three_times) ≡ 3
   texts_kept_each : interned_store_bytes (stored (Occurs
       glob ∷ Occurs glob ∷ three_times ++ Pushes (Number (codes "x")) ∷ Pushes (Word (codes "xy")) ∷ replaced)) ≡ 16
+  uses_are_recorded : token_numbers is_name_use 4 recorded ≡ 5 ∷ 7 ∷ []
+  defs_are_recorded : token_numbers is_defs 0 recorded ≡ 2 ∷ []
 
 computed : Computed
 computed = search

@@ -1,30 +1,18 @@
--- The names that tokens use, from the index of the next use, and whether a token of a range passes.
-use Rattle.cweb_store.proofs.Common.{arith, ◌≡◌, ◌≤◌, ◌<◌, ◌+◌, ℕ, Bool, true, false, ◌||◌, List, [], ◌∷◌, Some, refl, ◌∙◌, ap, slice_get, list_any, list_any-append, NameId, Resolution, Token, if◌then◌else◌, is_use, is_used, is_c_part, joined_where, is_name_use, IsNextNumber, slice_range}
+-- The names that tokens use, and whether any token passes, from the index of the next passing token.
+use Rattle.cweb_store.proofs.Common.{arith, ◌≡◌, ◌<◌, ◌+◌, ℕ, Bool, false, ◌||◌, List, [], ◌∷◌, Some, refl, ◌∙◌, ap, slice_get, list_any, list_any-append, NameId, Resolution, Token, if◌then◌else◌, is_use, is_used, is_c_part, joined_where, is_name_use, IsNextNumber, nat_lt, slice_range}
 use Rattle.cweb_store.specs.declared.parts.Part.{Part}
 use Rattle.cweb_store.specs.Parts as spec
-use Rattle.cweb_store.proofs.RangeLemmas.{range-split, range-head, range-none}
+use Rattle.cweb_store.proofs.RangeLemmas.{range-split, range-head}
 
--- A token of a range passes.
-pub passes-within : (test : Token → Bool) (ts : List Token) (i k j : ℕ) (t : Token) → i ≤ k → k < j
-    → slice_get ts k ≡ Some t → test t ≡ true → true ≡ list_any test (slice_range ts i j)
-passes-within test ts i k j t low less here passes =
+-- A token of a part passes exactly if the next passing token is in the part.
+pub next-any : (test : Token → Bool) (ts : List Token) (part : Part) (next : ℕ) → IsNextNumber test ts part next
+    → nat_lt next part.after ≡ list_any test (slice_range ts part.first part.after)
+next-any test ts part next is =
     grind (
       arith,
-      range-split ts i k j low (omega (arith, less)),
-      range-head ts k j t here less,
-      list_any-append test (slice_range ts i k) (slice_range ts k j),
-    )
-
--- The tokens of a range up to one that doesn't pass.
-pub none-more : (test : Token → Bool) (ts : List Token) (i k : ℕ) (t : Token) → i ≤ k → slice_get ts k ≡ Some t
-    → list_any test (slice_range ts i k) ≡ false → test t ≡ false → list_any test (slice_range ts i (k + 1)) ≡ false
-none-more test ts i k t low here before fails =
-    grind (
-      arith,
-      range-split ts i k (k + 1) low (omega arith),
-      range-head ts k (k + 1) t here (omega arith),
-      range-none ts (k + 1) (k + 1) (omega arith),
-      list_any-append test (slice_range ts i k) (slice_range ts k (k + 1)),
+      range-split ts part.first next part.after is.begins is.within,
+      list_any-append test (slice_range ts part.first next) (slice_range ts next part.after),
+      range-head ts next part.after,
     )
 
 -- A token that is no use uses no name.

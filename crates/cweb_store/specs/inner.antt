@@ -7,6 +7,7 @@ pub mod DirectBytes
 pub mod TokenReaders
 pub mod ClosedTokens
 pub mod Next
+pub mod TokenIndexes
 pub mod InternedTokens
 pub mod Records
 pub mod Trailing

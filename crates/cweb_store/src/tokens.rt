@@ -5,6 +5,7 @@ pub mod interned;
 pub mod layout;
 pub mod list;
 pub mod records;
+pub mod token_index;
 pub mod token_reader;
 
 use cweb_files::Place;

@@ -3,10 +3,12 @@ use Rattle.std.specs.Prelude.{ℕ, List}
 use Rattle.cweb_store.specs.Parts.{Token}
 use Rattle.cweb_store.specs.Calls.{PartsSoFar}
 
--- The room for tokens, and for the places of Marks among them.
+-- The room for tokens, and for the places of Marks, uses and Defs among them.
 pub record TokenRooms : Type 0 where
   pub for_records : ℕ
   pub for_places : ℕ
+  pub for_uses : ℕ
+  pub for_defs : ℕ
 
 pub record TokenListModel : Type 0 where
   pub tokens : List Token

@@ -14,15 +14,17 @@ use crate::parts::Part;
 use crate::tokens::Token;
 use crate::tokens::interned::token_of_interned;
 use crate::tokens::records::Records;
+use crate::tokens::token_index::{TokenIndex, next_in_range};
 use crate::tokens::token_reader::TokenReader;
 use cweb_names::{NameId, NameKind, resolved_at};
 use cweb_texts::StringList;
 use std::marker::Model;
 
-/// Finished tokens as records, and their strings.
+/// Finished tokens as records, their strings, and an index of uses and Defs.
 pub struct ClosedTokens {
     pub(crate) strings: StringList,
     pub(crate) records: Records,
+    pub(crate) token_index: TokenIndex,
 }
 
 // One call frees it, not one per field.
@@ -31,6 +33,7 @@ impl Drop for ClosedTokens {
         let ClosedTokens {
             strings: _,
             records: _,
+            token_index: _,
         } = self;
     }
 }
@@ -42,11 +45,12 @@ impl Model for ClosedTokens {
     ghost Value = { List spec.Token };
 
     ghost use Rattle.cweb_store.specs.inner.InternedTokens as interned;
-    ghost use Rattle.cweb_store.specs.inner.ClosedTokens.{AreClosed};
+    ghost use Rattle.cweb_store.specs.inner.TokenIndexes.{AreIndexedClosedTokens};
 
     ghost view = { λ s. map (interned.token_of_interned s.strings) s.records.interned };
 
-    ghost invariant = { λ s. AreClosed s.strings s.records.interned };
+    ghost invariant = { λ s.
+        AreIndexedClosedTokens s.strings s.records.interned s.token_index };
 }
 
 impl ClosedTokens {
@@ -86,13 +90,7 @@ impl ClosedTokens {
         requires { part.first ≤ part.after }
         ensures { IsNextNumber is_name_use self.now part result }
     {
-        let end = self.len().min(part.after as usize);
-        'tokens: for number in part.first as usize..end {
-            if let Token::Name(_) = self.token(number) {
-                return number as u32;
-            }
-        }
-        part.after
+        next_in_range(self.token_index.uses.as_slice(), part)
     }
 
     /// Sets the flags of the names that the tokens of a range use.
@@ -126,12 +124,7 @@ impl ClosedTokens {
         requires within { part.after ≤ length self.now }
         ensures { result ≡ list_any is_defs (slice_range self.now part.first part.after) }
     {
-        'tokens: for number in part.first..part.after {
-            if let Token::Defs = self.token(number as usize) {
-                return true;
-            }
-        }
-        false
+        next_in_range(self.token_index.defs.as_slice(), part) < part.after
     }
 
     /// The number of bytes of all strings.

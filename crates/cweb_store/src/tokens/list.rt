@@ -9,14 +9,16 @@ use crate::tokens::Token;
 use crate::tokens::closed::ClosedTokens;
 use crate::tokens::interned::token_of_interned;
 use crate::tokens::records::Records;
+use crate::tokens::token_index::TokenIndex;
 use cweb_texts::StringTable;
 use std::alloc::{AllocError, Global};
 use std::marker::Model;
 
-/// Tokens as records, and their strings.
+/// Tokens as records, their strings, and an index of uses and Defs.
 pub struct TokenList {
     strings: StringTable,
     records: Records,
+    token_index: TokenIndex,
 }
 
 // One call frees it, not one per field.
@@ -25,18 +27,19 @@ impl Drop for TokenList {
         let TokenList {
             strings: _,
             records: _,
+            token_index: _,
         } = self;
     }
 }
 
 impl Model for TokenList {
-    ghost use Rattle.std.specs.Prelude.{map};
+    ghost use Rattle.std.specs.Prelude.{map, vec_capacity};
     ghost use Rattle.cweb_store.specs.inner.Rooms.{TokenListModel};
 
     ghost Value = { TokenListModel };
 
     ghost use Rattle.cweb_store.specs.inner.InternedTokens.{token_of_interned};
-    ghost use Rattle.cweb_store.specs.inner.ClosedTokens.{AreTokens};
+    ghost use Rattle.cweb_store.specs.inner.TokenIndexes.{AreIndexedTokens};
 
     ghost view = { λ s.
         record {
@@ -44,10 +47,12 @@ impl Model for TokenList {
           rooms = record {
             for_records = s.records.room;
             for_places = s.records.place_room;
+            for_uses = vec_capacity s.token_index.uses;
+            for_defs = vec_capacity s.token_index.defs;
           };
         } };
 
-    ghost invariant = { λ s. AreTokens s.strings s.records.interned };
+    ghost invariant = { λ s. AreIndexedTokens s.strings s.records.interned s.token_index };
 }
 
 impl TokenList {
@@ -60,6 +65,7 @@ impl TokenList {
         TokenList {
             strings: StringTable::new(alloc),
             records: Records::new(alloc),
+            token_index: TokenIndex::new(alloc),
         }
     }
 
@@ -79,7 +85,10 @@ impl TokenList {
         ensures err { OnErr result (self.new.tokens ≡ self.old.tokens) }
     {
         self.records.reserve(token)?;
+        self.token_index.reserve(token)?;
+        let number = self.records.len();
         self.records.put(&mut self.strings, token)?;
+        self.token_index.add_number(number, token);
         Ok(())
     }
 
@@ -99,17 +108,26 @@ impl TokenList {
         ensures tokens { self.new.tokens ≡ take count self.old.tokens }
         ensures rooms { self.new.rooms ≡ self.old.rooms }
     {
+        if count >= self.records.len() {
+            return;
+        }
         self.records.truncate(count);
+        self.token_index.truncate(count);
     }
 
     /// The finished tokens.
     pub fn close(self) -> ClosedTokens
         ensures { result ≡ self.tokens }
     {
-        let TokenList { strings, records } = self;
+        let TokenList {
+            strings,
+            records,
+            token_index,
+        } = self;
         ClosedTokens {
             strings: strings.close(),
             records,
+            token_index,
         }
     }
 }

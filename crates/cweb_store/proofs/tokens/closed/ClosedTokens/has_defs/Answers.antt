@@ -1,26 +1,11 @@
-use Rattle.std.proofs.Common.{◌≡◌, arith, false, true, refl}
-use Rattle.cweb_store.specs.declared.tokens.Token.{Token}
-use Rattle.cweb_store.specs.declared.tokens.Token.TheVariants.{Defs}
-use Rattle.cweb_store.specs.Parts.{is_defs}
-use Rattle.cweb_store.specs.surface.TokenModels.{token_model}
-use Rattle.cweb_store.proofs.UseLemmas.{none-more, passes-within}
+use Rattle.cweb_store.proofs.Common.{map, subst, ◌∙◌, is_defs, IsNextNumber, List, Token, token_of_interned}
+use Rattle.cweb_store.proofs.UseLemmas.{next-any}
 use Rattle.cweb_store.proofs.tokens.closed.ClosedTokens.has_defs.Goals as goal
 
-is_no_defs : (t : Token) → (t ≡ Defs → ⊥) → is_defs (token_model t) ≡ false
-is_no_defs Defs other = absurd (other refl)
-is_no_defs _ other = refl
-
-pub returns-in-Defs : goal.returns-in-Defs
-returns-in-Defs c =
-    let passes : is_defs (token_model c.token.result) ≡ true = search in
-    passes-within is_defs c.args.self.now c.args.part.first c.tokens.number c.args.part.after
-    (token_model c.token.result) c.tokens.invariant.begins (omega (arith, c.tokens-test.true)) c.token.ensures passes
-
-pub tokens-preserved : goal.tokens-preserved
-tokens-preserved c =
-    let fails : is_defs (token_model c.token.result) ≡ false = is_no_defs c.token.result c.in_default.not-Defs in
-    record {
-      begins = omega (arith, c.tokens.invariant.begins);
-      before = none-more is_defs c.args.self.now c.args.part.first c.tokens.number (token_model c.token.result)
-          c.tokens.invariant.begins c.token.ensures c.tokens.invariant.before fails;
-    }
+pub returns : goal.returns
+returns c =
+    let s = c.self.inside in
+    let is = c.next_in_range.ensures is_defs
+    (map (token_of_interned s.strings) s.records.interned) (c.as_slice.ensures.value ∙ c.self.invariant.notes.defs) in
+    next-any is_defs c.args.self.now c.args.part c.next_in_range.result
+    (subst (λ (v : List Token). IsNextNumber is_defs v c.args.part c.next_in_range.result) c.self.view_is is)

@@ -7,7 +7,7 @@ invariant_of-result c =
     let s = c.self.inside in
     let there = c.as_slice.ensures in
     rw c.slices.ensures (interned-alone s.strings there.0 c.as_slice.result.now
-    (subst (StringsAreWithin s.strings) there.1 c.self.invariant.interned))
+    (subst (StringsAreWithin s.strings) there.1 c.self.invariant.tokens.interned))
 
 pub returns : goal.returns
 returns c =

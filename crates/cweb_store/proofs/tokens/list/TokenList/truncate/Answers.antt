@@ -1,4 +1,4 @@
-use Rattle.cweb_store.proofs.Common.{◌≡◌, take, sym, subst, ap, filter, take-map, has_string, token_of_interned}
+use Rattle.cweb_store.proofs.Common.{◌≡◌, map, take, sym, subst, ap, filter, take-map, has_string, token_of_interned, IsTokenIndex}
 use Rattle.cweb_store.specs.inner.Rooms.{TokenListModel}
 use Rattle.cweb_store.proofs.TokenStringLemmas.{truncate-are}
 use Rattle.cweb_store.proofs.tokens.list.TokenList.truncate.Goals as goal
@@ -13,9 +13,20 @@ invariant_of-self c =
     let same = subst (λ (v : TokenListModel). filter has_string (take c.args.count v.tokens)
     ≡ filter has_string v.tokens)
     (sym c.self.view_is) c.requires in
+    let prefix = take-map (token_of_interned s.strings.strings) c.args.count s.records.interned in
     rw c.truncate.ensures.interned
-    (truncate-are s.strings s.records.interned c.args.count c.self.invariant same)
+    (record {
+      tokens = truncate-are s.strings s.records.interned c.args.count c.self.invariant.tokens same;
+      notes = subst (IsTokenIndex c.truncate-2.new.self) prefix
+          (c.truncate-2.ensures.token_index
+          (map (token_of_interned s.strings.strings) s.records.interned) c.self.invariant.notes);
+    })
 
 pub returns-clause-rooms : goal.returns-clause-rooms
 returns-clause-rooms c =
-    rw (c.truncate.ensures.room, c.truncate.ensures.place_room) (ap (λ v. v.rooms) c.self.view_is)
+    rw (
+      c.truncate.ensures.room,
+      c.truncate.ensures.place_room,
+      c.truncate-2.ensures.uses_room,
+      c.truncate-2.ensures.defs_room,
+    ) (ap (λ v. v.rooms) c.self.view_is)

@@ -1,0 +1,96 @@
+// The indices of tokens that are searched for later.
+
+ghost use Rattle.std.specs.Prelude.{◌≡◌, ◌≤◌, ◌++◌, ◌∷◌, [], ℕ, Bool, List, length, nat_lt, take};
+ghost use Rattle.std.specs.Prelude.{vec_capacity, OnOk};
+ghost use Rattle.std.specs.List.{prefix_len};
+ghost use Rattle.std.specs.List.Sorted.{IsNonDecreasing};
+ghost use Rattle.cweb_store.specs.Parts as spec;
+ghost use Rattle.cweb_store.specs.surface.TokenModels.{token_model};
+ghost use Rattle.cweb_store.specs.inner.Next.{IsNextNumber};
+ghost use Rattle.cweb_store.specs.inner.TokenIndexes.{IsTokenIndex, IndexHasRoom, token_numbers};
+
+use crate::parts::Part;
+use crate::tokens::Token;
+use std::alloc::{AllocError, Global};
+
+/// The indices of the tokens that use a name, and of the Defs, in ascending order.
+#[derive(Drop)]
+pub struct TokenIndex {
+    pub uses: Vec<usize>,
+    pub defs: Vec<usize>,
+}
+
+impl TokenIndex {
+    /// An empty index.
+    pub fn new(alloc: Global) -> TokenIndex
+        ensures { IsTokenIndex result [] }
+    {
+        TokenIndex {
+            uses: Vec::new(alloc),
+            defs: Vec::new(alloc),
+        }
+    }
+
+    /// Reserves room for an entry. The index doesn't change.
+    pub fn reserve(&mut self, token: Token<'_>) -> Result<(), AllocError>
+        ensures room { OnOk result (IndexHasRoom (token_model token.entry) self.new) }
+        ensures token_index { (tokens : List spec.Token) → IsTokenIndex self.old tokens
+            → IsTokenIndex self.new tokens }
+    {
+        match token {
+            Token::Name(_) => self.uses.reserve(1)?,
+            Token::Defs => self.defs.reserve(1)?,
+            _ => {}
+        }
+        Ok(())
+    }
+
+    /// Adds a token that comes after all others.
+    pub fn add_number(&mut self, number: usize, token: Token<'_>)
+        requires { IndexHasRoom (token_model token) self.old }
+        ensures { (tokens : List spec.Token) → length tokens ≡ number → IsTokenIndex self.old tokens
+            → IsTokenIndex self.new (tokens ++ token_model token.entry ∷ []) }
+    {
+        match token {
+            Token::Name(_) => self.uses.push_reserved(number),
+            Token::Defs => self.defs.push_reserved(number),
+            _ => {}
+        }
+    }
+
+    /// Keeps the entries of the first `count` tokens. Allocates nothing.
+    pub fn truncate(&mut self, count: usize)
+        ensures token_index { (tokens : List spec.Token) → IsTokenIndex self.old tokens
+            → IsTokenIndex self.new (take count tokens) }
+        ensures uses_room { vec_capacity self.new.uses ≡ vec_capacity self.old.uses }
+        ensures defs_room { vec_capacity self.new.defs ≡ vec_capacity self.old.defs }
+    {
+        let uses = count_below(self.uses.as_slice(), count);
+        self.uses.truncate(uses);
+        let defs = count_below(self.defs.as_slice(), count);
+        self.defs.truncate(defs);
+    }
+}
+
+/// The first of `numbers` that is in a part, or the end of the part if there is none.
+pub fn next_in_range(numbers: &[usize], part: Part) -> u32
+    requires { part.first ≤ part.after }
+    ensures { (test : spec.Token → Bool) → (tokens : List spec.Token)
+        → numbers.now ≡ token_numbers test 0 tokens → IsNextNumber test tokens part result }
+{
+    let Some(number) = numbers.get(count_below(numbers, part.first as usize)) else {
+        return part.after;
+    };
+    if *number < part.after as usize {
+        return *number as u32;
+    }
+    part.after
+}
+
+// The number of entries below a bound. The entries are sorted.
+fn count_below(numbers: &[usize], bound: usize) -> usize
+    ensures { IsNonDecreasing numbers.now
+        → result ≡ prefix_len (λ number. nat_lt number bound) numbers.now }
+{
+    numbers.partition_point(|number| *number < bound)
+}
