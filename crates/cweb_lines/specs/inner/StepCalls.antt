@@ -1,5 +1,6 @@
 -- What the calls of a step promise.
-use Rattle.std.specs.Prelude.{◌≡◌, ◌≤◌, ◌<◌, ℕ, List, length, None, Option, Result, Ok, Err, IsTrue, IfOk, IfErr, OnOk, OnErr, ◌+◌}
+use Rattle.std.specs.Prelude.{◌≡◌, ◌≤◌, ◌<◌, ◌+◌, ℕ, List, length, None, Option, Result, Ok, Err, IsTrue}
+use Rattle.std.specs.Prelude.{IfOk, IfErr, OnOk, OnErr}
 use Rattle.cweb_files.specs.declared.device.Shelf.{Ghosts as Shelf}
 use Rattle.cweb_files.specs.surface.Frames.{KeepsShelf}
 use Rattle.cweb_input.specs.inner.Finding.{ReadsNothing}
@@ -32,8 +33,8 @@ abbrev pub outcome : {A : Type 0} → Result A Stop → Result (Unit {0}) Stop
 outcome (Ok x) = Ok tt
 outcome (Err stop) = Err stop
 
--- Lines may be read. The rest of the shelf stays, and readers keep the names of their files. A failed read is counted and
--- blames its file. Reports only grow.
+-- Lines may be read. The rest of the shelf stays, and readers keep the names of their files. A failed read is counted
+-- and blames its file. Reports only grow.
 pub record Reads {S R : Type 0} (shelf : Shelf S R) (old new : S) (run run' : MergeState R)
     (result : Result (Unit {0}) Stop) : Type 0 where
   pub keeps : KeepsShelf shelf old new
@@ -126,8 +127,8 @@ pub record IsPlainRaw {R : Type 0} (run : MergeState R) (bytes : List ℕ) (at :
   pub settled : IsSettled run.stage
   pub plain : begun_by (pending_of run) at.may_match bytes ≡ None
 
--- A line that was taken is obeyed, or emitted as `lines` says. Nothing is read, readers keep the names of their files, and
--- reports only grow.
+-- A line that was taken is obeyed, or emitted as `lines` says. Nothing is read, readers keep the names of their files,
+-- and reports only grow.
 pub record Obeys {S R A : Type 0} (shelf : Shelf S R) (old new : S) (run run' : MergeState R) (bytes : List ℕ)
     (at : LineAt) (lines : A → List Line) (result : Result A Stop) : Type 0 where
   pub reads : ReadsNothing shelf old new
