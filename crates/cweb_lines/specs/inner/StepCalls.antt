@@ -119,8 +119,9 @@ pub record Turns {R : Type 0} (old new : MergeState R) (bytes : List ℕ) (resul
   pub named : IfErr result (λ stop. files_named stop ≤ length (opened_file_names new.names))
   pub reading : IfErr result (λ stop. StopsReading stop)
 
--- A raw line begins no change, and its file was opened. No source is open that is deeper than it.
-pub record IsPlainRaw {R : Type 0} (run : MergeState R) (bytes : List ℕ) (at : LineAt) : Type 0 where
+-- A line that was taken begins no change, and its file was opened. It is as deep as the stack of open sources, which
+-- may hold one more file.
+pub record IsPlainLine {R : Type 0} (run : MergeState R) (bytes : List ℕ) (at : LineAt) : Type 0 where
   pub names : length (opened_file_names run.names) < run.limits.lines + 2
   pub known : at.place.file.0 < length (opened_file_names run.names)
   pub deep : run.stack.depth ≤ at.depth
@@ -139,7 +140,8 @@ pub record Obeys {S R A : Type 0} (shelf : Shelf S R) (old new : S) (run run' : 
       → source.line ≡ record { bytes = bytes; place = at.place } → EmitsAfterLine source (lines x) (so_far_of run)
       (so_far_of run') (events_after_line (shelf.texts old) (shelf.left old) run at source) (coming shelf new run'))
 
--- A step. Its line, if it emits one, comes next. If it stops, it says why.
+-- A step takes a turn, and may read lines. Its line, if it emits one, comes next. If it stops, the reason is that of
+-- the events to come.
 pub record TakesTurn {S R : Type 0} (shelf : Shelf S R) (old new : S) (run run' : MergeState R) (bytes : List ℕ)
     (result : Result Turn Stop) : Type 0 where
   pub reads : Reads shelf old new run run' (outcome result)
