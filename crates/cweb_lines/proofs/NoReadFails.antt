@@ -1,5 +1,5 @@
 -- Calls that may read, one after another. Each but the last has read without a fault.
-use Rattle.cweb_lines.proofs.Common.{◌≡◌, ◌++◌, ℕ, List, [], arith, refl, sym, ◌∙◌, ap, subst, IsTrue, so_far_of, opened_file_names, read_failures_of, Memory, append-nil, blames_memory, OnlyReports, SourceFault, MergeState, Line, LineAt, Stop, Result, Ok, Err, IfErr}
+use Rattle.cweb_lines.proofs.Common.{◌≡◌, ◌++◌, ℕ, List, [], arith, refl, sym, ◌∙◌, ap, subst, IsTrue, so_far_of, opened_file_names, read_failures_of, Memory, append-nil, blames_memory, OnlyReports, SourceFault, MergeState, AppendsPassedLines, AreReadersKnown, Line, LineAt, Stop, Result, Ok, Err, IfErr}
 use Rattle.cweb_files.specs.declared.device.Shelf.{Ghosts as Shelf}
 use Rattle.cweb_files.specs.surface.Frames.{KeepsShelf}
 use Rattle.cweb_files.proofs.FramesCompose.{keeps_known, keeps_same, keeps_then}
@@ -9,7 +9,9 @@ use Rattle.cweb_input.specs.surface.OpenSources.{CountsReadStop}
 use Rattle.cweb_lines.specs.inner.MergeReaderNames.{BlamesReaders, KeepsReaders}
 use Rattle.cweb_lines.specs.inner.StepCalls.{Obeys, Reads, outcome}
 use Rattle.cweb_lines.specs.surface.MergeProgress.{KeepsReported}
-use Rattle.cweb_lines.proofs.ReportsOnlyGrow.{reported_after, reported_same, reported_then}
+use Rattle.cweb_lines.specs.surface.MergerCalls.{KnowsReaders, StaysKnown}
+use Rattle.cweb_lines.specs.declared.merger.Merger.{Merger}
+use Rattle.cweb_lines.proofs.ReportsOnlyGrow.{reported_after, reported_halted, reported_passed, reported_same, reported_then}
 use Rattle.cweb_lines.proofs.MergeReadersStayNamed.{knows_only, knows_same}
 
 counts_none : (result : Result (Unit {0}) Stop) (count count' : ℕ) → count' ≡ count
@@ -47,8 +49,8 @@ module _ {S R : Type 0} {shelf : Shelf S R} where
 
   -- Nothing is read. Only want of memory stops the call.
   pub reads_none : {result : Result (Unit {0}) Stop} {old new : S} {run run' : MergeState R}
-      → ReadsNothing shelf old new → KeepsReaders shelf old new run run' → KeepsReported (so_far_of run) (so_far_of run')
-      → IfErr result (λ stop. stop ≡ Memory) → Reads shelf old new run run' result
+      → ReadsNothing shelf old new → KeepsReaders shelf old new run run' → KeepsReported (so_far_of run) (so_far_of
+      run') → IfErr result (λ stop. stop ≡ Memory) → Reads shelf old new run run' result
   reads_none {result = result} nothing readers still memory = record {
     keeps = nothing.keeps;
     failed = counts_none result _ _ nothing.failed memory;
@@ -66,12 +68,24 @@ module _ {S R : Type 0} {shelf : Shelf S R} where
   reads_obeyed {result = result} obeys =
       reads_none obeys.reads obeys.readers obeys.still (outcome_memory result obeys.only.memory)
 
+  pub reads_passed : {room : ℕ} {s : S} {run run' : MergeState R} {buffer more : List ℕ}
+      → AppendsPassedLines room run run' buffer more → Quiet shelf s s run run'
+  reads_passed passes =
+      reads_none (reads_nothing _) (λ tells known. passes.readers _ known) (reported_passed passes) tt
+
+  pub reads_halted : {s : S} {run run' : MergeState R} {stop : Stop}
+      → ((opened_as : R → List ℕ) → AreReadersKnown opened_as run → AreReadersKnown opened_as run')
+      → so_far_of run' ≡ so_far_of run → stop ≡ Memory → Reads shelf s s run run' (Err stop)
+  reads_halted readers same memory =
+      reads_none (reads_nothing _) (λ tells known. readers _ known) (reported_halted same) memory
+
   -- A call that doesn't have the shelf reports faults.
   pub reads_reported : {result : Result (Unit {0}) Stop} {s : S} {run run' : MergeState R} (more : List SourceFault)
       → OnlyReports run run' → run'.faults.items ≡ run.faults.items ++ more → IfErr result (λ stop. stop ≡ Memory)
       → Reads shelf s s run run' result
   reads_reported {s = s} more only reported memory =
-      reads_none (reads_nothing s) (λ tells known. knows_only only known) (reported_after _ _ more reported (ap opened_file_names only.names)) memory
+      reads_none (reads_nothing s) (λ tells known. knows_only only known) (reported_after _ _ more reported (ap
+      opened_file_names only.names)) memory
 
   pub reads_unreported : {result : Result (Unit {0}) Stop} {s : S} {run run' : MergeState R} → OnlyReports run run'
       → run'.faults.items ≡ run.faults.items → IfErr result (λ stop. stop ≡ Memory) → Reads shelf s s run run' result
@@ -89,6 +103,14 @@ module _ {S R : Type 0} {shelf : Shelf S R} where
     blamed = rw (ap (λ s. s.names) same) reads.blamed;
     still = rw same reads.still;
   }
+
+  pub stays_known : {A : Type 0} (result : Result A Stop) {old new : S} {merger merger' : Merger S R}
+      → Reads shelf old new merger.run merger'.run (outcome result) → IsTrue (shelf.tells old)
+      → KnowsReaders shelf old merger → StaysKnown shelf old new merger merger' result
+  stays_known (Ok x) reads tells known =
+      record { readers = reads.readers tells known; blamed = λ before. reads.blamed tells known }
+  stays_known (Err stop) reads tells known =
+      record { readers = reads.readers tells known; blamed = λ before. reads.blamed tells known }
 
   module _ {a b : S} {x y : MergeState R} (first : Quiet shelf a b x y) where
     pub still_tells : IsTrue (shelf.tells a) → IsTrue (shelf.tells b)

@@ -1,5 +1,6 @@
 -- What the calls of a step promise.
-use Rattle.std.specs.Prelude.{◌≡◌, ◌≤◌, ◌<◌, ℕ, List, length, None, Option, Result, Ok, Err, IsTrue, IfOk, IfErr, OnOk, OnErr, ◌+◌}
+use Rattle.std.specs.Prelude.{◌≡◌, ◌≤◌, ◌<◌, ◌+◌, ℕ, List, length, None, Option, Result, Ok, Err, IsTrue}
+use Rattle.std.specs.Prelude.{IfOk, IfErr, OnOk, OnErr}
 use Rattle.cweb_files.specs.declared.device.Shelf.{Ghosts as Shelf}
 use Rattle.cweb_files.specs.surface.Frames.{KeepsShelf}
 use Rattle.cweb_input.specs.inner.Finding.{ReadsNothing}
@@ -32,8 +33,8 @@ abbrev pub outcome : {A : Type 0} → Result A Stop → Result (Unit {0}) Stop
 outcome (Ok x) = Ok tt
 outcome (Err stop) = Err stop
 
--- Lines may be read. The rest of the shelf stays, and readers keep the names of their files. A failed read is counted and
--- blames its file. Reports only grow.
+-- Lines may be read. The rest of the shelf stays, and readers keep the names of their files. A failed read is counted
+-- and blames its file. Reports only grow.
 pub record Reads {S R : Type 0} (shelf : Shelf S R) (old new : S) (run run' : MergeState R)
     (result : Result (Unit {0}) Stop) : Type 0 where
   pub keeps : KeepsShelf shelf old new
@@ -118,16 +119,17 @@ pub record Turns {R : Type 0} (old new : MergeState R) (bytes : List ℕ) (resul
   pub named : IfErr result (λ stop. files_named stop ≤ length (opened_file_names new.names))
   pub reading : IfErr result (λ stop. StopsReading stop)
 
--- A raw line begins no change, and its file was opened. No source is open that is deeper than it.
-pub record IsPlainRaw {R : Type 0} (run : MergeState R) (bytes : List ℕ) (at : LineAt) : Type 0 where
+-- A line that was taken begins no change, and its file was opened. It is as deep as the stack of open sources, which
+-- may hold one more file.
+pub record IsPlainLine {R : Type 0} (run : MergeState R) (bytes : List ℕ) (at : LineAt) : Type 0 where
   pub names : length (opened_file_names run.names) < run.limits.lines + 2
   pub known : at.place.file.0 < length (opened_file_names run.names)
   pub deep : run.stack.depth ≤ at.depth
   pub settled : IsSettled run.stage
   pub plain : begun_by (pending_of run) at.may_match bytes ≡ None
 
--- A line that was taken is obeyed, or emitted as `lines` says. Nothing is read, readers keep the names of their files, and
--- reports only grow.
+-- A line that was taken is obeyed, or emitted as `lines` says. Nothing is read, readers keep the names of their files,
+-- and reports only grow.
 pub record Obeys {S R A : Type 0} (shelf : Shelf S R) (old new : S) (run run' : MergeState R) (bytes : List ℕ)
     (at : LineAt) (lines : A → List Line) (result : Result A Stop) : Type 0 where
   pub reads : ReadsNothing shelf old new
@@ -138,7 +140,8 @@ pub record Obeys {S R A : Type 0} (shelf : Shelf S R) (old new : S) (run run' : 
       → source.line ≡ record { bytes = bytes; place = at.place } → EmitsAfterLine source (lines x) (so_far_of run)
       (so_far_of run') (events_after_line (shelf.texts old) (shelf.left old) run at source) (coming shelf new run'))
 
--- A step. Its line, if it emits one, comes next. If it stops, it says why.
+-- A step takes a turn, and may read lines. Its line, if it emits one, comes next. If it stops, the reason is that of
+-- the events to come.
 pub record TakesTurn {S R : Type 0} (shelf : Shelf S R) (old new : S) (run run' : MergeState R) (bytes : List ℕ)
     (result : Result Turn Stop) : Type 0 where
   pub reads : Reads shelf old new run run' (outcome result)

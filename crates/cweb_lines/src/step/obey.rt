@@ -1,7 +1,7 @@
 // Lines that begin no change: include lines are obeyed, and others are emitted.
 ghost use Rattle.std.specs.Prelude.{◌≡◌, ◌≤◌, ◌<◌, ◌+◌, ◌^◌, ◌++◌, ◌∷◌, [], length, IsTrue, IfOk};
 ghost use Rattle.std.specs.Prelude.{IfErr, OnOk, OnErr, None, Some, string_bytes, true, ℕ, List};
-ghost use Rattle.cweb_lines.specs.inner.StepCalls.{IsPlainRaw, Obeys, OnlyOpens};
+ghost use Rattle.cweb_lines.specs.inner.StepCalls.{IsPlainLine, Obeys, OnlyOpens};
 ghost use Rattle.cweb_input.specs.Include as spec;
 ghost use Rattle.cweb_lines.specs.inner.MergeProgress.{turn_lines, IsTaken, TurnKnown};
 ghost use Rattle.cweb_lines.specs.surface.MergeProgress.{KeepsReported, so_far_of};
@@ -61,7 +61,7 @@ fn obey<S: Shelf>(
     at: LineAt,
 ) -> Result<(), Stop>
     requires include { spec.is_include_line line.now ≡ true }
-    requires plain { IsPlainRaw run.old line.now at }
+    requires plain { IsPlainLine run.old line.now at }
     ensures { Obeys S.Shelf shelf.old shelf.new run.old run.new line.now at (λ _. []) result }
 {
     let name = include_name(line);
@@ -85,7 +85,7 @@ pub fn emit_or_obey<S: Shelf>(
     line: &[u8],
     at: LineAt,
 ) -> Result<Turn, Stop>
-    requires { IsPlainRaw run.old line.now at }
+    requires { IsPlainLine run.old line.now at }
     ensures obeys { Obeys S.Shelf shelf.old shelf.new run.old run.new line.now at
         (λ turn. turn_lines turn line.now) result }
     ensures goes { IfOk result (λ turn. IsTaken turn) }

@@ -24,9 +24,9 @@ returns-in_err-take_buffered-clause-fails g c = record {
       let fault : c.in_err-take_buffered.field-0.0 ≡ TooLong = cc (p.1, p.2, is) in
       let long = c.in_err-take_buffered.ensures.too_long c.pieces.invariant.none (ap Err fault) in
       let rest = g.S.Shelf.left c.refill.new.shelf c.refill.new.source.reader.value in
-      subst (λ (l : List ℕ). IsLongerThan LINE_LENGTH l) (append_assoc c.pieces.line.items (buffered c.refill.new.source)
-      rest ∙ sym (so_far g (goal.at.returns-in_err-take_buffered-clause-fails g c).In_ok-refill tells))
-      (longer_more LINE_LENGTH (c.pieces.line.items ++ buffered c.refill.new.source) rest long);
+      subst (λ (l : List ℕ). IsLongerThan LINE_LENGTH l) (append_assoc c.pieces.line.items (buffered
+      c.refill.new.source) rest ∙ sym (so_far g (goal.at.returns-in_err-take_buffered-clause-fails g c).In_ok-refill
+      tells)) (longer_more LINE_LENGTH (c.pieces.line.items ++ buffered c.refill.new.source) rest long);
 }
 
 pub returns-then-branch-clause-taken : goal.returns-then-branch-clause-taken

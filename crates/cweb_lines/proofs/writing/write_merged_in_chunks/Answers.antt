@@ -1,8 +1,8 @@
-use Rattle.cweb_lines.proofs.Common.{rules, [], Ok, Line, ◌+◌, refl, ap, sym, ◌∙◌, arith, IsTrue, Writes, BuffersLines, HasWritten, events_to_come, so_far_of, to_come, so_far, read_failures_of, blames_none, stop_after, WriteFault}
-use Rattle.cweb_lines.proofs.ReportsOnlyGrow.{grows_reported, reported_halted, reported_passed, reported_same, reported_then}
+use Rattle.cweb_lines.proofs.Common.{rules, [], Ok, Err, Line, ◌+◌, refl, ap, sym, ◌∙◌, arith, IsTrue, Writes, BuffersLines, HasWritten, events_to_come, so_far_of, to_come, so_far, blames_none, WriteFault}
+use Rattle.cweb_lines.proofs.ReportsOnlyGrow.{grows_reported, reported_same}
 use Rattle.cweb_lines.proofs.BufferedWrites.{held, held_on, fails_prefix, fails_among, place_of, written_on}
-use Rattle.cweb_files.proofs.FramesCompose.{keeps_same, keeps_then, place_same, place_then}
-use Rattle.cweb_lines.proofs.NoReadFails.{Quiet, quiet_same, reads_none, reads_nothing, reads_then, still_tells}
+use Rattle.cweb_files.proofs.FramesCompose.{keeps_same, place_same, place_then}
+use Rattle.cweb_lines.proofs.NoReadFails.{Quiet, quiet_same, reads_halted, reads_passed, reads_then, stays_known, still_tells}
 use Rattle.cweb_lines.proofs.WrittenLinesAddUp.{nothing_yet, written_by, written_prefix, written_some, written_whole, tells_some, tells_more, tells_same}
 use Rattle.cweb_lines.proofs.WriteStops.{blames_own, blames_write, memory_failed, memory_write, none_before}
 use Rattle.cweb_lines.proofs.writing.write_merged_in_chunks.Given as given
@@ -62,40 +62,32 @@ returns-in-Some g c = record {
 
 pub returns-in-Err : goal.returns-in-Err
 returns-in-Err g c =
-    let still = still_tells c.lines.invariant.quiet in
-    let blames = c.in-Err.ensures.blames c.lines.invariant.running in
+    let next = c.in-Err.ensures in
+    let blames = next.blames c.lines.invariant.running in
+    let reads = reads_then c.lines.invariant.quiet (record {
+      keeps = next.keeps;
+      failed = blames.failed;
+      readers = λ tells known. (next.known tells known).readers;
+      blamed = λ tells known. (next.known tells known).blamed c.lines.invariant.running;
+      still = next.grows.reported;
+    }) in
     record {
-      keeps = (
-        keeps_then g.S.Shelf _ _ _ c.lines.invariant.quiet.keeps c.in-Err.ensures.keeps,
-        c.lines.invariant.place,
-      );
-      grows = record {
-        reported = reported_then _ _ _ c.lines.invariant.quiet.still c.in-Err.ensures.grows.reported;
-        lines = c.in-Err.ensures.grows.lines;
-        bytes = c.in-Err.ensures.grows.bytes;
-      };
+      keeps = (reads.keeps, c.lines.invariant.place);
+      grows = record { reported = reads.still; lines = next.grows.lines; bytes = next.grows.bytes };
       ok = λ _. tt;
       ended = tt;
       prefix = λ tells. written_prefix g.W.Sink _ _ _ _ _ _ (c.lines.invariant.written tells);
       stops = λ tells before.
           let written = c.lines.invariant.written tells in
-          let there = c.in-Err.ensures.stops (still tells) c.lines.invariant.running in
+          let there = next.stops (still_tells c.lines.invariant.quiet tells) c.lines.invariant.running in
           record {
             why = written_by g.W.Sink _ _ _ _ _ _ written c.in-Err.stop _ there.why;
             reported = tells_more _ _ _ _ _ _ written.yields there.reported;
           };
       fault = search rules;
-      blames = λ before. blames_own c.in-Err.stop _ _ _ _ blames.reading c.in-Err.ensures.leaves.kept
-          c.in-Err.ensures.leaves.named
-          (blames.failed ∙ ap (λ n. n + read_failures_of c.in-Err.stop) c.lines.invariant.quiet.failed)
+      blames = λ before. blames_own c.in-Err.stop _ _ _ _ blames.reading next.leaves.kept next.leaves.named reads.failed
           c.lines.invariant.out_failed;
-      known = λ tells known.
-          let stays = c.in-Err.ensures.known (still tells) (c.lines.invariant.quiet.readers tells known) in
-          record {
-            readers = stays.readers;
-            blamed = λ before. stop_after c.in-Err.stop _ _ _ _ (c.lines.invariant.quiet.blamed tells known)
-                (stays.blamed c.lines.invariant.running);
-          };
+      known = stays_known (Err c.in-Err.stop) reads;
       again = none_before _ c.lines.invariant.before;
     }
 
@@ -114,18 +106,18 @@ returns-in_default-next g c =
       stops = search rules;
       fault = search rules;
       blames = search rules;
-      known = λ tells known. record { readers = q.readers tells known; blamed = λ before. q.blamed tells known };
+      known = stays_known (Ok tt) q;
       again = none_before _ c.lines.invariant.before;
     }
 
 pub returns-in-Err-append_line : goal.returns-in-Err-append_line
 returns-in-Err-append_line g c =
-    let q = quiet g (goal.at.returns-in-Err-append_line g c).In-Ok in
     let is_memory = c.halt.ensures.stop c.in-Ok.ensures.leaves.running in
+    let reads = reads_then (quiet g (goal.at.returns-in-Err-append_line g c).In-Ok)
+    (reads_halted c.halt.ensures.readers c.halt.ensures.so_far is_memory) in
     record {
-      keeps = (q.keeps, c.lines.invariant.place);
-      grows = grows_reported c.halt.new.self.run (reported_then _ _ _ q.still
-          (reported_halted c.halt.ensures.so_far));
+      keeps = (reads.keeps, c.lines.invariant.place);
+      grows = grows_reported c.halt.new.self.run reads.still;
       ok = λ _. tt;
       ended = tt;
       prefix = λ tells. written_prefix g.W.Sink _ _ _ _ _ _ (c.lines.invariant.written tells);
@@ -140,25 +132,21 @@ returns-in-Err-append_line g c =
           };
       fault = λ tells out before is. absurd (memory_write _ _ refl is_memory is);
       blames = λ before. blames_own c.halt.result _ _ _ _ (rw is_memory tt) c.halt.ensures.kept c.halt.ensures.named
-          (omega (arith, q.failed, ap read_failures_of is_memory))
-          c.lines.invariant.out_failed;
-      known = λ tells known. record {
-        readers = c.halt.ensures.readers _ (q.readers tells known);
-        blamed = λ before. blames_none _ _ _ _ (ap read_failures_of is_memory) (q.blamed tells known);
-      };
+          reads.failed c.lines.invariant.out_failed;
+      known = stays_known (Err c.halt.result) reads;
       again = none_before _ c.lines.invariant.before;
     }
 
 pub returns-in-Err-write_all : goal.returns-in-Err-write_all
 returns-in-Err-write_all g c =
     let at = goal.at.returns-in-Err-write_all g c in
-    let q = quiet g at.In-Ok in
     let passes = c.pass_lines-passed.ensures.passes in
+    let q = reads_then (quiet g at.In-Ok) (reads_passed passes) in
     let appends = c.in-Err-write_all.ensures.appends in
     let err = rw c.deref-in-lines.ensures.value at appends.wrote in
     record {
       keeps = (q.keeps, place_then g.W.Sink _ _ _ c.lines.invariant.place (place_of appends.keeps));
-      grows = grows_reported c.pass_lines-passed.new.self.run (reported_then _ _ _ q.still (reported_passed passes));
+      grows = grows_reported c.pass_lines-passed.new.self.run q.still;
       ok = λ _. tt;
       ended = tt;
       prefix = λ tells. fails_prefix g.W.Sink _ _ c.lines.invariant.place _ _ _ _ _ _
@@ -172,7 +160,7 @@ returns-in-Err-write_all g c =
       blames = λ before. blames_write _ _ _ _ (passes.stopped ∙ c.in-Ok.ensures.leaves.running) q.failed
           (appends.keeps.failed ∙ ap (λ n. n + 1) c.lines.invariant.out_failed);
       known = λ tells known. record {
-        readers = passes.readers _ (q.readers tells known);
+        readers = q.readers tells known;
         blamed = λ before. blames_none [] _ _ WriteFault refl (q.blamed tells known);
       };
       again = none_before _ c.lines.invariant.before;
@@ -191,18 +179,15 @@ wrote g c tells = written_on g.W.Sink _ _ c.lines.invariant.place _ _ _ _ _ _
 pub returns-in-Err-passed : goal.returns-in-Err-passed
 returns-in-Err-passed g c =
     let at = goal.at.returns-in-Err-passed g c in
-    let q = quiet g at.In-Ok in
     let passes = c.pass_lines-passed.ensures.passes in
     let halted = c.halt-in-Err-passed.ensures in
+    let appends = c.in_default-write_all.ensures.appends in
     let is_memory = halted.stop (passes.stopped ∙ c.in-Ok.ensures.leaves.running) in
+    let reads = reads_then (reads_then (quiet g at.In-Ok) (reads_passed passes))
+    (reads_halted halted.readers halted.so_far is_memory) in
     record {
-      keeps = (
-        q.keeps,
-        place_then g.W.Sink _ _ _ c.lines.invariant.place (place_of c.in_default-write_all.ensures.appends.keeps),
-      );
-      grows = grows_reported c.halt-in-Err-passed.new.self.run
-          (reported_then _ _ _ (reported_then _ _ _ q.still (reported_passed passes))
-          (reported_halted halted.so_far));
+      keeps = (reads.keeps, place_then g.W.Sink _ _ _ c.lines.invariant.place (place_of appends.keeps));
+      grows = grows_reported c.halt-in-Err-passed.new.self.run reads.still;
       ok = λ _. tt;
       ended = tt;
       prefix = λ tells. written_prefix g.W.Sink _ _ _ _ _ _ (wrote g at.In_default-write_all tells);
@@ -214,12 +199,8 @@ returns-in-Err-passed g c =
           };
       fault = λ tells out before is. absurd (memory_write _ _ refl is_memory is);
       blames = λ before. blames_own c.halt-in-Err-passed.result _ _ _ _ (rw is_memory tt) halted.kept halted.named
-          (omega (arith, q.failed, ap read_failures_of is_memory))
-          (c.in_default-write_all.ensures.appends.keeps.failed ∙ c.lines.invariant.out_failed);
-      known = λ tells known. record {
-        readers = halted.readers _ (passes.readers _ (q.readers tells known));
-        blamed = λ before. blames_none _ _ _ _ (ap read_failures_of is_memory) (q.blamed tells known);
-      };
+          reads.failed (appends.keeps.failed ∙ c.lines.invariant.out_failed);
+      known = stays_known (Err c.halt-in-Err-passed.result) reads;
       again = none_before _ c.lines.invariant.before;
     }
 
@@ -229,8 +210,7 @@ lines-preserved g c =
     let passes = c.pass_lines-passed.ensures.passes in
     let appends = c.in_default-write_all.ensures.appends in
     record {
-      quiet = reads_then (quiet g at.In-Ok) (reads_none (reads_nothing _)
-          (λ tells known. passes.readers _ known) (reported_passed passes) tt);
+      quiet = reads_then (quiet g at.In-Ok) (reads_passed passes);
       place = place_then g.W.Sink _ _ _ c.lines.invariant.place (place_of appends.keeps);
       out_failed = appends.keeps.failed ∙ c.lines.invariant.out_failed;
       running = passes.stopped ∙ c.in-Ok.ensures.leaves.running;

@@ -1,7 +1,7 @@
-use Rattle.cweb_input.proofs.Common.{None, ap, ◌-◌, rules, Some, ◌∙◌, arith, refl}
+use Rattle.cweb_input.proofs.Common.{None, ap, ◌-◌, rules, Some, ◌∙◌, arith}
 use Rattle.std.proofs.Common.{get_or-set_other}
 use Rattle.std.specs.Prelude.{Ok, slice_index_or}
-use Rattle.cweb_files.proofs.FramesCompose.{keeps_known, keeps_same, keeps_then}
+use Rattle.cweb_files.proofs.FramesCompose.{keeps_known, keeps_then}
 use Rattle.cweb_input.proofs.ReadersStayNamed.{stop_after}
 use Rattle.cweb_input.proofs.SourceStacks.{takes_same}
 use Rattle.cweb_input.proofs.open_source.stack.take_above.Goals as goal

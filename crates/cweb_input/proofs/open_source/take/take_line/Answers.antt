@@ -18,13 +18,7 @@ returns-in-Err-clause-takes g c = record {
   blamed = λ tells names is. blames_line c.in-Err.fault _ c.args.text.now.file _ names _ _ c.stop_of.ensures is
       (c.in-Err.ensures.reads.blamed tells);
   text = search rules;
-  answers = record {
-    counted = search rules;
-    line = search rules;
-    gains = search rules;
-    known = search rules;
-    reading = line_reads c.in-Err.fault _ c.args.text.now.file c.stop_of.ensures;
-  };
+  answers = search (rules, line_reads c.in-Err.fault _ c.args.text.now.file c.stop_of.ensures);
 }
 
 pub returns-in-Err-clause-names : goal.returns-in-Err-clause-names

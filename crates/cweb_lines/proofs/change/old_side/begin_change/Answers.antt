@@ -21,9 +21,9 @@ returns-clause-changed g c = λ tells. record {
 }
 
 pub returns-in-Err-close-clause-reads : goal.returns-in-Err-close-clause-reads
-returns-in-Err-close-clause-reads g c = reads_then c.in-Ok.ensures.reads (reads_reported _ c.in-Err-close.ensures.only c.in-Err-close.ensures.err.reported
-    c.in-Err-close.ensures.memory)
+returns-in-Err-close-clause-reads g c = reads_then c.in-Ok.ensures.reads (reads_reported _ c.in-Err-close.ensures.only
+    c.in-Err-close.ensures.err.reported c.in-Err-close.ensures.memory)
 
 pub returns-clause-reads : goal.returns-clause-reads
-returns-clause-reads g c = reads_set _ refl refl refl (reads_then c.in-Ok.ensures.reads (reads_reported _ c.in_default.ensures.only
-    c.in_default.ensures.reported tt))
+returns-clause-reads g c = reads_set _ refl refl refl (reads_then c.in-Ok.ensures.reads (reads_reported _
+    c.in_default.ensures.only c.in_default.ensures.reported tt))

@@ -1,4 +1,4 @@
-use Rattle.cweb_lines.proofs.Common.{rules, ◌≡◌, [], ℕ, List, Vec, Global, Some, refl, ap, sym, subst, ◌∙◌, IsTrue, change_code, counters_of, Thing, change_lines, so_far_of, opened_file_names, lines_at, things_above, StopsFor, TopStops, Ok}
+use Rattle.cweb_lines.proofs.Common.{rules, ◌≡◌, [], ℕ, List, Vec, Global, Some, refl, ap, sym, subst, ◌∙◌, IsTrue, change_code, counters_of, Thing, change_lines, so_far_of, opened_file_names, lines_at, things_above, StopsFor, TopStops}
 use Rattle.cweb_lines.specs.declared.change.code.Code.TheVariants.{NewSide as new_side}
 use Rattle.cweb_lines.proofs.ReportsOnlyGrow.{took_faults, took_names}
 use Rattle.cweb_lines.proofs.NoReadFails.{Quiet, quiet_same, reads_reported, reads_set, reads_then, reads_unreported, still_tells}
@@ -57,11 +57,13 @@ returns-then-eq-clause-replaced g c = λ tells.
     is_replaced_same _ _ _ _ _ _ _ _ (sym c.lines.invariant.goes_on)
     (sym (raws g (goal.at.returns-then-eq-clause-replaced g c).In-Ok tells)) (replaces_new _ c.lines.so_far _ _ _ _
     (c.lines.invariant.replaces tells) (so_far_of c.take_change.new.run) c.take_change.new.line.items
-    c.in-Some.at.place taken.0 _ taken.1 (took_faults c.in-Ok.ensures.takes.only) (took_names c.in-Ok.ensures.takes.only) test)
+    c.in-Some.at.place taken.0 _ taken.1 (took_faults c.in-Ok.ensures.takes.only) (took_names
+    c.in-Ok.ensures.takes.only) test)
 
 pub lines-preserved : goal.lines-preserved
 lines-preserved g c = record {
-  quiet = reads_then (quiet g (goal.at.lines-preserved g c).In-Ok) (reads_reported _ c.in_default-report.ensures.only c.in_default-report.ensures.reported tt);
+  quiet = reads_then (quiet g (goal.at.lines-preserved g c).In-Ok) (reads_reported _ c.in_default-report.ensures.only
+      c.in_default-report.ensures.reported tt);
   frame = search rules;
   goes_on = c.lines.invariant.goes_on;
   replaces = λ tells.
@@ -77,12 +79,11 @@ lines-preserved g c = record {
       let test = ap change_code (sym c.deref.ensures.value) ∙ sym c.change_code.ensures ∙ c.in-Some-change_code.is in
       replaces_same _ _ _ _ _ _ _ _ change same (replaces_code _ c.lines.so_far _ _ _ _
       (c.lines.invariant.replaces tells) (so_far_of c.take_change.new.run) c.take_change.new.line.items
-      c.in-Some.at.place taken.0 _ taken.1 (took_faults c.in-Ok.ensures.takes.only) (took_names c.in-Ok.ensures.takes.only)
-      c.in-Some-change_code.code (so_far_of c.report.new.self) test
-      (is_faulty c.in-Some-change_code.code _ _ _ _
-      (sym c.eq.ensures ∙ c.if-eq.false)) c.in_default-report.ensures.reported
-      (ap opened_file_names c.in_default-report.ensures.only.names)
-      (ap counters_of c.in_default-report.ensures.only.limits));
+      c.in-Some.at.place taken.0 _ taken.1 (took_faults c.in-Ok.ensures.takes.only) (took_names
+      c.in-Ok.ensures.takes.only) c.in-Some-change_code.code (so_far_of c.report.new.self) test (is_faulty
+      c.in-Some-change_code.code _ _ _ _ (sym c.eq.ensures ∙ c.if-eq.false)) c.in_default-report.ensures.reported (ap
+      opened_file_names c.in_default-report.ensures.only.names) (ap counters_of
+      c.in_default-report.ensures.only.limits));
 }
 
 pub lines-preserved-in-None : goal.lines-preserved-in-None
@@ -103,24 +104,23 @@ lines-preserved-in-None g c = record {
       (raws g (goal.at.lines-preserved-in-None g c).In-Ok tells) (c.in-Ok-compare.ensures.compares later) in
       replaces_same _ _ _ _ _ _ _ _ change refl (replaces_line _ c.lines.so_far _ _ _ _
       (c.lines.invariant.replaces tells) (so_far_of c.take_change.new.run) c.take_change.new.line.items
-      c.in-Some.at.place taken.0 _ taken.1 (took_faults c.in-Ok.ensures.takes.only) (took_names c.in-Ok.ensures.takes.only)
-      c.in-Ok-compare.replaced _ (so_far_of c.compare.new.run) test compares);
+      c.in-Some.at.place taken.0 _ taken.1 (took_faults c.in-Ok.ensures.takes.only) (took_names
+      c.in-Ok.ensures.takes.only) c.in-Ok-compare.replaced _ (so_far_of c.compare.new.run) test compares);
 }
 
 pub returns-in-Err-clause-reads : goal.returns-in-Err-clause-reads
-returns-in-Err-clause-reads g c =
-    reads_then c.lines.invariant.quiet c.in-Err.ensures.takes.reads
+returns-in-Err-clause-reads g c = reads_then c.lines.invariant.quiet c.in-Err.ensures.takes.reads
 
 pub returns-in_default-clause-reads : goal.returns-in_default-clause-reads
-returns-in_default-clause-reads g c =
-    (quiet g (goal.at.returns-in_default-clause-reads g c).In-Ok)
+returns-in_default-clause-reads g c = quiet g (goal.at.returns-in_default-clause-reads g c).In-Ok
 
 pub returns-in-Err-compare-clause-reads : goal.returns-in-Err-compare-clause-reads
 returns-in-Err-compare-clause-reads g c = reads_then (reads_set _ refl refl refl
     (quiet g (goal.at.returns-in-Err-compare-clause-reads g c).In-Ok)) c.in-Err-compare.ensures.reads
 
 pub returns-then-eq-clause-reads : goal.returns-then-eq-clause-reads
-returns-then-eq-clause-reads g c = (quiet g (goal.at.returns-then-eq-clause-reads g c).In-Ok)
+returns-then-eq-clause-reads g c = quiet g (goal.at.returns-then-eq-clause-reads g c).In-Ok
 
 pub returns-in-Err-report-clause-reads : goal.returns-in-Err-report-clause-reads
-returns-in-Err-report-clause-reads g c = reads_then (quiet g (goal.at.returns-in-Err-report-clause-reads g c).In-Ok) (reads_unreported c.in-Err-report.ensures.only c.in-Err-report.ensures.err c.in-Err-report.ensures.memory)
+returns-in-Err-report-clause-reads g c = reads_then (quiet g (goal.at.returns-in-Err-report-clause-reads g c).In-Ok)
+    (reads_unreported c.in-Err-report.ensures.only c.in-Err-report.ensures.err c.in-Err-report.ensures.memory)

@@ -1,4 +1,4 @@
-use Rattle.cweb_lines.proofs.Common.{rules, ◌≡◌, ℕ, [], ◌∷◌, ◌++◌, List, Vec, Global, None, Ok, refl, ap, sym, subst, ◌∙◌, sought, counters_of, SourceLine, change_lines, so_far_of, opened_file_names, Searched, SeeksTo, LooksInPart, reported_faults, lines_at, SourceFault, Waiting}
+use Rattle.cweb_lines.proofs.Common.{rules, ◌≡◌, ℕ, [], ◌∷◌, ◌++◌, List, Vec, Global, None, refl, ap, sym, subst, ◌∙◌, sought, counters_of, SourceLine, change_lines, so_far_of, opened_file_names, Searched, SeeksTo, LooksInPart, reported_faults, lines_at, SourceFault, Waiting}
 use Rattle.cweb_input.proofs.Found.{OnOk-both}
 use Rattle.cweb_lines.proofs.MergeReadersStayNamed.{knows_same}
 use Rattle.cweb_lines.proofs.ReportsOnlyGrow.{reported_if, took_faults, took_names}
@@ -24,11 +24,11 @@ quiet g c = reads_then c.lines.invariant.quiet c.in-Ok.ensures.takes.reads
 
 looked : (g : given.Over) (c : In-Ok-look_at g) → Quiet g.S.Shelf c.args.shelf.now c.take_change.new.shelf
     c.args.run.now c.look_at.new.run
-looked g c = reads_then (quiet g (goal.at.In-Ok-look_at g c).In-Ok) (reads_reported _ c.in-Ok-look_at.ensures.only c.in-Ok-look_at.ensures.looks.faults tt)
+looked g c = reads_then (quiet g (goal.at.In-Ok-look_at g c).In-Ok) (reads_reported _ c.in-Ok-look_at.ensures.only
+    c.in-Ok-look_at.ensures.looks.faults tt)
 
 pub returns-in-Err-clause-reads : goal.returns-in-Err-clause-reads
-returns-in-Err-clause-reads g c =
-    reads_then c.lines.invariant.quiet c.in-Err.ensures.takes.reads
+returns-in-Err-clause-reads g c = reads_then c.lines.invariant.quiet c.in-Err.ensures.takes.reads
 
 pub returns-in-Err-clause-stops : goal.returns-in-Err-clause-stops
 returns-in-Err-clause-stops g c = λ tells.
@@ -125,10 +125,11 @@ returns-in_default-clause-searched g c = λ tells.
     ∙ (λ i. record { lines = counted.0 i; bytes = counted.1 i })) _ done _ _) c.end.ensures.reported c.end.ensures.stage
 
 pub returns-in_default-clause-reads : goal.returns-in_default-clause-reads
-returns-in_default-clause-reads g c = reads_then (quiet g (goal.at.returns-in_default-clause-reads g c).In-Ok) (reads_none (reads_nothing _) (λ tells known. knows_same _ c.take_change.new.run c.end.new.run (ap (λ s. s.texts) c.end.ensures.stack)
-    c.end.ensures.change (ap opened_file_names c.end.ensures.names) known) (reported_if c.end.result _ _
-    (reported_faults (sought [] c.lines.begin).events) c.end.ensures.reported c.end.ensures.err
-    (ap opened_file_names c.end.ensures.names)) (outcome_memory c.end.result c.end.ensures.memory))
+returns-in_default-clause-reads g c = reads_then (quiet g (goal.at.returns-in_default-clause-reads g c).In-Ok)
+    (reads_none (reads_nothing _) (λ tells known. knows_same _ c.take_change.new.run c.end.new.run (ap (λ s. s.texts)
+    c.end.ensures.stack) c.end.ensures.change (ap opened_file_names c.end.ensures.names) known) (reported_if
+    c.end.result _ _ (reported_faults (sought [] c.lines.begin).events) c.end.ensures.reported c.end.ensures.err (ap
+    opened_file_names c.end.ensures.names)) (outcome_memory c.end.result c.end.ensures.memory))
 
 pub returns-in-Entry-clause-reads : goal.returns-in-Entry-clause-reads
 returns-in-Entry-clause-reads g c = reads_set _ refl refl refl

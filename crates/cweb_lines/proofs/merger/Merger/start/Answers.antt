@@ -47,7 +47,8 @@ returns-clause-begins g c = λ tells.
       there = sym (rw c.in-Some.is at (c.in_ok-web.ensures.found tells))
           ∙ ap (λ l. Some (string_bytes c.in-Some.web.name, l c.in-Some.web.reader))
           (sym (c.in_ok-change.ensures.reads.keeps.left later));
-      changes_there = ap (λ t. change_at t (option_copied c.args.change)) (sym (c.in_ok-web.ensures.reads.keeps.texts tells))
+      changes_there = ap (λ t. change_at t (option_copied c.args.change))
+          (sym (c.in_ok-web.ensures.reads.keeps.texts tells))
           ∙ sym (rw c.in-Some-2.is at (c.in_ok-change.ensures.found later));
       so_far_is = λ i. record {
         faults = c.new-4.ensures.items i;

@@ -43,8 +43,8 @@ returns-then-at-ge-OPEN_FILES g c =
           (some_are c.include_name-name.result.now (sym c.is_empty.ensures ∙ c.if-is_empty.false)) in
           record {
             rest = _;
-            first = merge_too_deep _ source c.args.line.now c.args.at is _ _ _ _ c.requires.plain.plain c.requires.include some
-                (omega (arith, c.if-at-ge-OPEN_FILES.true));
+            first = merge_too_deep _ source c.args.line.now c.args.at is _ _ _ _ c.requires.plain.plain
+                c.requires.include some (omega (arith, c.if-at-ge-OPEN_FILES.true));
             yields = yields_reported _ _ _ _ c.args.run.now c.report-then-at-ge-OPEN_FILES.new.self
                 (at_place TooDeep c.args.at.place) refl refl c.report-then-at-ge-OPEN_FILES.ensures.only reported;
           }) c.report-then-at-ge-OPEN_FILES.ensures.reported;
@@ -66,13 +66,12 @@ returns-in_default g c =
           let none = rw c.in_default.is at (c.in_ok-opening.ensures.found tells) in
           record {
             rest = _;
-            first = merge_not_there _ source c.args.line.now c.args.at is _ _ _ _ c.requires.plain.plain c.requires.include some
-                (omega (arith, c.if-at-ge-OPEN_FILES.false))
-                (none ∙ ap (found_at (world_in (g.S.Shelf.texts c.args.shelf.now) c.args.run.now.inputs))
-                c.include_name-name.ensures);
-            yields = yields_reported _ _ _ _ c.args.run.now c.report-in_default.new.self (at_place NotThere c.args.at.place)
-                (c.in_ok-opening.ensures.reads.keeps.texts tells) (c.in_ok-opening.ensures.reads.keeps.left tells)
-                c.report-in_default.ensures.only reported;
+            first = merge_not_there _ source c.args.line.now c.args.at is _ _ _ _ c.requires.plain.plain
+                c.requires.include some (omega (arith, c.if-at-ge-OPEN_FILES.false)) (none ∙ ap (found_at (world_in
+                (g.S.Shelf.texts c.args.shelf.now) c.args.run.now.inputs)) c.include_name-name.ensures);
+            yields = yields_reported _ _ _ _ c.args.run.now c.report-in_default.new.self (at_place NotThere
+                c.args.at.place) (c.in_ok-opening.ensures.reads.keeps.texts tells)
+                (c.in_ok-opening.ensures.reads.keeps.left tells) c.report-in_default.ensures.only reported;
           }) c.report-in_default.ensures.reported;
     }
 
@@ -95,14 +94,14 @@ returns g c = record {
             c.requires.include some (omega (arith, c.if-at-ge-OPEN_FILES.false))
             (there ∙ ap (found_at (world_in (g.S.Shelf.texts c.args.shelf.now) c.args.run.now.inputs))
             c.include_name-name.ensures);
-        yields = yields_opening _ _ _ _ (ap counters_of c.open.ensures.only.limits) (string_bytes c.in-Some.opening.name)
-            (ap (λ (es : List Event). opening (string_bytes c.in-Some.opening.name) ∷ es) (coming_opened
-            (g.S.Shelf.texts c.args.shelf.now) (g.S.Shelf.texts c.find.new.shelf) (g.S.Shelf.left c.args.shelf.now)
-            (g.S.Shelf.left c.find.new.shelf) c.args.run.now c.open.new.run c.in-Some.opening.reader
+        yields = yields_opening _ _ _ _ (ap counters_of c.open.ensures.only.limits) (string_bytes
+            c.in-Some.opening.name) (ap (λ (es : List Event). opening (string_bytes c.in-Some.opening.name) ∷ es)
+            (coming_opened (g.S.Shelf.texts c.args.shelf.now) (g.S.Shelf.texts c.find.new.shelf) (g.S.Shelf.left
+            c.args.shelf.now) (g.S.Shelf.left c.find.new.shelf) c.args.run.now c.open.new.run c.in-Some.opening.reader
             (string_bytes c.in-Some.opening.name) c.args.at (c.in_ok-opening.ensures.reads.keeps.texts tells)
-            (c.in_ok-opening.ensures.reads.keeps.left tells) c.open.ensures.only names.0 c.requires.plain.settled names.1
-            c.open.ensures.below))
-            (ap (λ (v : Vec SourceFault Global). v.items) c.open.ensures.only.faults) names.0;
+            (c.in_ok-opening.ensures.reads.keeps.left tells) c.open.ensures.only names.0 c.requires.plain.settled
+            names.1 c.open.ensures.below)) (ap (λ (v : Vec SourceFault Global). v.items) c.open.ensures.only.faults)
+            names.0;
       }) c.open.ensures.opens;
 }
 

@@ -14,13 +14,12 @@ returns-in_default g c = record {
       let none = c.requires.floor ∙ ap floor_of c.in-Waiting.is in
       yields_fault (so_far_of c.args.run.now) (so_far_of c.report.new.self) _ _
       (ap counters_of c.in_default.ensures.only.limits)
-      (at_place NoMatch c.in-Waiting.begin) (no_match (g.S.Shelf.texts c.args.shelf.now) (g.S.Shelf.left c.args.shelf.now)
-      c.args.run.now c.in-Waiting.begin c.in-Waiting.is none ∙ ap (λ (es : List Event). fault (at_place NoMatch
-      c.in-Waiting.begin) ∷ es) (sym (nothing_above (world_in (g.S.Shelf.texts c.args.shelf.now) c.report.new.self.inputs)
-      (g.S.Shelf.left c.args.shelf.now) c.report.new.self.stack (length (opened_file_names c.report.new.self.names))
-      (ap (λ s. s.depth)
-      c.in_default.ensures.only.stack ∙ none)))) c.in_default.ensures.reported
-      (ap opened_file_names c.in_default.ensures.only.names);
+      (at_place NoMatch c.in-Waiting.begin) (no_match (g.S.Shelf.texts c.args.shelf.now) (g.S.Shelf.left
+      c.args.shelf.now) c.args.run.now c.in-Waiting.begin c.in-Waiting.is none ∙ ap (λ (es : List Event). fault
+      (at_place NoMatch c.in-Waiting.begin) ∷ es) (sym (nothing_above (world_in (g.S.Shelf.texts c.args.shelf.now)
+      c.report.new.self.inputs) (g.S.Shelf.left c.args.shelf.now) c.report.new.self.stack (length (opened_file_names
+      c.report.new.self.names)) (ap (λ s. s.depth) c.in_default.ensures.only.stack ∙ none))))
+      c.in_default.ensures.reported (ap opened_file_names c.in_default.ensures.only.names);
   stops = λ tells. tt;
 }
 
@@ -31,6 +30,6 @@ returns-in-Err g c =
       reads = reads_unreported report.only report.err report.memory;
       turns = search rules;
       yields = λ tells. tt;
-      stops = λ tells. stops_unreported {A = Turn} (Err c.in-Err.stop) _ (so_far_of c.args.run.now) _ _ refl refl report.memory
-          (report.err, ap opened_file_names report.only.names);
+      stops = λ tells. stops_unreported {A = Turn} (Err c.in-Err.stop) _ (so_far_of c.args.run.now) _ _ refl refl
+          report.memory (report.err, ap opened_file_names report.only.names);
     }

@@ -1,112 +1,124 @@
-use Rattle.cweb_lines.proofs.Common.{rules, Some, Err, refl, ap, sym, subst, ◌∙◌, IsTrue, change_code, counters_of, Stopped, change_lines, so_far_of, opened_file_names, Turn}
+use Rattle.cweb_lines.proofs.Common.{rules, Some, Err, refl, ap, sym, subst, ◌∙◌, change_code, counters_of, Stopped, change_lines, so_far_of, opened_file_names, Turn}
 use Rattle.cweb_lines.proofs.ReportsOnlyGrow.{took_faults, took_names}
 use Rattle.cweb_input.proofs.Found.{IfOk-map}
 use Rattle.cweb_lines.proofs.EmittedLinesAddUp.{yields_took}
 use Rattle.cweb_lines.proofs.NewSideLines.{coming_is, new_ended, new_faulty, new_first, new_side_ended, new_stops}
-use Rattle.cweb_lines.proofs.NoReadFails.{reads_obeyed, reads_reported, reads_set, reads_then, reads_unreported}
+use Rattle.cweb_lines.proofs.NoReadFails.{reads_obeyed, reads_reported, reads_set, reads_then, reads_unreported, still_tells}
 use Rattle.cweb_lines.proofs.Codes.{is_end}
 use Rattle.cweb_lines.proofs.Stops.{reported_stays, stops_unreported, unreported}
 use Rattle.cweb_lines.proofs.step.turning.take_new.Goals as goal
 
 pub returns-in-Err : goal.returns-in-Err
-returns-in-Err g c = record {
-  reads = c.in-Err.ensures.takes.reads;
-  turns = search rules;
-  yields = λ tells. tt;
-  stops = λ tells. record {
-    why = subst (λ es. Stopped c.in-Err.stop (so_far_of c.args.run.now)
-        (so_far_of c.take_change.new.run) es) (sym (coming_is (g.S.Shelf.texts c.args.shelf.now)
-        (g.S.Shelf.left c.args.shelf.now) c.args.run.now c.args.change c.requires.changing c.requires.below))
-        (new_stops _ c.args.change _ _ c.in-Err.stop (change_lines (g.S.Shelf.left c.args.shelf.now) c.args.run.now) _ _
-        (reported_stays c.args.run.now _ c.in-Err.ensures.takes.only c.in-Err.ensures.takes.answers.counted)
-        (c.in-Err.ensures.stops tells));
-    reported = unreported _ _ _ (took_faults c.in-Err.ensures.takes.only) (took_names c.in-Err.ensures.takes.only);
-  };
-}
+returns-in-Err g c =
+    let took = c.in-Err.ensures.takes in
+    record {
+      reads = took.reads;
+      turns = search rules;
+      yields = λ tells. tt;
+      stops = λ tells. record {
+        why = subst (λ es. Stopped c.in-Err.stop (so_far_of c.args.run.now) (so_far_of c.take_change.new.run) es)
+            (sym (coming_is (g.S.Shelf.texts c.args.shelf.now) (g.S.Shelf.left c.args.shelf.now) c.args.run.now
+            c.args.change c.requires.changing c.requires.below))
+            (new_stops _ c.args.change _ _ c.in-Err.stop (change_lines (g.S.Shelf.left c.args.shelf.now)
+            c.args.run.now) _ _ (reported_stays c.args.run.now _ took.only took.answers.counted)
+            (c.in-Err.ensures.stops tells));
+        reported = unreported _ _ _ (took_faults took.only) (took_names took.only);
+      };
+    }
 
 pub returns-in-Err-report : goal.returns-in-Err-report
 returns-in-Err-report g c =
+    let took = c.in-Ok.ensures.takes in
     let report = c.in-Err-report.ensures in
     record {
-      reads = reads_then c.in-Ok.ensures.takes.reads (reads_unreported report.only report.err report.memory);
+      reads = reads_then took.reads (reads_unreported report.only report.err report.memory);
       turns = search rules;
       yields = λ tells. tt;
       stops = λ tells. stops_unreported {A = Turn} (Err c.in-Err-report.stop) _ (so_far_of c.take_change.new.run) _ _
-          (took_faults c.in-Ok.ensures.takes.only) (took_names c.in-Ok.ensures.takes.only) report.memory
+          (took_faults took.only) (took_names took.only) report.memory
           (report.err, ap opened_file_names report.only.names);
     }
 
 pub returns-in_default : goal.returns-in_default
-returns-in_default g c = record {
-  reads = reads_set _ refl refl refl (reads_then c.in-Ok.ensures.takes.reads (reads_reported _ c.in_default-report.ensures.only c.in_default-report.ensures.reported tt));
-  turns = search rules;
-  yields = λ tells.
-      let taken = rw c.in_default.is at (c.in-Ok.ensures.taken tells) in
-      let counted = rw c.in_default.is at c.in-Ok.ensures.takes.answers.counted in
-      new_ended _ _ _ _ c.args.run.now c.take_change.new.run c.args.change c.requires.changing c.requires.below
-      (c.in-Ok.ensures.takes.reads.keeps.texts tells) (c.in-Ok.ensures.takes.reads.keeps.left tells) c.in-Ok.ensures.takes.only c.in-Ok.ensures.stack
-      c.report.new.self c.in_default-report.ensures.only taken.0 (ap counters_of c.in_default-report.ensures.only.limits
-      ∙ (λ i. record { lines = counted.0 i; bytes = counted.1 i })) c.in_default-report.ensures.reported;
-  stops = λ tells. tt;
-}
+returns-in_default g c =
+    let took = c.in-Ok.ensures.takes in
+    let report = c.in_default-report.ensures in
+    record {
+      reads = reads_set _ refl refl refl (reads_then took.reads (reads_reported _ report.only report.reported tt));
+      turns = search rules;
+      yields = λ tells.
+          let taken = rw c.in_default.is at (c.in-Ok.ensures.taken tells) in
+          let counted = rw c.in_default.is at took.answers.counted in
+          new_ended c.requires.changing c.requires.below (took.reads.keeps.texts tells) (took.reads.keeps.left tells)
+          took.only c.in-Ok.ensures.stack c.report.new.self report.only taken.0
+          (ap counters_of report.only.limits ∙ (λ i. record { lines = counted.0 i; bytes = counted.1 i }))
+          report.reported;
+      stops = λ tells. tt;
+    }
 
 pub returns-in-None : goal.returns-in-None
-returns-in-None g c = record {
-  reads = reads_then c.in-Ok.ensures.takes.reads (reads_obeyed c.emit_or_obey.ensures.obeys);
-  turns = search rules;
-  yields = λ tells.
-      let taken = rw c.in-Some.is at (c.in-Ok.ensures.taken tells) in
-      let test = ap change_code (sym c.deref.ensures.value) ∙ sym c.change_code.ensures ∙ c.in-None.is in
-      IfOk-map c.emit_or_obey.result
-      (λ turn yields. yields_took _ (so_far_of c.args.run.now) _ _ c.take_change.new.line.items
-      c.in-Some.at.place taken.0 _ _ _ (took_faults c.in-Ok.ensures.takes.only) (took_names c.in-Ok.ensures.takes.only)
-      (new_first _ _ _ _ c.args.run.now c.take_change.new.run c.args.change c.requires.changing c.requires.below
-      (c.in-Ok.ensures.takes.reads.keeps.texts tells) (c.in-Ok.ensures.takes.reads.keeps.left tells) c.in-Ok.ensures.takes.only c.in-Ok.ensures.stack
-      c.take_change.new.line.items c.in-Some.at.place taken.0 taken.1 test) (yields taken.0.line taken.0.is))
-      (rw c.deref-in-None.ensures.value at
-      (c.emit_or_obey.ensures.obeys.yields (subst IsTrue (sym c.in-Ok.ensures.takes.reads.keeps.tells) tells)));
-  stops = λ tells. stops_unreported c.emit_or_obey.result _ (so_far_of c.take_change.new.run) _ _
-      (took_faults c.in-Ok.ensures.takes.only) (took_names c.in-Ok.ensures.takes.only)
-      c.emit_or_obey.ensures.obeys.only.memory c.emit_or_obey.ensures.obeys.only.same;
-}
+returns-in-None g c =
+    let took = c.in-Ok.ensures.takes in
+    let obeys = c.emit_or_obey.ensures.obeys in
+    record {
+      reads = reads_then took.reads (reads_obeyed obeys);
+      turns = search rules;
+      yields = λ tells.
+          let taken = rw c.in-Some.is at (c.in-Ok.ensures.taken tells) in
+          let test = ap change_code (sym c.deref.ensures.value) ∙ sym c.change_code.ensures ∙ c.in-None.is in
+          IfOk-map c.emit_or_obey.result (λ turn yields. yields_took _ (so_far_of c.args.run.now) _ _
+          c.take_change.new.line.items c.in-Some.at.place taken.0 _ _ _ (took_faults took.only) (took_names took.only)
+          (new_first c.requires.changing c.requires.below (took.reads.keeps.texts tells) (took.reads.keeps.left tells)
+          took.only c.in-Ok.ensures.stack c.take_change.new.line.items c.in-Some.at.place taken.0 taken.1 test)
+          (yields taken.0.line taken.0.is))
+          (rw c.deref-in-None.ensures.value at (obeys.yields (still_tells took.reads tells)));
+      stops = λ tells. stops_unreported c.emit_or_obey.result _ (so_far_of c.take_change.new.run) _ _
+          (took_faults took.only) (took_names took.only) obeys.only.memory obeys.only.same;
+    }
 
 pub returns-then-eq : goal.returns-then-eq
-returns-then-eq g c = record {
-  reads = reads_set _ refl refl refl c.in-Ok.ensures.takes.reads;
-  turns = search rules;
-  yields = λ tells.
-      let taken = rw c.in-Some.is at (c.in-Ok.ensures.taken tells) in
-      let test = ap change_code (sym c.deref.ensures.value) ∙ sym c.change_code.ensures ∙ c.in-Some-change_code.is
-      ∙ ap Some (is_end c.in-Some-change_code.code (sym c.eq.ensures ∙ c.if-eq.true)) in
-      new_side_ended _ _ _ _ c.args.run.now c.take_change.new.run c.args.change c.requires.changing c.requires.below
-      (c.in-Ok.ensures.takes.reads.keeps.texts tells) (c.in-Ok.ensures.takes.reads.keeps.left tells) c.in-Ok.ensures.takes.only c.in-Ok.ensures.stack
-      c.take_change.new.line.items c.in-Some.at.place taken.0 _ taken.1 test;
-  stops = λ tells. tt;
-}
+returns-then-eq g c =
+    let took = c.in-Ok.ensures.takes in
+    record {
+      reads = reads_set _ refl refl refl took.reads;
+      turns = search rules;
+      yields = λ tells.
+          let taken = rw c.in-Some.is at (c.in-Ok.ensures.taken tells) in
+          let test = ap change_code (sym c.deref.ensures.value) ∙ sym c.change_code.ensures ∙ c.in-Some-change_code.is
+          ∙ ap Some (is_end c.in-Some-change_code.code (sym c.eq.ensures ∙ c.if-eq.true)) in
+          new_side_ended c.requires.changing c.requires.below (took.reads.keeps.texts tells)
+          (took.reads.keeps.left tells) took.only c.in-Ok.ensures.stack c.take_change.new.line.items
+          c.in-Some.at.place taken.0 _ taken.1 test;
+      stops = λ tells. tt;
+    }
 
 pub returns-in-Err-report-2 : goal.returns-in-Err-report-2
 returns-in-Err-report-2 g c =
+    let took = c.in-Ok.ensures.takes in
     let report = c.in-Err-report-2.ensures in
     record {
-      reads = reads_then c.in-Ok.ensures.takes.reads (reads_unreported report.only report.err report.memory);
+      reads = reads_then took.reads (reads_unreported report.only report.err report.memory);
       turns = search rules;
       yields = λ tells. tt;
       stops = λ tells. stops_unreported {A = Turn} (Err c.in-Err-report-2.stop) _ (so_far_of c.take_change.new.run) _ _
-          (took_faults c.in-Ok.ensures.takes.only) (took_names c.in-Ok.ensures.takes.only) report.memory
+          (took_faults took.only) (took_names took.only) report.memory
           (report.err, ap opened_file_names report.only.names);
     }
 
 pub returns-in_default-report-2 : goal.returns-in_default-report-2
-returns-in_default-report-2 g c = record {
-  reads = reads_then c.in-Ok.ensures.takes.reads (reads_reported _ c.in_default-report-2.ensures.only c.in_default-report-2.ensures.reported tt);
-  turns = search rules;
-  yields = λ tells.
-      let taken = rw c.in-Some.is at (c.in-Ok.ensures.taken tells) in
-      let test = ap change_code (sym c.deref.ensures.value) ∙ sym c.change_code.ensures ∙ c.in-Some-change_code.is in
-      new_faulty _ _ _ _ c.args.run.now c.take_change.new.run c.args.change c.requires.changing c.requires.below
-      (c.in-Ok.ensures.takes.reads.keeps.texts tells) (c.in-Ok.ensures.takes.reads.keeps.left tells) c.in-Ok.ensures.takes.only c.in-Ok.ensures.stack
-      c.take_change.new.line.items c.in-Some.at.place taken.0 c.report-in-Some-change_code.new.self
-      c.in_default-report-2.ensures.only taken.1 c.in-Some-change_code.code test (sym c.eq.ensures ∙ c.if-eq.false)
-      c.in_default-report-2.ensures.reported;
-  stops = λ tells. tt;
-}
+returns-in_default-report-2 g c =
+    let took = c.in-Ok.ensures.takes in
+    let report = c.in_default-report-2.ensures in
+    record {
+      reads = reads_then took.reads (reads_reported _ report.only report.reported tt);
+      turns = search rules;
+      yields = λ tells.
+          let taken = rw c.in-Some.is at (c.in-Ok.ensures.taken tells) in
+          let test = ap change_code (sym c.deref.ensures.value) ∙ sym c.change_code.ensures
+          ∙ c.in-Some-change_code.is in
+          new_faulty c.requires.changing c.requires.below (took.reads.keeps.texts tells) (took.reads.keeps.left tells)
+          took.only c.in-Ok.ensures.stack c.take_change.new.line.items c.in-Some.at.place taken.0
+          c.report-in-Some-change_code.new.self report.only taken.1 c.in-Some-change_code.code test
+          (sym c.eq.ensures ∙ c.if-eq.false) report.reported;
+      stops = λ tells. tt;
+    }

@@ -104,7 +104,8 @@ returns-in-Err-begin_change g c =
                 (c.in-Err-begin_change.ensures.stops (still tells));
             reported = began_tells (g.S.Shelf.texts c.take_raw.new.shelf) (g.S.Shelf.left c.take_raw.new.shelf)
                 c.take_raw.new.run c.args.run.now c.in-Some.at c.take_raw.new.line.items c.in-Some-begun_at.begin _
-                took.only t.0 t.1 (begun g at.In-Some-begun_at) _ (c.in-Err-begin_change.ensures.reported (still tells));
+                took.only t.0 t.1 (begun g at.In-Some-begun_at) _ (c.in-Err-begin_change.ensures.reported (still
+                tells));
           };
     }
 

@@ -33,8 +33,8 @@ returns-in-Seeking-clause-turn g c =
     record {
       reads = seek.reads;
       turns = search rules;
-      yields = λ tells. sought_yields _ _ c.args.run.now c.in-Seeking.is _ _ c.seek.new.run (seek.reads.keeps.texts tells)
-          (seek.reads.keeps.left tells) seek.only.inputs seek.only.stack seek.only.names (seek.searched tells);
+      yields = λ tells. sought_yields _ _ c.args.run.now c.in-Seeking.is _ _ c.seek.new.run (seek.reads.keeps.texts
+          tells) (seek.reads.keeps.left tells) seek.only.inputs seek.only.stack seek.only.names (seek.searched tells);
       stops = λ tells. tt;
     }
 
