@@ -3,6 +3,3 @@ use Rattle.cweb_scan.proofs.scanner.Scanner.define.Goals as goal
 
 pub returns-in_ok-emit-2 : goal.returns-in_ok-emit-2
 returns-in_ok-emit-2 c = search rules
-
-pub emit-requires-then-not-tight-clause-few : goal.emit-requires-then-not-tight-clause-few
-emit-requires-then-not-tight-clause-few c = grind (arith, common_steps)
