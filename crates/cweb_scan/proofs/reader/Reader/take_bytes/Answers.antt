@@ -1,4 +1,3 @@
-use Rattle.cweb_scan.proofs.Common.{arith, common_steps}
 use Rattle.cweb_scan.proofs.LineSteps.{prefix_goes_on, prefix_line}
 use Rattle.cweb_scan.proofs.reader.Reader.take_bytes.Goals as goal
 

@@ -1,4 +1,4 @@
-use Rattle.cweb_scan.proofs.Common.{rules, arith, common_steps}
+use Rattle.cweb_scan.proofs.Common.{rules}
 use Rattle.cweb_scan.proofs.scanner.Scanner.define.Goals as goal
 
 pub returns-in_ok-emit-2 : goal.returns-in_ok-emit-2
