@@ -16,7 +16,8 @@ impl Reader {
     ghost use Rattle.cweb_scan.specs.inner.Skipped.{is_skipped};
     ghost use Rattle.cweb_scan.specs.inner.MatchSteps.{reads_c};
     ghost use Rattle.cweb_scan.specs.inner.ReaderModel.{after_line_end, cost, gone_to, read_after};
-    ghost use Rattle.cweb_scan.specs.inner.ReaderModel.{source_ended, BeginsLine, HasLineRoom, TakesLine};
+    ghost use Rattle.cweb_scan.specs.inner.ReaderModel.{source_ended, BeginsLine};
+    ghost use Rattle.cweb_scan.specs.inner.ReaderModel.{HasLineRoom, TakesLine};
     ghost use Rattle.cweb_scan.specs.inner.PendingRest.{awaits_line_end};
     ghost use Rattle.cweb_scan.specs.inner.Resume.{Between};
     ghost use Rattle.cweb_scan.specs.inner.Room.{weight};

@@ -22,8 +22,8 @@ impl Scanner {
         requires ends { ends_in_line rule ≡ true }
         requires part { CanEmit 1 self.old }
         requires two { needs_two rule ≡ true → 2 ≤ length rest.bytes.now }
-        ensures { IfOk result
-            (λ n. Applies (c_match_by in_c false rest.entry.bytes.now rule) rest.entry.bytes.now n self.old self.new) }
+        ensures { IfOk result (λ n. Applies (c_match_by in_c false rest.entry.bytes.now rule)
+            rest.entry.bytes.now n self.old self.new) }
     {
         match rule {
             Rule::Blanks => {

@@ -66,7 +66,8 @@ impl Scanner {
     #[inline(never)]
     pub fn take_included_name(&mut self, rest: Rest<'_>) -> Result<usize, AllocError>
         requires { CanEmit 1 self.old }
-        ensures { IfOk result (λ n. Applies (include_match rest.entry.bytes.now) rest.entry.bytes.now n self.old self.new) }
+        ensures { IfOk result (λ n.
+            Applies (include_match rest.entry.bytes.now) rest.entry.bytes.now n self.old self.new) }
     {
         let begun = self.here();
         let (sign, line) = rest.bytes.split_at(1);

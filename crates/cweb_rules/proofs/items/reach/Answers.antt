@@ -22,9 +22,6 @@ units-preserved-then-plain-gt0 c =
           ∙ ap (λ (u : List ℕ). later_by (size + n) (reached (reach look Open u))) (sym back);
     }
 
-pub returns-clause-value : goal.returns-clause-value
-returns-clause-value c = grind (arith, common_steps)
-
 pub returns-in-Ends-clause-value : goal.returns-in-Ends-clause-value
 returns-in-Ends-clause-value c = grind (arith, common_steps)
 

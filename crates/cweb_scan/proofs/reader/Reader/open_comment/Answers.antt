@@ -10,7 +10,8 @@ returns c =
     record {
       some = omega arith;
       within = refl;
-      taken = takes_at 2 c.args.rest.now _ _ c.self.view_is c.requires.next.between (opened (blank s) g (InComment s.here)) _
+      taken = takes_at 2 c.args.rest.now _ _ c.self.view_is c.requires.next.between
+          (opened (blank s) g (InComment s.here)) _
           (λ i. opened (sym c.in_ok-blank.ensures i) g (InComment (sym c.here-begun.ensures i)))
           (comment_opens s g c.args.rest.now reads c.requires.sign);
     }

@@ -7,7 +7,8 @@ returns c =
     let s = c.self.inside.scanner in
     let g = c.self.inside.begun in
     let u = c.args.rest.bytes.now in
-    let reads = at_state (λ (u : ScanState). reads_literals u.context ≡ true) _ _ c.self.view_is c.requires.next.context in
+    let reads = at_state (λ (u : ScanState). reads_literals u.context ≡ true) _ _ c.self.view_is
+    c.requires.next.context in
     let n = c.literal_prefix-prefix.result in
     let quote = c.of-quote.ensures ∙ ap quote_of c.split_at-2.ensures.back in
     let text = c.in_ok-extend_from_slice.ensures.items ∙ (λ i. c.clear.ensures.items i ++ c.split_at.ensures.front i) in

@@ -11,7 +11,8 @@ returns c =
     record {
       some = omega arith;
       within = refl;
-      taken = takes_at 2 c.args.rest.now _ _ c.self.view_is c.requires.next.between (opened s g (InName s.here c.args.is_file [])) _
+      taken = takes_at 2 c.args.rest.now _ _ c.self.view_is c.requires.next.between
+          (opened s g (InName s.here c.args.is_file [])) _
           (λ i. opened s g (InName (sym c.here.ensures i) c.args.is_file (sym c.clear.ensures.items i)))
           (name_opens s g c.args.is_file c.args.rest.now head reads c.requires.sign);
     }

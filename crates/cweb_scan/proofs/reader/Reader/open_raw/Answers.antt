@@ -13,7 +13,8 @@ pub invariant_of-self-2 : goal.invariant_of-self-2
 invariant_of-self-2 c =
     let s = c.self.inside.scanner in
     let d = c.delimiter-name.result.now in
-    let reads = at_state (λ (u : ScanState). reads_literals u.context ≡ true) _ _ c.self.view_is c.requires.next.context in
+    let reads = at_state (λ (u : ScanState). reads_literals u.context ≡ true) _ _ c.self.view_is
+    c.requires.next.context in
     let name = c.delimiter-name.ensures ∙ ap delimiter c.split_at.ensures.back in
     let kept = c.in_ok-extend_from_slice-2.ensures.items ∙ (λ i. c.clear-2.ensures.items i ++ d) in
     let sign = c.in_ok-push-2.ensures.items
@@ -28,7 +29,8 @@ returns c =
     let s = c.self.inside.scanner in
     let g = c.self.inside.begun in
     let u = c.args.rest.bytes.now in
-    let reads = at_state (λ (u : ScanState). reads_literals u.context ≡ true) _ _ c.self.view_is c.requires.next.context in
+    let reads = at_state (λ (u : ScanState). reads_literals u.context ≡ true) _ _ c.self.view_is
+    c.requires.next.context in
     let p = c.raw_prefix-start.result in
     let d = c.delimiter-name.result.now in
     let name = c.delimiter-name.ensures ∙ ap delimiter c.split_at.ensures.back in

@@ -25,12 +25,14 @@ open_raw-requires-clause-sign c =
 pub open_literal-requires-clause-plain : goal.open_literal-requires-clause-plain
 open_literal-requires-clause-plain c =
     let s = c.args.self.now.state in
-    (seen (is_c s.context && names_include s) c.args.rest.bytes.now rule.Literal (sym c.requires.first ∙ c.in-Literal.is)).1
+    (seen (is_c s.context && names_include s) c.args.rest.bytes.now rule.Literal (sym c.requires.first ∙
+    c.in-Literal.is)).1
 
 pub open_literal-requires-clause-sign : goal.open_literal-requires-clause-sign
 open_literal-requires-clause-sign c =
     let s = c.args.self.now.state in
-    (seen (is_c s.context && names_include s) c.args.rest.bytes.now rule.Literal (sym c.requires.first ∙ c.in-Literal.is)).2
+    (seen (is_c s.context && names_include s) c.args.rest.bytes.now rule.Literal (sym c.requires.first ∙
+    c.in-Literal.is)).2
 
 pub take_rule-requires-clause-ends : goal.take_rule-requires-clause-ends
 take_rule-requires-clause-ends c =
@@ -68,4 +70,5 @@ returns-in_ok-size-in_default c =
     (names_include s) u r c.requires.next.context c.requires.plain c.requires.first (ends_closes r ends) in
     closed_at c.in_ok-size-in_default.size u h _ _
     (c_match_by in_c false u r) c.self-in_default.view_is c.requires.next.between
-    (part_head s.context c.requires.next.context) c.args.rest.line c.args.rest.some f.0 f.1 c.in_ok-size-in_default.ensures
+    (part_head s.context c.requires.next.context) c.args.rest.line c.args.rest.some f.0 f.1
+    c.in_ok-size-in_default.ensures

@@ -17,7 +17,8 @@ take_line_comment-requires-clause-two c =
 pub returns-in-Blanks : goal.returns-in-Blanks
 returns-in-Blanks c =
     blanks_pass c.span_len.result c.args.rest.bytes.now c.args.self.now c.args.begun c.c_rule-rule.result c.in-Blanks.is
-    c.requires.between c.requires.context c.args.rest.line c.args.rest.some c.c_rule-rule.ensures c.span_len.ensures.value
+    c.requires.between c.requires.context c.args.rest.line c.args.rest.some c.c_rule-rule.ensures
+    c.span_len.ensures.value
 
 pub returns-in_ok-size-in-LineComment : goal.returns-in_ok-size-in-LineComment
 returns-in_ok-size-in-LineComment c =

@@ -12,5 +12,6 @@ returns c =
     let tight = c.begins.ensures.value ∙ ap (begins (codes "(")) (c.split_at.ensures.back ∙ ap (λ k. drop k u) size) in
     head_passes c.span_len-size.result u c.args.self.now _ _ c.args.begun rule.Identifier
     (rule_match (Defined (begins (codes "(") (drop m u))) m) c.self.view_is
-    c.requires.next.between c.requires.next.context c.args.rest.line c.args.rest.some (sym c.requires.first) refl refl refl refl
+    c.requires.next.between c.requires.next.context c.args.rest.line c.args.rest.some (sym c.requires.first) refl
+    refl refl refl
     (record { size = size; state = c.in_ok-define.ensures ∙ (λ i. define (name i) (tight i) c.self.inside.scanner) })

@@ -20,7 +20,8 @@ returns-in_ok-size-in-Between c =
 
 pub split_at-requires : goal.split_at-requires
 split_at-requires c =
-    piece_within c.in_ok-plain-in-Between.plain c.args.rest.bytes.now _ c.take_plain.new.self c.in_ok-plain-in-Between.ensures
+    piece_within c.in_ok-plain-in-Between.plain c.args.rest.bytes.now _ c.take_plain.new.self
+    c.in_ok-plain-in-Between.ensures
 
 pub returns-then-is_empty : goal.returns-then-is_empty
 returns-then-is_empty c =

@@ -1,4 +1,4 @@
-use Rattle.cweb_scan.proofs.Common.{◌≡◌, true, ◌+◌, ◌++◌, take, drop, refl, sym, ap, ◌∙◌, subst, reach, unit_bytes, unescaped, Open, emit_literal, in_open_part, HasItemRoom, ScanState}
+use Rattle.cweb_scan.proofs.Common.{◌+◌, ◌++◌, take, drop, refl, sym, ap, ◌∙◌, subst, reach, unit_bytes, unescaped, Open, emit_literal}
 use Rattle.cweb_scan.specs.inner.Room.{CanEmit}
 use Rattle.cweb_rules.specs.Items.{look_in_include}
 use Rattle.cweb_scan.proofs.VerbatimAndIncludes.{include_yields, name_kept, reported}

@@ -14,8 +14,7 @@ returns-in-Blank-clause-taken c = record {
       (sym c.in-Blank.is ∙ c.first_byte_class.ensures) in
       blanks_turn c.nonempty_span_len.result u s c.args.rest.line c.args.rest.some c.requires.in_c known.0
       c.nonempty_span_len.ensures.value;
-  stays =
-      c.requires.in_c;
+  stays = c.requires.in_c;
 }
 
 pub returns-in_ok-emit_plain-in-Word-clause-taken : goal.returns-in_ok-emit_plain-in-Word-clause-taken
@@ -29,8 +28,7 @@ returns-in_ok-emit_plain-in-Word-clause-taken c = record {
       c.requires.in_c.in_c
       known.0 c.nonempty_span_len-size.ensures.value
       (c.in_ok-emit_plain-in-Word.ensures.ok ∙ ap (λ (x : List ℕ). emit (Word x) s) c.split_at.ensures.front);
-  stays =
-      grind (arith, common_steps);
+  stays = grind (arith, common_steps);
 }
 
 pub returns-in_ok-emit_plain-in-Lone-clause-taken : goal.returns-in_ok-emit_plain-in-Lone-clause-taken

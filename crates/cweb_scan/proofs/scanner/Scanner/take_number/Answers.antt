@@ -7,7 +7,8 @@ pub returns : goal.returns
 returns c = record {
   taken =
       let s = c.args.self.now in
-      number_turn c.number_len-size.result c.args.rest.bytes.now s c.emit_plain.new.self c.args.rest.line c.args.rest.some
+      number_turn c.number_len-size.result c.args.rest.bytes.now s c.emit_plain.new.self c.args.rest.line
+      c.args.rest.some
       c.requires.plain.in_c c.requires.first c.number_len-size.ensures.value
       (c.in_ok-emit_plain.ensures.ok ∙ ap (λ (x : List ℕ). emit (Number x) s) c.split_at.ensures.front);
   stays =

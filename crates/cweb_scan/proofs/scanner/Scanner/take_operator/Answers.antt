@@ -4,7 +4,8 @@ use Rattle.cweb_scan.proofs.Plains.{stays_plain}
 use Rattle.cweb_scan.proofs.scanner.Scanner.take_operator.Goals as goal
 
 pub split_at-requires : goal.split_at-requires
-split_at-requires c = omega (arith, c.punctuator_len-size.ensures, punctuator_fits c.args.rest.bytes.now c.args.rest.some)
+split_at-requires c =
+    omega (arith, c.punctuator_len-size.ensures, punctuator_fits c.args.rest.bytes.now c.args.rest.some)
 
 pub emit_plain-requires-clause-plain : goal.emit_plain-requires-clause-plain
 emit_plain-requires-clause-plain c =
@@ -17,7 +18,8 @@ returns c = record {
       let s = c.args.self.now in
       let made = c.self.view_is ∙ c.in_ok-emit_plain.ensures.ok
       ∙ ap (λ (x : List ℕ). emit (Punct x) s) c.split_at.ensures.front in
-      operator_turn c.punctuator_len-size.result c.args.rest.bytes.now s _ c.args.rest.line c.args.rest.some c.requires.plain.in_c
+      operator_turn c.punctuator_len-size.result c.args.rest.bytes.now s _ c.args.rest.line c.args.rest.some
+      c.requires.plain.in_c
       c.requires.first c.punctuator_len-size.ensures (ap (λ (v : ScanState). record v { folded = false }) made);
   stays =
       let s = c.args.self.now in

@@ -16,7 +16,8 @@ split_at-requires c =
     let n = c.in-Some.size in
     let u = c.past_blank-piece.result.now in
     piece_within n u c.pieces.self c.take_lexeme.new.self
-    (some_taken n c.in_ok-size.field-0 u c.pieces.self c.take_lexeme.new.self c.in-Some.is c.in_ok-size.ensures.taken.taken)
+    (some_taken n c.in_ok-size.field-0 u c.pieces.self c.take_lexeme.new.self c.in-Some.is
+    c.in_ok-size.ensures.taken.taken)
 
 pub pieces-preserved : goal.pieces-preserved
 pieces-preserved c =

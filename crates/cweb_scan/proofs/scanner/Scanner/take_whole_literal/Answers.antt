@@ -13,7 +13,8 @@ split_at-requires-2 c =
 
 pub quoted_len-requires : goal.quoted_len-requires
 quoted_len-requires c = subst IsLine
-    (sym c.split_at-2.ensures.back) (IsLine-drop (c.literal_prefix-prefix.result + 1) c.args.rest.bytes.now c.args.rest.line)
+    (sym c.split_at-2.ensures.back) (IsLine-drop (c.literal_prefix-prefix.result + 1) c.args.rest.bytes.now
+    c.args.rest.line)
 
 pub split_at-requires-in-Some : goal.split_at-requires-in-Some
 split_at-requires-in-Some c =
@@ -35,12 +36,15 @@ returns-in_ok-emit_plain-in-Some c = record {
       ∙ (λ i. reached (reach (look_in_literal (quote i)) Open (c.split_at-2.ensures.back i)))
       ∙ ap (λ k. reached (reach (look_in_literal (quote_of (drop k u))) Open (drop (k + 1) u))) p in
       let prefix = c.split_at-in-Some.ensures.front in
+      let fits = ap (λ (x : List ℕ). length x) prefix in
       let clean = subst HasNone prefix (none_valid c.split_at-in-Some.result.0.now
-      (omega (arith, c.skipped_len.ensures.value, c.if-skipped_len-size.false, ap (λ (x : List ℕ). length x) prefix))) in
+      (omega (arith, c.skipped_len.ensures.value, c.if-skipped_len-size.false, fits))) in
       literal_turn n u s c.emit_plain.new.self
-      r c.args.rest.line c.args.rest.some c.requires.plain.in_c c.requires.first seen refl (ap (λ k. k + 1 + (inner + 1)) p) clean
+      r c.args.rest.line c.args.rest.some c.requires.plain.in_c c.requires.first seen refl
+      (ap (λ k. k + 1 + (inner + 1)) p) clean
       (c.in_ok-emit_plain-in-Some.ensures.ok ∙ ap (λ (x : List ℕ). emit (Literal x) s) prefix);
   stays =
       subst IsPlainC (sym c.in_ok-emit_plain-in-Some.ensures.ok) (stays_plain c.args.self.now
-      (Literal c.split_at-in-Some.result.0.now) c.requires.plain.in_c (record { hash = refl; last = refl; solid = refl }));
+      (Literal c.split_at-in-Some.result.0.now) c.requires.plain.in_c
+      (record { hash = refl; last = refl; solid = refl }));
 }

@@ -11,6 +11,5 @@ returns c = record {
       word_turn c.span_len-size.result u s c.emit_plain.new.self c.args.rest.line c.args.rest.some
       c.requires.plain.in_c.in_c (seen_word s u c.requires.plain.in_c c.requires.first) c.span_len-size.ensures.value
       (c.in_ok-emit_plain.ensures.ok ∙ ap (λ (x : List ℕ). emit (Word x) s) c.split_at.ensures.front);
-  stays =
-      grind (arith, common_steps);
+  stays = grind (arith, common_steps);
 }
