@@ -3,7 +3,7 @@ use Rattle.std.proofs.Common.{◌≡◌, ◌++◌, ◌+◌, List, [], ℕ, refl,
 use Rattle.std.specs.Prelude.{IsTrue, IsErr, Result, Ok, Err}
 use Rattle.std.proofs.lemmas.List.{append-nil, append_assoc}
 use Rattle.cweb_files.specs.Bins.{CountsFailure, WritesPrefix}
-use Rattle.cweb_files.specs.surface.Frames.{Appends, Wrote}
+use Rattle.cweb_files.specs.inner.Appends.{Appends, Wrote}
 use Rattle.cweb_files.specs.declared.device.Sink.{Ghosts as Sink}
 
 counts_then : {A E : Type 0} (a b c : ℕ) (r : Result A E) → b ≡ a → CountsFailure b c r → CountsFailure a c r

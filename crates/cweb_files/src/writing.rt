@@ -1,6 +1,6 @@
 // Writes of whole slices.
 ghost use Rattle.std.specs.Prelude.{◌<◌, ◌+◌, ◌^◌, OnErr, length};
-ghost use Rattle.cweb_files.specs.surface.Frames.{Appends};
+ghost use Rattle.cweb_files.specs.inner.Appends.{Appends};
 
 use crate::device::{Sink, SinkFault};
 

@@ -1,6 +1,6 @@
 // Writes byte chunks in order.
 ghost use Rattle.std.specs.Prelude.{◌≡◌, ◌<◌, ◌+◌, ◌^◌, flat_map};
-ghost use Rattle.cweb_files.specs.surface.Frames.{Appends};
+ghost use Rattle.cweb_files.specs.inner.Appends.{Appends};
 
 use cweb_files::{Sink, SinkFault, write_all};
 

@@ -1,6 +1,6 @@
--- Frames of calls on devices, and what they append to a sink.
-use Rattle.std.specs.Prelude.{◌≡◌, ℕ, List, ◌++◌, IsTrue, Result, Ok, Err}
-use Rattle.cweb_files.specs.Bins.{CountsFailure, WritesPrefix}
+-- Frames of calls on devices, and what they write to a sink.
+use Rattle.std.specs.Prelude.{◌≡◌, ℕ, List, ◌++◌, IsTrue, Result}
+use Rattle.cweb_files.specs.Bins.{CountsFailure}
 use Rattle.cweb_files.specs.declared.device.Shelf.{Ghosts as Shelf}
 use Rattle.cweb_files.specs.declared.device.Sink.{Ghosts as Sink}
 
@@ -20,18 +20,8 @@ pub record KeepsPlace {W : Type 0} (sink : Sink W) (old new : W) : Type 0 where
 abbrev pub Writes : {W : Type 0} → Sink W → W → W → List ℕ → Type 0
 Writes sink old new bytes = IsTrue (sink.tells old) → sink.written new ≡ sink.written old ++ bytes
 
--- All bytes were written, or after a fault a prefix of them.
-abbrev pub Wrote : {A E : Type 0} → List ℕ → List ℕ → List ℕ → Result A E → Type 0
-Wrote old new bytes (Ok x) = new ≡ old ++ bytes
-Wrote old new bytes (Err fault) = WritesPrefix old new bytes
-
 -- Nothing but the bytes changes, and a fault is counted.
 pub record KeepsSink {W A E : Type 0} (sink : Sink W) (old new : W) (result : Result A E) : Type 0 where
   pub tells : sink.tells new ≡ sink.tells old
   pub beside : IsTrue (sink.tells old) → sink.beside new ≡ sink.beside old
   pub failed : CountsFailure (sink.failed old) (sink.failed new) result
-
--- These bytes are appended, or after a fault a prefix of them. Nothing else changes, and a fault is counted.
-pub record Appends {W A E : Type 0} (sink : Sink W) (old new : W) (bytes : List ℕ) (result : Result A E) : Type 0 where
-  pub keeps : KeepsSink sink old new result
-  pub wrote : IsTrue (sink.tells old) → Wrote (sink.written old) (sink.written new) bytes result

@@ -1,7 +1,8 @@
 // Prints macro lines into the buffer of a sink.
 ghost use Rattle.std.specs.Prelude.{◌≡◌, ◌≤◌, ◌<◌, ◌+◌, ◌^◌, ◌++◌, flat_map, length, take, true};
 ghost use Rattle.std.specs.Prelude.{false, IfSome, IsTrue};
-ghost use Rattle.cweb_files.specs.surface.Frames.{KeepsSink, Wrote};
+ghost use Rattle.cweb_files.specs.surface.Frames.{KeepsSink};
+ghost use Rattle.cweb_files.specs.inner.Appends.{Wrote};
 ghost use Rattle.cweb_texts.specs.inner.Edges.{token_bytes_model};
 ghost use Rattle.cweb_store.specs.Parts.{all_tokens};
 ghost use Rattle.cweb_print.specs.declared.buffer.TheConstants.{ROOM};

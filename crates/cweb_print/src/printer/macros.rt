@@ -1,6 +1,6 @@
 // Writes macro lines to a sink.
 ghost use Rattle.std.specs.Prelude.{◌≡◌, ◌≤◌, ◌<◌, ◌+◌, ◌^◌, ◌++◌, length, slice_range};
-ghost use Rattle.cweb_files.specs.surface.Frames.{Appends};
+ghost use Rattle.cweb_files.specs.inner.Appends.{Appends};
 ghost use Rattle.cweb_store.specs.surface.TokenModels.{token_model};
 ghost use Rattle.cweb_store.specs.Parts.{all_tokens};
 ghost use Rattle.cweb_print.specs.Printing.{macro_line, macros, replaced_in};
