@@ -65,22 +65,44 @@ impl StringTable {
         Ok(number as u32)
     }
 
-    /// Interns a word, a number or a punctuator, and returns its number. The fast path finds one byte that was interned
-    /// before.
-    #[inline(always)]
+    /// Interns a word or a number, and returns its number in the table.
     pub fn intern_word(&mut self, word: &[u8]) -> Result<u32, AllocError>
         requires few { length self.old.strings + 1 < string_limit }
         ensures ok { IfOk result (λ number. InternsWord self.old word.now number self.new) }
         ensures err { OnErr result (self.new ≡ self.old) }
     {
-        if let [byte] = word {
-            if let Some(number) = byte_id(self.byte_ids.as_slice(), *byte) {
-                return Ok(number);
-            }
+        if let Some(number) = self.known_byte(word) {
+            return Ok(number);
+        }
+        if word.len() == 1 {
             return self.intern_byte(word);
         }
         let number = self.strings.intern_word(word)?;
         Ok(number as u32)
+    }
+
+    /// Interns a punctuator as `intern_word` does. Many are one byte, which is found without a call.
+    #[inline(always)]
+    pub fn intern_punctuator(&mut self, sign: &[u8]) -> Result<u32, AllocError>
+        requires few { length self.old.strings + 1 < string_limit }
+        ensures ok { IfOk result (λ number. InternsWord self.old sign.now number self.new) }
+        ensures err { OnErr result (self.new ≡ self.old) }
+    {
+        if let Some(number) = self.known_byte(sign) {
+            return Ok(number);
+        }
+        self.intern_word(sign)
+    }
+
+    // The number of a string of one byte that was interned before.
+    #[inline(always)]
+    fn known_byte(&self, string: &[u8]) -> Option<u32>
+        ensures { IfSome result (λ number. InternsWord self.now string.now number self.now) }
+    {
+        match string {
+            [byte] => byte_id(self.byte_ids.as_slice(), *byte),
+            _ => None,
+        }
     }
 
     // Interns a word of one byte, and records its number for the fast path.

@@ -163,7 +163,7 @@ fn record_of(
         Token::Number(string) => Ok(Record::Number(strings.intern_word(string)?)),
         Token::Literal(string) => Ok(Record::Literal(strings.add_string(string)?)),
         Token::Verbatim(string) => Ok(Record::Verbatim(strings.add_string(string)?)),
-        Token::Punct(string) => Ok(Record::Punct(strings.intern_word(string)?)),
+        Token::Punct(string) => Ok(Record::Punct(strings.intern_punctuator(string)?)),
         Token::Blank => Ok(Record::Blank),
         Token::Newline => Ok(Record::Newline),
         Token::Join => Ok(Record::Join),

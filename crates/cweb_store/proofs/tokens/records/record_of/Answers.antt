@@ -46,11 +46,11 @@ returns-in_ok-intern_word-in-Word-clause-packs c =
     rw c.in-Word.is (word-packs (spec.Word c.in-Word.string.now) (interned_token.Word
     c.in_ok-intern_word-in-Word.field-0) c.in_ok-intern_word-in-Word.ensures.ok (λ w. w) (ap spec.Word) refl refl refl)
 
-pub returns-in_ok-intern_word-in-Punct-clause-packs : goal.returns-in_ok-intern_word-in-Punct-clause-packs
-returns-in_ok-intern_word-in-Punct-clause-packs c =
+pub returns-in_ok-intern_punctuator-in-Punct-clause-packs : goal.returns-in_ok-intern_punctuator-in-Punct-clause-packs
+returns-in_ok-intern_punctuator-in-Punct-clause-packs c =
     rw c.in-Punct.is (word-packs (spec.Punct c.in-Punct.string.now)
-    (interned_token.Punct c.in_ok-intern_word-in-Punct.field-0)
-    c.in_ok-intern_word-in-Punct.ensures.ok (λ w. w) (ap spec.Punct) refl refl refl)
+    (interned_token.Punct c.in_ok-intern_punctuator-in-Punct.field-0)
+    c.in_ok-intern_punctuator-in-Punct.ensures.ok (λ w. w) (ap spec.Punct) refl refl refl)
 
 pub returns-in_ok-intern_word-in-Number-clause-packs : goal.returns-in_ok-intern_word-in-Number-clause-packs
 returns-in_ok-intern_word-in-Number-clause-packs c =
