@@ -1,7 +1,6 @@
 // The next line of a source, however reads split it.
-ghost use Rattle.std.specs.Prelude.{◌≡◌, ◌≤◌, ◌<◌, ◌+◌, ◌^◌, ◌++◌, ◌∷◌, [], ℕ, List, length, take};
-ghost use Rattle.std.specs.Prelude.{drop, Vec, IsTrue, IfOk, OnOk, OnErr, IsErrOf, Option, Some};
-ghost use Rattle.std.specs.Prelude.{None};
+ghost use Rattle.std.specs.Prelude.{◌≡◌, ◌≤◌, ◌<◌, ◌+◌, ◌^◌, ◌++◌, [], length, take, IsTrue, IfOk};
+ghost use Rattle.std.specs.Prelude.{OnOk, IsErrOf};
 ghost use Rattle.cweb_input.specs.surface.Lines.{HasNoNewline};
 ghost use Rattle.cweb_input.specs.inner.Lines.{IsNewlineAt, byte_before};
 ghost use Rattle.cweb_input.specs.inner.Source.{bytes_left, TakesRawLine, IsLongerThan};

@@ -1,5 +1,5 @@
 // How the web, the change file and included files are found.
-ghost use Rattle.std.specs.Prelude.{◌≡◌, ◌∷◌, ◌++◌, ℕ, List, IsTrue, IfOk, string_bytes};
+ghost use Rattle.std.specs.Prelude.{◌≡◌, ◌∷◌, ◌++◌, IsTrue, IfOk, string_bytes};
 ghost use Rattle.std.specs.Option.{option_copied};
 ghost use Rattle.cweb_input.specs.Include.{found_at, found_under, web_at, change_at};
 ghost use Rattle.cweb_input.specs.inner.Finding.{changes_found, FindsFile, IsChangeOpened, ReadsNothing};

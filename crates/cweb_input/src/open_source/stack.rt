@@ -1,16 +1,14 @@
 // The stack of open sources, the deepest last.
-ghost use Rattle.std.specs.Prelude.{◌≡◌, ◌≤◌, ◌<◌, ◌+◌, ◌-◌, ◌^◌, ℕ, List, ◌∷◌, replicate, length};
-ghost use Rattle.std.specs.Prelude.{IsTrue, IfOk, IfErr, IfSome, OnSome, Ok, None, Some, slice_set};
-ghost use Rattle.std.specs.Prelude.{slice_index_or, false};
+ghost use Rattle.std.specs.Prelude.{◌≡◌, ◌≤◌, ◌<◌, ◌+◌, ◌-◌, ◌^◌, ℕ, ◌∷◌, replicate, IsTrue, IfOk};
+ghost use Rattle.std.specs.Prelude.{IfErr, None, Some, slice_set, slice_index_or};
 ghost use Rattle.cweb_input.specs.inner.LineCalls.{ClosesAbove, ClosesTop, TakesFromStack};
 ghost use Rattle.cweb_input.specs.surface.Counters.{counters_of};
-ghost use Rattle.cweb_input.specs.surface.Lines.{IsOneLine};
 ghost use Rattle.cweb_input.specs.declared.limits.TheConstants.{OPEN_FILES};
 ghost use Rattle.cweb_input.specs.inner.OpenSources.{maximum_of, line_number, files_up_to};
-ghost use Rattle.cweb_input.specs.surface.OpenSources.{CountsReadStop, StopsFor, StopsReading};
-ghost use Rattle.cweb_input.specs.inner.OpenSources.{Counted, NamesFiles, AreDeep, TakesTop, TakesAbove};
+ghost use Rattle.cweb_input.specs.surface.OpenSources.{StopsFor};
+ghost use Rattle.cweb_input.specs.inner.OpenSources.{AreDeep, TakesTop, TakesAbove};
 ghost use Rattle.cweb_input.specs.inner.OpenSources.{NeedsRead, StopsTop, StopsAbove};
-ghost use Rattle.cweb_input.specs.inner.OpenSources.{StaysBelow, DepthAfter, Pushes};
+ghost use Rattle.cweb_input.specs.inner.OpenSources.{StaysBelow, Pushes};
 
 use crate::buffer_pool::BufferPool;
 use crate::counters::TakenCounters;

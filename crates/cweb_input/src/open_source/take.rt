@@ -1,6 +1,6 @@
 // The next line of an open source, trimmed of trailing blanks.
-ghost use Rattle.std.specs.Prelude.{◌≡◌, ◌≤◌, ◌<◌, ◌+◌, ◌^◌, ℕ, length, take, IsTrue, IfOk};
-ghost use Rattle.std.specs.Prelude.{IfErr, IfSome, OnSome, IsErrOf, Ok, None, Some};
+ghost use Rattle.std.specs.Prelude.{◌≡◌, ◌≤◌, ◌<◌, ◌+◌, ◌^◌, ℕ, length, take, IsTrue, IfOk, IfErr};
+ghost use Rattle.std.specs.Prelude.{IfSome, OnSome, Some};
 ghost use Rattle.cweb_input.specs.inner.LineCalls.{TakesFromSlot};
 ghost use Rattle.cweb_input.specs.inner.Source.{bytes_left, FailsInLine, ReadsSource};
 ghost use Rattle.cweb_input.specs.inner.TrimmedLines.{TakesTrimmedOrEnds};
@@ -140,8 +140,8 @@ pub fn take_from<S: Shelf>(
 ) -> Result<Option<LineAt>, Stop>
     requires count { S.failed shelf.old + 1 < 2 ^ 64 }
     requires number { number_or_zero line_number slot.old ≤ limits.old.lines }
-    ensures takes { TakesFromSlot S.Shelf shelf.old shelf.new slot.old slot.new limits.old limits.new
-        line.new.items result }
+    ensures takes { TakesFromSlot S.Shelf shelf.old shelf.new slot.old slot.new limits.old
+        limits.new line.new.items result }
     ensures deep { (place : ℕ) → DeepAt place slot.old →
         DeepAt place slot.new × IfOk result (λ at. IfSome at (λ a. place < a.depth)) }
 {

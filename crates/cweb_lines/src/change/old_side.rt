@@ -1,6 +1,6 @@
 // The old side of a change: its further old lines, and the raw lines that they replace.
-ghost use Rattle.std.specs.Prelude.{◌≡◌, ◌≤◌, ◌<◌, ◌+◌, ◌^◌, ◌++◌, ◌∷◌, [], length, IsTrue, IfOk};
-ghost use Rattle.std.specs.Prelude.{IfErr, OnOk, OnErr, false};
+ghost use Rattle.std.specs.Prelude.{◌≡◌, ◌≤◌, ◌<◌, ◌+◌, ◌^◌, ◌++◌, [], length, IsTrue, IfOk, IfErr};
+ghost use Rattle.std.specs.Prelude.{OnOk, OnErr};
 ghost use Rattle.cweb_lines.specs.inner.StepCalls.{GoesOn, Reads, TakesAway, outcome};
 ghost use Rattle.cweb_lines.specs.Merge.{change_events, closing_faults, fault_if};
 ghost use Rattle.cweb_input.specs.surface.Counters.{counters_of};

@@ -1,6 +1,6 @@
 // The search for the next entry of a change file.
-ghost use Rattle.std.specs.Prelude.{◌≡◌, ◌≤◌, ◌<◌, ◌+◌, ◌^◌, ◌++◌, ◌∷◌, [], List, length, IsTrue};
-ghost use Rattle.std.specs.Prelude.{IfOk, IfErr, OnOk, OnErr, None, Some};
+ghost use Rattle.std.specs.Prelude.{◌≡◌, ◌<◌, ◌+◌, ◌^◌, ◌++◌, ◌∷◌, [], List, length, IsTrue, IfOk};
+ghost use Rattle.std.specs.Prelude.{IfErr, OnOk, OnErr, None, Some};
 ghost use Rattle.cweb_lines.specs.inner.StepCalls.{OnlySeeks, Reads, outcome};
 ghost use Rattle.cweb_lines.specs.Change.{sought};
 ghost use Rattle.cweb_input.specs.Lines.{SourceLine};

@@ -1,6 +1,6 @@
 // Lines that begin no change: include lines are obeyed, and others are emitted.
-ghost use Rattle.std.specs.Prelude.{◌≡◌, ◌≤◌, ◌<◌, ◌+◌, ◌^◌, ◌++◌, ◌∷◌, [], length, IsTrue, IfOk};
-ghost use Rattle.std.specs.Prelude.{IfErr, OnOk, OnErr, None, Some, string_bytes, true, ℕ, List};
+ghost use Rattle.std.specs.Prelude.{◌≡◌, ◌≤◌, ◌<◌, ◌+◌, ◌++◌, ◌∷◌, [], length, IfOk, IfErr, OnOk};
+ghost use Rattle.std.specs.Prelude.{OnErr, string_bytes, true, ℕ, List};
 ghost use Rattle.cweb_lines.specs.inner.StepCalls.{IsPlainLine, Obeys, OnlyOpens};
 ghost use Rattle.cweb_input.specs.Include as spec;
 ghost use Rattle.cweb_lines.specs.inner.MergeProgress.{turn_lines, IsTaken, TurnKnown};

@@ -1,6 +1,6 @@
 // Elementary actions of a merger: taking a line and reporting a fault.
-ghost use Rattle.std.specs.Prelude.{◌≡◌, ◌≤◌, ◌<◌, ◌+◌, ◌^◌, ◌++◌, ◌∷◌, [], length, IsTrue, IfOk};
-ghost use Rattle.std.specs.Prelude.{IfErr, IfSome, OnSome, Ok, OnOk, OnErr, None};
+ghost use Rattle.std.specs.Prelude.{◌≡◌, ◌<◌, ◌+◌, ◌^◌, ◌++◌, ◌∷◌, [], length, IsTrue, IfOk, IfErr};
+ghost use Rattle.std.specs.Prelude.{OnOk, OnErr};
 ghost use Rattle.cweb_input.specs.inner.LineCalls.{ClosesAbove};
 ghost use Rattle.cweb_input.specs.surface.Counters.{counters_of};
 ghost use Rattle.cweb_lines.specs.surface.MergeProgress.{NothingLeft, change_lines};
@@ -8,7 +8,7 @@ ghost use Rattle.cweb_input.specs.surface.OpenedFileNames.{opened_file_names};
 ghost use Rattle.cweb_lines.specs.inner.Stages.{floor_of};
 ghost use Rattle.cweb_input.specs.surface.OpenSources.{StopsFor};
 ghost use Rattle.cweb_input.specs.inner.OpenSources.{TakesNextLine, TakesAbove};
-ghost use Rattle.cweb_input.specs.inner.OpenSources.{FirstStops, StopsAbove, StaysBelow};
+ghost use Rattle.cweb_input.specs.inner.OpenSources.{FirstStops, StopsAbove};
 ghost use Rattle.cweb_lines.specs.inner.Steps.{OnlyReports};
 ghost use Rattle.cweb_lines.specs.inner.StepCalls.{TakesLine};
 

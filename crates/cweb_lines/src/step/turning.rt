@@ -1,5 +1,5 @@
 // One step of a merger.
-ghost use Rattle.std.specs.Prelude.{◌≡◌, ◌≤◌, ◌<◌, ◌+◌, ◌^◌, length, Ok};
+ghost use Rattle.std.specs.Prelude.{◌≡◌, ◌<◌, ◌+◌, ◌^◌, Ok};
 ghost use Rattle.cweb_lines.specs.surface.MergeProgress.{NothingLeft};
 ghost use Rattle.cweb_lines.specs.inner.Stages.{IsSettled, begun_by, floor_of};
 ghost use Rattle.cweb_lines.specs.surface.Stages.{pending_in};
