@@ -20,6 +20,7 @@ abbrev pub IsLine : List ℕ → Type 0
 IsLine [] = Unit {0}
 IsLine (b ∷ t) = (b ≢ 10) × IsLine t
 
+-- It has one proof at most, so that a type can have it as a ghost field.
 pub IsLine-prop : (t : List ℕ) → IsProp (IsLine t)
 IsLine-prop [] = Unit-prop
 IsLine-prop (b ∷ t) = ×_prop (→_prop (elim [ ])) (IsLine-prop t)

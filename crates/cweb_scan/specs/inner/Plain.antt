@@ -38,7 +38,7 @@ pub record TakesPlain (n : ℕ) (rest : List ℕ) (old new : ScanState) : Type 0
       → TakesPrefix n rest (record { state = old; item = Between; begun = begun })
       (record { state = new; item = Between; begun = begun })
 
--- They were taken, and still no directive is open.
+-- The first n bytes of the rest of a line were taken, and no directive is open after them.
 pub record PassesPlain (n : ℕ) (rest : List ℕ) (old new : ScanState) : Type 0 where
   pub taken : TakesPlain n rest old new
   pub stays : IsPlainC new

@@ -2,7 +2,8 @@
 ghost use Rattle.std.specs.Prelude.{◌≡◌, ◌≤◌, ◌<◌, ◌+◌, ◌*◌, IfOk, IfSome, OnOk, OnErr, length};
 ghost use Rattle.cweb_names.specs.surface.Names.{too_many};
 ghost use Rattle.cweb_store.specs.surface.TokenModels.{token_model};
-ghost use Rattle.cweb_scan.specs.inner.Plain.{taken_size, HasPlainRoom, IsPlainC, IsPlainToken, PassesPlain, TakesPlain};
+ghost use Rattle.cweb_scan.specs.inner.Plain.{taken_size, HasPlainRoom, IsPlainC, IsPlainToken};
+ghost use Rattle.cweb_scan.specs.inner.Plain.{PassesPlain, TakesPlain};
 
 use crate::directive::Directive;
 use crate::rest::Rest;
