@@ -1,13 +1,11 @@
 // The next line of a source, however reads split it.
-ghost use Rattle.std.specs.Prelude.{◌≡◌, ◌≤◌, ◌<◌, ◌+◌, ◌^◌, ◌++◌, ◌∷◌, [], ℕ, List, length, take};
-ghost use Rattle.std.specs.Prelude.{drop, Vec, IsTrue, IfOk, OnOk, OnErr, IsErrOf, Option, Some};
-ghost use Rattle.std.specs.Prelude.{None};
-ghost use Rattle.cweb_files.specs.surface.Frames.{KeepsShelf};
+ghost use Rattle.std.specs.Prelude.{◌≡◌, ◌≤◌, ◌<◌, ◌+◌, ◌^◌, ◌++◌, [], length, take, IsTrue, IfOk};
+ghost use Rattle.std.specs.Prelude.{OnOk, IsErrOf};
 ghost use Rattle.cweb_input.specs.surface.Lines.{HasNoNewline};
 ghost use Rattle.cweb_input.specs.inner.Lines.{IsNewlineAt, byte_before};
 ghost use Rattle.cweb_input.specs.inner.Source.{bytes_left, TakesRawLine, IsLongerThan};
 ghost use Rattle.cweb_input.specs.surface.Source.{buffered};
-ghost use Rattle.cweb_input.specs.inner.Source.{CountsReadFault, TakesFromBuffer, BlamesReader};
+ghost use Rattle.cweb_input.specs.inner.Source.{FailsInLine, ReadsSource, TakesFromBuffer};
 
 use crate::limits::LINE_LENGTH;
 use crate::source::{LineFault, LineTermination, Source};
@@ -102,14 +100,7 @@ fn lines_end(bytes: &[u8]) -> usize
 // Reads into the buffer if it is empty.
 fn refill<S: Shelf>(shelf: &mut S, source: &mut Source<S::R>) -> Result<(), LineFault>
     requires count { S.failed shelf.old + 1 < 2 ^ 64 }
-    ensures keeps { KeepsShelf S.Shelf shelf.old shelf.new }
-    ensures failed { CountsReadFault (S.failed shelf.old) (S.failed shelf.new) result }
-    ensures opened { IsTrue (S.tells shelf.old) →
-        S.opened_as shelf.new source.new.reader.value
-        ≡ S.opened_as shelf.old source.old.reader.value }
-    ensures blamed { IsTrue (S.tells shelf.old) →
-        BlamesReader (S.opened_as shelf.old source.old.reader.value)
-        (S.blamed shelf.old) (S.blamed shelf.new) result }
+    ensures reads { ReadsSource S.Shelf shelf.old shelf.new source.old source.new result }
     ensures read { IsErrOf result LineFault.TooLong → ⊥ }
     ensures needed { IsErrOf result LineFault.Read → source.old.start ≡ source.old.end }
     ensures kept { source.old.start < source.old.end → source.new ≡ source.old }
@@ -140,20 +131,11 @@ pub fn next_line<S: Shelf>(
     line: &mut Vec<u8>,
 ) -> Result<LineTermination, LineFault>
     requires { S.failed shelf.old + 1 < 2 ^ 64 }
-    ensures keeps { KeepsShelf S.Shelf shelf.old shelf.new }
-    ensures failed { CountsReadFault (S.failed shelf.old) (S.failed shelf.new) result }
-    ensures opened { IsTrue (S.tells shelf.old) →
-        S.opened_as shelf.new source.new.reader.value
-        ≡ S.opened_as shelf.old source.old.reader.value }
-    ensures blamed { IsTrue (S.tells shelf.old) →
-        BlamesReader (S.opened_as shelf.old source.old.reader.value)
-        (S.blamed shelf.old) (S.blamed shelf.new) result }
+    ensures reads { ReadsSource S.Shelf shelf.old shelf.new source.old source.new result }
     ensures taken { IsTrue (S.tells shelf.old) →
         IfOk result (λ taken. TakesRawLine (bytes_left S.left shelf.old source.old) taken line.new.items
         (bytes_left S.left shelf.new source.new)) }
-    ensures too_long { IsTrue (S.tells shelf.old) → IsErrOf result LineFault.TooLong →
-        IsLongerThan LINE_LENGTH (bytes_left S.left shelf.old source.old) }
-    ensures needed { IsErrOf result LineFault.Read → HasNoNewline (buffered source.old) }
+    ensures fails { FailsInLine S.Shelf shelf.old source.old result }
     ensures within { length line.new.items ≤ LINE_LENGTH }
     ensures clean { OnOk result (HasNoNewline line.new.items) }
 {

@@ -1,9 +1,14 @@
 -- Emitted lines are buffered, written or lost.
-use Rattle.cweb_lines.proofs.Common.{◌≡◌, ◌+◌, ◌<◌, ℕ, List, [], ◌∷◌, ◌++◌, length, ◌∙◌, ap, arith, length-append, IsTrue, append-nil, append_assoc, KeepsPlace, Writes, Line, Event, SoFar, EmitsLines, BuffersLines, emitted_lines, written_lines, all_but_last, WritesPrefix, HasWritten, FailsAmong, LosesLine}
+use Rattle.cweb_lines.proofs.Common.{◌≡◌, ◌+◌, ◌<◌, ℕ, List, [], ◌∷◌, ◌++◌, length, ◌∙◌, ap, arith, length-append, IsTrue, append-nil, append_assoc, KeepsPlace, Writes, Line, Event, SoFar, EmitsLines, BuffersLines, emitted_lines, written_lines, all_but_last, WritesPrefix, HasWritten, FailsAmong, LosesLine, Result}
+use Rattle.cweb_files.specs.surface.Frames.{KeepsSink}
 use Rattle.cweb_files.specs.declared.device.Sink.{Ghosts as Sink}
 use Rattle.cweb_files.proofs.FramesCompose.{place_known, writes_then}
 use Rattle.cweb_lines.proofs.EmittedLinesAddUp.{yields_both}
 use Rattle.cweb_lines.proofs.WrittenLinesAddUp.{prefix_of_all, emitted_prefix, text_of-append, written-all_but_last}
+
+pub place_of : {W A E : Type 0} {sink : Sink W} {old new : W} {result : Result A E} → KeepsSink sink old new result
+    → KeepsPlace sink old new
+place_of keeps = record { tells = keeps.tells; beside = keeps.beside }
 
 pub held : (room : ℕ) (old so : SoFar) (all now : List Event) (Wrote : List ℕ → Type 0) →
     HasWritten old so all now Wrote

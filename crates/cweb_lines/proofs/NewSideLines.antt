@@ -118,7 +118,7 @@ module _ {R : Type 0} (t : List ℕ → Option (List ℕ)) (l : R → List ℕ) 
   below_are = ap (λ n. things_over l 0 n run.stack.texts []) (omega (arith, low))
 
 -- The events of a new line, by the contracts of the calls.
-module _ {R : Type 0} (t t' : List ℕ → Option (List ℕ)) (l l' : R → List ℕ) (run mid : MergeState R) (change : Change)
+module _ {R : Type 0} {t t' : List ℕ → Option (List ℕ)} {l l' : R → List ℕ} {run mid : MergeState R} {change : Change}
     (stage : run.stage ≡ Changing change) (low : run.stack.depth ≡ change.below) (texts : t' ≡ t) (left : l' ≡ l)
     (only : OnlyTakes run mid) (stack : mid.stack ≡ run.stack) where
   abbrev world : World

@@ -1,70 +1,128 @@
--- Steps in which no read fails: readers keep their names, none is blamed, and reports only grow.
-use Rattle.cweb_lines.proofs.Common.{◌≡◌, ◌++◌, ℕ, List, refl, sym, ◌∙◌, ap, subst, IsTrue, KeepsShelf, KeepsReported, so_far_of, opened_file_names, AreReadersKnown, KeepsReaders, blame, OnlyReports, SourceFault, MergeState, Stop, stop_after}
+-- Calls that may read, one after another. Each but the last has read without a fault.
+use Rattle.cweb_lines.proofs.Common.{◌≡◌, ◌++◌, ℕ, List, [], arith, refl, sym, ◌∙◌, ap, subst, IsTrue, so_far_of, opened_file_names, read_failures_of, Memory, append-nil, blames_memory, OnlyReports, SourceFault, MergeState, AppendsPassedLines, AreReadersKnown, Line, LineAt, Stop, Result, Ok, Err, IfErr}
 use Rattle.cweb_files.specs.declared.device.Shelf.{Ghosts as Shelf}
-use Rattle.cweb_lines.proofs.ReportsOnlyGrow.{reported_after, reported_same, reported_then}
+use Rattle.cweb_files.specs.surface.Frames.{KeepsShelf}
+use Rattle.cweb_files.proofs.FramesCompose.{keeps_known, keeps_same, keeps_then}
+use Rattle.cweb_input.proofs.ReadersStayNamed.{blames_after}
+use Rattle.cweb_input.specs.inner.Finding.{ReadsNothing}
+use Rattle.cweb_input.specs.surface.OpenSources.{CountsReadStop}
+use Rattle.cweb_lines.specs.inner.MergeReaderNames.{BlamesReaders, KeepsReaders}
+use Rattle.cweb_lines.specs.inner.StepCalls.{Obeys, Reads, outcome}
+use Rattle.cweb_lines.specs.surface.MergeProgress.{KeepsReported}
+use Rattle.cweb_lines.specs.surface.MergerCalls.{KnowsReaders, StaysKnown}
+use Rattle.cweb_lines.specs.declared.merger.Merger.{Merger}
+use Rattle.cweb_lines.proofs.ReportsOnlyGrow.{reported_after, reported_halted, reported_passed, reported_same, reported_then}
 use Rattle.cweb_lines.proofs.MergeReadersStayNamed.{knows_only, knows_same}
 
-module _ {S R : Type 0} (shelf : Shelf S R) where
-  pub record Quiet (old new : S) (run run' : MergeState R) : Type 0 where
-    pub tells : shelf.tells new ≡ shelf.tells old
-    pub readers : KeepsReaders shelf old new run run'
-    pub blamed : IsTrue (shelf.tells old) → AreReadersKnown (shelf.opened_as old) run
-        → shelf.blamed new ≡ shelf.blamed old
-    pub reported : KeepsReported (so_far_of run) (so_far_of run')
+counts_none : (result : Result (Unit {0}) Stop) (count count' : ℕ) → count' ≡ count
+    → IfErr result (λ stop. stop ≡ Memory) → CountsReadStop count count' result
+counts_none (Ok x) count count' same memory = same
+counts_none (Err stop) count count' same memory = omega (arith, same, ap read_failures_of memory)
 
-  pub quiet_same : (s : S) (run : MergeState R) → Quiet s s run run
+pub outcome_memory : {A : Type 0} (result : Result A Stop) → IfErr result (λ stop. stop ≡ Memory)
+    → IfErr (outcome result) (λ stop. stop ≡ Memory)
+outcome_memory (Ok x) memory = tt
+outcome_memory (Err stop) memory = memory
+
+-- No read failed.
+abbrev pub Quiet : {S R : Type 0} → Shelf S R → S → S → MergeState R → MergeState R → Type 0
+Quiet shelf old new run run' = Reads shelf old new run run' (Ok tt)
+
+module _ {S R : Type 0} {shelf : Shelf S R} where
+  pub quiet_same : (s : S) (run : MergeState R) → Quiet shelf s s run run
   quiet_same s run = record {
-    tells = refl;
+    keeps = keeps_same shelf s;
+    failed = refl;
     readers = λ tells known. known;
     blamed = λ tells known. refl;
-    reported = reported_same _ _ refl refl;
+    still = reported_same _ _ refl refl;
   }
 
-  pub quiet_by : (old new : S) (run run' : MergeState R) → KeepsShelf shelf old new
-      → KeepsReaders shelf old new run run'
-      → (IsTrue (shelf.tells old) → AreReadersKnown (shelf.opened_as old) run → shelf.blamed new ≡ shelf.blamed old)
-      → KeepsReported (so_far_of run) (so_far_of run') → Quiet old new run run'
-  quiet_by old new run run' keeps readers blamed reported =
-      record { tells = keeps.tells; readers = readers; blamed = blamed; reported = reported }
+  pub reads_of : {A : Type 0} (result : Result A Stop) {old new : S} {run run' : MergeState R}
+      → KeepsShelf shelf old new → CountsReadStop (shelf.failed old) (shelf.failed new) result
+      → KeepsReaders shelf old new run run' → BlamesReaders shelf old new run run' result
+      → KeepsReported (so_far_of run) (so_far_of run') → Reads shelf old new run run' (outcome result)
+  reads_of (Ok x) keeps failed readers blamed still =
+      record { keeps = keeps; failed = failed; readers = readers; blamed = blamed; still = still }
+  reads_of (Err stop) keeps failed readers blamed still =
+      record { keeps = keeps; failed = failed; readers = readers; blamed = blamed; still = still }
 
-  module _ {a b : S} {x y : MergeState R} (first : Quiet a b x y) where
+  -- Nothing is read. Only want of memory stops the call.
+  pub reads_none : {result : Result (Unit {0}) Stop} {old new : S} {run run' : MergeState R}
+      → ReadsNothing shelf old new → KeepsReaders shelf old new run run' → KeepsReported (so_far_of run) (so_far_of
+      run') → IfErr result (λ stop. stop ≡ Memory) → Reads shelf old new run run' result
+  reads_none {result = result} nothing readers still memory = record {
+    keeps = nothing.keeps;
+    failed = counts_none result _ _ nothing.failed memory;
+    readers = readers;
+    blamed = λ tells known. blames_memory result _ _ _ memory (nothing.blamed tells);
+    still = still;
+  }
+
+  pub reads_nothing : (s : S) → ReadsNothing shelf s s
+  reads_nothing s = record { keeps = keeps_same shelf s; failed = refl; blamed = λ tells. refl }
+
+  pub reads_obeyed : {A : Type 0} {result : Result A Stop} {old new : S} {run run' : MergeState R} {bytes : List ℕ}
+      {at : LineAt} {lines : A → List Line} → Obeys shelf old new run run' bytes at lines result
+      → Reads shelf old new run run' (outcome result)
+  reads_obeyed {result = result} obeys =
+      reads_none obeys.reads obeys.readers obeys.still (outcome_memory result obeys.only.memory)
+
+  pub reads_passed : {room : ℕ} {s : S} {run run' : MergeState R} {buffer more : List ℕ}
+      → AppendsPassedLines room run run' buffer more → Quiet shelf s s run run'
+  reads_passed passes =
+      reads_none (reads_nothing _) (λ tells known. passes.readers _ known) (reported_passed passes) tt
+
+  pub reads_halted : {s : S} {run run' : MergeState R} {stop : Stop}
+      → ((opened_as : R → List ℕ) → AreReadersKnown opened_as run → AreReadersKnown opened_as run')
+      → so_far_of run' ≡ so_far_of run → stop ≡ Memory → Reads shelf s s run run' (Err stop)
+  reads_halted readers same memory =
+      reads_none (reads_nothing _) (λ tells known. readers _ known) (reported_halted same) memory
+
+  -- A call that doesn't have the shelf reports faults.
+  pub reads_reported : {result : Result (Unit {0}) Stop} {s : S} {run run' : MergeState R} (more : List SourceFault)
+      → OnlyReports run run' → run'.faults.items ≡ run.faults.items ++ more → IfErr result (λ stop. stop ≡ Memory)
+      → Reads shelf s s run run' result
+  reads_reported {s = s} more only reported memory =
+      reads_none (reads_nothing s) (λ tells known. knows_only only known) (reported_after _ _ more reported (ap
+      opened_file_names only.names)) memory
+
+  pub reads_unreported : {result : Result (Unit {0}) Stop} {s : S} {run run' : MergeState R} → OnlyReports run run'
+      → run'.faults.items ≡ run.faults.items → IfErr result (λ stop. stop ≡ Memory) → Reads shelf s s run run' result
+  reads_unreported only same memory = reads_reported [] only (same ∙ sym (append-nil _)) memory
+
+  -- What isn't in the frame changes.
+  pub reads_set : {result : Result (Unit {0}) Stop} {old new : S} {x y : MergeState R} (z : MergeState R)
+      → z.stack ≡ y.stack → z.change ≡ y.change → so_far_of z ≡ so_far_of y
+      → Reads shelf old new x y result → Reads shelf old new x z result
+  reads_set {y = y} z stack change same reads = record {
+    keeps = reads.keeps;
+    failed = reads.failed;
+    readers = λ tells known. knows_same _ y z (λ i. (stack i).texts) change (λ i. (same i).names)
+        (reads.readers tells known);
+    blamed = rw (ap (λ s. s.names) same) reads.blamed;
+    still = rw same reads.still;
+  }
+
+  pub stays_known : {A : Type 0} (result : Result A Stop) {old new : S} {merger merger' : Merger S R}
+      → Reads shelf old new merger.run merger'.run (outcome result) → IsTrue (shelf.tells old)
+      → KnowsReaders shelf old merger → StaysKnown shelf old new merger merger' result
+  stays_known (Ok x) reads tells known =
+      record { readers = reads.readers tells known; blamed = λ before. reads.blamed tells known }
+  stays_known (Err stop) reads tells known =
+      record { readers = reads.readers tells known; blamed = λ before. reads.blamed tells known }
+
+  module _ {a b : S} {x y : MergeState R} (first : Quiet shelf a b x y) where
     pub still_tells : IsTrue (shelf.tells a) → IsTrue (shelf.tells b)
-    still_tells = subst IsTrue (sym first.tells)
+    still_tells = keeps_known shelf a b first.keeps
 
-    pub quiet_then : {c : S} {z : MergeState R} → Quiet b c y z → Quiet a c x z
-    quiet_then then = record {
-      tells = then.tells ∙ first.tells;
+    pub reads_then : {result : Result (Unit {0}) Stop} {c : S} {z : MergeState R}
+        → Reads shelf b c y z result → Reads shelf a c x z result
+    reads_then {result = result} {c = c} then = record {
+      keeps = keeps_then shelf _ _ _ first.keeps then.keeps;
+      failed = subst (λ n. CountsReadStop n (shelf.failed c) result) first.failed then.failed;
       readers = λ tells known. then.readers (still_tells tells) (first.readers tells known);
-      blamed = λ tells known. then.blamed (still_tells tells) (first.readers tells known) ∙ first.blamed tells known;
-      reported = reported_then _ _ _ first.reported then.reported;
+      blamed = λ tells known. blames_after result _ _ _ _ (first.blamed tells known)
+          (then.blamed (still_tells tells) (first.readers tells known));
+      still = reported_then _ _ _ first.still then.still;
     }
-
-    pub quiet_tells : {z : MergeState R} (more : List SourceFault) → OnlyReports y z
-        → z.faults.items ≡ y.faults.items ++ more
-        → Quiet a b x z
-    quiet_tells more only reported = record {
-      tells = first.tells;
-      readers = λ tells known. knows_only only (first.readers tells known);
-      blamed = first.blamed;
-      reported = reported_then _ _ _ first.reported (reported_after _ _ more reported
-          (ap opened_file_names only.names));
-    }
-
-    pub quiet_set : (z : MergeState R) → z.stack ≡ y.stack → z.change ≡ y.change → so_far_of z ≡ so_far_of y
-        → Quiet a b x z
-    quiet_set z stack change reported = record {
-      tells = first.tells;
-      readers = λ tells known. knows_same _ y z (λ i. (stack i).texts) change (λ i. (reported i).names)
-          (first.readers tells known);
-      blamed = first.blamed;
-      reported = rw reported first.reported;
-    }
-
-    pub readers_after : (c : S) (z : MergeState R) → KeepsReaders shelf b c y z → KeepsReaders shelf a c x z
-    readers_after c z then = λ tells known. then (still_tells tells) (first.readers tells known)
-
-    pub blamed_stop : (c : S) (names : List (List ℕ)) (stop : Stop) → (IsTrue (shelf.tells b)
-        → AreReadersKnown (shelf.opened_as b) y → shelf.blamed c ≡ shelf.blamed b ++ blame names stop) → IsTrue
-        (shelf.tells a) → AreReadersKnown (shelf.opened_as a) x → shelf.blamed c ≡ shelf.blamed a ++ blame names stop
-    blamed_stop c names stop then = λ tells known. stop_after stop _ _ _ _ (first.blamed tells known)
-        (then (still_tells tells) (first.readers tells known))

@@ -43,11 +43,6 @@ pub reported_if : {A E : Type 0} (result : Result A E) (old new : SoFar) (more :
 reported_if (Ok x) old new more reported same names = reported_after old new more reported names
 reported_if (Err e) old new more reported same names = reported_same old new same names
 
-pub reported_took : {R : Type 0} {old new : MergeState R} → OnlyTakes old new
-    → KeepsReported (so_far_of old) (so_far_of new)
-reported_took {old = old} {new = new} only = reported_same _ _ (λ i. (only.faults i).items)
-    (ap opened_file_names only.names)
-
 pub took_faults : {R : Type 0} {old new : MergeState R} → OnlyTakes old new → new.faults.items ≡ old.faults.items
 took_faults only = λ i. (only.faults i).items
 

@@ -1,7 +1,8 @@
 -- The events before a stop.
-use Rattle.cweb_lines.proofs.Common.{◌≡◌, ◌++◌, ℕ, zero, suc, List, [], ◌∷◌, Option, Some, None, refl, sym, ◌∙◌, ap, subst, Bool, Place, WaitingEntry, World, SourceLine, NewSide, Thing, seek, raw, raws, reported, passed, Event, took, fault, at_place, NoMatch, sought, new_at, new_lines, things_over, things_above, things_in, lines_at, matches_at, number_or_zero, source_depth, ◌+◌, SoFar, ReadsNext, IsAtEnd, StopsAfterLines, Stopped, TopStops, StopsFor, RefusesLine, change_code, Code, Stage, Seeking, Changing, Stack, OpenSource, merge, merge_end, merge_next, so_far_of, counters_of, opened_file_names, OnlyTakes, MergeState, Stop, ReadFault, LineTooLong, TooMuchText, Memory}
+use Rattle.cweb_lines.proofs.Common.{◌≡◌, ◌++◌, ℕ, zero, suc, List, [], ◌∷◌, Option, Some, None, refl, sym, ◌∙◌, ap, subst, Bool, Place, WaitingEntry, World, SourceLine, NewSide, Thing, seek, raw, raws, reported, passed, Event, took, fault, at_place, NoMatch, sought, new_at, new_lines, things_over, things_above, things_in, lines_at, matches_at, number_or_zero, source_depth, ◌+◌, SoFar, ReadsNext, IsAtEnd, StopsAfterLines, Stopped, TopStops, StopsFor, RefusesLine, change_code, Code, Stage, Seeking, Changing, Stack, OpenSource, merge, merge_end, merge_next, so_far_of, counters_of, opened_file_names, OnlyTakes, MergeState, Result, Ok, Err, IfErr, OnErr, append-nil, ReportsPrefix, Stop, ReadFault, LineTooLong, TooMuchText, Memory}
 use Rattle.cweb_lines.specs.declared.change.code.Code.TheVariants.{OldSide as old_side, NewSide as new_side, EndSide as end_side}
 use Rattle.std.specs.Prelude.{slice_index_or}
+use Rattle.cweb_lines.specs.surface.MergerCalls.{StopsThere}
 use Rattle.cweb_lines.proofs.Merges.{yields_nothing, merge_takes, state}
 
 -- The first thing but searches is a line, or is reported at the end of a file.
@@ -121,3 +122,24 @@ pub reported_stays : {R : Type 0} (old new : MergeState R) → OnlyTakes old new
     → (new.limits.lines ≡ old.limits.lines) × (new.limits.bytes ≡ old.limits.bytes) → so_far_of new ≡ so_far_of old
 reported_stays old new only counted = reported_uncounted old new only
     (λ i. record { lines = counted.0 i; bytes = counted.1 i })
+
+pub unreported : (old new : SoFar) (all : List Event) → new.faults ≡ old.faults → new.names ≡ old.names
+    → ReportsPrefix old new all
+unreported old new all faults names = record {
+  events = [];
+  later = all;
+  whole = refl;
+  faults = simp (faults, append-nil);
+  names = simp (names, append-nil);
+}
+
+-- Memory was refused, and nothing was reported before.
+pub stops_unreported : {A : Type 0} (result : Result A Stop) (old mid new : SoFar) (all : List Event)
+    → mid.faults ≡ old.faults → mid.names ≡ old.names → IfErr result (λ stop. stop ≡ Memory)
+    → OnErr result ((new.faults ≡ mid.faults) × (new.names ≡ mid.names))
+    → IfErr result (λ stop. StopsThere stop old new all)
+stops_unreported (Ok x) old mid new all faults names memory same = tt
+stops_unreported (Err stop) old mid new all faults names memory same = record {
+  why = subst (λ s. Stopped s old new all) (sym memory) tt;
+  reported = unreported old new all (same.0 ∙ faults) (same.1 ∙ names);
+}

@@ -1,5 +1,5 @@
 -- Which device the end of a run blames.
-use Rattle.cweb_lines.proofs.Common.{◌≡◌, ◌≤◌, ◌+◌, ℕ, List, Option, None, Some, Result, Err, refl, sym, ap, subst, arith, IfSome, Event, SoFar, StopsReading, read_failures_of, files_named, StopsWriting, WritingStops, WritesSome, FailureCounts, LeavesDevices, KeepsStop, write_failures_of, Stop, ReadFault, LineTooLong, TooMuchText, Memory, WriteFault}
+use Rattle.cweb_lines.proofs.Common.{◌≡◌, ◌≤◌, ◌+◌, ℕ, List, Option, None, Some, Result, Err, refl, sym, subst, arith, IfSome, Event, SoFar, StopsReading, read_failures_of, files_named, StopsWriting, WritingStops, WritesSome, FailureCounts, LeavesDevices, KeepsStop, write_failures_of, Stop, ReadFault, LineTooLong, TooMuchText, Memory, WriteFault}
 
 pub none_before : {A : Type 0} (P : A → Type 0) {stop : Option A} → stop ≡ None → IfSome stop P
 none_before P none = subst (λ stop. IfSome stop P) (sym none) tt
@@ -33,20 +33,15 @@ blames_own stop kept files before after reading keeps named shelf out = record {
   kept = keeps_reading stop kept reading keeps;
 }
 
-pub blames_write : (result : Stop) (kept : Option Stop) (files : ℕ) (before after : FailureCounts) →
-    result ≡ WriteFault → kept ≡ None
-    → after.shelf ≡ before.shelf → after.out ≡ before.out + 1 → LeavesDevices result before after kept files
-blames_write result kept files before after is running shelf out = record {
-  kind = subst WritingStops (sym is) tt;
-  shelf = omega (arith, shelf, ap read_failures_of is);
-  out = omega (arith, out, ap write_failures_of is);
-  named = omega (arith, ap files_named is);
-  kept = subst (λ s. KeepsStop s kept) (sym is) running;
+pub blames_write : (kept : Option Stop) (files : ℕ) (before after : FailureCounts) → kept ≡ None
+    → after.shelf ≡ before.shelf → after.out ≡ before.out + 1 → LeavesDevices WriteFault before after kept files
+blames_write kept files before after running shelf out = record {
+  kind = tt;
+  shelf = omega (arith, shelf);
+  out = out;
+  named = omega arith;
+  kept = running;
 }
-
-pub write_failed : (result : Stop) (old new : SoFar) (all : List Event) (Wrote : List ℕ → Type 0) →
-    result ≡ WriteFault → StopsWriting result old new all Wrote
-write_failed result old new all Wrote is = subst (λ s. StopsWriting s old new all Wrote) (sym is) tt
 
 pub memory_failed : (result : Stop) (old new : SoFar) (all : List Event) (Wrote : List ℕ → Type 0) →
     result ≡ Memory → WritesSome all Wrote → StopsWriting result old new all Wrote

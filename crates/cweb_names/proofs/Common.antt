@@ -29,7 +29,6 @@ pub use Rattle.cweb_names.specs.Names.{resolved_among, resolutions_from, resolut
 pub use Rattle.cweb_names.specs.inner.FromNumbers.{files_from}
 pub use Rattle.cweb_names.specs.declared.found.Found.{Found}
 pub use Rattle.cweb_names.specs.declared.found.Found.TheVariants.{Nothing, One, Several}
-pub use Rattle.cweb_names.specs.declared.known.KnownName.{KnownName}
 pub use Rattle.cweb_names.specs.declared.name.How.{How}
 pub use Rattle.cweb_names.specs.declared.name.How.TheVariants.{Full, Prefix}
 pub use Rattle.cweb_names.specs.declared.name.NameId.{NameId}
@@ -37,8 +36,8 @@ pub use Rattle.cweb_names.specs.declared.name.NameKind.TheVariants.{NeverFull}
 pub use Rattle.cweb_names.specs.declared.table.OccurrenceForm.{OccurrenceForm}
 pub use Rattle.cweb_names.specs.inner.Found.{found_of, is_several, NameEntry, compare_bytes, entry_has_prefix}
 pub use Rattle.cweb_names.specs.inner.Found.{IsNameMap, id_of_spelling, next_begins, any_next, ids_with_prefix}
-pub use Rattle.cweb_names.specs.inner.Known.{early, earlies_from, by_found, has_spelling_at, known_names_model}
-pub use Rattle.cweb_names.specs.inner.Known.{known_name_model}
+pub use Rattle.cweb_names.specs.inner.Known.{early, earlies_from, by_found, has_spelling_at, name_at, names_at}
+pub use Rattle.cweb_names.specs.inner.Known.{AreKnown, NamesSoFar}
 pub use Rattle.cweb_names.specs.inner.OccurrenceTables.{IsOccurrenceTable, resolve, resolve_all, occurrence_form}
 pub use Rattle.cweb_names.specs.inner.OccurrenceTables.{occurrences_at}
 pub use Rattle.cweb_names.specs.inner.SortPrefixes.{sort_prefix_of}

@@ -25,7 +25,7 @@ pub fn resolve(
     text: &[u8],
     found: Found,
 ) -> Result<Result<NameId, NameKind>, AllocError>
-    ensures { IfOk result (λ standing. standing ≡ resolve names.now text.now found) }
+    ensures { IfOk result (λ standing. standing ≡ resolve names.now.names text.now found) }
 {
     let found = match found {
         Found::Nothing => names.find(text)?,

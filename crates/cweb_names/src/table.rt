@@ -27,8 +27,7 @@ pub struct OccurrenceForm {
 pub struct NameTable {
     alloc: Global,
     known: KnownNames,
-    // one entry for each occurrence: its spelling, its form, and which of the names up to it fit
-    strings: StringList,
+    // one entry for each occurrence: its form, and which of the names up to it fit
     forms: Vec<OccurrenceForm>,
     found: Vec<Found>,
 }
@@ -39,7 +38,6 @@ impl Drop for NameTable {
         let NameTable {
             alloc: _,
             known: _,
-            strings: _,
             forms: _,
             found: _,
         } = self;
@@ -54,9 +52,10 @@ impl Model for NameTable {
 
     ghost use Rattle.cweb_names.specs.inner.OccurrenceTables.{IsOccurrenceTable, occurrences_at};
 
-    ghost view = { λ s. occurrences_at s.strings s.forms.items };
+    ghost view = { λ s. occurrences_at s.known.strings s.forms.items };
 
-    ghost invariant = { λ s. IsOccurrenceTable s.known s.strings s.forms.items s.found.items };
+    ghost invariant = { λ s.
+        IsOccurrenceTable s.known.names s.known.strings s.forms.items s.found.items };
 }
 
 impl NameTable {
@@ -67,7 +66,6 @@ impl NameTable {
         NameTable {
             alloc,
             known: KnownNames::new(alloc),
-            strings: StringList::new(alloc),
             forms: Vec::new(alloc),
             found: Vec::new(alloc),
         }
@@ -90,22 +88,16 @@ impl NameTable {
     {
         self.forms.reserve(1)?;
         self.found.reserve(1)?;
-        let number = self.strings.add(name)?;
-        let found = match self.known.take(name, how, number as u32) {
-            Ok(found) => found,
-            Err(refusal) => {
-                self.strings.truncate(number);
-                return Err(refusal);
-            }
-        };
+        let number = self.forms.len() as u32;
+        let found = self.known.take(name, how)?;
         self.forms.push_reserved(OccurrenceForm { how, is_file });
         self.found.push_reserved(found);
-        Ok(NameRef(number as u32))
+        Ok(NameRef(number))
     }
 
     /// The names that are given in full.
     pub fn names(&self) -> &KnownNames
-        ensures names { result.now ≡ names self.now }
+        ensures names { result.now.names ≡ names self.now }
         ensures few { length (names self.now) < too_many }
     {
         &self.known
@@ -118,24 +110,25 @@ impl NameTable {
     {
         let mut all = Vec::with_capacity(self.alloc, self.found.len())?;
         for (i, found) in self.found.iter().enumerate() {
-            all.push(resolve(&self.known, self.strings.string(i), *found)?)?;
+            all.push(resolve(&self.known, self.known.strings().string(i), *found)?)?;
         }
         Ok(all)
     }
 
-    /// The spelling and form of each occurrence.
-    pub fn close(self) -> (StringList, Vec<OccurrenceForm>)
+    /// The spelling and form of each occurrence, and for each name the number of the one that first gave it in full.
+    pub fn close(self) -> (StringList, Vec<OccurrenceForm>, Vec<u32>)
         ensures strings { result.0 ≡ map occurrence_text self }
         ensures forms { result.1.items ≡ map occurrence_form self }
+        ensures firsts { result.2.items ≡ map (λ n. n.first) (names self) }
     {
         let NameTable {
             alloc: _,
-            known: _,
-            strings,
+            known,
             forms,
             found: _,
         } = self;
-        (strings, forms)
+        let (strings, firsts) = known.close();
+        (strings, forms, firsts)
     }
 
     /// The names of output files, in order of their first occurrence with `@(`.

@@ -1,5 +1,6 @@
 pub mod Common
 pub mod WrittenPrefixes
+pub mod AppendedParts
 pub mod OverlappingEnds
 pub mod FlushedBytes
 pub mod Lasts

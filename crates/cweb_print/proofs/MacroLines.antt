@@ -3,6 +3,7 @@ use Rattle.cweb_print.proofs.Common.{◌≡◌, ◌≤◌, ◌<◌, ◌+◌, ◌
 use Rattle.cweb_print.specs.declared.printer.class.Class.TheVariants as class
 use Rattle.cweb_print.proofs.Steps.{added-append, added-push, leaves-push}
 use Rattle.cweb_print.proofs.Ranges.{slice_get-or, slice_range-first}
+use Rattle.cweb_store.proofs.RangeLemmas.{range-none}
 use Rattle.cweb_store.specs.declared.parts.Part as declared
 use Rattle.cweb_store.specs.Parts.{Part}
 
@@ -89,6 +90,15 @@ tokens_at by ts a n b t left le lt within is now =
           1) b),
     )
 
+-- Of a macro's tokens, none was printed, or one more.
+pub none_added : (by : Class → Token → List ℕ) (ts : List Token) (a : ℕ) → [] ≡ all_added by at_start (slice_range ts a a)
+none_added by ts a = ap (all_added by at_start) (sym (range-none ts a a (omega arith)))
+
+pub one_added : (by : Class → Token → List ℕ) (ts : List Token) (a n : ℕ) (t : Token) (left : Left) → a ≤ n
+    → slice_get ts n ≡ Some t → left ≡ left_after_tokens (slice_range ts a n)
+    → all_added by at_start (slice_range ts a n) ++ added by left t ≡ all_added by at_start (slice_range ts a (n + 1))
+one_added by ts a n t left le is now = cc (added-push by (slice_range ts a n) t, range_more ts a n t le is)
+
 pub tokens_more : (by : Class → Token → List ℕ)
     (ts : List Token) (a n : ℕ) (t : Token) (left : Left) (old mid new : List ℕ) → a ≤ n → slice_get ts n ≡ Some t
     → left ≡ left_after_tokens (slice_range ts a n) → mid ≡ old ++ all_added by at_start (slice_range ts a n)
@@ -96,9 +106,7 @@ pub tokens_more : (by : Class → Token → List ℕ)
 tokens_more by ts a n t left old mid new le is now before wrote =
     cc (
       append_assoc old (all_added by at_start (slice_range ts a n)) (added by left t),
-      added-push by (slice_range ts
-          a n) t,
-      range_more ts a n t le is,
+      one_added by ts a n t left le is now,
     )
 
 pub left_more : (ts : List Token) (a n : ℕ) (t : Token) (left next : Left) → a ≤ n → slice_get ts n ≡ Some t

@@ -1,6 +1,5 @@
 -- Definitions that only the functions of this crate cite.
 pub mod PrintParts
-pub mod Writing
 pub mod Flushing
 pub mod Classes
 pub mod EdgeSpacing

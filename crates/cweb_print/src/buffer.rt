@@ -1,7 +1,7 @@
 // The output buffer in front of a sink.
 ghost use Rattle.std.specs.Prelude.{◌≡◌, ◌≤◌, ◌<◌, ◌+◌, ◌^◌, ◌++◌, [], length, take, drop, IfOk};
 ghost use Rattle.std.specs.Prelude.{IfErr, IsTrue, OnOk};
-ghost use Rattle.cweb_files.specs.Bins.{CountsFailure};
+ghost use Rattle.cweb_files.specs.surface.Frames.{KeepsSink};
 ghost use Rattle.cweb_print.specs.inner.Flushing.{FlushesPrefix};
 ghost use Rattle.cweb_print.specs.declared.buffer.TheConstants.{ROOM, SHORT};
 
@@ -62,9 +62,7 @@ impl OutBuffer {
     /// Writes the buffered bytes to a sink. After a fault, the bytes that weren't written stay buffered.
     pub fn flush<W: Sink>(&mut self, out: &mut W) -> Result<(), SinkFault>
         requires { W.failed out.old + 1 < 2 ^ 64 }
-        ensures tells { W.tells out.new ≡ W.tells out.old }
-        ensures failed { CountsFailure (W.failed out.old) (W.failed out.new) result }
-        ensures beside { IsTrue (W.tells out.old) → W.beside out.new ≡ W.beside out.old }
+        ensures keeps { KeepsSink W.Sink out.old out.new result }
         ensures moved { IsTrue (W.tells out.old)
             → FlushesPrefix (W.written out.old) self.old (W.written out.new) self.new }
         ensures empty { OnOk result (self.new ≡ []) }
@@ -93,9 +91,7 @@ impl OutBuffer {
     /// Flushes the buffer, unless a short string fits. After a fault, the bytes that weren't written stay buffered.
     pub fn make_room<W: Sink>(&mut self, out: &mut W) -> Result<(), SinkFault>
         requires { W.failed out.old + 1 < 2 ^ 64 }
-        ensures tells { W.tells out.new ≡ W.tells out.old }
-        ensures failed { CountsFailure (W.failed out.old) (W.failed out.new) result }
-        ensures beside { IsTrue (W.tells out.old) → W.beside out.new ≡ W.beside out.old }
+        ensures keeps { KeepsSink W.Sink out.old out.new result }
         ensures moved { IsTrue (W.tells out.old)
             → FlushesPrefix (W.written out.old) self.old (W.written out.new) self.new }
         ensures room { OnOk result (length self.new + SHORT ≤ ROOM) }
@@ -119,9 +115,7 @@ impl OutBuffer {
 // Writes bytes. The error is the number of bytes that were written.
 fn write_counted<W: Sink>(out: &mut W, bytes: &[u8]) -> Result<(), usize>
     requires { W.failed out.old + 1 < 2 ^ 64 }
-    ensures tells { W.tells out.new ≡ W.tells out.old }
-    ensures failed { CountsFailure (W.failed out.old) (W.failed out.new) result }
-    ensures beside { IsTrue (W.tells out.old) → W.beside out.new ≡ W.beside out.old }
+    ensures keeps { KeepsSink W.Sink out.old out.new result }
     ensures ok { IsTrue (W.tells out.old)
         → OnOk result (W.written out.new ≡ W.written out.old ++ bytes.now) }
     ensures within { IfErr result (λ taken. taken ≤ length bytes.now) }

@@ -1,9 +1,9 @@
 // The printer of tokens.
 ghost use Rattle.std.specs.Prelude.{◌≡◌, ◌<◌, ◌+◌, ◌^◌, [], IsTrue, OnOk, OnErr};
-ghost use Rattle.cweb_files.specs.Bins.{CountsFailure};
+ghost use Rattle.cweb_files.specs.surface.Frames.{KeepsSink};
+ghost use Rattle.cweb_files.specs.inner.Appends.{Appends};
 ghost use Rattle.cweb_input.specs.surface.OpenedFileNames.{opened_file_names};
 ghost use Rattle.cweb_store.specs.surface.TokenModels.{token_model};
-ghost use Rattle.cweb_print.specs.inner.Writing.{Wrote};
 ghost use Rattle.cweb_print.specs.inner.Classes.{added, begin_by, file_by, own_line_bytes};
 ghost use Rattle.cweb_print.specs.surface.Classes.{left_after_tokens};
 ghost use Rattle.cweb_print.specs.surface.Printers.{MarkFileIsNamed};
@@ -60,9 +60,7 @@ impl<'a> Printer<'a> {
     pub fn write<W: Sink>(&mut self, token: Token<'_>, out: &mut W) -> Result<(), SinkFault>
         requires count { W.failed out.old + 1 < 2 ^ 64 }
         requires named { MarkFileIsNamed (setting_of self.old) (token_model token) }
-        ensures tells { W.tells out.new ≡ W.tells out.old }
-        ensures failed { CountsFailure (W.failed out.old) (W.failed out.new) result }
-        ensures beside { IsTrue (W.tells out.old) → W.beside out.new ≡ W.beside out.old }
+        ensures keeps { KeepsSink W.Sink out.old out.new result }
         ensures setting { setting_of self.new ≡ setting_of self.old }
         ensures moves { OnOk result
             (Moves (left_in_printer self.old) (token_model token.entry) (left_in_printer self.new)) }
@@ -71,15 +69,15 @@ impl<'a> Printer<'a> {
             → PrintsToken self.old (token_model token.entry) (W.written out.old)
             (W.written out.new) result }
     {
-        self.print(&token, out)
+        self.write_token(&token, out)?;
+        self.left = self.left.after(&token);
+        Ok(())
     }
 
     /// Ends the last line of a file and resets to the start of the next one. Allocates nothing.
     pub fn end<W: Sink>(&mut self, out: &mut W) -> Result<(), SinkFault>
         requires { W.failed out.old + 1 < 2 ^ 64 }
-        ensures tells { W.tells out.new ≡ W.tells out.old }
-        ensures failed { CountsFailure (W.failed out.old) (W.failed out.new) result }
-        ensures beside { IsTrue (W.tells out.old) → W.beside out.new ≡ W.beside out.old }
+        ensures keeps { KeepsSink W.Sink out.old out.new result }
         ensures setting { setting_of self.new ≡ setting_of self.old }
         ensures left { OnOk result (left_after_tokens [] ≡ left_in_printer self.new) }
         ensures err { OnErr result (self.new ≡ self.old) }
@@ -91,33 +89,10 @@ impl<'a> Printer<'a> {
         Ok(())
     }
 
-    fn print<W: Sink>(&mut self, token: &Token<'_>, out: &mut W) -> Result<(), SinkFault>
-        requires count { W.failed out.old + 1 < 2 ^ 64 }
-        requires named { MarkFileIsNamed (setting_of self.old) (token_model token.now) }
-        ensures tells { W.tells out.new ≡ W.tells out.old }
-        ensures failed { CountsFailure (W.failed out.old) (W.failed out.new) result }
-        ensures beside { IsTrue (W.tells out.old) → W.beside out.new ≡ W.beside out.old }
-        ensures setting { setting_of self.new ≡ setting_of self.old }
-        ensures moves { OnOk result
-            (Moves (left_in_printer self.old) (token_model token.now) (left_in_printer self.new)) }
-        ensures err { OnErr result (self.new ≡ self.old) }
-        ensures prints { IsTrue (W.tells out.old)
-            → PrintsToken self.old (token_model token.now) (W.written out.old)
-            (W.written out.new) result }
-    {
-        self.write_token(token, out)?;
-        self.left = self.left.after(token);
-        Ok(())
-    }
-
     fn write_token<W: Sink>(&self, token: &Token<'_>, out: &mut W) -> Result<(), SinkFault>
         requires count { W.failed out.old + 1 < 2 ^ 64 }
         requires named { MarkFileIsNamed (setting_of self.now) (token_model token.now) }
-        ensures tells { W.tells out.new ≡ W.tells out.old }
-        ensures failed { CountsFailure (W.failed out.old) (W.failed out.new) result }
-        ensures beside { IsTrue (W.tells out.old) → W.beside out.new ≡ W.beside out.old }
-        ensures wrote { IsTrue (W.tells out.old)
-            → Wrote (W.written out.old) (W.written out.new)
+        ensures wrote { Appends W.Sink out.old out.new
             (added (file_by (setting_of self.now)) (left_in_printer self.now)
             (token_model token.now)) result }
     {
@@ -133,14 +108,9 @@ impl<'a> Printer<'a> {
     fn write_placed<W: Sink>(&self, token: &Token<'_>, out: &mut W) -> Result<(), SinkFault>
         requires count { W.failed out.old + 1 < 2 ^ 64 }
         requires named { MarkFileIsNamed (setting_of self.now) (token_model token.now) }
-        ensures tells { W.tells out.new ≡ W.tells out.old }
-        ensures failed { CountsFailure (W.failed out.old) (W.failed out.new) result }
-        ensures beside { IsTrue (W.tells out.old) → W.beside out.new ≡ W.beside out.old }
-        ensures wrote { IsTrue (W.tells out.old)
-            → Wrote (W.written out.old) (W.written out.new)
+        ensures wrote { Appends W.Sink out.old out.new
             (own_line_bytes (setting_of self.now) (left_in_printer self.now).class
-            (token_model token.now))
-            result }
+            (token_model token.now)) result }
     {
         match token {
             Token::Mark(place) => {

@@ -65,7 +65,6 @@ pub use Rattle.cweb_rules.specs.declared.look.Look.{Look}
 pub use Rattle.cweb_rules.specs.declared.look.Look.TheVariants.{Goes, Ends}
 pub use Rattle.cweb_rules.specs.declared.rule.Rule.{Rule}
 pub use Rattle.cweb_rules.specs.inner.ByteClasses.{in_class}
-pub use Rattle.cweb_rules.specs.inner.Rules.{rule_after_dot, rule_after_slash}
 pub use Rattle.cweb_rules.specs.inner.LineItems.{opens_effect, opens_code, opens_comment, opens_raw, opens_literal}
 pub use Rattle.cweb_rules.specs.inner.LineItems.{c_opens, tex_opens, IsLine, AtLineEnd, opens_name, macro_opens}
 pub use Rattle.cweb_rules.specs.inner.LineItems.{opens_in, is_unclosed}

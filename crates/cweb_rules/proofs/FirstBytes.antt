@@ -1,5 +1,5 @@
 -- First bytes after which only one rule of C text is possible.
-use Rattle.cweb_rules.proofs.Common.{◌≡◌, ℕ, Bool, true, false, ◌||◌, ◌&&◌, ◌==◌, not, ◌≤◌, List, [], ◌∷◌, length, slice_index_or, refl, ap, sym, ◌∙◌, subst, arith, if◌then◌else◌, codes, list_all, eqb-true, begins, is_blank, is_digit, is_one_of, is_word_byte, starts_section, has_quote_at, literal_prefix, raw_prefix, starts_include, starts_literal, starts_raw, rule_after_dot, rule_after_slash, first_is, c_rule, is_settled, starts_number, and-false, and_parts}
+use Rattle.cweb_rules.proofs.Common.{◌≡◌, ℕ, Bool, true, false, ◌||◌, ◌&&◌, ◌==◌, not, ◌≤◌, List, [], ◌∷◌, length, slice_index_or, refl, ap, sym, ◌∙◌, subst, arith, if◌then◌else◌, codes, list_all, eqb-true, begins, is_blank, is_digit, is_one_of, is_word_byte, starts_section, has_quote_at, literal_prefix, raw_prefix, starts_include, starts_literal, starts_raw, first_is, c_rule, is_settled, starts_number, and-false, and_parts}
 use Rattle.cweb_rules.specs.declared.firsts.Plain.{Plain}
 use Rattle.cweb_rules.specs.declared.firsts.Plain.TheVariants as plain
 use Rattle.cweb_rules.specs.inner.Firsts.{is_single_punctuator, is_figure, stops_plain, is_less, is_quote, first_byte_class}
@@ -133,35 +133,3 @@ pub known-at : (includes : Bool) (t : List ℕ) (r : Plain) → 1 ≤ length t �
     → IsKnown includes t r
 known-at includes [] r h e = absurd (omega (arith, h))
 known-at includes (b ∷ t) r h e = subst (IsKnown includes (b ∷ t)) (sym e) (plain-known includes b t)
-
--- The rules after a `/` or a `.`.
-slash_left : (a b includes : Bool)
-    → (if a then rule.Comment else (if b then rule.LineComment else rule.Punctuator)) ≡ (if a && true then rule.Comment
-    else (if b && true then rule.LineComment else (if includes && false then rule.IncludedName else rule.Punctuator)))
-slash_left true b includes = refl
-slash_left false true includes = refl
-slash_left false false true = refl
-slash_left false false false = refl
-
-dot_left : (a includes : Bool) → (if a then rule.Number else rule.Punctuator)
-    ≡ (if includes && false then rule.IncludedName else (if a then rule.Number else rule.Punctuator))
-dot_left a true = refl
-dot_left a false = refl
-
-slash_rule : (includes : Bool) (d : ℕ) (t : List ℕ) → rule_after_slash d ≡ c_rule includes (47 ∷ d ∷ t)
-slash_rule includes d t = slash_left (42 == d) (47 == d) includes
-
-dot_rule : (includes : Bool) (d : ℕ) (t : List ℕ) → rule_after_dot d ≡ c_rule includes (46 ∷ d ∷ t)
-dot_rule includes d t = dot_left (is_digit d) includes
-
-pub slash-known : (includes : Bool) (t : List ℕ) → 2 ≤ length t → slice_index_or t 0 0 ≡ 47
-    → rule_after_slash (slice_index_or t 1 0) ≡ c_rule includes t
-slash-known includes [] h e = absurd (omega (arith, h))
-slash-known includes (b ∷ []) h e = absurd (omega (arith, h))
-slash-known includes (b ∷ d ∷ t) h e = cc (slash_rule includes d t)
-
-pub dot-known : (includes : Bool) (t : List ℕ) → 2 ≤ length t → slice_index_or t 0 0 ≡ 46
-    → rule_after_dot (slice_index_or t 1 0) ≡ c_rule includes t
-dot-known includes [] h e = absurd (omega (arith, h))
-dot-known includes (b ∷ []) h e = absurd (omega (arith, h))
-dot-known includes (b ∷ d ∷ t) h e = cc (dot_rule includes d t)

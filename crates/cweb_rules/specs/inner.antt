@@ -10,3 +10,4 @@ pub mod Rules
 pub mod LineItems
 pub mod Reaches
 pub mod FaultyConstants
+pub mod Spans

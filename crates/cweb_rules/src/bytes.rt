@@ -4,6 +4,7 @@ ghost use Rattle.std.specs.List.{prefix_len};
 ghost use Rattle.cweb_rules.specs.Bytes as spec;
 ghost use Rattle.cweb_texts.specs.Edges.{first_is};
 ghost use Rattle.cweb_rules.specs.inner.ByteClasses.{in_class};
+ghost use Rattle.cweb_rules.specs.inner.Spans.{IsSizeIn};
 
 /// A class of bytes.
 #[derive(Clone, Copy)]
@@ -148,8 +149,7 @@ fn word_len_of_four(text: &[u8]) -> usize
 // Tests four bytes per step.
 #[inline(always)]
 fn word_len(text: &[u8]) -> usize
-    ensures value { result ≡ prefix_len spec.is_word_byte text.now }
-    ensures within { result ≤ length text.now }
+    ensures { IsSizeIn (prefix_len spec.is_word_byte) text.now result }
 {
     let mut rest = text;
     'fours: while 4 <= rest.len() {
@@ -165,8 +165,7 @@ fn word_len(text: &[u8]) -> usize
 /// The length of the longest prefix whose bytes are in a class.
 #[inline(always)]
 pub fn span_len(class: Class, text: &[u8]) -> usize
-    ensures value { result ≡ prefix_len (in_class class) text.now }
-    ensures within { result ≤ length text.now }
+    ensures { IsSizeIn (prefix_len (in_class class)) text.now result }
 {
     match class {
         Class::Word => word_len(text),
@@ -175,8 +174,7 @@ pub fn span_len(class: Class, text: &[u8]) -> usize
 }
 
 fn span_len_bytewise(class: Class, text: &[u8]) -> usize
-    ensures value { result ≡ prefix_len (in_class class) text.now }
-    ensures within { result ≤ length text.now }
+    ensures { IsSizeIn (prefix_len (in_class class)) text.now result }
 {
     for (i, byte) in text.iter().enumerate() {
         if !class.has(*byte) {

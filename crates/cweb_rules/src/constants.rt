@@ -1,9 +1,10 @@
 // The ASCII constants of `@'` and the transliterations of `@l`.
-ghost use Rattle.std.specs.Prelude.{◌≡◌, ◌≤◌, ◌<◌, ◌+◌, length, IsTrue, IfSome, true};
+ghost use Rattle.std.specs.Prelude.{◌≡◌, ◌≤◌, ◌<◌, ◌+◌, length, IfSome, true};
 ghost use Rattle.std.specs.List.{position_or_len};
 ghost use Rattle.cweb_rules.specs.Bytes as bytes;
 ghost use Rattle.cweb_rules.specs.Constants as spec;
 ghost use Rattle.cweb_rules.specs.inner.FaultyConstants.{ends_faulty, octal_value};
+ghost use Rattle.cweb_rules.specs.inner.Spans.{IsSizeIn};
 
 use crate::bytes::{Class, begins, is_digit, is_hex, span_len};
 
@@ -126,8 +127,7 @@ fn character_at(text: &[u8]) -> Option<Character>
 
 // The length up to the first `'` or newline, where a faulty constant ends.
 fn faulty_len(text: &[u8]) -> usize
-    ensures value { result ≡ position_or_len ends_faulty text.now }
-    ensures within { result ≤ length text.now }
+    ensures { IsSizeIn (position_or_len ends_faulty) text.now result }
 {
     for (i, byte) in text.iter().enumerate() {
         if matches!(*byte, b'\'' | b'\n') {
@@ -139,8 +139,7 @@ fn faulty_len(text: &[u8]) -> usize
 
 // The size of a faulty constant. It includes its `'`, but not a newline.
 fn faulty_size(text: &[u8]) -> usize
-    ensures value { result ≡ spec.faulty_size text.now }
-    ensures within { result ≤ length text.now }
+    ensures { IsSizeIn spec.faulty_size text.now result }
 {
     let size = faulty_len(text);
     let (_, rest) = text.split_at(size);

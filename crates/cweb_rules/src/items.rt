@@ -3,6 +3,7 @@ ghost use Rattle.std.specs.Prelude.{◌≡◌, ◌≤◌, ◌<◌, ◌+◌, leng
 ghost use Rattle.cweb_rules.specs.Items as spec;
 ghost use Rattle.cweb_rules.specs.inner.Looks.{look_of, reached, MovesOn};
 ghost use Rattle.cweb_rules.specs.declared.end.End.TheVariants as how;
+ghost use Rattle.cweb_rules.specs.inner.Spans.{IsSizeIn};
 
 use crate::bytes::{Class, at_line_end, begins, span_len, starts_section};
 use crate::end::End;
@@ -150,10 +151,10 @@ impl Item<'_> {
     }
 }
 
-// Skips spans of single-byte units at once, and takes other units one by one.
-fn reach_by_units(item: Item<'_>, text: &[u8]) -> Reached
+/// The extent of an item within a source that may end before the item does. Spans of single-byte units are skipped.
+pub fn reach(item: Item<'_>, text: &[u8]) -> Reached
     ensures value { result ≡ reached (spec.reach (look_of item.entry) how.Open text.now) }
-    ensures within { result.size ≤ length text.now }
+    ensures within { result.size + result.close ≤ length text.now }
 {
     let mut rest = text;
     let mut size = 0;
@@ -180,18 +181,9 @@ fn reach_by_units(item: Item<'_>, text: &[u8]) -> Reached
     }
 }
 
-/// The extent of an item within a source that may end before the item does.
-pub fn reach(item: Item<'_>, text: &[u8]) -> Reached
-    ensures value { result ≡ reached (spec.reach (look_of item.entry) how.Open text.now) }
-    ensures within { result.size + result.close ≤ length text.now }
-{
-    reach_by_units(item, text)
-}
-
 /// The length of an opener of a part: spaces and tabs, then `=` or `+=` without a further `=`. 0 if there is none.
 pub fn opener_len(text: &[u8]) -> usize
-    ensures value { result ≡ spec.opener_len text.now }
-    ensures within { result ≤ length text.now }
+    ensures { IsSizeIn spec.opener_len text.now result }
 {
     let gap = span_len(Class::Gap, text);
     let (_, sign) = text.split_at(gap);

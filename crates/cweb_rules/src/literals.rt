@@ -1,34 +1,22 @@
 // How literals of C text begin.
-ghost use Rattle.std.specs.Prelude.{◌≡◌, ◌≤◌, ◌<◌, ◌+◌, length, drop, IsTrue};
+ghost use Rattle.std.specs.Prelude.{◌≡◌, ◌<◌, ◌+◌, length, IsTrue};
 ghost use Rattle.cweb_rules.specs.Matches as spec;
+ghost use Rattle.cweb_rules.specs.inner.Spans.{IsSizeIn};
 
 use crate::bytes::{Class, begins, span_len};
 
 /// The maximum length of the delimiter of a raw literal, in bytes (as in C++).
 pub const MAX_DELIMITER: usize = 16;
 
-fn has_quote_at(n: usize, text: &[u8]) -> bool
-    requires { n ≤ length text.now }
-    ensures value { result ≡ spec.has_quote_at n text.now }
-    ensures within { IsTrue result → n < length text.now }
-{
-    let (_, rest) = text.split_at(n);
-    begins(b"\"", rest) || begins(b"'", rest)
-}
-
 /// The length of `L`, `u`, `U` or `u8` before a quote.
 pub fn literal_prefix(text: &[u8]) -> usize
-    ensures value { result ≡ spec.literal_prefix text.now }
-    ensures within { result ≤ length text.now }
+    ensures { IsSizeIn spec.literal_prefix text.now result }
 {
-    if begins(b"u8", text) && has_quote_at(2, text) {
-        return 2;
+    match text {
+        [b'u', b'8', b'"' | b'\'', ..] => 2,
+        [b'L' | b'u' | b'U', b'"' | b'\'', ..] => 1,
+        _ => 0,
     }
-    let has_prefix = begins(b"L", text) || begins(b"u", text) || begins(b"U", text);
-    if has_prefix && has_quote_at(1, text) {
-        return 1;
-    }
-    0
 }
 
 /// Whether a literal is next: a quote, with a prefix or without.
@@ -36,28 +24,19 @@ pub fn starts_literal(text: &[u8]) -> bool
     ensures value { result ≡ spec.starts_literal text.now }
     ensures within { IsTrue result → spec.literal_prefix text.now < length text.now }
 {
-    has_quote_at(literal_prefix(text), text)
-}
-
-/// The quote byte that is next, `"` unless it is `'`.
-pub fn quote_of(text: &[u8]) -> u8
-    ensures { result ≡ spec.quote_of text.now }
-{
-    if begins(b"'", text) { b'\'' } else { b'"' }
+    let (_, rest) = text.split_at(literal_prefix(text));
+    matches!(rest, [b'"' | b'\'', ..])
 }
 
 /// The length of `L`, `u`, `U` or `u8` before `R"`.
 pub fn raw_prefix(text: &[u8]) -> usize
-    ensures value { result ≡ spec.raw_prefix text.now }
-    ensures within { result ≤ length text.now }
+    ensures { IsSizeIn spec.raw_prefix text.now result }
 {
-    if begins(b"u8R\"", text) {
-        return 2;
+    match text {
+        [b'u', b'8', b'R', b'"', ..] => 2,
+        [b'L' | b'u' | b'U', b'R', b'"', ..] => 1,
+        _ => 0,
     }
-    if begins(b"LR\"", text) || begins(b"uR\"", text) || begins(b"UR\"", text) {
-        return 1;
-    }
-    0
 }
 
 fn has_delimiter(text: &[u8]) -> bool

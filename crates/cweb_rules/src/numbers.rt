@@ -1,6 +1,7 @@
 // Numbers of C text, like the preprocessing numbers of the C standard.
-ghost use Rattle.std.specs.Prelude.{◌≡◌, ◌≤◌, length};
+ghost use Rattle.std.specs.Prelude.{◌≡◌, length};
 ghost use Rattle.cweb_rules.specs.Bytes as spec;
+ghost use Rattle.cweb_rules.specs.inner.Spans.{IsSizeIn};
 
 use crate::bytes::{is_digit, is_word_byte};
 
@@ -25,8 +26,7 @@ fn continues_number(last: u8, byte: u8) -> bool
 
 /// The length of the longest number that is next.
 pub fn number_len(text: &[u8]) -> usize
-    ensures value { result ≡ spec.number_len 0 text.now }
-    ensures within { result ≤ length text.now }
+    ensures { IsSizeIn (spec.number_len 0) text.now result }
 {
     let mut last = 0;
     for (i, byte) in text.iter().enumerate() {

@@ -1,10 +1,9 @@
 // Which rule applies next.
-ghost use Rattle.std.specs.Prelude.{◌≡◌, ◌<◌, length};
+ghost use Rattle.std.specs.Prelude.{◌≡◌, ◌<◌};
 ghost use Rattle.cweb_rules.specs.Matches as spec;
 ghost use Rattle.cweb_rules.specs.inner.Rules as rules;
-ghost use Rattle.cweb_rules.specs.inner.Rules.{rule_after_dot, rule_after_slash};
 
-use crate::bytes::{Class, begins, is_digit, starts, starts_section};
+use crate::bytes::{Class, begins, starts, starts_section};
 use crate::end::End;
 use crate::firsts::{Plain, first_byte_class};
 use crate::items::{Item, reach};
@@ -26,14 +25,6 @@ pub enum Rule {
     Number,
     Identifier,
     Punctuator,
-}
-
-/// The rules of limbo and TeX.
-#[derive(Clone, Copy, Debug, PartialEq, Eq)]
-pub enum TexRule {
-    Section,
-    Code,
-    Skipped,
 }
 
 fn is_closed(how: End) -> bool
@@ -58,69 +49,33 @@ pub fn c_rule(includes: bool, text: &[u8]) -> Rule
     ensures { result ≡ rules.c_rule includes text.now }
 {
     let [first, ..] = text else {
-        return tried_rule(includes, text);
+        return first_rule(includes, text);
     };
     match first_byte_class(*first) {
         Plain::Blank => Rule::Blanks,
         Plain::Word => Rule::Identifier,
         Plain::Lone => Rule::Punctuator,
         Plain::Operator if !includes => Rule::Punctuator,
-        _ => tried_rule(includes, text),
-    }
-}
-
-// The second byte decides after `/`, `.` and `@`.
-#[inline(never)]
-fn tried_rule(includes: bool, text: &[u8]) -> Rule
-    ensures { result ≡ rules.c_rule includes text.now }
-{
-    match text {
-        [b'/', second, ..] => rule_after_slash(*second),
-        [b'.', second, ..] => rule_after_dot(*second),
-        [b'@', ..] => {
-            if starts_section(text) {
-                return Rule::Section;
-            }
-            Rule::Code
-        }
         _ => first_rule(includes, text),
     }
 }
 
-fn rule_after_slash(byte: u8) -> Rule
-    ensures { result ≡ rule_after_slash byte }
-{
-    match byte {
-        b'*' => Rule::Comment,
-        b'/' => Rule::LineComment,
-        _ => Rule::Punctuator,
-    }
-}
-
-fn rule_after_dot(byte: u8) -> Rule
-    ensures { result ≡ rule_after_dot byte }
-{
-    if is_digit(byte) {
-        return Rule::Number;
-    }
-    Rule::Punctuator
-}
-
 // Slow path: tries each rule in order.
+#[inline(never)]
 fn first_rule(includes: bool, text: &[u8]) -> Rule
     ensures { result ≡ rules.c_rule includes text.now }
 {
     if starts(Class::Blank, text) {
         Rule::Blanks
-    } else if begins(b"\n", text) {
+    } else if matches!(text, [b'\n', ..]) {
         Rule::LineEnd
-    } else if begins(b"/*", text) {
+    } else if matches!(text, [b'/', b'*', ..]) {
         Rule::Comment
-    } else if begins(b"//", text) {
+    } else if matches!(text, [b'/', b'/', ..]) {
         Rule::LineComment
     } else if starts_section(text) {
         Rule::Section
-    } else if begins(b"@", text) {
+    } else if matches!(text, [b'@', ..]) {
         Rule::Code
     } else if starts_raw(text) {
         Rule::RawLiteral
@@ -134,18 +89,5 @@ fn first_rule(includes: bool, text: &[u8]) -> Rule
         Rule::Identifier
     } else {
         Rule::Punctuator
-    }
-}
-
-/// The rule of limbo and TeX that applies.
-pub fn tex_rule(text: &[u8]) -> TexRule
-    ensures { result ≡ rules.tex_rule text.now }
-{
-    if starts_section(text) {
-        TexRule::Section
-    } else if begins(b"@", text) {
-        TexRule::Code
-    } else {
-        TexRule::Skipped
     }
 }

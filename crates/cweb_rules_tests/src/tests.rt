@@ -6,10 +6,10 @@ use cweb_rules::bytes::{Class, span_len, starts_section};
 use cweb_rules::codes::{in_c, in_limbo, in_macro, in_tex};
 use cweb_rules::constants::{Transliteration, constant, letter};
 use cweb_rules::items::{Item, opener_len, reach};
-use cweb_rules::literals::{delimiter, literal_prefix, quote_of, raw_prefix};
+use cweb_rules::literals::{delimiter, literal_prefix, raw_prefix};
 use cweb_rules::numbers::number_len;
 use cweb_rules::punctuators::punctuator_len;
-use cweb_rules::rule::{Rule, TexRule, c_rule, tex_rule};
+use cweb_rules::rule::{Rule, c_rule};
 use cweb_rules::{Effect, End, ScanKind};
 use wanted::*;
 
@@ -36,16 +36,8 @@ fn first_rule_that_fits(rt: HostRuntime) {
         (true, b"<a>", Rule::IncludedName),
         (true, b"<a\n>", Rule::Punctuator),
     ];
-    const TEX_RULES: &[(&[u8], TexRule)] = &[
-        (b"@*", TexRule::Section),
-        (b"@<", TexRule::Code),
-        (b"x@", TexRule::Skipped),
-    ];
     for (includes, text, want) in C_RULES {
         holds_at(&rt, c_rule(*includes, *text) == *want, *text);
-    }
-    for (text, want) in TEX_RULES {
-        holds_at(&rt, tex_rule(*text) == *want, *text);
     }
 }
 
@@ -97,7 +89,6 @@ fn sizes(rt: HostRuntime) {
     has_size(&rt, literal_prefix(b"u8\""), 2);
     has_size(&rt, raw_prefix(b"LR\""), 1);
     has_size(&rt, delimiter(b"d(x").len(), 1);
-    holds(&rt, quote_of(b"'") == b'\'');
     holds(&rt, starts_section(b"@\t") && !starts_section(b"@\r"));
 }
 

@@ -1,5 +1,5 @@
 -- One step without an open item: a code, and the bytes before one.
-use Rattle.cweb_scan.proofs.Common.{◌≡◌, ◌≤◌, ℕ, Bool, true, false, ◌==◌, not, List, [], ◌∷◌, length, drop, get_or, refl, ap, sym, ◌∙◌, subst, arith, codes, prefix_len, eqb-true, begins, starts_section, match_in, effect_match, section_match, IsLine, opens_in, opens_effect, Context, Limbo, TeX, Definition, Effect, Named, is_c, effect_in, is_head, is_name_effect, is_skipped, reads_c, ReaderModel, TakesPrefix, MakesProgress, Between, and_parts}
+use Rattle.cweb_scan.proofs.Common.{◌≡◌, ◌≤◌, ℕ, Bool, true, false, ◌==◌, not, List, [], ◌∷◌, drop, get_or, refl, ap, sym, ◌∙◌, subst, codes, prefix_len, eqb-true, begins, starts_section, match_in, effect_match, section_match, IsLine, opens_in, opens_effect, Context, Limbo, TeX, Definition, Effect, Named, is_c, effect_in, is_head, is_name_effect, is_skipped, reads_c, ReaderModel, TakesPrefix, MakesProgress, Between, and_parts}
 use Rattle.cweb_scan.proofs.SkippedRest.{is_text, skipped_takes}
 use Rattle.cweb_scan.proofs.FirstMatchTaken.{between}
 
@@ -12,9 +12,6 @@ code_shape (a ∷ []) section at =
     subst (λ n. (n == 64) ≡ false) (sym (eqb-true 64 a (and_parts (64 == a) true at).0)) section in
     cc
 code_shape (a ∷ b ∷ t) section at = ap (λ n. n ∷ b ∷ t) (eqb-true 64 a (and_parts (64 == a) true at).0)
-
-pub code_size : (u : List ℕ) → starts_section u ≡ false → begins (codes "@") u ≡ true → 2 ≤ length u
-code_size u section at = omega (arith, ap (λ (v : List ℕ). length v) (code_shape u section at))
 
 code_is : (c : Context) (includes : Bool) (b : ℕ) (w : List ℕ) → is_head c ≡ false → starts_section (64 ∷ b ∷ w) ≡ false
     → match_in c includes (64 ∷ b ∷ w) ≡ effect_match (effect_in c b) (not (is_c c)) (64 ∷ b ∷ w)

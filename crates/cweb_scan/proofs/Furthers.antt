@@ -40,15 +40,11 @@ ended_turn n u s new r line some h is ends yields =
           (ap is_head h.in_c) line some f.0 f.1 yields).taken;
     }
 
-pub numeral_turn : (n : ℕ) (u : List ℕ) (s new : ScanState) → IsLine u → 1 ≤ length u → s.context ≡ CText
-    → rule.Number ≡ rule_at s u → n ≡ number_len 0 u → new ≡ emit (Number (take n u)) s → TakesPlain n u s new
-numeral_turn n u s new line some c_text is size made = turn n u s new rule.Number line some c_text is refl
-    (record { size = size; state = made ∙ ap (λ k. emit (Number (take k u)) s) size })
-
 pub number_turn : (n : ℕ) (u : List ℕ) (s new : ScanState) → IsLine u → 1 ≤ length u → IsPlainC s
     → rule.Number ≡ c_rule false u → n ≡ number_len 0 u → new ≡ emit (Number (take n u)) s → TakesPlain n u s new
 number_turn n u s new line some h is size made =
-    numeral_turn n u s new line some h.in_c (rule_plain s u rule.Number h is) size made
+    turn n u s new rule.Number line some h.in_c (rule_plain s u rule.Number h is) refl
+    (record { size = size; state = made ∙ ap (λ k. emit (Number (take k u)) s) size })
 
 pub seen_word : (s : ScanState) (u : List ℕ) → IsPlainC s → rule.Identifier ≡ c_rule false u
     → rule.Identifier ≡ rule_at s u

@@ -23,7 +23,6 @@ pub mod PlainLexemes
 pub mod Blanks
 pub mod Furthers
 pub mod FurtherLiterals
-pub mod DirectiveBodies
 pub mod Measures
 pub mod LexemesAreUnique
 pub mod Bounds

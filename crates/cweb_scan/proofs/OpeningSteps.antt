@@ -1,5 +1,6 @@
 -- Openers are taken as the code takes them.
 use Rattle.cweb_scan.proofs.Common.{◌≡◌, ◌≤◌, ℕ, ◌+◌, Bool, true, false, ◌&&◌, ◌==◌, List, [], ◌∷◌, ◌++◌, length, take, drop, refl, ap, sym, ◌∙◌, subst, arith, codes, eqb-true, length-drop, begins, starts_raw, starts_literal, literal_prefix, quote_of, raw_prefix, delimiter, IsLine, Context, Definition, blank, is_head, ReaderModel, TakesPrefix, PendingItem, InComment, InName, InLiteral, InRaw, resume, lex, Place, ScanState, IsPast, reads_c, reads_names, reads_literals, and_parts, is_quoted-size}
+use Rattle.cweb_scan.specs.inner.MatchSteps.{name_opener}
 use Rattle.cweb_rules.proofs.LineDelimiters.{sign-fits, has_delimiter-size}
 use Rattle.cweb_scan.specs.inner.Resume as item
 use Rattle.cweb_scan.proofs.CommentAndNameOpeners.{leave_head_in, leave_head, opened_comment, opened_name, opened_file}
@@ -49,13 +50,11 @@ named s g a is_file u head h opens =
           (no_head s.context s head));
     })
 
-pub name_opens : (s : ScanState) (g : Bool) (u : List ℕ) → is_head s.context ≡ false → reads_names s.context ≡ true
-    → begins (codes "@<") u ≡ true → TakesPrefix 2 u (between s g) (opened s g (InName s.here false []))
-name_opens s g u head c h = named s g 60 false u head h (λ later w. opened_name (reading s later) w c)
-
-pub file_opens : (s : ScanState) (g : Bool) (u : List ℕ) → is_head s.context ≡ false → reads_names s.context ≡ true
-    → begins (codes "@(") u ≡ true → TakesPrefix 2 u (between s g) (opened s g (InName s.here true []))
-file_opens s g u head c h = named s g 40 true u head h (λ later w. opened_file (reading s later) w c)
+pub name_opens : (s : ScanState) (g is_file : Bool) (u : List ℕ) → is_head s.context ≡ false
+    → reads_names s.context ≡ true → begins (name_opener is_file) u ≡ true
+    → TakesPrefix 2 u (between s g) (opened s g (InName s.here is_file []))
+name_opens s g false u head c h = named s g 60 false u head h (λ later w. opened_name (reading s later) w c)
+name_opens s g true u head c h = named s g 40 true u head h (λ later w. opened_file (reading s later) w c)
 
 -- No literal begins with `\`.
 not_back : (starts : List ℕ → Bool) (b : ℕ) (t : List ℕ) → starts (92 ∷ t) ≡ false → starts (b ∷ t) ≡ true

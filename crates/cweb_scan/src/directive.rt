@@ -1,8 +1,8 @@
 // Tracks the open directive of a part.
-ghost use Rattle.std.specs.Prelude.{◌≡◌, true, Some, codes};
+ghost use Rattle.std.specs.Prelude.{◌≡◌, Some, codes};
 ghost use Rattle.cweb_store.specs.surface.TokenModels.{token_model};
 ghost use Rattle.cweb_scan.specs.DirectiveTokens.{is_punct};
-ghost use Rattle.cweb_scan.specs.inner.Stages.{after_token, new_directive, is_further_stage};
+ghost use Rattle.cweb_scan.specs.inner.Stages.{after_token, new_directive};
 ghost use Rattle.cweb_scan.specs.inner.Stages.{is_include_stage, is_include_word, is_blank_token};
 ghost use Rattle.cweb_scan.specs.inner.Stages as spec;
 
@@ -138,13 +138,5 @@ impl Directive {
         ensures { result ≡ is_include_stage self.stage }
     {
         matches!(self.stage, Stage::Include)
-    }
-
-    /// Whether the directive has more than blanks and `include`.
-    #[inline(always)]
-    pub fn is_further(&self) -> bool
-        ensures { result ≡ is_further_stage self.now.stage }
-    {
-        matches!(self.stage, Stage::Further)
     }
 }

@@ -10,6 +10,9 @@ mod directive;
 // whether a line is the next one of its file
 mod lines;
 
+// the rest of a line
+mod rest;
+
 // the prefix before an `@`
 mod skipped;
 

@@ -1,5 +1,5 @@
 // The reader: the scanner and the item that is open at the end of a line.
-ghost use Rattle.std.specs.Prelude.{◌≡◌, ◌<◌, ◌≤◌, ◌+◌, ◌*◌, ◌∷◌, List, IfOk, OnOk, length};
+ghost use Rattle.std.specs.Prelude.{◌≡◌, ◌<◌};
 
 pub mod codes;
 pub mod line;

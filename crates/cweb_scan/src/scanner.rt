@@ -4,7 +4,6 @@ ghost use Rattle.cweb_store.specs.Parts as layout;
 ghost use Rattle.cweb_store.specs.surface.TokenModels.{token_model};
 
 pub mod codes;
-pub mod directive_body;
 pub mod effects;
 pub mod further;
 pub mod line_ends;

@@ -1,14 +1,13 @@
 // The prefix before the next `@`.
-ghost use Rattle.std.specs.Prelude.{◌≡◌, ◌≤◌, length};
 ghost use Rattle.std.specs.List.{prefix_len};
+ghost use Rattle.cweb_rules.specs.inner.Spans.{IsSizeIn};
 ghost use Rattle.cweb_scan.specs.inner.Skipped.{is_skipped};
 
 use cweb_rules::plains::len_before;
 
 /// The number of bytes before the first `@`, or all.
 pub fn skipped_len(text: &[u8]) -> usize
-    ensures value { result ≡ prefix_len is_skipped text.now }
-    ensures within { result ≤ length text.now }
+    ensures { IsSizeIn (prefix_len is_skipped) text.now result }
 {
     len_before(b'@', text)
 }

@@ -72,7 +72,7 @@ abbrev replaced : List Call
 replaced = Transliterates (replacement_of 196 (codes "Ae")) ∷ Transliterates
     (replacement_of 228 (codes "ae")) ∷ Transliterates (replacement_of 196 (codes "A")) ∷ []
 
--- Equal Words are stored once. A Number with the same bytes is stored separately.
+-- Equal Words are stored once. A Number may have the bytes of a Word.
 abbrev three_times : List Call
 three_times = Opens Unnamed ∷ Pushes x ∷ Pushes x ∷ Pushes x ∷ []
 
@@ -137,7 +137,7 @@ record Computed : Type 0 where
       (stored (Opens Unnamed ∷ Pushes arrow ∷ Pushes x ∷ Pushes (Punct (codes "x")) ∷ Pushes arrow ∷ [])) ≡ 3
   words_given : uninterned_store_bytes (stored three_times) ≡ 3
   texts_kept_each : interned_store_bytes (stored (Occurs
-      glob ∷ Occurs glob ∷ three_times ++ Pushes (Number (codes "x")) ∷ Pushes (Word (codes "xy")) ∷ replaced)) ≡ 17
+      glob ∷ Occurs glob ∷ three_times ++ Pushes (Number (codes "x")) ∷ Pushes (Word (codes "xy")) ∷ replaced)) ≡ 16
   uses_are_recorded : token_numbers is_name_use 4 recorded ≡ 5 ∷ 7 ∷ []
   defs_are_recorded : token_numbers is_defs 0 recorded ≡ 2 ∷ []
 

@@ -1,4 +1,4 @@
--- Words and punctuators that are stored once, and how many bytes of tokens are stored.
+-- Words, numbers and punctuators that are stored once, and how many bytes of tokens are stored.
 use Rattle.cweb_store.proofs.Common.{◌≡◌, ℕ, ◌+◌, ◌≤◌, cond, List, [], ◌∷◌, ◌++◌, length, refl, sym, ◌∙◌, ap, arith, bytes_eq, filter, fold, list_any, Token, Word, Punct, Blank, Newline, Mark, total, interned_token_bytes, has_string}
 use Rattle.std.proofs.lemmas.List.Sums.{fold-append}
 use Rattle.cweb_texts.specs.surface.StringTables.{with_word}
@@ -11,6 +11,7 @@ pub same-more : (ws vs : List (List ℕ)) (t : Token)
     → ((q : List ℕ) → list_any (bytes_eq q) ws ≡ list_any (bytes_eq q) vs)
     → (q : List ℕ) → list_any (bytes_eq q) (with_word_of ws t) ≡ list_any (bytes_eq q) (with_word_of vs t)
 same-more ws vs (Word b) same = grind (arith, with-word-any)
+same-more ws vs (Number b) same = grind (arith, with-word-any)
 same-more ws vs (Punct b) same = grind (arith, with-word-any)
 same-more ws vs _ same = same
 
@@ -24,6 +25,8 @@ pub same-more-bytes : (ws vs : List (List ℕ)) (t : Token)
     → total length (with_word_of ws t) + total length vs ≡ total length (with_word_of vs t) + total length ws
 same-more-bytes ws vs (Word b) same =
     omega (arith, word-bytes ws b, word-bytes vs b, ap (λ v. cond v 0 (length b)) (same b))
+same-more-bytes ws vs (Number b) same =
+    omega (arith, word-bytes ws b, word-bytes vs b, ap (λ v. cond v 0 (length b)) (same b))
 same-more-bytes ws vs (Punct b) same =
     omega (arith, word-bytes ws b, word-bytes vs b, ap (λ v. cond v 0 (length b)) (same b))
 same-more-bytes ws vs _ same = omega arith
@@ -36,7 +39,7 @@ words-strings : (ws : List (List ℕ)) (ts : List Token)
     → fold with_word_of ws (filter has_string ts) ≡ fold with_word_of ws ts
 words-strings ws [] = refl
 words-strings ws (Word b ∷ ts) = words-strings (with_word ws b) ts
-words-strings ws (Number b ∷ ts) = words-strings ws ts
+words-strings ws (Number b ∷ ts) = words-strings (with_word ws b) ts
 words-strings ws (Literal b ∷ ts) = words-strings ws ts
 words-strings ws (Verbatim b ∷ ts) = words-strings ws ts
 words-strings ws (Punct b ∷ ts) = words-strings (with_word ws b) ts
@@ -81,7 +84,7 @@ few-from : (ws : List (List ℕ)) (ts : List Token)
     → total length (fold with_word_of ws ts) + total other_bytes ts ≤ total length ws + total token_size ts
 few-from ws [] = omega arith
 few-from ws (Word b ∷ ts) = omega (arith, word-few ws b, few-from (with_word ws b) ts)
-few-from ws (Number b ∷ ts) = omega (arith, few-from ws ts)
+few-from ws (Number b ∷ ts) = omega (arith, word-few ws b, few-from (with_word ws b) ts)
 few-from ws (Literal b ∷ ts) = omega (arith, few-from ws ts)
 few-from ws (Verbatim b ∷ ts) = omega (arith, few-from ws ts)
 few-from ws (Punct b ∷ ts) = omega (arith, word-few ws b, few-from (with_word ws b) ts)

@@ -66,12 +66,12 @@ fn add_unresolved_faults(
 }
 
 fn add_prefix_faults(faults: &mut Vec<NameFault>, names: &KnownNames) -> Result<(), AllocError>
-    requires { length names.now < 2 ^ 32 }
+    requires { length names.now.names < 2 ^ 32 }
     ensures { OnOk result
         (faults.new.items
         ≡ faults.old.items
         ++ faults_where PrefixOfAnother
-        (λ n text. is_prefix_of_another names.now text) names.now) }
+        (λ n text. is_prefix_of_another names.now.names text) names.now.names) }
 {
     if !names.has_prefix() {
         return Ok(());
@@ -97,7 +97,7 @@ fn add_missing_faults(
     files: &IndexSet<NameId>,
     heads: &Heads,
 ) -> Result<(), AllocError>
-    requires { length names.now < 2 ^ 32 }
+    requires { length names.now.names < 2 ^ 32 }
     ensures { OnOk result
         (faults.new.items
         ≡ faults.old.items
@@ -105,7 +105,7 @@ fn add_missing_faults(
         (λ n text.
         (flag_of used.now n || list_any (is_id n) files.now.keys)
         && not (has_head heads.now n))
-        names.now) }
+        names.now.names) }
 {
     for number in 0..names.len() as u32 {
         let id = NameId(number);
@@ -132,10 +132,10 @@ fn add_fault_if(
     id: NameId,
     kind: NameKind,
 ) -> Result<(), AllocError>
-    requires { id.0 < length names.now }
+    requires { id.0 < length names.now.names }
     ensures { OnOk result
         (option_map (λ n. faults.old.items ++ fault_of_name_if fails kind n.first)
-        (slice_get names.now id.0)
+        (slice_get names.now.names id.0)
         ≡ Some faults.new.items) }
 {
     if fails {

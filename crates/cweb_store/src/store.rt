@@ -94,13 +94,12 @@ impl Store {
     {
         let answers = Answers::of(alloc, &table, &parts)?;
         let (tokens, ranges) = parts.take_apart();
-        let (mut strings, forms) = table.close();
+        let (mut strings, forms, firsts) = table.close();
         let replaced = replacements.close(&mut strings)?;
         let Answers {
             resolutions,
             files,
             faults,
-            firsts,
             links,
             has_defs_code,
         } = answers;

@@ -1,4 +1,4 @@
--- Texts that are one byte, which are found by it.
+-- Words of one byte, which are found by it.
 use Rattle.cweb_texts.proofs.Common.{◌≡◌, ℕ, ◌+◌, ◌≤◌, ◌<◌, ◌||◌, List, [], ◌∷◌, Some, inl, inr, set, refl, sym, subst, ◌∙◌, ap, arith, Result, Ok, Err, IfOk, OnErr, length, slice_get, slice_index_or, bytes_eq, IsByteId, AreByteIds, StringTableModel, AddsString, InternsWord, has_word}
 use Rattle.cweb_texts.proofs.ListLemmas.{get-set}
 use Rattle.cweb_texts.proofs.StringListLemmas.{get-grow}
@@ -31,7 +31,7 @@ byte_ids-add_string-word old new byte_ids word number keeps are = λ byte n h.
           has-more old new word (byte ∷ []) number keeps ∙ ap (λ b. b || bytes_eq (byte ∷ []) word) sign.among;
     }
 
--- The punctuator that was just interned.
+-- The word that was just interned.
 pub is-sign : (old new : StringTableModel) (byte number : ℕ) → InternsWord old (byte ∷ []) number new
     → IsByteId new byte number
 is-sign old new byte number keeps = grind (arith, has-more old new (byte ∷ []) (byte ∷ []) number keeps)
@@ -44,7 +44,7 @@ byte_ids-set kept byte_ids byte number are is = λ k n h. elim (get-set byte_ids
   | inr o ↦ are k n o
 ]
 
--- A punctuator with a known id.
+-- A word with a known id.
 pub sign-known : (kept : StringTableModel) (byte_ids : List ℕ) (byte number : ℕ) → AreByteIds kept byte_ids
     → slice_get byte_ids byte ≡ Some (number + 1) → InternsWord kept (byte ∷ []) number kept
 sign-known kept byte_ids byte number are h = grind (arith, are byte number h, known kept (byte ∷ []) number)

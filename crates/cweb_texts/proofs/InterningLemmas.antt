@@ -1,6 +1,9 @@
 -- What interning a word does, by where the word is found or added.
-use Rattle.cweb_texts.proofs.Common.{◌≡◌, ℕ, true, false, ◌||◌, List, [], ◌∷◌, ◌++◌, map, length, Some, None, refl, arith, length-append, append-nil, map-append, or_comm, list_any-append, slice_get, bytes_eq, Vec, list_any, lookup, is_eq, nat_cmp, slice_cmp, Global, Word, Entries, AreBytes, FindsString, PushesWord, AreInterned, IsInserted, word_string, have_string, entry_word, StringTableModel, InternsWord, has_word, table_model}
+use Rattle.cweb_texts.proofs.Common.{◌≡◌, ℕ, ◌∙◌, sym, ap, subst, total, true, false, ◌||◌, List, [], ◌∷◌, ◌++◌, map, length, Some, None, refl, arith, length-append, append-nil, map-append, or_comm, list_any-append, slice_get, bytes_eq, Vec, list_any, lookup, is_eq, nat_cmp, slice_cmp, Global, Word, Entries, AreBytes, FindsString, PushesWord, AreInterned, IsInserted, word_string, have_string, entry_word, StringTableModel, InternsWord, has_word, table_model}
 use Rattle.cweb_texts.specs.inner.Keys.{key_of}
+use Rattle.cweb_texts.specs.inner.Words.{AreMapped, DescribeStrings, InternsSorted, is_word}
+use Rattle.std.proofs.lemmas.Option.{slice_get_within}
+use Rattle.std.specs.Prelude.{if◌then◌else◌, unwrap_or}
 use Rattle.cweb_texts.proofs.ListLemmas.{get-push, or-assoc, or-last}
 use Rattle.cweb_texts.proofs.StringListLemmas.{get-last, get-string}
 use Rattle.cweb_texts.proofs.WordLemmas.{total-append, with-word-any}
@@ -54,12 +57,11 @@ interned-grow strings more ws es interned =
 
 -- a word that is new
 new-keeps : (old : StringTableModel) (word : List ℕ) (number : ℕ) (new : StringTableModel) → has_word old word ≡ false
-    → new.strings ≡ old.strings ++ word ∷ [] → number ≡ length old.strings
+    → new.strings ≡ old.strings ++ word ∷ [] → slice_get new.strings number ≡ Some word
     → ((q : List ℕ) → has_word new q ≡ (has_word old q || bytes_eq q word)) → InternsWord old word number new
-new-keeps old word number new absent grows last words =
+new-keeps old word number new absent grows stored words =
     grind (
       arith,
-      get-last old.strings word number last,
       with-word-any,
       length-append word,
       total-append length old.words (word ∷ []),
@@ -85,7 +87,8 @@ table-keeps strings ws new es word number interned push last absent =
     let more = strings ++ word ∷ [] in
     grind (
       arith,
-      new-keeps (table_model strings ws es) word number (table_model more new es) absent refl last,
+      new-keeps (table_model strings ws es) word number (table_model more new es) absent refl
+          (get-last strings word number last),
       get-last strings word number last,
       get-string more push.word.number word,
       map-append (word_string more) ws (push.word ∷ []),
@@ -95,30 +98,121 @@ table-keeps strings ws new es word number interned push last absent =
       or_comm,
     )
 
--- in the map
-pub map-interned : (strings : List (List ℕ)) (ws : List Word) (es new : Entries) (word : List ℕ) (number : ℕ)
-    → AreInterned strings ws es → IsInserted es word number new → number ≡ length strings
-    → AreInterned (strings ++ word ∷ []) ws new
-map-interned strings ws es new word number interned put last =
-    grind (
-      arith,
-      interned-grow strings (word ∷ []) ws es interned,
-      insert-mapped (strings ++ word ∷ []) word es new number,
-      get-last strings word number last,
-    )
+-- A word with one search of the map: it was there.
+pub sorted-known : (strings : List (List ℕ)) (es more : Entries) (word : List ℕ) (number next : ℕ)
+    → AreMapped strings es → number ≡ unwrap_or (lookup (is_word word) es) next → (number ≡ next → ⊥)
+    → IsInserted es word number more → InternsSorted strings es word number strings more
+sorted-known strings es more word number next mapped is other put =
+    (elim (lookup (is_word word) es) as (λ o. lookup (is_word word) es ≡ o → number ≡ unwrap_or o next
+    → InternsSorted strings es word number strings more) [
+      | Some n ↦ λ there g.
+          let found = find-word strings word es n there mapped in
+          record {
+            inserted = put;
+            stored = ap (slice_get strings) g ∙ found.stored;
+            grows = ap (λ b. if b then strings else strings ++ word ∷ []) (sym found.among);
+          }
+      | None ↦ λ there g. absurd (other g)
+    ]) refl is
 
-pub map-keeps : (strings : List (List ℕ)) (ws : List Word) (es new : Entries) (word : List ℕ) (number : ℕ)
-    → AreInterned strings ws es → IsInserted es word number new → number ≡ length strings
-    → has_word (table_model strings ws es) word ≡ false
-    → InternsWord (table_model strings ws es) word number (table_model (strings ++ word ∷ []) ws new)
-map-keeps strings ws es new word number interned put last absent =
-    let more = strings ++ word ∷ [] in
-    new-keeps (table_model strings ws es) word number (table_model more ws new) absent refl last (λ q.
+-- Or it is the last string now.
+pub sorted-new : (strings : List (List ℕ)) (es more : Entries) (word : List ℕ) (number next : ℕ)
+    → AreMapped strings es → next ≡ length strings → number ≡ unwrap_or (lookup (is_word word) es) next
+    → number ≡ next → IsInserted es word number more
+    → InternsSorted strings es word number (strings ++ word ∷ []) more
+sorted-new strings es more word number next mapped last is same put =
+    (elim (lookup (is_word word) es) as (λ o. lookup (is_word word) es ≡ o → number ≡ unwrap_or o next
+    → InternsSorted strings es word number (strings ++ word ∷ []) more) [
+      | Some n ↦ λ there g.
+          let below = slice_get_within strings n word (find-word strings word es n there mapped).stored in
+          absurd (let none : ⊥ = omega (arith, below, g, same, last) in none)
+      | None ↦ λ there g. record {
+        inserted = put;
+        stored = get-last strings word number (same ∙ last);
+        grows = ap (λ b. if b then strings else strings ++ word ∷ []) (sym (no-word word es there));
+      }
+    ]) refl is
+
+pub sorted-interned : (strings new : List (List ℕ)) (ws : List Word) (es more : Entries) (word : List ℕ) (number : ℕ)
+    → AreInterned strings ws es → InternsSorted strings es word number new more → AreInterned new ws more
+sorted-interned strings new ws es more word number interned put =
+    (elim (list_any (bytes_eq word) (map entry_word es)) as (λ b.
+    new ≡ (if b then strings else strings ++ word ∷ []) → AreInterned new ws more) [
+      | true ↦ λ same. record {
+        in_table = subst (λ ts. DescribeStrings ts ws) (sym same) interned.in_table;
+        in_map = insert-mapped new word es more number put.stored
+            (subst (λ ts. AreMapped ts es) (sym same) interned.in_map) put.inserted;
+      }
+      | false ↦ λ same.
+          let grown = interned-grow strings (word ∷ []) ws es interned in
+          record {
+            in_table = subst (λ ts. DescribeStrings ts ws) (sym same) grown.in_table;
+            in_map = insert-mapped new word es more number put.stored
+                (subst (λ ts. AreMapped ts es) (sym same) grown.in_map) put.inserted;
+          }
+    ]) put.grows
+
+-- A word that is found in the map adds nothing.
+found-keeps : (strings : List (List ℕ)) (ws : List Word) (es more : Entries) (word : List ℕ) (number : ℕ)
+    → list_any (bytes_eq word) (map entry_word es) ≡ true → slice_get strings number ≡ Some word
+    → IsInserted es word number more
+    → InternsWord (table_model strings ws es) word number (table_model strings ws more)
+found-keeps strings ws es more word number among stored put =
+    let old = map entry_word es ++ map (word_string strings) ws in
+    let has : list_any (bytes_eq word) old ≡ true =
+    list_any-append (bytes_eq word) (map entry_word es) (map (word_string strings) ws)
+    ∙ ap (λ b. b || list_any (bytes_eq word) (map (word_string strings) ws)) among in
+    record {
+      more = [];
+      grows = sym (append-nil strings);
+      stored = stored;
+      words = λ q.
+          grind (
+            arith,
+            list_any-append (bytes_eq q) (map entry_word more) (map (word_string strings) ws),
+            list_any-append (bytes_eq q) (map entry_word es) (map (word_string strings) ws),
+            insert-any q word es more number put,
+            with-word-any q old word,
+            or-last,
+          );
+      bytes = omega (arith, ap (λ b. total length (if b then old else old ++ word ∷ [])) has);
+      few = omega arith;
+    }
+
+-- A word that is new in the map and not in the table.
+added-keeps : (strings : List (List ℕ)) (ws : List Word) (es more : Entries) (word : List ℕ) (number : ℕ)
+    → AreInterned strings ws es → list_any (bytes_eq word) (map entry_word es) ≡ false
+    → have_string strings ws word ≡ false → slice_get (strings ++ word ∷ []) number ≡ Some word
+    → IsInserted es word number more
+    → InternsWord (table_model strings ws es) word number (table_model (strings ++ word ∷ []) ws more)
+added-keeps strings ws es more word number interned absent none stored put =
+    let new = strings ++ word ∷ [] in
+    let nowhere : has_word (table_model strings ws es) word ≡ false =
+    list_any-append (bytes_eq word) (map entry_word es) (map (word_string strings) ws)
+    ∙ (λ i. absent i || none i) in
+    new-keeps (table_model strings ws es) word number (table_model new ws more) nowhere refl stored (λ q.
     grind (
       arith,
       same-strings strings (word ∷ []) ws interned.in_table,
-      list_any-append (bytes_eq q) (map entry_word new) (map (word_string more) ws),
+      list_any-append (bytes_eq q) (map entry_word more) (map (word_string new) ws),
       list_any-append (bytes_eq q) (map entry_word es) (map (word_string strings) ws),
-      insert-any q word es new number put,
+      insert-any q word es more number put,
       or-last,
     ))
+
+pub sorted-keeps : (strings new : List (List ℕ)) (ws : List Word) (es more : Entries) (word : List ℕ) (number : ℕ)
+    → AreInterned strings ws es → have_string strings ws word ≡ false
+    → InternsSorted strings es word number new more
+    → InternsWord (table_model strings ws es) word number (table_model new ws more)
+sorted-keeps strings new ws es more word number interned none put =
+    let old = table_model strings ws es in
+    (elim (list_any (bytes_eq word) (map entry_word es)) as (λ b.
+    list_any (bytes_eq word) (map entry_word es) ≡ b → new ≡ (if b then strings else strings ++ word ∷ [])
+    → InternsWord old word number (table_model new ws more)) [
+      | true ↦ λ among same. subst (λ ts. InternsWord old word number (table_model ts ws more)) (sym same)
+          (found-keeps strings ws es more word number among
+          (subst (λ ts. slice_get ts number ≡ Some word) same put.stored) put.inserted)
+      | false ↦ λ absent same. subst (λ ts. InternsWord old word number (table_model ts ws more)) (sym same)
+          (added-keeps strings ws es more word number interned absent none
+          (subst (λ ts. slice_get ts number ≡ Some word) same put.stored) put.inserted)
+    ]) refl put.grows

@@ -112,6 +112,10 @@ get-last [] t (suc n) h = absurd (let none : ⊥ = omega arith in none)
 get-last (x ∷ strings) t zero h = absurd (let none : ⊥ = omega arith in none)
 get-last (x ∷ strings) t (suc n) h = get-last strings t n (omega arith)
 
+pub dropped-last : (strings : List (List ℕ)) (t : List ℕ) → take (length strings) (strings ++ t ∷ []) ≡ strings
+dropped-last [] t = refl
+dropped-last (x ∷ strings) t = ap (λ ts. x ∷ ts) (dropped-last strings t)
+
 pub get-string : (strings : List (List ℕ)) (n : ℕ) (t : List ℕ) → slice_get strings n ≡ Some t → string_at strings n ≡ t
 get-string [] n t h = cc
 get-string (x ∷ strings) zero t h = let same : x ≡ t = cc in same

@@ -14,7 +14,7 @@ mod slices;
 // interned words
 mod words;
 
-// strings, words and punctuators in one table
+// strings in one table, those that repeat stored once
 mod string_table;
 
 pub use edges::{Edge, TokenBytes, has_high_byte, punctuator_edge};

@@ -1,4 +1,4 @@
-// Strings, words and punctuators in one table.
+// Strings in one table, those that repeat stored once.
 
 ghost use Rattle.std.specs.Prelude.{◌≡◌, ◌<◌, ◌+◌, ℕ, Some, length, slice_get, IfOk, IfSome, OnErr};
 ghost use Rattle.cweb_texts.specs.inner.ByteIds.{AreByteIds, IsByteId};
@@ -13,7 +13,7 @@ use std::marker::Model;
 // The number of distinct bytes.
 const BYTES: usize = 256;
 
-/// Strings, and interned words and punctuators among them. A punctuator of one byte is found by that byte alone.
+/// Strings, and interned words, numbers and punctuators among them. One of a single byte is found by that byte alone.
 pub struct StringTable {
     alloc: Global,
     strings: WordInterner,
@@ -65,53 +65,55 @@ impl StringTable {
         Ok(number as u32)
     }
 
-    /// Interns a word, and returns its number.
+    /// Interns a word or a number, and returns its number in the table.
     pub fn intern_word(&mut self, word: &[u8]) -> Result<u32, AllocError>
         requires few { length self.old.strings + 1 < string_limit }
         ensures ok { IfOk result (λ number. InternsWord self.old word.now number self.new) }
         ensures err { OnErr result (self.new ≡ self.old) }
     {
+        if let Some(number) = self.known_byte(word) {
+            return Ok(number);
+        }
+        if word.len() == 1 {
+            return self.intern_byte(word);
+        }
         let number = self.strings.intern_word(word)?;
         Ok(number as u32)
     }
 
-    /// Interns a punctuator, and returns its number. The fast path finds one byte that was interned before.
+    /// Interns a punctuator as `intern_word` does. Many are one byte, which is found without a call.
     #[inline(always)]
     pub fn intern_punctuator(&mut self, sign: &[u8]) -> Result<u32, AllocError>
         requires few { length self.old.strings + 1 < string_limit }
         ensures ok { IfOk result (λ number. InternsWord self.old sign.now number self.new) }
         ensures err { OnErr result (self.new ≡ self.old) }
     {
-        if let [byte] = sign {
-            if let Some(number) = byte_id(self.byte_ids.as_slice(), *byte) {
-                return Ok(number);
-            }
-        }
-        self.intern_uncached(sign)
-    }
-
-    // Interns a punctuator that the fast path did not find.
-    #[inline(never)]
-    fn intern_uncached(&mut self, sign: &[u8]) -> Result<u32, AllocError>
-        requires few { length self.old.strings + 1 < string_limit }
-        ensures ok { IfOk result (λ number. InternsWord self.old sign.now number self.new) }
-        ensures err { OnErr result (self.new ≡ self.old) }
-    {
-        if sign.len() == 1 {
-            return self.intern_byte(sign);
+        if let Some(number) = self.known_byte(sign) {
+            return Ok(number);
         }
         self.intern_word(sign)
     }
 
-    // Interns a punctuator of one byte, and records its number for the fast path.
+    // The number of a string of one byte that was interned before.
+    #[inline(always)]
+    fn known_byte(&self, string: &[u8]) -> Option<u32>
+        ensures { IfSome result (λ number. InternsWord self.now string.now number self.now) }
+    {
+        match string {
+            [byte] => byte_id(self.byte_ids.as_slice(), *byte),
+            _ => None,
+        }
+    }
+
+    // Interns a word of one byte, and records its number for the fast path.
     #[inline(never)]
-    fn intern_byte(&mut self, sign: &[u8]) -> Result<u32, AllocError>
+    fn intern_byte(&mut self, word: &[u8]) -> Result<u32, AllocError>
         requires few { length self.old.strings + 1 < string_limit }
-        ensures ok { IfOk result (λ number. InternsWord self.old sign.now number self.new) }
+        ensures ok { IfOk result (λ number. InternsWord self.old word.now number self.new) }
         ensures err { OnErr result (self.new ≡ self.old) }
     {
-        let number = self.strings.intern_word(sign)? as u32;
-        if let [byte] = sign {
+        let number = self.strings.intern_word(word)? as u32;
+        if let [byte] = word {
             self.begin();
             set_byte_id(&mut self.byte_ids, *byte, number);
         }

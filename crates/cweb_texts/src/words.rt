@@ -5,9 +5,10 @@ pub mod key;
 pub mod table;
 pub mod word;
 
-ghost use Rattle.std.specs.Prelude.{◌≡◌, false, IfOk, OnOk, OnErr};
+ghost use Rattle.std.specs.Prelude.{◌≡◌, unwrap_or, false, IfOk, OnErr};
+ghost use Rattle.std.specs.Map.{lookup};
 ghost use Rattle.cweb_texts.specs.inner.Keys.{key_of};
-ghost use Rattle.cweb_texts.specs.inner.Words.{IsInserted};
+ghost use Rattle.cweb_texts.specs.inner.Words.{AreMapped, InternsSorted, IsInserted, is_word};
 ghost use Rattle.cweb_texts.specs.inner.StringTables.{AddsString, InternsWord, has_word, empty_table};
 
 use crate::strings::StringList;
@@ -95,13 +96,17 @@ impl WordInterner {
         if let Some(number) = self.table.find(&self.strings, key, word) {
             return Ok(number);
         }
+        if self.table.is_full(key) {
+            let number = intern_sorted(self.alloc, &mut self.strings, &mut self.sorted, word)?;
+            return Ok(number);
+        }
         if let Some(number) = self.sorted.get(word).copied() {
             return Ok(number);
         }
         self.add_new_word(key, word)
     }
 
-    // Adds a word that is not interned yet.
+    // Adds a word that is not interned yet to the table.
     fn add_new_word(&mut self, key: Key, word: &[u8]) -> Result<usize, AllocError>
         requires key { key ≡ key_of word.now }
         requires absent { has_word self.old word.now ≡ false }
@@ -113,11 +118,8 @@ impl WordInterner {
         if self.table.push(key, word.len(), number) {
             return Ok(number);
         }
-        if let Err(refusal) = insert_word(self.alloc, &mut self.sorted, word, number) {
-            self.strings.truncate(number);
-            return Err(refusal);
-        }
-        Ok(number)
+        self.strings.truncate(number);
+        Err(AllocError)
     }
 
     /// The strings.
@@ -141,18 +143,49 @@ impl WordInterner {
     }
 }
 
-// Inserts a word into the sorted map, with the number of its string. A refused call changes nothing.
-fn insert_word(
+// Interns a word that is not in the table. The word is added to the strings first, so that one search of the map is
+// enough. A refused call changes nothing.
+fn intern_sorted(
+    alloc: Global,
+    strings: &mut StringList,
+    sorted: &mut BTreeMap<Vec<u8>, usize>,
+    word: &[u8],
+) -> Result<usize, AllocError>
+    requires { AreMapped strings.old sorted.old.entries }
+    ensures ok { IfOk result (λ number. InternsSorted strings.old sorted.old.entries word.now number
+        strings.new sorted.new.entries) }
+    ensures err { OnErr result
+        ((strings.new ≡ strings.old) × (sorted.new.entries ≡ sorted.old.entries)) }
+{
+    let next = strings.add_word(word)?;
+    match number_in(alloc, sorted, word, next) {
+        Ok(number) => {
+            if number != next {
+                strings.truncate(next);
+            }
+            Ok(number)
+        }
+        Err(refusal) => {
+            strings.truncate(next);
+            Err(refusal)
+        }
+    }
+}
+
+// The number of a word in the map. A new word gets the number `next`. A refused call changes nothing.
+fn number_in(
     alloc: Global,
     sorted: &mut BTreeMap<Vec<u8>, usize>,
     word: &[u8],
-    number: usize,
-) -> Result<(), AllocError>
-    ensures ok { OnOk result
-        (IsInserted sorted.old.entries word.now number sorted.new.entries) }
+    next: usize,
+) -> Result<usize, AllocError>
+    ensures number { IfOk result (λ number. number
+        ≡ unwrap_or (lookup (is_word word.now) sorted.old.entries) next) }
+    ensures inserted { IfOk result (λ number.
+        IsInserted sorted.old.entries word.now number sorted.new.entries) }
     ensures err { OnErr result (sorted.new.entries ≡ sorted.old.entries) }
 {
     let key = Vec::from_slice(alloc, word)?;
-    sorted.insert(key, number)?;
-    Ok(())
+    let number = *sorted.entry(key)?.or_insert(next);
+    Ok(number)
 }

@@ -1,7 +1,7 @@
 // Writes the outputs of a run in order.
 ghost use Rattle.std.specs.Prelude.{◌≡◌, ◌<◌, ◌+◌, ◌^◌, ◌++◌, ◌∷◌, [], length, All, IsTrue, IfErr};
 ghost use Rattle.std.specs.Prelude.{OnOk};
-ghost use Rattle.cweb_files.specs.Bins.{CountsFailure};
+ghost use Rattle.cweb_files.specs.surface.Frames.{KeepsSink};
 ghost use Rattle.cweb_input.specs.surface.OpenedFileNames.{opened_file_names};
 ghost use Rattle.cweb_store.specs.Parts.{all_tokens};
 ghost use Rattle.cweb_scan.specs.surface.Scan.{IsMarkBelow};
@@ -130,9 +130,7 @@ fn print_all<W: Sink>(
         (left_in expander.old) }
     requires count { W.failed out.old + 1 < 2 ^ 64 }
     ensures stays { StaysReady expander.old expander.new }
-    ensures tells { W.tells out.new ≡ W.tells out.old }
-    ensures failed { CountsFailure (W.failed out.old) (W.failed out.new) result }
-    ensures beside { IsTrue (W.tells out.old) → W.beside out.new ≡ W.beside out.old }
+    ensures keeps { KeepsSink W.Sink out.old out.new result }
     ensures prints { IsTrue (W.tells out.old) → OnOk result (W.written out.new
         ≡ W.written out.old ++ file (setting expander.old.store.now (opened_file_names names.now))
         (left_in expander.old)) }

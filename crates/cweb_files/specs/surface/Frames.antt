@@ -1,5 +1,6 @@
--- Frames of calls on devices, and what they append to a sink.
-use Rattle.std.specs.Prelude.{◌≡◌, ℕ, List, ◌++◌, IsTrue}
+-- Frames of calls on devices, and what they write to a sink.
+use Rattle.std.specs.Prelude.{◌≡◌, ℕ, List, ◌++◌, IsTrue, Result}
+use Rattle.cweb_files.specs.Bins.{CountsFailure}
 use Rattle.cweb_files.specs.declared.device.Shelf.{Ghosts as Shelf}
 use Rattle.cweb_files.specs.declared.device.Sink.{Ghosts as Sink}
 
@@ -18,3 +19,9 @@ pub record KeepsPlace {W : Type 0} (sink : Sink W) (old new : W) : Type 0 where
 -- These bytes were appended, if the sink is observable.
 abbrev pub Writes : {W : Type 0} → Sink W → W → W → List ℕ → Type 0
 Writes sink old new bytes = IsTrue (sink.tells old) → sink.written new ≡ sink.written old ++ bytes
+
+-- Nothing but the bytes changes, and a fault is counted.
+pub record KeepsSink {W A E : Type 0} (sink : Sink W) (old new : W) (result : Result A E) : Type 0 where
+  pub tells : sink.tells new ≡ sink.tells old
+  pub beside : IsTrue (sink.tells old) → sink.beside new ≡ sink.beside old
+  pub failed : CountsFailure (sink.failed old) (sink.failed new) result

@@ -1,6 +1,10 @@
 -- What a source has left, and how taking a line changes that.
 use Rattle.std.specs.Prelude.{◌≡◌, ℕ, ◌+◌, ◌<◌, List, [], ◌∷◌, ◌++◌, length, Bool, true, false, Result, Ok, Err}
+use Rattle.std.specs.Prelude.{IsTrue, IsErrOf}
+use Rattle.cweb_files.specs.surface.Frames.{KeepsShelf}
+use Rattle.cweb_files.specs.declared.device.Shelf.{Ghosts as Shelf}
 use Rattle.cweb_input.specs.surface.Lines.{HasNoNewline}
+use Rattle.cweb_input.specs.declared.limits.TheConstants.{LINE_LENGTH}
 use Rattle.cweb_input.specs.declared.source.Source.{Source}
 use Rattle.cweb_input.specs.declared.source.LineFault.{LineFault}
 use Rattle.cweb_input.specs.declared.source.LineFault.TheVariants.{Read, TooLong, Memory}
@@ -41,3 +45,20 @@ BlamesReader name before now (Err Read) = now ≡ before ++ name ∷ []
 BlamesReader name before now (Err TooLong) = now ≡ before
 BlamesReader name before now (Err Memory) = now ≡ before
 BlamesReader name before now (Ok x) = now ≡ before
+
+-- Only the reader of this source is read. It keeps its name. A failed read is counted and blames it.
+pub record ReadsSource {S R A : Type 0} (shelf : Shelf S R) (old new : S) (source source' : Source R)
+    (result : Result A LineFault) : Type 0 where
+  pub keeps : KeepsShelf shelf old new
+  pub failed : CountsReadFault (shelf.failed old) (shelf.failed new) result
+  pub opened : IsTrue (shelf.tells old)
+      → shelf.opened_as new source'.reader.value ≡ shelf.opened_as old source.reader.value
+  pub blamed : IsTrue (shelf.tells old)
+      → BlamesReader (shelf.opened_as old source.reader.value) (shelf.blamed old) (shelf.blamed new) result
+
+-- Why there is no line: a read failed, which no whole line in the buffer needed, or the next line exceeds the limit.
+pub record FailsInLine {S R A : Type 0} (shelf : Shelf S R) (old : S) (source : Source R)
+    (result : Result A LineFault) : Type 0 where
+  pub needed : IsErrOf result Read → HasNoNewline (buffered source)
+  pub too_long : IsTrue (shelf.tells old) → IsErrOf result TooLong
+      → IsLongerThan LINE_LENGTH (bytes_left shelf.left old source)

@@ -1,9 +1,8 @@
 // How the web, the change file and included files are found.
-ghost use Rattle.std.specs.Prelude.{◌≡◌, ◌∷◌, ◌++◌, ℕ, List, IsTrue, IfOk, string_bytes};
+ghost use Rattle.std.specs.Prelude.{◌≡◌, ◌∷◌, ◌++◌, IsTrue, IfOk, string_bytes};
 ghost use Rattle.std.specs.Option.{option_copied};
-ghost use Rattle.cweb_files.specs.surface.Frames.{KeepsShelf};
 ghost use Rattle.cweb_input.specs.Include.{found_at, found_under, web_at, change_at};
-ghost use Rattle.cweb_input.specs.inner.Finding.{found_as, changes_found, IsChangeOpened, IsOpened};
+ghost use Rattle.cweb_input.specs.inner.Finding.{changes_found, FindsFile, IsChangeOpened, ReadsNothing};
 ghost use Rattle.cweb_input.specs.surface.Finding.{world_in};
 
 use cweb_files::Shelf;
@@ -17,13 +16,8 @@ pub struct Opening<R: Drop> {
 }
 
 fn fetch_named<S: Shelf>(shelf: &mut S, name: String) -> Result<Option<Opening<S::R>>, AllocError>
-    ensures keeps { KeepsShelf S.Shelf shelf.old shelf.new }
-    ensures failed { S.failed shelf.new ≡ S.failed shelf.old }
-    ensures opened { IsTrue (S.tells shelf.old) → IfOk result (IsOpened (S.opened_as shelf.new)) }
-    ensures blamed { IsTrue (S.tells shelf.old) → S.blamed shelf.new ≡ S.blamed shelf.old }
-    ensures found { IsTrue (S.tells shelf.old) →
-        IfOk result (λ opening. found_as (S.left shelf.new) opening
-        ≡ found_under (S.texts shelf.old) (string_bytes name)) }
+    ensures { FindsFile S.Shelf shelf.old shelf.new
+        (found_under (S.texts shelf.old) (string_bytes name)) result }
 {
     match shelf.fetch(name.as_str())? {
         Some(reader) => Ok(Some(Opening { name, reader })),
@@ -47,13 +41,8 @@ pub fn find<S: Shelf>(
     inputs: &Option<String>,
     name: &[u8],
 ) -> Result<Option<Opening<S::R>>, AllocError>
-    ensures keeps { KeepsShelf S.Shelf shelf.old shelf.new }
-    ensures failed { S.failed shelf.new ≡ S.failed shelf.old }
-    ensures opened { IsTrue (S.tells shelf.old) → IfOk result (IsOpened (S.opened_as shelf.new)) }
-    ensures blamed { IsTrue (S.tells shelf.old) → S.blamed shelf.new ≡ S.blamed shelf.old }
-    ensures found { IsTrue (S.tells shelf.old) →
-        IfOk result (λ opening. found_as (S.left shelf.new) opening
-        ≡ found_at (world_in (S.texts shelf.old) inputs.now) name.now) }
+    ensures { FindsFile S.Shelf shelf.old shelf.new
+        (found_at (world_in (S.texts shelf.old) inputs.now) name.now) result }
 {
     let Ok(name) = str::from_utf8(name) else {
         return Ok(None);
@@ -74,13 +63,8 @@ pub fn find_web<S: Shelf>(
     web: &str,
     second: Option<&str>,
 ) -> Result<Option<Opening<S::R>>, AllocError>
-    ensures keeps { KeepsShelf S.Shelf shelf.old shelf.new }
-    ensures failed { S.failed shelf.new ≡ S.failed shelf.old }
-    ensures opened { IsTrue (S.tells shelf.old) → IfOk result (IsOpened (S.opened_as shelf.new)) }
-    ensures blamed { IsTrue (S.tells shelf.old) → S.blamed shelf.new ≡ S.blamed shelf.old }
-    ensures found { IsTrue (S.tells shelf.old) →
-        IfOk result (λ opening. found_as (S.left shelf.new) opening
-        ≡ web_at (S.texts shelf.old) web.now (option_copied second.entry)) }
+    ensures { FindsFile S.Shelf shelf.old shelf.new
+        (web_at (S.texts shelf.old) web.now (option_copied second.entry)) result }
 {
     let Some(opening) = fetch_named(shelf, String::from_str(alloc, web)?)? else {
         let Some(second) = second else {
@@ -97,11 +81,9 @@ pub fn find_change<S: Shelf>(
     shelf: &mut S,
     change: Option<&str>,
 ) -> Result<Option<Option<Opening<S::R>>>, AllocError>
-    ensures keeps { KeepsShelf S.Shelf shelf.old shelf.new }
-    ensures failed { S.failed shelf.new ≡ S.failed shelf.old }
+    ensures reads { ReadsNothing S.Shelf shelf.old shelf.new }
     ensures opened { IsTrue (S.tells shelf.old) →
         IfOk result (IsChangeOpened (S.opened_as shelf.new)) }
-    ensures blamed { IsTrue (S.tells shelf.old) → S.blamed shelf.new ≡ S.blamed shelf.old }
     ensures found { IsTrue (S.tells shelf.old) →
         IfOk result (λ opened. changes_found (S.left shelf.new) opened
         ≡ change_at (S.texts shelf.old) (option_copied change.entry)) }

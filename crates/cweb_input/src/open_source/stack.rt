@@ -1,18 +1,14 @@
 // The stack of open sources, the deepest last.
-ghost use Rattle.std.specs.Prelude.{◌≡◌, ◌≤◌, ◌<◌, ◌+◌, ◌-◌, ◌^◌, ℕ, List, ◌∷◌, replicate, length};
-ghost use Rattle.std.specs.Prelude.{IsTrue, IfOk, IfErr, IfSome, OnSome, Ok, None, Some, slice_set};
-ghost use Rattle.std.specs.Prelude.{slice_index_or, false};
-ghost use Rattle.cweb_files.specs.surface.Frames.{KeepsShelf};
-ghost use Rattle.cweb_input.specs.inner.LineCalls.{AnswersLine, ClosesAbove, ClosesTop, KeepsStack};
+ghost use Rattle.std.specs.Prelude.{◌≡◌, ◌≤◌, ◌<◌, ◌+◌, ◌-◌, ◌^◌, ℕ, ◌∷◌, replicate, IsTrue, IfOk};
+ghost use Rattle.std.specs.Prelude.{IfErr, None, Some, slice_set, slice_index_or};
+ghost use Rattle.cweb_input.specs.inner.LineCalls.{ClosesAbove, ClosesTop, TakesFromStack};
 ghost use Rattle.cweb_input.specs.surface.Counters.{counters_of};
-ghost use Rattle.cweb_input.specs.surface.Lines.{IsOneLine};
 ghost use Rattle.cweb_input.specs.declared.limits.TheConstants.{OPEN_FILES};
 ghost use Rattle.cweb_input.specs.inner.OpenSources.{maximum_of, line_number, files_up_to};
-ghost use Rattle.cweb_input.specs.surface.OpenSources.{CountsReadStop, StopsFor, StopsReading};
-ghost use Rattle.cweb_input.specs.inner.OpenSources.{Counted, NamesFiles, AreDeep, TakesTop, TakesAbove};
+ghost use Rattle.cweb_input.specs.surface.OpenSources.{StopsFor};
+ghost use Rattle.cweb_input.specs.inner.OpenSources.{AreDeep, TakesTop, TakesAbove};
 ghost use Rattle.cweb_input.specs.inner.OpenSources.{NeedsRead, StopsTop, StopsAbove};
-ghost use Rattle.cweb_input.specs.inner.OpenSources.{StaysBelow, DepthAfter, Pushes};
-ghost use Rattle.cweb_input.specs.inner.ReaderNames.{BlamesSources, KeepsReaderNames};
+ghost use Rattle.cweb_input.specs.inner.OpenSources.{StaysBelow, Pushes};
 
 use crate::buffer_pool::BufferPool;
 use crate::counters::TakenCounters;
@@ -91,8 +87,8 @@ fn take_top<S: Shelf>(
     requires shallow { stack.old.depth ≤ OPEN_FILES }
     requires numbers { maximum_of line_number stack.old.texts ≤ limits.old.lines }
     requires deep { AreDeep stack.old.texts }
-    ensures keeps { KeepsShelf S.Shelf shelf.old shelf.new }
-    ensures failed { CountsReadStop (S.failed shelf.old) (S.failed shelf.new) result }
+    ensures takes { TakesFromStack S.Shelf shelf.old shelf.new stack.old stack.new limits.old
+        limits.new line.new.items result }
     ensures taken { IsTrue (S.tells shelf.old) →
         IfOk result (λ at. TakesTop (S.left shelf.old)
         (S.left shelf.new) stack.old stack.new at line.new.items (counters_of limits.old)
@@ -103,11 +99,6 @@ fn take_top<S: Shelf>(
     ensures closes { ClosesTop stack.old stack.new result }
     ensures needed { IfErr result (λ stop.
         NeedsRead (slice_index_or stack.old.texts (stack.old.depth - 1) None) stop) }
-    ensures named { KeepsReaderNames S.Shelf shelf.old shelf.new stack.old.texts stack.new.texts }
-    ensures blamed { BlamesSources S.Shelf shelf.old shelf.new stack.old.texts result }
-    ensures stack { KeepsStack stack.old stack.new (counters_of limits.new) }
-    ensures answers { AnswersLine (maximum_of files_up_to stack.old.texts) (counters_of limits.old)
-        (counters_of limits.new) line.new.items result }
 {
     let top = stack.depth - 1;
     let taken = match take_from(shelf, &mut stack.texts[top], limits, line) {
@@ -136,8 +127,8 @@ pub fn take_above<S: Shelf>(
     requires shallow { stack.old.depth ≤ OPEN_FILES }
     requires numbers { maximum_of line_number stack.old.texts ≤ limits.old.lines }
     requires deep { AreDeep stack.old.texts }
-    ensures keeps { KeepsShelf S.Shelf shelf.old shelf.new }
-    ensures failed { CountsReadStop (S.failed shelf.old) (S.failed shelf.new) result }
+    ensures takes { TakesFromStack S.Shelf shelf.old shelf.new stack.old stack.new limits.old
+        limits.new line.new.items result }
     ensures taken { IsTrue (S.tells shelf.old) →
         IfOk result (λ at. TakesAbove (S.left shelf.old)
         (S.left shelf.new) low stack.old stack.new at line.new.items (counters_of limits.old)
@@ -148,11 +139,6 @@ pub fn take_above<S: Shelf>(
     ensures closes { ClosesAbove low stack.old stack.new result }
     ensures needed { IfErr result (λ stop. (place : ℕ)
         × NeedsRead (slice_index_or stack.old.texts place None) stop) }
-    ensures named { KeepsReaderNames S.Shelf shelf.old shelf.new stack.old.texts stack.new.texts }
-    ensures blamed { BlamesSources S.Shelf shelf.old shelf.new stack.old.texts result }
-    ensures stack { KeepsStack stack.old stack.new (counters_of limits.new) }
-    ensures answers { AnswersLine (maximum_of files_up_to stack.old.texts) (counters_of limits.old)
-        (counters_of limits.new) line.new.items result }
 {
     'texts: while stack.depth > low {
         let taken = match take_top(shelf, stack, limits, line) {

@@ -1,23 +1,15 @@
 // The next line of an open source, trimmed of trailing blanks.
-ghost use Rattle.std.specs.Prelude.{◌≡◌, ◌≤◌, ◌<◌, ◌+◌, ◌^◌, ℕ, length, take, IsTrue, IfOk};
-ghost use Rattle.std.specs.Prelude.{IfErr, IfSome, OnSome, IsErrOf, Ok, None, Some};
-ghost use Rattle.cweb_files.specs.surface.Frames.{KeepsShelf};
-ghost use Rattle.cweb_input.specs.inner.LineCalls.{AnswersLine, KeepsOpenSource};
-ghost use Rattle.cweb_input.specs.inner.Source.{bytes_left, IsLongerThan, CountsReadFault};
-ghost use Rattle.cweb_input.specs.inner.Source.{BlamesReader};
+ghost use Rattle.std.specs.Prelude.{◌≡◌, ◌≤◌, ◌<◌, ◌+◌, ◌^◌, ℕ, length, take, IsTrue, IfOk, IfErr};
+ghost use Rattle.std.specs.Prelude.{IfSome, OnSome, Some};
+ghost use Rattle.cweb_input.specs.inner.LineCalls.{TakesFromSlot};
+ghost use Rattle.cweb_input.specs.inner.Source.{bytes_left, FailsInLine, ReadsSource};
 ghost use Rattle.cweb_input.specs.inner.TrimmedLines.{TakesTrimmedOrEnds};
 ghost use Rattle.cweb_input.specs.Lines.{trimmed};
-ghost use Rattle.cweb_input.specs.surface.Lines.{HasNoNewline, IsOneLine};
-ghost use Rattle.cweb_input.specs.surface.Source.{buffered};
+ghost use Rattle.cweb_input.specs.surface.Lines.{IsOneLine};
 ghost use Rattle.cweb_input.specs.Lines as spec;
-ghost use Rattle.cweb_input.specs.surface.Counters.{counters_of};
-ghost use Rattle.cweb_input.specs.surface.OpenSources.{lines_left, lines_at, number_or_zero};
-ghost use Rattle.cweb_input.specs.surface.OpenSources.{StopsFor};
-ghost use Rattle.cweb_input.specs.surface.OpenSources.{CountsReadStop};
-ghost use Rattle.cweb_input.specs.inner.OpenSources.{line_number, DeepAt, files_up_to};
-ghost use Rattle.cweb_input.specs.inner.OpenSources.{TakesNextLine, FirstStops, NamesFile};
-ghost use Rattle.cweb_input.specs.inner.OpenSources.{stop_for, newline_bytes, NeedsRead};
-ghost use Rattle.cweb_input.specs.inner.ReaderNames.{BlamesSource, KeepsReaderName};
+ghost use Rattle.cweb_input.specs.surface.OpenSources.{number_or_zero};
+ghost use Rattle.cweb_input.specs.inner.OpenSources.{line_number, DeepAt, NamesFile};
+ghost use Rattle.cweb_input.specs.inner.OpenSources.{stop_for, newline_bytes};
 
 use crate::counters::TakenCounters;
 use crate::cut::next_line;
@@ -83,20 +75,11 @@ fn take_trimmed<S: Shelf>(
     line: &mut Vec<u8>,
 ) -> Result<Option<usize>, LineFault>
     requires count { S.failed shelf.old + 1 < 2 ^ 64 }
-    ensures keeps { KeepsShelf S.Shelf shelf.old shelf.new }
-    ensures failed { CountsReadFault (S.failed shelf.old) (S.failed shelf.new) result }
-    ensures opened { IsTrue (S.tells shelf.old) →
-        S.opened_as shelf.new source.new.reader.value
-        ≡ S.opened_as shelf.old source.old.reader.value }
-    ensures blamed { IsTrue (S.tells shelf.old) →
-        BlamesReader (S.opened_as shelf.old source.old.reader.value)
-        (S.blamed shelf.old) (S.blamed shelf.new) result }
+    ensures reads { ReadsSource S.Shelf shelf.old shelf.new source.old source.new result }
     ensures taken { IsTrue (S.tells shelf.old) →
         IfOk result (λ size. TakesTrimmedOrEnds (bytes_left S.left shelf.old source.old) size line.new.items
         (bytes_left S.left shelf.new source.new)) }
-    ensures too_long { IsTrue (S.tells shelf.old) → IsErrOf result LineFault.TooLong →
-        IsLongerThan LINE_LENGTH (bytes_left S.left shelf.old source.old) }
-    ensures needed { IsErrOf result LineFault.Read → HasNoNewline (buffered source.old) }
+    ensures fails { FailsInLine S.Shelf shelf.old source.old result }
     ensures line { IfOk result (λ size. OnSome size (IsOneLine line.new.items)) }
     ensures gains { IfOk result (λ size. IfSome size (λ n. length line.new.items ≤ n)) }
 {
@@ -122,22 +105,9 @@ fn take_line<S: Shelf>(
 ) -> Result<Option<LineAt>, Stop>
     requires count { S.failed shelf.old + 1 < 2 ^ 64 }
     requires number { text.old.line ≤ limits.old.lines }
-    ensures keeps { KeepsShelf S.Shelf shelf.old shelf.new }
-    ensures failed { CountsReadStop (S.failed shelf.old) (S.failed shelf.new) result }
-    ensures taken { IsTrue (S.tells shelf.old) →
-        IfOk result (λ at. TakesNextLine (lines_left (S.left shelf.old) text.old) at line.new.items
-        (lines_left (S.left shelf.new) text.new) (counters_of limits.old) (counters_of limits.new)) }
-    ensures stops { IsTrue (S.tells shelf.old) →
-        IfErr result (λ stop. StopsFor (FirstStops stop (counters_of limits.old)
-        (lines_left (S.left shelf.old) text.old)) stop) }
-    ensures named { KeepsReaderName S.Shelf shelf.old shelf.new (Some text.old) (Some text.new) }
-    ensures blamed { BlamesSource S.Shelf shelf.old shelf.new (Some text.old) result }
-    ensures text { KeepsOpenSource (Some text.old) (Some text.new) (counters_of limits.old)
-        (counters_of limits.new) result }
+    ensures takes { TakesFromSlot S.Shelf shelf.old shelf.new (Some text.old) (Some text.new)
+        limits.old limits.new line.new.items result }
     ensures names { IfErr result (λ stop. NamesFile text.old.file stop) }
-    ensures needed { IfErr result (λ stop. NeedsRead (Some text.old) stop) }
-    ensures answers { AnswersLine (text.old.file.0 + 1) (counters_of limits.old)
-        (counters_of limits.new) line.new.items result }
 {
     let taken = match take_trimmed(shelf, &mut text.source, line) {
         Ok(taken) => taken,
@@ -170,21 +140,8 @@ pub fn take_from<S: Shelf>(
 ) -> Result<Option<LineAt>, Stop>
     requires count { S.failed shelf.old + 1 < 2 ^ 64 }
     requires number { number_or_zero line_number slot.old ≤ limits.old.lines }
-    ensures keeps { KeepsShelf S.Shelf shelf.old shelf.new }
-    ensures failed { CountsReadStop (S.failed shelf.old) (S.failed shelf.new) result }
-    ensures taken { IsTrue (S.tells shelf.old) →
-        IfOk result (λ at. TakesNextLine (lines_at (S.left shelf.old) slot.old) at line.new.items
-        (lines_at (S.left shelf.new) slot.new) (counters_of limits.old) (counters_of limits.new)) }
-    ensures stops { IsTrue (S.tells shelf.old) →
-        IfErr result (λ stop. StopsFor (FirstStops stop (counters_of limits.old)
-        (lines_at (S.left shelf.old) slot.old)) stop) }
-    ensures named { KeepsReaderName S.Shelf shelf.old shelf.new slot.old slot.new }
-    ensures blamed { BlamesSource S.Shelf shelf.old shelf.new slot.old result }
-    ensures text { KeepsOpenSource slot.old slot.new (counters_of limits.old)
-        (counters_of limits.new) result }
-    ensures needed { IfErr result (λ stop. NeedsRead slot.old stop) }
-    ensures answers { AnswersLine (number_or_zero files_up_to slot.old) (counters_of limits.old)
-        (counters_of limits.new) line.new.items result }
+    ensures takes { TakesFromSlot S.Shelf shelf.old shelf.new slot.old slot.new limits.old
+        limits.new line.new.items result }
     ensures deep { (place : ℕ) → DeepAt place slot.old →
         DeepAt place slot.new × IfOk result (λ at. IfSome at (λ a. place < a.depth)) }
 {

@@ -1,11 +1,18 @@
 -- How far the output of a merge is, and why it stops.
-use Rattle.std.specs.Prelude.{◌≡◌, ◌≤◌, ◌+◌, ℕ, List, [], ◌∷◌, ◌++◌, Option, None, Some}
+use Rattle.std.specs.Prelude.{◌≡◌, ◌≤◌, ◌+◌, ℕ, List, [], ◌∷◌, ◌++◌, length, Option, None, Some, Result, Err}
+use Rattle.std.specs.Prelude.{IsTrue, IfErr, IfSome, OnErr, OnOk}
 use Rattle.cweb_files.specs.Bins.{WritesPrefix}
+use Rattle.cweb_files.specs.surface.Frames.{KeepsPlace, KeepsShelf, Writes}
+use Rattle.cweb_files.specs.declared.device.Shelf.{Ghosts as Shelf}
+use Rattle.cweb_files.specs.declared.device.Sink.{Ghosts as Sink}
 use Rattle.cweb_input.specs.Lines.{Line}
 use Rattle.cweb_lines.specs.Events.{Event, emitted_lines, written_lines}
 use Rattle.cweb_lines.specs.surface.MergeProgress.{SoFar, EmitsLines, StopsAfterLines}
 use Rattle.cweb_lines.specs.surface.MergeProgress.{ReadFailsAfterLines, ReportsPrefix}
 use Rattle.cweb_input.specs.surface.OpenSources.{read_failures_of, files_named}
+use Rattle.cweb_lines.specs.surface.MergerCalls.{Grows, HasEnded, KnowsReaders, StaysKnown, lines_to_come, so_far}
+use Rattle.cweb_lines.specs.surface.MergerCalls.{stop_in, to_come}
+use Rattle.cweb_lines.specs.declared.merger.Merger.{Merger}
 use Rattle.cweb_input.specs.declared.stop.Stop.{Stop}
 use Rattle.cweb_input.specs.declared.stop.Stop.TheVariants.{ReadFault, LineTooLong, TooMuchText, Memory, WriteFault}
 
@@ -86,3 +93,33 @@ pub record LeavesDevices (stop : Stop) (old new : FailureCounts) (in_merger : Op
   pub out : new.out ≡ old.out + write_failures_of stop
   pub named : files_named stop ≤ files
   pub kept : KeepsStop stop in_merger
+
+-- The lines to come are written. `Loses` says which of them a write fault loses.
+pub record WritesMerged {S R W A : Type 0} (shelf : Shelf S R) (sink : Sink W)
+    (Loses : SoFar → SoFar → List Event → List Event → List ℕ → List ℕ → Type 0) (old new : S)
+    (merger merger' : Merger S R) (out out' : W) (result : Result A Stop) : Type 0 where
+  pub keeps : KeepsShelf shelf old new × KeepsPlace sink out out'
+  pub grows : Grows (so_far merger) (so_far merger')
+  -- all lines were written
+  pub ok : IsTrue (shelf.tells old) → OnOk result (WritesAll (so_far merger) (so_far merger') (to_come shelf old merger)
+      (Writes sink out out'))
+  pub ended : OnOk result ((stop_in merger' ≡ None) × HasEnded merger' × (shelf.failed new ≡ shelf.failed old)
+      × (sink.failed out' ≡ sink.failed out))
+  -- a prefix of them was written, and why
+  pub prefix : IsTrue (shelf.tells old) → IsTrue (sink.tells out) → OnErr result
+      (WritesPrefix (sink.written out) (sink.written out') (written_lines (lines_to_come shelf old merger)))
+  pub stops : IsTrue (shelf.tells old) → stop_in merger ≡ None → IfErr result (λ stop. StopsWritingEarly stop
+      (so_far merger) (so_far merger') (to_come shelf old merger) (Writes sink out out'))
+  pub fault : IsTrue (shelf.tells old) → IsTrue (sink.tells out) → stop_in merger ≡ None → result ≡ Err WriteFault
+      → Loses (so_far merger) (so_far merger') (to_come shelf old merger) (to_come shelf new merger') (sink.written out)
+      (sink.written out')
+  -- the device that the stop names has failed, once, and no other
+  pub blames : stop_in merger ≡ None → IfErr result (λ stop. LeavesDevices stop
+      (record { shelf = shelf.failed old; out = sink.failed out }) (record {
+        shelf = shelf.failed new;
+        out = sink.failed out';
+      }) (stop_in merger') (length (so_far merger').names))
+  pub known : IsTrue (shelf.tells old) → KnowsReaders shelf old merger → StaysKnown shelf old new merger merger' result
+  -- after an earlier stop nothing happens
+  pub again : IfSome (stop_in merger) (λ stop. (result ≡ Err stop) × (merger' ≡ merger) × (new ≡ old) × (out' ≡ out)
+      × (files_named stop ≤ length (so_far merger').names))

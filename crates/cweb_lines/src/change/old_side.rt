@@ -1,22 +1,18 @@
 // The old side of a change: its further old lines, and the raw lines that they replace.
-ghost use Rattle.std.specs.Prelude.{◌≡◌, ◌≤◌, ◌<◌, ◌+◌, ◌^◌, ◌++◌, ◌∷◌, [], length, IsTrue, IfOk};
-ghost use Rattle.std.specs.Prelude.{IfErr, OnOk, OnErr, false};
-ghost use Rattle.cweb_files.specs.surface.Frames.{KeepsShelf};
-ghost use Rattle.cweb_lines.specs.inner.StepCalls.{GoesOn, TakesAway};
+ghost use Rattle.std.specs.Prelude.{◌≡◌, ◌≤◌, ◌<◌, ◌+◌, ◌^◌, ◌++◌, [], length, IsTrue, IfOk, IfErr};
+ghost use Rattle.std.specs.Prelude.{OnOk, OnErr};
+ghost use Rattle.cweb_lines.specs.inner.StepCalls.{GoesOn, Reads, TakesAway, outcome};
 ghost use Rattle.cweb_lines.specs.Merge.{change_events, closing_faults, fault_if};
 ghost use Rattle.cweb_input.specs.surface.Counters.{counters_of};
-ghost use Rattle.cweb_lines.specs.surface.MergeProgress.{KeepsReported, ReportsPrefix};
-ghost use Rattle.cweb_lines.specs.surface.MergeProgress.{change_lines, things_of, so_far_of};
+ghost use Rattle.cweb_lines.specs.surface.MergeProgress.{ReportsPrefix, change_lines, things_of, so_far_of};
 ghost use Rattle.cweb_input.specs.surface.OpenedFileNames.{opened_file_names};
 ghost use Rattle.cweb_lines.specs.inner.Replacing.{Compares, IsChanged, IsReplaced, old_side_of};
 ghost use Rattle.cweb_lines.specs.inner.Replacing.{ReportsFaultPrefix, StopsOldSide};
 ghost use Rattle.cweb_lines.specs.inner.Stages.{floor_of};
-ghost use Rattle.cweb_input.specs.surface.OpenSources.{CountsReadStop, StopsFor, StopsReading};
+ghost use Rattle.cweb_input.specs.surface.OpenSources.{StopsFor};
 ghost use Rattle.cweb_input.specs.inner.OpenSources.{TopStops};
-ghost use Rattle.cweb_input.specs.surface.OpenSources.{files_named};
 ghost use Rattle.cweb_input.specs.surface.OpenSources.{things_above};
 ghost use Rattle.cweb_lines.specs.inner.Steps.{OnlyTakes, OnlyReports};
-ghost use Rattle.cweb_lines.specs.inner.MergeReaderNames.{BlamesReaders, KeepsReaders};
 
 use crate::change::code::{Code, change_code};
 use crate::change::{Change, Stage};
@@ -47,8 +43,7 @@ fn compare<S: Shelf>(
     requires count { S.failed shelf.old + 1 < 2 ^ 64 }
     requires floor { floor_of run.old.stage ≡ 0 }
     requires few { so_far.unequal ≤ run.old.limits.lines }
-    ensures keeps { KeepsShelf S.Shelf shelf.old shelf.new }
-    ensures failed { CountsReadStop (S.failed shelf.old) (S.failed shelf.new) result }
+    ensures reads { Reads S.Shelf shelf.old shelf.new run.old run.new (outcome result) }
     ensures compares { IsTrue (S.tells shelf.old) →
         IfOk result (λ replaced. Compares run.old.first.items so_far replaced
         (things_above (S.left shelf.old) 0 run.old.stack [])
@@ -57,8 +52,6 @@ fn compare<S: Shelf>(
     ensures stops { IsTrue (S.tells shelf.old) →
         IfErr result (λ stop. StopsFor (TopStops stop (counters_of run.old.limits)
         (things_above (S.left shelf.old) 0 run.old.stack [])) stop) }
-    ensures readers { KeepsReaders S.Shelf shelf.old shelf.new run.old run.new }
-    ensures blamed { BlamesReaders S.Shelf shelf.old shelf.new run.old run.new result }
     ensures away { TakesAway so_far run.old run.new result }
     ensures only { OnlyTakes run.old run.new }
     ensures change { run.new.change ≡ run.old.change }
@@ -90,10 +83,7 @@ fn replace<S: Shelf>(
 ) -> Result<Replaced, Stop>
     requires count { S.failed shelf.old + 1 < 2 ^ 64 }
     requires floor { floor_of run.old.stage ≡ 0 }
-    ensures keeps { KeepsShelf S.Shelf shelf.old shelf.new }
-    ensures failed { CountsReadStop (S.failed shelf.old) (S.failed shelf.new) result }
-    ensures readers { KeepsReaders S.Shelf shelf.old shelf.new run.old run.new }
-    ensures blamed { BlamesReaders S.Shelf shelf.old shelf.new run.old run.new result }
+    ensures reads { Reads S.Shelf shelf.old shelf.new run.old run.new (outcome result) }
     ensures replaced { IsTrue (S.tells shelf.old) →
         IfOk result (λ replaced. IsReplaced (old_side_of (S.left shelf.old) run.old) replaced
         (change_lines (S.left shelf.new) run.new)
@@ -105,7 +95,6 @@ fn replace<S: Shelf>(
     ensures reported { IsTrue (S.tells shelf.old) →
         OnErr result (ReportsPrefix (so_far_of run.old) (so_far_of run.new)
         (old_side_of (S.left shelf.old) run.old).events) }
-    ensures still { KeepsReported (so_far_of run.old) (so_far_of run.new) }
     ensures goes { GoesOn run.old run.new result }
     ensures stage { run.new.stage ≡ run.old.stage }
 {
@@ -199,10 +188,7 @@ pub fn begin_change<S: Shelf>(
     requires floor { floor_of run.old.stage ≡ 0 }
     requires known { begin.file.0 < length (opened_file_names run.old.names) }
     requires deep { run.old.stack.depth ≤ depth }
-    ensures keeps { KeepsShelf S.Shelf shelf.old shelf.new }
-    ensures failed { CountsReadStop (S.failed shelf.old) (S.failed shelf.new) result }
-    ensures readers { KeepsReaders S.Shelf shelf.old shelf.new run.old run.new }
-    ensures blamed { BlamesReaders S.Shelf shelf.old shelf.new run.old run.new result }
+    ensures reads { Reads S.Shelf shelf.old shelf.new run.old run.new (outcome result) }
     ensures changed { IsTrue (S.tells shelf.old) →
         OnOk result (IsChanged begin depth (old_side_of (S.left shelf.old) run.old) run.new.stage
         (change_lines (S.left shelf.new) run.new) (things_of (S.left shelf.new) run.new)
@@ -213,7 +199,6 @@ pub fn begin_change<S: Shelf>(
     ensures reported { IsTrue (S.tells shelf.old) →
         OnErr result (ReportsPrefix (so_far_of run.old) (so_far_of run.new)
         (change_events begin (old_side_of (S.left shelf.old) run.old))) }
-    ensures still { KeepsReported (so_far_of run.old) (so_far_of run.new) }
     ensures goes { GoesOn run.old run.new result }
 {
     let replaced = match replace(shelf, run, line) {

@@ -1,21 +1,16 @@
 // The search for the next entry of a change file.
-ghost use Rattle.std.specs.Prelude.{◌≡◌, ◌≤◌, ◌<◌, ◌+◌, ◌^◌, ◌++◌, ◌∷◌, [], List, length, IsTrue};
-ghost use Rattle.std.specs.Prelude.{IfOk, IfErr, OnOk, OnErr, None, Some};
-ghost use Rattle.cweb_files.specs.surface.Frames.{KeepsShelf};
-ghost use Rattle.cweb_lines.specs.inner.StepCalls.{OnlySeeks};
+ghost use Rattle.std.specs.Prelude.{◌≡◌, ◌<◌, ◌+◌, ◌^◌, ◌++◌, ◌∷◌, [], List, length, IsTrue, IfOk};
+ghost use Rattle.std.specs.Prelude.{IfErr, OnOk, OnErr, None, Some};
+ghost use Rattle.cweb_lines.specs.inner.StepCalls.{OnlySeeks, Reads, outcome};
 ghost use Rattle.cweb_lines.specs.Change.{sought};
 ghost use Rattle.cweb_input.specs.Lines.{SourceLine};
-ghost use Rattle.cweb_lines.specs.inner.MergeProgress.{turns_left};
-ghost use Rattle.cweb_lines.specs.surface.MergeProgress.{KeepsReported, ReportsPrefix, Stopped};
 ghost use Rattle.cweb_lines.specs.surface.MergeProgress.{change_lines, so_far_of};
 ghost use Rattle.cweb_lines.specs.Events.{reported_faults};
 ghost use Rattle.cweb_input.specs.surface.OpenedFileNames.{opened_file_names};
 ghost use Rattle.cweb_lines.specs.inner.Seeking.{BegunKnown, LooksAt, LooksKnown, Searched};
 ghost use Rattle.cweb_lines.specs.inner.Seeking.{LooksInPart, begun_outside, faults_outside};
-ghost use Rattle.cweb_input.specs.surface.OpenSources.{CountsReadStop, StopsReading};
-ghost use Rattle.cweb_input.specs.surface.OpenSources.{files_named};
 ghost use Rattle.cweb_lines.specs.inner.Steps.{OnlyReports};
-ghost use Rattle.cweb_lines.specs.inner.MergeReaderNames.{BlamesReaders, KeepsReaders};
+ghost use Rattle.cweb_lines.specs.surface.MergerCalls.{StopsThere};
 
 use crate::change::Stage;
 use crate::change::code::{Code, change_code};
@@ -156,21 +151,14 @@ pub fn seek<S: Shelf>(
 ) -> Result<(), Stop>
     requires count { S.failed shelf.old + 1 < 2 ^ 64 }
     requires seeking { run.old.stage ≡ Stage.Seeking }
-    ensures keeps { KeepsShelf S.Shelf shelf.old shelf.new }
-    ensures failed { CountsReadStop (S.failed shelf.old) (S.failed shelf.new) result }
-    ensures readers { KeepsReaders S.Shelf shelf.old shelf.new run.old run.new }
-    ensures blamed { BlamesReaders S.Shelf shelf.old shelf.new run.old run.new result }
+    ensures reads { Reads S.Shelf shelf.old shelf.new run.old run.new (outcome result) }
     ensures searched { IsTrue (S.tells shelf.old) →
         OnOk result (Searched (sought (change_lines (S.left shelf.old) run.old) None)
         (so_far_of run.old) (so_far_of run.new) run.new.stage run.new.first.items
         (change_lines (S.left shelf.new) run.new)) }
     ensures stops { IsTrue (S.tells shelf.old) →
-        IfErr result (λ stop. Stopped stop (so_far_of run.old) (so_far_of run.new)
+        IfErr result (λ stop. StopsThere stop (so_far_of run.old) (so_far_of run.new)
         (sought (change_lines (S.left shelf.old) run.old) None).events) }
-    ensures reported { IsTrue (S.tells shelf.old) →
-        OnErr result (ReportsPrefix (so_far_of run.old) (so_far_of run.new)
-        (sought (change_lines (S.left shelf.old) run.old) None).events) }
-    ensures still { KeepsReported (so_far_of run.old) (so_far_of run.new) }
     ensures only { OnlySeeks run.old run.new result }
 {
     let mut begin: Option<Place> = None;

@@ -1,20 +1,14 @@
 // Lines that begin no change: include lines are obeyed, and others are emitted.
-ghost use Rattle.std.specs.Prelude.{◌≡◌, ◌≤◌, ◌<◌, ◌+◌, ◌^◌, ◌++◌, ◌∷◌, [], length, IsTrue, IfOk};
-ghost use Rattle.std.specs.Prelude.{IfErr, OnOk, OnErr, None, Some, string_bytes, true, ℕ, List};
-ghost use Rattle.cweb_files.specs.surface.Frames.{KeepsShelf};
-ghost use Rattle.cweb_lines.specs.inner.StepCalls.{OnlyObeys, OnlyOpens};
+ghost use Rattle.std.specs.Prelude.{◌≡◌, ◌≤◌, ◌<◌, ◌+◌, ◌++◌, ◌∷◌, [], length, IfOk, IfErr, OnOk};
+ghost use Rattle.std.specs.Prelude.{OnErr, string_bytes, true, ℕ, List};
+ghost use Rattle.cweb_lines.specs.inner.StepCalls.{IsPlainLine, Obeys, OnlyOpens};
 ghost use Rattle.cweb_input.specs.Include as spec;
-ghost use Rattle.cweb_input.specs.Lines.{SourceLine};
-ghost use Rattle.cweb_lines.specs.inner.MergeProgress.{EmitsAfterLine, events_after_line};
 ghost use Rattle.cweb_lines.specs.inner.MergeProgress.{turn_lines, IsTaken, TurnKnown};
-ghost use Rattle.cweb_lines.specs.surface.MergeProgress.{KeepsReported, pending_of};
-ghost use Rattle.cweb_lines.specs.surface.MergeProgress.{so_far_of, events_to_come};
+ghost use Rattle.cweb_lines.specs.surface.MergeProgress.{KeepsReported, so_far_of};
 ghost use Rattle.cweb_input.specs.surface.OpenedFileNames.{opened_file_names};
-ghost use Rattle.cweb_lines.specs.inner.Stages.{begun_by, IsSettled};
 ghost use Rattle.cweb_input.specs.declared.limits.TheConstants.{OPEN_FILES};
 ghost use Rattle.cweb_input.specs.inner.OpenSources.{OpensSource, StaysBelow};
 ghost use Rattle.cweb_lines.specs.surface.MergeReaderNames.{AreReadersKnown};
-ghost use Rattle.cweb_lines.specs.inner.MergeReaderNames.{KeepsReaders};
 
 use crate::merge_state::MergeState;
 use crate::step::Turn;
@@ -67,23 +61,8 @@ fn obey<S: Shelf>(
     at: LineAt,
 ) -> Result<(), Stop>
     requires include { spec.is_include_line line.now ≡ true }
-    requires names { length (opened_file_names run.old.names) < run.old.limits.lines + 2 }
-    requires known { at.place.file.0 < length (opened_file_names run.old.names) }
-    requires deep { run.old.stack.depth ≤ at.depth }
-    requires settled { IsSettled run.old.stage }
-    requires plain { begun_by (pending_of run.old) at.may_match line.now ≡ None }
-    ensures keeps { KeepsShelf S.Shelf shelf.old shelf.new }
-    ensures failed { S.failed shelf.new ≡ S.failed shelf.old }
-    ensures readers { KeepsReaders S.Shelf shelf.old shelf.new run.old run.new }
-    ensures blamed { IsTrue (S.tells shelf.old) → S.blamed shelf.new ≡ S.blamed shelf.old }
-    ensures only { OnlyObeys run.old run.new result }
-    ensures still { KeepsReported (so_far_of run.old) (so_far_of run.new) }
-    ensures obeys { IsTrue (S.tells shelf.old) →
-        OnOk result ((source : SourceLine) → source.line
-        ≡ record { bytes = line.now; place = at.place } →
-        EmitsAfterLine source [] (so_far_of run.old) (so_far_of run.new)
-        (events_after_line (S.texts shelf.old) (S.left shelf.old) run.old at source)
-        (events_to_come (S.texts shelf.new) (S.left shelf.new) run.new)) }
+    requires plain { IsPlainLine run.old line.now at }
+    ensures { Obeys S.Shelf shelf.old shelf.new run.old run.new line.now at (λ _. []) result }
 {
     let name = include_name(line);
     if name.is_empty() {
@@ -106,26 +85,12 @@ pub fn emit_or_obey<S: Shelf>(
     line: &[u8],
     at: LineAt,
 ) -> Result<Turn, Stop>
-    requires names { length (opened_file_names run.old.names) < run.old.limits.lines + 2 }
-    requires known { at.place.file.0 < length (opened_file_names run.old.names) }
-    requires deep { run.old.stack.depth ≤ at.depth }
-    requires settled { IsSettled run.old.stage }
-    requires plain { begun_by (pending_of run.old) at.may_match line.now ≡ None }
-    ensures keeps { KeepsShelf S.Shelf shelf.old shelf.new }
-    ensures failed { S.failed shelf.new ≡ S.failed shelf.old }
-    ensures readers { KeepsReaders S.Shelf shelf.old shelf.new run.old run.new }
-    ensures blamed { IsTrue (S.tells shelf.old) → S.blamed shelf.new ≡ S.blamed shelf.old }
-    ensures only { OnlyObeys run.old run.new result }
-    ensures still { KeepsReported (so_far_of run.old) (so_far_of run.new) }
+    requires { IsPlainLine run.old line.now at }
+    ensures obeys { Obeys S.Shelf shelf.old shelf.new run.old run.new line.now at
+        (λ turn. turn_lines turn line.now) result }
     ensures goes { IfOk result (λ turn. IsTaken turn) }
     ensures known { IfOk result
         (λ turn. TurnKnown (length (opened_file_names run.new.names)) turn) }
-    ensures yields { IsTrue (S.tells shelf.old) →
-        IfOk result (λ turn. (source : SourceLine) →
-        source.line ≡ record { bytes = line.now; place = at.place } →
-        EmitsAfterLine source (turn_lines turn line.now) (so_far_of run.old) (so_far_of run.new)
-        (events_after_line (S.texts shelf.old) (S.left shelf.old) run.old at source)
-        (events_to_come (S.texts shelf.new) (S.left shelf.new) run.new)) }
 {
     if !is_include_line(line) {
         return Ok(Turn::Emitted(at.place));

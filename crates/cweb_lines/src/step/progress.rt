@@ -1,18 +1,16 @@
 // Elementary actions of a merger: taking a line and reporting a fault.
-ghost use Rattle.std.specs.Prelude.{◌≡◌, ◌≤◌, ◌<◌, ◌+◌, ◌^◌, ◌++◌, ◌∷◌, [], length, IsTrue, IfOk};
-ghost use Rattle.std.specs.Prelude.{IfErr, IfSome, OnSome, Ok, OnOk, OnErr, None};
-ghost use Rattle.cweb_files.specs.surface.Frames.{KeepsShelf};
-ghost use Rattle.cweb_input.specs.inner.LineCalls.{AnswersLine, ClosesAbove};
+ghost use Rattle.std.specs.Prelude.{◌≡◌, ◌<◌, ◌+◌, ◌^◌, ◌++◌, ◌∷◌, [], length, IsTrue, IfOk, IfErr};
+ghost use Rattle.std.specs.Prelude.{OnOk, OnErr};
+ghost use Rattle.cweb_input.specs.inner.LineCalls.{ClosesAbove};
 ghost use Rattle.cweb_input.specs.surface.Counters.{counters_of};
-ghost use Rattle.cweb_input.specs.surface.Lines.{IsOneLine};
 ghost use Rattle.cweb_lines.specs.surface.MergeProgress.{NothingLeft, change_lines};
 ghost use Rattle.cweb_input.specs.surface.OpenedFileNames.{opened_file_names};
 ghost use Rattle.cweb_lines.specs.inner.Stages.{floor_of};
-ghost use Rattle.cweb_input.specs.surface.OpenSources.{CountsReadStop, StopsFor, StopsReading};
-ghost use Rattle.cweb_input.specs.inner.OpenSources.{TakesNextLine, NamesFiles, TakesAbove};
-ghost use Rattle.cweb_input.specs.inner.OpenSources.{FirstStops, StopsAbove, StaysBelow, Counted};
-ghost use Rattle.cweb_lines.specs.inner.Steps.{OnlyTakes, OnlyReports};
-ghost use Rattle.cweb_lines.specs.inner.MergeReaderNames.{BlamesReaders, KeepsReaders};
+ghost use Rattle.cweb_input.specs.surface.OpenSources.{StopsFor};
+ghost use Rattle.cweb_input.specs.inner.OpenSources.{TakesNextLine, TakesAbove};
+ghost use Rattle.cweb_input.specs.inner.OpenSources.{FirstStops, StopsAbove};
+ghost use Rattle.cweb_lines.specs.inner.Steps.{OnlyReports};
+ghost use Rattle.cweb_lines.specs.inner.StepCalls.{TakesLine};
 
 use crate::change::Stage;
 use crate::merge_state::MergeState;
@@ -63,8 +61,7 @@ pub fn take_change<S: Shelf>(
     line: &mut Vec<u8>,
 ) -> Result<Option<LineAt>, Stop>
     requires { S.failed shelf.old + 1 < 2 ^ 64 }
-    ensures keeps { KeepsShelf S.Shelf shelf.old shelf.new }
-    ensures failed { CountsReadStop (S.failed shelf.old) (S.failed shelf.new) result }
+    ensures takes { TakesLine S.Shelf shelf.old shelf.new run.old run.new line.new.items result }
     ensures taken { IsTrue (S.tells shelf.old) →
         IfOk result (λ at. TakesNextLine (change_lines (S.left shelf.old) run.old) at line.new.items
         (change_lines (S.left shelf.new) run.new) (counters_of run.old.limits)
@@ -72,12 +69,6 @@ pub fn take_change<S: Shelf>(
     ensures stops { IsTrue (S.tells shelf.old) →
         IfErr result (λ stop. StopsFor (FirstStops stop (counters_of run.old.limits)
         (change_lines (S.left shelf.old) run.old)) stop) }
-    ensures readers { KeepsReaders S.Shelf shelf.old shelf.new run.old run.new }
-    ensures blamed { BlamesReaders S.Shelf shelf.old shelf.new run.old run.new result }
-    ensures answers { AnswersLine (length (opened_file_names run.old.names))
-        (counters_of run.old.limits)
-        (counters_of run.new.limits) line.new.items result }
-    ensures only { OnlyTakes run.old run.new }
     ensures stack { run.new.stack ≡ run.old.stack }
 {
     take_from(shelf, &mut run.change, &mut run.limits, line)
@@ -91,8 +82,7 @@ pub fn take_raw<S: Shelf>(
     line: &mut Vec<u8>,
 ) -> Result<Option<LineAt>, Stop>
     requires { S.failed shelf.old + 1 < 2 ^ 64 }
-    ensures keeps { KeepsShelf S.Shelf shelf.old shelf.new }
-    ensures failed { CountsReadStop (S.failed shelf.old) (S.failed shelf.new) result }
+    ensures takes { TakesLine S.Shelf shelf.old shelf.new run.old run.new line.new.items result }
     ensures taken { IsTrue (S.tells shelf.old) →
         IfOk result (λ at. TakesAbove (S.left shelf.old) (S.left shelf.new)
         (floor_of run.old.stage) run.old.stack run.new.stack at line.new.items
@@ -100,13 +90,7 @@ pub fn take_raw<S: Shelf>(
     ensures stops { IsTrue (S.tells shelf.old) →
         IfErr result (λ stop. StopsFor (StopsAbove (S.left shelf.old)
         (floor_of run.old.stage) run.old.stack stop (counters_of run.old.limits)) stop) }
-    ensures readers { KeepsReaders S.Shelf shelf.old shelf.new run.old run.new }
-    ensures blamed { BlamesReaders S.Shelf shelf.old shelf.new run.old run.new result }
     ensures closes { ClosesAbove (floor_of run.old.stage) run.old.stack run.new.stack result }
-    ensures answers { AnswersLine (length (opened_file_names run.old.names))
-        (counters_of run.old.limits)
-        (counters_of run.new.limits) line.new.items result }
-    ensures only { OnlyTakes run.old run.new }
     ensures change { run.new.change ≡ run.old.change }
 {
     let low = run.floor();

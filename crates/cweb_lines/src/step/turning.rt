@@ -1,19 +1,9 @@
 // One step of a merger.
-ghost use Rattle.std.specs.Prelude.{◌≡◌, ◌≤◌, ◌<◌, ◌+◌, ◌^◌, length, IsTrue, IfOk, IfErr, Ok, OnOk};
-ghost use Rattle.std.specs.Prelude.{OnErr};
-ghost use Rattle.cweb_files.specs.surface.Frames.{KeepsShelf};
-ghost use Rattle.cweb_lines.specs.inner.StepCalls.{Turns};
-ghost use Rattle.cweb_lines.specs.surface.MergeProgress.{EmitsLines, KeepsReported, Stopped};
-ghost use Rattle.cweb_lines.specs.surface.MergeProgress.{ReportsPrefix, NothingLeft};
-ghost use Rattle.cweb_lines.specs.surface.MergeProgress.{events_to_come, so_far_of};
-ghost use Rattle.cweb_lines.specs.inner.MergeProgress.{TurnLine, TurnGains, TurnCounts};
-ghost use Rattle.cweb_lines.specs.inner.MergeProgress.{TurnEnds, TurnKnown, turn_lines};
-ghost use Rattle.cweb_input.specs.surface.OpenedFileNames.{opened_file_names};
+ghost use Rattle.std.specs.Prelude.{◌≡◌, ◌<◌, ◌+◌, ◌^◌, Ok};
+ghost use Rattle.cweb_lines.specs.surface.MergeProgress.{NothingLeft};
 ghost use Rattle.cweb_lines.specs.inner.Stages.{IsSettled, begun_by, floor_of};
 ghost use Rattle.cweb_lines.specs.surface.Stages.{pending_in};
-ghost use Rattle.cweb_input.specs.surface.OpenSources.{CountsReadStop, StopsReading};
-ghost use Rattle.cweb_input.specs.surface.OpenSources.{files_named};
-ghost use Rattle.cweb_lines.specs.inner.MergeReaderNames.{BlamesReaders, KeepsReaders};
+ghost use Rattle.cweb_lines.specs.inner.StepCalls.{TakesTurn};
 
 use crate::change::code::{Code, change_code};
 use crate::change::old_side::begin_change;
@@ -36,22 +26,7 @@ fn take_new<S: Shelf>(
     requires count { S.failed shelf.old + 1 < 2 ^ 64 }
     requires changing { run.old.stage ≡ Stage.Changing change }
     requires below { run.old.stack.depth ≡ change.below }
-    ensures keeps { KeepsShelf S.Shelf shelf.old shelf.new }
-    ensures failed { CountsReadStop (S.failed shelf.old) (S.failed shelf.new) result }
-    ensures turns { Turns run.old run.new line.new.items result }
-    ensures still { KeepsReported (so_far_of run.old) (so_far_of run.new) }
-    ensures readers { KeepsReaders S.Shelf shelf.old shelf.new run.old run.new }
-    ensures blamed { BlamesReaders S.Shelf shelf.old shelf.new run.old run.new result }
-    ensures yields { IsTrue (S.tells shelf.old) →
-        IfOk result (λ turn. EmitsLines (turn_lines turn line.new.items) (so_far_of run.old)
-        (so_far_of run.new) (events_to_come (S.texts shelf.old) (S.left shelf.old) run.old)
-        (events_to_come (S.texts shelf.new) (S.left shelf.new) run.new)) }
-    ensures reported { IsTrue (S.tells shelf.old) →
-        OnErr result (ReportsPrefix (so_far_of run.old) (so_far_of run.new)
-        (events_to_come (S.texts shelf.old) (S.left shelf.old) run.old)) }
-    ensures stops { IsTrue (S.tells shelf.old) →
-        IfErr result (λ stop. Stopped stop (so_far_of run.old) (so_far_of run.new)
-        (events_to_come (S.texts shelf.old) (S.left shelf.old) run.old)) }
+    ensures { TakesTurn S.Shelf shelf.old shelf.new run.old run.new line.new.items result }
 {
     let taken = match take_change(shelf, run, line) {
         Ok(taken) => taken,
@@ -95,22 +70,7 @@ fn take_end<S: Shelf>(
     requires count { S.failed shelf.old + 1 < 2 ^ 64 }
     requires settled { IsSettled run.old.stage }
     requires floor { run.old.stack.depth ≡ floor_of run.old.stage }
-    ensures keeps { KeepsShelf S.Shelf shelf.old shelf.new }
-    ensures failed { CountsReadStop (S.failed shelf.old) (S.failed shelf.new) result }
-    ensures turns { Turns run.old run.new line.new.items result }
-    ensures still { KeepsReported (so_far_of run.old) (so_far_of run.new) }
-    ensures readers { KeepsReaders S.Shelf shelf.old shelf.new run.old run.new }
-    ensures blamed { BlamesReaders S.Shelf shelf.old shelf.new run.old run.new result }
-    ensures yields { IsTrue (S.tells shelf.old) →
-        IfOk result (λ turn. EmitsLines (turn_lines turn line.new.items) (so_far_of run.old)
-        (so_far_of run.new) (events_to_come (S.texts shelf.old) (S.left shelf.old) run.old)
-        (events_to_come (S.texts shelf.new) (S.left shelf.new) run.new)) }
-    ensures reported { IsTrue (S.tells shelf.old) →
-        OnErr result (ReportsPrefix (so_far_of run.old) (so_far_of run.new)
-        (events_to_come (S.texts shelf.old) (S.left shelf.old) run.old)) }
-    ensures stops { IsTrue (S.tells shelf.old) →
-        IfErr result (λ stop. Stopped stop (so_far_of run.old) (so_far_of run.new)
-        (events_to_come (S.texts shelf.old) (S.left shelf.old) run.old)) }
+    ensures { TakesTurn S.Shelf shelf.old shelf.new run.old run.new line.new.items result }
 {
     match run.stage {
         Stage::Done | Stage::Seeking => Ok(Turn::Ended),
@@ -142,24 +102,9 @@ pub fn take_turn<S: Shelf>(
     line: &mut Vec<u8>,
 ) -> Result<Turn, Stop>
     requires count { S.failed shelf.old + 1 < 2 ^ 64 }
-    ensures keeps { KeepsShelf S.Shelf shelf.old shelf.new }
-    ensures failed { CountsReadStop (S.failed shelf.old) (S.failed shelf.new) result }
-    ensures turns { Turns run.old run.new line.new.items result }
+    ensures turn { TakesTurn S.Shelf shelf.old shelf.new run.old run.new line.new.items result }
     ensures ended { NothingLeft run.old → (result ≡ Ok Turn.Ended) × (run.new ≡ run.old)
         × (shelf.new ≡ shelf.old) }
-    ensures still { KeepsReported (so_far_of run.old) (so_far_of run.new) }
-    ensures readers { KeepsReaders S.Shelf shelf.old shelf.new run.old run.new }
-    ensures blamed { BlamesReaders S.Shelf shelf.old shelf.new run.old run.new result }
-    ensures yields { IsTrue (S.tells shelf.old) →
-        IfOk result (λ turn. EmitsLines (turn_lines turn line.new.items) (so_far_of run.old)
-        (so_far_of run.new) (events_to_come (S.texts shelf.old) (S.left shelf.old) run.old)
-        (events_to_come (S.texts shelf.new) (S.left shelf.new) run.new)) }
-    ensures reported { IsTrue (S.tells shelf.old) →
-        OnErr result (ReportsPrefix (so_far_of run.old) (so_far_of run.new)
-        (events_to_come (S.texts shelf.old) (S.left shelf.old) run.old)) }
-    ensures stops { IsTrue (S.tells shelf.old) →
-        IfErr result (λ stop. Stopped stop (so_far_of run.old) (so_far_of run.new)
-        (events_to_come (S.texts shelf.old) (S.left shelf.old) run.old)) }
 {
     if run.has_ended() {
         return Ok(Turn::Ended);
@@ -181,22 +126,7 @@ fn take_settled<S: Shelf>(
 ) -> Result<Turn, Stop>
     requires count { S.failed shelf.old + 1 < 2 ^ 64 }
     requires settled { IsSettled run.old.stage }
-    ensures keeps { KeepsShelf S.Shelf shelf.old shelf.new }
-    ensures failed { CountsReadStop (S.failed shelf.old) (S.failed shelf.new) result }
-    ensures turns { Turns run.old run.new line.new.items result }
-    ensures still { KeepsReported (so_far_of run.old) (so_far_of run.new) }
-    ensures readers { KeepsReaders S.Shelf shelf.old shelf.new run.old run.new }
-    ensures blamed { BlamesReaders S.Shelf shelf.old shelf.new run.old run.new result }
-    ensures yields { IsTrue (S.tells shelf.old) →
-        IfOk result (λ turn. EmitsLines (turn_lines turn line.new.items) (so_far_of run.old)
-        (so_far_of run.new) (events_to_come (S.texts shelf.old) (S.left shelf.old) run.old)
-        (events_to_come (S.texts shelf.new) (S.left shelf.new) run.new)) }
-    ensures reported { IsTrue (S.tells shelf.old) →
-        OnErr result (ReportsPrefix (so_far_of run.old) (so_far_of run.new)
-        (events_to_come (S.texts shelf.old) (S.left shelf.old) run.old)) }
-    ensures stops { IsTrue (S.tells shelf.old) →
-        IfErr result (λ stop. Stopped stop (so_far_of run.old) (so_far_of run.new)
-        (events_to_come (S.texts shelf.old) (S.left shelf.old) run.old)) }
+    ensures { TakesTurn S.Shelf shelf.old shelf.new run.old run.new line.new.items result }
 {
     let taken = match take_raw(shelf, run, line) {
         Ok(taken) => taken,

@@ -1,19 +1,33 @@
 -- The names so far, and which of them an occurrence fits.
-use Rattle.std.specs.Prelude.{ℕ, ◌+◌, Bool, false, List, [], ◌∷◌, Some, None, Ok, Err, map, slice_get, bytes_eq}
-use Rattle.std.specs.List.{position_or_len}
+use Rattle.std.specs.Prelude.{ℕ, ◌+◌, ◌<◌, Bool, length, false, List, [], ◌∷◌, Some, None, Ok, Err, map, slice_get, bytes_eq}
+use Rattle.std.specs.List.{AllByRecursion, position_or_len}
 use Rattle.cweb_names.specs.declared.name.How.TheVariants.{Full, Prefix}
 use Rattle.cweb_names.specs.declared.name.NameKind.TheVariants.{Ambiguous}
 use Rattle.cweb_names.specs.declared.found.Found.{Found}
-use Rattle.cweb_names.specs.declared.known.KnownName.{KnownName}
+use Rattle.cweb_texts.specs.inner.StringLists.{string_at}
 use Rattle.cweb_names.specs.declared.found.Found.TheVariants.{Nothing, One, Several}
 use Rattle.cweb_names.specs.Names.{Occurrence, Name, Resolution, id, spellings, beginning, with_occurrence_name}
-use Rattle.cweb_names.specs.inner.Found.{found_of}
+use Rattle.cweb_names.specs.inner.Found.{found_of, IsNameMap, NameEntry}
 
-abbrev pub known_name_model : KnownName → Name
-known_name_model n = record { text = n.text.items; first = n.first }
+-- The spellings of the occurrences so far, and the names that are given in full among them.
+pub record NamesSoFar : Type 0 where
+  pub strings : List (List ℕ)
+  pub names : List Name
 
-abbrev pub known_names_model : List KnownName → List Name
-known_names_model ns = map known_name_model ns
+abbrev pub no_names : NamesSoFar
+no_names = record { strings = []; names = [] }
+
+-- The name that an occurrence first gives in full.
+abbrev pub name_at : List (List ℕ) → ℕ → Name
+name_at strings first = record { text = string_at strings first; first = first }
+
+abbrev pub names_at : List (List ℕ) → List ℕ → List Name
+names_at strings firsts = map (name_at strings) firsts
+
+-- The names are those of the map. Each has an occurrence of its own.
+pub record AreKnown (strings : List (List ℕ)) (firsts : List ℕ) (es : List NameEntry) : Type 0 where
+  pub sorted : IsNameMap es (names_at strings firsts)
+  pub within : AllByRecursion (λ (first : ℕ). first < length strings) firsts
 
 abbrev pub has_spelling_at : List Name → ℕ → List ℕ → Bool
 has_spelling_at names i text = elim (slice_get names i) [ Some n ↦ bytes_eq n.text text | None ↦ false ]

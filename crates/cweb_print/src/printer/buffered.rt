@@ -1,6 +1,6 @@
 // Prints into the buffer of a sink.
 ghost use Rattle.std.specs.Prelude.{◌≡◌, ◌≤◌, ◌<◌, ◌+◌, ◌^◌, ◌++◌, length, IsTrue, OnOk, OnErr};
-ghost use Rattle.cweb_files.specs.Bins.{CountsFailure};
+ghost use Rattle.cweb_files.specs.surface.Frames.{KeepsSink};
 ghost use Rattle.cweb_store.specs.Parts.{Defs};
 ghost use Rattle.cweb_store.specs.surface.TokenModels.{token_model};
 ghost use Rattle.cweb_print.specs.declared.buffer.TheConstants.{ROOM, SHORT};
@@ -25,9 +25,7 @@ impl<'a> Printer<'a> {
     ) -> Result<(), SinkFault>
         requires count { W.failed out.old + 1 < 2 ^ 64 }
         requires named { MarkFileIsNamed (setting_of self.old) (token_model token) }
-        ensures tells { W.tells out.new ≡ W.tells out.old }
-        ensures failed { CountsFailure (W.failed out.old) (W.failed out.new) result }
-        ensures beside { IsTrue (W.tells out.old) → W.beside out.new ≡ W.beside out.old }
+        ensures keeps { KeepsSink W.Sink out.old out.new result }
         ensures setting { setting_of self.new ≡ setting_of self.old }
         ensures moves { OnOk result
             (Moves (left_in_printer self.old) (token_model token.entry) (left_in_printer self.new)) }
@@ -56,9 +54,7 @@ impl<'a> Printer<'a> {
         requires count { W.failed out.old + 1 < 2 ^ 64 }
         requires named { MarkFileIsNamed (setting_of self.old) (token_model token.now) }
         requires room { length buffer.old + SHORT ≤ ROOM }
-        ensures tells { W.tells out.new ≡ W.tells out.old }
-        ensures failed { CountsFailure (W.failed out.old) (W.failed out.new) result }
-        ensures beside { IsTrue (W.tells out.old) → W.beside out.new ≡ W.beside out.old }
+        ensures keeps { KeepsSink W.Sink out.old out.new result }
         ensures setting { setting_of self.new ≡ setting_of self.old }
         ensures moves { OnOk result
             (Moves (left_in_printer self.old) (token_model token.now) (left_in_printer self.new)) }
@@ -67,21 +63,19 @@ impl<'a> Printer<'a> {
             (W.written out.old ++ buffer.old) (W.written out.new ++ buffer.new) result }
     {
         let mut text = ShortBuffer::new();
-        if self.print(token, &mut text).is_ok() {
+        if self.write(*token, &mut text).is_ok() {
             buffer.add(text.as_slice());
             return Ok(());
         }
         buffer.flush(out)?;
-        self.print(token, out)
+        self.write(*token, out)
     }
 
     // Prints the macro lines. A short string fits the buffer.
     fn append_defs<W: Sink>(&mut self, buffer: &mut OutBuffer, out: &mut W) -> Result<(), SinkFault>
         requires count { W.failed out.old + 1 < 2 ^ 64 }
         requires room { length buffer.old + SHORT ≤ ROOM }
-        ensures tells { W.tells out.new ≡ W.tells out.old }
-        ensures failed { CountsFailure (W.failed out.old) (W.failed out.new) result }
-        ensures beside { IsTrue (W.tells out.old) → W.beside out.new ≡ W.beside out.old }
+        ensures keeps { KeepsSink W.Sink out.old out.new result }
         ensures setting { setting_of self.new ≡ setting_of self.old }
         ensures moves { OnOk result
             (Moves (left_in_printer self.old) Defs (left_in_printer self.new)) }

@@ -1,10 +1,10 @@
 // Prints macro lines into the buffer of a sink.
 ghost use Rattle.std.specs.Prelude.{◌≡◌, ◌≤◌, ◌<◌, ◌+◌, ◌^◌, ◌++◌, flat_map, length, take, true};
 ghost use Rattle.std.specs.Prelude.{false, IfSome, IsTrue};
-ghost use Rattle.cweb_files.specs.Bins.{CountsFailure};
+ghost use Rattle.cweb_files.specs.surface.Frames.{KeepsSink};
+ghost use Rattle.cweb_files.specs.inner.Appends.{Wrote};
 ghost use Rattle.cweb_texts.specs.inner.Edges.{token_bytes_model};
 ghost use Rattle.cweb_store.specs.Parts.{all_tokens};
-ghost use Rattle.cweb_print.specs.inner.Writing.{Wrote};
 ghost use Rattle.cweb_print.specs.declared.buffer.TheConstants.{ROOM};
 ghost use Rattle.cweb_print.specs.inner.EdgeSpacing.{continued_by};
 ghost use Rattle.cweb_print.specs.inner.Classes.{all_added, macro_by};
@@ -27,9 +27,7 @@ pub(crate) fn append_macros<W: Sink>(
     out: &mut W,
 ) -> Result<(), SinkFault>
     requires { W.failed out.old + 1 < 2 ^ 64 }
-    ensures tells { W.tells out.new ≡ W.tells out.old }
-    ensures failed { CountsFailure (W.failed out.old) (W.failed out.new) result }
-    ensures beside { IsTrue (W.tells out.old) → W.beside out.new ≡ W.beside out.old }
+    ensures keeps { KeepsSink W.Sink out.old out.new result }
     ensures wrote { IsTrue (W.tells out.old)
         → Wrote (W.written out.old ++ buffer.old) (W.written out.new ++ buffer.new)
         (flat_map (macro_line (replaced_in store.now)) (macros store.now)) result }
@@ -51,9 +49,7 @@ fn append_macro<W: Sink>(
     requires count { W.failed out.old + 1 < 2 ^ 64 }
     requires ordered { part.first ≤ part.after }
     requires within { part.after ≤ length (all_tokens store.now.parts) }
-    ensures tells { W.tells out.new ≡ W.tells out.old }
-    ensures failed { CountsFailure (W.failed out.old) (W.failed out.new) result }
-    ensures beside { IsTrue (W.tells out.old) → W.beside out.new ≡ W.beside out.old }
+    ensures keeps { KeepsSink W.Sink out.old out.new result }
     ensures wrote { IsTrue (W.tells out.old)
         → Wrote (W.written out.old ++ buffer.old) (W.written out.new ++ buffer.new)
         (macro_line (replaced_in store.now) (tokens_of_part store.now part)) result }

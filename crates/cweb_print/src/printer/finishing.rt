@@ -1,6 +1,6 @@
 // The end of a buffered file.
 ghost use Rattle.std.specs.Prelude.{◌≡◌, ◌<◌, ◌+◌, ◌^◌, ◌++◌, [], IsTrue, OnOk, OnErr};
-ghost use Rattle.cweb_files.specs.Bins.{CountsFailure};
+ghost use Rattle.cweb_files.specs.surface.Frames.{KeepsSink};
 ghost use Rattle.cweb_print.specs.surface.Classes.{left_after_tokens};
 ghost use Rattle.cweb_print.specs.surface.Printed.{EndsFile, left_in_printer, setting_of};
 
@@ -13,9 +13,7 @@ impl<'a> Printer<'a> {
     /// Ends the last line of a file, flushes the buffer, and resets to the start of the next file.
     pub fn finish<W: Sink>(&mut self, buffer: &mut OutBuffer, out: &mut W) -> Result<(), SinkFault>
         requires { W.failed out.old + 1 < 2 ^ 64 }
-        ensures tells { W.tells out.new ≡ W.tells out.old }
-        ensures failed { CountsFailure (W.failed out.old) (W.failed out.new) result }
-        ensures beside { IsTrue (W.tells out.old) → W.beside out.new ≡ W.beside out.old }
+        ensures keeps { KeepsSink W.Sink out.old out.new result }
         ensures setting { setting_of self.new ≡ setting_of self.old }
         ensures left { OnOk result (left_after_tokens [] ≡ left_in_printer self.new) }
         ensures err { OnErr result (self.new ≡ self.old) }

@@ -1,9 +1,8 @@
 // Writes macro lines to a sink.
-ghost use Rattle.std.specs.Prelude.{◌≡◌, ◌≤◌, ◌<◌, ◌+◌, ◌^◌, ◌++◌, IsTrue, length, slice_range};
-ghost use Rattle.cweb_files.specs.Bins.{CountsFailure};
+ghost use Rattle.std.specs.Prelude.{◌≡◌, ◌≤◌, ◌<◌, ◌+◌, ◌^◌, ◌++◌, length, slice_range};
+ghost use Rattle.cweb_files.specs.inner.Appends.{Appends};
 ghost use Rattle.cweb_store.specs.surface.TokenModels.{token_model};
 ghost use Rattle.cweb_store.specs.Parts.{all_tokens};
-ghost use Rattle.cweb_print.specs.inner.Writing.{Wrote};
 ghost use Rattle.cweb_print.specs.Printing.{macro_line, macros, replaced_in};
 ghost use Rattle.cweb_print.specs.inner.Classes.{added, all_added, continuation_bytes, macro_by};
 ghost use Rattle.cweb_print.specs.surface.Classes.{at_start};
@@ -20,11 +19,7 @@ use cweb_store::{Part, Store, Token};
 #[inline(never)]
 pub(crate) fn write_macros<W: Sink>(store: &Store, out: &mut W) -> Result<(), SinkFault>
     requires { W.failed out.old + 1 < 2 ^ 64 }
-    ensures tells { W.tells out.new ≡ W.tells out.old }
-    ensures failed { CountsFailure (W.failed out.old) (W.failed out.new) result }
-    ensures beside { IsTrue (W.tells out.old) → W.beside out.new ≡ W.beside out.old }
-    ensures wrote { IsTrue (W.tells out.old)
-        → Wrote (W.written out.old) (W.written out.new)
+    ensures wrote { Appends W.Sink out.old out.new
         (flat_map (macro_line (replaced_in store.now)) (macros store.now)) result }
 {
     let mut parts = store.macros();
@@ -38,11 +33,7 @@ pub(crate) fn write_macro<W: Sink>(store: &Store, part: Part, out: &mut W) -> Re
     requires count { W.failed out.old + 1 < 2 ^ 64 }
     requires ordered { part.first ≤ part.after }
     requires within { part.after ≤ length (all_tokens store.now.parts) }
-    ensures tells { W.tells out.new ≡ W.tells out.old }
-    ensures failed { CountsFailure (W.failed out.old) (W.failed out.new) result }
-    ensures beside { IsTrue (W.tells out.old) → W.beside out.new ≡ W.beside out.old }
-    ensures wrote { IsTrue (W.tells out.old)
-        → Wrote (W.written out.old) (W.written out.new)
+    ensures wrote { Appends W.Sink out.old out.new
         (macro_line (replaced_in store.now) (tokens_of_part store.now part)) result }
 {
     write_chunk(out, b"#define ")?;
@@ -54,13 +45,9 @@ fn write_macro_tokens<W: Sink>(store: &Store, part: Part, out: &mut W) -> Result
     requires count { W.failed out.old + 1 < 2 ^ 64 }
     requires ordered { part.first ≤ part.after }
     requires within { part.after ≤ length (all_tokens store.now.parts) }
-    ensures tells { W.tells out.new ≡ W.tells out.old }
-    ensures failed { CountsFailure (W.failed out.old) (W.failed out.new) result }
-    ensures beside { IsTrue (W.tells out.old) → W.beside out.new ≡ W.beside out.old }
-    ensures wrote { IsTrue (W.tells out.old)
-        → Wrote (W.written out.old) (W.written out.new)
-        (all_added (macro_by (replaced_in store.now)) at_start (tokens_of_part store.now part))
-        result }
+    ensures wrote { Appends W.Sink out.old out.new
+        (all_added (macro_by (replaced_in store.now)) at_start
+        (tokens_of_part store.now part)) result }
 {
     let mut left = Left::start();
     'tokens: for number in part.first..part.after {
@@ -78,11 +65,7 @@ fn write_macro_token<W: Sink>(
     out: &mut W,
 ) -> Result<(), SinkFault>
     requires { W.failed out.old + 1 < 2 ^ 64 }
-    ensures tells { W.tells out.new ≡ W.tells out.old }
-    ensures failed { CountsFailure (W.failed out.old) (W.failed out.new) result }
-    ensures beside { IsTrue (W.tells out.old) → W.beside out.new ≡ W.beside out.old }
-    ensures wrote { IsTrue (W.tells out.old)
-        → Wrote (W.written out.old) (W.written out.new)
+    ensures wrote { Appends W.Sink out.old out.new
         (added (macro_by (replaced_in store.now)) left (token_model token.now)) result }
 {
     if left.drops(token) {

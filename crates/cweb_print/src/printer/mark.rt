@@ -1,8 +1,7 @@
 // Line marks (`#line`).
-ghost use Rattle.std.specs.Prelude.{◌≡◌, ◌<◌, ◌+◌, ◌^◌, ◌++◌, IsTrue};
+ghost use Rattle.std.specs.Prelude.{◌≡◌, ◌<◌, ◌+◌, ◌^◌, ◌++◌};
 ghost use Rattle.std.specs.List.{list_any};
-ghost use Rattle.cweb_files.specs.Bins.{CountsFailure};
-ghost use Rattle.cweb_print.specs.inner.Writing.{Wrote};
+ghost use Rattle.cweb_files.specs.inner.Appends.{Appends};
 ghost use Rattle.cweb_print.specs.Printing.{mark_line, quoted, quoted_byte};
 ghost use Rattle.cweb_print.specs.inner.PrintParts.{wants_backslash};
 
@@ -19,12 +18,7 @@ pub(crate) fn write_mark<W: Sink>(
     out: &mut W,
 ) -> Result<(), SinkFault>
     requires { W.failed out.old + 1 < 2 ^ 64 }
-    ensures tells { W.tells out.new ≡ W.tells out.old }
-    ensures failed { CountsFailure (W.failed out.old) (W.failed out.new) result }
-    ensures beside { IsTrue (W.tells out.old) → W.beside out.new ≡ W.beside out.old }
-    ensures wrote { IsTrue (W.tells out.old)
-        → Wrote (W.written out.old) (W.written out.new)
-        (begin.now ++ mark_line name.now line) result }
+    ensures wrote { Appends W.Sink out.old out.new (begin.now ++ mark_line name.now line) result }
 {
     if has_quotable(name) {
         return write_quoted_mark(begin, name, line, out);
@@ -52,12 +46,7 @@ fn write_quoted_mark<W: Sink>(
     out: &mut W,
 ) -> Result<(), SinkFault>
     requires { W.failed out.old + 1 < 2 ^ 64 }
-    ensures tells { W.tells out.new ≡ W.tells out.old }
-    ensures failed { CountsFailure (W.failed out.old) (W.failed out.new) result }
-    ensures beside { IsTrue (W.tells out.old) → W.beside out.new ≡ W.beside out.old }
-    ensures wrote { IsTrue (W.tells out.old)
-        → Wrote (W.written out.old) (W.written out.new)
-        (begin.now ++ mark_line name.now line) result }
+    ensures wrote { Appends W.Sink out.old out.new (begin.now ++ mark_line name.now line) result }
 {
     let mut digits = Buffer::new();
     write_chunks(
@@ -70,11 +59,7 @@ fn write_quoted_mark<W: Sink>(
 
 fn write_quoted<W: Sink>(name: &[u8], out: &mut W) -> Result<(), SinkFault>
     requires { W.failed out.old + 1 < 2 ^ 64 }
-    ensures tells { W.tells out.new ≡ W.tells out.old }
-    ensures failed { CountsFailure (W.failed out.old) (W.failed out.new) result }
-    ensures beside { IsTrue (W.tells out.old) → W.beside out.new ≡ W.beside out.old }
-    ensures wrote { IsTrue (W.tells out.old)
-        → Wrote (W.written out.old) (W.written out.new) (quoted name.now) result }
+    ensures wrote { Appends W.Sink out.old out.new (quoted name.now) result }
 {
     'bytes: for byte in name {
         write_quoted_byte(*byte, out)?;
@@ -84,11 +69,7 @@ fn write_quoted<W: Sink>(name: &[u8], out: &mut W) -> Result<(), SinkFault>
 
 fn write_quoted_byte<W: Sink>(byte: u8, out: &mut W) -> Result<(), SinkFault>
     requires { W.failed out.old + 1 < 2 ^ 64 }
-    ensures tells { W.tells out.new ≡ W.tells out.old }
-    ensures failed { CountsFailure (W.failed out.old) (W.failed out.new) result }
-    ensures beside { IsTrue (W.tells out.old) → W.beside out.new ≡ W.beside out.old }
-    ensures wrote { IsTrue (W.tells out.old)
-        → Wrote (W.written out.old) (W.written out.new) (quoted_byte byte) result }
+    ensures wrote { Appends W.Sink out.old out.new (quoted_byte byte) result }
 {
     if wants_backslash(byte) {
         write_chunk(out, &[b'\\', byte])

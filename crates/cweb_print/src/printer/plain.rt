@@ -1,9 +1,8 @@
 // The bytes of tokens that don't depend on the previous token.
-ghost use Rattle.std.specs.Prelude.{◌≡◌, ◌<◌, ◌+◌, ◌^◌, IsTrue, nat_le};
+ghost use Rattle.std.specs.Prelude.{◌≡◌, ◌<◌, ◌+◌, ◌^◌, nat_le};
 ghost use Rattle.std.specs.List.{list_any};
-ghost use Rattle.cweb_files.specs.Bins.{CountsFailure};
+ghost use Rattle.cweb_files.specs.inner.Appends.{Appends};
 ghost use Rattle.cweb_store.specs.surface.TokenModels.{token_model};
-ghost use Rattle.cweb_print.specs.inner.Writing.{Wrote};
 ghost use Rattle.cweb_print.specs.Printing.{plain_bytes, word_byte, word_bytes};
 ghost use Rattle.cweb_print.specs.inner.PrintParts.{numbered_comment};
 ghost use Rattle.cweb_print.specs.Printing.{default_replacement, hex_digit, replaced_in};
@@ -23,11 +22,7 @@ fn hex_digit(n: u8) -> u8
 // The replacement of a byte from 128 on: the store's, or `X` and two hexadecimal digits.
 fn write_replaced<W: Sink>(store: &Store, byte: u8, out: &mut W) -> Result<(), SinkFault>
     requires { W.failed out.old + 1 < 2 ^ 64 }
-    ensures tells { W.tells out.new ≡ W.tells out.old }
-    ensures failed { CountsFailure (W.failed out.old) (W.failed out.new) result }
-    ensures beside { IsTrue (W.tells out.old) → W.beside out.new ≡ W.beside out.old }
-    ensures wrote { IsTrue (W.tells out.old)
-        → Wrote (W.written out.old) (W.written out.new) (replaced_in store.now byte) result }
+    ensures wrote { Appends W.Sink out.old out.new (replaced_in store.now byte) result }
 {
     match store.replacement(byte) {
         Some(text) => write_chunk(out, text),
@@ -37,12 +32,7 @@ fn write_replaced<W: Sink>(store: &Store, byte: u8, out: &mut W) -> Result<(), S
 
 fn write_word_byte<W: Sink>(store: &Store, byte: u8, out: &mut W) -> Result<(), SinkFault>
     requires { W.failed out.old + 1 < 2 ^ 64 }
-    ensures tells { W.tells out.new ≡ W.tells out.old }
-    ensures failed { CountsFailure (W.failed out.old) (W.failed out.new) result }
-    ensures beside { IsTrue (W.tells out.old) → W.beside out.new ≡ W.beside out.old }
-    ensures wrote { IsTrue (W.tells out.old)
-        → Wrote (W.written out.old) (W.written out.new)
-        (word_byte (replaced_in store.now) byte) result }
+    ensures wrote { Appends W.Sink out.old out.new (word_byte (replaced_in store.now) byte) result }
 {
     if byte >= 128 {
         write_replaced(store, byte, out)
@@ -54,11 +44,7 @@ fn write_word_byte<W: Sink>(store: &Store, byte: u8, out: &mut W) -> Result<(), 
 // Most Words are ASCII and need only one write.
 fn write_word<W: Sink>(store: &Store, bytes: &[u8], out: &mut W) -> Result<(), SinkFault>
     requires { W.failed out.old + 1 < 2 ^ 64 }
-    ensures tells { W.tells out.new ≡ W.tells out.old }
-    ensures failed { CountsFailure (W.failed out.old) (W.failed out.new) result }
-    ensures beside { IsTrue (W.tells out.old) → W.beside out.new ≡ W.beside out.old }
-    ensures wrote { IsTrue (W.tells out.old)
-        → Wrote (W.written out.old) (W.written out.new)
+    ensures wrote { Appends W.Sink out.old out.new
         (word_bytes (replaced_in store.now) bytes.now) result }
 {
     if has_high_byte(bytes) {
@@ -71,11 +57,7 @@ fn write_word<W: Sink>(store: &Store, bytes: &[u8], out: &mut W) -> Result<(), S
 #[inline(never)]
 fn write_word_bytes<W: Sink>(store: &Store, bytes: &[u8], out: &mut W) -> Result<(), SinkFault>
     requires { W.failed out.old + 1 < 2 ^ 64 }
-    ensures tells { W.tells out.new ≡ W.tells out.old }
-    ensures failed { CountsFailure (W.failed out.old) (W.failed out.new) result }
-    ensures beside { IsTrue (W.tells out.old) → W.beside out.new ≡ W.beside out.old }
-    ensures wrote { IsTrue (W.tells out.old)
-        → Wrote (W.written out.old) (W.written out.new)
+    ensures wrote { Appends W.Sink out.old out.new
         (word_bytes (replaced_in store.now) bytes.now) result }
 {
     'bytes: for byte in bytes {
@@ -98,11 +80,7 @@ fn write_numbered<W: Sink>(
     out: &mut W,
 ) -> Result<(), SinkFault>
     requires { W.failed out.old + 1 < 2 ^ 64 }
-    ensures tells { W.tells out.new ≡ W.tells out.old }
-    ensures failed { CountsFailure (W.failed out.old) (W.failed out.new) result }
-    ensures beside { IsTrue (W.tells out.old) → W.beside out.new ≡ W.beside out.old }
-    ensures wrote { IsTrue (W.tells out.old)
-        → Wrote (W.written out.old) (W.written out.new)
+    ensures wrote { Appends W.Sink out.old out.new
         (numbered_comment before.now section after.now) result }
 {
     let mut digits = Buffer::new();
@@ -117,11 +95,7 @@ pub(crate) fn write_plain<W: Sink>(
     out: &mut W,
 ) -> Result<(), SinkFault>
     requires { W.failed out.old + 1 < 2 ^ 64 }
-    ensures tells { W.tells out.new ≡ W.tells out.old }
-    ensures failed { CountsFailure (W.failed out.old) (W.failed out.new) result }
-    ensures beside { IsTrue (W.tells out.old) → W.beside out.new ≡ W.beside out.old }
-    ensures wrote { IsTrue (W.tells out.old)
-        → Wrote (W.written out.old) (W.written out.new)
+    ensures wrote { Appends W.Sink out.old out.new
         (plain_bytes (replaced_in store.now) (token_model token.now)) result }
 {
     match token {

@@ -1,6 +1,7 @@
 -- Items that are still open at the end of their line.
 use Rattle.std.specs.Prelude.{◌≡◌, ◌≢◌, ℕ, ◌+◌, Bool, true, false, ◌&&◌, ◌||◌, List, [], ◌∷◌, length, drop, codes}
 use Rattle.std.specs.Prelude.{if◌then◌else◌}
+use Rattle.std.specs.Coded.{×_prop, →_prop, Unit-prop}
 use Rattle.cweb_rules.specs.Bytes.{is_blank, is_line_end, begins, at_line_end, starts_section}
 use Rattle.cweb_texts.specs.Edges.{first_is}
 use Rattle.cweb_rules.specs.declared.effect.Effect.{Effect}
@@ -18,6 +19,11 @@ use Rattle.cweb_rules.specs.declared.context.Context.TheVariants.{Limbo, TeX, De
 abbrev pub IsLine : List ℕ → Type 0
 IsLine [] = Unit {0}
 IsLine (b ∷ t) = (b ≢ 10) × IsLine t
+
+-- It has one proof at most, so that a type can have it as a ghost field.
+pub IsLine-prop : (t : List ℕ) → IsProp (IsLine t)
+IsLine-prop [] = Unit-prop
+IsLine-prop (b ∷ t) = ×_prop (→_prop (elim [ ])) (IsLine-prop t)
 
 abbrev pub AtLineEnd : List ℕ → Type 0
 AtLineEnd [] = Unit {0}

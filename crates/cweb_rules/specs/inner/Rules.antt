@@ -1,5 +1,5 @@
--- The rules as values of the types `Rule` and `TexRule`.
-use Rattle.std.specs.Prelude.{ℕ, Bool, ◌&&◌, ◌||◌, not, ◌==◌, List, [], ◌∷◌, codes, if◌then◌else◌}
+-- The rules as values of the type `Rule`.
+use Rattle.std.specs.Prelude.{ℕ, Bool, ◌&&◌, ◌||◌, not, List, [], ◌∷◌, codes, if◌then◌else◌}
 use Rattle.std.specs.List.{prefix_len}
 use Rattle.cweb_rules.specs.Bytes.{is_blank, is_digit, is_line_end, is_word_byte, begins}
 use Rattle.cweb_texts.specs.Edges.{is_one_of, first_is}
@@ -10,8 +10,6 @@ use Rattle.cweb_rules.specs.Matches.{Blanks, LineEnd, Identifier, Numeral, Punct
 use Rattle.cweb_rules.specs.declared.effect.Effect.{Effect}
 use Rattle.cweb_rules.specs.declared.rule.Rule.{Rule}
 use Rattle.cweb_rules.specs.declared.rule.Rule.TheVariants as rule
-use Rattle.cweb_rules.specs.declared.rule.TexRule.{TexRule}
-use Rattle.cweb_rules.specs.declared.rule.TexRule.TheVariants as text
 
 abbrev pub c_rule : Bool → List ℕ → Rule
 c_rule includes t =
@@ -45,16 +43,3 @@ c_match_by effect with_opener t rule.IncludedName = include_match t
 c_match_by effect with_opener t rule.Number = rule_match Numeral (number_len 0 t)
 c_match_by effect with_opener t rule.Identifier = rule_match Identifier (prefix_len is_word_byte t)
 c_match_by effect with_opener t rule.Punctuator = rule_match Punctuator (longest listed t)
-
-abbrev pub tex_rule : List ℕ → TexRule
-tex_rule t =
-    if starts_section t then text.Section
-    else (if begins (codes "@") t then text.Code
-    else text.Skipped)
-
--- The rule by the byte after `/`, and by the byte after `.`.
-abbrev pub rule_after_slash : ℕ → Rule
-rule_after_slash b = if 42 == b then rule.Comment else (if 47 == b then rule.LineComment else rule.Punctuator)
-
-abbrev pub rule_after_dot : ℕ → Rule
-rule_after_dot b = if is_digit b then rule.Number else rule.Punctuator

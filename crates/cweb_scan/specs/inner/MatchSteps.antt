@@ -80,6 +80,10 @@ reads_names (Definition begun) = true
 reads_names Macro = true
 reads_names CText = true
 
+-- A name begins with `@<`, that of a file with `@(`.
+abbrev pub name_opener : Bool → List ℕ
+name_opener is_file = if is_file then codes "@(" else codes "@<"
+
 -- A head has no literals.
 abbrev pub reads_literals : Context → Bool
 reads_literals Limbo = false

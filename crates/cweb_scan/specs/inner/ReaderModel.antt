@@ -1,8 +1,9 @@
 -- The model of a reader: the state, and an item that is open at the end of a line.
-use Rattle.std.specs.Prelude.{◌≡◌, ◌≤◌, ℕ, ◌+◌, ◌*◌, Bool, true, false, List, [], ◌∷◌, ◌++◌, length, drop}
+use Rattle.std.specs.Prelude.{◌≡◌, ◌≤◌, ◌<◌, ℕ, ◌+◌, ◌*◌, Bool, true, false, List, [], ◌∷◌, ◌++◌, length, drop}
 use Rattle.cweb_files.specs.declared.place.Place.{Place}
 use Rattle.cweb_input.specs.Lines.{Line}
-use Rattle.cweb_rules.specs.inner.LineItems.{AtLineEnd}
+use Rattle.cweb_names.specs.surface.Names.{too_many}
+use Rattle.cweb_rules.specs.inner.LineItems.{AtLineEnd, IsLine}
 use Rattle.cweb_rules.specs.declared.end.End.TheVariants.{Cut}
 use Rattle.cweb_scan.specs.State.{ScanState, move_to, start_state}
 use Rattle.cweb_scan.specs.After.{Reading, line_end, comment_line_end, pass_comment, occurrence, emit_literal}
@@ -88,6 +89,17 @@ pub record BeginsLine (place : Place) (old new : ReaderModel) : Type 0 where
   pub first : old.begun ≡ false → new ≡ reader_at place
   pub next : old.begun ≡ true → TakesLineEnd place old new
   pub adds : cost new ≤ cost old + 3
+
+-- A line without newlines, and room for what it and the newline before it add.
+pub record HasLineRoom (line : List ℕ) (h : ReaderModel) : Type 0 where
+  pub clean : IsLine line
+  pub room : cost h + 3 * (length line + 1) + 8 < too_many
+
+-- A line was taken, with the newline before it.
+pub record TakesLine (place : Place) (line : List ℕ) (old new : ReaderModel) : Type 0 where
+  pub read : (lines : List Line)
+      → read_after new lines ≡ read_after old (record { bytes = line; place = place } ∷ lines)
+  pub adds : cost new ≤ cost old + 3 * (length line + 1)
 
 -- Moves to another line outside C text.
 abbrev pub gone_to : Place → ReaderModel → ReaderModel

@@ -2,7 +2,14 @@
 use Rattle.std.specs.Prelude.{◌≡◌, ◌≤◌, ◌<◌, ℕ, ◌+◌, ◌*◌, true, false, List, length, drop, if◌then◌else◌}
 use Rattle.cweb_scan.specs.inner.ReaderModel.{ReaderModel, TakesPrefix}
 use Rattle.cweb_scan.specs.inner.PendingRest.{awaits_line_end, is_pending}
-use Rattle.cweb_scan.specs.inner.Resume.{PendingItem}
+use Rattle.cweb_scan.specs.inner.Resume.{PendingItem, Between}
+use Rattle.cweb_scan.specs.inner.Room.{HasItemRoom}
+
+-- No item is open, the context allows the next lexeme, and the store has room for it.
+pub record AwaitsLexeme (allowed : Type 0) (h : ReaderModel) : Type 0 where
+  pub between : h.item ≡ Between
+  pub context : allowed
+  pub room : HasItemRoom 2 h.state
 
 -- At least one byte was taken, since no item was open.
 pub record MakesProgress (n : ℕ) (rest : List ℕ) (old new : ReaderModel) : Type 0 where

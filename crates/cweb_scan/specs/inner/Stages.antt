@@ -47,9 +47,6 @@ is_bare_stage g = elim g [ Outside ↦ false | Bare ↦ true | Include ↦ false
 abbrev pub is_include_stage : Stage → Bool
 is_include_stage g = elim g [ Outside ↦ false | Bare ↦ false | Include ↦ true | Further ↦ false ]
 
-abbrev pub is_further_stage : Stage → Bool
-is_further_stage g = elim g [ Outside ↦ false | Bare ↦ false | Include ↦ false | Further ↦ true ]
-
 abbrev pub is_include_word : Token → Bool
 is_include_word (Word b) = bytes_eq b (codes "include")
 is_include_word t = false

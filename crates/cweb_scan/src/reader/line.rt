@@ -4,6 +4,7 @@ ghost use Rattle.cweb_names.specs.surface.Names.{too_many};
 
 use crate::reader::Reader;
 use crate::reader::open::Open;
+use crate::rest::Rest;
 use std::alloc::AllocError;
 
 impl Reader {
@@ -13,21 +14,19 @@ impl Reader {
     ghost use Rattle.cweb_scan.specs.inner.ReaderSteps.{TakesStep};
 
     // One step: a run of plain C text and the lexeme after it, or a unit of the open item. Returns its size.
-    fn take_step(&mut self, rest: &[u8]) -> Result<usize, AllocError>
+    fn take_step(&mut self, rest: Rest<'_>) -> Result<usize, AllocError>
         requires within { awaits_line_end self.old.item ≡ false }
-        requires line { IsLine rest.now }
-        requires some { 1 ≤ length rest.now }
-        requires room { cost self.old + 3 * length rest.now + 8 < too_many }
-        ensures { IfOk result (λ n. TakesStep n rest.now self.old self.new) }
+        requires room { cost self.old + 3 * length rest.bytes.now + 8 < too_many }
+        ensures { IfOk result (λ n. TakesStep n rest.entry.bytes.now self.old self.new) }
     {
         match self.item {
             Open::Between => {
-                let plain = self.scanner.take_plain(rest)?;
-                let (_, after) = rest.split_at(plain);
+                let plain = self.scanner.take_plain(rest.bytes)?;
+                let (_, after) = rest.bytes.split_at(plain);
                 if after.is_empty() {
                     return Ok(plain);
                 }
-                let size = self.take_between(after)?;
+                let size = self.take_between(Rest { bytes: after })?;
                 Ok(plain + size)
             }
             _ => {
@@ -47,7 +46,7 @@ impl Reader {
     {
         let mut rest = line;
         'turns: while !rest.is_empty() {
-            let size = self.take_step(rest)?;
+            let size = self.take_step(Rest { bytes: rest })?;
             let (_, after) = rest.split_at(size);
             rest = after;
         }

@@ -1,5 +1,5 @@
 // Takes lines in order.
-ghost use Rattle.std.specs.Prelude.{◌≡◌, ◌≤◌, ◌<◌, ◌+◌, ◌*◌, ◌∷◌, List, [], IfOk, OnOk, length};
+ghost use Rattle.std.specs.Prelude.{◌≡◌, ◌≤◌, ◌<◌, ◌+◌, [], IfOk, OnOk, length};
 ghost use Rattle.cweb_names.specs.surface.Names.{too_many};
 
 use crate::reader::Reader;
@@ -13,12 +13,11 @@ use std::alloc::AllocError;
 impl Reader {
     ghost use Rattle.std.specs.List.{prefix_len};
     ghost use Rattle.std.specs.Prelude.{true, false, IsTrue};
-    ghost use Rattle.cweb_input.specs.Lines.{Line};
-    ghost use Rattle.cweb_rules.specs.inner.LineItems.{IsLine};
     ghost use Rattle.cweb_scan.specs.inner.Skipped.{is_skipped};
     ghost use Rattle.cweb_scan.specs.inner.MatchSteps.{reads_c};
     ghost use Rattle.cweb_scan.specs.inner.ReaderModel.{after_line_end, cost, gone_to, read_after};
     ghost use Rattle.cweb_scan.specs.inner.ReaderModel.{source_ended, BeginsLine};
+    ghost use Rattle.cweb_scan.specs.inner.ReaderModel.{HasLineRoom, TakesLine};
     ghost use Rattle.cweb_scan.specs.inner.PendingRest.{awaits_line_end};
     ghost use Rattle.cweb_scan.specs.inner.Resume.{Between};
     ghost use Rattle.cweb_scan.specs.inner.Room.{weight};
@@ -94,11 +93,8 @@ impl Reader {
     /// Takes the next line and its place. Fast path: a line outside C text without `@` only changes the place.
     #[inline(always)]
     pub fn take_line(&mut self, place: Place, line: &[u8]) -> Result<(), AllocError>
-        requires clean { IsLine line.now }
-        requires room { cost self.old + 3 * (length line.now + 1) + 8 < too_many }
-        ensures read { OnOk result ((lines : List Line) →
-            read_after self.new lines ≡ read_after self.old (record { bytes = line.now; place = place } ∷ lines)) }
-        ensures cost { OnOk result (cost self.new ≤ cost self.old + 3 * (length line.now + 1)) }
+        requires { HasLineRoom line.now self.old }
+        ensures { OnOk result (TakesLine place line.now self.old self.new) }
     {
         if self.passes_by(line) {
             self.go_to(place);
@@ -110,11 +106,8 @@ impl Reader {
     // Slow path of `take_line`, for any line.
     #[inline(never)]
     fn take_any_line(&mut self, place: Place, line: &[u8]) -> Result<(), AllocError>
-        requires clean { IsLine line.now }
-        requires room { cost self.old + 3 * (length line.now + 1) + 8 < too_many }
-        ensures read { OnOk result ((lines : List Line) →
-            read_after self.new lines ≡ read_after self.old (record { bytes = line.now; place = place } ∷ lines)) }
-        ensures cost { OnOk result (cost self.new ≤ cost self.old + 3 * (length line.now + 1)) }
+        requires { HasLineRoom line.now self.old }
+        ensures { OnOk result (TakesLine place line.now self.old self.new) }
     {
         self.begin_line(place)?;
         self.take_bytes(line)?;

@@ -1,8 +1,9 @@
 // One step in a line without an open item: takes the next lexeme.
-ghost use Rattle.std.specs.Prelude.{◌≡◌, ◌≤◌, IfOk, codes, length, true, false};
+ghost use Rattle.std.specs.Prelude.{◌≡◌, ⊤, IfOk, codes, true, false};
 
 use crate::reader::Reader;
 use crate::reader::codes::{effect_of, is_name_effect};
+use crate::rest::Rest;
 use crate::skipped::skipped_len;
 use cweb_files::Place;
 use cweb_rules::Context;
@@ -12,11 +13,8 @@ use std::alloc::AllocError;
 
 impl Reader {
     ghost use Rattle.cweb_rules.specs.Bytes as bytes;
-    ghost use Rattle.cweb_rules.specs.inner.LineItems.{IsLine};
     ghost use Rattle.cweb_scan.specs.inner.MatchSteps.{is_head, reads_c};
-    ghost use Rattle.cweb_scan.specs.inner.ReaderSteps.{MakesProgress};
-    ghost use Rattle.cweb_scan.specs.inner.Resume.{Between};
-    ghost use Rattle.cweb_scan.specs.inner.Room.{HasItemRoom};
+    ghost use Rattle.cweb_scan.specs.inner.ReaderSteps.{AwaitsLexeme, MakesProgress};
     ghost use Rattle.cweb_rules.specs.declared.context.Context.TheVariants as context;
     ghost use Rattle.cweb_rules.specs.inner.Rules as spec;
     ghost use Rattle.cweb_rules.specs.declared.rule.Rule.TheVariants as rule;
@@ -25,41 +23,31 @@ impl Reader {
 
     // Takes a control code that begins no section.
     #[inline(never)]
-    fn take_code(&mut self, rest: &[u8]) -> Result<usize, AllocError>
-        requires between { self.old.item ≡ Between }
-        requires head { is_head self.old.state.context ≡ false }
-        requires line { IsLine rest.now }
-        requires section { bytes.starts_section rest.now ≡ false }
-        requires sign { bytes.begins (codes "@") rest.now ≡ true }
-        requires room { HasItemRoom 2 self.old.state }
-        ensures { IfOk result (λ n. MakesProgress n rest.now self.old self.new) }
+    fn take_code(&mut self, rest: Rest<'_>) -> Result<usize, AllocError>
+        requires next { AwaitsLexeme (is_head self.old.state.context ≡ false) self.old }
+        requires section { bytes.starts_section rest.bytes.now ≡ false }
+        requires sign { bytes.begins (codes "@") rest.bytes.now ≡ true }
+        ensures { IfOk result (λ n. MakesProgress n rest.entry.bytes.now self.old self.new) }
     {
-        let effect = effect_of(self.scanner.context(), rest[1]);
+        let effect = effect_of(self.scanner.context(), rest.bytes[1]);
         if is_name_effect(effect) {
-            if begins(b"@<", rest) {
-                return Ok(self.open_name(rest));
-            }
-            return Ok(self.open_file(rest));
+            return Ok(self.open_name(begins(b"@(", rest.bytes), rest.bytes));
         }
-        let size = self.scanner.take_item(effect, rest)?;
+        let size = self.scanner.take_item(effect, rest.bytes)?;
         Ok(size)
     }
 
     // In limbo and TeX: takes the bytes before the next `@`, a section start or a code.
-    fn take_tex(&mut self, rest: &[u8]) -> Result<usize, AllocError>
-        requires between { self.old.item ≡ Between }
-        requires text { reads_c self.old.state.context ≡ false }
-        requires line { IsLine rest.now }
-        requires some { 1 ≤ length rest.now }
-        requires room { HasItemRoom 2 self.old.state }
-        ensures { IfOk result (λ n. MakesProgress n rest.now self.old self.new) }
+    fn take_tex(&mut self, rest: Rest<'_>) -> Result<usize, AllocError>
+        requires { AwaitsLexeme (reads_c self.old.state.context ≡ false) self.old }
+        ensures { IfOk result (λ n. MakesProgress n rest.entry.bytes.now self.old self.new) }
     {
-        let skipped = skipped_len(rest);
+        let skipped = skipped_len(rest.bytes);
         if skipped > 0 {
             return Ok(skipped);
         }
-        if starts_section(rest) {
-            let size = self.scanner.take_section(rest)?;
+        if starts_section(rest.bytes) {
+            let size = self.scanner.take_section(rest.bytes)?;
             return Ok(size);
         }
         self.take_code(rest)
@@ -67,23 +55,19 @@ impl Reader {
 
     // In a macro and in C text: takes the lexeme of the first rule that applies.
     #[inline(always)]
-    fn take_by(&mut self, rule: Rule, rest: &[u8]) -> Result<usize, AllocError>
-        requires between { self.old.item ≡ Between }
-        requires part { in_open_part self.old.state.context ≡ true }
-        requires line { IsLine rest.now }
-        requires some { 1 ≤ length rest.now }
-        requires plain { ends_macro_line self.old.state.context rest.now ≡ false }
-        requires first { rule ≡ rule_in self.old.state rest.now }
-        requires room { HasItemRoom 2 self.old.state }
-        ensures { IfOk result (λ n. MakesProgress n rest.now self.old self.new) }
+    fn take_by(&mut self, rule: Rule, rest: Rest<'_>) -> Result<usize, AllocError>
+        requires next { AwaitsLexeme (in_open_part self.old.state.context ≡ true) self.old }
+        requires plain { ends_macro_line self.old.state.context rest.bytes.now ≡ false }
+        requires first { rule ≡ rule_in self.old.state rest.bytes.now }
+        ensures { IfOk result (λ n. MakesProgress n rest.entry.bytes.now self.old self.new) }
     {
         match rule {
-            Rule::Comment => self.open_comment(rest),
+            Rule::Comment => self.open_comment(rest.bytes),
             Rule::Code => self.take_code(rest),
             Rule::RawLiteral => self.open_raw(rest),
             Rule::Literal => self.open_literal(rest),
             Rule::Section => {
-                let size = self.scanner.take_section(rest)?;
+                let size = self.scanner.take_section(rest.bytes)?;
                 Ok(size)
             }
             _ => {
@@ -94,54 +78,42 @@ impl Reader {
     }
 
     // In a macro: a `\` at the end of a line emits nothing.
-    fn take_macro(&mut self, rest: &[u8]) -> Result<usize, AllocError>
-        requires between { self.old.item ≡ Between }
-        requires in_macro { self.old.state.context ≡ context.Macro }
-        requires line { IsLine rest.now }
-        requires some { 1 ≤ length rest.now }
-        requires room { HasItemRoom 2 self.old.state }
-        ensures { IfOk result (λ n. MakesProgress n rest.now self.old self.new) }
+    fn take_macro(&mut self, rest: Rest<'_>) -> Result<usize, AllocError>
+        requires { AwaitsLexeme (self.old.state.context ≡ context.Macro) self.old }
+        ensures { IfOk result (λ n. MakesProgress n rest.entry.bytes.now self.old self.new) }
     {
-        if begins(b"\\", rest) {
-            let (_, after) = rest.split_at(1);
+        if begins(b"\\", rest.bytes) {
+            let (_, after) = rest.bytes.split_at(1);
             if at_line_end(after) {
                 return Ok(1);
             }
         }
-        self.take_by(c_rule(false, rest), rest)
+        self.take_by(c_rule(false, rest.bytes), rest)
     }
 
     // In a head: the identifier begins the macro.
-    fn take_macro_name(&mut self, begun: Place, rest: &[u8]) -> Result<usize, AllocError>
-        requires between { self.old.item ≡ Between }
-        requires in_head { self.old.state.context ≡ context.Definition begun }
-        requires line { IsLine rest.now }
-        requires some { 1 ≤ length rest.now }
-        requires first { spec.c_rule false rest.now ≡ rule.Identifier }
-        requires room { HasItemRoom 2 self.old.state }
-        ensures { IfOk result (λ n. MakesProgress n rest.now self.old self.new) }
+    fn take_macro_name(&mut self, begun: Place, rest: Rest<'_>) -> Result<usize, AllocError>
+        requires next { AwaitsLexeme (self.old.state.context ≡ context.Definition begun) self.old }
+        requires first { spec.c_rule false rest.bytes.now ≡ rule.Identifier }
+        ensures { IfOk result (λ n. MakesProgress n rest.entry.bytes.now self.old self.new) }
     {
-        let size = span_len(Class::Word, rest);
-        let (name, after) = rest.split_at(size);
+        let size = span_len(Class::Word, rest.bytes);
+        let (name, after) = rest.bytes.split_at(size);
         self.scanner.define(name, begins(b"(", after))?;
         Ok(size)
     }
 
     // In a head: takes blanks, comments or the identifier. Anything else drops the definition, and TeX continues.
-    fn take_head(&mut self, begun: Place, rest: &[u8]) -> Result<usize, AllocError>
-        requires between { self.old.item ≡ Between }
-        requires in_head { self.old.state.context ≡ context.Definition begun }
-        requires line { IsLine rest.now }
-        requires some { 1 ≤ length rest.now }
-        requires room { HasItemRoom 2 self.old.state }
-        ensures { IfOk result (λ n. MakesProgress n rest.now self.old self.new) }
+    fn take_head(&mut self, begun: Place, rest: Rest<'_>) -> Result<usize, AllocError>
+        requires { AwaitsLexeme (self.old.state.context ≡ context.Definition begun) self.old }
+        ensures { IfOk result (λ n. MakesProgress n rest.entry.bytes.now self.old self.new) }
     {
-        let rule = c_rule(false, rest);
+        let rule = c_rule(false, rest.bytes);
         match rule {
-            Rule::Blanks => Ok(span_len(Class::Blank, rest)),
-            Rule::Comment => self.open_comment(rest),
+            Rule::Blanks => Ok(span_len(Class::Blank, rest.bytes)),
+            Rule::Comment => self.open_comment(rest.bytes),
             Rule::LineComment => {
-                let size = self.scanner.take_line_comment(rest)?;
+                let size = self.scanner.take_line_comment(rest.bytes)?;
                 Ok(size)
             }
             Rule::Identifier => self.take_macro_name(begun, rest),
@@ -154,25 +126,18 @@ impl Reader {
     }
 
     // In C text, where an included name may be the next lexeme.
-    fn take_c(&mut self, rest: &[u8]) -> Result<usize, AllocError>
-        requires between { self.old.item ≡ Between }
-        requires in_c { self.old.state.context ≡ context.CText }
-        requires line { IsLine rest.now }
-        requires some { 1 ≤ length rest.now }
-        requires room { HasItemRoom 2 self.old.state }
-        ensures { IfOk result (λ n. MakesProgress n rest.now self.old self.new) }
+    fn take_c(&mut self, rest: Rest<'_>) -> Result<usize, AllocError>
+        requires { AwaitsLexeme (self.old.state.context ≡ context.CText) self.old }
+        ensures { IfOk result (λ n. MakesProgress n rest.entry.bytes.now self.old self.new) }
     {
-        let rule = c_rule(self.scanner.names_include(), rest);
+        let rule = c_rule(self.scanner.names_include(), rest.bytes);
         self.take_by(rule, rest)
     }
 
     /// Takes the next lexeme of a line without an open item. Returns its size.
-    pub(crate) fn take_between(&mut self, rest: &[u8]) -> Result<usize, AllocError>
-        requires between { self.old.item ≡ Between }
-        requires line { IsLine rest.now }
-        requires some { 1 ≤ length rest.now }
-        requires room { HasItemRoom 2 self.old.state }
-        ensures { IfOk result (λ n. MakesProgress n rest.now self.old self.new) }
+    pub(crate) fn take_between(&mut self, rest: Rest<'_>) -> Result<usize, AllocError>
+        requires { AwaitsLexeme ⊤ self.old }
+        ensures { IfOk result (λ n. MakesProgress n rest.entry.bytes.now self.old self.new) }
     {
         match self.scanner.context() {
             Context::Limbo | Context::TeX => self.take_tex(rest),

@@ -1,7 +1,8 @@
 // How an open item ends in the rest of a line.
-ghost use Rattle.std.specs.Prelude.{◌≡◌, ◌≤◌, length};
+ghost use Rattle.std.specs.Prelude.{◌≡◌};
 ghost use Rattle.cweb_rules.specs.Matches as rules;
 ghost use Rattle.cweb_rules.specs.inner.LineItems.{is_unclosed};
+ghost use Rattle.cweb_rules.specs.inner.Spans.{IsSizeIn};
 
 use cweb_rules::End;
 use cweb_rules::items::opener_len;
@@ -15,8 +16,7 @@ pub fn is_unclosed(how: End) -> bool
 
 /// The number of bytes of the part opener after a name. Only a name that ended at its closer has one.
 pub fn opener_after(how: End, rest: &[u8]) -> usize
-    ensures value { result ≡ rules.opener_after how rest.now }
-    ensures within { result ≤ length rest.now }
+    ensures { IsSizeIn (rules.opener_after how) rest.now result }
 {
     match how {
         End::Closed => opener_len(rest),

@@ -3,6 +3,7 @@ ghost use Rattle.std.specs.Prelude.{◌≡◌, IfOk, codes, true, false};
 
 use crate::reader::Reader;
 use crate::reader::open::Open;
+use crate::rest::Rest;
 use cweb_rules::Quote;
 use cweb_rules::bytes::begins;
 use cweb_rules::literals::{delimiter, literal_prefix, raw_prefix};
@@ -11,20 +12,15 @@ use std::alloc::AllocError;
 impl Reader {
     ghost use Rattle.cweb_rules.specs.Bytes as spec;
     ghost use Rattle.cweb_rules.specs.Matches.{starts_raw, starts_literal};
-    ghost use Rattle.cweb_rules.specs.inner.LineItems.{IsLine};
     ghost use Rattle.cweb_scan.specs.inner.MatchSteps.{is_head, reads_c, reads_names, reads_literals};
-    ghost use Rattle.cweb_scan.specs.inner.MatchSteps.{IsPast};
-    ghost use Rattle.cweb_scan.specs.inner.ReaderSteps.{MakesProgress};
-    ghost use Rattle.cweb_scan.specs.inner.Resume.{Between};
-    ghost use Rattle.cweb_scan.specs.inner.Room.{HasItemRoom};
+    ghost use Rattle.cweb_scan.specs.inner.MatchSteps.{name_opener, IsPast};
+    ghost use Rattle.cweb_scan.specs.inner.ReaderSteps.{AwaitsLexeme, MakesProgress};
 
     /// `/*`. Like the functions below, it returns the number of bytes taken.
     #[inline(never)]
     pub(crate) fn open_comment(&mut self, rest: &[u8]) -> Result<usize, AllocError>
-        requires between { self.old.item ≡ Between }
-        requires reads { reads_c self.old.state.context ≡ true }
+        requires next { AwaitsLexeme (reads_c self.old.state.context ≡ true) self.old }
         requires sign { spec.begins (codes "/*") rest.now ≡ true }
-        requires room { HasItemRoom 1 self.old.state }
         ensures { IfOk result (λ n. MakesProgress n rest.now self.old self.new) }
     {
         let begun = self.scanner.here();
@@ -33,54 +29,35 @@ impl Reader {
         Ok(2)
     }
 
-    /// `@<`
-    pub(crate) fn open_name(&mut self, rest: &[u8]) -> usize
-        requires between { self.old.item ≡ Between }
+    /// `@<`, or `@(` for a file.
+    pub(crate) fn open_name(&mut self, is_file: bool, rest: &[u8]) -> usize
+        requires next { AwaitsLexeme (reads_names self.old.state.context ≡ true) self.old }
         requires head { is_head self.old.state.context ≡ false }
-        requires reads { reads_names self.old.state.context ≡ true }
-        requires sign { spec.begins (codes "@<") rest.now ≡ true }
+        requires sign { spec.begins (name_opener is_file) rest.now ≡ true }
         ensures { MakesProgress result rest.now self.old self.new }
     {
         self.text.clear();
         self.item = Open::Name {
             begun: self.scanner.here(),
-            is_file: false,
-        };
-        2
-    }
-
-    /// `@(`
-    pub(crate) fn open_file(&mut self, rest: &[u8]) -> usize
-        requires between { self.old.item ≡ Between }
-        requires head { is_head self.old.state.context ≡ false }
-        requires reads { reads_names self.old.state.context ≡ true }
-        requires sign { spec.begins (codes "@(") rest.now ≡ true }
-        ensures { MakesProgress result rest.now self.old self.new }
-    {
-        self.text.clear();
-        self.item = Open::Name {
-            begun: self.scanner.here(),
-            is_file: true,
+            is_file,
         };
         2
     }
 
     /// A quote with an optional prefix.
     #[inline(never)]
-    pub(crate) fn open_literal(&mut self, rest: &[u8]) -> Result<usize, AllocError>
-        requires between { self.old.item ≡ Between }
-        requires reads { reads_literals self.old.state.context ≡ true }
-        requires line { IsLine rest.now }
-        requires past { IsPast rest.now }
-        requires plain { starts_raw rest.now ≡ false }
-        requires sign { starts_literal rest.now ≡ true }
-        ensures { IfOk result (λ n. MakesProgress n rest.now self.old self.new) }
+    pub(crate) fn open_literal(&mut self, rest: Rest<'_>) -> Result<usize, AllocError>
+        requires next { AwaitsLexeme (reads_literals self.old.state.context ≡ true) self.old }
+        requires past { IsPast rest.bytes.now }
+        requires plain { starts_raw rest.bytes.now ≡ false }
+        requires sign { starts_literal rest.bytes.now ≡ true }
+        ensures { IfOk result (λ n. MakesProgress n rest.entry.bytes.now self.old self.new) }
     {
-        let prefix = literal_prefix(rest);
-        let (opener, _) = rest.split_at(prefix + 1);
+        let prefix = literal_prefix(rest.bytes);
+        let (opener, _) = rest.bytes.split_at(prefix + 1);
         self.text.clear();
         self.text.extend_from_slice(opener)?;
-        let (_, quoted) = rest.split_at(prefix);
+        let (_, quoted) = rest.bytes.split_at(prefix);
         let quote = Quote::of(quoted);
         self.item = Open::Literal {
             begun: self.scanner.here(),
@@ -91,20 +68,18 @@ impl Reader {
 
     /// `R"` with an optional prefix, a delimiter and `(`.
     #[inline(never)]
-    pub(crate) fn open_raw(&mut self, rest: &[u8]) -> Result<usize, AllocError>
-        requires between { self.old.item ≡ Between }
-        requires reads { reads_literals self.old.state.context ≡ true }
-        requires line { IsLine rest.now }
-        requires past { IsPast rest.now }
-        requires sign { starts_raw rest.now ≡ true }
-        ensures { IfOk result (λ n. MakesProgress n rest.now self.old self.new) }
+    pub(crate) fn open_raw(&mut self, rest: Rest<'_>) -> Result<usize, AllocError>
+        requires next { AwaitsLexeme (reads_literals self.old.state.context ≡ true) self.old }
+        requires past { IsPast rest.bytes.now }
+        requires sign { starts_raw rest.bytes.now ≡ true }
+        ensures { IfOk result (λ n. MakesProgress n rest.entry.bytes.now self.old self.new) }
     {
-        let start = raw_prefix(rest) + 2;
-        let (_, named) = rest.split_at(start);
+        let start = raw_prefix(rest.bytes) + 2;
+        let (_, named) = rest.bytes.split_at(start);
         let name = delimiter(named);
         let size = start + name.len() + 1;
         self.text.clear();
-        self.text.extend_from_slice(rest.split_at(size).0)?;
+        self.text.extend_from_slice(rest.bytes.split_at(size).0)?;
         self.delimiter.clear();
         self.delimiter.extend_from_slice(name)?;
         self.sign.clear();

@@ -5,6 +5,7 @@ ghost use Rattle.cweb_names.specs.surface.Names.{too_many};
 use crate::reader::Reader;
 use crate::reader::open::Open;
 use crate::reader::opened::{is_unclosed, opener_after};
+use crate::rest::Rest;
 use cweb_files::Place;
 use cweb_rules::bytes::begins;
 use cweb_rules::items::{Item, reach};
@@ -16,7 +17,6 @@ impl Reader {
     ghost use Rattle.cweb_rules.specs.Bytes as bytes;
     ghost use Rattle.cweb_rules.specs.declared.items.Item.TheVariants.{Name};
     ghost use Rattle.cweb_rules.specs.inner.PlainBytes.{is_plain};
-    ghost use Rattle.cweb_rules.specs.inner.LineItems.{IsLine};
     ghost use Rattle.cweb_scan.specs.inner.ReaderModel.{cost};
     ghost use Rattle.cweb_scan.specs.inner.PendingRest.{awaits_line_end, is_pending_literal};
     ghost use Rattle.cweb_scan.specs.inner.PendingRest.{is_pending, literal_item, literal_step};
@@ -25,15 +25,13 @@ impl Reader {
     ghost use Rattle.cweb_scan.specs.inner.Resume.{InComment, InName};
 
     // Takes a comment up to its end or that of the line.
-    fn take_comment(&mut self, begun: Place, rest: &[u8]) -> Result<usize, AllocError>
+    fn take_comment(&mut self, begun: Place, rest: Rest<'_>) -> Result<usize, AllocError>
         requires open { self.old.item ≡ InComment begun }
-        requires line { IsLine rest.now }
-        requires some { 1 ≤ length rest.now }
-        ensures { IfOk result (λ n. TakesPending n rest.now self.old self.new) }
+        ensures { IfOk result (λ n. TakesPending n rest.entry.bytes.now self.old self.new) }
     {
-        let reached = reach(Item::Comment, rest);
+        let reached = reach(Item::Comment, rest.bytes);
         if is_unclosed(reached.how) {
-            return Ok(rest.len());
+            return Ok(rest.bytes.len());
         }
         self.item = Open::Between;
         self.scanner.pass_comment(reached.how, begun)?;
@@ -55,16 +53,15 @@ impl Reader {
         begun: Place,
         is_file: bool,
         size: usize,
-        rest: &[u8],
+        rest: Rest<'_>,
     ) -> Result<usize, AllocError>
         requires open { self.old.item ≡ InName begun is_file [] }
-        requires line { IsLine rest.now }
-        requires plain { size ≡ prefix_len (is_plain Name) rest.now }
-        requires closer { bytes.begins (codes "@>") (drop size rest.now) ≡ true }
+        requires plain { size ≡ prefix_len (is_plain Name) rest.bytes.now }
+        requires closer { bytes.begins (codes "@>") (drop size rest.bytes.now) ≡ true }
         requires room { cost self.old + 8 < too_many }
-        ensures { IfOk result (λ n. TakesPending n rest.now self.old self.new) }
+        ensures { IfOk result (λ n. TakesPending n rest.entry.bytes.now self.old self.new) }
     {
-        let (name, closer) = rest.split_at(size);
+        let (name, closer) = rest.bytes.split_at(size);
         let (_, after) = closer.split_at(2);
         let sign = opener_after(End::Closed, after);
         let taken = size + (2 + self.scanner.opener_taken(sign));
@@ -76,29 +73,32 @@ impl Reader {
 
     // Takes a whole name, a span or a unit of one, or its closer and the part opener after it. In C text that opener is
     // C text.
-    fn take_name(&mut self, begun: Place, is_file: bool, rest: &[u8]) -> Result<usize, AllocError>
+    fn take_name(
+        &mut self,
+        begun: Place,
+        is_file: bool,
+        rest: Rest<'_>,
+    ) -> Result<usize, AllocError>
         requires open { self.old.item ≡ InName begun is_file (pending_bytes self.old.item) }
-        requires line { IsLine rest.now }
-        requires some { 1 ≤ length rest.now }
         requires room { cost self.old + 8 < too_many }
-        ensures { IfOk result (λ n. TakesPending n rest.now self.old self.new) }
+        ensures { IfOk result (λ n. TakesPending n rest.entry.bytes.now self.old self.new) }
     {
-        let plain = Item::Name.plain_len(rest);
-        if self.text.is_empty() && begins(b"@>", rest.split_at(plain).1) {
+        let plain = Item::Name.plain_len(rest.bytes);
+        if self.text.is_empty() && begins(b"@>", rest.bytes.split_at(plain).1) {
             return self.take_whole_name(begun, is_file, plain, rest);
         }
         if plain > 0 {
-            self.take_span(plain, rest)?;
+            self.take_span(plain, rest.bytes)?;
             return Ok(plain);
         }
-        match Item::Name.look(rest) {
+        match Item::Name.look(rest.bytes) {
             Look::Goes(size) => {
-                let (unit, _) = rest.split_at(size);
+                let (unit, _) = rest.bytes.split_at(size);
                 push_unit(&mut self.text, unit)?;
                 Ok(size)
             }
             Look::Ends(size, how) => {
-                let (_, after) = rest.split_at(size);
+                let (_, after) = rest.bytes.split_at(size);
                 let sign = opener_after(how, after);
                 let taken = size + self.scanner.opener_taken(sign);
                 self.item = Open::Between;
@@ -142,55 +142,54 @@ impl Reader {
     }
 
     // Takes a unit of a literal. A `\` at the end of the line takes the newline with it.
-    fn take_literal(&mut self, begun: Place, quote: Quote, rest: &[u8]) -> Result<usize, AllocError>
+    fn take_literal(
+        &mut self,
+        begun: Place,
+        quote: Quote,
+        rest: Rest<'_>,
+    ) -> Result<usize, AllocError>
         requires open { self.old.item ≡ literal_item begun quote self.old.item }
-        requires line { IsLine rest.now }
-        requires some { 1 ≤ length rest.now }
         requires room { cost self.old + 8 < too_many }
-        ensures { IfOk result (λ n. TakesPending n rest.now self.old self.new) }
+        ensures { IfOk result (λ n. TakesPending n rest.entry.bytes.now self.old self.new) }
     {
-        if rest == b"\\".as_slice() {
+        if rest.bytes == b"\\".as_slice() {
             self.item = Open::AfterBackslash { begun, quote };
             return Ok(1);
         }
         let item = Item::Literal(quote.byte());
-        let plain = item.plain_len(rest);
+        let plain = item.plain_len(rest.bytes);
         if plain > 0 {
-            self.take_span(plain, rest)?;
+            self.take_span(plain, rest.bytes)?;
             return Ok(plain);
         }
-        let look = item.look(rest);
-        let size = self.take_literal_unit(look, begun, rest)?;
+        let look = item.look(rest.bytes);
+        let size = self.take_literal_unit(look, begun, rest.bytes)?;
         Ok(size)
     }
 
     // Takes a unit of a raw literal.
-    fn take_raw(&mut self, begun: Place, rest: &[u8]) -> Result<usize, AllocError>
+    fn take_raw(&mut self, begun: Place, rest: Rest<'_>) -> Result<usize, AllocError>
         requires open { self.old.item ≡ raw_item begun self.old.item }
-        requires line { IsLine rest.now }
-        requires some { 1 ≤ length rest.now }
         requires room { cost self.old + 8 < too_many }
-        ensures { IfOk result (λ n. TakesPending n rest.now self.old self.new) }
+        ensures { IfOk result (λ n. TakesPending n rest.entry.bytes.now self.old self.new) }
     {
-        let plain = Item::RawLiteral(&self.sign).plain_len(rest);
+        let plain = Item::RawLiteral(&self.sign).plain_len(rest.bytes);
         if plain > 0 {
-            self.take_span(plain, rest)?;
+            self.take_span(plain, rest.bytes)?;
             return Ok(plain);
         }
-        let look = Item::RawLiteral(&self.sign).look(rest);
-        let size = self.take_literal_unit(look, begun, rest)?;
+        let look = Item::RawLiteral(&self.sign).look(rest.bytes);
+        let size = self.take_literal_unit(look, begun, rest.bytes)?;
         Ok(size)
     }
 
     /// Takes a unit or span of the open item, or its end. Returns the number of bytes.
     #[inline(never)]
-    pub(crate) fn take_open(&mut self, rest: &[u8]) -> Result<usize, AllocError>
+    pub(crate) fn take_open(&mut self, rest: Rest<'_>) -> Result<usize, AllocError>
         requires open { is_pending self.old.item ≡ true }
         requires within { awaits_line_end self.old.item ≡ false }
-        requires line { IsLine rest.now }
-        requires some { 1 ≤ length rest.now }
         requires room { cost self.old + 8 < too_many }
-        ensures { IfOk result (λ n. TakesPending n rest.now self.old self.new) }
+        ensures { IfOk result (λ n. TakesPending n rest.entry.bytes.now self.old self.new) }
     {
         match self.item {
             Open::Comment(begun) => self.take_comment(begun, rest),

@@ -23,11 +23,10 @@ pub fn ended(at_end: End, how: End) -> End
 
 impl Scanner {
     ghost use Rattle.cweb_rules.specs.Matches.{section_match, control_text_match, constant_match};
-    ghost use Rattle.cweb_rules.specs.Matches.{letter_match, verbatim_match, effect_match};
+    ghost use Rattle.cweb_rules.specs.Matches.{letter_match, effect_match};
     ghost use Rattle.cweb_rules.specs.Matches.{line_comment_match};
     ghost use Rattle.cweb_scan.specs.After as spec;
-    ghost use Rattle.cweb_scan.specs.inner.DirectiveInvariant.{in_open_part};
-    ghost use Rattle.cweb_scan.specs.inner.Room.{HasItemRoom};
+    ghost use Rattle.cweb_scan.specs.inner.Room.{CanEmit, HasItemRoom};
 
     /// A section start. Like the functions below, it returns the number of bytes taken.
     #[inline(never)]
@@ -85,8 +84,7 @@ impl Scanner {
     // `@'`: the code of a character.
     fn take_constant(&mut self, rest: &[u8]) -> Result<usize, AllocError>
         requires two { 2 ≤ length rest.now }
-        requires part { in_open_part self.old.context ≡ true }
-        requires room { HasItemRoom 1 self.old }
+        requires part { CanEmit 1 self.old }
         ensures { IfOk result
             (λ n. Applies (constant_match rest.now) rest.now n self.old self.new) }
     {

@@ -9,12 +9,12 @@ use itoa::Buffer;
 use std::alloc::AllocError;
 
 impl Scanner {
-    ghost use Rattle.std.specs.Prelude.{Some, None};
+    ghost use Rattle.std.specs.Prelude.{Some};
     ghost use Rattle.cweb_scan.specs.After.{apply_effect};
     ghost use Rattle.cweb_scan.specs.After as after;
     ghost use Rattle.cweb_rules.specs.declared.effect.Effect.TheVariants as effect;
     ghost use Rattle.cweb_scan.specs.inner.DirectiveInvariant.{in_open_part};
-    ghost use Rattle.cweb_scan.specs.inner.Room.{HasPartRoom, HasItemRoom};
+    ghost use Rattle.cweb_scan.specs.inner.Room.{CanEmit, HasPartRoom};
     ghost use Rattle.cweb_scan.specs.State as spec;
 
     /// `@d`: begins a macro definition.
@@ -28,8 +28,7 @@ impl Scanner {
 
     /// `@h`: emits Defs, the place of the macro lines.
     pub fn insert_definitions(&mut self) -> Result<(), AllocError>
-        requires part { in_open_part self.old.context ≡ true }
-        requires room { HasItemRoom 2 self.old }
+        requires { CanEmit 2 self.old }
         ensures { OnOk result (self.new ≡ apply_effect effect.InsertDefs self.old) }
     {
         self.emit(Token::Defs)?;
@@ -39,8 +38,7 @@ impl Scanner {
 
     /// `@&`: emits a Join, and drops the layout before it.
     pub fn join(&mut self) -> Result<(), AllocError>
-        requires part { in_open_part self.old.context ≡ true }
-        requires room { HasItemRoom 1 self.old }
+        requires { CanEmit 1 self.old }
         ensures { OnOk result (self.new ≡ apply_effect effect.Joins self.old) }
     {
         self.builder.drop_layout();
@@ -60,8 +58,7 @@ impl Scanner {
 
     /// `@'`: emits the code of a character, in decimal.
     pub fn emit_constant(&mut self, value: u8) -> Result<(), AllocError>
-        requires part { in_open_part self.old.context ≡ true }
-        requires room { HasItemRoom 1 self.old }
+        requires { CanEmit 1 self.old }
         ensures { OnOk result (self.new ≡ after.emit_constant (Some value) self.old) }
     {
         let mut digits = Buffer::new();
@@ -81,8 +78,7 @@ impl Scanner {
 
     /// `@=`: emits verbatim bytes.
     pub fn emit_verbatim(&mut self, text: &[u8], how: End) -> Result<(), AllocError>
-        requires part { in_open_part self.old.context ≡ true }
-        requires room { HasItemRoom 1 self.old }
+        requires { CanEmit 1 self.old }
         ensures { OnOk result (self.new ≡ after.emit_verbatim text.now how self.old) }
     {
         match how {
@@ -142,8 +138,7 @@ impl Scanner {
 
     /// Emits a literal that began at `begun`.
     pub fn emit_literal(&mut self, text: &[u8], how: End, begun: Place) -> Result<(), AllocError>
-        requires part { in_open_part self.old.context ≡ true }
-        requires room { HasItemRoom 1 self.old }
+        requires { CanEmit 1 self.old }
         ensures { OnOk result (self.new ≡ after.emit_literal text.now how begun self.old) }
     {
         match how {

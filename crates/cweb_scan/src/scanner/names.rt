@@ -1,5 +1,5 @@
 // Occurrences of names, and their effects by context.
-ghost use Rattle.std.specs.Prelude.{◌≡◌, IfOk, OnOk, if◌then◌else◌, length, false};
+ghost use Rattle.std.specs.Prelude.{◌≡◌, IfOk, OnOk, if◌then◌else◌, length};
 
 use crate::scanner::Scanner;
 use cweb_files::Place;

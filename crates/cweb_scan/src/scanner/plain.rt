@@ -2,9 +2,11 @@
 ghost use Rattle.std.specs.Prelude.{◌≡◌, ◌≤◌, ◌<◌, ◌+◌, ◌*◌, IfOk, IfSome, OnOk, OnErr, length};
 ghost use Rattle.cweb_names.specs.surface.Names.{too_many};
 ghost use Rattle.cweb_store.specs.surface.TokenModels.{token_model};
-ghost use Rattle.cweb_scan.specs.inner.Plain.{taken_size, IsPlainC, IsPlainToken, TakesPlain};
+ghost use Rattle.cweb_scan.specs.inner.Plain.{taken_size, HasPlainRoom, IsPlainC, IsPlainToken};
+ghost use Rattle.cweb_scan.specs.inner.Plain.{PassesPlain, TakesPlain};
 
 use crate::directive::Directive;
+use crate::rest::Rest;
 use crate::scanner::Scanner;
 use cweb_rules::bytes::{Class, nonempty_span_len};
 use cweb_rules::{Context, Plain, first_byte_class, past_blank};
@@ -13,7 +15,7 @@ use std::alloc::AllocError;
 
 // `None` for an empty lexeme.
 #[inline(always)]
-pub(crate) fn nonempty_len(size: usize) -> Option<usize>
+fn nonempty_len(size: usize) -> Option<usize>
     ensures size { taken_size result ≡ size }
     ensures some { IfSome result (λ n. 1 ≤ n) }
 {
@@ -44,24 +46,21 @@ impl Scanner {
 
     // Takes the next lexeme if its first byte determines its rule.
     #[inline(always)]
-    fn take_lexeme(&mut self, rest: &[u8]) -> Result<Option<usize>, AllocError>
-        requires in_c { IsPlainC self.old }
-        requires line { IsLine rest.now }
-        requires some { 1 ≤ length rest.now }
-        requires room { weight self.old + 1 < too_many }
-        ensures taken { IfOk result (λ o. TakesPlain (taken_size o) rest.now self.old self.new) }
+    fn take_lexeme(&mut self, rest: Rest<'_>) -> Result<Option<usize>, AllocError>
+        requires { HasPlainRoom self.old }
+        ensures taken { IfOk result (λ o.
+            PassesPlain (taken_size o) rest.entry.bytes.now self.old self.new) }
         ensures some { IfOk result (λ o. IfSome o (λ n. 1 ≤ n)) }
-        ensures stays { OnOk result (IsPlainC self.new) }
     {
-        match first_byte_class(rest[0]) {
-            Plain::Blank => Ok(Some(nonempty_span_len(Class::Blank, rest))),
+        match first_byte_class(rest.bytes[0]) {
+            Plain::Blank => Ok(Some(nonempty_span_len(Class::Blank, rest.bytes))),
             Plain::Word => {
-                let size = nonempty_span_len(Class::Word, rest);
-                self.emit_plain(Token::Word(rest.split_at(size).0))?;
+                let size = nonempty_span_len(Class::Word, rest.bytes);
+                self.emit_plain(Token::Word(rest.bytes.split_at(size).0))?;
                 Ok(Some(size))
             }
             Plain::Lone => {
-                self.emit_plain(Token::Punct(rest.split_at(1).0))?;
+                self.emit_plain(Token::Punct(rest.bytes.split_at(1).0))?;
                 self.folded = false;
                 Ok(Some(1))
             }
@@ -79,11 +78,8 @@ impl Scanner {
         requires room { weight self.old + 3 * length rest.now + 8 < too_many }
         ensures { IfOk result (λ n. TakesPlain n rest.now self.old self.new) }
     {
-        if !matches!(self.context(), Context::CText) {
+        if !matches!(self.context(), Context::CText) || self.in_directive() {
             return Ok(0);
-        }
-        if self.in_directive() {
-            return self.take_directive_body(rest);
         }
         let mut left = rest;
         'pieces: while !left.is_empty() {
@@ -91,7 +87,7 @@ impl Scanner {
             if piece.is_empty() {
                 return Ok(rest.len() - piece.len());
             }
-            match self.take_lexeme(piece)? {
+            match self.take_lexeme(Rest { bytes: piece })? {
                 Some(size) => left = piece.split_at(size).1,
                 None => return Ok(rest.len() - piece.len()),
             }

@@ -1,10 +1,11 @@
 // Units of delimited items, and their faults.
-ghost use Rattle.std.specs.Prelude.{◌≡◌, ◌≤◌, ◌<◌, ◌+◌, IfOk, OnErr, OnOk, length, fold, true};
+ghost use Rattle.std.specs.Prelude.{◌≡◌, ◌≤◌, ◌<◌, ◌+◌, IfOk, OnErr, OnOk, length, fold};
 ghost use Rattle.cweb_rules.specs.Items as cut;
 ghost use Rattle.cweb_rules.specs.inner.Looks.{look_of, reached};
 ghost use Rattle.cweb_rules.specs.declared.end.End.TheVariants as how;
 ghost use Rattle.cweb_scan.specs.inner.MatchSteps.{unit_state};
 
+use crate::rest::Rest;
 use crate::scanner::Scanner;
 use crate::scanner::codes::ended;
 use cweb_rules::items::{Item, reach};
@@ -13,10 +14,8 @@ use std::alloc::AllocError;
 
 impl Scanner {
     ghost use Rattle.cweb_rules.specs.Matches.{include_match, verbatim_match};
-    ghost use Rattle.cweb_rules.specs.inner.LineItems.{IsLine};
     ghost use Rattle.cweb_scan.specs.inner.MatchSteps.{Applies};
-    ghost use Rattle.cweb_scan.specs.inner.DirectiveInvariant.{in_open_part};
-    ghost use Rattle.cweb_scan.specs.inner.Room.{HasItemRoom};
+    ghost use Rattle.cweb_scan.specs.inner.Room.{CanEmit};
 
     /// Reports an `@` that isn't doubled in a literal's unit. A refused call changes nothing.
     pub fn check_unit(&mut self, unit: &[u8]) -> Result<(), AllocError>
@@ -51,8 +50,7 @@ impl Scanner {
     /// `@=`: takes verbatim bytes up to `@>`. Returns the number of bytes.
     pub fn take_verbatim(&mut self, rest: &[u8]) -> Result<usize, AllocError>
         requires two { 2 ≤ length rest.now }
-        requires part { in_open_part self.old.context ≡ true }
-        requires room { HasItemRoom 1 self.old }
+        requires part { CanEmit 1 self.old }
         ensures { IfOk result
             (λ n. Applies (verbatim_match rest.now) rest.now n self.old self.new) }
     {
@@ -66,17 +64,15 @@ impl Scanner {
 
     /// Takes an included name in a directive, delimiters included. Returns the number of bytes.
     #[inline(never)]
-    pub fn take_included_name(&mut self, rest: &[u8]) -> Result<usize, AllocError>
-        requires line { IsLine rest.now }
-        requires some { 1 ≤ length rest.now }
-        requires part { in_open_part self.old.context ≡ true }
-        requires room { HasItemRoom 1 self.old }
-        ensures { IfOk result (λ n. Applies (include_match rest.now) rest.now n self.old self.new) }
+    pub fn take_included_name(&mut self, rest: Rest<'_>) -> Result<usize, AllocError>
+        requires { CanEmit 1 self.old }
+        ensures { IfOk result (λ n.
+            Applies (include_match rest.entry.bytes.now) rest.entry.bytes.now n self.old self.new) }
     {
         let begun = self.here();
-        let (sign, line) = rest.split_at(1);
+        let (sign, line) = rest.bytes.split_at(1);
         let reached = reach(Item::IncludedName, line);
-        let (_, closing) = rest.split_at(1 + reached.size);
+        let (_, closing) = rest.bytes.split_at(1 + reached.size);
         let (close, _) = closing.split_at(reached.close);
         let mut text = Vec::new(self.alloc);
         push_unit(&mut text, sign)?;

@@ -17,20 +17,22 @@ token_size token = total length (token_strings token)
 
 abbrev pub with_word_of : List (List ℕ) → Token → List (List ℕ)
 with_word_of words (Word b) = with_word words b
+with_word_of words (Number b) = with_word words b
 with_word_of words (Punct b) = with_word words b
 with_word_of words token = words
 
--- The distinct strings of Words and Puncts.
+-- The distinct strings of Words, Numbers and Puncts.
 abbrev pub words_of : List Token → List (List ℕ)
 words_of ts = fold with_word_of [] ts
 
--- The number of bytes of a token that is neither Word nor Punct.
+-- The number of bytes of a token whose string is not interned: a Literal or Verbatim.
 abbrev pub other_bytes : Token → ℕ
 other_bytes (Word b) = 0
+other_bytes (Number b) = 0
 other_bytes (Punct b) = 0
 other_bytes token = token_size token
 
--- The number of bytes of all tokens. Equal strings of Words and Puncts count once.
+-- The number of bytes of all tokens. Equal strings of Words, Numbers and Puncts count once.
 abbrev pub interned_token_bytes : List Token → ℕ
 interned_token_bytes ts = total length (words_of ts) + total other_bytes ts
 

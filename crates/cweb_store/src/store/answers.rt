@@ -1,6 +1,6 @@
 // Results that need all names and parts.
 
-ghost use Rattle.std.specs.Prelude.{◌≡◌, ◌<◌, ◌^◌, length, map, IfOk, OnOk};
+ghost use Rattle.std.specs.Prelude.{◌≡◌, ◌<◌, ◌^◌, length, IfOk, OnOk};
 ghost use Rattle.cweb_store.specs.inner.Answers.{AreAnswers};
 ghost use Rattle.cweb_names.specs.surface.Names.{too_many};
 ghost use Rattle.cweb_store.specs.inner.Links.{AreLinked};
@@ -14,13 +14,12 @@ use cweb_names::{NameFault, NameId, NameKind, NameTable};
 use indexmap::IndexSet;
 use std::alloc::{AllocError, Global};
 
-/// Resolutions, file names, faults, the first full occurrence of each name, and the links of the parts.
+/// Resolutions, file names, faults, and the links of the parts.
 #[derive(Drop)]
 pub(crate) struct Answers {
     pub resolutions: Vec<Result<NameId, NameKind>>,
     pub files: IndexSet<NameId>,
     pub faults: Vec<NameFault>,
-    pub firsts: Vec<u32>,
     pub links: Links,
     pub has_defs_code: bool,
 }
@@ -32,8 +31,6 @@ impl Answers {
             all.resolutions.items all.files.keys all.faults.items all.has_defs_code) }
         ensures linked { IfOk result (λ all. AreLinked all.resolutions.items
             (ranges_from 0 parts.now) all.links.skips.items all.links.heads) }
-        ensures firsts { IfOk result
-            (λ all. all.firsts.items ≡ map (λ n. n.first) (names table.now)) }
         ensures small { IfOk result (λ all. length all.resolutions.items < 2 ^ 32) }
         ensures few { OnOk result (length (names table.now) < too_many) }
     {
@@ -43,12 +40,10 @@ impl Answers {
         let links = Links::new(alloc, parts.ranges(), resolutions.as_slice(), names)?;
         let heads = &links.heads;
         let faults = name_faults(alloc, table, parts, resolutions.as_slice(), &files, heads)?;
-        let firsts = table.names().firsts()?;
         Ok(Answers {
             resolutions,
             files,
             faults,
-            firsts,
             links,
             has_defs_code: parts.has_defs_code(),
         })

@@ -108,6 +108,9 @@ impl TokenList {
         ensures tokens { self.new.tokens ≡ take count self.old.tokens }
         ensures rooms { self.new.rooms ≡ self.old.rooms }
     {
+        if count >= self.records.len() {
+            return;
+        }
         self.records.truncate(count);
         self.token_index.truncate(count);
     }

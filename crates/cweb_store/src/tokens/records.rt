@@ -160,7 +160,7 @@ fn record_of(
 {
     match token {
         Token::Word(string) => Ok(Record::Word(strings.intern_word(string)?)),
-        Token::Number(string) => Ok(Record::Number(strings.add_string(string)?)),
+        Token::Number(string) => Ok(Record::Number(strings.intern_word(string)?)),
         Token::Literal(string) => Ok(Record::Literal(strings.add_string(string)?)),
         Token::Verbatim(string) => Ok(Record::Verbatim(strings.add_string(string)?)),
         Token::Punct(string) => Ok(Record::Punct(strings.intern_punctuator(string)?)),

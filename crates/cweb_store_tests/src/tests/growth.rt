@@ -51,7 +51,7 @@ fn many_replacements_of_a_byte(rt: HostRuntime) -> Result<(), Fail> {
     check(&rt, rt.alloc(), &ReplacedOften)
 }
 
-// Equal Words and Puncts are stored once, other strings as often as they occur.
+// Equal Words, Numbers and Puncts are stored once, other strings as often as they occur.
 #[test]
 fn bytes_of_strings(rt: HostRuntime) -> Result<(), Fail> {
     const EXAMPLES: &[(&str, &str)] = &[
@@ -62,7 +62,7 @@ fn bytes_of_strings(rt: HostRuntime) -> Result<(), Fail> {
         ),
         (
             "program; number 12; word 12; number 12; verbatim 12; literal 12; word 12",
-            "tokens 6; bytes 10",
+            "tokens 6; bytes 6",
         ),
         ("program; word foo; sign +; sign +", "tokens 3; bytes 4"),
         (
@@ -71,7 +71,7 @@ fn bytes_of_strings(rt: HostRuntime) -> Result<(), Fail> {
         ),
         (
             "program; sign a; word a; sign a; number a",
-            "tokens 4; bytes 2",
+            "tokens 4; bytes 1",
         ),
         (
             "program; sign ; sign ; sign ...; sign ...",

@@ -1,8 +1,9 @@
 -- Interned words: those of the hash table, and those of the sorted map.
 use Rattle.std.specs.Prelude.{◌≡◌, ℕ, Bool, true, List, [], ◌∷◌, ◌++◌, map, length, slice_get, bytes_eq, Some, Vec}
+use Rattle.std.specs.Prelude.{if◌then◌else◌}
 use Rattle.std.specs.List.{list_any}
 use Rattle.std.specs.BTreeMap.{insert_entry}
-use Rattle.std.specs.Ordering.{nat_cmp}
+use Rattle.std.specs.Ordering.{is_eq, nat_cmp}
 use Rattle.std.specs.Cmp.Lexicographic.{slice_cmp}
 use Rattle.std.specs.declared.cmp.Ordering.{Ordering}
 use Rattle.std.specs.declared.alloc.Global.{Global}
@@ -53,6 +54,10 @@ Entries = List (Vec ℕ Global × ℕ)
 abbrev pub entry_word : (Vec ℕ Global × ℕ) → List ℕ
 entry_word e = e.0.items
 
+-- whether a key of the sorted map is this word
+abbrev pub is_word : List ℕ → Vec ℕ Global → Bool
+is_word word key = is_eq (slice_cmp nat_cmp word key.items)
+
 -- a word was inserted into the sorted map, with the number of its string
 pub record IsInserted (old : Entries) (word : List ℕ) (number : ℕ) (new : Entries) : Type 0 where
   pub key : Vec ℕ Global
@@ -63,6 +68,13 @@ pub record IsInserted (old : Entries) (word : List ℕ) (number : ℕ) (new : En
 abbrev pub AreMapped : List (List ℕ) → Entries → Type 0
 AreMapped strings [] = Unit {0}
 AreMapped strings (e ∷ es) = (slice_get strings e.1 ≡ Some e.0.items) × AreMapped strings es
+
+-- a word was interned by the sorted map alone: it was there, or it is the last string now
+pub record InternsSorted (strings : List (List ℕ)) (es : Entries) (word : List ℕ) (number : ℕ)
+    (new : List (List ℕ)) (more : Entries) : Type 0 where
+  pub inserted : IsInserted es word number more
+  pub stored : slice_get new number ≡ Some word
+  pub grows : new ≡ (if list_any (bytes_eq word) (map entry_word es) then strings else strings ++ word ∷ [])
 
 -- the invariant of interned words
 pub record AreInterned (strings : List (List ℕ)) (ws : List Word) (es : Entries) : Type 0 where

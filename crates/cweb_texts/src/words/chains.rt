@@ -68,8 +68,8 @@ impl Chains {
         true
     }
 
-    // Whether the chain of a bucket takes no more words.
-    fn is_full(&self, bucket: usize) -> bool {
+    /// Whether the chain of a bucket takes no more words.
+    pub fn is_full(&self, bucket: usize) -> bool {
         let mut link = self.head(bucket);
         for _ in 0..LONGEST_CHAIN {
             if link == 0 {

@@ -12,7 +12,7 @@ use std::alloc::Global;
 use std::marker::Model;
 
 // How many buckets there are at first.
-const FIRST_BUCKETS: usize = 64;
+const FIRST_BUCKETS: usize = 1024;
 
 /// Words in the order in which they were added. Those of one bucket are linked, the latest first.
 #[derive(Drop)]
@@ -71,6 +71,12 @@ impl WordTable {
             link = self.chains.next(link);
         }
         None
+    }
+
+    /// Whether the chain of a key takes no more words.
+    pub fn is_full(&self, key: Key) -> bool {
+        self.chains
+            .is_full(home_bucket(key, self.chains.heads.len()))
     }
 
     /// Appends a word. Returns false and changes nothing if its chain is full, a number does not fit, or memory is refused.

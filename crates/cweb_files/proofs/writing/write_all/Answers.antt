@@ -40,18 +40,20 @@ pieces-preserved g c =
           (writes_then g.W.Sink _ _ _ _ _ keeps c.pieces.invariant.written wrote);
     }
 
-pub returns-in-Err-clause-keeps : goal.returns-in-Err-clause-keeps
-returns-in-Err-clause-keeps g c = place_then g.W.Sink _ _ _ c.pieces.invariant.keeps
-    (record { tells = c.in-Err.ensures.tells; beside = c.in-Err.ensures.beside })
-
-pub returns-in-Err-clause-err : goal.returns-in-Err-clause-err
-returns-in-Err-clause-err g c = λ tells. record {
-  prefix = take c.pieces.at c.args.bytes.now;
-  rest = drop c.pieces.at c.args.bytes.now;
-  written = c.in-Err.ensures.err (place_known g.W.Sink _ _ c.pieces.invariant.keeps tells)
-      ∙ c.pieces.invariant.written tells;
-  whole = sym (take-append-drop c.pieces.at c.args.bytes.now);
+pub returns-in-Err-clause-appends : goal.returns-in-Err-clause-appends
+returns-in-Err-clause-appends g c = let before = c.pieces.invariant.keeps in record {
+  keeps = record {
+    tells = c.in-Err.ensures.tells ∙ before.tells;
+    beside = λ tells. c.in-Err.ensures.beside (place_known g.W.Sink _ _ before tells) ∙ before.beside tells;
+    failed = search rules;
+  };
+  wrote = λ tells. record {
+    prefix = take c.pieces.at c.args.bytes.now;
+    rest = drop c.pieces.at c.args.bytes.now;
+    written = c.in-Err.ensures.err (place_known g.W.Sink _ _ before tells) ∙ c.pieces.invariant.written tells;
+    whole = sym (take-append-drop c.pieces.at c.args.bytes.now);
+  };
 }
 
-pub returns-clause-ok : goal.returns-clause-ok
-returns-clause-ok g c = grind (arith, common_steps)
+pub returns-clause-appends : goal.returns-clause-appends
+returns-clause-appends g c = grind (arith, common_steps)

@@ -1,14 +1,12 @@
 use Rattle.std.specs.Prelude.{◌⊎◌}
+use Rattle.cweb_files.specs.surface.Frames.{KeepsShelf}
 use Rattle.cweb_input.proofs.Common.{◌≡◌, ◌≤◌, ◌-◌, ◌++◌, length, IsTrue, HasNoNewline, buffered, bytes_left, LINE_LENGTH}
 use Rattle.cweb_input.proofs.cut.next_line.Given as goal
 
 abbrev pub invariant-pieces : goal.invariant-pieces
 invariant-pieces g l = record {
-  tells : g.S.Shelf.tells l.shelf ≡ g.S.Shelf.tells l.fn.shelf;
+  keeps : KeepsShelf g.S.Shelf l.fn.shelf l.shelf;
   failed : g.S.Shelf.failed l.shelf ≡ g.S.Shelf.failed l.fn.shelf;
-  texts : IsTrue (g.S.Shelf.tells l.fn.shelf) → g.S.Shelf.texts l.shelf ≡ g.S.Shelf.texts l.fn.shelf;
-  others : IsTrue (g.S.Shelf.tells l.fn.shelf) → g.S.Shelf.left l.shelf ≡ g.S.Shelf.left l.fn.shelf;
-  names : IsTrue (g.S.Shelf.tells l.fn.shelf) → g.S.Shelf.opened_as l.shelf ≡ g.S.Shelf.opened_as l.fn.shelf;
   opened : IsTrue (g.S.Shelf.tells l.fn.shelf)
       → g.S.Shelf.opened_as l.shelf l.source.reader.value ≡ g.S.Shelf.opened_as l.fn.shelf l.fn.source.reader.value;
   blamed : IsTrue (g.S.Shelf.tells l.fn.shelf) → g.S.Shelf.blamed l.shelf ≡ g.S.Shelf.blamed l.fn.shelf;

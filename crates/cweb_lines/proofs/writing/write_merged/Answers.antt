@@ -1,6 +1,18 @@
 use Rattle.cweb_lines.proofs.BufferedWrites.{loses_line}
 use Rattle.cweb_lines.proofs.writing.write_merged.Goals as goal
 
-pub returns-clause-fault : goal.returns-clause-fault
-returns-clause-fault g c = λ tells out before is.
-    loses_line _ _ _ _ _ _ (c.write_merged_in_chunks.ensures.fault tells out before is)
+pub returns : goal.returns
+returns g c =
+    let writes = c.write_merged_in_chunks.ensures in
+    record {
+      keeps = writes.keeps;
+      grows = writes.grows;
+      ok = writes.ok;
+      ended = writes.ended;
+      prefix = writes.prefix;
+      stops = writes.stops;
+      fault = λ tells out before is. loses_line _ _ _ _ _ _ (writes.fault tells out before is);
+      blames = writes.blames;
+      known = writes.known;
+      again = writes.again;
+    }

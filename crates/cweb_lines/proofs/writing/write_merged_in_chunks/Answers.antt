@@ -1,20 +1,18 @@
-use Rattle.cweb_lines.proofs.Common.{rules, Line, ◌+◌, refl, ap, sym, ◌∙◌, arith, IsTrue, Writes, BuffersLines, HasWritten, events_to_come, so_far_of, to_come, so_far, read_failures_of, blames_none, stop_after}
-use Rattle.cweb_lines.proofs.ReportsOnlyGrow.{grows_reported, reported_halted, reported_passed, reported_same, reported_then}
-use Rattle.cweb_lines.proofs.BufferedWrites.{held, held_on, fails_prefix, fails_among, written_on}
-use Rattle.cweb_files.proofs.FramesCompose.{keeps_same, keeps_then, place_same, place_then}
-use Rattle.cweb_lines.proofs.NoReadFails.{Quiet, quiet_by, quiet_same, quiet_then, still_tells}
+use Rattle.cweb_lines.proofs.Common.{rules, [], Ok, Err, Line, ◌+◌, refl, ap, sym, ◌∙◌, arith, IsTrue, Writes, BuffersLines, HasWritten, events_to_come, so_far_of, to_come, so_far, blames_none, WriteFault}
+use Rattle.cweb_lines.proofs.ReportsOnlyGrow.{grows_reported, reported_same}
+use Rattle.cweb_lines.proofs.BufferedWrites.{held, held_on, fails_prefix, fails_among, place_of, written_on}
+use Rattle.cweb_files.proofs.FramesCompose.{keeps_same, place_same, place_then}
+use Rattle.cweb_lines.proofs.NoReadFails.{Quiet, quiet_same, reads_halted, reads_passed, reads_then, stays_known, still_tells}
 use Rattle.cweb_lines.proofs.WrittenLinesAddUp.{nothing_yet, written_by, written_prefix, written_some, written_whole, tells_some, tells_more, tells_same}
-use Rattle.cweb_lines.proofs.WriteStops.{blames_own, blames_write, memory_failed, memory_write, none_before, write_failed}
+use Rattle.cweb_lines.proofs.WriteStops.{blames_own, blames_write, memory_failed, memory_write, none_before}
 use Rattle.cweb_lines.proofs.writing.write_merged_in_chunks.Given as given
 use Rattle.cweb_lines.proofs.writing.write_merged_in_chunks.Goals as goal
-use Rattle.cweb_lines.proofs.writing.write_merged_in_chunks.Goals.{After-pass_lines-passed, In-Ok, In_default-write_buffer}
+use Rattle.cweb_lines.proofs.writing.write_merged_in_chunks.Goals.{After-pass_lines-passed, In-Ok, In_default-write_all}
 
 pub lines-init : goal.lines-init
 lines-init g c = record {
-  quiet = quiet_same g.S.Shelf _ _;
-  keeps = keeps_same g.S.Shelf _;
+  quiet = quiet_same _ _;
   place = place_same g.W.Sink _;
-  failed = refl;
   out_failed = refl;
   running = sym c.stopped.ensures.stop ∙ c.in_default.is;
   before = sym c.stopped.ensures.stop ∙ c.in_default.is;
@@ -24,10 +22,13 @@ lines-init g c = record {
 
 quiet : (g : given.Over) (c : In-Ok g) → Quiet g.S.Shelf c.args.shelf.now c.next_line.new.shelf c.args.merger.now.run
     c.next_line.new.self.run
-quiet g c = quiet_then g.S.Shelf c.lines.invariant.quiet (quiet_by g.S.Shelf _ _ _ _ c.in-Ok.ensures.keeps
-    (λ tells known. (c.in-Ok.ensures.known tells known).readers)
-    (λ tells known. (c.in-Ok.ensures.known tells known).blamed c.lines.invariant.running)
-    c.in-Ok.ensures.grows.reported)
+quiet g c = reads_then c.lines.invariant.quiet (record {
+  keeps = c.in-Ok.ensures.keeps;
+  failed = (c.in-Ok.ensures.blames c.lines.invariant.running).failed;
+  readers = λ tells known. (c.in-Ok.ensures.known tells known).readers;
+  blamed = λ tells known. (c.in-Ok.ensures.known tells known).blamed c.lines.invariant.running;
+  still = c.in-Ok.ensures.grows.reported;
+})
 
 more : (g : given.Over) (c : After-pass_lines-passed g) → IsTrue (g.S.Shelf.tells c.args.shelf.now)
     → BuffersLines c.args.room (so_far
@@ -37,7 +38,7 @@ more : (g : given.Over) (c : After-pass_lines-passed g) → IsTrue (g.S.Shelf.te
     (g.S.Shelf.left c.next_line.new.shelf) c.pass_lines-passed.new.self.run)
     (Writes g.W.Sink c.args.out.now c.lines.out) c.pass_lines-passed.new.buffer.items
 more g c tells =
-    let next = rw c.in-Some-next.is at (c.in-Ok.ensures.next (still_tells g.S.Shelf c.lines.invariant.quiet tells)) in
+    let next = rw c.in-Some-next.is at (c.in-Ok.ensures.next (still_tells c.lines.invariant.quiet tells)) in
     let line : Line = record { bytes = c.next_line.new.line.items; place = c.in-Some-next.field-0 } in
     let passes = c.pass_lines-passed.ensures.passes in
     held_on _ _ _ _ _ _ _ (held _ _ _ _ _ _ (c.lines.invariant.written tells) line _ _ next _ _ c.lines.invariant.empty
@@ -45,75 +46,85 @@ more g c tells =
     (passes.yields (g.S.Shelf.texts c.next_line.new.shelf) (g.S.Shelf.left c.next_line.new.shelf))
     _ passes.buffered passes.within
 
-pub returns-in-Some-clause-grows : goal.returns-in-Some-clause-grows
-returns-in-Some-clause-grows g c = grows_reported c.args.merger.now.run (reported_same _ _ refl refl)
+pub returns-in-Some : goal.returns-in-Some
+returns-in-Some g c = record {
+  keeps = (keeps_same g.S.Shelf _, place_same g.W.Sink _);
+  grows = grows_reported c.args.merger.now.run (reported_same _ _ refl refl);
+  ok = search rules;
+  ended = search rules;
+  prefix = search rules;
+  stops = search rules;
+  fault = search rules;
+  blames = search rules;
+  known = search rules;
+  again = search rules;
+}
 
 pub returns-in-Err : goal.returns-in-Err
 returns-in-Err g c =
-    let reported = still_tells g.S.Shelf c.lines.invariant.quiet in
+    let next = c.in-Err.ensures in
+    let blames = next.blames c.lines.invariant.running in
+    let reads = reads_then c.lines.invariant.quiet (record {
+      keeps = next.keeps;
+      failed = blames.failed;
+      readers = λ tells known. (next.known tells known).readers;
+      blamed = λ tells known. (next.known tells known).blamed c.lines.invariant.running;
+      still = next.grows.reported;
+    }) in
     record {
-      keeps = (keeps_then g.S.Shelf _ _ _ c.lines.invariant.keeps c.in-Err.ensures.keeps, c.lines.invariant.place);
-      grows = record {
-        reported = reported_then _ _ _ c.lines.invariant.quiet.reported c.in-Err.ensures.grows.reported;
-        lines = c.in-Err.ensures.grows.lines;
-        bytes = c.in-Err.ensures.grows.bytes;
-      };
+      keeps = (reads.keeps, c.lines.invariant.place);
+      grows = record { reported = reads.still; lines = next.grows.lines; bytes = next.grows.bytes };
       ok = λ _. tt;
       ended = tt;
       prefix = λ tells. written_prefix g.W.Sink _ _ _ _ _ _ (c.lines.invariant.written tells);
       stops = λ tells before.
           let written = c.lines.invariant.written tells in
-          let there = c.in-Err.ensures.stops (reported tells) c.lines.invariant.running in
+          let there = next.stops (still_tells c.lines.invariant.quiet tells) c.lines.invariant.running in
           record {
             why = written_by g.W.Sink _ _ _ _ _ _ written c.in-Err.stop _ there.why;
             reported = tells_more _ _ _ _ _ _ written.yields there.reported;
           };
       fault = search rules;
-      blames = λ before.
-          let blames = c.in-Err.ensures.blames c.lines.invariant.running in
-          blames_own c.in-Err.stop _ _ _ _ blames.reading c.in-Err.ensures.leaves.kept c.in-Err.ensures.leaves.named
-          (blames.failed ∙ ap (λ n. n + read_failures_of c.in-Err.stop) c.lines.invariant.failed)
+      blames = λ before. blames_own c.in-Err.stop _ _ _ _ blames.reading next.leaves.kept next.leaves.named reads.failed
           c.lines.invariant.out_failed;
-      known = λ tells known.
-          let stays = c.in-Err.ensures.known (reported tells) (c.lines.invariant.quiet.readers tells known) in
-          record {
-            readers = stays.readers;
-            blamed = λ before. stop_after c.in-Err.stop _ _ _ _ (c.lines.invariant.quiet.blamed tells known)
-                (stays.blamed c.lines.invariant.running);
-          };
+      known = stays_known (Err c.in-Err.stop) reads;
       again = none_before _ c.lines.invariant.before;
     }
 
-pub returns-in_default-next-clause-ok : goal.returns-in_default-next-clause-ok
-returns-in_default-next-clause-ok g c = λ tells.
-    let last = rw c.in_default-next.is at
-    (c.in-Ok.ensures.next (still_tells g.S.Shelf c.lines.invariant.quiet tells)) in
-    written_whole g.W.Sink _ _ _ _ _ _ (c.lines.invariant.written tells) _ _ last.0 last.1
-
-pub returns-in_default-next-clause-grows : goal.returns-in_default-next-clause-grows
-returns-in_default-next-clause-grows g c = grows_reported c.next_line.new.self.run
-    (quiet g (goal.at.returns-in_default-next-clause-grows g c).In-Ok).reported
-
-pub returns-in_default-next-clause-known : goal.returns-in_default-next-clause-known
-returns-in_default-next-clause-known g c = λ tells known.
-    let q = quiet g (goal.at.returns-in_default-next-clause-known g c).In-Ok in
-    record { readers = q.readers tells known; blamed = λ before. q.blamed tells known }
+pub returns-in_default-next : goal.returns-in_default-next
+returns-in_default-next g c =
+    let q = quiet g (goal.at.returns-in_default-next g c).In-Ok in
+    record {
+      keeps = (q.keeps, c.lines.invariant.place);
+      grows = grows_reported c.next_line.new.self.run q.still;
+      ok = λ tells.
+          let last = rw c.in_default-next.is at
+          (c.in-Ok.ensures.next (still_tells c.lines.invariant.quiet tells)) in
+          written_whole g.W.Sink _ _ _ _ _ _ (c.lines.invariant.written tells) _ _ last.0 last.1;
+      ended = search rules;
+      prefix = search rules;
+      stops = search rules;
+      fault = search rules;
+      blames = search rules;
+      known = stays_known (Ok tt) q;
+      again = none_before _ c.lines.invariant.before;
+    }
 
 pub returns-in-Err-append_line : goal.returns-in-Err-append_line
 returns-in-Err-append_line g c =
-    let q = quiet g (goal.at.returns-in-Err-append_line g c).In-Ok in
     let is_memory = c.halt.ensures.stop c.in-Ok.ensures.leaves.running in
+    let reads = reads_then (quiet g (goal.at.returns-in-Err-append_line g c).In-Ok)
+    (reads_halted c.halt.ensures.readers c.halt.ensures.so_far is_memory) in
     record {
-      keeps = (keeps_then g.S.Shelf _ _ _ c.lines.invariant.keeps c.in-Ok.ensures.keeps, c.lines.invariant.place);
-      grows = grows_reported c.halt.new.self.run (reported_then _ _ _ q.reported
-          (reported_halted c.halt.ensures.so_far));
+      keeps = (reads.keeps, c.lines.invariant.place);
+      grows = grows_reported c.halt.new.self.run reads.still;
       ok = λ _. tt;
       ended = tt;
       prefix = λ tells. written_prefix g.W.Sink _ _ _ _ _ _ (c.lines.invariant.written tells);
       stops = λ tells before.
           let written = c.lines.invariant.written tells in
           let next = rw c.in-Some-next.is at
-          (c.in-Ok.ensures.next (still_tells g.S.Shelf c.lines.invariant.quiet tells)) in
+          (c.in-Ok.ensures.next (still_tells c.lines.invariant.quiet tells)) in
           record {
             why = memory_failed _ _ _ _ _ is_memory (written_some g.W.Sink _ _ _ _ _ _ written);
             reported = tells_same _ _ _ _ c.halt.ensures.so_far (tells_more _ _ _ _ _ _ written.yields
@@ -121,120 +132,91 @@ returns-in-Err-append_line g c =
           };
       fault = λ tells out before is. absurd (memory_write _ _ refl is_memory is);
       blames = λ before. blames_own c.halt.result _ _ _ _ (rw is_memory tt) c.halt.ensures.kept c.halt.ensures.named
-          (omega (
-            arith,
-            (c.in-Ok.ensures.blames c.lines.invariant.running).failed,
-            c.lines.invariant.failed,
-            ap read_failures_of is_memory,
-          ))
-          c.lines.invariant.out_failed;
-      known = λ tells known. record {
-        readers = c.halt.ensures.readers _ (q.readers tells known);
-        blamed = λ before. blames_none _ _ _ _ (ap read_failures_of is_memory) (q.blamed tells known);
-      };
+          reads.failed c.lines.invariant.out_failed;
+      known = stays_known (Err c.halt.result) reads;
       again = none_before _ c.lines.invariant.before;
     }
 
-pub returns-in-Err-write_buffer : goal.returns-in-Err-write_buffer
-returns-in-Err-write_buffer g c =
-    let at = goal.at.returns-in-Err-write_buffer g c in
-    let q = quiet g at.In-Ok in
+pub returns-in-Err-write_all : goal.returns-in-Err-write_all
+returns-in-Err-write_all g c =
+    let at = goal.at.returns-in-Err-write_all g c in
     let passes = c.pass_lines-passed.ensures.passes in
-    let err = rw c.deref-in-lines.ensures.value at c.in-Err-write_buffer.ensures.err in
+    let q = reads_then (quiet g at.In-Ok) (reads_passed passes) in
+    let appends = c.in-Err-write_all.ensures.appends in
+    let err = rw c.deref-in-lines.ensures.value at appends.wrote in
     record {
-      keeps = (
-        keeps_then g.S.Shelf _ _ _ c.lines.invariant.keeps c.in-Ok.ensures.keeps,
-        place_then g.W.Sink _ _ _ c.lines.invariant.place c.in-Err-write_buffer.ensures.keeps,
-      );
-      grows = grows_reported c.pass_lines-passed.new.self.run (reported_then _ _ _ q.reported (reported_passed passes));
+      keeps = (q.keeps, place_then g.W.Sink _ _ _ c.lines.invariant.place (place_of appends.keeps));
+      grows = grows_reported c.pass_lines-passed.new.self.run q.still;
       ok = λ _. tt;
       ended = tt;
       prefix = λ tells. fails_prefix g.W.Sink _ _ c.lines.invariant.place _ _ _ _ _ _
-          (more g at.After-pass_lines-passed tells) c.write_buffer.new.out err;
+          (more g at.After-pass_lines-passed tells) c.write_all.new.out err;
       stops = λ tells before. record {
-        why = write_failed _ _ _ _ _ c.in-Err-write_buffer.ensures.stop;
+        why = tt;
         reported = tells_some _ _ _ _ _ (more g at.After-pass_lines-passed tells).yields;
       };
       fault = λ tells out before is. fails_among g.W.Sink _ _ c.lines.invariant.place _ _ _ _ _ _
-          (more g at.After-pass_lines-passed tells) c.write_buffer.new.out out err;
-      blames = λ before. blames_write _ _ _ _ _ c.in-Err-write_buffer.ensures.stop
-          (passes.stopped ∙ c.in-Ok.ensures.leaves.running)
-          ((c.in-Ok.ensures.blames c.lines.invariant.running).failed ∙ c.lines.invariant.failed)
-          (c.in-Err-write_buffer.ensures.failed ∙ ap (λ n. n + 1) c.lines.invariant.out_failed);
+          (more g at.After-pass_lines-passed tells) c.write_all.new.out out err;
+      blames = λ before. blames_write _ _ _ _ (passes.stopped ∙ c.in-Ok.ensures.leaves.running) q.failed
+          (appends.keeps.failed ∙ ap (λ n. n + 1) c.lines.invariant.out_failed);
       known = λ tells known. record {
-        readers = passes.readers _ (q.readers tells known);
-        blamed = λ before. blames_none _ _ _ _ (ap read_failures_of c.in-Err-write_buffer.ensures.stop)
-            (q.blamed tells known);
+        readers = q.readers tells known;
+        blamed = λ before. blames_none [] _ _ WriteFault refl (q.blamed tells known);
       };
       again = none_before _ c.lines.invariant.before;
     }
 
-wrote : (g : given.Over) (c : In_default-write_buffer g) → IsTrue (g.S.Shelf.tells c.args.shelf.now)
+wrote : (g : given.Over) (c : In_default-write_all g) → IsTrue (g.S.Shelf.tells c.args.shelf.now)
     → HasWritten (so_far
     c.args.merger.now) (so_far_of c.pass_lines-passed.new.self.run)
     (to_come g.S.Shelf c.args.shelf.now c.args.merger.now)
     (events_to_come (g.S.Shelf.texts c.next_line.new.shelf) (g.S.Shelf.left c.next_line.new.shelf)
-    c.pass_lines-passed.new.self.run) (Writes g.W.Sink c.args.out.now c.write_buffer.new.out)
+    c.pass_lines-passed.new.self.run) (Writes g.W.Sink c.args.out.now c.write_all.new.out)
 wrote g c tells = written_on g.W.Sink _ _ c.lines.invariant.place _ _ _ _ _ _
-    (more g (goal.at.In_default-write_buffer g c).After-pass_lines-passed tells) c.write_buffer.new.out
-    (rw c.deref-in-lines.ensures.value at c.in_default-write_buffer.ensures.ok)
+    (more g (goal.at.In_default-write_all g c).After-pass_lines-passed tells) c.write_all.new.out
+    (rw c.deref-in-lines.ensures.value at c.in_default-write_all.ensures.appends.wrote)
 
 pub returns-in-Err-passed : goal.returns-in-Err-passed
 returns-in-Err-passed g c =
     let at = goal.at.returns-in-Err-passed g c in
-    let q = quiet g at.In-Ok in
     let passes = c.pass_lines-passed.ensures.passes in
     let halted = c.halt-in-Err-passed.ensures in
+    let appends = c.in_default-write_all.ensures.appends in
     let is_memory = halted.stop (passes.stopped ∙ c.in-Ok.ensures.leaves.running) in
+    let reads = reads_then (reads_then (quiet g at.In-Ok) (reads_passed passes))
+    (reads_halted halted.readers halted.so_far is_memory) in
     record {
-      keeps = (
-        keeps_then g.S.Shelf _ _ _ c.lines.invariant.keeps c.in-Ok.ensures.keeps,
-        place_then g.W.Sink _ _ _ c.lines.invariant.place c.in_default-write_buffer.ensures.keeps,
-      );
-      grows = grows_reported c.halt-in-Err-passed.new.self.run
-          (reported_then _ _ _ (reported_then _ _ _ q.reported (reported_passed passes))
-          (reported_halted halted.so_far));
+      keeps = (reads.keeps, place_then g.W.Sink _ _ _ c.lines.invariant.place (place_of appends.keeps));
+      grows = grows_reported c.halt-in-Err-passed.new.self.run reads.still;
       ok = λ _. tt;
       ended = tt;
-      prefix = λ tells. written_prefix g.W.Sink _ _ _ _ _ _ (wrote g at.In_default-write_buffer tells);
+      prefix = λ tells. written_prefix g.W.Sink _ _ _ _ _ _ (wrote g at.In_default-write_all tells);
       stops = λ tells before.
-          let written = wrote g at.In_default-write_buffer tells in
+          let written = wrote g at.In_default-write_all tells in
           record {
             why = memory_failed _ _ _ _ _ is_memory (written_some g.W.Sink _ _ _ _ _ _ written);
             reported = tells_same _ _ _ _ halted.so_far (tells_some _ _ _ _ _ written.yields);
           };
       fault = λ tells out before is. absurd (memory_write _ _ refl is_memory is);
       blames = λ before. blames_own c.halt-in-Err-passed.result _ _ _ _ (rw is_memory tt) halted.kept halted.named
-          (omega (
-            arith,
-            (c.in-Ok.ensures.blames c.lines.invariant.running).failed,
-            c.lines.invariant.failed,
-            ap read_failures_of is_memory,
-          ))
-          (c.in_default-write_buffer.ensures.failed ∙ c.lines.invariant.out_failed);
-      known = λ tells known. record {
-        readers = halted.readers _ (passes.readers _ (q.readers tells known));
-        blamed = λ before. blames_none _ _ _ _ (ap read_failures_of is_memory) (q.blamed tells known);
-      };
+          reads.failed (appends.keeps.failed ∙ c.lines.invariant.out_failed);
+      known = stays_known (Err c.halt-in-Err-passed.result) reads;
       again = none_before _ c.lines.invariant.before;
     }
 
 pub lines-preserved : goal.lines-preserved
 lines-preserved g c =
     let at = goal.at.lines-preserved g c in
-    let q = quiet g at.In-Ok in
     let passes = c.pass_lines-passed.ensures.passes in
+    let appends = c.in_default-write_all.ensures.appends in
     record {
-      quiet = quiet_then g.S.Shelf q (quiet_by g.S.Shelf _ _ _ _ (keeps_same g.S.Shelf _)
-          (λ tells known. passes.readers _ known) (λ tells known. refl) (reported_passed passes));
-      keeps = keeps_then g.S.Shelf _ _ _ c.lines.invariant.keeps c.in-Ok.ensures.keeps;
-      place = place_then g.W.Sink _ _ _ c.lines.invariant.place c.in_default-write_buffer.ensures.keeps;
-      failed = (c.in-Ok.ensures.blames c.lines.invariant.running).failed ∙ c.lines.invariant.failed;
-      out_failed = c.in_default-write_buffer.ensures.failed ∙ c.lines.invariant.out_failed;
+      quiet = reads_then (quiet g at.In-Ok) (reads_passed passes);
+      place = place_then g.W.Sink _ _ _ c.lines.invariant.place (place_of appends.keeps);
+      out_failed = appends.keeps.failed ∙ c.lines.invariant.out_failed;
       running = passes.stopped ∙ c.in-Ok.ensures.leaves.running;
       before = c.lines.invariant.before;
       empty = c.clear.ensures.items;
-      written = λ tells. wrote g at.In_default-write_buffer tells;
+      written = λ tells. wrote g at.In_default-write_all tells;
     }
 
 pub lines-smaller : goal.lines-smaller

@@ -1,13 +1,11 @@
-use Rattle.cweb_lines.proofs.Common.{◌≡◌, ◌-◌, None, [], IsTrue, KeepsShelf, KeepsPlace, Writes, to_come, so_far, stop_in, HasWritten}
+use Rattle.cweb_lines.proofs.Common.{◌≡◌, ◌-◌, None, [], IsTrue, KeepsPlace, Writes, to_come, so_far, stop_in, HasWritten}
 use Rattle.cweb_lines.proofs.NoReadFails.{Quiet}
 use Rattle.cweb_lines.proofs.writing.write_merged_in_chunks.Given as goal
 
 abbrev pub invariant-lines : goal.invariant-lines
 invariant-lines g l = record {
   quiet : Quiet g.S.Shelf l.fn.shelf l.shelf l.fn.merger.run l.merger.run;
-  keeps : KeepsShelf g.S.Shelf l.fn.shelf l.shelf;
   place : KeepsPlace g.W.Sink l.fn.out l.out;
-  failed : g.S.Shelf.failed l.shelf ≡ g.S.Shelf.failed l.fn.shelf;
   out_failed : g.W.Sink.failed l.out ≡ g.W.Sink.failed l.fn.out;
   running : stop_in l.merger ≡ None;
   before : stop_in l.fn.merger ≡ None;

@@ -27,8 +27,8 @@ pieces-preserved g c =
           ∙ ap (λ (t : List ℕ). g.W.Sink.written c.args.out.now ++ t) (sym (take-add taken c.in-Ok.n bytes));
     }
 
-pub returns-in-Err-clause-failed : goal.returns-in-Err-clause-failed
-returns-in-Err-clause-failed g c = search rules
+pub returns-in-Err-clause-keeps : goal.returns-in-Err-clause-keeps
+returns-in-Err-clause-keeps g c = search rules
 
 pub returns-in-Err-clause-ok : goal.returns-in-Err-clause-ok
 returns-in-Err-clause-ok g c = search rules

@@ -1,5 +1,9 @@
+use Rattle.cweb_rules.proofs.Common.{arith, common_steps}
 use Rattle.cweb_rules.proofs.PlainSpans.{no_sign-none}
 use Rattle.cweb_rules.proofs.plains.plain_in_raw.Goals as goal
 
-pub returns-in-empty-clause-value : goal.returns-in-empty-clause-value
-returns-in-empty-clause-value c = no_sign-none c.args.sign.now c.args.text.now c.in-empty.len_below
+pub returns-in-empty : goal.returns-in-empty
+returns-in-empty c = record {
+  value = no_sign-none c.args.sign.now c.args.text.now c.in-empty.len_below;
+  within = grind (arith, common_steps);
+}

@@ -20,7 +20,7 @@ lines-init g c =
         read = read_more run [] c.args.first old old c.take_line.new.self looks (read_nothing run old)
             (read_as old c.take_line.new.self c.args.first.line.place c.bytes_of.result.now _ c.bytes_of.ensures
             c.in_ok-take_line.ensures.read)
-            (omega (arith, c.in_ok-take_line.ensures.cost, ap (λ (l : List ℕ). length l) c.bytes_of.ensures));
+            (omega (arith, c.in_ok-take_line.ensures.adds, ap (λ (l : List ℕ). length l) c.bytes_of.ensures));
         some = omega arith;
         count = looks.count;
         is = c.requires.ahead;
@@ -41,7 +41,7 @@ lines-preserved g c =
         read = read_more run inv.0 next c.args.reader.now c.lines.reader new looks inv.1.read
             (read_as c.lines.reader new next.line.place c.bytes_of-in-Some.result.now _ c.bytes_of-in-Some.ensures
             c.in_ok-take_line-2.ensures.read)
-            (omega (arith, c.in_ok-take_line-2.ensures.cost, size));
+            (omega (arith, c.in_ok-take_line-2.ensures.adds, size));
         some = omega (arith, length-append inv.0 (looks.raw ∷ []));
         count = omega (arith, looks.count, length-append inv.0 (looks.raw ∷ []));
         is = c.in-Some.ensures.ahead;

@@ -119,7 +119,7 @@ lines-preserved g c =
       room =
           omega (
             arith,
-            c.in_default-take_line.ensures.cost,
+            c.in_default-take_line.ensures.adds,
             c.deref.ensures.len,
             c.lines.invariant.room,
             emitted.lines,

@@ -4,7 +4,7 @@ use Rattle.cweb_store.proofs.faults.add_fault_if.Goals as goal
 pub returns-in_ok-push : goal.returns-in_ok-push
 returns-in_ok-push c =
     let old = c.args.faults.now.items in
-    let f = prefix_at c.args.names.now c.args.id.0 c.requires in
+    let f = prefix_at c.args.names.now.names c.args.id.0 c.requires in
     let first : f.item.first ≡ c.first.result =
     let e : Some f.item.first ≡ Some c.first.result =
     sym (ap (option_map (λ (n : Name). n.first)) f.there) ∙ c.first.ensures in
@@ -16,6 +16,6 @@ returns-in_ok-push c =
 pub returns-else-fails : goal.returns-else-fails
 returns-else-fails c =
     let old = c.args.faults.now.items in
-    let f = prefix_at c.args.names.now c.args.id.0 c.requires in
+    let f = prefix_at c.args.names.now.names c.args.id.0 c.requires in
     ap (option_map (λ (n : Name). old ++ fault_of_name_if c.args.fails c.args.kind n.first)) f.there
     ∙ ap (λ b. Some (old ++ fault_of_name_if b c.args.kind f.item.first)) c.if-fails.false ∙ ap Some (append-nil old)

@@ -4,7 +4,7 @@ use Rattle.cweb_store.proofs.faults.add_missing_faults.Goals as goal
 
 pub loop-number-preserved : goal.loop-number-preserved
 loop-number-preserved c =
-    let ns = c.args.names.now in
+    let ns = c.args.names.now.names in
     let number = c.loop-number.number in
     let within : number < length ns = omega (arith, c.loop-number-test.true, c.len-number-end.ensures) in
     let f = prefix_at ns number within in

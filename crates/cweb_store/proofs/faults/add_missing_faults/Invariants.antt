@@ -4,6 +4,6 @@ use Rattle.cweb_store.proofs.faults.add_missing_faults.Given as goal
 abbrev pub invariant-loop-number : goal.invariant-loop-number
 invariant-loop-number l = l.faults.items ++ faults_from l.number NotPresent (λ n text.
     (flag_of l.used n || list_any (is_id n) l.files.keys) && not (has_head l.heads n))
-    (drop l.number l.names) ≡ l.initial.faults.items
+    (drop l.number l.names.names) ≡ l.initial.faults.items
     ++ faults_where NotPresent (λ n text. (flag_of l.used n || list_any (is_id n) l.files.keys)
-    && not (has_head l.heads n)) l.names
+    && not (has_head l.heads n)) l.names.names

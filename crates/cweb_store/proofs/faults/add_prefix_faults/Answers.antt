@@ -4,7 +4,7 @@ use Rattle.cweb_store.proofs.faults.add_prefix_faults.Goals as goal
 
 pub loop-number-preserved : goal.loop-number-preserved
 loop-number-preserved c =
-    let ns = c.args.names.now in
+    let ns = c.args.names.now.names in
     let within : c.loop-number.number < length ns = omega (arith, c.loop-number-test.true, c.len-number-end.ensures) in
     faults-step PrefixOfAnother (λ n text. is_prefix_of_another ns text) ns c.loop-number.number c.in_ok-fails.fails
     c.loop-number.faults.items c.add_fault_if.new.faults.items within c.in_ok-fails.ensures c.in_ok-add_fault_if.ensures
@@ -12,7 +12,7 @@ loop-number-preserved c =
 
 pub returns-then-not-has_prefix : goal.returns-then-not-has_prefix
 returns-then-not-has_prefix c =
-    let ns = c.args.names.now in
+    let ns = c.args.names.now.names in
     let old = c.args.faults.now.items in
     let none : list_any (is_prefix_of_another ns) (spellings ns) ≡ false = sym c.has_prefix.ensures
     ∙ c.if-not-has_prefix.true in

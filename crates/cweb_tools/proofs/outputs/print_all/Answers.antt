@@ -14,7 +14,8 @@ tokens-preserved g c =
     (record { store = c.append.ensures.store; plan = c.append.ensures.plan; valid = c.append.ensures.valid })
     c.append.ensures.setting c.append.ensures.prints)
     (record { store = c.next.ensures.store; plan = c.next.ensures.plan; valid = c.next.ensures.valid })
-    c.in-Some.ensures.yields added.setting added.moves added.tells added.failed added.beside added.prints
+    c.in-Some.ensures.yields
+    added.setting added.moves added.keeps.tells added.keeps.failed added.keeps.beside added.prints
 
 pub returns-clause-prints : goal.returns-clause-prints
 returns-clause-prints g c = prints_all c.finish.new.out c.finish.new.buffer c.finish.result

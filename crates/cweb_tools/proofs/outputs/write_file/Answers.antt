@@ -32,10 +32,11 @@ returns-in-Err-clause-does g c =
     let printed = c.in-Err.ensures in
     let gone = c.abandon_file.ensures in
     not_written name _
-    (gone.tells ∙ printed.tells ∙ began.tells) (gone.failed ∙ printed.failed ∙ ap (λ (n : ℕ). n + 1) began.failed)
+    (gone.tells ∙ printed.keeps.tells ∙ began.tells)
+    (gone.failed ∙ printed.keeps.failed ∙ ap (λ (n : ℕ). n + 1) began.failed)
     (λ tell. let observed : IsTrue (g.B.Sink.tells c.start_file.new.self) = began.tells ∙ tell in
-    gone.gone (printed.tells ∙ observed)
-    ∙ ap without_draft (printed.beside observed ∙ (rw c.output_name.ensures at began.begun) tell))
+    gone.gone (printed.keeps.tells ∙ observed)
+    ∙ ap without_draft (printed.keeps.beside observed ∙ (rw c.output_name.ensures at began.begun) tell))
 
 -- It was printed, and could not be committed.
 pub returns-in-Err-commit_file-clause-does : goal.returns-in-Err-commit_file-clause-does
@@ -45,16 +46,18 @@ returns-in-Err-commit_file-clause-does g c =
     let printed = c.in_default.ensures in
     let kept = c.in-Err-commit_file.ensures in
     not_written name _
-    (kept.tells ∙ printed.tells ∙ began.tells) (kept.failed ∙ ap (λ (n : ℕ). n + 1) (printed.failed ∙ began.failed))
+    (kept.tells ∙ printed.keeps.tells ∙ began.tells)
+    (kept.failed ∙ ap (λ (n : ℕ). n + 1) (printed.keeps.failed ∙ began.failed))
     (λ tell. let observed : IsTrue (g.B.Sink.tells c.start_file.new.self) = began.tells ∙ tell in
-    kept.err (printed.tells ∙ observed)
-    ∙ ap without_draft (printed.beside observed ∙ (rw c.output_name.ensures at began.begun) tell))
+    kept.err (printed.keeps.tells ∙ observed)
+    ∙ ap without_draft (printed.keeps.beside observed ∙ (rw c.output_name.ensures at began.begun) tell))
 
 pub returns-clause-does : goal.returns-clause-does
 returns-clause-does g c = file_done _ _ (sink_model g.B.Sink c.start_file.new.self)
     (sink_model g.B.Sink c.print_all.new.out)
     c.in-Ok.ensures.tells c.in-Ok.ensures.failed (rw c.output_name.ensures at c.in-Ok.ensures.begun)
-    c.in-Ok.ensures.empty c.in_default.ensures.tells c.in_default.ensures.failed c.in_default.ensures.beside
+    c.in-Ok.ensures.empty
+    c.in_default.ensures.keeps.tells c.in_default.ensures.keeps.failed c.in_default.ensures.keeps.beside
     (λ tells. c.in_default.ensures.prints tells ∙ ap (λ (t : List ℕ). g.B.Sink.written c.start_file.new.self ++ t)
     (text_on c.args.names.now c.args.expander.now c.restart.new.self _ c.restart.ensures.store c.restart.ensures.left))
     c.in_default-commit_file.ensures.tells c.in_default-commit_file.ensures.failed c.in_default-commit_file.ensures.ok

@@ -20,7 +20,7 @@ log_stop-requires-in-Err-write_all g c = omega (arith, log_counted c.in_default.
 
 pub returns-in-Err-write_all : goal.returns-in-Err-write_all
 returns-in-Err-write_all g c =
-    let wrote = c.in-Err-write_all.ensures in
+    let wrote = c.in-Err-write_all.ensures.appends in
     let files : List (List ℕ) = files_of c.args.web in
     let text : c.as_slice.result.now
     ≡ dependencies c.args.targets files (plan_made c.args.web.scanned.now.store files c.args.plan.now) =
@@ -31,13 +31,13 @@ returns-in-Err-write_all g c =
     (closes_in [] (subst (λ (t : List ℕ).
     DoesInBins (prints t ∷ []) (Some (ending WriteFault (codes "standard output")))
     (sink_model g.W.Sink c.args.out.now) (sink_model g.W.Sink c.write_all.new.out)) text
-    (printed_prefix _ wrote.keeps.tells wrote.keeps.beside wrote.failed wrote.err) shelf _)
+    (printed_prefix _ wrote.keeps.tells wrote.keeps.beside wrote.keeps.failed wrote.wrote) shelf _)
     (record { shelf = refl; bins = refl; log = c.log_stop-in-Err-write_all.ensures.logs })
     c.log_stop-in-Err-write_all.ensures.status))
 
 pub returns : goal.returns
 returns g c =
-    let wrote = c.in_default-write_all.ensures in
+    let wrote = c.in_default-write_all.ensures.appends in
     let files : List (List ℕ) = files_of c.args.web in
     let text : c.as_slice.result.now
     ≡ dependencies c.args.targets files (plan_made c.args.web.scanned.now.store files c.args.plan.now) =
@@ -47,5 +47,5 @@ returns g c =
     λ shelf. closes_on ((rw c.no_text.ensures at c.in_default.ensures) shelf _) (closes_on does_reserve
     (done (subst (λ (t : List ℕ). DoesInBins (prints t ∷ []) None
     (sink_model g.W.Sink c.args.out.now) (sink_model g.W.Sink c.write_all.new.out)) text
-    (printed_whole _ wrote.keeps.tells wrote.keeps.beside wrote.failed wrote.ok) shelf _)
+    (printed_whole _ wrote.keeps.tells wrote.keeps.beside wrote.keeps.failed wrote.wrote) shelf _)
     (c.status.ensures ∙ ap (λ (n : ℕ). if n == 0 then 0 else 1) c.fault_count.ensures.count)))

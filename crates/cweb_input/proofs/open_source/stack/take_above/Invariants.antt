@@ -1,5 +1,6 @@
 use Rattle.cweb_input.proofs.Common.{◌<◌, None, ◌≡◌, ◌≤◌, List, ℕ, IsTrue, counters_of}
 use Rattle.std.specs.Prelude.{slice_index_or}
+use Rattle.cweb_files.specs.surface.Frames.{KeepsShelf}
 use Rattle.cweb_input.specs.Lines.{Thing}
 use Rattle.cweb_input.specs.surface.ReaderNames.{AreReadersNamed}
 use Rattle.cweb_input.specs.inner.ReaderNames.{KeepsReaderNames}
@@ -10,11 +11,8 @@ use Rattle.cweb_input.proofs.open_source.stack.take_above.Given as goal
 
 abbrev pub invariant-texts : goal.invariant-texts
 invariant-texts g l = record {
-  tells : g.S.Shelf.tells l.shelf ≡ g.S.Shelf.tells l.fn.shelf;
+  keeps : KeepsShelf g.S.Shelf l.fn.shelf l.shelf;
   failed : g.S.Shelf.failed l.shelf ≡ g.S.Shelf.failed l.fn.shelf;
-  texts : IsTrue (g.S.Shelf.tells l.fn.shelf) → g.S.Shelf.texts l.shelf ≡ g.S.Shelf.texts l.fn.shelf;
-  others : IsTrue (g.S.Shelf.tells l.fn.shelf) → g.S.Shelf.left l.shelf ≡ g.S.Shelf.left l.fn.shelf;
-  names : IsTrue (g.S.Shelf.tells l.fn.shelf) → g.S.Shelf.opened_as l.shelf ≡ g.S.Shelf.opened_as l.fn.shelf;
   named : KeepsReaderNames g.S.Shelf l.fn.shelf l.shelf l.fn.stack.texts l.stack.texts;
   blamed : IsTrue (g.S.Shelf.tells l.fn.shelf) → (names : List (List ℕ))
       → AreReadersNamed (g.S.Shelf.opened_as l.fn.shelf)

@@ -1,4 +1,4 @@
-use Rattle.cweb_input.proofs.Common.{rules, ◌<◌, ◌-◌, length, refl, ◌∙◌, arith, None, counters_of}
+use Rattle.cweb_input.proofs.Common.{common_steps, rules, ◌<◌, ◌-◌, length, refl, ◌∙◌, arith, None, counters_of}
 use Rattle.std.proofs.lemmas.List.{get_or_default, set-set}
 use Rattle.cweb_input.specs.inner.OpenSources.{line_number, files_up_to}
 use Rattle.cweb_input.proofs.ReadersStayNamed.{named_at, names_set}
@@ -21,36 +21,32 @@ returns-in-Err g c =
     let within : stack.depth - 1 < length stack.texts = omega arith in
     let slot = c.index-stack-top.result in
     let file = most_read files_up_to stack.texts (stack.depth - 1) slot within in
+    let takes = c.in-Err.ensures.takes in
     record {
-      keeps = c.in-Err.ensures.keeps;
-      failed = c.in-Err.ensures.failed;
+      takes = record {
+        keeps = takes.keeps;
+        failed = takes.failed;
+        named = names_set g.S.Shelf _ _ stack.texts _ slot within _ takes.keeps takes.named;
+        blamed = λ tells names each. takes.blamed tells names (named_at _ names stack.texts _ slot within each);
+        order = keeps_stack stack _ _ c.take_from.new.slot _ refl
+            (omega (arith, c.requires.numbers, takes.answers.counted.0)) takes.text.number
+            (omega (arith, takes.text.file, file)) c.requires.deep (c.in-Err.ensures.deep (stack.depth - 1)
+            (deep-at 0 (stack.depth - 1) (stack.depth - 1) stack.texts slot (omega arith) within c.requires.deep)).0;
+        answers = grind (arith, common_steps, file, takes.answers);
+      };
       taken = λ tells. tt;
       stops = λ tells. stops_map c.in-Err.stop (λ first low above rest. top_stops (g.S.Shelf.left c.args.shelf.now)
           (g.S.Shelf.left c.args.shelf.now) refl stack.texts slot c.take_from.new.slot stack.depth within
           (counters_of c.args.limits.now) (counters_of c.take_from.new.limits) c.take_from.new.line.items low above rest
-          c.in-Err.stop first) (c.in-Err.ensures.stops tells);
-      needed = rw (get_or_default stack.texts (stack.depth - 1) None slot within) c.in-Err.ensures.needed;
+          c.in-Err.stop first) (takes.stops tells);
+      needed = rw (get_or_default stack.texts (stack.depth - 1) None slot within) takes.needed;
       closes = record {
         depth = search rules;
         closed = λ is. absurd (cc);
         below = λ low above. stays_below stack.texts _ (stack.depth - 1) low c.take_from.new.slot (omega arith) refl;
         numbers = λ place below. numbers_set stack.texts _ (stack.depth - 1) place slot c.take_from.new.slot within refl
-            c.in-Err.ensures.text.uncounted;
+            takes.text.uncounted;
         deeper = tt;
-      };
-      named = names_set g.S.Shelf _ _ stack.texts _ slot within _ c.in-Err.ensures.keeps c.in-Err.ensures.named;
-      blamed =
-          λ tells names each. c.in-Err.ensures.blamed tells names (named_at _ names stack.texts _ slot within each);
-      stack = keeps_stack stack _ _ c.take_from.new.slot _ refl
-          (omega (arith, c.requires.numbers, c.in-Err.ensures.answers.counted.0)) c.in-Err.ensures.text.number
-          (omega (arith, c.in-Err.ensures.text.file, file)) c.requires.deep (c.in-Err.ensures.deep (stack.depth - 1)
-          (deep-at 0 (stack.depth - 1) (stack.depth - 1) stack.texts slot (omega arith) within c.requires.deep)).0;
-      answers = record {
-        counted = search rules;
-        line = search rules;
-        gains = search rules;
-        known = omega (arith, c.in-Err.ensures.answers.known, file);
-        reading = search rules;
       };
     }
 
@@ -60,14 +56,22 @@ returns-in_default g c =
     let within : stack.depth - 1 < length stack.texts = omega arith in
     let slot = c.index-stack-top.result in
     let closed = c.close.ensures.texts ∙ set-set stack.texts (stack.depth - 1) c.take_from.new.slot None in
-    let counted = rw c.in_default.is at c.in-Ok.ensures.answers.counted in
+    let takes = c.in-Ok.ensures.takes in
+    let counted = rw c.in_default.is at takes.answers.counted in
     record {
-      keeps = c.in-Ok.ensures.keeps;
-      failed = c.in-Ok.ensures.failed;
+      takes = record {
+        keeps = takes.keeps;
+        failed = takes.failed;
+        named = rw closed (names_set g.S.Shelf _ _ stack.texts _ slot within None takes.keeps (λ tells names each. tt));
+        blamed = λ tells names each. takes.blamed tells names (named_at _ names stack.texts _ slot within each);
+        order = keeps_stack stack _ _ None _ closed (omega (arith, c.requires.numbers, counted.0)) (omega arith)
+            (omega arith) c.requires.deep refl;
+        answers = search rules;
+      };
       taken = λ tells low above rest. top_closed (g.S.Shelf.left c.args.shelf.now)
-          (g.S.Shelf.left c.take_from.new.shelf) (c.in-Ok.ensures.keeps.left tells) stack.texts slot
-          c.take_from.new.slot stack.depth within (counters_of c.args.limits.now) (counters_of c.take_from.new.limits)
-          c.take_from.new.line.items low above rest _ closed (rw c.in_default.is at (c.in-Ok.ensures.taken tells));
+          (g.S.Shelf.left c.take_from.new.shelf) (takes.keeps.left tells) stack.texts slot c.take_from.new.slot
+          stack.depth within (counters_of c.args.limits.now) (counters_of c.take_from.new.limits)
+          c.take_from.new.line.items low above rest _ closed (rw c.in_default.is at (takes.taken tells));
       stops = λ tells. tt;
       needed = tt;
       closes = record {
@@ -77,12 +81,6 @@ returns-in_default g c =
         numbers = λ place below. numbers_below stack.texts _ (stack.depth - 1) place None below closed;
         deeper = search rules;
       };
-      named = rw closed (names_set g.S.Shelf _ _ stack.texts _ slot within None c.in-Ok.ensures.keeps
-          (λ tells names each. tt));
-      blamed = λ tells names each. c.in-Ok.ensures.blamed tells names (named_at _ names stack.texts _ slot within each);
-      stack = keeps_stack stack _ _ None _ closed (omega (arith, c.requires.numbers, counted.0)) (omega arith)
-          (omega arith) c.requires.deep refl;
-      answers = search rules;
     }
 
 pub returns : goal.returns
@@ -91,18 +89,26 @@ returns g c =
     let within : stack.depth - 1 < length stack.texts = omega arith in
     let slot = c.index-stack-top.result in
     let file = most_read files_up_to stack.texts (stack.depth - 1) slot within in
-    let counted = rw c.in-Some.is at c.in-Ok.ensures.answers.counted in
-    let level = rw c.in-Some.is at c.in-Ok.ensures.text.level in
+    let takes = c.in-Ok.ensures.takes in
+    let counted = rw c.in-Some.is at takes.answers.counted in
+    let level = rw c.in-Some.is at takes.text.level in
     let deep = c.in-Ok.ensures.deep (stack.depth - 1)
     (deep-at 0 (stack.depth - 1) (stack.depth - 1) stack.texts slot (omega arith) within c.requires.deep) in
     record {
-      keeps = c.in-Ok.ensures.keeps;
-      failed = c.in-Ok.ensures.failed;
+      takes = record {
+        keeps = takes.keeps;
+        failed = takes.failed;
+        named = names_set g.S.Shelf _ _ stack.texts _ slot within _ takes.keeps takes.named;
+        blamed = λ tells names each. takes.blamed tells names (named_at _ names stack.texts _ slot within each);
+        order = keeps_stack stack _ _ c.take_from.new.slot _ refl (omega (arith, c.requires.numbers, counted))
+            takes.text.number (omega (arith, takes.text.file, file)) c.requires.deep deep.0;
+        answers = grind (arith, common_steps, file, takes.answers);
+      };
       taken = λ tells low above rest. top_taken (g.S.Shelf.left c.args.shelf.now)
-          (g.S.Shelf.left c.take_from.new.shelf) (c.in-Ok.ensures.keeps.left tells) stack.texts slot
+          (g.S.Shelf.left c.take_from.new.shelf) (takes.keeps.left tells) stack.texts slot
           c.take_from.new.slot stack.depth within (counters_of c.args.limits.now) (counters_of c.take_from.new.limits)
-          c.take_from.new.line.items low above rest c.in-Some.at level.0 level.1 c.in-Ok.ensures.text.depth
-          c.in-Ok.ensures.text.may_match (rw c.in-Some.is at (c.in-Ok.ensures.taken tells));
+          c.take_from.new.line.items low above rest c.in-Some.at level.0 level.1 takes.text.depth
+          takes.text.may_match (rw c.in-Some.is at (takes.taken tells));
       stops = λ tells. tt;
       needed = tt;
       closes = record {
@@ -111,16 +117,5 @@ returns g c =
         below = λ low above. stays_below stack.texts _ (stack.depth - 1) low c.take_from.new.slot (omega arith) refl;
         numbers = tt;
         deeper = let below = rw c.in-Some.is at deep.1 in omega (arith, below);
-      };
-      named = names_set g.S.Shelf _ _ stack.texts _ slot within _ c.in-Ok.ensures.keeps c.in-Ok.ensures.named;
-      blamed = λ tells names each. c.in-Ok.ensures.blamed tells names (named_at _ names stack.texts _ slot within each);
-      stack = keeps_stack stack _ _ c.take_from.new.slot _ refl (omega (arith, c.requires.numbers, counted))
-          c.in-Ok.ensures.text.number (omega (arith, c.in-Ok.ensures.text.file, file)) c.requires.deep deep.0;
-      answers = record {
-        counted = search rules;
-        line = search rules;
-        gains = search rules;
-        known = let known = rw c.in-Some.is at c.in-Ok.ensures.answers.known in omega (arith, known, file);
-        reading = search rules;
       };
     }

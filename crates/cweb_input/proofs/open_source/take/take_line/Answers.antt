@@ -4,65 +4,61 @@ use Rattle.cweb_input.proofs.ReadersStayNamed.{blames_line, blames_none}
 use Rattle.cweb_input.proofs.TrimmedLines.{takes_first, line_stops, line_reads, line_names, line_needs, first_passes}
 use Rattle.cweb_input.proofs.open_source.take.take_line.Goals as goal
 
-pub returns-in-Err-clause-stops : goal.returns-in-Err-clause-stops
-returns-in-Err-clause-stops g c = λ tells.
-    line_stops c.in-Err.fault _ (bytes_left g.S.Shelf.left c.args.shelf.now c.args.text.now.source) c.args.text.now.file
-    (c.args.text.now.line + 1) _ c.stop_of.ensures (λ is. c.in-Err.ensures.too_long tells (ap Err is))
-
-pub returns-in-Err-clause-answers : goal.returns-in-Err-clause-answers
-returns-in-Err-clause-answers g c = record {
-  counted = search rules;
-  line = search rules;
-  gains = search rules;
-  known = search rules;
-  reading = line_reads c.in-Err.fault _ c.args.text.now.file c.stop_of.ensures;
+pub returns-in-Err-clause-takes : goal.returns-in-Err-clause-takes
+returns-in-Err-clause-takes g c = record {
+  keeps = c.in-Err.ensures.reads.keeps;
+  failed = search rules;
+  taken = λ tells. tt;
+  stops = λ tells. line_stops c.in-Err.fault _
+      (bytes_left g.S.Shelf.left c.args.shelf.now c.args.text.now.source) c.args.text.now.file
+      (c.args.text.now.line + 1) _ c.stop_of.ensures (λ is. c.in-Err.ensures.fails.too_long tells (ap Err is));
+  needed = line_needs c.in-Err.fault _ c.args.text.now c.stop_of.ensures
+      (λ is. c.in-Err.ensures.fails.needed (ap Err is));
+  named = λ tells names is. c.in-Err.ensures.reads.opened tells ∙ is;
+  blamed = λ tells names is. blames_line c.in-Err.fault _ c.args.text.now.file _ names _ _ c.stop_of.ensures is
+      (c.in-Err.ensures.reads.blamed tells);
+  text = search rules;
+  answers = search (rules, line_reads c.in-Err.fault _ c.args.text.now.file c.stop_of.ensures);
 }
 
 pub returns-in-Err-clause-names : goal.returns-in-Err-clause-names
 returns-in-Err-clause-names g c = line_names c.in-Err.fault _ c.args.text.now.file c.stop_of.ensures
 
-pub returns-in-Err-clause-needed : goal.returns-in-Err-clause-needed
-returns-in-Err-clause-needed g c = line_needs c.in-Err.fault _ c.args.text.now c.stop_of.ensures
-    (λ is. c.in-Err.ensures.needed (ap Err is))
+pub returns-in-Err-add-clause-takes : goal.returns-in-Err-add-clause-takes
+returns-in-Err-add-clause-takes g c = record {
+  keeps = c.in-Ok.ensures.reads.keeps;
+  failed = search rules;
+  taken = λ tells. tt;
+  stops = λ tells.
+      let line = rw c.in-Some.is at (c.in-Ok.ensures.taken tells) in
+      first_passes c.in-Err-add.stop line.taken (bytes_left g.S.Shelf.left c.args.shelf.now c.args.text.now.source)
+      (bytes_left g.S.Shelf.left c.take_trimmed.new.shelf c.take_trimmed.new.source) line.raw c.args.text.now.file.0
+      (c.args.text.now.line + 1) (counters_of c.args.limits.now) line.some line.takes line.short
+      c.in-Err-add.ensures.stop (rw line.size_is at c.in-Err-add.ensures.passed);
+  needed = rw c.in-Err-add.ensures.stop tt;
+  named = λ tells names is. c.in-Ok.ensures.reads.opened tells ∙ is;
+  blamed = λ tells names is. blames_none names _ _ _ (ap read_failures_of c.in-Err-add.ensures.stop)
+      (c.in-Ok.ensures.reads.blamed tells);
+  text = search rules;
+  answers = search rules;
+}
 
-pub returns-in-Err-add-clause-needed : goal.returns-in-Err-add-clause-needed
-returns-in-Err-add-clause-needed g c = rw c.in-Err-add.ensures.stop tt
-
-pub returns-in-Err-add-clause-stops : goal.returns-in-Err-add-clause-stops
-returns-in-Err-add-clause-stops g c = λ tells.
-    let line = rw c.in-Some.is at (c.in-Ok.ensures.taken tells) in
-    first_passes c.in-Err-add.stop line.taken (bytes_left g.S.Shelf.left c.args.shelf.now c.args.text.now.source)
-    (bytes_left g.S.Shelf.left c.take_trimmed.new.shelf c.take_trimmed.new.source) line.raw c.args.text.now.file.0
-    (c.args.text.now.line + 1) (counters_of c.args.limits.now) line.some line.takes line.short c.in-Err-add.ensures.stop
-    (rw line.size_is at c.in-Err-add.ensures.passed)
-
-pub returns-clause-taken : goal.returns-clause-taken
-returns-clause-taken g c = λ tells.
-    let line = rw c.in-Some.is at (c.in-Ok.ensures.taken tells) in
-    takes_first c.take_trimmed.new.line.items line.raw
-    (bytes_left g.S.Shelf.left c.args.shelf.now c.args.text.now.source)
-    (bytes_left g.S.Shelf.left c.take_trimmed.new.shelf c.take_trimmed.new.source) c.args.text.now.file.0
-    (c.args.text.now.line + 1) c.args.text.now.depth c.args.text.now.may_match line.taken
-    (counters_of c.args.limits.now)
-    (counters_of c.add.new.self) line.some line.takes line.bytes_are line.short c.in_default-add.ensures.lines
-    (rw line.size_is at c.in_default-add.ensures.bytes)
-
-pub returns-in-Err-clause-named : goal.returns-in-Err-clause-named
-returns-in-Err-clause-named g c = λ tells names is. c.in-Err.ensures.opened tells ∙ is
-
-pub returns-in-Err-clause-blamed : goal.returns-in-Err-clause-blamed
-returns-in-Err-clause-blamed g c = λ tells names is.
-    blames_line c.in-Err.fault _ c.args.text.now.file _ names _ _ c.stop_of.ensures is (c.in-Err.ensures.blamed tells)
-
-pub returns-in_default-clause-named : goal.returns-in_default-clause-named
-returns-in_default-clause-named g c = λ tells names is. c.in-Ok.ensures.opened tells ∙ is
-
-pub returns-in-Err-add-clause-named : goal.returns-in-Err-add-clause-named
-returns-in-Err-add-clause-named g c = λ tells names is. c.in-Ok.ensures.opened tells ∙ is
-
-pub returns-in-Err-add-clause-blamed : goal.returns-in-Err-add-clause-blamed
-returns-in-Err-add-clause-blamed g c = λ tells names is. blames_none names _ _ _
-    (ap read_failures_of c.in-Err-add.ensures.stop) (c.in-Ok.ensures.blamed tells)
-
-pub returns-clause-named : goal.returns-clause-named
-returns-clause-named g c = λ tells names is. c.in-Ok.ensures.opened tells ∙ is
+pub returns-clause-takes : goal.returns-clause-takes
+returns-clause-takes g c = record {
+  keeps = c.in-Ok.ensures.reads.keeps;
+  failed = search rules;
+  taken = λ tells.
+      let line = rw c.in-Some.is at (c.in-Ok.ensures.taken tells) in
+      takes_first c.take_trimmed.new.line.items line.raw
+      (bytes_left g.S.Shelf.left c.args.shelf.now c.args.text.now.source)
+      (bytes_left g.S.Shelf.left c.take_trimmed.new.shelf c.take_trimmed.new.source) c.args.text.now.file.0
+      (c.args.text.now.line + 1) c.args.text.now.depth c.args.text.now.may_match line.taken
+      (counters_of c.args.limits.now) (counters_of c.add.new.self) line.some line.takes line.bytes_are line.short
+      c.in_default-add.ensures.lines (rw line.size_is at c.in_default-add.ensures.bytes);
+  stops = λ tells. tt;
+  needed = tt;
+  named = λ tells names is. c.in-Ok.ensures.reads.opened tells ∙ is;
+  blamed = search rules;
+  text = search rules;
+  answers = search rules;
+}

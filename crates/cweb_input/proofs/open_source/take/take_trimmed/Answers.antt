@@ -4,10 +4,7 @@ use Rattle.cweb_input.proofs.open_source.take.take_trimmed.Goals as goal
 
 pub returns : goal.returns
 returns g c = record {
-  keeps = c.in-Ok.ensures.keeps;
-  failed = search rules;
-  opened = c.in-Ok.ensures.opened;
-  blamed = c.in-Ok.ensures.blamed;
+  reads = search rules;
   taken = λ tells. record {
     taken = c.in-Ok.taken;
     raw = c.next_line.new.line.items;
@@ -17,8 +14,7 @@ returns g c = record {
     bytes_are = c.trim.ensures;
     size_is = omega (arith, c.len.ensures, c.next_line.new.line.ok.0, c.newline_size.ensures.value);
   };
-  too_long = search rules;
-  needed = search rules;
+  fails = search rules;
   line = rw c.trim.ensures (trimmed-line c.next_line.new.line.items c.in-Ok.ensures.clean c.in-Ok.ensures.within);
   gains = omega (
     arith,

@@ -1,6 +1,5 @@
-use Rattle.cweb_lines.proofs.Common.{rules, ap, counters_of, opened_file_names, read_failures_of, blames_none}
-use Rattle.cweb_lines.proofs.MergeReadersStayNamed.{knows_only}
-use Rattle.cweb_lines.proofs.ReportsOnlyGrow.{reported_after, reported_then}
+use Rattle.cweb_lines.proofs.Common.{rules, refl, ap, counters_of, opened_file_names}
+use Rattle.cweb_lines.proofs.NoReadFails.{reads_reported, reads_set, reads_then}
 use Rattle.cweb_lines.proofs.OldSideFaults.{closes_all, closes_some}
 use Rattle.cweb_lines.proofs.AddedEvents.{prefix_more}
 use Rattle.cweb_lines.proofs.change.old_side.begin_change.Goals as goal
@@ -21,23 +20,10 @@ returns-clause-changed g c = λ tells. record {
   after = search rules;
 }
 
-pub returns-in-Err-close-clause-still : goal.returns-in-Err-close-clause-still
-returns-in-Err-close-clause-still g c = reported_then _ _ _ c.in-Ok.ensures.still
-    (reported_after _ _ _ c.in-Err-close.ensures.err.reported (ap opened_file_names c.in-Err-close.ensures.only.names))
+pub returns-in-Err-close-clause-reads : goal.returns-in-Err-close-clause-reads
+returns-in-Err-close-clause-reads g c = reads_then c.in-Ok.ensures.reads (reads_reported _ c.in-Err-close.ensures.only
+    c.in-Err-close.ensures.err.reported c.in-Err-close.ensures.memory)
 
-pub returns-clause-still : goal.returns-clause-still
-returns-clause-still g c = reported_then _ _ _ c.in-Ok.ensures.still
-    (reported_after _ _ _ c.in_default.ensures.reported (ap opened_file_names c.in_default.ensures.only.names))
-
-pub returns-in-Err-close-clause-readers : goal.returns-in-Err-close-clause-readers
-returns-in-Err-close-clause-readers g c = λ tells known. knows_only c.in-Err-close.ensures.only
-    (c.in-Ok.ensures.readers tells known)
-
-pub returns-in-Err-close-clause-blamed : goal.returns-in-Err-close-clause-blamed
-returns-in-Err-close-clause-blamed g c = λ tells known. blames_none _ _ _ _
-    (ap read_failures_of c.in-Err-close.ensures.memory) (c.in-Ok.ensures.blamed tells known)
-
-pub returns-clause-readers : goal.returns-clause-readers
-returns-clause-readers g c = λ tells known.
-    let closed = knows_only c.in_default.ensures.only (c.in-Ok.ensures.readers tells known) in
-    record { texts = closed.texts; change = closed.change }
+pub returns-clause-reads : goal.returns-clause-reads
+returns-clause-reads g c = reads_set _ refl refl refl (reads_then c.in-Ok.ensures.reads (reads_reported _
+    c.in_default.ensures.only c.in_default.ensures.reported tt))

@@ -6,10 +6,6 @@ abbrev pub invariant-lines : goal.invariant-lines
 invariant-lines g l = record {
   quiet : Quiet g.S.Shelf l.fn.shelf l.shelf l.fn.run l.run;
   frame : record {
-    failed : g.S.Shelf.failed l.shelf ≡ g.S.Shelf.failed l.fn.shelf;
-    texts : IsTrue (g.S.Shelf.tells l.fn.shelf) → g.S.Shelf.texts l.shelf ≡ g.S.Shelf.texts l.fn.shelf;
-    others : IsTrue (g.S.Shelf.tells l.fn.shelf) → g.S.Shelf.left l.shelf ≡ g.S.Shelf.left l.fn.shelf;
-    named : IsTrue (g.S.Shelf.tells l.fn.shelf) → g.S.Shelf.opened_as l.shelf ≡ g.S.Shelf.opened_as l.fn.shelf;
     stage : l.run.stage ≡ l.fn.run.stage;
     inputs : l.run.inputs ≡ l.fn.run.inputs;
     stack : l.run.stack ≡ l.fn.run.stack;

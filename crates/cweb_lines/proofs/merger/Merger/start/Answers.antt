@@ -33,21 +33,22 @@ invariant_of-result g c =
 
 pub returns-clause-begins : goal.returns-clause-begins
 returns-clause-begins g c = λ tells.
-    let later = subst IsTrue (sym c.in_ok-web.ensures.keeps.tells) tells in
+    let later = subst IsTrue (sym c.in_ok-web.ensures.reads.keeps.tells) tells in
     let left = g.S.Shelf.left c.find_change.new.shelf in
     let change = found_as left c.in-Some-2.change in
     let names : opened_file_names c.open_change.new.names ≡ string_bytes c.in-Some.web.name ∷ names_found change =
     c.in-Ok-open_change.ensures.names left ∙ ap (λ (ns : List (List ℕ)). ns ++ names_found change)
     c.in-Ok.ensures.names in
-    let texts = c.in_ok-change.ensures.keeps.texts later ∙ c.in_ok-web.ensures.keeps.texts tells in
+    let texts = c.in_ok-change.ensures.reads.keeps.texts later ∙ c.in_ok-web.ensures.reads.keeps.texts tells in
     record {
       name = string_bytes c.in-Some.web.name;
       text = left c.in-Some.web.reader;
       change = change;
       there = sym (rw c.in-Some.is at (c.in_ok-web.ensures.found tells))
           ∙ ap (λ l. Some (string_bytes c.in-Some.web.name, l c.in-Some.web.reader))
-          (sym (c.in_ok-change.ensures.keeps.left later));
-      changes_there = ap (λ t. change_at t (option_copied c.args.change)) (sym (c.in_ok-web.ensures.keeps.texts tells))
+          (sym (c.in_ok-change.ensures.reads.keeps.left later));
+      changes_there = ap (λ t. change_at t (option_copied c.args.change))
+          (sym (c.in_ok-web.ensures.reads.keeps.texts tells))
           ∙ sym (rw c.in-Some-2.is at (c.in_ok-change.ensures.found later));
       so_far_is = λ i. record {
         faults = c.new-4.ensures.items i;
@@ -70,14 +71,14 @@ returns-clause-begins g c = λ tells.
 
 pub returns-clause-readers : goal.returns-clause-readers
 returns-clause-readers g c = λ tells.
-    let later = subst IsTrue (sym c.in_ok-web.ensures.keeps.tells) tells in
+    let later = subst IsTrue (sym c.in_ok-web.ensures.reads.keeps.tells) tells in
     let opened_as = g.S.Shelf.opened_as c.find_change.new.shelf in
     let left = g.S.Shelf.left c.find_change.new.shelf in
     let found = names_found (found_as left c.in-Some-2.change) in
     let names : opened_file_names c.open_change.new.names ≡ string_bytes c.in-Some.web.name ∷ found =
     c.in-Ok-open_change.ensures.names left ∙ ap (λ (ns : List (List ℕ)). ns ++ found) c.in-Ok.ensures.names in
     let reader = ap opened_as c.in-Ok.ensures.reader ∙ ap (λ f. f c.in-Some.web.reader)
-    (c.in_ok-change.ensures.keeps.names later) ∙ rw c.in-Some.is at (c.in_ok-web.ensures.opened tells) in
+    (c.in_ok-change.ensures.reads.keeps.names later) ∙ rw c.in-Some.is at (c.in_ok-web.ensures.opened tells) in
     let top : IsReaderNamed opened_as (opened_file_names c.open_change.new.names) (Some c.in-Ok.web) =
     reader ∙ sym ((λ i. get_or (names i) (c.in-Ok.ensures.level.0 i) [])) in
     record {
@@ -89,8 +90,8 @@ returns-clause-readers g c = λ tells.
 
 pub returns-in_default-2-clause-stops : goal.returns-in_default-2-clause-stops
 returns-in_default-2-clause-stops g c = λ tells.
-    let later = subst IsTrue (sym c.in_ok-web.ensures.keeps.tells) tells in (
+    let later = subst IsTrue (sym c.in_ok-web.ensures.reads.keeps.tells) tells in (
       (_, sym (rw c.in-Some.is at (c.in_ok-web.ensures.found tells))),
-      ap (λ t. change_at t (option_copied c.args.change)) (sym (c.in_ok-web.ensures.keeps.texts tells))
+      ap (λ t. change_at t (option_copied c.args.change)) (sym (c.in_ok-web.ensures.reads.keeps.texts tells))
           ∙ sym (rw c.in_default-2.is at (c.in_ok-change.ensures.found later)),
     )

@@ -1,4 +1,4 @@
-use Rattle.cweb_lines.proofs.Common.{◌<◌, ◌∷◌, ℕ, List, Vec, Global, length, refl, ap, sym, subst, ◌∙◌, arith, string_bytes, common_steps, opened_file_names, at_place, counters_of, world_in, found_at, Event, opening, AreReadersKnown, SourceFault, NoName, TooDeep, NotThere}
+use Rattle.cweb_lines.proofs.Common.{rules, ◌<◌, ◌∷◌, ℕ, List, Vec, Global, length, refl, ap, sym, subst, ◌∙◌, arith, string_bytes, common_steps, opened_file_names, at_place, counters_of, world_in, found_at, Event, opening, AreReadersKnown, SourceFault, NoName, TooDeep, NotThere}
 use Rattle.cweb_lines.proofs.MergeReadersStayNamed.{knows_only}
 use Rattle.cweb_lines.proofs.ReportsOnlyGrow.{reported_if, reported_same}
 use Rattle.cweb_input.proofs.Found.{OnOk-map}
@@ -9,106 +9,108 @@ use Rattle.cweb_lines.proofs.step.obey.obey.Goals as goal
 pub include_name-name-requires : goal.include_name-name-requires
 include_name-name-requires g c = include_long c.args.line.now c.requires.include
 
-pub returns-then-is_empty-clause-obeys : goal.returns-then-is_empty-clause-obeys
-returns-then-is_empty-clause-obeys g c = λ tells. OnOk-map c.report.result (λ reported source is. record {
-  rest = _;
-  first = merge_no_name _ source c.args.line.now c.args.at is _ _ _ _ c.requires.plain c.requires.include
-      (sym c.include_name-name.ensures ∙ empty_is c.include_name-name.result.now
-      (sym c.is_empty.ensures ∙ c.if-is_empty.true));
-  yields = yields_reported _ _ _ _ c.args.run.now c.report.new.self (at_place NoName c.args.at.place) refl refl
-      c.report.ensures.only reported;
-}) c.report.ensures.reported
-
-pub returns-then-at-ge-OPEN_FILES-clause-obeys : goal.returns-then-at-ge-OPEN_FILES-clause-obeys
-returns-then-at-ge-OPEN_FILES-clause-obeys g c = λ tells. OnOk-map c.report-then-at-ge-OPEN_FILES.result
-    (λ reported source is.
-    let some = subst (λ (n : List ℕ). 0 < length n) c.include_name-name.ensures
-    (some_are c.include_name-name.result.now (sym c.is_empty.ensures ∙ c.if-is_empty.false)) in
+pub returns-then-is_empty : goal.returns-then-is_empty
+returns-then-is_empty g c =
+    let report = c.report in
     record {
-      rest = _;
-      first = merge_too_deep _ source c.args.line.now c.args.at is _ _ _ _ c.requires.plain c.requires.include some
-          (omega (arith, c.if-at-ge-OPEN_FILES.true));
-      yields = yields_reported _ _ _ _ c.args.run.now c.report-then-at-ge-OPEN_FILES.new.self
-          (at_place TooDeep c.args.at.place) refl refl c.report-then-at-ge-OPEN_FILES.ensures.only reported;
-    }) c.report-then-at-ge-OPEN_FILES.ensures.reported
+      reads = search rules;
+      readers = λ tells known. knows_only report.ensures.only known;
+      still = reported_if report.result _ _ _ report.ensures.reported report.ensures.err
+          (ap opened_file_names report.ensures.only.names);
+      only = search rules;
+      yields = λ tells. OnOk-map c.report.result (λ reported source is. record {
+        rest = _;
+        first = merge_no_name _ source c.args.line.now c.args.at is _ _ _ _ c.requires.plain.plain c.requires.include
+            (sym c.include_name-name.ensures ∙ empty_is c.include_name-name.result.now
+            (sym c.is_empty.ensures ∙ c.if-is_empty.true));
+        yields = yields_reported _ _ _ _ c.args.run.now c.report.new.self (at_place NoName c.args.at.place) refl refl
+            c.report.ensures.only reported;
+      }) c.report.ensures.reported;
+    }
 
-pub returns-in_default-clause-obeys : goal.returns-in_default-clause-obeys
-returns-in_default-clause-obeys g c = λ tells. OnOk-map c.report-in_default.result (λ reported source is.
-    let some = subst (λ (n : List ℕ). 0 < length n) c.include_name-name.ensures
-    (some_are c.include_name-name.result.now (sym c.is_empty.ensures ∙ c.if-is_empty.false)) in
-    let none = rw c.in_default.is at (c.in_ok-opening.ensures.found tells) in
-    record {
-      rest = _;
-      first = merge_not_there _ source c.args.line.now c.args.at is _ _ _ _ c.requires.plain c.requires.include some
-          (omega (arith, c.if-at-ge-OPEN_FILES.false))
-          (none ∙ ap (found_at (world_in (g.S.Shelf.texts c.args.shelf.now) c.args.run.now.inputs))
-          c.include_name-name.ensures);
-      yields = yields_reported _ _ _ _ c.args.run.now c.report-in_default.new.self (at_place NotThere c.args.at.place)
-          (c.in_ok-opening.ensures.keeps.texts tells) (c.in_ok-opening.ensures.keeps.left tells)
-          c.report-in_default.ensures.only reported;
-    }) c.report-in_default.ensures.reported
-
-pub returns-clause-obeys : goal.returns-clause-obeys
-returns-clause-obeys g c = λ tells. OnOk-map c.open.result (λ names source is.
-    let some = subst (λ (n : List ℕ). 0 < length n) c.include_name-name.ensures
-    (some_are c.include_name-name.result.now (sym c.is_empty.ensures ∙ c.if-is_empty.false)) in
-    let there = rw c.in-Some.is at (c.in_ok-opening.ensures.found tells) in
-    record {
-      rest = _;
-      first = merge_opens _ source c.args.line.now c.args.at is _ _ _ _ c.requires.plain
-          (string_bytes c.in-Some.opening.name) (g.S.Shelf.left c.find.new.shelf c.in-Some.opening.reader)
-          c.requires.include some (omega (arith, c.if-at-ge-OPEN_FILES.false))
-          (there ∙ ap (found_at (world_in (g.S.Shelf.texts c.args.shelf.now) c.args.run.now.inputs))
-          c.include_name-name.ensures);
-      yields = yields_opening _ _ _ _ (ap counters_of c.open.ensures.only.limits) (string_bytes c.in-Some.opening.name)
-          (ap (λ (es : List Event). opening (string_bytes c.in-Some.opening.name) ∷ es) (coming_opened
-          (g.S.Shelf.texts c.args.shelf.now) (g.S.Shelf.texts c.find.new.shelf) (g.S.Shelf.left c.args.shelf.now)
-          (g.S.Shelf.left c.find.new.shelf) c.args.run.now c.open.new.run c.in-Some.opening.reader
-          (string_bytes c.in-Some.opening.name) c.args.at (c.in_ok-opening.ensures.keeps.texts tells)
-          (c.in_ok-opening.ensures.keeps.left tells) c.open.ensures.only names.0 c.requires.settled names.1
-          c.open.ensures.below))
-          (ap (λ (v : Vec SourceFault Global). v.items) c.open.ensures.only.faults) names.0;
-    }) c.open.ensures.opens
-
-pub returns-then-is_empty-clause-still : goal.returns-then-is_empty-clause-still
-returns-then-is_empty-clause-still g c = reported_if c.report.result _ _ _ c.report.ensures.reported
-    c.report.ensures.err
-    (ap opened_file_names c.report.ensures.only.names)
-
-pub returns-then-at-ge-OPEN_FILES-clause-still : goal.returns-then-at-ge-OPEN_FILES-clause-still
-returns-then-at-ge-OPEN_FILES-clause-still g c =
+pub returns-then-at-ge-OPEN_FILES : goal.returns-then-at-ge-OPEN_FILES
+returns-then-at-ge-OPEN_FILES g c =
     let report = c.report-then-at-ge-OPEN_FILES in
-    reported_if report.result _ _ _ report.ensures.reported report.ensures.err
-    (ap opened_file_names report.ensures.only.names)
+    record {
+      reads = search rules;
+      readers = λ tells known. knows_only report.ensures.only known;
+      still = reported_if report.result _ _ _ report.ensures.reported report.ensures.err
+          (ap opened_file_names report.ensures.only.names);
+      only = search rules;
+      yields = λ tells. OnOk-map c.report-then-at-ge-OPEN_FILES.result
+          (λ reported source is.
+          let some = subst (λ (n : List ℕ). 0 < length n) c.include_name-name.ensures
+          (some_are c.include_name-name.result.now (sym c.is_empty.ensures ∙ c.if-is_empty.false)) in
+          record {
+            rest = _;
+            first = merge_too_deep _ source c.args.line.now c.args.at is _ _ _ _ c.requires.plain.plain
+                c.requires.include some (omega (arith, c.if-at-ge-OPEN_FILES.true));
+            yields = yields_reported _ _ _ _ c.args.run.now c.report-then-at-ge-OPEN_FILES.new.self
+                (at_place TooDeep c.args.at.place) refl refl c.report-then-at-ge-OPEN_FILES.ensures.only reported;
+          }) c.report-then-at-ge-OPEN_FILES.ensures.reported;
+    }
 
-pub returns-in_default-clause-still : goal.returns-in_default-clause-still
-returns-in_default-clause-still g c =
+pub returns-in_default : goal.returns-in_default
+returns-in_default g c =
     let report = c.report-in_default in
-    reported_if report.result _ _ _ report.ensures.reported report.ensures.err
-    (ap opened_file_names report.ensures.only.names)
+    record {
+      reads = c.in_ok-opening.ensures.reads;
+      readers = λ tells known. knows_only report.ensures.only
+          (subst (λ f. AreReadersKnown f c.args.run.now) (sym (c.in_ok-opening.ensures.reads.keeps.names tells)) known);
+      still = reported_if report.result _ _ _ report.ensures.reported report.ensures.err
+          (ap opened_file_names report.ensures.only.names);
+      only = search rules;
+      yields = λ tells. OnOk-map c.report-in_default.result (λ reported source is.
+          let some = subst (λ (n : List ℕ). 0 < length n) c.include_name-name.ensures
+          (some_are c.include_name-name.result.now (sym c.is_empty.ensures ∙ c.if-is_empty.false)) in
+          let none = rw c.in_default.is at (c.in_ok-opening.ensures.found tells) in
+          record {
+            rest = _;
+            first = merge_not_there _ source c.args.line.now c.args.at is _ _ _ _ c.requires.plain.plain
+                c.requires.include some (omega (arith, c.if-at-ge-OPEN_FILES.false)) (none ∙ ap (found_at (world_in
+                (g.S.Shelf.texts c.args.shelf.now) c.args.run.now.inputs)) c.include_name-name.ensures);
+            yields = yields_reported _ _ _ _ c.args.run.now c.report-in_default.new.self (at_place NotThere
+                c.args.at.place) (c.in_ok-opening.ensures.reads.keeps.texts tells)
+                (c.in_ok-opening.ensures.reads.keeps.left tells) c.report-in_default.ensures.only reported;
+          }) c.report-in_default.ensures.reported;
+    }
 
-pub returns-in_err-opening-clause-still : goal.returns-in_err-opening-clause-still
-returns-in_err-opening-clause-still g c = reported_same _ _ refl refl
+pub returns : goal.returns
+returns g c = record {
+  reads = c.in_ok-opening.ensures.reads;
+  readers = λ tells known. c.open.ensures.readers (g.S.Shelf.opened_as c.find.new.shelf)
+      (rw c.in-Some.is at (c.in_ok-opening.ensures.opened tells))
+      (subst (λ f. AreReadersKnown f c.args.run.now) (sym (c.in_ok-opening.ensures.reads.keeps.names tells)) known);
+  still = c.open.ensures.still;
+  only = grind (arith, common_steps);
+  yields = λ tells. OnOk-map c.open.result (λ names source is.
+      let some = subst (λ (n : List ℕ). 0 < length n) c.include_name-name.ensures
+      (some_are c.include_name-name.result.now (sym c.is_empty.ensures ∙ c.if-is_empty.false)) in
+      let there = rw c.in-Some.is at (c.in_ok-opening.ensures.found tells) in
+      record {
+        rest = _;
+        first = merge_opens _ source c.args.line.now c.args.at is _ _ _ _ c.requires.plain.plain
+            (string_bytes c.in-Some.opening.name) (g.S.Shelf.left c.find.new.shelf c.in-Some.opening.reader)
+            c.requires.include some (omega (arith, c.if-at-ge-OPEN_FILES.false))
+            (there ∙ ap (found_at (world_in (g.S.Shelf.texts c.args.shelf.now) c.args.run.now.inputs))
+            c.include_name-name.ensures);
+        yields = yields_opening _ _ _ _ (ap counters_of c.open.ensures.only.limits) (string_bytes
+            c.in-Some.opening.name) (ap (λ (es : List Event). opening (string_bytes c.in-Some.opening.name) ∷ es)
+            (coming_opened (g.S.Shelf.texts c.args.shelf.now) (g.S.Shelf.texts c.find.new.shelf) (g.S.Shelf.left
+            c.args.shelf.now) (g.S.Shelf.left c.find.new.shelf) c.args.run.now c.open.new.run c.in-Some.opening.reader
+            (string_bytes c.in-Some.opening.name) c.args.at (c.in_ok-opening.ensures.reads.keeps.texts tells)
+            (c.in_ok-opening.ensures.reads.keeps.left tells) c.open.ensures.only names.0 c.requires.plain.settled
+            names.1 c.open.ensures.below)) (ap (λ (v : Vec SourceFault Global). v.items) c.open.ensures.only.faults)
+            names.0;
+      }) c.open.ensures.opens;
+}
 
-pub returns-then-is_empty-clause-readers : goal.returns-then-is_empty-clause-readers
-returns-then-is_empty-clause-readers g c = λ tells known. knows_only c.report.ensures.only known
-
-pub returns-then-at-ge-OPEN_FILES-clause-readers : goal.returns-then-at-ge-OPEN_FILES-clause-readers
-returns-then-at-ge-OPEN_FILES-clause-readers g c = λ tells known. knows_only
-    c.report-then-at-ge-OPEN_FILES.ensures.only known
-
-pub returns-in_default-clause-readers : goal.returns-in_default-clause-readers
-returns-in_default-clause-readers g c = λ tells known. knows_only c.report-in_default.ensures.only
-    (subst (λ f. AreReadersKnown f c.args.run.now) (sym (c.in_ok-opening.ensures.keeps.names tells)) known)
-
-pub returns-clause-readers : goal.returns-clause-readers
-returns-clause-readers g c = λ tells known. c.open.ensures.readers
-    (g.S.Shelf.opened_as c.find.new.shelf) (rw c.in-Some.is at (c.in_ok-opening.ensures.opened tells))
-    (subst (λ f. AreReadersKnown f c.args.run.now) (sym (c.in_ok-opening.ensures.keeps.names tells)) known)
-
-pub returns-in_err-opening-clause-readers : goal.returns-in_err-opening-clause-readers
-returns-in_err-opening-clause-readers g c = λ tells known.
-    subst (λ f. AreReadersKnown f c.args.run.now) (sym (c.in_err-opening.ensures.keeps.names tells)) known
-
-pub returns-clause-only : goal.returns-clause-only
-returns-clause-only g c = grind (arith, common_steps)
+pub returns-in_err-opening : goal.returns-in_err-opening
+returns-in_err-opening g c = record {
+  reads = c.in_err-opening.ensures.reads;
+  readers = λ tells known.
+      subst (λ f. AreReadersKnown f c.args.run.now) (sym (c.in_err-opening.ensures.reads.keeps.names tells)) known;
+  still = reported_same _ _ refl refl;
+  only = search rules;
+  yields = search rules;
+}

@@ -1,4 +1,4 @@
-use Rattle.cweb_names.proofs.Common.{ap, ◌∙◌, list_any, spellings, is_prefix_of_another, known_names_model}
+use Rattle.cweb_names.proofs.Common.{ap, ◌∙◌, list_any, spellings, is_prefix_of_another, names_at, NamesSoFar}
 use Rattle.cweb_names.proofs.NeighbourLemmas.{next-prefix}
 use Rattle.cweb_names.proofs.known.KnownNames.has_prefix.Goals as goal
 
@@ -6,5 +6,5 @@ pub returns : goal.returns
 returns c =
     let s = c.self.inside in
     c.has_prefix.ensures.value
-    ∙ next-prefix s.sorted.entries (known_names_model s.names.items) c.self.invariant c.has_prefix.ensures.ordered
-    ∙ ap (λ ns. list_any (is_prefix_of_another ns) (spellings ns)) c.self.view_is
+    ∙ next-prefix s.sorted.entries (names_at s.strings s.firsts.items) c.self.invariant.sorted c.has_prefix.ensures.ordered
+    ∙ ap (λ (m : NamesSoFar). list_any (is_prefix_of_another m.names) (spellings m.names)) c.self.view_is

@@ -10,6 +10,6 @@ returns-clause-few c =
       arith,
       names-few c.args.self.now,
       ap length c.self.view_is,
-      occurrences-count s.strings s.forms.items (omega (arith, c.self.invariant.count)),
+      occurrences-count s.known.strings s.forms.items (omega (arith, c.self.invariant.count)),
       c.self.invariant.few,
     )

@@ -24,7 +24,7 @@ returns-in-Defs-clause-prints g c =
     let old = g.W.Sink.written c.args.out.now ++ c.args.buffer.now in
     rw c.in-Defs.is (λ tells ts is. adds_at (print s ts) (print s (ts ++ Defs ∷ []))
     mid new old new c.append_defs.result (moved_same _ _ _ _ (c.in_ok-make_room.ensures.moved tells)) refl
-    (c.append_defs.ensures.prints (subst IsTrue (sym c.in_ok-make_room.ensures.tells) tells) ts is))
+    (c.append_defs.ensures.prints (subst IsTrue (sym c.in_ok-make_room.ensures.keeps.tells) tells) ts is))
 
 pub returns-then-append_rare-clause-prints : goal.returns-then-append_rare-clause-prints
 returns-then-append_rare-clause-prints g c = λ tells ts is.
@@ -51,7 +51,7 @@ returns-clause-prints g c = λ tells ts is.
     let old = g.W.Sink.written c.args.out.now ++ c.args.buffer.now in
     let prints = subst
     (λ (p : Printer). PrintsToken p t mid new c.append_other.result) (c.append_rare.ensures.same c.if-append_rare.false)
-    (c.append_other.ensures.prints (subst IsTrue (sym c.in_ok-make_room.ensures.tells) tells)) in
+    (c.append_other.ensures.prints (subst IsTrue (sym c.in_ok-make_room.ensures.keeps.tells) tells)) in
     adds_at (print s ts) (print s (ts ++ t ∷ [])) mid new old new c.append_other.result
     (ap (λ (u : List ℕ). has ++ u) (c.append_rare.ensures.none c.if-append_rare.false)
     ∙ moved_same _ _ _ _ (c.in_ok-make_room.ensures.moved tells)) refl (prints ts is)

@@ -9,10 +9,10 @@ returns-then-is_ok-clause-prints g c = λ tells ts is.
     let s = setting_of c.args.self.now in
     let t = token_model c.args.token.now in
     let has = g.W.Sink.written c.args.out.now in
-    adds_after (print s ts) (print s (ts ++ t ∷ [])) c.new-text.result.bytes.items c.print.new.out.bytes.items
+    adds_after (print s ts) (print s (ts ++ t ∷ [])) c.new-text.result.bytes.items c.write.new.out.bytes.items
     (has ++ c.args.buffer.now) has c.args.buffer.now c.add.new.self
-    (adds_ok (print s ts) (print s (ts ++ t ∷ [])) c.new-text.result.bytes.items c.print.new.out.bytes.items
-    c.print.result (search rules) (c.print.ensures.prints refl ts is)) c.new-text.ensures.empty refl
+    (adds_ok (print s ts) (print s (ts ++ t ∷ [])) c.new-text.result.bytes.items c.write.new.out.bytes.items
+    c.write.result (search rules) (c.write.ensures.prints refl ts is)) c.new-text.ensures.empty refl
     (c.add.ensures ∙ ap (λ (u : List ℕ). c.args.buffer.now ++ u) c.as_slice.ensures.bytes)
 
 pub returns-in_err-flush-clause-prints : goal.returns-in_err-flush-clause-prints
@@ -29,12 +29,12 @@ returns-clause-prints g c = λ tells ts is.
     let s = setting_of c.args.self.now in
     let t = token_model c.args.token.now in
     let has = g.W.Sink.written c.flush.new.out in
-    let wrote = g.W.Sink.written c.print-2.new.out in
-    let kept : c.print.new.self ≡ c.args.self.now = search rules in
-    let prints = subst (λ (p : Printer). PrintsToken p t has wrote c.print-2.result) kept
-    (c.print-2.ensures.prints (subst IsTrue (sym c.in_ok-flush.ensures.tells) tells)) in
+    let wrote = g.W.Sink.written c.write-2.new.out in
+    let kept : c.write.new.self ≡ c.args.self.now = search rules in
+    let prints = subst (λ (p : Printer). PrintsToken p t has wrote c.write-2.result) kept
+    (c.write-2.ensures.prints (subst IsTrue (sym c.in_ok-flush.ensures.keeps.tells) tells)) in
     let empty : [] ≡ c.flush.new.self = sym c.in_ok-flush.ensures.empty in
     adds_at (print s ts) (print s (ts ++ t ∷ [])) has wrote (g.W.Sink.written c.args.out.now ++ c.args.buffer.now)
-    (wrote ++ c.flush.new.self) c.print-2.result (sym (append-nil has)
+    (wrote ++ c.flush.new.self) c.write-2.result (sym (append-nil has)
     ∙ ap (λ (u : List ℕ). has ++ u) empty ∙ moved_same _ _ _ _ (c.in_ok-flush.ensures.moved tells))
     (sym (append-nil wrote) ∙ ap (λ (u : List ℕ). wrote ++ u) empty) (prints ts is)

@@ -13,7 +13,7 @@ returns-in_err-write_chunk-clause-ends g c = λ tells ts is.
     adds_by (print s ts) (file s ts) (g.W.Sink.written c.args.out.now)
     (g.W.Sink.written c.write_chunk.new.out) c.begin_line.result.now c.from_residual.result expected
     (wrote_err (g.W.Sink.written c.args.out.now) (g.W.Sink.written c.write_chunk.new.out) c.begin_line.result.now
-    c.from_residual.result c.from_residual.ensures.0 (c.in_err-write_chunk.ensures.wrote tells))
+    c.from_residual.result c.from_residual.ensures.0 (c.in_err-write_chunk.ensures.wrote.wrote tells))
 
 pub returns-clause-ends : goal.returns-clause-ends
 returns-clause-ends g c = λ tells ts is.
@@ -23,7 +23,7 @@ returns-clause-ends g c = λ tells ts is.
       expected =
           file-end s (left_in_printer c.args.self.now) ts is
           ∙ ap (λ (t : List ℕ). print s ts ++ t) (sym c.begin_line.ensures);
-      written = c.in_ok-write_chunk.ensures.wrote tells;
+      written = c.in_ok-write_chunk.ensures.wrote.wrote tells;
     }
 
 pub returns-clause-left : goal.returns-clause-left

@@ -30,7 +30,7 @@ returns-in_err-flush-clause-ends g c = λ tells ts is.
       written = then_moved old (g.W.Sink.written c.make_room.new.out) c.make_room.new.self c.add.new.self
           (g.W.Sink.written c.flush.new.out) c.flush.new.self end
           (moved_same _ _ _ _ (c.in_ok-make_room.ensures.moved tells)) c.add.ensures (moved_same _ _ _ _
-          (c.in_err-flush.ensures.moved (subst IsTrue (sym c.in_ok-make_room.ensures.tells) tells)));
+          (c.in_err-flush.ensures.moved (subst IsTrue (sym c.in_ok-make_room.ensures.keeps.tells) tells)));
       whole = sym (append-nil end);
     }))
 
@@ -46,5 +46,5 @@ returns-clause-ends g c = λ tells ts is.
       written = then_moved (g.W.Sink.written c.args.out.now ++ c.args.buffer.now) (g.W.Sink.written c.make_room.new.out)
           c.make_room.new.self c.add.new.self (g.W.Sink.written c.flush.new.out) c.flush.new.self end
           (moved_same _ _ _ _ (c.in_ok-make_room.ensures.moved tells)) c.add.ensures (moved_same _ _ _ _
-          (c.in_ok-flush.ensures.moved (subst IsTrue (sym c.in_ok-make_room.ensures.tells) tells)));
+          (c.in_ok-flush.ensures.moved (subst IsTrue (sym c.in_ok-make_room.ensures.keeps.tells) tells)));
     }

@@ -1,23 +1,36 @@
-use Rattle.cweb_print.proofs.Common.{◌≡◌, ◌++◌, [], ◌∙◌, ap, sym, subst, cond, List, ℕ, false, arith, common_steps, IsTrue, token_model, plain_bytes, added, file_by, is_dropped, own_line_bytes, separator, left_in_printer, setting_of}
-use Rattle.cweb_print.proofs.WrittenPrefixes.{second_failed}
+use Rattle.cweb_print.proofs.Common.{◌≡◌, ◌++◌, ◌∙◌, sym, List, ℕ, Token, false, Printer, token_model, plain_bytes, added, file_by, is_dropped, own_line_bytes, separator, left_in_printer, setting_of}
+use Rattle.cweb_files.proofs.Appending.{appends_until}
+use Rattle.cweb_print.proofs.AppendedParts.{second_until, three_then}
 use Rattle.cweb_print.proofs.printer.Printer.write_token.Goals as goal
 
-pub returns-in_err-write_placed-clause-wrote : goal.returns-in_err-write_placed-clause-wrote
-returns-in_err-write_placed-clause-wrote g c = λ tells.
-    let s = setting_of c.args.self.now in
-    let left = left_in_printer c.args.self.now in
-    let t = token_model c.args.token.now in
-    let stays : is_dropped left t ≡ false = sym c.drops.ensures ∙ c.if-drops.false in
-    let is : added (file_by s) left t ≡ c.separator.result.now
-    ++ (own_line_bytes s left.class t ++ plain_bytes s.replaced
-    t) = ap (λ b. cond b [] (separator left.class t ++ (own_line_bytes s left.class t ++ plain_bytes s.replaced t)))
-    stays
-    ∙ ap (λ (u : List ℕ). u ++ (own_line_bytes s left.class t ++ plain_bytes s.replaced t)) (sym c.separator.ensures) in
-    second_failed (g.W.Sink.written c.args.out.now) (g.W.Sink.written c.write_chunk.new.out)
-    (g.W.Sink.written c.write_placed.new.out) (added (file_by s) left t) c.separator.result.now
-    (own_line_bytes s left.class t) (plain_bytes s.replaced t) c.from_residual-in_err-write_placed.result is
-    (c.in_ok-write_chunk.ensures.wrote tells) c.from_residual-in_err-write_placed.ensures.0
-    (c.in_err-write_placed.ensures.wrote (subst IsTrue (sym c.in_ok-write_chunk.ensures.tells) tells))
+-- The token's bytes as three parts.
+in_three : (p : Printer) (t : Token) (before : List ℕ) → is_dropped (left_in_printer p) t ≡ false
+    → before ≡ separator (left_in_printer p).class t → added (file_by (setting_of p)) (left_in_printer p) t
+    ≡ before ++ (own_line_bytes (setting_of p) (left_in_printer p).class t ++ plain_bytes (setting_of p).replaced t)
+in_three p t before stays is = cc (stays, is)
 
-pub returns-clause-wrote : goal.returns-clause-wrote
-returns-clause-wrote g c = grind (arith, common_steps)
+pub returns-in_err-write_chunk : goal.returns-in_err-write_chunk
+returns-in_err-write_chunk g c = record {
+  wrote = appends_until g.W.Sink c.args.out.now c.write_chunk.new.out _ c.separator.result.now _ _
+      c.from_residual.result c.from_residual.ensures.0
+      (in_three c.args.self.now (token_model c.args.token.now) c.separator.result.now
+      (sym c.drops.ensures ∙ c.if-drops.false) c.separator.ensures) c.in_err-write_chunk.ensures.wrote;
+}
+
+pub returns-in_err-write_placed : goal.returns-in_err-write_placed
+returns-in_err-write_placed g c = record {
+  wrote = second_until g.W.Sink c.args.out.now c.write_chunk.new.out c.write_placed.new.out _ c.separator.result.now
+      _ _ _ _ c.from_residual-in_err-write_placed.result c.from_residual-in_err-write_placed.ensures.0
+      (in_three c.args.self.now (token_model c.args.token.now) c.separator.result.now
+      (sym c.drops.ensures ∙ c.if-drops.false) c.separator.ensures)
+      c.in_ok-write_chunk.ensures.wrote c.in_err-write_placed.ensures.wrote;
+}
+
+pub returns : goal.returns
+returns g c = record {
+  wrote = three_then g.W.Sink c.args.out.now c.write_chunk.new.out c.write_placed.new.out c.write_plain.new.out _
+      c.separator.result.now _ _ _ _ c.write_plain.result
+      (in_three c.args.self.now (token_model c.args.token.now) c.separator.result.now
+      (sym c.drops.ensures ∙ c.if-drops.false) c.separator.ensures)
+      c.in_ok-write_chunk.ensures.wrote c.in_ok-write_placed.ensures.wrote c.write_plain.ensures.wrote;
+}

@@ -37,4 +37,4 @@ returns-clause-wrote g c = λ tells.
     wrote_at mid new (has ++ c.args.buffer.now) (new ++ c.flush.new.self) line c.write_macro.result
     (sym (append-nil mid) ∙ ap (λ (u : List ℕ). mid ++ u) empty ∙ moved_same _ _ _ _ (c.in_ok-flush.ensures.moved tells)
     ∙ ap (λ (u : List ℕ). has ++ u) (c.add_macro.ensures.none c.if-add_macro.false)) (sym (append-nil new) ∙ ap (λ (u :
-    List ℕ). new ++ u) empty) (c.write_macro.ensures.wrote (subst IsTrue (sym c.in_ok-flush.ensures.tells) tells))
+    List ℕ). new ++ u) empty) (c.write_macro.ensures.wrote.wrote (subst IsTrue (sym c.in_ok-flush.ensures.keeps.tells) tells))

@@ -27,7 +27,7 @@ macros-preserved g c =
     record {
       tells = search rules;
       failed = search rules;
-      beside = λ tells. c.in_ok-append_macro.ensures.beside (subst IsTrue (sym c.macros.invariant.tells) tells)
+      beside = λ tells. c.in_ok-append_macro.ensures.keeps.beside (subst IsTrue (sym c.macros.invariant.tells) tells)
           ∙ c.macros.invariant.beside tells;
       ordered = (All-tail (λ (p : Part). p.first ≤ p.after) c.macros.parts
           c.next.new.self c.in-Some.part is c.macros.invariant.ordered).1;

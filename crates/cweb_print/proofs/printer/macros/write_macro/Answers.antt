@@ -1,35 +1,32 @@
-use Rattle.cweb_print.proofs.Common.{◌++◌, ap, sym, subst, List, ℕ, codes, refl, IsTrue, macro_line, macro_token_bytes, printed_tokens, all_added, at_start, macro_by, replaced_in, tokens_of_part}
-use Rattle.cweb_print.proofs.WrittenPrefixes.{first_failed, second_failed, third_last}
+use Rattle.cweb_print.proofs.Common.{◌≡◌, ◌++◌, ap, List, ℕ, codes, refl, Stored, Part, macro_line, all_added, at_start, macro_by, replaced_in, tokens_of_part}
+use Rattle.cweb_files.proofs.Appending.{appends_until}
+use Rattle.cweb_print.proofs.AppendedParts.{second_until, three_then}
 use Rattle.cweb_print.proofs.Steps.{macro-printed}
 use Rattle.cweb_print.proofs.printer.macros.write_macro.Goals as goal
 
-pub returns-in_err-write_chunk-clause-wrote : goal.returns-in_err-write_chunk-clause-wrote
-returns-in_err-write_chunk-clause-wrote g c = λ tells.
-    let ts = tokens_of_part c.args.store.now c.args.part in
-    let replaced = replaced_in c.args.store.now in
-    first_failed (g.W.Sink.written c.args.out.now) (g.W.Sink.written c.write_chunk.new.out)
-    (macro_line replaced ts) (codes "#define ") (printed_tokens (λ left. macro_token_bytes replaced) ts ++ codes "\n")
-    c.from_residual.result refl c.from_residual.ensures.0 (c.in_err-write_chunk.ensures.wrote tells)
+-- The line as its three parts.
+in_three : (w : Stored) (part : Part) → macro_line (replaced_in w) (tokens_of_part w part)
+    ≡ codes "#define " ++ (all_added (macro_by (replaced_in w)) at_start (tokens_of_part w part) ++ codes "\n")
+in_three w part =
+    ap (λ (t : List ℕ). codes "#define " ++ (t ++ codes "\n")) (macro-printed (replaced_in w) (tokens_of_part w part))
 
-pub returns-in_err-write_macro_tokens-clause-wrote : goal.returns-in_err-write_macro_tokens-clause-wrote
-returns-in_err-write_macro_tokens-clause-wrote g c = λ tells.
-    let ts = tokens_of_part c.args.store.now c.args.part in
-    let replaced = replaced_in c.args.store.now in
-    second_failed (g.W.Sink.written c.args.out.now) (g.W.Sink.written c.write_chunk.new.out)
-    (g.W.Sink.written c.write_macro_tokens.new.out) (macro_line replaced ts) (codes "#define ")
-    (all_added (macro_by replaced) at_start ts) (codes "\n") c.from_residual-in_err-write_macro_tokens.result
-    (ap (λ (t : List ℕ). codes "#define " ++ (t ++ codes "\n")) (macro-printed replaced ts))
-    (c.in_ok-write_chunk.ensures.wrote tells) c.from_residual-in_err-write_macro_tokens.ensures.0
-    (c.in_err-write_macro_tokens.ensures.wrote (subst IsTrue (sym c.in_ok-write_chunk.ensures.tells) tells))
+pub returns-in_err-write_chunk : goal.returns-in_err-write_chunk
+returns-in_err-write_chunk g c = record {
+  wrote = appends_until g.W.Sink c.args.out.now c.write_chunk.new.out _ (codes "#define ") _ _ c.from_residual.result
+      c.from_residual.ensures.0 refl c.in_err-write_chunk.ensures.wrote;
+}
 
-pub returns-clause-wrote : goal.returns-clause-wrote
-returns-clause-wrote g c = λ tells.
-    let ts = tokens_of_part c.args.store.now c.args.part in
-    let replaced = replaced_in c.args.store.now in
-    let tells_mid = subst IsTrue (sym c.in_ok-write_chunk.ensures.tells) tells in
-    let tells_next = subst IsTrue (sym c.in_ok-write_macro_tokens.ensures.tells) tells_mid in
-    third_last (g.W.Sink.written c.args.out.now) (g.W.Sink.written c.write_chunk.new.out)
-    (g.W.Sink.written c.write_macro_tokens.new.out) (g.W.Sink.written c.write_chunk-2.new.out) (macro_line replaced ts)
-    (codes "#define ") (all_added (macro_by replaced) at_start ts) (codes "\n") c.write_chunk-2.result (ap (λ (t : List
-    ℕ). codes "#define " ++ (t ++ codes "\n")) (macro-printed replaced ts)) (c.in_ok-write_chunk.ensures.wrote tells)
-    (c.in_ok-write_macro_tokens.ensures.wrote tells_mid) (c.write_chunk-2.ensures.wrote tells_next)
+pub returns-in_err-write_macro_tokens : goal.returns-in_err-write_macro_tokens
+returns-in_err-write_macro_tokens g c = record {
+  wrote = second_until g.W.Sink c.args.out.now c.write_chunk.new.out c.write_macro_tokens.new.out _
+      (codes "#define ") _ (codes "\n") _ _ c.from_residual-in_err-write_macro_tokens.result
+      c.from_residual-in_err-write_macro_tokens.ensures.0 (in_three c.args.store.now c.args.part)
+      c.in_ok-write_chunk.ensures.wrote c.in_err-write_macro_tokens.ensures.wrote;
+}
+
+pub returns : goal.returns
+returns g c = record {
+  wrote = three_then g.W.Sink c.args.out.now c.write_chunk.new.out c.write_macro_tokens.new.out c.write_chunk-2.new.out
+      _ (codes "#define ") _ (codes "\n") _ _ c.write_chunk-2.result (in_three c.args.store.now c.args.part)
+      c.in_ok-write_chunk.ensures.wrote c.in_ok-write_macro_tokens.ensures.wrote c.write_chunk-2.ensures.wrote;
+}

@@ -1,5 +1,5 @@
 use Rattle.cweb_print.proofs.Common.{arith, common_steps}
 use Rattle.cweb_print.proofs.printer.macros.write_macro_token.Goals as goal
 
-pub returns-clause-wrote : goal.returns-clause-wrote
-returns-clause-wrote g c = grind (arith, common_steps)
+pub returns : goal.returns
+returns g c = grind (arith, common_steps)

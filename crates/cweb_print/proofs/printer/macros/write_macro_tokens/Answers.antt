@@ -1,26 +1,19 @@
-use Rattle.cweb_print.proofs.Common.{rules, ◌<◌, ◌+◌, ◌∙◌, sym, subst, arith, IsTrue, slice_range, all_tokens, token_model, added, all_added, at_start, left_after_token, macro_by, replaced_in, tokens_of_part}
-use Rattle.cweb_print.proofs.WrittenPrefixes.{second_failed}
-use Rattle.cweb_print.proofs.MacroLines.{left_more, tokens_at, tokens_more}
+use Rattle.cweb_print.proofs.Common.{rules, ◌<◌, arith, Ok, slice_range, all_tokens, token_model, added, all_added, at_start, macro_by, replaced_in}
+use Rattle.cweb_files.proofs.Appending.{appended, appended_none, appends_same, appends_then}
+use Rattle.cweb_print.proofs.AppendedParts.{second_until}
+use Rattle.cweb_print.proofs.MacroLines.{left_more, none_added, one_added, tokens_at}
 use Rattle.cweb_print.proofs.printer.macros.write_macro_tokens.Goals as goal
 
-pub returns-in_err-write_macro_token-clause-wrote : goal.returns-in_err-write_macro_token-clause-wrote
-returns-in_err-write_macro_token-clause-wrote g c = λ tells.
-    let w = c.args.store.now in
-    let ts = all_tokens w.parts in
-    let by = macro_by (replaced_in w) in
-    let first = c.args.part.first in
-    let n = c.tokens.number in
-    let t = token_model c.token-token.result in
-    let left = c.tokens.left in
-    let lt : n < c.args.part.after = omega (arith, c.tokens-test.true, c.tokens.invariant.end) in
-    second_failed
-    (g.W.Sink.written c.args.out.now) (g.W.Sink.written c.tokens.out) (g.W.Sink.written c.write_macro_token.new.out)
-    (all_added by at_start (tokens_of_part w c.args.part)) (all_added by at_start (slice_range ts first n))
-    (added by left t) (all_added by (left_after_token left t) (slice_range ts (n + 1) c.args.part.after))
-    c.from_residual.result
-    (tokens_at by ts first n c.args.part.after t left c.tokens.invariant.from lt c.requires.within
-    c.token-token.ensures c.tokens.invariant.left) (c.tokens.invariant.written tells) c.from_residual.ensures.0
-    (c.in_err-write_macro_token.ensures.wrote (subst IsTrue (sym c.tokens.invariant.tells) tells))
+pub tokens-init : goal.tokens-init
+tokens-init g c =
+    let by = macro_by (replaced_in c.args.store.now) in
+    let ts = all_tokens c.args.store.now.parts in record {
+      from = omega arith;
+      end = search rules;
+      left = search rules;
+      appended = appends_same g.W.Sink c.args.out.now c.args.out.now _ _ (Ok tt)
+          (none_added by ts c.args.part.first) (appended_none g.W.Sink c.args.out.now);
+    }
 
 pub tokens-preserved : goal.tokens-preserved
 tokens-preserved g c =
@@ -29,18 +22,32 @@ tokens-preserved g c =
     let first = c.args.part.first in
     let n = c.tokens.number in
     let t = token_model c.token-token.result in
+    let by = macro_by (replaced_in w) in
     record {
-      tells = search rules;
-      failed = search rules;
-      beside = λ tells. c.in_ok-write_macro_token.ensures.beside (subst IsTrue (sym c.tokens.invariant.tells) tells)
-          ∙ c.tokens.invariant.beside tells;
       from = omega arith;
       end = c.tokens.invariant.end;
       left = left_more ts first n t c.tokens.left c.after-left.result c.tokens.invariant.from
           c.token-token.ensures c.tokens.invariant.left c.after-left.ensures;
-      written = λ tells.
-          tokens_more (macro_by (replaced_in w)) ts first n t c.tokens.left (g.W.Sink.written c.args.out.now)
-          (g.W.Sink.written c.tokens.out) (g.W.Sink.written c.write_macro_token.new.out)
-          c.tokens.invariant.from c.token-token.ensures c.tokens.invariant.left (c.tokens.invariant.written tells)
-          (c.in_ok-write_macro_token.ensures.wrote (subst IsTrue (sym c.tokens.invariant.tells) tells));
+      appended = appends_same g.W.Sink c.args.out.now c.write_macro_token.new.out _ _ (Ok tt)
+          (one_added by ts first n t c.tokens.left c.tokens.invariant.from
+          c.token-token.ensures c.tokens.invariant.left)
+          (appends_then g.W.Sink c.args.out.now c.tokens.out c.write_macro_token.new.out
+          (all_added by at_start (slice_range ts first n)) (added by c.tokens.left t) tt (Ok tt)
+          c.tokens.invariant.appended (appended g.W.Sink c.tokens.out c.write_macro_token.new.out
+          (added by c.tokens.left t) _ c.in_ok-write_macro_token.ensures.wrote));
+    }
+
+pub returns-in_err-write_macro_token : goal.returns-in_err-write_macro_token
+returns-in_err-write_macro_token g c =
+    let w = c.args.store.now in
+    let ts = all_tokens w.parts in
+    let first = c.args.part.first in
+    let n = c.tokens.number in
+    let t = token_model c.token-token.result in
+    let lt : n < c.args.part.after = omega (arith, c.tokens-test.true, c.tokens.invariant.end) in record {
+      wrote = second_until g.W.Sink c.args.out.now c.tokens.out c.write_macro_token.new.out _ _ _ _ tt _
+          c.from_residual.result c.from_residual.ensures.0
+          (tokens_at (macro_by (replaced_in w)) ts first n c.args.part.after t c.tokens.left c.tokens.invariant.from lt
+          c.requires.within c.token-token.ensures c.tokens.invariant.left)
+          c.tokens.invariant.appended c.in_err-write_macro_token.ensures.wrote;
     }

@@ -1,51 +1,42 @@
-use Rattle.cweb_print.proofs.Common.{rules, ◌≡◌, ◌≤◌, ◌∷◌, ◌∙◌, ap, sym, subst, refl, length, List, ℕ, IsTrue, Part, all_tokens, macro_line, replaced_in, tokens_of_part}
-use Rattle.cweb_print.proofs.WrittenPrefixes.{Written, written_none, written_more, written_prefix, wrote_err}
+use Rattle.cweb_print.proofs.Common.{◌≡◌, ◌≤◌, ◌∷◌, ◌∙◌, ap, sym, subst, length, List, ℕ, Part, all_tokens, macro_line, replaced_in, tokens_of_part}
+use Rattle.cweb_print.proofs.AppendedParts.{AppendedBefore, before_none, before_then, before_until}
 use Rattle.cweb_print.proofs.MacroLines.{All-tail, all_lines, lines, lines_are}
 use Rattle.cweb_print.proofs.printer.macros.write_macros.Goals as goal
 
 pub macros-init : goal.macros-init
 macros-init g c =
     let w = c.args.store.now in
-    let old = g.W.Sink.written c.args.out.now in
     record {
-      tells = refl;
-      failed = refl;
-      beside = λ tells. refl;
       ordered = c.macros-parts.ensures.ordered;
       within = c.macros-parts.ensures.within;
-      written = λ tells. subst (λ (t : List ℕ). Written old old (all_lines w) t)
-          (sym (ap (lines w) c.macros-parts.ensures.numbers ∙ lines_are w)) (written_none old (all_lines w));
+      appended = subst (λ (t : List ℕ). AppendedBefore g.W.Sink c.args.out.now c.args.out.now (all_lines w) t)
+          (sym (ap (lines w) c.macros-parts.ensures.numbers ∙ lines_are w))
+          (before_none g.W.Sink c.args.out.now (all_lines w));
     }
 
 pub macros-preserved : goal.macros-preserved
 macros-preserved g c =
     let w = c.args.store.now in
     let is : c.macros.parts ≡ c.in-Some.part ∷ c.next.new.self = c.in-Some.ensures.steps in
-    let old = g.W.Sink.written c.args.out.now in
     record {
-      tells = search rules;
-      failed = search rules;
-      beside = λ tells. c.in_ok-write_macro.ensures.beside (subst IsTrue (sym c.macros.invariant.tells) tells)
-          ∙ c.macros.invariant.beside tells;
       ordered = (All-tail (λ (p : Part). p.first ≤ p.after) c.macros.parts
           c.next.new.self c.in-Some.part is c.macros.invariant.ordered).1;
       within = (All-tail (λ (p : Part). p.after ≤ length (all_tokens w.parts)) c.macros.parts
           c.next.new.self c.in-Some.part is c.macros.invariant.within).1;
-      written = λ tells. written_more old (g.W.Sink.written c.macros.out) (g.W.Sink.written c.write_macro.new.out)
-          (all_lines w) (macro_line (replaced_in w) (tokens_of_part w c.in-Some.part)) (lines w c.next.new.self)
-          (subst (λ (ps : List Part). Written old (g.W.Sink.written c.macros.out) (all_lines w) (lines w ps)) is
-          (c.macros.invariant.written tells))
-          (c.in_ok-write_macro.ensures.wrote (subst IsTrue (sym c.macros.invariant.tells) tells));
+      appended = before_then g.W.Sink c.args.out.now c.macros.out c.write_macro.new.out (all_lines w)
+          (macro_line (replaced_in w) (tokens_of_part w c.in-Some.part)) (lines w c.next.new.self) _
+          (subst (λ (ps : List Part). AppendedBefore g.W.Sink c.args.out.now c.macros.out (all_lines w) (lines w ps)) is
+          c.macros.invariant.appended) c.in_ok-write_macro.ensures.wrote;
     }
 
-pub returns-in_err-write_macro-clause-wrote : goal.returns-in_err-write_macro-clause-wrote
-returns-in_err-write_macro-clause-wrote g c = λ tells.
+pub returns-in_err-write_macro : goal.returns-in_err-write_macro
+returns-in_err-write_macro g c =
     let w = c.args.store.now in
     let is : c.macros.parts ≡ c.in-Some.part ∷ c.next.new.self = c.in-Some.ensures.steps in
-    let old = g.W.Sink.written c.args.out.now in
-    wrote_err old
-    (g.W.Sink.written c.write_macro.new.out) (all_lines w) c.from_residual.result c.from_residual.ensures.0
-    (written_prefix old (g.W.Sink.written c.macros.out) (g.W.Sink.written c.write_macro.new.out) (all_lines w)
-    (macro_line (replaced_in w) (tokens_of_part w c.in-Some.part)) (lines w c.next.new.self) (subst (λ (ps : List Part).
-    Written old (g.W.Sink.written c.macros.out) (all_lines w) (lines w ps)) is (c.macros.invariant.written tells))
-    (c.in_err-write_macro.ensures.wrote (subst IsTrue (sym c.macros.invariant.tells) tells)))
+    record {
+      wrote = before_until g.W.Sink c.args.out.now c.macros.out c.write_macro.new.out (all_lines w)
+          (macro_line (replaced_in w) (tokens_of_part w c.in-Some.part)) (lines w c.next.new.self) _
+          c.from_residual.result c.from_residual.ensures.0
+          (subst (λ (ps : List Part). AppendedBefore g.W.Sink c.args.out.now c.macros.out (all_lines w) (lines w ps)) is
+          c.macros.invariant.appended) c.in_err-write_macro.ensures.wrote;
+    }

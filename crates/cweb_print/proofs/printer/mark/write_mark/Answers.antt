@@ -1,5 +1,5 @@
 use Rattle.cweb_print.proofs.Common.{rules, ◌≡◌, ◌++◌, ◌∙◌, ap, sym, List, ℕ, codes, decimal, mark_line, quoted}
-use Rattle.cweb_print.proofs.WrittenPrefixes.{wrote_same}
+use Rattle.cweb_files.proofs.Appending.{appends_same}
 use Rattle.cweb_print.proofs.Bytes.{plain_name}
 use Rattle.cweb_print.proofs.printer.mark.write_mark.Goals as goal
 
@@ -11,11 +11,13 @@ in_six begin name digits line is plain =
     ∙ ap (λ (n : List ℕ). begin ++ (codes "#line " ++ (decimal line ++ (codes " \"" ++ (n ++ codes "\"\n")))))
     (sym plain)
 
-pub returns-clause-wrote : goal.returns-clause-wrote
-returns-clause-wrote g c = λ tells.
-    let text = c.args.begin.now
-    ++ (codes "#line " ++ (c.as_bytes.result.now ++ (codes " \"" ++ (c.args.name.now ++ codes "\"\n")))) in
-    let same = in_six c.args.begin.now c.args.name.now c.as_bytes.result.now c.args.line
-    (c.as_bytes.ensures.value ∙ c.format.ensures.text) (plain_name c.args.name.now (search rules)) in
-    wrote_same (g.W.Sink.written c.args.out.now) (g.W.Sink.written c.write_chunks.new.out) text (c.args.begin.now ++
-    mark_line c.args.name.now c.args.line) c.write_chunks.result same (c.write_chunks.ensures.wrote tells)
+pub returns : goal.returns
+returns g c = record {
+  wrote =
+      let text = c.args.begin.now
+      ++ (codes "#line " ++ (c.as_bytes.result.now ++ (codes " \"" ++ (c.args.name.now ++ codes "\"\n")))) in
+      appends_same g.W.Sink c.args.out.now c.write_chunks.new.out text _ c.write_chunks.result
+      (in_six c.args.begin.now c.args.name.now c.as_bytes.result.now c.args.line
+      (c.as_bytes.ensures.value ∙ c.format.ensures.text) (plain_name c.args.name.now (search rules)))
+      c.write_chunks.ensures.wrote;
+}

@@ -1,11 +1,8 @@
-use Rattle.cweb_print.proofs.Common.{◌≡◌, ◌++◌, take, IsTrue, quoted}
+use Rattle.cweb_print.proofs.Common.{take, quoted}
+use Rattle.cweb_files.proofs.Appending.{Appended}
 use Rattle.cweb_print.proofs.printer.mark.write_quoted.Given as goal
 
 abbrev pub invariant-bytes : goal.invariant-bytes
 invariant-bytes g l = record {
-  tells : g.W.Sink.tells l.out ≡ g.W.Sink.tells l.fn.out;
-  failed : g.W.Sink.failed l.out ≡ g.W.Sink.failed l.fn.out;
-  beside : IsTrue (g.W.Sink.tells l.fn.out) → g.W.Sink.beside l.out ≡ g.W.Sink.beside l.fn.out;
-  written : IsTrue (g.W.Sink.tells l.fn.out)
-      → g.W.Sink.written l.out ≡ g.W.Sink.written l.fn.out ++ quoted (take l.byte-index l.name);
+  appended : Appended g.W.Sink l.fn.out l.out (quoted (take l.byte-index l.name));
 }

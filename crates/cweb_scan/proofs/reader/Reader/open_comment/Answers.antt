@@ -6,11 +6,12 @@ pub returns : goal.returns
 returns c =
     let s = c.self.inside.scanner in
     let g = c.self.inside.begun in
-    let reads = at_state (λ (u : ScanState). reads_c u.context ≡ true) _ _ c.self.view_is c.requires.reads in
+    let reads = at_state (λ (u : ScanState). reads_c u.context ≡ true) _ _ c.self.view_is c.requires.next.context in
     record {
       some = omega arith;
       within = refl;
-      taken = takes_at 2 c.args.rest.now _ _ c.self.view_is c.requires.between (opened (blank s) g (InComment s.here)) _
+      taken = takes_at 2 c.args.rest.now _ _ c.self.view_is c.requires.next.between
+          (opened (blank s) g (InComment s.here)) _
           (λ i. opened (sym c.in_ok-blank.ensures i) g (InComment (sym c.here-begun.ensures i)))
           (comment_opens s g c.args.rest.now reads c.requires.sign);
     }

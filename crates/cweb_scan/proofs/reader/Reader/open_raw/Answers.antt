@@ -6,14 +6,15 @@ use Rattle.cweb_scan.proofs.reader.Reader.open_raw.Goals as goal
 pub split_at-requires-2 : goal.split_at-requires-2
 split_at-requires-2 c =
     let name = c.delimiter-name.ensures ∙ ap delimiter c.split_at.ensures.back in
-    raw_fits_at c.args.rest.now c.raw_prefix-start.result c.delimiter-name.result.now
+    raw_fits_at c.args.rest.bytes.now c.raw_prefix-start.result c.delimiter-name.result.now
     c.raw_prefix-start.ensures.value name c.requires.sign
 
 pub invariant_of-self-2 : goal.invariant_of-self-2
 invariant_of-self-2 c =
     let s = c.self.inside.scanner in
     let d = c.delimiter-name.result.now in
-    let reads = at_state (λ (u : ScanState). reads_literals u.context ≡ true) _ _ c.self.view_is c.requires.reads in
+    let reads = at_state (λ (u : ScanState). reads_literals u.context ≡ true) _ _ c.self.view_is
+    c.requires.next.context in
     let name = c.delimiter-name.ensures ∙ ap delimiter c.split_at.ensures.back in
     let kept = c.in_ok-extend_from_slice-2.ensures.items ∙ (λ i. c.clear-2.ensures.items i ++ d) in
     let sign = c.in_ok-push-2.ensures.items
@@ -21,14 +22,15 @@ invariant_of-self-2 c =
     ∙ (λ i. (c.in_ok-push.ensures.items i ++ d) ++ 34 ∷ [])
     ∙ (λ i. ((c.clear-3.ensures.items i ++ 41 ∷ []) ++ d) ++ 34 ∷ []) in
     raw_signed s.context c.here.result
-    (drop (c.raw_prefix-start.result + 2) c.args.rest.now) d _ _ name kept sign (literals_in_part s.context reads)
+    (drop (c.raw_prefix-start.result + 2) c.args.rest.bytes.now) d _ _ name kept sign (literals_in_part s.context reads)
 
 pub returns : goal.returns
 returns c =
     let s = c.self.inside.scanner in
     let g = c.self.inside.begun in
-    let u = c.args.rest.now in
-    let reads = at_state (λ (u : ScanState). reads_literals u.context ≡ true) _ _ c.self.view_is c.requires.reads in
+    let u = c.args.rest.bytes.now in
+    let reads = at_state (λ (u : ScanState). reads_literals u.context ≡ true) _ _ c.self.view_is
+    c.requires.next.context in
     let p = c.raw_prefix-start.result in
     let d = c.delimiter-name.result.now in
     let name = c.delimiter-name.ensures ∙ ap delimiter c.split_at.ensures.back in
@@ -39,8 +41,8 @@ returns c =
     record {
       some = omega arith;
       within = refl;
-      taken = takes_at n u _ _ c.self.view_is c.requires.between (opened s g (InRaw s.here d (take n u))) _
+      taken = takes_at n u _ _ c.self.view_is c.requires.next.between (opened s g (InRaw s.here d (take n u))) _
           (λ i. opened s g (InRaw (sym c.here.ensures i) (sym kept i) (sym text i)))
           (raw_opens_at s g u p d c.raw_prefix-start.ensures.value name
-          reads c.requires.line c.requires.past c.requires.sign);
+          reads c.args.rest.line c.requires.past c.requires.sign);
     }

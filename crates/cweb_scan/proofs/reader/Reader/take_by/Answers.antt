@@ -9,63 +9,66 @@ use Rattle.cweb_scan.proofs.reader.Reader.take_by.Goals as goal
 pub open_comment-requires-clause-sign : goal.open_comment-requires-clause-sign
 open_comment-requires-clause-sign c =
     let s = c.args.self.now.state in
-    seen (is_c s.context && names_include s) c.args.rest.now rule.Comment (sym c.requires.first ∙ c.in-Comment.is)
+    seen (is_c s.context && names_include s) c.args.rest.bytes.now rule.Comment (sym c.requires.first ∙ c.in-Comment.is)
 
 pub take_code-requires-clause-sign : goal.take_code-requires-clause-sign
 take_code-requires-clause-sign c =
     let s = c.args.self.now.state in
-    (seen (is_c s.context && names_include s) c.args.rest.now rule.Code (sym c.requires.first ∙ c.in-Code.is)).1
+    (seen (is_c s.context && names_include s) c.args.rest.bytes.now rule.Code (sym c.requires.first ∙ c.in-Code.is)).1
 
 pub open_raw-requires-clause-sign : goal.open_raw-requires-clause-sign
 open_raw-requires-clause-sign c =
     let s = c.args.self.now.state in
-    (seen (is_c s.context && names_include s) c.args.rest.now rule.RawLiteral
+    (seen (is_c s.context && names_include s) c.args.rest.bytes.now rule.RawLiteral
     (sym c.requires.first ∙ c.in-RawLiteral.is)).1
 
 pub open_literal-requires-clause-plain : goal.open_literal-requires-clause-plain
 open_literal-requires-clause-plain c =
     let s = c.args.self.now.state in
-    (seen (is_c s.context && names_include s) c.args.rest.now rule.Literal (sym c.requires.first ∙ c.in-Literal.is)).1
+    (seen (is_c s.context && names_include s) c.args.rest.bytes.now rule.Literal (sym c.requires.first ∙
+    c.in-Literal.is)).1
 
 pub open_literal-requires-clause-sign : goal.open_literal-requires-clause-sign
 open_literal-requires-clause-sign c =
     let s = c.args.self.now.state in
-    (seen (is_c s.context && names_include s) c.args.rest.now rule.Literal (sym c.requires.first ∙ c.in-Literal.is)).2
+    (seen (is_c s.context && names_include s) c.args.rest.bytes.now rule.Literal (sym c.requires.first ∙
+    c.in-Literal.is)).2
 
 pub take_rule-requires-clause-ends : goal.take_rule-requires-clause-ends
 take_rule-requires-clause-ends c =
     let s = c.args.self.now.state in
     let no_end = ap is_ended c.requires.first
-    ∙ rule_in_line (is_c s.context && names_include s) c.args.rest.now c.requires.line in
+    ∙ rule_in_line (is_c s.context && names_include s) c.args.rest.bytes.now c.args.rest.line in
     left_ends c.args.rule c.in_default.not-Comment
     c.in_default.not-Section c.in_default.not-Code c.in_default.not-RawLiteral c.in_default.not-Literal no_end
 
 pub take_rule-requires-clause-two : goal.take_rule-requires-clause-two
 take_rule-requires-clause-two c =
     let s = c.args.self.now.state in
-    two_fit (is_c s.context && names_include s) c.args.rest.now c.args.rule c.requires.first
+    two_fit (is_c s.context && names_include s) c.args.rest.bytes.now c.args.rule c.requires.first
 
 pub returns-in_ok-size-in-Section : goal.returns-in_ok-size-in-Section
 returns-in_ok-size-in-Section c =
-    let u = c.args.rest.now in
+    let u = c.args.rest.bytes.now in
     let h = c.args.self.now in
     let f = rule_closed h.state.context (names_include h.state)
-    u c.args.rule c.requires.part c.requires.plain c.requires.first (ap closes c.in-Section.is) in
-    closed_at c.in_ok-size-in-Section.size u h _ _ (section_match u) c.self.view_is c.requires.between
-    (part_head h.state.context c.requires.part) c.requires.line c.requires.some
+    u c.args.rule c.requires.next.context c.requires.plain c.requires.first (ap closes c.in-Section.is) in
+    closed_at c.in_ok-size-in-Section.size u h _ _ (section_match u) c.self.view_is c.requires.next.between
+    (part_head h.state.context c.requires.next.context) c.args.rest.line c.args.rest.some
     (f.0 ∙ ap (c_match_by in_c false u) c.in-Section.is) f.1 c.in_ok-size-in-Section.ensures
 
 pub returns-in_ok-size-in_default : goal.returns-in_ok-size-in_default
 returns-in_ok-size-in_default c =
-    let u = c.args.rest.now in
+    let u = c.args.rest.bytes.now in
     let h = c.args.self.now in
     let s = h.state in
     let r = c.args.rule in
-    let no_end = ap is_ended c.requires.first ∙ rule_in_line (is_c s.context && names_include s) u c.requires.line in
+    let no_end = ap is_ended c.requires.first ∙ rule_in_line (is_c s.context && names_include s) u c.args.rest.line in
     let ends = left_ends r c.in_default.not-Comment
     c.in_default.not-Section c.in_default.not-Code c.in_default.not-RawLiteral c.in_default.not-Literal no_end in
     let f = rule_closed s.context
-    (names_include s) u r c.requires.part c.requires.plain c.requires.first (ends_closes r ends) in
+    (names_include s) u r c.requires.next.context c.requires.plain c.requires.first (ends_closes r ends) in
     closed_at c.in_ok-size-in_default.size u h _ _
-    (c_match_by in_c false u r) c.self-in_default.view_is c.requires.between
-    (part_head s.context c.requires.part) c.requires.line c.requires.some f.0 f.1 c.in_ok-size-in_default.ensures
+    (c_match_by in_c false u r) c.self-in_default.view_is c.requires.next.between
+    (part_head s.context c.requires.next.context) c.args.rest.line c.args.rest.some f.0 f.1
+    c.in_ok-size-in_default.ensures

@@ -1,4 +1,3 @@
-use Rattle.cweb_scan.proofs.Common.{arith, common_steps}
 use Rattle.cweb_scan.proofs.LineSteps.{prefix_goes_on, prefix_line}
 use Rattle.cweb_scan.proofs.reader.Reader.take_bytes.Goals as goal
 
@@ -6,9 +5,6 @@ pub turns-preserved : goal.turns-preserved
 turns-preserved c = prefix_goes_on c.in_ok-size.size c.args.line.now
     c.turns.rest.now _ c.args.self.now c.turns.self _ c.split_at.ensures.back c.turns.invariant c.in_ok-size.ensures
 
-pub take_step-requires-clause-line : goal.take_step-requires-clause-line
-take_step-requires-clause-line c =
+pub invariant_of-take_step-clause-line : goal.invariant_of-take_step-clause-line
+invariant_of-take_step-clause-line c =
     prefix_line c.args.line.now c.turns.rest.now c.args.self.now c.turns.self c.requires.clean c.turns.invariant
-
-pub take_step-requires-clause-room : goal.take_step-requires-clause-room
-take_step-requires-clause-room c = grind (arith, common_steps)

@@ -8,31 +8,32 @@ use Rattle.cweb_scan.proofs.reader.Reader.take_head.Goals as goal
 
 pub open_comment-requires-clause-sign : goal.open_comment-requires-clause-sign
 open_comment-requires-clause-sign c =
-    seen false c.args.rest.now rule.Comment (sym c.c_rule-rule.ensures ∙ c.in-Comment.is)
+    seen false c.args.rest.bytes.now rule.Comment (sym c.c_rule-rule.ensures ∙ c.in-Comment.is)
 
 pub take_line_comment-requires-clause-two : goal.take_line_comment-requires-clause-two
 take_line_comment-requires-clause-two c =
-    two_fit false c.args.rest.now rule.LineComment (sym c.in-LineComment.is ∙ c.c_rule-rule.ensures) refl
+    two_fit false c.args.rest.bytes.now rule.LineComment (sym c.in-LineComment.is ∙ c.c_rule-rule.ensures) refl
 
 pub returns-in-Blanks : goal.returns-in-Blanks
 returns-in-Blanks c =
-    blanks_pass c.span_len.result c.args.rest.now c.args.self.now c.args.begun c.c_rule-rule.result c.in-Blanks.is
-    c.requires.between c.requires.in_head c.requires.line c.requires.some c.c_rule-rule.ensures c.span_len.ensures.value
+    blanks_pass c.span_len.result c.args.rest.bytes.now c.args.self.now c.args.begun c.c_rule-rule.result c.in-Blanks.is
+    c.requires.between c.requires.context c.args.rest.line c.args.rest.some c.c_rule-rule.ensures
+    c.span_len.ensures.value
 
 pub returns-in_ok-size-in-LineComment : goal.returns-in_ok-size-in-LineComment
 returns-in_ok-size-in-LineComment c =
-    let u = c.args.rest.now in
+    let u = c.args.rest.bytes.now in
     head_passes c.in_ok-size-in-LineComment.size u c.args.self.now _ _ c.args.begun rule.LineComment
-    (line_comment_match u) c.self.view_is c.requires.between c.requires.in_head c.requires.line c.requires.some
+    (line_comment_match u) c.self.view_is c.requires.between c.requires.context c.args.rest.line c.args.rest.some
     (sym c.in-LineComment.is ∙ c.c_rule-rule.ensures) refl refl refl refl c.in_ok-size-in-LineComment.ensures
 
 pub returns-in_ok-size-in_default : goal.returns-in_ok-size-in_default
 returns-in_ok-size-in_default c =
-    let u = c.args.rest.now in
+    let u = c.args.rest.bytes.now in
     let r = c.c_rule-rule.result in
-    let no_end = ap is_ended c.c_rule-rule.ensures ∙ rule_in_line false u c.requires.line in
+    let no_end = ap is_ended c.c_rule-rule.ensures ∙ rule_in_line false u c.args.rest.line in
     let left = λ (w : List ℕ). foreign_rule w r
     c.in_default.not-Blanks c.in_default.not-Comment c.in_default.not-LineComment c.in_default.not-Identifier no_end in
     dropped_at c.in_ok-size-in_default.size u c.args.self.now _ _ c.drop_definition.new.self
-    c.args.begun r c.self-in_default.view_is c.requires.between c.requires.in_head c.requires.some
+    c.args.begun r c.self-in_default.view_is c.requires.between c.requires.context c.args.rest.some
     c.c_rule-rule.ensures left c.in_ok-drop_definition-in_default.ensures c.in_ok-size-in_default.ensures

@@ -8,7 +8,7 @@ use Rattle.cweb_scan.proofs.reader.Reader.take_step.Goals as goal
 pub returns-in_ok-size-in-Between : goal.returns-in_ok-size-in-Between
 returns-in_ok-size-in-Between c =
     let r = c.self.inside in
-    let u = c.args.rest.now in
+    let u = c.args.rest.bytes.now in
     let h = c.args.self.now in
     let n = c.in_ok-plain-in-Between.plain in
     let m = c.in_ok-size-in-Between.size in
@@ -20,12 +20,13 @@ returns-in_ok-size-in-Between c =
 
 pub split_at-requires : goal.split_at-requires
 split_at-requires c =
-    piece_within c.in_ok-plain-in-Between.plain c.args.rest.now _ c.take_plain.new.self c.in_ok-plain-in-Between.ensures
+    piece_within c.in_ok-plain-in-Between.plain c.args.rest.bytes.now _ c.take_plain.new.self
+    c.in_ok-plain-in-Between.ensures
 
 pub returns-then-is_empty : goal.returns-then-is_empty
 returns-then-is_empty c =
     let r = c.self.inside in
-    let u = c.args.rest.now in
+    let u = c.args.rest.bytes.now in
     let h = c.args.self.now in
     let n = c.in_ok-plain-in-Between.plain in
     let item = ap (λ (k : Open). item_of k r.delimiter.items r.text.items) c.in-Between.is in
@@ -33,26 +34,26 @@ returns-then-is_empty c =
     let t = plain_held n u h _ c.take_plain.new.self c.self.view_is none c.in_ok-plain-in-Between.ensures in
     let empty = eqb-true (length c.split_at.result.1.now) 0 (sym c.is_empty.ensures ∙ c.if-is_empty.true) in
     between_turn n u h _ none (plain_all n u h _ t (ap awaits_line_end item)
-    (sym (ap (λ (w : List ℕ). length w) c.split_at.ensures.back) ∙ empty) c.requires.some)
+    (sym (ap (λ (w : List ℕ). length w) c.split_at.ensures.back) ∙ empty) c.args.rest.some)
 
-pub take_between-requires-clause-line : goal.take_between-requires-clause-line
-take_between-requires-clause-line c = subst IsLine
-    (sym c.split_at.ensures.back) (IsLine-drop c.in_ok-plain-in-Between.plain c.args.rest.now c.requires.line)
+pub invariant_of-take_between-clause-line : goal.invariant_of-take_between-clause-line
+invariant_of-take_between-clause-line c = subst IsLine
+    (sym c.split_at.ensures.back) (IsLine-drop c.in_ok-plain-in-Between.plain c.args.rest.bytes.now c.args.rest.line)
 
-pub take_between-requires-clause-room : goal.take_between-requires-clause-room
-take_between-requires-clause-room c =
+pub take_between-requires : goal.take_between-requires
+take_between-requires c =
     let r = c.self.inside in
-    let u = c.args.rest.now in
+    let u = c.args.rest.bytes.now in
     let h = c.args.self.now in
     let n = c.in_ok-plain-in-Between.plain in
     let item = ap (λ (k : Open). item_of k r.delimiter.items r.text.items) c.in-Between.is in
     let none = sym (ap (λ (h : ReaderModel). h.item) c.self.view_is) ∙ item in
     let t = plain_held n u h _ c.take_plain.new.self c.self.view_is none c.in_ok-plain-in-Between.ensures in
-    plain_room n u h _ t c.requires.room
+    record { between = item; context = tt; room = plain_room n u h _ t c.requires.room }
 
 pub returns-in_ok-size-in_default : goal.returns-in_ok-size-in_default
 returns-in_ok-size-in_default c =
     let r = c.self.inside in
-    open_turn c.in_ok-size-in_default.size c.args.rest.now c.args.self.now c.take_open.new.self
+    open_turn c.in_ok-size-in_default.size c.args.rest.bytes.now c.args.self.now c.take_open.new.self
     (ap (λ (h : ReaderModel). is_pending h.item) (sym c.self.view_is)
     ∙ kept_open r.item r.delimiter.items r.text.items c.in_default.not-Between) c.in_ok-size-in_default.ensures

@@ -1,8 +1,5 @@
-use Rattle.cweb_scan.proofs.Common.{rules, arith, common_steps}
+use Rattle.cweb_scan.proofs.Common.{rules}
 use Rattle.cweb_scan.proofs.scanner.Scanner.define.Goals as goal
 
 pub returns-in_ok-emit-2 : goal.returns-in_ok-emit-2
 returns-in_ok-emit-2 c = search rules
-
-pub emit-requires-then-not-tight-clause-few : goal.emit-requires-then-not-tight-clause-few
-emit-requires-then-not-tight-clause-few c = grind (arith, common_steps)

@@ -6,78 +6,81 @@ use Rattle.cweb_scan.proofs.Plains.{stays_plain, blanks_turn, word_turn, sign_tu
 use Rattle.cweb_scan.proofs.scanner.Scanner.take_lexeme.Goals as goal
 
 pub returns-in-Blank-clause-taken : goal.returns-in-Blank-clause-taken
-returns-in-Blank-clause-taken c =
-    let s = c.args.self.now in
-    let u = c.args.rest.now in
-    let known = known-at (is_c s.context && names_include s) u plain.Blank c.requires.some
-    (sym c.in-Blank.is ∙ c.first_byte_class.ensures) in
-    blanks_turn c.nonempty_span_len.result u s c.requires.line c.requires.some c.requires.in_c known.0
-    c.nonempty_span_len.ensures.value
+returns-in-Blank-clause-taken c = record {
+  taken =
+      let s = c.args.self.now in
+      let u = c.args.rest.bytes.now in
+      let known = known-at (is_c s.context && names_include s) u plain.Blank c.args.rest.some
+      (sym c.in-Blank.is ∙ c.first_byte_class.ensures) in
+      blanks_turn c.nonempty_span_len.result u s c.args.rest.line c.args.rest.some c.requires.in_c known.0
+      c.nonempty_span_len.ensures.value;
+  stays = c.requires.in_c;
+}
 
 pub returns-in_ok-emit_plain-in-Word-clause-taken : goal.returns-in_ok-emit_plain-in-Word-clause-taken
-returns-in_ok-emit_plain-in-Word-clause-taken c =
-    let s = c.args.self.now in
-    let u = c.args.rest.now in
-    let known = known-at (is_c s.context && names_include s) u plain.Word c.requires.some
-    (sym c.in-Word.is ∙ c.first_byte_class.ensures) in
-    word_turn c.nonempty_span_len-size.result u s c.emit_plain.new.self c.requires.line c.requires.some
-    c.requires.in_c.in_c
-    known.0 c.nonempty_span_len-size.ensures.value
-    (c.in_ok-emit_plain-in-Word.ensures.ok ∙ ap (λ (x : List ℕ). emit (Word x) s) c.split_at.ensures.front)
+returns-in_ok-emit_plain-in-Word-clause-taken c = record {
+  taken =
+      let s = c.args.self.now in
+      let u = c.args.rest.bytes.now in
+      let known = known-at (is_c s.context && names_include s) u plain.Word c.args.rest.some
+      (sym c.in-Word.is ∙ c.first_byte_class.ensures) in
+      word_turn c.nonempty_span_len-size.result u s c.emit_plain.new.self c.args.rest.line c.args.rest.some
+      c.requires.in_c.in_c
+      known.0 c.nonempty_span_len-size.ensures.value
+      (c.in_ok-emit_plain-in-Word.ensures.ok ∙ ap (λ (x : List ℕ). emit (Word x) s) c.split_at.ensures.front);
+  stays = grind (arith, common_steps);
+}
 
 pub returns-in_ok-emit_plain-in-Lone-clause-taken : goal.returns-in_ok-emit_plain-in-Lone-clause-taken
-returns-in_ok-emit_plain-in-Lone-clause-taken c =
-    let s = c.args.self.now in
-    let u = c.args.rest.now in
-    let known = known-at (is_c s.context && names_include s) u plain.Lone c.requires.some
-    (sym c.in-Lone.is ∙ c.first_byte_class.ensures) in
-    let made = c.self.view_is ∙ c.in_ok-emit_plain-in-Lone.ensures.ok
-    ∙ ap (λ (x : List ℕ). emit (Punct x) s) c.split_at-in-Lone.ensures.front in
-    sign_turn u s _ c.requires.line c.requires.some c.requires.in_c known.0 (lone-sign u known.1)
-    (ap (λ (v : ScanState). record v { folded = false }) made)
-
-pub returns-in_ok-emit_plain-in-Lone-clause-stays : goal.returns-in_ok-emit_plain-in-Lone-clause-stays
-returns-in_ok-emit_plain-in-Lone-clause-stays c =
-    let s = c.args.self.now in
-    let u = c.args.rest.now in
-    let known = known-at (is_c s.context && names_include s) u plain.Lone c.requires.some
-    (sym c.in-Lone.is ∙ c.first_byte_class.ensures) in
-    let made = c.self.view_is ∙ c.in_ok-emit_plain-in-Lone.ensures.ok
-    ∙ ap (λ (x : List ℕ). emit (Punct x) s) c.split_at-in-Lone.ensures.front in
-    let p = subst IsPlainC (sym made) (stays_plain s (Punct (take 1 u)) c.requires.in_c
-    (lone-sign u known.1).token) in
-    record { in_c = p.in_c; outside = p.outside }
+returns-in_ok-emit_plain-in-Lone-clause-taken c = record {
+  taken =
+      let s = c.args.self.now in
+      let u = c.args.rest.bytes.now in
+      let known = known-at (is_c s.context && names_include s) u plain.Lone c.args.rest.some
+      (sym c.in-Lone.is ∙ c.first_byte_class.ensures) in
+      let made = c.self.view_is ∙ c.in_ok-emit_plain-in-Lone.ensures.ok
+      ∙ ap (λ (x : List ℕ). emit (Punct x) s) c.split_at-in-Lone.ensures.front in
+      sign_turn u s _ c.args.rest.line c.args.rest.some c.requires.in_c known.0 (lone-sign u known.1)
+      (ap (λ (v : ScanState). record v { folded = false }) made);
+  stays =
+      let s = c.args.self.now in
+      let u = c.args.rest.bytes.now in
+      let known = known-at (is_c s.context && names_include s) u plain.Lone c.args.rest.some
+      (sym c.in-Lone.is ∙ c.first_byte_class.ensures) in
+      let made = c.self.view_is ∙ c.in_ok-emit_plain-in-Lone.ensures.ok
+      ∙ ap (λ (x : List ℕ). emit (Punct x) s) c.split_at-in-Lone.ensures.front in
+      let p = subst IsPlainC (sym made) (stays_plain s (Punct (take 1 u)) c.requires.in_c
+      (lone-sign u known.1).token) in
+      record { in_c = p.in_c; outside = p.outside };
+}
 
 pub take_number-requires-clause-first : goal.take_number-requires-clause-first
 take_number-requires-clause-first c =
-    known-at false c.args.rest.now plain.Digit c.requires.some (sym c.in-Digit.is ∙ c.first_byte_class.ensures)
+    known-at false c.args.rest.bytes.now plain.Digit c.args.rest.some (sym c.in-Digit.is ∙ c.first_byte_class.ensures)
 
 pub take_whole_literal-requires-clause-first : goal.take_whole_literal-requires-clause-first
 take_whole_literal-requires-clause-first c =
-    known-at false c.args.rest.now plain.Quote c.requires.some (sym c.in-Quote.is ∙ c.first_byte_class.ensures)
+    known-at false c.args.rest.bytes.now plain.Quote c.args.rest.some (sym c.in-Quote.is ∙ c.first_byte_class.ensures)
 
 pub take_operator-requires-clause-first : goal.take_operator-requires-clause-first
 take_operator-requires-clause-first c =
-    (known-at false c.args.rest.now plain.Operator c.requires.some
+    (known-at false c.args.rest.bytes.now plain.Operator c.args.rest.some
     (sym c.in-Operator.is ∙ c.first_byte_class.ensures)).0
 
 pub take_operator-requires-clause-kept : goal.take_operator-requires-clause-kept
 take_operator-requires-clause-kept c =
-    (known-at false c.args.rest.now plain.Operator c.requires.some
+    (known-at false c.args.rest.bytes.now plain.Operator c.args.rest.some
     (sym c.in-Operator.is ∙ c.first_byte_class.ensures)).1
 
 pub nonempty_span_len-requires : goal.nonempty_span_len-requires
 nonempty_span_len-requires c = record {
   first =
-      (known-at false c.args.rest.now plain.Blank c.requires.some
+      (known-at false c.args.rest.bytes.now plain.Blank c.args.rest.some
       (sym c.in-Blank.is ∙ c.first_byte_class.ensures)).1;
 }
 
 pub nonempty_span_len-size-requires : goal.nonempty_span_len-size-requires
 nonempty_span_len-size-requires c = record {
-  first = (known-at false c.args.rest.now plain.Word c.requires.some
+  first = (known-at false c.args.rest.bytes.now plain.Word c.args.rest.some
       (sym c.in-Word.is ∙ c.first_byte_class.ensures)).1;
 }
-
-pub returns-in_ok-emit_plain-in-Word-clause-stays : goal.returns-in_ok-emit_plain-in-Word-clause-stays
-returns-in_ok-emit_plain-in-Word-clause-stays c = grind (arith, common_steps)

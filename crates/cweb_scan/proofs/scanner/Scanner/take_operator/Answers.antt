@@ -4,28 +4,30 @@ use Rattle.cweb_scan.proofs.Plains.{stays_plain}
 use Rattle.cweb_scan.proofs.scanner.Scanner.take_operator.Goals as goal
 
 pub split_at-requires : goal.split_at-requires
-split_at-requires c = omega (arith, c.punctuator_len-size.ensures, punctuator_fits c.args.rest.now c.requires.some)
+split_at-requires c =
+    omega (arith, c.punctuator_len-size.ensures, punctuator_fits c.args.rest.bytes.now c.args.rest.some)
 
 pub emit_plain-requires-clause-plain : goal.emit_plain-requires-clause-plain
 emit_plain-requires-clause-plain c =
     subst (λ (x : List ℕ). IsPlainToken (Punct x)) (sym c.split_at.ensures.front) (operator_token
-    c.punctuator_len-size.result c.args.rest.now c.punctuator_len-size.ensures c.requires.some c.requires.kept)
+    c.punctuator_len-size.result c.args.rest.bytes.now c.punctuator_len-size.ensures c.args.rest.some c.requires.kept)
 
-pub returns-clause-taken : goal.returns-clause-taken
-returns-clause-taken c =
-    let s = c.args.self.now in
-    let made = c.self.view_is ∙ c.in_ok-emit_plain.ensures.ok
-    ∙ ap (λ (x : List ℕ). emit (Punct x) s) c.split_at.ensures.front in
-    operator_turn c.punctuator_len-size.result c.args.rest.now s _ c.requires.line c.requires.some c.requires.in_c
-    c.requires.first c.punctuator_len-size.ensures (ap (λ (v : ScanState). record v { folded = false }) made)
-
-pub returns-clause-stays : goal.returns-clause-stays
-returns-clause-stays c =
-    let s = c.args.self.now in
-    let n = c.punctuator_len-size.result in
-    let u = c.args.rest.now in
-    let made = c.self.view_is ∙ c.in_ok-emit_plain.ensures.ok
-    ∙ ap (λ (x : List ℕ). emit (Punct x) s) c.split_at.ensures.front in
-    let p = subst IsPlainC (sym made) (stays_plain s (Punct (take n u)) c.requires.in_c
-    (operator_token n u c.punctuator_len-size.ensures c.requires.some c.requires.kept)) in
-    record { in_c = p.in_c; outside = p.outside }
+pub returns : goal.returns
+returns c = record {
+  taken =
+      let s = c.args.self.now in
+      let made = c.self.view_is ∙ c.in_ok-emit_plain.ensures.ok
+      ∙ ap (λ (x : List ℕ). emit (Punct x) s) c.split_at.ensures.front in
+      operator_turn c.punctuator_len-size.result c.args.rest.bytes.now s _ c.args.rest.line c.args.rest.some
+      c.requires.plain.in_c
+      c.requires.first c.punctuator_len-size.ensures (ap (λ (v : ScanState). record v { folded = false }) made);
+  stays =
+      let s = c.args.self.now in
+      let n = c.punctuator_len-size.result in
+      let u = c.args.rest.bytes.now in
+      let made = c.self.view_is ∙ c.in_ok-emit_plain.ensures.ok
+      ∙ ap (λ (x : List ℕ). emit (Punct x) s) c.split_at.ensures.front in
+      let p = subst IsPlainC (sym made) (stays_plain s (Punct (take n u)) c.requires.plain.in_c
+      (operator_token n u c.punctuator_len-size.ensures c.args.rest.some c.requires.kept)) in
+      record { in_c = p.in_c; outside = p.outside };
+}

@@ -3,8 +3,8 @@ use Rattle.cweb_scan.proofs.Blanks.{blank_passed}
 use Rattle.cweb_scan.proofs.PlainLexemes.{left_line, none_taken, piece_within, some_ended, some_goes_on, some_taken, TakesSome}
 use Rattle.cweb_scan.proofs.scanner.Scanner.take_plain.Goals as goal
 
-pub take_lexeme-requires-clause-line : goal.take_lexeme-requires-clause-line
-take_lexeme-requires-clause-line c =
+pub invariant_of-take_lexeme-clause-line : goal.invariant_of-take_lexeme-clause-line
+invariant_of-take_lexeme-clause-line c =
     let text = c.args.rest.now in
     let old = c.args.self.now in
     left_line text c.past_blank-piece.result.now old c.pieces.self c.requires.line
@@ -16,7 +16,8 @@ split_at-requires c =
     let n = c.in-Some.size in
     let u = c.past_blank-piece.result.now in
     piece_within n u c.pieces.self c.take_lexeme.new.self
-    (some_taken n c.in_ok-size.field-0 u c.pieces.self c.take_lexeme.new.self c.in-Some.is c.in_ok-size.ensures.taken)
+    (some_taken n c.in_ok-size.field-0 u c.pieces.self c.take_lexeme.new.self c.in-Some.is
+    c.in_ok-size.ensures.taken.taken)
 
 pub pieces-preserved : goal.pieces-preserved
 pieces-preserved c =
@@ -29,8 +30,8 @@ pieces-preserved c =
     (blank_passed text c.pieces.left.now old c.pieces.self c.requires.line c.pieces.invariant.1
     c.pieces.invariant.0) in (
       some_goes_on n text u c.split_at.result.1.now old c.pieces.self new c.split_at.ensures.back before
-          (some_taken n c.in_ok-size.field-0 u c.pieces.self new c.in-Some.is c.in_ok-size.ensures.taken),
-      c.in_ok-size.ensures.stays,
+          (some_taken n c.in_ok-size.field-0 u c.pieces.self new c.in-Some.is c.in_ok-size.ensures.taken.taken),
+      c.in_ok-size.ensures.taken.stays,
     )
 
 pub returns-in-None : goal.returns-in-None
@@ -42,7 +43,7 @@ returns-in-None c =
     let before = subst (λ t. TakesSome text t old c.pieces.self) (sym c.past_blank-piece.ensures)
     (blank_passed text c.pieces.left.now old c.pieces.self c.requires.line c.pieces.invariant.1 c.pieces.invariant.0) in
     some_ended text u old c.pieces.self new before
-    (none_taken c.in_ok-size.field-0 u c.pieces.self new c.in-None.is c.in_ok-size.ensures.taken)
+    (none_taken c.in_ok-size.field-0 u c.pieces.self new c.in-None.is c.in_ok-size.ensures.taken.taken)
 
 pub returns-then-is_empty : goal.returns-then-is_empty
 returns-then-is_empty c =

@@ -1,6 +1,6 @@
 use Rattle.cweb_store.proofs.Common.{◌≡◌, ◌<◌, ℕ, List, [], ◌∷◌, ap, arith, filter, length, refl, rules, common_steps, InternsToken, StringIsWithin, token_of_interned, InternedToken, has_string, string_at, get-string}
 use Rattle.cweb_store.specs.inner.Records.{place_at}
-use Rattle.cweb_store.specs.declared.tokens.interned.InternedToken.TheVariants.{Number, Literal, Verbatim}
+use Rattle.cweb_store.specs.declared.tokens.interned.InternedToken.TheVariants.{Literal, Verbatim}
 use Rattle.cweb_texts.specs.inner.StringTables.{StringTableModel, AddsString, InternsWord}
 use Rattle.cweb_texts.specs.surface.StringTables.{with_word}
 use Rattle.cweb_store.specs.surface.TokenStrings.{other_bytes, with_word_of}
@@ -25,7 +25,7 @@ kept-packs {new} {string} {number} token item keeps within stored no_word bytes 
   few = omega (arith, keeps.few, one);
 }
 
--- The record of a Word or punctuator.
+-- The record of an interned string.
 word-packs : {old new : StringTableModel} {word : List ℕ} {number : ℕ} (token : spec.Token) (item : InternedToken)
     → InternsWord old word number new → (number < length new.strings → StringIsWithin (length new.strings) item)
     → (string_at new.strings number ≡ word → token_of_interned new.strings item ≡ token)
@@ -52,11 +52,10 @@ returns-in_ok-intern_punctuator-in-Punct-clause-packs c =
     (interned_token.Punct c.in_ok-intern_punctuator-in-Punct.field-0)
     c.in_ok-intern_punctuator-in-Punct.ensures.ok (λ w. w) (ap spec.Punct) refl refl refl)
 
-pub returns-in_ok-add_string-in-Number-clause-packs : goal.returns-in_ok-add_string-in-Number-clause-packs
-returns-in_ok-add_string-in-Number-clause-packs c =
-    rw c.in-Number.is (kept-packs (spec.Number c.in-Number.string.now) (Number
-    c.in_ok-add_string-in-Number.field-0) c.in_ok-add_string-in-Number.ensures.ok (λ w. w) (ap spec.Number) refl
-    (omega arith) refl)
+pub returns-in_ok-intern_word-in-Number-clause-packs : goal.returns-in_ok-intern_word-in-Number-clause-packs
+returns-in_ok-intern_word-in-Number-clause-packs c =
+    rw c.in-Number.is (word-packs (spec.Number c.in-Number.string.now) (interned_token.Number
+    c.in_ok-intern_word-in-Number.field-0) c.in_ok-intern_word-in-Number.ensures.ok (λ w. w) (ap spec.Number) refl refl refl)
 
 pub returns-in_ok-add_string-in-Literal-clause-packs : goal.returns-in_ok-add_string-in-Literal-clause-packs
 returns-in_ok-add_string-in-Literal-clause-packs c =

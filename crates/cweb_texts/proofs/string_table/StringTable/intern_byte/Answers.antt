@@ -4,29 +4,29 @@ use Rattle.cweb_texts.proofs.string_table.StringTable.intern_byte.Goals as goal
 
 pub invariant_of-self : goal.invariant_of-self
 invariant_of-self c = byte_ids-stay-word c.intern_word.result c.self.inside.strings c.intern_word.new.self
-    c.self.inside.byte_ids.items c.args.sign.now c.intern_word.ensures.ok c.intern_word.ensures.err c.self.invariant
+    c.self.inside.byte_ids.items c.args.word.now c.intern_word.ensures.ok c.intern_word.ensures.err c.self.invariant
 
-pub invariant_of-self-then-sign-lt1 : goal.invariant_of-self-then-sign-lt1
-invariant_of-self-then-sign-lt1 c = byte_ids-stay-word c.intern_word.result c.self.inside.strings c.intern_word.new.self
-    c.self.inside.byte_ids.items c.args.sign.now c.intern_word.ensures.ok c.intern_word.ensures.err c.self.invariant
+pub invariant_of-self-then-word-lt1 : goal.invariant_of-self-then-word-lt1
+invariant_of-self-then-word-lt1 c = byte_ids-stay-word c.intern_word.result c.self.inside.strings c.intern_word.new.self
+    c.self.inside.byte_ids.items c.args.word.now c.intern_word.ensures.ok c.intern_word.ensures.err c.self.invariant
 
 pub invariant_of-self-in-len1 : goal.invariant_of-self-in-len1
 invariant_of-self-in-len1 c = byte_ids-stay-word c.intern_word.result c.self.inside.strings c.intern_word.new.self
-    c.self.inside.byte_ids.items c.args.sign.now c.intern_word.ensures.ok c.intern_word.ensures.err c.self.invariant
+    c.self.inside.byte_ids.items c.args.word.now c.intern_word.ensures.ok c.intern_word.ensures.err c.self.invariant
 
-pub invariant_of-self-else-sign-lt2 : goal.invariant_of-self-else-sign-lt2
-invariant_of-self-else-sign-lt2 c = byte_ids-stay-word c.intern_word.result c.self.inside.strings c.intern_word.new.self
-    c.self.inside.byte_ids.items c.args.sign.now c.intern_word.ensures.ok c.intern_word.ensures.err c.self.invariant
+pub invariant_of-self-else-word-lt2 : goal.invariant_of-self-else-word-lt2
+invariant_of-self-else-word-lt2 c = byte_ids-stay-word c.intern_word.result c.self.inside.strings c.intern_word.new.self
+    c.self.inside.byte_ids.items c.args.word.now c.intern_word.ensures.ok c.intern_word.ensures.err c.self.invariant
 
-pub invariant_of-self-then-sign-lt2 : goal.invariant_of-self-then-sign-lt2
-invariant_of-self-then-sign-lt2 c =
+pub invariant_of-self-then-word-lt2 : goal.invariant_of-self-then-word-lt2
+invariant_of-self-then-word-lt2 c =
     let s = c.self.inside.strings in
-    let sign = c.args.sign.now in
+    let word = c.args.word.now in
     let number = c.in_ok-number.field-0 in
-    let one = one-byte sign 0 (omega (arith, c.in-len1.len_at_least)) (omega (arith, c.in-len1.len_below)) in
-    let keeps : InternsWord s (slice_index_or sign 0 0 ∷ []) number c.intern_word.new.self =
+    let one = one-byte word 0 (omega (arith, c.in-len1.len_at_least)) (omega (arith, c.in-len1.len_below)) in
+    let keeps : InternsWord s (slice_index_or word 0 0 ∷ []) number c.intern_word.new.self =
     subst (λ string. InternsWord s string number c.intern_word.new.self) (sym one) c.in_ok-number.ensures.ok in
     let same : c.self-in-len1.inside.strings ≡ c.intern_word.new.self = c.self-in-len1.view_is ∙ c.begin.ensures in
     c.set_byte_id.ensures.byte_ids c.self-in-len1.inside.strings c.self-in-len1.invariant
-    (subst (λ kept. IsByteId kept (slice_index_or sign 0 0) number) (sym same)
-    (is-sign s c.intern_word.new.self (slice_index_or sign 0 0) number keeps))
+    (subst (λ kept. IsByteId kept (slice_index_or word 0 0) number) (sym same)
+    (is-sign s c.intern_word.new.self (slice_index_or word 0 0) number keeps))

@@ -1,5 +1,5 @@
 use Rattle.cweb_texts.proofs.Common.{arith}
-use Rattle.cweb_texts.proofs.InterningLemmas.{table-interned, table-keeps, map-interned, map-keeps}
+use Rattle.cweb_texts.proofs.InterningLemmas.{table-interned, table-keeps}
 use Rattle.cweb_texts.proofs.words.WordInterner.add_new_word.Goals as goal
 
 pub invariant_of-self-then-push : goal.invariant_of-self-then-push
@@ -24,28 +24,5 @@ returns-then-push-clause-ok c =
       c.if-push.ensures,
       c.in_ok-number.ensures,
       c.requires.key,
-      c.self.view_is,
-    )
-
-pub invariant_of-self-in_default : goal.invariant_of-self-in_default
-invariant_of-self-in_default c =
-    let s = c.self.inside in
-    grind (
-      arith,
-      map-interned s.strings s.table s.sorted.entries c.insert_word.new.sorted.entries c.args.word.now
-          c.in_ok-number.number c.self.invariant c.in_default.ensures.ok,
-      c.if-push.ensures,
-      c.in_ok-number.ensures,
-    )
-
-pub returns-clause-ok : goal.returns-clause-ok
-returns-clause-ok c =
-    let s = c.self.inside in
-    grind (
-      arith,
-      map-keeps s.strings s.table s.sorted.entries c.insert_word.new.sorted.entries c.args.word.now
-          c.in_ok-number.number c.self.invariant c.in_default.ensures.ok,
-      c.if-push.ensures,
-      c.in_ok-number.ensures,
       c.self.view_is,
     )

@@ -1,5 +1,5 @@
 use Rattle.cweb_texts.proofs.Common.{◌≡◌, Some, None, ℕ, Vec, sym, ◌∙◌, ap, lookup, is_eq, nat_cmp, slice_cmp, Global, has_word}
-use Rattle.cweb_texts.proofs.InterningLemmas.{found-known, mapped-known, not-interned}
+use Rattle.cweb_texts.proofs.InterningLemmas.{found-known, mapped-known, not-interned, sorted-interned, sorted-keeps}
 use Rattle.cweb_texts.proofs.words.WordInterner.intern_uncached.Goals as goal
 
 pub returns-in-Some-clause-ok : goal.returns-in-Some-clause-ok
@@ -7,6 +7,20 @@ returns-in-Some-clause-ok c =
     let s = c.self.inside in
     rw (← c.self.view_is)
     (found-known s.strings s.table s.sorted.entries c.args.word.now c.in-Some.number c.in-Some.ensures)
+
+pub invariant_of-self-then-is_full : goal.invariant_of-self-then-is_full
+invariant_of-self-then-is_full c =
+    let s = c.self.inside in
+    sorted-interned s.strings c.intern_sorted.new.strings s.table s.sorted.entries
+    c.intern_sorted.new.sorted.entries c.args.word.now c.in_ok-number.number c.self.invariant c.in_ok-number.ensures.ok
+
+pub returns-then-is_full-clause-ok : goal.returns-then-is_full-clause-ok
+returns-then-is_full-clause-ok c =
+    let s = c.self.inside in
+    rw (← c.self.view_is)
+    (sorted-keeps s.strings c.intern_sorted.new.strings s.table s.sorted.entries
+    c.intern_sorted.new.sorted.entries c.args.word.now c.in_ok-number.number c.self.invariant c.in_default.ensures
+    c.in_ok-number.ensures.ok)
 
 pub returns-in-Some-copied-clause-ok : goal.returns-in-Some-copied-clause-ok
 returns-in-Some-copied-clause-ok c =

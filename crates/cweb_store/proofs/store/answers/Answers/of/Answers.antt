@@ -1,4 +1,4 @@
-use Rattle.cweb_store.proofs.Common.{◌≡◌, refl, List, [], map, length, sym, ◌∙◌, ap, subst, PartRange, Name, Resolution, files_from, has_part, AreLinked, list_any, is_of}
+use Rattle.cweb_store.proofs.Common.{◌≡◌, refl, List, [], length, sym, ◌∙◌, ap, subst, PartRange, Resolution, files_from, has_part, AreLinked, list_any, is_of}
 use Rattle.cweb_store.proofs.BoundLemmas.{resolutions-within}
 use Rattle.cweb_store.proofs.NameSetLemmas.{any-part}
 use Rattle.cweb_store.proofs.store.answers.Answers.of.Goals as goal
@@ -18,9 +18,6 @@ returns-clause-linked c =
     subst (λ (xs : List PartRange). AreLinked c.in_ok-resolutions.resolutions.items xs links.skips.items links.heads)
     c.ranges-2.ensures.ranges (subst (λ (ss : List Resolution).
     AreLinked ss c.ranges-2.result.now links.skips.items links.heads) c.as_slice-2.ensures.value c.in_ok-links.ensures)
-
-pub returns-clause-firsts : goal.returns-clause-firsts
-returns-clause-firsts c = c.in_ok-firsts.ensures ∙ ap (map (λ (n : Name). n.first)) c.names-2.ensures.names
 
 pub new-requires-clause-known : goal.new-requires-clause-known
 new-requires-clause-known c = resolutions-within c.args.table.now c.as_slice-2.result.now c.len-names.result
