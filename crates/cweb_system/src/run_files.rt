@@ -1,12 +1,11 @@
 // The files that a run has read and written.
-ghost use Rattle.std.specs.Prelude.{◌≡◌, ◌≤◌, ◌<◌, ◌++◌, ◌∷◌, [], All, Contains, IsTrue, OnOk, false, true, filter, not};
+ghost use Rattle.std.specs.Prelude.{◌≡◌, ◌≤◌, ◌<◌, ◌++◌, ◌∷◌, [], Contains, IsTrue, OnOk, false, true, filter, not};
 ghost use Rattle.std.specs.Prelude.{string_bytes, vec_len, vec_capacity};
 ghost use Rattle.std.specs.Str.{bytes_eq};
 ghost use Rattle.std.proofs.Props.{props};
 ghost use Rattle.cweb_system.specs.FileSet.{keys_in};
 ghost use Rattle.cweb_system.specs.inner.Keys.{is_among};
-ghost use Rattle.cweb_system.specs.inner.Written.{HasFiles, HasNameAlone, IsNew, IsUnnamed};
-ghost use Rattle.cweb_system.specs.declared.written.WrittenFile.{WrittenFile};
+ghost use Rattle.cweb_system.specs.inner.Written.{AreAmong, HasFiles, HasNameAlone, IsNew, IsUnnamed};
 ghost use Rattle.cweb_system.specs.declared.node.FileKey.{FileKey};
 
 use crate::file_set::FileSet;
@@ -24,7 +23,7 @@ pub struct RunFiles {
     pub written: Vec<WrittenFile>,
     /// The files that were drafts of the run, those in `written` among them. A lookup here spares a walk along that list.
     pub created: FileSet,
-    ghost known: { All (λ (w : WrittenFile). IsTrue (is_among (keys_in created) w.key)) written.items } by { Prim.hlevel props },
+    ghost known: { AreAmong (keys_in created) written.items } by { Prim.hlevel props },
 }
 
 impl RunFiles {
@@ -43,7 +42,8 @@ impl RunFiles {
     /// Whether the file of this key was written, and is still there.
     pub fn has_written<F: FileSystem>(&self, fs: &F, key: FileKey) -> bool
         requires { HasFiles self.now.written.items (F.disk fs.now) }
-        ensures value { IsTrue (F.disk fs.now).tells → result ≡ false → IsNew key self.now.written.items }
+        ensures value { IsTrue (F.disk fs.now).tells → result ≡ false →
+            IsNew key self.now.written.items }
         ensures none { IsNew key self.now.written.items → result ≡ false }
     {
         self.created.contains(key) && is_written(fs, self.written.as_slice(), key)
