@@ -18,10 +18,14 @@ moved c =
     let top : HasTop (vec_len frames) frames.items c.in-Some.frame.now =
     record { count = frames.ok.0; some = c.in-Some.ensures.item.3.0; is = c.in-Some.ensures.value } in
     top_moved c.frames.invariant.valid c.frames.invariant.left
-    c.frames.invariant.work top c.in-Some-take.ensures.some c.in-Some-take.ensures.within c.take.ensures.owner
+    c.frames.invariant.work top c.in-Some-take.ensures.some c.take.ensures.keeps.within c.take.ensures.keeps.owner
 
-pub returns-in-Some-take-clause-valid : goal.returns-in-Some-take-clause-valid
-returns-in-Some-take-clause-valid c = rw c.frames.invariant.store (moved c).valid
+pub returns-in-Some-take-clause-keeps : goal.returns-in-Some-take-clause-keeps
+returns-in-Some-take-clause-keeps c = record {
+  store = c.frames.invariant.store;
+  plan = c.frames.invariant.plan;
+  valid = rw c.frames.invariant.store (moved c).valid;
+}
 
 pub returns-in-Some-take-clause-some : goal.returns-in-Some-take-clause-some
 returns-in-Some-take-clause-some c = (moved c).advances

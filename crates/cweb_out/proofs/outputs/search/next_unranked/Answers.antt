@@ -26,7 +26,7 @@ uses-preserved-else-not-is_ranked c =
     let ranked : is_marked marks c.in-Some-standing.name ≡ true = search rules in
     let used = ap option_to_list c.in-Some-standing.ensures.name in
     record {
-      within = c.take_use.ensures.within;
+      within = c.take_use.ensures.keeps.within;
       shorter = omega (arith, use-shorter new t c.in-Some.ensures.some, c.uses.invariant.shorter);
       passes = passes-more t at refl
           (ap (list_all (is_marked marks)) (sym used) ∙ ap (λ b. b && true) ranked);
@@ -43,7 +43,7 @@ uses-preserved c =
     let at = passes-on c.uses.invariant.passes c.in-Some.ensures.some in
     let used = ap option_to_list c.in_default-standing.ensures.name in
     record {
-      within = c.take_use.ensures.within;
+      within = c.take_use.ensures.keeps.within;
       shorter = omega (arith, use-shorter new t c.in-Some.ensures.some, c.uses.invariant.shorter);
       passes = passes-more t at refl (ap (list_all (is_marked marks)) (sym used));
     }
