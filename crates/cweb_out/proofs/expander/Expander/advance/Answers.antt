@@ -32,7 +32,6 @@ returns-in-Some-take-clause-some c = (moved c).advances
 
 pub frames-preserved : goal.frames-preserved
 frames-preserved c =
-    let w : Stored = c.args.self.now.store.now in
     let frames = c.frames.self.frames in
     let top : HasTop (vec_len frames) frames.items c.in-Some.frame.now =
     record { count = frames.ok.0; some = c.in-Some.ensures.item.3.0; is = c.in-Some.ensures.value } in

@@ -28,7 +28,6 @@ frames-smaller-then-append c = (gone c).work
 
 pub frames-preserved-then-append : goal.frames-preserved-then-append
 frames-preserved-then-append c =
-    let w : Stored = c.args.self.now.store.now in
     record {
       valid =
           rw c.pop.ensures.capacity (gone c).valid;
@@ -72,14 +71,12 @@ used c =
 
 pub frames-smaller : goal.frames-smaller
 frames-smaller c =
-    let w : Stored = c.args.self.now.store.now in
     let less = (used c).work in
     let more = rw c.frames.invariant.store at c.enter.ensures.enters.work in
     omega (arith, less, more)
 
 pub frames-preserved : goal.frames-preserved
 frames-preserved c =
-    let w : Stored = c.args.self.now.store.now in
     let entered = rw c.frames.invariant.store at c.enter.ensures.enters.left in
     record {
       valid = rw (c.enter.ensures.keeps.store ∙ c.frames.invariant.store) at c.enter.ensures.keeps.valid;
@@ -95,7 +92,6 @@ abbrev passed : (c : In_default-take_name)
     → TopPassed c.args.self.now.store.now c.frames.self.frames.items (slice_set c.frames.self.frames.items (vec_len
     c.frames.self.frames - 1) c.take_name.new.self) c.append.ensures.prints.prints.done (vec_capacity c.frames.self.frames)
 passed c =
-    let w : Stored = c.args.self.now.store.now in
     let frames = c.frames.self.frames in
     let top : HasTop (vec_len frames) frames.items c.in-Some.frame.now =
     record { count = c.frames.self.frames.ok.0; some = c.in-Some.ensures.item.3.0; is = c.in-Some.ensures.value } in
@@ -107,7 +103,5 @@ returns-in_default-take_name-clause-valid c = rw c.frames.invariant.store (passe
 
 pub returns-in_default-take_name-clause-prints : goal.returns-in_default-take_name-clause-prints
 returns-in_default-take_name-clause-prints c =
-    let w : Stored = c.args.self.now.store.now in
-    let frames = c.frames.self.frames in
     prefix_more c.frames.invariant.setting c.frames.invariant.prints
     (prefix_of _ _ c.append.ensures.prints.prints (passed c).left)

@@ -5,7 +5,6 @@ use Rattle.cweb_out.proofs.outputs.search.Search.settle.Goals as goal
 
 pub go_on-requires-clause-name : goal.go_on-requires-clause-name
 go_on-requires-clause-name c =
-    let w : Stored = c.args.store.now in
     let top = c.in-Some.top in
     top-name top.name c.names.invariant.fits (rw c.in-Some.ensures.items (on-top c.pop.new.self.items top))
 

@@ -28,6 +28,5 @@ names-preserved c =
 
 pub returns-clause-settles : goal.returns-clause-settles
 returns-clause-settles c =
-    let w : Stored = c.args.store.now in
     looked-all c.names.invariant.idle.fits
     c.names.invariant.looked (rw c.as_slice.ensures.value at (c.in_default.ensures.none refl))

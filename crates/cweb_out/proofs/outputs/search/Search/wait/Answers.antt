@@ -4,7 +4,6 @@ use Rattle.cweb_out.proofs.outputs.search.Search.wait.Goals as goal
 
 pub returns : goal.returns
 returns c =
-    let w : Stored = c.args.store.now in
     let f : Waiting = record { name = c.args.name; text = c.of_root.result } in
     waited-fits f c.requires.fit c.requires.unseen c.requires.name refl
     c.of_root.ensures.within c.of_root.ensures.list refl c.in_ok-push.ensures.items
