@@ -1,4 +1,4 @@
-use Rattle.cweb_out.proofs.Common.{◌≡◌, ◌-◌, arith, ◌∙◌, vec_capacity, refl, vec_len, slice_set, take-set, Stored, token_model}
+use Rattle.cweb_out.proofs.Common.{◌≡◌, ◌-◌, arith, ◌∙◌, vec_capacity, refl, vec_len, slice_set, take-set, token_model}
 use Rattle.cweb_out.proofs.Tops.{HasTop, TopMoved, lower, valid_lower, top_ended, top_moved}
 use Rattle.cweb_out.proofs.expander.Expander.advance.Goals as goal
 

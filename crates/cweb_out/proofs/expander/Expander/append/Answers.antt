@@ -1,4 +1,4 @@
-use Rattle.cweb_out.proofs.Common.{◌≡◌, ◌∙◌, ◌++◌, ◌-◌, ap, arith, refl, sym, vec_capacity, List, vec_len, slice_set, take-set, Stored, Token, Name}
+use Rattle.cweb_out.proofs.Common.{◌≡◌, ◌∙◌, ◌++◌, ◌-◌, ap, arith, refl, sym, vec_capacity, List, vec_len, slice_set, take-set, Token, Name}
 use Rattle.cweb_out.proofs.PrintedPrefixes.{prefix_more, prefix_of}
 use Rattle.cweb_out.proofs.Leaving.{TopGone, TopUsed, top_gone, top_used}
 use Rattle.cweb_out.proofs.TopAfterDirect.{TopPassed, top_passed}

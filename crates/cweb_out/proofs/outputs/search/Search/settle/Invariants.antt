@@ -1,4 +1,4 @@
-use Rattle.cweb_out.proofs.Common.{◌≡◌, None, sum_by, PathBegins, Chain, MarksFitPath, marks_left}
+use Rattle.cweb_out.proofs.Common.{None, sum_by, PathBegins, Chain, MarksFitPath, marks_left}
 use Rattle.cweb_out.proofs.outputs.search.Search.settle.Given as goal
 
 abbrev pub invariant-names : goal.invariant-names

@@ -1,4 +1,4 @@
-use Rattle.cweb_out.proofs.Common.{refl, ◌∙◌, Stored, suffix, FindsUnranked}
+use Rattle.cweb_out.proofs.Common.{refl, Stored, suffix, FindsUnranked}
 use Rattle.cweb_out.proofs.ScannedUses.{looked-more, looked-on, looked-all}
 use Rattle.cweb_out.proofs.Searches.{program-endless}
 use Rattle.cweb_out.proofs.outputs.search.Search.settle_program.Goals as goal

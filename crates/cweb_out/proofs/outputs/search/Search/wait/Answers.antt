@@ -1,4 +1,4 @@
-use Rattle.cweb_out.proofs.Common.{refl, Stored, Waiting}
+use Rattle.cweb_out.proofs.Common.{refl, Waiting}
 use Rattle.cweb_out.proofs.Waits.{waited-fits}
 use Rattle.cweb_out.proofs.outputs.search.Search.wait.Goals as goal
 
