@@ -75,12 +75,8 @@ set_back key mode old new sets k p is = by_node (old.node p) refl
             cc
 
     by_node : (o : Option Node) → old.node p ≡ o → IsFile k o
-    by_node None e = same None e (λ f. f)
     by_node (Some (Node.File f m)) e = by_key f m e (key_eq f key) refl
-    by_node (Some Node.Link) e = same (Some Node.Link) e (λ f. f)
-    by_node (Some (Node.Unknown why)) e = same (Some (Node.Unknown why)) e (λ f. f)
-    by_node (Some (Node.Folder f)) e = same (Some (Node.Folder f)) e (λ g. g)
-    by_node (Some (Node.Device f)) e = same (Some (Node.Device f)) e (λ g. g)
+    by_node o e = same o e (λ f. f)
 
 -- The draft is still there after its permissions were set.
 pub draft_set : {H : Type 0} (key : H → FileKey) (ws : List WrittenFile) (draft : Draft H) (mode : ℕ) (old new : Tree)

@@ -1,15 +1,12 @@
 -- The steps of bins stay decent.
-use mathlib.Core.HLevel.{is_prop→PathP}
-use Rattle.std.proofs.Common.{◌≡◌, ◌∙◌, subst, sym, IsTrue, Option}
+use Rattle.std.proofs.Common.{◌∙◌, subst, sym, IsTrue}
 use Rattle.std.proofs.Math.Logic.{∥∥₁_map}
 use Rattle.cweb_system.specs.declared.bins.Folder.{Folder}
-use Rattle.cweb_system.specs.declared.drafts.path.Draft.{Draft}
 use Rattle.cweb_system.specs.declared.file_set.FileSet.{FileSet}
 use Rattle.cweb_system.specs.declared.file_system.FileSystem.{Ghosts as FileSystem}
 use Rattle.cweb_system.specs.FileSet.{keys_in}
 use Rattle.cweb_system.specs.Steps.{AreDecent, Disk}
 use Rattle.cweb_system.specs.inner.FolderCalls.{KeepsFolder}
-use Rattle.cweb_system.specs.inner.FolderSound.{IsSound, IsSound_prop}
 
 abbrev pub FolderSteps : {F H : Type 0} (system : FileSystem F H) → Folder F H system → Type 0
 FolderSteps system folder = IsTrue (system.disk folder.fs).tells
@@ -24,13 +21,3 @@ steps_kept system old new keeps steps = ∥∥₁_map steps (λ (s : FolderSteps
   where
     now : Disk
     now = system.disk new.fs
-
--- Bins that differ in an equal draft alone are equal.
-pub same_draft : {F H : Type 0} (system : FileSystem F H) (a : Folder F H system) (draft : Option (Draft H))
-    (s : IsSound system.key a.files draft (system.disk a.fs)) → draft ≡ a.draft
-    → record a { draft = draft; sound = s } ≡ a
-same_draft system a draft s is = λ i. record a {
-  draft = is i;
-  sound = is_prop→PathP (λ j. IsSound system.key a.files (is j) (system.disk a.fs))
-      (λ j. IsSound_prop system.key a.files (is j) (system.disk a.fs)) s a.sound i;
-}

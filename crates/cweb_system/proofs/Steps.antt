@@ -91,12 +91,8 @@ keeps_then {read} {a} {b} {c} first then = record {
 
 kept : (old new : Tree) (o : Option Node) → ((k : FileKey) → IsFile k o → new.bytes k ≡ old.bytes k)
     → bytes_of new o ≡ bytes_of old o
-kept old new None same = refl
 kept old new (Some (Node.File k m)) same = same k refl
-kept old new (Some Node.Link) same = refl
-kept old new (Some (Node.Unknown why)) same = refl
-kept old new (Some (Node.Folder k)) same = refl
-kept old new (Some (Node.Device k)) same = refl
+kept old new _ same = refl
 
 stays : (old new : Tree) (p : List ℕ) → new.node p ≡ old.node p
     → ((k : FileKey) → IsFile k (old.node p) → new.bytes k ≡ old.bytes k) → Stays old new p

@@ -16,12 +16,8 @@ use Rattle.cweb_system.proofs.Steps.{differs, same_at}
 
 -- A file that was found has the bytes of its key.
 pub bytes_is : (tree : Tree) (o : Option Node) (key : FileKey) → IsFile key o → bytes_of tree o ≡ tree.bytes key
-bytes_is tree None key is = absurd is
 bytes_is tree (Some (Node.File k m)) key is = ap tree.bytes is
-bytes_is tree (Some Node.Link) key is = absurd is
-bytes_is tree (Some (Node.Unknown why)) key is = absurd is
-bytes_is tree (Some (Node.Folder k)) key is = absurd is
-bytes_is tree (Some (Node.Device k)) key is = absurd is
+bytes_is tree _ key is = absurd is
 
 file_same : (old new : Tree) (w : WrittenFile) → IsFile w.key (at old (string_bytes w.name))
     → IsFile w.key (at new (string_bytes w.name)) → new.bytes w.key ≡ old.bytes w.key → file_in new w ≡ file_in old w

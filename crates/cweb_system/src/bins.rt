@@ -141,8 +141,9 @@ impl<F: FileSystem + Drop> Folder<F> {
             folder_beside F.FileSystem self.new ≡ without_draft (folder_beside F.FileSystem self.old) }
         ensures removed { IsTrue (F.disk self.old.fs).tells →
             IfSome self.old.draft (λ draft. IsCleared (string_bytes draft.path) (F.disk self.new.fs)) }
-        ensures idle { self.old.draft ≡ None → self.new ≡ self.old }
+        ensures idle { self.old.draft ≡ None → self.new.fs ≡ self.old.fs }
         ensures files { self.new.files ≡ self.old.files }
+        ensures refused { self.new.refused ≡ self.old.refused }
         ensures none { self.new.draft ≡ None }
     {
         if let Some(draft) = self.draft.take() {

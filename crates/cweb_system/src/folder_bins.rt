@@ -22,14 +22,14 @@ pub struct FolderBins<F: FileSystem + Drop> {
 impl<F: FileSystem + Drop> FolderBins<F> {
     ghost use Rattle.std.specs.Prelude.{◌≡◌, [], None};
     ghost use Rattle.cweb_system.specs.Bins.{bins_system, bins_beside, bins_bytes, bins_failed, bins_read};
-    ghost use Rattle.cweb_system.specs.inner.FolderCalls.{no_files};
 
     /// Bins that have committed no file. No output replaces a file in `read`.
     pub fn new(alloc: Global, fs: F, read: FileSet) -> Self
         requires { IsTrue (F.disk fs).tells → (F.disk fs).past ≡ [] }
         ensures system { bins_system result ≡ fs }
         ensures read { bins_read result ≡ keys_in read }
-        ensures beside { bins_beside F.FileSystem result ≡ no_files }
+        ensures beside { bins_beside F.FileSystem result
+            ≡ record { files = []; draft = None; refused = None } }
         ensures bytes { bins_bytes F.FileSystem result ≡ [] }
         ensures failed { bins_failed result ≡ 0 }
     {

@@ -1,11 +1,12 @@
 // The files that a run has read and written.
-ghost use Rattle.std.specs.Prelude.{◌≡◌, ◌≤◌, ◌<◌, ◌++◌, ◌∷◌, [], Contains, IsTrue, OnOk, false, true, filter, not};
+ghost use Rattle.std.specs.Prelude.{◌≡◌, ◌≤◌, ◌<◌, ◌++◌, ◌∷◌, [], All, Contains, IsTrue, OnOk, false, true, filter, not};
 ghost use Rattle.std.specs.Prelude.{string_bytes, vec_len, vec_capacity};
 ghost use Rattle.std.specs.Str.{bytes_eq};
 ghost use Rattle.std.proofs.Props.{props};
 ghost use Rattle.cweb_system.specs.FileSet.{keys_in};
 ghost use Rattle.cweb_system.specs.inner.Keys.{is_among};
-ghost use Rattle.cweb_system.specs.inner.Written.{AreAmong, HasFiles, HasNameAlone, IsNew, IsUnnamed};
+ghost use Rattle.cweb_system.specs.inner.Written.{HasFiles, HasNameAlone, IsNew, IsUnnamed};
+ghost use Rattle.cweb_system.specs.declared.written.WrittenFile.{WrittenFile};
 ghost use Rattle.cweb_system.specs.declared.node.FileKey.{FileKey};
 
 use crate::file_set::FileSet;
@@ -23,7 +24,8 @@ pub struct RunFiles {
     pub written: Vec<WrittenFile>,
     /// The files that were drafts of the run, those in `written` among them. A lookup here spares a walk along that list.
     pub created: FileSet,
-    ghost known: { AreAmong (keys_in created) written.items } by { Prim.hlevel props },
+    ghost known: { All (λ (w : WrittenFile). IsTrue (is_among (keys_in created) w.key))
+        written.items } by { Prim.hlevel props },
 }
 
 impl RunFiles {
@@ -100,23 +102,9 @@ impl RunFiles {
             ≡ filter (λ file. not (bytes_eq (string_bytes file.name) (string_bytes name)))
             self.old.written.items ++ record { name = name; key = key } ∷ [] }
     {
-        self.forget(name.as_str(), replaces);
-        self.written.push_reserved(WrittenFile { name, key });
-    }
-
-    /// Forgets the committed file of this name, if there is one.
-    fn forget(&mut self, name: &str, may_be_there: bool)
-        ensures read { self.new.read ≡ self.old.read }
-        ensures created { self.new.created ≡ self.old.created }
-        ensures written { (may_be_there ≡ false → IsUnnamed name.now self.old.written.items) →
-            self.new.written.items
-            ≡ filter (λ file. not (bytes_eq (string_bytes file.name) name.now)) self.old.written.items }
-        ensures capacity { vec_capacity self.new.written ≡ vec_capacity self.old.written }
-        ensures len { vec_len self.new.written ≤ vec_len self.old.written }
-    {
-        if !may_be_there {
-            return;
+        if replaces {
+            remove_named(&mut self.written, name.as_str());
         }
-        remove_named(&mut self.written, name);
+        self.written.push_reserved(WrittenFile { name, key });
     }
 }

@@ -28,7 +28,6 @@ pub struct FolderShelf<F: FileSystem + Drop> {
 
 impl<F: FileSystem + Drop> FolderShelf<F> {
     ghost use Rattle.cweb_system.specs.Bins.{bins_beside, bins_bytes, bins_failed, bins_read, bins_system};
-    ghost use Rattle.cweb_system.specs.inner.FolderCalls.{no_files};
     ghost use Rattle.cweb_system.specs.inner.ShelfState.{shelf_failures, shelf_read, shelf_system};
 
     /// A shelf that doesn't record what it opens.
@@ -63,7 +62,8 @@ impl<F: FileSystem + Drop> FolderShelf<F> {
     pub fn into_bins(self, alloc: Global) -> FolderBins<F>
         ensures system { bins_system result ≡ shelf_system self }
         ensures read { bins_read result ≡ unwrap_or (shelf_read self) [] }
-        ensures beside { bins_beside F.FileSystem result ≡ no_files }
+        ensures beside { bins_beside F.FileSystem result
+            ≡ record { files = []; draft = None; refused = None } }
         ensures bytes { bins_bytes F.FileSystem result ≡ [] }
         ensures failed { bins_failed result ≡ 0 }
     {

@@ -1,16 +1,11 @@
 -- What calls of bins over a file system promise.
-use Rattle.std.specs.Prelude.{◌≡◌, [], None, IsSome, IsTrue, OnOk, Result}
+use Rattle.std.specs.Prelude.{◌≡◌, IsSome, IsTrue, OnOk, Result}
 use Rattle.cweb_files.specs.Bins.{CountsFailure}
-use Rattle.cweb_files.specs.Files.{Beside}
 use Rattle.cweb_system.specs.declared.bins.Folder.{Folder}
 use Rattle.cweb_system.specs.declared.file_system.FileSystem.{Ghosts as FileSystem}
 use Rattle.cweb_system.specs.Bins.{folder_beside}
 use Rattle.cweb_system.specs.FileSet.{keys_in}
 use Rattle.cweb_system.specs.inner.Drafts.{KeepsDecent}
-
--- The state beside the bytes of bins that have begun no file.
-abbrev pub no_files : Beside
-no_files = record { files = []; draft = None; refused = None }
 
 -- The steps are decent, and no file was read.
 pub record KeepsFolder {F H : Type 0} (system : FileSystem F H) (old new : Folder F H system) : Type 0 where

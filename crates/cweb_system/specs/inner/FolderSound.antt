@@ -26,12 +26,8 @@ FileKey_set : IsSet FileKey
 FileKey_set = hlevel props
 
 IsFile_prop : (key : FileKey) (o : Option Node) → IsProp (IsFile key o)
-IsFile_prop key None = hlevel props
 IsFile_prop key (Some (Node.File file mode)) = FileKey_set file key
-IsFile_prop key (Some Node.Link) = hlevel props
-IsFile_prop key (Some (Node.Unknown why)) = hlevel props
-IsFile_prop key (Some (Node.Folder k)) = hlevel props
-IsFile_prop key (Some (Node.Device k)) = hlevel props
+IsFile_prop key _ = hlevel props
 
 IsDraftSound_prop : {H : Type 0} (key : H → FileKey) (files : RunFiles) (draft : Option (Draft H)) (disk : Disk)
     → IsProp (IsDraftSound key files draft disk)

@@ -4,7 +4,6 @@ use Rattle.cweb_system.specs.declared.node.FileKey.{FileKey}
 use Rattle.cweb_system.specs.declared.written.WrittenFile.{WrittenFile}
 use Rattle.cweb_system.specs.Steps.{Disk}
 use Rattle.cweb_system.specs.Tree.{Tree, at, IsFile}
-use Rattle.cweb_system.specs.inner.Keys.{is_among}
 
 -- Each file that was committed is there, under its name.
 abbrev pub FilesAreThere : Tree → List WrittenFile → Type 0
@@ -13,10 +12,6 @@ FilesAreThere tree written = All (λ (w : WrittenFile). IsFile w.key (at tree (s
 -- They are there in an observable file system.
 abbrev pub HasFiles : List WrittenFile → Disk → Type 0
 HasFiles written disk = IsTrue disk.tells → FilesAreThere disk.tree written
-
--- The keys of committed files are among these.
-abbrev pub AreAmong : List FileKey → List WrittenFile → Type 0
-AreAmong keys written = All (λ (w : WrittenFile). IsTrue (is_among keys w.key)) written
 
 -- No committed file has this key.
 abbrev pub IsNew : FileKey → List WrittenFile → Type 0

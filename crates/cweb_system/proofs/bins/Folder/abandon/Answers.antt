@@ -1,8 +1,6 @@
-use Rattle.std.proofs.Common.{◌∙◌, sym}
 use Rattle.std.specs.Prelude.{option_map}
 use Rattle.cweb_files.specs.Bins.{refusal}
 use Rattle.cweb_system.specs.Bins.{draft_name}
-use Rattle.cweb_system.proofs.Folders.{same_draft}
 use Rattle.cweb_system.proofs.Views.{files_left}
 use Rattle.cweb_system.proofs.bins.Folder.abandon.Goals as goal
 
@@ -15,7 +13,3 @@ returns-in-Some-clause-gone g c = λ tells.
       draft = option_map draft_name (c.take.ensures.after i);
       refused = option_map refusal c.args.self.now.refused;
     }
-
-pub returns-in_default-clause-idle : goal.returns-in_default-clause-idle
-returns-in_default-clause-idle g c = λ none.
-    same_draft g.F.FileSystem c.args.self.now c.take.new.self _ (c.take.ensures.after ∙ sym none)
