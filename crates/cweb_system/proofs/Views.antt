@@ -55,7 +55,7 @@ apart_other a b apart = by_test (bytes_eq a b) refl
     by_test false e = refl
 
 -- A filter that each element passes.
-filter_all : (p : WrittenFile → Bool) (ws : List WrittenFile) → All (λ (w : WrittenFile). p w ≡ true) ws → filter p ws ≡ ws
+filter_all : (p : WrittenFile → Bool) (ws : List WrittenFile) → All (λ w. p w ≡ true) ws → filter p ws ≡ ws
 filter_all p [] all = refl
 filter_all p (w ∷ ws) all =
     ap (λ (b : Bool). cond b (w ∷ filter p ws) (filter p ws)) (All-head (λ v. p v ≡ true) w ws all)

@@ -37,12 +37,12 @@ impl<F: FileSystem + Drop> Folder<F> {
         requires { self.old.failed + 1 < 2 ^ 64 }
         ensures keeps { KeepsFolder F.FileSystem self.old self.new }
         ensures failed { CountsDeviceFailure self.old.failed self.new.failed result }
-        ensures begun { IsTrue (F.disk self.old.fs).tells → OnOk result
-            (folder_beside F.FileSystem self.new ≡ with_draft name.now (folder_beside F.FileSystem self.old)) }
+        ensures begun { IsTrue (F.disk self.old.fs).tells → OnOk result (folder_beside F.FileSystem
+            self.new ≡ with_draft name.now (folder_beside F.FileSystem self.old)) }
         ensures empty { IsTrue (F.disk self.old.fs).tells → OnOk result
             (folder_bytes F.FileSystem self.new ≡ []) }
-        ensures err { IsTrue (F.disk self.old.fs).tells → IfErr result (λ fault.
-            folder_beside F.FileSystem self.new ≡ refused_with fault (folder_beside F.FileSystem self.old)) }
+        ensures err { IsTrue (F.disk self.old.fs).tells → IfErr result (λ fault. folder_beside
+            F.FileSystem self.new ≡ refused_with fault (folder_beside F.FileSystem self.old)) }
         ensures cause { self.old.draft ≡ None →
             IfCanBegin self.old.files name.now (F.disk self.old.fs) (IfErr result
             (λ fault. fault ≡ BinFault.Device → IsTrue (F.disk self.new.fs).failed)) }
@@ -71,8 +71,8 @@ impl<F: FileSystem + Drop> Folder<F> {
         ensures uses { UsesDraft F.FileSystem self.old self.new result }
         ensures within { IfOk result (λ n. n ≤ length piece.now) }
         ensures some { 0 < length piece.now → IfOk result (λ n. 0 < n) }
-        ensures bytes { IsTrue (F.disk self.old.fs).tells → IfOk result (λ n.
-            folder_bytes F.FileSystem self.new ≡ folder_bytes F.FileSystem self.old ++ take n piece.now) }
+        ensures bytes { IsTrue (F.disk self.old.fs).tells → IfOk result (λ n. folder_bytes
+            F.FileSystem self.new ≡ folder_bytes F.FileSystem self.old ++ take n piece.now) }
         ensures err { IsTrue (F.disk self.old.fs).tells → OnErr result
             (folder_bytes F.FileSystem self.new ≡ folder_bytes F.FileSystem self.old) }
         ensures beside { IsTrue (F.disk self.old.fs).tells →
@@ -101,15 +101,15 @@ impl<F: FileSystem + Drop> Folder<F> {
         ensures uses { UsesDraft F.FileSystem self.old self.new result }
         ensures device { IfErr result (λ fault. fault ≡ BinFault.Device) }
         ensures ok { IsTrue (F.disk self.old.fs).tells → OnOk result
-            (folder_beside F.FileSystem self.new
-            ≡ committed (folder_beside F.FileSystem self.old) (folder_bytes F.FileSystem self.old)) }
-        ensures mode { IsTrue (F.disk self.old.fs).tells → OnOk result
-            (IfSome self.old.draft (λ draft. KeepsMode (string_bytes draft.name)
-            (string_bytes draft.name) draft.key (F.disk self.old.fs).tree (F.disk self.new.fs).tree)) }
-        ensures removed { IsTrue (F.disk self.old.fs).tells →
-            IfSome self.old.draft (λ draft. IsCleared (string_bytes draft.path) (F.disk self.new.fs)) }
-        ensures err { IsTrue (F.disk self.old.fs).tells → OnErr result
-            (folder_beside F.FileSystem self.new ≡ without_draft (folder_beside F.FileSystem self.old)) }
+            (folder_beside F.FileSystem self.new ≡ committed (folder_beside F.FileSystem self.old)
+            (folder_bytes F.FileSystem self.old)) }
+        ensures mode { IsTrue (F.disk self.old.fs).tells → OnOk result (IfSome self.old.draft
+            (λ draft. KeepsMode (string_bytes draft.name) (string_bytes draft.name) draft.key
+            (F.disk self.old.fs).tree (F.disk self.new.fs).tree)) }
+        ensures removed { IsTrue (F.disk self.old.fs).tells → IfSome self.old.draft (λ draft.
+            IsCleared (string_bytes draft.path) (F.disk self.new.fs)) }
+        ensures err { IsTrue (F.disk self.old.fs).tells → OnErr result (folder_beside
+            F.FileSystem self.new ≡ without_draft (folder_beside F.FileSystem self.old)) }
         ensures cause { IfSome self.old.draft (λ draft. IfCanPlace self.old.files draft
             (F.disk self.old.fs) (OnErr result (IsTrue (F.disk self.new.fs).failed))) }
     {
@@ -137,10 +137,10 @@ impl<F: FileSystem + Drop> Folder<F> {
     pub fn abandon(&mut self)
         ensures keeps { KeepsFolder F.FileSystem self.old self.new }
         ensures failed { self.new.failed ≡ self.old.failed }
-        ensures gone { IsTrue (F.disk self.old.fs).tells →
-            folder_beside F.FileSystem self.new ≡ without_draft (folder_beside F.FileSystem self.old) }
-        ensures removed { IsTrue (F.disk self.old.fs).tells →
-            IfSome self.old.draft (λ draft. IsCleared (string_bytes draft.path) (F.disk self.new.fs)) }
+        ensures gone { IsTrue (F.disk self.old.fs).tells → folder_beside F.FileSystem self.new
+            ≡ without_draft (folder_beside F.FileSystem self.old) }
+        ensures removed { IsTrue (F.disk self.old.fs).tells → IfSome self.old.draft (λ draft.
+            IsCleared (string_bytes draft.path) (F.disk self.new.fs)) }
         ensures idle { self.old.draft ≡ None → self.new.fs ≡ self.old.fs }
         ensures files { self.new.files ≡ self.old.files }
         ensures refused { self.new.refused ≡ self.old.refused }

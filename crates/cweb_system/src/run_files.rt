@@ -97,8 +97,8 @@ impl RunFiles {
         requires room { vec_len self.old.written < vec_capacity self.old.written }
         requires known { IsTrue (is_among (keys_in self.old.created) key) }
         ensures read { self.new.read ≡ self.old.read }
-        ensures written { (replaces ≡ false → IsUnnamed (string_bytes name) self.old.written.items) →
-            self.new.written.items
+        ensures written { (replaces ≡ false →
+            IsUnnamed (string_bytes name) self.old.written.items) → self.new.written.items
             ≡ filter (λ file. not (bytes_eq (string_bytes file.name) (string_bytes name)))
             self.old.written.items ++ record { name = name; key = key } ∷ [] }
     {

@@ -23,7 +23,8 @@ pub struct FolderShelf<F: FileSystem + Drop> {
     /// In an observable file system no read fails.
     ghost whole: { IsTrue (F.disk fs).tells → failed ≡ 0 } by { Prim.hlevel props },
     /// Reading takes no step.
-    ghost unchanged: { IsTrue (F.disk fs).tells → length (F.disk fs).past ≡ 0 } by { Prim.hlevel props },
+    ghost unchanged: { IsTrue (F.disk fs).tells →
+        length (F.disk fs).past ≡ 0 } by { Prim.hlevel props },
 }
 
 impl<F: FileSystem + Drop> FolderShelf<F> {

@@ -47,8 +47,8 @@ pub fn put_in_place<F: FileSystem>(
 
 /// The permissions of the draft. It is an error if it isn't there.
 fn own_mode<F: FileSystem>(fs: &F, draft: &Draft<F::File>) -> Result<u32, FileFault>
-    ensures ok { IsTrue (F.disk fs.now).tells → IfOk result (λ mode.
-        at (F.disk fs.now).tree (string_bytes draft.now.path) ≡ Some (Node.File draft.now.key mode)) }
+    ensures ok { IsTrue (F.disk fs.now).tells → IfOk result (λ mode. at (F.disk fs.now).tree
+        (string_bytes draft.now.path) ≡ Some (Node.File draft.now.key mode)) }
     ensures never { IsTrue (F.disk fs.now).tells →
         IsFile draft.now.key (at (F.disk fs.now).tree (string_bytes draft.now.path)) → IsOk result }
 {
@@ -73,8 +73,8 @@ fn keep_mode<F: FileSystem>(
         DraftIsThere F.key files.now.written.items draft.now (F.disk fs.new).tree }
     ensures bytes { IsTrue (F.disk fs.old).tells →
         (F.disk fs.new).tree.bytes ≡ (F.disk fs.old).tree.bytes }
-    ensures mode { IsTrue (F.disk fs.old).tells →
-        at (F.disk fs.old).tree (string_bytes draft.now.path) ≡ Some (Node.File draft.now.key mode) →
+    ensures mode { IsTrue (F.disk fs.old).tells → at (F.disk fs.old).tree
+        (string_bytes draft.now.path) ≡ Some (Node.File draft.now.key mode) →
         OnOk result (KeepsMode (string_bytes draft.now.name)
         (string_bytes draft.now.path) draft.now.key (F.disk fs.old).tree (F.disk fs.new).tree) }
     ensures apart { IsTrue (F.disk fs.old).tells → OnOk result
@@ -106,17 +106,10 @@ pub fn discard<F: FileSystem>(fs: &mut F, draft: Draft<F::File>, files: &RunFile
     ensures gone { IsTrue (F.disk fs.old).tells →
         IsCleared (string_bytes draft.path) (F.disk fs.new) }
 {
-    let Draft {
-        name,
-        path,
-        key,
-        file: _held,
-        is_device,
-    } = draft;
-    if !is_device && is_at(fs, path.as_str(), key) {
+    if !draft.is_device && is_at(fs, draft.path.as_str(), draft.key) {
         let path = DraftPath {
-            name: name.as_str(),
-            text: path.as_str(),
+            name: draft.name.as_str(),
+            text: draft.path.as_str(),
         };
         let _ = remove_at(fs, path);
     }

@@ -53,8 +53,8 @@ pub fn rename_draft<F: FileSystem>(fs: &mut F, draft: &Draft<F::File>) -> Result
         IsFile draft.now.key (at (F.disk fs.old).tree (string_bytes draft.now.path)) }
     requires own { IsTrue (F.disk fs.old).tells →
         IsFile draft.now.key (at (F.disk fs.old).tree (string_bytes draft.now.name)) → ⊥ }
-    ensures decent { (read : List FileKey) →
-        (IsTrue (F.disk fs.old).tells → IsUnread read (string_bytes draft.now.name) (F.disk fs.old).tree) →
+    ensures decent { (read : List FileKey) → (IsTrue (F.disk fs.old).tells →
+        IsUnread read (string_bytes draft.now.name) (F.disk fs.old).tree) →
         KeepsDecent read (F.disk fs.old) (F.disk fs.new) }
     ensures changes { Changes
         (λ _. Renames (string_bytes draft.now.path) (string_bytes draft.now.name))
@@ -71,7 +71,7 @@ pub fn write_to<F: FileSystem>(
 ) -> Result<usize, FileFault>
     requires { IsTrue (F.disk fs.old).tells → IsDraftAlone (F.key file.old) (F.disk fs.old).tree }
     ensures decent { (read : List FileKey) → KeepsDecent read (F.disk fs.old) (F.disk fs.new) }
-    ensures wrote { Writes F.key piece.now file.old file.new (F.disk fs.old) (F.disk fs.new) result }
+    ensures does { Writes F.key piece.now file.old file.new (F.disk fs.old) (F.disk fs.new) result }
 {
     fs.write(file, piece)
 }

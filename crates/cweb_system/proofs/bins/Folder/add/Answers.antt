@@ -15,7 +15,7 @@ returns-in-Ok-clause-beside g c = λ tells.
     let ws = c.args.self.now.files.written.items in
     let old = (g.F.FileSystem.disk c.args.self.now.fs).tree in
     let new = (g.F.FileSystem.disk c.write_to-taken.new.fs).tree in
-    let wrote = c.in-Ok.ensures.wrote.changes in
+    let wrote = c.in-Ok.ensures.does.changes in
     let left = files_left ws old new (c.args.self.now.sound.files tells)
     (appending ws c.in-Some.draft.key (g.F.FileSystem.key c.in-Some.draft.file) (take c.in-Ok.n c.args.piece.now)
     old new sound.new sound.opened (wrote.place tells) (wrote.ok tells)) in

@@ -35,8 +35,8 @@ invariant_of-self-2 g c =
       sound = record {
         files = λ tells.
             let before : IsTrue old.tells = sym c.put_in_place.ensures.decent.tells ∙ tells in
-            stands_then ws c.put.new.self.written.items w (string_bytes w.name) old.tree new.tree (c.in-Ok.ensures.ok before)
-            refl (c.put.ensures.written (c.in-Ok.ensures.answers.first before));
+            stands_then ws c.put.new.self.written.items w (string_bytes w.name) old.tree new.tree
+            (c.in-Ok.ensures.ok before) refl (c.put.ensures.written (c.in-Ok.ensures.answers.first before));
         draft = subst (λ (o : Option (Draft g.row.F-File.Denot)). IsDraftSound g.F.FileSystem.key c.put.new.self o new)
             (sym c.take.ensures.after) tt;
       };

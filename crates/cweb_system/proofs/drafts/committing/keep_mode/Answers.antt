@@ -26,7 +26,7 @@ returns-in_ok-set_draft_mode-in-Some-File-clause-apart g c = λ tells.
     subst (IsFile k) (sym (rw c.as_str.ensures.value at (c.look.ensures tells)) ∙ c.in-Some-File.is
     ∙ ap Some c.in-Some-File.field-0-is)
     (subst (λ (f : List ℕ → List ℕ). IsFile k (old.node (f name))) (set.place tells)
-    (set_back (g.F.FileSystem.key c.args.draft.now.file) c.in-Some-File.kept old new (set.ok tells) k (new.place name) now)) in
+    (set_back (g.F.FileSystem.key c.args.draft.now.file) c.in-Some-File.kept old new (set.ok tells) k _ now)) in
     record {
       own = λ now. apart (same c.args.draft.now.key now);
       unread = λ k among now. c.may_replace.ensures.unread allowed

@@ -24,9 +24,11 @@ invariant_of-self c =
 
 pub returns-clause-written : goal.returns-clause-written
 returns-clause-written c = λ unnamed.
-    let kept : c.if-replaces.self.1.1.0.items ≡ filter (is_other (string_bytes c.args.name)) c.args.self.now.written.items
-    = elim c.if-replaces.branch [
+    let name = string_bytes c.args.name in
+    let now : WrittenFile = record { name = c.args.name; key = c.args.key } in
+    let kept : c.if-replaces.self.1.1.0.items ≡ filter (is_other name) c.args.self.now.written.items =
+    elim c.if-replaces.branch [
       | then-replaces w ↦ rw w.self-is (rw w.as_str.ensures.value at w.remove_named.ensures.others)
-      | else-replaces w ↦ rw w.self-is (none_removed (string_bytes c.args.name) _ (unnamed w.if-replaces.false))
+      | else-replaces w ↦ rw w.self-is (none_removed name _ (unnamed w.if-replaces.false))
     ] in
-    c.push_reserved.ensures.items ∙ ap (λ (l : List WrittenFile). l ++ record { name = c.args.name; key = c.args.key } ∷ []) kept
+    c.push_reserved.ensures.items ∙ ap (λ (l : List WrittenFile). l ++ now ∷ []) kept
