@@ -23,7 +23,7 @@ pub struct Folder<F: FileSystem + Drop> {
     /// Why the last draft was refused.
     pub refused: Option<BinFault>,
     pub failed: u64,
-    ghost sound: { IsSound F.key files draft (F.disk fs) } by { IsSound_prop F.key files draft (F.disk fs) },
+    ghost sound: { IsSound F.key files draft (F.disk fs) } by { IsSound_prop },
 }
 
 impl<F: FileSystem + Drop> Folder<F> {
@@ -122,14 +122,7 @@ impl<F: FileSystem + Drop> Folder<F> {
             self.failed += 1;
             return Err(BinFault::Device);
         };
-        let Draft {
-            name,
-            path: _,
-            key,
-            file: _,
-            is_device: _,
-        } = draft;
-        self.files.put(name, key, replaces);
+        self.files.put(draft.name, draft.key, replaces);
         Ok(())
     }
 

@@ -34,6 +34,6 @@ IsDraftSound_prop : {H : Type 0} (key : H → FileKey) (files : RunFiles) (draft
 IsDraftSound_prop key files None disk = hlevel props
 IsDraftSound_prop key files (Some draft) disk = hlevel (props, FileKey_set, IsFile_prop)
 
-pub IsSound_prop : {H : Type 0} (key : H → FileKey) (files : RunFiles) (draft : Option (Draft H)) (disk : Disk)
-    → IsProp (IsSound key files draft disk)
-IsSound_prop key files draft disk = hlevel (props, FileKey_set, IsFile_prop, IsDraftSound_prop)
+pub IsSound_prop : {H : Type 0} {key : H → FileKey} {run : RunFiles} {begun : Option (Draft H)} {disk : Disk}
+    → IsProp (IsSound key run begun disk)
+IsSound_prop = hlevel (props, FileKey_set, IsFile_prop, IsDraftSound_prop)

@@ -46,8 +46,9 @@ fn created_now<F: FileSystem>(
 ) -> Result<Option<(F::File, FileKey)>, FileFault>
     requires { HasFiles files.now.written.items (F.disk fs.old) }
     ensures leaves { Prepares path.entry.text.now files.now (F.disk fs.old) (F.disk fs.new) result }
-    ensures begun { IsTrue (F.disk fs.old).tells → IfOk result (λ tried. IfSome tried (λ made. Begins
-        path.entry.text.now (F.key made.0) made.1 files.now.written.items (F.disk fs.new).tree)) }
+    ensures begun { IsTrue (F.disk fs.old).tells → IfOk result (λ tried. IfSome tried
+        (λ made. Begins path.entry.text.now (F.key made.0) made.1 files.now.written.items
+        (F.disk fs.new).tree)) }
     ensures gone { IsTrue (F.disk fs.old).tells → IfOk result (λ tried. tried ≡ None →
         IsCleared path.entry.text.now (F.disk fs.new)) }
     ensures free { IsTrue (F.disk fs.old).tells →
