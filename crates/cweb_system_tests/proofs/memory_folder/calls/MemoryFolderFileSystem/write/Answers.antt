@@ -13,13 +13,13 @@ returns c = record {
   changes = record {
     tells = refl;
     ok = λ tells.
+        let folder = c.args.self.now in
+        let key = c.args.file.now.key in
         let byte = get_or c.args.piece.now 0 0 in
-        subst (λ (t : Tree). Appends (handle_key c.args.file.now) (take 1 c.args.piece.now) (memory_tree c.args.self.now) t)
-        (sym c.in_ok-make.ensures.ok)
-        (subst (λ (l : List ℕ). Appends (handle_key c.args.file.now) l (memory_tree c.args.self.now)
-        (tree_of c.args.self.now.layout (c.args.self.now.log.items ++ Append c.args.file.now.key byte ∷ [])))
-        (sym (first_byte c.args.piece.now some))
-        (appends c.args.self.now.layout c.args.self.now.log.items c.args.file.now.key byte));
+        subst (λ (t : Tree). Appends key (take 1 c.args.piece.now) (memory_tree folder) t) (sym c.in_ok-make.ensures.ok)
+        (subst (λ (l : List ℕ). Appends key l (memory_tree folder) (tree_of folder.layout (folder.log.items
+        ++ Append key byte ∷ []))) (sym (first_byte c.args.piece.now some))
+        (appends folder.layout folder.log.items key byte));
     err = λ tells. tt;
     place = λ tells. ap place_in c.in_ok-make.ensures.layout;
     step = λ tells. c.in_ok-make.ensures.step;
