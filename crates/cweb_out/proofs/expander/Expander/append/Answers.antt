@@ -13,7 +13,8 @@ append-requires c =
     (valid_lower c.frames.invariant.valid top).1.within
 
 abbrev gone : (c : After-pop) → TopGone c.args.self.now.store.now
-    c.frames.self.frames.items c.pop.new.self.items c.append.ensures.prints.prints.done (vec_capacity c.frames.self.frames)
+    c.frames.self.frames.items c.pop.new.self.items c.append.ensures.prints.prints.done
+    (vec_capacity c.frames.self.frames)
 gone c =
     let frames = c.frames.self.frames in
     let top : HasTop (vec_len frames) frames.items c.in-Some.frame.now =
@@ -45,9 +46,9 @@ taken c =
     let frames = c.frames.self.frames in
     let top : HasTop (vec_len frames) frames.items c.in-Some.frame.now =
     record { count = c.frames.self.frames.ok.0; some = c.in-Some.ensures.item.3.0; is = c.in-Some.ensures.value } in
-    top_used
-    c.frames.invariant.valid top c.append.ensures.prints.prints.whole c.append.ensures.prints.prints.direct c.append.ensures.prints.within
-    c.append.ensures.prints.owner c.in-Some-take_name.ensures.some c.take_name.ensures.keeps.within c.take_name.ensures.keeps.owner
+    let printed = c.append.ensures.prints in
+    top_used c.frames.invariant.valid top printed.prints.whole printed.prints.direct printed.within printed.owner
+    c.in-Some-take_name.ensures.some c.take_name.ensures.keeps.within c.take_name.ensures.keeps.owner
 
 pub enter-requires-clause-valid : goal.enter-requires-clause-valid
 enter-requires-clause-valid c = rw c.frames.invariant.store (taken c).valid
@@ -65,9 +66,9 @@ used c =
     let frames = c.frames.self.frames in
     let top : HasTop (vec_len frames) frames.items c.in-Some.frame.now =
     record { count = c.frames.self.frames.ok.0; some = c.in-Some.ensures.item.3.0; is = c.in-Some.ensures.value } in
-    top_used
-    c.frames.invariant.valid top c.append.ensures.prints.prints.whole c.append.ensures.prints.prints.direct c.append.ensures.prints.within
-    c.append.ensures.prints.owner c.in-Some-take_name.ensures.some c.take_name.ensures.keeps.within c.take_name.ensures.keeps.owner
+    let printed = c.append.ensures.prints in
+    top_used c.frames.invariant.valid top printed.prints.whole printed.prints.direct printed.within printed.owner
+    c.in-Some-take_name.ensures.some c.take_name.ensures.keeps.within c.take_name.ensures.keeps.owner
 
 pub frames-smaller : goal.frames-smaller
 frames-smaller c =
@@ -83,20 +84,23 @@ frames-preserved c =
       store = c.enter.ensures.keeps.store ∙ c.frames.invariant.store;
       plan = c.enter.ensures.keeps.plan ∙ c.frames.invariant.plan;
       setting = c.append.ensures.prints.setting ∙ c.frames.invariant.setting;
-      prints = prefix_more c.frames.invariant.setting c.frames.invariant.prints (prefix_of _ _ c.append.ensures.prints.prints
-          ((used c).left ∙ ap (λ (ts : List Token). c.append.ensures.prints.prints.done ++ ts) (sym entered)));
+      prints = prefix_more c.frames.invariant.setting c.frames.invariant.prints
+          (prefix_of _ _ c.append.ensures.prints.prints ((used c).left
+          ∙ ap (λ (ts : List Token). c.append.ensures.prints.prints.done ++ ts) (sym entered)));
     }
 
 -- No use comes next.
 abbrev passed : (c : In_default-take_name)
     → TopPassed c.args.self.now.store.now c.frames.self.frames.items (slice_set c.frames.self.frames.items (vec_len
-    c.frames.self.frames - 1) c.take_name.new.self) c.append.ensures.prints.prints.done (vec_capacity c.frames.self.frames)
+    c.frames.self.frames - 1) c.take_name.new.self) c.append.ensures.prints.prints.done
+    (vec_capacity c.frames.self.frames)
 passed c =
     let frames = c.frames.self.frames in
     let top : HasTop (vec_len frames) frames.items c.in-Some.frame.now =
     record { count = c.frames.self.frames.ok.0; some = c.in-Some.ensures.item.3.0; is = c.in-Some.ensures.value } in
-    rw (c.in_default-take_name.ensures.none refl) (top_passed c.frames.invariant.valid
-    top c.append.ensures.prints.prints.whole c.append.ensures.prints.prints.direct c.append.ensures.prints.within c.append.ensures.prints.owner)
+    rw (c.in_default-take_name.ensures.none refl) (top_passed c.frames.invariant.valid top
+    c.append.ensures.prints.prints.whole c.append.ensures.prints.prints.direct c.append.ensures.prints.within
+    c.append.ensures.prints.owner)
 
 pub returns-in_default-take_name-clause-valid : goal.returns-in_default-take_name-clause-valid
 returns-in_default-take_name-clause-valid c = rw c.frames.invariant.store (passed c).valid

@@ -12,8 +12,8 @@ all c =
     ap (tokens_of_parts w) (sym h) ∙ c.parts-rest.ensures.text in
     let within : All (PartIsWithin (length (all_tokens w.parts))) (c.in-Some-next.part ∷ c.next.new.self) =
     subst (All (PartIsWithin (length (all_tokens w.parts)))) h c.parts-rest.ensures.within in
-    entered c.in-Some.id c.in-Some-next.part c.next.new.self
-    c.requires.valid c.push_reserved.ensures.capacity c.requires.below c.requires.lower e text within c.push_reserved.ensures.items
+    entered c.in-Some.id c.in-Some-next.part c.next.new.self c.requires.valid c.push_reserved.ensures.capacity
+    c.requires.below c.requires.lower e text within c.push_reserved.ensures.items
 
 pub returns-clause-keeps : goal.returns-clause-keeps
 returns-clause-keeps c = record { store = refl; plan = refl; valid = (all c).valid }
