@@ -1,10 +1,12 @@
 -- Prefixes of the remaining tokens that were printed in order.
-use Rattle.cweb_out.proofs.Common.{◌≡◌, ◌++◌, ◌∙◌, [], refl, sym, ap, subst, append_assoc, ℕ, List, ◌&&◌, list_all, Token, Setting, print, AreDirect, is_direct, setting_of, PrintsPrefix}
+use Rattle.cweb_out.proofs.Common.{◌≡◌, ◌++◌, ◌∙◌, [], refl, sym, ap, subst, append_assoc, ℕ, List, ◌&&◌, list_all, Stored, Token, Setting, print, AreDirect, is_direct, setting_of, PrintsPrefix}
 use Rattle.std.proofs.lemmas.List.Folds.{list_all-append}
 use Rattle.cweb_print.specs.surface.Classes.{left_after_tokens}
 use Rattle.cweb_print.specs.declared.printer.Printer.{Printer}
 use Rattle.cweb_print.specs.surface.Printed.{AddsBytes}
 use Rattle.cweb_print.proofs.DirectPrefixes.{passed_none}
+use Rattle.cweb_out.specs.inner.Frames.{PrintsFrame}
+use Rattle.cweb_out.specs.declared.frame.Frame.{Frame}
 
 pub prefix_none : {p : Printer} {ts : List Token} {old : List ℕ} → PrintsPrefix p p ts ts old old
 prefix_none {p} {old} =
@@ -47,3 +49,12 @@ prefix_to {p} {q} {a} {old} {new} same f = rw (← same) f
 pub prefix_of : {p q : Printer} (a b : List Token) {c d : List Token} {old new : List ℕ}
     (f : PrintsPrefix p q a b old new) → c ≡ f.done ++ d → PrintsPrefix p q c d old new
 prefix_of a b f whole = record { done = f.done; whole = whole; direct = f.direct; moves = f.moves; prints = f.prints }
+
+pub frame_more : {w : Stored} {a b c : Frame} {p q r : Printer} {x y z : List ℕ} → PrintsFrame w a b p q x y
+    → PrintsFrame w b c q r y z → PrintsFrame w a c p r x z
+frame_more first then = record {
+  owner = then.owner ∙ first.owner;
+  within = then.within;
+  setting = then.setting ∙ first.setting;
+  prints = prefix_more first.setting first.prints then.prints;
+}

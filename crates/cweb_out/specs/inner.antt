@@ -5,4 +5,5 @@ pub mod Plans
 pub mod Search
 pub mod Planning
 pub mod FrameStacks
+pub mod Frames
 pub mod TokensFor

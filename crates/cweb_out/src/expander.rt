@@ -6,8 +6,8 @@ ghost use Rattle.cweb_store.specs.Parts.{Name};
 ghost use Rattle.cweb_out.specs.Expansion.{names, use_of, expand};
 ghost use Rattle.cweb_out.specs.surface.Outputs.{IsPlanOf, root_at};
 ghost use Rattle.cweb_out.specs.Outputs.{root_list};
-ghost use Rattle.cweb_out.specs.inner.FrameStacks.{Advances, Enters, UsesLower, level};
-ghost use Rattle.cweb_out.specs.surface.FrameStacks.{RanksAreBelow, YieldsNext, IsFrameStack, left};
+ghost use Rattle.cweb_out.specs.inner.FrameStacks.{Advances, Enters, KeepsExpander, UsesLower, level};
+ghost use Rattle.cweb_out.specs.surface.FrameStacks.{RanksAreBelow, YieldsNext, IsFrameStack, IsReady, left};
 
 pub mod appending;
 
@@ -57,10 +57,8 @@ impl<'a> Expander<'a> {
     pub fn restart(&mut self, root: u32)
         requires root { root < length self.old.plan.now.outputs }
         requires made { IsPlanOf self.old.store.now self.old.plan.now }
-        requires valid { IsFrameStack self.old.store.now
-            self.old.frames.items (vec_capacity self.old.frames) }
-        ensures valid { IsFrameStack self.new.store.now
-            self.new.frames.items (vec_capacity self.new.frames) }
+        requires valid { IsReady self.old }
+        ensures valid { IsReady self.new }
         ensures store { self.new.store ≡ self.old.store }
         ensures plan { self.new.plan ≡ self.old.plan }
         ensures left { left self.old.store.now self.new.frames.items
@@ -69,13 +67,12 @@ impl<'a> Expander<'a> {
     {
         self.frames.clear();
         let frame = Frame::of_root(self.store, self.plan.root(root));
-        self.put(frame);
+        self.frames.push_reserved(frame);
     }
 
     /// The number of frames: at most the number of names plus one.
     pub fn depth(&self) -> u32
-        requires { IsFrameStack self.now.store.now self.now.frames.items
-            (vec_capacity self.now.frames) }
+        requires { IsReady self.now }
         ensures count { result ≡ length self.now.frames.items }
         ensures bound { result ≤ names self.now.store.now + 1 }
     {
@@ -86,10 +83,8 @@ impl<'a> Expander<'a> {
     /// The next token, which is never a use of a name. After the first `None` it stays `None`. Allocates nothing.
     #[inline(always)]
     pub fn next(&mut self) -> Option<Token<'a>>
-        requires { IsFrameStack self.old.store.now self.old.frames.items
-            (vec_capacity self.old.frames) }
-        ensures valid { IsFrameStack self.new.store.now
-            self.new.frames.items (vec_capacity self.new.frames) }
+        requires { IsReady self.old }
+        ensures valid { IsReady self.new }
         ensures store { self.new.store ≡ self.old.store }
         ensures plan { self.new.plan ≡ self.old.plan }
         ensures yields { YieldsNext (left self.old.store.now self.old.frames.items)
@@ -106,12 +101,8 @@ impl<'a> Expander<'a> {
 
     // Takes the next unexpanded token, and pops the frames that have ended.
     fn advance(&mut self) -> Option<Token<'a>>
-        requires { IsFrameStack self.old.store.now self.old.frames.items
-            (vec_capacity self.old.frames) }
-        ensures valid { IsFrameStack self.new.store.now
-            self.new.frames.items (vec_capacity self.new.frames) }
-        ensures store { self.new.store ≡ self.old.store }
-        ensures plan { self.new.plan ≡ self.old.plan }
+        requires { IsReady self.old }
+        ensures keeps { KeepsExpander self.old self.new }
         ensures some { IfSome result (λ t.
             Advances self.old.store.now self.old.frames.items self.new.frames.items (token_model t)) }
         ensures none { result ≡ None
@@ -129,17 +120,13 @@ impl<'a> Expander<'a> {
 
     // Pushes the frame of a name, if the occurrence resolves to one that has a part.
     fn enter(&mut self, name: NameRef)
-        requires valid { IsFrameStack self.old.store.now
-            self.old.frames.items (vec_capacity self.old.frames) }
+        requires valid { IsReady self.old }
         requires some { 0 < length self.old.frames.items }
         requires below { RanksAreBelow self.old.store.now
             (level self.old.store.now self.old.frames.items)
             (use_of self.old.store.now (Name name)) }
         requires lower { UsesLower self.old.store.now self.old.frames.items (Name name) }
-        ensures valid { IsFrameStack self.new.store.now
-            self.new.frames.items (vec_capacity self.new.frames) }
-        ensures store { self.new.store ≡ self.old.store }
-        ensures plan { self.new.plan ≡ self.old.plan }
+        ensures keeps { KeepsExpander self.old self.new }
         ensures enters { Enters self.old.store.now
             self.old.frames.items self.new.frames.items name }
     {
@@ -151,22 +138,11 @@ impl<'a> Expander<'a> {
         let Some(part) = rest.next() else {
             return;
         };
-        self.put(Frame {
+        self.frames.push_reserved(Frame {
             owner: Some(id),
             defs: false,
             part,
             rest,
         });
-    }
-
-    // Pushes a frame. There is room for it.
-    fn put(&mut self, frame: Frame<'a>)
-        requires { length self.old.frames.items < vec_capacity self.old.frames }
-        ensures frames { self.new.frames.items ≡ self.old.frames.items ++ frame.entry ∷ [] }
-        ensures room { vec_capacity self.new.frames ≡ vec_capacity self.old.frames }
-        ensures store { self.new.store ≡ self.old.store }
-        ensures plan { self.new.plan ≡ self.old.plan }
-    {
-        self.frames.push_reserved(frame);
     }
 }

@@ -5,6 +5,7 @@ ghost use Rattle.cweb_store.specs.inner.Next.{is_name_use};
 ghost use Rattle.cweb_store.specs.Parts.{Name, all_tokens};
 ghost use Rattle.cweb_store.specs.surface.TokenModels.{token_model};
 ghost use Rattle.cweb_out.specs.surface.FrameSuffixes.{PartIsWithin, FrameIsWithin, suffix};
+ghost use Rattle.cweb_out.specs.inner.Frames.{KeepsFrame};
 ghost use Rattle.cweb_print.specs.surface.TokenRanges.{tokens_of_part};
 ghost use Rattle.cweb_out.specs.Outputs.{root_list};
 ghost use Rattle.cweb_out.specs.inner.Uses.{PassesNoUse};
@@ -50,8 +51,7 @@ impl<'a> Frame<'a> {
     /// Takes the next unexpanded token. After the first `None` it stays `None`.
     pub fn take(&mut self, store: &'a Store) -> Option<Token<'a>>
         requires { FrameIsWithin store.now self.old }
-        ensures owner { self.new.owner ≡ self.old.owner }
-        ensures within { FrameIsWithin store.now self.new }
+        ensures keeps { KeepsFrame store.now self.old self.new }
         ensures some { IfSome result
             (λ t. suffix store.now self.old ≡ token_model t ∷ suffix store.now self.new) }
         ensures none { result ≡ None → suffix store.now self.old ≡ [] }
@@ -73,8 +73,7 @@ impl<'a> Frame<'a> {
     /// Takes the tokens up to and including the next use. If there is no use, the suffix that stays has none either.
     pub(crate) fn take_use(&mut self, store: &'a Store) -> Option<NameRef>
         requires { FrameIsWithin store.now self.old }
-        ensures owner { self.new.owner ≡ self.old.owner }
-        ensures within { FrameIsWithin store.now self.new }
+        ensures keeps { KeepsFrame store.now self.old self.new }
         ensures some { IfSome result (λ name.
             PassesNoUse (suffix store.now self.old) (Name name ∷ suffix store.now self.new)) }
         ensures none { result ≡ None → list_any is_name_use (suffix store.now self.old) ≡ false }

@@ -1,21 +1,23 @@
 -- What calls for drafts leave.
-use Rattle.std.proofs.Common.{◌≡◌, ◌∙◌, ⊎_elim, slice_index_or, ℕ, List, Bool, true, false, refl, sym, ap, subst, Option, Some, None, string_bytes}
+use Rattle.std.proofs.Common.{◌≡◌, ◌⊎◌, ◌∙◌, IsTrue, ⊎_elim, slice_index_or, ℕ, List, Bool, true, false, refl, sym, ap, subst, Option, Some, None, string_bytes}
 use Rattle.std.specs.Prelude.{All}
-use Rattle.cweb_system.specs.declared.drafts.Draft.{Draft}
+use Rattle.cweb_system.specs.declared.drafts.path.Draft.{Draft}
 use Rattle.cweb_system.specs.declared.node.FileKey.{FileKey}
 use Rattle.cweb_system.specs.declared.node.Node.{Node}
 use Rattle.cweb_system.specs.declared.run_files.RunFiles.{RunFiles}
 use Rattle.cweb_system.specs.declared.written.WrittenFile.{WrittenFile}
+use Rattle.cweb_system.specs.FileSet.{keys_in}
 use Rattle.cweb_system.specs.Steps.{Disk}
 use Rattle.cweb_system.specs.Tree.{Tree, IsFile, Removes, SetsMode, at}
 use Rattle.cweb_system.specs.inner.Drafts.{Clears, DraftIsThere, IsAlone, LeavesFiles}
 use Rattle.cweb_system.specs.inner.Written.{Leaves}
 use Rattle.cweb_system.specs.inner.Keys.{key_eq}
 use Rattle.cweb_system.proofs.Keys.{key_is, key_self}
-use Rattle.cweb_system.proofs.Steps.{keeps_then}
+use Rattle.cweb_system.proofs.Steps.{keeps_then, same_at}
 use Rattle.cweb_system.proofs.Views.{leaves_then}
 
-pub leaves_files_then : {files : RunFiles} {a b c : Disk} → LeavesFiles files a b → LeavesFiles files b c → LeavesFiles files a c
+pub leaves_files_then : {files : RunFiles} {a b c : Disk} → LeavesFiles files a b → LeavesFiles files b c
+    → LeavesFiles files a c
 leaves_files_then {files} {a} {b} {c} first then = record {
   decent = keeps_then first.decent then.decent;
   leaves = λ tells. leaves_then files.written.items a.tree b.tree c.tree (first.leaves tells)
@@ -23,13 +25,14 @@ leaves_files_then {files} {a} {b} {c} first then = record {
 }
 
 -- What is cleared is no committed file.
-pub cleared_leaves : (ws : List WrittenFile) (path : List ℕ) (old new : Tree) → Clears path old new
-    → All (λ (w : WrittenFile). IsFile w.key (at old path) → ⊥) ws → Leaves ws old new
-cleared_leaves ws path old new (places, clears) other = ⊎_elim
+cleared_leaves : (ws : List WrittenFile) (path : List ℕ) (old new : Tree) → new.place ≡ old.place
+    → Removes path old new ⊎ (new ≡ old) → All (λ (w : WrittenFile). IsFile w.key (at old path) → ⊥) ws
+    → Leaves ws old new
+cleared_leaves ws path old new places clears other = ⊎_elim
     (λ (gone : Removes path old new). record {
       place = places;
       entries = λ k d within is. stays gone (slice_index_or ws k d) (other k d within) is;
-      bytes = λ k d within. ap (λ (f : FileKey → List ℕ). f (slice_index_or ws k d).key) gone.bytes;
+      bytes = λ k d within. same_at gone.bytes (slice_index_or ws k d).key;
     })
     (λ (same : new ≡ old). subst (Leaves ws old) (sym same)
     (record { place = refl; entries = λ k d within is. is; bytes = λ k d within. refl }))
@@ -41,7 +44,17 @@ cleared_leaves ws path old new (places, clears) other = ⊎_elim
         (λ e. apart (subst (λ (p : List ℕ). IsFile w.key (old.node p)) (place ∙ e) is)) ∙ ap old.node (sym place))) is
       where
         place : old.place (string_bytes w.name) ≡ new.place (string_bytes w.name)
-        place = ap (λ (f : List ℕ → List ℕ). f (string_bytes w.name)) (sym places)
+        place = same_at (sym places) (string_bytes w.name)
+
+-- A draft's path is cleared of what is no committed file.
+pub clearing : (files : RunFiles) (path : List ℕ) (old new : Disk) → Clears path old new
+    → (IsTrue old.tells → All (λ (w : WrittenFile). IsFile w.key (at old.tree path) → ⊥) files.written.items)
+    → LeavesFiles files old new
+clearing files path old new clears other = record {
+  decent = clears.decent (keys_in files.read);
+  leaves = λ tells. cleared_leaves files.written.items path old.tree new.tree (clears.place tells)
+      (clears.removes tells) (other tells);
+}
 
 -- A file keeps its key where permissions are set.
 pub set_back : (key : FileKey) (mode : ℕ) (old new : Tree) → SetsMode key mode old new → (k : FileKey) (p : List ℕ)
@@ -62,12 +75,8 @@ set_back key mode old new sets k p is = by_node (old.node p) refl
             cc
 
     by_node : (o : Option Node) → old.node p ≡ o → IsFile k o
-    by_node None e = same None e (λ f. f)
     by_node (Some (Node.File f m)) e = by_key f m e (key_eq f key) refl
-    by_node (Some Node.Link) e = same (Some Node.Link) e (λ f. f)
-    by_node (Some (Node.Unknown why)) e = same (Some (Node.Unknown why)) e (λ f. f)
-    by_node (Some (Node.Folder f)) e = same (Some (Node.Folder f)) e (λ g. g)
-    by_node (Some (Node.Device f)) e = same (Some (Node.Device f)) e (λ g. g)
+    by_node o e = same o e (λ f. f)
 
 -- The draft is still there after its permissions were set.
 pub draft_set : {H : Type 0} (key : H → FileKey) (ws : List WrittenFile) (draft : Draft H) (mode : ℕ) (old new : Tree)
@@ -80,11 +89,11 @@ draft_set key ws draft mode old new places sets alone there = record {
   there = subst (λ (k : FileKey). IsFile k (at new (string_bytes draft.path))) there.opened
       (subst (IsFile (key draft.file)) (sym (sets.set (new.place (string_bytes draft.path)) here)) refl);
   new = there.new;
-  path = there.path;
   alone = subst (λ (k : FileKey). IsAlone k (string_bytes draft.path) new) there.opened
-      (alone (string_bytes draft.path) (subst (λ (k : FileKey). IsAlone k (string_bytes draft.path) old) (sym there.opened) there.alone));
+      (alone (string_bytes draft.path)
+      (subst (λ (k : FileKey). IsAlone k (string_bytes draft.path) old) (sym there.opened) there.alone));
 }
   where
     here : IsFile (key draft.file) (old.node (new.place (string_bytes draft.path)))
-    here = subst (λ (f : List ℕ → List ℕ). IsFile (key draft.file) (old.node (f (string_bytes draft.path)))) (sym places)
+    here = subst (λ (p : List ℕ). IsFile (key draft.file) (old.node p)) (same_at (sym places) (string_bytes draft.path))
         (subst (λ (k : FileKey). IsFile k (at old (string_bytes draft.path))) (sym there.opened) there.there)

@@ -1,5 +1,5 @@
 -- Each call is a decent step.
-use Rattle.std.proofs.Common.{◌≡◌, ◌∙◌, ◌⊎◌, inl, inr, ⊎_elim, ◌∷◌, ℕ, List, Bool, true, false, refl, sym, ap, subst, Option, Some, None, Contains, IsTrue}
+use Rattle.std.proofs.Common.{◌≡◌, ◌∙◌, ◌⊎◌, inl, inr, ⊎_elim, ◌∷◌, ◌++◌, [], ℕ, List, Bool, true, false, refl, sym, ap, subst, Option, Some, None, Contains, IsTrue}
 use Rattle.std.specs.Prelude.{Result, Ok, Err, OnErr, IfOk, IfSome}
 use Rattle.std.specs.Str.{bytes_eq}
 use Rattle.std.proofs.lemmas.Slice.Eq.{bytes_eq-Decides}
@@ -9,14 +9,27 @@ use Rattle.cweb_system.specs.declared.node.Node.{Node}
 use Rattle.cweb_system.specs.Tree.{Tree, IsFile, at, bytes_of, Appends, Creates, MayCreate, Removes, Renames, SetsMode}
 use Rattle.cweb_system.specs.inner.Drafts.{IsAlone, KeepsDecent}
 use Rattle.cweb_system.specs.Steps.{AreDecent, Arrives, Changes, Disk, IsDecent, IsDraftPlace, NotesFailure, Stays, TakesStep}
-use Rattle.cweb_system.specs.inner.Drafts.{IsDraftPath, IsDraftAlone}
+use Rattle.cweb_system.specs.inner.Drafts.{IsDraftAlone, IsUnread}
+
+-- Equal functions are equal at each argument.
+pub same_at : {A B : Type 0} {f g : A → B} → f ≡ g → (x : A) → f x ≡ g x
+same_at {A} {B} e x = ap (λ (h : A → B). h x) e
+
+pub differs : (a b : List ℕ) → bytes_eq a b ≡ false → a ≡ b → ⊥
+differs a b test same =
+    let e : true ≡ false = sym ((bytes_eq-Decides a b).1 same) ∙ test in
+    cc
+
+-- A draft's path: a name with byte 127 after it.
+abbrev pub IsDraftPath : List ℕ → Type 0
+IsDraftPath path = (name : List ℕ) × (path ≡ name ++ 127 ∷ [])
 
 stepping : (read : List FileKey) (old new : Disk) → TakesStep old new → IsDecent read old.tree new.tree
     → AreDecent read old.tree old.past → AreDecent read new.tree new.past
 stepping read old new step decent all = ⊎_elim
-    (λ (is : new.past ≡ old.tree ∷ old.past). subst (λ (past : List Tree). AreDecent read new.tree past) (sym is) (decent, all))
-    (λ (same : (new.past ≡ old.past) × (new.tree ≡ old.tree)). subst (λ (past : List Tree). AreDecent read new.tree past)
-    (sym same.0) (subst (λ (t : Tree). AreDecent read t old.past) (sym same.1) all))
+    (λ (is : new.past ≡ old.tree ∷ old.past). subst (AreDecent read new.tree) (sym is) (decent, all))
+    (λ (same : (new.past ≡ old.past) × (new.tree ≡ old.tree)). subst (AreDecent read new.tree) (sym same.0)
+    (subst (λ (t : Tree). AreDecent read t old.past) (sym same.1) all))
     step
 
 same_decent : (read : List FileKey) (a b : Tree) → b ≡ a → IsDecent read a b
@@ -33,10 +46,11 @@ noted was now (Ok x) same is = same ∙ is
 noted was now (Err e) is' is = is'
 
 -- A call that changes the tree decently.
-pub keeps : {A : Type 0} (read : List FileKey) (change : A → Tree → Tree → Type 0) (old new : Disk) (r : Result A FileFault)
-    → Changes change old new r
-    → (IsTrue old.tells → (x : A) → change x old.tree new.tree → IsDecent read old.tree new.tree) → KeepsDecent read old new
-keeps read change old new r c then = record {
+pub keeps : {A : Type 0} (read : List FileKey) (change : A → Tree → Tree → Type 0) {old new : Disk}
+    {r : Result A FileFault} → Changes change old new r
+    → (IsTrue old.tells → (x : A) → change x old.tree new.tree → IsDecent read old.tree new.tree)
+    → KeepsDecent read old new
+keeps read change {old} {new} {r} c then = record {
   tells = c.tells;
   steps = λ tells. stepping read old new (c.step tells)
       (by_result read change old.tree new.tree r (c.ok tells) (c.err tells) (then tells));
@@ -64,7 +78,8 @@ changes_then {A = A} one other old new r c then = record {
 pub keeps_none : (read : List FileKey) (disk : Disk) → KeepsDecent read disk disk
 keeps_none read disk = record { tells = refl; steps = λ tells all. all; failed = λ tells is. is }
 
-pub keeps_then : {read : List FileKey} {a b c : Disk} → KeepsDecent read a b → KeepsDecent read b c → KeepsDecent read a c
+pub keeps_then : {read : List FileKey} {a b c : Disk} → KeepsDecent read a b → KeepsDecent read b c
+    → KeepsDecent read a c
 keeps_then {read} {a} {b} {c} first then = record {
   tells = then.tells ∙ first.tells;
   steps = λ tells all. then.steps (on tells) (first.steps tells all);
@@ -74,16 +89,13 @@ keeps_then {read} {a} {b} {c} first then = record {
     on : IsTrue a.tells → IsTrue b.tells
     on tells = first.tells ∙ tells
 
-kept : (old new : Tree) (o : Option Node) → ((k : FileKey) → IsFile k o → new.bytes k ≡ old.bytes k) → bytes_of new o ≡ bytes_of old o
-kept old new None same = refl
+kept : (old new : Tree) (o : Option Node) → ((k : FileKey) → IsFile k o → new.bytes k ≡ old.bytes k)
+    → bytes_of new o ≡ bytes_of old o
 kept old new (Some (Node.File k m)) same = same k refl
-kept old new (Some Node.Link) same = refl
-kept old new (Some (Node.Unknown why)) same = refl
-kept old new (Some (Node.Folder k)) same = refl
-kept old new (Some (Node.Device k)) same = refl
+kept old new _ same = refl
 
-stays : (old new : Tree) (p : List ℕ) → new.node p ≡ old.node p → ((k : FileKey) → IsFile k (old.node p) → new.bytes k ≡ old.bytes k)
-    → Stays old new p
+stays : (old new : Tree) (p : List ℕ) → new.node p ≡ old.node p
+    → ((k : FileKey) → IsFile k (old.node p) → new.bytes k ≡ old.bytes k) → Stays old new p
 stays old new p node bytes = record {
   node = node;
   bytes = ap (bytes_of new) node ∙ kept old new (old.node p) bytes;
@@ -100,34 +112,32 @@ creates_decent read path key old new draft made p other = inl (stays old new p
     (λ k is. made.bytes k (λ e. made.fresh p (subst (λ (f : FileKey). IsFile f (old.node p)) e is))))
 
 -- A file was created, or something was there.
-pub may_create_decent : {H : Type 0} (read : List FileKey) (key : H → FileKey) (path : List ℕ) (made : Option H) (old new : Tree)
-    → IsDraftPath path → MayCreate key path made old new → IsDecent read old new
+pub may_create_decent : {H : Type 0} (read : List FileKey) (key : H → FileKey) (path : List ℕ) (made : Option H)
+    (old new : Tree) → IsDraftPath path → MayCreate key path made old new → IsDecent read old new
 may_create_decent read key path (Some file) old new draft made = creates_decent read path (key file) old new draft made
 may_create_decent read key path None old new draft made = same_decent read old new made.1
 
-pub removes_decent : (read : List FileKey) (path : List ℕ) (old new : Tree) → IsDraftPath path → Removes path old new → IsDecent read old new
+pub removes_decent : (read : List FileKey) (path : List ℕ) (old new : Tree) → IsDraftPath path
+    → Removes path old new → IsDecent read old new
 removes_decent read path old new draft gone p other = inl (stays old new p
-    (gone.others p (λ e. other (place_is old path p draft e))) (λ k is. ap (λ (f : FileKey → List ℕ). f k) gone.bytes))
+    (gone.others p (λ e. other (place_is old path p draft e))) (λ k is. same_at gone.bytes k))
 
 pub appends_decent : (read : List FileKey) (key : FileKey) (piece : List ℕ) (old new : Tree) → IsDraftAlone key old
     → Appends key piece old new → IsDecent read old new
-appends_decent read key piece old new alone appends p other = inl (stays old new p (ap (λ (f : List ℕ → Option Node). f p) appends.node)
+appends_decent read key piece old new alone appends p other = inl (stays old new p (same_at appends.node p)
     (λ k is. appends.others k (λ e. other (alone p (subst (λ (f : FileKey). IsFile f (old.node p)) e is)))))
 
 pub sets_mode_decent : (read : List FileKey) (key : FileKey) (mode : ℕ) (old new : Tree) → IsDraftAlone key old
     → SetsMode key mode old new → IsDecent read old new
-sets_mode_decent read key mode old new alone sets p other = inl (stays old new p (sets.others p (λ is. other (alone p is)))
-    (λ k is. ap (λ (f : FileKey → List ℕ). f k) sets.bytes))
+sets_mode_decent read key mode old new alone sets p other =
+    inl (stays old new p (sets.others p (λ is. other (alone p is))) (λ k is. same_at sets.bytes k))
 
-pub renames_decent : (read : List FileKey) (from to : List ℕ) (old new : Tree) → IsDraftPath from → new.place ≡ old.place
-    → ((key : FileKey) → Contains read key → IsFile key (at old to) → ⊥) → Renames from to old new → IsDecent read old new
+pub renames_decent : (read : List FileKey) (from to : List ℕ) (old new : Tree) → IsDraftPath from
+    → new.place ≡ old.place → IsUnread read to old → Renames from to old new → IsDecent read old new
 renames_decent read from to old new draft places unread renames p other = by_test (bytes_eq p (old.place to)) refl
   where
-    bytes_stay : (k : FileKey) → new.bytes k ≡ old.bytes k
-    bytes_stay k = ap (λ (f : FileKey → List ℕ). f k) renames.bytes
-
     here : p ≡ old.place to → new.node p ≡ old.node (old.place from)
-    here e = ap new.node (e ∙ ap (λ (f : List ℕ → List ℕ). f to) (sym places)) ∙ renames.moved
+    here e = ap new.node (e ∙ same_at (sym places) to) ∙ renames.moved
 
     by_test : (b : Bool) → bytes_eq p (old.place to) ≡ b → Stays old new p ⊎ Arrives read old new p
     by_test true e = inr (record {
@@ -135,42 +145,32 @@ renames_decent read from to old new draft places unread renames p other = by_tes
       was = place_is old from (old.place from) draft refl;
       node = here ((bytes_eq-Decides p (old.place to)).0 e);
       bytes = ap (bytes_of new) (here ((bytes_eq-Decides p (old.place to)).0 e))
-          ∙ kept old new (old.node (old.place from)) (λ k is. bytes_stay k);
+          ∙ kept old new (old.node (old.place from)) (λ k is. same_at renames.bytes k);
       unread = λ key among is. unread key among
           (subst (λ (q : List ℕ). IsFile key (old.node q)) ((bytes_eq-Decides p (old.place to)).0 e) is);
     })
     by_test false e = inl (stays old new p
-        (renames.others p (λ is. other (place_is old from p draft is)) (λ is. absurd (differs is e))) (λ k is. bytes_stay k))
-      where
-        differs : p ≡ old.place to → bytes_eq p (old.place to) ≡ false → ⊥
-        differs is test =
-            let both : true ≡ false = sym ((bytes_eq-Decides p (old.place to)).1 is) ∙ test in
-            cc
+        (renames.others p (λ is. other (place_is old from p draft is)) (differs p (old.place to) e))
+        (λ k is. same_at renames.bytes k))
 
 at_place : (p place : List ℕ) → ((p ≡ place → ⊥) → ⊥) → p ≡ place
 at_place p place not_apart = by_test (bytes_eq p place) refl
   where
     by_test : (b : Bool) → bytes_eq p place ≡ b → p ≡ place
     by_test true e = (bytes_eq-Decides p place).0 e
-    by_test false e = absurd (not_apart (λ is. differs is))
-      where
-        differs : p ≡ place → ⊥
-        differs is =
-            let both : true ≡ false = sym ((bytes_eq-Decides p place).1 is) ∙ e in
-            cc
+    by_test false e = absurd (not_apart (differs p place e))
 
 -- A new file has one name.
 alone_new : (path : List ℕ) (key : FileKey) (old new : Tree) → new.place ≡ old.place → Creates path key old new
     → IsAlone key path new
 alone_new path key old new places made p is = at_place p (old.place path)
-    (λ apart. made.fresh p (subst (λ (o : Option Node). IsFile key o) (made.others p apart) is))
-    ∙ ap (λ (f : List ℕ → List ℕ). f path) (sym places)
+    (λ apart. made.fresh p (subst (IsFile key) (made.others p apart) is)) ∙ same_at (sym places) path
 
 alone_moded : (path : List ℕ) (key : FileKey) (mode : ℕ) (old new : Tree) → new.place ≡ old.place
     → SetsMode key mode old new → IsAlone key path old → IsAlone key path new
 alone_moded path key mode old new places sets alone p is = at_place p (old.place path)
-    (λ apart. apart (alone p (subst (λ (o : Option Node). IsFile key o) (sets.others p (λ was. apart (alone p was))) is)))
-    ∙ ap (λ (f : List ℕ → List ℕ). f path) (sym places)
+    (λ apart. apart (alone p (subst (IsFile key) (sets.others p (λ was. apart (alone p was))) is)))
+    ∙ same_at (sym places) path
 
 pub alone_created : {H : Type 0} (key : H → FileKey) (path : List ℕ) (old new : Tree) (r : Result (Option H) FileFault)
     → new.place ≡ old.place → IfOk r (λ made. MayCreate key path made old new)

@@ -12,20 +12,19 @@ use Rattle.cweb_system.specs.declared.written.WrittenFile.{WrittenFile}
 use Rattle.cweb_system.specs.Tree.{Tree, at, bytes_of, contents, IsFile, Appends}
 use Rattle.cweb_system.specs.inner.Written.{FilesAreThere, IsNew, IsUnnamed, Leaves, Places}
 use Rattle.cweb_system.specs.Bins.{file_in}
+use Rattle.cweb_system.proofs.Steps.{differs, same_at}
 
 -- A file that was found has the bytes of its key.
 pub bytes_is : (tree : Tree) (o : Option Node) (key : FileKey) → IsFile key o → bytes_of tree o ≡ tree.bytes key
-bytes_is tree None key is = absurd is
 bytes_is tree (Some (Node.File k m)) key is = ap tree.bytes is
-bytes_is tree (Some Node.Link) key is = absurd is
-bytes_is tree (Some (Node.Unknown why)) key is = absurd is
-bytes_is tree (Some (Node.Folder k)) key is = absurd is
-bytes_is tree (Some (Node.Device k)) key is = absurd is
+bytes_is tree _ key is = absurd is
 
 file_same : (old new : Tree) (w : WrittenFile) → IsFile w.key (at old (string_bytes w.name))
     → IsFile w.key (at new (string_bytes w.name)) → new.bytes w.key ≡ old.bytes w.key → file_in new w ≡ file_in old w
-file_same old new w was is bytes = ap (λ (b : List ℕ). record { name = string_bytes w.name; bytes = b })
-    (bytes_is new (at new (string_bytes w.name)) w.key is ∙ bytes ∙ sym (bytes_is old (at old (string_bytes w.name)) w.key was))
+file_same old new w was is bytes =
+    let name = string_bytes w.name in
+    ap (λ (b : List ℕ). record { name = name; bytes = b })
+    (bytes_is new (at new name) w.key is ∙ bytes ∙ sym (bytes_is old (at old name) w.key was))
 
 pub map_same : {A B : Type 0} (f g : A → B) (xs : List A) → All (λ (x : A). f x ≡ g x) xs → map f xs ≡ map g xs
 map_same f g [] all = refl
@@ -35,7 +34,8 @@ map_same f g (x ∷ xs) all =
 pub files_left : (written : List WrittenFile) (old new : Tree) → FilesAreThere old written → Leaves written old new
     → map (file_in new) written ≡ map (file_in old) written
 files_left written old new stand leaves = map_same (file_in new) (file_in old) written
-    (λ k d within. file_same old new (slice_index_or written k d) (stand k d within) (leaves.entries k d within (stand k d within)) (leaves.bytes k d within))
+    (λ k d within. let there = stand k d within in
+    file_same old new (slice_index_or written k d) there (leaves.entries k d within there) (leaves.bytes k d within))
 
 -- They show what they showed, if the list is the same.
 pub files_then : {ws now : List WrittenFile} {old new : Tree} {files : List File} → now ≡ ws → FilesAreThere old ws
@@ -47,11 +47,6 @@ files_then {ws} {now} {old} {new} {files} same there leaves is =
 abbrev pub is_other : List ℕ → WrittenFile → Bool
 is_other name w = not (bytes_eq (string_bytes w.name) name)
 
-differs : (a b : List ℕ) → bytes_eq a b ≡ false → a ≡ b → ⊥
-differs a b test same =
-    let e : true ≡ false = sym ((bytes_eq-Decides a b).1 same) ∙ test in
-    cc
-
 apart_other : (a b : List ℕ) → (a ≡ b → ⊥) → not (bytes_eq a b) ≡ true
 apart_other a b apart = by_test (bytes_eq a b) refl
   where
@@ -60,9 +55,10 @@ apart_other a b apart = by_test (bytes_eq a b) refl
     by_test false e = refl
 
 -- A filter that each element passes.
-filter_all : (p : WrittenFile → Bool) (ws : List WrittenFile) → All (λ (w : WrittenFile). p w ≡ true) ws → filter p ws ≡ ws
+filter_all : (p : WrittenFile → Bool) (ws : List WrittenFile) → All (λ w. p w ≡ true) ws → filter p ws ≡ ws
 filter_all p [] all = refl
-filter_all p (w ∷ ws) all = ap (λ (b : Bool). cond b (w ∷ filter p ws) (filter p ws)) (All-head (λ v. p v ≡ true) w ws all)
+filter_all p (w ∷ ws) all =
+    ap (λ (b : Bool). cond b (w ∷ filter p ws) (filter p ws)) (All-head (λ v. p v ≡ true) w ws all)
     ∙ ap (λ (l : List WrittenFile). w ∷ l) (filter_all p ws (All-tail (λ v. p v ≡ true) w ws all))
 
 pub none_removed : (name : List ℕ) (ws : List WrittenFile) → IsUnnamed name ws → ws ≡ filter (is_other name) ws
@@ -112,15 +108,15 @@ committing ws after w name old new stand places named is =
     ∙ (λ i. others_same old new name ws others i ++ this i ∷ [])
   where
     others : All (λ (v : WrittenFile). (string_bytes v.name ≡ name → ⊥) → file_in new v ≡ file_in old v) ws
-    others k d within differ = file_same old new (slice_index_or ws k d) (stand k d within) (places.entries k d within differ)
-        (ap (λ (f : FileKey → List ℕ). f (slice_index_or ws k d).key) places.bytes)
+    others k d within differ = file_same old new (slice_index_or ws k d) (stand k d within)
+        (places.entries k d within differ) (same_at places.bytes (slice_index_or ws k d).key)
 
     this : file_in new w ≡ record { name = name; bytes = old.bytes w.key }
     this = λ i. record { name = named i; bytes = holds i }
       where
         holds : contents new (string_bytes w.name) ≡ old.bytes w.key
         holds = ap (contents new) named ∙ bytes_is new (at new name) w.key places.there
-            ∙ ap (λ (f : FileKey → List ℕ). f w.key) places.bytes
+            ∙ same_at places.bytes w.key
 
 pub stands_then : (ws after : List WrittenFile) (w : WrittenFile) (name : List ℕ) (old new : Tree)
     → Places name w.key ws old new → string_bytes w.name ≡ name → after ≡ filter (is_other name) ws ++ w ∷ []
@@ -131,13 +127,13 @@ stands_then ws after w name old new places named is = subst (λ (l : List Writte
     (subst (λ (n : List ℕ). IsFile w.key (at new n)) (sym named) places.there))
 
 -- Bytes of a draft leave the committed files alone.
-pub appending : (ws : List WrittenFile) (key file : FileKey) (piece : List ℕ) (old new : Tree) → IsNew key ws → file ≡ key
-    → new.place ≡ old.place → Appends file piece old new → Leaves ws old new
+pub appending : (ws : List WrittenFile) (key file : FileKey) (piece : List ℕ) (old new : Tree) → IsNew key ws
+    → file ≡ key → new.place ≡ old.place → Appends file piece old new → Leaves ws old new
 appending ws key file piece old new is_new same places appends = record {
   place = places;
-  entries = λ k d within is. subst (λ (o : Option Node). IsFile (slice_index_or ws k d).key o)
-      (sym ((λ i. appends.node i (new.place (string_bytes (slice_index_or ws k d).name)))
-      ∙ ap (λ (f : List ℕ → List ℕ). old.node (f (string_bytes (slice_index_or ws k d).name))) places)) is;
+  entries = λ k d within is. subst (IsFile (slice_index_or ws k d).key)
+      (sym (same_at appends.node (new.place (string_bytes (slice_index_or ws k d).name))
+      ∙ ap old.node (same_at places (string_bytes (slice_index_or ws k d).name)))) is;
   bytes = λ k d within. appends.others (slice_index_or ws k d).key (λ e. is_new k d within (e ∙ same));
 }
 

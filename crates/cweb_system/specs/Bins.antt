@@ -3,7 +3,7 @@ use Rattle.std.specs.Prelude.{ℕ, List, [], map, Option, Some, None, option_map
 use Rattle.cweb_files.specs.Bins.{refusal}
 use Rattle.cweb_files.specs.Files.{File, Beside}
 use Rattle.cweb_system.specs.declared.bins.Folder.{Folder}
-use Rattle.cweb_system.specs.declared.drafts.Draft.{Draft}
+use Rattle.cweb_system.specs.declared.drafts.path.Draft.{Draft}
 use Rattle.cweb_system.specs.declared.file_system.FileSystem.{Ghosts as FileSystem}
 use Rattle.cweb_system.specs.declared.folder_bins.FolderBins.{FolderBins}
 use Rattle.cweb_system.specs.declared.node.FileKey.{FileKey}
@@ -26,10 +26,10 @@ abbrev pub draft_bytes : {H : Type 0} → Tree → Option (Draft H) → List ℕ
 draft_bytes tree None = []
 draft_bytes tree (Some draft) = tree.bytes draft.key
 
-abbrev pub folder_bytes : {F H : Type 0} → FileSystem F H → Folder F H → List ℕ
+abbrev pub folder_bytes : {F H : Type 0} (system : FileSystem F H) → Folder F H system → List ℕ
 folder_bytes system folder = draft_bytes (system.disk folder.fs).tree folder.draft
 
-abbrev pub folder_beside : {F H : Type 0} → FileSystem F H → Folder F H → Beside
+abbrev pub folder_beside : {F H : Type 0} (system : FileSystem F H) → Folder F H system → Beside
 folder_beside system folder = record {
   files = map (file_in (system.disk folder.fs).tree) folder.files.written.items;
   draft = option_map draft_name folder.draft;

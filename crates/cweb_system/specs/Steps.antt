@@ -1,8 +1,8 @@
 -- The steps of a file system, and what one step may do to the entries that are no drafts.
-use Rattle.std.specs.Prelude.{◌≡◌, ◌⊎◌, ℕ, List, [], ◌∷◌, ◌++◌, Bool, Contains, IsTrue, IfOk, OnErr, Result, Ok, Err, ⊤}
+use Rattle.std.specs.Prelude.{◌≡◌, ◌≤◌, ◌<◌, ◌⊎◌, ℕ, List, [], ◌∷◌, ◌++◌, Bool, Contains, IsTrue, IfOk, OnErr, Result, Ok, Err, ⊤, length, take}
 use Rattle.cweb_system.specs.declared.node.FileFault.{FileFault}
 use Rattle.cweb_system.specs.declared.node.FileKey.{FileKey}
-use Rattle.cweb_system.specs.Tree.{Tree, IsFile, bytes_of}
+use Rattle.cweb_system.specs.Tree.{Tree, Appends, IsFile, bytes_of}
 
 -- What contracts know of a file system.
 pub record Disk : Type 0 where
@@ -33,6 +33,14 @@ pub record Changes {A : Type 0} (change : A → Tree → Tree → Type 0) (old n
   pub place : IsTrue old.tells → new.tree.place ≡ old.tree.place
   pub step : IsTrue old.tells → TakesStep old new
   pub failed : IsTrue old.tells → NotesFailure old.failed new.failed result
+
+-- A prefix of some bytes is appended to a file, nonempty if they are. The file keeps its key.
+pub record Writes {H : Type 0} (key : H → FileKey) (piece : List ℕ) (file after : H) (old new : Disk)
+    (result : Result ℕ FileFault) : Type 0 where
+  pub changes : Changes (λ n. Appends (key file) (take n piece)) old new result
+  pub within : IfOk result (λ n. n ≤ length piece)
+  pub some : 0 < length piece → IfOk result (λ n. 0 < n)
+  pub same : IsTrue old.tells → key after ≡ key file
 
 -- The place of a draft: of some name with byte 127 after it.
 abbrev pub IsDraftPlace : Tree → List ℕ → Type 0

@@ -1,9 +1,10 @@
 // Files of a file system as bins.
 ghost use Rattle.std.specs.Prelude.{◌≡◌, ◌≤◌, ◌<◌, ◌+◌, ◌^◌, ◌++◌, [], None, IsTrue, IsSome, IfSome, IfOk, IfErr, OnOk, OnErr};
 ghost use Rattle.std.specs.Prelude.{length, take, string_bytes};
-ghost use Rattle.cweb_files.specs.Bins.{CountsFailure, CountsDeviceFailure};
+ghost use Rattle.cweb_files.specs.Bins.{CountsDeviceFailure};
 ghost use Rattle.cweb_system.specs.inner.Drafts.{IfCanBegin, IfCanPlace, IsCleared};
 ghost use Rattle.cweb_system.specs.inner.Drafts.{KeepsMode};
+ghost use Rattle.cweb_system.specs.inner.FolderSound.{IsSound, IsSound_prop};
 
 use crate::drafts::{Draft, begin, discard, put_in_place, write_to};
 use crate::file_system::FileSystem;
@@ -22,29 +23,29 @@ pub struct Folder<F: FileSystem + Drop> {
     /// Why the last draft was refused.
     pub refused: Option<BinFault>,
     pub failed: u64,
+    ghost sound: { IsSound F.key files draft (F.disk fs) } by { IsSound_prop },
 }
 
 impl<F: FileSystem + Drop> Folder<F> {
     ghost use Rattle.cweb_system.specs.Bins.{folder_beside, folder_bytes};
-    ghost use Rattle.cweb_system.specs.inner.FolderSound.{IsSound, KeepsFolder};
+    ghost use Rattle.cweb_system.specs.inner.FolderCalls.{KeepsFolder, UsesDraft};
     ghost use Rattle.cweb_files.specs.Bins.{refused_with};
     ghost use Rattle.cweb_files.specs.Files.{committed, with_draft, without_draft};
 
     /// Begins an empty draft and discards an open one.
     pub fn start(&mut self, name: &str) -> Result<(), BinFault>
-        requires count { self.old.failed + 1 < 2 ^ 64 }
-        requires sound { IsSound F.FileSystem self.old }
-        ensures sound { IsSound F.FileSystem self.new }
+        requires { self.old.failed + 1 < 2 ^ 64 }
         ensures keeps { KeepsFolder F.FileSystem self.old self.new }
         ensures failed { CountsDeviceFailure self.old.failed self.new.failed result }
-        ensures begun { IsTrue (F.disk self.old.fs).tells → OnOk result
-            (folder_beside F.FileSystem self.new ≡ with_draft name.now (folder_beside F.FileSystem self.old)) }
+        ensures begun { IsTrue (F.disk self.old.fs).tells → OnOk result (folder_beside F.FileSystem
+            self.new ≡ with_draft name.now (folder_beside F.FileSystem self.old)) }
         ensures empty { IsTrue (F.disk self.old.fs).tells → OnOk result
             (folder_bytes F.FileSystem self.new ≡ []) }
-        ensures err { IsTrue (F.disk self.old.fs).tells → IfErr result (λ fault.
-            folder_beside F.FileSystem self.new ≡ refused_with fault (folder_beside F.FileSystem self.old)) }
-        ensures cause { self.old.draft ≡ None → IfCanBegin self.old.files name.now (F.disk self.old.fs)
-            (IfErr result (λ fault. fault ≡ BinFault.Device → IsTrue (F.disk self.new.fs).failed)) }
+        ensures err { IsTrue (F.disk self.old.fs).tells → IfErr result (λ fault. folder_beside
+            F.FileSystem self.new ≡ refused_with fault (folder_beside F.FileSystem self.old)) }
+        ensures cause { self.old.draft ≡ None →
+            IfCanBegin self.old.files name.now (F.disk self.old.fs) (IfErr result
+            (λ fault. fault ≡ BinFault.Device → IsTrue (F.disk self.new.fs).failed)) }
     {
         self.abandon();
         match begin(self.alloc, &mut self.fs, name, &mut self.files) {
@@ -66,19 +67,14 @@ impl<F: FileSystem + Drop> Folder<F> {
 
     /// Appends bytes to the draft.
     pub fn add(&mut self, piece: &[u8]) -> Result<usize, SinkFault>
-        requires count { self.old.failed + 1 < 2 ^ 64 }
-        requires sound { IsSound F.FileSystem self.old }
-        ensures sound { IsSound F.FileSystem self.new }
-        ensures keeps { KeepsFolder F.FileSystem self.old self.new }
-        ensures failed { CountsFailure self.old.failed self.new.failed result }
+        requires { self.old.failed + 1 < 2 ^ 64 }
+        ensures uses { UsesDraft F.FileSystem self.old self.new result }
         ensures within { IfOk result (λ n. n ≤ length piece.now) }
         ensures some { 0 < length piece.now → IfOk result (λ n. 0 < n) }
-        ensures bytes { IsTrue (F.disk self.old.fs).tells → IfOk result (λ n.
-            folder_bytes F.FileSystem self.new ≡ folder_bytes F.FileSystem self.old ++ take n piece.now) }
+        ensures bytes { IsTrue (F.disk self.old.fs).tells → IfOk result (λ n. folder_bytes
+            F.FileSystem self.new ≡ folder_bytes F.FileSystem self.old ++ take n piece.now) }
         ensures err { IsTrue (F.disk self.old.fs).tells → OnErr result
             (folder_bytes F.FileSystem self.new ≡ folder_bytes F.FileSystem self.old) }
-        ensures begun { IsTrue (F.disk self.old.fs).tells → OnOk result
-            (IsSome (folder_beside F.FileSystem self.old).draft) }
         ensures beside { IsTrue (F.disk self.old.fs).tells →
             folder_beside F.FileSystem self.new ≡ folder_beside F.FileSystem self.old }
         ensures cause { IsTrue (F.disk self.old.fs).tells → IsSome self.old.draft →
@@ -101,24 +97,19 @@ impl<F: FileSystem + Drop> Folder<F> {
 
     /// Makes the draft a file of its name.
     pub fn commit(&mut self) -> Result<(), BinFault>
-        requires count { self.old.failed + 1 < 2 ^ 64 }
-        requires sound { IsSound F.FileSystem self.old }
-        ensures sound { IsSound F.FileSystem self.new }
-        ensures keeps { KeepsFolder F.FileSystem self.old self.new }
-        ensures failed { CountsFailure self.old.failed self.new.failed result }
+        requires { self.old.failed + 1 < 2 ^ 64 }
+        ensures uses { UsesDraft F.FileSystem self.old self.new result }
         ensures device { IfErr result (λ fault. fault ≡ BinFault.Device) }
-        ensures begun { IsTrue (F.disk self.old.fs).tells → OnOk result
-            (IsSome (folder_beside F.FileSystem self.old).draft) }
         ensures ok { IsTrue (F.disk self.old.fs).tells → OnOk result
-            (folder_beside F.FileSystem self.new
-            ≡ committed (folder_beside F.FileSystem self.old) (folder_bytes F.FileSystem self.old)) }
-        ensures mode { IsTrue (F.disk self.old.fs).tells → OnOk result
-            (IfSome self.old.draft (λ draft. KeepsMode (string_bytes draft.name)
-            (string_bytes draft.name) draft.key (F.disk self.old.fs).tree (F.disk self.new.fs).tree)) }
-        ensures removed { IsTrue (F.disk self.old.fs).tells →
-            IfSome self.old.draft (λ draft. IsCleared (string_bytes draft.path) (F.disk self.new.fs)) }
-        ensures err { IsTrue (F.disk self.old.fs).tells → OnErr result
-            (folder_beside F.FileSystem self.new ≡ without_draft (folder_beside F.FileSystem self.old)) }
+            (folder_beside F.FileSystem self.new ≡ committed (folder_beside F.FileSystem self.old)
+            (folder_bytes F.FileSystem self.old)) }
+        ensures mode { IsTrue (F.disk self.old.fs).tells → OnOk result (IfSome self.old.draft
+            (λ draft. KeepsMode (string_bytes draft.name) (string_bytes draft.name) draft.key
+            (F.disk self.old.fs).tree (F.disk self.new.fs).tree)) }
+        ensures removed { IsTrue (F.disk self.old.fs).tells → IfSome self.old.draft (λ draft.
+            IsCleared (string_bytes draft.path) (F.disk self.new.fs)) }
+        ensures err { IsTrue (F.disk self.old.fs).tells → OnErr result (folder_beside
+            F.FileSystem self.new ≡ without_draft (folder_beside F.FileSystem self.old)) }
         ensures cause { IfSome self.old.draft (λ draft. IfCanPlace self.old.files draft
             (F.disk self.old.fs) (OnErr result (IsTrue (F.disk self.new.fs).failed))) }
     {
@@ -131,29 +122,21 @@ impl<F: FileSystem + Drop> Folder<F> {
             self.failed += 1;
             return Err(BinFault::Device);
         };
-        let Draft {
-            name,
-            path: _,
-            key,
-            file: _,
-            is_device: _,
-        } = draft;
-        self.files.put(name, key, replaces);
+        self.files.put(draft.name, draft.key, replaces);
         Ok(())
     }
 
     /// Discards the draft, if there is one.
     pub fn abandon(&mut self)
-        requires sound { IsSound F.FileSystem self.old }
-        ensures sound { IsSound F.FileSystem self.new }
         ensures keeps { KeepsFolder F.FileSystem self.old self.new }
         ensures failed { self.new.failed ≡ self.old.failed }
-        ensures gone { IsTrue (F.disk self.old.fs).tells →
-            folder_beside F.FileSystem self.new ≡ without_draft (folder_beside F.FileSystem self.old) }
-        ensures removed { IsTrue (F.disk self.old.fs).tells →
-            IfSome self.old.draft (λ draft. IsCleared (string_bytes draft.path) (F.disk self.new.fs)) }
-        ensures idle { self.old.draft ≡ None → self.new ≡ self.old }
+        ensures gone { IsTrue (F.disk self.old.fs).tells → folder_beside F.FileSystem self.new
+            ≡ without_draft (folder_beside F.FileSystem self.old) }
+        ensures removed { IsTrue (F.disk self.old.fs).tells → IfSome self.old.draft (λ draft.
+            IsCleared (string_bytes draft.path) (F.disk self.new.fs)) }
+        ensures idle { self.old.draft ≡ None → self.new.fs ≡ self.old.fs }
         ensures files { self.new.files ≡ self.old.files }
+        ensures refused { self.new.refused ≡ self.old.refused }
         ensures none { self.new.draft ≡ None }
     {
         if let Some(draft) = self.draft.take() {

@@ -1,14 +1,14 @@
 // Drafts: files that become outputs when they are renamed.
 ghost use Rattle.std.specs.Prelude.{◌≡◌, ◌++◌, ◌∷◌, [], IsTrue, IsErr, IfErr, IfOk, OnOk, string_bytes};
 ghost use Rattle.cweb_system.specs.FileSet.{keys_in};
-ghost use Rattle.cweb_system.specs.Tree.{at};
-ghost use Rattle.cweb_system.specs.inner.Drafts.{DraftIsThere, CanPut, HasCause, HasDraft, IfCanBegin, IsClearable};
-ghost use Rattle.cweb_system.specs.inner.Drafts.{LeavesFiles};
+ghost use Rattle.cweb_system.specs.inner.Drafts.{DraftIsThere, CanPut, HasCause, HasDraft, IfCanBegin, LeavesFiles};
+ghost use Rattle.cweb_system.specs.inner.Drafts.{Prepares};
 ghost use Rattle.cweb_system.specs.inner.Keys.{is_among};
 ghost use Rattle.cweb_system.specs.inner.Written.{HasFiles};
 
 mod committing;
 mod creating;
+mod path;
 mod steps;
 mod way;
 
@@ -18,24 +18,12 @@ use crate::file_system::FileSystem;
 use crate::node::{FileFault, FileKey};
 use crate::run_files::RunFiles;
 pub use committing::{discard, put_in_place};
+pub use path::{Draft, DraftPath};
 use std::alloc::{AllocError, Global};
 pub use steps::write_to;
 
 /// The suffix of a draft's name: byte 127.
 const DRAFT_SUFFIX: &str = "\u{7f}";
-
-/// A draft that this run has created and opened for writing, or a device.
-#[derive(Drop)]
-pub struct Draft<H: Drop> {
-    /// The name of the file that it becomes.
-    pub name: String,
-    /// The draft's own name.
-    pub path: String,
-    pub key: FileKey,
-    pub file: H,
-    /// Its bytes go to a device at once. No draft exists.
-    pub is_device: bool,
-}
 
 /// Begins an output: an empty draft, or a device. A draft grants others no more access than the file that it replaces.
 pub fn begin<F: FileSystem>(
@@ -53,7 +41,8 @@ pub fn begin<F: FileSystem>(
     ensures begun { IsTrue (F.disk fs.old).tells → IfOk result (λ draft.
         DraftIsThere F.key files.old.written.items draft (F.disk fs.new).tree ×
         ((F.disk fs.new).tree.bytes draft.key ≡ [])) }
-    ensures cause { IfCanBegin files.old name.now (F.disk fs.old) (HasCause (F.disk fs.new).failed result) }
+    ensures cause { IfCanBegin files.old name.now (F.disk fs.old)
+        (HasCause (F.disk fs.new).failed result) }
 {
     files.reserve()?;
     let path = draft_path(alloc, name)?;
@@ -71,8 +60,7 @@ fn record<F: FileSystem>(
     files: &mut RunFiles,
     draft: Draft<F::File>,
 ) -> Result<Draft<F::File>, FileFault>
-    requires files { HasFiles files.old.written.items (F.disk fs.old) }
-    requires draft { HasDraft F.key files.old draft (F.disk fs.old) }
+    requires { HasDraft F.key files.old draft (F.disk fs.old) }
     ensures leaves { LeavesFiles files.old (F.disk fs.old) (F.disk fs.new) }
     ensures read { files.new.read ≡ files.old.read }
     ensures written { files.new.written ≡ files.old.written }
@@ -97,16 +85,17 @@ fn begin_draft<F: FileSystem>(
 ) -> Result<Draft<F::File>, FileFault>
     requires files { HasFiles files.now.written.items (F.disk fs.old) }
     requires path { string_bytes path ≡ string_bytes name ++ 127 ∷ [] }
-    ensures leaves { LeavesFiles files.now (F.disk fs.old) (F.disk fs.new) }
+    ensures leaves { Prepares (string_bytes path) files.now (F.disk fs.old) (F.disk fs.new) result }
     ensures named { IfOk result (λ draft. draft.name ≡ name) }
     ensures begun { IsTrue (F.disk fs.old).tells → IfOk result (λ draft.
         DraftIsThere F.key files.now.written.items draft (F.disk fs.new).tree ×
         ((F.disk fs.new).tree.bytes draft.key ≡ [])) }
-    ensures cause { IsTrue (F.disk fs.old).tells →
-        IsClearable files.now (at (F.disk fs.old).tree (string_bytes path)) →
-        HasCause (F.disk fs.new).failed result }
 {
-    let (file, key) = created(fs, path.as_str(), mode, files)?;
+    let draft = DraftPath {
+        name: name.as_str(),
+        text: path.as_str(),
+    };
+    let (file, key) = created(fs, draft, mode, files)?;
     Ok(Draft {
         name,
         path,
@@ -123,6 +112,7 @@ fn begin_device<F: FileSystem>(
     path: String,
     device: FileKey,
 ) -> Result<Draft<F::File>, FileFault>
+    requires { string_bytes path ≡ string_bytes name ++ 127 ∷ [] }
     ensures named { IfOk result (λ draft. draft.name ≡ name) }
     ensures unseen { IsTrue (F.disk fs.now).tells → IsErr result }
 {

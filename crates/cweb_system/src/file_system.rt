@@ -1,8 +1,8 @@
 // The calls to the file system that a run needs, and what each does.
 ghost use Rattle.std.specs.Prelude.{◌≡◌, ◌≤◌, ◌<◌, ◌++◌, ℕ, List, [], IsTrue, IsErr, IfOk, MatchResult, Ok, length, take};
 ghost use Rattle.cweb_system.specs.declared.node.FileKey.{FileKey};
-ghost use Rattle.cweb_system.specs.Steps.{Changes, Disk};
-ghost use Rattle.cweb_system.specs.Tree.{at, rest, Appends, IsAbsent, MayCreate, MayRename, Opens, Removes, SetsMode};
+ghost use Rattle.cweb_system.specs.Steps.{Changes, Disk, Writes};
+ghost use Rattle.cweb_system.specs.Tree.{at, rest, IsAbsent, MayCreate, MayRename, Opens, Removes, SetsMode};
 
 use crate::node::{FileFault, FileKey, Node};
 
@@ -67,15 +67,12 @@ pub trait FileSystem {
 
     /// Appends a prefix of `piece`, nonempty if `piece` is.
     fn write(&mut self, file: &mut Self::File, piece: &[u8]) -> Result<usize, FileFault>
-        ensures changes { Changes (λ n. Appends (key file.old) (take n piece.now))
-            (disk self.old) (disk self.new) result }
-        ensures within { IfOk result (λ n. n ≤ length piece.now) }
-        ensures some { 0 < length piece.now → IfOk result (λ n. 0 < n) }
-        ensures key { IsTrue (disk self.old).tells → key file.new ≡ key file.old };
+        ensures { Writes key piece.now file.old file.new (disk self.old) (disk self.new) result };
 
     /// Sets the nine permission bits of an open file.
     fn set_mode(&mut self, file: &Self::File, mode: u32) -> Result<(), FileFault>
-        ensures { Changes (λ _. SetsMode (key file.now) mode) (disk self.old) (disk self.new) result };
+        ensures { Changes (λ _. SetsMode (key file.now) mode)
+            (disk self.old) (disk self.new) result };
 
     /// Renames a regular file. It replaces what is at the new path, in one step.
     fn rename(&mut self, from: &str, to: &str) -> Result<(), FileFault>

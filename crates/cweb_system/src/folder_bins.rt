@@ -2,7 +2,6 @@
 ghost use Rattle.std.specs.Prelude.{IsTrue};
 ghost use Rattle.cweb_system.specs.FileSet.{keys_in};
 ghost use Rattle.cweb_system.specs.Steps.{AreDecent};
-ghost use Rattle.cweb_system.specs.inner.FolderSound.{IsSound, IsSound_prop};
 
 use crate::bins::Folder;
 use crate::file_set::FileSet;
@@ -15,7 +14,6 @@ use std::alloc::Global;
 #[derive(Drop)]
 pub struct FolderBins<F: FileSystem + Drop> {
     folder: Folder<F>,
-    ghost sound: { IsSound F.FileSystem folder } by { IsSound_prop F.FileSystem folder },
     /// At each moment, each file that is no draft was the old one or a whole draft.
     ghost steps: { ∥ (IsTrue (F.disk folder.fs).tells →
         AreDecent (keys_in folder.files.read) (F.disk folder.fs).tree (F.disk folder.fs).past) ∥₁ },
@@ -30,7 +28,8 @@ impl<F: FileSystem + Drop> FolderBins<F> {
         requires { IsTrue (F.disk fs).tells → (F.disk fs).past ≡ [] }
         ensures system { bins_system result ≡ fs }
         ensures read { bins_read result ≡ keys_in read }
-        ensures beside { bins_beside F.FileSystem result ≡ record { files = []; draft = None; refused = None } }
+        ensures beside { bins_beside F.FileSystem result
+            ≡ record { files = []; draft = None; refused = None } }
         ensures bytes { bins_bytes F.FileSystem result ≡ [] }
         ensures failed { bins_failed result ≡ 0 }
     {

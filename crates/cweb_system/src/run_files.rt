@@ -24,7 +24,8 @@ pub struct RunFiles {
     pub written: Vec<WrittenFile>,
     /// The files that were drafts of the run, those in `written` among them. A lookup here spares a walk along that list.
     pub created: FileSet,
-    ghost known: { All (λ (w : WrittenFile). IsTrue (is_among (keys_in created) w.key)) written.items } by { Prim.hlevel props },
+    ghost known: { All (λ (w : WrittenFile). IsTrue (is_among (keys_in created) w.key))
+        written.items } by { Prim.hlevel props },
 }
 
 impl RunFiles {
@@ -43,7 +44,8 @@ impl RunFiles {
     /// Whether the file of this key was written, and is still there.
     pub fn has_written<F: FileSystem>(&self, fs: &F, key: FileKey) -> bool
         requires { HasFiles self.now.written.items (F.disk fs.now) }
-        ensures value { IsTrue (F.disk fs.now).tells → result ≡ false → IsNew key self.now.written.items }
+        ensures value { IsTrue (F.disk fs.now).tells → result ≡ false →
+            IsNew key self.now.written.items }
         ensures none { IsNew key self.now.written.items → result ≡ false }
     {
         self.created.contains(key) && is_written(fs, self.written.as_slice(), key)
@@ -95,28 +97,14 @@ impl RunFiles {
         requires room { vec_len self.old.written < vec_capacity self.old.written }
         requires known { IsTrue (is_among (keys_in self.old.created) key) }
         ensures read { self.new.read ≡ self.old.read }
-        ensures written { (replaces ≡ false → IsUnnamed (string_bytes name) self.old.written.items) →
-            self.new.written.items
+        ensures written { (replaces ≡ false →
+            IsUnnamed (string_bytes name) self.old.written.items) → self.new.written.items
             ≡ filter (λ file. not (bytes_eq (string_bytes file.name) (string_bytes name)))
             self.old.written.items ++ record { name = name; key = key } ∷ [] }
     {
-        self.forget(name.as_str(), replaces);
-        self.written.push_reserved(WrittenFile { name, key });
-    }
-
-    /// Forgets the committed file of this name, if there is one.
-    fn forget(&mut self, name: &str, may_be_there: bool)
-        ensures read { self.new.read ≡ self.old.read }
-        ensures created { self.new.created ≡ self.old.created }
-        ensures written { (may_be_there ≡ false → IsUnnamed name.now self.old.written.items) →
-            self.new.written.items
-            ≡ filter (λ file. not (bytes_eq (string_bytes file.name) name.now)) self.old.written.items }
-        ensures capacity { vec_capacity self.new.written ≡ vec_capacity self.old.written }
-        ensures len { vec_len self.new.written ≤ vec_len self.old.written }
-    {
-        if !may_be_there {
-            return;
+        if replaces {
+            remove_named(&mut self.written, name.as_str());
         }
-        remove_named(&mut self.written, name);
+        self.written.push_reserved(WrittenFile { name, key });
     }
 }

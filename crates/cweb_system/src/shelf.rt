@@ -23,7 +23,8 @@ pub struct FolderShelf<F: FileSystem + Drop> {
     /// In an observable file system no read fails.
     ghost whole: { IsTrue (F.disk fs).tells → failed ≡ 0 } by { Prim.hlevel props },
     /// Reading takes no step.
-    ghost unchanged: { IsTrue (F.disk fs).tells → length (F.disk fs).past ≡ 0 } by { Prim.hlevel props },
+    ghost unchanged: { IsTrue (F.disk fs).tells →
+        length (F.disk fs).past ≡ 0 } by { Prim.hlevel props },
 }
 
 impl<F: FileSystem + Drop> FolderShelf<F> {
@@ -62,7 +63,8 @@ impl<F: FileSystem + Drop> FolderShelf<F> {
     pub fn into_bins(self, alloc: Global) -> FolderBins<F>
         ensures system { bins_system result ≡ shelf_system self }
         ensures read { bins_read result ≡ unwrap_or (shelf_read self) [] }
-        ensures beside { bins_beside F.FileSystem result ≡ record { files = []; draft = None; refused = None } }
+        ensures beside { bins_beside F.FileSystem result
+            ≡ record { files = []; draft = None; refused = None } }
         ensures bytes { bins_bytes F.FileSystem result ≡ [] }
         ensures failed { bins_failed result ≡ 0 }
     {

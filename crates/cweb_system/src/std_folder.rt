@@ -1,6 +1,7 @@
 // The files of the system as a file system. Their state isn't observable in contracts.
-ghost use Rattle.std.specs.Prelude.{◌≡◌, ◌≤◌, ◌<◌, ◌%◌, [], None, false, true, length, IfOk};
-ghost use Rattle.std.specs.Io.KnownBytes.{ReadConsumes, WriteAppends};
+ghost use Rattle.std.specs.Prelude.{◌≡◌, ◌≤◌, ◌%◌, [], None, false, true, length, IfOk};
+ghost use Rattle.std.specs.Io.KnownBytes.{ReadConsumes};
+ghost use Rattle.cweb_system.specs.inner.StreamCalls.{WritesPart};
 
 use crate::file_system::FileSystem;
 use crate::node::{FileFault, FileKey, Node};
@@ -225,10 +226,8 @@ impl<R: Files<File: LockableFile> + Drop> FileSystem for StdFolder<R> {
 
     /// The bytes go to the file in order; none is lost or added.
     fn write(&mut self, file: &mut R::File, piece: &[u8]) -> Result<usize, FileFault>
-        ensures within { IfOk result (λ n. n ≤ length piece.now) }
-        ensures some { 0 < length piece.now → IfOk result (λ n. 0 < n) }
-        ensures passes { WriteAppends (R.File.contents file.old) (R.File.contents file.new)
-            result piece.now }
+        ensures passes { WritesPart (R.File.contents file.old) (R.File.contents file.new)
+            piece.now result }
     {
         match write_once(file, piece) {
             Ok(n) => Ok(n),

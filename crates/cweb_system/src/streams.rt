@@ -3,7 +3,8 @@ ghost use Rattle.std.specs.Prelude.{◌≡◌, ◌≤◌, ◌<◌, ◌+◌, ◌^
 ghost use Rattle.std.specs.Prelude.{IsTrue};
 ghost use Rattle.std.specs.Option.{is_some, unwrap_or};
 ghost use Rattle.std.proofs.Props.{props};
-ghost use Rattle.std.specs.Io.KnownBytes.{WriteAppends, ReadConsumes};
+ghost use Rattle.std.specs.Io.KnownBytes.{ReadConsumes};
+ghost use Rattle.cweb_system.specs.inner.StreamCalls.{WritesPart};
 ghost use Rattle.cweb_files.specs.Bins.{CountsFailure};
 
 use cweb_files::{ShelfFault, Sink, SinkFault};
@@ -80,14 +81,12 @@ impl<W: Write + Drop> Sink for StdSink<W> {
         requires { sink_failures self.old + 1 < 2 ^ 64 }
         ensures tells { sink_is_known self.new ≡ sink_is_known self.old }
         ensures failed { CountsFailure (sink_failures self.old) (sink_failures self.new) result }
-        ensures within { IfOk result (λ n. n ≤ length piece.now) }
-        ensures some { 0 < length piece.now → IfOk result (λ n. 0 < n) }
         ensures bytes { IsTrue (sink_is_known self.old) → IfOk result (λ n.
             sink_bytes W.Write self.new ≡ sink_bytes W.Write self.old ++ take n piece.now) }
         ensures err { IsTrue (sink_is_known self.old) →
             OnErr result (sink_bytes W.Write self.new ≡ sink_bytes W.Write self.old) }
-        ensures passes { WriteAppends (W.contents (stream_of self.old))
-            (W.contents (stream_of self.new)) result piece.now }
+        ensures passes { WritesPart (W.contents (stream_of self.old))
+            (W.contents (stream_of self.new)) piece.now result }
     {
         let taken = write_once(&mut self.stream, piece);
         if taken.is_err() {
@@ -103,9 +102,7 @@ impl<W: Write + Drop> Sink for StdSink<W> {
 
 /// One write, repeated if a signal interrupts it. It is a failure if the stream takes nothing of a nonempty chunk.
 pub(crate) fn write_once<W: Write>(stream: &mut W, piece: &[u8]) -> Result<usize, SinkFault>
-    ensures within { IfOk result (λ n. n ≤ length piece.now) }
-    ensures some { 0 < length piece.now → IfOk result (λ n. 0 < n) }
-    ensures passes { WriteAppends (W.contents stream.old) (W.contents stream.new) result piece.now }
+    ensures { WritesPart (W.contents stream.old) (W.contents stream.new) piece.now result }
 {
     for _ in 0..u64::MAX {
         match stream.write(piece) {

@@ -27,7 +27,8 @@ pub bytes_more : (log : List Change) (c : Change) (k : FileKey) (bytes : List �
 bytes_more [] c k bytes = refl
 bytes_more (first ∷ log) c k bytes = bytes_more log c k (bytes_step first k bytes)
 
-pub puts : (layout : Layout) (log : List Change) (at : _) (path : List ℕ) (node : Node) → string_bytes at ≡ place_in layout path
+pub puts : (layout : Layout) (log : List Change) (at : _) (path : List ℕ) (node : Node)
+    → string_bytes at ≡ place_in layout path
     → Puts path node (tree_of layout log) (tree_of layout (log ++ Put at node ∷ []))
 puts layout log at path node named = record {
   there = nodes_more log (Put at node) place None
@@ -41,7 +42,8 @@ puts layout log at path node named = record {
     place : List ℕ
     place = place_in layout path
 
-pub creates : (layout : Layout) (log : List Change) (path : List ℕ) (new : NewFile) (mode : ℕ) → IsNewFile layout log path new
+pub creates : (layout : Layout) (log : List Change) (path : List ℕ) (new : NewFile) (mode : ℕ)
+    → IsNewFile layout log path new
     → Creates path new.key (tree_of layout log) (tree_of layout (log ++ Create new.at new.key mode ∷ []))
 creates layout log path new mode is = record {
   free = is.free;
@@ -78,24 +80,19 @@ appends layout log key byte = record {
   node = λ i p. nodes_more log (Append key byte) p None i;
 }
 
-moded : (key : FileKey) (mode : ℕ) (found : Option Node) → IsFile key found → node_with_mode key mode found ≡ Some (Node.File key mode)
-moded key mode None is = absurd is
+moded : (key : FileKey) (mode : ℕ) (found : Option Node) → IsFile key found
+    → node_with_mode key mode found ≡ Some (Node.File key mode)
 moded key mode (Some (Node.File k m)) is = λ i. Some (Node.File (is i) (cond (test i) mode m))
   where
     test : key_eq k key ≡ true
     test = ap (λ (f : FileKey). key_eq f key) is ∙ key_self key
-moded key mode (Some Node.Link) is = absurd is
-moded key mode (Some (Node.Unknown why)) is = absurd is
-moded key mode (Some (Node.Folder k)) is = absurd is
-moded key mode (Some (Node.Device k)) is = absurd is
+moded key mode _ is = absurd is
 
-unmoded : (key : FileKey) (mode : ℕ) (found : Option Node) → (IsFile key found → ⊥) → node_with_mode key mode found ≡ found
-unmoded key mode None other = refl
-unmoded key mode (Some (Node.File k m)) other = ap (λ (b : Bool). Some (Node.File k (cond b mode m))) (key_apart k key other)
-unmoded key mode (Some Node.Link) other = refl
-unmoded key mode (Some (Node.Unknown why)) other = refl
-unmoded key mode (Some (Node.Folder k)) other = refl
-unmoded key mode (Some (Node.Device k)) other = refl
+unmoded : (key : FileKey) (mode : ℕ) (found : Option Node) → (IsFile key found → ⊥)
+    → node_with_mode key mode found ≡ found
+unmoded key mode (Some (Node.File k m)) other =
+    ap (λ (b : Bool). Some (Node.File k (cond b mode m))) (key_apart k key other)
+unmoded key mode _ other = refl
 
 pub sets_mode : (layout : Layout) (log : List Change) (key : FileKey) (mode : ℕ)
     → SetsMode key mode (tree_of layout log) (tree_of layout (log ++ SetMode key mode ∷ []))
@@ -111,7 +108,8 @@ removes layout log at path named = record {
   gone = nodes_more log (Remove at) place None
       ∙ ap (λ (b : Bool). cond b None (nodes_by log place None)) (path_same (string_bytes at) place named);
   others = λ p apart. nodes_more log (Remove at) p None
-      ∙ ap (λ (b : Bool). cond b None (nodes_by log p None)) (path_apart (string_bytes at) p (λ same. apart (sym same ∙ named)));
+      ∙ ap (λ (b : Bool). cond b None (nodes_by log p None))
+      (path_apart (string_bytes at) p (λ same. apart (sym same ∙ named)));
   bytes = λ i k. bytes_more log (Remove at) k [] i;
 }
   where
@@ -128,7 +126,8 @@ renames layout log from to r is = record {
       (path_apart (string_bytes r.new) old (λ same. is.apart (sym same ∙ is.new)))
       ∙ ap (λ (b : Bool). cond b None (nodes_by log old None)) (path_same (string_bytes r.old) old is.old);
   others = λ p not_from not_to. nodes_more log change p None
-      ∙ ap (λ (b : Bool). cond b (Some r.node) (rest p)) (path_apart (string_bytes r.new) p (λ same. not_to (sym same ∙ is.new)))
+      ∙ ap (λ (b : Bool). cond b (Some r.node) (rest p))
+      (path_apart (string_bytes r.new) p (λ same. not_to (sym same ∙ is.new)))
       ∙ ap (λ (b : Bool). cond b None (nodes_by log p None))
       (path_apart (string_bytes r.old) p (λ same. not_from (sym same ∙ is.old)));
   bytes = λ i k. bytes_more log change k [] i;
@@ -149,7 +148,8 @@ renames layout log from to r is = record {
 past_more : (layout : Layout) (base log : List Change) (c : Change)
     → past_by layout base (log ++ c ∷ []) ≡ tree_of layout (base ++ log) ∷ past_by layout base log
 past_more layout base [] c = ap (λ (l : List Change). tree_of layout l ∷ []) (sym (append-nil base))
-past_more layout base (d ∷ log) c = ap (λ (l : List Tree). l ++ tree_of layout base ∷ []) (past_more layout (base ++ d ∷ []) log c)
+past_more layout base (d ∷ log) c =
+    ap (λ (l : List Tree). l ++ tree_of layout base ∷ []) (past_more layout (base ++ d ∷ []) log c)
     ∙ ap (λ (l : List Change). tree_of layout l ∷ (past_by layout (base ++ d ∷ []) log ++ tree_of layout base ∷ []))
     (append_assoc base (d ∷ []) log)
 
@@ -160,4 +160,5 @@ pub past_push : (layout : Layout) (log : List Change) (begun : ℕ) (c : Change)
 past_push layout log begun c within =
     (λ i. past_by layout (take-append-le begun log (c ∷ []) within i) (drop-append-le begun log (c ∷ []) within i))
     ∙ past_more layout (take begun log) (drop begun log) c
-    ∙ ap (λ (l : List Change). tree_of layout l ∷ past_by layout (take begun log) (drop begun log)) (take-append-drop begun log)
+    ∙ ap (λ (l : List Change). tree_of layout l ∷ past_by layout (take begun log) (drop begun log))
+    (take-append-drop begun log)

@@ -9,12 +9,14 @@ use Rattle.cweb_system_tests.specs.inner.Layout.{value_of}
 value_next : {V : Type 0} (facts : List (Fact V)) (i : ℕ) (fact : Fact V) (path : List ℕ) (b : Bool) → i < length facts
     → fact ≡ get_or facts i fact → bytes_eq (string_bytes fact.path) path ≡ b
     → value_of (drop i facts) path ≡ cond b (Some fact.value) (value_of (drop (i + 1) facts) path)
-value_next {V} facts i fact path b within is test = ap (λ (l : List (Fact V)). value_of l path) (drop_more facts i fact within)
+value_next {V} facts i fact path b within is test =
+    ap (λ (l : List (Fact V)). value_of l path) (drop_more facts i fact within)
     ∙ ap (λ (f : Fact V). value_of (f ∷ drop (i + 1) facts) path) (sym is)
     ∙ ap (λ (c : Bool). cond c (Some fact.value) (value_of (drop (i + 1) facts) path)) test
 
 pub value_found : {V : Type 0} (facts : List (Fact V)) (i : ℕ) (fact : Fact V) (path : List ℕ) → i < length facts
-    → fact ≡ get_or facts i fact → bytes_eq (string_bytes fact.path) path ≡ true → value_of (drop i facts) path ≡ Some fact.value
+    → fact ≡ get_or facts i fact → bytes_eq (string_bytes fact.path) path ≡ true
+    → value_of (drop i facts) path ≡ Some fact.value
 value_found facts i fact path within is test = value_next facts i fact path true within is test
 
 pub value_passed : {V : Type 0} (facts : List (Fact V)) (i : ℕ) (fact : Fact V) (path : List ℕ) → i < length facts
@@ -22,5 +24,6 @@ pub value_passed : {V : Type 0} (facts : List (Fact V)) (i : ℕ) (fact : Fact V
     → value_of (drop i facts) path ≡ value_of (drop (i + 1) facts) path
 value_passed facts i fact path within is test = value_next facts i fact path false within is test
 
-pub value_none : {V : Type 0} (facts : List (Fact V)) (i : ℕ) (path : List ℕ) → length facts ≤ i → value_of (drop i facts) path ≡ None
+pub value_none : {V : Type 0} (facts : List (Fact V)) (i : ℕ) (path : List ℕ) → length facts ≤ i
+    → value_of (drop i facts) path ≡ None
 value_none {V} facts i path all = ap (λ (l : List (Fact V)). value_of l path) (drop_all i facts all)

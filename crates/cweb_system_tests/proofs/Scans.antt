@@ -43,7 +43,8 @@ step_longer (Move from to node) k bytes = omega arith
 step_longer (Remove at) k bytes = omega arith
 
 -- A file has at most one byte for each change.
-pub bytes_short : (log : List Change) (k : FileKey) (bytes : List ℕ) → length (bytes_by log k bytes) ≤ length bytes + length log
+pub bytes_short : (log : List Change) (k : FileKey) (bytes : List ℕ)
+    → length (bytes_by log k bytes) ≤ length bytes + length log
 bytes_short [] k bytes = omega arith
 bytes_short (c ∷ log) k bytes =
     let rest = bytes_short log k (bytes_step c k bytes) in
@@ -73,13 +74,15 @@ first_set (x ∷ xs) b some = refl
 -- A byte of the rest is read into the first place.
 pub next_byte : (bytes piece : List ℕ) (n b : ℕ) → slice_get bytes n ≡ Some b → 0 < length piece
     → drop n bytes ≡ take 1 (slice_set piece 0 b) ++ drop (n + 1) bytes
-next_byte bytes piece n b is some = after_byte bytes n b is ∙ ap (λ (l : List ℕ). l ++ drop (n + 1) bytes) (sym (first_set piece b some))
+next_byte bytes piece n b is some =
+    after_byte bytes n b is ∙ ap (λ (l : List ℕ). l ++ drop (n + 1) bytes) (sym (first_set piece b some))
 
 pub first_byte : (piece : List ℕ) → 0 < length piece → take 1 piece ≡ get_or piece 0 0 ∷ []
 first_byte [] some = absurd (omega arith)
 first_byte (x ∷ xs) some = refl
 
-moded_file : (k key : FileKey) (mode : ℕ) (found : Option Node) → IsFile k (node_with_mode key mode found) → IsFile k found
+moded_file : (k key : FileKey) (mode : ℕ) (found : Option Node)
+    → IsFile k (node_with_mode key mode found) → IsFile k found
 moded_file k key mode None is = is
 moded_file k key mode (Some (Node.File f m)) is = is
 moded_file k key mode (Some Node.Link) is = is
@@ -116,7 +119,8 @@ step_below (Create at key mode) found p k m is old = by_test (bytes_eq (string_b
     by_test false now = old now
 step_below (Append key byte) found p k m is old = old
 step_below (SetMode key mode) found p k m is old = λ now. old (moded_file k key mode found now)
-step_below (Move from to node) found p k m is old = by_test (bytes_eq (string_bytes to) p) (bytes_eq (string_bytes from) p)
+step_below (Move from to node) found p k m is old =
+    by_test (bytes_eq (string_bytes to) p) (bytes_eq (string_bytes from) p)
   where
     by_test : (a b : Bool) → IsFile k (cond a (Some node) (cond b None found)) → k.number < m
     by_test true b now = above k to node m (moves from to node m is) now
@@ -128,8 +132,8 @@ step_below (Remove at) found p k m is old = by_test (bytes_eq (string_bytes at) 
     by_test true now = absurd now
     by_test false now = old now
 
-pub below_next : (log : List Change) (i n m : ℕ) (c : Change) → i < length log → c ≡ get_or log i c → n ≤ m → IsAbove c m
-    → KeysBelow n (take i log) → KeysBelow m (take (i + 1) log)
+pub below_next : (log : List Change) (i n m : ℕ) (c : Change) → i < length log → c ≡ get_or log i c → n ≤ m
+    → IsAbove c m → KeysBelow n (take i log) → KeysBelow m (take (i + 1) log)
 below_next log i n m c within is le above' below p k now = step_below c (nodes_by (take i log) p None) p k m above'
     (λ was. at_most (below p k was)) (subst (λ (o : Option Node). IsFile k o) (nodes_next log i c p within is) now)
   where
@@ -144,7 +148,8 @@ pub none_is : (o : Option Node) → is_some o ≡ false → o ≡ None
 none_is None test = refl
 none_is (Some x) test = cc
 
-pub match_some : {A : Type 0} (o : Option A) (a : A) (P : Type 0) (Q : A → Type 0) → o ≡ Some a → MatchOption o P Q → Q a
+pub match_some : {A : Type 0} (o : Option A) (a : A) (P : Type 0) (Q : A → Type 0) → o ≡ Some a
+    → MatchOption o P Q → Q a
 match_some {A} o a P Q is holds = subst (λ (x : Option A). MatchOption x P Q) is holds
 
 pub match_none : {A : Type 0} (o : Option A) (P : Type 0) (Q : A → Type 0) → o ≡ None → MatchOption o P Q → P

@@ -7,8 +7,9 @@ use Rattle.cweb_store.specs.Parts.{Token, Name}
 use Rattle.cweb_store.specs.Calls.{Stored}
 use Rattle.cweb_out.specs.Expansion.{names, joined, use_of, resolved_use, expanded_name, put}
 use Rattle.cweb_out.specs.surface.FrameSuffixes.{suffix}
+use Rattle.cweb_out.specs.declared.expander.Expander.{Expander}
 use Rattle.cweb_out.specs.declared.frame.Frame.{Frame}
-use Rattle.cweb_out.specs.surface.FrameStacks.{RanksAreBelow, rank, left}
+use Rattle.cweb_out.specs.surface.FrameStacks.{IsReady, RanksAreBelow, rank, left}
 
 -- The rank of the top frame's owner, or a bound if there is no frame.
 abbrev pub top_rank : Stored → ℕ → List Frame → ℕ
@@ -56,3 +57,9 @@ pub record Advances (w : Stored) (old new : List Frame) (t : Token) : Type 0 whe
 pub record Enters (w : Stored) (old new : List Frame) (r : NameRef) : Type 0 where
   pub left : left w new ≡ put w (expanded_name w (level w old)) (Name r) ++ left w old
   pub work : work_of w (names w) new < token_work w (name_work w (level w old)) (Name r) + work_of w (names w) old
+
+-- Only the stack changes.
+pub record KeepsExpander (old new : Expander) : Type 0 where
+  pub store : new.store ≡ old.store
+  pub plan : new.plan ≡ old.plan
+  pub valid : IsReady new

@@ -12,6 +12,7 @@ use Rattle.cweb_out.specs.Outputs.{root_list, start_of}
 use Rattle.cweb_out.specs.declared.frame.Frame.{Frame}
 use Rattle.cweb_out.specs.declared.outputs.search.Mark.{Mark}
 use Rattle.cweb_out.specs.declared.outputs.search.Mark.TheVariants.{Unseen, Waits, Ranked}
+use Rattle.cweb_out.specs.declared.outputs.search.Search.{Search}
 use Rattle.cweb_out.specs.declared.outputs.search.Waiting.{Waiting}
 
 abbrev pub mark_of : List Mark → NameId → Mark
@@ -68,6 +69,11 @@ pub record MarksFitPath (w : Stored) (marks : List Mark) (path : List Waiting) :
   pub marked : (n : NameId) → list_any (is_id n) (path_of path) ≡ true → mark_of marks n ≡ Waits
   pub new : AreNew [] (path_of path)
   pub within : PathIsWithin w path
+
+-- No name waits, and the marks agree with that.
+pub record IsIdle (w : Stored) (search : Search) : Type 0 where
+  pub fits : MarksFitPath w search.marks.items []
+  pub path : search.waiting.items ≡ []
 
 -- Names with a rank were skipped.
 pub record SkipsRanked (w : Stored) (marks : List Mark) (old new : List Token) : Type 0 where

@@ -1,5 +1,5 @@
 -- The model and invariant of a stack of frames.
-use Rattle.std.specs.Prelude.{ℕ, ◌≤◌, ◌<◌, ◌≡◌, ◌+◌, suc, zero, List, [], ◌∷◌, ◌++◌, true, Option, Some, None, length}
+use Rattle.std.specs.Prelude.{ℕ, ◌≤◌, ◌<◌, ◌≡◌, ◌+◌, suc, zero, List, [], ◌∷◌, ◌++◌, true, Option, Some, None, length, vec_capacity}
 use Rattle.std.specs.List.{list_all}
 use Rattle.cweb_names.specs.declared.name.NameId.{NameId}
 use Rattle.cweb_store.specs.Parts.{Token}
@@ -8,6 +8,7 @@ use Rattle.cweb_out.specs.Expansion.{names, uses, ends_below, list_ends, expand}
 use Rattle.cweb_out.specs.surface.Ranks.{name_rank}
 use Rattle.cweb_out.specs.Outputs.{root_list}
 use Rattle.cweb_out.specs.surface.FrameSuffixes.{FrameIsWithin, suffix}
+use Rattle.cweb_out.specs.declared.expander.Expander.{Expander}
 use Rattle.cweb_out.specs.declared.frame.Frame.{Frame}
 
 -- The expanded suffixes of all frames, top frame first. The bottom frame is first in the list and is expanded k deep.
@@ -48,6 +49,10 @@ pub record IsFrameStack (w : Stored) (fs : List Frame) (capacity : ℕ) : Type 0
   pub ranked : AreRanked w (names w) fs
   pub depth : length fs ≤ names w + 1
   pub room : capacity ≡ names w + 1
+
+-- The stack of an expander.
+abbrev pub IsReady : Expander → Type 0
+IsReady e = IsFrameStack e.store.now e.frames.items (vec_capacity e.frames)
 
 -- The tokens that an expander will still yield.
 abbrev pub left : Stored → List Frame → List Token

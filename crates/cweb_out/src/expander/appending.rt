@@ -1,6 +1,6 @@
 // Fast path of an expander: prints runs of direct tokens.
-ghost use Rattle.std.specs.Prelude.{◌≡◌, vec_capacity};
-ghost use Rattle.cweb_out.specs.surface.FrameStacks.{IsFrameStack, left};
+ghost use Rattle.std.specs.Prelude.{◌≡◌};
+ghost use Rattle.cweb_out.specs.surface.FrameStacks.{IsReady, left};
 ghost use Rattle.cweb_print.specs.inner.BufferedPrinting.{PrintsPrefix};
 ghost use Rattle.cweb_print.specs.surface.Printed.{setting_of};
 
@@ -10,10 +10,8 @@ use cweb_print::{OutBuffer, Printer};
 impl<'a> Expander<'a> {
     /// Prints the next tokens into the buffer, up to one that isn't direct or doesn't fit. No allocation.
     pub fn append(&mut self, printer: &mut Printer<'_>, buffer: &mut OutBuffer)
-        requires { IsFrameStack self.old.store.now self.old.frames.items
-            (vec_capacity self.old.frames) }
-        ensures valid { IsFrameStack self.new.store.now
-            self.new.frames.items (vec_capacity self.new.frames) }
+        requires { IsReady self.old }
+        ensures valid { IsReady self.new }
         ensures store { self.new.store ≡ self.old.store }
         ensures plan { self.new.plan ≡ self.old.plan }
         ensures setting { setting_of printer.new ≡ setting_of printer.old }

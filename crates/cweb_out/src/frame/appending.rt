@@ -2,8 +2,7 @@
 ghost use Rattle.std.specs.Prelude.{◌≡◌, ◌≢◌, ◌∷◌, [], None, IfSome, true, false};
 ghost use Rattle.cweb_store.specs.Parts.{Name};
 ghost use Rattle.cweb_out.specs.surface.FrameSuffixes.{FrameIsWithin, suffix};
-ghost use Rattle.cweb_print.specs.inner.BufferedPrinting.{PrintsPrefix};
-ghost use Rattle.cweb_print.specs.surface.Printed.{setting_of};
+ghost use Rattle.cweb_out.specs.inner.Frames.{KeepsFrame, PrintsFrame};
 
 use crate::frame::Frame;
 use cweb_print::{OutBuffer, Printer};
@@ -18,11 +17,8 @@ impl<'a> Frame<'a> {
         buffer: &mut OutBuffer,
     ) -> bool
         requires { FrameIsWithin store.now self.old }
-        ensures owner { self.new.owner ≡ self.old.owner }
-        ensures within { FrameIsWithin store.now self.new }
-        ensures setting { setting_of printer.new ≡ setting_of printer.old }
-        ensures prints { PrintsPrefix printer.old printer.new
-            (suffix store.now self.old) (suffix store.now self.new) buffer.old buffer.new }
+        ensures prints { PrintsFrame store.now
+            self.old self.new printer.old printer.new buffer.old buffer.new }
         ensures ended { result ≡ true → suffix store.now self.new ≡ [] }
         ensures goes_on { result ≡ false → suffix store.now self.new ≢ [] }
     {
@@ -45,13 +41,10 @@ impl<'a> Frame<'a> {
     fn append_part(&mut self, store: &Store, printer: &mut Printer<'_>, buffer: &mut OutBuffer)
         requires started { self.old.defs ≡ false }
         requires within { FrameIsWithin store.now self.old }
-        ensures owner { self.new.owner ≡ self.old.owner }
         ensures started { self.new.defs ≡ false }
         ensures rest { self.new.rest ≡ self.old.rest }
-        ensures within { FrameIsWithin store.now self.new }
-        ensures setting { setting_of printer.new ≡ setting_of printer.old }
-        ensures prints { PrintsPrefix printer.old printer.new
-            (suffix store.now self.old) (suffix store.now self.new) buffer.old buffer.new }
+        ensures prints { PrintsFrame store.now
+            self.old self.new printer.old printer.new buffer.old buffer.new }
     {
         if self.part.first < self.part.after {
             self.part.first = printer.append_range(store, self.part, buffer);
@@ -61,8 +54,7 @@ impl<'a> Frame<'a> {
     /// Takes the next token of the part if it is a use of a name, else nothing.
     pub fn take_name(&mut self, store: &Store) -> Option<NameRef>
         requires { FrameIsWithin store.now self.old }
-        ensures owner { self.new.owner ≡ self.old.owner }
-        ensures within { FrameIsWithin store.now self.new }
+        ensures keeps { KeepsFrame store.now self.old self.new }
         ensures some { IfSome result
             (λ name. suffix store.now self.old ≡ Name name ∷ suffix store.now self.new) }
         ensures none { result ≡ None → self.new ≡ self.old }

@@ -6,7 +6,7 @@ ghost use Rattle.cweb_out.specs.Expansion.{names, uses};
 ghost use Rattle.cweb_out.specs.surface.FrameSuffixes.{FrameIsWithin, suffix};
 ghost use Rattle.cweb_out.specs.inner.Outputs.{IsRoot};
 ghost use Rattle.cweb_out.specs.inner.Planning.{first_cycle};
-ghost use Rattle.cweb_out.specs.inner.Search.{Chain, MarksFitPath, Goes, FindsUnranked, Settles};
+ghost use Rattle.cweb_out.specs.inner.Search.{Chain, IsIdle, MarksFitPath, Goes, FindsUnranked, Settles};
 ghost use Rattle.cweb_out.specs.inner.Search.{SettlesList, Waited, back_to, is_marked, mark_of};
 ghost use Rattle.cweb_out.specs.inner.Search.{cycle_with_next};
 
@@ -82,7 +82,6 @@ fn add_from(names: &mut Vec<NameId>, first: NameId, name: NameId) -> Result<(), 
 #[derive(Drop)]
 pub(crate) struct Search<'a> {
     alloc: Global,
-    store: &'a Store,
     marks: Vec<Mark>,
     waiting: Vec<Waiting<'a>>,
 }
@@ -90,14 +89,11 @@ pub(crate) struct Search<'a> {
 impl<'a> Search<'a> {
     /// A search in which no name is marked.
     pub fn new(alloc: Global, store: &'a Store) -> Result<Search<'a>, AllocError>
-        ensures store { IfOk result (λ s. s.store ≡ store.entry) }
-        ensures fits { IfOk result (λ s. MarksFitPath store.now s.marks.items []) }
-        ensures path { IfOk result (λ s. s.waiting.items ≡ []) }
+        ensures { IfOk result (λ s. IsIdle store.now s) }
     {
         let count = store.names();
         Ok(Search {
             alloc,
-            store,
             marks: vec![in alloc; Mark::Unseen; count as usize]?,
             waiting: Vec::new(alloc),
         })
@@ -105,23 +101,23 @@ impl<'a> Search<'a> {
 
     /// Scans the list of a name, and depth-first those of the names that it uses, until each has a rank. Returns a
     /// cycle if one of them uses a waiting name.
-    pub fn settle(&mut self, name: NameId) -> Result<Option<Vec<NameId>>, AllocError>
-        requires name { name.0 < names self.old.store.now }
-        requires fits { MarksFitPath self.old.store.now self.old.marks.items [] }
-        requires path { self.old.waiting.items ≡ [] }
-        ensures store { self.new.store ≡ self.old.store }
-        ensures fits { IfOk result
-            (λ cycle. cycle ≡ None → MarksFitPath self.old.store.now self.new.marks.items []) }
-        ensures path { IfOk result (λ cycle. cycle ≡ None → self.new.waiting.items ≡ []) }
+    pub fn settle(
+        &mut self,
+        store: &'a Store,
+        name: NameId,
+    ) -> Result<Option<Vec<NameId>>, AllocError>
+        requires name { name.0 < names store.now }
+        requires idle { IsIdle store.now self.old }
+        ensures idle { IfOk result (λ cycle. cycle ≡ None → IsIdle store.now self.new) }
         ensures settles { IfOk result
-            (λ cycle. Settles self.old.store.now name (option_map (λ names. names.items) cycle)) }
+            (λ cycle. Settles store.now name (option_map (λ names. names.items) cycle)) }
     {
         if is_ranked(self.marks.as_slice(), name) {
             return Ok(None);
         }
-        self.wait(name)?;
+        self.wait(store, name)?;
         'names: while let Some(top) = self.waiting.pop() {
-            if let Some(again) = self.go_on(top)? {
+            if let Some(again) = self.go_on(store, top)? {
                 return Ok(Some(self.back_to(again)?));
             }
         }
@@ -129,37 +125,32 @@ impl<'a> Search<'a> {
     }
 
     /// Settles the names that the list of an output uses, in order.
-    pub fn settle_list(&mut self, root: Option<NameId>) -> Result<Option<Vec<NameId>>, AllocError>
-        requires root { IsRoot self.old.store.now root }
-        requires fits { MarksFitPath self.old.store.now self.old.marks.items [] }
-        requires path { self.old.waiting.items ≡ [] }
-        ensures store { self.new.store ≡ self.old.store }
-        ensures fits { IfOk result
-            (λ cycle. cycle ≡ None → MarksFitPath self.old.store.now self.new.marks.items []) }
-        ensures path { IfOk result (λ cycle. cycle ≡ None → self.new.waiting.items ≡ []) }
+    pub fn settle_list(
+        &mut self,
+        store: &'a Store,
+        root: Option<NameId>,
+    ) -> Result<Option<Vec<NameId>>, AllocError>
+        requires root { IsRoot store.now root }
+        requires idle { IsIdle store.now self.old }
+        ensures idle { IfOk result (λ cycle. cycle ≡ None → IsIdle store.now self.new) }
         ensures settles { IfOk result (λ cycle.
-            SettlesList self.old.store.now root (option_map (λ names. names.items) cycle)) }
+            SettlesList store.now root (option_map (λ names. names.items) cycle)) }
     {
         match root {
-            Some(name) => self.settle(name),
-            None => self.settle_program(),
+            Some(name) => self.settle(store, name),
+            None => self.settle_program(store),
         }
     }
 
-    fn settle_program(&mut self) -> Result<Option<Vec<NameId>>, AllocError>
-        requires fits { MarksFitPath self.old.store.now self.old.marks.items [] }
-        requires path { self.old.waiting.items ≡ [] }
-        ensures store { self.new.store ≡ self.old.store }
-        ensures fits { IfOk result
-            (λ cycle. cycle ≡ None → MarksFitPath self.old.store.now self.new.marks.items []) }
-        ensures path { IfOk result (λ cycle. cycle ≡ None → self.new.waiting.items ≡ []) }
+    fn settle_program(&mut self, store: &'a Store) -> Result<Option<Vec<NameId>>, AllocError>
+        requires { IsIdle store.now self.old }
+        ensures idle { IfOk result (λ cycle. cycle ≡ None → IsIdle store.now self.new) }
         ensures settles { IfOk result (λ cycle.
-            SettlesList self.old.store.now None (option_map (λ names. names.items) cycle)) }
+            SettlesList store.now None (option_map (λ names. names.items) cycle)) }
     {
-        let store = self.store;
         let mut text = Frame::of_root(store, None);
         'names: while let Some(name) = next_unranked(store, self.marks.as_slice(), &mut text) {
-            if let Some(cycle) = self.settle(name)? {
+            if let Some(cycle) = self.settle(store, name)? {
                 return Ok(Some(cycle));
             }
         }
@@ -167,38 +158,36 @@ impl<'a> Search<'a> {
     }
 
     // Pushes a name onto the waiting path.
-    fn wait(&mut self, name: NameId) -> Result<(), AllocError>
-        requires name { name.0 < names self.old.store.now }
-        requires fit { MarksFitPath self.old.store.now self.old.marks.items self.old.waiting.items }
+    fn wait(&mut self, store: &'a Store, name: NameId) -> Result<(), AllocError>
+        requires name { name.0 < names store.now }
+        requires fit { MarksFitPath store.now self.old.marks.items self.old.waiting.items }
         requires unseen { mark_of self.old.marks.items name ≡ Mark.Unseen }
-        ensures store { self.new.store ≡ self.old.store }
-        ensures waits { OnOk result
-            (Waited self.old.store.now self.old.marks.items self.old.waiting.items
+        ensures { OnOk result
+            (Waited store.now self.old.marks.items self.old.waiting.items
             name self.new.marks.items self.new.waiting.items) }
     {
         self.marks[name.0 as usize] = Mark::Waits;
         self.waiting.push(Waiting {
             name,
-            text: Frame::of_root(self.store, Some(name)),
+            text: Frame::of_root(store, Some(name)),
         })?;
         Ok(())
     }
 
     // Scans on in the list of the last waiting name, up to a name without a rank. That name starts to wait, or is
     // returned if it waits already. Without such a name, the last waiting name gets its rank.
-    fn go_on(&mut self, top: Waiting<'a>) -> Result<Option<NameId>, AllocError>
-        requires name { top.name.0 < names self.old.store.now }
-        requires fits { MarksFitPath self.old.store.now self.old.marks.items
+    fn go_on(&mut self, store: &'a Store, top: Waiting<'a>) -> Result<Option<NameId>, AllocError>
+        requires name { top.name.0 < names store.now }
+        requires fits { MarksFitPath store.now self.old.marks.items
             (self.old.waiting.items ++ top ∷ []) }
-        requires chain { Chain self.old.store.now (self.old.waiting.items ++ top ∷ []) None }
-        ensures store { self.new.store ≡ self.old.store }
-        ensures goes { IfOk result (λ again.
-            Goes self.old.store.now self.old.marks.items
+        requires chain { Chain store.now (self.old.waiting.items ++ top ∷ []) None }
+        ensures { IfOk result (λ again.
+            Goes store.now self.old.marks.items
             (self.old.waiting.items ++ top.entry ∷ [])
             self.new.marks.items self.new.waiting.items again) }
     {
         let mut top = top;
-        let Some(used) = next_unranked(self.store, self.marks.as_slice(), &mut top.text) else {
+        let Some(used) = next_unranked(store, self.marks.as_slice(), &mut top.text) else {
             self.marks[top.name.0 as usize] = Mark::Ranked;
             return Ok(None);
         };
@@ -206,7 +195,7 @@ impl<'a> Search<'a> {
         if is_waiting(self.marks.as_slice(), used) {
             return Ok(Some(used));
         }
-        self.wait(used)?;
+        self.wait(store, used)?;
         Ok(None)
     }
 
@@ -235,7 +224,7 @@ pub(crate) fn first_cycle(
 {
     let mut search = Search::new(alloc, store)?;
     'roots: for root in roots {
-        if let Some(cycle) = search.settle_list(*root)? {
+        if let Some(cycle) = search.settle_list(store, *root)? {
             return Ok(Some(cycle));
         }
     }

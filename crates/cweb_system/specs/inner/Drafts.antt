@@ -1,6 +1,6 @@
 -- Drafts in a tree, and what the calls for them do.
-use Rattle.std.specs.Prelude.{◌≡◌, ◌<◌, ◌⊎◌, ℕ, List, [], ◌∷◌, ◌++◌, Bool, Contains, IfErr, IsTrue, Option, Result, Some, None, ⊤, false, string_bytes, vec_len, vec_capacity}
-use Rattle.cweb_system.specs.declared.drafts.Draft.{Draft}
+use Rattle.std.specs.Prelude.{◌≡◌, ◌<◌, ◌⊎◌, ℕ, List, [], ◌∷◌, ◌++◌, Bool, Contains, IfErr, IfOk, IsTrue, OnErr, OnOk, Option, Result, Some, None, ⊤, false, string_bytes, vec_len, vec_capacity}
+use Rattle.cweb_system.specs.declared.drafts.path.Draft.{Draft}
 use Rattle.cweb_system.specs.declared.node.FileFault.{FileFault}
 use Rattle.cweb_system.specs.declared.node.FileKey.{FileKey}
 use Rattle.cweb_system.specs.declared.node.Node.{Node}
@@ -10,11 +10,7 @@ use Rattle.cweb_system.specs.FileSet.{keys_in}
 use Rattle.cweb_system.specs.Steps.{AreDecent, Disk, IsDraftPlace}
 use Rattle.cweb_system.specs.Tree.{Tree, at, IsFile, Removes}
 use Rattle.cweb_system.specs.inner.Keys.{is_among}
-use Rattle.cweb_system.specs.inner.Written.{HasNameAlone, IsNew, Leaves}
-
--- A draft's path: a name with byte 127 after it.
-abbrev pub IsDraftPath : List ℕ → Type 0
-IsDraftPath path = (name : List ℕ) × (path ≡ name ++ 127 ∷ [])
+use Rattle.cweb_system.specs.inner.Written.{HasFiles, HasNameAlone, IsNew, IsUnnamed, Leaves}
 
 -- A file is only under drafts' paths.
 abbrev pub IsDraftAlone : FileKey → Tree → Type 0
@@ -50,12 +46,12 @@ pub record DraftIsThere {H : Type 0} (key : H → FileKey) (written : List Writt
   pub opened : key draft.file ≡ draft.key
   pub there : IsFile draft.key (at tree (string_bytes draft.path))
   pub new : IsNew draft.key written
-  pub path : string_bytes draft.path ≡ string_bytes draft.name ++ 127 ∷ []
   pub alone : IsAlone draft.key (string_bytes draft.path) tree
 
--- The draft is there, as far as contracts know.
-abbrev pub HasDraft : {H : Type 0} → (H → FileKey) → RunFiles → Draft H → Disk → Type 0
-HasDraft key files draft disk = IsTrue disk.tells → DraftIsThere key files.written.items draft disk.tree
+-- The committed files and the draft are there, as far as contracts know.
+pub record HasDraft {H : Type 0} (key : H → FileKey) (run : RunFiles) (begun : Draft H) (disk : Disk) : Type 0 where
+  pub files : HasFiles run.written.items disk
+  pub draft : IsTrue disk.tells → DraftIsThere key run.written.items begun disk.tree
 
 -- The file of a draft can be recorded when it is committed.
 abbrev pub CanPut : RunFiles → FileKey → Type 0
@@ -71,9 +67,11 @@ pub record IsApart (name : List ℕ) (key : FileKey) (files : RunFiles) (tree : 
   pub unread : IsUnread (keys_in files.read) name tree
   pub others : (found : FileKey) → IsFile found (at tree name) → HasNameAlone name found files.written.items
 
--- The entry under a path is removed, or nothing changes.
-abbrev pub Clears : List ℕ → Tree → Tree → Type 0
-Clears path old new = (new.place ≡ old.place) × (Removes path old new ⊎ (new ≡ old))
+-- The entry under a path is removed in a decent step, or nothing changes.
+pub record Clears (path : List ℕ) (old new : Disk) : Type 0 where
+  pub decent : (read : List FileKey) → KeepsDecent read old new
+  pub place : IsTrue old.tells → new.tree.place ≡ old.tree.place
+  pub removes : IsTrue old.tells → Removes path old.tree new.tree ⊎ (new.tree ≡ old.tree)
 
 -- What is at `path` now has this key and the permissions of the file that was under `name`.
 abbrev pub KeepsMode : List ℕ → List ℕ → FileKey → Tree → Tree → Type 0
@@ -108,6 +106,24 @@ IfCanPlace files draft disk P = IsTrue disk.tells
 abbrev pub HasCause : {A : Type 0} → Bool → Result A FileFault → Type 0
 HasCause failed result = IfErr result (λ fault. (fault ≡ FileFault.Memory → ⊥) → IsTrue failed)
 
+-- The committed files are left alone. If a draft's path can be cleared, an error has a cause.
+pub record Prepares {A : Type 0} (path : List ℕ) (files : RunFiles) (old new : Disk) (result : Result A FileFault)
+    : Type 0 where
+  pub leaves : LeavesFiles files old new
+  pub cause : IsTrue old.tells → IsClearable files (at old.tree path) → HasCause new.failed result
+
+-- If nothing is in the way of a commit, a call has failed where it does. A file was committed under the draft's name
+-- only if it may be replaced.
+pub record AnswersCommit {H : Type 0} (files : RunFiles) (draft : Draft H) (old new : Disk)
+    (result : Result Bool FileFault) : Type 0 where
+  pub cause : IfCanPlace files draft old (OnErr result (IsTrue new.failed))
+  pub first : IsTrue old.tells → IfOk result (λ replaces. replaces ≡ false
+      → IsUnnamed (string_bytes draft.name) files.written.items)
+
 -- Nothing is at a path, or a call has failed.
 abbrev pub IsCleared : List ℕ → Disk → Type 0
 IsCleared path disk = (at disk.tree path ≡ None) ⊎ IsTrue disk.failed
+
+-- A call that succeeds has cleared a path.
+abbrev pub Frees : {A : Type 0} → List ℕ → Disk → Disk → Result A FileFault → Type 0
+Frees path old new result = IsTrue old.tells → OnOk result (IsCleared path new)

@@ -1,13 +1,13 @@
 // Drafts are put in place, or discarded.
-ghost use Rattle.std.specs.Prelude.{◌≡◌, None, Some, IsTrue, IsOk, IfOk, OnOk, OnErr, false, string_bytes};
+ghost use Rattle.std.specs.Prelude.{◌≡◌, None, Some, IsTrue, IsOk, IfOk, OnOk, OnErr, string_bytes};
 ghost use Rattle.cweb_system.specs.FileSet.{keys_in};
 ghost use Rattle.cweb_system.specs.Tree.{IsFile, at};
-ghost use Rattle.cweb_system.specs.inner.Drafts.{DraftIsThere, HasDraft, IfCanPlace, IsApart, IsCleared, KeepsDecent};
+ghost use Rattle.cweb_system.specs.inner.Drafts.{AnswersCommit, DraftIsThere, HasDraft, IsApart, IsCleared, KeepsDecent};
 ghost use Rattle.cweb_system.specs.inner.Drafts.{KeepsMode, LeavesFiles};
-ghost use Rattle.cweb_system.specs.inner.Written.{HasFiles, IsUnnamed, Leaves, Places};
+ghost use Rattle.cweb_system.specs.inner.Written.{Leaves, Places};
 
-use crate::drafts::Draft;
 use crate::drafts::steps::{remove_at, rename_draft, set_draft_mode};
+use crate::drafts::{Draft, DraftPath};
 use crate::file_system::FileSystem;
 use crate::node::{FileFault, Node};
 use crate::run_files::RunFiles;
@@ -20,23 +20,21 @@ pub fn put_in_place<F: FileSystem>(
     draft: &Draft<F::File>,
     files: &RunFiles,
 ) -> Result<bool, FileFault>
-    requires files { HasFiles files.now.written.items (F.disk fs.old) }
-    requires draft { HasDraft F.key files.now draft.now (F.disk fs.old) }
+    requires { HasDraft F.key files.now draft.now (F.disk fs.old) }
     ensures decent { KeepsDecent (keys_in files.now.read) (F.disk fs.old) (F.disk fs.new) }
-    ensures ok { IsTrue (F.disk fs.old).tells → OnOk result (Places (string_bytes draft.now.name) draft.now.key
-        files.now.written.items (F.disk fs.old).tree (F.disk fs.new).tree) }
+    ensures ok { IsTrue (F.disk fs.old).tells → OnOk result
+        (Places (string_bytes draft.now.name) draft.now.key files.now.written.items
+        (F.disk fs.old).tree (F.disk fs.new).tree) }
     ensures err { IsTrue (F.disk fs.old).tells → OnErr result
         (Leaves files.now.written.items (F.disk fs.old).tree (F.disk fs.new).tree) }
     ensures stays { IsTrue (F.disk fs.old).tells → OnErr result
         (DraftIsThere F.key files.now.written.items draft.now (F.disk fs.new).tree) }
-    ensures mode { IsTrue (F.disk fs.old).tells → OnOk result (KeepsMode (string_bytes draft.now.name)
-        (string_bytes draft.now.name) draft.now.key (F.disk fs.old).tree (F.disk fs.new).tree) }
+    ensures mode { IsTrue (F.disk fs.old).tells → OnOk result
+        (KeepsMode (string_bytes draft.now.name) (string_bytes draft.now.name) draft.now.key
+        (F.disk fs.old).tree (F.disk fs.new).tree) }
     ensures gone { IsTrue (F.disk fs.old).tells → OnOk result
         (at (F.disk fs.new).tree (string_bytes draft.now.path) ≡ None) }
-    ensures first { IsTrue (F.disk fs.old).tells → IfOk result (λ replaces. replaces ≡ false →
-        IsUnnamed (string_bytes draft.now.name) files.now.written.items) }
-    ensures cause { IfCanPlace files.now draft.now (F.disk fs.old)
-        (OnErr result (IsTrue (F.disk fs.new).failed)) }
+    ensures answers { AnswersCommit files.now draft.now (F.disk fs.old) (F.disk fs.new) result }
 {
     if draft.is_device {
         return Ok(true);
@@ -49,8 +47,8 @@ pub fn put_in_place<F: FileSystem>(
 
 /// The permissions of the draft. It is an error if it isn't there.
 fn own_mode<F: FileSystem>(fs: &F, draft: &Draft<F::File>) -> Result<u32, FileFault>
-    ensures ok { IsTrue (F.disk fs.now).tells → IfOk result (λ mode.
-        at (F.disk fs.now).tree (string_bytes draft.now.path) ≡ Some (Node.File draft.now.key mode)) }
+    ensures ok { IsTrue (F.disk fs.now).tells → IfOk result (λ mode. at (F.disk fs.now).tree
+        (string_bytes draft.now.path) ≡ Some (Node.File draft.now.key mode)) }
     ensures never { IsTrue (F.disk fs.now).tells →
         IsFile draft.now.key (at (F.disk fs.now).tree (string_bytes draft.now.path)) → IsOk result }
 {
@@ -69,22 +67,19 @@ fn keep_mode<F: FileSystem>(
     mode: u32,
     files: &RunFiles,
 ) -> Result<bool, FileFault>
-    requires files { HasFiles files.now.written.items (F.disk fs.old) }
-    requires draft { HasDraft F.key files.now draft.now (F.disk fs.old) }
+    requires { HasDraft F.key files.now draft.now (F.disk fs.old) }
     ensures leaves { LeavesFiles files.now (F.disk fs.old) (F.disk fs.new) }
     ensures stays { IsTrue (F.disk fs.old).tells →
         DraftIsThere F.key files.now.written.items draft.now (F.disk fs.new).tree }
-    ensures bytes { IsTrue (F.disk fs.old).tells → (F.disk fs.new).tree.bytes ≡ (F.disk fs.old).tree.bytes }
-    ensures mode { IsTrue (F.disk fs.old).tells →
-        at (F.disk fs.old).tree (string_bytes draft.now.path) ≡ Some (Node.File draft.now.key mode) →
+    ensures bytes { IsTrue (F.disk fs.old).tells →
+        (F.disk fs.new).tree.bytes ≡ (F.disk fs.old).tree.bytes }
+    ensures mode { IsTrue (F.disk fs.old).tells → at (F.disk fs.old).tree
+        (string_bytes draft.now.path) ≡ Some (Node.File draft.now.key mode) →
         OnOk result (KeepsMode (string_bytes draft.now.name)
         (string_bytes draft.now.path) draft.now.key (F.disk fs.old).tree (F.disk fs.new).tree) }
     ensures apart { IsTrue (F.disk fs.old).tells → OnOk result
         (IsApart (string_bytes draft.now.name) draft.now.key files.now (F.disk fs.new).tree) }
-    ensures first { IsTrue (F.disk fs.old).tells → IfOk result (λ replaces. replaces ≡ false →
-        IsUnnamed (string_bytes draft.now.name) files.now.written.items) }
-    ensures cause { IfCanPlace files.now draft.now (F.disk fs.old)
-        (OnErr result (IsTrue (F.disk fs.new).failed)) }
+    ensures answers { AnswersCommit files.now draft.now (F.disk fs.old) (F.disk fs.new) result }
 {
     match fs.look(draft.name.as_str()) {
         Some(Node::File(found, kept)) => {
@@ -106,19 +101,16 @@ fn keep_mode<F: FileSystem>(
 
 /// Deletes the draft. Another file that has its path by now stays.
 pub fn discard<F: FileSystem>(fs: &mut F, draft: Draft<F::File>, files: &RunFiles)
-    requires files { HasFiles files.now.written.items (F.disk fs.old) }
-    requires draft { HasDraft F.key files.now draft (F.disk fs.old) }
+    requires { HasDraft F.key files.now draft (F.disk fs.old) }
     ensures leaves { LeavesFiles files.now (F.disk fs.old) (F.disk fs.new) }
-    ensures gone { IsTrue (F.disk fs.old).tells → IsCleared (string_bytes draft.path) (F.disk fs.new) }
+    ensures gone { IsTrue (F.disk fs.old).tells →
+        IsCleared (string_bytes draft.path) (F.disk fs.new) }
 {
-    let Draft {
-        name: _,
-        path,
-        key,
-        file: _held,
-        is_device,
-    } = draft;
-    if !is_device && is_at(fs, path.as_str(), key) {
-        let _ = remove_at(fs, path.as_str());
+    if !draft.is_device && is_at(fs, draft.path.as_str(), draft.key) {
+        let path = DraftPath {
+            name: draft.name.as_str(),
+            text: draft.path.as_str(),
+        };
+        let _ = remove_at(fs, path);
     }
 }

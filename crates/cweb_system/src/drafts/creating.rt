@@ -4,11 +4,10 @@ ghost use Rattle.std.specs.Prelude.{true};
 ghost use Rattle.cweb_system.specs.declared.node.FileKey.{FileKey};
 ghost use Rattle.cweb_system.specs.FileSet.{keys_in};
 ghost use Rattle.cweb_system.specs.Tree.{IsFile, at};
-ghost use Rattle.cweb_system.specs.inner.Drafts.{IsDraftPath};
-ghost use Rattle.cweb_system.specs.inner.Drafts.{Begins, Clears, HasCause, IsClearable, IsCleared, KeepsDecent};
-ghost use Rattle.cweb_system.specs.inner.Drafts.{LeavesFiles};
+ghost use Rattle.cweb_system.specs.inner.Drafts.{Begins, Clears, Frees, HasCause, IsCleared, LeavesFiles, Prepares};
 ghost use Rattle.cweb_system.specs.inner.Written.{HasFiles};
 
+use crate::drafts::DraftPath;
 use crate::drafts::steps::{create_at, remove_at};
 use crate::file_set::FileSet;
 use crate::file_system::FileSystem;
@@ -21,18 +20,14 @@ const TURNS: u32 = 100_000;
 /// Clears the draft's path and creates the draft.
 pub fn created<F: FileSystem>(
     fs: &mut F,
-    path: &str,
+    path: DraftPath<'_>,
     mode: Option<u32>,
     files: &RunFiles,
 ) -> Result<(F::File, FileKey), FileFault>
-    requires files { HasFiles files.now.written.items (F.disk fs.old) }
-    requires draft { IsDraftPath path.now }
-    ensures leaves { LeavesFiles files.now (F.disk fs.old) (F.disk fs.new) }
-    ensures begun { IsTrue (F.disk fs.old).tells → IfOk result (λ made.
-        Begins path.now (F.key made.0) made.1 files.now.written.items (F.disk fs.new).tree) }
-    ensures cause { IsTrue (F.disk fs.old).tells →
-        IsClearable files.now (at (F.disk fs.old).tree path.now) →
-        HasCause (F.disk fs.new).failed result }
+    requires { HasFiles files.now.written.items (F.disk fs.old) }
+    ensures leaves { Prepares path.entry.text.now files.now (F.disk fs.old) (F.disk fs.new) result }
+    ensures begun { IsTrue (F.disk fs.old).tells → IfOk result (λ made. Begins path.entry.text.now
+        (F.key made.0) made.1 files.now.written.items (F.disk fs.new).tree) }
 {
     for _ in 0..TURNS {
         if let Some(made) = created_now(fs, path, mode, files)? {
@@ -45,22 +40,19 @@ pub fn created<F: FileSystem>(
 /// Tries once to create a draft. `None`: its path was taken and is cleared now, or another run removed the new draft.
 fn created_now<F: FileSystem>(
     fs: &mut F,
-    path: &str,
+    path: DraftPath<'_>,
     mode: Option<u32>,
     files: &RunFiles,
 ) -> Result<Option<(F::File, FileKey)>, FileFault>
-    requires files { HasFiles files.now.written.items (F.disk fs.old) }
-    requires draft { IsDraftPath path.now }
-    ensures leaves { LeavesFiles files.now (F.disk fs.old) (F.disk fs.new) }
-    ensures begun { IsTrue (F.disk fs.old).tells → IfOk result (λ tried. IfSome tried (λ made.
-        Begins path.now (F.key made.0) made.1 files.now.written.items (F.disk fs.new).tree)) }
-    ensures cause { IsTrue (F.disk fs.old).tells →
-        IsClearable files.now (at (F.disk fs.old).tree path.now) →
-        HasCause (F.disk fs.new).failed result }
+    requires { HasFiles files.now.written.items (F.disk fs.old) }
+    ensures leaves { Prepares path.entry.text.now files.now (F.disk fs.old) (F.disk fs.new) result }
+    ensures begun { IsTrue (F.disk fs.old).tells → IfOk result (λ tried. IfSome tried
+        (λ made. Begins path.entry.text.now (F.key made.0) made.1 files.now.written.items
+        (F.disk fs.new).tree)) }
     ensures gone { IsTrue (F.disk fs.old).tells → IfOk result (λ tried. tried ≡ None →
-        IsCleared path.now (F.disk fs.new)) }
-    ensures free { IsTrue (F.disk fs.old).tells → at (F.disk fs.old).tree path.now ≡ None →
-        IfOk result IsSome }
+        IsCleared path.entry.text.now (F.disk fs.new)) }
+    ensures free { IsTrue (F.disk fs.old).tells →
+        at (F.disk fs.old).tree path.entry.text.now ≡ None → IfOk result IsSome }
 {
     match create_at(fs, path, mode)? {
         Some(file) => match locked(fs, path, &file)? {
@@ -77,19 +69,18 @@ fn created_now<F: FileSystem>(
 /// Locks a draft that was just created. `None`: another run has locked and removed it first, as a leftover.
 fn locked<F: FileSystem>(
     fs: &mut F,
-    path: &str,
+    path: DraftPath<'_>,
     file: &F::File,
 ) -> Result<Option<FileKey>, FileFault>
-    requires draft { IsDraftPath path.now }
-    requires made { IsTrue (F.disk fs.old).tells →
-        IsFile (F.key file.now) (at (F.disk fs.old).tree path.now) }
+    requires { IsTrue (F.disk fs.old).tells →
+        IsFile (F.key file.now) (at (F.disk fs.old).tree path.text.now) }
     ensures tells { (F.disk fs.new).tells ≡ (F.disk fs.old).tells }
     ensures same { IsTrue (F.disk fs.old).tells → F.disk fs.new ≡ F.disk fs.old }
     ensures key { IsTrue (F.disk fs.old).tells → result ≡ Ok (Some (F.key file.now)) }
 {
     // A system without locks is no error.
     let _ = fs.lock(file);
-    match key_at(fs, path, file) {
+    match key_at(fs, path.text, file) {
         Ok(key) => Ok(key),
         Err(fault) => {
             let _ = remove_at(fs, path);
@@ -100,7 +91,8 @@ fn locked<F: FileSystem>(
 
 /// The identity of an open file, if a path names that file.
 fn key_at<F: FileSystem>(fs: &F, path: &str, file: &F::File) -> Result<Option<FileKey>, FileFault>
-    ensures { IsTrue (F.disk fs.now).tells → IsFile (F.key file.now) (at (F.disk fs.now).tree path.now) →
+    ensures { IsTrue (F.disk fs.now).tells →
+        IsFile (F.key file.now) (at (F.disk fs.now).tree path.now) →
         result ≡ Ok (Some (F.key file.now)) }
 {
     let key = fs.key_of(file)?;
@@ -112,19 +104,15 @@ fn key_at<F: FileSystem>(fs: &F, path: &str, file: &F::File) -> Result<Option<Fi
 }
 
 /// Removes a leftover at the draft's path. It is an error if a folder is there, or a file that was read or written.
-fn clear<F: FileSystem>(fs: &mut F, path: &str, files: &RunFiles) -> Result<(), FileFault>
-    requires files { HasFiles files.now.written.items (F.disk fs.old) }
-    requires draft { IsDraftPath path.now }
-    ensures leaves { LeavesFiles files.now (F.disk fs.old) (F.disk fs.new) }
+fn clear<F: FileSystem>(fs: &mut F, path: DraftPath<'_>, files: &RunFiles) -> Result<(), FileFault>
+    requires { HasFiles files.now.written.items (F.disk fs.old) }
+    ensures leaves { Prepares path.entry.text.now files.now (F.disk fs.old) (F.disk fs.new) result }
     ensures read { IsTrue (F.disk fs.old).tells → (key : FileKey) →
-        IsFile key (at (F.disk fs.old).tree path.now) →
+        IsFile key (at (F.disk fs.old).tree path.entry.text.now) →
         Contains (keys_in files.now.read) key → IsErr result }
-    ensures gone { IsTrue (F.disk fs.old).tells → OnOk result (IsCleared path.now (F.disk fs.new)) }
-    ensures cause { IsTrue (F.disk fs.old).tells →
-        IsClearable files.now (at (F.disk fs.old).tree path.now) →
-        HasCause (F.disk fs.new).failed result }
+    ensures gone { Frees path.entry.text.now (F.disk fs.old) (F.disk fs.new) result }
 {
-    match fs.look(path) {
+    match fs.look(path.text) {
         None => Ok(()),
         Some(Node::File(key, _)) => {
             if files.has_written(fs, key) || files.read.contains(key) {
@@ -140,14 +128,17 @@ fn clear<F: FileSystem>(fs: &mut F, path: &str, files: &RunFiles) -> Result<(), 
 }
 
 /// Removes a link or a device at the draft's path. It is an error if the run has read what is there.
-fn clear_other<F: FileSystem>(fs: &mut F, path: &str, files: &RunFiles) -> Result<(), FileFault>
-    requires draft { IsDraftPath path.now }
-    requires other { IsTrue (F.disk fs.old).tells → (key : FileKey) →
-        IsFile key (at (F.disk fs.old).tree path.now) → ⊥ }
+fn clear_other<F: FileSystem>(
+    fs: &mut F,
+    path: DraftPath<'_>,
+    files: &RunFiles,
+) -> Result<(), FileFault>
+    requires { IsTrue (F.disk fs.old).tells → (key : FileKey) →
+        IsFile key (at (F.disk fs.old).tree path.text.now) → ⊥ }
     ensures leaves { LeavesFiles files.now (F.disk fs.old) (F.disk fs.new) }
-    ensures gone { IsTrue (F.disk fs.old).tells → OnOk result (IsCleared path.now (F.disk fs.new)) }
+    ensures gone { Frees path.entry.text.now (F.disk fs.old) (F.disk fs.new) result }
 {
-    if is_read(fs, path, &files.read) {
+    if is_read(fs, path.text, &files.read) {
         return Err(FileFault::Other);
     }
     remove_left(fs, path)
@@ -164,17 +155,20 @@ fn is_read<F: FileSystem>(fs: &F, path: &str, read: &FileSet) -> bool {
 }
 
 /// Waits until no run holds a draft, and removes it if it is still there. If it may not be opened, there is no wait.
-fn clear_file<F: FileSystem>(fs: &mut F, path: &str, left: FileKey) -> Result<(), FileFault>
-    requires draft { IsDraftPath path.now }
-    ensures decent { (read : List FileKey) → KeepsDecent read (F.disk fs.old) (F.disk fs.new) }
-    ensures clears { IsTrue (F.disk fs.old).tells →
-        Clears path.now (F.disk fs.old).tree (F.disk fs.new).tree }
-    ensures gone { IsTrue (F.disk fs.old).tells → IsFile left (at (F.disk fs.old).tree path.now) →
-        OnOk result (IsCleared path.now (F.disk fs.new)) }
-    ensures cause { IsTrue (F.disk fs.old).tells → IsFile left (at (F.disk fs.old).tree path.now) →
+fn clear_file<F: FileSystem>(
+    fs: &mut F,
+    path: DraftPath<'_>,
+    left: FileKey,
+) -> Result<(), FileFault>
+    ensures clears { Clears path.entry.text.now (F.disk fs.old) (F.disk fs.new) }
+    ensures gone { IsTrue (F.disk fs.old).tells →
+        IsFile left (at (F.disk fs.old).tree path.entry.text.now) →
+        OnOk result (IsCleared path.entry.text.now (F.disk fs.new)) }
+    ensures cause { IsTrue (F.disk fs.old).tells →
+        IsFile left (at (F.disk fs.old).tree path.entry.text.now) →
         HasCause (F.disk fs.new).failed result }
 {
-    let (is_there, _held) = locked_left(fs, path, left)?;
+    let (is_there, _held) = locked_left(fs, path.text, left)?;
     if is_there {
         return remove_left(fs, path);
     }
@@ -205,12 +199,9 @@ fn locked_left<F: FileSystem>(
 }
 
 /// Removes a leftover at a draft's path, if it is still there.
-fn remove_left<F: FileSystem>(fs: &mut F, path: &str) -> Result<(), FileFault>
-    requires { IsDraftPath path.now }
-    ensures decent { (read : List FileKey) → KeepsDecent read (F.disk fs.old) (F.disk fs.new) }
-    ensures clears { IsTrue (F.disk fs.old).tells →
-        Clears path.now (F.disk fs.old).tree (F.disk fs.new).tree }
-    ensures gone { IsTrue (F.disk fs.old).tells → OnOk result (IsCleared path.now (F.disk fs.new)) }
+fn remove_left<F: FileSystem>(fs: &mut F, path: DraftPath<'_>) -> Result<(), FileFault>
+    ensures clears { Clears path.entry.text.now (F.disk fs.old) (F.disk fs.new) }
+    ensures gone { Frees path.entry.text.now (F.disk fs.old) (F.disk fs.new) result }
     ensures cause { IsTrue (F.disk fs.old).tells → HasCause (F.disk fs.new).failed result }
 {
     match remove_at(fs, path) {

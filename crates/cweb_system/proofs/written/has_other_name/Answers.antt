@@ -1,8 +1,8 @@
 use Rattle.std.proofs.Common.{◌≡◌, subst, string_bytes, arith, List}
 use Rattle.std.proofs.lemmas.List.{take_all}
 use Rattle.std.proofs.lemmas.List.Elements.{All-more}
-use Rattle.std.specs.Prelude.{All}
 use Rattle.cweb_system.specs.declared.written.WrittenFile.{WrittenFile}
+use Rattle.cweb_system.specs.inner.Written.{HasNameAlone}
 use Rattle.cweb_system.proofs.written.has_other_name.Goals as goal
 
 pub loop-file-preserved : goal.loop-file-preserved
@@ -14,5 +14,5 @@ loop-file-preserved g c = λ tells.
 
 pub returns-clause-value : goal.returns-clause-value
 returns-clause-value g c = λ tells is.
-    subst (λ (ws : List WrittenFile). All (λ (w : WrittenFile). w.key ≡ c.args.key → string_bytes w.name ≡ c.args.name.now) ws)
+    subst (λ (ws : List WrittenFile). HasNameAlone c.args.name.now c.args.key ws)
     (take_all c.loop-file.file-index c.args.written.now (omega arith)) (c.loop-file.invariant tells)

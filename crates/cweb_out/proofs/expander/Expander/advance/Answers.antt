@@ -1,4 +1,4 @@
-use Rattle.cweb_out.proofs.Common.{◌≡◌, ◌-◌, arith, ◌∙◌, vec_capacity, refl, vec_len, slice_set, take-set, Stored, token_model}
+use Rattle.cweb_out.proofs.Common.{◌≡◌, ◌-◌, arith, ◌∙◌, vec_capacity, refl, vec_len, slice_set, take-set, token_model}
 use Rattle.cweb_out.proofs.Tops.{HasTop, TopMoved, lower, valid_lower, top_ended, top_moved}
 use Rattle.cweb_out.proofs.expander.Expander.advance.Goals as goal
 
@@ -18,17 +18,20 @@ moved c =
     let top : HasTop (vec_len frames) frames.items c.in-Some.frame.now =
     record { count = frames.ok.0; some = c.in-Some.ensures.item.3.0; is = c.in-Some.ensures.value } in
     top_moved c.frames.invariant.valid c.frames.invariant.left
-    c.frames.invariant.work top c.in-Some-take.ensures.some c.in-Some-take.ensures.within c.take.ensures.owner
+    c.frames.invariant.work top c.in-Some-take.ensures.some c.take.ensures.keeps.within c.take.ensures.keeps.owner
 
-pub returns-in-Some-take-clause-valid : goal.returns-in-Some-take-clause-valid
-returns-in-Some-take-clause-valid c = rw c.frames.invariant.store (moved c).valid
+pub returns-in-Some-take-clause-keeps : goal.returns-in-Some-take-clause-keeps
+returns-in-Some-take-clause-keeps c = record {
+  store = c.frames.invariant.store;
+  plan = c.frames.invariant.plan;
+  valid = rw c.frames.invariant.store (moved c).valid;
+}
 
 pub returns-in-Some-take-clause-some : goal.returns-in-Some-take-clause-some
 returns-in-Some-take-clause-some c = (moved c).advances
 
 pub frames-preserved : goal.frames-preserved
 frames-preserved c =
-    let w : Stored = c.args.self.now.store.now in
     let frames = c.frames.self.frames in
     let top : HasTop (vec_len frames) frames.items c.in-Some.frame.now =
     record { count = frames.ok.0; some = c.in-Some.ensures.item.3.0; is = c.in-Some.ensures.value } in

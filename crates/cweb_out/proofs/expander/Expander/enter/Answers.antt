@@ -1,9 +1,9 @@
-use Rattle.cweb_out.proofs.Common.{◌≡◌, ◌∷◌, vec_capacity, sym, ap, ◌∙◌, subst, Some, length, rules, All, all_tokens, Stored, resolved_use, joined, PartIsWithin, tokens_of_parts}
+use Rattle.cweb_out.proofs.Common.{◌≡◌, ◌∷◌, vec_capacity, refl, sym, ap, ◌∙◌, subst, Some, length, rules, All, all_tokens, Stored, resolved_use, joined, PartIsWithin, tokens_of_parts}
 use Rattle.cweb_out.proofs.StackUses.{Entered, entered}
 use Rattle.cweb_out.proofs.expander.Expander.enter.Goals as goal
 
-abbrev all : (c : goal.After-put) → Entered c.args.self.now.store.now
-    c.args.self.now.frames.items c.put.new.self.frames.items c.args.name (vec_capacity c.put.new.self.frames)
+abbrev all : (c : goal.After-push_reserved) → Entered c.args.self.now.store.now
+    c.args.self.now.frames.items c.push_reserved.new.self.items c.args.name (vec_capacity c.push_reserved.new.self)
 all c =
     let w : Stored = c.args.self.now.store.now in
     let h : c.parts-rest.result ≡ c.in-Some-next.part ∷ c.next.new.self = c.in-Some-next.ensures.steps in
@@ -12,17 +12,17 @@ all c =
     ap (tokens_of_parts w) (sym h) ∙ c.parts-rest.ensures.text in
     let within : All (PartIsWithin (length (all_tokens w.parts))) (c.in-Some-next.part ∷ c.next.new.self) =
     subst (All (PartIsWithin (length (all_tokens w.parts)))) h c.parts-rest.ensures.within in
-    entered c.in-Some.id c.in-Some-next.part c.next.new.self
-    c.requires.valid c.put.ensures.room c.requires.below c.requires.lower e text within c.put.ensures.frames
+    entered c.in-Some.id c.in-Some-next.part c.next.new.self c.requires.valid c.push_reserved.ensures.capacity
+    c.requires.below c.requires.lower e text within c.push_reserved.ensures.items
 
-pub returns-clause-valid : goal.returns-clause-valid
-returns-clause-valid c = rw c.put.ensures.store (all c).valid
+pub returns-clause-keeps : goal.returns-clause-keeps
+returns-clause-keeps c = record { store = refl; plan = refl; valid = (all c).valid }
 
 pub returns-clause-enters : goal.returns-clause-enters
 returns-clause-enters c = (all c).enters
 
-pub returns-in_default-next-clause-valid : goal.returns-in_default-next-clause-valid
-returns-in_default-next-clause-valid c = search rules
+pub returns-in_default-next-clause-keeps : goal.returns-in_default-next-clause-keeps
+returns-in_default-next-clause-keeps c = search rules
 
 pub returns-in_default-next-clause-enters : goal.returns-in_default-next-clause-enters
 returns-in_default-next-clause-enters c = search rules

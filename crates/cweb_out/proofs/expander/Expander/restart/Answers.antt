@@ -7,15 +7,15 @@ pub returns-clause-valid : goal.returns-clause-valid
 returns-clause-valid c =
     let w : Stored = c.args.self.now.store.now in
     let frame = c.of_root-frame.result in
-    let e : c.put.new.self.frames.items ≡ frame ∷ [] = c.put.ensures.frames
+    let e : c.push_reserved.new.self.items ≡ frame ∷ [] = c.push_reserved.ensures.items
     ∙ ap (λ fs. fs ++ frame ∷ []) c.clear.ensures.items in
     let b : RanksAreBelow w (names w) (uses w (suffix w frame)) =
     ap (λ ts. list_all (ends_below w (names w)) (uses w ts))
     (c.of_root-frame.ensures.list ∙ ap (root_list w) c.root.ensures)
     ∙ root_below w c.args.self.now.plan.now c.args.root c.requires.made c.requires.root in
-    let r : vec_capacity c.put.new.self.frames ≡ names w + 1 = c.put.ensures.room
+    let r : vec_capacity c.push_reserved.new.self ≡ names w + 1 = c.push_reserved.ensures.capacity
     ∙ c.clear.ensures.capacity
     ∙ c.requires.valid.room in
     let l : suffix w frame ≡ root_list w frame.owner = c.of_root-frame.ensures.list
     ∙ ap (root_list w) (sym c.of_root-frame.ensures.owner) in
-    rw c.put.ensures.store (Valid-one e c.of_root-frame.ensures.within b r l)
+    Valid-one e c.of_root-frame.ensures.within b r l

@@ -1,4 +1,4 @@
-use Rattle.cweb_out.proofs.Common.{all_tokens, slice_range}
+use Rattle.cweb_out.proofs.Common.{all_tokens, refl, rules, slice_range}
 use Rattle.cweb_out.proofs.PrintedPrefixes.{prefix_none}
 use Rattle.cweb_out.proofs.Suffixes.{suffix-passed}
 use Rattle.cweb_out.proofs.frame.Frame.append_part.Goals as goal
@@ -7,13 +7,19 @@ pub returns-then-self-clause-prints : goal.returns-then-self-clause-prints
 returns-then-self-clause-prints c =
     let run = c.append_range-self in
     record {
-      done = slice_range (all_tokens c.args.store.now.parts) c.args.self.now.part.first run.result;
-      whole = suffix-passed c.args.store.now c.args.self.now run.result
-          c.requires.started run.ensures.from run.ensures.upto;
-      direct = run.ensures.direct;
-      moves = run.ensures.moves;
-      prints = run.ensures.prints;
+      owner = refl;
+      within = search rules;
+      setting = search rules;
+      prints = record {
+        done = slice_range (all_tokens c.args.store.now.parts) c.args.self.now.part.first run.result;
+        whole = suffix-passed c.args.store.now c.args.self.now run.result
+            c.requires.started run.ensures.from run.ensures.upto;
+        direct = run.ensures.direct;
+        moves = run.ensures.moves;
+        prints = run.ensures.prints;
+      };
     }
 
 pub returns-else-self-clause-prints : goal.returns-else-self-clause-prints
-returns-else-self-clause-prints c = prefix_none
+returns-else-self-clause-prints c =
+    record { owner = refl; within = c.requires.within; setting = refl; prints = prefix_none }

@@ -19,5 +19,5 @@ returns-clause-some c = c.parts.invariant.same
     ∙ suffix-first _ c.parts.invariant.started
     (omega (arith, c.parts-test.false)) c.parts.invariant.within c.token-token.ensures
 
-pub returns-clause-owner : goal.returns-clause-owner
-returns-clause-owner c = search rules
+pub returns-clause-keeps : goal.returns-clause-keeps
+returns-clause-keeps c = search rules

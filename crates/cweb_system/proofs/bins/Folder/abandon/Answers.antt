@@ -7,7 +7,7 @@ use Rattle.cweb_system.proofs.bins.Folder.abandon.Goals as goal
 pub returns-in-Some-clause-gone : goal.returns-in-Some-clause-gone
 returns-in-Some-clause-gone g c = λ tells.
     let left = files_left c.args.self.now.files.written.items (g.F.FileSystem.disk c.args.self.now.fs).tree
-    (g.F.FileSystem.disk c.discard.new.fs).tree (c.requires.sound.files tells) (c.discard.ensures.leaves.leaves tells) in
+    _ (c.args.self.now.sound.files tells) (c.discard.ensures.leaves.leaves tells) in
     λ i. record {
       files = left i;
       draft = option_map draft_name (c.take.ensures.after i);

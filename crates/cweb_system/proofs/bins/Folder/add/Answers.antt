@@ -1,7 +1,7 @@
 use Rattle.std.proofs.Common.{sym, ◌∙◌, subst, Option}
 use Rattle.std.specs.Prelude.{option_map, take}
 use Rattle.cweb_files.specs.Bins.{refusal}
-use Rattle.cweb_system.specs.declared.drafts.Draft.{Draft}
+use Rattle.cweb_system.specs.declared.drafts.path.Draft.{Draft}
 use Rattle.cweb_system.specs.Bins.{draft_name}
 use Rattle.cweb_system.specs.inner.FolderSound.{IsDraftSound}
 use Rattle.cweb_system.proofs.Views.{appending, files_left}
@@ -10,14 +10,15 @@ use Rattle.cweb_system.proofs.bins.Folder.add.Goals as goal
 pub returns-in-Ok-clause-beside : goal.returns-in-Ok-clause-beside
 returns-in-Ok-clause-beside g c = λ tells.
     let was = sym c.take.ensures.value ∙ c.in-Some.is in
-    let sound = (subst (λ (o : Option (Draft g.row.F-File.Denot)). IsDraftSound g.F.FileSystem c.args.self.now o) was
-    c.requires.sound.draft).1 tells in
+    let sound = (subst (λ (o : Option (Draft g.row.F-File.Denot)). IsDraftSound g.F.FileSystem.key
+    c.args.self.now.files o (g.F.FileSystem.disk c.args.self.now.fs)) was c.args.self.now.sound.draft).1 tells in
     let ws = c.args.self.now.files.written.items in
     let old = (g.F.FileSystem.disk c.args.self.now.fs).tree in
     let new = (g.F.FileSystem.disk c.write_to-taken.new.fs).tree in
-    let left = files_left ws old new (c.requires.sound.files tells)
+    let wrote = c.in-Ok.ensures.does.changes in
+    let left = files_left ws old new (c.args.self.now.sound.files tells)
     (appending ws c.in-Some.draft.key (g.F.FileSystem.key c.in-Some.draft.file) (take c.in-Ok.n c.args.piece.now)
-    old new sound.new sound.opened (c.in-Ok.ensures.changes.place tells) (c.in-Ok.ensures.changes.ok tells)) in
+    old new sound.new sound.opened (wrote.place tells) (wrote.ok tells)) in
     λ i. record {
       files = left i;
       draft = option_map draft_name (sym was i);

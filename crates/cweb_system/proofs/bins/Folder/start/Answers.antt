@@ -1,30 +1,28 @@
-use Rattle.std.proofs.Common.{◌∙◌, ap, Some, None}
-use Rattle.std.specs.Prelude.{IsTrue}
+use Rattle.std.proofs.Common.{◌∙◌, Some, None}
 use Rattle.cweb_files.specs.Bins.{refusal}
-use Rattle.cweb_files.specs.Files.{Beside}
 use Rattle.cweb_system.proofs.Views.{files_then}
 use Rattle.cweb_system.proofs.bins.Folder.start.Goals as goal
 
 pub returns-in-Ok-clause-begun : goal.returns-in-Ok-clause-begun
 returns-in-Ok-clause-begun g c = λ tells.
-    let kept : IsTrue (g.F.FileSystem.disk c.abandon.new.self.fs).tells = c.abandon.ensures.keeps.decent.tells ∙ tells in
+    let kept = c.abandon.ensures.keeps.decent.tells ∙ tells in
     let gone = c.abandon.ensures.gone tells in
-    let files = files_then c.begin.ensures.written (c.abandon.ensures.sound.files kept)
-    (c.begin.ensures.leaves.leaves kept) (ap (λ (b : Beside). b.files) gone) in
+    let files = files_then c.begin.ensures.written (c.abandon.new.self.sound.files kept)
+    (c.begin.ensures.leaves.leaves kept) (λ i. (gone i).files) in
     λ i. record { files = files i; draft = Some (c.in-Ok.ensures.named i); refused = None }
 
 pub returns-then-eq-clause-err : goal.returns-then-eq-clause-err
 returns-then-eq-clause-err g c = λ tells.
-    let kept : IsTrue (g.F.FileSystem.disk c.abandon.new.self.fs).tells = c.abandon.ensures.keeps.decent.tells ∙ tells in
+    let kept = c.abandon.ensures.keeps.decent.tells ∙ tells in
     let gone = c.abandon.ensures.gone tells in
-    let files = files_then c.begin.ensures.written (c.abandon.ensures.sound.files kept)
-    (c.begin.ensures.leaves.leaves kept) (ap (λ (b : Beside). b.files) gone) in
-    λ i. record { files = files i; draft = ap (λ (b : Beside). b.draft) gone i; refused = Some (refusal c.bin_fault-fault.result) }
+    let files = files_then c.begin.ensures.written (c.abandon.new.self.sound.files kept)
+    (c.begin.ensures.leaves.leaves kept) (λ i. (gone i).files) in
+    λ i. record { files = files i; draft = (gone i).draft; refused = Some (refusal c.bin_fault-fault.result) }
 
 pub returns-else-eq-clause-err : goal.returns-else-eq-clause-err
 returns-else-eq-clause-err g c = λ tells.
-    let kept : IsTrue (g.F.FileSystem.disk c.abandon.new.self.fs).tells = c.abandon.ensures.keeps.decent.tells ∙ tells in
+    let kept = c.abandon.ensures.keeps.decent.tells ∙ tells in
     let gone = c.abandon.ensures.gone tells in
-    let files = files_then c.begin.ensures.written (c.abandon.ensures.sound.files kept)
-    (c.begin.ensures.leaves.leaves kept) (ap (λ (b : Beside). b.files) gone) in
-    λ i. record { files = files i; draft = ap (λ (b : Beside). b.draft) gone i; refused = Some (refusal c.bin_fault-fault.result) }
+    let files = files_then c.begin.ensures.written (c.abandon.new.self.sound.files kept)
+    (c.begin.ensures.leaves.leaves kept) (λ i. (gone i).files) in
+    λ i. record { files = files i; draft = (gone i).draft; refused = Some (refusal c.bin_fault-fault.result) }

@@ -19,14 +19,14 @@ returns-in_ok-set_draft_mode-in-Some-File-clause-apart g c = λ tells.
     let old = (g.F.FileSystem.disk c.args.fs.now).tree in
     let new = (g.F.FileSystem.disk c.set_draft_mode.new.fs).tree in
     let name = string_bytes c.args.draft.now.name in
+    let set = c.in_ok-set_draft_mode-in-Some-File.ensures.changes in
     let allowed : c.may_replace.result ≡ true = search rules in
     let apart : c.in-Some-File.found ≡ c.args.draft.now.key → ⊥ = search rules in
     let same : (k : FileKey) → IsFile k (at new name) → c.in-Some-File.found ≡ k = λ k now.
     subst (IsFile k) (sym (rw c.as_str.ensures.value at (c.look.ensures tells)) ∙ c.in-Some-File.is
     ∙ ap Some c.in-Some-File.field-0-is)
-    (subst (λ (f : List ℕ → List ℕ). IsFile k (old.node (f name))) (c.in_ok-set_draft_mode-in-Some-File.ensures.changes.place tells)
-    (set_back (g.F.FileSystem.key c.args.draft.now.file) c.in-Some-File.kept old new
-    (c.in_ok-set_draft_mode-in-Some-File.ensures.changes.ok tells) k (new.place name) now)) in
+    (subst (λ (f : List ℕ → List ℕ). IsFile k (old.node (f name))) (set.place tells)
+    (set_back (g.F.FileSystem.key c.args.draft.now.file) c.in-Some-File.kept old new (set.ok tells) k _ now)) in
     record {
       own = λ now. apart (same c.args.draft.now.key now);
       unread = λ k among now. c.may_replace.ensures.unread allowed

@@ -5,11 +5,11 @@ use Rattle.cweb_system.proofs.drafts.creating.created.Goals as goal
 
 pub loop-preserved : goal.loop-preserved
 loop-preserved g c = record {
-  leaves = leaves_files_then c.loop.invariant.leaves c.created_now.ensures.leaves;
+  leaves = leaves_files_then c.loop.invariant.leaves c.created_now.ensures.leaves.leaves;
   turn = λ tells.
       let here : IsTrue (g.F.FileSystem.disk c.loop.fs).tells = c.loop.invariant.leaves.decent.tells ∙ tells in
       let none : c.in_ok-made.field-0 ≡ None = search rules in
-      ⊎_elim (λ failed. inl (c.created_now.ensures.leaves.decent.failed here failed))
+      ⊎_elim (λ failed. inl (c.created_now.ensures.leaves.leaves.decent.failed here failed))
       (⊎_elim
       (λ first. ⊎_elim (λ free. inr (inr (ap (λ (n : ℕ). n + 1) first.0, free))) (λ failed. inl failed)
       (c.in_ok-made.ensures.gone here none))

@@ -9,5 +9,5 @@ invariant-loop g l = record {
   leaves : LeavesFiles l.files (g.F.FileSystem.disk l.initial.fs) (g.F.FileSystem.disk l.fs);
   turn : IsTrue (g.F.FileSystem.disk l.initial.fs).tells → IsTrue (g.F.FileSystem.disk l.fs).failed
       ⊎ ((l.counter ≡ 0) × ((g.F.FileSystem.disk l.fs).tree ≡ (g.F.FileSystem.disk l.initial.fs).tree))
-      ⊎ ((l.counter ≡ 1) × (at (g.F.FileSystem.disk l.fs).tree l.path ≡ None));
+      ⊎ ((l.counter ≡ 1) × (at (g.F.FileSystem.disk l.fs).tree l.path.text.now ≡ None));
 }

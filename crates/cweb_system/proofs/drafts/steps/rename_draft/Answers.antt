@@ -10,7 +10,7 @@ returns-clause-changes g c = changes_then (λ _. MayRename _ _) _ _ _ c.rename.r
 
 pub returns-clause-decent : goal.returns-clause-decent
 returns-clause-decent g c read unread = keeps read
-    (λ _. Renames (string_bytes c.args.draft.now.path) (string_bytes c.args.draft.now.name)) _ _ c.rename.result
+    (λ _. Renames (string_bytes c.args.draft.now.path) (string_bytes c.args.draft.now.name))
     (returns-clause-changes g c)
     (λ tells done. renames_decent read (string_bytes c.args.draft.now.path) (string_bytes c.args.draft.now.name) _ _
-    (c.requires.path tells) (c.rename.ensures.place tells) (unread tells))
+    (string_bytes c.args.draft.now.name, c.args.draft.now.is_draft) (c.rename.ensures.place tells) (unread tells))

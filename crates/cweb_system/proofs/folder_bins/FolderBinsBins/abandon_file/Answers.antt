@@ -3,6 +3,5 @@ use Rattle.cweb_system.proofs.folder_bins.FolderBinsBins.abandon_file.Goals as g
 
 pub invariant_of-self : goal.invariant_of-self
 invariant_of-self g c = record {
-  sound = c.abandon.ensures.sound;
-  steps = steps_kept g.F.FileSystem c.args.self.now.folder c.abandon.new.self c.abandon.ensures.keeps c.args.self.now.steps;
+  steps = steps_kept g.F.FileSystem _ c.abandon.new.self c.abandon.ensures.keeps c.args.self.now.steps;
 }

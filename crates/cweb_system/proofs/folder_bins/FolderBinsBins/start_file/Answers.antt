@@ -3,6 +3,5 @@ use Rattle.cweb_system.proofs.folder_bins.FolderBinsBins.start_file.Goals as goa
 
 pub invariant_of-self : goal.invariant_of-self
 invariant_of-self g c = record {
-  sound = c.start.ensures.sound;
-  steps = steps_kept g.F.FileSystem c.args.self.now.folder c.start.new.self c.start.ensures.keeps c.args.self.now.steps;
+  steps = steps_kept g.F.FileSystem _ c.start.new.self c.start.ensures.keeps c.args.self.now.steps;
 }

@@ -25,7 +25,7 @@ write-tells g x c = record {
     step = λ tells. absurd (silent tells);
     failed = λ tells. absurd (silent tells);
   };
-  within = c.ensures.within;
-  some = c.ensures.some;
-  key = λ tells. refl;
+  within = c.ensures.passes.within;
+  some = c.ensures.passes.some;
+  same = λ tells. refl;
 }

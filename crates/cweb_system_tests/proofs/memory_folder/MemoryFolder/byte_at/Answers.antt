@@ -9,7 +9,14 @@ pub sought_after-sought-requires : goal.sought_after-sought-requires
 sought_after-sought-requires c =
     let items = c.deref-change-items.result.now in
     let short = bytes_short (take c.loop-change.change-index items) c.args.key [] in
-    omega (arith, short, c.loop-change.invariant.size, length-take c.loop-change.change-index items, c.loop-change-test.true, c.deref-change-items.ensures.len)
+    omega (
+      arith,
+      short,
+      c.loop-change.invariant.size,
+      length-take c.loop-change.change-index items,
+      c.loop-change-test.true,
+      c.deref-change-items.ensures.len,
+    )
 
 pub loop-change-preserved : goal.loop-change-preserved
 loop-change-preserved c =
@@ -17,7 +24,8 @@ loop-change-preserved c =
     c.loop-change-test.true c.change-item.is in
     let before = bytes_by (take c.loop-change.change-index c.deref-change-items.result.now) c.args.key [] in
     record {
-      size = c.sought_after-sought.ensures.size before c.loop-change.invariant.size ∙ ap (λ (b : List ℕ). length b) (sym next);
+      size = c.sought_after-sought.ensures.size before c.loop-change.invariant.size
+          ∙ ap (λ (b : List ℕ). length b) (sym next);
       byte = c.sought_after-sought.ensures.byte before c.loop-change.invariant.size c.loop-change.invariant.byte
           ∙ ap (λ (b : List ℕ). slice_get b c.args.position) (sym next);
     }

@@ -6,8 +6,8 @@ use Rattle.cweb_system_tests.proofs.memory_folder.MemoryFolder.make.Goals as goa
 
 pub returns-clause-step : goal.returns-clause-step
 returns-clause-step c =
-    let begun = c.args.self.now.begun in
-    let items : c.push_reserved.new.self.items ≡ c.args.self.now.log.items ++ c.args.change ∷ [] =
+    let folder = c.args.self.now in
+    let items : c.push_reserved.new.self.items ≡ folder.log.items ++ c.args.change ∷ [] =
     c.push_reserved.ensures.items ∙ ap (λ (l : List Change). l ++ c.args.change ∷ []) c.reserve.ensures.items in
-    inl (ap (λ (l : List Change). past_by c.args.self.now.layout (take begun l) (drop begun l)) items
-    ∙ past_push c.args.self.now.layout c.args.self.now.log.items begun c.args.change (omega (arith, c.args.self.now.begun_within)))
+    inl (ap (λ (l : List Change). past_by folder.layout (take folder.begun l) (drop folder.begun l)) items
+    ∙ past_push folder.layout folder.log.items folder.begun c.args.change (omega (arith, c.args.self.now.begun_within)))

@@ -8,8 +8,8 @@ use Rattle.cweb_system_tests.proofs.Scans.{on_ok}
 use Rattle.cweb_system_tests.proofs.memory_folder.MemoryFolder.put.Goals as goal
 
 pub returns-clause-ok : goal.returns-clause-ok
-returns-clause-ok c = on_ok c.make.result _ _
-    (λ (e : memory_tree c.make.new.self ≡ tree_of c.args.self.now.layout (c.args.self.now.log.items ++ Put c.in-Ok.at c.args.node ∷ [])).
-    subst (λ (t : Tree). Puts c.args.path.now c.args.node (memory_tree c.args.self.now) t) (sym e)
-    (puts c.args.self.now.layout c.args.self.now.log.items c.in-Ok.at c.args.path.now c.args.node (c.in-Ok.ensures.ok ∙ c.place.ensures)))
+returns-clause-ok c = let folder = c.args.self.now in on_ok c.make.result _ _
+    (λ (e : memory_tree c.make.new.self ≡ tree_of folder.layout (folder.log.items ++ Put c.in-Ok.at c.args.node ∷ [])).
+    subst (λ (t : Tree). Puts c.args.path.now c.args.node (memory_tree folder) t) (sym e)
+    (puts folder.layout folder.log.items c.in-Ok.at c.args.path.now c.args.node (c.in-Ok.ensures.ok ∙ c.place.ensures)))
     c.make.ensures.ok

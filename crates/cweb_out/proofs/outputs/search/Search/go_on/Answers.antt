@@ -6,12 +6,12 @@ use Rattle.cweb_out.proofs.outputs.search.Search.go_on.Goals as goal
 pub next_unranked-requires-clause-within : goal.next_unranked-requires-clause-within
 next_unranked-requires-clause-within c = top-within c.args.self.now.waiting.items c.args.top c.requires.fits
 
-pub returns-in_default-clause-goes : goal.returns-in_default-clause-goes
-returns-in_default-clause-goes c = goes-ranked c.args.top c.args.top.text c.requires.fits c.requires.chain
+pub returns-in_default : goal.returns-in_default
+returns-in_default c = goes-ranked c.args.top c.args.top.text c.requires.fits c.requires.chain
     (rw c.as_slice.ensures.value at (c.in_default.ensures.none refl)) refl
 
-pub returns-then-is_waiting-clause-goes : goal.returns-then-is_waiting-clause-goes
-returns-then-is_waiting-clause-goes c =
+pub returns-then-is_waiting : goal.returns-then-is_waiting
+returns-then-is_waiting c =
     let top : Waiting = record { name = c.args.top.name; text = c.next_unranked.new.text } in
     goes-back c.args.self.now.waiting.items c.args.top top c.requires.fits c.requires.chain refl
     c.next_unranked.ensures.within (rw c.as_slice.ensures.value at c.in-Some.ensures.meets) c.in_ok-push.ensures.items
@@ -23,9 +23,9 @@ wait-requires-clause-fit c =
     rw c.in_ok-push.ensures.items (fits-swap
     c.args.self.now.waiting.items c.args.top top refl c.next_unranked.ensures.within c.requires.fits)
 
-pub returns-clause-goes : goal.returns-clause-goes
-returns-clause-goes c =
+pub returns : goal.returns
+returns c =
     let top : Waiting = record { name = c.args.top.name; text = c.next_unranked.new.text } in
     goes-on
     c.args.self.now.waiting.items c.args.top top c.requires.fits c.requires.chain refl c.next_unranked.ensures.within
-    (rw c.as_slice.ensures.value at c.in-Some.ensures.meets) c.in_ok-push.ensures.items c.in_ok-wait.ensures.waits
+    (rw c.as_slice.ensures.value at c.in-Some.ensures.meets) c.in_ok-push.ensures.items c.in_ok-wait.ensures

@@ -5,15 +5,13 @@ use Rattle.cweb_out.proofs.outputs.search.Search.settle.Goals as goal
 
 pub go_on-requires-clause-name : goal.go_on-requires-clause-name
 go_on-requires-clause-name c =
-    let w : Stored = c.args.self.now.store.now in
     let top = c.in-Some.top in
-    rw c.names.invariant.store
-    (top-name top.name c.names.invariant.fits (rw c.in-Some.ensures.items (on-top c.pop.new.self.items top)))
+    top-name top.name c.names.invariant.fits (rw c.in-Some.ensures.items (on-top c.pop.new.self.items top))
 
 pub returns-in-Some-2-clause-settles : goal.returns-in-Some-2-clause-settles
 returns-in-Some-2-clause-settles c =
-    let w : Stored = c.args.self.now.store.now in
-    let goes = rw (c.in-Some-2.is, c.names.invariant.store) at c.in_ok-again.ensures.goes in
+    let w : Stored = c.args.store.now in
+    let goes = rw c.in-Some-2.is at c.in_ok-again.ensures in
     let begins : PathBegins w (c.pop.new.self.items ++ c.in-Some.top ∷ []) c.args.name =
     rw (← c.in-Some.ensures.items) c.names.invariant.begins in
     subst (IsEndless w c.args.name) (sym c.in_ok-back_to.ensures) (path-cycle c.go_on.new.self.waiting.items

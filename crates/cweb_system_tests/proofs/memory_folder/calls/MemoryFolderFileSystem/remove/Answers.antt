@@ -11,10 +11,10 @@ use Rattle.cweb_system_tests.proofs.memory_folder.calls.MemoryFolderFileSystem.r
 pub returns-in-Ok : goal.returns-in-Ok
 returns-in-Ok c = record {
   tells = refl;
-  ok = λ tells. on_ok c.make.result _ _
-      (λ (e : memory_tree c.make.new.self ≡ tree_of c.args.self.now.layout (c.args.self.now.log.items ++ Remove c.in-Ok.at ∷ [])).
-      subst (λ (t : Tree). Removes c.args.path.now (memory_tree c.args.self.now) t) (sym e)
-      (removes c.args.self.now.layout c.args.self.now.log.items c.in-Ok.at c.args.path.now c.in-Ok.ensures)) c.make.ensures.ok;
+  ok = λ tells. let folder = c.args.self.now in on_ok c.make.result _ _
+      (λ (e : memory_tree c.make.new.self ≡ tree_of folder.layout (folder.log.items ++ Remove c.in-Ok.at ∷ [])).
+      subst (λ (t : Tree). Removes c.args.path.now (memory_tree folder) t) (sym e)
+      (removes folder.layout folder.log.items c.in-Ok.at c.args.path.now c.in-Ok.ensures)) c.make.ensures.ok;
   err = λ tells. c.make.ensures.err;
   place = λ tells. ap place_in c.make.ensures.layout;
   step = λ tells. c.make.ensures.step;

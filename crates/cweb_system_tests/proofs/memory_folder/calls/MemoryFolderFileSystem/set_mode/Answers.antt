@@ -11,10 +11,10 @@ use Rattle.cweb_system_tests.proofs.memory_folder.calls.MemoryFolderFileSystem.s
 pub returns : goal.returns
 returns c = record {
   tells = refl;
-  ok = λ tells. on_ok c.make.result _ _
-      (λ (e : memory_tree c.make.new.self ≡ tree_of c.args.self.now.layout (c.args.self.now.log.items ++ SetMode c.args.file.now.key c.args.mode ∷ [])).
-      subst (λ (t : Tree). SetsMode (handle_key c.args.file.now) c.args.mode (memory_tree c.args.self.now) t) (sym e)
-      (sets_mode c.args.self.now.layout c.args.self.now.log.items c.args.file.now.key c.args.mode)) c.make.ensures.ok;
+  ok = λ tells. let folder = c.args.self.now in let key = c.args.file.now.key in on_ok c.make.result _ _
+      (λ (e : memory_tree c.make.new.self ≡ tree_of folder.layout (folder.log.items ++ SetMode key c.args.mode ∷ [])).
+      subst (λ (t : Tree). SetsMode (handle_key c.args.file.now) c.args.mode (memory_tree folder) t) (sym e)
+      (sets_mode folder.layout folder.log.items key c.args.mode)) c.make.ensures.ok;
   err = λ tells. c.make.ensures.err;
   place = λ tells. ap place_in c.make.ensures.layout;
   step = λ tells. c.make.ensures.step;

@@ -1,4 +1,4 @@
-use Rattle.std.proofs.Common.{◌≡◌, ◌∷◌, ◌++◌, [], ap, refl, sym, subst, ℕ, List, take, arith, get_or}
+use Rattle.std.proofs.Common.{◌<◌, ◌∷◌, ◌++◌, [], ap, refl, sym, subst, ℕ, List, take, arith, get_or, length}
 use Rattle.cweb_system_tests.specs.declared.memory_folder.log.Change.TheVariants.{Append}
 use Rattle.cweb_system.specs.Tree.{Tree, Appends}
 use Rattle.cweb_system_tests.specs.inner.Layout.{place_in}
@@ -8,20 +8,27 @@ use Rattle.cweb_system_tests.proofs.Changes.{appends}
 use Rattle.cweb_system_tests.proofs.Scans.{first_byte}
 use Rattle.cweb_system_tests.proofs.memory_folder.calls.MemoryFolderFileSystem.write.Goals as goal
 
-pub returns-clause-changes : goal.returns-clause-changes
-returns-clause-changes c = record {
-  tells = refl;
-  ok = λ tells.
-      let byte = get_or c.args.piece.now 0 0 in
-      let first : take 1 c.args.piece.now ≡ byte ∷ [] =
-      first_byte c.args.piece.now (grind (arith, c.is_empty.ensures, c.if-is_empty.false)) in
-      subst (λ (t : Tree). Appends (handle_key c.args.file.now) (take 1 c.args.piece.now) (memory_tree c.args.self.now) t)
-      (sym c.in_ok-make.ensures.ok)
-      (subst (λ (l : List ℕ). Appends (handle_key c.args.file.now) l (memory_tree c.args.self.now)
-      (tree_of c.args.self.now.layout (c.args.self.now.log.items ++ Append c.args.file.now.key byte ∷ []))) (sym first)
-      (appends c.args.self.now.layout c.args.self.now.log.items c.args.file.now.key byte));
-  err = λ tells. tt;
-  place = λ tells. ap place_in c.in_ok-make.ensures.layout;
-  step = λ tells. c.in_ok-make.ensures.step;
-  failed = λ tells. c.in_ok-make.ensures.failed;
+pub returns : goal.returns
+returns c = record {
+  changes = record {
+    tells = refl;
+    ok = λ tells.
+        let folder = c.args.self.now in
+        let key = c.args.file.now.key in
+        let byte = get_or c.args.piece.now 0 0 in
+        subst (λ (t : Tree). Appends key (take 1 c.args.piece.now) (memory_tree folder) t) (sym c.in_ok-make.ensures.ok)
+        (subst (λ (l : List ℕ). Appends key l (memory_tree folder) (tree_of folder.layout (folder.log.items
+        ++ Append key byte ∷ []))) (sym (first_byte c.args.piece.now some))
+        (appends folder.layout folder.log.items key byte));
+    err = λ tells. tt;
+    place = λ tells. ap place_in c.in_ok-make.ensures.layout;
+    step = λ tells. c.in_ok-make.ensures.step;
+    failed = λ tells. c.in_ok-make.ensures.failed;
+  };
+  within = omega (arith, some);
+  some = λ _. omega arith;
+  same = λ tells. refl;
 }
+  where
+    some : 0 < length c.args.piece.now
+    some = grind (arith, c.is_empty.ensures, c.if-is_empty.false)
