@@ -25,10 +25,13 @@ pub fn name_faults(
     alloc: Global,
     table: &NameTable,
     parts: &ClosedParts,
+    names: &KnownNames<'_>,
     resolutions: &[Result<NameId, NameKind>],
     files: &IndexSet<NameId>,
     heads: &Heads,
 ) -> Result<Vec<NameFault>, AllocError>
+    requires named { names.now.names ≡ spec.names table.now }
+    requires few_names { length names.now.names < 2 ^ 32 }
     requires settled { resolutions.now ≡ spec.resolutions table.now }
     requires files { files.now.keys ≡ spec.files table.now }
     requires few { length resolutions.now < 2 ^ 32 }
@@ -39,9 +42,9 @@ pub fn name_faults(
 {
     let mut faults = Vec::new(alloc);
     add_unresolved_faults(&mut faults, resolutions)?;
-    add_prefix_faults(&mut faults, table.names())?;
-    let used = parts.uses(alloc, resolutions, table.names().len())?;
-    add_missing_faults(&mut faults, table.names(), &used, files, heads)?;
+    add_prefix_faults(&mut faults, names)?;
+    let used = parts.uses(alloc, resolutions, names.len())?;
+    add_missing_faults(&mut faults, names, &used, files, heads)?;
     Ok(faults)
 }
 
@@ -65,7 +68,7 @@ fn add_unresolved_faults(
     Ok(())
 }
 
-fn add_prefix_faults(faults: &mut Vec<NameFault>, names: &KnownNames) -> Result<(), AllocError>
+fn add_prefix_faults(faults: &mut Vec<NameFault>, names: &KnownNames<'_>) -> Result<(), AllocError>
     requires { length names.now.names < 2 ^ 32 }
     ensures { OnOk result
         (faults.new.items
@@ -77,7 +80,7 @@ fn add_prefix_faults(faults: &mut Vec<NameFault>, names: &KnownNames) -> Result<
         return Ok(());
     }
     for number in 0..names.len() as u32 {
-        let fails = names.is_prefix(NameId(number))?;
+        let fails = names.is_prefix(NameId(number));
         add_fault_if(
             fails,
             faults,
@@ -92,7 +95,7 @@ fn add_prefix_faults(faults: &mut Vec<NameFault>, names: &KnownNames) -> Result<
 // Adds a fault for each name that is used, or is a file's, and has no part.
 fn add_missing_faults(
     faults: &mut Vec<NameFault>,
-    names: &KnownNames,
+    names: &KnownNames<'_>,
     used: &[bool],
     files: &IndexSet<NameId>,
     heads: &Heads,
@@ -128,7 +131,7 @@ fn is_missing(id: NameId, used: &[bool], files: &IndexSet<NameId>, heads: &Heads
 fn add_fault_if(
     fails: bool,
     faults: &mut Vec<NameFault>,
-    names: &KnownNames,
+    names: &KnownNames<'_>,
     id: NameId,
     kind: NameKind,
 ) -> Result<(), AllocError>

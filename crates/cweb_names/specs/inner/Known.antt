@@ -9,13 +9,13 @@ use Rattle.cweb_names.specs.declared.found.Found.TheVariants.{Nothing, One, Seve
 use Rattle.cweb_names.specs.Names.{Occurrence, Name, Resolution, id, spellings, beginning, with_occurrence_name}
 use Rattle.cweb_names.specs.inner.Found.{found_of, IsNameMap, NameEntry}
 
--- The spellings of the occurrences so far, and the names that are given in full among them.
+-- The spellings of all occurrences, and the names that are given in full among those so far.
 pub record NamesSoFar : Type 0 where
   pub strings : List (List ℕ)
   pub names : List Name
 
-abbrev pub no_names : NamesSoFar
-no_names = record { strings = []; names = [] }
+abbrev pub no_names : List (List ℕ) → NamesSoFar
+no_names strings = record { strings = strings; names = [] }
 
 -- The name that an occurrence first gives in full.
 abbrev pub name_at : List (List ℕ) → ℕ → Name

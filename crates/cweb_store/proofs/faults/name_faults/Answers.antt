@@ -13,7 +13,7 @@ returns c =
     ++ faults_where PrefixOfAnother (λ n text. is_prefix_of_another (spec.names os) text) (spec.names os) =
     c.in_ok-add_prefix_faults.ensures
     ∙ (λ i. first i ++ faults_where PrefixOfAnother
-    (λ n text. is_prefix_of_another (c.names.ensures.names i) text) (c.names.ensures.names i)) in
+    (λ n text. is_prefix_of_another (c.requires.named i) text) (c.requires.named i)) in
     let used : (n : NameId) → flag_of c.deref.result.now n ≡ is_used (spec.resolutions os) ps n = λ n.
     ap (λ fs. flag_of fs n) c.deref.ensures.value ∙ c.in_ok-used.ensures n
     ∙ ap (λ rs. is_used rs ps n) c.requires.settled in
@@ -24,4 +24,4 @@ returns c =
     ≡ is_missing os ps n =
     λ n i. (used n i || list_any (is_id n) (c.requires.files i)) && not (present n i) in
     c.in_ok-add_missing_faults.ensures
-    ∙ (λ i. second i ++ faults_where NotPresent (λ n text. missing n i) (c.names-3.ensures.names i))
+    ∙ (λ i. second i ++ faults_where NotPresent (λ n text. missing n i) (c.requires.named i))

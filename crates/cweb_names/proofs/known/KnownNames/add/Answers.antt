@@ -7,8 +7,8 @@ pub returns-then-id-next-clause-number : goal.returns-then-id-next-clause-number
 returns-then-id-next-clause-number c =
     let s = c.self.inside in
     let ns = names_at s.strings s.firsts.items in
-    let is : c.in_ok-key.key ≡ c.args.text.now = c.in_ok-key.ensures in
-    let stays = known-old s.sorted.entries ns c.in_ok-key.key
+    let is : c.new-key.result ≡ c.args.text.now = c.new-key.ensures in
+    let stays = known-old s.sorted.entries ns c.new-key.result
     _ c.in_ok-id.id c.self.invariant.sorted c.in_ok-id.ensures.ordered c.in_ok-id.ensures.number c.if-id-next.true in
     stays.place ∙ (λ i. position_or_len (bytes_eq (is i)) (spellings (c.self.view_is i).names))
 
@@ -17,8 +17,8 @@ returns-then-id-next-clause-names c =
     let s = c.self.inside in
     let ns = names_at s.strings s.firsts.items in
     let text = c.args.text.now in
-    let is : c.in_ok-key.key ≡ text = c.in_ok-key.ensures in
-    let stays = known-old s.sorted.entries ns c.in_ok-key.key
+    let is : c.new-key.result ≡ text = c.new-key.ensures in
+    let stays = known-old s.sorted.entries ns c.new-key.result
     _ c.in_ok-id.id c.self.invariant.sorted c.in_ok-id.ensures.ordered c.in_ok-id.ensures.number c.if-id-next.true in
     let there = ap (λ q. list_any (bytes_eq q) (spellings ns)) (sym is) ∙ stays.among in
     rw (c.in_ok-reserve.ensures.items, ← c.self.view_is) (sym (with_text-there c.args.first ns text there))
@@ -27,7 +27,7 @@ pub invariant_of-self-then-id-next : goal.invariant_of-self-then-id-next
 invariant_of-self-then-id-next c =
     let s = c.self.inside in
     let ns = names_at s.strings s.firsts.items in
-    let stays = known-old s.sorted.entries ns c.in_ok-key.key
+    let stays = known-old s.sorted.entries ns c.new-key.result
     _ c.in_ok-id.id c.self.invariant.sorted c.in_ok-id.ensures.ordered c.in_ok-id.ensures.number c.if-id-next.true in
     rw (c.in_ok-reserve.ensures.items, c.in_ok-id.ensures.entries, stays.same) c.self.invariant
 
@@ -35,9 +35,9 @@ pub invariant_of-self-2 : goal.invariant_of-self-2
 invariant_of-self-2 c =
     let s = c.self.inside in
     let ns = names_at s.strings s.firsts.items in
-    let key = c.in_ok-key.key in
+    let key = c.new-key.result in
     let v = c.in_ok-id.id in
-    let is : key ≡ c.args.text.now = c.in_ok-key.ensures in
+    let is : key ≡ c.args.text.now = c.new-key.ensures in
     let last : v.0 ≡ length ns =
     c.if-id-next.false ∙ c.len.ensures ∙ s.firsts.ok.0 ∙ sym (length-map s.firsts.items (name_at s.strings)) in
     let new : list_any (bytes_eq key) (spellings ns) ≡ false =
@@ -56,10 +56,10 @@ pub returns-clause-number : goal.returns-clause-number
 returns-clause-number c =
     let s = c.self.inside in
     let ns = names_at s.strings s.firsts.items in
-    let key = c.in_ok-key.key in
+    let key = c.new-key.result in
     let v = c.in_ok-id.id in
     let text = c.args.text.now in
-    let is : key ≡ text = c.in_ok-key.ensures in
+    let is : key ≡ text = c.new-key.ensures in
     let last : v.0 ≡ length ns =
     c.if-id-next.false ∙ c.len.ensures ∙ s.firsts.ok.0 ∙ sym (length-map s.firsts.items (name_at s.strings)) in
     let new : list_any (bytes_eq key) (spellings ns) ≡ false =
@@ -74,10 +74,10 @@ pub returns-clause-names : goal.returns-clause-names
 returns-clause-names c =
     let s = c.self.inside in
     let ns = names_at s.strings s.firsts.items in
-    let key = c.in_ok-key.key in
+    let key = c.new-key.result in
     let v = c.in_ok-id.id in
     let text = c.args.text.now in
-    let is : key ≡ text = c.in_ok-key.ensures in
+    let is : key ≡ text = c.new-key.ensures in
     let last : v.0 ≡ length ns =
     c.if-id-next.false ∙ c.len.ensures ∙ s.firsts.ok.0 ∙ sym (length-map s.firsts.items (name_at s.strings)) in
     let new : list_any (bytes_eq key) (spellings ns) ≡ false =
