@@ -20,7 +20,7 @@ use std::collections::BTreeMap;
 use std::marker::Model;
 
 /// The names that are given in full among occurrences, numbered in this order. A sorted map finds a name, and the names
-/// with a prefix. The index finds most names sooner. No text is copied.
+/// with a prefix. No text is copied.
 #[derive(Drop)]
 pub struct KnownNames<'a> {
     // the spellings of all occurrences
@@ -28,7 +28,6 @@ pub struct KnownNames<'a> {
     // for each name the number of the occurrence that first gave it in full
     firsts: Vec<u32>,
     sorted: BTreeMap<SortKey<'a>, NameId>,
-    index: NameIndex,
 }
 
 impl<'a> Model for KnownNames<'a> {
@@ -44,15 +43,14 @@ impl<'a> Model for KnownNames<'a> {
 }
 
 impl<'a> KnownNames<'a> {
-    /// No names, for `count` occurrences with these spellings.
-    pub(crate) fn new(alloc: Global, strings: StringSlices<'a>, count: usize) -> KnownNames<'a>
+    /// No names, for occurrences with these spellings.
+    pub(crate) fn new(alloc: Global, strings: StringSlices<'a>) -> KnownNames<'a>
         ensures { result ≡ no_names strings.entry }
     {
         KnownNames {
             strings,
             firsts: Vec::new(alloc),
             sorted: BTreeMap::new(alloc),
-            index: NameIndex::for_names(alloc, count),
         }
     }
 
@@ -63,8 +61,13 @@ impl<'a> KnownNames<'a> {
         self.firsts.len()
     }
 
-    /// Adds the name of an occurrence, if in full. Returns which names fit so far.
-    pub(crate) fn take(&mut self, number: u32, how: How) -> Result<Found, AllocError>
+    /// Adds the name of an occurrence, if in full. Returns which names fit so far. `index` has most of the names.
+    pub(crate) fn take(
+        &mut self,
+        index: &mut NameIndex,
+        number: u32,
+        how: How,
+    ) -> Result<Found, AllocError>
         requires within { number < length self.old.strings }
         requires few { length self.old.names < 2 ^ 32 }
         ensures found { IfOk result (λ found. found ≡ early self.old.names
@@ -76,14 +79,19 @@ impl<'a> KnownNames<'a> {
         match how {
             How::Full => {
                 let text = self.strings.string(number as usize);
-                Ok(Found::One(self.number_of(text, number)?))
+                Ok(Found::One(self.number_of(index, text, number)?))
             }
             How::Prefix => Ok(self.find(number)),
         }
     }
 
     // The number of the name with this spelling, that of occurrence `first`. The name is added if new.
-    fn number_of(&mut self, text: &'a [u8], first: u32) -> Result<NameId, AllocError>
+    fn number_of(
+        &mut self,
+        index: &mut NameIndex,
+        text: &'a [u8],
+        first: u32,
+    ) -> Result<NameId, AllocError>
         requires few { length self.old.names < 2 ^ 32 }
         requires spelled { slice_get self.old.strings first ≡ Some text.now }
         ensures number { IfOk result
@@ -91,22 +99,24 @@ impl<'a> KnownNames<'a> {
         ensures strings { self.new.strings ≡ self.old.strings }
         ensures names { OnOk result (self.new.names ≡ with_full_name first self.old.names text.now) }
     {
-        if let Some(known) = self.indexed(text) {
+        if let Some(known) = self.indexed(index, text) {
             return Ok(known);
         }
         let id = self.add(text, first)?;
-        self.index.put(text, id.0 as usize);
+        index.put(text, id.0 as usize);
         Ok(id)
     }
 
     // The fast path: the name with this spelling, if the index has it.
-    fn indexed(&self, text: &[u8]) -> Option<NameId>
+    fn indexed(&self, index: &NameIndex, text: &[u8]) -> Option<NameId>
         ensures among { IfSome result
             (λ id. list_any (bytes_eq text.now) (spellings self.now.names) ≡ true) }
         ensures number { IfSome result
             (λ id. id.0 ≡ position_or_len (bytes_eq text.now) (spellings self.now.names)) }
     {
-        for slot in self.index.candidates(text) {
+        // no two names have one spelling
+        let _ = &self.firsts;
+        for slot in index.candidates(text) {
             let id = NameId(slot.checked_sub(1)?);
             if self.has(id, text) {
                 return Some(id);
@@ -169,7 +179,6 @@ impl<'a> KnownNames<'a> {
             strings: _,
             firsts,
             sorted: _,
-            index: _,
         } = self;
         firsts
     }

@@ -9,6 +9,7 @@ ghost use Rattle.cweb_names.specs.inner.Known.{earlies_from};
 ghost use Rattle.cweb_names.specs.inner.OccurrenceTables.{occurrence_form};
 
 use crate::found::Found;
+use crate::index::NameIndex;
 use crate::known::KnownNames;
 use crate::name::{How, NameId, NameKind, NameRef};
 use crate::resolution::{Resolutions, resolve_all, resolved_at};
@@ -96,10 +97,11 @@ impl NameTable {
         ensures strings { IfOk result (λ all. all.0.strings ≡ map occurrence_text self.now) }
         ensures found { IfOk result (λ all. all.1.items ≡ earlies_from 0 [] self.now) }
     {
-        let mut known = KnownNames::new(self.alloc, self.strings.slices(), self.forms.len());
+        let mut known = KnownNames::new(self.alloc, self.strings.slices());
+        let mut index = NameIndex::for_names(self.alloc, self.forms.len());
         let mut found = Vec::with_capacity(self.alloc, self.forms.len())?;
         for (i, form) in self.forms.iter().enumerate() {
-            found.push(known.take(i as u32, form.how)?)?;
+            found.push(known.take(&mut index, i as u32, form.how)?)?;
         }
         Ok((known, found))
     }

@@ -41,17 +41,17 @@ impl Answers {
         let (names, resolutions) = table.resolve()?;
         let files = table.files(resolutions.as_slice())?;
         let links = Links::new(alloc, parts.ranges(), resolutions.as_slice(), names.len())?;
-        let faults = name_faults(
+        let (faults, firsts) = name_faults(
             alloc,
             table,
             parts,
-            &names,
+            names,
             resolutions.as_slice(),
             &files,
             &links.heads,
         )?;
         Ok(Answers {
-            firsts: names.close(),
+            firsts,
             resolutions,
             files,
             faults,

@@ -8,7 +8,7 @@ returns-clause-answers c = record {
   settled = c.in_ok-names.ensures.resolutions;
   forms = c.in_ok-files.ensures ∙ ap (λ ss. files_from ss [] 0 c.args.table.now)
       (c.as_slice.ensures.value ∙ c.in_ok-names.ensures.resolutions);
-  found = c.in_ok-faults.ensures;
+  found = c.in_ok-faults.ensures.faults;
   defs = c.has_defs_code.ensures;
 }
 
@@ -36,6 +36,3 @@ name_faults-requires-clause-some c = λ n.
     c.in_ok-links.ensures.some n
     ∙ ap (λ xs. list_any (λ (r : PartRange). is_of c.as_slice-2.result.now n r.kind) xs) c.ranges-2.ensures.ranges
     ∙ any-part c.as_slice-2.result.now n 0 c.args.parts.now ∙ ap (λ ss. has_part ss c.args.parts.now n) rs
-
-pub returns-clause-firsts : goal.returns-clause-firsts
-returns-clause-firsts c = c.close.ensures ∙ ap (map (λ (n : Name). n.first)) c.in_ok-names.ensures.names
