@@ -69,7 +69,8 @@ within-at n [] i f within here = cc
 within-at n (g ∷ firsts) zero f within here = let same : g ≡ f = cc in subst (λ (h : ℕ). h < n) same within.0
 within-at n (g ∷ firsts) (suc i) f within here = within-at n firsts i f within.1 here
 
-pub firsts-back : (strings : List (List ℕ)) (firsts : List ℕ) → map (λ (n : Name). n.first) (names_at strings firsts) ≡ firsts
+pub firsts-back : (strings : List (List ℕ)) (firsts : List ℕ)
+    → map (λ (n : Name). n.first) (names_at strings firsts) ≡ firsts
 firsts-back strings [] = refl
 firsts-back strings (f ∷ firsts) = ap (λ (fs : List ℕ). f ∷ fs) (firsts-back strings firsts)
 

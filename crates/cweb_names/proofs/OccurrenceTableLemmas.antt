@@ -47,7 +47,8 @@ resolve-from i before [] fs all is found = refl
 resolve-from i before (o ∷ os) fs all is found =
     let next = with_occurrence_name i before o in
     let one : resolve all o.text (early before o) ≡ resolved_among before all o = subst (λ (ns : List Name). by_found
-    (early before o) (late ns o.text) ≡ resolved_among before ns o) (sym is) (resolve-one i before os o.text o.how o.is_file) in
+    (early before o) (late ns o.text) ≡ resolved_among before ns o) (sym is)
+    (resolve-one i before os o.text o.how o.is_file) in
     ap (resolve_all all (map occurrence_text (o ∷ os))) found
     ∙ (λ j. one j ∷ resolve-from (i + 1) next os (earlies_from (i + 1) next os) all is refl j)
 
@@ -100,7 +101,8 @@ taken-next ts gs i known next found f g count there taken same grown is =
       names = ap (λ (ns : List Name). names_from (i + 1) ns os) named
           ∙ ap (names_from i known.names) (sym here) ∙ taken.names;
       found = (λ j. (found ++ fits j ∷ []) ++ earlies_from (i + 1) (named j) os)
-          ∙ append_assoc found (early known.names o ∷ []) (earlies_from (i + 1) (with_occurrence_name i known.names o) os)
+          ∙ append_assoc found (early known.names o ∷ [])
+          (earlies_from (i + 1) (with_occurrence_name i known.names o) os)
           ∙ ap (λ us. found ++ earlies_from i known.names us) (sym here) ∙ taken.found;
       strings = same ∙ taken.strings;
       few = omega (arith, ap length named, with_name-few i known.names o, taken.few);

@@ -5,9 +5,9 @@ ghost use Rattle.std.specs.Prelude.{option_map, Some, IfOk, IfSome, true, OnOk};
 ghost use Rattle.std.specs.List.{list_any, position_or_len};
 ghost use Rattle.cweb_names.specs.Names.{beginning, is_prefix_of_another, spellings};
 ghost use Rattle.cweb_names.specs.surface.Names.{occurrence_of};
-ghost use Rattle.cweb_names.specs.Names.{with_occurrence_name, with_full_name};
+ghost use Rattle.cweb_names.specs.Names.{with_occurrence_name};
 ghost use Rattle.cweb_names.specs.inner.Found.{found_of};
-ghost use Rattle.cweb_names.specs.inner.Known.{early, has_spelling_at, no_names};
+ghost use Rattle.cweb_names.specs.inner.Known.{IsNumbered, early, has_spelling_at, no_names};
 ghost use Rattle.cweb_texts.specs.inner.StringLists.{string_at};
 
 use crate::found::{Found, find_one, has_prefix, number_in};
@@ -74,7 +74,7 @@ impl<'a> KnownNames<'a> {
             (occurrence_of (string_at self.old.strings number) how false)) }
         ensures names { OnOk result (self.new.names ≡ with_occurrence_name number self.old.names
             (occurrence_of (string_at self.old.strings number) how false)) }
-        ensures strings { self.new.strings ≡ self.old.strings }
+        ensures strings { OnOk result (self.new.strings ≡ self.old.strings) }
     {
         match how {
             How::Full => {
@@ -94,10 +94,7 @@ impl<'a> KnownNames<'a> {
     ) -> Result<NameId, AllocError>
         requires few { length self.old.names < 2 ^ 32 }
         requires spelled { slice_get self.old.strings first ≡ Some text.now }
-        ensures number { IfOk result
-            (λ id. id.0 ≡ position_or_len (bytes_eq text.now) (spellings self.old.names)) }
-        ensures strings { self.new.strings ≡ self.old.strings }
-        ensures names { OnOk result (self.new.names ≡ with_full_name first self.old.names text.now) }
+        ensures { IfOk result (λ id. IsNumbered self.old text.now first id self.new) }
     {
         if let Some(known) = self.indexed(index, text) {
             return Ok(known);
@@ -138,10 +135,7 @@ impl<'a> KnownNames<'a> {
     fn add(&mut self, text: &'a [u8], first: u32) -> Result<NameId, AllocError>
         requires few { length self.old.names < 2 ^ 32 }
         requires spelled { slice_get self.old.strings first ≡ Some text.now }
-        ensures number { IfOk result
-            (λ id. id.0 ≡ position_or_len (bytes_eq text.now) (spellings self.old.names)) }
-        ensures strings { self.new.strings ≡ self.old.strings }
-        ensures names { OnOk result (self.new.names ≡ with_full_name first self.old.names text.now) }
+        ensures { IfOk result (λ id. IsNumbered self.old text.now first id self.new) }
     {
         let next = NameId(self.firsts.len() as u32);
         self.firsts.reserve(1)?;

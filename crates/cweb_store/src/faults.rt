@@ -38,7 +38,7 @@ pub fn name_faults(
     requires known { AreWithin resolutions.now (length (spec.names table.now)) }
     requires some { (n : NameId) → has_head heads.now n
         ≡ fault_specs.has_part resolutions.now parts.now n }
-    ensures faults { IfOk result (λ all. all.0.items ≡ fault_specs.faults table.now parts.now) }
+    ensures found { IfOk result (λ all. all.0.items ≡ fault_specs.faults table.now parts.now) }
     ensures firsts { IfOk result (λ all. all.1.items ≡ map (λ n. n.first) (spec.names table.now)) }
 {
     let mut faults = Vec::new(alloc);

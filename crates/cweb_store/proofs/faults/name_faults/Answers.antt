@@ -2,8 +2,8 @@ use Rattle.cweb_store.proofs.Common.{◌≡◌, ◌∙◌, ◌++◌, ◌&&◌, �
 use Rattle.cweb_names.specs.Names as spec
 use Rattle.cweb_store.proofs.faults.name_faults.Goals as goal
 
-pub returns-clause-faults : goal.returns-clause-faults
-returns-clause-faults c =
+pub returns-clause-found : goal.returns-clause-found
+returns-clause-found c =
     let os = c.args.table.now in
     let ps = c.args.parts.now in
     let first : c.add_unresolved_faults.new.faults.items ≡ unresolved_faults (spec.resolutions os) =

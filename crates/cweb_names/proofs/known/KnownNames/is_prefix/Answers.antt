@@ -17,6 +17,7 @@ returns c =
     (λ i. option_map (λ (n : Name). n.text) (slice_get (sym named i) c.args.id.0))
     ∙ text-at s.strings s.firsts.items c.args.id.0 first within c.index.ensures
     ∙ ap (λ (m : NamesSoFar). Some (string_at m.strings first)) c.self.view_is in
-    let distinct = subst (λ (m : NamesSoFar). Distinct (spellings m.names)) c.self.view_is c.self.invariant.sorted.distinct in
+    let distinct = subst (λ (m : NamesSoFar). Distinct (spellings m.names)) c.self.view_is
+    c.self.invariant.sorted.distinct in
     prefix-several ns c.args.id.0 text distinct c.requires is
     ∙ ap Some (sym (c.is_several.ensures ∙ ap is_several c.find.ensures))

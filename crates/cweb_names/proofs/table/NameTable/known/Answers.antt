@@ -16,8 +16,9 @@ loop-i-preserved c =
     let none : OccurrenceForm = record { how = Full; is_file = false } in
     let there = slice_get-get_or gs i none c.loop-i-test.true in
     rw c.in_ok-push.ensures.items
-    (taken-next ts gs i c.loop-i.known c.take.new.self c.loop-i.found.items c.in_ok-take.field-0 (slice_index_or gs i none)
-    count there c.loop-i.invariant c.take.ensures.strings c.in_ok-take.ensures.names c.in_ok-take.ensures.found)
+    (taken-next ts gs i c.loop-i.known c.take.new.self c.loop-i.found.items c.in_ok-take.field-0
+    (slice_index_or gs i none)
+    count there c.loop-i.invariant c.in_ok-take.ensures.strings c.in_ok-take.ensures.names c.in_ok-take.ensures.found)
 
 pub returns-clause-strings : goal.returns-clause-strings
 returns-clause-strings c =

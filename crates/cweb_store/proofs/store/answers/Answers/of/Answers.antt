@@ -8,7 +8,7 @@ returns-clause-answers c = record {
   settled = c.in_ok-names.ensures.resolutions;
   forms = c.in_ok-files.ensures ∙ ap (λ ss. files_from ss [] 0 c.args.table.now)
       (c.as_slice.ensures.value ∙ c.in_ok-names.ensures.resolutions);
-  found = c.in_ok-faults.ensures.faults;
+  found = c.in_ok-faults.ensures.found;
   defs = c.has_defs_code.ensures;
 }
 
