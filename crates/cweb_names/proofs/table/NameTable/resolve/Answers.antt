@@ -47,7 +47,8 @@ pub returns-clause-few : goal.returns-clause-few
 returns-clause-few c =
     let s = c.self.inside in
     let all = c.in_ok-all.ensures
-    ∙ (λ i. resolve_all (c.in_ok-known.ensures.names i) (c.in_ok-known.ensures.strings i) (c.as_slice.ensures.value i)) in
+    ∙ (λ i. resolve_all (c.in_ok-known.ensures.names i) (c.in_ok-known.ensures.strings i)
+    (c.as_slice.ensures.value i)) in
     let count = found-count c.args.self.now c.in_ok-known.found.items c.in_ok-known.ensures.found in
     omega (
       arith,

@@ -55,7 +55,8 @@ returns-in_ok-intern_punctuator-in-Punct-clause-packs c =
 pub returns-in_ok-intern_word-in-Number-clause-packs : goal.returns-in_ok-intern_word-in-Number-clause-packs
 returns-in_ok-intern_word-in-Number-clause-packs c =
     rw c.in-Number.is (word-packs (spec.Number c.in-Number.string.now) (interned_token.Number
-    c.in_ok-intern_word-in-Number.field-0) c.in_ok-intern_word-in-Number.ensures (λ w. w) (ap spec.Number) refl refl refl)
+    c.in_ok-intern_word-in-Number.field-0) c.in_ok-intern_word-in-Number.ensures
+    (λ w. w) (ap spec.Number) refl refl refl)
 
 pub returns-in_ok-add_string-in-Literal-clause-packs : goal.returns-in_ok-add_string-in-Literal-clause-packs
 returns-in_ok-add_string-in-Literal-clause-packs c =
