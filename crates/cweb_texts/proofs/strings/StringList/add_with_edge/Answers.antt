@@ -50,12 +50,12 @@ returns c =
           ∙ known-count (strings_from s.bytes.items 0 (drop 1 s.offsets.items)) s.edges.items
           c.self.invariant.stored_edges ∙ ap length c.self.view_is;
       added = rw (
-          c.push_reserved.ensures.items,
-          c.in_ok-reserve.ensures.items,
-          size,
-          c.in_ok-extend_from_slice.ensures.items,
-          offsets-push c.begin.new.offsets.items (length (bytes ++ string)) c.in_ok-begin.ensures.begun,
-          c.in_ok-begin.ensures.ends,
-          ← c.self.view_is,
-        ) added;
+        c.push_reserved.ensures.items,
+        c.in_ok-reserve.ensures.items,
+        size,
+        c.in_ok-extend_from_slice.ensures.items,
+        offsets-push c.begin.new.offsets.items (length (bytes ++ string)) c.in_ok-begin.ensures.begun,
+        c.in_ok-begin.ensures.ends,
+        ← c.self.view_is,
+      ) added;
     }

@@ -1,4 +1,4 @@
-use Rattle.cweb_store.proofs.Common.{◌≡◌, refl, map, Name, names, List, [], length, sym, ◌∙◌, ap, subst, PartRange, Resolution, files_from, has_part, AreLinked, list_any, is_of}
+use Rattle.cweb_store.proofs.Common.{◌≡◌, refl, List, [], length, sym, ◌∙◌, ap, subst, PartRange, Resolution, files_from, has_part, AreLinked, list_any, is_of}
 use Rattle.cweb_store.proofs.BoundLemmas.{resolutions-within}
 use Rattle.cweb_store.proofs.NameSetLemmas.{any-part}
 use Rattle.cweb_store.proofs.store.answers.Answers.of.Goals as goal
