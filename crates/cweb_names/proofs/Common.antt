@@ -40,6 +40,5 @@ pub use Rattle.cweb_names.specs.inner.Known.{early, earlies_from, by_found, has_
 pub use Rattle.cweb_names.specs.inner.Known.{AreKnown, NamesSoFar}
 pub use Rattle.cweb_names.specs.inner.OccurrenceTables.{IsOccurrenceTable, resolve, resolve_all, occurrence_form}
 pub use Rattle.cweb_names.specs.inner.OccurrenceTables.{occurrences_at}
-pub use Rattle.cweb_names.specs.inner.SortPrefixes.{sort_prefix_of}
 pub use Rattle.cweb_names.specs.laws.Found.{Distinct}
 pub use Rattle.cweb_names.specs.surface.Names.{occurrence_of, too_many, occurrence_text}

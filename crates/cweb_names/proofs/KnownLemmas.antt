@@ -1,6 +1,7 @@
 -- A spelling is inserted with its number, or with the next one. Names by their first occurrences.
-use Rattle.cweb_names.proofs.Common.{◌≡◌, ℕ, zero, suc, ◌≤◌, ◌<◌, true, false, List, [], ◌∷◌, ◌++◌, Some, None, length, map, map-append, subst, slice_get, AllByRecursion, name_at, names_at, AreKnown, length-append, refl, sym, ◌∙◌, ap, arith, bytes_eq, unwrap_or, list_any, position_or_len, keys_of, lookup, insert_entry, is_at, length-map, NameId, Name, spellings, NameEntry, compare_bytes, IsNameMap}
+use Rattle.cweb_names.proofs.Common.{◌≡◌, ℕ, zero, suc, ◌<◌, true, false, List, [], ◌∷◌, ◌++◌, Some, None, length, map, map-append, subst, slice_get, AllByRecursion, name_at, names_at, option_map, refl, sym, ◌∙◌, ap, arith, bytes_eq, unwrap_or, list_any, position_or_len, keys_of, lookup, insert_entry, is_at, length-map, NameId, Name, spellings, NameEntry, compare_bytes, IsNameMap}
 use Rattle.std.specs.List.Sorted.{IsStrictlySortedBy}
+use Rattle.std.specs.Prelude.{slice_index_or}
 use Rattle.cweb_texts.specs.inner.StringLists.{string_at}
 use Rattle.cweb_texts.proofs.StringListLemmas.{get-string}
 use Rattle.cweb_names.proofs.NameLemmas.{number-some, number-none, position-below}
@@ -57,25 +58,6 @@ known-new es ns text next v known sorted is last =
       | None ↦ λ there g. number-none 0 text ns (sym (known.yields text) ∙ there)
     ]) refl is
 
--- Names keep their spellings where occurrences are added.
-pub names-grow : (strings more : List (List ℕ)) (firsts : List ℕ) → AllByRecursion (λ (f : ℕ). f < length strings) firsts
-    → names_at (strings ++ more) firsts ≡ names_at strings firsts
-names-grow strings more [] within = refl
-names-grow strings more (f ∷ firsts) within =
-    ap (λ (t : List ℕ). let n : Name = record { text = t; first = f } in n ∷ names_at (strings ++ more) firsts)
-    (text-grows strings more f within.0)
-    ∙ ap (λ (ns : List Name). name_at strings f ∷ ns) (names-grow strings more firsts within.1)
-  where
-    text-grows : (ts us : List (List ℕ)) (n : ℕ) → n < length ts → string_at (ts ++ us) n ≡ string_at ts n
-    text-grows [] us n h = absurd (let none : ⊥ = omega arith in none)
-    text-grows (t ∷ ts) us zero h = refl
-    text-grows (t ∷ ts) us (suc n) h = text-grows ts us n (omega arith)
-
-pub within-grow : (n m : ℕ) (firsts : List ℕ) → n ≤ m → AllByRecursion (λ (f : ℕ). f < n) firsts
-    → AllByRecursion (λ (f : ℕ). f < m) firsts
-within-grow n m [] le within = tt
-within-grow n m (f ∷ firsts) le within = (omega (arith, within.0), within-grow n m firsts le within.1)
-
 pub within-push : (n : ℕ) (firsts : List ℕ) (f : ℕ) → AllByRecursion (λ (g : ℕ). g < n) firsts → f < n
     → AllByRecursion (λ (g : ℕ). g < n) (firsts ++ f ∷ [])
 within-push n [] f within less = (less, tt)
@@ -87,7 +69,8 @@ within-at n [] i f within here = cc
 within-at n (g ∷ firsts) zero f within here = let same : g ≡ f = cc in subst (λ (h : ℕ). h < n) same within.0
 within-at n (g ∷ firsts) (suc i) f within here = within-at n firsts i f within.1 here
 
-pub firsts-back : (strings : List (List ℕ)) (firsts : List ℕ) → map (λ (n : Name). n.first) (names_at strings firsts) ≡ firsts
+pub firsts-back : (strings : List (List ℕ)) (firsts : List ℕ)
+    → map (λ (n : Name). n.first) (names_at strings firsts) ≡ firsts
 firsts-back strings [] = refl
 firsts-back strings (f ∷ firsts) = ap (λ (fs : List ℕ). f ∷ fs) (firsts-back strings firsts)
 
@@ -99,19 +82,9 @@ names-push strings firsts f text given =
     ∙ ap (λ (t : List ℕ). let n : Name = record { text = t; first = f } in names_at strings firsts ++ n ∷ [])
     (get-string strings f text given)
 
--- A refused name leaves the names as they were, once its occurrence is dropped.
-pub known-undone : (strings : List (List ℕ)) (text : List ℕ) (firsts : List ℕ) (es more : List NameEntry)
-    → AreKnown strings firsts es → AreKnown (strings ++ text ∷ []) firsts more → AreKnown strings firsts more
-known-undone strings text firsts es more before after = record {
-  sorted = subst (IsNameMap more) (names-grow strings (text ∷ []) firsts before.within) after.sorted;
-  within = before.within;
-}
-
--- An occurrence without a name of its own.
-pub known-grown : (strings : List (List ℕ)) (text : List ℕ) (firsts : List ℕ) (es : List NameEntry)
-    → AreKnown strings firsts es → AreKnown (strings ++ text ∷ []) firsts es
-known-grown strings text firsts es known = record {
-  sorted = subst (IsNameMap es) (sym (names-grow strings (text ∷ []) firsts known.within)) known.sorted;
-  within = within-grow (length strings) (length (strings ++ text ∷ [])) firsts
-      (omega (arith, length-append strings (text ∷ []))) known.within;
-}
+-- The spelling of a name is that of its first occurrence.
+pub text-at : (strings : List (List ℕ)) (firsts : List ℕ) (i f : ℕ) → i < length firsts → f ≡ slice_index_or firsts i f
+    → option_map (λ (n : Name). n.text) (slice_get (names_at strings firsts) i) ≡ Some (string_at strings f)
+text-at strings [] i f h is = absurd (let none : ⊥ = omega arith in none)
+text-at strings (g ∷ firsts) zero f h is = ap (λ k. Some (string_at strings k)) (sym is)
+text-at strings (g ∷ firsts) (suc i) f h is = text-at strings firsts i f (omega arith) is

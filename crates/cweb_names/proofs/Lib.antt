@@ -2,7 +2,6 @@ pub mod Common
 pub mod Squeezing
 mod SpellingLaw
 mod SpellingExamples
-mod SortPrefixLemmas
 mod PrefixLemmas
 mod InsertLemmas
 pub mod NameLemmas

@@ -63,7 +63,8 @@ pub several-longer : (i : ℕ) (q : List ℕ) (ns : List Name) → Distinct (spe
 several-longer i q [] d h = cc
 several-longer i q (n ∷ ns) d h =
     let rest = found_of (beginning_from (i + 1) q ns) in
-    ap (λ ids. is_several (found_of ids)) (beginning-step i q n ns) ∙ (elim (bytes_eq q n.text) as (λ e. bytes_eq q n.text ≡ e → (e || list_any (bytes_eq q) (spellings ns)) ≡ true →
+    ap (λ ids. is_several (found_of ids)) (beginning-step i q n ns)
+    ∙ (elim (bytes_eq q n.text) as (λ e. bytes_eq q n.text ≡ e → (e || list_any (bytes_eq q) (spellings ns)) ≡ true →
     is_several (found_of
     (if starts_with nat_eq n.text q then id i ∷ beginning_from (i + 1) q ns else beginning_from (i + 1) q ns))
     ≡ ((starts_with nat_eq n.text q && not (bytes_eq n.text q)) || longer ns q)) [

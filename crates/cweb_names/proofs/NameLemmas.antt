@@ -1,5 +1,5 @@
 -- Names in lists and maps.
-use Rattle.cweb_names.proofs.Common.{◌≡◌, ℕ, zero, suc, ◌+◌, Bool, true, false, cond, ◌||◌, List, [], ◌∷◌, ◌++◌, Some, None, length, refl, sym, ◌∙◌, ap, subst, arith, bytes_eq, if◌then◌else◌, nat_eq, list_any, starts_with, position_or_len, lookup, is_eq, nat_cmp, slice_cmp, is_eq-slice_cmp, bytes_eq-Decides, map-append, list_any-append, NameId, has_spelling_at, Name, id, spellings, beginning_from, beginning, with_full_name, NameEntry, compare_bytes, found_of, id_of_spelling, Distinct, IsNameMap, option_map, take, map, slice_get, drop, ◌<◌}
+use Rattle.cweb_names.proofs.Common.{◌≡◌, ℕ, zero, suc, ◌+◌, Bool, true, false, cond, ◌||◌, List, [], ◌∷◌, ◌++◌, Some, None, length, refl, sym, ◌∙◌, ap, subst, arith, bytes_eq, if◌then◌else◌, nat_eq, list_any, starts_with, position_or_len, lookup, is_eq, nat_cmp, slice_cmp, is_eq-slice_cmp, bytes_eq-Decides, map-append, list_any-append, NameId, has_spelling_at, Name, id, spellings, beginning_from, beginning, with_full_name, NameEntry, compare_bytes, found_of, id_of_spelling, Distinct, IsNameMap, slice_get, drop, ◌<◌}
 use Rattle.std.specs.BTreeMap as tree
 use Rattle.cweb_names.proofs.InsertLemmas.{grown, found-insert}
 
@@ -128,9 +128,3 @@ known-push es ns key first v known new last =
           ∙ sym (number-push 0 q ns n (length ns) (omega arith) new);
       distinct = subst Distinct (sym (strings-push ns n)) (Distinct-push (spellings ns) key known.distinct new);
     }
-
-pub firsts-next : (ns : List Name) (k f : ℕ) → option_map (λ (n : Name). n.first) (slice_get ns k) ≡ Some f
-    → map (λ (n : Name). n.first) (take (suc k) ns) ≡ map (λ (n : Name). n.first) (take k ns) ++ f ∷ []
-firsts-next [] k f h = cc
-firsts-next (n ∷ ns) zero f h = let same : n.first ≡ f = cc in ap (λ x. x ∷ []) same
-firsts-next (n ∷ ns) (suc k) f h = ap (λ xs. n.first ∷ xs) (firsts-next ns k f h)

@@ -1,11 +1,11 @@
 -- The names of occurrences, and what they resolve to.
-use Rattle.cweb_names.proofs.Common.{◌≡◌, ℕ, ◌+◌, ◌≤◌, Bool, true, false, cond, not, ◌||◌, List, [], ◌∷◌, ◌++◌, length, refl, sym, ◌∙◌, ap, arith, length-append, append_assoc, append-nil, Err, bytes_eq, if◌then◌else◌, list_any, position_or_len, map-append, How, Full, Prefix, NameId, NeverFull, Occurrence, Name, Resolution, spellings, with_full_name, with_occurrence_name, names_from, names, beginning, the_one, resolved_among, found_of, early, earlies_from, by_found}
+use Rattle.cweb_names.proofs.Common.{◌≡◌, ℕ, ◌+◌, ◌≤◌, Bool, true, false, cond, not, ◌||◌, List, [], ◌∷◌, ◌++◌, length, refl, sym, ◌∙◌, ap, arith, length-append, append_assoc, append-nil, Err, bytes_eq, if◌then◌else◌, list_any, position_or_len, map-append, How, Full, Prefix, NameId, NeverFull, Occurrence, Name, Resolution, spellings, with_full_name, with_occurrence_name, names_from, names, beginning, the_one, resolved_among, found_of, early, by_found}
 use Rattle.cweb_names.proofs.NameLemmas.{bytes_eq-same}
 
 with_text-few : (i : ℕ) (ns : List Name) (text : List ℕ) → length (with_full_name i ns text) ≤ length ns + 1
 with_text-few i ns text = grind (arith, length-append ns)
 
-with_name-few : (i : ℕ) (ns : List Name) (o : Occurrence) → length (with_occurrence_name i ns o) ≤ length ns + 1
+pub with_name-few : (i : ℕ) (ns : List Name) (o : Occurrence) → length (with_occurrence_name i ns o) ≤ length ns + 1
 with_name-few i ns o = grind (arith, with_text-few i ns o.text)
 
 names_from-few : (i : ℕ) (ns : List Name) (os : List Occurrence) → length (names_from i ns os) ≤ length ns + length os
@@ -15,17 +15,6 @@ names_from-few i ns (o ∷ os) =
 
 pub names-few : (os : List Occurrence) → length (names os) ≤ length os
 names-few os = omega (arith, names_from-few 0 [] os)
-
-pub names_from-push : (i j : ℕ) (ns : List Name) (os : List Occurrence) (o : Occurrence)
-    → j ≡ i + length os → names_from i ns (os ++ o ∷ []) ≡ with_occurrence_name j (names_from i ns os) o
-names_from-push i j ns [] o e = ap (λ k. with_occurrence_name k ns o) (let same : i ≡ j = omega arith in same)
-names_from-push i j ns (p ∷ os) o e = names_from-push (i + 1) j (with_occurrence_name i ns p) os o (omega arith)
-
-pub earlies_from-push : (i : ℕ) (ns : List Name) (os : List Occurrence) (o : Occurrence)
-    → earlies_from i ns (os ++ o ∷ []) ≡ earlies_from i ns os ++ early (names_from i ns os) o ∷ []
-earlies_from-push i ns [] o = refl
-earlies_from-push i ns (p ∷ os) o =
-    ap (λ fs. early ns p ∷ fs) (earlies_from-push (i + 1) (with_occurrence_name i ns p) os o)
 
 pub record Grows (old new : List Name) : Type 0 where
   pub more : List Name

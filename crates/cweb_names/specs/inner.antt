@@ -3,5 +3,4 @@ pub mod Squeezing
 pub mod Found
 pub mod Known
 pub mod OccurrenceTables
-pub mod SortPrefixes
 pub mod FromNumbers

@@ -33,12 +33,11 @@ impl Found {
     }
 }
 
-/// The names that begin with a prefix. They are adjacent in the map, so two entries decide. `from` is a copy of it.
-pub fn find_one(sorted: &BTreeMap<SortKey, NameId>, from: SortKey, prefix: &[u8]) -> Found
-    requires { from ≡ prefix.now }
+/// The names that begin with a prefix. They are adjacent in the map, so two entries decide.
+pub fn find_one<'a>(sorted: &BTreeMap<SortKey<'a>, NameId>, prefix: &'a [u8]) -> Found
     ensures { result ≡ found_of (ids_with_prefix prefix.now sorted.now.entries) }
 {
-    let mut range = sorted.range(from..);
+    let mut range = sorted.range(SortKey::new(prefix)..);
     let Some((first, id)) = range.next() else {
         return Found::Nothing;
     };
@@ -56,15 +55,15 @@ pub fn find_one(sorted: &BTreeMap<SortKey, NameId>, from: SortKey, prefix: &[u8]
 }
 
 /// The number of a spelling. A new spelling gets the number `next`. If memory is refused, nothing changes.
-pub fn number_in(
-    sorted: &mut BTreeMap<SortKey, NameId>,
-    spelling: SortKey,
+pub fn number_in<'a>(
+    sorted: &mut BTreeMap<SortKey<'a>, NameId>,
+    spelling: SortKey<'a>,
     next: NameId,
 ) -> Result<NameId, AllocError>
     ensures number { IfOk result (λ id.
-        id ≡ unwrap_or (lookup (is_at (compare_bytes spelling)) sorted.old.entries) next) }
+        id ≡ unwrap_or (lookup (is_at (compare_bytes spelling.entry)) sorted.old.entries) next) }
     ensures entries { IfOk result (λ id.
-        sorted.new.entries ≡ insert_entry compare_bytes sorted.old.entries spelling id) }
+        sorted.new.entries ≡ insert_entry compare_bytes sorted.old.entries spelling.entry id) }
     ensures err { OnErr result (sorted.new.entries ≡ sorted.old.entries) }
     ensures ordered { IsStrictlySortedBy compare_bytes (keys sorted.old) }
 {
@@ -73,7 +72,7 @@ pub fn number_in(
 }
 
 /// Whether any spelling in the map has its predecessor as a prefix.
-pub fn has_prefix(sorted: &BTreeMap<SortKey, NameId>) -> bool
+pub fn has_prefix(sorted: &BTreeMap<SortKey<'_>, NameId>) -> bool
     ensures value { result ≡ any_next (keys sorted.now) }
     ensures ordered { IsStrictlySortedBy compare_bytes (keys sorted.now) }
 {

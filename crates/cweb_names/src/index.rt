@@ -8,7 +8,7 @@ use std::alloc::Global;
 // How many slots from its first one on a name may have.
 const CANDIDATES: usize = 8;
 
-// How many more slots than four for each name a new table has.
+// How many more slots than two for each name a table has.
 const SPARE_SLOTS: usize = 64;
 
 // The factor of the hash function: 2 to the 64th, divided by the golden ratio.
@@ -23,23 +23,14 @@ pub struct NameIndex {
 }
 
 impl NameIndex {
-    /// An empty table. It takes no memory.
-    pub fn new(alloc: Global) -> NameIndex {
-        NameIndex {
-            slots: Vec::new(alloc),
-        }
-    }
-
-    /// An empty table with four slots for each name. Returns `None` if memory is refused.
-    pub fn with_slots_for(alloc: Global, names: usize) -> Option<NameIndex> {
-        let slots = names.saturating_mul(4).saturating_add(SPARE_SLOTS);
-        let slots = Vec::from_elem(alloc, 0, slots).ok()?;
-        Some(NameIndex { slots })
-    }
-
-    /// Whether the table is to be replaced by a larger one: there are fewer than two slots for each name.
-    pub fn is_small(&self, names: usize) -> bool {
-        self.slots.len() / 2 <= names
+    /// An empty table with two slots for each name and some more. It has no slots if memory is refused.
+    pub fn for_names(alloc: Global, names: usize) -> NameIndex {
+        let slots = names.saturating_mul(2).saturating_add(SPARE_SLOTS);
+        let slots = match Vec::from_elem(alloc, 0, slots) {
+            Ok(slots) => slots,
+            Err(_) => Vec::new(alloc),
+        };
+        NameIndex { slots }
     }
 
     /// The slots that the name with a spelling may have.

@@ -1,36 +1,36 @@
-// The names that were given in full so far.
+// The names that are given in full.
 
-ghost use Rattle.std.specs.Prelude.{false, ◌≡◌, ◌<◌, ◌^◌, ◌++◌, ◌∷◌, [], map, length, slice_get};
-ghost use Rattle.std.specs.Prelude.{bytes_eq, option_map, take, Some, IfOk, IfSome, true, OnOk, OnErr};
+ghost use Rattle.std.specs.Prelude.{false, ◌≡◌, ◌<◌, ◌^◌, map, length, slice_get, bytes_eq};
+ghost use Rattle.std.specs.Prelude.{option_map, Some, IfOk, IfSome, true, OnOk};
 ghost use Rattle.std.specs.List.{list_any, position_or_len};
 ghost use Rattle.cweb_names.specs.Names.{beginning, is_prefix_of_another, spellings};
 ghost use Rattle.cweb_names.specs.surface.Names.{occurrence_of};
-ghost use Rattle.cweb_names.specs.Names.{with_occurrence_name, with_full_name};
+ghost use Rattle.cweb_names.specs.Names.{with_occurrence_name};
 ghost use Rattle.cweb_names.specs.inner.Found.{found_of};
-ghost use Rattle.cweb_names.specs.inner.Known.{early, has_spelling_at, no_names};
+ghost use Rattle.cweb_names.specs.inner.Known.{IsNumbered, early, has_spelling_at, no_names};
+ghost use Rattle.cweb_texts.specs.inner.StringLists.{string_at};
 
 use crate::found::{Found, find_one, has_prefix, number_in};
 use crate::index::NameIndex;
 use crate::name::{How, NameId};
 use crate::sorted::SortKey;
-use cweb_texts::StringList;
+use cweb_texts::StringSlices;
 use std::alloc::{AllocError, Global};
 use std::collections::BTreeMap;
 use std::marker::Model;
 
-/// The spellings of all occurrences, and the names that were given in full among them, numbered in this order. A sorted
-/// map finds a name, and the names with a prefix. The index finds most names sooner.
+/// The names that are given in full among occurrences, numbered in this order. A sorted map finds a name, and the names
+/// with a prefix. No text is copied.
 #[derive(Drop)]
-pub struct KnownNames {
-    alloc: Global,
-    strings: StringList,
+pub struct KnownNames<'a> {
+    // the spellings of all occurrences
+    strings: StringSlices<'a>,
     // for each name the number of the occurrence that first gave it in full
     firsts: Vec<u32>,
-    sorted: BTreeMap<SortKey, NameId>,
-    index: NameIndex,
+    sorted: BTreeMap<SortKey<'a>, NameId>,
 }
 
-impl Model for KnownNames {
+impl<'a> Model for KnownNames<'a> {
     ghost use Rattle.cweb_names.specs.inner.Known.{NamesSoFar};
 
     ghost Value = { NamesSoFar };
@@ -42,17 +42,15 @@ impl Model for KnownNames {
     ghost invariant = { λ s. AreKnown s.strings s.firsts.items s.sorted.entries };
 }
 
-impl KnownNames {
-    /// No names. It allocates nothing.
-    pub fn new(alloc: Global) -> KnownNames
-        ensures { result ≡ no_names }
+impl<'a> KnownNames<'a> {
+    /// No names, for occurrences with these spellings.
+    pub(crate) fn new(alloc: Global, strings: StringSlices<'a>) -> KnownNames<'a>
+        ensures { result ≡ no_names strings.entry }
     {
         KnownNames {
-            alloc,
-            strings: StringList::new(alloc),
+            strings,
             firsts: Vec::new(alloc),
             sorted: BTreeMap::new(alloc),
-            index: NameIndex::new(alloc),
         }
     }
 
@@ -63,102 +61,65 @@ impl KnownNames {
         self.firsts.len()
     }
 
-    /// Adds an occurrence, and its name if in full. Returns which names fit so far. A refused call changes nothing.
-    pub fn take(&mut self, text: &[u8], how: How) -> Result<Found, AllocError>
-        requires few_strings { length self.old.strings < 2 ^ 32 }
+    /// Adds the name of an occurrence, if in full. Returns which names fit so far. `index` has most of the names.
+    pub(crate) fn take(
+        &mut self,
+        index: &mut NameIndex,
+        number: u32,
+        how: How,
+    ) -> Result<Found, AllocError>
+        requires within { number < length self.old.strings }
         requires few { length self.old.names < 2 ^ 32 }
-        ensures found { IfOk result
-            (λ found. found ≡ early self.old.names (occurrence_of text.now how false)) }
-        ensures strings { OnOk result (self.new.strings ≡ self.old.strings ++ text.now ∷ []) }
-        ensures names { OnOk result (self.new.names ≡ with_occurrence_name
-            (length self.old.strings) self.old.names (occurrence_of text.now how false)) }
-        ensures err { OnErr result (self.new ≡ self.old) }
+        ensures found { IfOk result (λ found. found ≡ early self.old.names
+            (occurrence_of (string_at self.old.strings number) how false)) }
+        ensures names { OnOk result (self.new.names ≡ with_occurrence_name number self.old.names
+            (occurrence_of (string_at self.old.strings number) how false)) }
+        ensures strings { OnOk result (self.new.strings ≡ self.old.strings) }
     {
         match how {
-            How::Full => Ok(Found::One(self.know(text)?)),
-            How::Prefix => {
-                let found = self.find(text)?;
-                self.strings.add(text)?;
-                Ok(found)
+            How::Full => {
+                let text = self.strings.string(number as usize);
+                Ok(Found::One(self.number_of(index, text, number)?))
             }
-        }
-    }
-
-    // Adds an occurrence that gives a name in full. Returns the number of the name, which is added if new.
-    fn know(&mut self, text: &[u8]) -> Result<NameId, AllocError>
-        requires few_strings { length self.old.strings < 2 ^ 32 }
-        requires few { length self.old.names < 2 ^ 32 }
-        ensures number { IfOk result
-            (λ id. id.0 ≡ position_or_len (bytes_eq text.now) (spellings self.old.names)) }
-        ensures strings { OnOk result (self.new.strings ≡ self.old.strings ++ text.now ∷ []) }
-        ensures names { OnOk result (self.new.names
-            ≡ with_full_name (length self.old.strings) self.old.names text.now) }
-        ensures err { OnErr result (self.new ≡ self.old) }
-    {
-        let first = self.strings.add(text)?;
-        match self.number_of(text, first as u32) {
-            Ok(id) => Ok(id),
-            Err(refusal) => {
-                self.strings.truncate(first);
-                Err(refusal)
-            }
+            How::Prefix => Ok(self.find(number)),
         }
     }
 
     // The number of the name with this spelling, that of occurrence `first`. The name is added if new.
-    fn number_of(&mut self, text: &[u8], first: u32) -> Result<NameId, AllocError>
+    fn number_of(
+        &mut self,
+        index: &mut NameIndex,
+        text: &'a [u8],
+        first: u32,
+    ) -> Result<NameId, AllocError>
         requires few { length self.old.names < 2 ^ 32 }
         requires spelled { slice_get self.old.strings first ≡ Some text.now }
-        ensures number { IfOk result
-            (λ id. id.0 ≡ position_or_len (bytes_eq text.now) (spellings self.old.names)) }
-        ensures strings { self.new.strings ≡ self.old.strings }
-        ensures names { OnOk result (self.new.names ≡ with_full_name first self.old.names text.now) }
-        ensures err { OnErr result (self.new ≡ self.old) }
+        ensures { IfOk result (λ id. IsNumbered self.old text.now first id self.new) }
     {
-        if let Some(known) = self.indexed(text) {
+        if let Some(known) = self.indexed(index, text) {
             return Ok(known);
         }
         let id = self.add(text, first)?;
-        self.put(text, id);
+        index.put(text, id.0 as usize);
         Ok(id)
     }
 
     // The fast path: the name with this spelling, if the index has it.
-    fn indexed(&self, text: &[u8]) -> Option<NameId>
+    fn indexed(&self, index: &NameIndex, text: &[u8]) -> Option<NameId>
         ensures among { IfSome result
             (λ id. list_any (bytes_eq text.now) (spellings self.now.names) ≡ true) }
         ensures number { IfSome result
             (λ id. id.0 ≡ position_or_len (bytes_eq text.now) (spellings self.now.names)) }
     {
-        for slot in self.index.candidates(text) {
+        // no two names have one spelling
+        let _ = &self.firsts;
+        for slot in index.candidates(text) {
             let id = NameId(slot.checked_sub(1)?);
             if self.has(id, text) {
                 return Some(id);
             }
         }
         None
-    }
-
-    // Puts a new name into the index. If there are too few slots, a larger index takes all names.
-    fn put(&mut self, text: &[u8], id: NameId)
-        ensures { self.new ≡ self.old }
-    {
-        if self.index.is_small(self.firsts.len()) {
-            if let Some(larger) = self.larger_index() {
-                self.index = larger;
-                return;
-            }
-        }
-        self.index.put(text, id.0 as usize);
-    }
-
-    // An index of all names. Returns `None` if memory is refused.
-    fn larger_index(&self) -> Option<NameIndex> {
-        let mut index = NameIndex::with_slots_for(self.alloc, self.firsts.len())?;
-        for (number, first) in self.firsts.iter().enumerate() {
-            index.put(self.strings.string(*first as usize), number);
-        }
-        Some(index)
     }
 
     fn has(&self, id: NameId, text: &[u8]) -> bool
@@ -171,18 +132,14 @@ impl KnownNames {
     }
 
     // The slow path of `number_of`: looks the name up in the map.
-    fn add(&mut self, text: &[u8], first: u32) -> Result<NameId, AllocError>
+    fn add(&mut self, text: &'a [u8], first: u32) -> Result<NameId, AllocError>
         requires few { length self.old.names < 2 ^ 32 }
         requires spelled { slice_get self.old.strings first ≡ Some text.now }
-        ensures number { IfOk result
-            (λ id. id.0 ≡ position_or_len (bytes_eq text.now) (spellings self.old.names)) }
-        ensures strings { self.new.strings ≡ self.old.strings }
-        ensures names { OnOk result (self.new.names ≡ with_full_name first self.old.names text.now) }
-        ensures err { OnErr result (self.new ≡ self.old) }
+        ensures { IfOk result (λ id. IsNumbered self.old text.now first id self.new) }
     {
         let next = NameId(self.firsts.len() as u32);
-        let key = SortKey::new(self.alloc, text)?;
         self.firsts.reserve(1)?;
+        let key = SortKey::new(text);
         let id = number_in(&mut self.sorted, key, next)?;
         if id.0 != next.0 {
             return Ok(id);
@@ -191,20 +148,13 @@ impl KnownNames {
         Ok(id)
     }
 
-    /// The names that begin with a prefix: none, one or several.
-    pub fn find(&self, prefix: &[u8]) -> Result<Found, AllocError>
-        ensures { IfOk result (λ found. found ≡ found_of (beginning prefix.now self.now.names)) }
+    /// The names that begin with the spelling of an occurrence: none, one or several.
+    pub(crate) fn find(&self, number: u32) -> Found
+        requires { number < length self.now.strings }
+        ensures { result
+            ≡ found_of (beginning (string_at self.now.strings number) self.now.names) }
     {
-        let from = SortKey::new(self.alloc, prefix)?;
-        Ok(find_one(&self.sorted, from, prefix))
-    }
-
-    /// The spelling of a name.
-    pub fn text(&self, id: NameId) -> &[u8]
-        requires { id.0 < length self.now.names }
-        ensures { option_map (λ n. n.text) (slice_get self.now.names id.0) ≡ Some result.now }
-    {
-        self.strings.string(self.firsts[id.0 as usize] as usize)
+        find_one(&self.sorted, self.strings.string(number as usize))
     }
 
     /// The number of the occurrence that first gave a name in full.
@@ -215,26 +165,16 @@ impl KnownNames {
         self.firsts[id.0 as usize]
     }
 
-    /// The spellings of the occurrences.
-    pub fn strings(&self) -> &StringList
-        ensures { result.now ≡ self.now.strings }
-    {
-        &self.strings
-    }
-
-    /// The spellings of the occurrences, and for each name the number of the one that first gave it in full.
-    pub fn close(self) -> (StringList, Vec<u32>)
-        ensures strings { result.0 ≡ self.strings }
-        ensures firsts { result.1.items ≡ map (λ n. n.first) self.names }
+    /// For each name the number of the occurrence that first gave it in full.
+    pub fn close(self) -> Vec<u32>
+        ensures { result.items ≡ map (λ n. n.first) self.entry.names }
     {
         let KnownNames {
-            alloc: _,
-            strings,
+            strings: _,
             firsts,
             sorted: _,
-            index: _,
         } = self;
-        (strings, firsts)
+        firsts
     }
 
     /// Whether any name is a proper prefix of another one.
@@ -246,15 +186,11 @@ impl KnownNames {
     }
 
     /// Whether this name is a proper prefix of another one: if so, several names begin with it, itself included.
-    pub fn is_prefix(&self, id: NameId) -> Result<bool, AllocError>
+    pub fn is_prefix(&self, id: NameId) -> bool
         requires { id.0 < length self.now.names }
-        ensures { IfOk result (λ is.
-            option_map (λ n. is_prefix_of_another self.now.names n.text)
-            (slice_get self.now.names id.0) ≡ Some is) }
+        ensures { option_map (λ n. is_prefix_of_another self.now.names n.text)
+            (slice_get self.now.names id.0) ≡ Some result }
     {
-        let text = self.text(id);
-        let from = SortKey::new(self.alloc, text)?;
-        let found = find_one(&self.sorted, from, text);
-        Ok(found.is_several())
+        self.find(self.firsts[id.0 as usize]).is_several()
     }
 }

@@ -20,9 +20,8 @@ mod table;
 // the law of spellings
 pub mod laws;
 
-pub use found::Found;
 pub use known::KnownNames;
 pub use name::{How, NameFault, NameId, NameKind, NameRef};
-pub use resolution::resolved_at;
+pub use resolution::{Resolutions, resolved_at};
 pub use spelling::{is_prefix, is_squeezed, squeezed};
 pub use table::{NameTable, OccurrenceForm};

@@ -5,12 +5,14 @@ ghost use Rattle.std.specs.Prelude.{OnErr};
 ghost use Rattle.cweb_names.specs.Names.{names, resolutions};
 ghost use Rattle.cweb_names.specs.inner.FromNumbers.{files_from};
 ghost use Rattle.cweb_names.specs.surface.Names.{occurrence_of, occurrence_text, too_many};
+ghost use Rattle.cweb_names.specs.inner.Known.{earlies_from};
 ghost use Rattle.cweb_names.specs.inner.OccurrenceTables.{occurrence_form};
 
 use crate::found::Found;
+use crate::index::NameIndex;
 use crate::known::KnownNames;
 use crate::name::{How, NameId, NameKind, NameRef};
-use crate::resolution::{resolve, resolved_at};
+use crate::resolution::{Resolutions, resolve_all, resolved_at};
 use cweb_texts::StringList;
 use indexmap::IndexSet;
 use std::alloc::{AllocError, Global};
@@ -23,25 +25,12 @@ pub struct OccurrenceForm {
     pub is_file: bool,
 }
 
-/// The occurrences of names, in order, and the names that they give in full.
+/// The occurrences of names, in order.
+#[derive(Drop)]
 pub struct NameTable {
     alloc: Global,
-    known: KnownNames,
-    // one entry for each occurrence: its form, and which of the names up to it fit
+    strings: StringList,
     forms: Vec<OccurrenceForm>,
-    found: Vec<Found>,
-}
-
-// One call frees it, not one per field.
-impl Drop for NameTable {
-    fn drop(self) {
-        let NameTable {
-            alloc: _,
-            known: _,
-            forms: _,
-            found: _,
-        } = self;
-    }
 }
 
 impl Model for NameTable {
@@ -52,10 +41,9 @@ impl Model for NameTable {
 
     ghost use Rattle.cweb_names.specs.inner.OccurrenceTables.{IsOccurrenceTable, occurrences_at};
 
-    ghost view = { λ s. occurrences_at s.known.strings s.forms.items };
+    ghost view = { λ s. occurrences_at s.strings s.forms.items };
 
-    ghost invariant = { λ s.
-        IsOccurrenceTable s.known.names s.known.strings s.forms.items s.found.items };
+    ghost invariant = { λ s. IsOccurrenceTable s.strings s.forms.items };
 }
 
 impl NameTable {
@@ -65,9 +53,8 @@ impl NameTable {
     {
         NameTable {
             alloc,
-            known: KnownNames::new(alloc),
+            strings: StringList::new(alloc),
             forms: Vec::new(alloc),
-            found: Vec::new(alloc),
         }
     }
 
@@ -87,48 +74,49 @@ impl NameTable {
         ensures err { OnErr result (self.new ≡ self.old) }
     {
         self.forms.reserve(1)?;
-        self.found.reserve(1)?;
-        let number = self.forms.len() as u32;
-        let found = self.known.take(name, how)?;
+        let number = self.strings.add(name)?;
         self.forms.push_reserved(OccurrenceForm { how, is_file });
-        self.found.push_reserved(found);
-        Ok(NameRef(number))
+        Ok(NameRef(number as u32))
     }
 
-    /// The names that are given in full.
-    pub fn names(&self) -> &KnownNames
-        ensures names { result.now.names ≡ names self.now }
-        ensures few { length (names self.now) < too_many }
+    /// The names that are given in full, and what each occurrence resolves to: a name or its fault.
+    pub fn resolve(&self) -> Result<(KnownNames<'_>, Resolutions), AllocError>
+        ensures names { IfOk result (λ all. all.0.names ≡ names self.now) }
+        ensures resolutions { IfOk result (λ all. all.1.items ≡ resolutions self.now) }
+        ensures few_names { IfOk result (λ all. length all.0.names < too_many) }
+        ensures few { IfOk result (λ all. length all.1.items < 2 ^ 32) }
     {
-        &self.known
+        let (known, found) = self.known()?;
+        let all = resolve_all(self.alloc, &known, found.as_slice())?;
+        Ok((known, all))
     }
 
-    /// The name that each occurrence resolves to, or its fault.
-    pub fn resolutions(&self) -> Result<Vec<Result<NameId, NameKind>>, AllocError>
-        ensures resolutions { IfOk result (λ all. all.items ≡ resolutions self.now) }
-        ensures few { IfOk result (λ all. length all.items < 2 ^ 32) }
+    // The names, and for each occurrence which of those up to it fit.
+    fn known(&self) -> Result<(KnownNames<'_>, Vec<Found>), AllocError>
+        ensures names { IfOk result (λ all. all.0.names ≡ names self.now) }
+        ensures strings { IfOk result (λ all. all.0.strings ≡ map occurrence_text self.now) }
+        ensures found { IfOk result (λ all. all.1.items ≡ earlies_from 0 [] self.now) }
     {
-        let mut all = Vec::with_capacity(self.alloc, self.found.len())?;
-        for (i, found) in self.found.iter().enumerate() {
-            all.push(resolve(&self.known, self.known.strings().string(i), *found)?)?;
+        let mut known = KnownNames::new(self.alloc, self.strings.slices());
+        let mut index = NameIndex::for_names(self.alloc, self.forms.len());
+        let mut found = Vec::with_capacity(self.alloc, self.forms.len())?;
+        for (i, form) in self.forms.iter().enumerate() {
+            found.push(known.take(&mut index, i as u32, form.how)?)?;
         }
-        Ok(all)
+        Ok((known, found))
     }
 
-    /// The spelling and form of each occurrence, and for each name the number of the one that first gave it in full.
-    pub fn close(self) -> (StringList, Vec<OccurrenceForm>, Vec<u32>)
+    /// The spelling and form of each occurrence.
+    pub fn close(self) -> (StringList, Vec<OccurrenceForm>)
         ensures strings { result.0 ≡ map occurrence_text self }
         ensures forms { result.1.items ≡ map occurrence_form self }
-        ensures firsts { result.2.items ≡ map (λ n. n.first) (names self) }
     {
         let NameTable {
             alloc: _,
-            known,
+            strings,
             forms,
-            found: _,
         } = self;
-        let (strings, firsts) = known.close();
-        (strings, forms, firsts)
+        (strings, forms)
     }
 
     /// The names of output files, in order of their first occurrence with `@(`.

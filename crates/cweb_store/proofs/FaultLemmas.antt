@@ -1,5 +1,5 @@
 -- Faults of names, one by one.
-use Rattle.cweb_store.proofs.Common.{◌≡◌, ℕ, ◌+◌, ◌<◌, Bool, true, false, cond, List, [], ◌∷◌, ◌++◌, Some, map, length, drop, refl, arith, append_assoc, slice_get, option_map, list_any, NameId, NameKind, NameFault, Name, id, spellings, fault_of_name, fault_of_name_if, faults_from, prefix_at}
+use Rattle.cweb_store.proofs.Common.{◌≡◌, ℕ, zero, suc, ◌+◌, ◌<◌, Bool, true, false, cond, List, [], ◌∷◌, ◌++◌, Some, map, length, drop, refl, arith, append_assoc, slice_get, option_map, list_any, NameId, NameKind, NameFault, Name, id, spellings, fault_of_name, fault_of_name_if, faults_from, prefix_at}
 
 pub faults-none : (kind : NameKind) (fails : List ℕ → Bool) (i : ℕ) (ns : List Name)
     → list_any fails (spellings ns) ≡ false → faults_from i kind (λ n text. fails text) ns ≡ []
@@ -7,11 +7,13 @@ faults-none kind fails i [] h = refl
 faults-none kind fails i (n ∷ ns) h = grind (arith, faults-none kind fails (i + 1) ns)
 
 -- The faults from a name on are its own and those from the next one on.
-pub faults-step : (kind : NameKind) (fails : NameId → List ℕ → Bool) (ns : List Name) (i : ℕ) (b : Bool)
+pub faults-step : (kind : NameKind) (fails : NameId → List ℕ → Bool) (ns : List Name) (i : ℕ) (b : Bool) (first : ℕ)
     (old new : List NameFault) → i < length ns → option_map (λ (n : Name). fails (id i) n.text) (slice_get ns i)
-    ≡ Some b → option_map (λ (n : Name). old ++ fault_of_name_if b kind n.first) (slice_get ns i) ≡ Some new
+    ≡ Some b → option_map (λ (n : Name). n.first) (slice_get ns i) ≡ Some first
+    → new ≡ old ++ fault_of_name_if b kind first
     → new ++ faults_from (i + 1) kind fails (drop (i + 1) ns) ≡ old ++ faults_from i kind fails (drop i ns)
-faults-step kind fails ns i b old new h test step = grind (arith, prefix_at ns i h, fails (id i), one, append_assoc old)
+faults-step kind fails ns i b first old new h test there step =
+    grind (arith, prefix_at ns i h, fails (id i), one, append_assoc old)
   where
     one : (v : Bool) (n : Name) (i : ℕ) (others : List (ℕ × Name))
         → fault_of_name_if v kind n.first ++ map (λ (p : ℕ × Name).
@@ -19,3 +21,9 @@ faults-step kind fails ns i b old new h test step = grind (arith, prefix_at ns i
         ≡ map (λ (p : ℕ × Name). fault_of_name kind p.1.first) (cond v ((i, n) ∷ others) others)
     one true n i others = refl
     one false n i others = refl
+
+pub first-at : (ns : List Name) (i f : ℕ) → slice_get (map (λ (n : Name). n.first) ns) i ≡ Some f
+    → option_map (λ (n : Name). n.first) (slice_get ns i) ≡ Some f
+first-at [] i f h = cc
+first-at (n ∷ ns) zero f h = h
+first-at (n ∷ ns) (suc i) f h = first-at ns i f h

@@ -1,5 +1,5 @@
 -- Indices of passing tokens: after an append, of a prefix, and of a suffix.
-use Rattle.cweb_store.proofs.Common.{◌≡◌, ◌≤◌, ◌<◌, ◌+◌, ℕ, zero, suc, Bool, true, false, cond, List, [], ◌∷◌, ◌++◌, length, take, drop, get_or, refl, sym, ◌∙◌, ap, subst, arith, append-nil, if◌then◌else◌, Token, token_numbers, nat_lt}
+use Rattle.cweb_store.proofs.Common.{◌≡◌, ◌≤◌, ◌<◌, ◌+◌, ℕ, zero, suc, Bool, true, false, cond, List, [], ◌∷◌, ◌++◌, length, take, drop, get_or, refl, sym, ◌∙◌, ap, subst, arith, if◌then◌else◌, Token, token_numbers, nat_lt}
 use Rattle.std.proofs.Common.{ltb, lt-ltb, one-add}
 use Rattle.std.specs.List.{prefix_len}
 use Rattle.std.specs.List.Sorted.{IsNonDecreasing, IsPartitionPoint}
@@ -87,20 +87,6 @@ numbers-cut test n (suc k) bound (t ∷ ts) e =
             | false ↦ later.back
           ];
     }
-
--- The index after one more token.
-abbrev pub with-number : List ℕ → Bool → ℕ → List ℕ
-with-number xs b k = xs ++ (if b then k ∷ [] else [])
-
-pub token_index-push : (test : Token → Bool) (old new : List ℕ) (ts : List Token) (t : Token) (k : ℕ) → length ts ≡ k
-    → old ≡ token_numbers test 0 ts → new ≡ with-number old (test t) k → new ≡ token_numbers test 0 (ts ++ t ∷ [])
-token_index-push test old new ts t k size are is = grind (arith, numbers-push test 0 ts t)
-
-pub token_index-here : (xs new : List ℕ) (b : Bool) (k : ℕ) → new ≡ xs ++ k ∷ [] → b ≡ true → new ≡ with-number xs b k
-token_index-here xs new b k is e = is ∙ ap (λ v. with-number xs v k) (sym e)
-
-pub token_index-not : (xs : List ℕ) (b : Bool) (k : ℕ) → b ≡ false → xs ≡ with-number xs b k
-token_index-not xs b k e = sym (append-nil xs) ∙ ap (λ v. with-number xs v k) (sym e)
 
 pub token_index-take : (test : Token → Bool) (xs : List ℕ) (ts : List Token) (n i : ℕ) → xs ≡ token_numbers test 0 ts
     → (IsNonDecreasing xs → i ≡ prefix_len (λ x. nat_lt x n) xs) → take i xs ≡ token_numbers test 0 (take n ts)

@@ -1,7 +1,7 @@
 // The faults of names: unresolved, prefixes of others, and names without a part.
 
-ghost use Rattle.std.specs.Prelude.{◌≡◌, ◌<◌, ◌^◌, ◌++◌, ◌&&◌, ◌||◌, not, [], length, slice_get};
-ghost use Rattle.std.specs.Prelude.{option_map, Some, IfOk, OnOk};
+ghost use Rattle.std.specs.Prelude.{◌≡◌, ◌<◌, ◌^◌, ◌++◌, ◌&&◌, ◌||◌, not, [], List, length, map};
+ghost use Rattle.std.specs.Prelude.{IfOk, OnOk};
 ghost use Rattle.std.specs.List.{list_any};
 ghost use Rattle.cweb_names.specs.declared.name.NameKind.TheVariants.{PrefixOfAnother, NotPresent};
 ghost use Rattle.cweb_names.specs.Names.{is_id, is_prefix_of_another};
@@ -20,29 +20,34 @@ use cweb_names::{KnownNames, NameFault, NameId, NameKind, NameRef, NameTable};
 use indexmap::IndexSet;
 use std::alloc::{AllocError, Global};
 
-/// All faults of names, in the order of their reports.
+/// All faults of names, in the order of their reports, and for each name the number of its first full occurrence.
 pub fn name_faults(
     alloc: Global,
     table: &NameTable,
     parts: &ClosedParts,
+    names: KnownNames<'_>,
     resolutions: &[Result<NameId, NameKind>],
     files: &IndexSet<NameId>,
     heads: &Heads,
-) -> Result<Vec<NameFault>, AllocError>
+) -> Result<(Vec<NameFault>, Vec<u32>), AllocError>
+    requires named { names.names ≡ spec.names table.now }
+    requires few_names { length names.names < 2 ^ 32 }
     requires settled { resolutions.now ≡ spec.resolutions table.now }
     requires files { files.now.keys ≡ spec.files table.now }
     requires few { length resolutions.now < 2 ^ 32 }
     requires known { AreWithin resolutions.now (length (spec.names table.now)) }
     requires some { (n : NameId) → has_head heads.now n
         ≡ fault_specs.has_part resolutions.now parts.now n }
-    ensures { IfOk result (λ all. all.items ≡ fault_specs.faults table.now parts.now) }
+    ensures found { IfOk result (λ all. all.0.items ≡ fault_specs.faults table.now parts.now) }
+    ensures firsts { IfOk result (λ all. all.1.items ≡ map (λ n. n.first) (spec.names table.now)) }
 {
     let mut faults = Vec::new(alloc);
     add_unresolved_faults(&mut faults, resolutions)?;
-    add_prefix_faults(&mut faults, table.names())?;
-    let used = parts.uses(alloc, resolutions, table.names().len())?;
-    add_missing_faults(&mut faults, table.names(), &used, files, heads)?;
-    Ok(faults)
+    add_prefix_faults(&mut faults, &names)?;
+    let firsts = names.close();
+    let used = parts.uses(alloc, resolutions, firsts.len())?;
+    add_missing_faults(&mut faults, firsts.as_slice(), &used, files, heads)?;
+    Ok((faults, firsts))
 }
 
 // Adds a fault for each occurrence that resolves to no name.
@@ -65,7 +70,7 @@ fn add_unresolved_faults(
     Ok(())
 }
 
-fn add_prefix_faults(faults: &mut Vec<NameFault>, names: &KnownNames) -> Result<(), AllocError>
+fn add_prefix_faults(faults: &mut Vec<NameFault>, names: &KnownNames<'_>) -> Result<(), AllocError>
     requires { length names.now.names < 2 ^ 32 }
     ensures { OnOk result
         (faults.new.items
@@ -77,14 +82,9 @@ fn add_prefix_faults(faults: &mut Vec<NameFault>, names: &KnownNames) -> Result<
         return Ok(());
     }
     for number in 0..names.len() as u32 {
-        let fails = names.is_prefix(NameId(number))?;
-        add_fault_if(
-            fails,
-            faults,
-            names,
-            NameId(number),
-            NameKind::PrefixOfAnother,
-        )?;
+        let id = NameId(number);
+        let fails = names.is_prefix(id);
+        add_fault_if(fails, faults, names.first(id), NameKind::PrefixOfAnother)?;
     }
     Ok(())
 }
@@ -92,25 +92,24 @@ fn add_prefix_faults(faults: &mut Vec<NameFault>, names: &KnownNames) -> Result<
 // Adds a fault for each name that is used, or is a file's, and has no part.
 fn add_missing_faults(
     faults: &mut Vec<NameFault>,
-    names: &KnownNames,
+    firsts: &[u32],
     used: &[bool],
     files: &IndexSet<NameId>,
     heads: &Heads,
 ) -> Result<(), AllocError>
-    requires { length names.now.names < 2 ^ 32 }
-    ensures { OnOk result
+    requires { length firsts.now < 2 ^ 32 }
+    ensures { (names : List spec.Name) → firsts.now ≡ map (λ n. n.first) names → OnOk result
         (faults.new.items
         ≡ faults.old.items
         ++ faults_where NotPresent
         (λ n text.
         (flag_of used.now n || list_any (is_id n) files.now.keys)
         && not (has_head heads.now n))
-        names.now.names) }
+        names) }
 {
-    for number in 0..names.len() as u32 {
-        let id = NameId(number);
-        let fails = is_missing(id, used, files, heads);
-        add_fault_if(fails, faults, names, id, NameKind::NotPresent)?;
+    for (number, first) in firsts.iter().enumerate() {
+        let fails = is_missing(NameId(number as u32), used, files, heads);
+        add_fault_if(fails, faults, *first, NameKind::NotPresent)?;
     }
     Ok(())
 }
@@ -128,18 +127,14 @@ fn is_missing(id: NameId, used: &[bool], files: &IndexSet<NameId>, heads: &Heads
 fn add_fault_if(
     fails: bool,
     faults: &mut Vec<NameFault>,
-    names: &KnownNames,
-    id: NameId,
+    first: u32,
     kind: NameKind,
 ) -> Result<(), AllocError>
-    requires { id.0 < length names.now.names }
     ensures { OnOk result
-        (option_map (λ n. faults.old.items ++ fault_of_name_if fails kind n.first)
-        (slice_get names.now.names id.0)
-        ≡ Some faults.new.items) }
+        (faults.new.items ≡ faults.old.items ++ fault_of_name_if fails kind first) }
 {
     if fails {
-        let occurrence = NameRef(names.first(id));
+        let occurrence = NameRef(first);
         faults.push(NameFault { kind, occurrence })?;
     }
     Ok(())

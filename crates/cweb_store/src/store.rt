@@ -23,7 +23,7 @@ use crate::replacements::{Replacements, last_places};
 use crate::store::answers::Answers;
 use crate::tokens::Token;
 use crate::tokens::closed::ClosedTokens;
-use cweb_names::{NameFault, NameId, NameKind, NameRef, NameTable, OccurrenceForm, resolved_at};
+use cweb_names::{NameFault, NameId, NameRef, NameTable, OccurrenceForm, Resolutions, resolved_at};
 use cweb_texts::StringList;
 use indexmap::IndexSet;
 use std::alloc::{AllocError, Global};
@@ -40,7 +40,7 @@ pub struct Store {
     replaced: Vec<u8>,
     last_places: Vec<Option<usize>>,
     firsts: Vec<u32>,
-    resolutions: Vec<Result<NameId, NameKind>>,
+    resolutions: Resolutions,
     files: IndexSet<NameId>,
     faults: Vec<NameFault>,
     has_defs_code: bool,
@@ -94,9 +94,10 @@ impl Store {
     {
         let answers = Answers::of(alloc, &table, &parts)?;
         let (tokens, ranges) = parts.take_apart();
-        let (mut strings, forms, firsts) = table.close();
+        let (mut strings, forms) = table.close();
         let replaced = replacements.close(&mut strings)?;
         let Answers {
+            firsts,
             resolutions,
             files,
             faults,

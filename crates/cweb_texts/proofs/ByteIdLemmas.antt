@@ -1,5 +1,5 @@
 -- Words of one byte, which are found by it.
-use Rattle.cweb_texts.proofs.Common.{◌≡◌, ℕ, ◌+◌, ◌≤◌, ◌<◌, ◌||◌, List, [], ◌∷◌, Some, inl, inr, set, refl, sym, subst, ◌∙◌, ap, arith, Result, Ok, Err, IfOk, OnErr, length, slice_get, slice_index_or, bytes_eq, IsByteId, AreByteIds, StringTableModel, AddsString, InternsWord, has_word}
+use Rattle.cweb_texts.proofs.Common.{◌≡◌, ℕ, ◌+◌, ◌≤◌, ◌<◌, ◌||◌, List, [], ◌∷◌, Some, inl, inr, set, refl, sym, subst, ◌∙◌, ap, arith, Result, Ok, Err, length, slice_get, slice_index_or, bytes_eq, IsByteId, AreByteIds, StringTableModel, AddsString, InternsWord, TakesString, TakesWord, has_word}
 use Rattle.cweb_texts.proofs.ListLemmas.{get-set}
 use Rattle.cweb_texts.proofs.StringListLemmas.{get-grow}
 use Rattle.cweb_texts.proofs.WordLemmas.{with-word-any}
@@ -51,18 +51,16 @@ sign-known kept byte_ids byte number are h = grind (arith, are byte number h, kn
 
 -- whatever a call answers
 pub byte_ids-stay : {E : Type 0} (r : Result ℕ E) (old new : StringTableModel) (byte_ids string : List ℕ)
-    → IfOk r (λ number. AddsString old string number new) → OnErr r (new ≡ old) → AreByteIds old byte_ids
-    → AreByteIds new byte_ids
-byte_ids-stay (Ok number) old new byte_ids string keeps same are =
+    → TakesString old string r new → AreByteIds old byte_ids → AreByteIds new byte_ids
+byte_ids-stay (Ok number) old new byte_ids string keeps are =
     byte_ids-add_string old new byte_ids string number keeps are
-byte_ids-stay (Err e) old new byte_ids string keeps same are = subst (λ kept. AreByteIds kept byte_ids) (sym same) are
+byte_ids-stay (Err e) old new byte_ids string same are = subst (λ kept. AreByteIds kept byte_ids) (sym same) are
 
 pub byte_ids-stay-word : {E : Type 0} (r : Result ℕ E) (old new : StringTableModel) (byte_ids word : List ℕ)
-    → IfOk r (λ number. InternsWord old word number new) → OnErr r (new ≡ old) → AreByteIds old byte_ids
-    → AreByteIds new byte_ids
-byte_ids-stay-word (Ok number) old new byte_ids word keeps same are =
+    → TakesWord old word r new → AreByteIds old byte_ids → AreByteIds new byte_ids
+byte_ids-stay-word (Ok number) old new byte_ids word keeps are =
     byte_ids-add_string-word old new byte_ids word number keeps are
-byte_ids-stay-word (Err e) old new byte_ids word keeps same are =
+byte_ids-stay-word (Err e) old new byte_ids word same are =
     subst (λ kept. AreByteIds kept byte_ids) (sym same) are
 
 -- A string of one byte.

@@ -1,8 +1,8 @@
 // Strings in one table, those that repeat stored once.
 
-ghost use Rattle.std.specs.Prelude.{◌≡◌, ◌<◌, ◌+◌, ℕ, Some, length, slice_get, IfOk, IfSome, OnErr};
+ghost use Rattle.std.specs.Prelude.{◌≡◌, ◌<◌, ◌+◌, ℕ, Some, length, slice_get, IfSome};
 ghost use Rattle.cweb_texts.specs.inner.ByteIds.{AreByteIds, IsByteId};
-ghost use Rattle.cweb_texts.specs.inner.StringTables.{AddsString, InternsWord, StringTableModel};
+ghost use Rattle.cweb_texts.specs.inner.StringTables.{InternsWord, StringTableModel, TakesString, TakesWord};
 ghost use Rattle.cweb_texts.specs.inner.StringTables.{empty_table, string_limit};
 
 use crate::strings::StringList;
@@ -58,8 +58,7 @@ impl StringTable {
     /// Appends a string that is not interned, and returns its number.
     pub fn add_string(&mut self, string: &[u8]) -> Result<u32, AllocError>
         requires few { length self.old.strings + 1 < string_limit }
-        ensures ok { IfOk result (λ number. AddsString self.old string.now number self.new) }
-        ensures err { OnErr result (self.new ≡ self.old) }
+        ensures { TakesString self.old string.now result self.new }
     {
         let number = self.strings.add_string(string)?;
         Ok(number as u32)
@@ -68,8 +67,7 @@ impl StringTable {
     /// Interns a word or a number, and returns its number in the table.
     pub fn intern_word(&mut self, word: &[u8]) -> Result<u32, AllocError>
         requires few { length self.old.strings + 1 < string_limit }
-        ensures ok { IfOk result (λ number. InternsWord self.old word.now number self.new) }
-        ensures err { OnErr result (self.new ≡ self.old) }
+        ensures { TakesWord self.old word.now result self.new }
     {
         if let Some(number) = self.known_byte(word) {
             return Ok(number);
@@ -85,8 +83,7 @@ impl StringTable {
     #[inline(always)]
     pub fn intern_punctuator(&mut self, sign: &[u8]) -> Result<u32, AllocError>
         requires few { length self.old.strings + 1 < string_limit }
-        ensures ok { IfOk result (λ number. InternsWord self.old sign.now number self.new) }
-        ensures err { OnErr result (self.new ≡ self.old) }
+        ensures { TakesWord self.old sign.now result self.new }
     {
         if let Some(number) = self.known_byte(sign) {
             return Ok(number);
@@ -109,8 +106,7 @@ impl StringTable {
     #[inline(never)]
     fn intern_byte(&mut self, word: &[u8]) -> Result<u32, AllocError>
         requires few { length self.old.strings + 1 < string_limit }
-        ensures ok { IfOk result (λ number. InternsWord self.old word.now number self.new) }
-        ensures err { OnErr result (self.new ≡ self.old) }
+        ensures { TakesWord self.old word.now result self.new }
     {
         let number = self.strings.intern_word(word)? as u32;
         if let [byte] = word {

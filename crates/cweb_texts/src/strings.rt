@@ -1,9 +1,9 @@
 // Strings in one byte buffer.
 
-ghost use Rattle.std.specs.Prelude.{◌≡◌, ◌<◌, ◌+◌, ◌^◌, ◌++◌, ◌∷◌, [], List, ℕ, length, drop, take};
-ghost use Rattle.std.specs.Prelude.{slice_get, Some, IfOk, OnOk, OnErr};
+ghost use Rattle.std.specs.Prelude.{◌≡◌, ◌<◌, ◌+◌, ◌^◌, [], List, ℕ, length, drop, take};
+ghost use Rattle.std.specs.Prelude.{slice_get, Some, OnOk};
 ghost use Rattle.cweb_texts.specs.inner.Edges.{IsStoredEdge};
-ghost use Rattle.cweb_texts.specs.inner.StringLists.{IsFromStart, text_bytes};
+ghost use Rattle.cweb_texts.specs.inner.StringLists.{IsFromStart, TakesNext, text_bytes};
 
 use crate::edges::{Edge, string_edge};
 use crate::slices::StringSlices;
@@ -62,27 +62,21 @@ impl StringList {
 
     /// Appends a string without an edge, and returns its number.
     pub fn add(&mut self, string: &[u8]) -> Result<usize, AllocError>
-        ensures number { IfOk result (λ number. number ≡ length self.old) }
-        ensures added { OnOk result (self.new ≡ self.old ++ string.now ∷ []) }
-        ensures err { OnErr result (self.new ≡ self.old) }
+        ensures { TakesNext self.old string.now result self.new }
     {
         self.add_with_edge(string, Edge::Unknown)
     }
 
     /// Appends a word with its edge, and returns its number.
     pub fn add_word(&mut self, word: &[u8]) -> Result<usize, AllocError>
-        ensures number { IfOk result (λ number. number ≡ length self.old) }
-        ensures added { OnOk result (self.new ≡ self.old ++ word.now ∷ []) }
-        ensures err { OnErr result (self.new ≡ self.old) }
+        ensures { TakesNext self.old word.now result self.new }
     {
         self.add_with_edge(word, string_edge(word))
     }
 
     fn add_with_edge(&mut self, string: &[u8], edge: Edge) -> Result<usize, AllocError>
         requires { IsStoredEdge string.now edge }
-        ensures number { IfOk result (λ number. number ≡ length self.old) }
-        ensures added { OnOk result (self.new ≡ self.old ++ string.now ∷ []) }
-        ensures err { OnErr result (self.new ≡ self.old) }
+        ensures { TakesNext self.old string.now result self.new }
     {
         begin(&mut self.offsets)?;
         self.offsets.reserve(1)?;

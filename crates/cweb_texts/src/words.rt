@@ -9,7 +9,7 @@ ghost use Rattle.std.specs.Prelude.{◌≡◌, unwrap_or, false, IfOk, OnErr};
 ghost use Rattle.std.specs.Map.{lookup};
 ghost use Rattle.cweb_texts.specs.inner.Keys.{key_of};
 ghost use Rattle.cweb_texts.specs.inner.Words.{AreMapped, InternsSorted, IsInserted, is_word};
-ghost use Rattle.cweb_texts.specs.inner.StringTables.{AddsString, InternsWord, has_word, empty_table};
+ghost use Rattle.cweb_texts.specs.inner.StringTables.{TakesString, TakesWord, has_word, empty_table};
 
 use crate::strings::StringList;
 use crate::words::key::{KEY_BYTES, Key};
@@ -54,8 +54,7 @@ impl WordInterner {
 
     /// Appends a string that is not interned, and returns its number. A refused call changes nothing.
     pub fn add_string(&mut self, string: &[u8]) -> Result<usize, AllocError>
-        ensures ok { IfOk result (λ number. AddsString self.old string.now number self.new) }
-        ensures err { OnErr result (self.new ≡ self.old) }
+        ensures { TakesString self.old string.now result self.new }
     {
         let number = self.strings.add(string)?;
         Ok(number)
@@ -64,8 +63,7 @@ impl WordInterner {
     /// Interns a word, and returns its number. A refused call changes nothing. The fast path finds a short word that is the
     /// latest of its bucket. It calls no function, so long words, whose key is a hash, leave it first.
     pub fn intern_word(&mut self, word: &[u8]) -> Result<usize, AllocError>
-        ensures ok { IfOk result (λ number. InternsWord self.old word.now number self.new) }
-        ensures err { OnErr result (self.new ≡ self.old) }
+        ensures { TakesWord self.old word.now result self.new }
     {
         if word.len() > KEY_BYTES {
             return self.intern_long(word);
@@ -80,8 +78,7 @@ impl WordInterner {
     // Interns a word that its key and its length do not determine.
     #[inline(never)]
     fn intern_long(&mut self, word: &[u8]) -> Result<usize, AllocError>
-        ensures ok { IfOk result (λ number. InternsWord self.old word.now number self.new) }
-        ensures err { OnErr result (self.new ≡ self.old) }
+        ensures { TakesWord self.old word.now result self.new }
     {
         self.intern_uncached(Key::of(word), word)
     }
@@ -90,8 +87,7 @@ impl WordInterner {
     #[inline(never)]
     fn intern_uncached(&mut self, key: Key, word: &[u8]) -> Result<usize, AllocError>
         requires { key ≡ key_of word.now }
-        ensures ok { IfOk result (λ number. InternsWord self.old word.now number self.new) }
-        ensures err { OnErr result (self.new ≡ self.old) }
+        ensures { TakesWord self.old word.now result self.new }
     {
         if let Some(number) = self.table.find(&self.strings, key, word) {
             return Ok(number);
@@ -110,8 +106,7 @@ impl WordInterner {
     fn add_new_word(&mut self, key: Key, word: &[u8]) -> Result<usize, AllocError>
         requires key { key ≡ key_of word.now }
         requires absent { has_word self.old word.now ≡ false }
-        ensures ok { IfOk result (λ number. InternsWord self.old word.now number self.new) }
-        ensures err { OnErr result (self.new ≡ self.old) }
+        ensures { TakesWord self.old word.now result self.new }
     {
         let number = self.strings.add_word(word)?;
         establish_byte_range(word);

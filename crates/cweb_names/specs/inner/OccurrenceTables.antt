@@ -3,10 +3,10 @@ use Rattle.std.specs.Prelude.{◌≡◌, ◌<◌, ℕ, List, [], ◌∷◌, Err,
 use Rattle.cweb_names.specs.declared.name.NameKind.TheVariants.{NeverFull}
 use Rattle.cweb_names.specs.declared.found.Found.{Found}
 use Rattle.cweb_names.specs.declared.table.OccurrenceForm.{OccurrenceForm}
-use Rattle.cweb_names.specs.Names.{Occurrence, Name, Resolution, names, beginning}
+use Rattle.cweb_names.specs.Names.{Occurrence, Name, Resolution, beginning}
 use Rattle.cweb_names.specs.surface.Names.{occurrence_of, too_many}
 use Rattle.cweb_names.specs.inner.Found.{found_of}
-use Rattle.cweb_names.specs.inner.Known.{earlies_from, by_found}
+use Rattle.cweb_names.specs.inner.Known.{by_found}
 
 abbrev pub occurrence_form : Occurrence → OccurrenceForm
 occurrence_form o = record { how = o.how; is_file = o.is_file }
@@ -16,11 +16,8 @@ occurrences_at strings [] = []
 occurrences_at [] (g ∷ gs) = []
 occurrences_at (t ∷ ts) (g ∷ gs) = occurrence_of t g.how g.is_file ∷ occurrences_at ts gs
 
--- The names are those of the occurrences, and `found` is what each one fits up to there.
-pub record IsOccurrenceTable (known : List Name) (strings : List (List ℕ)) (forms : List OccurrenceForm)
-    (found : List Found) : Type 0 where
-  pub known_names : known ≡ names (occurrences_at strings forms)
-  pub found_early : found ≡ earlies_from 0 [] (occurrences_at strings forms)
+-- Each occurrence has a spelling and a form.
+pub record IsOccurrenceTable (strings : List (List ℕ)) (forms : List OccurrenceForm) : Type 0 where
   pub count : length strings ≡ length forms
   pub few : length forms < too_many
 

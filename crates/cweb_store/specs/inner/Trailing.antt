@@ -1,9 +1,16 @@
 -- The tokens that each kind of trimming drops.
-use Rattle.std.specs.Prelude.{Bool}
+use Rattle.std.specs.Prelude.{◌≡◌, ◌≤◌, ℕ, Bool, List, filter, length, take}
 use Rattle.cweb_store.specs.declared.tokens.layout.Trailing.{Trailing}
 use Rattle.cweb_store.specs.declared.tokens.layout.Trailing.TheVariants as trailing
 use Rattle.cweb_store.specs.Parts.{Token, is_layout, is_newline}
+use Rattle.cweb_store.specs.inner.TokenStrings.{has_string}
 
 abbrev pub is_trailing : Trailing → Token → Bool
 is_trailing trailing.Layout token = is_layout token
 is_trailing trailing.Newlines token = is_newline token
+
+-- The tokens after the cut have no string, and none of them is before `first`.
+pub record CutsLayout (tokens : List Token) (first after : ℕ) : Type 0 where
+  pub strings : filter has_string (take after tokens) ≡ filter has_string tokens
+  pub begins : first ≤ after
+  pub within : after ≤ length tokens

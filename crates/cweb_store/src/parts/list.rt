@@ -1,6 +1,6 @@
 // Parts while they are added.
 
-ghost use Rattle.std.specs.Prelude.{◌≡◌, ◌<◌, ◌+◌, IsSome, IsNone, IsTrue, is_some, OnOk};
+ghost use Rattle.std.specs.Prelude.{◌≡◌, ◌<◌, ◌+◌, ◌↔◌, IsSome, IsNone, IsTrue, is_some, OnOk};
 ghost use Rattle.std.specs.Prelude.{OnErr};
 ghost use Rattle.cweb_store.specs.inner.OpenParts.{with_closed_part, with_dropped_layout};
 ghost use Rattle.cweb_store.specs.surface.Growing.{all_parts};
@@ -67,10 +67,8 @@ impl PartList {
 
     /// Whether one more part and one more token are within their limits.
     pub fn has_room(&self) -> bool
-        ensures parts { IsTrue result → part_count self.now.parts + 1 < too_many }
-        ensures tokens { IsTrue result → token_count self.now.parts + 1 < too_many }
-        ensures room { part_count self.now.parts + 1 < too_many →
-            token_count self.now.parts + 1 < too_many → IsTrue result }
+        ensures { IsTrue result ↔ (part_count self.now.parts + 1 < too_many)
+            × (token_count self.now.parts + 1 < too_many) }
     {
         self.part_count() < FULL && self.token_count() < FULL
     }

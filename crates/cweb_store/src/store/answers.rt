@@ -1,6 +1,6 @@
 // Results that need all names and parts.
 
-ghost use Rattle.std.specs.Prelude.{◌≡◌, ◌<◌, ◌^◌, length, IfOk, OnOk};
+ghost use Rattle.std.specs.Prelude.{◌≡◌, ◌<◌, ◌^◌, length, map, IfOk, OnOk};
 ghost use Rattle.cweb_store.specs.inner.Answers.{AreAnswers};
 ghost use Rattle.cweb_names.specs.surface.Names.{too_many};
 ghost use Rattle.cweb_store.specs.inner.Links.{AreLinked};
@@ -10,14 +10,16 @@ ghost use Rattle.cweb_store.specs.inner.PartRanges.{ranges_from};
 use crate::faults::name_faults;
 use crate::parts::closed::ClosedParts;
 use crate::parts::links::Links;
-use cweb_names::{NameFault, NameId, NameKind, NameTable};
+use cweb_names::{NameFault, NameId, NameTable, Resolutions};
 use indexmap::IndexSet;
 use std::alloc::{AllocError, Global};
 
-/// Resolutions, file names, faults, and the links of the parts.
+/// The names, resolutions, file names, faults, and the links of the parts.
 #[derive(Drop)]
 pub(crate) struct Answers {
-    pub resolutions: Vec<Result<NameId, NameKind>>,
+    // for each name the number of the occurrence that first gave it in full
+    pub firsts: Vec<u32>,
+    pub resolutions: Resolutions,
     pub files: IndexSet<NameId>,
     pub faults: Vec<NameFault>,
     pub links: Links,
@@ -29,18 +31,27 @@ impl Answers {
     pub fn of(alloc: Global, table: &NameTable, parts: &ClosedParts) -> Result<Answers, AllocError>
         ensures answers { IfOk result (λ all. AreAnswers table.now parts.now
             all.resolutions.items all.files.keys all.faults.items all.has_defs_code) }
+        ensures firsts { IfOk result (λ all. all.firsts.items
+            ≡ map (λ n. n.first) (names table.now)) }
         ensures linked { IfOk result (λ all. AreLinked all.resolutions.items
             (ranges_from 0 parts.now) all.links.skips.items all.links.heads) }
         ensures small { IfOk result (λ all. length all.resolutions.items < 2 ^ 32) }
         ensures few { OnOk result (length (names table.now) < too_many) }
     {
-        let resolutions = table.resolutions()?;
+        let (names, resolutions) = table.resolve()?;
         let files = table.files(resolutions.as_slice())?;
-        let names = table.names().len();
-        let links = Links::new(alloc, parts.ranges(), resolutions.as_slice(), names)?;
-        let heads = &links.heads;
-        let faults = name_faults(alloc, table, parts, resolutions.as_slice(), &files, heads)?;
+        let links = Links::new(alloc, parts.ranges(), resolutions.as_slice(), names.len())?;
+        let (faults, firsts) = name_faults(
+            alloc,
+            table,
+            parts,
+            names,
+            resolutions.as_slice(),
+            &files,
+            &links.heads,
+        )?;
         Ok(Answers {
+            firsts,
             resolutions,
             files,
             faults,

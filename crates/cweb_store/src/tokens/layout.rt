@@ -4,7 +4,7 @@ ghost use Rattle.std.specs.Prelude.{◌≡◌, ◌≤◌, ℕ, filter, length, t
 ghost use Rattle.cweb_store.specs.Parts.{at_close, is_blank, without_blank, without_last_after};
 ghost use Rattle.cweb_store.specs.Parts.{without_layout};
 ghost use Rattle.cweb_store.specs.inner.PartRanges.{open_in};
-ghost use Rattle.cweb_store.specs.inner.Trailing.{is_trailing};
+ghost use Rattle.cweb_store.specs.inner.Trailing.{CutsLayout, is_trailing};
 ghost use Rattle.cweb_store.specs.inner.TokenStrings.{has_string};
 ghost use Rattle.cweb_store.specs.surface.TokenModels.{token_model};
 
@@ -26,10 +26,7 @@ pub fn end_before_layout(tokens: &TokenList, current: Open) -> usize
     requires { current.first ≤ length tokens.now.tokens }
     ensures part { open_in (take result tokens.now.tokens) current
         ≡ without_layout (open_in tokens.now.tokens current) }
-    ensures strings { filter has_string (take result tokens.now.tokens)
-        ≡ filter has_string tokens.now.tokens }
-    ensures begins { current.first ≤ result }
-    ensures within { result ≤ length tokens.now.tokens }
+    ensures cut { CutsLayout tokens.now.tokens current.first result }
 {
     let kept = if current.kind.is_macro() { 2 } else { 0 };
     end_before(tokens, current.first as usize + kept, Trailing::Layout)
@@ -40,10 +37,7 @@ pub fn end_at_close(tokens: &TokenList, current: Open) -> usize
     requires { current.first ≤ length tokens.now.tokens }
     ensures part { open_in (take result tokens.now.tokens) current
         ≡ at_close (open_in tokens.now.tokens current) }
-    ensures strings { filter has_string (take result tokens.now.tokens)
-        ≡ filter has_string tokens.now.tokens }
-    ensures begins { current.first ≤ result }
-    ensures within { result ≤ length tokens.now.tokens }
+    ensures cut { CutsLayout tokens.now.tokens current.first result }
 {
     if !current.kind.is_macro() {
         return tokens.len();

@@ -88,7 +88,7 @@ impl TokenList {
         self.token_index.reserve(token)?;
         let number = self.records.len();
         self.records.put(&mut self.strings, token)?;
-        self.token_index.add_number(number, token);
+        self.token_index.add_number(number as u32, token);
         Ok(())
     }
 

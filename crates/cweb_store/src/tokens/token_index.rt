@@ -16,8 +16,8 @@ use std::alloc::{AllocError, Global};
 /// The indices of the tokens that use a name, and of the Defs, in ascending order.
 #[derive(Drop)]
 pub struct TokenIndex {
-    pub uses: Vec<usize>,
-    pub defs: Vec<usize>,
+    pub uses: Vec<u32>,
+    pub defs: Vec<u32>,
 }
 
 impl TokenIndex {
@@ -46,7 +46,7 @@ impl TokenIndex {
     }
 
     /// Adds a token that comes after all others.
-    pub fn add_number(&mut self, number: usize, token: Token<'_>)
+    pub fn add_number(&mut self, number: u32, token: Token<'_>)
         requires { IndexHasRoom (token_model token) self.old }
         ensures { (tokens : List spec.Token) → length tokens ≡ number → IsTokenIndex self.old tokens
             → IsTokenIndex self.new (tokens ++ token_model token.entry ∷ []) }
@@ -73,7 +73,7 @@ impl TokenIndex {
 }
 
 /// The first of `numbers` that is in a part, or the end of the part if there is none.
-pub fn next_in_range(numbers: &[usize], part: Part) -> u32
+pub fn next_in_range(numbers: &[u32], part: Part) -> u32
     requires { part.first ≤ part.after }
     ensures { (test : spec.Token → Bool) → (tokens : List spec.Token)
         → numbers.now ≡ token_numbers test 0 tokens → IsNextNumber test tokens part result }
@@ -81,16 +81,16 @@ pub fn next_in_range(numbers: &[usize], part: Part) -> u32
     let Some(number) = numbers.get(count_below(numbers, part.first as usize)) else {
         return part.after;
     };
-    if *number < part.after as usize {
-        return *number as u32;
+    if *number < part.after {
+        return *number;
     }
     part.after
 }
 
 // The number of entries below a bound. The entries are sorted.
-fn count_below(numbers: &[usize], bound: usize) -> usize
+fn count_below(numbers: &[u32], bound: usize) -> usize
     ensures { IsNonDecreasing numbers.now
         → result ≡ prefix_len (λ number. nat_lt number bound) numbers.now }
 {
-    numbers.partition_point(|number| *number < bound)
+    numbers.partition_point(|number| (*number as usize) < bound)
 }

@@ -1,5 +1,5 @@
 -- Strings one after another in a byte buffer.
-use Rattle.std.specs.Prelude.{◌≡◌, ℕ, zero, suc, ◌≤◌, List, [], ◌∷◌, flat_map, drop, length, slice_index_or}
+use Rattle.std.specs.Prelude.{◌≡◌, ℕ, zero, suc, ◌≤◌, List, [], ◌∷◌, ◌++◌, Result, MatchResult, flat_map, drop, length, slice_index_or}
 use Rattle.std.specs.Prelude.{slice_range}
 use Rattle.cweb_texts.specs.declared.edges.Edge.{Edge}
 use Rattle.cweb_texts.specs.inner.Edges.{AreStoredEdges}
@@ -37,3 +37,12 @@ pub record IsStringList (bytes offsets : List ℕ) (edges : List Edge) : Type 0 
 
 abbrev pub string_at : List (List ℕ) → ℕ → List ℕ
 string_at strings number = slice_index_or strings number []
+
+-- a string was appended, and has this number
+pub record IsNext (old : List (List ℕ)) (string : List ℕ) (place : ℕ) (new : List (List ℕ)) : Type 0 where
+  pub number : place ≡ length old
+  pub added : new ≡ old ++ string ∷ []
+
+-- a call appended a string, or memory is refused and nothing changed
+abbrev pub TakesNext : {E : Type 0} → List (List ℕ) → List ℕ → Result ℕ E → List (List ℕ) → Type 0
+TakesNext old string result new = MatchResult result (λ number. IsNext old string number new) (λ _. new ≡ old)

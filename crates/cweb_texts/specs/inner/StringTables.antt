@@ -1,5 +1,5 @@
 -- Strings, and the words among them that are interned.
-use Rattle.std.specs.Prelude.{◌≡◌, ◌≤◌, ℕ, ◌+◌, Bool, List, [], ◌++◌, Some, map, length, slice_get, bytes_eq}
+use Rattle.std.specs.Prelude.{◌≡◌, ◌≤◌, ℕ, ◌+◌, Bool, List, [], ◌++◌, Some, map, length, slice_get, bytes_eq, Result, MatchResult}
 use Rattle.std.specs.List.{list_any}
 use Rattle.cweb_texts.specs.declared.words.word.Word.{Word}
 use Rattle.cweb_texts.specs.inner.StringLists.{text_bytes}
@@ -43,3 +43,11 @@ pub record InternsWord (old : StringTableModel) (word : List ℕ) (number : ℕ)
   pub words : (q : List ℕ) → has_word new q ≡ list_any (bytes_eq q) (with_word old.words word)
   pub bytes : length (text_bytes more) + total length old.words ≡ total length (with_word old.words word)
   pub few : length more ≤ 1
+
+-- a call added a string, or memory is refused and nothing changed
+abbrev pub TakesString : {E : Type 0} → StringTableModel → List ℕ → Result ℕ E → StringTableModel → Type 0
+TakesString old string result new = MatchResult result (λ number. AddsString old string number new) (λ _. new ≡ old)
+
+-- a call interned a word, or memory is refused and nothing changed
+abbrev pub TakesWord : {E : Type 0} → StringTableModel → List ℕ → Result ℕ E → StringTableModel → Type 0
+TakesWord old word result new = MatchResult result (λ number. InternsWord old word number new) (λ _. new ≡ old)

@@ -6,16 +6,16 @@ pub returns-in_default : goal.returns-in_default
 returns-in_default c =
     let p = c.args.prefix.now in
     let es = c.args.sorted.now.entries in
-    let n = names-range p c.args.from es c.range-range.result
-    (c.range-range.ensures.between tt) c.requires c.range-range.ensures.ordered in
+    let n = names-range p c.new.result es c.range-range.result
+    (c.range-range.ensures.between tt) c.new.ensures c.range-range.ensures.ordered in
     sym (names-none p es c.range-range.result n c.in_default.ensures.steps.0)
 
 pub returns-then-not-starts_with : goal.returns-then-not-starts_with
 returns-then-not-starts_with c =
     let p = c.args.prefix.now in
     let es = c.args.sorted.now.entries in
-    let n = names-range p c.args.from es c.range-range.result
-    (c.range-range.ensures.between tt) c.requires c.range-range.ensures.ordered in
+    let n = names-range p c.new.result es c.range-range.result
+    (c.range-range.ensures.between tt) c.new.ensures c.range-range.ensures.ordered in
     let m = subst (Names p es) c.in-Some.ensures.steps n in
     let other : starts_with nat_eq c.in-Some.first.now p ≡ false =
     ap (λ a. starts_with nat_eq a p) (sym c.spelling.ensures)
@@ -27,8 +27,8 @@ pub returns-in_default-next : goal.returns-in_default-next
 returns-in_default-next c =
     let p = c.args.prefix.now in
     let es = c.args.sorted.now.entries in
-    let n = names-range p c.args.from es c.range-range.result
-    (c.range-range.ensures.between tt) c.requires c.range-range.ensures.ordered in
+    let n = names-range p c.new.result es c.range-range.result
+    (c.range-range.ensures.between tt) c.new.ensures c.range-range.ensures.ordered in
     let m = subst (Names p es) (c.in-Some.ensures.steps ∙ ap
     (λ es'. (c.in-Some.first.now, c.in-Some.id.now) ∷ es') c.in_default-next.ensures.steps.0) n in
     let same : starts_with nat_eq c.in-Some.first.now p ≡ true =
@@ -41,8 +41,8 @@ pub returns-then-starts_with : goal.returns-then-starts_with
 returns-then-starts_with c =
     let p = c.args.prefix.now in
     let es = c.args.sorted.now.entries in
-    let n = names-range p c.args.from es c.range-range.result
-    (c.range-range.ensures.between tt) c.requires c.range-range.ensures.ordered in
+    let n = names-range p c.new.result es c.range-range.result
+    (c.range-range.ensures.between tt) c.new.ensures c.range-range.ensures.ordered in
     let m = subst (Names p es) (c.in-Some.ensures.steps ∙ ap
     (λ es'. (c.in-Some.first.now, c.in-Some.id.now) ∷ es') c.in-Some-next.ensures.steps) n in
     let one : starts_with nat_eq c.in-Some.first.now p ≡ true =
@@ -59,8 +59,8 @@ pub returns-else-starts_with : goal.returns-else-starts_with
 returns-else-starts_with c =
     let p = c.args.prefix.now in
     let es = c.args.sorted.now.entries in
-    let n = names-range p c.args.from es c.range-range.result
-    (c.range-range.ensures.between tt) c.requires c.range-range.ensures.ordered in
+    let n = names-range p c.new.result es c.range-range.result
+    (c.range-range.ensures.between tt) c.new.ensures c.range-range.ensures.ordered in
     let m = subst (Names p es) (c.in-Some.ensures.steps ∙ ap
     (λ es'. (c.in-Some.first.now, c.in-Some.id.now) ∷ es') c.in-Some-next.ensures.steps) n in
     let one : starts_with nat_eq c.in-Some.first.now p ≡ true =

@@ -6,8 +6,10 @@ pub loop-number-preserved : goal.loop-number-preserved
 loop-number-preserved c =
     let ns = c.args.names.now.names in
     let within : c.loop-number.number < length ns = omega (arith, c.loop-number-test.true, c.len-number-end.ensures) in
-    faults-step PrefixOfAnother (λ n text. is_prefix_of_another ns text) ns c.loop-number.number c.in_ok-fails.fails
-    c.loop-number.faults.items c.add_fault_if.new.faults.items within c.in_ok-fails.ensures c.in_ok-add_fault_if.ensures
+    faults-step PrefixOfAnother (λ n text. is_prefix_of_another ns text) ns c.loop-number.number
+    c.is_prefix-fails.result
+    c.first.result c.loop-number.faults.items c.add_fault_if.new.faults.items within c.is_prefix-fails.ensures
+    c.first.ensures c.in_ok-add_fault_if.ensures
     ∙ c.loop-number.invariant
 
 pub returns-then-not-has_prefix : goal.returns-then-not-has_prefix

@@ -1,33 +1,29 @@
-use Rattle.cweb_names.proofs.Common.{◌≡◌, sym, ◌∙◌, ap, false, length, bytes_eq, list_any, position_or_len, length-map, slice_get, slice_get_within, Name, id, spellings, name_at, names_at, NamesSoFar}
+use Rattle.cweb_names.proofs.Common.{◌≡◌, sym, ◌∙◌, ap, refl, false, length, bytes_eq, list_any, position_or_len, length-map, slice_get, slice_get_within, Name, id, spellings, name_at, names_at, NamesSoFar}
 use Rattle.cweb_names.proofs.NameLemmas.{position-none, with_text-there, with_text-new, known-push}
 use Rattle.cweb_names.proofs.KnownLemmas.{known-old, known-new, names-push, within-push}
 use Rattle.cweb_names.proofs.known.KnownNames.add.Goals as goal
 
-pub returns-then-id-next-clause-number : goal.returns-then-id-next-clause-number
-returns-then-id-next-clause-number c =
-    let s = c.self.inside in
-    let ns = names_at s.strings s.firsts.items in
-    let is : c.in_ok-key.key ≡ c.args.text.now = c.in_ok-key.ensures in
-    let stays = known-old s.sorted.entries ns c.in_ok-key.key
-    _ c.in_ok-id.id c.self.invariant.sorted c.in_ok-id.ensures.ordered c.in_ok-id.ensures.number c.if-id-next.true in
-    stays.place ∙ (λ i. position_or_len (bytes_eq (is i)) (spellings (c.self.view_is i).names))
-
-pub returns-then-id-next-clause-names : goal.returns-then-id-next-clause-names
-returns-then-id-next-clause-names c =
+pub returns-then-id-next : goal.returns-then-id-next
+returns-then-id-next c =
     let s = c.self.inside in
     let ns = names_at s.strings s.firsts.items in
     let text = c.args.text.now in
-    let is : c.in_ok-key.key ≡ text = c.in_ok-key.ensures in
-    let stays = known-old s.sorted.entries ns c.in_ok-key.key
+    let is : c.new-key.result ≡ text = c.new-key.ensures in
+    let stays = known-old s.sorted.entries ns c.new-key.result
     _ c.in_ok-id.id c.self.invariant.sorted c.in_ok-id.ensures.ordered c.in_ok-id.ensures.number c.if-id-next.true in
     let there = ap (λ q. list_any (bytes_eq q) (spellings ns)) (sym is) ∙ stays.among in
-    rw (c.in_ok-reserve.ensures.items, ← c.self.view_is) (sym (with_text-there c.args.first ns text there))
+    rw (c.in_ok-reserve.ensures.items, ← c.self.view_is)
+    (record {
+      number = stays.place ∙ ap (λ q. position_or_len (bytes_eq q) (spellings ns)) is;
+      names = sym (with_text-there c.args.first ns text there);
+      strings = refl;
+    })
 
 pub invariant_of-self-then-id-next : goal.invariant_of-self-then-id-next
 invariant_of-self-then-id-next c =
     let s = c.self.inside in
     let ns = names_at s.strings s.firsts.items in
-    let stays = known-old s.sorted.entries ns c.in_ok-key.key
+    let stays = known-old s.sorted.entries ns c.new-key.result
     _ c.in_ok-id.id c.self.invariant.sorted c.in_ok-id.ensures.ordered c.in_ok-id.ensures.number c.if-id-next.true in
     rw (c.in_ok-reserve.ensures.items, c.in_ok-id.ensures.entries, stays.same) c.self.invariant
 
@@ -35,9 +31,9 @@ pub invariant_of-self-2 : goal.invariant_of-self-2
 invariant_of-self-2 c =
     let s = c.self.inside in
     let ns = names_at s.strings s.firsts.items in
-    let key = c.in_ok-key.key in
+    let key = c.new-key.result in
     let v = c.in_ok-id.id in
-    let is : key ≡ c.args.text.now = c.in_ok-key.ensures in
+    let is : key ≡ c.args.text.now = c.new-key.ensures in
     let last : v.0 ≡ length ns =
     c.if-id-next.false ∙ c.len.ensures ∙ s.firsts.ok.0 ∙ sym (length-map s.firsts.items (name_at s.strings)) in
     let new : list_any (bytes_eq key) (spellings ns) ≡ false =
@@ -52,32 +48,14 @@ invariant_of-self-2 c =
           (slice_get_within s.strings c.args.first c.args.text.now given);
     })
 
-pub returns-clause-number : goal.returns-clause-number
-returns-clause-number c =
+pub returns : goal.returns
+returns c =
     let s = c.self.inside in
     let ns = names_at s.strings s.firsts.items in
-    let key = c.in_ok-key.key in
+    let key = c.new-key.result in
     let v = c.in_ok-id.id in
     let text = c.args.text.now in
-    let is : key ≡ text = c.in_ok-key.ensures in
-    let last : v.0 ≡ length ns =
-    c.if-id-next.false ∙ c.len.ensures ∙ s.firsts.ok.0 ∙ sym (length-map s.firsts.items (name_at s.strings)) in
-    let new : list_any (bytes_eq key) (spellings ns) ≡ false =
-    known-new s.sorted.entries ns key _ v c.self.invariant.sorted c.in_ok-id.ensures.ordered
-    c.in_ok-id.ensures.number last in
-    let absent : list_any (bytes_eq text) (spellings ns) ≡ false =
-    ap (λ q. list_any (bytes_eq q) (spellings ns)) (sym is) ∙ new in
-    rw (← c.self.view_is)
-    (last ∙ sym (length-map ns (λ (n : Name). n.text)) ∙ sym (position-none (bytes_eq text) (spellings ns) absent))
-
-pub returns-clause-names : goal.returns-clause-names
-returns-clause-names c =
-    let s = c.self.inside in
-    let ns = names_at s.strings s.firsts.items in
-    let key = c.in_ok-key.key in
-    let v = c.in_ok-id.id in
-    let text = c.args.text.now in
-    let is : key ≡ text = c.in_ok-key.ensures in
+    let is : key ≡ text = c.new-key.ensures in
     let last : v.0 ≡ length ns =
     c.if-id-next.false ∙ c.len.ensures ∙ s.firsts.ok.0 ∙ sym (length-map s.firsts.items (name_at s.strings)) in
     let new : list_any (bytes_eq key) (spellings ns) ≡ false =
@@ -87,4 +65,10 @@ returns-clause-names c =
     ap (λ q. list_any (bytes_eq q) (spellings ns)) (sym is) ∙ new in
     let given = ap (λ (m : NamesSoFar). slice_get m.strings c.args.first) c.self.view_is ∙ c.requires.spelled in
     rw (c.push_reserved.ensures.items, c.in_ok-reserve.ensures.items, ← c.self.view_is)
-    (names-push s.strings s.firsts.items c.args.first text given ∙ sym (with_text-new c.args.first ns text absent))
+    (record {
+      number = last ∙ sym (length-map ns (λ (n : Name). n.text))
+          ∙ sym (position-none (bytes_eq text) (spellings ns) absent);
+      names = names-push s.strings s.firsts.items c.args.first text given
+          ∙ sym (with_text-new c.args.first ns text absent);
+      strings = refl;
+    })

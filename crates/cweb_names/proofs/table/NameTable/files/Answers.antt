@@ -20,9 +20,9 @@ returns c =
     let i = c.loop-i.i in
     let items = c.deref-form-items.result.now in
     let none : drop i items ≡ [] = drop_all i items c.loop-i-test.false in
-    let count : length s.known.strings ≡ length items =
+    let count : length s.strings ≡ length items =
     c.self.invariant.count ∙ ap length (sym c.deref-form-items.ensures.value) in
-    ap (λ gs. files_from rs c.loop-i.files.keys i (occurrences_at (drop i s.known.strings) gs)) (sym none)
-    ∙ c.loop-i.invariant s.known.strings count
-    ∙ ap (λ gs. files_from rs [] 0 (occurrences_at s.known.strings gs)) c.deref-form-items.ensures.value
+    ap (λ gs. files_from rs c.loop-i.files.keys i (occurrences_at (drop i s.strings) gs)) (sym none)
+    ∙ c.loop-i.invariant s.strings count
+    ∙ ap (λ gs. files_from rs [] 0 (occurrences_at s.strings gs)) c.deref-form-items.ensures.value
     ∙ ap (files_from rs [] 0) c.self.view_is

@@ -9,5 +9,5 @@ returns c =
       arith,
       c.len.ensures,
       ap length c.self.view_is,
-      occurrences-count s.known.strings s.forms.items (omega (arith, c.self.invariant.count)),
+      occurrences-count s.strings s.forms.items (omega (arith, c.self.invariant.count)),
     )

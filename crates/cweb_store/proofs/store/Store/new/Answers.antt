@@ -25,7 +25,7 @@ invariant_of-store c =
     let last = subst (AreLast c.in_ok-last_places.last_places.items) (c.as_slice.ensures.value ∙ replaced.bytes)
     c.in_ok-last_places.ensures in
     rw (strings, closed.forms, replaced.bytes)
-    (stored-are ts ranges all.links os rs _ _ _ _ _ _ apart.ensures.whole linked last closed.firsts found.few found.small
+    (stored-are ts ranges all.links os rs _ _ _ _ _ _ apart.ensures.whole linked last found.firsts found.few found.small
     answers)
 
 pub returns : goal.returns

@@ -44,30 +44,31 @@ word-packs {new} {word} {number} token item keeps within stored is_word none one
 pub returns-in_ok-intern_word-in-Word-clause-packs : goal.returns-in_ok-intern_word-in-Word-clause-packs
 returns-in_ok-intern_word-in-Word-clause-packs c =
     rw c.in-Word.is (word-packs (spec.Word c.in-Word.string.now) (interned_token.Word
-    c.in_ok-intern_word-in-Word.field-0) c.in_ok-intern_word-in-Word.ensures.ok (λ w. w) (ap spec.Word) refl refl refl)
+    c.in_ok-intern_word-in-Word.field-0) c.in_ok-intern_word-in-Word.ensures (λ w. w) (ap spec.Word) refl refl refl)
 
 pub returns-in_ok-intern_punctuator-in-Punct-clause-packs : goal.returns-in_ok-intern_punctuator-in-Punct-clause-packs
 returns-in_ok-intern_punctuator-in-Punct-clause-packs c =
     rw c.in-Punct.is (word-packs (spec.Punct c.in-Punct.string.now)
     (interned_token.Punct c.in_ok-intern_punctuator-in-Punct.field-0)
-    c.in_ok-intern_punctuator-in-Punct.ensures.ok (λ w. w) (ap spec.Punct) refl refl refl)
+    c.in_ok-intern_punctuator-in-Punct.ensures (λ w. w) (ap spec.Punct) refl refl refl)
 
 pub returns-in_ok-intern_word-in-Number-clause-packs : goal.returns-in_ok-intern_word-in-Number-clause-packs
 returns-in_ok-intern_word-in-Number-clause-packs c =
     rw c.in-Number.is (word-packs (spec.Number c.in-Number.string.now) (interned_token.Number
-    c.in_ok-intern_word-in-Number.field-0) c.in_ok-intern_word-in-Number.ensures.ok (λ w. w) (ap spec.Number) refl refl refl)
+    c.in_ok-intern_word-in-Number.field-0) c.in_ok-intern_word-in-Number.ensures
+    (λ w. w) (ap spec.Number) refl refl refl)
 
 pub returns-in_ok-add_string-in-Literal-clause-packs : goal.returns-in_ok-add_string-in-Literal-clause-packs
 returns-in_ok-add_string-in-Literal-clause-packs c =
     rw c.in-Literal.is (kept-packs (spec.Literal c.in-Literal.string.now)
     (Literal c.in_ok-add_string-in-Literal.field-0)
-    c.in_ok-add_string-in-Literal.ensures.ok (λ w. w) (ap spec.Literal) refl (omega arith) refl)
+    c.in_ok-add_string-in-Literal.ensures (λ w. w) (ap spec.Literal) refl (omega arith) refl)
 
 pub returns-in_ok-add_string-in-Verbatim-clause-packs : goal.returns-in_ok-add_string-in-Verbatim-clause-packs
 returns-in_ok-add_string-in-Verbatim-clause-packs c =
     rw c.in-Verbatim.is (kept-packs (spec.Verbatim c.in-Verbatim.string.now)
     (Verbatim c.in_ok-add_string-in-Verbatim.field-0)
-    c.in_ok-add_string-in-Verbatim.ensures.ok (λ w. w) (ap spec.Verbatim) refl (omega arith) refl)
+    c.in_ok-add_string-in-Verbatim.ensures (λ w. w) (ap spec.Verbatim) refl (omega arith) refl)
 
 pub returns-in-Mark-clause-packs : goal.returns-in-Mark-clause-packs
 returns-in-Mark-clause-packs c =

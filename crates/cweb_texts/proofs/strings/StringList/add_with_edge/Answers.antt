@@ -37,27 +37,25 @@ invariant_of-self-2 c =
           (known-push (strings_from bytes 0 ends) edges string c.args.edge c.self.invariant.stored_edges c.requires));
     })
 
-pub returns-clause-number : goal.returns-clause-number
-returns-clause-number c =
-    let s = c.self.inside in
-    c.len-number.ensures ∙ c.in_ok-reserve-2.ensures.len ∙ s.edges.ok.0
-    ∙ known-count (strings_from s.bytes.items 0 (drop 1 s.offsets.items)) s.edges.items c.self.invariant.stored_edges
-    ∙ ap length c.self.view_is
-
-pub returns-clause-added : goal.returns-clause-added
-returns-clause-added c =
+pub returns : goal.returns
+returns c =
     let s = c.self.inside in
     let bytes = s.bytes.items in
     let string = c.args.string.now in
     let size : c.len.result ≡ length (bytes ++ string) =
     c.len.ensures ∙ c.extend_from_slice.new.self.ok.0 ∙ ap length c.in_ok-extend_from_slice.ensures.items in
-    rw (
-      c.push_reserved.ensures.items,
-      c.in_ok-reserve.ensures.items,
-      size,
-      c.in_ok-extend_from_slice.ensures.items,
-      offsets-push c.begin.new.offsets.items (length (bytes ++ string)) c.in_ok-begin.ensures.begun,
-      c.in_ok-begin.ensures.ends,
-      ← c.self.view_is,
-    )
-    (strings-push bytes string 0 (drop 1 s.offsets.items) c.self.invariant.ends_at)
+    let added = strings-push bytes string 0 (drop 1 s.offsets.items) c.self.invariant.ends_at in
+    record {
+      number = c.len-number.ensures ∙ c.in_ok-reserve-2.ensures.len ∙ s.edges.ok.0
+          ∙ known-count (strings_from s.bytes.items 0 (drop 1 s.offsets.items)) s.edges.items
+          c.self.invariant.stored_edges ∙ ap length c.self.view_is;
+      added = rw (
+        c.push_reserved.ensures.items,
+        c.in_ok-reserve.ensures.items,
+        size,
+        c.in_ok-extend_from_slice.ensures.items,
+        offsets-push c.begin.new.offsets.items (length (bytes ++ string)) c.in_ok-begin.ensures.begun,
+        c.in_ok-begin.ensures.ends,
+        ← c.self.view_is,
+      ) added;
+    }

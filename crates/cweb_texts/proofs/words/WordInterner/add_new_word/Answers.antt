@@ -14,8 +14,8 @@ invariant_of-self-then-push c =
       c.requires.key,
     )
 
-pub returns-then-push-clause-ok : goal.returns-then-push-clause-ok
-returns-then-push-clause-ok c =
+pub returns-then-push : goal.returns-then-push
+returns-then-push c =
     let s = c.self.inside in
     grind (
       arith,

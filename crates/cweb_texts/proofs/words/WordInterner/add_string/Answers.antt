@@ -10,8 +10,8 @@ invariant_of-self-2 c =
     rw c.in_ok-number.ensures.added
     (interned-grow s.strings (c.args.string.now ∷ []) s.table s.sorted.entries c.self.invariant)
 
-pub returns-clause-ok : goal.returns-clause-ok
-returns-clause-ok c =
+pub returns : goal.returns
+returns c =
     let s = c.self.inside in
     let string = c.args.string.now in
     let keeps : AddsString (table_model s.strings s.table s.sorted.entries) string c.in_ok-number.number

@@ -2,8 +2,8 @@ use Rattle.cweb_texts.proofs.Common.{◌≡◌, Some, None, ℕ, Vec, sym, ◌�
 use Rattle.cweb_texts.proofs.InterningLemmas.{found-known, mapped-known, not-interned, sorted-interned, sorted-keeps}
 use Rattle.cweb_texts.proofs.words.WordInterner.intern_uncached.Goals as goal
 
-pub returns-in-Some-clause-ok : goal.returns-in-Some-clause-ok
-returns-in-Some-clause-ok c =
+pub returns-in-Some : goal.returns-in-Some
+returns-in-Some c =
     let s = c.self.inside in
     rw (← c.self.view_is)
     (found-known s.strings s.table s.sorted.entries c.args.word.now c.in-Some.number c.in-Some.ensures)
@@ -14,16 +14,16 @@ invariant_of-self-then-is_full c =
     sorted-interned s.strings c.intern_sorted.new.strings s.table s.sorted.entries
     c.intern_sorted.new.sorted.entries c.args.word.now c.in_ok-number.number c.self.invariant c.in_ok-number.ensures.ok
 
-pub returns-then-is_full-clause-ok : goal.returns-then-is_full-clause-ok
-returns-then-is_full-clause-ok c =
+pub returns-then-is_full : goal.returns-then-is_full
+returns-then-is_full c =
     let s = c.self.inside in
     rw (← c.self.view_is)
     (sorted-keeps s.strings c.intern_sorted.new.strings s.table s.sorted.entries
     c.intern_sorted.new.sorted.entries c.args.word.now c.in_ok-number.number c.self.invariant c.in_default.ensures
     c.in_ok-number.ensures.ok)
 
-pub returns-in-Some-copied-clause-ok : goal.returns-in-Some-copied-clause-ok
-returns-in-Some-copied-clause-ok c =
+pub returns-in-Some-copied : goal.returns-in-Some-copied
+returns-in-Some-copied c =
     let s = c.self.inside in
     let word = c.args.word.now in
     let found : lookup (λ (k : Vec ℕ Global). is_eq (slice_cmp nat_cmp word k.items)) s.sorted.entries

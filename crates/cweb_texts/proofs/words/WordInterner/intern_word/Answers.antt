@@ -2,8 +2,8 @@ use Rattle.cweb_texts.proofs.TableLemmas.{found-word}
 use Rattle.cweb_texts.proofs.InterningLemmas.{found-known}
 use Rattle.cweb_texts.proofs.words.WordInterner.intern_word.Goals as goal
 
-pub returns-in-Some-clause-ok : goal.returns-in-Some-clause-ok
-returns-in-Some-clause-ok c =
+pub returns-in-Some : goal.returns-in-Some
+returns-in-Some c =
     let s = c.self.inside in
     let word = c.args.word.now in
     let latest = c.in-Some.latest in

@@ -9,6 +9,6 @@ returns-clause-parts c =
     let tied = subst (λ (current : Option Open).
     ArePartRanges s.tokens.tokens s.ranges.items current (vec_capacity s.ranges)) c.in-Some.is c.self.invariant in
     rw c.truncate.ensures.tokens (ap (parts_in (take e.result s.tokens.tokens) s.ranges.items) c.in-Some.is
-    ∙ cut-parts s.tokens.tokens s.ranges.items c.in-Some.current _ e.result _ tied e.ensures.begins e.ensures.part
+    ∙ cut-parts s.tokens.tokens s.ranges.items c.in-Some.current _ e.result _ tied e.ensures.cut.begins e.ensures.part
     ∙ ap with_dropped_layout (ap (parts_in s.tokens.tokens s.ranges.items) (sym c.in-Some.is)
     ∙ ap (λ v. v.parts) c.self.view_is))
