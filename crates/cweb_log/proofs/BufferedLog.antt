@@ -151,12 +151,6 @@ writes_prefix e (Err f) {before} fails is = record {
   prefix = λ tells. fails.prefix tells before.bytes [] (begins);
 }
 
--- The lines of a list of items.
-pub writes_items : {A E X : Type 0} (f : X → LogItem) (xs : List X) {before after : SinkModel} {r : Result A E}
-    → WritesToStream (flat_map (λ (x : X). line (f x)) xs) before after r
-    → WritesToStream (flat_map line (map f xs)) before after r
-writes_items f xs {before} {after} {r} writes = rw (flat_map-map line f xs) writes
-
 -- Writing and logging have the same effect.
 pub logs_by : {A E : Type 0} (r : Result A E) {text : List ℕ} {before after : SinkModel}
     → WritesToStream text before after r → Logs text before after

@@ -1,5 +1,5 @@
 -- The observable state of the devices of a run.
-use Rattle.std.specs.Prelude.{ℕ, List, Bool, IsTrue, Option}
+use Rattle.std.specs.Prelude.{ℕ, ◌+◌, ◌^◌, ◌<◌, List, Bool, IsTrue, Option}
 use Rattle.cweb_files.specs.Files.{Beside}
 use Rattle.cweb_files.specs.declared.device.Shelf.{Ghosts as Shelf}
 use Rattle.cweb_files.specs.declared.device.Sink.{Ghosts as Sink}
@@ -42,3 +42,13 @@ devices shelf out log s w l =
 -- The contents of all devices are observable.
 abbrev pub AreObservable : Devices → Type 0
 AreObservable seen = IsTrue seen.shelf.tells × IsTrue seen.out.tells × IsTrue seen.log.tells
+
+-- The failure counts of two sinks have room for one more failure.
+pub record SinkCountsFit (first second : SinkModel) : Type 0 where
+  pub out : first.failed + 1 < 2 ^ 64
+  pub log : second.failed + 1 < 2 ^ 64
+
+-- The failure count of each device has room for one more failure.
+pub record CountsFit (seen : Devices) : Type 0 where
+  pub shelf : seen.shelf.failed + 1 < 2 ^ 64
+  pub sinks : SinkCountsFit seen.out seen.log

@@ -1,2 +1,3 @@
 -- Definitions that public calls cite and the headline does not.
 pub mod Options
+pub mod Parsing

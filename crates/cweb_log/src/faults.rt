@@ -1,97 +1,29 @@
-// Log lines for the faults of webs and change files.
-ghost use Rattle.std.specs.Prelude.{◌≡◌, ◌<◌, ◌+◌, ◌^◌, ◌++◌, codes, length, All};
+// The lines of the faults of a web: of its files, its text, its names and its outputs. No function here allocates.
+ghost use Rattle.std.specs.Prelude.{◌≡◌, ◌<◌, ◌∷◌, [], length};
 ghost use Rattle.cweb_input.specs.surface.OpenedFileNames.{opened_file_names};
-ghost use Rattle.cweb_log.specs.inner.LogBuffer.{unwritten_bytes};
-ghost use Rattle.cweb_log.specs.inner.LogWriting.{WritesToStream, AppendsToLog};
-ghost use Rattle.cweb_log.specs.Items.{line, source_item};
-ghost use Rattle.cweb_log.specs.inner.WebItems.{fault_lines};
-ghost use Rattle.cweb_log.specs.Log.{kind_message, located_line};
-ghost use Rattle.cweb_log.specs.DeviceModels.{sink_model};
+ghost use Rattle.cweb_log.specs.Items.{line, name_item, scan_item, scan_message, source_item};
+ghost use Rattle.cweb_log.specs.Log.{kind_message};
+ghost use Rattle.cweb_log.specs.inner.LogText.{items_of};
+ghost use Rattle.cweb_log.specs.inner.Chunks.{joined_parts};
+ghost use Rattle.cweb_log.specs.inner.WebItems.{plan_item};
 
-use crate::log_buffer::LogBuffer;
-use cweb_lines::{FileNames, Sink, SinkFault, SourceFault, SourceKind};
-use itoa::Buffer;
+use crate::chunks::{Chunk, counted_chunk, fault_chunk, located_chunk};
+use crate::log_text::{LogLine, LogText};
+use crate::names::{file_name, name_bytes, output_name_bytes};
+use cweb_lines::{FileNames, SourceFault, SourceKind, Stop};
+use cweb_out::PlanFault;
+use cweb_rules::{ScanFault, ScanKind};
+use cweb_store::{NameFault, NameKind, Store};
 
-/// Writes the lines of faults in order, each with its file's name and line number. Buffers them, without allocation.
-#[inline(never)]
-pub fn write_faults<L: Sink>(
-    log: &mut L,
-    names: &FileNames,
-    faults: &[SourceFault],
-) -> Result<(), SinkFault>
-    requires count { L.failed log.old + 1 < 2 ^ 64 }
-    requires known { All
-        (λ fault. fault.place.file.0 < length (opened_file_names names.now)) faults.now }
-    ensures { WritesToStream (fault_lines (opened_file_names names.now) faults.now)
-        (sink_model L.Sink log.old) (sink_model L.Sink log.new) result }
+pub(crate) fn source_fault_chunk<'a>(names: &'a FileNames, fault: SourceFault) -> Chunk<'a>
+    ensures { joined_parts result ≡ line (source_item (opened_file_names names.now) fault) }
 {
-    let mut log_buffer = LogBuffer::new();
-    'faults: for fault in faults {
-        add_fault(&mut log_buffer, log, names, fault)?;
-    }
-    log_buffer.pass_on(log)
-}
-
-fn add_fault<L: Sink>(
-    log_buffer: &mut LogBuffer,
-    log: &mut L,
-    names: &FileNames,
-    fault: &SourceFault,
-) -> Result<(), SinkFault>
-    requires count { L.failed log.old + 1 < 2 ^ 64 }
-    requires known { fault.now.place.file.0 < length (opened_file_names names.now) }
-    ensures { AppendsToLog (line (source_item (opened_file_names names.now) fault.now))
-        (sink_model L.Sink log.old) (sink_model L.Sink log.new)
-        (unwritten_bytes log_buffer.old) (unwritten_bytes log_buffer.new) result }
-{
-    let file = names.get(fault.place.file);
+    let file = file_name(names, fault.place.file);
     let text = kind_message(fault.kind);
-    let mut line = Buffer::new();
-    let line = line.format(fault.place.line);
     if let SourceKind::Unequal = fault.kind {
-        let mut count = Buffer::new();
-        return add_located(
-            log_buffer,
-            log,
-            file,
-            line,
-            text,
-            ": ",
-            count.format(fault.count),
-        );
+        return counted_chunk(file, fault.place.line, text, fault.count);
     }
-    add_located(log_buffer, log, file, line, text, "", "")
-}
-
-/// Appends a line with a place. It ends in a number if the fault has one.
-pub(crate) fn add_located<L: Sink>(
-    log_buffer: &mut LogBuffer,
-    log: &mut L,
-    file: &str,
-    line: &str,
-    text: &str,
-    sign: &str,
-    count: &str,
-) -> Result<(), SinkFault>
-    requires { L.failed log.old + 1 < 2 ^ 64 }
-    ensures { AppendsToLog
-        (located_line file.now line.now (text.now ++ (sign.now ++ (count.now ++ codes "\n"))))
-        (sink_model L.Sink log.old) (sink_model L.Sink log.new)
-        (unwritten_bytes log_buffer.old) (unwritten_bytes log_buffer.new) result }
-{
-    log_buffer.add_line(
-        log,
-        &[
-            file.as_bytes(),
-            b":",
-            line.as_bytes(),
-            b": ! ",
-            text.as_bytes(),
-            sign.as_bytes(),
-            count.as_bytes(),
-            b"\n",
-        ],
-    )
+    located_chunk(file, fault.place.line, text)
 }
 
 fn kind_message(kind: SourceKind) -> &'static str
@@ -110,5 +42,69 @@ fn kind_message(kind: SourceKind) -> &'static str
         SourceKind::WantsZ => "Where is @z?",
         SourceKind::EndedBeforeZ => "Change file ended before @z",
         SourceKind::NoMatch => "Change entry did not match",
+    }
+}
+
+pub(crate) fn scan_fault_chunk<'a>(names: &'a FileNames, fault: ScanFault) -> Chunk<'a>
+    ensures { joined_parts result ≡ line (scan_item (opened_file_names names.now) fault) }
+{
+    let file = file_name(names, fault.place.file);
+    located_chunk(file, fault.place.line, scan_message(fault.kind))
+}
+
+fn scan_message(kind: ScanKind) -> &'static str
+    ensures { result.now ≡ scan_message kind }
+{
+    match kind {
+        ScanKind::DoubleAtInLimbo => "Double @ in limbo",
+        ScanKind::ImproperHexNumber => "Improper hex number after @l",
+        ScanKind::ReplacementTooLong => "Replacement after @l too long",
+        ScanKind::LetterOutsideLimbo => "Use @l in limbo only",
+        ScanKind::NameDidNotEnd => "Section name did not end",
+        ScanKind::NamesDoNotNest => "Section names do not nest",
+        ScanKind::CommentDidNotEnd => "Comment did not end",
+        ScanKind::StringDidNotEnd => "String did not end",
+        ScanKind::DoubleAtInString => "Double @ in strings",
+        ScanKind::ControlTextDidNotEnd => "Control text did not end",
+        ScanKind::FaultyConstant => "Faulty ASCII constant",
+        ScanKind::IgnoredInCText => "@d, @f, @s, @c and @p are ignored in C text",
+        ScanKind::MissingAt => "Missing @ before a named section",
+        ScanKind::DefsInMacro => "@h is ignored in a macro",
+        ScanKind::DefinitionDropped => "Definition dropped, no identifier",
+    }
+}
+
+/// A name is printed between angle brackets, an abbreviation with its three dots.
+pub(crate) fn name_fault_chunk(store: &Store, fault: NameFault) -> Chunk<'_>
+    requires { fault.occurrence.0 < length store.now.occurrences }
+    ensures { joined_parts result ≡ line (name_item store.now.occurrences fault) }
+{
+    let name = store.occurrence_text(fault.occurrence);
+    match fault.kind {
+        NameKind::Ambiguous => fault_chunk("Ambiguous prefix: <", name, "...>"),
+        NameKind::NeverFull => fault_chunk("Never given in full: <", name, "...>"),
+        NameKind::PrefixOfAnother => fault_chunk("Name is a prefix of another: <", name, ">"),
+        NameKind::NotPresent => fault_chunk("Not present: <", name, ">"),
+    }
+}
+
+impl<'a> LogText<'a> {
+    /// The line of the fault for which a web has no plan, for a main file of this name. `Memory` has the line of the
+    /// stop.
+    pub fn unplanned(store: &'a Store, fault: &'a PlanFault, main: &'a str) -> LogText<'a>
+        ensures { items_of result ≡ plan_item store.now main.now fault.now ∷ [] }
+    {
+        match fault {
+            PlanFault::Cycle(names) => LogText::Cycle(store, names.as_slice()),
+            PlanFault::SameName(name) => LogText::Line(LogLine::Refused(
+                "Two outputs with one name: <",
+                name_bytes(store, *name),
+            )),
+            PlanFault::BadName(output) => LogText::Line(LogLine::Refused(
+                "Bad output name: <",
+                output_name_bytes(store, main, *output),
+            )),
+            PlanFault::Memory => LogText::Line(LogLine::Stopped(Stop::Memory, "")),
+        }
     }
 }

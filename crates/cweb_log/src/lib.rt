@@ -6,21 +6,20 @@ mod options;
 mod shown;
 mod words;
 
-// log lines, buffered without allocation
-mod log_buffer;
-
-// the lines of runs, faults and stops
+// the texts for the log, as chunks
+mod chunks;
 mod faults;
-mod items;
+mod log_text;
+mod names;
 mod stops;
-mod web_faults;
 
-pub use faults::write_faults;
-pub use items::{
-    write_banner, write_closing, write_counts, write_no_program, write_starred, write_writing,
-};
+// writes, buffered without allocation
+mod log_buffer;
+mod writing;
+
+pub use log_text::{LogLine, LogText};
+pub use names::file_name;
 pub use options::Options;
 pub use shown::Shown;
-pub use stops::{log_stop, write_stop};
-pub use web_faults::{write_name_faults, write_plan_fault, write_scan_faults};
 pub use words::MergeWords;
+pub use writing::{log_stop, write_log};

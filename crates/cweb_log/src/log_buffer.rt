@@ -1,10 +1,13 @@
 // A log buffer in a small array. No function here allocates.
 ghost use Rattle.std.specs.Prelude.{◌≡◌, ◌≤◌, ◌<◌, ◌+◌, ◌^◌, ◌++◌, [], length, OnOk};
-ghost use Rattle.cweb_log.specs.inner.LogWriting.{WritesToStream, AppendsToLog, joined_line};
+ghost use Rattle.cweb_log.specs.inner.LogWriting.{WritesToStream, AppendsToLog};
+ghost use Rattle.cweb_log.specs.inner.Chunks.{joined_parts, part_bytes};
 ghost use Rattle.cweb_log.specs.declared.log_buffer.TheConstants.{ROOM};
 ghost use Rattle.cweb_log.specs.DeviceModels.{sink_model};
 
+use crate::chunks::Part;
 use cweb_lines::{Sink, SinkFault, write_all};
+use itoa::Buffer;
 
 /// The size of the buffer.
 const ROOM: usize = 4096;
@@ -29,47 +32,62 @@ impl LogBuffer {
         }
     }
 
-    /// Appends the parts of a line.
-    pub(crate) fn add_line<L: Sink>(
+    /// Appends the parts of a chunk.
+    pub(crate) fn add_chunk<L: Sink>(
         &mut self,
         log: &mut L,
-        parts: &[&[u8]],
+        parts: &[Part<'_>],
     ) -> Result<(), SinkFault>
         requires { L.failed log.old + 1 < 2 ^ 64 }
-        ensures { AppendsToLog (joined_line parts.now)
+        ensures { AppendsToLog (joined_parts parts.now)
             (sink_model L.Sink log.old) (sink_model L.Sink log.new)
             (unwritten_bytes self.old) (unwritten_bytes self.new) result }
     {
         'parts: for part in parts {
-            self.add(log, part)?;
+            self.add_part(log, *part)?;
         }
         Ok(())
     }
 
-    /// Appends a part. If it doesn't fit, flushes the buffer first. A part longer than the array is written at once.
-    pub(crate) fn add<L: Sink>(&mut self, log: &mut L, part: &[u8]) -> Result<(), SinkFault>
+    fn add_part<L: Sink>(&mut self, log: &mut L, part: Part<'_>) -> Result<(), SinkFault>
         requires { L.failed log.old + 1 < 2 ^ 64 }
-        ensures { AppendsToLog part.now
+        ensures { AppendsToLog (part_bytes part.entry)
             (sink_model L.Sink log.old) (sink_model L.Sink log.new)
             (unwritten_bytes self.old) (unwritten_bytes self.new) result }
     {
-        if part.len() > ROOM - self.len {
+        match part {
+            Part::Text(text) => self.add(log, text),
+            Part::Number(number) => {
+                let mut digits = Buffer::new();
+                self.add(log, digits.format(number).as_bytes())
+            }
+        }
+    }
+
+    /// Appends bytes. If they don't fit, flushes the buffer first. If they are longer than the array, writes them at once.
+    fn add<L: Sink>(&mut self, log: &mut L, bytes: &[u8]) -> Result<(), SinkFault>
+        requires { L.failed log.old + 1 < 2 ^ 64 }
+        ensures { AppendsToLog bytes.now
+            (sink_model L.Sink log.old) (sink_model L.Sink log.new)
+            (unwritten_bytes self.old) (unwritten_bytes self.new) result }
+    {
+        if bytes.len() > ROOM - self.len {
             self.pass_on(log)?;
         }
-        if part.len() > ROOM - self.len {
-            return write_all(log, part);
+        if bytes.len() > ROOM - self.len {
+            return write_all(log, bytes);
         }
-        self.keep(part);
+        self.keep(bytes);
         Ok(())
     }
 
-    /// Stores a part that fits.
-    fn keep(&mut self, part: &[u8])
-        requires { self.old.len + length part.now ≤ ROOM }
-        ensures { unwritten_bytes self.new ≡ unwritten_bytes self.old ++ part.now }
+    /// Stores bytes that fit.
+    fn keep(&mut self, bytes: &[u8])
+        requires { self.old.len + length bytes.now ≤ ROOM }
+        ensures { unwritten_bytes self.new ≡ unwritten_bytes self.old ++ bytes.now }
     {
-        let end = self.len + part.len();
-        self.bytes[self.len..end].copy_from_slice(part);
+        let end = self.len + bytes.len();
+        self.bytes[self.len..end].copy_from_slice(bytes);
         self.len = end;
     }
 
@@ -84,16 +102,4 @@ impl LogBuffer {
         self.len = 0;
         Ok(())
     }
-}
-
-/// Writes a line that consists of these parts. A line that fits the buffer takes one write.
-#[inline(never)]
-pub(crate) fn say<L: Sink>(log: &mut L, parts: &[&[u8]]) -> Result<(), SinkFault>
-    requires { L.failed log.old + 1 < 2 ^ 64 }
-    ensures { WritesToStream (joined_line parts.now)
-        (sink_model L.Sink log.old) (sink_model L.Sink log.new) result }
-{
-    let mut log_buffer = LogBuffer::new();
-    log_buffer.add_line(log, parts)?;
-    log_buffer.pass_on(log)
 }

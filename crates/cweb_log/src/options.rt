@@ -1,6 +1,5 @@
 // The command line of `ctangle`.
-ghost use Rattle.std.specs.Prelude.{◌≡◌, ◌≢◌, ◌↔◌, ◌⊎◌, Some, None, map, string_bytes, slice_get};
-ghost use Rattle.std.specs.Prelude.{IfOk, IfErr, IsErrOf};
+ghost use Rattle.std.specs.Prelude.{◌≡◌, ◌≢◌, Some, None, map, string_bytes, slice_get, IfOk};
 ghost use Rattle.std.specs.List.{after_last};
 ghost use Rattle.std.specs.Option.{option_copied};
 ghost use Rattle.cweb_log.specs.CommandLine.{main_by, named_by, options_by, other_words, stem};
@@ -43,14 +42,11 @@ impl Drop for Options {
 
 impl Options {
     ghost use Rattle.cweb_log.specs.surface.Options.{options_of};
+    ghost use Rattle.cweb_log.specs.surface.Parsing.{Parses};
 
     /// Parses the arguments, without the program's own name. They are checked before anything is allocated.
     pub fn read(alloc: Global, words: &[&str]) -> Result<Options, Stop>
-        ensures ok { IfOk result (λ read. options_by (map (λ word. word.now) words.now) ≡
-            Some (options_of read)) }
-        ensures usage { IsErrOf result Stop.Usage ↔
-            (options_by (map (λ word. word.now) words.now) ≡ None) }
-        ensures stops { IfErr result (λ stop. (stop ≡ Stop.Usage) ⊎ (stop ≡ Stop.Memory)) }
+        ensures { Parses (options_by (map (λ word. word.now) words.now)) options_of result }
     {
         let Some(shown) = Shown::read(words) else {
             return Err(Stop::Usage);
@@ -104,13 +100,10 @@ impl Options {
         change: Option<&str>,
         out: Option<&str>,
     ) -> Result<Options, Stop>
-        ensures ok { IfOk result (λ read.
-            named_by web.now (option_copied change.entry) (option_copied out.entry) ≡
-            Some (options_of read).names) }
+        ensures parses { Parses
+            (named_by web.now (option_copied change.entry) (option_copied out.entry))
+            (λ read. (options_of read).names) result }
         ensures shown { IfOk result (λ read. (options_of read).shown ≡ shown) }
-        ensures usage { IsErrOf result Stop.Usage ↔
-            (named_by web.now (option_copied change.entry) (option_copied out.entry) ≡ None) }
-        ensures stops { IfErr result (λ stop. (stop ≡ Stop.Usage) ⊎ (stop ≡ Stop.Memory)) }
     {
         if !out.is_none_or(can_name_file) {
             return Err(Stop::Usage);

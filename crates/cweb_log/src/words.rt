@@ -1,6 +1,6 @@
 // The command line of `wmerge`.
-ghost use Rattle.std.specs.Prelude.{◌≡◌, ◌↔◌, ◌⊎◌, ◌++◌, Some, None, map, codes, string_bytes};
-ghost use Rattle.std.specs.Prelude.{option_map, IfOk, IfErr, IsErrOf};
+ghost use Rattle.std.specs.Prelude.{◌≡◌, ◌++◌, Some, None, map, codes, string_bytes};
+ghost use Rattle.std.specs.Prelude.{option_map, IfOk};
 ghost use Rattle.std.specs.List.{list_any};
 ghost use Rattle.std.specs.Option.{option_copied};
 ghost use Rattle.cweb_log.specs.CommandLine.{web_names_by, web_names_with, web_names_for};
@@ -22,14 +22,11 @@ pub struct MergeWords {
 impl MergeWords {
     ghost use Rattle.cweb_log.specs.CommandLine.{merge_by};
     ghost use Rattle.cweb_log.specs.inner.Words.{merge_word_names};
+    ghost use Rattle.cweb_log.specs.surface.Parsing.{Parses};
 
     /// Parses the arguments, without the program's own name. They are checked before anything is allocated.
     pub fn read(alloc: Global, words: &[&str]) -> Result<MergeWords, Stop>
-        ensures ok { IfOk result (λ read. web_names_by (map (λ word. word.now) words.now) ≡
-            Some (merge_word_names read)) }
-        ensures usage { IsErrOf result Stop.Usage ↔
-            (web_names_by (map (λ word. word.now) words.now) ≡ None) }
-        ensures stops { IfErr result (λ stop. (stop ≡ Stop.Usage) ⊎ (stop ≡ Stop.Memory)) }
+        ensures { Parses (web_names_by (map (λ word. word.now) words.now)) merge_word_names result }
     {
         match words {
             [web] => MergeWords::named(alloc, web, None),
@@ -40,11 +37,7 @@ impl MergeWords {
 
     /// Checks the words for the web and the change file, and makes names of them.
     pub(crate) fn by(alloc: Global, web: &str, change: Option<&str>) -> Result<MergeWords, Stop>
-        ensures ok { IfOk result (λ read. merge_by web.now (option_copied change.entry) ≡
-            Some (merge_word_names read)) }
-        ensures usage { IsErrOf result Stop.Usage ↔
-            (merge_by web.now (option_copied change.entry) ≡ None) }
-        ensures stops { IfErr result (λ stop. (stop ≡ Stop.Usage) ⊎ (stop ≡ Stop.Memory)) }
+        ensures { Parses (merge_by web.now (option_copied change.entry)) merge_word_names result }
     {
         match change {
             Some(change) => MergeWords::with_change(alloc, web, change),
@@ -54,10 +47,7 @@ impl MergeWords {
 
     /// The names from two words. A lone `-` as the second word means no change file.
     fn with_change(alloc: Global, web: &str, change: &str) -> Result<MergeWords, Stop>
-        ensures ok { IfOk result (λ read. web_names_with web.now change.now
-            ≡ Some (merge_word_names read)) }
-        ensures usage { IsErrOf result Stop.Usage ↔ (web_names_with web.now change.now ≡ None) }
-        ensures stops { IfErr result (λ stop. (stop ≡ Stop.Usage) ⊎ (stop ≡ Stop.Memory)) }
+        ensures { Parses (web_names_with web.now change.now) merge_word_names result }
     {
         if is_dash(change) {
             return MergeWords::named(alloc, web, None);
@@ -70,11 +60,8 @@ impl MergeWords {
 
     /// The names from the web's word, which is checked here, and the change file's.
     fn named(alloc: Global, web: &str, change: Option<&str>) -> Result<MergeWords, Stop>
-        ensures ok { IfOk result (λ read. web_names_for web.now (option_copied change.entry) ≡
-            Some (merge_word_names read)) }
-        ensures usage { IsErrOf result Stop.Usage ↔
-            (web_names_for web.now (option_copied change.entry) ≡ None) }
-        ensures stops { IfErr result (λ stop. (stop ≡ Stop.Usage) ⊎ (stop ≡ Stop.Memory)) }
+        ensures { Parses (web_names_for web.now (option_copied change.entry))
+            merge_word_names result }
     {
         if !can_name_file(web) {
             return Err(Stop::Usage);

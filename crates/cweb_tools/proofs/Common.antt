@@ -54,10 +54,10 @@ pub use Rattle.cweb_log.specs.CommandLine.{OptionsModel, options_by, shown_by_de
 pub use Rattle.cweb_log.specs.DeviceModels.{SinkModel, Devices, ShelfModel, AreObservable, sink_model, shelf_model}
 pub use Rattle.cweb_log.specs.DeviceModels.{devices}
 pub use Rattle.cweb_log.specs.Items.{line, LogItem, is_fault, source_item, fault, starred}
-pub use Rattle.cweb_log.specs.inner.WebItems.{fault_lines}
 pub use Rattle.cweb_log.specs.Items.{located, banner, closing, faults, no_errors, no_text, see_warning, stopped}
 pub use Rattle.cweb_log.specs.Items.{name_item, name_items, scan_item, refusal_message}
 pub use Rattle.cweb_log.specs.Log.{stop_line, file_name_at}
+pub use Rattle.cweb_log.specs.inner.LogText.{items_of}
 pub use Rattle.cweb_log.specs.inner.LogWriting.{Logs}
 pub use Rattle.cweb_log.specs.declared.shown.Shown.{Shown}
 pub use Rattle.cweb_log.specs.inner.Log.{start_subject, subject}
@@ -130,7 +130,7 @@ pub use Rattle.cweb_tools.specs.inner.Course.{found_course, merge_course, EndsMe
 pub use Rattle.cweb_tools.specs.inner.Does.{Closes, ClosesLog, Does, DoesInBins, DoesInBoth, DoesInLog, done, halted}
 pub use Rattle.cweb_tools.specs.inner.Does.{log_blame, rise, log_ending, ClosesInLog, LogsEnding, FollowsCourse}
 pub use Rattle.cweb_tools.specs.inner.Does.{observed_state}
-pub use Rattle.cweb_tools.specs.inner.Expanders.{PrintsSoFar, StaysReady, left_in, AreMarksBelow, IsReady}
+pub use Rattle.cweb_tools.specs.inner.Expanders.{PrintsSoFar, StaysReady, left_in, IsReady}
 pub use Rattle.cweb_tools.specs.inner.Expanders.{output_ending, file_at, planned_files}
 pub use Rattle.cweb_tools.specs.inner.Scanning.{EndsAs}
 pub use Rattle.cweb_tools.specs.inner.Tangle.{tangle_course, LaterActs, opening_acts, tangle_later, course_status}

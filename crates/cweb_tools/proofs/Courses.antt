@@ -1,5 +1,5 @@
 -- The way that a run goes exists, and there is no other.
-use Rattle.cweb_tools.proofs.Common.{◌≡◌, ◌∙◌, Option, Some, None, Result, Err, Stop, refl, sym, ap, World, Found, WebNames, OptionsModel, Course, merging, IsMergeCourse, found_course, merge_course, merge-run_steps, contents_found, TangleCourse, IsTangleCourse, tangle_course, tangled, web_at, change_at, started}
+use Rattle.cweb_tools.proofs.Common.{◌≡◌, ◌∙◌, ℕ, List, Bor, map, options_by, Option, Some, None, Result, Err, Stop, refl, sym, ap, World, Found, WebNames, OptionsModel, Course, merging, IsMergeCourse, found_course, merge_course, merge-run_steps, contents_found, TangleCourse, IsTangleCourse, tangle_course, tangled, web_at, change_at, started}
 use Rattle.cweb_lines.specs.inner.Total.{merge_yields}
 use Rattle.cweb_tools.specs.Course.{IsFoundCourse, unread, not_there, change_not_there}
 
@@ -41,6 +41,10 @@ pub tangle_only : (world : World) (args : Option OptionsModel) (course : TangleC
 tangle_only world None course is = is
 tangle_only world (Some args) course is =
     is.2 ∙ ap (tangled args.names.main) (merge_only world (Some args.names.merge) is.0 is.1)
+
+-- The options of these words.
+abbrev pub options_in : List (Bor (List ℕ)) → Option OptionsModel
+options_in words = options_by (map (λ (word : Bor (List ℕ)). word.now) words)
 
 -- A call fails with one stop.
 pub same_stop : {A : Type 0} (r : Result A Stop) (one other : Stop) → r ≡ Err one → r ≡ Err other → one ≡ other

@@ -1,5 +1,5 @@
 -- The faults of a web as items: their number and their lines.
-use Rattle.cweb_tools.proofs.Common.{◌≡◌, ◌<◌, ◌+◌, ℕ, zero, suc, Bool, true, false, cond, List, [], ◌∷◌, ◌++◌, length, map, refl, sym, ◌∙◌, ap, subst, append_assoc, arith, length-append, flat_map-append, length-map, sum_by-append, sum_by-cons, flat_map, IsTrue, IsErr, None, Result, Ok, Err, count_by, SourceFault, Part, is_macro, numbers_from, numbers_where, PartKind, Scanned, WritesToStream, LogItem, fault_count, is_fault, line, source_item, fault_lines, SinkModel, name_item, name_items, scan_item, says, DoesInLog, ClosesInLog, acts_status, log_ending, web_of}
+use Rattle.cweb_tools.proofs.Common.{◌≡◌, ◌<◌, ◌+◌, ℕ, zero, suc, Bool, true, false, cond, List, [], ◌∷◌, ◌++◌, length, map, refl, sym, ◌∙◌, ap, subst, append_assoc, arith, length-append, flat_map-append, length-map, sum_by-append, sum_by-cons, flat_map, IsTrue, IsErr, None, Result, Ok, Err, count_by, SourceFault, Part, is_macro, numbers_from, numbers_where, PartKind, Scanned, WritesToStream, LogItem, fault_count, is_fault, line, source_item, SinkModel, name_item, name_items, scan_item, says, DoesInLog, ClosesInLog, acts_status, log_ending, web_of}
 use Rattle.cweb_store.specs.Faults as store
 use Rattle.cweb_tools.proofs.DoingFiles.{closes_reported}
 use Rattle.cweb_tools.proofs.Logging.{said_all, said_none}
@@ -100,30 +100,25 @@ writes_in e (Err f) b fails is = record {
   };
 }
 
-pub same_lines : (files : List (List ℕ)) (faults : List SourceFault)
-    → fault_lines files faults ≡ flat_map line (map (source_item files) faults)
-same_lines files [] = refl
-same_lines files (met ∷ faults) = ap (λ (t : List ℕ). line (source_item files met) ++ t) (same_lines files faults)
-
 -- The faults of a merge were logged, and the status is 1.
 pub faults_said : {A E : Type 0} (r : Result A E) (files : List (List ℕ)) (faults : List SourceFault)
-    {old new : SinkModel} → (length faults ≡ 0 → ⊥) → WritesToStream (fault_lines files faults) old new r
+    {old new : SinkModel} → (length faults ≡ 0 → ⊥)
+    → WritesToStream (flat_map line (map (source_item files) faults)) old new r
     → ClosesInLog (map says (map (source_item files) faults)) (acts_status (map says (map (source_item files) faults)))
     old new 1
 faults_said r files [] some writes = absurd (some refl)
 faults_said r files (met ∷ faults) some writes = closes_reported r
-    (said_all r (source_item files met) (map (source_item files) faults)
-    (rw (← (same_lines files (met ∷ faults))) writes))
-    refl refl
+    (said_all r (source_item files met) (map (source_item files) faults) writes) refl refl
 
 -- The lines of a web's faults are those of its files, its source and its names.
 pub fault_text : (files : List (List ℕ)) (faults : List SourceFault) (made : Scanned)
     → flat_map line (fault_items files faults made) ≡
-    fault_lines files faults ++ (flat_map line (map (scan_item files) made.faults) ++ flat_map line (name_items made.store))
+    flat_map line (map (source_item files) faults)
+    ++ (flat_map line (map (scan_item files) made.faults) ++ flat_map line (name_items made.store))
 fault_text files faults made =
     flat_map-append line (map (source_item files) faults) (map (scan_item files) made.faults ++ name_items made.store)
-    ∙ (λ i.
-    sym (same_lines files faults) i ++ flat_map-append line (map (scan_item files) made.faults) (name_items made.store) i)
+    ∙ ap (λ (t : List ℕ). flat_map line (map (source_item files) faults) ++ t)
+    (flat_map-append line (map (scan_item files) made.faults) (name_items made.store))
 
 -- The number of macros.
 numbers_counted : (test : PartKind → Bool) (parts : List Part) (n : ℕ)

@@ -15,7 +15,12 @@ use Rattle.cweb_tools.specs.Headline.{written_files}
 use Rattle.cweb_tools.specs.InFolder.{AreIn, KeepsInFolder, bins_after, devices_before, shelf_in}
 use Rattle.cweb_tools.specs.Script.{script}
 use Rattle.cweb_tools.specs.Tangle.{TanglePromises, shown_by}
+use Rattle.cweb_tools.proofs.Logging.{at}
 use Rattle.cweb_tools.proofs.TanglePromisesProved.{tangled_freely}
+
+-- What can be read in a folder.
+abbrev pub world_in : {F H : Type 0} → FileSystem F H → F → Option (List ℕ) → World
+world_in system fs inputs = world_of (contents_in (system.disk fs).tree) inputs
 
 all_in : (tree : Tree) (written : List WrittenFile) → AreIn tree (map (file_in tree) written)
 all_in tree [] = All-nil (λ (file : File). contents tree file.name ≡ file.bytes)
@@ -51,8 +56,8 @@ shelf_seen system shelf = record {
 }
 
 -- A new shelf over a file system.
-pub begins_in : {F H : Type 0} (system : FileSystem F H) (fs : F) (shelf : FolderShelf F H system) → shelf_system shelf ≡ fs
-    → shelf_failures shelf ≡ 0 → shelf_seen system shelf ≡ shelf_in system fs
+pub begins_in : {F H : Type 0} (system : FileSystem F H) (fs : F) (shelf : FolderShelf F H system)
+    → shelf_system shelf ≡ fs → shelf_failures shelf ≡ 0 → shelf_seen system shelf ≡ shelf_in system fs
 begins_in system fs shelf same zero = λ i. record {
   tells = (system.disk (same i)).tells;
   failed = zero i;
@@ -65,12 +70,11 @@ pub runs_in : {F H : Type 0} (system : FileSystem F H) (fs : F) (Promises : Worl
     (inputs : Option (List ℕ)) (shelf shelf' : FolderShelf F H system) (out out' log log' : SinkModel) (status : ℕ)
     → shelf_system shelf ≡ fs → shelf_failures shelf ≡ 0
     → (shelf_seen system shelf').tells ≡ (shelf_seen system shelf).tells
-    → Promises (world_of (shelf_seen system shelf).texts inputs) (record { shelf = shelf_seen system shelf; out = out; log = log })
-    (record { shelf = shelf_seen system shelf'; out = out'; log = log' }) status
-    → KeepsInFolder (Promises (world_of (contents_in (system.disk fs).tree) inputs))
-    (record { shelf = shelf_in system fs; out = out; log = log }) out' log' status
+    → Promises (world_of (shelf_seen system shelf).texts inputs) (at (shelf_seen system shelf) out log)
+    (at (shelf_seen system shelf') out' log') status
+    → KeepsInFolder (Promises (world_in system fs inputs)) (at (shelf_in system fs) out log) out' log' status
 runs_in system fs Promises inputs shelf shelf' out out' log log' status same zero stays run =
-    subst (λ (s : ShelfModel). KeepsInFolder (Promises (world_of s.texts inputs)) (record { shelf = s; out = out; log = log }) out' log' status)
+    subst (λ (s : ShelfModel). KeepsInFolder (Promises (world_of s.texts inputs)) (at s out log) out' log' status)
     (begins_in system fs shelf same zero)
     (record {
       shelf = shelf_seen system shelf';
@@ -90,36 +94,43 @@ bins_in system fs log bins of none no_bytes beside = λ i. record {
   beside = beside i;
 }
 
+-- A run of `ctangle` in a folder, with any bins at first.
+abbrev pub TanglesIn : {F H : Type 0} → FileSystem F H → F → Option (List ℕ) → Option OptionsModel → SinkModel
+    → SinkModel → SinkModel → SinkModel → ℕ → Type 0
+TanglesIn system fs inputs args first log out log' status =
+    KeepsInFolder (TanglePromises (world_in system fs inputs) args) (at (shelf_in system fs) first log) out log' status
+
 -- A run of `ctangle` that ends before it reads.
-pub unread_in : {F H : Type 0} (system : FileSystem F H) (fs : F) (inputs : Option (List ℕ)) (args : Option OptionsModel)
-    (out log log' : SinkModel) (status : ℕ) → out ≡ (devices_before system fs log).out
-    → TanglePromises (world_of (contents_in (system.disk fs).tree) inputs) args (record { shelf = shelf_in system fs; out = out; log = log })
-    (record { shelf = shelf_in system fs; out = out; log = log' }) status
-    → KeepsInFolder (TanglePromises (world_of (contents_in (system.disk fs).tree) inputs) args) (devices_before system fs log) out log' status
+pub unread_in : {F H : Type 0} (system : FileSystem F H) (fs : F) (inputs : Option (List ℕ))
+    (args : Option OptionsModel) (out log log' : SinkModel) (status : ℕ) → out ≡ (devices_before system fs log).out
+    → TanglePromises (world_in system fs inputs) args (at (shelf_in system fs) out log)
+    (at (shelf_in system fs) out log') status
+    → TanglesIn system fs inputs args (devices_before system fs log).out log out log' status
 unread_in system fs inputs args out log log' status is run =
-    subst (λ (m : SinkModel). KeepsInFolder (TanglePromises (world_of (contents_in (system.disk fs).tree) inputs) args)
-    (record { shelf = shelf_in system fs; out = m; log = log }) out log' status) is
+    subst (λ (m : SinkModel). TanglesIn system fs inputs args m log out log' status) is
     (record { shelf = shelf_in system fs; reads = λ tells. refl; promises = run })
 
 -- Bins that have committed nothing.
 abbrev empty : Bool → SinkModel
-empty tells = record { tells = tells; failed = 0; bytes = []; beside = record { files = []; draft = None; refused = None } }
+empty tells = record {
+  tells = tells;
+  failed = 0;
+  bytes = [];
+  beside = record { files = []; draft = None; refused = None };
+}
 
 -- A run of `ctangle` over a new shelf, whose bins take over the file system from the shelf.
-pub tangles_in : {F H : Type 0} (system : FileSystem F H) (fs : F) (inputs : Option (List ℕ)) (args : Option OptionsModel)
-    (shelf shelf' : FolderShelf F H system) (bins : FolderBins F H system) (out log log' : SinkModel) (status : ℕ)
+pub tangles_in : {F H : Type 0} (system : FileSystem F H) (fs : F) (inputs : Option (List ℕ))
+    (args : Option OptionsModel) (shelf shelf' : FolderShelf F H system) (bins : FolderBins F H system) (out log log' : SinkModel) (status : ℕ)
     → shelf_system shelf ≡ fs → shelf_failures shelf ≡ 0 → bins_system bins ≡ shelf_system shelf' → bins_failed bins ≡ 0
     → bins_bytes system bins ≡ [] → bins_beside system bins ≡ record { files = []; draft = None; refused = None }
     → TanglePromises (world_of (shelf_seen system shelf).texts inputs) args
-    (record { shelf = shelf_seen system shelf; out = bins_after system bins; log = log })
-    (record { shelf = shelf_seen system shelf'; out = out; log = log' }) status
-    → KeepsInFolder (TanglePromises (world_of (contents_in (system.disk fs).tree) inputs) args) (devices_before system fs log) out log'
-    status
+    (at (shelf_seen system shelf) (bins_after system bins) log) (at (shelf_seen system shelf') out log') status
+    → TanglesIn system fs inputs args (devices_before system fs log).out log out log' status
 tangles_in {F = F} system fs inputs args shelf shelf' bins out log log' status same zero of none no_bytes beside run =
-    subst (λ (m : SinkModel). KeepsInFolder (TanglePromises (world_of (contents_in (system.disk fs).tree) inputs) args)
-    (record { shelf = shelf_in system fs; out = m; log = log }) out log' status) begun
-    (runs_in system fs (λ world. TanglePromises world args) inputs shelf shelf' (bins_after system bins) out log log' status same
-    zero run.shelf_tells run)
+    subst (λ (m : SinkModel). TanglesIn system fs inputs args m log out log' status) begun
+    (runs_in system fs (λ world. TanglePromises world args) inputs shelf shelf' (bins_after system bins) out log log'
+    status same zero run.shelf_tells run)
   where
     begun : bins_after system bins ≡ (devices_before system fs log).out
     begun = (λ i. record {

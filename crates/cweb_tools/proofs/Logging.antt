@@ -131,14 +131,14 @@ pub said_none : {stream : SinkModel} → DoesInLog [] None stream stream
 said_none = λ shelf bins. does_none
 
 -- A line that is wanted.
-pub said_when : {A E : Type 0} {r : Result A E} (args : Bool) (item : LogItem) {old new : SinkModel}
-    → args ≡ true → WritesToStream (line item) old new r → DoesInLog (when args item) (log_ending r) old new
-said_when true item is writes = said item writes
+pub said_when : {A E : Type 0} {r : Result A E} (wanted : Bool) (item : LogItem) {old new : SinkModel} → wanted ≡ true
+    → WritesToStream (flat_map line (item ∷ [])) old new r → DoesInLog (when wanted item) (log_ending r) old new
+said_when {r} true item is writes = said_all r item [] writes
 said_when false item is writes = absurd (cc)
 
 -- A line that isn't wanted.
-pub said_not : (args : Bool) (item : LogItem) {stream : SinkModel} → args ≡ false
-    → DoesInLog (when args item) None stream stream
+pub said_not : (wanted : Bool) (item : LogItem) {stream : SinkModel} → wanted ≡ false
+    → DoesInLog (when wanted item) None stream stream
 said_not true item is = absurd (cc)
 said_not false item is = said_none
 
@@ -150,7 +150,7 @@ some_by (suc n) is = omega arith
 -- The numbers of a nonempty list of starred sections.
 pub said_starred : {A E : Type 0} {r : Result A E} (progress : Bool) (numbers : List ℕ) {old new : SinkModel}
     → progress ≡ true → 0 < length numbers
-    → WritesToStream (line (starred numbers)) old new r
+    → WritesToStream (flat_map line (starred numbers ∷ [])) old new r
     → DoesInLog (starred_acts progress numbers) (log_ending r) old new
 said_starred progress [] is some writes = absurd (omega (arith, some))
 said_starred progress (n ∷ numbers) is some writes = said_when progress (starred (n ∷ numbers)) is writes

@@ -51,9 +51,12 @@ cut_lines (emitted l ∷ events) (line ∷ lines) rest whole =
       emits = λ i. head i ∷ cut.emits i;
       next = tt;
     }
-cut_lines (took l ∷ events) (line ∷ lines) rest whole = cut_more (took l) (cut_lines events (line ∷ lines) rest whole) refl
-cut_lines (fault f ∷ events) (line ∷ lines) rest whole = cut_more (fault f) (cut_lines events (line ∷ lines) rest whole) refl
-cut_lines (opening n ∷ events) (line ∷ lines) rest whole = cut_more (opening n) (cut_lines events (line ∷ lines) rest whole) refl
+cut_lines (took l ∷ events) (line ∷ lines) rest whole =
+    cut_more (took l) (cut_lines events (line ∷ lines) rest whole) refl
+cut_lines (fault f ∷ events) (line ∷ lines) rest whole =
+    cut_more (fault f) (cut_lines events (line ∷ lines) rest whole) refl
+cut_lines (opening n ∷ events) (line ∷ lines) rest whole =
+    cut_more (opening n) (cut_lines events (line ∷ lines) rest whole) refl
 
 -- The state after a stop, if this prefix was printed.
 abbrev pub left_after : Stop → List (List ℕ) → List ℕ → DeviceState → DeviceState

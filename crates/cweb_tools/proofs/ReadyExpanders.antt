@@ -1,8 +1,8 @@
 -- An expander between outputs, with its store and its plan.
-use Rattle.cweb_tools.proofs.Common.{◌≡◌, ℕ, Bool, List, length, map, refl, sym, ◌∙◌, ap, subst, Bor, All, Result, File, opened_file_names, FileNames, Stop, Stored, Token, IsMarkBelow, expand, left, Planned, output_name_at, output_at, root_at, root_list, setting, file, names, Expander, SinkModel, ending_of, DoesInBoth, AreMarksBelow, IsReady, StaysReady, output_ending, file_at, planned_files, left_in, output_acts, outputs_acts, output_file, Failed}
+use Rattle.cweb_tools.proofs.Common.{◌≡◌, ℕ, Bool, List, length, map, refl, sym, ◌∙◌, ap, subst, Bor, All, Result, File, opened_file_names, FileNames, Stop, Stored, Token, IsMarkBelow, expand, left, Planned, output_name_at, output_at, root_at, root_list, setting, file, names, Expander, SinkModel, ending_of, DoesInBoth, IsReady, StaysReady, output_ending, file_at, planned_files, left_in, output_acts, outputs_acts, output_file, Failed}
 use Rattle.cweb_tools.proofs.Marks.{expansion_all}
 
-pub stays : {e : Expander} → IsReady e → StaysReady e e
+pub stays : {names : FileNames} {e : Expander} → IsReady names e → StaysReady e e
 stays ready = record { store = refl; plan = refl; valid = ready.valid }
 
 pub stays_on : {a b c : Expander} → StaysReady a b → StaysReady b c → StaysReady a c
@@ -13,18 +13,14 @@ pub file_on : (files : FileNames) {a b : Expander} (n : ℕ) → StaysReady a b 
 file_on files n on = λ i. output_file (on.store i).now (opened_file_names files) (output_at (on.plan i).now.outputs n)
 
 -- The marks of an output are about files with names.
-pub root_known : (files : FileNames) (e : Expander) (n : ℕ) → AreMarksBelow files e → All (IsMarkBelow (length
-    (opened_file_names files)))
-    (expand e.store.now (names e.store.now) (root_list e.store.now (root_at e.plan.now.outputs n)))
-root_known files e n known =
-    expansion_all (IsMarkBelow (length (opened_file_names files))) e.store.now known tt (root_at e.plan.now.outputs n)
-
-pub left_known : (files : FileNames) (a b : Expander) (n : ℕ) → AreMarksBelow files a → b.store ≡ a.store
+pub left_known : (files : FileNames) (a b : Expander) (n : ℕ) → IsReady files a → b.store ≡ a.store
     → left a.store.now b.frames.items
     ≡ expand a.store.now (names a.store.now) (root_list a.store.now (root_at a.plan.now.outputs n))
     → All (IsMarkBelow (length (opened_file_names files))) (left_in b)
-left_known files a b n known same yields = subst (All (IsMarkBelow (length (opened_file_names files))))
-    (sym (ap (λ (s : Bor Stored). left s.now b.frames.items) same ∙ yields)) (root_known files a n known)
+left_known files a b n ready same yields =
+    let Known : Token → Type 0 = IsMarkBelow (length (opened_file_names files)) in
+    subst (All Known) (sym (ap (λ (s : Bor Stored). left s.now b.frames.items) same ∙ yields))
+    (expansion_all Known a.store.now ready.marks tt (root_at a.plan.now.outputs n))
 
 -- Printing the tokens of an output gives its file.
 pub text_on : (files : FileNames) (a b : Expander) (ts : List Token)

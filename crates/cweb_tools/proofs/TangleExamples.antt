@@ -124,6 +124,7 @@ unfolding digits is_utf8 chars encode
 two_depend = refl
 
 main_depends : printed_bytes (depend_acts (targets_by (codes "-m" ∷ codes "+bm" ∷ codes "f" ∷ []))
-    (merging (one_web (codes "f.w") two_text) (started two_text None) (codes "f.w" ∷ []) (codes "f.c"))) ≡ codes "f.c: f.w\n"
+    (merging (one_web (codes "f.w") two_text) (started two_text None) (codes "f.w" ∷ []) (codes "f.c")))
+    ≡ codes "f.c: f.w\n"
 unfolding digits is_utf8 chars encode
 main_depends = refl

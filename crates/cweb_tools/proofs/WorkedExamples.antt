@@ -1,5 +1,5 @@
 -- Worked examples of command lines and merges.
-use Rattle.cweb_tools.proofs.Common.{◌≡◌, ℕ, List, [], ◌∷◌, Option, Some, None, refl, ap, cond, codes, bytes_eq, Place, NotThere, Unequal, Usage, WebNotOpened, ChangeNotOpened, LineTooLong, WriteFault, Memory, World, Event, MergeStateModel, run_steps, started, merge-run_steps, line, source_item, fault_lines, stop_line, subject, web_names_by, Course, merging, course_of, merge_acts, logged_items, printed_bytes, acts_status, flat_map}
+use Rattle.cweb_tools.proofs.Common.{◌≡◌, ℕ, List, [], ◌∷◌, Option, Some, None, refl, ap, cond, codes, bytes_eq, map, Place, NotThere, Unequal, Usage, WebNotOpened, ChangeNotOpened, LineTooLong, WriteFault, Memory, World, Event, MergeStateModel, run_steps, started, merge-run_steps, line, source_item, stop_line, subject, web_names_by, Course, merging, course_of, merge_acts, logged_items, printed_bytes, acts_status, flat_map}
 use Rattle.std.specs.Fmt.{digits}
 use Rattle.cweb_tools.specs.Course.{unread, change_not_there}
 
@@ -71,8 +71,9 @@ record Computed : Type 0 where
       ≡ codes "a.w:2: ! Cannot open include file\n"
   unequal_lines : line (source_item (codes "m.w" ∷ codes "c.ch" ∷ [])
       (record { kind = Unequal; place = place 1 1; count = 12 })) ≡ codes "c.ch:1: ! Lines that failed to match: 12\n"
-  two_faults : fault_lines (codes "m.w" ∷ codes "c.ch" ∷ []) (record
-      { kind = Unequal; place = place 1 10; count = 1 } ∷ record { kind = NotThere; place = place 0 3; count = 0 } ∷ [])
+  two_faults : flat_map line (map (source_item (codes "m.w" ∷ codes "c.ch" ∷ []))
+      (record { kind = Unequal; place = place 1 10; count = 1 }
+      ∷ record { kind = NotThere; place = place 0 3; count = 0 } ∷ []))
       ≡ codes "c.ch:10: ! Lines that failed to match: 1\nm.w:3: ! Cannot open include file\n"
   usage_line : stop_line Usage (codes "wmerge webfile[.w] [{changefile[.ch]|-}]")
       ≡ codes "! Usage: wmerge webfile[.w] [{changefile[.ch]|-}]\n"

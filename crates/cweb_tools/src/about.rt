@@ -4,7 +4,7 @@ ghost use Rattle.std.specs.Option.{option_copied};
 ghost use Rattle.cweb_files.specs.Bins.{WritesPrefix};
 ghost use Rattle.cweb_files.specs.surface.Frames.{Writes};
 ghost use Rattle.cweb_log.specs.Log.{stop_line};
-ghost use Rattle.cweb_log.specs.DeviceModels.{sink_model};
+ghost use Rattle.cweb_log.specs.DeviceModels.{SinkCountsFit, sink_model};
 ghost use Rattle.cweb_log.specs.inner.LogWriting.{Logs};
 ghost use Rattle.cweb_tools.specs.inner.About.{about_wdep, about_word};
 
@@ -45,8 +45,7 @@ fn about_word(word: &str) -> Option<&'static str>
 
 /// Prints a text, and returns the status. If that fails, a prefix is printed, and the fault is logged.
 pub fn write_about<W: Sink, L: Sink>(text: &str, out: &mut W, log: &mut L) -> u8
-    requires out_count { W.failed out.old + 1 < 2 ^ 64 }
-    requires log_count { L.failed log.old + 1 < 2 ^ 64 }
+    requires counts { SinkCountsFit (sink_model W.Sink out.old) (sink_model L.Sink log.old) }
     ensures status { result < 2 }
     ensures counts { W.failed out.new ≡ W.failed out.old + result }
     ensures ok { result ≡ 0 → (Writes W.Sink out.old out.new text.now) × (log.new ≡ log.old) }

@@ -5,7 +5,7 @@ ghost use Rattle.std.specs.Option.{option_copied};
 ghost use Rattle.cweb_system.specs.Bins.{bins_read, bins_system, contents_in};
 ghost use Rattle.cweb_system.specs.Steps.{AreDecent};
 ghost use Rattle.cweb_log.specs.CommandLine.{options_by, web_names_by};
-ghost use Rattle.cweb_log.specs.DeviceModels.{sink_model};
+ghost use Rattle.cweb_log.specs.DeviceModels.{SinkCountsFit, sink_model};
 ghost use Rattle.cweb_tools.specs.Course.{world_of};
 ghost use Rattle.cweb_tools.specs.Depend.{DependPromises, DependsFreely, targets_by};
 ghost use Rattle.cweb_tools.specs.Headline.{RanFreely, written_files};
@@ -14,14 +14,12 @@ ghost use Rattle.cweb_tools.specs.MergeActs.{MergePromises, MergesFreely};
 ghost use Rattle.cweb_tools.specs.Script.{TangleCourse, script};
 ghost use Rattle.cweb_tools.specs.Tangle.{IsTangleCourse, TanglePromises, shown_by};
 
-use crate::saying::say_banner;
 use crate::scanning::scan_web;
-use crate::tangle::{USAGE, tangle_web};
+use crate::tangle::{begin_tangle, tangle_web};
 use crate::wdep::run_wdep;
 use crate::web::Web;
 use crate::wmerge::run_wmerge;
 use cweb_lines::Sink;
-use cweb_log::{Options, log_stop};
 use cweb_system::{FileSet, FileSystem, FolderBins, FolderShelf};
 use std::alloc::Global;
 
@@ -50,24 +48,18 @@ pub fn tangle_in_folder<F: FileSystem + Drop, L: Sink>(
         (fold put_file [] (written_files (script (shown_by args) course))) }
     // In any run, at each moment, each file that is no draft is the old one or a whole new one, and no file that was
     // read is replaced.
-    ensures moments { ∥ (IsTrue (F.disk (bins_system result.1)).tells → AreDecent (bins_read result.1)
-        (F.disk (bins_system result.1)).tree (F.disk (bins_system result.1)).past) ∥₁ }
+    ensures moments { let disk = F.disk (bins_system result.1) in
+        ∥ (IsTrue disk.tells → AreDecent (bins_read result.1) disk.tree disk.past) ∥₁ }
     ensures promises { let args = options_by (map (λ word. word.now) words.now) in
         let world = world_of (contents_in (F.disk fs).tree) (option_copied inputs.entry) in
         KeepsInFolder (TanglePromises world args)
         (devices_before F.FileSystem fs (sink_model L.Sink log.old))
         (bins_after F.FileSystem result.1) (sink_model L.Sink log.new) result.0 }
 {
-    let options = match Options::read(alloc, words) {
+    let options = match begin_tangle(alloc, words, log) {
         Ok(options) => options,
-        Err(stop) => {
-            let status = log_stop(log, stop, USAGE);
-            return (status, FolderBins::new(alloc, fs, FileSet::new(alloc)));
-        }
+        Err(status) => return (status, FolderBins::new(alloc, fs, FileSet::new(alloc))),
     };
-    if let Err(_) = say_banner(options.banner, log) {
-        return (1, FolderBins::new(alloc, fs, FileSet::new(alloc)));
-    }
     let mut shelf = FolderShelf::noting(fs, FileSet::new(alloc));
     match scan_web(alloc, &options, inputs, &mut shelf, log) {
         Ok((merger, scanned)) => {
@@ -97,8 +89,7 @@ pub fn merge_in_folder<F: FileSystem + Drop, W: Sink, L: Sink>(
     log: &mut L,
 ) -> u8
     requires begun { IsTrue (F.disk fs).tells → (F.disk fs).past ≡ [] }
-    requires out_count { W.failed out.old + 1 < 2 ^ 64 }
-    requires log_count { L.failed log.old + 1 < 2 ^ 64 }
+    requires counts { SinkCountsFit (sink_model W.Sink out.old) (sink_model L.Sink log.old) }
     ensures promises { let args = web_names_by (map (λ word. word.now) words.now) in
         let world = world_of (contents_in (F.disk fs).tree) (option_copied inputs.entry) in
         KeepsInFolder (λ before after status.
@@ -124,8 +115,7 @@ pub fn depend_in_folder<F: FileSystem + Drop, W: Sink, L: Sink>(
     log: &mut L,
 ) -> u8
     requires begun { IsTrue (F.disk fs).tells → (F.disk fs).past ≡ [] }
-    requires out_count { W.failed out.old + 1 < 2 ^ 64 }
-    requires log_count { L.failed log.old + 1 < 2 ^ 64 }
+    requires counts { SinkCountsFit (sink_model W.Sink out.old) (sink_model L.Sink log.old) }
     ensures promises { let args = options_by (map (λ word. word.now) words.now) in
         let world = world_of (contents_in (F.disk fs).tree) (option_copied inputs.entry) in
         let targets = targets_by (map (λ word. word.now) words.now) in

@@ -27,11 +27,7 @@ mod program;
 pub mod laws;
 
 pub use about::{about_wdep, write_about};
-pub use cweb_log::{
-    MergeWords, Options, Shown, write_banner, write_closing, write_counts, write_faults,
-    write_name_faults, write_no_program, write_plan_fault, write_scan_faults, write_starred,
-    write_stop, write_writing,
-};
+pub use cweb_log::{LogLine, LogText, MergeWords, Options, Shown, write_log};
 pub use cweb_system::{
     FileSet, FileSystem, FolderBins, FolderShelf, LockableFile, StdFolder, StdSink, read_once,
 };

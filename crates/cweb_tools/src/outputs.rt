@@ -7,16 +7,17 @@ ghost use Rattle.cweb_store.specs.Parts.{all_tokens};
 ghost use Rattle.cweb_scan.specs.surface.Scan.{IsMarkBelow};
 ghost use Rattle.cweb_out.specs.surface.Outputs.{output_name_at};
 ghost use Rattle.cweb_print.specs.Printing.{setting, file};
-ghost use Rattle.cweb_log.specs.DeviceModels.{sink_model};
+ghost use Rattle.cweb_log.specs.DeviceModels.{SinkCountsFit, sink_model};
 ghost use Rattle.cweb_tools.specs.inner.Acts.{ending_of};
 ghost use Rattle.cweb_tools.specs.Acts.{writes};
 ghost use Rattle.cweb_tools.specs.inner.Does.{DoesInBins, DoesInBoth};
 ghost use Rattle.cweb_tools.specs.inner.Expanders.{IsReady, StaysReady, output_ending, file_at};
-ghost use Rattle.cweb_tools.specs.inner.Expanders.{planned_files, left_in, AreMarksBelow};
+ghost use Rattle.cweb_tools.specs.inner.Expanders.{planned_files, left_in};
 ghost use Rattle.cweb_tools.specs.Script.{output_acts, outputs_acts};
 
-use crate::saying::say_writing;
+use crate::saying::say;
 use cweb_lines::{FileNames, Sink, SinkFault, Stop};
+use cweb_log::LogLine;
 use cweb_out::{BinFault, Bins, Expander, OutBuffer, Printer};
 
 /// Why the writing of outputs stopped, and at which output.
@@ -35,10 +36,8 @@ pub(crate) fn write_outputs<B: Bins, L: Sink>(
     bins: &mut B,
     log: &mut L,
 ) -> Result<(), Failed>
-    requires ready { IsReady expander.old }
-    requires known { AreMarksBelow names.now expander.old }
-    requires bins_count { B.failed bins.old + 1 < 2 ^ 64 }
-    requires log_count { L.failed log.old + 1 < 2 ^ 64 }
+    requires ready { IsReady names.now expander.old }
+    requires counts { SinkCountsFit (sink_model B.Sink bins.old) (sink_model L.Sink log.old) }
     ensures known { IfErr result (λ failed. failed.output < length expander.old.plan.now.outputs) }
     ensures does { DoesInBoth (outputs_acts progress (planned_files names.now expander.old))
         (output_ending expander.old.plan.now.outputs result)
@@ -64,11 +63,9 @@ fn write_output<B: Bins, L: Sink>(
     bins: &mut B,
     log: &mut L,
 ) -> Result<(), Stop>
-    requires ready { IsReady expander.old }
-    requires known { AreMarksBelow names.now expander.old }
+    requires ready { IsReady names.now expander.old }
     requires output { output < length expander.old.plan.now.outputs }
-    requires bins_count { B.failed bins.old + 1 < 2 ^ 64 }
-    requires log_count { L.failed log.old + 1 < 2 ^ 64 }
+    requires counts { SinkCountsFit (sink_model B.Sink bins.old) (sink_model L.Sink log.old) }
     ensures stays { StaysReady expander.old expander.new }
     ensures does { DoesInBoth (output_acts progress (file_at names.now expander.old output))
         (ending_of (output_name_at expander.old.plan.now.outputs output) result)
@@ -76,7 +73,7 @@ fn write_output<B: Bins, L: Sink>(
         (sink_model L.Sink log.old) (sink_model L.Sink log.new) }
 {
     let name = expander.plan.output_name(output);
-    if let Err(_) = say_writing(progress, name, log) {
+    if let Err(_) = say(progress, LogLine::Writing(name), log) {
         return Err(Stop::LogFault);
     }
     write_file(names, expander, buffer, output, bins)
@@ -90,8 +87,7 @@ fn write_file<B: Bins>(
     output: u32,
     bins: &mut B,
 ) -> Result<(), Stop>
-    requires ready { IsReady expander.old }
-    requires known { AreMarksBelow names.now expander.old }
+    requires ready { IsReady names.now expander.old }
     requires output { output < length expander.old.plan.now.outputs }
     requires count { B.failed bins.old + 1 < 2 ^ 64 }
     ensures stays { StaysReady expander.old expander.new }
@@ -124,8 +120,7 @@ fn print_all<W: Sink>(
     buffer: &mut OutBuffer,
     out: &mut W,
 ) -> Result<(), SinkFault>
-    requires ready { IsReady expander.old }
-    requires known { AreMarksBelow names.now expander.old }
+    requires ready { IsReady names.now expander.old }
     requires left { All (IsMarkBelow (length (opened_file_names names.now)))
         (left_in expander.old) }
     requires count { W.failed out.old + 1 < 2 ^ 64 }

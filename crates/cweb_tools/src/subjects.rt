@@ -1,12 +1,12 @@
 // What both runs share: the folder of included files, and the name that a stop's line ends in.
-ghost use Rattle.std.specs.Prelude.{◌≡◌, ◌≤◌, length};
+ghost use Rattle.std.specs.Prelude.{◌≡◌};
 ghost use Rattle.std.specs.Option.{option_copied};
 ghost use Rattle.cweb_input.specs.surface.OpenedFileNames as spec;
-ghost use Rattle.cweb_input.specs.surface.OpenSources.{files_named};
 ghost use Rattle.cweb_log.specs.inner.Log.{subject};
 ghost use Rattle.cweb_tools.specs.Course.{folder_of};
 
 use cweb_lines::{FileNames, Stop};
+use cweb_log::file_name;
 
 /// The folder in which included files are also searched. An empty one counts as none.
 pub(crate) fn folder(inputs: Option<&str>) -> Option<&str>
@@ -20,11 +20,10 @@ pub(crate) fn folder(inputs: Option<&str>) -> Option<&str>
 
 /// The name that the line of a stop within a merge ends in.
 pub(crate) fn subject(names: &FileNames, stop: Stop) -> &str
-    requires { files_named stop ≤ length (spec.opened_file_names names.now) }
     ensures { result.now ≡ subject (spec.opened_file_names names.now) stop }
 {
     match stop {
-        Stop::ReadFault(file) | Stop::LineTooLong(file) => names.get(file),
+        Stop::ReadFault(file) | Stop::LineTooLong(file) => file_name(names, file),
         Stop::WriteFault => "standard output",
         _ => "",
     }

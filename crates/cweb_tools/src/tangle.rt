@@ -1,32 +1,34 @@
 // A run of `ctangle`.
 ghost use Rattle.std.specs.Prelude.{◌≡◌, ◌≢◌, ◌<◌, ◌+◌, ◌^◌, ◌∷◌, ◌==◌, if◌then◌else◌, None, Some};
-ghost use Rattle.std.specs.Prelude.{map};
+ghost use Rattle.std.specs.Prelude.{IfErr, IfOk, map};
 ghost use Rattle.std.specs.Option.{option_copied};
 ghost use Rattle.cweb_scan.specs.surface.ScannedModel.{scanned_model};
 ghost use Rattle.cweb_out.specs.surface.Outputs.{IsPlanOf};
 ghost use Rattle.cweb_log.specs.CommandLine.{options_by};
-ghost use Rattle.cweb_log.specs.DeviceModels.{sink_model, devices};
+ghost use Rattle.cweb_log.specs.DeviceModels.{CountsFit, SinkCountsFit, devices, sink_model};
+ghost use Rattle.cweb_log.specs.Items.{banner};
+ghost use Rattle.cweb_log.specs.surface.Options.{options_of};
 ghost use Rattle.cweb_tools.specs.Acts.{ending, plans};
 ghost use Rattle.cweb_tools.specs.Course.{world_of};
-ghost use Rattle.cweb_tools.specs.inner.Does.{ClosesInBoth, LogsEnding};
-ghost use Rattle.cweb_tools.specs.Script.{planned_acts, web_acts};
+ghost use Rattle.cweb_tools.specs.inner.Does.{ClosesInBoth, DoesInLog, LogsEnding};
+ghost use Rattle.cweb_tools.specs.Script.{planned_acts, web_acts, when};
 ghost use Rattle.cweb_tools.specs.Tangle.{numbers_of, TanglePromises, TanglesFreely};
-ghost use Rattle.cweb_tools.specs.inner.Tangle.{fault_count, plan_made, status_by, web_status};
+ghost use Rattle.cweb_tools.specs.inner.Tangle.{EndsUnread, fault_count, plan_made, status_by, web_status};
 ghost use Rattle.cweb_tools.specs.inner.Web.{IsKnown, faults_of, files_of, web_in};
 
 mod unplanned;
 
 use crate::outputs::write_outputs;
-use crate::saying::{say_banner, say_end, say_no_program_text, say_starred};
+use crate::saying::{say, say_end, say_starred};
 use crate::scanning::scan_web;
 use crate::tangle::unplanned::tangle_unplanned;
 use crate::web::{Numbers, Web, say_faults, status};
 use cweb_lines::{Shelf, Sink, Stop};
-use cweb_log::{Options, Shown, log_stop};
+use cweb_log::{LogLine, Options, Shown, log_stop};
 use cweb_out::{Bins, Expander, OutBuffer, Plan, plan};
 use std::alloc::Global;
 
-pub(crate) const USAGE: &str = "ctangle [options] webfile[.w] [{changefile[.ch]|-} [outfile[.c]]]";
+const USAGE: &str = "ctangle [options] webfile[.w] [{changefile[.ch]|-} [outfile[.c]]]";
 
 /// Runs `ctangle`: writes C files to the bins and messages to the log. `words` are the arguments. Returns the status.
 pub fn run_ctangle<S: Shelf, B: Bins, L: Sink>(
@@ -37,9 +39,7 @@ pub fn run_ctangle<S: Shelf, B: Bins, L: Sink>(
     bins: &mut B,
     log: &mut L,
 ) -> u8
-    requires shelf_count { S.failed shelf.old + 1 < 2 ^ 64 }
-    requires bins_count { B.failed bins.old + 1 < 2 ^ 64 }
-    requires log_count { L.failed log.old + 1 < 2 ^ 64 }
+    requires counts { CountsFit (devices S.Shelf B.Sink L.Sink shelf.old bins.old log.old) }
     ensures promises { let before =
         devices S.Shelf B.Sink L.Sink shelf.old bins.old log.old in
         let args = options_by (map (λ word. word.now) words.now) in
@@ -54,13 +54,10 @@ pub fn run_ctangle<S: Shelf, B: Bins, L: Sink>(
     ensures untouched { options_by (map (λ word. word.now) words.now) ≡ None →
         (shelf.new ≡ shelf.old) × (bins.new ≡ bins.old) }
 {
-    let options = match Options::read(alloc, words) {
+    let options = match begin_tangle(alloc, words, log) {
         Ok(options) => options,
-        Err(stop) => return log_stop(log, stop, USAGE),
+        Err(status) => return status,
     };
-    if let Err(_) = say_banner(options.banner, log) {
-        return 1;
-    }
     match scan_web(alloc, &options, inputs, shelf, log) {
         Ok((merger, scanned)) => {
             let web = Web::of(&merger, &scanned);
@@ -77,6 +74,32 @@ pub fn run_ctangle<S: Shelf, B: Bins, L: Sink>(
     }
 }
 
+/// Parses the arguments and logs the banner. If that ends the run, returns the status.
+pub(crate) fn begin_tangle<L: Sink>(
+    alloc: Global,
+    words: &[&str],
+    log: &mut L,
+) -> Result<Options, u8>
+    requires { L.failed log.old + 1 < 2 ^ 64 }
+    ensures ok { IfOk result (λ options. options_by (map (λ word. word.now) words.now)
+        ≡ Some (options_of options)) }
+    ensures banner { IfOk result (λ options.
+        DoesInLog (when (options_of options).shown.banner banner) None
+        (sink_model L.Sink log.old) (sink_model L.Sink log.new)) }
+    ensures ends { IfErr result (λ status.
+        EndsUnread (options_by (map (λ word. word.now) words.now))
+        (sink_model L.Sink log.old) (sink_model L.Sink log.new) status) }
+{
+    let options = match Options::read(alloc, words) {
+        Ok(options) => options,
+        Err(stop) => return Err(log_stop(log, stop, USAGE)),
+    };
+    if let Err(_) = say(options.banner, LogLine::Banner, log) {
+        return Err(1);
+    }
+    Ok(options)
+}
+
 /// Logs the faults of a scanned web, plans its outputs, and continues with the plan.
 pub(crate) fn tangle_web<B: Bins, L: Sink>(
     alloc: Global,
@@ -87,8 +110,7 @@ pub(crate) fn tangle_web<B: Bins, L: Sink>(
     log: &mut L,
 ) -> u8
     requires known { IsKnown web }
-    requires bins_count { B.failed bins.old + 1 < 2 ^ 64 }
-    requires log_count { L.failed log.old + 1 < 2 ^ 64 }
+    requires counts { SinkCountsFit (sink_model B.Sink bins.old) (sink_model L.Sink log.old) }
     ensures { ClosesInBoth (web_acts shown (web_in web.entry main.now))
         (web_status (web_in web.entry main.now))
         (sink_model B.Sink bins.old) (sink_model B.Sink bins.new)
@@ -117,8 +139,7 @@ fn tangle_planned<B: Bins, L: Sink>(
 ) -> u8
     requires known { IsKnown web }
     requires made { IsPlanOf web.scanned.now.store plan.now }
-    requires bins_count { B.failed bins.old + 1 < 2 ^ 64 }
-    requires log_count { L.failed log.old + 1 < 2 ^ 64 }
+    requires counts { SinkCountsFit (sink_model B.Sink bins.old) (sink_model L.Sink log.old) }
     ensures { ClosesInBoth
         (planned_acts shown
         (numbers_of (scanned_model web.entry.scanned.now)) (fault_count (faults_of web.entry))
@@ -128,7 +149,7 @@ fn tangle_planned<B: Bins, L: Sink>(
         (sink_model B.Sink bins.old) (sink_model B.Sink bins.new)
         (sink_model L.Sink log.old) (sink_model L.Sink log.new) result }
 {
-    if let Err(_) = say_no_program_text(plan.no_text(), log) {
+    if let Err(_) = say(plan.no_text(), LogLine::NoProgramText, log) {
         return 1;
     }
     let Ok(mut expander) = Expander::new(alloc, web.store(), plan, 0) else {

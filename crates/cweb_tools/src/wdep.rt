@@ -1,29 +1,25 @@
 // A run of `wdep`.
 ghost use Rattle.std.specs.Prelude.{◌≡◌, ◌≢◌, ◌<◌, ◌+◌, ◌^◌, ◌∷◌, ◌++◌, map, None};
 ghost use Rattle.std.specs.Option.{option_copied};
-ghost use Rattle.cweb_out.specs.Outputs.{planned};
 ghost use Rattle.cweb_out.specs.surface.Outputs.{IsPlanOf};
-ghost use Rattle.cweb_out.specs.surface.Planning.{IsExpectedFault};
 ghost use Rattle.cweb_log.specs.CommandLine.{options_by};
-ghost use Rattle.cweb_log.specs.DeviceModels.{sink_model, devices};
-ghost use Rattle.cweb_tools.specs.Acts.{plans};
+ghost use Rattle.cweb_log.specs.DeviceModels.{CountsFit, SinkCountsFit, devices, sink_model};
 ghost use Rattle.cweb_tools.specs.Course.{world_of};
 ghost use Rattle.cweb_tools.specs.Depend.{DependPromises, DependsFreely, depend_plan_acts, depend_web_acts};
 ghost use Rattle.cweb_tools.specs.Depend.{targets_by};
 ghost use Rattle.cweb_tools.specs.declared.rule_targets.Targets.{Targets};
-ghost use Rattle.cweb_tools.specs.Tangle.{planning};
-ghost use Rattle.cweb_tools.specs.inner.Does.{ClosesInBoth, ClosesInLog};
+ghost use Rattle.cweb_tools.specs.inner.Does.{ClosesInBoth};
 ghost use Rattle.cweb_tools.specs.inner.Tangle.{fault_count, plan_made, status_by, web_status};
-ghost use Rattle.cweb_tools.specs.inner.Web.{IsKnown, faults_of, files_of, web_in};
+ghost use Rattle.cweb_tools.specs.inner.Web.{faults_of, files_of, web_in};
 
 use crate::depfile::depfile;
 use crate::rule_targets::Targets;
-use crate::saying::say_no_program_text;
+use crate::saying::say;
 use crate::scanning::scan_web;
 use crate::web::{Web, say_faults, status};
 use cweb_lines::{Shelf, Sink, Stop, write_all};
-use cweb_log::{Options, log_stop, write_plan_fault};
-use cweb_out::{Plan, PlanFault, plan};
+use cweb_log::{LogLine, LogText, Options, log_stop, write_log};
+use cweb_out::{Plan, plan};
 use std::alloc::Global;
 
 const USAGE: &str = "wdep [options] webfile[.w] [{changefile[.ch]|-} [outfile[.c]]]";
@@ -38,9 +34,7 @@ pub fn run_wdep<S: Shelf, W: Sink, L: Sink>(
     out: &mut W,
     log: &mut L,
 ) -> u8
-    requires shelf_count { S.failed shelf.old + 1 < 2 ^ 64 }
-    requires out_count { W.failed out.old + 1 < 2 ^ 64 }
-    requires log_count { L.failed log.old + 1 < 2 ^ 64 }
+    requires counts { CountsFit (devices S.Shelf W.Sink L.Sink shelf.old out.old log.old) }
     ensures promises { let before = devices S.Shelf W.Sink L.Sink shelf.old out.old log.old in
         let args = options_by (map (λ word. word.now) words.now) in
         let world = world_of before.shelf.texts (option_copied inputs.entry) in
@@ -70,7 +64,7 @@ pub fn run_wdep<S: Shelf, W: Sink, L: Sink>(
     }
 }
 
-/// Logs the faults of a scanned web, plans its outputs, and continues with the plan.
+/// Logs the faults of a scanned web, plans its outputs, and continues with the plan. Without a plan it prints nothing.
 fn depend_web<W: Sink, L: Sink>(
     alloc: Global,
     main: &str,
@@ -79,10 +73,9 @@ fn depend_web<W: Sink, L: Sink>(
     out: &mut W,
     log: &mut L,
 ) -> u8
-    requires known { IsKnown web }
-    requires out_count { W.failed out.old + 1 < 2 ^ 64 }
-    requires log_count { L.failed log.old + 1 < 2 ^ 64 }
-    ensures { ClosesInBoth (depend_web_acts targets (files_of web.entry) (web_in web.entry main.now))
+    requires counts { SinkCountsFit (sink_model W.Sink out.old) (sink_model L.Sink log.old) }
+    ensures { ClosesInBoth
+        (depend_web_acts targets (files_of web.entry) (web_in web.entry main.now))
         (web_status (web_in web.entry main.now))
         (sink_model W.Sink out.old) (sink_model W.Sink out.new)
         (sink_model L.Sink log.old) (sink_model L.Sink log.new) result }
@@ -92,25 +85,11 @@ fn depend_web<W: Sink, L: Sink>(
     }
     match plan(alloc, web.store(), main) {
         Ok(plan) => depend_planned(alloc, web, &plan, targets, out, log),
-        Err(fault) => depend_unplanned(main, web, fault, log),
+        Err(fault) => {
+            let _ = write_log(log, LogText::unplanned(web.store(), &fault, main));
+            1
+        }
     }
-}
-
-/// Ends a run whose outputs could not be planned. Nothing is printed.
-fn depend_unplanned<L: Sink>(main: &str, web: Web<'_>, fault: PlanFault, log: &mut L) -> u8
-    requires expected { IsExpectedFault (planned web.scanned.now.store main.now) fault }
-    requires count { L.failed log.old + 1 < 2 ^ 64 }
-    ensures { (targets : Targets) → ClosesInLog (plans ∷ depend_plan_acts targets (files_of web.entry)
-        (planning web.entry.scanned.now.store (files_of web.entry) main.now))
-        (status_by (fault_count (faults_of web.entry))
-        (planning web.entry.scanned.now.store (files_of web.entry) main.now))
-        (sink_model L.Sink log.old) (sink_model L.Sink log.new) result }
-{
-    if let PlanFault::Memory = fault {
-        return log_stop(log, Stop::Memory, "");
-    }
-    let _ = write_plan_fault(log, web.store(), &fault, main);
-    1
 }
 
 /// Prints the depfile of a plan, and ends the run.
@@ -123,8 +102,7 @@ fn depend_planned<W: Sink, L: Sink>(
     log: &mut L,
 ) -> u8
     requires made { IsPlanOf web.scanned.now.store plan.now }
-    requires out_count { W.failed out.old + 1 < 2 ^ 64 }
-    requires log_count { L.failed log.old + 1 < 2 ^ 64 }
+    requires counts { SinkCountsFit (sink_model W.Sink out.old) (sink_model L.Sink log.old) }
     ensures { ClosesInBoth (depend_plan_acts targets (files_of web.entry)
         (plan_made web.entry.scanned.now.store (files_of web.entry) plan.now))
         (status_by (fault_count (faults_of web.entry))
@@ -132,7 +110,7 @@ fn depend_planned<W: Sink, L: Sink>(
         (sink_model W.Sink out.old) (sink_model W.Sink out.new)
         (sink_model L.Sink log.old) (sink_model L.Sink log.new) result }
 {
-    if let Err(_) = say_no_program_text(plan.no_text(), log) {
+    if let Err(_) = say(plan.no_text(), LogLine::NoProgramText, log) {
         return 1;
     }
     let Ok(text) = depfile(alloc, plan, targets, web.names) else {

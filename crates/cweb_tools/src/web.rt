@@ -13,7 +13,7 @@ ghost use Rattle.cweb_tools.specs.Tangle.{numbers_of};
 ghost use Rattle.cweb_tools.specs.inner.Web.{IsKnown, counted, faults_of, files_of, said_faults};
 
 use cweb_lines::{FileNames, Merger, Shelf, Sink, SinkFault, SourceFault};
-use cweb_log::{write_faults, write_name_faults, write_scan_faults};
+use cweb_log::{LogText, write_log};
 use cweb_scan::Scanned;
 use cweb_store::{Parts, Store};
 
@@ -92,8 +92,7 @@ fn count_parts(mut parts: Parts<'_>) -> u32
 
 /// Logs the faults of the files, the source and the names.
 pub(crate) fn say_faults<L: Sink>(web: Web<'_>, log: &mut L) -> Result<(), SinkFault>
-    requires known { IsKnown web }
-    requires count { L.failed log.old + 1 < 2 ^ 64 }
+    requires { L.failed log.old + 1 < 2 ^ 64 }
     ensures { DoesInLog (said_faults web.entry) (log_ending result)
         (sink_model L.Sink log.old) (sink_model L.Sink log.new) }
 {
@@ -104,14 +103,16 @@ pub(crate) fn say_faults<L: Sink>(web: Web<'_>, log: &mut L) -> Result<(), SinkF
 }
 
 fn write_web_faults<L: Sink>(web: Web<'_>, log: &mut L) -> Result<(), SinkFault>
-    requires known { IsKnown web }
-    requires count { L.failed log.old + 1 < 2 ^ 64 }
+    requires { L.failed log.old + 1 < 2 ^ 64 }
     ensures { WritesToStream (flat_map line (faults_of web.entry))
         (sink_model L.Sink log.old) (sink_model L.Sink log.new) result }
 {
-    write_faults(log, web.names, web.faults)?;
-    write_scan_faults(log, web.names, web.scanned.faults.as_slice())?;
-    write_name_faults(log, web.store())
+    write_log(log, LogText::SourceFaults(web.names, web.faults))?;
+    write_log(
+        log,
+        LogText::ScanFaults(web.names, web.scanned.faults.as_slice()),
+    )?;
+    write_log(log, LogText::NameFaults(web.store()))
 }
 
 /// The exit status of a run with this number of faults that nothing stopped.

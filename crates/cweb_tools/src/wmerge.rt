@@ -6,7 +6,7 @@ ghost use Rattle.cweb_input.specs.surface.OpenSources.{files_named};
 ghost use Rattle.cweb_lines.specs.surface.MergerCalls.{stop_in};
 ghost use Rattle.cweb_log.specs.Items.{source_item};
 ghost use Rattle.cweb_log.specs.inner.Log.{start_subject, subject};
-ghost use Rattle.cweb_log.specs.DeviceModels.{devices, sink_model};
+ghost use Rattle.cweb_log.specs.DeviceModels.{CountsFit, devices, sink_model};
 ghost use Rattle.cweb_log.specs.CommandLine.{web_names_by};
 ghost use Rattle.cweb_log.specs.inner.Words.{merge_word_names};
 ghost use Rattle.cweb_tools.specs.inner.Begun.{MergesBegun};
@@ -18,7 +18,7 @@ ghost use Rattle.cweb_tools.specs.MergeActs.{MergePromises, MergesFreely};
 
 use crate::subjects::{folder, subject};
 use cweb_lines::{FileNames, Merger, Shelf, Sink, SourceFault, Stop, write_merged_in_chunks};
-use cweb_log::{MergeWords, log_stop, write_faults};
+use cweb_log::{LogText, MergeWords, log_stop, write_log};
 use std::alloc::Global;
 
 /// The size of the output buffer.
@@ -35,9 +35,7 @@ pub fn run_wmerge<S: Shelf, W: Sink, L: Sink>(
     out: &mut W,
     log: &mut L,
 ) -> u8
-    requires shelf_count { S.failed shelf.old + 1 < 2 ^ 64 }
-    requires out_count { W.failed out.old + 1 < 2 ^ 64 }
-    requires log_count { L.failed log.old + 1 < 2 ^ 64 }
+    requires counts { CountsFit (devices S.Shelf W.Sink L.Sink shelf.old out.old log.old) }
     ensures promises { let before = devices S.Shelf W.Sink L.Sink shelf.old out.old log.old in
         let args = web_names_by (map (λ word. word.now) words.now) in
         let world = world_of before.shelf.texts (option_copied inputs.entry) in
@@ -66,9 +64,7 @@ fn merge_web<S: Shelf, W: Sink, L: Sink>(
     out: &mut W,
     log: &mut L,
 ) -> u8
-    requires shelf_count { S.failed shelf.old + 1 < 2 ^ 64 }
-    requires out_count { W.failed out.old + 1 < 2 ^ 64 }
-    requires log_count { L.failed log.old + 1 < 2 ^ 64 }
+    requires counts { CountsFit (devices S.Shelf W.Sink L.Sink shelf.old out.old log.old) }
     ensures { let before = devices S.Shelf W.Sink L.Sink shelf.old out.old log.old in
         let world = world_of before.shelf.texts (option_copied inputs.entry) in
         let names = Some (merge_word_names args.now) in
@@ -97,9 +93,7 @@ fn merge_begun<S: Shelf, W: Sink, L: Sink>(
     log: &mut L,
 ) -> u8
     requires running { stop_in merger.old ≡ None }
-    requires shelf_count { S.failed shelf.old + 1 < 2 ^ 64 }
-    requires out_count { W.failed out.old + 1 < 2 ^ 64 }
-    requires log_count { L.failed log.old + 1 < 2 ^ 64 }
+    requires counts { CountsFit (devices S.Shelf W.Sink L.Sink shelf.old out.old log.old) }
     ensures { MergesBegun S.Shelf shelf.old merger.old
         (sink_model W.Sink out.old) (sink_model L.Sink log.old)
         (devices S.Shelf W.Sink L.Sink shelf.new out.new log.new) result }
@@ -112,8 +106,8 @@ fn merge_begun<S: Shelf, W: Sink, L: Sink>(
 
 /// The name that the line of a stop at the start of a merge ends in.
 fn start_subject(args: &MergeWords, stop: Stop) -> &str
-    ensures { result.now ≡
-        start_subject (merge_word_names args.now).web (change_name (merge_word_names args.now).change) stop }
+    ensures { let names = merge_word_names args.now in
+        result.now ≡ start_subject names.web (change_name names.change) stop }
 {
     match stop {
         Stop::WebNotOpened => args.web.as_str(),
@@ -124,9 +118,7 @@ fn start_subject(args: &MergeWords, stop: Stop) -> &str
 
 /// Logs the faults of a merge that has ended, and returns the exit status.
 fn log_faults<L: Sink>(log: &mut L, names: &FileNames, faults: &[SourceFault]) -> u8
-    requires count { L.failed log.old + 1 < 2 ^ 64 }
-    requires known { All
-        (λ fault. fault.place.file.0 < length (spec.opened_file_names names.now)) faults.now }
+    requires { L.failed log.old + 1 < 2 ^ 64 }
     ensures { let items = map (source_item (spec.opened_file_names names.now)) faults.now in
         ClosesInLog (map says items) (acts_status (map says items))
         (sink_model L.Sink log.old) (sink_model L.Sink log.new) result }
@@ -135,6 +127,6 @@ fn log_faults<L: Sink>(log: &mut L, names: &FileNames, faults: &[SourceFault]) -
         return 0;
     }
     // the status is 1 for the faults, even if the log fails
-    let _ = write_faults(log, names, faults);
+    let _ = write_log(log, LogText::SourceFaults(names, faults));
     1
 }

@@ -1,7 +1,5 @@
 -- Buffered and direct writes to a log.
 use Rattle.std.specs.Prelude.{◌≡◌, ◌⊎◌, ◌+◌, ℕ, List, ◌++◌, IsTrue, Result, OnOk, OnErr}
-use Rattle.std.specs.Borrow.{Bor}
-use Rattle.std.specs.List.{flat_map}
 use Rattle.cweb_files.specs.Bins.{CountsFailure, WritesPrefix}
 use Rattle.cweb_log.specs.DeviceModels.{SinkModel}
 
@@ -35,7 +33,3 @@ pub record AppendsToLog {A E : Type 0} (more : List ℕ) (before after : SinkMod
       → OnOk result (IsWrittenOrBuffered first (text ++ more) after.bytes new)
   pub prefix : IsTrue before.tells → (first text : List ℕ) → IsWrittenOrBuffered first text before.bytes old
       → OnErr result (WritesPrefix first after.bytes (text ++ more))
-
--- The parts of a line, concatenated.
-abbrev pub joined_line : List (Bor (List ℕ)) → List ℕ
-joined_line parts = flat_map (λ (part : Bor (List ℕ)). part.now) parts

@@ -1,17 +1,11 @@
--- The lines of the faults of a web, and the item of the log if there is no plan.
+-- The item of the log if there is no plan.
 use Rattle.std.specs.Prelude.{ℕ, List, []}
-use Rattle.std.specs.List.{flat_map}
-use Rattle.cweb_input.specs.declared.fault.SourceFault.{SourceFault}
 use Rattle.cweb_input.specs.declared.stop.Stop.TheVariants as stop
 use Rattle.cweb_store.specs.Calls.{Stored}
 use Rattle.cweb_out.specs.Outputs.{bad_name, same_name, cycle}
 use Rattle.cweb_out.specs.declared.outputs.fault.PlanFault.{PlanFault}
 use Rattle.cweb_out.specs.declared.outputs.fault.PlanFault.TheVariants as plan
-use Rattle.cweb_log.specs.Items.{LogItem, fault, line, source_item, stopped, refusal_message}
-
--- The lines of faults of a web or a change file.
-abbrev pub fault_lines : List (List ℕ) → List SourceFault → List ℕ
-fault_lines names all = flat_map (λ met. line (source_item names met)) all
+use Rattle.cweb_log.specs.Items.{LogItem, fault, refusal_message, stopped}
 
 -- A fault of the plan, or a failed allocation, which stops the run.
 abbrev pub plan_item : Stored → List ℕ → PlanFault → LogItem

@@ -19,10 +19,12 @@ use Rattle.cweb_tools.specs.Acts.{Ending, ending}
 use Rattle.cweb_tools.specs.Tangle.{output_file}
 use Rattle.cweb_tools.specs.declared.outputs.Failed.{Failed}
 
--- Its plan is one of its store, and its stack of frames is valid.
-pub record IsReady (e : Expander) : Type 0 where
+-- Its plan is one of its store, its stack of frames is valid, and all line marks of its store are about files with
+-- names.
+pub record IsReady (names : FileNames) (e : Expander) : Type 0 where
   pub made : IsPlanOf e.store.now e.plan.now
   pub valid : IsFrameStack e.store.now e.frames.items (vec_capacity e.frames)
+  pub marks : All (IsMarkBelow (length (opened_file_names names))) (all_tokens e.store.now.parts)
 
 pub record StaysReady (old new : Expander) : Type 0 where
   pub store : new.store ≡ old.store
@@ -32,10 +34,6 @@ pub record StaysReady (old new : Expander) : Type 0 where
 -- The tokens that it will still yield.
 abbrev pub left_in : Expander → List Token
 left_in e = left e.store.now e.frames.items
-
--- All line marks of its store are about files with names.
-abbrev pub AreMarksBelow : FileNames → Expander → Type 0
-AreMarksBelow names e = All (IsMarkBelow (length (opened_file_names names))) (all_tokens e.store.now.parts)
 
 -- The file of an output, by index.
 abbrev pub file_at : FileNames → Expander → ℕ → File

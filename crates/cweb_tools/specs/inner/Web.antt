@@ -27,10 +27,9 @@ web_in web main = web_of (files_of web) web.faults.now (scanned_model web.scanne
 abbrev pub faults_of : Web → List LogItem
 faults_of web = (web_in web []).faults
 
--- The files of its faults and line marks have names.
-pub record IsKnown (web : Web) : Type 0 where
-  pub faults : All (λ fault. fault.place.file.0 < length (files_of web)) web.faults.now
-  pub below : IsScanBelow (length (files_of web)) (scanned_model web.scanned.now)
+-- The files of its line marks have names.
+abbrev pub IsKnown : Web → Type 0
+IsKnown web = IsScanBelow (length (files_of web)) (scanned_model web.scanned.now)
 
 -- Its faults are logged in order.
 abbrev pub said_faults : Web → List Act

@@ -15,7 +15,7 @@ ghost use Rattle.cweb_tools.specs.inner.Web.{faults_of, files_of, refusal_in};
 use crate::saying::say_end;
 use crate::web::{Numbers, Web};
 use cweb_lines::{Sink, Stop};
-use cweb_log::{Shown, log_stop, write_plan_fault};
+use cweb_log::{LogText, Shown, log_stop, write_log};
 use cweb_out::PlanFault;
 
 /// Ends a run whose outputs could not be planned: an allocation failed, or the plan was refused.
@@ -63,7 +63,7 @@ fn tangle_refused<L: Sink>(
         (refused (refusal_message web.entry.scanned.now.store main.now refusal)))
         1 (sink_model L.Sink log.old) (sink_model L.Sink log.new) result) }
 {
-    if let Err(_) = write_plan_fault(log, web.store(), &fault, main) {
+    if let Err(_) = write_log(log, LogText::unplanned(web.store(), &fault, main)) {
         return 1;
     }
     let count = web.fault_count() + 1;

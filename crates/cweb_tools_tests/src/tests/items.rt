@@ -3,9 +3,7 @@ ghost use Rattle.std.specs.Prelude.{◌≡◌};
 
 use super::wanted::{holds, same_bytes};
 use cweb_lines::SinkFault;
-use cweb_tools::{
-    write_banner, write_closing, write_counts, write_no_program, write_starred, write_writing,
-};
+use cweb_tools::{LogLine, LogText, write_log};
 use trial::TrialSink;
 
 const LINES: &str =
@@ -14,12 +12,12 @@ const LINES: &str =
 fn write_items(log: &mut TrialSink) -> Result<(), SinkFault>
     requires { log.old.failed ≡ 0 }
 {
-    write_banner(log)?;
-    write_starred(log, &[1, 40])?;
-    write_no_program(log)?;
-    write_writing(log, "a.c")?;
-    write_counts(log, 3, 2, 0)?;
-    write_closing(log, 0, true)
+    write_log(log, LogText::Line(LogLine::Banner))?;
+    write_log(log, LogText::Starred(&[1, 40]))?;
+    write_log(log, LogText::Line(LogLine::NoProgramText))?;
+    write_log(log, LogText::Line(LogLine::Writing("a.c")))?;
+    write_log(log, LogText::Line(LogLine::Counts(3, 2, 0)))?;
+    write_log(log, LogText::Line(LogLine::Closing(0, true)))
 }
 
 #[test]

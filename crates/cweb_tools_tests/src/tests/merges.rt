@@ -5,7 +5,7 @@ use super::merging::{
 };
 use super::wanted::{holds, same_bytes};
 use cweb_lines::{FileId, Stop};
-use cweb_tools::write_stop;
+use cweb_tools::{LogLine, LogText, write_log};
 use std::process::Abort;
 use trial::TrialSink;
 
@@ -98,7 +98,8 @@ fn a_line_too_long(rt: HostRuntime) {
 
 fn check_stop(rt: &(impl Abort + AllocGlobal), stop: Stop, line: &str) {
     let mut log = TrialSink::new(rt.alloc());
-    holds(rt, write_stop(&mut log, stop, "n").is_ok());
+    let text = LogText::Line(LogLine::Stopped(stop, "n"));
+    holds(rt, write_log(&mut log, text).is_ok());
     same_bytes(rt, log.bytes(), line.as_bytes());
 }
 

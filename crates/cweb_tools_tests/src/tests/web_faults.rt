@@ -2,7 +2,7 @@
 use super::wanted::{holds, same_bytes};
 use cweb_lines::{FileId, FileNames, MemoryShelf, Merger, Place, SourceFault, SourceKind, Stop};
 use cweb_rules::{ScanFault, ScanKind};
-use cweb_tools::{write_faults, write_scan_faults};
+use cweb_tools::{LogText, write_log};
 use std::alloc::Global;
 use std::process::Abort;
 use trial::{TrialSink, shelf_of};
@@ -31,21 +31,15 @@ const SOURCE_LINES: &[u8] =
 
 fn check_lines(rt: &(impl Abort + AllocGlobal), names: &FileNames) {
     let mut log = TrialSink::new(rt.alloc());
-    holds(rt, names.count() > 0);
-    holds(
-        rt,
-        write_scan_faults(&mut log, names, &[FAULT, FAULT]).is_ok(),
-    );
+    let text = LogText::ScanFaults(names, &[FAULT, FAULT]);
+    holds(rt, write_log(&mut log, text).is_ok());
     same_bytes(rt, log.bytes(), LINES);
 }
 
 fn check_source_lines(rt: &(impl Abort + AllocGlobal), names: &FileNames) {
     let mut log = TrialSink::new(rt.alloc());
-    holds(rt, names.count() > 0);
-    holds(
-        rt,
-        write_faults(&mut log, names, &[SOURCE_FAULT, SOURCE_FAULT]).is_ok(),
-    );
+    let text = LogText::SourceFaults(names, &[SOURCE_FAULT, SOURCE_FAULT]);
+    holds(rt, write_log(&mut log, text).is_ok());
     same_bytes(rt, log.bytes(), SOURCE_LINES);
 }
 

@@ -19,7 +19,8 @@ returns c =
     let outputs : List (List ℕ) =
     map (λ (output : Output). output.name) (among_outputs c.args.targets c.args.plan.now.outputs) in
     let inputs : List (List ℕ) = each_once (opened_file_names c.args.names.now) in
-    let before : keys_of c.as_slice.result.now ≡ inputs = ap keys_of c.as_slice.ensures.value ∙ c.in_ok-inputs.ensures in
+    let before : keys_of c.as_slice.result.now ≡ inputs =
+    ap keys_of c.as_slice.ensures.value ∙ c.in_ok-inputs.ensures in
     let first : keys_of c.as_slice-2.result.now ≡ inputs =
     ap keys_of c.as_slice-2.ensures.value ∙ c.in_ok-inputs.ensures in
     let second : keys_of c.as_slice-3.result.now ≡ inputs =

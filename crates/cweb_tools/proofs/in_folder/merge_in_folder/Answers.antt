@@ -12,7 +12,7 @@ returns g c =
           (λ world before after status. MergePromises world args before after status
           × MergesFreely world args before after status)
           (option_copied c.args.inputs) c.new-shelf.result c.run_wmerge.new.shelf (sink_model g.W.Sink c.args.out.now)
-          (sink_model g.W.Sink c.run_wmerge.new.out) (sink_model g.L.Sink c.args.log.now) (sink_model g.L.Sink c.run_wmerge.new.log)
-          c.run_wmerge.result c.new-shelf.ensures.system c.new-shelf.ensures.failed
+          (sink_model g.W.Sink c.run_wmerge.new.out) (sink_model g.L.Sink c.args.log.now)
+          (sink_model g.L.Sink c.run_wmerge.new.log) c.run_wmerge.result c.new-shelf.ensures.system c.new-shelf.ensures.failed
           c.run_wmerge.ensures.promises.shelf_tells (c.run_wmerge.ensures.promises, c.run_wmerge.ensures.freely);
     }

@@ -7,7 +7,7 @@ use Rattle.cweb_tools.proofs.outputs.write_file.Goals as goal
 
 pub print_all-requires-clause-left : goal.print_all-requires-clause-left
 print_all-requires-clause-left g c = left_known c.args.names.now
-    c.args.expander.now c.restart.new.self c.args.output c.requires.known c.restart.ensures.store c.restart.ensures.left
+    c.args.expander.now c.restart.new.self c.args.output c.requires.ready c.restart.ensures.store c.restart.ensures.left
 
 -- The file could not be begun.
 pub returns-in-Err-Memory-clause-does : goal.returns-in-Err-Memory-clause-does

@@ -7,12 +7,11 @@ use Rattle.cweb_tools.proofs.outputs.write_outputs.Goals as goal
 abbrev no_output : Output
 no_output = record { name = []; root = None }
 
-pub write_output-requires-clause-bins_count : goal.write_output-requires-clause-bins_count
-write_output-requires-clause-bins_count g c =
-    omega (arith, bins_counted c.outputs.invariant.does, c.requires.bins_count)
-
-pub write_output-requires-clause-log_count : goal.write_output-requires-clause-log_count
-write_output-requires-clause-log_count g c = omega (arith, logs_counted c.outputs.invariant.does, c.requires.log_count)
+pub write_output-requires-clause-counts : goal.write_output-requires-clause-counts
+write_output-requires-clause-counts g c = record {
+  out = omega (arith, bins_counted c.outputs.invariant.does, c.requires.counts.out);
+  log = omega (arith, logs_counted c.outputs.invariant.does, c.requires.counts.log);
+}
 
 pub returns-in-Err-clause-does : goal.returns-in-Err-clause-does
 returns-in-Err-clause-does g c =

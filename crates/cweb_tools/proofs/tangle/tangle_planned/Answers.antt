@@ -8,21 +8,24 @@ pub returns-in-Err : goal.returns-in-Err
 returns-in-Err g c = λ shelf. log_halts _ ((rw c.no_text.ensures at c.in-Err.ensures) shelf _) refl
 
 pub log_stop-requires : goal.log_stop-requires
-log_stop-requires g c = omega (arith, log_counted c.in_default.ensures, c.requires.log_count)
+log_stop-requires g c = omega (arith, log_counted c.in_default.ensures, c.requires.counts.log)
 
 pub returns-in_default-new : goal.returns-in_default-new
 returns-in_default-new g c = λ shelf. closes_on ((rw c.no_text.ensures at c.in_default.ensures) shelf _)
     (memory_halts reserves _ (λ now. refl) c.log_stop.ensures.logs c.log_stop.ensures.status)
 
 pub log_stop-requires-in_default-new-2 : goal.log_stop-requires-in_default-new-2
-log_stop-requires-in_default-new-2 g c = omega (arith, log_counted c.in_default.ensures, c.requires.log_count)
+log_stop-requires-in_default-new-2 g c = omega (arith, log_counted c.in_default.ensures, c.requires.counts.log)
 
 pub returns-in_default-new-2 : goal.returns-in_default-new-2
 returns-in_default-new-2 g c = λ shelf. closes_on ((rw c.no_text.ensures at c.in_default.ensures) shelf _) (memory_halts
     reserves _ (λ now. refl) c.log_stop-in_default-new-2.ensures.logs c.log_stop-in_default-new-2.ensures.status)
 
-pub write_outputs-requires-clause-log_count : goal.write_outputs-requires-clause-log_count
-write_outputs-requires-clause-log_count g c = omega (arith, log_counted c.in_default.ensures, c.requires.log_count)
+pub write_outputs-requires-clause-counts : goal.write_outputs-requires-clause-counts
+write_outputs-requires-clause-counts g c = record {
+  out = c.requires.counts.out;
+  log = omega (arith, log_counted c.in_default.ensures, c.requires.counts.log);
+}
 
 pub log_failed-requires : goal.log_failed-requires
 log_failed-requires g c = λ never.
@@ -31,7 +34,7 @@ log_failed-requires g c = λ never.
       log_counted c.in_default.ensures,
       logs_counted c.in-Err-write_outputs.ensures.does,
       not_of_log c.in-Err-write_outputs.failed.stop never,
-      c.requires.log_count,
+      c.requires.counts.log,
     )
 
 pub returns-in-Err-write_outputs : goal.returns-in-Err-write_outputs
@@ -48,7 +51,7 @@ say_end-requires g c =
       arith,
       log_counted c.in_default.ensures,
       logs_counted c.in_default-write_outputs.ensures.does,
-      c.requires.log_count,
+      c.requires.counts.log,
     )
 
 pub returns-in-Err-say_end : goal.returns-in-Err-say_end

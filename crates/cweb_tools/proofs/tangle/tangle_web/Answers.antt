@@ -7,20 +7,28 @@ use Rattle.cweb_tools.proofs.tangle.tangle_web.Goals as goal
 pub returns-in-Err : goal.returns-in-Err
 returns-in-Err g c = λ shelf. log_halts _ ((rw c.as_slice.ensures.value at c.in-Err.ensures) shelf _) refl
 
-pub say_faults-requires-clause-count : goal.say_faults-requires-clause-count
-say_faults-requires-clause-count g c = omega (arith, log_counted c.in_default.ensures, c.requires.log_count)
+pub say_faults-requires : goal.say_faults-requires
+say_faults-requires g c = omega (arith, log_counted c.in_default.ensures, c.requires.counts.log)
 
 pub returns-in-Err-say_faults : goal.returns-in-Err-say_faults
 returns-in-Err-say_faults g c = λ shelf. closes_on ((rw c.as_slice.ensures.value at c.in_default.ensures) shelf _)
     (log_halts _ (c.in-Err-say_faults.ensures shelf _) refl)
 
-pub tangle_planned-requires-clause-log_count : goal.tangle_planned-requires-clause-log_count
-tangle_planned-requires-clause-log_count g c =
-    omega (arith, log_counted c.in_default.ensures, log_counted c.in_default-say_faults.ensures, c.requires.log_count)
+pub tangle_planned-requires-clause-counts : goal.tangle_planned-requires-clause-counts
+tangle_planned-requires-clause-counts g c = record {
+  out = c.requires.counts.out;
+  log =
+      omega (
+        arith,
+        log_counted c.in_default.ensures,
+        log_counted c.in_default-say_faults.ensures,
+        c.requires.counts.log,
+      );
+}
 
 pub tangle_unplanned-requires-clause-count : goal.tangle_unplanned-requires-clause-count
 tangle_unplanned-requires-clause-count g c =
-    omega (arith, log_counted c.in_default.ensures, log_counted c.in_default-say_faults.ensures, c.requires.log_count)
+    omega (arith, log_counted c.in_default.ensures, log_counted c.in_default-say_faults.ensures, c.requires.counts.log)
 
 pub returns-in-Ok : goal.returns-in-Ok
 returns-in-Ok g c = λ shelf. closes_on ((rw c.as_slice.ensures.value at c.in_default.ensures) shelf _) (closes_on

@@ -9,14 +9,14 @@ pub returns-in-Err : goal.returns-in-Err
 returns-in-Err g c = λ shelf. log_halts _ ((rw c.no_text.ensures at c.in-Err.ensures) shelf _) refl
 
 pub log_stop-requires : goal.log_stop-requires
-log_stop-requires g c = omega (arith, log_counted c.in_default.ensures, c.requires.log_count)
+log_stop-requires g c = omega (arith, log_counted c.in_default.ensures, c.requires.counts.log)
 
 pub returns-in_default-depfile : goal.returns-in_default-depfile
 returns-in_default-depfile g c = λ shelf. closes_on ((rw c.no_text.ensures at c.in_default.ensures) shelf _)
     (memory_halts reserves _ (λ now. refl) c.log_stop.ensures.logs c.log_stop.ensures.status)
 
 pub log_stop-requires-in-Err-write_all : goal.log_stop-requires-in-Err-write_all
-log_stop-requires-in-Err-write_all g c = omega (arith, log_counted c.in_default.ensures, c.requires.log_count)
+log_stop-requires-in-Err-write_all g c = omega (arith, log_counted c.in_default.ensures, c.requires.counts.log)
 
 pub returns-in-Err-write_all : goal.returns-in-Err-write_all
 returns-in-Err-write_all g c =

@@ -1,17 +1,20 @@
 use Rattle.cweb_tools.proofs.Common.{refl, arith, files_of}
 use Rattle.cweb_tools.proofs.Doing.{closes_on, log_counted}
 use Rattle.cweb_tools.proofs.DoingFiles.{does_plan, log_halts}
-use Rattle.cweb_tools.proofs.Refusals.{planning_made}
+use Rattle.cweb_tools.proofs.Refusals.{planning_made, unplanned_ends}
 use Rattle.cweb_tools.proofs.wdep.depend_web.Goals as goal
 
 pub returns-in-Err : goal.returns-in-Err
 returns-in-Err g c = λ shelf. log_halts _ (c.in-Err.ensures shelf _) refl
 
-pub depend_planned-requires-clause-log_count : goal.depend_planned-requires-clause-log_count
-depend_planned-requires-clause-log_count g c = omega (arith, log_counted c.in_default.ensures, c.requires.log_count)
+pub depend_planned-requires-clause-counts : goal.depend_planned-requires-clause-counts
+depend_planned-requires-clause-counts g c = record {
+  out = c.requires.counts.out;
+  log = omega (arith, log_counted c.in_default.ensures, c.requires.counts.log);
+}
 
-pub depend_unplanned-requires-clause-count : goal.depend_unplanned-requires-clause-count
-depend_unplanned-requires-clause-count g c = omega (arith, log_counted c.in_default.ensures, c.requires.log_count)
+pub write_log-requires : goal.write_log-requires
+write_log-requires g c = omega (arith, log_counted c.in_default.ensures, c.requires.counts.log)
 
 pub returns-in-Ok : goal.returns-in-Ok
 returns-in-Ok g c = λ shelf. closes_on (c.in_default.ensures shelf _)
@@ -19,4 +22,7 @@ returns-in-Ok g c = λ shelf. closes_on (c.in_default.ensures shelf _)
     (rw c.store.ensures at c.in-Ok.ensures)) (c.depend_planned.ensures shelf)))
 
 pub returns-in-Err-plan : goal.returns-in-Err-plan
-returns-in-Err-plan g c = λ shelf. closes_on (c.in_default.ensures shelf _) (c.depend_unplanned.ensures _ shelf _)
+returns-in-Err-plan g c = λ shelf. closes_on (c.in_default.ensures shelf _) (unplanned_ends c.write_log.result
+    c.args.web.scanned.now.store (files_of c.args.web) c.args.main.now c.args.targets _ c.in-Err-plan.fault
+    (rw c.store.ensures at c.in-Err-plan.ensures)
+    (rw (rw c.store-in-Err-plan.ensures at c.unplanned.ensures) at c.write_log.ensures) shelf _)

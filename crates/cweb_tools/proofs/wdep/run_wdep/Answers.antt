@@ -1,7 +1,7 @@
-use Rattle.cweb_tools.proofs.Common.{ℕ, List, Bor, map, options_by, ap, refl, Err, option_copied, World, OptionsModel, Some, options_of, sink_model, shelf_model, world_of, depend_acts, depend_web_acts}
+use Rattle.cweb_tools.proofs.Common.{ℕ, List, Bor, map, ap, refl, Err, option_copied, World, OptionsModel, Some, options_of, sink_model, shelf_model, world_of, depend_acts, depend_web_acts}
 use Rattle.cweb_tools.specs.declared.rule_targets.Targets.{Targets}
 use Rattle.cweb_tools.specs.Depend.{targets_by}
-use Rattle.cweb_tools.proofs.Courses.{same_stop}
+use Rattle.cweb_tools.proofs.Courses.{options_in, same_stop}
 use Rattle.cweb_tools.proofs.DependPromisesProved.{depend_ends, depend_judges}
 use Rattle.cweb_tools.proofs.TanglePromisesProved.{promised, tangled_freely}
 use Rattle.cweb_tools.proofs.RunEnds.{words_end}
@@ -19,7 +19,7 @@ returns-in-Err-clause-promises g c = promised _ _ (words_end _ (depend_acts _) r
 pub returns-in-Err-clause-freely : goal.returns-in-Err-clause-freely
 returns-in-Err-clause-freely g c = tangled_freely (world_of (g.S.Shelf.texts c.args.shelf.now)
     (option_copied c.args.inputs))
-    (options_by (map (λ (word : Bor (List ℕ)). word.now) c.args.words.now)) (returns-in-Err-clause-promises g c)
+    (options_in c.args.words.now) (returns-in-Err-clause-promises g c)
 
 pub returns-in-Ok-scan_web-clause-promises : goal.returns-in-Ok-scan_web-clause-promises
 returns-in-Ok-scan_web-clause-promises g c =
@@ -40,7 +40,7 @@ returns-in-Ok-scan_web-clause-promises g c =
 pub returns-in-Ok-scan_web-clause-freely : goal.returns-in-Ok-scan_web-clause-freely
 returns-in-Ok-scan_web-clause-freely g c = tangled_freely
     (world_of (g.S.Shelf.texts c.args.shelf.now) (option_copied c.args.inputs))
-    (options_by (map (λ (word : Bor (List ℕ)). word.now) c.args.words.now)) (returns-in-Ok-scan_web-clause-promises g c)
+    (options_in c.args.words.now) (returns-in-Ok-scan_web-clause-promises g c)
 
 pub returns-clause-promises : goal.returns-clause-promises
 returns-clause-promises g c =
@@ -52,4 +52,4 @@ returns-clause-promises g c =
 
 pub returns-clause-freely : goal.returns-clause-freely
 returns-clause-freely g c = tangled_freely (world_of (g.S.Shelf.texts c.args.shelf.now) (option_copied c.args.inputs))
-    (options_by (map (λ (word : Bor (List ℕ)). word.now) c.args.words.now)) (returns-clause-promises g c)
+    (options_in c.args.words.now) (returns-clause-promises g c)

@@ -7,5 +7,5 @@ pub returns : goal.returns
 returns g c =
     let some : 0 < length c.args.faults.now = some_by (length c.args.faults.now) (sym c.is_empty.ensures
     ∙ c.if-is_empty.false) in
-    faults_said c.write_faults.result (opened_file_names c.args.names.now) c.args.faults.now
-    (λ none. omega (arith, none, some)) c.write_faults.ensures
+    faults_said c.write_log.result (opened_file_names c.args.names.now) c.args.faults.now
+    (λ none. omega (arith, none, some)) c.write_log.ensures

@@ -37,9 +37,3 @@ returns-in-Err g c = λ names first world found changes begun.
     ++ blame (so_far c.write_merged_in_chunks.new.merger).names stop) (begun.blamed tells)) blames.out
     (λ tells observed.
     wrote.prefix (tells-2 tells) observed) (rw c.subject.ensures at c.log_stop.ensures.logs) c.log_stop.ensures.status
-
-pub log_faults-requires-clause-known : goal.log_faults-requires-clause-known
-log_faults-requires-clause-known g c = rw c.names.ensures c.faults.ensures.known
-
-pub subject-requires : goal.subject-requires
-subject-requires g c = rw c.names-in-Err.ensures (c.in-Err.ensures.blames c.requires.running).named

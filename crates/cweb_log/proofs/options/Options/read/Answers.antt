@@ -11,8 +11,9 @@ args c =
     ∙ c.in-Some.is) (sym c.other_word.ensures ∙ ap option_copied c.in-Some-other_word.is) c.other_word-3.ensures
     c.other_word-4.ensures (sym c.other_word-2.ensures ∙ copied_none _ (sym c.if-is_some.ensures))
 
-pub returns-clause-ok : goal.returns-clause-ok
-returns-clause-ok c = ok_from c.named.result _ _ c.in-Some.shown (args c) c.named.ensures.ok c.named.ensures.shown
-
-pub returns-clause-usage : goal.returns-clause-usage
-returns-clause-usage c = usage_from c.named.result _ _ c.in-Some.shown (args c) c.named.ensures.usage
+pub returns : goal.returns
+returns c = record {
+  ok = ok_from c.named.result _ _ c.in-Some.shown (args c) c.named.ensures.parses.ok c.named.ensures.shown;
+  usage = usage_from c.named.result _ _ c.in-Some.shown (args c) c.named.ensures.parses.usage;
+  stops = c.named.ensures.parses.stops;
+}

@@ -1,8 +1,7 @@
-use Rattle.cweb_tools.proofs.Common.{List, ℕ, Act, SinkModel, ShelfModel, Closes, ClosesInLog, false, refl, ap, ◌+◌, SinkFault, fault, refusal_message}
+use Rattle.cweb_tools.proofs.Common.{List, ℕ, Act, SinkModel, ShelfModel, Closes, ClosesInLog, false, refl, ap, ◌+◌, SinkFault, items_of}
 use Rattle.cweb_tools.proofs.Doing.{closes_on}
 use Rattle.cweb_tools.proofs.DoingFiles.{closes_reported, closing_on, log_halts}
-use Rattle.cweb_tools.proofs.Logging.{said}
-use Rattle.cweb_tools.proofs.Refusals.{each_some, refusal_line}
+use Rattle.cweb_tools.proofs.Refusals.{each_some, refusal_said}
 use Rattle.cweb_tools.proofs.tangle.unplanned.tangle_refused.Goals as goal
 
 in_log : {acts : List Act} {expected status : ℕ} {old new : SinkModel} → ((shelf : ShelfModel) (bins : SinkModel)
@@ -11,15 +10,13 @@ in_log : {acts : List Act} {expected status : ℕ} {old new : SinkModel} → ((s
 in_log closes = closes
 
 pub returns-in-Err : goal.returns-in-Err
-returns-in-Err g c = each_some _ _ (λ r is. in_log (λ shelf bins. log_halts _ (said {A = Unit {0}}
-    (fault (refusal_message c.args.web.scanned.now.store c.args.main.now r))
-    (rw (refusal_line c.args.web.scanned.now.store
-    c.args.main.now c.args.fault r is) at (rw c.store.ensures at c.in-Err.ensures)) shelf bins) refl))
+returns-in-Err g c = each_some _ _ (λ r is. in_log (λ shelf bins. log_halts _ (refusal_said {A = Unit {0}}
+    c.args.web.scanned.now.store c.args.main.now c.args.fault r (items_of c.unplanned.result) is
+    (rw c.store.ensures at c.unplanned.ensures) c.in-Err.ensures shelf bins) refl))
 
 pub returns : goal.returns
-returns g c = each_some _ _ (λ r is. in_log (λ shelf bins. closes_on (said {A = Unit {0}} {E = SinkFault}
-    (fault (refusal_message c.args.web.scanned.now.store c.args.main.now r))
-    (rw (refusal_line c.args.web.scanned.now.store
-    c.args.main.now c.args.fault r is) at (rw c.store.ensures at c.in_default.ensures)) shelf bins)
+returns g c = each_some _ _ (λ r is. in_log (λ shelf bins. closes_on (refusal_said {A = Unit {0}} {E = SinkFault}
+    c.args.web.scanned.now.store c.args.main.now c.args.fault r (items_of c.unplanned.result) is
+    (rw c.store.ensures at c.unplanned.ensures) c.in_default.ensures shelf bins)
     (closes_reported c.say_end.result (closing_on c.args.shown {missing = false} {missing' = false} c.of.ensures
     (ap (λ (n : ℕ). n + 1) c.fault_count-count.ensures.count) refl c.say_end.ensures) refl refl shelf bins)))

@@ -1,5 +1,0 @@
-use Rattle.cweb_log.proofs.Common.{arith, common_steps}
-use Rattle.cweb_log.proofs.web_faults.write_named.Goals as goal
-
-pub returns : goal.returns
-returns g c = grind (arith, common_steps)
