@@ -1,5 +1,5 @@
 -- Strings that are appended part by part.
-use Rattle.cweb_print.proofs.Common.{arith, ◌≡◌, ◌<◌, ◌+◌, ◌++◌, [], ◌∷◌, ◌∙◌, refl, sym, append_assoc, append-nil, ℕ, List, length, take, drop, suc, get_or, Result, Ok, Err, IsErr, flat_map, take_more, Appends}
+use Rattle.cweb_print.proofs.Common.{arith, ap, ◌≡◌, ◌<◌, ◌+◌, ◌++◌, [], ◌∷◌, ◌∙◌, refl, sym, append_assoc, append-nil, ℕ, List, length, take, drop, suc, get_or, Result, Ok, Err, IsErr, flat_map, take_more, Appends}
 use Rattle.std.proofs.Common.{drop-cons}
 use Rattle.std.proofs.lemmas.List.{take-append-drop}
 use Rattle.std.proofs.lemmas.List.Concat.{flat_map-append}
@@ -52,6 +52,20 @@ module _ {W : Type 0} (sink : Sink W) where
   items_until f xs i d a b c e r lt is before here =
       appends_until sink a c (flat_map f xs) _ (flat_map f (drop (suc i) xs)) e r is (flat_at f xs i d lt)
       (appends_then sink a b c (flat_map f (take i xs)) (f (get_or xs i d)) tt (Err e) before here)
+
+  -- All was appended, whatever the call returns beside that.
+  pub appends_as : {A E B F : Type 0} (a b : W) (text other : List ℕ) (x : A) (y : B) → text ≡ other
+      → Appends {E = E} sink a b text (Ok x) → Appends {E = F} sink a b other (Ok y)
+  appends_as a b text other x y same appends = record {
+    keeps = record { tells = appends.keeps.tells; beside = appends.keeps.beside; failed = appends.keeps.failed };
+    wrote = λ tells. appends.wrote tells ∙ ap (λ (t : List ℕ). sink.written a ++ t) same;
+  }
+
+  -- A fault within a string.
+  pub appends_err : {A E B F : Type 0} (a b : W) (text other : List ℕ) (e : E) (r : Result B F) → IsErr r
+      → text ≡ other → Appends {A = A} sink a b text (Err e) → Appends sink a b other r
+  appends_err a b text other e r is same =
+      appends_until sink a b other text [] e r is (sym same ∙ sym (append-nil text))
 
   pub before_none : (w : W) (text : List ℕ) → AppendedBefore sink w w text text
   before_none w text = record { prefix = []; appended = appended_none sink w; whole = refl }

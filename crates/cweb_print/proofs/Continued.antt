@@ -1,7 +1,11 @@
 -- Direct tokens of a macro: their output.
-use Rattle.cweb_print.proofs.Common.{arith, ◌≡◌, ◌++◌, ◌∙◌, ℕ, Bool, true, false, cond, List, [], Option, None, Some, ap, append_assoc, refl, list_any, IfSome, Token, Word, Number, Literal, Verbatim, Punct, Blank, Newline, Edge, TokenBytesModel, first_is, is_numeric, direct_bytes, punctuator_edge, punctuator_edge_by, class_after_edge, continued_by, edge_ends_line, left_after_edge, edge_is_apart, added, continuation_bytes, macro_by, blank_where, is_high, plain_bytes, word_bytes, is_operator}
+use Rattle.cweb_print.proofs.Common.{arith, Left, Stored, all_tokens, map, slice_get, replaced_in, left_after_token, ◌≡◌, ◌++◌, ◌∙◌, ℕ, Bool, true, false, cond, List, [], Option, None, Some, ap, refl, list_any, Token, Word, Number, Literal, Verbatim, Punct, Blank, Newline, TokenBytesModel, first_is, is_numeric, direct_bytes, punctuator_edge, punctuator_edge_by, continued_by, edge_ends_line, left_after_edge, edge_is_apart, added, continuation_bytes, macro_by, blank_where, is_high, plain_bytes, word_bytes, is_operator}
 use Rattle.cweb_texts.specs.declared.edges.Edge.TheVariants as edge_kind
 use Rattle.cweb_print.proofs.DirectEdges.{apart-direct}
+use Rattle.cweb_print.proofs.DirectPrinting.{leaves-direct}
+use Rattle.cweb_print.proofs.Ranges.{at_index}
+use Rattle.cweb_print.proofs.TokenReaderSteps.{BorrowsAt, direct-at}
+use Rattle.cweb_print.specs.inner.EdgeSpacing.{token_at}
 use Rattle.cweb_print.proofs.Bytes.{ascii_word}
 
 -- The bytes of an optional result.
@@ -42,18 +46,25 @@ string-continued replaced Blank l h = ap continued_in h
 string-continued replaced Newline l h = ap continued_in h
 string-continued replaced _ l h = cc
 
--- The output of such a token after one with an edge.
-pub added-continued : (replaced : ℕ → List ℕ) (last : Edge) (t : Token) (l : TokenBytesModel) → direct_bytes t ≡ Some l
-    → added (macro_by replaced) (left_after_edge last) t
-    ≡ blank_where (edge_is_apart (class_after_edge last) l.edge) ++ continued_by l
-added-continued replaced last t l h = cc (apart-direct (class_after_edge last) t l h, string-continued replaced t l h)
+-- A direct token of a store, where no join is open: its output, and the state after it.
+module _ (w : Stored) (left : Left) (n : ℕ) (l : TokenBytesModel) (joined : left.joined ≡ false)
+    (read : List (Option TokenBytesModel)) (reads : read ≡ map direct_bytes (all_tokens w.parts))
+    (is : slice_get read n ≡ Some (Some l)) where
+  at : BorrowsAt (all_tokens w.parts) n l
+  at = direct-at read (all_tokens w.parts) n l reads is
 
--- Weakens the property of an optional result.
-pub if_some : (P Q : ℕ → Type 0) (r : Option ℕ) → ((n : ℕ) → P n → Q n) → IfSome r P → IfSome r Q
-if_some P Q None f h = h
-if_some P Q (Some n) f h = f n h
+  unjoined : left ≡ record { class = left.class; joined = false }
+  unjoined = λ i. record { class = left.class; joined = joined i }
 
--- Three strings were appended.
-pub three_put : (old mid next new a b c : List ℕ) → mid ≡ old ++ a → next ≡ mid ++ b → new ≡ next ++ c
-    → new ≡ old ++ (a ++ (b ++ c))
-three_put old mid next new a b c f g h = cc (append_assoc (old ++ a) b c, append_assoc old a (b ++ c))
+  pub direct_added : added (macro_by (replaced_in w)) left (token_at w n)
+      ≡ blank_where (edge_is_apart left.class l.edge) ++ continued_by l
+  direct_added = cc (
+    unjoined,
+    at_index w n at.token at.there,
+    apart-direct left.class at.token l at.direct,
+    string-continued (replaced_in w) at.token l at.direct,
+  )
+
+  pub direct_leaves : left_after_token left (token_at w n) ≡ left_after_edge l.edge
+  direct_leaves = (λ i. left_after_token (unjoined i) (at_index w n at.token at.there i))
+      ∙ leaves-direct left.class at.token l at.direct

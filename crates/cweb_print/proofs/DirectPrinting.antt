@@ -31,9 +31,9 @@ closes-direct : (t : Token) (l : TokenBytesModel) → direct_bytes t ≡ Some l 
 closes-direct Join l h = cc
 closes-direct _ l h = refl
 
-pub leaves-direct : (last : Edge) (t : Token) (l : TokenBytesModel) → direct_bytes t ≡ Some l
-    → left_after_token (left_after_edge last) t ≡ left_after_edge l.edge
-leaves-direct last t l h = λ i. record { class = sym (class-direct t l h) i; joined = closes-direct t l h i }
+pub leaves-direct : (c : Class) (t : Token) (l : TokenBytesModel) → direct_bytes t ≡ Some l
+    → left_after_token (record { class = c; joined = false }) t ≡ left_after_edge l.edge
+leaves-direct c t l h = λ i. record { class = sym (class-direct t l h) i; joined = closes-direct t l h i }
 
 added-direct : (s : Setting) (last : Edge) (t : Token) (l : TokenBytesModel) → direct_bytes t ≡ Some l
     → added (file_by s) (left_after_edge last) t

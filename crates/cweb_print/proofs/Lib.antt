@@ -1,8 +1,6 @@
 pub mod Common
-pub mod WrittenPrefixes
 pub mod AppendedParts
 pub mod OverlappingEnds
-pub mod FlushedBytes
 pub mod Lasts
 pub mod Steps
 pub mod Bytes
@@ -11,9 +9,9 @@ pub mod Ranges
 pub mod MacroLines
 pub mod Prints
 pub mod DirectPrinting
-pub mod BufferedAdds
 pub mod ApartTable
 pub mod DirectEdges
 pub mod TokenReaderSteps
-pub mod Continued
 pub mod DirectPrefixes
+pub mod Buffering
+pub mod Continued

@@ -1,19 +1,10 @@
 -- Macros as ranges of token indices.
-use Rattle.cweb_print.proofs.Common.{◌≡◌, ◌≤◌, ◌<◌, ◌+◌, ◌-◌, ℕ, suc, Bool, true, false, cond, List, [], ◌∷◌, ◌++◌, refl, sym, ◌∙◌, ap, map, take, drop, length, slice_range, arith, get_or, subst, append_assoc, append-nil, flat_map, filter, All, slice_get, Some, drop-drop, take_at, drop_at, take_more, get_or-drop, length-drop, take-add, Class, Left, added, all_added, at_start, begin_by, file_by, is_apart, left_after_tokens, left_after_token, PartKind, Token, Defs, all_tokens, is_macro, numbers_from, numbers_where, Stored, Setting, macro_line, macro_lines, macros, replaced_in, tokens_of_part, and-false, slice_get_within}
-use Rattle.cweb_print.specs.declared.printer.class.Class.TheVariants as class
+use Rattle.cweb_print.proofs.Common.{◌≡◌, ◌≤◌, ◌<◌, ◌+◌, ◌-◌, ℕ, suc, Bool, true, false, cond, List, [], ◌∷◌, ◌++◌, refl, sym, ◌∙◌, ap, map, take, drop, length, slice_range, arith, get_or, subst, flat_map, filter, All, slice_get, Some, drop-drop, take_at, drop_at, take_more, get_or-drop, length-drop, take-add, Class, Left, added, all_added, at_start, left_after_tokens, left_after_token, PartKind, Token, all_tokens, is_macro, numbers_from, numbers_where, Stored, macro_line, macros, replaced_in, tokens_of_part, slice_get_within}
 use Rattle.cweb_print.proofs.Steps.{added-append, added-push, leaves-push}
 use Rattle.cweb_print.proofs.Ranges.{slice_get-or, slice_range-first}
 use Rattle.cweb_store.proofs.RangeLemmas.{range-none}
 use Rattle.cweb_store.specs.declared.parts.Part as declared
 use Rattle.cweb_store.specs.Parts.{Part}
-
-no_blank : (c : Class) → is_apart c Defs ≡ false
-no_blank class.LineStart = refl
-no_blank _ = refl
-
--- Defs prints the lines of all macros.
-pub defs-added : (s : Setting) (left : Left) → added (file_by s) left Defs ≡ begin_by left.class ++ macro_lines s
-defs-added s left = cc (and-false left.joined, no_blank left.class, append-nil (begin_by left.class ++ macro_lines s))
 
 -- The lines of ranges.
 abbrev pub lines : Stored → List declared.Part → List ℕ
@@ -98,16 +89,6 @@ pub one_added : (by : Class → Token → List ℕ) (ts : List Token) (a n : ℕ
     → slice_get ts n ≡ Some t → left ≡ left_after_tokens (slice_range ts a n)
     → all_added by at_start (slice_range ts a n) ++ added by left t ≡ all_added by at_start (slice_range ts a (n + 1))
 one_added by ts a n t left le is now = cc (added-push by (slice_range ts a n) t, range_more ts a n t le is)
-
-pub tokens_more : (by : Class → Token → List ℕ)
-    (ts : List Token) (a n : ℕ) (t : Token) (left : Left) (old mid new : List ℕ) → a ≤ n → slice_get ts n ≡ Some t
-    → left ≡ left_after_tokens (slice_range ts a n) → mid ≡ old ++ all_added by at_start (slice_range ts a n)
-    → new ≡ mid ++ added by left t → new ≡ old ++ all_added by at_start (slice_range ts a (n + 1))
-tokens_more by ts a n t left old mid new le is now before wrote =
-    cc (
-      append_assoc old (all_added by at_start (slice_range ts a n)) (added by left t),
-      one_added by ts a n t left le is now,
-    )
 
 pub left_more : (ts : List Token) (a n : ℕ) (t : Token) (left next : Left) → a ≤ n → slice_get ts n ≡ Some t
     → left ≡ left_after_tokens (slice_range ts a n) → next ≡ left_after_token left t

@@ -5,3 +5,5 @@ pub mod Classes
 pub mod EdgeSpacing
 pub mod DirectTokens
 pub mod BufferedPrinting
+pub mod Printables
+pub mod Buffered

@@ -1,9 +1,8 @@
 // The output buffer in front of a sink.
-ghost use Rattle.std.specs.Prelude.{◌≡◌, ◌≤◌, ◌<◌, ◌+◌, ◌^◌, ◌++◌, [], length, take, drop, IfOk};
+ghost use Rattle.std.specs.Prelude.{◌≡◌, ◌≤◌, ◌<◌, ◌+◌, ◌^◌, ◌++◌, [], length, take, drop, true, IfOk};
 ghost use Rattle.std.specs.Prelude.{IfErr, IsTrue, OnOk};
 ghost use Rattle.cweb_files.specs.surface.Frames.{KeepsSink};
 ghost use Rattle.cweb_print.specs.inner.Flushing.{FlushesPrefix};
-ghost use Rattle.cweb_print.specs.declared.buffer.TheConstants.{ROOM, SHORT};
 
 pub mod copying;
 
@@ -13,30 +12,31 @@ use std::alloc::{AllocError, Global};
 use std::boxed::BoxedSlice;
 use std::marker::Model;
 
-/// The size of the buffer. When no short string fits, it holds more than the 65,536 bytes that a sink may buffer
-/// itself, so such a sink writes them without a copy.
+/// The size of the buffer. A sink that buffers 65,536 bytes itself writes a full buffer without a copy.
 pub const ROOM: usize = 65_792;
 
-/// The longest string that counts as short.
-pub const SHORT: usize = 256;
-
 /// Printed bytes that no sink has yet. The buffer is allocated once and cannot grow.
+///
+/// It is a sink of its own: a string that doesn't fit is refused, and counted as a failed write.
 #[derive(Drop)]
 pub struct OutBuffer {
     /// ROOM bytes, whose first `used` ones are buffered.
     pub bytes: BoxedSlice<u8>,
     /// The number of buffered bytes. Code that writes after them adds to it.
     pub used: usize,
+    /// The number of refused strings.
+    pub failed: u64,
 }
 
 impl Model for OutBuffer {
     ghost use Rattle.std.specs.Prelude.{◌≡◌, ◌≤◌, ℕ, List, length, take};
     ghost use Rattle.std.specs.Box.{boxed_slice_items};
+    ghost use Rattle.cweb_print.specs.inner.Buffered.{Buffered};
     ghost use Rattle.cweb_print.specs.declared.buffer.TheConstants.{ROOM};
 
-    ghost Value = { List ℕ };
+    ghost Value = { Buffered };
 
-    ghost view = { λ g. take g.used (boxed_slice_items g.bytes) };
+    ghost view = { λ g. record { bytes = take g.used (boxed_slice_items g.bytes); failed = g.failed } };
 
     ghost invariant = { λ g. (length (boxed_slice_items g.bytes) ≡ ROOM) × (g.used ≤ ROOM) };
 }
@@ -44,19 +44,28 @@ impl Model for OutBuffer {
 impl OutBuffer {
     /// An empty buffer.
     pub fn new(alloc: Global) -> Result<OutBuffer, AllocError>
-        ensures { IfOk result (λ buffer. buffer ≡ []) }
+        ensures { IfOk result (λ buffer. buffer.bytes ≡ []) }
     {
         Ok(OutBuffer {
             bytes: Vec::from_elem(alloc, 0, ROOM)?.into_boxed_slice(),
             used: 0,
+            failed: 0,
         })
     }
 
     /// Empties the buffer.
     pub fn clear(&mut self)
-        ensures { self.new ≡ [] }
+        ensures { self.new.bytes ≡ [] }
     {
         self.used = 0;
+    }
+
+    /// Drops all bytes but the first `len` ones.
+    pub fn truncate(&mut self, len: usize)
+        requires { len ≤ length self.old.bytes }
+        ensures { self.new.bytes ≡ take len self.old.bytes }
+    {
+        self.used = len;
     }
 
     /// Writes the buffered bytes to a sink. After a fault, the bytes that weren't written stay buffered.
@@ -64,8 +73,8 @@ impl OutBuffer {
         requires { W.failed out.old + 1 < 2 ^ 64 }
         ensures keeps { KeepsSink W.Sink out.old out.new result }
         ensures moved { IsTrue (W.tells out.old)
-            → FlushesPrefix (W.written out.old) self.old (W.written out.new) self.new }
-        ensures empty { OnOk result (self.new ≡ []) }
+            → FlushesPrefix (W.written out.old) self.old.bytes (W.written out.new) self.new.bytes }
+        ensures empty { OnOk result (self.new.bytes ≡ []) }
     {
         match write_counted(out, &self.bytes[..self.used]) {
             Ok(()) => {
@@ -81,34 +90,33 @@ impl OutBuffer {
 
     // Removes the first bytes.
     fn drop_first(&mut self, count: usize)
-        requires { count ≤ length self.old }
-        ensures { self.new ≡ drop count self.old }
+        requires { count ≤ length self.old.bytes }
+        ensures { self.new.bytes ≡ drop count self.old.bytes }
     {
         self.bytes.rotate_left(count);
         self.used -= count;
     }
+}
 
-    /// Flushes the buffer, unless a short string fits. After a fault, the bytes that weren't written stay buffered.
-    pub fn make_room<W: Sink>(&mut self, out: &mut W) -> Result<(), SinkFault>
-        requires { W.failed out.old + 1 < 2 ^ 64 }
-        ensures keeps { KeepsSink W.Sink out.old out.new result }
-        ensures moved { IsTrue (W.tells out.old)
-            → FlushesPrefix (W.written out.old) self.old (W.written out.new) self.new }
-        ensures room { OnOk result (length self.new + SHORT ≤ ROOM) }
-    {
-        if self.used + SHORT <= ROOM {
-            return Ok(());
+impl Sink for OutBuffer {
+    ghost tells = { λ _. true };
+
+    ghost written = { λ b. b.bytes };
+
+    ghost failed = { λ b. b.failed };
+
+    #[inline(always)]
+    fn write(&mut self, piece: &[u8]) -> Result<usize, SinkFault> {
+        if self.used + piece.len() > ROOM {
+            self.failed += 1;
+            return Err(SinkFault);
         }
-        self.flush(out)
+        self.used = put_slice(self.bytes.as_mut_slice(), self.used, piece);
+        Ok(piece.len())
     }
 
-    /// Appends a string. The caller has made room for it.
-    #[inline(always)]
-    pub fn add(&mut self, text: &[u8])
-        requires { length self.old + length text.now ≤ ROOM }
-        ensures { self.new ≡ self.old ++ text.now }
-    {
-        self.used = put_slice(self.bytes.as_mut_slice(), self.used, text);
+    fn failures(&self) -> u64 {
+        self.failed
     }
 }
 

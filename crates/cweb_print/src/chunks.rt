@@ -1,25 +1,52 @@
 // Writes byte chunks in order.
-ghost use Rattle.std.specs.Prelude.{◌≡◌, ◌<◌, ◌+◌, ◌^◌, flat_map};
+ghost use Rattle.std.specs.Prelude.{◌≡◌, ◌<◌, ◌+◌, ◌^◌, ◌++◌};
 ghost use Rattle.cweb_files.specs.inner.Appends.{Appends};
+ghost use Rattle.cweb_print.specs.inner.Flushing.{blank_where};
 
 use cweb_files::{Sink, SinkFault, write_all};
 
 /// Writes a whole chunk, in as many writes as needed. After a fault, a prefix of it is written.
+#[inline(always)]
 pub fn write_chunk<W: Sink>(out: &mut W, piece: &[u8]) -> Result<(), SinkFault>
     requires { W.failed out.old + 1 < 2 ^ 64 }
     ensures wrote { Appends W.Sink out.old out.new piece.now result }
 {
-    write_all(out, piece)
+    if piece.is_empty() {
+        return Ok(());
+    }
+    let n = out.write(piece)?;
+    // a buffer takes all of it
+    if n == piece.len() {
+        return Ok(());
+    }
+    write_all(out, &piece[n..])
 }
 
-/// Writes chunks in order. After a fault, a prefix of them is written.
-pub fn write_chunks<W: Sink>(out: &mut W, pieces: &[&[u8]]) -> Result<(), SinkFault>
+/// Writes a blank, if one is wanted.
+#[inline(always)]
+pub fn write_blank<W: Sink>(out: &mut W, is_wanted: bool) -> Result<(), SinkFault>
     requires { W.failed out.old + 1 < 2 ^ 64 }
-    ensures wrote { Appends W.Sink out.old out.new
-        (flat_map (λ piece. piece.now) pieces.now) result }
+    ensures wrote { Appends W.Sink out.old out.new (blank_where is_wanted) result }
 {
-    'pieces: for piece in pieces {
-        write_chunk(out, piece)?;
+    if is_wanted {
+        write_chunk(out, b" ")
+    } else {
+        Ok(())
     }
-    Ok(())
+}
+
+/// Writes three chunks in order. After a fault, a prefix of them is written.
+#[inline(always)]
+pub fn write_three<W: Sink>(
+    out: &mut W,
+    first: &[u8],
+    second: &[u8],
+    third: &[u8],
+) -> Result<(), SinkFault>
+    requires { W.failed out.old + 1 < 2 ^ 64 }
+    ensures wrote { Appends W.Sink out.old out.new (first.now ++ (second.now ++ third.now)) result }
+{
+    write_chunk(out, first)?;
+    write_chunk(out, second)?;
+    write_chunk(out, third)
 }

@@ -7,9 +7,6 @@ mod buffer;
 // byte chunks, written in order
 mod chunks;
 
-// short byte strings in an array
-mod short;
-
 // tokens, appended to a sink or to its buffer
 mod printer;
 

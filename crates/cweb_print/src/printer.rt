@@ -13,17 +13,14 @@ ghost use Rattle.cweb_print.specs.surface.Printed.{setting_of};
 
 pub mod buffered;
 pub mod class;
-pub mod defines;
 pub mod direct_range;
 pub mod edges;
-pub mod finishing;
 pub mod left;
 pub mod macros;
 pub mod mark;
 pub mod plain;
-pub mod rare;
 
-use crate::chunks::write_chunk;
+use crate::chunks::{write_blank, write_chunk};
 use crate::printer::class::Class;
 use crate::printer::left::Left;
 use crate::printer::macros::write_macros;
@@ -99,7 +96,7 @@ impl<'a> Printer<'a> {
         if self.left.drops(token) {
             return Ok(());
         }
-        write_chunk(out, self.left.separator(token))?;
+        write_blank(out, self.left.class.is_apart(token))?;
         self.write_placed(token, out)?;
         write_plain(self.store, token, out)
     }

@@ -17,7 +17,7 @@ impl<'a> Expander<'a> {
         ensures setting { setting_of printer.new ≡ setting_of printer.old }
         ensures prints { PrintsPrefix printer.old printer.new
             (left self.old.store.now self.old.frames.items)
-            (left self.old.store.now self.new.frames.items) buffer.old buffer.new }
+            (left self.old.store.now self.new.frames.items) buffer.old.bytes buffer.new.bytes }
     {
         let store = self.store;
         'frames: while let Some(frame) = self.frames.last_mut() {

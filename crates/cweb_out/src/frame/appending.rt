@@ -18,7 +18,7 @@ impl<'a> Frame<'a> {
     ) -> bool
         requires { FrameIsWithin store.now self.old }
         ensures prints { PrintsFrame store.now
-            self.old self.new printer.old printer.new buffer.old buffer.new }
+            self.old self.new printer.old printer.new buffer.old.bytes buffer.new.bytes }
         ensures ended { result ≡ true → suffix store.now self.new ≡ [] }
         ensures goes_on { result ≡ false → suffix store.now self.new ≢ [] }
     {
@@ -44,7 +44,7 @@ impl<'a> Frame<'a> {
         ensures started { self.new.defs ≡ false }
         ensures rest { self.new.rest ≡ self.old.rest }
         ensures prints { PrintsFrame store.now
-            self.old self.new printer.old printer.new buffer.old buffer.new }
+            self.old self.new printer.old printer.new buffer.old.bytes buffer.new.bytes }
     {
         if self.part.first < self.part.after {
             self.part.first = printer.append_range(store, self.part, buffer);

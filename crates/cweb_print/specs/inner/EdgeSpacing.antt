@@ -1,5 +1,7 @@
 -- Blanks between direct tokens, from their edges.
-use Rattle.std.specs.Prelude.{ℕ, List, Bool, true, false, ◌||◌, ◌&&◌, not, codes, if◌then◌else◌}
+use Rattle.std.specs.Prelude.{ℕ, List, Bool, true, false, ◌||◌, ◌&&◌, not, codes, if◌then◌else◌, slice_index_or}
+use Rattle.cweb_store.specs.Calls.{Stored}
+use Rattle.cweb_store.specs.Parts.{Token, all_tokens}
 use Rattle.cweb_texts.specs.inner.Edges.{TokenBytesModel}
 use Rattle.cweb_texts.specs.declared.edges.Edge.{Edge}
 use Rattle.cweb_texts.specs.declared.edges.Edge.TheVariants as edge_kind
@@ -53,3 +55,7 @@ edge_ends_line b = false
 -- The bytes in a macro, where a newline is preceded by a backslash.
 abbrev pub continued_by : TokenBytesModel → List ℕ
 continued_by l = if edge_ends_line l.edge then codes " \\\n" else l.string
+
+-- The token at an index, which is below their number.
+abbrev pub token_at : Stored → ℕ → Token
+token_at w number = slice_index_or (all_tokens w.parts) number Token.Blank

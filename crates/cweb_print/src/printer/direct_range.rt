@@ -36,7 +36,7 @@ impl<'a> Printer<'a> {
             (left_in_printer self.new) }
         ensures prints { PrintsBy self.old
             (slice_range (all_tokens store.now.parts) part.first result)
-            buffer.old buffer.new }
+            buffer.old.bytes buffer.new.bytes }
     {
         if self.left.joined {
             return part.first;

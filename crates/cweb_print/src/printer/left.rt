@@ -4,7 +4,6 @@ ghost use Rattle.cweb_store.specs.surface.TokenModels.{token_model};
 ghost use Rattle.cweb_print.specs.Printing.{stays_joined};
 ghost use Rattle.cweb_store.specs.Parts.{is_layout};
 ghost use Rattle.cweb_print.specs.surface.Classes.{at_start, is_dropped, left_after_token};
-ghost use Rattle.cweb_print.specs.inner.Classes.{separator};
 
 use crate::printer::class::Class;
 use cweb_store::Token;
@@ -32,17 +31,6 @@ impl Left {
         ensures { result ≡ is_dropped self (token_model token.now) }
     {
         self.joined && is_layout(token)
-    }
-
-    /// The blank before a token, or nothing.
-    pub fn separator(self, token: &Token<'_>) -> &'static [u8]
-        ensures { result.now ≡ separator self.class (token_model token.now) }
-    {
-        if self.class.is_apart(token) {
-            b" "
-        } else {
-            b""
-        }
     }
 
     /// The state after a token.

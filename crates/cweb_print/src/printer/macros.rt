@@ -1,19 +1,25 @@
 // Writes macro lines to a sink.
-ghost use Rattle.std.specs.Prelude.{◌≡◌, ◌≤◌, ◌<◌, ◌+◌, ◌^◌, ◌++◌, length, slice_range};
+ghost use Rattle.std.specs.Prelude.{◌≡◌, ◌≤◌, ◌<◌, ◌+◌, ◌^◌, ◌++◌, length, map, IfOk};
 ghost use Rattle.cweb_files.specs.inner.Appends.{Appends};
 ghost use Rattle.cweb_store.specs.surface.TokenModels.{token_model};
 ghost use Rattle.cweb_store.specs.Parts.{all_tokens};
+ghost use Rattle.cweb_store.specs.inner.DirectBytes.{direct_bytes};
 ghost use Rattle.cweb_print.specs.Printing.{macro_line, macros, replaced_in};
 ghost use Rattle.cweb_print.specs.inner.Classes.{added, all_added, continuation_bytes, macro_by};
-ghost use Rattle.cweb_print.specs.surface.Classes.{at_start};
+ghost use Rattle.cweb_print.specs.surface.Classes.{at_start, left_after_token};
 ghost use Rattle.cweb_print.specs.surface.TokenRanges.{tokens_of_part};
+ghost use Rattle.cweb_print.specs.inner.EdgeSpacing.{continued_by, edge_is_apart, token_at};
+ghost use Rattle.cweb_print.specs.inner.Flushing.{blank_where};
+ghost use Rattle.cweb_texts.specs.inner.Edges.{token_bytes_model};
 ghost use Rattle.std.specs.Prelude.{flat_map};
 
-use crate::chunks::write_chunk;
+use crate::chunks::{write_blank, write_chunk};
+use crate::printer::class::Class;
+use crate::printer::edges::{class_after_edge, edge_is_apart, edge_of_class};
 use crate::printer::left::Left;
 use crate::printer::plain::write_plain;
 use cweb_files::{Sink, SinkFault};
-use cweb_store::{Part, Store, Token};
+use cweb_store::{Edge, Part, Store, Token, TokenBytes, TokenReader};
 
 /// Writes the lines of all macros, in order.
 #[inline(never)]
@@ -49,16 +55,82 @@ fn write_macro_tokens<W: Sink>(store: &Store, part: Part, out: &mut W) -> Result
         (all_added (macro_by (replaced_in store.now)) at_start
         (tokens_of_part store.now part)) result }
 {
+    let token_reader = store.token_reader();
     let mut left = Left::start();
     'tokens: for number in part.first..part.after {
-        let token = store.token(number);
-        write_macro_token(store, left, &token, out)?;
-        left = left.after(&token);
+        left = write_macro_token(store, &token_reader, left, number, out)?;
     }
     Ok(())
 }
 
+// Writes a token and returns the state after it.
+#[inline(always)]
 fn write_macro_token<W: Sink>(
+    store: &Store,
+    token_reader: &TokenReader<'_>,
+    left: Left,
+    number: u32,
+    out: &mut W,
+) -> Result<Left, SinkFault>
+    requires count { W.failed out.old + 1 < 2 ^ 64 }
+    requires reader { token_reader.now ≡ map direct_bytes (all_tokens store.now.parts) }
+    requires within { number < length (all_tokens store.now.parts) }
+    ensures next { IfOk result (λ next. next ≡ left_after_token left (token_at store.now number)) }
+    ensures wrote { Appends W.Sink out.old out.new
+        (added (macro_by (replaced_in store.now)) left (token_at store.now number)) result }
+{
+    if let (false, Some(direct)) = (left.joined, token_reader.direct(number)) {
+        write_direct(left.class, direct, out)?;
+        return Ok(Left {
+            class: class_after_edge(direct.edge),
+            joined: false,
+        });
+    }
+    write_other(store, left, number, out)
+}
+
+// Fast path: writes a token that is printed as its own bytes.
+#[inline(always)]
+fn write_direct<W: Sink>(class: Class, direct: TokenBytes<'_>, out: &mut W) -> Result<(), SinkFault>
+    requires { W.failed out.old + 1 < 2 ^ 64 }
+    ensures wrote { Appends W.Sink out.old out.new
+        (blank_where (edge_is_apart class direct.entry.edge) ++ continued_by (token_bytes_model direct.entry)) result }
+{
+    write_blank(out, edge_is_apart(edge_of_class(class), direct.edge))?;
+    write_chunk(out, continued_bytes(direct))
+}
+
+// A newline in a macro becomes a backslash and a newline.
+#[inline(always)]
+fn continued_bytes(direct: TokenBytes<'_>) -> &[u8]
+    ensures { result.now ≡ continued_by (token_bytes_model direct.entry) }
+{
+    match direct.edge {
+        Edge::LineEnd => b" \\\n",
+        _ => direct.string,
+    }
+}
+
+// Slow path. It is apart, so that the loop above needs fewer registers.
+#[inline(never)]
+fn write_other<W: Sink>(
+    store: &Store,
+    left: Left,
+    number: u32,
+    out: &mut W,
+) -> Result<Left, SinkFault>
+    requires count { W.failed out.old + 1 < 2 ^ 64 }
+    requires within { number < length (all_tokens store.now.parts) }
+    ensures next { IfOk result (λ next. next ≡ left_after_token left (token_at store.now number)) }
+    ensures wrote { Appends W.Sink out.old out.new
+        (added (macro_by (replaced_in store.now)) left (token_at store.now number)) result }
+{
+    let token = store.token(number);
+    write_spaced(store, left, &token, out)?;
+    Ok(left.after(&token))
+}
+
+fn write_spaced<W: Sink>(
     store: &Store,
     left: Left,
     token: &Token<'_>,
@@ -71,7 +143,7 @@ fn write_macro_token<W: Sink>(
     if left.drops(token) {
         return Ok(());
     }
-    write_chunk(out, left.separator(token))?;
+    write_blank(out, left.class.is_apart(token))?;
     write_chunk(out, continued(token))?;
     write_plain(store, token, out)
 }

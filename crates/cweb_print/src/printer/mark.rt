@@ -3,14 +3,14 @@ ghost use Rattle.std.specs.Prelude.{◌≡◌, ◌<◌, ◌+◌, ◌^◌, ◌++�
 ghost use Rattle.std.specs.List.{list_any};
 ghost use Rattle.cweb_files.specs.inner.Appends.{Appends};
 ghost use Rattle.cweb_print.specs.Printing.{mark_line, quoted, quoted_byte};
-ghost use Rattle.cweb_print.specs.inner.PrintParts.{wants_backslash};
+ghost use Rattle.cweb_print.specs.inner.PrintParts.{file_name_end, wants_backslash};
 
-use crate::chunks::{write_chunk, write_chunks};
+use crate::chunks::{write_chunk, write_three};
 use cweb_files::{Sink, SinkFault};
 use itoa::Buffer;
 
 /// Writes `begin` and then a line mark.
-#[inline(never)]
+#[inline(always)]
 pub(crate) fn write_mark<W: Sink>(
     begin: &[u8],
     name: &[u8],
@@ -20,44 +20,37 @@ pub(crate) fn write_mark<W: Sink>(
     requires { W.failed out.old + 1 < 2 ^ 64 }
     ensures wrote { Appends W.Sink out.old out.new (begin.now ++ mark_line name.now line) result }
 {
-    if has_quotable(name) {
-        return write_quoted_mark(begin, name, line, out);
-    }
     let mut digits = Buffer::new();
-    write_chunks(
-        out,
-        &[
-            begin,
-            b"#line ",
-            digits.format(line).as_bytes(),
-            b" \"",
-            name,
-            b"\"\n",
-        ],
-    )
+    write_three(out, begin, b"#line ", digits.format(line).as_bytes())?;
+    write_file_name(name, out)
 }
 
-// Writes a mark whose file name has a quote or a backslash, which is rare.
-#[inline(never)]
-fn write_quoted_mark<W: Sink>(
-    begin: &[u8],
-    name: &[u8],
-    line: u32,
-    out: &mut W,
-) -> Result<(), SinkFault>
+// Writes the end of a mark, from the blank after the line number on.
+#[inline(always)]
+fn write_file_name<W: Sink>(name: &[u8], out: &mut W) -> Result<(), SinkFault>
     requires { W.failed out.old + 1 < 2 ^ 64 }
-    ensures wrote { Appends W.Sink out.old out.new (begin.now ++ mark_line name.now line) result }
+    ensures wrote { Appends W.Sink out.old out.new (file_name_end name.now) result }
 {
-    let mut digits = Buffer::new();
-    write_chunks(
-        out,
-        &[begin, b"#line ", digits.format(line).as_bytes(), b" \""],
-    )?;
+    write_chunk(out, b" \"")?;
     write_quoted(name, out)?;
     write_chunk(out, b"\"\n")
 }
 
+// Few names have a quote or a backslash.
+#[inline(always)]
 fn write_quoted<W: Sink>(name: &[u8], out: &mut W) -> Result<(), SinkFault>
+    requires { W.failed out.old + 1 < 2 ^ 64 }
+    ensures wrote { Appends W.Sink out.old out.new (quoted name.now) result }
+{
+    if has_quotable(name) {
+        write_quoted_bytes(name, out)
+    } else {
+        write_chunk(out, name)
+    }
+}
+
+#[inline(never)]
+fn write_quoted_bytes<W: Sink>(name: &[u8], out: &mut W) -> Result<(), SinkFault>
     requires { W.failed out.old + 1 < 2 ^ 64 }
     ensures wrote { Appends W.Sink out.old out.new (quoted name.now) result }
 {
@@ -78,7 +71,7 @@ fn write_quoted_byte<W: Sink>(byte: u8, out: &mut W) -> Result<(), SinkFault>
     }
 }
 
-pub(crate) fn has_quotable(name: &[u8]) -> bool
+fn has_quotable(name: &[u8]) -> bool
     ensures { result ≡ list_any wants_backslash name.now }
 {
     name.iter().any(|byte| wants_backslash(*byte))

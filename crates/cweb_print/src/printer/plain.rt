@@ -7,7 +7,7 @@ ghost use Rattle.cweb_print.specs.Printing.{plain_bytes, word_byte, word_bytes};
 ghost use Rattle.cweb_print.specs.inner.PrintParts.{numbered_comment};
 ghost use Rattle.cweb_print.specs.Printing.{default_replacement, hex_digit, replaced_in};
 
-use crate::chunks::{write_chunk, write_chunks};
+use crate::chunks::{write_chunk, write_three};
 use cweb_files::{Sink, SinkFault};
 use cweb_store::{Store, Token};
 use itoa::Buffer;
@@ -72,7 +72,7 @@ fn has_high_byte(bytes: &[u8]) -> bool
     bytes.iter().any(|byte| *byte >= 128)
 }
 
-#[inline(never)]
+#[inline(always)]
 fn write_numbered<W: Sink>(
     before: &[u8],
     section: u32,
@@ -84,7 +84,7 @@ fn write_numbered<W: Sink>(
         (numbered_comment before.now section after.now) result }
 {
     let mut digits = Buffer::new();
-    write_chunks(out, &[before, digits.format(section).as_bytes(), after])
+    write_three(out, before, digits.format(section).as_bytes(), after)
 }
 
 /// Writes the bytes of a token. A use, Defs or line mark has none here.
@@ -100,10 +100,10 @@ pub(crate) fn write_plain<W: Sink>(
 {
     match token {
         Token::Word(bytes) => write_word(store, bytes, out),
-        Token::Number(bytes) => write_chunk(out, bytes),
-        Token::Literal(bytes) => write_chunk(out, bytes),
-        Token::Verbatim(bytes) => write_chunk(out, bytes),
-        Token::Punct(bytes) => write_chunk(out, bytes),
+        Token::Number(bytes)
+        | Token::Literal(bytes)
+        | Token::Verbatim(bytes)
+        | Token::Punct(bytes) => write_chunk(out, bytes),
         Token::Blank => write_chunk(out, b" "),
         Token::Newline => write_chunk(out, b"\n"),
         Token::Head(section) => write_numbered(b"/*", *section, b":*/", out),

@@ -18,7 +18,7 @@ tokens-preserved g c =
     added.setting added.moves added.keeps.tells added.keeps.failed added.keeps.beside added.prints
 
 pub returns-clause-prints : goal.returns-clause-prints
-returns-clause-prints g c = prints_all c.finish.new.out c.finish.new.buffer c.finish.result
+returns-clause-prints g c = prints_all c.finish.new.out c.finish.new.buffer.bytes c.finish.result
     (prints_prefix {now = c.append.new.self} c.tokens.invariant
     (record { store = c.append.ensures.store; plan = c.append.ensures.plan; valid = c.append.ensures.valid })
     c.append.ensures.setting c.append.ensures.prints)

@@ -8,7 +8,7 @@ invariant-frames l = record {
   plan : l.self.plan ≡ l.fn.self.plan;
   setting : setting_of l.printer ≡ setting_of l.fn.printer;
   prints : PrintsPrefix l.fn.printer l.printer (left l.store l.fn.self.frames.items)
-      (left l.store l.self.frames.items) l.fn.buffer l.buffer;
+      (left l.store l.self.frames.items) l.fn.buffer.bytes l.buffer.bytes;
 }
 
 abbrev pub decreases-frames : goal.decreases-frames

@@ -1,4 +1,5 @@
 use Rattle.cweb_print.proofs.Common.{◌∙◌, ap, arith, length, slice_range, subst, sym, take, List, ℕ, all_tokens, PrintsBy}
+use Rattle.cweb_print.specs.inner.Buffered.{Buffered}
 use Rattle.cweb_print.proofs.OverlappingEnds.{whole_again}
 use Rattle.cweb_print.proofs.printer.Printer.append_range.Goals as goal
 
@@ -26,6 +27,6 @@ returns-clause-prints c =
     let ts = slice_range (all_tokens c.args.store.now.parts) c.args.part.first run.result.number in
     let whole = whole_again s.bytes.items.items run.new.bytes s.bytes.items.len
     (omega (arith, run.ensures.room.0, c.buffer.invariant.0, s.bytes.items.ok.0)) in
-    subst (λ (u : List ℕ). PrintsBy c.args.self.now ts c.args.buffer.now (take run.result.used u))
+    subst (λ (u : List ℕ). PrintsBy c.args.self.now ts c.args.buffer.now.bytes (take run.result.used u))
     (sym whole) (subst (λ (u : List ℕ). PrintsBy c.args.self.now ts u (take run.result.used run.new.bytes))
-    (ap (take s.used) c.as_mut_slice.ensures.value ∙ c.buffer.view_is) run.ensures.prints)
+    (ap (take s.used) c.as_mut_slice.ensures.value ∙ ap (λ (b : Buffered). b.bytes) c.buffer.view_is) run.ensures.prints)

@@ -1,6 +1,5 @@
 use Rattle.cweb_print.proofs.Common.{◌≡◌, ◌++◌, ◌∙◌, ap, sym, List, ℕ, rules, print, file, left_in_printer, setting_of}
-use Rattle.cweb_print.proofs.WrittenPrefixes.{wrote_err}
-use Rattle.cweb_print.proofs.Prints.{adds_by}
+use Rattle.cweb_print.proofs.Prints.{adds_err}
 use Rattle.cweb_print.proofs.Steps.{file-end}
 use Rattle.cweb_print.proofs.printer.Printer.end.Goals as goal
 
@@ -10,10 +9,9 @@ returns-in_err-write_chunk-clause-ends g c = λ tells ts is.
     let expected : file s ts ≡ print s ts ++ c.begin_line.result.now =
     file-end s (left_in_printer c.args.self.now) ts is
     ∙ ap (λ (t : List ℕ). print s ts ++ t) (sym c.begin_line.ensures) in
-    adds_by (print s ts) (file s ts) (g.W.Sink.written c.args.out.now)
-    (g.W.Sink.written c.write_chunk.new.out) c.begin_line.result.now c.from_residual.result expected
-    (wrote_err (g.W.Sink.written c.args.out.now) (g.W.Sink.written c.write_chunk.new.out) c.begin_line.result.now
-    c.from_residual.result c.from_residual.ensures.0 (c.in_err-write_chunk.ensures.wrote.wrote tells))
+    adds_err (print s ts) (file s ts) (g.W.Sink.written c.args.out.now)
+    (g.W.Sink.written c.write_chunk.new.out) c.begin_line.result.now c.from_residual.result
+    c.from_residual.ensures.0 expected (c.in_err-write_chunk.ensures.wrote.wrote tells)
 
 pub returns-clause-ends : goal.returns-clause-ends
 returns-clause-ends g c = λ tells ts is.

@@ -1,6 +1,5 @@
 use Rattle.cweb_print.proofs.Common.{◌++◌, ◌∷◌, [], token_model, print, added, file_by, left_in_printer, setting_of}
-use Rattle.cweb_print.proofs.WrittenPrefixes.{wrote_err}
-use Rattle.cweb_print.proofs.Prints.{adds_by}
+use Rattle.cweb_print.proofs.Prints.{adds_err}
 use Rattle.cweb_print.proofs.Steps.{print-push}
 use Rattle.cweb_print.proofs.printer.Printer.write.Goals as goal
 
@@ -9,10 +8,9 @@ returns-in_err-write_token-clause-prints g c = λ tells ts is.
     let s = setting_of c.args.self.now in
     let left = left_in_printer c.args.self.now in
     let t = token_model c.args.token in
-    adds_by (print s ts) (print s (ts ++ t ∷ [])) (g.W.Sink.written c.args.out.now)
-    (g.W.Sink.written c.write_token.new.out) (added (file_by s) left t) c.from_residual.result (print-push s left ts t
-    is) (wrote_err (g.W.Sink.written c.args.out.now) (g.W.Sink.written c.write_token.new.out) (added (file_by s) left t)
-    c.from_residual.result c.from_residual.ensures.0 (c.in_err-write_token.ensures.wrote.wrote tells))
+    adds_err (print s ts) (print s (ts ++ t ∷ [])) (g.W.Sink.written c.args.out.now)
+    (g.W.Sink.written c.write_token.new.out) (added (file_by s) left t) c.from_residual.result
+    c.from_residual.ensures.0 (print-push s left ts t is) (c.in_err-write_token.ensures.wrote.wrote tells)
 
 pub returns-clause-prints : goal.returns-clause-prints
 returns-clause-prints g c = λ tells ts is.

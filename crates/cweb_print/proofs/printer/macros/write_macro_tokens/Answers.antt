@@ -1,7 +1,9 @@
-use Rattle.cweb_print.proofs.Common.{rules, ◌<◌, arith, Ok, slice_range, all_tokens, token_model, added, all_added, at_start, macro_by, replaced_in}
+use Rattle.cweb_print.proofs.Common.{rules, length, ◌<◌, arith, Ok, slice_range, all_tokens, added, all_added, at_start, macro_by, replaced_in}
 use Rattle.cweb_files.proofs.Appending.{appended, appended_none, appends_same, appends_then}
 use Rattle.cweb_print.proofs.AppendedParts.{second_until}
 use Rattle.cweb_print.proofs.MacroLines.{left_more, none_added, one_added, tokens_at}
+use Rattle.cweb_print.proofs.Ranges.{there}
+use Rattle.cweb_print.specs.inner.EdgeSpacing.{token_at}
 use Rattle.cweb_print.proofs.printer.macros.write_macro_tokens.Goals as goal
 
 pub tokens-init : goal.tokens-init
@@ -21,33 +23,35 @@ tokens-preserved g c =
     let ts = all_tokens w.parts in
     let first = c.args.part.first in
     let n = c.tokens.number in
-    let t = token_model c.token-token.result in
+    let t = token_at w n in
     let by = macro_by (replaced_in w) in
+    let within : n < length ts = omega (arith, c.tokens-test.true, c.tokens.invariant.end, c.requires.within) in
     record {
       from = omega arith;
       end = c.tokens.invariant.end;
-      left = left_more ts first n t c.tokens.left c.after-left.result c.tokens.invariant.from
-          c.token-token.ensures c.tokens.invariant.left c.after-left.ensures;
+      left = left_more ts first n t c.tokens.left c.in_ok-left.left c.tokens.invariant.from
+          (there w n within) c.tokens.invariant.left c.in_ok-left.ensures.next;
       appended = appends_same g.W.Sink c.args.out.now c.write_macro_token.new.out _ _ (Ok tt)
           (one_added by ts first n t c.tokens.left c.tokens.invariant.from
-          c.token-token.ensures c.tokens.invariant.left)
+          (there w n within) c.tokens.invariant.left)
           (appends_then g.W.Sink c.args.out.now c.tokens.out c.write_macro_token.new.out
           (all_added by at_start (slice_range ts first n)) (added by c.tokens.left t) tt (Ok tt)
           c.tokens.invariant.appended (appended g.W.Sink c.tokens.out c.write_macro_token.new.out
-          (added by c.tokens.left t) _ c.in_ok-write_macro_token.ensures.wrote));
+          (added by c.tokens.left t) _ c.in_ok-left.ensures.wrote));
     }
 
-pub returns-in_err-write_macro_token : goal.returns-in_err-write_macro_token
-returns-in_err-write_macro_token g c =
+pub returns-in_err-left : goal.returns-in_err-left
+returns-in_err-left g c =
     let w = c.args.store.now in
     let ts = all_tokens w.parts in
     let first = c.args.part.first in
     let n = c.tokens.number in
-    let t = token_model c.token-token.result in
-    let lt : n < c.args.part.after = omega (arith, c.tokens-test.true, c.tokens.invariant.end) in record {
+    let t = token_at w n in
+    let lt : n < c.args.part.after = omega (arith, c.tokens-test.true, c.tokens.invariant.end) in
+    let within : n < length ts = omega (arith, lt, c.requires.within) in record {
       wrote = second_until g.W.Sink c.args.out.now c.tokens.out c.write_macro_token.new.out _ _ _ _ tt _
           c.from_residual.result c.from_residual.ensures.0
           (tokens_at (macro_by (replaced_in w)) ts first n c.args.part.after t c.tokens.left c.tokens.invariant.from lt
-          c.requires.within c.token-token.ensures c.tokens.invariant.left)
-          c.tokens.invariant.appended c.in_err-write_macro_token.ensures.wrote;
+          c.requires.within (there w n within) c.tokens.invariant.left)
+          c.tokens.invariant.appended c.in_err-left.ensures.wrote;
     }

@@ -1,23 +1,27 @@
-use Rattle.cweb_print.proofs.Common.{rules, ◌≡◌, ◌++◌, ◌∙◌, ap, sym, List, ℕ, codes, decimal, mark_line, quoted}
-use Rattle.cweb_files.proofs.Appending.{appends_same}
-use Rattle.cweb_print.proofs.Bytes.{plain_name}
+use Rattle.cweb_print.proofs.Common.{◌≡◌, ◌++◌, ◌∙◌, ap, sym, List, ℕ, codes, decimal, append_assoc, mark_line}
+use Rattle.cweb_files.proofs.Appending.{appends_then, appends_until, appends_same}
+use Rattle.cweb_print.specs.inner.PrintParts.{file_name_end}
 use Rattle.cweb_print.proofs.printer.mark.write_mark.Goals as goal
 
--- The mark as its six chunks.
-in_six : (begin name digits : List ℕ) (line : ℕ) → digits ≡ decimal line → quoted name ≡ name →
-    begin ++ (codes "#line " ++ (digits ++ (codes " \"" ++ (name ++ codes "\"\n")))) ≡ begin ++ mark_line name line
-in_six begin name digits line is plain =
-    ap (λ (d : List ℕ). begin ++ (codes "#line " ++ (d ++ (codes " \"" ++ (name ++ codes "\"\n"))))) is
-    ∙ ap (λ (n : List ℕ). begin ++ (codes "#line " ++ (decimal line ++ (codes " \"" ++ (n ++ codes "\"\n")))))
-    (sym plain)
+-- The mark as its two parts.
+in_two : (begin name digits : List ℕ) (line : ℕ) → digits ≡ decimal line
+    → begin ++ mark_line name line ≡ (begin ++ (codes "#line " ++ digits)) ++ file_name_end name
+in_two begin name digits line is =
+    ap (λ (d : List ℕ). begin ++ (codes "#line " ++ (d ++ file_name_end name))) (sym is) ∙ simp append_assoc
+
+pub returns-in_err-write_three : goal.returns-in_err-write_three
+returns-in_err-write_three g c = record {
+  wrote = appends_until g.W.Sink c.args.out.now c.write_three.new.out _ _ (file_name_end c.args.name.now) _
+      c.from_residual.result c.from_residual.ensures.0
+      (in_two c.args.begin.now c.args.name.now c.as_bytes.result.now c.args.line
+      (c.as_bytes.ensures.value ∙ c.format.ensures.text)) c.in_err-write_three.ensures.wrote;
+}
 
 pub returns : goal.returns
 returns g c = record {
-  wrote =
-      let text = c.args.begin.now
-      ++ (codes "#line " ++ (c.as_bytes.result.now ++ (codes " \"" ++ (c.args.name.now ++ codes "\"\n")))) in
-      appends_same g.W.Sink c.args.out.now c.write_chunks.new.out text _ c.write_chunks.result
-      (in_six c.args.begin.now c.args.name.now c.as_bytes.result.now c.args.line
-      (c.as_bytes.ensures.value ∙ c.format.ensures.text) (plain_name c.args.name.now (search rules)))
-      c.write_chunks.ensures.wrote;
+  wrote = appends_same g.W.Sink c.args.out.now c.write_file_name.new.out _ _ c.write_file_name.result
+      (sym (in_two c.args.begin.now c.args.name.now c.as_bytes.result.now c.args.line
+      (c.as_bytes.ensures.value ∙ c.format.ensures.text)))
+      (appends_then g.W.Sink c.args.out.now c.write_three.new.out c.write_file_name.new.out _
+      (file_name_end c.args.name.now) _ _ c.in_ok-write_three.ensures.wrote c.write_file_name.ensures.wrote);
 }

@@ -1,0 +1,18 @@
+use Rattle.cweb_print.proofs.Common.{◌≤◌, ◌++◌, length, All, all_tokens}
+use Rattle.cweb_print.proofs.AppendedParts.{AppendedBefore}
+use Rattle.cweb_print.proofs.Buffering.{buffered_sink}
+use Rattle.cweb_print.proofs.MacroLines.{lines}
+use Rattle.cweb_print.specs.inner.Printables.{all_macro_lines, printable_bytes}
+use Rattle.cweb_print.specs.declared.printer.buffered.Printable.{Printable}
+use Rattle.cweb_print.proofs.printer.Printer.append_defs.Given as goal
+
+abbrev pub invariant-macros : goal.invariant-macros
+invariant-macros g l = record {
+  ordered : All (λ p. p.first ≤ p.after) l.parts;
+  within : All (λ p. p.after ≤ length (all_tokens l.self.store.now.parts)) l.parts;
+  appended : AppendedBefore (buffered_sink g.W.Sink) (l.fn.out, l.fn.buffer.bytes) (l.out, l.buffer.bytes)
+      (printable_bytes l.self Printable.LineStart ++ all_macro_lines l.self) (lines l.self.store.now l.parts);
+}
+
+abbrev pub decreases-macros : goal.decreases-macros
+decreases-macros g l = length l.parts
