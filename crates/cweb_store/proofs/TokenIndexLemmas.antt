@@ -1,5 +1,7 @@
 -- Indices of passing tokens: after an append, of a prefix, and of a suffix.
-use Rattle.cweb_store.proofs.Common.{◌≡◌, ◌≤◌, ◌<◌, ◌+◌, ℕ, zero, suc, Bool, true, false, cond, List, [], ◌∷◌, ◌++◌, length, take, drop, get_or, refl, sym, ◌∙◌, ap, subst, arith, if◌then◌else◌, Token, token_numbers, nat_lt}
+use Rattle.cweb_store.proofs.Common.{◌≡◌, ◌≤◌, ◌<◌, ◌+◌, ℕ, zero, suc, Bool, true, false, cond, List, [], ◌∷◌, ◌++◌, length, take, drop, get_or, refl, sym, ◌∙◌, ap, subst, arith, if◌then◌else◌, Token, is_defs, is_name_use, token_numbers, IsTokenIndex, nat_lt}
+use Rattle.cweb_store.specs.declared.tokens.token_index.TokenIndex.{TokenIndex}
+use Rattle.cweb_store.specs.inner.TokenIndexes.{AddsNumber}
 use Rattle.std.proofs.Common.{ltb, lt-ltb, one-add}
 use Rattle.std.specs.List.{prefix_len}
 use Rattle.std.specs.List.Sorted.{IsNonDecreasing, IsPartitionPoint}
@@ -9,6 +11,11 @@ pub numbers-push : (test : Token → Bool) (n : ℕ) (ts : List Token) (t : Toke
     → token_numbers test n (ts ++ t ∷ []) ≡ token_numbers test n ts ++ (if test t then (n + length ts) ∷ [] else [])
 numbers-push test n [] t = grind arith
 numbers-push test n (u ∷ us) t = grind (arith, numbers-push test (n + 1) us t, test u)
+
+pub index-push : (old new : TokenIndex) (n : ℕ) (ts : List Token) (t : Token) → IsTokenIndex old ts → n ≡ length ts
+    → AddsNumber old n t new → IsTokenIndex new (ts ++ t ∷ [])
+index-push old new n ts t are count adds =
+    grind (arith, numbers-push is_name_use 0 ts t, numbers-push is_defs 0 ts t)
 
 -- The indices ascend from the first token's on.
 from-cons : (n : ℕ) (xs : List ℕ) (k d : ℕ)
