@@ -25,10 +25,9 @@ pub use Rattle.std.specs.declared.alloc.Global.{Global}
 pub use Rattle.std.specs.declared.cmp.Ordering.TheVariants.{Equal}
 pub use Rattle.cweb_texts.specs.Edges.{first_is, is_operator, last_is}
 pub use Rattle.cweb_texts.specs.declared.edges.Edge.{Edge}
-pub use Rattle.cweb_texts.specs.declared.words.chains.Chains.{Chains}
 pub use Rattle.cweb_texts.specs.declared.words.key.Key.{Key}
 pub use Rattle.cweb_texts.specs.declared.words.word.Word.{Word}
-pub use Rattle.cweb_texts.specs.inner.ByteIds.{IsByteId, AreByteIds}
+pub use Rattle.cweb_texts.specs.inner.StringTables.{IsByteId, AreByteIds, IsStringTable}
 pub use Rattle.cweb_texts.specs.inner.Chains.{IsLink, AreChains}
 pub use Rattle.cweb_texts.specs.inner.Edges.{AreStoredEdges, IsStoredEdge, is_high, is_numeric, is_known_edge}
 pub use Rattle.cweb_texts.specs.inner.Edges.{punctuator_edge, punctuator_edge_by}

@@ -1,5 +1,5 @@
 -- What interning a word does, by where the word is found or added.
-use Rattle.cweb_texts.proofs.Common.{◌≡◌, ℕ, ◌∙◌, sym, ap, subst, total, true, false, ◌||◌, List, [], ◌∷◌, ◌++◌, map, length, Some, None, refl, arith, length-append, append-nil, map-append, or_comm, list_any-append, slice_get, bytes_eq, Vec, list_any, lookup, is_eq, nat_cmp, slice_cmp, Global, Word, Entries, AreBytes, FindsString, PushesWord, AreInterned, IsInserted, word_string, have_string, entry_word, StringTableModel, InternsWord, has_word, table_model}
+use Rattle.cweb_texts.proofs.Common.{◌≡◌, ℕ, ◌∙◌, sym, ap, subst, total, true, false, ◌||◌, List, [], ◌∷◌, ◌++◌, map, length, Some, None, refl, arith, length-append, append-nil, map-append, or_comm, list_any-append, slice_get, bytes_eq, Vec, list_any, lookup, is_eq, nat_cmp, slice_cmp, Global, Word, Entries, AreBytes, FindsString, PushesWord, AreInterned, IsInserted, word_string, have_string, entry_word, StringTableModel, AddsString, InternsWord, has_word, table_model}
 use Rattle.cweb_texts.specs.inner.Keys.{key_of}
 use Rattle.cweb_texts.specs.inner.Words.{AreMapped, DescribeStrings, InternsSorted, is_word}
 use Rattle.std.proofs.lemmas.Option.{slice_get_within}
@@ -54,6 +54,20 @@ pub interned-grow : (strings more : List (List ℕ)) (ws : List Word) (es : Entr
     → AreInterned (strings ++ more) ws es
 interned-grow strings more ws es interned =
     grind (arith, describes-grow strings more, mapped-grow strings more es interned.in_map)
+
+-- a string that is not interned
+pub string-keeps : (strings : List (List ℕ)) (ws : List Word) (es : Entries) (string : List ℕ) (number : ℕ)
+    → AreInterned strings ws es → number ≡ length strings
+    → AddsString (table_model strings ws es) string number (table_model (strings ++ string ∷ []) ws es)
+string-keeps strings ws es string number interned last = record {
+  more = string ∷ [];
+  grows = refl;
+  stored = get-last strings string number last;
+  words = λ q. ap (λ vs. list_any (bytes_eq q) (map entry_word es ++ vs))
+      (same-strings strings (string ∷ []) ws interned.in_table);
+  bytes = omega (arith, length-append string (let none : List ℕ = [] in none));
+  few = omega arith;
+}
 
 -- a word that is new
 new-keeps : (old : StringTableModel) (word : List ℕ) (number : ℕ) (new : StringTableModel) → has_word old word ≡ false
