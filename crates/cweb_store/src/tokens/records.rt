@@ -36,6 +36,7 @@ pub enum Record {
 const _: () = prove!(size_of::<Record>() == 8);
 
 /// The record of token `number`. Its string, its place or its index entry is stored. A refused call changes nothing.
+/// `reserve` and `push_reserved` are inlined here, which `push` is not.
 #[inline(always)]
 pub fn record_of(
     strings: &mut StringTable,
@@ -64,18 +65,21 @@ pub fn record_of(
         Token::Newline => Ok(Record::Newline),
         Token::Join => Ok(Record::Join),
         Token::Defs => {
-            token_index.defs.push(number)?;
+            token_index.defs.reserve(1)?;
+            token_index.defs.push_reserved(number);
             Ok(Record::Defs)
         }
         Token::Name(name) => {
-            token_index.uses.push(number)?;
+            token_index.uses.reserve(1)?;
+            token_index.uses.push_reserved(number);
             Ok(Record::Name(name))
         }
         Token::Head(section) => Ok(Record::Head(section)),
         Token::Tail(section) => Ok(Record::Tail(section)),
         Token::Mark(place) => {
+            places.reserve(1)?;
             let number = places.len() as u32;
-            places.push(place)?;
+            places.push_reserved(place);
             Ok(Record::Mark(number))
         }
     }
