@@ -1,5 +1,7 @@
 -- The laws of names and parts.
 use Rattle.cweb_store.proofs.Common.{◌≡◌, ℕ, zero, suc, ◌+◌, Bool, true, false, List, [], ◌∷◌, ◌++◌, Some, None, Option, length, take, refl, sym, ◌∙◌, ap, arith, append_assoc, append-nil, Ok, Err, bytes_eq, if◌then◌else◌, nat_eq, slice_get, option_map, option_and_then, fold, filter_map, list_any, starts_with, position_or_len, map-append, bytes_eq-Decides, list_any-append, How, Full, Prefix, NameId, NeverFull, PartKind, Occurrence, Name, Resolution, id, spellings, with_full_name, with_occurrence_name, names_from, names, beginning_from, beginning, the_one, resolved_among, resolutions_from, resolutions, resolved_at, Part, joined_where, Call, Occurs, Opens, Pushes, Drops, Closes, Transliterates, Contents, after_call, empty, defines_with_prefix, AbbreviationsStay, EarlierNamesDecide, FullNamesResolveToThemselves, JoiningConcatenates, OccurrencesAreThoseOfCalls, occurrence_of_call, take-append_seam}
+use Rattle.std.proofs.lemmas.List.{take-append-le}
+use Rattle.std.proofs.lemmas.Option.{slice_get_within}
 use Rattle.cweb_store.specs.laws.NameLaws.{NamesDecideResolutions}
 use Rattle.cweb_names.proofs.LongerLemmas.{beginning-step}
 use Rattle.cweb_names.proofs.OccurrenceLemmas.{Grows, names_from-grows, with_text-has}
@@ -21,9 +23,7 @@ get-append (x ∷ os) later (suc k) o h = get-append os later k o h
 
 take-before : (os later : List Occurrence) (k : ℕ) (o : Occurrence)
     → slice_get os k ≡ Some o → take k (os ++ later) ≡ take k os
-take-before [] later k o h = cc
-take-before (x ∷ os) later zero o h = refl
-take-before (x ∷ os) later (suc k) o h = ap (λ xs. x ∷ xs) (take-before os later k o h)
+take-before os later k o h = take-append-le k os later (omega (arith, slice_get_within os k o h))
 
 pub names_from-append : (i j : ℕ) (ns : List Name) (os later : List Occurrence)
     → j ≡ i + length os → names_from i ns (os ++ later) ≡ names_from j (names_from i ns os) later
@@ -161,11 +161,7 @@ occurrences-from c [] = sym (append-nil c.occurrences)
 occurrences-from c (Occurs o ∷ calls) =
     occurrences-from (after_call c (Occurs o)) calls
     ∙ append_assoc c.occurrences (o ∷ []) (filter_map occurrence_of_call calls)
-occurrences-from c (Opens kind ∷ calls) = occurrences-from (after_call c (Opens kind)) calls
-occurrences-from c (Pushes token ∷ calls) = occurrences-from (after_call c (Pushes token)) calls
-occurrences-from c (Drops ∷ calls) = occurrences-from (after_call c Drops) calls
-occurrences-from c (Closes ∷ calls) = occurrences-from (after_call c Closes) calls
-occurrences-from c (Transliterates r ∷ calls) = occurrences-from (after_call c (Transliterates r)) calls
+occurrences-from c (call ∷ calls) = occurrences-from (after_call c call) calls
 
 pub occurrences_are_those_of_calls : OccurrencesAreThoseOfCalls
 occurrences_are_those_of_calls calls = occurrences-from empty calls

@@ -18,13 +18,8 @@ none-before : (test : Token → Bool) (n k : ℕ) (ts : List Token)
 none-before test n zero ts from = refl
 none-before test n (suc k) [] from = refl
 none-before test n (suc k) (t ∷ ts) from =
-    let rest = token_numbers test (n + 1) ts in
     let next : n + suc k ≡ (n + 1) + k = omega arith in
-    (elim (test t) as (λ b.
-    BeginsFrom (n + suc k) (if b then n ∷ rest else rest) → (b || list_any test (take k ts)) ≡ false) [
-      | true ↦ λ low. absurd (let none : ⊥ = omega (arith, low) in none)
-      | false ↦ λ low. none-before test (n + 1) k ts (subst (λ m. BeginsFrom m rest) next low)
-    ]) from
+    grind (arith, next, test t, from, none-before test (n + 1) k ts)
 
 -- The token at the first number passes.
 first-passes : (test : Token → Bool) (n m : ℕ) (ts : List Token) (xs : List ℕ)

@@ -27,11 +27,7 @@ numbers-from : (test : Token → Bool) (n : ℕ) (ts : List Token) (k d : ℕ)
     → k < length (token_numbers test n ts) → n ≤ get_or (token_numbers test n ts) k d
 numbers-from test n [] k d h = absurd (let none : ⊥ = omega arith in none)
 numbers-from test n (t ∷ ts) k d h =
-    let rest = token_numbers test (n + 1) ts in
-    (elim (test t) as (λ b. k < length (if b then n ∷ rest else rest) → n ≤ get_or (if b then n ∷ rest else rest) k d) [
-      | true ↦ from-cons n rest k d (λ j l. omega (arith, numbers-from test (n + 1) ts j d l))
-      | false ↦ λ l. omega (arith, numbers-from test (n + 1) ts k d l)
-    ]) h
+    grind (arith, test t, from-cons n (token_numbers test (n + 1) ts), numbers-from test (n + 1) ts)
 
 pub numbers-rise : (test : Token → Bool) (n : ℕ) (ts : List Token) → IsNonDecreasing (token_numbers test n ts)
 numbers-rise test n [] = λ i j d le h. absurd (let none : ⊥ = omega arith in none)
