@@ -58,9 +58,7 @@ pub blank-push : (xs : List Token) (t : Token)
     → without_blank (xs ++ t ∷ []) ≡ (if is_blank t then xs else xs ++ t ∷ [])
 blank-push [] t = refl
 blank-push (x ∷ []) t = grind arith
-blank-push (x ∷ y ∷ ys) t = ap (λ us. x ∷ us) (blank-push (y ∷ ys) t)
-    ∙ (elim (is_blank t) as (λ b. x ∷ (if b then y ∷ ys else y ∷ ys ++ t ∷ [])
-    ≡ (if b then x ∷ y ∷ ys else x ∷ y ∷ ys ++ t ∷ [])) [ true ↦ refl | false ↦ refl ])
+blank-push (x ∷ y ∷ ys) t = grind (arith, is_blank t, blank-push (y ∷ ys) t)
 
 -- Whether the last token is a Blank.
 pub blank-dropped : (from : ℕ) (ts : List Token) (k : ℕ) (t : Token) → slice_get ts k ≡ Some t

@@ -68,27 +68,12 @@ numbers-cut test n zero bound ts e =
     }
 numbers-cut test n (suc k) bound [] e = record { prefix = refl; back = refl }
 numbers-cut test n (suc k) bound (t ∷ ts) e =
-    let rest = token_numbers test (n + 1) ts in
     let later = numbers-cut test (n + 1) k bound ts (omega arith) in
-    let i = prefix_len (λ x. nat_lt x bound) rest in
+    let i = prefix_len (λ x. nat_lt x bound) (token_numbers test (n + 1) ts) in
     let here : nat_lt n bound ≡ true = lt-ltb n bound (omega arith) in
     record {
-      prefix = elim (test t) as
-          (λ b. take (prefix_len (λ x. nat_lt x bound) (if b then n ∷ rest else rest)) (if b then n ∷ rest else rest)
-          ≡ (if b then n ∷ token_numbers test (n + 1) (take k ts) else token_numbers test (n + 1) (take k ts))) [
-            | true ↦
-                ap (λ b. take (cond b (1 + i) 0) (n ∷ rest)) here ∙ ap (λ j. take j (n ∷ rest)) (one-add i)
-                ∙ ap (λ xs. n ∷ xs) later.prefix
-            | false ↦ later.prefix
-          ];
-      back = elim (test t) as
-          (λ b. drop (prefix_len (λ x. nat_lt x bound) (if b then n ∷ rest else rest)) (if b then n ∷ rest else rest)
-          ≡ token_numbers test bound (drop k ts)) [
-            | true ↦
-                ap (λ b. drop (cond b (1 + i) 0) (n ∷ rest)) here ∙ ap (λ j. drop j (n ∷ rest)) (one-add i)
-                ∙ later.back
-            | false ↦ later.back
-          ];
+      prefix = grind (arith, test t, here, later.prefix, one-add i);
+      back = grind (arith, test t, here, later.back, one-add i);
     }
 
 pub token_index-take : (test : Token → Bool) (xs : List ℕ) (ts : List Token) (n i : ℕ) → xs ≡ token_numbers test 0 ts
