@@ -33,7 +33,7 @@ pub use Rattle.cweb_texts.specs.inner.Edges.{AreStoredEdges, IsStoredEdge, is_hi
 pub use Rattle.cweb_texts.specs.inner.Edges.{punctuator_edge, punctuator_edge_by}
 pub use Rattle.cweb_texts.specs.inner.Keys.{AreBytes, short_key, middle_key, long_key, hashed_key, home_bucket_of}
 pub use Rattle.cweb_texts.specs.inner.StringLists.{strings_from, AreEnds, string_start, IsFromStart, text_bytes}
-pub use Rattle.cweb_texts.specs.inner.StringLists.{string_at}
+pub use Rattle.cweb_texts.specs.inner.StringLists.{string_at, IsStringList}
 pub use Rattle.cweb_texts.specs.inner.StringTables.{StringTableModel, InternsWord, has_word, table_model, AddsString, TakesString, TakesWord}
 pub use Rattle.cweb_texts.specs.inner.Words.{word_string, have_string, DescribesString, DescribeStrings, FindsString}
 pub use Rattle.cweb_texts.specs.inner.Words.{PushesWord, compare_vecs, Entries, entry_word, IsInserted, AreMapped}

@@ -117,17 +117,7 @@ pub sorted-known : (strings : List (List ℕ)) (es more : Entries) (word : List 
     → AreMapped strings es → number ≡ unwrap_or (lookup (is_word word) es) next → (number ≡ next → ⊥)
     → IsInserted es word number more → InternsSorted strings es word number strings more
 sorted-known strings es more word number next mapped is other put =
-    (elim (lookup (is_word word) es) as (λ o. lookup (is_word word) es ≡ o → number ≡ unwrap_or o next
-    → InternsSorted strings es word number strings more) [
-      | Some n ↦ λ there g.
-          let found = find-word strings word es n there mapped in
-          record {
-            inserted = put;
-            stored = ap (slice_get strings) g ∙ found.stored;
-            grows = ap (λ b. if b then strings else strings ++ word ∷ []) (sym found.among);
-          }
-      | None ↦ λ there g. absurd (other g)
-    ]) refl is
+    grind (arith, lookup (is_word word) es, is, other, put, find-word strings word es number)
 
 -- Or it is the last string now.
 pub sorted-new : (strings : List (List ℕ)) (es more : Entries) (word : List ℕ) (number next : ℕ)
@@ -135,36 +125,31 @@ pub sorted-new : (strings : List (List ℕ)) (es more : Entries) (word : List �
     → number ≡ next → IsInserted es word number more
     → InternsSorted strings es word number (strings ++ word ∷ []) more
 sorted-new strings es more word number next mapped last is same put =
-    (elim (lookup (is_word word) es) as (λ o. lookup (is_word word) es ≡ o → number ≡ unwrap_or o next
-    → InternsSorted strings es word number (strings ++ word ∷ []) more) [
-      | Some n ↦ λ there g.
-          let below = slice_get_within strings n word (find-word strings word es n there mapped).stored in
-          absurd (let none : ⊥ = omega (arith, below, g, same, last) in none)
-      | None ↦ λ there g. record {
-        inserted = put;
-        stored = get-last strings word number (same ∙ last);
-        grows = ap (λ b. if b then strings else strings ++ word ∷ []) (sym (no-word word es there));
-      }
-    ]) refl is
+    grind (
+      arith,
+      lookup (is_word word) es,
+      is,
+      same,
+      last,
+      put,
+      no-word word es,
+      get-last strings word number,
+      find-word strings word es number,
+      slice_get_within strings number word,
+    )
 
 pub sorted-interned : (strings new : List (List ℕ)) (ws : List Word) (es more : Entries) (word : List ℕ) (number : ℕ)
     → AreInterned strings ws es → InternsSorted strings es word number new more → AreInterned new ws more
 sorted-interned strings new ws es more word number interned put =
-    (elim (list_any (bytes_eq word) (map entry_word es)) as (λ b.
-    new ≡ (if b then strings else strings ++ word ∷ []) → AreInterned new ws more) [
-      | true ↦ λ same. record {
-        in_table = subst (λ ts. DescribeStrings ts ws) (sym same) interned.in_table;
-        in_map = insert-mapped new word es more number put.stored
-            (subst (λ ts. AreMapped ts es) (sym same) interned.in_map) put.inserted;
-      }
-      | false ↦ λ same.
-          let grown = interned-grow strings (word ∷ []) ws es interned in
-          record {
-            in_table = subst (λ ts. DescribeStrings ts ws) (sym same) grown.in_table;
-            in_map = insert-mapped new word es more number put.stored
-                (subst (λ ts. AreMapped ts es) (sym same) grown.in_map) put.inserted;
-          }
-    ]) put.grows
+    grind (
+      arith,
+      list_any (bytes_eq word) (map entry_word es),
+      put.grows,
+      interned-grow strings (word ∷ []) ws es interned,
+      insert-mapped new word es more number put.stored,
+      put.inserted,
+      interned,
+    )
 
 -- A word that is found in the map adds nothing.
 found-keeps : (strings : List (List ℕ)) (ws : List Word) (es more : Entries) (word : List ℕ) (number : ℕ)
@@ -219,14 +204,13 @@ pub sorted-keeps : (strings new : List (List ℕ)) (ws : List Word) (es more : E
     → InternsSorted strings es word number new more
     → InternsWord (table_model strings ws es) word number (table_model new ws more)
 sorted-keeps strings new ws es more word number interned none put =
-    let old = table_model strings ws es in
-    (elim (list_any (bytes_eq word) (map entry_word es)) as (λ b.
-    list_any (bytes_eq word) (map entry_word es) ≡ b → new ≡ (if b then strings else strings ++ word ∷ [])
-    → InternsWord old word number (table_model new ws more)) [
-      | true ↦ λ among same. subst (λ ts. InternsWord old word number (table_model ts ws more)) (sym same)
-          (found-keeps strings ws es more word number among
-          (subst (λ ts. slice_get ts number ≡ Some word) same put.stored) put.inserted)
-      | false ↦ λ absent same. subst (λ ts. InternsWord old word number (table_model ts ws more)) (sym same)
-          (added-keeps strings ws es more word number interned absent none
-          (subst (λ ts. slice_get ts number ≡ Some word) same put.stored) put.inserted)
-    ]) refl put.grows
+    grind (
+      arith,
+      list_any (bytes_eq word) (map entry_word es),
+      put.grows,
+      put.stored,
+      put.inserted,
+      found-keeps strings ws es more word number,
+      added-keeps strings ws es more word number interned,
+      none,
+    )

@@ -89,6 +89,7 @@ impl StringList {
     }
 
     /// Drops all strings but the first `count`. It takes no memory.
+    #[tactic(auto, using(crate::proofs::StringListLemmas::place_is))]
     pub fn truncate(&mut self, count: usize)
         requires { count < length self.old }
         ensures { self.new ≡ take count self.old }
