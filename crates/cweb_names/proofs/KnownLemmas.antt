@@ -1,5 +1,5 @@
 -- A spelling is inserted with its number, or with the next one. Names by their first occurrences.
-use Rattle.cweb_names.proofs.Common.{◌≡◌, ℕ, zero, suc, ◌<◌, true, false, List, [], ◌∷◌, ◌++◌, Some, None, length, map, map-append, subst, slice_get, AllByRecursion, name_at, names_at, option_map, refl, sym, ◌∙◌, ap, arith, bytes_eq, unwrap_or, list_any, position_or_len, keys_of, lookup, insert_entry, is_at, length-map, NameId, Name, spellings, NameEntry, compare_bytes, IsNameMap}
+use Rattle.cweb_names.proofs.Common.{◌≡◌, ℕ, zero, suc, ◌<◌, true, false, List, [], ◌∷◌, ◌++◌, Some, length, map, map-append, subst, slice_get, AllByRecursion, name_at, names_at, option_map, refl, sym, ◌∙◌, ap, arith, bytes_eq, unwrap_or, list_any, position_or_len, keys_of, lookup, insert_entry, is_at, length-map, NameId, Name, spellings, NameEntry, compare_bytes, IsNameMap}
 use Rattle.std.specs.List.Sorted.{IsStrictlySortedBy}
 use Rattle.std.specs.Prelude.{slice_index_or}
 use Rattle.cweb_texts.specs.inner.StringLists.{string_at}

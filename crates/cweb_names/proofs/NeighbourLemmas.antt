@@ -1,5 +1,5 @@
 -- A name that is a proper prefix of another is a prefix of its successor.
-use Rattle.cweb_names.proofs.Common.{arith, ◌≡◌, ℕ, zero, suc, Bool, true, false, cond, ◌||◌, List, [], ◌∷◌, Some, map, filter, refl, sym, ◌∙◌, ap, nat_eq, bytes_eq, slice_get, starts_with, list_any, AllByRecursion, keys_of, lookup, insert_entry, is_at, match_ordering, is_eq, is_le, ordering_reverse, bytes_decides, nat_list_cmp_total, Less, Equal, Greater, is_eq-slice_cmp, NameId, Found, Name, spellings, is_prefix_of_another, NameEntry, compare_bytes, entry_has_prefix, found_of, is_several, next_begins, any_next, id_of_spelling, IsNameMap}
+use Rattle.cweb_names.proofs.Common.{arith, ◌≡◌, ℕ, zero, suc, Bool, true, false, cond, ◌||◌, List, [], ◌∷◌, Some, map, filter, refl, sym, ◌∙◌, ap, nat_eq, bytes_eq, slice_get, starts_with, list_any, AllByRecursion, keys_of, lookup, insert_entry, is_at, is_eq, is_le, ordering_reverse, bytes_decides, nat_list_cmp_total, Less, Greater, is_eq-slice_cmp, NameId, Found, Name, spellings, is_prefix_of_another, NameEntry, compare_bytes, entry_has_prefix, found_of, is_several, next_begins, any_next, id_of_spelling, IsNameMap}
 use Rattle.std.specs.List.Sorted.{IsStrictlySortedBy}
 use Rattle.cweb_names.proofs.PrefixLemmas.{none-begins, begins-le}
 use Rattle.cweb_names.proofs.NameLemmas.{bytes_eq-same, or-false, number-some, number-none}

@@ -1,5 +1,5 @@
 -- Spellings with a common prefix are adjacent in a sorted list.
-use Rattle.cweb_names.proofs.Common.{◌≡◌, ℕ, Bool, true, false, cond, ◌&&◌, List, [], ◌∷◌, map, filter, refl, sym, ◌∙◌, ap, subst, arith, eq-eqb, nat_eq, starts_with, AllByRecursion, keys_of, nat_cmp, is_le, slice_cmp, Less, Equal, eqb-true, nat_tests, Nothing, One, Several, NameEntry, compare_bytes, entry_has_prefix, ids_with_prefix, found_of, Found, if◌then◌else◌}
+use Rattle.cweb_names.proofs.Common.{◌≡◌, ℕ, Bool, true, false, ◌&&◌, List, [], ◌∷◌, filter, refl, sym, ◌∙◌, ap, subst, arith, eq-eqb, nat_eq, starts_with, AllByRecursion, keys_of, nat_cmp, is_le, slice_cmp, Less, Equal, eqb-true, nat_tests, Nothing, One, Several, NameEntry, compare_bytes, entry_has_prefix, ids_with_prefix, found_of, Found, if◌then◌else◌}
 use Rattle.std.specs.List.Sorted.{IsStrictlySortedBy}
 
 nat_same : (x : ℕ) → nat_cmp x x ≡ Equal

@@ -1,5 +1,5 @@
 -- White space in a spelling is single blanks between other bytes.
-use Rattle.cweb_names.proofs.Common.{arith, ◌≡◌, ℕ, Bool, true, false, ◌&&◌, not, List, [], ◌∷◌, ◌++◌, refl, ap, sym, ◌∙◌, if◌then◌else◌, filter, cond, eqb-true, eq-eqb}
+use Rattle.cweb_names.proofs.Common.{arith, ◌≡◌, ℕ, Bool, true, false, ◌&&◌, not, List, [], ◌∷◌, ◌++◌, refl, ap, sym, ◌∙◌, if◌then◌else◌, filter, eqb-true, eq-eqb}
 use Rattle.std.proofs.Common.{◌==◌, ◌⊎◌, ◌≢◌, inl, inr}
 use Rattle.std.specs.Prelude.{codes}
 use Rattle.std.specs.List.{list_all}

@@ -1,5 +1,5 @@
 -- Words in the sorted map.
-use Rattle.cweb_texts.proofs.Common.{arith, ◌≡◌, ℕ, true, false, cond, ◌||◌, List, [], ◌∷◌, ◌++◌, map, Some, None, refl, sym, subst, ◌∙◌, ap, slice_get, bytes_eq, Vec, list_any, lookup, insert_entry, is_eq, nat_cmp, slice_cmp, bytes_decides, Equal, Global, is_eq-slice_cmp, compare_vecs, Entries, AreMapped, IsInserted, entry_word, or_comm}
+use Rattle.cweb_texts.proofs.Common.{arith, ◌≡◌, ℕ, true, false, ◌||◌, List, [], ◌∷◌, ◌++◌, map, Some, None, refl, sym, subst, ◌∙◌, ap, slice_get, bytes_eq, Vec, list_any, lookup, insert_entry, is_eq, nat_cmp, slice_cmp, bytes_decides, Equal, Global, is_eq-slice_cmp, compare_vecs, Entries, AreMapped, IsInserted, entry_word, or_comm}
 use Rattle.cweb_texts.proofs.ListLemmas.{or-assoc}
 use Rattle.cweb_texts.proofs.StringListLemmas.{get-grow}
 

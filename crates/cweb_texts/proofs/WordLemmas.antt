@@ -1,5 +1,5 @@
 -- Interned words, and how many bytes strings have.
-use Rattle.cweb_texts.proofs.Common.{◌≡◌, ℕ, ◌+◌, true, false, ◌||◌, List, [], ◌∷◌, ◌++◌, refl, sym, ◌∙◌, ap, arith, bytes_eq, if◌then◌else◌, list_any, bytes_decides, list_any-append, total, with_word, or_comm}
+use Rattle.cweb_texts.proofs.Common.{◌≡◌, ℕ, ◌+◌, false, ◌||◌, List, [], ◌∷◌, ◌++◌, arith, bytes_eq, list_any, bytes_decides, list_any-append, total, with_word, or_comm}
 
 pub total-append : {A : Type 0} (f : A → ℕ) (xs ys : List A) → total f (xs ++ ys) ≡ total f xs + total f ys
 total-append f [] ys = omega arith

@@ -1,5 +1,5 @@
 use Rattle.cweb_texts.proofs.Common.{arith}
-use Rattle.cweb_texts.proofs.StringListLemmas.{IsPlace, place_is}
+use Rattle.cweb_texts.proofs.StringListLemmas.{place_is}
 use Rattle.cweb_texts.proofs.slices.StringSlices.string.Goals as goal
 
 pub bounds-self-inside-number : goal.bounds-self-inside-number

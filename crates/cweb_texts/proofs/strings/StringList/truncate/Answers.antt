@@ -1,7 +1,7 @@
 use Rattle.cweb_texts.proofs.Common.{◌≡◌, ◌<◌, ◌+◌, ℕ, List, drop, length, suc, take, sym, subst, ◌∙◌, ap, arith, AreStoredEdges, AreEnds, IsFromStart, string_start, strings_from}
 use Rattle.cweb_texts.proofs.EdgeLemmas.{known-take}
 use Rattle.cweb_texts.proofs.TruncationLemmas.{strings-cut, ends-are-cut}
-use Rattle.cweb_texts.proofs.StringListLemmas.{IsPlace, place_is, offsets-begin, offsets-length, offsets-take, start-take, strings-count}
+use Rattle.cweb_texts.proofs.StringListLemmas.{place_is, offsets-begin, offsets-take, start-take, strings-count}
 use Rattle.cweb_texts.proofs.strings.StringList.truncate.Goals as goal
 
 pub index-requires : goal.index-requires
