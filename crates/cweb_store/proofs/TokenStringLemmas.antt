@@ -1,5 +1,5 @@
 -- Strings in one list of bytes, and how many bytes tokens and strings have.
-use Rattle.cweb_store.proofs.Common.{◌≡◌, ℕ, zero, suc, ◌+◌, ◌<◌, ◌≤◌, List, [], ◌∷◌, ◌++◌, length, take, drop, refl, sym, ◌∙◌, ap, arith, length-append, append_assoc, append-nil, subst, flat_map, filter, bytes_eq, list_any, Token, total, token_strings, interned_token_bytes, AreSpansOf, filter-append, has_string, length-filter, count_by-le-length, Place, Record, AreRecords, InternsToken, StringIsWithin, token_of_record, tokens_of}
+use Rattle.cweb_store.proofs.Common.{◌≡◌, ℕ, zero, suc, ◌+◌, ◌<◌, ◌≤◌, Bool, List, [], ◌∷◌, ◌++◌, length, take, drop, refl, sym, ◌∙◌, ap, arith, length-append, append_assoc, append-nil, subst, flat_map, filter, bytes_eq, list_any, Token, total, token_strings, interned_token_bytes, AreSpansOf, filter-append, has_string, length-filter, count_by-le-length, Place, Record, AreRecords, InternsToken, StringIsWithin, token_of_record, tokens_of}
 use Rattle.std.proofs.lemmas.List.{take-map, take-append-drop}
 use Rattle.std.proofs.Math.Seq.{length-take-le}
 use Rattle.cweb_store.specs.declared.tokens.records.Record.TheVariants.{Number, Literal, Verbatim, Word, Punct}
@@ -146,9 +146,10 @@ truncate-are kept places rs n k all cut same =
       few = omega (arith, all.few, ap length kept_strings);
     }
 
+pub filter-few : {A : Type 0} (p : A → Bool) (xs : List A) → length (filter p xs) ≤ length xs
+filter-few p xs = omega (arith, length-filter p xs, count_by-le-length p xs)
+
 -- There are no more strings than tokens.
 pub strings-few : (kept : StringTableModel) (places : List Place) (rs : List Record) → AreTokens kept places rs
     → length kept.strings ≤ length (tokens_of kept.strings places rs)
-strings-few kept places rs all =
-    let tokens = tokens_of kept.strings places rs in
-    omega (arith, all.few, length-filter has_string tokens, count_by-le-length has_string tokens)
+strings-few kept places rs all = omega (arith, all.few, filter-few has_string (tokens_of kept.strings places rs))
