@@ -34,7 +34,7 @@ impl<'a> Model for TokenReader<'a> {
 }
 
 impl<'a> TokenReader<'a> {
-    /// The bytes of a direct token, or `None`.
+    /// The bytes of a direct token: one that is printed as its own bytes, whatever is to its left. `None` for others.
     #[inline(always)]
     pub fn direct(&self, number: u32) -> Option<TokenBytes<'a>>
         requires { number < length self.now }
