@@ -90,16 +90,10 @@ pub close-parts : (ts : List Token) (ranges : List PartRange) (o : Open) (places
     → parts_in ts (ranges ++ last_range o (length ts) ∷ []) None
     ≡ record { closed = all_parts (parts_in ts ranges (Some o)); current = None }
 close-parts ts ranges o places tied =
-    let last : slice_range ts o.first (length ts) ≡ drop o.first ts =
-    take_all (length ts - o.first) (drop o.first ts) (omega (arith, length-drop o.first ts)) in
-    λ i.
-    record {
-      closed = (map-append (closed_in ts) ranges (last_range o (length ts) ∷ []) ∙ ap (λ us.
-          let p : Part = record { kind = o.kind; tokens = us } in
-          map (closed_in ts) ranges ++ p ∷ []) last)
-          i;
-      current = None;
-    }
+    cc (
+      take_all (length ts - o.first) (drop o.first ts) (omega (arith, length-drop o.first ts)),
+      map-append (closed_in ts) ranges (last_range o (length ts) ∷ []),
+    )
 
 pub close-are : (ts : List Token) (ranges : List PartRange) (o : Open) (places more : ℕ)
     → ArePartRanges ts ranges (Some o) places → ArePartRanges ts (ranges ++ last_range o (length ts) ∷ []) None more
