@@ -82,15 +82,9 @@ pub abbreviations_begin_their_names : AbbreviationsBeginTheirNames
 abbreviations_begin_their_names os i o text there prefix is =
     let all = names os in
     let before = names_from 0 [] (take i os) in
-    let r = resolved_among before all o in
-    let at : slice_get (resolutions os) i ≡ Some r = resolutions-at 0 [] all os i o there in
-    let found : option_and_then (λ (n : NameId). option_map (λ (m : Name). m.text) (slice_get all n.0))
-    (elim r [ Ok n ↦ Some n | Err kind ↦ None ]) ≡ Some text =
-    sym (ap (λ (x : Option Resolution). option_and_then (λ (n : NameId). option_map (λ (m : Name). m.text)
-    (slice_get all n.0)) (elim x [ Some v ↦ elim v [ Ok m ↦ Some m | Err kind ↦ None ] | None ↦ None ])) at)
-    ∙ is in
-    standing-begins o.text all r text (λ n e. stored-begins o.text before all n
-    (prefix-grows i os) (sym (among-prefix before all o.text o.how o.is_file prefix) ∙ e)) found
+    standing-begins o.text all (resolved_among before all o) text (λ n e. stored-begins o.text before all n
+    (prefix-grows i os) (sym (among-prefix before all o.text o.how o.is_file prefix) ∙ e))
+    (cc (resolutions-at 0 [] all os i o there, is))
 
 differs : (j k : ℕ) → (j ≡ k → ⊥) → nat_eq j k ≡ false
 differs j k apart = grind (arith, eqb-true j k)

@@ -144,9 +144,12 @@ close-cut-are ts ranges o places more n tied le within =
 -- Closed parts cover all tokens.
 pub whole-tokens : (ts : List Token) (ranges : List PartRange) → IsWhole ts ranges
     → all_tokens (map (closed_in ts) ranges) ≡ ts
-whole-tokens ts ranges tied = sym (append-nil (all_tokens (map (closed_in ts) ranges)))
-    ∙ ap (λ us. all_tokens (map (closed_in ts) ranges) ++ us) (sym (drop-length ts))
-    ∙ closed-whole ranges ts 0 (length ts) tied.follow (omega arith)
+whole-tokens ts ranges tied =
+    cc (
+      append-nil (all_tokens (map (closed_in ts) ranges)),
+      drop-length ts,
+      closed-whole ranges ts 0 (length ts) tied.follow (omega arith),
+    )
 
 pub stored-ranges : (ts : List Token) (ranges : List PartRange) → IsWhole ts ranges
     → ranges ≡ ranges_from 0 (map (closed_in ts) ranges)

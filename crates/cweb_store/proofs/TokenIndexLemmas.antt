@@ -29,7 +29,7 @@ numbers-from test n [] k d h = absurd (let none : ⊥ = omega arith in none)
 numbers-from test n (t ∷ ts) k d h =
     grind (arith, test t, from-cons n (token_numbers test (n + 1) ts), numbers-from test (n + 1) ts)
 
-pub numbers-rise : (test : Token → Bool) (n : ℕ) (ts : List Token) → IsNonDecreasing (token_numbers test n ts)
+numbers-rise : (test : Token → Bool) (n : ℕ) (ts : List Token) → IsNonDecreasing (token_numbers test n ts)
 numbers-rise test n [] = λ i j d le h. absurd (let none : ⊥ = omega arith in none)
 numbers-rise test n (t ∷ ts) = grind (arith, test t, numbers-from test (n + 1) ts, numbers-rise test (n + 1) ts)
 
@@ -51,13 +51,13 @@ none-below test n bound [] le = refl
 none-below test n bound (t ∷ ts) le = grind (arith, test t, none-below test (n + 1) bound ts (omega arith))
 
 -- Numbers below a bound belong to the prefix, the others to the suffix.
-pub record AreCut (test : Token → Bool) (n k bound : ℕ) (ts : List Token) : Type 0 where
+record AreCut (test : Token → Bool) (n k bound : ℕ) (ts : List Token) : Type 0 where
   pub prefix : take (prefix_len (λ x. nat_lt x bound) (token_numbers test n ts)) (token_numbers test n ts)
       ≡ token_numbers test n (take k ts)
   pub back : drop (prefix_len (λ x. nat_lt x bound) (token_numbers test n ts)) (token_numbers test n ts)
       ≡ token_numbers test bound (drop k ts)
 
-pub numbers-cut : (test : Token → Bool) (n k bound : ℕ) (ts : List Token) → bound ≡ n + k → AreCut test n k bound ts
+numbers-cut : (test : Token → Bool) (n k bound : ℕ) (ts : List Token) → bound ≡ n + k → AreCut test n k bound ts
 numbers-cut test n zero bound ts e =
     let xs = token_numbers test n ts in
     let none = none-below test n bound ts (omega arith) in
@@ -76,9 +76,11 @@ numbers-cut test n (suc k) bound (t ∷ ts) e =
       back = grind (arith, test t, here, later.back, one-add i);
     }
 
-pub token_index-take : (test : Token → Bool) (xs : List ℕ) (ts : List Token) (n i : ℕ) → xs ≡ token_numbers test 0 ts
-    → (IsNonDecreasing xs → i ≡ prefix_len (λ x. nat_lt x n) xs) → take i xs ≡ token_numbers test 0 (take n ts)
-token_index-take test xs ts n i are count =
+-- The entries before the first one that isn't below n, and those from it on.
+pub index-cut : (test : Token → Bool) (xs : List ℕ) (ts : List Token) (n i : ℕ) → xs ≡ token_numbers test 0 ts
+    → (IsNonDecreasing xs → i ≡ prefix_len (λ x. nat_lt x n) xs)
+    → (take i xs ≡ token_numbers test 0 (take n ts)) × (drop i xs ≡ token_numbers test n (drop n ts))
+index-cut test xs ts n i are count =
     grind (
       arith,
       count (subst IsNonDecreasing (sym are) (numbers-rise test 0 ts)),
