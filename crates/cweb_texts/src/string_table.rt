@@ -19,6 +19,7 @@ const BYTES: usize = 256;
 
 /// Strings, and interned words, numbers and punctuators among them. A word is in a hash table, or in a sorted map where
 /// the table does not take it: so no choice of words makes this slow. One of a single byte is found by that byte alone.
+#[derive(Drop)]
 pub struct StringTable {
     alloc: Global,
     strings: StringList,
@@ -26,19 +27,6 @@ pub struct StringTable {
     sorted: BTreeMap<Vec<u8>, u32>,
     // for each byte 0, or one more than the number of the interned string that is this byte; empty at first
     byte_ids: Vec<u32>,
-}
-
-// One call drops all fields, so each holder's code is shorter.
-impl Drop for StringTable {
-    fn drop(self) {
-        let StringTable {
-            alloc: _,
-            strings: _,
-            table: _,
-            sorted: _,
-            byte_ids: _,
-        } = self;
-    }
 }
 
 impl Model for StringTable {

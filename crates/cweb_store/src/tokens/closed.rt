@@ -21,23 +21,12 @@ use cweb_texts::StringList;
 use std::marker::Model;
 
 /// Finished tokens as records, their strings, the places of the Marks, and an index of uses and Defs.
+#[derive(Drop)]
 pub struct ClosedTokens {
     pub(crate) strings: StringList,
     pub(crate) records: Vec<Record>,
     pub(crate) places: Vec<Place>,
     pub(crate) token_index: TokenIndex,
-}
-
-// One call frees it, not one per field.
-impl Drop for ClosedTokens {
-    fn drop(self) {
-        let ClosedTokens {
-            strings: _,
-            records: _,
-            places: _,
-            token_index: _,
-        } = self;
-    }
 }
 
 impl Model for ClosedTokens {

@@ -15,23 +15,12 @@ use std::alloc::{AllocError, Global};
 use std::marker::Model;
 
 /// Tokens as records, their strings, the places of the Marks, in order, and an index of uses and Defs.
+#[derive(Drop)]
 pub struct TokenList {
     strings: StringTable,
     records: Vec<Record>,
     places: Vec<Place>,
     token_index: TokenIndex,
-}
-
-// One call frees it, not one per field.
-impl Drop for TokenList {
-    fn drop(self) {
-        let TokenList {
-            strings: _,
-            records: _,
-            places: _,
-            token_index: _,
-        } = self;
-    }
 }
 
 impl Model for TokenList {
