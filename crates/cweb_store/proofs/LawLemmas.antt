@@ -1,5 +1,5 @@
 -- The laws of names and parts.
-use Rattle.cweb_store.proofs.Common.{◌≡◌, ℕ, zero, suc, ◌+◌, Bool, true, false, List, [], ◌∷◌, ◌++◌, Some, None, Option, length, take, refl, sym, ◌∙◌, ap, arith, append_assoc, append-nil, Ok, Err, bytes_eq, if◌then◌else◌, nat_eq, slice_get, option_map, option_and_then, fold, filter_map, list_any, starts_with, position_or_len, map-append, bytes_eq-Decides, list_any-append, How, Full, Prefix, NameId, NeverFull, PartKind, Occurrence, Name, Resolution, id, spellings, with_full_name, with_occurrence_name, names_from, names, beginning_from, beginning, the_one, resolved_among, resolutions_from, resolutions, resolved_at, Part, joined_where, Call, Occurs, Contents, after_call, empty, defines_with_prefix, AbbreviationsStay, EarlierNamesDecide, FullNamesResolveToThemselves, JoiningConcatenates, OccurrencesAreThoseOfCalls, occurrence_of_call, take-append_seam}
+use Rattle.cweb_store.proofs.Common.{◌≡◌, ℕ, zero, suc, ◌+◌, Bool, true, false, List, [], ◌∷◌, ◌++◌, Some, length, take, refl, sym, ◌∙◌, ap, arith, append_assoc, append-nil, Ok, Err, bytes_eq, if◌then◌else◌, nat_eq, slice_get, option_map, fold, filter_map, list_any, starts_with, position_or_len, map-append, bytes_eq-Decides, list_any-append, How, Full, Prefix, NeverFull, PartKind, Occurrence, Name, id, spellings, with_full_name, with_occurrence_name, names_from, names, beginning_from, beginning, the_one, resolved_among, resolutions_from, Part, joined_where, Call, Occurs, Contents, after_call, empty, defines_with_prefix, AbbreviationsStay, EarlierNamesDecide, FullNamesResolveToThemselves, JoiningConcatenates, OccurrencesAreThoseOfCalls, occurrence_of_call, take-append_seam}
 use Rattle.std.proofs.lemmas.List.{take-append-le}
 use Rattle.std.proofs.lemmas.Option.{slice_get_within}
 use Rattle.cweb_store.specs.laws.NameLaws.{NamesDecideResolutions}

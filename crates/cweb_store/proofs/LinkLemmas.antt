@@ -1,5 +1,5 @@
 -- Following the links visits exactly the wanted parts.
-use Rattle.cweb_store.proofs.Common.{◌||◌, nat_lt, list_any, is_of, has_head, NameId, ◌≡◌, ℕ, zero, suc, ◌+◌, ◌-◌, ◌≤◌, Bool, true, false, List, [], ◌∷◌, Option, Some, length, drop, ◌++◌, get_or, refl, sym, ◌∙◌, ap, subst, arith, length-drop, slice_get, if◌then◌else◌, take_all, PartKind, Unnamed, Named, Macro, PartRange, Resolution, is_wanted, followed, AreLinked, slice_range}
+use Rattle.cweb_store.proofs.Common.{◌||◌, nat_lt, list_any, is_of, has_head, NameId, ◌≡◌, ℕ, zero, suc, ◌+◌, ◌-◌, ◌≤◌, Bool, true, false, List, [], ◌∷◌, Option, Some, length, drop, ◌++◌, get_or, refl, sym, ◌∙◌, ap, arith, length-drop, slice_get, if◌then◌else◌, take_all, PartKind, Unnamed, Named, Macro, PartRange, Resolution, is_wanted, followed, AreLinked, slice_range}
 use Rattle.std.proofs.Common.{reverse, drop-cons}
 use Rattle.std.proofs.lemmas.List.{reverse-append}
 use Rattle.cweb_store.specs.declared.parts.iter.Wanted.{Wanted}

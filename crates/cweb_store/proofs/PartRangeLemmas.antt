@@ -1,5 +1,5 @@
 -- Changes of parts that are ranges of one list of tokens.
-use Rattle.cweb_store.proofs.Common.{◌≡◌, ℕ, ◌+◌, ◌-◌, ◌≤◌, ◌<◌, List, [], ◌∷◌, ◌++◌, Some, None, Option, map, length, take, drop, refl, sym, ◌∙◌, ap, subst, arith, append_assoc, append-nil, length-append, length-drop, option_map, IsSome, take-append-drop, take_all, map-append, flat_map-append, PartKind, PartRange, Token, Part, all_tokens, all_parts, with_pushed_token, too_many, ranges_from, IsWhole, closed_in, slice_range, Open}
+use Rattle.cweb_store.proofs.Common.{◌≡◌, ℕ, ◌+◌, ◌-◌, ◌≤◌, ◌<◌, List, [], ◌∷◌, ◌++◌, Some, None, Option, map, length, take, drop, refl, sym, ap, subst, arith, append_assoc, append-nil, length-append, length-drop, option_map, IsSome, take-append-drop, take_all, map-append, flat_map-append, PartKind, PartRange, Token, Part, all_tokens, all_parts, with_pushed_token, too_many, ranges_from, IsWhole, closed_in, slice_range, Open}
 use Rattle.std.proofs.Math.Seq.{drop-length, length-take-le}
 use Rattle.std.proofs.lemmas.List.{drop-drop, drop-append-le, take-append-le, drop-take, take-take}
 use Rattle.cweb_store.specs.inner.PartRanges.{last_range, open_in, parts_in, RangesFollow, ArePartRanges}

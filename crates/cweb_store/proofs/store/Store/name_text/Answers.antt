@@ -1,4 +1,4 @@
-use Rattle.cweb_store.proofs.Common.{◌≡◌, ◌<◌, ◌≤◌, length, get_or, sym, ◌∙◌, ap, arith, slice_get, option_map, occurrences_at}
+use Rattle.cweb_store.proofs.Common.{◌<◌, ◌≤◌, length, get_or, ◌∙◌, ap, arith, occurrences_at}
 use Rattle.cweb_names.specs.Names as spec
 use Rattle.cweb_names.proofs.OccurrenceTableLemmas.{occurrences-count}
 use Rattle.cweb_store.proofs.StoredLemmas.{first-string}

@@ -1,4 +1,4 @@
-use Rattle.cweb_store.proofs.Common.{◌≡◌, ◌+◌, ◌∙◌, ◌||◌, ◌∷◌, suc, true, false, not, if◌then◌else◌, length, drop, map, get_or, sym, ap, arith, list_any, PartRange, Unnamed, is_macro, is_c_part, is_use, is_used, closed_in, flag_of}
+use Rattle.cweb_store.proofs.Common.{◌≡◌, ◌+◌, ◌∙◌, ◌||◌, ◌∷◌, suc, if◌then◌else◌, length, drop, map, get_or, sym, ap, arith, list_any, PartRange, Unnamed, is_c_part, is_use, is_used, closed_in, flag_of}
 use Rattle.std.proofs.Common.{drop-cons}
 use Rattle.std.proofs.lemmas.List.{with_items_is}
 use Rattle.cweb_store.proofs.UseLemmas.{used-here}
