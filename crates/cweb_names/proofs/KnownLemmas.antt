@@ -1,5 +1,5 @@
 -- A spelling is inserted with its number, or with the next one. Names by their first occurrences.
-use Rattle.cweb_names.proofs.Common.{◌≡◌, ℕ, zero, suc, ◌<◌, true, false, List, [], ◌∷◌, ◌++◌, Some, None, length, map, map-append, subst, slice_get, AllByRecursion, name_at, names_at, option_map, refl, sym, ◌∙◌, ap, arith, bytes_eq, unwrap_or, list_any, position_or_len, keys_of, lookup, insert_entry, is_at, length-map, NameId, Name, spellings, NameEntry, compare_bytes, IsNameMap}
+use Rattle.cweb_names.proofs.Common.{◌≡◌, ℕ, zero, suc, ◌<◌, true, false, List, [], ◌∷◌, ◌++◌, Some, length, map, map-append, subst, slice_get, AllByRecursion, name_at, names_at, option_map, refl, sym, ◌∙◌, ap, arith, bytes_eq, unwrap_or, list_any, position_or_len, keys_of, lookup, insert_entry, is_at, length-map, NameId, Name, spellings, NameEntry, compare_bytes, IsNameMap}
 use Rattle.std.specs.List.Sorted.{IsStrictlySortedBy}
 use Rattle.std.specs.Prelude.{slice_index_or}
 use Rattle.cweb_texts.specs.inner.StringLists.{string_at}
@@ -38,25 +38,21 @@ pub known-old : (es : List NameEntry) (ns : List Name) (text : List ℕ) (next v
     → IsStrictlySortedBy compare_bytes (keys_of es) → v ≡ unwrap_or (lookup (is_at (compare_bytes text)) es) next
     → (v.0 ≡ next.0 → ⊥) → Stays es ns text v
 known-old es ns text next v known sorted is other =
-    (elim (lookup (is_at (compare_bytes text)) es) as (λ o. lookup (is_at (compare_bytes text)) es ≡ o
-    → v ≡ unwrap_or o next
-    → Stays es ns text v) [
-      | Some w ↦ λ there g. stays es ns text v known sorted (there ∙ ap (λ x. Some x) (sym g))
-      | None ↦ λ there g. absurd (other (ap (λ (x : NameId). x.0) g))
-    ]) refl is
+    grind (arith, lookup (is_at (compare_bytes text)) es, is, other, stays es ns text v known sorted)
 
 pub known-new : (es : List NameEntry) (ns : List Name) (text : List ℕ) (next v : NameId) → IsNameMap es ns
     → IsStrictlySortedBy compare_bytes (keys_of es) → v ≡ unwrap_or (lookup (is_at (compare_bytes text)) es) next
     → v.0 ≡ length ns → list_any (bytes_eq text) (spellings ns) ≡ false
 known-new es ns text next v known sorted is last =
-    (elim (lookup (is_at (compare_bytes text)) es) as (λ o. lookup (is_at (compare_bytes text)) es ≡ o
-    → v ≡ unwrap_or o next
-    → list_any (bytes_eq text) (spellings ns) ≡ false) [
-      | Some w ↦ λ there g.
-          let low = (stays es ns text w known sorted there).below in
-          absurd (let no : ⊥ = omega (arith, low, last, ap (λ (x : NameId). x.0) g) in no)
-      | None ↦ λ there g. number-none 0 text ns (sym (known.yields text) ∙ there)
-    ]) refl is
+    grind (
+      arith,
+      lookup (is_at (compare_bytes text)) es,
+      is,
+      last,
+      stays es ns text v known sorted,
+      known.yields text,
+      number-none 0 text ns,
+    )
 
 pub within-push : (n : ℕ) (firsts : List ℕ) (f : ℕ) → AllByRecursion (λ (g : ℕ). g < n) firsts → f < n
     → AllByRecursion (λ (g : ℕ). g < n) (firsts ++ f ∷ [])

@@ -1,7 +1,5 @@
 -- Longer names that begin with a spelling.
-use Rattle.cweb_names.proofs.Common.{◌≡◌, ℕ, zero, suc, ◌+◌, ◌<◌, Bool, true, false, not, ◌||◌, ◌&&◌, List, [], ◌∷◌, Some, length, refl, sym, ◌∙◌, ap, arith, bytes_eq, if◌then◌else◌, nat_eq, slice_get, option_map, list_any, starts_with, take-length, bytes_eq-Decides, NameId, Found, Nothing, Name, id, spellings, beginning_from, beginning, found_of, is_several, Distinct, is_prefix_of_another, not-not}
-use Rattle.std.specs.Prelude.{filter, map}
-use Rattle.std.specs.List.{enumerate_from}
+use Rattle.cweb_names.proofs.Common.{◌≡◌, ℕ, zero, suc, ◌+◌, ◌<◌, Bool, true, false, not, List, [], ◌∷◌, Some, length, refl, ◌∙◌, ap, arith, bytes_eq, if◌then◌else◌, nat_eq, slice_get, option_map, list_any, starts_with, take-length, bytes_eq-Decides, NameId, Found, Nothing, Name, id, spellings, beginning_from, beginning, found_of, is_several, Distinct, is_prefix_of_another}
 use Rattle.cweb_names.proofs.InsertLemmas.{grown, found-first}
 use Rattle.cweb_names.proofs.NameLemmas.{bytes_eq-same, bytes_eq-sym, prefix_at}
 
@@ -52,45 +50,29 @@ some-begins i q (n ∷ ns) h =
 -- The names that begin with a prefix, with and without the first.
 pub beginning-step : (i : ℕ) (p : List ℕ) (n : Name) (ns : List Name) → beginning_from i p (n ∷ ns)
     ≡ (if starts_with nat_eq n.text p then id i ∷ beginning_from (i + 1) p ns else beginning_from (i + 1) p ns)
-beginning-step i p n ns =
-    let rest = filter (λ (m : ℕ × Name). starts_with nat_eq m.1.text p) (enumerate_from (i + 1) ns) in
-    elim (starts_with nat_eq n.text p) as (λ b. map (λ (m : ℕ × Name). id m.0) (if b then (i, n) ∷ rest else rest)
-    ≡ (if b then id i ∷ beginning_from (i + 1) p ns else beginning_from (i + 1) p ns)) [ true ↦ refl | false ↦ refl ]
+beginning-step i p n ns = grind (arith, starts_with nat_eq n.text p)
 
 -- Several names begin with a name if and only if one of them is longer.
 pub several-longer : (i : ℕ) (q : List ℕ) (ns : List Name) → Distinct (spellings ns)
     → list_any (bytes_eq q) (spellings ns) ≡ true → is_several (found_of (beginning_from i q ns)) ≡ longer ns q
 several-longer i q [] d h = cc
 several-longer i q (n ∷ ns) d h =
-    let rest = found_of (beginning_from (i + 1) q ns) in
-    ap (λ ids. is_several (found_of ids)) (beginning-step i q n ns)
-    ∙ (elim (bytes_eq q n.text) as (λ e. bytes_eq q n.text ≡ e → (e || list_any (bytes_eq q) (spellings ns)) ≡ true →
-    is_several (found_of
-    (if starts_with nat_eq n.text q then id i ∷ beginning_from (i + 1) q ns else beginning_from (i + 1) q ns))
-    ≡ ((starts_with nat_eq n.text q && not (bytes_eq n.text q)) || longer ns q)) [
-      | true ↦ λ e g.
-          let same : q ≡ n.text = (bytes_eq-Decides q n.text).0 e in
-          let begins : starts_with nat_eq n.text q ≡ true =
-          ap (λ t. starts_with nat_eq t q) (sym same) ∙ starts-same q in
-          let alone : list_any (bytes_eq q) (spellings ns) ≡ false =
-          ap (λ t. list_any (bytes_eq t) (spellings ns)) same ∙ d.0 in
-          ap (λ b.
-          is_several (found_of (if b then id i ∷ beginning_from (i + 1) q ns else beginning_from (i + 1) q ns)))
-          begins
-          ∙ ap is_several (found-first (id i) (beginning_from (i + 1) q ns))
-          ∙ grown-several (id i) rest ∙ ap not (none-begins (i + 1) q ns alone) ∙ not-not (longer ns q)
-          ∙ (λ j. (sym begins j && not ((sym e ∙ bytes_eq-sym q n.text) j)) || longer ns q)
-      | false ↦ λ e g.
-          let other : false ≡ bytes_eq n.text q = sym e ∙ bytes_eq-sym q n.text in
-          (elim (starts_with nat_eq n.text q) as (λ b.
-          is_several (found_of (if b then id i ∷ beginning_from (i + 1) q ns else beginning_from (i + 1) q ns))
-          ≡ ((b && not (bytes_eq n.text q)) || longer ns q)) [
-            | true ↦
-                ap is_several (found-first (id i) (beginning_from (i + 1) q ns)) ∙ grown-several (id i) rest
-                ∙ ap not (some-begins (i + 1) q ns g) ∙ ap (λ b. not b || longer ns q) other
-            | false ↦ several-longer (i + 1) q ns d.1 g
-          ])
-    ]) refl h
+    grind (
+      arith,
+      beginning-step i q n ns,
+      bytes_eq q n.text,
+      starts_with nat_eq n.text q,
+      bytes_eq-Decides q n.text,
+      bytes_eq-sym q n.text,
+      starts-same q,
+      found-first (id i) (beginning_from (i + 1) q ns),
+      grown-several (id i) (found_of (beginning_from (i + 1) q ns)),
+      none-begins (i + 1) q ns,
+      some-begins (i + 1) q ns,
+      several-longer (i + 1) q ns d.1,
+      d.0,
+      h,
+    )
 
 pub any-there : (ns : List Name) (i : ℕ) (n : Name) → slice_get ns i ≡ Some n
     → list_any (bytes_eq n.text) (spellings ns) ≡ true

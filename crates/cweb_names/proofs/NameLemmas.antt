@@ -41,9 +41,7 @@ number-some i q (m ∷ ns) n h = grind (arith, number-some (i + 1) q ns n)
 pub number-none : (i : ℕ) (q : List ℕ) (ns : List Name) → id_of_spelling i q ns ≡ None
     → list_any (bytes_eq q) (spellings ns) ≡ false
 number-none i q [] h = refl
-number-none i q (m ∷ ns) h =
-    (elim (bytes_eq q m.text) as (λ b. (if b then Some (id i) else id_of_spelling (i + 1) q ns) ≡ None →
-    (b || list_any (bytes_eq q) (spellings ns)) ≡ false) [ true ↦ λ g. cc | false ↦ λ g. number-none (i + 1) q ns g ]) h
+number-none i q (m ∷ ns) h = grind (arith, bytes_eq q m.text, h, number-none (i + 1) q ns)
 
 pub number-new : (i : ℕ) (q : List ℕ) (ns : List Name) → list_any (bytes_eq q) (spellings ns) ≡ false
     → id_of_spelling i q ns ≡ None

@@ -1,5 +1,5 @@
 -- A name that is a proper prefix of another is a prefix of its successor.
-use Rattle.cweb_names.proofs.Common.{arith, ◌≡◌, ℕ, zero, suc, Bool, true, false, cond, ◌||◌, List, [], ◌∷◌, Some, map, filter, refl, sym, ◌∙◌, ap, nat_eq, bytes_eq, slice_get, starts_with, list_any, AllByRecursion, keys_of, lookup, insert_entry, is_at, match_ordering, is_eq, is_le, ordering_reverse, bytes_decides, nat_list_cmp_total, Less, Equal, Greater, is_eq-slice_cmp, NameId, Found, Name, spellings, is_prefix_of_another, NameEntry, compare_bytes, entry_has_prefix, found_of, is_several, next_begins, any_next, id_of_spelling, IsNameMap}
+use Rattle.cweb_names.proofs.Common.{arith, ◌≡◌, ℕ, zero, suc, Bool, true, false, cond, ◌||◌, List, [], ◌∷◌, Some, map, filter, refl, sym, ◌∙◌, ap, nat_eq, bytes_eq, slice_get, starts_with, list_any, AllByRecursion, keys_of, lookup, insert_entry, is_at, is_eq, is_le, ordering_reverse, bytes_decides, nat_list_cmp_total, Less, Greater, is_eq-slice_cmp, NameId, Found, Name, spellings, is_prefix_of_another, NameEntry, compare_bytes, entry_has_prefix, found_of, is_several, next_begins, any_next, id_of_spelling, IsNameMap}
 use Rattle.std.specs.List.Sorted.{IsStrictlySortedBy}
 use Rattle.cweb_names.proofs.PrefixLemmas.{none-begins, begins-le}
 use Rattle.cweb_names.proofs.NameLemmas.{bytes_eq-same, or-false, number-some, number-none}
@@ -41,21 +41,13 @@ below-found : (k p : List ℕ) (v : NameId) (es : List NameEntry)
     → AllByRecursion (λ j. compare_bytes k j ≡ Less) (keys_of es)
     → lookup (is_at (compare_bytes p)) es ≡ Some v → compare_bytes k p ≡ Less
 below-found k p v [] above h = cc
-below-found k p v (e ∷ es) above h = (elim (is_eq (compare_bytes p e.0)) as (λ b. is_eq (compare_bytes p e.0) ≡ b
-    → cond b (Some e.1) (lookup (is_at (compare_bytes p)) es) ≡ Some v → compare_bytes k p ≡ Less) [
-      | true ↦ λ is g. ap (compare_bytes k) (same-key p e.0 is) ∙ above.0
-      | false ↦ λ is g. below-found k p v es above.1 g
-    ]) refl h
+below-found k p v (e ∷ es) above h =
+    grind (arith, is_eq (compare_bytes p e.0), h, above, same-key p e.0, below-found k p v es)
 
 not-begins : (k p : List ℕ) → compare_bytes k p ≡ Less → starts_with nat_eq k p ≡ false
 not-begins k p less =
-    (elim (starts_with nat_eq k p) as (λ b. starts_with nat_eq k p ≡ b → b ≡ false) [
-      | true ↦ λ is.
-          let greater : compare_bytes p k ≡ Greater = nat_list_cmp_total.antisymm p k ∙ ap ordering_reverse less in
-          let none : false ≡ true = sym (ap is_le greater) ∙ begins-le p k is in
-          cc
-      | false ↦ λ is. refl
-    ]) refl
+    let greater : compare_bytes p k ≡ Greater = nat_list_cmp_total.antisymm p k ∙ ap ordering_reverse less in
+    grind (arith, starts_with nat_eq k p, greater, begins-le p k)
 
 -- If no spelling begins with its predecessor, no several begin with one.
 none-next : (es : List NameEntry) → IsStrictlySortedBy compare_bytes (keys_of es) → any_next (keys_of es) ≡ false →
@@ -156,16 +148,11 @@ pub insert-same : (es : List NameEntry) (k : List ℕ) (v : NameId) → IsStrict
 unfolding IsStrictlySortedBy
 insert-same [] k v sorted h = cc
 insert-same (e ∷ es) k v sorted h =
-    (elim (compare_bytes k e.0) as (λ o. compare_bytes k e.0 ≡ o
-    → cond (is_eq o) (Some e.1) (lookup (is_at (compare_bytes k)) es) ≡ Some v
-    → match_ordering o ((k, v) ∷ e ∷ es) ((e.0, v) ∷ es) (e ∷ insert_entry compare_bytes es k v) ≡ e ∷ es) [
-      | Less ↦ λ is g.
-          let above : compare_bytes e.0 k ≡ Less = below-found e.0 k v es sorted.0 g in
-          let greater : compare_bytes k e.0 ≡ Greater = nat_list_cmp_total.antisymm k e.0 ∙ ap ordering_reverse above in
-          let none : true ≡ false = sym (ap is_le is) ∙ ap is_le greater in
-          cc
-      | Equal ↦ λ is g.
-          let same : e.1 ≡ v = cc in
-          ap (λ w. (e.0, w) ∷ es) (sym same)
-      | Greater ↦ λ is g. ap (λ xs. e ∷ xs) (insert-same es k v sorted.1 g)
-    ]) refl h
+    grind (
+      arith,
+      compare_bytes k e.0,
+      h,
+      below-found e.0 k v es sorted.0,
+      nat_list_cmp_total.antisymm k e.0,
+      insert-same es k v sorted.1,
+    )

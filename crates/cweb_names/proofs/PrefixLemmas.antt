@@ -1,5 +1,5 @@
 -- Spellings with a common prefix are adjacent in a sorted list.
-use Rattle.cweb_names.proofs.Common.{◌≡◌, ℕ, Bool, true, false, cond, ◌&&◌, List, [], ◌∷◌, map, filter, refl, sym, ◌∙◌, ap, subst, arith, eq-eqb, nat_eq, starts_with, AllByRecursion, keys_of, nat_cmp, is_le, slice_cmp, Less, Equal, eqb-true, nat_tests, Nothing, One, Several, NameEntry, compare_bytes, entry_has_prefix, ids_with_prefix, found_of}
+use Rattle.cweb_names.proofs.Common.{◌≡◌, ℕ, Bool, true, false, ◌&&◌, List, [], ◌∷◌, filter, refl, sym, ◌∙◌, ap, subst, arith, eq-eqb, nat_eq, starts_with, AllByRecursion, keys_of, nat_cmp, is_le, slice_cmp, Less, Equal, eqb-true, nat_tests, Nothing, One, Several, NameEntry, compare_bytes, entry_has_prefix, ids_with_prefix, found_of, Found, if◌then◌else◌}
 use Rattle.std.specs.List.Sorted.{IsStrictlySortedBy}
 
 nat_same : (x : ℕ) → nat_cmp x x ≡ Equal
@@ -26,12 +26,8 @@ pub none-begins : (p : List ℕ) (k : List ℕ) (es : List NameEntry) → is_le 
     → starts_with nat_eq k p ≡ false → AllByRecursion (λ j. compare_bytes k j ≡ Less) (keys_of es)
     → filter (entry_has_prefix p) es ≡ []
 none-begins p k [] low other above = refl
-none-begins p k (e ∷ es) low other above = (elim (starts_with nat_eq e.0 p)
-    as (λ v. starts_with nat_eq e.0 p ≡ v
-    → cond v (e ∷ filter (entry_has_prefix p) es) (filter (entry_has_prefix p) es) ≡ []) [
-      | true ↦ λ s. let t : starts_with nat_eq k p ≡ true = squeeze p k e.0 low above.0 s in cc
-      | false ↦ λ s. none-begins p k es low other above.1
-    ]) refl
+none-begins p k (e ∷ es) low other above =
+    grind (arith, starts_with nat_eq e.0 p, squeeze p k e.0, low, other, above, none-begins p k es)
 
 pub from-begins : (p : List ℕ) (es : List NameEntry)
     → filter (entry_has_prefix p) (filter (λ (e : NameEntry). is_le (slice_cmp nat_cmp p e.0) && true) es)
@@ -72,31 +68,32 @@ pub names-from : (p : List ℕ) (es : List NameEntry) → IsStrictlySortedBy com
     → Names p es (from p es)
 names-from p es h = record { is = sym (from-begins p es); sorted = sorted-from p es h; low = low-from p es }
 
-pub names-none : (p : List ℕ) (es rest : List NameEntry) → Names p es rest → rest ≡ []
-    → found_of (ids_with_prefix p es) ≡ Nothing
-names-none p es rest h empty =
-    ap (λ xs. found_of (map (λ (e : NameEntry). e.1) xs)) (h.is ∙ ap (filter (entry_has_prefix p)) empty)
+-- What the first two entries decide.
+abbrev pub by_first_two : List ℕ → List NameEntry → Found
+by_first_two p [] = Nothing
+by_first_two p (e ∷ []) = if starts_with nat_eq e.0 p then One e.1 else Nothing
+by_first_two p (e ∷ f ∷ rest) =
+    if starts_with nat_eq e.0 p then (if starts_with nat_eq f.0 p then Several else One e.1) else Nothing
 
-pub names-other : (p : List ℕ) (es : List NameEntry) (e : NameEntry) (rest : List NameEntry) → Names p es (e ∷ rest)
-    → starts_with nat_eq e.0 p ≡ false → found_of (ids_with_prefix p es) ≡ Nothing
+names-decide : (p : List ℕ) (es rest : List NameEntry) → Names p es rest
+    → found_of (ids_with_prefix p es) ≡ by_first_two p rest
 unfolding IsStrictlySortedBy
-names-other p es e rest h other = grind (arith, none-begins p)
+names-decide p es [] h = cc
+names-decide p es (e ∷ []) h = grind (arith, h.is, starts_with nat_eq e.0 p)
+names-decide p es (e ∷ f ∷ rest) h =
+    grind (
+      arith,
+      h.is,
+      starts_with nat_eq e.0 p,
+      starts_with nat_eq f.0 p,
+      none-begins p e.0 (f ∷ rest) h.low.0,
+      h.sorted.0,
+      none-begins p f.0 rest h.low.1.0,
+      h.sorted.1.0,
+    )
 
-pub names-last : (p : List ℕ) (es : List NameEntry) (e : NameEntry) → Names p es (e ∷ [])
-    → starts_with nat_eq e.0 p ≡ true → found_of (ids_with_prefix p es) ≡ One e.1
-names-last p es e h same =
-    ap (λ xs. found_of (map (λ (e : NameEntry). e.1) xs)) (h.is ∙ ap (λ v. cond v (e ∷ []) []) same)
-
-pub names-two : (p : List ℕ) (es : List NameEntry) (e f : NameEntry) (rest : List NameEntry) → Names p es (e ∷ f ∷ rest)
-    → starts_with nat_eq e.0 p ≡ true → starts_with nat_eq f.0 p ≡ true → found_of (ids_with_prefix p es) ≡ Several
-names-two p es e f rest h one two = cc
-
-pub names-one : (p : List ℕ) (es : List NameEntry) (e f : NameEntry) (rest : List NameEntry) → Names p es (e ∷ f ∷ rest)
-    → starts_with nat_eq e.0 p ≡ true → starts_with nat_eq f.0 p ≡ false → found_of (ids_with_prefix p es) ≡ One e.1
-unfolding IsStrictlySortedBy
-names-one p es e f rest h one other = cc (none-begins p f.0 rest h.low.1.0 other h.sorted.1.0)
-
-pub names-range : (p q : List ℕ) (es rest : List NameEntry)
+pub names_decide : (p q : List ℕ) (es rest : List NameEntry)
     → rest ≡ filter (λ (e : NameEntry). is_le (slice_cmp nat_cmp q e.0) && true) es
-    → q ≡ p → IsStrictlySortedBy compare_bytes (keys_of es) → Names p es rest
-names-range p q es rest is same h = subst (Names p es) (sym (is ∙ ap (λ r. from r es) same)) (names-from p es h)
+    → q ≡ p → IsStrictlySortedBy compare_bytes (keys_of es) → found_of (ids_with_prefix p es) ≡ by_first_two p rest
+names_decide p q es rest is same h = names-decide p es rest
+    (subst (Names p es) (sym (is ∙ ap (λ r. from r es) same)) (names-from p es h))

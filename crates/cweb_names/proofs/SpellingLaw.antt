@@ -1,5 +1,5 @@
 -- White space in a spelling is single blanks between other bytes.
-use Rattle.cweb_names.proofs.Common.{◌≡◌, ℕ, Bool, true, false, ◌&&◌, not, List, [], ◌∷◌, ◌++◌, refl, ap, sym, ◌∙◌, if◌then◌else◌, filter, cond, eqb-true, eq-eqb}
+use Rattle.cweb_names.proofs.Common.{arith, ◌≡◌, ℕ, Bool, true, false, ◌&&◌, not, List, [], ◌∷◌, ◌++◌, refl, ap, sym, ◌∙◌, if◌then◌else◌, filter, eqb-true, eq-eqb}
 use Rattle.std.proofs.Common.{◌==◌, ◌⊎◌, ◌≢◌, inl, inr}
 use Rattle.std.specs.Prelude.{codes}
 use Rattle.std.specs.List.{list_all}
@@ -23,23 +23,11 @@ Fits t = (is_squeezed_after false (squeezed_after true [] t) ≡ true)
 
 rest-fits : (t : List ℕ) → Fits t
 rest-fits [] = (refl, refl)
-rest-fits (b ∷ t) = (elim (is_white b) as (λ w. is_white b ≡ w
-    → (is_squeezed_after false (squeezed_by w true [] b t) ≡ true)
-    × (is_squeezed_after false (squeezed_by w true (codes " ") b t) ≡ true)) [
-      | true ↦ λ e. ((rest-fits t).1, (rest-fits t).1)
-      | false ↦ λ e. (
-        byte-fits false b (squeezed_after true [] t) e (rest-fits t).0,
-        byte-fits true b (squeezed_after true [] t) e (rest-fits t).0,
-      )
-    ]) refl
+rest-fits (b ∷ t) = grind (arith, is_white b, rest-fits t)
 
 spelling-fits : (t : List ℕ) → (squeezed t ≡ []) ⊎ (is_squeezed (squeezed t) ≡ true)
 spelling-fits [] = inl refl
-spelling-fits (b ∷ t) = (elim (is_white b) as (λ w. is_white b ≡ w
-    → (squeezed_by w false [] b t ≡ []) ⊎ (is_squeezed (squeezed_by w false [] b t) ≡ true)) [
-      | true ↦ λ e. spelling-fits t
-      | false ↦ λ e. inr (byte-fits true b (squeezed_after true [] t) e (rest-fits t).0)
-    ]) refl
+spelling-fits (b ∷ t) = grind (arith, is_white b, spelling-fits t, rest-fits t)
 
 squeezed-twice : (t : List ℕ) → squeezed (squeezed t) ≡ squeezed t
 squeezed-twice t = elim (spelling-fits t) [ inl e ↦ ap squeezed e ∙ sym e | inr h ↦ squeezed_stays (squeezed t) h ]
@@ -54,14 +42,14 @@ others-stay : (begun : Bool) (gap t : List ℕ) → filter is_other gap ≡ []
     → filter is_other (squeezed_after begun gap t) ≡ filter is_other t
 others-stay begun gap [] h = refl
 others-stay begun gap (b ∷ t) h =
-    let x = squeezed_after true [] t in
-    (elim (is_white b) as (λ w. is_white b ≡ w → filter is_other (squeezed_by w begun gap b t)
-    ≡ cond (not w) (b ∷ filter is_other t) (filter is_other t)) [
-      | true ↦ λ e. others-stay begun (if begun then codes " " else []) t (blank-other begun)
-      | false ↦ λ e. filter-append is_other gap (b ∷ x) ∙ ap (λ u. u ++ filter is_other (b ∷ x)) h
-          ∙ ap (λ w. cond (not w) (b ∷ filter is_other x) (filter is_other x)) e
-          ∙ ap (λ u. b ∷ u) (others-stay true [] t refl)
-    ]) refl
+    grind (
+      arith,
+      is_white b,
+      h,
+      others-stay begun (if begun then codes " " else []) t (blank-other begun),
+      others-stay true [] t,
+      filter-append is_other gap (b ∷ squeezed_after true [] t),
+    )
 
 -- White space.
 
@@ -78,16 +66,17 @@ spans-after : (begun : Bool) (gap before span t : List ℕ) (b : ℕ) → is_whi
     → squeezed_after begun gap (before ++ b ∷ (span ++ t)) ≡ squeezed_after begun gap (before ++ 32 ∷ t)
 spans-after begun gap [] span t b e h =
     ap (λ w. squeezed_by w begun gap b (span ++ t)) e ∙ white-span begun span t h
-spans-after begun gap (x ∷ before) span t b e h = elim (is_white x) as (λ w.
-    squeezed_by w begun gap x (before ++ b ∷ (span ++ t)) ≡ squeezed_by w begun gap x (before ++ 32 ∷ t)) [
-      | true ↦ spans-after begun (if begun then codes " " else []) before span t b e h
-      | false ↦ ap (λ u. gap ++ x ∷ u) (spans-after true [] before span t b e h)
-    ]
+spans-after begun gap (x ∷ before) span t b e h =
+    grind (
+      arith,
+      is_white x,
+      spans-after begun (if begun then codes " " else []) before span t b e h,
+      spans-after true [] before span t b e h,
+    )
 
 first-other : (t : List ℕ) → is_squeezed_after true t ≡ true → first_is is_other t ≡ true
 first-other [] h = cc
-first-other (b ∷ t) h = (elim (is_white b) as (λ w. fits_by w true b t ≡ true → not w ≡ true)
-    [ true ↦ λ k. cc | false ↦ λ k. refl ]) h
+first-other (b ∷ t) h = grind (arith, is_white b, h)
 
 single-after : (gap : Bool) (before : List ℕ) (b : ℕ) (after : List ℕ)
     → is_squeezed_after gap (before ++ b ∷ after) ≡ true → is_white b ≡ true

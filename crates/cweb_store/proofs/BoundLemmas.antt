@@ -1,5 +1,5 @@
 -- Indices of names, files and faults are in range.
-use Rattle.cweb_store.proofs.Common.{AreWithin, ◌≡◌, sym, subst, ℕ, zero, suc, ◌+◌, ◌≤◌, ◌<◌, Bool, List, [], ◌∷◌, ◌++◌, Some, None, Option, length, refl, ap, arith, length-append, Ok, Err, IfSome, All, bytes_eq, AllByRecursion, length-map, All-from_recursion, How, Full, Prefix, NameId, NameFault, NameKind, NeverFull, Occurrence, Name, Resolution, spellings, with_full_name, with_occurrence_name, names_from, names, beginning_from, the_one, resolved_among, resolutions_from, resolutions, resolved_at, with_some, with_file, files_from, files, Part, unresolved_faults_from, faults_from, faults}
+use Rattle.cweb_store.proofs.Common.{AreWithin, ◌≡◌, ℕ, zero, suc, ◌+◌, ◌≤◌, ◌<◌, Bool, List, [], ◌∷◌, ◌++◌, Some, None, Option, length, refl, ap, arith, length-append, Ok, Err, IfSome, All, bytes_eq, AllByRecursion, length-map, All-from_recursion, How, Full, Prefix, NameId, NameFault, NameKind, Occurrence, Name, Resolution, spellings, with_full_name, with_occurrence_name, names_from, names, beginning_from, the_one, resolved_among, resolutions_from, resolutions, resolved_at, with_some, with_file, files_from, files, Part, unresolved_faults_from, faults_from, faults}
 use Rattle.cweb_names.proofs.NameLemmas.{position-below}
 use Rattle.cweb_names.proofs.OccurrenceLemmas.{Grows, names_from-grows, with_text-has}
 use Rattle.cweb_store.proofs.LawLemmas.{any-grows}
@@ -34,17 +34,19 @@ among-below : (i : ℕ) (before : List Name) (text : List ℕ) (how : How) (is_f
     let o : Occurrence = record { text = text; how = how; is_file = is_file } in
     Grows (with_occurrence_name i before o) all → StoredBelow (length all) (resolved_among before all o)
 among-below i before text Full is_file all g =
-    let size : length (spellings all) ≡ length all = length-map all (λ (n : Name). n.text) in
-    omega (
+    grind (
       arith,
-      size,
-      position-below (bytes_eq text) (spellings all)
-          (any-grows (bytes_eq text) (with_full_name i before text) all g (with_text-has i before text)),
+      length-map all (λ (n : Name). n.text),
+      position-below (bytes_eq text) (spellings all),
+      any-grows (bytes_eq text) (with_full_name i before text) all g (with_text-has i before text),
     )
 among-below i before text Prefix is_file all g =
-    the_one-below (length all) (beginning_from 0 text before) (the_one (beginning_from 0 text all) (Err NeverFull))
-    (beginning-below 0 (length all) text before (omega (arith, grows-length before all g))) (the_one-below (length all)
-    (beginning_from 0 text all) (Err NeverFull) (beginning-below 0 (length all) text all (omega arith)) tt)
+    grind (
+      arith,
+      the_one-below (length all),
+      beginning-below 0 (length all) text,
+      grows-length before all g,
+    )
 
 resolutions-below : (i : ℕ) (before : List Name) (os : List Occurrence)
     → let all = names_from i before os in AllByRecursion (StoredBelow (length all)) (resolutions_from i before all os)
@@ -147,7 +149,4 @@ faults-within os ps =
 -- All resolved names are known.
 pub resolutions-within : (os : List Occurrence) (rs : List Resolution) (n : ℕ)
     → rs ≡ resolutions os → n ≡ length (names os) → AreWithin rs n
-resolutions-within os rs n is size = λ i.
-    subst (λ (m : ℕ). IfSome (resolved_at rs i) (λ (id : NameId). id.0 < m)) (sym size)
-    (subst (λ (ss : List Resolution). IfSome (resolved_at ss i) (λ (id : NameId). id.0 < length (names os)))
-    (sym is) (standing-within os i))
+resolutions-within os rs n is size = rw (is, size) (standing-within os)

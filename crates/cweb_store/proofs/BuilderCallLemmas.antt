@@ -1,22 +1,15 @@
 -- The contents of a builder after a call, by its result.
-use Rattle.cweb_store.proofs.Common.{◌≡◌, ◌+◌, refl, Bool, true, false, ℕ, List, [], ◌∷◌, ◌++◌, arith, length-append, map, map-append, if◌then◌else◌, Call, Occurs, Opens, Pushes, Drops, Closes, Transliterates, Contents, after_call, contents, empty, fold, call_model, accepted_calls, HoldsAtMost, Answered, AcceptsCall, AcceptsCalls, IsTrue, append-nil, filter-append}
+use Rattle.cweb_store.proofs.Common.{◌≡◌, ◌+◌, refl, Bool, true, false, ℕ, List, [], ◌∷◌, ◌++◌, arith, length-append, map-append, if◌then◌else◌, Call, Occurs, Opens, Pushes, Drops, Closes, Transliterates, Contents, after_call, contents, empty, fold, call_model, accepted_calls, HoldsAtMost, Answered, AcceptsCall, AcceptsCalls, IsTrue, append-nil, filter-append}
 use Rattle.cweb_store.proofs.CallerLemmas.{token_count_opened, token_count_pushed, part_count_opened, token_count_dropped, token_count_closed, part_count_pushed, part_count_dropped, part_count_closed}
 use Rattle.std.proofs.lemmas.List.Sums.{fold-append}
 
 forms-one : (answers : List Answered) (a : Answered)
     → accepted_calls (answers ++ a ∷ []) ≡ accepted_calls answers ++ (if a.is_ok then call_model a.call ∷ [] else [])
-forms-one answers a =
-    simp (filter-append, map-append) (elim a.is_ok as (λ b. accepted_calls answers ++ map (λ x. call_model x.call)
-    (if b then a ∷ [] else []) ≡ accepted_calls answers ++ (if b then call_model a.call ∷ [] else [])) [
-      | true ↦ refl
-      | false ↦ refl
-    ])
+forms-one answers a = simp (filter-append, map-append) (grind (arith, a.is_ok))
 
 pub held-one : (answers : List Answered) (a : Answered) (c : Contents) → c ≡ contents (accepted_calls answers)
     → (if a.is_ok then after_call c (call_model a.call) else c) ≡ contents (accepted_calls (answers ++ a ∷ []))
-held-one answers a c held = simp (forms-one, fold-append, ← held) (elim a.is_ok as (λ b. (if b then after_call c
-    (call_model a.call) else c) ≡ fold after_call c (if b then call_model a.call ∷ [] else []))
-    [ true ↦ refl | false ↦ refl ])
+held-one answers a c held = simp (forms-one, fold-append, ← held) (grind (arith, a.is_ok))
 
 takes-one : (c : Contents) (calls : List Call) (call : Call)
     → AcceptsCalls c calls → AcceptsCall (fold after_call c calls) call → AcceptsCalls c (calls ++ call ∷ [])
@@ -27,11 +20,15 @@ pub taken-one : (answers : List Answered) (a : Answered) (c : Contents) → c �
     → AcceptsCalls empty (accepted_calls answers) → (IsTrue a.is_ok → AcceptsCall c (call_model a.call))
     → AcceptsCalls empty (accepted_calls (answers ++ a ∷ []))
 taken-one answers a c held all next =
-    rw (forms-one answers a) ((elim a.is_ok as (λ b. (IsTrue b → AcceptsCall c (call_model a.call))
-    → AcceptsCalls empty (accepted_calls answers ++ (if b then call_model a.call ∷ [] else []))) [
-      | true ↦ λ t. takes-one empty (accepted_calls answers) (call_model a.call) all (rw (← held) (t refl))
-      | false ↦ λ t. rw (append-nil (accepted_calls answers)) all
-    ]) next)
+    rw (forms-one answers a)
+    (grind (
+      arith,
+      a.is_ok,
+      takes-one empty (accepted_calls answers) (call_model a.call) all,
+      append-nil (accepted_calls answers),
+      held,
+      next,
+    ))
 
 at-most-after : (n : ℕ) (c : Contents) (call : Call) → HoldsAtMost n c → AcceptsCall c call
     → HoldsAtMost (n + 1) (after_call c call)

@@ -1,5 +1,5 @@
 -- How many tokens and parts a builder holds after a call. Callers need it for their `requires`.
-use Rattle.cweb_store.proofs.Common.{◌≡◌, ◌≤◌, Bool, true, false, ◌+◌, List, [], ◌∷◌, ◌++◌, Some, None, length, ◌∙◌, ap, arith, append-nil, length-append, IsSome, IsNone, option_map, option_to_list, if◌then◌else◌, take-append-drop, flat_map-append, PartKind, Token, Part, all_tokens, is_macro, before_last, without_last, without_blank, without_layout, at_close, is_layout, is_newline, PartsSoFar, with_closed_part, with_dropped_layout, with_opened_part, with_pushed_token, part_count, token_count}
+use Rattle.cweb_store.proofs.Common.{◌≡◌, ◌≤◌, Bool, ◌+◌, List, [], ◌∷◌, ◌++◌, length, arith, append-nil, length-append, IsSome, IsNone, take-append-drop, flat_map-append, PartKind, Token, Part, all_tokens, is_macro, before_last, without_last, without_blank, without_layout, at_close, is_layout, is_newline, PartsSoFar, with_closed_part, with_dropped_layout, with_opened_part, with_pushed_token, part_count, token_count}
 
 pub tokens-last : (ps : List Part) (p : Part)
     → length (all_tokens (ps ++ p ∷ [])) ≡ length (all_tokens ps) + length p.tokens
@@ -7,13 +7,7 @@ tokens-last ps p = simp (flat_map-append {X = Part} {A = Token}, append-nil, len
 
 pub token_count_opened : (kind : PartKind) (v : PartsSoFar)
     → IsNone v.current → token_count (with_opened_part kind v) ≡ token_count v
-token_count_opened kind v none =
-    (elim v.current as (λ o. IsNone o → length (all_tokens (v.closed ++ (record { kind = kind; tokens = [] }) ∷ []))
-    ≡ length (all_tokens (v.closed ++ option_to_list o))) [
-      | None ↦ λ h. tokens-last v.closed (record { kind = kind; tokens = [] })
-          ∙ omega (arith, ap (λ ps. length (all_tokens ps)) (append-nil v.closed))
-      | Some p ↦ λ h. cc
-    ]) none
+token_count_opened kind v none = grind (arith, tokens-last v.closed, append-nil v.closed)
 
 pub token_count_pushed : (t : Token) (v : PartsSoFar) → IsSome v.current
     → token_count (with_pushed_token t v) ≡ token_count v + 1
@@ -38,35 +32,19 @@ pub without_layout-length : (p : Part) → length (without_layout p).tokens ≤ 
 without_layout-length p = grind (arith, length-append, without_last-length is_layout, take-append-drop)
 
 at_close-length : (p : Part) → length (at_close p).tokens ≤ length p.tokens
-at_close-length p = elim (is_macro p.kind) as (λ b.
-    length (let q : Part = if b then record p { tokens = without_blank (without_last is_newline p.tokens) } else p in
-    q).tokens ≤ length p.tokens) [
-      | true ↦
-          omega (
-            arith,
-            without_blank-length (without_last is_newline p.tokens),
-            without_last-length is_newline p.tokens,
-          )
-      | false ↦ omega arith
-    ]
+at_close-length p =
+    grind (
+      arith,
+      is_macro p.kind,
+      without_blank-length (without_last is_newline p.tokens),
+      without_last-length is_newline p.tokens,
+    )
 
 pub token_count_dropped : (v : PartsSoFar) → token_count (with_dropped_layout v) ≤ token_count v
 token_count_dropped v = grind (arith, tokens-last v.closed, without_layout-length)
 
 pub token_count_closed : (v : PartsSoFar) → token_count (with_closed_part v) ≤ token_count v
-token_count_closed v =
-    elim v.current as (λ o. length (all_tokens ((v.closed ++ option_to_list (option_map at_close o)) ++ []))
-    ≤ length (all_tokens (v.closed ++ option_to_list o))) [
-      | None ↦ omega (arith, ap (λ ps. length (all_tokens ps)) (append-nil (v.closed ++ [])))
-      | Some p ↦
-          omega (
-            arith,
-            ap (λ ps. length (all_tokens ps)) (append-nil (v.closed ++ at_close p ∷ [])),
-            tokens-last v.closed (at_close p),
-            tokens-last v.closed p,
-            at_close-length p,
-          )
-    ]
+token_count_closed v = grind (arith, tokens-last v.closed, at_close-length, append-nil)
 
 pub part_count_opened : (kind : PartKind) (v : PartsSoFar)
     → IsNone v.current → part_count (with_opened_part kind v) ≡ part_count v + 1
@@ -79,14 +57,4 @@ pub part_count_dropped : (v : PartsSoFar) → part_count (with_dropped_layout v)
 part_count_dropped v = grind (arith, length-append v.closed)
 
 pub part_count_closed : (v : PartsSoFar) → part_count (with_closed_part v) ≡ part_count v
-part_count_closed v = elim v.current as (λ o. length ((v.closed ++ option_to_list (option_map at_close o)) ++ [])
-    ≡ length (v.closed ++ option_to_list o)) [
-      | None ↦ ap length (append-nil (v.closed ++ []))
-      | Some p ↦
-          omega (
-            arith,
-            ap length (append-nil (v.closed ++ at_close p ∷ [])),
-            length-append v.closed (at_close p ∷ []),
-            length-append v.closed (p ∷ []),
-          )
-    ]
+part_count_closed v = grind (arith, length-append, append-nil)

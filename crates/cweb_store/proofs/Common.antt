@@ -63,7 +63,6 @@ pub use Rattle.cweb_store.specs.declared.parts.PartKind.{PartKind}
 pub use Rattle.cweb_store.specs.declared.parts.PartKind.TheVariants.{Unnamed, Named, Macro}
 pub use Rattle.cweb_store.specs.declared.parts.PartRange.{PartRange}
 pub use Rattle.cweb_store.specs.declared.parts.links.Links.{Links}
-pub use Rattle.cweb_store.specs.declared.tokens.interned.InternedToken.{InternedToken}
 pub use Rattle.cweb_store.specs.declared.tokens.records.Record.{Record}
 pub use Rattle.cweb_store.specs.inner.Answers.{AreAnswers}
 pub use Rattle.cweb_store.specs.inner.BuilderCalls.{HoldsAtMost}
@@ -71,11 +70,10 @@ pub use Rattle.cweb_store.specs.inner.DirectBytes.{direct_bytes}
 pub use Rattle.cweb_store.specs.inner.Faults.{fault_of_name_if}
 pub use Rattle.cweb_store.specs.inner.NameUses.{AreWithin, flag_of}
 pub use Rattle.cweb_store.specs.inner.Links.{has_head}
-pub use Rattle.cweb_store.specs.inner.InternedTokens.{token_of_interned, StringIsWithin, StringsAreWithin, InternsToken}
 pub use Rattle.cweb_store.specs.inner.Links.{followed, AreLinked}
 pub use Rattle.cweb_store.specs.inner.Next.{IsNextNumber, is_name_use}
 pub use Rattle.cweb_store.specs.inner.PartRanges.{ranges_from, IsWhole, closed_in, ArePartRanges, parts_in}
-pub use Rattle.cweb_store.specs.inner.Records.{interned_of_record, AreNumbered}
+pub use Rattle.cweb_store.specs.inner.Records.{AreRecords, InternsToken, StringIsWithin, token_of_record, tokens_of}
 pub use Rattle.cweb_store.specs.inner.Replaced.{replacement_in}
 pub use Rattle.cweb_store.specs.inner.Stored.{replacements_at, stored_in, AreLast, AreStored, last_from}
 pub use Rattle.cweb_store.specs.inner.TokenIndexes.{token_numbers, IsTokenIndex}

@@ -1,7 +1,7 @@
 -- The law of file names.
-use Rattle.cweb_store.proofs.Common.{◌≡◌, ℕ, zero, suc, ◌+◌, Bool, true, false, ◌&&◌, ◌||◌, List, [], ◌∷◌, ◌++◌, Some, None, Option, refl, sym, ◌∙◌, ap, arith, inl, inr, if◌then◌else◌, slice_get, list_any, list_any-append, or-false, eqb-true, eq-eqb, NameId, Occurrence, Resolution, id, resolutions, resolved_at, with_file, with_some, files_from, is_id, is_some_id}
+use Rattle.cweb_store.proofs.Common.{◌≡◌, ℕ, zero, suc, ◌+◌, Bool, true, false, ◌&&◌, ◌||◌, List, [], ◌∷◌, ◌++◌, Some, None, Option, refl, sym, ◌∙◌, ap, arith, inl, inr, slice_get, list_any, list_any-append, or-false, eqb-true, eq-eqb, NameId, Occurrence, Resolution, id, resolutions, resolved_at, with_file, with_some, files_from, is_id, is_some_id}
 use Rattle.std.proofs.Common.{◌⊎◌}
-use Rattle.std.proofs.lemmas.Bool.{or_cases, or_left, or_right, false_from_ne_true}
+use Rattle.std.proofs.lemmas.Bool.{or_cases, or_left, false_from_ne_true}
 use Rattle.cweb_store.specs.laws.NameLaws.{IsNamedAsFile, AreDistinctIds, FilesAreNamesOfOccurrences}
 use Rattle.cweb_store.proofs.NameSetLemmas.{any-with_some}
 
@@ -25,12 +25,8 @@ record FileAt (rs : List Resolution) (i : ℕ) (os : List Occurrence) (n : NameI
 any-with_file : (rs : List Resolution) (fs : List NameId) (i : ℕ) (o : Occurrence) (n : NameId)
     → list_any (is_id n) (with_file rs fs i o)
     ≡ (list_any (is_id n) fs || (o.is_file && is_some_id n (resolved_at rs i)))
-any-with_file rs fs i o n = elim o.is_file as (λ b.
-    list_any (is_id n) (if b then with_some fs (resolved_at rs i) else fs)
-    ≡ (list_any (is_id n) fs || (b && is_some_id n (resolved_at rs i)))) [
-      | true ↦ any-with_some n (resolved_at rs i) fs
-      | false ↦ sym (or-false (list_any (is_id n) fs))
-    ]
+any-with_file rs fs i o n =
+    grind (arith, o.is_file, any-with_some n (resolved_at rs i) fs, or-false (list_any (is_id n) fs))
 
 file_here : (rs : List Resolution) (i : ℕ) (o : Occurrence) (os : List Occurrence) (n : NameId) (file : Bool)
     → o.is_file ≡ file → (file && is_some_id n (resolved_at rs i)) ≡ true → FileAt rs i (o ∷ os) n
@@ -81,11 +77,8 @@ named rs fs i [] n k x there file is = cc
 named rs fs i (o ∷ os) n zero x there file is =
     let same : o ≡ x = cc in
     let here : resolved_at rs i ≡ Some n = ap (resolved_at rs) (let e : i ≡ i + 0 = omega arith in e) ∙ is in
-    let test : (o.is_file && is_some_id n (resolved_at rs i)) ≡ true =
-    ap (λ b. b && is_some_id n (resolved_at rs i)) (ap (λ (y : Occurrence). y.is_file) same ∙ file)
-    ∙ ap (is_some_id n) here ∙ eq-eqb n.0 n.0 refl in
-    kept rs (with_file rs fs i o) (i + 1) os n (any-with_file rs fs i o n
-    ∙ or_right (list_any (is_id n) fs) (o.is_file && is_some_id n (resolved_at rs i)) test)
+    kept rs (with_file rs fs i o) (i + 1) os n
+    (grind (arith, any-with_file rs fs i o n, here, same, file, eq-eqb n.0 n.0 refl, list_any (is_id n) fs))
 named rs fs i (o ∷ os) n (suc k) x there file is =
     named rs (with_file rs fs i o) (i + 1) os n k x there file
     (ap (resolved_at rs) (let e : (i + 1) + k ≡ i + suc k = omega arith in e) ∙ is)
@@ -97,34 +90,18 @@ apart n m h = false_from_ne_true (is_id m n) (λ e.
 distinct-push : (ns : List NameId) (n : NameId) → AreDistinctIds ns → list_any (is_id n) ns ≡ false
     → AreDistinctIds (ns ++ n ∷ [])
 distinct-push [] n d h = (refl, tt)
-distinct-push (m ∷ ns) n d h = by (is_id n m) refl h (λ e. distinct-push ns n d.1 e)
-  where
-    by : (b : Bool) → is_id n m ≡ b → (b || list_any (is_id n) ns) ≡ false
-        → (list_any (is_id n) ns ≡ false → AreDistinctIds (ns ++ n ∷ [])) → AreDistinctIds ((m ∷ ns) ++ n ∷ [])
-    by true e h later = cc
-    by false e h later = (
-      list_any-append (is_id m) ns (n ∷ []) ∙ ap (λ b. b || list_any (is_id m) (n ∷ [])) d.0
-          ∙ ap (λ b. b || false) (apart n m e),
-      later h,
-    )
+distinct-push (m ∷ ns) n d h =
+    grind (arith, is_id n m, apart n m, d, list_any-append (is_id m) ns (n ∷ []), distinct-push ns n d.1)
 
 distinct-with : (ns : List NameId) (o : Option NameId) → AreDistinctIds ns → AreDistinctIds (with_some ns o)
 distinct-with ns None d = d
-distinct-with ns (Some n) d = by (list_any (is_id n) ns) refl
-  where
-    by : (b : Bool) → list_any (is_id n) ns ≡ b → AreDistinctIds (if b then ns else ns ++ n ∷ [])
-    by true e = d
-    by false e = distinct-push ns n d e
+distinct-with ns (Some n) d = grind (arith, list_any (is_id n) ns, distinct-push ns n d)
 
 distinct-from : (rs : List Resolution) (fs : List NameId) (i : ℕ) (os : List Occurrence) → AreDistinctIds fs
     → AreDistinctIds (files_from rs fs i os)
 distinct-from rs fs i [] d = d
 distinct-from rs fs i (o ∷ os) d =
-    distinct-from rs (with_file rs fs i o) (i + 1) os (by o.is_file)
-  where
-    by : (b : Bool) → AreDistinctIds (if b then with_some fs (resolved_at rs i) else fs)
-    by true = distinct-with fs (resolved_at rs i) d
-    by false = d
+    grind (arith, o.is_file, distinct-with fs (resolved_at rs i) d, distinct-from rs (with_file rs fs i o) (i + 1) os)
 
 file_named : (os : List Occurrence) (n : NameId) → FileAt (resolutions os) 0 os n → IsNamedAsFile os n
 file_named os n f = record {

@@ -1,5 +1,7 @@
 -- The laws of names and parts.
-use Rattle.cweb_store.proofs.Common.{◌≡◌, ℕ, zero, suc, ◌+◌, Bool, true, false, List, [], ◌∷◌, ◌++◌, Some, None, Option, length, take, refl, sym, ◌∙◌, ap, arith, append_assoc, append-nil, Ok, Err, bytes_eq, if◌then◌else◌, nat_eq, slice_get, option_map, option_and_then, fold, filter_map, list_any, starts_with, position_or_len, map-append, bytes_eq-Decides, list_any-append, How, Full, Prefix, NameId, NeverFull, PartKind, Occurrence, Name, Resolution, id, spellings, with_full_name, with_occurrence_name, names_from, names, beginning_from, beginning, the_one, resolved_among, resolutions_from, resolutions, resolved_at, Part, joined_where, Call, Occurs, Opens, Pushes, Drops, Closes, Transliterates, Contents, after_call, empty, defines_with_prefix, AbbreviationsStay, EarlierNamesDecide, FullNamesResolveToThemselves, JoiningConcatenates, OccurrencesAreThoseOfCalls, occurrence_of_call, take-append_seam}
+use Rattle.cweb_store.proofs.Common.{◌≡◌, ℕ, zero, suc, ◌+◌, Bool, true, false, List, [], ◌∷◌, ◌++◌, Some, length, take, refl, sym, ◌∙◌, ap, arith, append_assoc, append-nil, Ok, Err, bytes_eq, if◌then◌else◌, nat_eq, slice_get, option_map, fold, filter_map, list_any, starts_with, position_or_len, map-append, bytes_eq-Decides, list_any-append, How, Full, Prefix, NeverFull, PartKind, Occurrence, Name, id, spellings, with_full_name, with_occurrence_name, names_from, names, beginning_from, beginning, the_one, resolved_among, resolutions_from, Part, joined_where, Call, Occurs, Contents, after_call, empty, defines_with_prefix, AbbreviationsStay, EarlierNamesDecide, FullNamesResolveToThemselves, JoiningConcatenates, OccurrencesAreThoseOfCalls, occurrence_of_call, take-append_seam}
+use Rattle.std.proofs.lemmas.List.{take-append-le}
+use Rattle.std.proofs.lemmas.Option.{slice_get_within}
 use Rattle.cweb_store.specs.laws.NameLaws.{NamesDecideResolutions}
 use Rattle.cweb_names.proofs.LongerLemmas.{beginning-step}
 use Rattle.cweb_names.proofs.OccurrenceLemmas.{Grows, names_from-grows, with_text-has}
@@ -21,9 +23,7 @@ get-append (x ∷ os) later (suc k) o h = get-append os later k o h
 
 take-before : (os later : List Occurrence) (k : ℕ) (o : Occurrence)
     → slice_get os k ≡ Some o → take k (os ++ later) ≡ take k os
-take-before [] later k o h = cc
-take-before (x ∷ os) later zero o h = refl
-take-before (x ∷ os) later (suc k) o h = ap (λ xs. x ∷ xs) (take-before os later k o h)
+take-before os later k o h = take-append-le k os later (omega (arith, slice_get_within os k o h))
 
 pub names_from-append : (i j : ℕ) (ns : List Name) (os later : List Occurrence)
     → j ≡ i + length os → names_from i ns (os ++ later) ≡ names_from j (names_from i ns os) later
@@ -76,15 +76,15 @@ among-full before all text Prefix is_file h = cc
 pub abbreviations_stay : AbbreviationsStay
 abbreviations_stay os later i o there prefix none =
     let before = names_from 0 [] (take i os) in
-    let all : beginning o.text (names (os ++ later)) ≡ beginning o.text (names os) =
-    ap (beginning o.text) (names_from-append 0 (length os) [] os later (omega arith))
-    ∙ beginning-later (length os) o.text (names os) later none in
-    resolutions-at 0 [] (names (os ++ later)) (os ++ later) i o (get-append os later i o there)
-    ∙ ap (λ xs. Some (resolved_among (names_from 0 [] xs) (names (os ++ later)) o)) (take-before os later i o there)
-    ∙ ap Some (among-prefix before (names (os ++ later)) o.text o.how o.is_file prefix
-    ∙ ap (λ ns. the_one (beginning o.text before) (the_one ns (Err NeverFull))) all
-    ∙ sym (among-prefix before (names os) o.text o.how o.is_file prefix))
-    ∙ sym (resolutions-at 0 [] (names os) os i o there)
+    cc (
+      names_from-append 0 (length os) [] os later (omega arith),
+      beginning-later (length os) o.text (names os) later none,
+      resolutions-at 0 [] (names (os ++ later)) (os ++ later) i o (get-append os later i o there),
+      take-before os later i o there,
+      among-prefix before (names (os ++ later)) o.text o.how o.is_file prefix,
+      among-prefix before (names os) o.text o.how o.is_file prefix,
+      resolutions-at 0 [] (names os) os i o there,
+    )
 
 get-middle : (earlier later : List Occurrence) (o : Occurrence)
     → slice_get (earlier ++ o ∷ later) (length earlier) ≡ Some o
@@ -94,15 +94,18 @@ get-middle (x ∷ earlier) later o = get-middle earlier later o
 pub names_decide_resolutions : NamesDecideResolutions
 names_decide_resolutions earlier later o =
     let os = earlier ++ o ∷ later in
-    resolutions-at 0 [] (names os) os (length earlier) o (get-middle earlier later o)
-    ∙ ap (λ xs. Some (resolved_among (names_from 0 [] xs) (names os) o)) (take-append_seam earlier (o ∷ later))
+    cc (
+      resolutions-at 0 [] (names os) os (length earlier) o (get-middle earlier later o),
+      take-append_seam earlier (o ∷ later),
+    )
 
 pub earlier_names_decide : EarlierNamesDecide
 earlier_names_decide earlier later o n prefix only =
-    let os = earlier ++ o ∷ later in
-    names_decide_resolutions earlier later o
-    ∙ ap Some (among-prefix (names earlier) (names os) o.text o.how o.is_file prefix
-    ∙ ap (λ ns. the_one ns (the_one (beginning o.text (names os)) (Err NeverFull))) only)
+    cc (
+      names_decide_resolutions earlier later o,
+      among-prefix (names earlier) (names (earlier ++ o ∷ later)) o.text o.how o.is_file prefix,
+      only,
+    )
 
 pub any-grows : (p : List ℕ → Bool) (old new : List Name) → Grows old new
     → list_any p (spellings old) ≡ true → list_any p (spellings new) ≡ true
@@ -137,14 +140,11 @@ text_at-position text (n ∷ ns) h = grind (arith, bytes_eq-Decides text n.text,
 
 pub full_names_resolve_to_themselves : FullNamesResolveToThemselves
 full_names_resolve_to_themselves os i o there full =
-    let n = id (position_or_len (bytes_eq o.text) (spellings (names os))) in
-    let at : slice_get (resolutions os) i ≡ Some (Ok n) = resolutions-at 0 [] (names os) os i o there
-    ∙ ap Some (among-full (names_from 0 [] (take i os)) (names os) o.text o.how o.is_file full) in
-    let here : resolved_at (resolutions os) i ≡ Some n = ap (λ (r : Option Resolution).
-    let found : Option NameId = elim r [ Some v ↦ elim v [ Ok m ↦ Some m | Err kind ↦ None ] | None ↦ None ] in
-    found) at in
-    ap (option_and_then (λ (m : NameId). option_map (λ (k : Name). k.text) (slice_get (names os) m.0))) here
-    ∙ text_at-position o.text (names os) (names-has 0 [] os i o there full)
+    cc (
+      resolutions-at 0 [] (names os) os i o there,
+      among-full (names_from 0 [] (take i os)) (names os) o.text o.how o.is_file full,
+      text_at-position o.text (names os) (names-has 0 [] os i o there full),
+    )
 
 joined-append : (test : PartKind → Bool) (ps qs : List Part)
     → joined_where test (ps ++ qs) ≡ joined_where test ps ++ joined_where test qs
@@ -161,11 +161,7 @@ occurrences-from c [] = sym (append-nil c.occurrences)
 occurrences-from c (Occurs o ∷ calls) =
     occurrences-from (after_call c (Occurs o)) calls
     ∙ append_assoc c.occurrences (o ∷ []) (filter_map occurrence_of_call calls)
-occurrences-from c (Opens kind ∷ calls) = occurrences-from (after_call c (Opens kind)) calls
-occurrences-from c (Pushes token ∷ calls) = occurrences-from (after_call c (Pushes token)) calls
-occurrences-from c (Drops ∷ calls) = occurrences-from (after_call c Drops) calls
-occurrences-from c (Closes ∷ calls) = occurrences-from (after_call c Closes) calls
-occurrences-from c (Transliterates r ∷ calls) = occurrences-from (after_call c (Transliterates r)) calls
+occurrences-from c (call ∷ calls) = occurrences-from (after_call c call) calls
 
 pub occurrences_are_those_of_calls : OccurrencesAreThoseOfCalls
 occurrences_are_those_of_calls calls = occurrences-from empty calls

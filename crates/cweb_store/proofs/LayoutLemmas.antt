@@ -1,5 +1,7 @@
 -- Lists of tokens without trailing ones.
-use Rattle.cweb_store.proofs.Common.{◌≡◌, ℕ, zero, suc, ◌+◌, ◌≤◌, Bool, true, false, List, [], ◌∷◌, ◌++◌, Some, length, take, drop, refl, ◌∙◌, ap, arith, slice_get, if◌then◌else◌, Token, before_last, without_last, without_last_after, without_blank, is_blank}
+use Rattle.cweb_store.proofs.Common.{◌≡◌, ℕ, zero, suc, ◌+◌, ◌≤◌, Bool, true, false, List, [], ◌∷◌, ◌++◌, Some, length, take, drop, refl, ◌∙◌, ap, append-nil, arith, slice_get, if◌then◌else◌, Token, before_last, without_last, without_last_after, without_blank, is_blank}
+use Rattle.std.proofs.lemmas.List.{length-take, take_all}
+use Rattle.std.proofs.Math.ListN.{drop_of_length-le}
 
 before_last-some : (test : Token → Bool) (x : Token) (xs : List Token) (t : Token)
     → before_last test x (xs ++ t ∷ []) ≡ x ∷ xs ++ t ∷ []
@@ -27,10 +29,7 @@ trim-next (suc n) test (x ∷ ts) (suc k) t h le = grind (arith, trim-next n tes
 
 -- If all tokens are protected, none is dropped.
 pub trim-none : (n : ℕ) (test : Token → Bool) (ts : List Token) → length ts ≤ n → without_last_after n test ts ≡ ts
-trim-none zero test [] h = refl
-trim-none (suc n) test [] h = refl
-trim-none zero test (t ∷ ts) h = absurd (let none : ⊥ = omega arith in none)
-trim-none (suc n) test (t ∷ ts) h = ap (λ us. t ∷ us) (trim-none n test ts (omega arith))
+trim-none n test ts h = cc (take_all n ts h, drop_of_length-le ts h, append-nil ts)
 
 -- The tokens after the first ones.
 pub trim-drop : (first n : ℕ) (test : Token → Bool) (ts : List Token)
@@ -53,22 +52,13 @@ drop-next (suc from) (x ∷ ts) zero t h le = absurd (let none : ⊥ = omega ari
 drop-next (suc from) (x ∷ ts) (suc k) t h le = drop-next from ts k t h (omega arith)
 
 pub drop-all : (from : ℕ) (ts : List Token) (n : ℕ) → n ≤ from → drop from (take n ts) ≡ []
-drop-all zero [] zero le = refl
-drop-all (suc from) [] zero le = refl
-drop-all zero [] (suc n) le = refl
-drop-all (suc from) [] (suc n) le = refl
-drop-all zero (t ∷ ts) zero le = refl
-drop-all (suc from) (t ∷ ts) zero le = refl
-drop-all zero (t ∷ ts) (suc n) le = absurd (let none : ⊥ = omega arith in none)
-drop-all (suc from) (t ∷ ts) (suc n) le = drop-all from ts n (omega arith)
+drop-all from ts n le = drop_of_length-le (take n ts) (omega (arith, length-take n ts, le))
 
 pub blank-push : (xs : List Token) (t : Token)
     → without_blank (xs ++ t ∷ []) ≡ (if is_blank t then xs else xs ++ t ∷ [])
 blank-push [] t = refl
 blank-push (x ∷ []) t = grind arith
-blank-push (x ∷ y ∷ ys) t = ap (λ us. x ∷ us) (blank-push (y ∷ ys) t)
-    ∙ (elim (is_blank t) as (λ b. x ∷ (if b then y ∷ ys else y ∷ ys ++ t ∷ [])
-    ≡ (if b then x ∷ y ∷ ys else x ∷ y ∷ ys ++ t ∷ [])) [ true ↦ refl | false ↦ refl ])
+blank-push (x ∷ y ∷ ys) t = grind (arith, is_blank t, blank-push (y ∷ ys) t)
 
 -- Whether the last token is a Blank.
 pub blank-dropped : (from : ℕ) (ts : List Token) (k : ℕ) (t : Token) → slice_get ts k ≡ Some t

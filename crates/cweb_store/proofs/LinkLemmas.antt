@@ -1,5 +1,5 @@
 -- Following the links visits exactly the wanted parts.
-use Rattle.cweb_store.proofs.Common.{◌||◌, nat_lt, list_any, is_of, has_head, NameId, ◌≡◌, ℕ, zero, suc, ◌+◌, ◌-◌, ◌≤◌, Bool, true, false, List, [], ◌∷◌, Option, Some, length, drop, ◌++◌, get_or, refl, sym, ◌∙◌, ap, subst, arith, length-drop, slice_get, if◌then◌else◌, take_all, PartKind, Unnamed, Named, Macro, PartRange, Resolution, is_wanted, followed, AreLinked, slice_range}
+use Rattle.cweb_store.proofs.Common.{◌||◌, nat_lt, list_any, is_of, has_head, NameId, ◌≡◌, ℕ, zero, suc, ◌+◌, ◌-◌, ◌≤◌, Bool, true, false, List, [], ◌∷◌, Option, Some, length, drop, ◌++◌, get_or, refl, sym, ◌∙◌, ap, arith, length-drop, slice_get, if◌then◌else◌, take_all, PartKind, Unnamed, Named, Macro, PartRange, Resolution, is_wanted, followed, AreLinked, slice_range}
 use Rattle.std.proofs.Common.{reverse, drop-cons}
 use Rattle.std.proofs.lemmas.List.{reverse-append}
 use Rattle.cweb_store.specs.declared.parts.iter.Wanted.{Wanted}
@@ -92,13 +92,15 @@ pub step-linked : (rs : List Resolution) (ranges : List PartRange) (i after skip
     → suc i + after ≡ length ranges → IsPut group after old skip new → more ≡ kept ++ skip ∷ []
     → AreLinked rs (drop (suc i) ranges) (reverse kept) old → AreLinked rs (drop i ranges) (reverse more) new
 step-linked rs ranges i after skip d kept more group old new belongs count put is linked =
-    let others = drop (suc i) ranges in
-    let size : after ≡ length others = omega (arith, length-drop (suc i) ranges, count) in
-    let here : drop i ranges ≡ get_or ranges i d ∷ others = drop-cons ranges i d (omega (arith, count)) in
-    let back : reverse more ≡ skip ∷ reverse kept = ap reverse is ∙ reverse-append kept (skip ∷ []) in
-    let put_here : IsPut (group_of rs (get_or ranges i d).kind) (length others) old skip new =
-    subst (λ (n : ℕ). IsPut (group_of rs (get_or ranges i d).kind) n old skip new) size
-    (subst (λ (g : Option Wanted). IsPut g after old skip new) belongs put) in
-    subst (λ (xs : List PartRange). AreLinked rs xs (reverse more) new) (sym here)
-    (subst (λ (ks : List ℕ). AreLinked rs (get_or ranges i d ∷ others) ks new) (sym back)
-    (put-linked rs (get_or ranges i d) others (reverse kept) old skip new put_here linked))
+    grind (
+      arith,
+      length-drop (suc i) ranges,
+      drop-cons ranges i d,
+      reverse-append kept (skip ∷ []),
+      put-linked rs (get_or ranges i d) (drop (suc i) ranges) (reverse kept) old skip new,
+      belongs,
+      count,
+      put,
+      is,
+      linked,
+    )

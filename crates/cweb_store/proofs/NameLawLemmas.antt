@@ -1,5 +1,5 @@
 -- Laws of names, abbreviations and their faults.
-use Rattle.cweb_store.proofs.Common.{◌≡◌, ℕ, zero, suc, ◌+◌, ◌<◌, true, false, cond, List, [], ◌∷◌, ◌++◌, Some, None, Option, length, take, drop, refl, sym, ◌∙◌, ap, subst, arith, eq-eqb, Ok, Err, if◌then◌else◌, nat_eq, slice_get, option_map, option_and_then, filter, option_to_list, starts_with, eqb-true, take-append-drop, NameId, NeverFull, Occurrence, Name, Resolution, id, spellings, with_full_name, with_occurrence_name, names_from, names, beginning_from, beginning, the_one, resolved_among, resolutions, fault_of_name, unresolved_fault, unresolved_faults_from, Distinct, NamesAreDistinct, AbbreviationsBeginTheirNames, OneFaultForNoName}
+use Rattle.cweb_store.proofs.Common.{◌≡◌, ℕ, zero, suc, ◌+◌, ◌<◌, true, false, List, [], ◌∷◌, ◌++◌, Some, None, Option, length, take, drop, refl, sym, ◌∙◌, subst, arith, eq-eqb, Ok, Err, nat_eq, slice_get, option_map, option_and_then, filter, option_to_list, starts_with, eqb-true, take-append-drop, NameId, NeverFull, Occurrence, Name, Resolution, spellings, with_full_name, with_occurrence_name, names_from, names, beginning_from, beginning, the_one, resolved_among, unresolved_fault, unresolved_faults_from, Distinct, NamesAreDistinct, AbbreviationsBeginTheirNames, OneFaultForNoName}
 use Rattle.cweb_store.specs.laws.MoreLaws.{is_at}
 use Rattle.cweb_store.proofs.RangeLemmas.{drop-here}
 use Rattle.cweb_names.proofs.NameLemmas.{Distinct-push, strings-push}
@@ -32,15 +32,16 @@ first-begins all [] i p n more h found = cc
 first-begins all (m ∷ ns) i p n more h found =
     let here = drop-here all i m ns h in
     let next : suc i ≡ i + 1 = omega arith in
-    let rest = beginning_from (i + 1) p ns in
-    (elim (starts_with nat_eq m.text p)
-    as (λ b. starts_with nat_eq m.text p ≡ b → (if b then id i ∷ rest else rest) ≡ n ∷ more → Begins p all n) [
-      | true ↦ λ yes is.
-          let same : id i ≡ n = cc in
-          subst (λ (k : NameId). Begins p all k) same
-          (ap (option_map (λ (x : Name). starts_with nat_eq x.text p)) here.0 ∙ ap Some yes)
-      | false ↦ λ not_here is. first-begins all ns (i + 1) p n more (ap (λ k. drop k all) (sym next) ∙ here.1) is
-    ]) refl (sym (beginning-step i p m ns) ∙ found)
+    grind (
+      arith,
+      starts_with nat_eq m.text p,
+      here.0,
+      here.1,
+      next,
+      found,
+      beginning-step i p m ns,
+      first-begins all ns (i + 1) p n more,
+    )
 
 get-grows : (ns more : List Name) (k : ℕ) (p : List ℕ)
     → option_map (λ (m : Name). starts_with nat_eq m.text p) (slice_get ns k) ≡ Some true
@@ -81,15 +82,9 @@ pub abbreviations_begin_their_names : AbbreviationsBeginTheirNames
 abbreviations_begin_their_names os i o text there prefix is =
     let all = names os in
     let before = names_from 0 [] (take i os) in
-    let r = resolved_among before all o in
-    let at : slice_get (resolutions os) i ≡ Some r = resolutions-at 0 [] all os i o there in
-    let found : option_and_then (λ (n : NameId). option_map (λ (m : Name). m.text) (slice_get all n.0))
-    (elim r [ Ok n ↦ Some n | Err kind ↦ None ]) ≡ Some text =
-    sym (ap (λ (x : Option Resolution). option_and_then (λ (n : NameId). option_map (λ (m : Name). m.text)
-    (slice_get all n.0)) (elim x [ Some v ↦ elim v [ Ok m ↦ Some m | Err kind ↦ None ] | None ↦ None ])) at)
-    ∙ is in
-    standing-begins o.text all r text (λ n e. stored-begins o.text before all n
-    (prefix-grows i os) (sym (among-prefix before all o.text o.how o.is_file prefix) ∙ e)) found
+    standing-begins o.text all (resolved_among before all o) text (λ n e. stored-begins o.text before all n
+    (prefix-grows i os) (sym (among-prefix before all o.text o.how o.is_file prefix) ∙ e))
+    (cc (resolutions-at 0 [] all os i o there, is))
 
 differs : (j k : ℕ) → (j ≡ k → ⊥) → nat_eq j k ≡ false
 differs j k apart = grind (arith, eqb-true j k)
@@ -102,16 +97,10 @@ no-faults k j (Err kind ∷ rs) h = grind (arith, differs j k, no-faults k (j + 
 own-fault : (j k : ℕ) (rs : List Resolution) (i : ℕ) (r : Resolution) → slice_get rs i ≡ Some r
     → k ≡ j + i → filter (is_at k) (unresolved_faults_from j rs) ≡ option_to_list (unresolved_fault k r)
 own-fault j k [] i r h e = cc
-own-fault j k (Ok m ∷ rs) zero r h e =
-    let same : Ok m ≡ r = cc in
-    no-faults k (j + 1) rs (omega arith) ∙ ap (λ x. option_to_list (unresolved_fault k x)) same
+own-fault j k (Ok m ∷ rs) zero r h e = grind (arith, no-faults k (j + 1) rs (omega arith))
 own-fault j k (Err kind ∷ rs) zero r h e =
-    let same : Err kind ≡ r = cc in
-    let rest = filter (is_at k) (unresolved_faults_from (j + 1) rs) in
     let place : j ≡ k = omega arith in
-    ap (λ b. cond b (fault_of_name kind j ∷ rest) rest) (eq-eqb j k place)
-    ∙ (λ t. fault_of_name kind (place t) ∷ no-faults k (j + 1) rs (omega arith) t)
-    ∙ ap (λ x. option_to_list (unresolved_fault k x)) same
+    grind (arith, eq-eqb j k place, place, no-faults k (j + 1) rs (omega arith))
 own-fault j k (Ok m ∷ rs) (suc i) r h e = own-fault (j + 1) k rs i r h (omega arith)
 own-fault j k (Err kind ∷ rs) (suc i) r h e = grind (arith, differs j k, own-fault (j + 1) k rs i r h (omega arith))
 

@@ -1,19 +1,18 @@
 -- Membership in lists of names, and the names of parts and their ranges.
-use Rattle.cweb_store.proofs.Common.{◌≡◌, ℕ, ◌+◌, true, false, ◌||◌, List, [], ◌∷◌, ◌++◌, Some, None, Option, length, refl, sym, ◌∙◌, ap, nat_eq, list_any, eqb-true, list_any-append, NameId, PartRange, Resolution, Part, is_id, with_id, with_some, if◌then◌else◌, is_some_id, is_of, ranges_from, has_part, or-false}
+use Rattle.cweb_store.proofs.Common.{arith, ◌≡◌, ℕ, ◌+◌, ◌||◌, List, [], ◌∷◌, Some, None, Option, length, refl, sym, ap, list_any, eqb-true, list_any-append, NameId, PartRange, Resolution, Part, is_id, with_id, with_some, is_some_id, is_of, ranges_from, has_part, or-false}
 
 any-with_id : (n m : NameId) (ns : List NameId)
     → list_any (is_id n) (with_id ns m) ≡ (list_any (is_id n) ns || is_id n m)
-any-with_id n m ns = (elim (list_any (is_id m) ns) as (λ b. list_any (is_id m) ns ≡ b
-    → list_any (is_id n) (if b then ns else ns ++ m ∷ []) ≡ (list_any (is_id n) ns || is_id n m)) [
-      | true ↦ λ h. (elim (is_id n m) as (λ e. is_id n m ≡ e → list_any (is_id n) ns ≡ (list_any (is_id n) ns || e)) [
-        | true ↦ λ e.
-            let there : list_any (is_id n) ns ≡ true =
-            ap (λ k. list_any (λ (x : NameId). nat_eq k x.0) ns) (eqb-true n.0 m.0 e) ∙ h in
-            there ∙ ap (λ b. b || true) (sym there)
-        | false ↦ λ e. sym (or-false (list_any (is_id n) ns))
-      ]) refl
-      | false ↦ λ h. list_any-append (is_id n) ns (m ∷ []) ∙ ap (λ b. list_any (is_id n) ns || b) (or-false (is_id n m))
-    ]) refl
+any-with_id n m ns =
+    grind (
+      arith,
+      list_any (is_id m) ns,
+      is_id n m,
+      eqb-true n.0 m.0,
+      list_any-append (is_id n) ns (m ∷ []),
+      or-false (list_any (is_id n) ns),
+      or-false (is_id n m),
+    )
 
 pub any-with_some : (n : NameId) (o : Option NameId) (ns : List NameId)
     → list_any (is_id n) (with_some ns o) ≡ (list_any (is_id n) ns || is_some_id n o)

@@ -1,11 +1,11 @@
 -- The first index entry from a part's first token on.
-use Rattle.cweb_store.proofs.Common.{◌≡◌, ◌≤◌, ◌<◌, ◌+◌, ◌-◌, ℕ, zero, suc, Bool, true, false, ◌||◌, List, [], ◌∷◌, length, get_or, take, drop, refl, sym, ◌∙◌, ap, subst, arith, if◌then◌else◌, list_any, Token, IsNextNumber, token_numbers, nat_lt}
+use Rattle.cweb_store.proofs.Common.{◌≡◌, ◌≤◌, ◌<◌, ◌+◌, ◌-◌, ℕ, zero, suc, Bool, true, false, List, [], ◌∷◌, length, get_or, take, drop, refl, sym, ◌∙◌, ap, subst, arith, if◌then◌else◌, list_any, Token, IsNextNumber, token_numbers, nat_lt}
 use Rattle.std.proofs.Common.{drop-cons, drop_of_length-le}
 use Rattle.std.specs.List.{prefix_len}
 use Rattle.std.specs.List.Sorted.{IsNonDecreasing}
 use Rattle.cweb_store.specs.inner.Next.{HasPassingToken}
 use Rattle.cweb_store.specs.declared.parts.Part.{Part}
-use Rattle.cweb_store.proofs.TokenIndexLemmas.{numbers-rise, numbers-cut}
+use Rattle.cweb_store.proofs.TokenIndexLemmas.{index-cut}
 
 -- The first of the numbers, if there is one, is at least a bound.
 abbrev pub BeginsFrom : ℕ → List ℕ → Type 0
@@ -18,13 +18,8 @@ none-before : (test : Token → Bool) (n k : ℕ) (ts : List Token)
 none-before test n zero ts from = refl
 none-before test n (suc k) [] from = refl
 none-before test n (suc k) (t ∷ ts) from =
-    let rest = token_numbers test (n + 1) ts in
     let next : n + suc k ≡ (n + 1) + k = omega arith in
-    (elim (test t) as (λ b.
-    BeginsFrom (n + suc k) (if b then n ∷ rest else rest) → (b || list_any test (take k ts)) ≡ false) [
-      | true ↦ λ low. absurd (let none : ⊥ = omega (arith, low) in none)
-      | false ↦ λ low. none-before test (n + 1) k ts (subst (λ m. BeginsFrom m rest) next low)
-    ]) from
+    grind (arith, next, test t, from, none-before test (n + 1) k ts)
 
 -- The token at the first number passes.
 first-passes : (test : Token → Bool) (n m : ℕ) (ts : List Token) (xs : List ℕ)
@@ -57,23 +52,13 @@ passes-after test (t ∷ ts) (suc n) k p = grind (arith, passes-after test ts n 
 head-at : (xs : List ℕ) (i m : ℕ) → i < length xs → m ≡ get_or xs i m → drop i xs ≡ m ∷ drop (suc i) xs
 head-at xs i m less is = drop-cons xs i m less ∙ ap (λ x. x ∷ drop (suc i) xs) (sym is)
 
--- The entries from the first one that isn't below a part's first token.
-token_index-after : (test : Token → Bool) (ts : List Token) (xs : List ℕ) (n i : ℕ) → xs ≡ token_numbers test 0 ts
-    → (IsNonDecreasing xs → i ≡ prefix_len (λ x. nat_lt x n) xs) → drop i xs ≡ token_numbers test n (drop n ts)
-token_index-after test ts xs n i are count =
-    grind (
-      arith,
-      count (subst IsNonDecreasing (sym are) (numbers-rise test 0 ts)),
-      numbers-cut test 0 n n ts (omega arith),
-    )
-
 pub next-is : (test : Token → Bool) (ts : List Token) (part : Part) (xs : List ℕ) (i m : ℕ)
     → xs ≡ token_numbers test 0 ts → (IsNonDecreasing xs → i ≡ prefix_len (λ x. nat_lt x part.first) xs)
     → i < length xs → m ≡ get_or xs i m → m < part.after → IsNextNumber test ts part m
 next-is test ts part xs i m are count some here less =
     let n = part.first in
     let head : token_numbers test n (drop n ts) ≡ m ∷ drop (suc i) xs =
-    sym (token_index-after test ts xs n i are count) ∙ head-at xs i m some here in
+    sym ((index-cut test xs ts n i are count).1) ∙ head-at xs i m some here in
     let first = first-passes test n m (drop n ts) (drop (suc i) xs) head in
     let place : n + (m - n) ≡ m = omega (arith, first.0) in
     record {
@@ -93,7 +78,7 @@ pub next-none : (test : Token → Bool) (ts : List Token) (part : Part) (xs : Li
     → xs ≡ token_numbers test 0 ts → (IsNonDecreasing xs → i ≡ prefix_len (λ x. nat_lt x part.first) xs)
     → part.first ≤ part.after → length xs ≤ i → IsNextNumber test ts part part.after
 next-none test ts part xs i are count le here =
-    let following = token_index-after test ts xs part.first i are count in
+    let following = (index-cut test xs ts part.first i are count).1 in
     none-found test ts part le (subst (BeginsFrom part.after) (sym (drop_of_length-le xs here) ∙ following) tt)
 
 pub next-past : (test : Token → Bool) (ts : List Token) (part : Part) (xs : List ℕ) (i m : ℕ)
@@ -101,5 +86,5 @@ pub next-past : (test : Token → Bool) (ts : List Token) (part : Part) (xs : Li
     → part.first ≤ part.after → i < length xs → m ≡ get_or xs i m → part.after ≤ m
     → IsNextNumber test ts part part.after
 next-past test ts part xs i m are count le some here past =
-    let following = token_index-after test ts xs part.first i are count in
+    let following = (index-cut test xs ts part.first i are count).1 in
     none-found test ts part le (subst (BeginsFrom part.after) (sym (head-at xs i m some here) ∙ following) past)

@@ -1,5 +1,5 @@
 -- Parts as ranges of token indices.
-use Rattle.cweb_store.proofs.Common.{◌≡◌, ℕ, ◌+◌, ◌≤◌, ◌<◌, Bool, true, false, cond, List, [], ◌∷◌, map, filter, length, drop, refl, ap, arith, length-append, All, AllByRecursion, list_any, take-append_seam, drop-append_seam, All-from_recursion, PartKind, PartRange, Token, Part, all_tokens, joined_where, numbers_where, tokens_at, ranges_from, drop-drop}
+use Rattle.cweb_store.proofs.Common.{◌≡◌, ℕ, ◌+◌, ◌≤◌, ◌<◌, Bool, true, List, [], ◌∷◌, map, filter, length, drop, refl, arith, length-append, All, AllByRecursion, list_any, take-append_seam, drop-append_seam, All-from_recursion, PartKind, PartRange, Token, Part, all_tokens, joined_where, numbers_where, tokens_at, ranges_from, drop-drop}
 use Rattle.cweb_store.specs.surface.Parts.{numbers_from}
 use Rattle.cweb_store.specs.declared.parts.Part as declared
 
@@ -8,15 +8,7 @@ pub part-ranges : (test : PartKind → Bool) (n : ℕ) (ps : List Part)
     → map (λ (r : PartRange). r.part) (filter (λ (r : PartRange). test r.kind) (ranges_from n ps))
     ≡ numbers_from test n ps
 part-ranges test n [] = refl
-part-ranges test n (p ∷ ps) =
-    let after = n + length p.tokens in
-    let ranges = filter (λ (r : PartRange). test r.kind) (ranges_from after ps) in
-    let rest = numbers_from test after ps in
-    let number : declared.Part = record { first = n; after = after } in
-    let later = part-ranges test after ps in
-    elim (test p.kind) as
-    (λ b. map (λ (r : PartRange). r.part) (cond b ((record { kind = p.kind; part = number }) ∷ ranges)
-    ranges) ≡ cond b (number ∷ rest) rest) [ true ↦ ap (λ ns. number ∷ ns) later | false ↦ later ]
+part-ranges test n (p ∷ ps) = grind (arith, test p.kind, part-ranges test (n + length p.tokens) ps)
 
 text_from : (test : PartKind → Bool) (parts : List Part) (n : ℕ) (ts : List Token)
     → drop n ts ≡ all_tokens parts → tokens_at ts (numbers_from test n parts) ≡ joined_where test parts
@@ -39,13 +31,13 @@ within_from : (test : PartKind → Bool) (parts : List Part) (n end : ℕ) → n
     → AllByRecursion (λ (p : declared.Part). p.after ≤ end) (numbers_from test n parts)
 within_from test [] n end h = tt
 within_from test (p ∷ parts) n end h =
-    let size = length p.tokens in
-    let fits : n + size + length (all_tokens parts) ≤ end =
-    omega (arith, h, length-append p.tokens (all_tokens parts)) in
-    let later = within_from test parts (n + size) end fits in
-    elim (test p.kind) as (λ b. AllByRecursion (λ (q : declared.Part). q.after ≤ end)
-    (cond b ((record { first = n; after = n + size }) ∷ numbers_from test (n + size) parts)
-    (numbers_from test (n + size) parts))) [ true ↦ (omega arith, later) | false ↦ later ]
+    grind (
+      arith,
+      test p.kind,
+      h,
+      length-append p.tokens (all_tokens parts),
+      within_from test parts (n + length p.tokens) end,
+    )
 
 -- The ranges are within the tokens.
 pub numbers-within : (test : PartKind → Bool) (parts : List Part)

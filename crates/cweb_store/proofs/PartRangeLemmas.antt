@@ -1,5 +1,5 @@
 -- Changes of parts that are ranges of one list of tokens.
-use Rattle.cweb_store.proofs.Common.{◌≡◌, ℕ, ◌+◌, ◌-◌, ◌≤◌, ◌<◌, List, [], ◌∷◌, ◌++◌, Some, None, Option, map, length, take, drop, refl, sym, ◌∙◌, ap, subst, arith, append_assoc, append-nil, length-append, length-drop, option_map, IsSome, take-append-drop, take_all, map-append, flat_map-append, PartKind, PartRange, Token, Part, all_tokens, all_parts, with_pushed_token, too_many, ranges_from, IsWhole, closed_in, slice_range, Open}
+use Rattle.cweb_store.proofs.Common.{◌≡◌, ℕ, ◌+◌, ◌-◌, ◌≤◌, ◌<◌, List, [], ◌∷◌, ◌++◌, Some, None, Option, map, length, take, drop, refl, sym, ap, subst, arith, append_assoc, append-nil, length-append, length-drop, option_map, IsSome, take-append-drop, take_all, map-append, flat_map-append, PartKind, PartRange, Token, Part, all_tokens, all_parts, with_pushed_token, too_many, ranges_from, IsWhole, closed_in, slice_range, Open}
 use Rattle.std.proofs.Math.Seq.{drop-length, length-take-le}
 use Rattle.std.proofs.lemmas.List.{drop-drop, drop-append-le, take-append-le, drop-take, take-take}
 use Rattle.cweb_store.specs.inner.PartRanges.{last_range, open_in, parts_in, RangesFollow, ArePartRanges}
@@ -90,16 +90,10 @@ pub close-parts : (ts : List Token) (ranges : List PartRange) (o : Open) (places
     → parts_in ts (ranges ++ last_range o (length ts) ∷ []) None
     ≡ record { closed = all_parts (parts_in ts ranges (Some o)); current = None }
 close-parts ts ranges o places tied =
-    let last : slice_range ts o.first (length ts) ≡ drop o.first ts =
-    take_all (length ts - o.first) (drop o.first ts) (omega (arith, length-drop o.first ts)) in
-    λ i.
-    record {
-      closed = (map-append (closed_in ts) ranges (last_range o (length ts) ∷ []) ∙ ap (λ us.
-          let p : Part = record { kind = o.kind; tokens = us } in
-          map (closed_in ts) ranges ++ p ∷ []) last)
-          i;
-      current = None;
-    }
+    cc (
+      take_all (length ts - o.first) (drop o.first ts) (omega (arith, length-drop o.first ts)),
+      map-append (closed_in ts) ranges (last_range o (length ts) ∷ []),
+    )
 
 pub close-are : (ts : List Token) (ranges : List PartRange) (o : Open) (places more : ℕ)
     → ArePartRanges ts ranges (Some o) places → ArePartRanges ts (ranges ++ last_range o (length ts) ∷ []) None more
@@ -150,9 +144,12 @@ close-cut-are ts ranges o places more n tied le within =
 -- Closed parts cover all tokens.
 pub whole-tokens : (ts : List Token) (ranges : List PartRange) → IsWhole ts ranges
     → all_tokens (map (closed_in ts) ranges) ≡ ts
-whole-tokens ts ranges tied = sym (append-nil (all_tokens (map (closed_in ts) ranges)))
-    ∙ ap (λ us. all_tokens (map (closed_in ts) ranges) ++ us) (sym (drop-length ts))
-    ∙ closed-whole ranges ts 0 (length ts) tied.follow (omega arith)
+whole-tokens ts ranges tied =
+    cc (
+      append-nil (all_tokens (map (closed_in ts) ranges)),
+      drop-length ts,
+      closed-whole ranges ts 0 (length ts) tied.follow (omega arith),
+    )
 
 pub stored-ranges : (ts : List Token) (ranges : List PartRange) → IsWhole ts ranges
     → ranges ≡ ranges_from 0 (map (closed_in ts) ranges)

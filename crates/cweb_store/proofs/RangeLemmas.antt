@@ -1,6 +1,6 @@
 -- Ranges of lists.
 use Rattle.cweb_store.proofs.Common.{◌≡◌, ℕ, zero, suc, ◌+◌, ◌-◌, ◌≤◌, ◌<◌, List, [], ◌∷◌, ◌++◌, Some, take, drop, ap, arith, length, slice_get, PartRange, Token, drop-drop}
-use Rattle.std.proofs.Common.{add-one}
+use Rattle.cweb_names.proofs.OccurrenceTableLemmas.{drop-at}
 use Rattle.std.specs.Prelude.{slice_range, slice_index_or}
 use Rattle.cweb_store.specs.inner.PartRanges.{RangesFollow}
 use Rattle.std.proofs.Math.Seq.{take-add}
@@ -21,12 +21,7 @@ drop-here (y ∷ xs) (suc i) x rest h = drop-here xs i x rest h
 -- A range begins with the token at its first index.
 pub range-head : (ts : List Token) (i k : ℕ) (t : Token) → slice_get ts i ≡ Some t → i < k
     → slice_range ts i k ≡ t ∷ slice_range ts (i + 1) k
-range-head ts i k t here less = grind (arith, head ts i here, add-one i)
-  where
-    head : (us : List Token) (j : ℕ) → slice_get us j ≡ Some t → drop j us ≡ t ∷ drop (suc j) us
-    head [] j h = cc
-    head (u ∷ us) zero h = let same : u ≡ t = cc in ap (λ v. v ∷ us) same
-    head (u ∷ us) (suc j) h = head us j h
+range-head ts i k t here less = grind (arith, drop-at ts i t here)
 
 pub range-none : (ts : List Token) (i k : ℕ) → k ≤ i → slice_range ts i k ≡ []
 range-none ts i k le = ap (λ n. take n (drop i ts)) (let e : k - i ≡ 0 = omega (arith, le) in e)

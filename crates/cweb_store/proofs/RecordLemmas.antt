@@ -1,101 +1,120 @@
--- Records whose place indices are consecutive.
-use Rattle.cweb_store.proofs.Common.{◌≡◌, ℕ, zero, suc, ◌+◌, ◌≤◌, ◌<◌, true, false, cond, List, [], ◌∷◌, ◌++◌, Some, map, length, take, drop, refl, sym, subst, ap, arith, slice_get, map-append, take-append_seam, direct_bytes, Place, Record, token_of_interned}
-use Rattle.cweb_store.specs.inner.Records.{interned_of_record, has_place, place_at, PlaceHasNumber, places_of, AreNumbered, AddsPlace, PlaceIsWithin}
-use Rattle.cweb_store.specs.declared.tokens.interned.InternedToken.TheVariants as interned_token
-use Rattle.cweb_store.specs.declared.tokens.records.Record.TheVariants as record_of
-use Rattle.cweb_store.specs.inner.InternedTokens as kept
+-- Records and their tokens: after more strings and places, of a prefix, and at an index.
+use Rattle.cweb_store.proofs.Common.{◌≡◌, ℕ, zero, suc, ◌+◌, ◌≤◌, true, false, cond, List, [], ◌∷◌, ◌++◌, Some, length, take, drop, refl, sym, subst, ap, arith, length-append, slice_get, map-append, direct_bytes, Place, Record}
+use Rattle.std.proofs.Math.ListN.{get_or-append}
+use Rattle.cweb_store.specs.inner.Records.{token_of_record, tokens_of, has_place, StringIsWithin, PlaceHasNumber, places_of, AreRecords, AddsPlace, InternsToken, PlaceIsWithin}
+use Rattle.cweb_store.specs.declared.tokens.records.Record.TheVariants.{Word, Number, Literal, Verbatim, Punct, Mark}
+use Rattle.cweb_texts.specs.inner.StringTables.{StringTableModel}
+use Rattle.cweb_store.specs.Parts as spec
 
-pub numbered-le : (n end : ℕ) (rs : List Record) → AreNumbered n rs end → n ≤ end
-numbered-le n end [] h = omega (arith, h)
-numbered-le n end (r ∷ rs) h = omega (arith, numbered-le (n + places_of r) end rs h.1)
+pub records-le : (n from end : ℕ) (rs : List Record) → AreRecords n from rs end → from ≤ end
+records-le n from end [] h = omega (arith, h)
+records-le n from end (r ∷ rs) h = omega (arith, records-le n (from + places_of r) end rs h.2)
 
 one-place : (r : Record) → places_of r ≤ 1
 one-place r = elim (has_place r) as (λ b. cond b 1 0 ≤ 1) [ true ↦ omega arith | false ↦ omega arith ]
 
-pub numbered-few : (n end : ℕ) (rs : List Record) → AreNumbered n rs end → end ≤ n + length rs
-numbered-few n end [] h = omega (arith, h)
-numbered-few n end (r ∷ rs) h = omega (arith, one-place r, numbered-few (n + places_of r) end rs h.1)
+pub records-few : (n from end : ℕ) (rs : List Record) → AreRecords n from rs end → end ≤ from + length rs
+records-few n from end [] h = omega (arith, h)
+records-few n from end (r ∷ rs) h = omega (arith, one-place r, records-few n (from + places_of r) end rs h.2)
 
-pub numbered-push : (n end : ℕ) (rs : List Record) (r : Record) → AreNumbered n rs end → PlaceHasNumber end r
-    → AreNumbered n (rs ++ r ∷ []) (end + places_of r)
-numbered-push n end [] r h at = (subst (λ k. PlaceHasNumber k r) (sym h) at, ap (λ k. k + places_of r) h)
-numbered-push n end (q ∷ rs) r h at = (h.0, numbered-push (n + places_of q) end rs r h.1 at)
+-- More strings and places.
+token-grow : (strings more : List (List ℕ)) (places others : List Place) (from : ℕ) (r : Record)
+    → StringIsWithin (length strings) r → PlaceHasNumber from r → from + places_of r ≤ length places
+    → token_of_record (strings ++ more) (places ++ others) r ≡ token_of_record strings places r
+token-grow strings more places others from (Word n) h at le = ap spec.Word (get_or-append strings more [] n h)
+token-grow strings more places others from (Number n) h at le = ap spec.Number (get_or-append strings more [] n h)
+token-grow strings more places others from (Literal n) h at le = ap spec.Literal (get_or-append strings more [] n h)
+token-grow strings more places others from (Verbatim n) h at le = ap spec.Verbatim (get_or-append strings more [] n h)
+token-grow strings more places others from (Punct n) h at le = ap spec.Punct (get_or-append strings more [] n h)
+token-grow strings more places others from (Mark n) h at le =
+    ap spec.Mark (get_or-append places others _ n (omega (arith, at, le)))
+token-grow strings more places others from _ h at le = refl
 
--- The places of the first records, and of the others.
-pub record Split (from : ℕ) (count : ℕ) (rs : List Record) (end : ℕ) : Type 0 where
-  pub number : ℕ
-  pub prefix : AreNumbered from (take count rs) number
-  pub rest : AreNumbered number (drop count rs) end
+pub tokens-grow : (strings more : List (List ℕ)) (places others : List Place) (from : ℕ) (rs : List Record)
+    → AreRecords (length strings) from rs (length places)
+    → tokens_of (strings ++ more) (places ++ others) rs ≡ tokens_of strings places rs
+tokens-grow strings more places others from [] h = refl
+tokens-grow strings more places others from (r ∷ rs) h = λ i.
+    token-grow strings more places others from r h.0 h.1
+    (records-le (length strings) (from + places_of r) (length places) rs h.2) i
+    ∷ tokens-grow strings more places others (from + places_of r) rs h.2 i
 
-pub split : (from count : ℕ) (rs : List Record) (end : ℕ) → AreNumbered from rs end → Split from count rs end
-split from zero [] end h = record { number = from; prefix = refl; rest = h }
-split from (suc count) [] end h = record { number = from; prefix = refl; rest = h }
-split from zero (r ∷ rs) end h = record { number = from; prefix = refl; rest = h }
-split from (suc count) (r ∷ rs) end h =
-    let s = split (from + places_of r) count rs end h.1 in
-    record { number = s.number; prefix = (h.0, s.prefix); rest = s.rest }
-
-at-take : (places : List Place) (n k : ℕ) → k < n → place_at (take n places) k ≡ place_at places k
-at-take [] zero k h = refl
-at-take [] (suc n) k h = refl
-at-take (p ∷ ps) zero k h = absurd (let none : ⊥ = omega arith in none)
-at-take (p ∷ ps) (suc n) zero h = refl
-at-take (p ∷ ps) (suc n) (suc k) h = at-take ps n k (omega arith)
-
-interned-take : (places : List Place) (n from : ℕ) (r : Record) → PlaceHasNumber from r → from + places_of r ≤ n
-    → interned_of_record (take n places) r ≡ interned_of_record places r
-interned-take places n from (record_of.Mark k) at h = ap interned_token.Mark (at-take places n k (omega (arith, at, h)))
-interned-take places n from _ at h = refl
-
--- Places after those of the records don't matter.
-pub cut : (places : List Place) (from n : ℕ) (rs : List Record) → AreNumbered from rs n
-    → map (interned_of_record (take n places)) rs ≡ map (interned_of_record places) rs
-cut places from n [] h = refl
-cut places from n (r ∷ rs) h = λ i. interned-take places n from r h.0
-    (numbered-le (from + places_of r) n rs h.1) i ∷ cut places (from + places_of r) n rs h.1 i
+within-grow : (n m : ℕ) (r : Record) → n ≤ m → StringIsWithin n r → StringIsWithin m r
+within-grow n m (Word k) le h = omega (arith, le, h)
+within-grow n m (Number k) le h = omega (arith, le, h)
+within-grow n m (Literal k) le h = omega (arith, le, h)
+within-grow n m (Verbatim k) le h = omega (arith, le, h)
+within-grow n m (Punct k) le h = omega (arith, le, h)
+within-grow n m _ le h = h
 
 -- One more record.
-pub push-interned : (old new : List Place) (rs : List Record) (r : Record)
-    → AreNumbered 0 rs (length old) → AddsPlace old r new
-    → map (interned_of_record new) (rs ++ r ∷ []) ≡ map (interned_of_record old) rs ++ interned_of_record new r ∷ []
-push-interned old new rs r all is =
-    cc (take-append_seam old is.more, map-append (interned_of_record new) rs (r ∷ []), cut new 0 (length old) rs all)
+records-push : (n m from end : ℕ) (rs : List Record) (r : Record) → AreRecords n from rs end → n ≤ m
+    → StringIsWithin m r → PlaceHasNumber end r → AreRecords m from (rs ++ r ∷ []) (end + places_of r)
+records-push n m from end [] r h le within at =
+    (within, subst (λ k. PlaceHasNumber k r) (sym h) at, ap (λ k. k + places_of r) h)
+records-push n m from end (q ∷ rs) r h le within at =
+    (within-grow n m q le h.0, h.1, records-push n m (from + places_of q) end rs r h.2 le within at)
 
-pub push-numbered : (old new : List Place) (rs : List Record) (r : Record)
-    → AreNumbered 0 rs (length old) → AddsPlace old r new → AreNumbered 0 (rs ++ r ∷ []) (length new)
-push-numbered old new rs r all is = grind (arith, numbered-push 0 (length old) rs r all is.at)
+pub push-records : (old new : StringTableModel) (was now : List Place) (rs : List Record) (t : spec.Token) (r : Record)
+    → AreRecords (length old.strings) 0 rs (length was) → InternsToken old t now r new → AddsPlace was r now
+    → AreRecords (length new.strings) 0 (rs ++ r ∷ []) (length now)
+push-records old new was now rs t r all packs placed =
+    subst (AreRecords (length new.strings) 0 (rs ++ r ∷ [])) (sym placed.count)
+    (records-push (length old.strings) (length new.strings) 0 (length was) rs r all
+    (omega (arith, ap length packs.grows, length-append old.strings packs.more)) packs.within placed.at)
 
-pub record-at : (places : List Place) (from end : ℕ) (rs : List Record) (i : ℕ) (r : Record) → AreNumbered from rs end
-    → slice_get rs i ≡ Some r → PlaceIsWithin end r
-    × (slice_get (map (interned_of_record places) rs) i ≡ Some (interned_of_record places r))
-record-at places from end [] i r all h = cc
-record-at places from end (q ∷ rs) zero r all h =
-    grind (arith, within q from end all.0 (numbered-le (from + places_of q) end rs all.1))
-  where
-    within : (q : Record) (from end : ℕ) → PlaceHasNumber from q → from + places_of q ≤ end → PlaceIsWithin end q
-    within (record_of.Word k) from end at h = tt
-    within (record_of.Number k) from end at h = tt
-    within (record_of.Literal k) from end at h = tt
-    within (record_of.Verbatim k) from end at h = tt
-    within (record_of.Punct k) from end at h = tt
-    within record_of.Blank from end at h = tt
-    within record_of.Newline from end at h = tt
-    within record_of.Join from end at h = tt
-    within record_of.Defs from end at h = tt
-    within (record_of.Name k) from end at h = tt
-    within (record_of.Head k) from end at h = tt
-    within (record_of.Tail k) from end at h = tt
-    within (record_of.Mark k) from end at h = omega (arith, at, h)
-record-at places from end (q ∷ rs) (suc i) r all h = record-at places (from + places_of q) end rs i r all.1 h
+pub push-tokens : (old new : StringTableModel) (was now : List Place) (rs : List Record) (t : spec.Token) (r : Record)
+    → AreRecords (length old.strings) 0 rs (length was) → InternsToken old t now r new → AddsPlace was r now
+    → tokens_of new.strings now (rs ++ r ∷ []) ≡ tokens_of old.strings was rs ++ t ∷ []
+push-tokens old new was now rs t r all packs placed =
+    cc (
+      map-append (token_of_record new.strings now) rs (r ∷ []),
+      tokens-grow old.strings packs.more was placed.more 0 rs all,
+    )
 
--- The bytes of a record, and whether its string is in the table, don't depend on the places.
-pub borrows-alone : (strings : List (List ℕ)) (places : List Place) (r : Record)
-    → direct_bytes (token_of_interned strings (interned_of_record [] r))
-    ≡ direct_bytes (token_of_interned strings (interned_of_record places r))
-borrows-alone strings places (record_of.Word n) = refl
-borrows-alone strings places _ = refl
+-- The first records have the first k places.
+pub record IsCut (n count : ℕ) (rs : List Record) (places k : ℕ) : Type 0 where
+  pub prefix : AreRecords n 0 (take count rs) k
+  pub within : k ≤ places
 
-pub within-alone : (count : ℕ) (places : List Place) (r : Record)
-    → kept.StringIsWithin count (interned_of_record places r) → kept.StringIsWithin count (interned_of_record [] r)
-within-alone count places (record_of.Word n) h = h
-within-alone count places _ h = h
+-- The first records, with their places, and the others.
+record Split (n from count : ℕ) (rs : List Record) (end : ℕ) : Type 0 where
+  pub number : ℕ
+  pub prefix : AreRecords n from (take count rs) number
+  pub rest : AreRecords n number (drop count rs) end
+
+split : (n from count : ℕ) (rs : List Record) (end : ℕ) → AreRecords n from rs end → Split n from count rs end
+split n from zero [] end h = record { number = from; prefix = refl; rest = h }
+split n from (suc count) [] end h = record { number = from; prefix = refl; rest = h }
+split n from zero (r ∷ rs) end h = record { number = from; prefix = refl; rest = h }
+split n from (suc count) (r ∷ rs) end h =
+    let s = split n (from + places_of r) count rs end h.2 in
+    record { number = s.number; prefix = (h.0, h.1, s.prefix); rest = s.rest }
+
+pub cut-is : (n count : ℕ) (rs last : List Record) (places all k : ℕ) → AreRecords n 0 rs places
+    → last ≡ drop count rs → all ≡ places → ((m number : ℕ) → AreRecords m number last all → k ≡ number)
+    → IsCut n count rs places k
+cut-is n count rs last places all k h rest same first =
+    let s = split n 0 count rs places h in
+    let is : k ≡ s.number = first n s.number (rw (rest, same) s.rest) in
+    rw is (record { prefix = s.prefix; within = records-le n s.number places (drop count rs) s.rest })
+
+place-within : (r : Record) (from end : ℕ) → PlaceHasNumber from r → from + places_of r ≤ end → PlaceIsWithin end r
+place-within (Mark k) from end at h = omega (arith, at, h)
+place-within _ from end at h = tt
+
+-- The record at an index.
+pub record-at : (n from end : ℕ) (rs : List Record) (i : ℕ) (r : Record) → AreRecords n from rs end
+    → slice_get rs i ≡ Some r → StringIsWithin n r × PlaceIsWithin end r
+record-at n from end [] i r all h = cc
+record-at n from end (q ∷ rs) zero r all h =
+    let is : q ≡ r = cc in
+    subst (λ q. StringIsWithin n q × PlaceIsWithin end q) is
+    (all.0, place-within q from end all.1 (records-le n (from + places_of q) end rs all.2))
+record-at n from end (q ∷ rs) (suc i) r all h = record-at n (from + places_of q) end rs i r all.2 h
+
+-- The bytes of a record don't depend on the places.
+pub direct-alone : (strings : List (List ℕ)) (places : List Place) (r : Record)
+    → direct_bytes (token_of_record strings [] r) ≡ direct_bytes (token_of_record strings places r)
+direct-alone strings places (Word n) = refl
+direct-alone strings places _ = refl

@@ -106,7 +106,7 @@ get-within [] k t h = cc
 get-within (o ∷ os) zero t h = omega arith
 get-within (o ∷ os) (suc k) t h = omega (arith, get-within os k t h)
 
-pub record IsFirst (os : List Occurrence) (ns : List Name) (n k : ℕ) : Type 0 where
+record IsFirst (os : List Occurrence) (ns : List Name) (n k : ℕ) : Type 0 where
   pub within : k < length os
   pub same : option_map (λ (m : Name). m.text) (slice_get ns n)
       ≡ option_map (λ (o : Occurrence). o.text) (slice_get os k)
@@ -122,6 +122,15 @@ first-at os (m ∷ ns) (suc n) k forms h is =
     let later = first-at os ns n k forms.1 (omega arith) is in
     record { within = later.within; same = later.same }
 
-pub first-place : (os : List Occurrence) (n k : ℕ) → n < length (names os)
+first-place : (os : List Occurrence) (n k : ℕ) → n < length (names os)
     → k ≡ get_or (map (λ (m : Name). m.first) (names os)) n k → IsFirst os (names os) n k
 first-place os n k h is = first-at os (names os) n k (firsts-from os os 0 [] refl tt) h is
+
+-- The string of a name is that of its first occurrence.
+pub first-string : (ts : List (List ℕ)) (gs : List OccurrenceForm) (n k : ℕ) → n < length (names (occurrences_at ts gs))
+    → k ≡ get_or (map (λ (m : Name). m.first) (names (occurrences_at ts gs))) n k
+    → (k < length (occurrences_at ts gs))
+    × (option_map (λ (m : Name). m.text) (slice_get (names (occurrences_at ts gs)) n) ≡ slice_get ts k)
+first-string ts gs n k less is =
+    let first = first-place (occurrences_at ts gs) n k less is in
+    (first.within, first.same ∙ occurrence-text ts gs k first.within)

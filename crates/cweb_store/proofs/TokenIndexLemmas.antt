@@ -1,5 +1,7 @@
 -- Indices of passing tokens: after an append, of a prefix, and of a suffix.
-use Rattle.cweb_store.proofs.Common.{◌≡◌, ◌≤◌, ◌<◌, ◌+◌, ℕ, zero, suc, Bool, true, false, cond, List, [], ◌∷◌, ◌++◌, length, take, drop, get_or, refl, sym, ◌∙◌, ap, subst, arith, if◌then◌else◌, Token, token_numbers, nat_lt}
+use Rattle.cweb_store.proofs.Common.{◌≡◌, ◌≤◌, ◌<◌, ◌+◌, ℕ, zero, suc, Bool, true, false, cond, List, [], ◌∷◌, ◌++◌, length, take, drop, get_or, refl, sym, ◌∙◌, ap, subst, arith, if◌then◌else◌, Token, is_defs, is_name_use, token_numbers, IsTokenIndex, nat_lt}
+use Rattle.cweb_store.specs.declared.tokens.token_index.TokenIndex.{TokenIndex}
+use Rattle.cweb_store.specs.inner.TokenIndexes.{AddsNumber}
 use Rattle.std.proofs.Common.{ltb, lt-ltb, one-add}
 use Rattle.std.specs.List.{prefix_len}
 use Rattle.std.specs.List.Sorted.{IsNonDecreasing, IsPartitionPoint}
@@ -9,6 +11,11 @@ pub numbers-push : (test : Token → Bool) (n : ℕ) (ts : List Token) (t : Toke
     → token_numbers test n (ts ++ t ∷ []) ≡ token_numbers test n ts ++ (if test t then (n + length ts) ∷ [] else [])
 numbers-push test n [] t = grind arith
 numbers-push test n (u ∷ us) t = grind (arith, numbers-push test (n + 1) us t, test u)
+
+pub index-push : (old new : TokenIndex) (n : ℕ) (ts : List Token) (t : Token) → IsTokenIndex old ts → n ≡ length ts
+    → AddsNumber old n t new → IsTokenIndex new (ts ++ t ∷ [])
+index-push old new n ts t are count adds =
+    grind (arith, numbers-push is_name_use 0 ts t, numbers-push is_defs 0 ts t)
 
 -- The indices ascend from the first token's on.
 from-cons : (n : ℕ) (xs : List ℕ) (k d : ℕ)
@@ -20,13 +27,9 @@ numbers-from : (test : Token → Bool) (n : ℕ) (ts : List Token) (k d : ℕ)
     → k < length (token_numbers test n ts) → n ≤ get_or (token_numbers test n ts) k d
 numbers-from test n [] k d h = absurd (let none : ⊥ = omega arith in none)
 numbers-from test n (t ∷ ts) k d h =
-    let rest = token_numbers test (n + 1) ts in
-    (elim (test t) as (λ b. k < length (if b then n ∷ rest else rest) → n ≤ get_or (if b then n ∷ rest else rest) k d) [
-      | true ↦ from-cons n rest k d (λ j l. omega (arith, numbers-from test (n + 1) ts j d l))
-      | false ↦ λ l. omega (arith, numbers-from test (n + 1) ts k d l)
-    ]) h
+    grind (arith, test t, from-cons n (token_numbers test (n + 1) ts), numbers-from test (n + 1) ts)
 
-pub numbers-rise : (test : Token → Bool) (n : ℕ) (ts : List Token) → IsNonDecreasing (token_numbers test n ts)
+numbers-rise : (test : Token → Bool) (n : ℕ) (ts : List Token) → IsNonDecreasing (token_numbers test n ts)
 numbers-rise test n [] = λ i j d le h. absurd (let none : ⊥ = omega arith in none)
 numbers-rise test n (t ∷ ts) = grind (arith, test t, numbers-from test (n + 1) ts, numbers-rise test (n + 1) ts)
 
@@ -48,13 +51,13 @@ none-below test n bound [] le = refl
 none-below test n bound (t ∷ ts) le = grind (arith, test t, none-below test (n + 1) bound ts (omega arith))
 
 -- Numbers below a bound belong to the prefix, the others to the suffix.
-pub record AreCut (test : Token → Bool) (n k bound : ℕ) (ts : List Token) : Type 0 where
+record AreCut (test : Token → Bool) (n k bound : ℕ) (ts : List Token) : Type 0 where
   pub prefix : take (prefix_len (λ x. nat_lt x bound) (token_numbers test n ts)) (token_numbers test n ts)
       ≡ token_numbers test n (take k ts)
   pub back : drop (prefix_len (λ x. nat_lt x bound) (token_numbers test n ts)) (token_numbers test n ts)
       ≡ token_numbers test bound (drop k ts)
 
-pub numbers-cut : (test : Token → Bool) (n k bound : ℕ) (ts : List Token) → bound ≡ n + k → AreCut test n k bound ts
+numbers-cut : (test : Token → Bool) (n k bound : ℕ) (ts : List Token) → bound ≡ n + k → AreCut test n k bound ts
 numbers-cut test n zero bound ts e =
     let xs = token_numbers test n ts in
     let none = none-below test n bound ts (omega arith) in
@@ -65,32 +68,19 @@ numbers-cut test n zero bound ts e =
     }
 numbers-cut test n (suc k) bound [] e = record { prefix = refl; back = refl }
 numbers-cut test n (suc k) bound (t ∷ ts) e =
-    let rest = token_numbers test (n + 1) ts in
     let later = numbers-cut test (n + 1) k bound ts (omega arith) in
-    let i = prefix_len (λ x. nat_lt x bound) rest in
+    let i = prefix_len (λ x. nat_lt x bound) (token_numbers test (n + 1) ts) in
     let here : nat_lt n bound ≡ true = lt-ltb n bound (omega arith) in
     record {
-      prefix = elim (test t) as
-          (λ b. take (prefix_len (λ x. nat_lt x bound) (if b then n ∷ rest else rest)) (if b then n ∷ rest else rest)
-          ≡ (if b then n ∷ token_numbers test (n + 1) (take k ts) else token_numbers test (n + 1) (take k ts))) [
-            | true ↦
-                ap (λ b. take (cond b (1 + i) 0) (n ∷ rest)) here ∙ ap (λ j. take j (n ∷ rest)) (one-add i)
-                ∙ ap (λ xs. n ∷ xs) later.prefix
-            | false ↦ later.prefix
-          ];
-      back = elim (test t) as
-          (λ b. drop (prefix_len (λ x. nat_lt x bound) (if b then n ∷ rest else rest)) (if b then n ∷ rest else rest)
-          ≡ token_numbers test bound (drop k ts)) [
-            | true ↦
-                ap (λ b. drop (cond b (1 + i) 0) (n ∷ rest)) here ∙ ap (λ j. drop j (n ∷ rest)) (one-add i)
-                ∙ later.back
-            | false ↦ later.back
-          ];
+      prefix = grind (arith, test t, here, later.prefix, one-add i);
+      back = grind (arith, test t, here, later.back, one-add i);
     }
 
-pub token_index-take : (test : Token → Bool) (xs : List ℕ) (ts : List Token) (n i : ℕ) → xs ≡ token_numbers test 0 ts
-    → (IsNonDecreasing xs → i ≡ prefix_len (λ x. nat_lt x n) xs) → take i xs ≡ token_numbers test 0 (take n ts)
-token_index-take test xs ts n i are count =
+-- The entries before the first one that isn't below n, and those from it on.
+pub index-cut : (test : Token → Bool) (xs : List ℕ) (ts : List Token) (n i : ℕ) → xs ≡ token_numbers test 0 ts
+    → (IsNonDecreasing xs → i ≡ prefix_len (λ x. nat_lt x n) xs)
+    → (take i xs ≡ token_numbers test 0 (take n ts)) × (drop i xs ≡ token_numbers test n (drop n ts))
+index-cut test xs ts n i are count =
     grind (
       arith,
       count (subst IsNonDecreasing (sym are) (numbers-rise test 0 ts)),

@@ -1,5 +1,5 @@
 -- The tokens of a builder's parts are those that were pushed, less dropped layout.
-use Rattle.cweb_store.proofs.Common.{arith, ◌≡◌, inl, inr, Bool, true, false, List, [], ◌∷◌, ◌++◌, Some, None, refl, sym, ◌∙◌, ap, subst, append_assoc, append-nil, IsSome, IsNone, if◌then◌else◌, fold, filter_map, option_map, option_to_list, flat_map-append, PartKind, Token, Blank, Newline, Mark, Part, all_tokens, is_macro, without_last, without_blank, without_layout, at_close, is_layout, is_newline, is_blank, PartsSoFar, all_parts, with_opened_part, with_pushed_token, with_dropped_layout, with_closed_part, part_with_token, Call, Occurs, Opens, Pushes, Drops, Closes, Transliterates, Contents, after_call, empty, AllPass, IsTokenPrefix, AreInPlace, IsLeftOfTokens, TokensAreThosePushed}
+use Rattle.cweb_store.proofs.Common.{arith, ◌≡◌, inl, inr, Bool, true, false, List, [], ◌∷◌, ◌++◌, refl, sym, ap, subst, append_assoc, append-nil, IsSome, IsNone, if◌then◌else◌, fold, filter_map, option_to_list, flat_map-append, PartKind, Token, Blank, Newline, Mark, Part, all_tokens, is_macro, without_last, without_blank, without_layout, at_close, is_layout, is_newline, is_blank, PartsSoFar, all_parts, with_opened_part, with_pushed_token, with_dropped_layout, with_closed_part, Call, Occurs, Opens, Pushes, Drops, Closes, Transliterates, Contents, after_call, empty, AllPass, IsTokenPrefix, AreInPlace, IsLeftOfTokens, TokensAreThosePushed}
 use Rattle.cweb_store.specs.laws.TokenLaws.{token_of_call}
 use Rattle.cweb_store.proofs.LayoutLawLemmas.{without_last-prefix, dropping_keeps_the_prefix}
 
@@ -92,26 +92,12 @@ left-nothing ts = left-equal (ts ++ []) ts (append-nil ts)
 left-opens : (kind : PartKind) (v : PartsSoFar) → IsNone v.current
     → IsLeftOfTokens (all_tokens (all_parts v) ++ []) (all_tokens (all_parts (with_opened_part kind v)))
 left-opens kind v none =
-    (elim v.current as (λ o. IsNone o → IsLeftOfTokens (all_tokens (v.closed ++ option_to_list o) ++ [])
-    (all_tokens (v.closed ++ (record { kind = kind; tokens = [] }) ∷ []))) [
-      | None ↦ λ h. left-equal
-          (all_tokens (v.closed ++ []) ++ []) (all_tokens (v.closed ++ (record { kind = kind; tokens = [] }) ∷ []))
-          (append-nil (all_tokens (v.closed ++ [])) ∙ ap all_tokens (append-nil v.closed)
-          ∙ sym (append-nil (all_tokens v.closed)) ∙ sym (tokens-last v.closed (record { kind = kind; tokens = [] })))
-      | Some p ↦ λ h. cc
-    ]) none
+    grind (arith, left-equal, append-nil, tokens-last v.closed)
 
 left-pushes : (t : Token) (v : PartsSoFar) → IsSome v.current
     → IsLeftOfTokens (all_tokens (all_parts v) ++ t ∷ []) (all_tokens (all_parts (with_pushed_token t v)))
 left-pushes t v some =
-    (elim v.current as (λ o. IsSome o → IsLeftOfTokens (all_tokens (v.closed ++ option_to_list o) ++ t ∷ [])
-    (all_tokens (v.closed ++ option_to_list (option_map (part_with_token t) o)))) [
-      | None ↦ λ h. cc
-      | Some p ↦ λ h. left-equal (all_tokens (v.closed ++ p ∷ []) ++ t ∷ [])
-          (all_tokens (v.closed ++ part_with_token t p ∷ []))
-          (ap (λ xs. xs ++ t ∷ []) (tokens-last v.closed p)
-          ∙ append_assoc (all_tokens v.closed) p.tokens (t ∷ []) ∙ sym (tokens-last v.closed (part_with_token t p)))
-    ]) some
+    grind (arith, left-equal, append_assoc (all_tokens v.closed), tokens-last v.closed)
 
 left-drops : (v : PartsSoFar)
     → IsLeftOfTokens (all_tokens (all_parts v) ++ []) (all_tokens (all_parts (with_dropped_layout v)))
@@ -119,13 +105,8 @@ left-drops v = grind (arith, left-nothing (all_tokens (v.closed ++ [])), left-la
 
 left-closes : (v : PartsSoFar)
     → IsLeftOfTokens (all_tokens (all_parts v) ++ []) (all_tokens (all_parts (with_closed_part v)))
-left-closes v = elim v.current as (λ o. IsLeftOfTokens (all_tokens (v.closed ++ option_to_list o) ++ [])
-    (all_tokens ((v.closed ++ option_to_list (option_map at_close o)) ++ []))) [
-      | None ↦ subst (λ (ps : List Part). IsLeftOfTokens (all_tokens (v.closed ++ []) ++ []) (all_tokens ps))
-          (sym (append-nil (v.closed ++ []))) (left-nothing (all_tokens (v.closed ++ [])))
-      | Some p ↦ subst (λ (ps : List Part). IsLeftOfTokens (all_tokens (v.closed ++ p ∷ []) ++ []) (all_tokens ps))
-          (sym (append-nil (v.closed ++ at_close p ∷ []))) (left-last v.closed p (at_close p) (left-closed p))
-    ]
+left-closes v =
+    grind (arith, append-nil, left-nothing (all_tokens (v.closed ++ [])), left-last v.closed, left-closed)
 
 left-step : (ts os fs us rs : List Token) → IsLeftOfTokens (ts ++ os) us → IsLeftOfTokens (us ++ fs) rs
     → IsLeftOfTokens (ts ++ (os ++ fs)) rs
@@ -140,31 +121,25 @@ left-step ts os fs us rs h g =
 abbrev tokens_of : Contents → List Token
 tokens_of c = all_tokens (all_parts c.parts)
 
+left-call : (c : Contents) (call : Call) (calls : List Call) → AreInPlace c (call ∷ calls)
+    → IsLeftOfTokens (tokens_of c ++ option_to_list (token_of_call call)) (tokens_of (after_call c call))
+left-call c (Occurs o) calls h = left-nothing (tokens_of c)
+left-call c (Opens kind) calls h = left-opens kind c.parts h.0
+left-call c (Pushes t) calls h = left-pushes t c.parts h.0
+left-call c Drops calls h = left-drops c.parts
+left-call c Closes calls h = left-closes c.parts
+left-call c (Transliterates r) calls h = left-nothing (tokens_of c)
+
 left-calls : (c : Contents) (calls : List Call) → AreInPlace c calls
     → IsLeftOfTokens (tokens_of c ++ filter_map token_of_call calls) (tokens_of (fold after_call c calls))
 left-calls c [] h = left-nothing (tokens_of c)
-left-calls c (Occurs o ∷ calls) h = left-step (tokens_of c) [] (filter_map token_of_call calls) (tokens_of c) (tokens_of
-    (fold after_call (after_call c (Occurs o)) calls)) (left-nothing (tokens_of c))
+left-calls c (Occurs o ∷ calls) h = left-step (tokens_of c) [] (filter_map token_of_call calls) (tokens_of c)
+    (tokens_of (fold after_call (after_call c (Occurs o)) calls)) (left-call c (Occurs o) calls h)
     (left-calls (after_call c (Occurs o)) calls h.1)
-left-calls c (Opens kind ∷ calls) h =
-    left-step (tokens_of c) [] (filter_map token_of_call calls) (tokens_of (after_call c (Opens kind)))
-    (tokens_of (fold after_call
-    (after_call c (Opens kind)) calls)) (left-opens kind c.parts h.0) (left-calls (after_call c (Opens kind)) calls h.1)
-left-calls c (Pushes t ∷ calls) h =
-    left-step (tokens_of c) (t ∷ []) (filter_map token_of_call calls) (tokens_of (after_call c (Pushes t)))
-    (tokens_of (fold after_call
-    (after_call c (Pushes t)) calls)) (left-pushes t c.parts h.0) (left-calls (after_call c (Pushes t)) calls h.1)
-left-calls c (Drops ∷ calls) h =
-    left-step (tokens_of c) [] (filter_map token_of_call calls) (tokens_of (after_call c Drops))
-    (tokens_of (fold after_call (after_call c Drops) calls)) (left-drops c.parts)
-    (left-calls (after_call c Drops) calls h.1)
-left-calls c (Closes ∷ calls) h =
-    left-step (tokens_of c) [] (filter_map token_of_call calls) (tokens_of (after_call c Closes))
-    (tokens_of (fold after_call (after_call c Closes) calls)) (left-closes c.parts)
-    (left-calls (after_call c Closes) calls h.1)
-left-calls c (Transliterates r ∷ calls) h =
-    left-step (tokens_of c) [] (filter_map token_of_call calls) (tokens_of c) (tokens_of (fold after_call (after_call c
-    (Transliterates r)) calls)) (left-nothing (tokens_of c)) (left-calls (after_call c (Transliterates r)) calls h.1)
+left-calls c (call ∷ calls) h =
+    left-step (tokens_of c) (option_to_list (token_of_call call)) (filter_map token_of_call calls)
+    (tokens_of (after_call c call)) (tokens_of (fold after_call (after_call c call) calls)) (left-call c call calls h)
+    (left-calls (after_call c call) calls h.1)
 
 pub tokens_are_those_pushed : TokensAreThosePushed
 tokens_are_those_pushed calls h = left-calls empty calls h

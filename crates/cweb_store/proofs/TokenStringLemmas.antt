@@ -1,12 +1,14 @@
 -- Strings in one list of bytes, and how many bytes tokens and strings have.
-use Rattle.cweb_store.proofs.Common.{◌≡◌, ℕ, zero, suc, ◌<◌, ◌≤◌, Bool, List, [], ◌∷◌, ◌++◌, map, length, take, drop, refl, sym, ◌∙◌, ap, arith, length-append, append_assoc, flat_map, filter, bytes_eq, list_any, Token, total, token_strings, interned_token_bytes, AreSpansOf, filter-append, InternedToken, token_of_interned, StringIsWithin, StringsAreWithin, InternsToken, has_string}
-use Rattle.std.proofs.lemmas.List.{take-map}
-use Rattle.cweb_store.specs.declared.tokens.interned.InternedToken.TheVariants.{Number, Literal, Verbatim, Word, Punct}
+use Rattle.cweb_store.proofs.Common.{◌≡◌, ℕ, zero, suc, ◌+◌, ◌<◌, ◌≤◌, Bool, List, [], ◌∷◌, ◌++◌, length, take, drop, refl, sym, ◌∙◌, ap, arith, length-append, append_assoc, append-nil, subst, flat_map, filter, bytes_eq, list_any, Token, total, token_strings, interned_token_bytes, AreSpansOf, filter-append, has_string, length-filter, count_by-le-length, Place, Record, AreRecords, InternsToken, StringIsWithin, token_of_record, tokens_of}
+use Rattle.std.proofs.lemmas.List.{take-map, take-append-drop}
+use Rattle.std.proofs.Math.Seq.{length-take-le}
+use Rattle.cweb_store.specs.declared.tokens.records.Record.TheVariants.{Number, Literal, Verbatim, Word, Punct}
 use Rattle.cweb_texts.specs.inner.StringLists.{text_bytes, string_at}
 use Rattle.cweb_texts.specs.inner.StringTables.{StringTableModel, has_word}
 use Rattle.cweb_store.specs.surface.TokenStrings.{words_of, other_bytes, IsSpanOf}
 use Rattle.cweb_store.specs.inner.ClosedTokens.{AreTokens}
-use Rattle.cweb_store.proofs.InternedTokenLemmas.{packs-tokens, packs-all, interned-take}
+use Rattle.cweb_store.specs.inner.Records.{AddsPlace, places_of}
+use Rattle.cweb_store.proofs.RecordLemmas.{push-tokens, push-records, tokens-grow, IsCut}
 use Rattle.cweb_texts.proofs.WordLemmas.{total-append}
 use Rattle.cweb_store.proofs.WordLemmas.{words-push, same-words, same-bytes, same-more, same-more-bytes}
 
@@ -49,32 +51,35 @@ pub all-both : (bytes : List ℕ) (ts us : List (List ℕ)) → AreSpansOf bytes
 all-both bytes [] us h g = g
 all-both bytes (t ∷ ts) us h g = (h.0, all-both bytes ts us h.1 g)
 
-token-stored : (ts : List (List ℕ)) (p : InternedToken) → StringIsWithin (length ts) p
-    → AreSpansOf (text_bytes ts) (token_strings (token_of_interned ts p))
-token-stored ts (Word n) h = (string-stored ts n h, tt)
-token-stored ts (Number n) h = (string-stored ts n h, tt)
-token-stored ts (Literal n) h = (string-stored ts n h, tt)
-token-stored ts (Verbatim n) h = (string-stored ts n h, tt)
-token-stored ts (Punct n) h = (string-stored ts n h, tt)
-token-stored ts _ h = tt
+token-stored : (ts : List (List ℕ)) (places : List Place) (r : Record) → StringIsWithin (length ts) r
+    → AreSpansOf (text_bytes ts) (token_strings (token_of_record ts places r))
+token-stored ts places (Word n) h = (string-stored ts n h, tt)
+token-stored ts places (Number n) h = (string-stored ts n h, tt)
+token-stored ts places (Literal n) h = (string-stored ts n h, tt)
+token-stored ts places (Verbatim n) h = (string-stored ts n h, tt)
+token-stored ts places (Punct n) h = (string-stored ts n h, tt)
+token-stored ts places _ h = tt
 
-pub tokens-valid : (ts : List (List ℕ)) (ps : List InternedToken) → StringsAreWithin ts ps
-    → AreSpansOf (text_bytes ts) (flat_map token_strings (map (token_of_interned ts) ps))
-tokens-valid ts [] h = tt
-tokens-valid ts (p ∷ ps) h = all-both (text_bytes ts) (token_strings (token_of_interned ts p))
-    (flat_map token_strings (map (token_of_interned ts) ps)) (token-stored ts p h.0) (tokens-valid ts ps h.1)
+pub tokens-valid : (ts : List (List ℕ)) (places : List Place) (from end : ℕ) (rs : List Record)
+    → AreRecords (length ts) from rs end
+    → AreSpansOf (text_bytes ts) (flat_map token_strings (tokens_of ts places rs))
+tokens-valid ts places from end [] h = tt
+tokens-valid ts places from end (r ∷ rs) h =
+    all-both (text_bytes ts) (token_strings (token_of_record ts places r))
+    (flat_map token_strings (tokens_of ts places rs)) (token-stored ts places r h.0)
+    (tokens-valid ts places (from + places_of r) end rs h.2)
 
 pub bytes-total : (ts : List (List ℕ)) → length (text_bytes ts) ≡ total length ts
 bytes-total [] = refl
 bytes-total (t ∷ ts) = omega (arith, length-append t (text_bytes ts), bytes-total ts)
 
 -- One more token.
-pub packs-are : (old new : StringTableModel) (ps : List InternedToken) (t : Token) (p : InternedToken)
-    → AreTokens old ps → InternsToken old t p new → AreTokens new (ps ++ p ∷ [])
-packs-are old new ps t p all packs =
-    let ts = map (token_of_interned old.strings) ps in
-    let tokens : map (token_of_interned new.strings) (ps ++ p ∷ []) ≡ ts ++ t ∷ [] =
-    packs-tokens old new ps t p all.interned packs in
+pub push-are : (old new : StringTableModel) (was now : List Place) (rs : List Record) (t : Token) (r : Record)
+    → AreTokens old was rs → InternsToken old t now r new → AddsPlace was r now → AreTokens new now (rs ++ r ∷ [])
+push-are old new was now rs t r all packs placed =
+    let ts = tokens_of old.strings was rs in
+    let tokens : tokens_of new.strings now (rs ++ r ∷ []) ≡ ts ++ t ∷ [] =
+    push-tokens old new was now rs t r all.numbers packs placed in
     let words : (q : List ℕ) → has_word new q ≡ list_any (bytes_eq q) (words_of (ts ++ t ∷ [])) = λ q.
     packs.words q ∙ same-more old.words (words_of ts) t all.words q
     ∙ ap (list_any (bytes_eq q)) (sym (words-push ts t)) in
@@ -94,7 +99,7 @@ packs-are old new ps t p all packs =
       packs.bytes,
     ) in
     record {
-      interned = packs-all old new ps t p all.interned packs;
+      numbers = push-records old new was now rs t r all.numbers packs placed;
       words = λ q. words q ∙ ap (λ us. list_any (bytes_eq q) (words_of us)) (sym tokens);
       bytes = bytes ∙ ap interned_token_bytes (sym tokens);
       few =
@@ -111,24 +116,40 @@ packs-are old new ps t p all packs =
     }
 
 -- Fewer tokens with unchanged strings.
-pub truncate-are : (kept : StringTableModel) (ps : List InternedToken) (n : ℕ) → AreTokens kept ps
-    → filter has_string (take n (map (token_of_interned kept.strings) ps))
-    ≡ filter has_string (map (token_of_interned kept.strings) ps)
-    → AreTokens kept (take n ps)
-truncate-are kept ps n all same =
-    grind (
-      arith,
-      take-map (token_of_interned kept.strings) n ps,
-      interned-take kept.strings ps n all.interned,
-      same-words,
-      same-bytes,
+pub truncate-tokens : (strings : List (List ℕ)) (places : List Place) (rs : List Record) (n k : ℕ)
+    → IsCut (length strings) n rs (length places) k
+    → tokens_of strings (take k places) (take n rs) ≡ take n (tokens_of strings places rs)
+truncate-tokens strings places rs n k cut =
+    let fits : AreRecords (length strings) 0 (take n rs) (length (take k places)) =
+    subst (AreRecords (length strings) 0 (take n rs)) (sym (length-take-le k places cut.within)) cut.prefix in
+    cc (
+      tokens-grow strings [] (take k places) (drop k places) 0 (take n rs) fits,
+      take-append-drop k places,
+      append-nil strings,
+      take-map (token_of_record strings places) n rs,
     )
 
+pub truncate-are : (kept : StringTableModel) (places : List Place) (rs : List Record) (n k : ℕ)
+    → AreTokens kept places rs → IsCut (length kept.strings) n rs (length places) k
+    → filter has_string (take n (tokens_of kept.strings places rs)) ≡ filter has_string (tokens_of kept.strings places rs)
+    → AreTokens kept (take k places) (take n rs)
+truncate-are kept places rs n k all cut same =
+    let us = tokens_of kept.strings (take k places) (take n rs) in
+    let ts = tokens_of kept.strings places rs in
+    let kept_strings : filter has_string us ≡ filter has_string ts =
+    ap (filter has_string) (truncate-tokens kept.strings places rs n k cut) ∙ same in
+    record {
+      numbers = subst (AreRecords (length kept.strings) 0 (take n rs)) (sym (length-take-le k places cut.within))
+          cut.prefix;
+      words = λ q. all.words q ∙ ap (list_any (bytes_eq q)) (sym (same-words us ts kept_strings));
+      bytes = all.bytes ∙ sym (same-bytes us ts kept_strings);
+      few = omega (arith, all.few, ap length kept_strings);
+    }
+
 pub filter-few : {A : Type 0} (p : A → Bool) (xs : List A) → length (filter p xs) ≤ length xs
-filter-few p [] = omega arith
-filter-few p (x ∷ xs) = grind (arith, p x, filter-few p xs)
+filter-few p xs = omega (arith, length-filter p xs, count_by-le-length p xs)
 
 -- There are no more strings than tokens.
-pub strings-few : (kept : StringTableModel) (ps : List InternedToken) → AreTokens kept ps
-    → length kept.strings ≤ length (map (token_of_interned kept.strings) ps)
-strings-few kept ps all = omega (arith, all.few, filter-few has_string (map (token_of_interned kept.strings) ps))
+pub strings-few : (kept : StringTableModel) (places : List Place) (rs : List Record) → AreTokens kept places rs
+    → length kept.strings ≤ length (tokens_of kept.strings places rs)
+strings-few kept places rs all = omega (arith, all.few, filter-few has_string (tokens_of kept.strings places rs))

@@ -1,9 +1,9 @@
 -- Words, numbers and punctuators that are stored once, and how many bytes of tokens are stored.
-use Rattle.cweb_store.proofs.Common.{◌≡◌, ℕ, ◌+◌, ◌≤◌, cond, List, [], ◌∷◌, ◌++◌, length, refl, sym, ◌∙◌, ap, arith, bytes_eq, filter, fold, list_any, Token, Word, Punct, Blank, Newline, Mark, total, interned_token_bytes, has_string}
+use Rattle.cweb_store.proofs.Common.{◌≡◌, ℕ, ◌+◌, ◌≤◌, cond, List, [], ◌∷◌, ◌++◌, length, refl, sym, ◌∙◌, ap, arith, bytes_eq, filter, fold, list_any, Token, Word, Punct, total, interned_token_bytes, has_string}
 use Rattle.std.proofs.lemmas.List.Sums.{fold-append}
 use Rattle.cweb_texts.specs.surface.StringTables.{with_word}
 use Rattle.cweb_store.specs.surface.TokenStrings.{token_size, with_word_of, words_of, other_bytes}
-use Rattle.cweb_store.specs.Parts.{Number, Literal, Verbatim, Join, Defs, Name, Head, Tail}
+use Rattle.cweb_store.specs.Parts.{Number}
 use Rattle.cweb_texts.proofs.WordLemmas.{total-append, with-word-any}
 
 -- One more token preserves that two lists of words are permutations of each other.
@@ -40,33 +40,13 @@ words-strings : (ws : List (List ℕ)) (ts : List Token)
 words-strings ws [] = refl
 words-strings ws (Word b ∷ ts) = words-strings (with_word ws b) ts
 words-strings ws (Number b ∷ ts) = words-strings (with_word ws b) ts
-words-strings ws (Literal b ∷ ts) = words-strings ws ts
-words-strings ws (Verbatim b ∷ ts) = words-strings ws ts
 words-strings ws (Punct b ∷ ts) = words-strings (with_word ws b) ts
-words-strings ws (Blank ∷ ts) = words-strings ws ts
-words-strings ws (Newline ∷ ts) = words-strings ws ts
-words-strings ws (Join ∷ ts) = words-strings ws ts
-words-strings ws (Defs ∷ ts) = words-strings ws ts
-words-strings ws (Name name ∷ ts) = words-strings ws ts
-words-strings ws (Head section ∷ ts) = words-strings ws ts
-words-strings ws (Tail section ∷ ts) = words-strings ws ts
-words-strings ws (Mark place ∷ ts) = words-strings ws ts
+words-strings ws (t ∷ ts) = words-strings ws ts
 
 other-strings : (ts : List Token) → total other_bytes (filter has_string ts) ≡ total other_bytes ts
 other-strings [] = refl
 other-strings (Word b ∷ ts) = omega (arith, other-strings ts)
-other-strings (Number b ∷ ts) = omega (arith, other-strings ts)
-other-strings (Literal b ∷ ts) = omega (arith, other-strings ts)
-other-strings (Verbatim b ∷ ts) = omega (arith, other-strings ts)
-other-strings (Punct b ∷ ts) = omega (arith, other-strings ts)
-other-strings (Blank ∷ ts) = omega (arith, other-strings ts)
-other-strings (Newline ∷ ts) = omega (arith, other-strings ts)
-other-strings (Join ∷ ts) = omega (arith, other-strings ts)
-other-strings (Defs ∷ ts) = omega (arith, other-strings ts)
-other-strings (Name name ∷ ts) = omega (arith, other-strings ts)
-other-strings (Head section ∷ ts) = omega (arith, other-strings ts)
-other-strings (Tail section ∷ ts) = omega (arith, other-strings ts)
-other-strings (Mark place ∷ ts) = omega (arith, other-strings ts)
+other-strings (t ∷ ts) = omega (arith, other-strings ts)
 
 pub same-words : (ts us : List Token) → filter has_string ts ≡ filter has_string us → words_of ts ≡ words_of us
 same-words ts us same = sym (words-strings [] ts) ∙ ap words_of same ∙ words-strings [] us
@@ -85,17 +65,8 @@ few-from : (ws : List (List ℕ)) (ts : List Token)
 few-from ws [] = omega arith
 few-from ws (Word b ∷ ts) = omega (arith, word-few ws b, few-from (with_word ws b) ts)
 few-from ws (Number b ∷ ts) = omega (arith, word-few ws b, few-from (with_word ws b) ts)
-few-from ws (Literal b ∷ ts) = omega (arith, few-from ws ts)
-few-from ws (Verbatim b ∷ ts) = omega (arith, few-from ws ts)
 few-from ws (Punct b ∷ ts) = omega (arith, word-few ws b, few-from (with_word ws b) ts)
-few-from ws (Blank ∷ ts) = omega (arith, few-from ws ts)
-few-from ws (Newline ∷ ts) = omega (arith, few-from ws ts)
-few-from ws (Join ∷ ts) = omega (arith, few-from ws ts)
-few-from ws (Defs ∷ ts) = omega (arith, few-from ws ts)
-few-from ws (Name name ∷ ts) = omega (arith, few-from ws ts)
-few-from ws (Head section ∷ ts) = omega (arith, few-from ws ts)
-few-from ws (Tail section ∷ ts) = omega (arith, few-from ws ts)
-few-from ws (Mark place ∷ ts) = omega (arith, few-from ws ts)
+few-from ws (t ∷ ts) = omega (arith, few-from ws ts)
 
 pub kept-few : (ts : List Token) → interned_token_bytes ts ≤ total token_size ts
 kept-few ts = omega (arith, few-from [] ts)

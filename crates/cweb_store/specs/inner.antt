@@ -5,11 +5,10 @@ pub mod PartRanges
 pub mod TokenStrings
 pub mod DirectBytes
 pub mod TokenReaders
-pub mod ClosedTokens
 pub mod Next
 pub mod TokenIndexes
-pub mod InternedTokens
 pub mod Records
+pub mod ClosedTokens
 pub mod Trailing
 pub mod NameUses
 pub mod Wanted

@@ -1,7 +1,6 @@
 // Tokens that borrow their bytes.
 
 pub mod closed;
-pub mod interned;
 pub mod layout;
 pub mod list;
 pub mod records;

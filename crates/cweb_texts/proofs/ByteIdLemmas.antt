@@ -1,15 +1,15 @@
 -- Words of one byte, which are found by it.
-use Rattle.cweb_texts.proofs.Common.{◌≡◌, ℕ, ◌+◌, ◌≤◌, ◌<◌, ◌||◌, List, [], ◌∷◌, Some, inl, inr, set, refl, sym, subst, ◌∙◌, ap, arith, Result, Ok, Err, length, slice_get, slice_index_or, bytes_eq, IsByteId, AreByteIds, StringTableModel, AddsString, InternsWord, TakesString, TakesWord, has_word}
+use Rattle.cweb_texts.proofs.Common.{◌≡◌, ℕ, ◌+◌, ◌≤◌, ◌<◌, ◌||◌, List, [], ◌∷◌, Some, inl, inr, set, refl, sym, subst, ◌∙◌, ap, arith, length, slice_get, slice_index_or, bytes_eq, IsByteId, AreByteIds, StringTableModel, AddsString, InternsWord, has_word}
 use Rattle.cweb_texts.proofs.ListLemmas.{get-set}
 use Rattle.cweb_texts.proofs.StringListLemmas.{get-grow}
 use Rattle.cweb_texts.proofs.WordLemmas.{with-word-any}
 use Rattle.cweb_texts.proofs.InterningLemmas.{known}
 
 -- Interning a string keeps all byte ids valid.
-pub byte_ids-add_string : (old new : StringTableModel) (byte_ids string : List ℕ) (number : ℕ)
+pub byte_ids-string : (old new : StringTableModel) (byte_ids string : List ℕ) (number : ℕ)
     → AddsString old string number new
     → AreByteIds old byte_ids → AreByteIds new byte_ids
-byte_ids-add_string old new byte_ids string number keeps are = λ byte n h.
+byte_ids-string old new byte_ids string number keeps are = λ byte n h.
     let sign = are byte n h in
     record {
       stored = ap (λ ts. slice_get ts n) keeps.grows ∙ get-grow old.strings keeps.more n (byte ∷ []) sign.stored;
@@ -20,10 +20,10 @@ has-more : (old new : StringTableModel) (word q : List ℕ) (number : ℕ) → I
     → has_word new q ≡ (has_word old q || bytes_eq q word)
 has-more old new word q number keeps = keeps.words q ∙ with-word-any q old.words word
 
-pub byte_ids-add_string-word : (old new : StringTableModel) (byte_ids word : List ℕ) (number : ℕ)
+pub byte_ids-word : (old new : StringTableModel) (byte_ids word : List ℕ) (number : ℕ)
     → InternsWord old word number new
     → AreByteIds old byte_ids → AreByteIds new byte_ids
-byte_ids-add_string-word old new byte_ids word number keeps are = λ byte n h.
+byte_ids-word old new byte_ids word number keeps are = λ byte n h.
     let sign = are byte n h in
     record {
       stored = ap (λ ts. slice_get ts n) keeps.grows ∙ get-grow old.strings keeps.more n (byte ∷ []) sign.stored;
@@ -48,20 +48,6 @@ byte_ids-set kept byte_ids byte number are is = λ k n h. elim (get-set byte_ids
 pub sign-known : (kept : StringTableModel) (byte_ids : List ℕ) (byte number : ℕ) → AreByteIds kept byte_ids
     → slice_get byte_ids byte ≡ Some (number + 1) → InternsWord kept (byte ∷ []) number kept
 sign-known kept byte_ids byte number are h = grind (arith, are byte number h, known kept (byte ∷ []) number)
-
--- whatever a call answers
-pub byte_ids-stay : {E : Type 0} (r : Result ℕ E) (old new : StringTableModel) (byte_ids string : List ℕ)
-    → TakesString old string r new → AreByteIds old byte_ids → AreByteIds new byte_ids
-byte_ids-stay (Ok number) old new byte_ids string keeps are =
-    byte_ids-add_string old new byte_ids string number keeps are
-byte_ids-stay (Err e) old new byte_ids string same are = subst (λ kept. AreByteIds kept byte_ids) (sym same) are
-
-pub byte_ids-stay-word : {E : Type 0} (r : Result ℕ E) (old new : StringTableModel) (byte_ids word : List ℕ)
-    → TakesWord old word r new → AreByteIds old byte_ids → AreByteIds new byte_ids
-byte_ids-stay-word (Ok number) old new byte_ids word keeps are =
-    byte_ids-add_string-word old new byte_ids word number keeps are
-byte_ids-stay-word (Err e) old new byte_ids word same are =
-    subst (λ kept. AreByteIds kept byte_ids) (sym same) are
 
 -- A string of one byte.
 pub one-byte : (string : List ℕ) (d : ℕ) → 1 ≤ length string → length string < 2

@@ -1,5 +1,5 @@
 -- The chains of a hash table, where a word is linked.
-use Rattle.cweb_texts.proofs.Common.{◌≡◌, ℕ, ◌+◌, ◌-◌, ◌<◌, ◌≤◌, List, [], ◌∷◌, ◌++◌, inl, inr, Some, sym, ◌∙◌, arith, length, set, slice_get, slice_index_or, slice_get_within, length-append, length-set, Word, Chains, IsLink, AreChains, home_bucket_of}
+use Rattle.cweb_texts.proofs.Common.{◌≡◌, ℕ, ◌+◌, ◌-◌, ◌<◌, ◌≤◌, List, [], ◌∷◌, ◌++◌, inl, inr, Some, sym, ◌∙◌, arith, length, set, slice_get, slice_index_or, slice_get_within, length-append, length-set, Word, IsLink, AreChains, home_bucket_of}
 use Rattle.std.proofs.Common.{get_or-set_other}
 use Rattle.std.proofs.lemmas.Grind.{get_or-set_at}
 use Rattle.std.proofs.lemmas.List.{get_or_append_left}
@@ -54,23 +54,20 @@ nexts-push ws w nexts buckets head count last old k v there = elim (get-push ws 
 ]
 
 -- a word that was linked
-pub chains-push : (ws : List Word) (w : Word) (old new : Chains) (bucket : ℕ)
-    → bucket ≡ home_bucket_of w.key (length old.heads.items) → bucket < length old.heads.items
-    → new.heads.items ≡ set old.heads.items bucket (length old.nexts.items + 1)
-    → new.nexts.items ≡ old.nexts.items ++ slice_index_or old.heads.items bucket 0 ∷ []
-    → AreChains ws old → AreChains (ws ++ w ∷ []) new
-chains-push ws w old new bucket own within heads nexts chains =
-    let buckets = length old.heads.items in
-    let head = slice_index_or old.heads.items bucket 0 in
+pub chains-push : (ws : List Word) (w : Word) (heads nexts : List ℕ) (bucket : ℕ) → length nexts < 4294967295
+    → bucket ≡ home_bucket_of w.key (length heads) → bucket < length heads → AreChains ws heads nexts
+    → AreChains (ws ++ w ∷ []) (set heads bucket (length nexts + 1)) (nexts ++ slice_index_or heads bucket 0 ∷ [])
+chains-push ws w heads nexts bucket few own within chains =
+    let head = slice_index_or heads bucket 0 in
     grind (
       arith,
-      length-set old.heads.items bucket (length old.nexts.items + 1),
-      length-append old.nexts.items (head ∷ []),
+      length-set heads bucket (length nexts + 1),
+      length-append nexts (head ∷ []),
       length-append ws (w ∷ []),
-      heads-push ws w old.heads.items,
-      nexts-push ws w old.nexts.items buckets head,
-      chains.heads,
-      chains.nexts,
+      heads-push ws w heads,
+      nexts-push ws w nexts (length heads) head,
+      chains.from_bucket,
+      chains.from_word,
     )
 
 -- all words of the bucket from the next link on are others, where those from a link on are

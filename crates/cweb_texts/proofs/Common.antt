@@ -25,16 +25,15 @@ pub use Rattle.std.specs.declared.alloc.Global.{Global}
 pub use Rattle.std.specs.declared.cmp.Ordering.TheVariants.{Equal}
 pub use Rattle.cweb_texts.specs.Edges.{first_is, is_operator, last_is}
 pub use Rattle.cweb_texts.specs.declared.edges.Edge.{Edge}
-pub use Rattle.cweb_texts.specs.declared.words.chains.Chains.{Chains}
 pub use Rattle.cweb_texts.specs.declared.words.key.Key.{Key}
 pub use Rattle.cweb_texts.specs.declared.words.word.Word.{Word}
-pub use Rattle.cweb_texts.specs.inner.ByteIds.{IsByteId, AreByteIds}
+pub use Rattle.cweb_texts.specs.inner.StringTables.{IsByteId, AreByteIds, IsStringTable}
 pub use Rattle.cweb_texts.specs.inner.Chains.{IsLink, AreChains}
 pub use Rattle.cweb_texts.specs.inner.Edges.{AreStoredEdges, IsStoredEdge, is_high, is_numeric, is_known_edge}
 pub use Rattle.cweb_texts.specs.inner.Edges.{punctuator_edge, punctuator_edge_by}
 pub use Rattle.cweb_texts.specs.inner.Keys.{AreBytes, short_key, middle_key, long_key, hashed_key, home_bucket_of}
 pub use Rattle.cweb_texts.specs.inner.StringLists.{strings_from, AreEnds, string_start, IsFromStart, text_bytes}
-pub use Rattle.cweb_texts.specs.inner.StringLists.{string_at}
+pub use Rattle.cweb_texts.specs.inner.StringLists.{string_at, IsStringList}
 pub use Rattle.cweb_texts.specs.inner.StringTables.{StringTableModel, InternsWord, has_word, table_model, AddsString, TakesString, TakesWord}
 pub use Rattle.cweb_texts.specs.inner.Words.{word_string, have_string, DescribesString, DescribeStrings, FindsString}
 pub use Rattle.cweb_texts.specs.inner.Words.{PushesWord, compare_vecs, Entries, entry_word, IsInserted, AreMapped}

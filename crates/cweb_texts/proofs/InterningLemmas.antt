@@ -1,7 +1,7 @@
 -- What interning a word does, by where the word is found or added.
-use Rattle.cweb_texts.proofs.Common.{◌≡◌, ℕ, ◌∙◌, sym, ap, subst, total, true, false, ◌||◌, List, [], ◌∷◌, ◌++◌, map, length, Some, None, refl, arith, length-append, append-nil, map-append, or_comm, list_any-append, slice_get, bytes_eq, Vec, list_any, lookup, is_eq, nat_cmp, slice_cmp, Global, Word, Entries, AreBytes, FindsString, PushesWord, AreInterned, IsInserted, word_string, have_string, entry_word, StringTableModel, InternsWord, has_word, table_model}
+use Rattle.cweb_texts.proofs.Common.{◌≡◌, ℕ, ◌∙◌, sym, ap, total, true, false, ◌||◌, List, [], ◌∷◌, ◌++◌, map, length, Some, None, refl, arith, length-append, append-nil, map-append, or_comm, list_any-append, slice_get, bytes_eq, Vec, list_any, lookup, is_eq, nat_cmp, slice_cmp, Global, Word, Entries, AreBytes, FindsString, PushesWord, AreInterned, IsInserted, word_string, have_string, entry_word, StringTableModel, AddsString, InternsWord, has_word, table_model}
 use Rattle.cweb_texts.specs.inner.Keys.{key_of}
-use Rattle.cweb_texts.specs.inner.Words.{AreMapped, DescribeStrings, InternsSorted, is_word}
+use Rattle.cweb_texts.specs.inner.Words.{AreMapped, InternsSorted, is_word}
 use Rattle.std.proofs.lemmas.Option.{slice_get_within}
 use Rattle.std.specs.Prelude.{if◌then◌else◌, unwrap_or}
 use Rattle.cweb_texts.proofs.ListLemmas.{get-push, or-assoc, or-last}
@@ -55,6 +55,20 @@ pub interned-grow : (strings more : List (List ℕ)) (ws : List Word) (es : Entr
 interned-grow strings more ws es interned =
     grind (arith, describes-grow strings more, mapped-grow strings more es interned.in_map)
 
+-- a string that is not interned
+pub string-keeps : (strings : List (List ℕ)) (ws : List Word) (es : Entries) (string : List ℕ) (number : ℕ)
+    → AreInterned strings ws es → number ≡ length strings
+    → AddsString (table_model strings ws es) string number (table_model (strings ++ string ∷ []) ws es)
+string-keeps strings ws es string number interned last = record {
+  more = string ∷ [];
+  grows = refl;
+  stored = get-last strings string number last;
+  words = λ q. ap (λ vs. list_any (bytes_eq q) (map entry_word es ++ vs))
+      (same-strings strings (string ∷ []) ws interned.in_table);
+  bytes = omega (arith, length-append string (let none : List ℕ = [] in none));
+  few = omega arith;
+}
+
 -- a word that is new
 new-keeps : (old : StringTableModel) (word : List ℕ) (number : ℕ) (new : StringTableModel) → has_word old word ≡ false
     → new.strings ≡ old.strings ++ word ∷ [] → slice_get new.strings number ≡ Some word
@@ -103,17 +117,7 @@ pub sorted-known : (strings : List (List ℕ)) (es more : Entries) (word : List 
     → AreMapped strings es → number ≡ unwrap_or (lookup (is_word word) es) next → (number ≡ next → ⊥)
     → IsInserted es word number more → InternsSorted strings es word number strings more
 sorted-known strings es more word number next mapped is other put =
-    (elim (lookup (is_word word) es) as (λ o. lookup (is_word word) es ≡ o → number ≡ unwrap_or o next
-    → InternsSorted strings es word number strings more) [
-      | Some n ↦ λ there g.
-          let found = find-word strings word es n there mapped in
-          record {
-            inserted = put;
-            stored = ap (slice_get strings) g ∙ found.stored;
-            grows = ap (λ b. if b then strings else strings ++ word ∷ []) (sym found.among);
-          }
-      | None ↦ λ there g. absurd (other g)
-    ]) refl is
+    grind (arith, lookup (is_word word) es, is, other, put, find-word strings word es number)
 
 -- Or it is the last string now.
 pub sorted-new : (strings : List (List ℕ)) (es more : Entries) (word : List ℕ) (number next : ℕ)
@@ -121,36 +125,31 @@ pub sorted-new : (strings : List (List ℕ)) (es more : Entries) (word : List �
     → number ≡ next → IsInserted es word number more
     → InternsSorted strings es word number (strings ++ word ∷ []) more
 sorted-new strings es more word number next mapped last is same put =
-    (elim (lookup (is_word word) es) as (λ o. lookup (is_word word) es ≡ o → number ≡ unwrap_or o next
-    → InternsSorted strings es word number (strings ++ word ∷ []) more) [
-      | Some n ↦ λ there g.
-          let below = slice_get_within strings n word (find-word strings word es n there mapped).stored in
-          absurd (let none : ⊥ = omega (arith, below, g, same, last) in none)
-      | None ↦ λ there g. record {
-        inserted = put;
-        stored = get-last strings word number (same ∙ last);
-        grows = ap (λ b. if b then strings else strings ++ word ∷ []) (sym (no-word word es there));
-      }
-    ]) refl is
+    grind (
+      arith,
+      lookup (is_word word) es,
+      is,
+      same,
+      last,
+      put,
+      no-word word es,
+      get-last strings word number,
+      find-word strings word es number,
+      slice_get_within strings number word,
+    )
 
 pub sorted-interned : (strings new : List (List ℕ)) (ws : List Word) (es more : Entries) (word : List ℕ) (number : ℕ)
     → AreInterned strings ws es → InternsSorted strings es word number new more → AreInterned new ws more
 sorted-interned strings new ws es more word number interned put =
-    (elim (list_any (bytes_eq word) (map entry_word es)) as (λ b.
-    new ≡ (if b then strings else strings ++ word ∷ []) → AreInterned new ws more) [
-      | true ↦ λ same. record {
-        in_table = subst (λ ts. DescribeStrings ts ws) (sym same) interned.in_table;
-        in_map = insert-mapped new word es more number put.stored
-            (subst (λ ts. AreMapped ts es) (sym same) interned.in_map) put.inserted;
-      }
-      | false ↦ λ same.
-          let grown = interned-grow strings (word ∷ []) ws es interned in
-          record {
-            in_table = subst (λ ts. DescribeStrings ts ws) (sym same) grown.in_table;
-            in_map = insert-mapped new word es more number put.stored
-                (subst (λ ts. AreMapped ts es) (sym same) grown.in_map) put.inserted;
-          }
-    ]) put.grows
+    grind (
+      arith,
+      list_any (bytes_eq word) (map entry_word es),
+      put.grows,
+      interned-grow strings (word ∷ []) ws es interned,
+      insert-mapped new word es more number put.stored,
+      put.inserted,
+      interned,
+    )
 
 -- A word that is found in the map adds nothing.
 found-keeps : (strings : List (List ℕ)) (ws : List Word) (es more : Entries) (word : List ℕ) (number : ℕ)
@@ -205,14 +204,13 @@ pub sorted-keeps : (strings new : List (List ℕ)) (ws : List Word) (es more : E
     → InternsSorted strings es word number new more
     → InternsWord (table_model strings ws es) word number (table_model new ws more)
 sorted-keeps strings new ws es more word number interned none put =
-    let old = table_model strings ws es in
-    (elim (list_any (bytes_eq word) (map entry_word es)) as (λ b.
-    list_any (bytes_eq word) (map entry_word es) ≡ b → new ≡ (if b then strings else strings ++ word ∷ [])
-    → InternsWord old word number (table_model new ws more)) [
-      | true ↦ λ among same. subst (λ ts. InternsWord old word number (table_model ts ws more)) (sym same)
-          (found-keeps strings ws es more word number among
-          (subst (λ ts. slice_get ts number ≡ Some word) same put.stored) put.inserted)
-      | false ↦ λ absent same. subst (λ ts. InternsWord old word number (table_model ts ws more)) (sym same)
-          (added-keeps strings ws es more word number interned absent none
-          (subst (λ ts. slice_get ts number ≡ Some word) same put.stored) put.inserted)
-    ]) refl put.grows
+    grind (
+      arith,
+      list_any (bytes_eq word) (map entry_word es),
+      put.grows,
+      put.stored,
+      put.inserted,
+      found-keeps strings ws es more word number,
+      added-keeps strings ws es more word number interned,
+      none,
+    )

@@ -1,5 +1,5 @@
 -- The key of a word, by its length.
-use Rattle.cweb_texts.proofs.Common.{◌≡◌, ℕ, zero, suc, ◌+◌, ◌-◌, ◌<◌, ◌≤◌, true, false, List, [], ◌∷◌, ◌++◌, length, take, drop, get_or, refl, sym, ◌∙◌, ap, arith, length-drop, ltb-true, ltb-false, nat_lt, slice_range, w32, w64, from_le_bytes, take_all, take-append-drop, drop-drop, same_number_lists, le_bytes_4, le_bytes_8, length-take-le, Key, AreBytes, short_key, middle_key, long_key, hashed_key}
+use Rattle.cweb_texts.proofs.Common.{◌≡◌, ℕ, zero, suc, ◌+◌, ◌-◌, ◌<◌, ◌≤◌, true, false, List, [], ◌∷◌, ◌++◌, length, take, drop, get_or, refl, sym, ◌∙◌, ap, arith, length-drop, nat_lt, slice_range, w32, w64, from_le_bytes, take_all, take-append-drop, drop-drop, same_number_lists, le_bytes_4, le_bytes_8, length-take-le, Key, AreBytes, short_key, middle_key, long_key, hashed_key}
 use Rattle.cweb_texts.specs.inner.Keys.{key_of}
 
 less : (n m : ℕ) → n < m → nat_lt n m ≡ true
@@ -80,47 +80,42 @@ short-same q w len few all_q all_w same = same_number_lists q w len at
     at (suc (suc zero)) h = ap (λ (x : Key). x.last) same
     at (suc (suc (suc k))) h = absurd (let none : ⊥ = omega (arith, few, h) in none)
 
-middle-same : (q w : List ℕ) → length q ≡ length w → 4 ≤ length q → length q ≤ 8 → AreBytes q → AreBytes w
+-- The number of n bytes tells them, so those of the first n and the last n tell up to 2 n bytes.
+parts-same : (n : ℕ) (number : List ℕ → ℕ) → ((a b : List ℕ) → length a ≡ n → length b ≡ n → AreBytes a → AreBytes b
+    → number a ≡ number b → a ≡ b) → (q w : List ℕ) → length q ≡ length w → n ≤ length q → length q ≤ n + n
+    → AreBytes q → AreBytes w → number (take n q) ≡ number (take n w)
+    → number (drop (length q - n) q) ≡ number (drop (length w - n) w) → q ≡ w
+parts-same n number one q w len long few all_q all_w first last = ends-same q w n len long few
+    (one (take n q) (take n w) (length-take-le n q long) (length-take-le n w (omega (arith, len, long)))
+    (take-bytes n q all_q) (take-bytes n w all_w) first)
+    (one (drop (length q - n) q) (drop (length w - n) w) (omega (arith, length-drop (length q - n) q, long))
+    (omega (arith, length-drop (length w - n) w, len, long)) (drop-bytes (length q - n) q all_q)
+    (drop-bytes (length w - n) w all_w) last)
+
+middle-same : (q w : List ℕ) → length q ≡ length w → 4 ≤ length q → length q < 8 → AreBytes q → AreBytes w
     → middle_key q ≡ middle_key w → q ≡ w
-middle-same q w len long few all_q all_w same =
-    let last : (v : List ℕ) → 4 ≤ length v → length (drop (length v - 4) v) ≡ 4 = λ v h.
-    omega (arith, length-drop (length v - 4) v, h) in
-    ends-same q w 4 len long (omega (arith, few))
-    (four-same (take 4 q) (take 4 w) (length-take-le 4 q long) (length-take-le 4 w (omega (arith, len, long)))
-    (take-bytes 4 q all_q) (take-bytes 4 w all_w) (ap (λ (x : Key). x.first) same))
-    (four-same (drop (length q - 4) q) (drop (length w - 4) w) (last q long) (last w (omega (arith, len, long)))
-    (drop-bytes (length q - 4) q all_q) (drop-bytes (length w - 4) w all_w) (ap (λ (x : Key). x.last) same))
+middle-same q w len long few all_q all_w same = parts-same 4 (from_le_bytes w32) four-same q w len long
+    (omega (arith, few)) all_q all_w (ap (λ (x : Key). x.first) same) (ap (λ (x : Key). x.last) same)
 
 long-same : (q w : List ℕ) → length q ≡ length w → 8 ≤ length q → length q ≤ 16 → AreBytes q → AreBytes w
     → long_key q ≡ long_key w → q ≡ w
-long-same q w len long few all_q all_w same =
-    let last : (v : List ℕ) → 8 ≤ length v → length (drop (length v - 8) v) ≡ 8 = λ v h.
-    omega (arith, length-drop (length v - 8) v, h) in
-    ends-same q w 8 len long (omega (arith, few))
-    (eight-same (take 8 q) (take 8 w) (length-take-le 8 q long) (length-take-le 8 w (omega (arith, len, long)))
-    (take-bytes 8 q all_q) (take-bytes 8 w all_w) (ap (λ (x : Key). x.first) same))
-    (eight-same (drop (length q - 8) q) (drop (length w - 8) w) (last q long) (last w (omega (arith, len, long)))
-    (drop-bytes (length q - 8) q all_q) (drop-bytes (length w - 8) w all_w) (ap (λ (x : Key). x.last) same))
+long-same q w len long few all_q all_w same = parts-same 8 (from_le_bytes w64) eight-same q w len long
+    few all_q all_w (ap (λ (x : Key). x.first) same) (ap (λ (x : Key). x.last) same)
 
 pub key-tells : (q w : List ℕ) → length q ≡ length w → length q ≤ 16 → AreBytes q → AreBytes w
     → key_of q ≡ key_of w → q ≡ w
 key-tells q w len few all_q all_w same =
-    (elim (nat_lt (length q) 4) as (λ b. nat_lt (length q) 4 ≡ b → q ≡ w) [
-      | true ↦ λ h.
-          let short : length q < 4 = ltb-true (length q) 4 h in
-          short-same q w len short all_q all_w
-          (sym (key-short q short) ∙ same ∙ key-short w (omega (arith, len, short)))
-      | false ↦ λ h.
-          let four : 4 ≤ length q = ltb-false (length q) 4 h in
-          (elim (nat_lt (length q) 8) as (λ b. nat_lt (length q) 8 ≡ b → q ≡ w) [
-            | true ↦ λ g.
-                let middle : length q < 8 = ltb-true (length q) 8 g in
-                middle-same q w len four (omega (arith, middle)) all_q all_w (sym (key-middle q four middle)
-                ∙ same ∙ key-middle w (omega (arith, len, four)) (omega (arith, len, middle)))
-            | false ↦ λ g.
-                let eight : 8 ≤ length q = ltb-false (length q) 8 g in
-                long-same q w len eight few all_q all_w
-                (sym (key-long q eight few) ∙ same
-                ∙ key-long w (omega (arith, len, eight)) (omega (arith, len, few)))
-          ]) refl
-    ]) refl
+    grind (
+      arith,
+      nat_lt (length q) 4,
+      nat_lt (length q) 8,
+      len,
+      few,
+      same,
+      key-short,
+      key-middle,
+      key-long,
+      short-same q w len,
+      middle-same q w len,
+      long-same q w len,
+    )

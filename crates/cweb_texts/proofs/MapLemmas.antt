@@ -1,5 +1,5 @@
 -- Words in the sorted map.
-use Rattle.cweb_texts.proofs.Common.{arith, ◌≡◌, ℕ, true, false, cond, ◌||◌, List, [], ◌∷◌, ◌++◌, map, Some, None, refl, sym, subst, ◌∙◌, ap, slice_get, bytes_eq, Vec, list_any, lookup, insert_entry, is_eq, nat_cmp, slice_cmp, bytes_decides, Equal, Global, is_eq-slice_cmp, compare_vecs, Entries, AreMapped, IsInserted, entry_word, or_comm}
+use Rattle.cweb_texts.proofs.Common.{arith, ◌≡◌, ℕ, true, false, ◌||◌, List, [], ◌∷◌, ◌++◌, map, Some, None, refl, sym, subst, ◌∙◌, ap, slice_get, bytes_eq, Vec, list_any, lookup, insert_entry, is_eq, nat_cmp, slice_cmp, bytes_decides, Equal, Global, is_eq-slice_cmp, compare_vecs, Entries, AreMapped, IsInserted, entry_word, or_comm}
 use Rattle.cweb_texts.proofs.ListLemmas.{or-assoc}
 use Rattle.cweb_texts.proofs.StringListLemmas.{get-grow}
 
@@ -20,25 +20,15 @@ pub find-word : (strings : List (List ℕ)) (q : List ℕ) (es : Entries) (numbe
     → FoundWord strings q es number
 find-word strings q [] number h m = cc
 find-word strings q (e ∷ es) number h m =
-    (elim (is_eq (slice_cmp nat_cmp q e.0.items)) as (λ b. is_eq (slice_cmp nat_cmp q e.0.items) ≡ b →
-    cond b (Some e.1) (lookup (λ (k : Vec ℕ Global). is_eq (slice_cmp nat_cmp q k.items)) es) ≡ Some number
-    → FoundWord strings q (e ∷ es) number) [
-      | true ↦ λ is g.
-          let place : e.1 ≡ number = cc in
-          let same : e.0.items ≡ q = sym (same-bytes q e.0.items is) in
-          record {
-            stored = ap (slice_get strings) (sym place) ∙ m.0 ∙ ap Some same;
-            among =
-                ap (λ b. b || list_any (bytes_eq q) (map entry_word es)) (sym (is_eq-slice_cmp q e.0.items) ∙ is);
-          }
-      | false ↦ λ is g.
-          let r = find-word strings q es number g m.1 in
-          record {
-            stored = r.stored;
-            among = ap (λ b. b || list_any (bytes_eq q) (map entry_word es)) (sym (is_eq-slice_cmp q e.0.items) ∙ is)
-                ∙ r.among;
-          }
-    ]) refl h
+    grind (
+      arith,
+      is_eq (slice_cmp nat_cmp q e.0.items),
+      h,
+      m,
+      same-bytes q e.0.items,
+      is_eq-slice_cmp q e.0.items,
+      find-word strings q es number,
+    )
 
 pub no-word : (q : List ℕ) (es : Entries) → lookup (λ (k : Vec ℕ Global). is_eq (slice_cmp nat_cmp q k.items)) es ≡ None
     → list_any (bytes_eq q) (map entry_word es) ≡ false

@@ -1,5 +1,5 @@
 -- Appending strings to a list.
-use Rattle.cweb_texts.proofs.Common.{◌≡◌, ℕ, zero, suc, ◌+◌, ◌-◌, ◌≤◌, ◌<◌, List, [], ◌∷◌, ◌++◌, Some, length, take, drop, refl, ◌∙◌, ap, arith, length-append, length-drop, slice_get, slice_range, slice_index_or, drop-append-le, take-append-le, drop-append_seam, take-length, length-take-le, strings_from, AreEnds, IsFromStart, string_start, text_bytes, string_at}
+use Rattle.cweb_texts.proofs.Common.{get_or, sym, Edge, IsStringList, ◌≡◌, ℕ, zero, suc, ◌+◌, ◌-◌, ◌≤◌, ◌<◌, List, [], ◌∷◌, ◌++◌, Some, length, take, drop, refl, ◌∙◌, ap, arith, length-append, length-drop, slice_get, slice_range, slice_index_or, drop-append-le, take-append-le, drop-append_seam, take-length, length-take-le, strings_from, AreEnds, IsFromStart, string_start, text_bytes, string_at}
 
 pub ends-le : (n all : ℕ) (ends : List ℕ) → AreEnds n ends all → n ≤ all
 ends-le n all [] h = omega arith
@@ -62,6 +62,29 @@ pub offsets-length : (offsets : List ℕ) (k : ℕ) → k < length (drop 1 offse
     → length offsets ≡ suc (length (drop 1 offsets))
 offsets-length [] k h = absurd (let none : ⊥ = omega arith in none)
 offsets-length (n ∷ ends) k h = refl
+
+-- The offsets around string n, and the string between them.
+pub record IsPlace (bytes offsets : List ℕ) (n : ℕ) : Type 0 where
+  pub next : n + 1 < length offsets
+  pub rises : get_or offsets n 0 ≤ get_or offsets (n + 1) 0
+  pub within : get_or offsets (n + 1) 0 ≤ length bytes
+  pub string : slice_get (strings_from bytes 0 (drop 1 offsets)) n
+      ≡ Some (slice_range bytes (get_or offsets n 0) (get_or offsets (n + 1) 0))
+
+pub place_is : (bytes offsets : List ℕ) (edges : List Edge) (n : ℕ) → IsStringList bytes offsets edges
+    → n < length (strings_from bytes 0 (drop 1 offsets)) → IsPlace bytes offsets n
+place_is bytes offsets edges n all less =
+    let ends = drop 1 offsets in
+    let within : n < length ends = omega (arith, less, strings-count bytes 0 ends) in
+    let begins = offsets-begin offsets n 0 all.start within in
+    let stops = offsets-end offsets n (n + 1) 0 (omega arith) in
+    let both = ends-at 0 (length bytes) ends n 0 all.ends_at within in
+    record {
+      next = omega (arith, within, offsets-length offsets n within);
+      rises = omega (arith, begins, stops, both.0);
+      within = omega (arith, stops, both.1);
+      string = strings-at bytes 0 ends n 0 within ∙ (λ i. Some (slice_range bytes (sym begins i) (sym stops i)));
+    }
 
 -- One more end, if the first string has a start.
 pub offsets-push : (offsets : List ℕ) (end : ℕ) → 0 < length offsets

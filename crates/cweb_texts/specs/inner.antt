@@ -5,4 +5,3 @@ pub mod Keys
 pub mod Words
 pub mod Chains
 pub mod StringTables
-pub mod ByteIds

@@ -21,5 +21,4 @@ pub use edges::{Edge, TokenBytes, has_high_byte, punctuator_edge};
 pub use slices::StringSlices;
 pub use string_table::StringTable;
 pub use strings::StringList;
-pub use words::key::{Key, byte_at, home_bucket};
-pub use words::word::establish_byte_range;
+pub use words::key::{Key, home_bucket};

@@ -29,6 +29,7 @@ impl<'a> Model for StringSlices<'a> {
 impl<'a> StringSlices<'a> {
     /// The string with a number.
     #[inline(always)]
+    #[tactic(auto, using(crate::proofs::StringListLemmas::place_is))]
     pub fn string(&self, number: usize) -> &'a [u8]
         requires { number < length self.now }
         ensures { slice_get self.now number ≡ Some result.now }

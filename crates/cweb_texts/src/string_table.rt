@@ -1,46 +1,43 @@
 // Strings in one table, those that repeat stored once.
 
-ghost use Rattle.std.specs.Prelude.{◌≡◌, ◌<◌, ◌+◌, ℕ, Some, length, slice_get, IfSome};
-ghost use Rattle.cweb_texts.specs.inner.ByteIds.{AreByteIds, IsByteId};
-ghost use Rattle.cweb_texts.specs.inner.StringTables.{InternsWord, StringTableModel, TakesString, TakesWord};
-ghost use Rattle.cweb_texts.specs.inner.StringTables.{empty_table, string_limit};
+ghost use Rattle.std.specs.Prelude.{◌≡◌, ◌<◌, ◌+◌, ℕ, Some, false, length, slice_get, IfSome};
+ghost use Rattle.cweb_texts.specs.inner.Keys.{key_of};
+ghost use Rattle.cweb_texts.specs.inner.StringTables.{AreByteIds, IsByteId, InternsWord, StringTableModel};
+ghost use Rattle.cweb_texts.specs.inner.StringTables.{TakesString, TakesWord, empty_table, has_word};
+ghost use Rattle.cweb_texts.specs.inner.StringTables.{string_limit};
 
 use crate::strings::StringList;
-use crate::words::WordInterner;
+use crate::words::intern_sorted;
+use crate::words::key::{KEY_BYTES, Key};
+use crate::words::table::WordTable;
 use std::alloc::{AllocError, Global};
+use std::collections::BTreeMap;
 use std::marker::Model;
 
 // The number of distinct bytes.
 const BYTES: usize = 256;
 
-/// Strings, and interned words, numbers and punctuators among them. One of a single byte is found by that byte alone.
+/// Strings, and interned words, numbers and punctuators among them. A word is in a hash table, or in a sorted map where
+/// the table does not take it: so no choice of words makes this slow. One of a single byte is found by that byte alone.
+#[derive(Drop)]
 pub struct StringTable {
     alloc: Global,
-    strings: WordInterner,
+    strings: StringList,
+    table: WordTable,
+    sorted: BTreeMap<Vec<u8>, u32>,
     // for each byte 0, or one more than the number of the interned string that is this byte; empty at first
     byte_ids: Vec<u32>,
 }
 
-// One call drops all fields, so each holder's code is shorter.
-impl Drop for StringTable {
-    fn drop(self) {
-        let StringTable {
-            alloc: _,
-            strings: _,
-            byte_ids: _,
-        } = self;
-    }
-}
-
 impl Model for StringTable {
-    ghost use Rattle.cweb_texts.specs.inner.StringTables.{StringTableModel};
-    ghost use Rattle.cweb_texts.specs.inner.ByteIds.{AreByteIds};
+    ghost use Rattle.cweb_texts.specs.inner.StringTables.{StringTableModel, table_model, IsStringTable};
 
     ghost Value = { StringTableModel };
 
-    ghost view = { λ s. s.strings };
+    ghost view = { λ s. table_model s.strings s.table s.sorted.entries };
 
-    ghost invariant = { λ s. AreByteIds s.strings s.byte_ids.items };
+    ghost invariant = { λ s.
+        IsStringTable s.strings s.table s.sorted.entries s.byte_ids.items };
 }
 
 impl StringTable {
@@ -50,7 +47,9 @@ impl StringTable {
     {
         StringTable {
             alloc,
-            strings: WordInterner::new(alloc),
+            strings: StringList::new(alloc),
+            table: WordTable::new(alloc),
+            sorted: BTreeMap::new(alloc),
             byte_ids: Vec::new(alloc),
         }
     }
@@ -60,11 +59,12 @@ impl StringTable {
         requires few { length self.old.strings + 1 < string_limit }
         ensures { TakesString self.old string.now result self.new }
     {
-        let number = self.strings.add_string(string)?;
+        let number = self.strings.add(string)?;
         Ok(number as u32)
     }
 
-    /// Interns a word or a number, and returns its number in the table.
+    /// Interns a word or a number, and returns its number in the table. The fast path finds a short word that is the latest
+    /// of its bucket. It calls no function, so long words, whose key is a hash, leave it first.
     pub fn intern_word(&mut self, word: &[u8]) -> Result<u32, AllocError>
         requires few { length self.old.strings + 1 < string_limit }
         ensures { TakesWord self.old word.now result self.new }
@@ -75,8 +75,14 @@ impl StringTable {
         if word.len() == 1 {
             return self.intern_byte(word);
         }
-        let number = self.strings.intern_word(word)?;
-        Ok(number as u32)
+        if word.len() > KEY_BYTES {
+            return self.intern_long(word);
+        }
+        let key = Key::of(word);
+        match self.table.latest(key) {
+            Some(latest) if latest.is_short(key, word) => Ok(latest.number),
+            _ => self.intern_uncached(key, word),
+        }
     }
 
     /// Interns a punctuator as `intern_word` does. Many are one byte, which is found without a call.
@@ -108,7 +114,7 @@ impl StringTable {
         requires few { length self.old.strings + 1 < string_limit }
         ensures { TakesWord self.old word.now result self.new }
     {
-        let number = self.strings.intern_word(word)? as u32;
+        let number = self.intern_uncached(Key::of(word), word)?;
         if let [byte] = word {
             self.begin();
             set_byte_id(&mut self.byte_ids, *byte, number);
@@ -128,11 +134,55 @@ impl StringTable {
         }
     }
 
+    // Interns a word that its key and its length do not determine.
+    #[inline(never)]
+    fn intern_long(&mut self, word: &[u8]) -> Result<u32, AllocError>
+        requires few { length self.old.strings + 1 < string_limit }
+        ensures { TakesWord self.old word.now result self.new }
+    {
+        self.intern_uncached(Key::of(word), word)
+    }
+
+    // Interns a word that the fast path did not find.
+    #[inline(never)]
+    fn intern_uncached(&mut self, key: Key, word: &[u8]) -> Result<u32, AllocError>
+        requires key { key ≡ key_of word.now }
+        requires few { length self.old.strings + 1 < string_limit }
+        ensures { TakesWord self.old word.now result self.new }
+    {
+        if let Some(number) = self.table.find(&self.strings, key, word) {
+            return Ok(number);
+        }
+        if self.table.is_full(key) {
+            let number = intern_sorted(self.alloc, &mut self.strings, &mut self.sorted, word)?;
+            return Ok(number);
+        }
+        if let Some(number) = self.sorted.get(word).copied() {
+            return Ok(number);
+        }
+        self.add_new_word(key, word)
+    }
+
+    // Adds a word that is not interned yet to the table.
+    fn add_new_word(&mut self, key: Key, word: &[u8]) -> Result<u32, AllocError>
+        requires key { key ≡ key_of word.now }
+        requires few { length self.old.strings + 1 < string_limit }
+        requires absent { has_word self.old word.now ≡ false }
+        ensures { TakesWord self.old word.now result self.new }
+    {
+        let number = self.strings.add_word(word)?;
+        if self.table.push(key, word.len(), number as u32) {
+            return Ok(number as u32);
+        }
+        self.strings.truncate(number);
+        Err(AllocError)
+    }
+
     /// The strings.
     pub fn strings(&self) -> &StringList
         ensures { result.now ≡ self.now.strings }
     {
-        self.strings.strings()
+        &self.strings
     }
 
     /// The strings. What finds interned words is dropped.
@@ -141,10 +191,12 @@ impl StringTable {
     {
         let StringTable {
             alloc: _,
-            strings,
+            strings: list,
+            table: _,
+            sorted: _,
             byte_ids: _,
         } = self;
-        strings.close()
+        list
     }
 }
 

@@ -11,22 +11,12 @@ use std::alloc::{AllocError, Global};
 use std::marker::Model;
 
 /// Strings, numbered from 0, one after another in one buffer. A word has its edge beside it.
+#[derive(Drop)]
 pub struct StringList {
     bytes: Vec<u8>,
     // the start of the first string, and the end of each, where the next one starts. Empty before the first string
     offsets: Vec<usize>,
     edges: Vec<Edge>,
-}
-
-// One call drops all fields, so each holder's code is shorter.
-impl Drop for StringList {
-    fn drop(self) {
-        let StringList {
-            bytes: _,
-            offsets: _,
-            edges: _,
-        } = self;
-    }
 }
 
 impl Model for StringList {
@@ -89,6 +79,7 @@ impl StringList {
     }
 
     /// Drops all strings but the first `count`. It takes no memory.
+    #[tactic(auto, using(crate::proofs::StringListLemmas::place_is))]
     pub fn truncate(&mut self, count: usize)
         requires { count < length self.old }
         ensures { self.new ≡ take count self.old }

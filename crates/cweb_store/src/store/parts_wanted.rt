@@ -6,8 +6,7 @@ ghost use Rattle.cweb_store.specs.Parts.{all_tokens, is_macro, is_of, is_unnamed
 ghost use Rattle.cweb_store.specs.surface.Parts.{numbers_where, tokens_at};
 ghost use Rattle.cweb_store.specs.Faults.{has_part};
 ghost use Rattle.cweb_names.specs.surface.Names.{too_many};
-ghost use Rattle.cweb_store.specs.inner.PartRanges.{ranges_from};
-ghost use Rattle.cweb_store.specs.inner.Wanted.{wanted_in};
+ghost use Rattle.cweb_store.specs.inner.Wanted.{is_wanted};
 
 use crate::parts::iter::{Parts, Wanted};
 use crate::store::Store;
@@ -52,9 +51,12 @@ impl Store {
     }
 
     fn wanted(&self, wanted: Wanted) -> Parts<'_>
-        ensures value { result
-            ≡ wanted_in (spec.resolutions self.now.occurrences) wanted
-            (ranges_from 0 self.now.parts) }
+        ensures numbers { result
+            ≡ numbers_where (is_wanted (spec.resolutions self.now.occurrences) wanted) self.now.parts }
+        ensures text { tokens_at (all_tokens self.now.parts) result
+            ≡ joined_where (is_wanted (spec.resolutions self.now.occurrences) wanted) self.now.parts }
+        ensures ordered { All (λ p. p.first ≤ p.after) result }
+        ensures within { All (λ p. p.after ≤ length (all_tokens self.now.parts)) result }
         ensures few { length result < too_many }
     {
         let skip = self.ranges.len() as u32 - self.links.heads.get(wanted);

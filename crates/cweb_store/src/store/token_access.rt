@@ -1,14 +1,12 @@
 // A store's tokens: their number and their bytes.
 
-ghost use Rattle.std.specs.Prelude.{◌≡◌, ◌<◌, length, map, option_map, slice_get, Some};
+ghost use Rattle.std.specs.Prelude.{◌≡◌, ◌<◌, length, map};
 ghost use Rattle.cweb_store.specs.inner.DirectBytes.{direct_bytes};
-ghost use Rattle.cweb_texts.specs.inner.Edges.{token_bytes_model};
 ghost use Rattle.cweb_names.specs.surface.Names.{too_many};
 ghost use Rattle.cweb_store.specs.Parts.{all_tokens};
 
 use crate::store::Store;
 use crate::tokens::token_reader::TokenReader;
-use cweb_texts::TokenBytes;
 
 impl Store {
     /// The number of tokens of all parts, macros included.
@@ -17,16 +15,6 @@ impl Store {
         ensures few { result < too_many }
     {
         self.tokens.len() as u32
-    }
-
-    /// The bytes of a direct token: one that is printed as its own bytes, whatever is to its left. `None` for others.
-    #[inline(always)]
-    pub fn direct(&self, number: u32) -> Option<TokenBytes<'_>>
-        requires { number < length (all_tokens self.now.parts) }
-        ensures { option_map direct_bytes (slice_get (all_tokens self.now.parts) number)
-            ≡ Some (option_map token_bytes_model result) }
-    {
-        self.token_reader().direct(number)
     }
 
     /// A reader of all tokens, for a loop that prints many of them.

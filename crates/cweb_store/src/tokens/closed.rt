@@ -12,45 +12,35 @@ ghost use Rattle.cweb_store.specs.inner.Next.{IsNextNumber, is_name_use};
 
 use crate::parts::Part;
 use crate::tokens::Token;
-use crate::tokens::interned::token_of_interned;
-use crate::tokens::records::Records;
+use crate::tokens::records::{Record, token_at};
 use crate::tokens::token_index::{TokenIndex, next_in_range};
 use crate::tokens::token_reader::TokenReader;
+use cweb_files::Place;
 use cweb_names::{NameId, NameKind, resolved_at};
 use cweb_texts::StringList;
 use std::marker::Model;
 
-/// Finished tokens as records, their strings, and an index of uses and Defs.
+/// Finished tokens as records, their strings, the places of the Marks, and an index of uses and Defs.
+#[derive(Drop)]
 pub struct ClosedTokens {
     pub(crate) strings: StringList,
-    pub(crate) records: Records,
+    pub(crate) records: Vec<Record>,
+    pub(crate) places: Vec<Place>,
     pub(crate) token_index: TokenIndex,
 }
 
-// One call frees it, not one per field.
-impl Drop for ClosedTokens {
-    fn drop(self) {
-        let ClosedTokens {
-            strings: _,
-            records: _,
-            token_index: _,
-        } = self;
-    }
-}
-
 impl Model for ClosedTokens {
-    ghost use Rattle.std.specs.Prelude.{List, map};
+    ghost use Rattle.std.specs.Prelude.{List};
     ghost use Rattle.cweb_store.specs.Parts as spec;
 
     ghost Value = { List spec.Token };
 
-    ghost use Rattle.cweb_store.specs.inner.InternedTokens as interned;
-    ghost use Rattle.cweb_store.specs.inner.TokenIndexes.{AreIndexedClosedTokens};
+    ghost use Rattle.cweb_store.specs.inner.Records.{tokens_of};
+    ghost use Rattle.cweb_store.specs.inner.ClosedTokens.{AreClosed};
 
-    ghost view = { λ s. map (interned.token_of_interned s.strings) s.records.interned };
+    ghost view = { λ s. tokens_of s.strings s.places.items s.records.items };
 
-    ghost invariant = { λ s.
-        AreIndexedClosedTokens s.strings s.records.interned s.token_index };
+    ghost invariant = { λ s. AreClosed s.strings s.places.items s.records.items s.token_index };
 }
 
 impl ClosedTokens {
@@ -63,8 +53,12 @@ impl ClosedTokens {
         requires { number < length self.now }
         ensures { slice_get self.now number ≡ Some (token_model result) }
     {
-        let interned = self.records.get(number);
-        token_of_interned(&self.strings, interned)
+        token_at(
+            &self.strings,
+            self.places.as_slice(),
+            self.records.as_slice(),
+            number,
+        )
     }
 
     /// A reader of the tokens' bytes.

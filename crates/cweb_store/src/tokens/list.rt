@@ -7,52 +7,44 @@ ghost use Rattle.cweb_store.specs.inner.TokenStrings.{has_string};
 
 use crate::tokens::Token;
 use crate::tokens::closed::ClosedTokens;
-use crate::tokens::interned::token_of_interned;
-use crate::tokens::records::Records;
+use crate::tokens::records::{Record, first_place, record_of, token_at};
 use crate::tokens::token_index::TokenIndex;
+use cweb_files::Place;
 use cweb_texts::StringTable;
 use std::alloc::{AllocError, Global};
 use std::marker::Model;
 
-/// Tokens as records, their strings, and an index of uses and Defs.
+/// Tokens as records, their strings, the places of the Marks, in order, and an index of uses and Defs.
+#[derive(Drop)]
 pub struct TokenList {
     strings: StringTable,
-    records: Records,
+    records: Vec<Record>,
+    places: Vec<Place>,
     token_index: TokenIndex,
 }
 
-// One call frees it, not one per field.
-impl Drop for TokenList {
-    fn drop(self) {
-        let TokenList {
-            strings: _,
-            records: _,
-            token_index: _,
-        } = self;
-    }
-}
-
 impl Model for TokenList {
-    ghost use Rattle.std.specs.Prelude.{map, vec_capacity};
+    ghost use Rattle.std.specs.Prelude.{vec_capacity};
     ghost use Rattle.cweb_store.specs.inner.Rooms.{TokenListModel};
 
     ghost Value = { TokenListModel };
 
-    ghost use Rattle.cweb_store.specs.inner.InternedTokens.{token_of_interned};
-    ghost use Rattle.cweb_store.specs.inner.TokenIndexes.{AreIndexedTokens};
+    ghost use Rattle.cweb_store.specs.inner.Records.{tokens_of};
+    ghost use Rattle.cweb_store.specs.inner.ClosedTokens.{AreIndexedTokens};
 
     ghost view = { λ s.
         record {
-          tokens = map (token_of_interned s.strings.strings) s.records.interned;
+          tokens = tokens_of s.strings.strings s.places.items s.records.items;
           rooms = record {
-            for_records = s.records.room;
-            for_places = s.records.place_room;
+            for_records = vec_capacity s.records;
+            for_places = vec_capacity s.places;
             for_uses = vec_capacity s.token_index.uses;
             for_defs = vec_capacity s.token_index.defs;
           };
         } };
 
-    ghost invariant = { λ s. AreIndexedTokens s.strings s.records.interned s.token_index };
+    ghost invariant = { λ s.
+        AreIndexedTokens s.strings s.places.items s.records.items s.token_index };
 }
 
 impl TokenList {
@@ -64,7 +56,8 @@ impl TokenList {
     {
         TokenList {
             strings: StringTable::new(alloc),
-            records: Records::new(alloc),
+            records: Vec::new(alloc),
+            places: Vec::new(alloc),
             token_index: TokenIndex::new(alloc),
         }
     }
@@ -84,11 +77,16 @@ impl TokenList {
             ∷ []) }
         ensures err { OnErr result (self.new.tokens ≡ self.old.tokens) }
     {
-        self.records.reserve(token)?;
-        self.token_index.reserve(token)?;
-        let number = self.records.len();
-        self.records.put(&mut self.strings, token)?;
-        self.token_index.add_number(number as u32, token);
+        self.records.reserve(1)?;
+        let number = self.records.len() as u32;
+        let record = record_of(
+            &mut self.strings,
+            &mut self.places,
+            &mut self.token_index,
+            number,
+            token,
+        )?;
+        self.records.push_reserved(record);
         Ok(())
     }
 
@@ -97,8 +95,12 @@ impl TokenList {
         requires { number < length self.now.tokens }
         ensures { slice_get self.now.tokens number ≡ Some (token_model result) }
     {
-        let interned = self.records.get(number);
-        token_of_interned(self.strings.strings(), interned)
+        token_at(
+            self.strings.strings(),
+            self.places.as_slice(),
+            self.records.as_slice(),
+            number,
+        )
     }
 
     /// Truncates to the first `count` tokens. The dropped ones have no string. Allocates nothing.
@@ -111,6 +113,8 @@ impl TokenList {
         if count >= self.records.len() {
             return;
         }
+        let places = first_place(&self.records[count..], self.places.len());
+        self.places.truncate(places);
         self.records.truncate(count);
         self.token_index.truncate(count);
     }
@@ -122,11 +126,13 @@ impl TokenList {
         let TokenList {
             strings,
             records,
+            places,
             token_index,
         } = self;
         ClosedTokens {
             strings: strings.close(),
             records,
+            places,
             token_index,
         }
     }

@@ -1,17 +1,14 @@
 // The indices of tokens that are searched for later.
 
-ghost use Rattle.std.specs.Prelude.{◌≡◌, ◌≤◌, ◌++◌, ◌∷◌, [], ℕ, Bool, List, length, nat_lt, take};
-ghost use Rattle.std.specs.Prelude.{vec_capacity, OnOk};
+ghost use Rattle.std.specs.Prelude.{◌≡◌, ◌≤◌, [], ℕ, Bool, List, nat_lt, take, vec_capacity};
 ghost use Rattle.std.specs.List.{prefix_len};
 ghost use Rattle.std.specs.List.Sorted.{IsNonDecreasing};
 ghost use Rattle.cweb_store.specs.Parts as spec;
-ghost use Rattle.cweb_store.specs.surface.TokenModels.{token_model};
 ghost use Rattle.cweb_store.specs.inner.Next.{IsNextNumber};
-ghost use Rattle.cweb_store.specs.inner.TokenIndexes.{IsTokenIndex, IndexHasRoom, token_numbers};
+ghost use Rattle.cweb_store.specs.inner.TokenIndexes.{IsTokenIndex, token_numbers};
 
 use crate::parts::Part;
-use crate::tokens::Token;
-use std::alloc::{AllocError, Global};
+use std::alloc::Global;
 
 /// The indices of the tokens that use a name, and of the Defs, in ascending order.
 #[derive(Drop)]
@@ -28,33 +25,6 @@ impl TokenIndex {
         TokenIndex {
             uses: Vec::new(alloc),
             defs: Vec::new(alloc),
-        }
-    }
-
-    /// Reserves room for an entry. The index doesn't change.
-    pub fn reserve(&mut self, token: Token<'_>) -> Result<(), AllocError>
-        ensures room { OnOk result (IndexHasRoom (token_model token.entry) self.new) }
-        ensures token_index { (tokens : List spec.Token) → IsTokenIndex self.old tokens
-            → IsTokenIndex self.new tokens }
-    {
-        match token {
-            Token::Name(_) => self.uses.reserve(1)?,
-            Token::Defs => self.defs.reserve(1)?,
-            _ => {}
-        }
-        Ok(())
-    }
-
-    /// Adds a token that comes after all others.
-    pub fn add_number(&mut self, number: u32, token: Token<'_>)
-        requires { IndexHasRoom (token_model token) self.old }
-        ensures { (tokens : List spec.Token) → length tokens ≡ number → IsTokenIndex self.old tokens
-            → IsTokenIndex self.new (tokens ++ token_model token.entry ∷ []) }
-    {
-        match token {
-            Token::Name(_) => self.uses.push_reserved(number),
-            Token::Defs => self.defs.push_reserved(number),
-            _ => {}
         }
     }
 

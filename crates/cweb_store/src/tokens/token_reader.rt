@@ -3,9 +3,8 @@
 ghost use Rattle.std.specs.Prelude.{◌≡◌, ◌<◌, ◌+◌, List, ℕ, [], length, option_map, slice_get};
 ghost use Rattle.std.specs.Prelude.{Some};
 ghost use Rattle.cweb_store.specs.inner.DirectBytes.{direct_bytes};
-ghost use Rattle.cweb_store.specs.inner.InternedTokens.{StringIsWithin, token_of_interned};
 ghost use Rattle.cweb_store.specs.Parts as spec;
-ghost use Rattle.cweb_store.specs.inner.Records.{interned_of_record};
+ghost use Rattle.cweb_store.specs.inner.Records.{StringIsWithin, token_of_record};
 ghost use Rattle.cweb_texts.specs.inner.Edges.{token_bytes_model};
 ghost use Rattle.cweb_texts.specs.inner.StringLists.{string_at};
 
@@ -21,20 +20,21 @@ pub struct TokenReader<'a> {
 }
 
 impl<'a> Model for TokenReader<'a> {
-    ghost use Rattle.std.specs.Prelude.{List, Option};
+    ghost use Rattle.std.specs.Prelude.{List, Option, ℕ, length};
     ghost use Rattle.cweb_texts.specs.inner.Edges.{TokenBytesModel};
     ghost use Rattle.cweb_store.specs.inner.TokenReaders.{direct_bytes_of_records};
-    ghost use Rattle.cweb_store.specs.inner.TokenReaders.{RecordStringsAreWithin};
+    ghost use Rattle.cweb_store.specs.inner.Records.{AreRecords};
 
     ghost Value = { List (Option TokenBytesModel) };
 
     ghost view = { λ s. direct_bytes_of_records s.strings s.records.now };
 
-    ghost invariant = { λ s. RecordStringsAreWithin s.strings s.records.now };
+    ghost invariant = { λ s.
+        (places : ℕ) × AreRecords (length s.strings) 0 s.records.now places };
 }
 
 impl<'a> TokenReader<'a> {
-    /// The bytes of a direct token, or `None`.
+    /// The bytes of a direct token: one that is printed as its own bytes, whatever is to its left. `None` for others.
     #[inline(always)]
     pub fn direct(&self, number: u32) -> Option<TokenBytes<'a>>
         requires { number < length self.now }
@@ -47,9 +47,9 @@ impl<'a> TokenReader<'a> {
 // The bytes of a record's token. The bytes aren't inspected if the string table stores their edge.
 #[inline(always)]
 fn direct<'a>(strings: &StringSlices<'a>, item: Record) -> Option<TokenBytes<'a>>
-    requires { StringIsWithin (length strings.now) (interned_of_record [] item) }
+    requires { StringIsWithin (length strings.now) item }
     ensures { option_map token_bytes_model result
-        ≡ direct_bytes (token_of_interned strings.now (interned_of_record [] item)) }
+        ≡ direct_bytes (token_of_record strings.now [] item) }
 {
     match item {
         Record::Word(number) => direct_word(strings, number as usize),

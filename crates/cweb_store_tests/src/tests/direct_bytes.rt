@@ -4,7 +4,8 @@ use super::*;
 // The token at an index has these bytes and this edge.
 fn has_direct_bytes(rt: &impl Abort, store: &Store, number: u32, string: &[u8], edge: Edge) {
     holds(rt, number < store.tokens());
-    let direct = store.direct(number).expect(rt, "the token lends a text");
+    let direct = store.token_reader().direct(number);
+    let direct = direct.expect(rt, "a direct token");
     holds(rt, direct.string == string);
     holds(rt, direct.edge as u8 == edge as u8);
 }
@@ -43,7 +44,7 @@ fn direct_bytes_and_edges(rt: HostRuntime) -> Result<(), Fail> {
 fn have_no_direct_bytes(rt: &impl Abort, store: &Store, tokens: u32) {
     holds(rt, store.tokens() == tokens);
     for number in 0..tokens {
-        holds(rt, store.direct(number).is_none());
+        holds(rt, store.token_reader().direct(number).is_none());
     }
 }
 

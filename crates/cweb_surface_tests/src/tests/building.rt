@@ -85,7 +85,7 @@ fn reads_direct_bytes(rt: &impl Abort, store: &Store) {
     let word = reader.direct(0).expect(rt, "a direct token");
     same_bytes(rt, word.string, b"x");
     holds(rt, word.edge as u8 == Edge::Word as u8);
-    holds(rt, store.direct(1).is_none());
+    holds(rt, reader.direct(1).is_none());
 }
 
 #[test]

@@ -1,7 +1,6 @@
 -- The chains of a hash table. A link is 0 for none, or one more than the index of a word.
 use Rattle.std.specs.Prelude.{◌≡◌, ℕ, suc, ◌<◌, ◌≤◌, List, length, slice_get, slice_index_or, Some}
 use Rattle.cweb_texts.specs.declared.words.word.Word.{Word}
-use Rattle.cweb_texts.specs.declared.words.chains.Chains.{Chains}
 use Rattle.cweb_texts.specs.inner.Keys.{home_bucket_of}
 
 -- a link to the latest word of a bucket among the first `count` words
@@ -12,9 +11,9 @@ pub record IsLink (ws : List Word) (buckets bucket link count : ℕ) : Type 0 wh
       → k < link
 
 -- each head links to the latest word of its bucket, and each next link to the one before the word
-pub record AreChains (ws : List Word) (chains : Chains) : Type 0 where
-  pub count : length chains.nexts.items ≡ length ws
-  pub heads : (bucket : ℕ) → IsLink ws (length chains.heads.items) bucket
-      (slice_index_or chains.heads.items bucket 0) (length ws)
-  pub nexts : (k : ℕ) (w : Word) → slice_get ws k ≡ Some w → IsLink ws (length chains.heads.items)
-      (home_bucket_of w.key (length chains.heads.items)) (slice_index_or chains.nexts.items k 0) k
+pub record AreChains (ws : List Word) (heads nexts : List ℕ) : Type 0 where
+  pub count : length nexts ≡ length ws
+  pub few : length ws ≤ 4294967295
+  pub from_bucket : (bucket : ℕ) → IsLink ws (length heads) bucket (slice_index_or heads bucket 0) (length ws)
+  pub from_word : (k : ℕ) (w : Word) → slice_get ws k ≡ Some w → IsLink ws (length heads)
+      (home_bucket_of w.key (length heads)) (slice_index_or nexts k 0) k

@@ -1,9 +1,9 @@
 -- Strings, and the words among them that are interned.
-use Rattle.std.specs.Prelude.{◌≡◌, ◌≤◌, ℕ, ◌+◌, Bool, List, [], ◌++◌, Some, map, length, slice_get, bytes_eq, Result, MatchResult}
+use Rattle.std.specs.Prelude.{◌≡◌, ◌≤◌, ℕ, ◌+◌, Bool, true, List, [], ◌∷◌, ◌++◌, Some, map, length, slice_get, bytes_eq, Result, MatchResult}
 use Rattle.std.specs.List.{list_any}
 use Rattle.cweb_texts.specs.declared.words.word.Word.{Word}
 use Rattle.cweb_texts.specs.inner.StringLists.{text_bytes}
-use Rattle.cweb_texts.specs.inner.Words.{Entries, word_string, entry_word}
+use Rattle.cweb_texts.specs.inner.Words.{Entries, AreInterned, word_string, entry_word}
 use Rattle.cweb_texts.specs.surface.StringTables.{total, with_word}
 
 -- strings are numbered by 32 bits, so there are fewer than this
@@ -51,3 +51,17 @@ TakesString old string result new = MatchResult result (λ number. AddsString ol
 -- a call interned a word, or memory is refused and nothing changed
 abbrev pub TakesWord : {E : Type 0} → StringTableModel → List ℕ → Result ℕ E → StringTableModel → Type 0
 TakesWord old word result new = MatchResult result (λ number. InternsWord old word number new) (λ _. new ≡ old)
+
+-- the string with the number is the byte, and is interned
+pub record IsByteId (kept : StringTableModel) (byte number : ℕ) : Type 0 where
+  pub stored : slice_get kept.strings number ≡ Some (byte ∷ [])
+  pub among : has_word kept (byte ∷ []) ≡ true
+
+-- an entry is 0, or one more than the number of the interned string that is this byte
+abbrev pub AreByteIds : StringTableModel → List ℕ → Type 0
+AreByteIds kept byte_ids = (byte number : ℕ) → slice_get byte_ids byte ≡ Some (number + 1) → IsByteId kept byte number
+
+-- the invariant of a string table
+pub record IsStringTable (strings : List (List ℕ)) (ws : List Word) (es : Entries) (byte_ids : List ℕ) : Type 0 where
+  pub interned : AreInterned strings ws es
+  pub by_byte : AreByteIds (table_model strings ws es) byte_ids

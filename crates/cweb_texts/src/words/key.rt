@@ -1,6 +1,6 @@
 // The key of a word, and its bucket.
 
-ghost use Rattle.std.specs.Prelude.{◌≡◌, ◌≤◌, length, slice_index_or};
+ghost use Rattle.std.specs.Prelude.{◌≡◌, ◌≤◌, ◌<◌, length, slice_index_or};
 ghost use Rattle.std.specs.Int.{w32, w64, from_le_bytes};
 ghost use Rattle.cweb_texts.specs.inner.Keys.{key_of, hash_of, home_bucket_of, key_hash};
 
@@ -71,6 +71,7 @@ fn hash(word: &[u8]) -> u64
 pub fn home_bucket(key: Key, slots: usize) -> usize
     ensures is { result ≡ home_bucket_of key slots }
     ensures within { result ≤ slots }
+    ensures below { 0 < slots → result < slots }
 {
     ((key_hash(key) as u128 * slots as u128) >> 64) as usize
 }
@@ -87,8 +88,8 @@ fn key_hash(key: Key) -> u64
     high ^ low
 }
 
-/// The byte at an index of a word, or 0 past its end.
-pub fn byte_at(word: &[u8], place: usize) -> u8
+// The byte at an index of a word, or 0 past its end.
+fn byte_at(word: &[u8], place: usize) -> u8
     ensures { result ≡ slice_index_or word.now place 0 }
 {
     if place < word.len() { word[place] } else { 0 }

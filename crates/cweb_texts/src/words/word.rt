@@ -1,6 +1,6 @@
 // A word of the hash table.
 
-ghost use Rattle.std.specs.Prelude.{◌≡◌, ◌↔◌, true, List, ℕ, bytes_eq, IfSome, IsTrue};
+ghost use Rattle.std.specs.Prelude.{◌≡◌, ◌↔◌, true, List, ℕ, bytes_eq, length, IfSome, IsTrue};
 ghost use Rattle.cweb_texts.specs.inner.Keys.{AreBytes, key_of};
 ghost use Rattle.cweb_texts.specs.inner.Words.{DescribesString, word_string};
 
@@ -16,18 +16,18 @@ pub struct Word {
 }
 
 impl Word {
-    /// Returns `None` if the length or the number does not fit 32 bits.
-    pub fn new(key: Key, len: usize, number: usize) -> Option<Word>
+    /// Returns `None` if the length does not fit 32 bits.
+    pub fn new(key: Key, len: usize, number: u32) -> Option<Word>
         ensures { IfSome result (λ word.
             (word.key ≡ key) × (word.len ≡ len) × (word.number ≡ number)) }
     {
-        if len > u32::MAX as usize || number > u32::MAX as usize {
+        if len > u32::MAX as usize {
             return None;
         }
         Some(Word {
             key,
             len: len as u32,
-            number: number as u32,
+            number,
         })
     }
 
@@ -38,14 +38,10 @@ impl Word {
         requires key { key ≡ key_of string.now }
         ensures { result ≡ bytes_eq string.now (word_string strings.now self.now) }
     {
-        if !self.has_key(key, string.len()) {
+        if !self.has_key(key, string) {
             return false;
         }
-        if string.len() <= KEY_BYTES {
-            establish_byte_range(string);
-            return true;
-        }
-        string == strings.string(self.number as usize)
+        string.len() <= KEY_BYTES || string == strings.string(self.number as usize)
     }
 
     /// Whether this word is a short string with a key. It reads no other string and calls nothing.
@@ -55,24 +51,15 @@ impl Word {
         ensures { result ≡ true → (strings : List (List ℕ)) → DescribesString strings self.now
             → bytes_eq string.now (word_string strings self.now) ≡ true }
     {
-        establish_byte_range(string);
-        string.len() <= KEY_BYTES && self.has_key(key, string.len())
+        string.len() <= KEY_BYTES && self.has_key(key, string)
     }
 
-    // Whether the key and the length are these.
-    fn has_key(&self, key: Key, len: usize) -> bool
-        ensures { IsTrue result ↔ (self.now.len ≡ len) × (self.now.key ≡ key) }
+    // Whether the key and the length are those of a string.
+    fn has_key(&self, key: Key, string: &[u8]) -> bool
+        ensures is { IsTrue result ↔ (self.now.len ≡ length string.now) × (self.now.key ≡ key) }
+        ensures bytes { AreBytes string.now }
     {
+        let len = string.len();
         self.len as usize == len && self.key.first == key.first && self.key.last == key.last
-    }
-}
-
-/// Establishes that the items of a slice are bytes, as a read of one does.
-#[inline(always)]
-pub fn establish_byte_range(string: &[u8])
-    ensures { AreBytes string.now }
-{
-    if let [first, ..] = string {
-        let _byte = *first;
     }
 }

@@ -1,4 +1,4 @@
-use Rattle.cweb_names.proofs.Common.{◌≡◌, sym, ◌∙◌, ap, refl, false, length, bytes_eq, list_any, position_or_len, length-map, slice_get, slice_get_within, Name, id, spellings, name_at, names_at, NamesSoFar}
+use Rattle.cweb_names.proofs.Common.{◌≡◌, sym, ◌∙◌, ap, refl, false, length, bytes_eq, list_any, length-map, slice_get, slice_get_within, Name, id, spellings, name_at, names_at, NamesSoFar}
 use Rattle.cweb_names.proofs.NameLemmas.{position-none, with_text-there, with_text-new, known-push}
 use Rattle.cweb_names.proofs.KnownLemmas.{known-old, known-new, names-push, within-push}
 use Rattle.cweb_names.proofs.known.KnownNames.add.Goals as goal
@@ -8,14 +8,12 @@ returns-then-id-next c =
     let s = c.self.inside in
     let ns = names_at s.strings s.firsts.items in
     let text = c.args.text.now in
-    let is : c.new-key.result ≡ text = c.new-key.ensures in
-    let stays = known-old s.sorted.entries ns c.new-key.result
-    _ c.in_ok-id.id c.self.invariant.sorted c.in_ok-id.ensures.ordered c.in_ok-id.ensures.number c.if-id-next.true in
-    let there = ap (λ q. list_any (bytes_eq q) (spellings ns)) (sym is) ∙ stays.among in
+    let stays = known-old s.sorted.entries ns text _ c.in_ok-id.id c.self.invariant.sorted c.in_ok-id.ensures.ordered
+    (rw c.new-key.ensures at c.in_ok-id.ensures.number) c.if-id-next.true in
     rw (c.in_ok-reserve.ensures.items, ← c.self.view_is)
     (record {
-      number = stays.place ∙ ap (λ q. position_or_len (bytes_eq q) (spellings ns)) is;
-      names = sym (with_text-there c.args.first ns text there);
+      number = stays.place;
+      names = sym (with_text-there c.args.first ns text stays.among);
       strings = refl;
     })
 
@@ -31,38 +29,32 @@ pub invariant_of-self-2 : goal.invariant_of-self-2
 invariant_of-self-2 c =
     let s = c.self.inside in
     let ns = names_at s.strings s.firsts.items in
-    let key = c.new-key.result in
+    let text = c.args.text.now in
     let v = c.in_ok-id.id in
-    let is : key ≡ c.args.text.now = c.new-key.ensures in
     let last : v.0 ≡ length ns =
     c.if-id-next.false ∙ c.len.ensures ∙ s.firsts.ok.0 ∙ sym (length-map s.firsts.items (name_at s.strings)) in
-    let new : list_any (bytes_eq key) (spellings ns) ≡ false =
-    known-new s.sorted.entries ns key _ v c.self.invariant.sorted c.in_ok-id.ensures.ordered
-    c.in_ok-id.ensures.number last in
+    let absent = known-new s.sorted.entries ns text _ v c.self.invariant.sorted c.in_ok-id.ensures.ordered
+    (rw c.new-key.ensures at c.in_ok-id.ensures.number) last in
     let given = ap (λ (m : NamesSoFar). slice_get m.strings c.args.first) c.self.view_is ∙ c.requires.spelled in
-    let known = known-push s.sorted.entries ns key c.args.first v c.self.invariant.sorted new (ap id last) in
-    rw (c.push_reserved.ensures.items, c.in_ok-reserve.ensures.items, c.in_ok-id.ensures.entries)
+    rw (c.push_reserved.ensures.items, c.in_ok-reserve.ensures.items, c.in_ok-id.ensures.entries, c.new-key.ensures)
     (record {
-      sorted = rw (names-push s.strings s.firsts.items c.args.first c.args.text.now given, ← is) known;
+      sorted = rw (names-push s.strings s.firsts.items c.args.first text given)
+          (known-push s.sorted.entries ns text c.args.first v c.self.invariant.sorted absent (ap id last));
       within = within-push (length s.strings) s.firsts.items c.args.first c.self.invariant.within
-          (slice_get_within s.strings c.args.first c.args.text.now given);
+          (slice_get_within s.strings c.args.first text given);
     })
 
 pub returns : goal.returns
 returns c =
     let s = c.self.inside in
     let ns = names_at s.strings s.firsts.items in
-    let key = c.new-key.result in
-    let v = c.in_ok-id.id in
     let text = c.args.text.now in
-    let is : key ≡ text = c.new-key.ensures in
+    let v = c.in_ok-id.id in
     let last : v.0 ≡ length ns =
     c.if-id-next.false ∙ c.len.ensures ∙ s.firsts.ok.0 ∙ sym (length-map s.firsts.items (name_at s.strings)) in
-    let new : list_any (bytes_eq key) (spellings ns) ≡ false =
-    known-new s.sorted.entries ns key _ v c.self.invariant.sorted c.in_ok-id.ensures.ordered
-    c.in_ok-id.ensures.number last in
     let absent : list_any (bytes_eq text) (spellings ns) ≡ false =
-    ap (λ q. list_any (bytes_eq q) (spellings ns)) (sym is) ∙ new in
+    known-new s.sorted.entries ns text _ v c.self.invariant.sorted c.in_ok-id.ensures.ordered
+    (rw c.new-key.ensures at c.in_ok-id.ensures.number) last in
     let given = ap (λ (m : NamesSoFar). slice_get m.strings c.args.first) c.self.view_is ∙ c.requires.spelled in
     rw (c.push_reserved.ensures.items, c.in_ok-reserve.ensures.items, ← c.self.view_is)
     (record {

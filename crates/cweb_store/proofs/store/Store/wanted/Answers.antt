@@ -1,5 +1,7 @@
-use Rattle.cweb_store.proofs.Common.{◌≡◌, ◌-◌, filter, length, ◌∙◌, ap, arith, length-map, length-filter, count_by-le-length, ranges_from, is_wanted, wanted_in, followed, PartRange}
+use Rattle.cweb_store.proofs.Common.{◌≡◌, ◌≤◌, ◌-◌, List, filter, length, sym, subst, ◌∙◌, ap, arith, All, all_tokens, tokens_at, length-map, length-filter, count_by-le-length, ranges_from, is_wanted, wanted_in, followed, PartRange}
 use Rattle.cweb_names.specs.Names as spec
+use Rattle.cweb_store.specs.declared.parts.Part.{Part}
+use Rattle.cweb_store.proofs.PartLemmas.{part-ranges, tokens_at-numbers, numbers-within, numbers-ordered}
 use Rattle.cweb_store.proofs.PartRangeLemmas.{stored-ranges}
 use Rattle.cweb_store.proofs.store.Store.wanted.Goals as goal
 
@@ -13,13 +15,32 @@ met c =
     ∙ (λ i. followed (c.as_slice.ensures.value i) (c.as_slice-2.ensures.value i) (size i - c.get.ensures i))
     ∙ c.self.invariant.linked.follow c.args.wanted
 
-pub returns-clause-value : goal.returns-clause-value
-returns-clause-value c =
+pub returns-clause-numbers : goal.returns-clause-numbers
+returns-clause-numbers c =
     let s = c.self.inside in
+    let ps = c.args.self.now.parts in
     let ranges = stored-ranges s.tokens s.ranges.items c.self.invariant.whole
     ∙ ap (λ v. ranges_from 0 v.parts) c.self.view_is in
     let resolutions = c.self.invariant.answers.settled ∙ ap (λ v. spec.resolutions v.occurrences) c.self.view_is in
     met c ∙ (λ i. wanted_in (resolutions i) c.args.wanted (ranges i))
+    ∙ part-ranges (is_wanted (spec.resolutions c.args.self.now.occurrences) c.args.wanted) 0 ps
+
+pub returns-clause-text : goal.returns-clause-text
+returns-clause-text c =
+    let ps = c.args.self.now.parts in
+    ap (tokens_at (all_tokens ps)) (returns-clause-numbers c)
+    ∙ tokens_at-numbers (is_wanted (spec.resolutions c.args.self.now.occurrences) c.args.wanted) ps
+
+pub returns-clause-ordered : goal.returns-clause-ordered
+returns-clause-ordered c = subst (λ (xs : List Part). All (λ p. p.first ≤ p.after) xs)
+    (sym (returns-clause-numbers c))
+    (numbers-ordered (is_wanted (spec.resolutions c.args.self.now.occurrences) c.args.wanted) c.args.self.now.parts)
+
+pub returns-clause-within : goal.returns-clause-within
+returns-clause-within c =
+    let ps = c.args.self.now.parts in
+    subst (λ (xs : List Part). All (λ p. p.after ≤ length (all_tokens ps)) xs) (sym (returns-clause-numbers c))
+    (numbers-within (is_wanted (spec.resolutions c.args.self.now.occurrences) c.args.wanted) ps)
 
 pub returns-clause-few : goal.returns-clause-few
 returns-clause-few c =

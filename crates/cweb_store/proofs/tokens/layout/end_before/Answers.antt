@@ -1,4 +1,4 @@
-use Rattle.cweb_store.proofs.Common.{◌≡◌, suc, ◌-◌, true, false, take, sym, ◌∙◌, ap, arith, filter, if◌then◌else◌, without_last_after, is_trailing, token_model, has_string}
+use Rattle.cweb_store.proofs.Common.{◌≡◌, suc, ◌-◌, take, sym, ◌∙◌, ap, arith, filter, is_trailing, token_model, has_string}
 use Rattle.cweb_store.proofs.LayoutLemmas.{trim-next}
 use Rattle.cweb_store.proofs.LayoutStringLemmas.{trimmed-strings}
 use Rattle.cweb_store.proofs.tokens.layout.end_before.Goals as goal
@@ -11,13 +11,17 @@ loop-end-preserved c =
     let k = c.loop-end.end - 1 in
     let t = token_model c.token.result in
     let next : suc k ≡ c.loop-end.end = omega (arith, c.loop-end-test.true) in
-    let dropped : test t ≡ true = sym c.is_trailing.ensures ∙ c.if-is_trailing.true in
-    let step = trim-next from test ts k t c.token.ensures (omega (arith, c.loop-end-test.true)) in
     record {
       within = omega (arith, c.loop-end.invariant.within);
       begins = λ n low all. omega (arith, c.loop-end-test.true, low);
-      same = sym (ap (λ b. if b then without_last_after from test (take k ts) else take (suc k) ts) dropped)
-          ∙ sym step ∙ ap (λ n. without_last_after from test (take n ts)) next ∙ c.loop-end.invariant.same;
+      same = grind (
+        arith,
+        trim-next from test ts k t c.token.ensures (omega (arith, c.loop-end-test.true)),
+        c.is_trailing.ensures,
+        c.if-is_trailing.true,
+        next,
+        c.loop-end.invariant.same,
+      );
     }
 
 pub returns-else-is_trailing-clause-kept : goal.returns-else-is_trailing-clause-kept
@@ -28,11 +32,14 @@ returns-else-is_trailing-clause-kept c =
     let k = c.loop-end.end - 1 in
     let t = token_model c.token.result in
     let next : suc k ≡ c.loop-end.end = omega (arith, c.loop-end-test.true) in
-    let stays : test t ≡ false = sym c.is_trailing.ensures ∙ c.if-is_trailing.false in
-    let step = trim-next from test ts k t c.token.ensures (omega (arith, c.loop-end-test.true)) in
-    ap (λ n. take n ts) (sym next)
-    ∙ sym (ap (λ b. if b then without_last_after from test (take k ts) else take (suc k) ts) stays)
-    ∙ sym step ∙ ap (λ n. without_last_after from test (take n ts)) next ∙ c.loop-end.invariant.same
+    grind (
+      arith,
+      trim-next from test ts k t c.token.ensures (omega (arith, c.loop-end-test.true)),
+      c.is_trailing.ensures,
+      c.if-is_trailing.false,
+      next,
+      c.loop-end.invariant.same,
+    )
 
 pub returns-else-is_trailing-clause-strings : goal.returns-else-is_trailing-clause-strings
 returns-else-is_trailing-clause-strings c =

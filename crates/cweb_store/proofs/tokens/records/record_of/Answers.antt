@@ -1,20 +1,20 @@
-use Rattle.cweb_store.proofs.Common.{◌≡◌, ◌<◌, ℕ, List, [], ◌∷◌, ap, arith, filter, length, refl, rules, common_steps, InternsToken, StringIsWithin, token_of_interned, InternedToken, has_string, string_at, get-string}
-use Rattle.cweb_store.specs.inner.Records.{place_at}
-use Rattle.cweb_store.specs.declared.tokens.interned.InternedToken.TheVariants.{Literal, Verbatim}
+use Rattle.cweb_store.proofs.Common.{◌≡◌, ◌<◌, ℕ, List, [], ◌∷◌, ap, arith, filter, length, refl, InternsToken, StringIsWithin, token_of_record, has_string, string_at, get-string, Place, Record}
 use Rattle.cweb_texts.specs.inner.StringTables.{StringTableModel, AddsString, InternsWord}
 use Rattle.cweb_texts.specs.surface.StringTables.{with_word}
 use Rattle.cweb_store.specs.surface.TokenStrings.{other_bytes, with_word_of}
 use Rattle.std.proofs.lemmas.Option.{slice_get_within}
 use Rattle.cweb_store.specs.Parts as spec
-use Rattle.cweb_store.specs.declared.tokens.interned.InternedToken.TheVariants as interned_token
+use Rattle.cweb_store.specs.declared.tokens.records.Record.TheVariants as record_of
 use Rattle.cweb_store.proofs.tokens.records.record_of.Goals as goal
 
 -- A stored string, and the record with its index.
-kept-packs : {old new : StringTableModel} {string : List ℕ} {number : ℕ} (token : spec.Token) (item : InternedToken)
+kept-packs : {old new : StringTableModel} {places : List Place} {string : List ℕ} {number : ℕ} (token : spec.Token)
+    (item : Record)
     → AddsString old string number new → (number < length new.strings → StringIsWithin (length new.strings) item)
-    → (string_at new.strings number ≡ string → token_of_interned new.strings item ≡ token)
+    → (string_at new.strings number ≡ string → token_of_record new.strings places item ≡ token)
     → with_word_of old.words token ≡ old.words
-    → other_bytes token ≡ length string → length (filter has_string (token ∷ [])) ≡ 1 → InternsToken old token item new
+    → other_bytes token ≡ length string → length (filter has_string (token ∷ [])) ≡ 1
+    → InternsToken old token places item new
 kept-packs {new} {string} {number} token item keeps within stored no_word bytes one = record {
   more = keeps.more;
   grows = keeps.grows;
@@ -26,11 +26,13 @@ kept-packs {new} {string} {number} token item keeps within stored no_word bytes 
 }
 
 -- The record of an interned string.
-word-packs : {old new : StringTableModel} {word : List ℕ} {number : ℕ} (token : spec.Token) (item : InternedToken)
+word-packs : {old new : StringTableModel} {places : List Place} {word : List ℕ} {number : ℕ} (token : spec.Token)
+    (item : Record)
     → InternsWord old word number new → (number < length new.strings → StringIsWithin (length new.strings) item)
-    → (string_at new.strings number ≡ word → token_of_interned new.strings item ≡ token)
+    → (string_at new.strings number ≡ word → token_of_record new.strings places item ≡ token)
     → with_word_of old.words token ≡ with_word old.words word
-    → other_bytes token ≡ 0 → length (filter has_string (token ∷ [])) ≡ 1 → InternsToken old token item new
+    → other_bytes token ≡ 0 → length (filter has_string (token ∷ [])) ≡ 1
+    → InternsToken old token places item new
 word-packs {new} {word} {number} token item keeps within stored is_word none one = record {
   more = keeps.more;
   grows = keeps.grows;
@@ -43,38 +45,29 @@ word-packs {new} {word} {number} token item keeps within stored is_word none one
 
 pub returns-in_ok-intern_word-in-Word-clause-packs : goal.returns-in_ok-intern_word-in-Word-clause-packs
 returns-in_ok-intern_word-in-Word-clause-packs c =
-    rw c.in-Word.is (word-packs (spec.Word c.in-Word.string.now) (interned_token.Word
+    rw c.in-Word.is (word-packs (spec.Word c.in-Word.string.now) (record_of.Word
     c.in_ok-intern_word-in-Word.field-0) c.in_ok-intern_word-in-Word.ensures (λ w. w) (ap spec.Word) refl refl refl)
 
 pub returns-in_ok-intern_punctuator-in-Punct-clause-packs : goal.returns-in_ok-intern_punctuator-in-Punct-clause-packs
 returns-in_ok-intern_punctuator-in-Punct-clause-packs c =
     rw c.in-Punct.is (word-packs (spec.Punct c.in-Punct.string.now)
-    (interned_token.Punct c.in_ok-intern_punctuator-in-Punct.field-0)
+    (record_of.Punct c.in_ok-intern_punctuator-in-Punct.field-0)
     c.in_ok-intern_punctuator-in-Punct.ensures (λ w. w) (ap spec.Punct) refl refl refl)
 
 pub returns-in_ok-intern_word-in-Number-clause-packs : goal.returns-in_ok-intern_word-in-Number-clause-packs
 returns-in_ok-intern_word-in-Number-clause-packs c =
-    rw c.in-Number.is (word-packs (spec.Number c.in-Number.string.now) (interned_token.Number
+    rw c.in-Number.is (word-packs (spec.Number c.in-Number.string.now) (record_of.Number
     c.in_ok-intern_word-in-Number.field-0) c.in_ok-intern_word-in-Number.ensures
     (λ w. w) (ap spec.Number) refl refl refl)
 
 pub returns-in_ok-add_string-in-Literal-clause-packs : goal.returns-in_ok-add_string-in-Literal-clause-packs
 returns-in_ok-add_string-in-Literal-clause-packs c =
     rw c.in-Literal.is (kept-packs (spec.Literal c.in-Literal.string.now)
-    (Literal c.in_ok-add_string-in-Literal.field-0)
+    (record_of.Literal c.in_ok-add_string-in-Literal.field-0)
     c.in_ok-add_string-in-Literal.ensures (λ w. w) (ap spec.Literal) refl (omega arith) refl)
 
 pub returns-in_ok-add_string-in-Verbatim-clause-packs : goal.returns-in_ok-add_string-in-Verbatim-clause-packs
 returns-in_ok-add_string-in-Verbatim-clause-packs c =
     rw c.in-Verbatim.is (kept-packs (spec.Verbatim c.in-Verbatim.string.now)
-    (Verbatim c.in_ok-add_string-in-Verbatim.field-0)
+    (record_of.Verbatim c.in_ok-add_string-in-Verbatim.field-0)
     c.in_ok-add_string-in-Verbatim.ensures (λ w. w) (ap spec.Verbatim) refl (omega arith) refl)
-
-pub returns-in-Mark-clause-packs : goal.returns-in-Mark-clause-packs
-returns-in-Mark-clause-packs c =
-    let same : place_at c.push_reserved.new.self.items c.len-number.result ≡ c.in-Mark.place =
-    grind (arith, common_steps) in
-    rw (same, c.in-Mark.is) (search rules)
-
-pub returns-in-Mark-clause-placed : goal.returns-in-Mark-clause-placed
-returns-in-Mark-clause-placed c = grind (arith, common_steps)

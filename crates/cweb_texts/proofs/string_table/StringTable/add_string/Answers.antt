@@ -1,10 +1,23 @@
-use Rattle.cweb_texts.proofs.ByteIdLemmas.{byte_ids-stay}
+use Rattle.cweb_texts.proofs.Common.{◌∷◌, []}
+use Rattle.cweb_texts.proofs.ByteIdLemmas.{byte_ids-string}
+use Rattle.cweb_texts.proofs.InterningLemmas.{interned-grow, string-keeps}
 use Rattle.cweb_texts.proofs.string_table.StringTable.add_string.Goals as goal
 
-pub invariant_of-self : goal.invariant_of-self
-invariant_of-self c = byte_ids-stay c.add_string.result c.self.inside.strings
-    c.add_string.new.self c.self.inside.byte_ids.items c.args.string.now c.add_string.ensures c.self.invariant
-
 pub invariant_of-self-2 : goal.invariant_of-self-2
-invariant_of-self-2 c = byte_ids-stay c.add_string.result c.self.inside.strings
-    c.add_string.new.self c.self.inside.byte_ids.items c.args.string.now c.add_string.ensures c.self.invariant
+invariant_of-self-2 c =
+    let s = c.self.inside in
+    let string = c.args.string.now in
+    rw c.in_ok-number.ensures.added
+    (record {
+      interned = interned-grow s.strings (string ∷ []) s.table s.sorted.entries c.self.invariant.interned;
+      by_byte = byte_ids-string _ _ s.byte_ids.items string c.in_ok-number.number
+          (string-keeps s.strings s.table s.sorted.entries string c.in_ok-number.number c.self.invariant.interned
+          c.in_ok-number.ensures.number) c.self.invariant.by_byte;
+    })
+
+pub returns : goal.returns
+returns c =
+    let s = c.self.inside in
+    rw (c.in_ok-number.ensures.added, ← c.self.view_is)
+    (string-keeps s.strings s.table s.sorted.entries c.args.string.now c.in_ok-number.number
+    c.self.invariant.interned c.in_ok-number.ensures.number)

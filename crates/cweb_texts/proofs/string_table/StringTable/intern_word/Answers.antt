@@ -1,10 +1,14 @@
-use Rattle.cweb_texts.proofs.ByteIdLemmas.{byte_ids-stay-word}
+use Rattle.cweb_texts.proofs.TableLemmas.{found-word}
+use Rattle.cweb_texts.proofs.InterningLemmas.{found-known}
 use Rattle.cweb_texts.proofs.string_table.StringTable.intern_word.Goals as goal
 
-pub invariant_of-self : goal.invariant_of-self
-invariant_of-self c = byte_ids-stay-word c.intern_word.result c.self.inside.strings c.intern_word.new.self
-    c.self.inside.byte_ids.items c.args.word.now c.intern_word.ensures c.self.invariant
-
-pub invariant_of-self-2 : goal.invariant_of-self-2
-invariant_of-self-2 c = byte_ids-stay-word c.intern_word.result c.self.inside.strings c.intern_word.new.self
-    c.self.inside.byte_ids.items c.args.word.now c.intern_word.ensures c.self.invariant
+pub returns-in-Some-latest : goal.returns-in-Some-latest
+returns-in-Some-latest c =
+    let s = c.self.inside in
+    let word = c.args.word.now in
+    let latest = c.in-Some-latest.latest in
+    rw (← c.self.view_is) (found-known s.strings s.table s.sorted.entries word latest.now.number
+    (found-word s.strings s.table word c.in-Some-latest.ensures.0 latest.now c.self.invariant.interned.in_table
+    c.in-Some-latest.ensures.1
+    (c.is_short.ensures c.if-is_short.true s.strings (c.self.invariant.interned.in_table c.in-Some-latest.ensures.0 latest.now
+    c.in-Some-latest.ensures.1))))

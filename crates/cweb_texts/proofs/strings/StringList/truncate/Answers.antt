@@ -1,16 +1,15 @@
 use Rattle.cweb_texts.proofs.Common.{◌≡◌, ◌<◌, ◌+◌, ℕ, List, drop, length, suc, take, sym, subst, ◌∙◌, ap, arith, AreStoredEdges, AreEnds, IsFromStart, string_start, strings_from}
 use Rattle.cweb_texts.proofs.EdgeLemmas.{known-take}
 use Rattle.cweb_texts.proofs.TruncationLemmas.{strings-cut, ends-are-cut}
-use Rattle.cweb_texts.proofs.StringListLemmas.{offsets-begin, offsets-length, offsets-take, start-take, strings-count}
+use Rattle.cweb_texts.proofs.StringListLemmas.{place_is, offsets-begin, offsets-take, start-take, strings-count}
 use Rattle.cweb_texts.proofs.strings.StringList.truncate.Goals as goal
 
 pub index-requires : goal.index-requires
 index-requires c =
     let s = c.self.inside in
-    let ends = drop 1 s.offsets.items in
-    let within : c.args.count < length ends =
-    omega (arith, c.requires, ap length c.self.view_is, strings-count s.bytes.items 0 ends) in
-    omega (arith, within, offsets-length s.offsets.items c.args.count within, s.offsets.ok.0)
+    let place = place_is s.bytes.items s.offsets.items s.edges.items c.args.count c.self.invariant
+    (rw c.self.view_is c.requires) in
+    omega (arith, place.next, s.offsets.ok.0)
 
 pub invariant_of-self : goal.invariant_of-self
 invariant_of-self c =
@@ -50,18 +49,3 @@ returns c =
     ap (λ n. drop 1 (take n s.offsets.items)) (sym next) ∙ offsets-take c.args.count s.offsets.items in
     rw (c.truncate.ensures.items, c.truncate-2.ensures.items, begin, cut, ← c.self.view_is)
     (strings-cut s.bytes.items ends c.args.count c.self.invariant.ends_at)
-
-pub overflow_add-count : goal.overflow_add-count
-overflow_add-count c =
-    let s = c.self.inside in
-    let ends = drop 1 s.offsets.items in
-    let within : c.args.count < length ends =
-    omega (arith, c.requires, ap length c.self.view_is, strings-count s.bytes.items 0 ends) in
-    omega (
-      arith,
-      within,
-      offsets-length s.offsets.items c.args.count within,
-      s.offsets.ok.0,
-      c.len-offsets.ensures,
-      c.len-offsets.type_inv,
-    )

@@ -1,4 +1,4 @@
-use Rattle.cweb_store.proofs.Common.{◌≡◌, ◌+◌, ◌∙◌, ◌||◌, ◌∷◌, suc, true, false, not, if◌then◌else◌, length, drop, map, get_or, sym, ap, arith, list_any, PartRange, Unnamed, is_macro, is_c_part, is_use, is_used, closed_in, flag_of}
+use Rattle.cweb_store.proofs.Common.{◌≡◌, ◌+◌, ◌∙◌, ◌||◌, ◌∷◌, suc, if◌then◌else◌, length, drop, map, get_or, sym, ap, arith, list_any, PartRange, Unnamed, is_c_part, is_use, is_used, closed_in, flag_of}
 use Rattle.std.proofs.Common.{drop-cons}
 use Rattle.std.proofs.lemmas.List.{with_items_is}
 use Rattle.cweb_store.proofs.UseLemmas.{used-here}
@@ -39,16 +39,19 @@ loop-range-preserved c = record {
       let flag : flag_of c.if-not-is_macro.used.items n ≡ (if is_c_part r.kind then was || more else was) =
       elim c.if-not-is_macro.branch [
         | then-not-is_macro w ↦
-            let off : is_macro r.kind ≡ false = sym c.is_macro.ensures ∙ w.if-not-is_macro.true in
             let size = w.flag_uses.ensures.size ∙ ap length w.deref_mut.ensures.value in
             let items = with_items_is c.loop-range.used w.flag_uses.new.used
             (omega (arith, size, c.loop-range.used.ok.0)) in
-            ap (λ v. flag_of v.items n) w.used-is ∙ ap (λ fs. flag_of fs n) items ∙ w.flag_uses.ensures.flags n
-            ∙ ap (λ fs. flag_of fs n || more) w.deref_mut.ensures.value
-            ∙ sym (ap (λ b. if not b then was || more else was) off)
-        | else-not-is_macro w ↦
-            let on : is_macro r.kind ≡ true = sym c.is_macro.ensures ∙ w.if-not-is_macro.false in
-            ap (λ v. flag_of v.items n) w.used-is ∙ sym (ap (λ b. if not b then was || more else was) on)
+            grind (
+              arith,
+              w.used-is,
+              items,
+              w.flag_uses.ensures.flags n,
+              w.deref_mut.ensures.value,
+              c.is_macro.ensures,
+              w.if-not-is_macro.true,
+            )
+        | else-not-is_macro w ↦ grind (arith, w.used-is, c.is_macro.ensures, w.if-not-is_macro.false)
       ] in
       used-here rs n (shape r) (map shape (drop (i + 1) items)) was (flag_of c.if-not-is_macro.used.items n) flag
       ∙ ap (λ k. was || is_used rs (shape r ∷ map shape (drop k items)) n) (sym next)

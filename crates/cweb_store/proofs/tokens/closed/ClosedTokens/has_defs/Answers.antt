@@ -1,4 +1,4 @@
-use Rattle.cweb_store.proofs.Common.{map, subst, ◌∙◌, is_defs, IsNextNumber, List, Token, token_of_interned}
+use Rattle.cweb_store.proofs.Common.{subst, ◌∙◌, is_defs, IsNextNumber, List, Token, tokens_of}
 use Rattle.cweb_store.proofs.UseLemmas.{next-any}
 use Rattle.cweb_store.proofs.tokens.closed.ClosedTokens.has_defs.Goals as goal
 
@@ -6,6 +6,6 @@ pub returns : goal.returns
 returns c =
     let s = c.self.inside in
     let is = c.next_in_range.ensures is_defs
-    (map (token_of_interned s.strings) s.records.interned) (c.as_slice.ensures.value ∙ c.self.invariant.notes.defs) in
+    (tokens_of s.strings s.places.items s.records.items) (c.as_slice.ensures.value ∙ c.self.invariant.index.defs) in
     next-any is_defs c.args.self.now c.args.part c.next_in_range.result
     (subst (λ (v : List Token). IsNextNumber is_defs v c.args.part c.next_in_range.result) c.self.view_is is)

@@ -10,9 +10,9 @@ returns-clause-strings c =
     (record {
       bytes = text_bytes s.strings;
       count = sym c.text_bytes.ensures.bytes;
-      ranges = tokens-valid s.strings s.records.interned c.self.invariant.tokens.interned;
+      ranges = tokens-valid s.strings s.places.items 0 _ s.records.items c.self.invariant.numbers;
     })
 
 pub returns-clause-once : goal.returns-clause-once
 returns-clause-once c =
-    c.text_bytes.ensures.bytes ∙ c.self.invariant.tokens.bytes ∙ ap interned_token_bytes c.self.view_is
+    c.text_bytes.ensures.bytes ∙ c.self.invariant.bytes ∙ ap interned_token_bytes c.self.view_is

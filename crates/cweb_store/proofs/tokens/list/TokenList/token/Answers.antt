@@ -1,19 +1,20 @@
-use Rattle.cweb_store.proofs.Common.{List, ℕ, sym, subst, length, arith, common_steps, StringIsWithin}
-use Rattle.cweb_store.proofs.InternedTokenLemmas.{interned-at}
+use Rattle.cweb_store.proofs.Common.{ap, arith, length, length-map, token_of_record}
 use Rattle.cweb_store.proofs.tokens.list.TokenList.token.Goals as goal
 
-pub token_of_interned-requires : goal.token_of_interned-requires
-token_of_interned-requires c =
+pub token_at-requires : goal.token_at-requires
+token_at-requires c =
     let s = c.self.inside in
-    let within = (interned-at s.strings.strings
-    s.records.interned c.args.number c.get-interned.result c.self.invariant.tokens.interned c.get-interned.ensures).0 in
-    subst (λ (ts : List (List ℕ)). StringIsWithin (length ts) c.get-interned.result) (sym c.strings.ensures) within
+    rw (c.strings.ensures, c.as_slice.ensures.value, c.as_slice-2.ensures.value)
+    (record {
+      records = c.self.invariant.tokens.numbers;
+      within = omega (
+        arith,
+        c.requires,
+        ap (λ v. length v.tokens) c.self.view_is,
+        length-map s.records.items (token_of_record s.strings.strings s.places.items),
+      );
+    })
 
 pub returns : goal.returns
-returns c =
-    let s = c.self.inside in
-    rw (c.token_of_interned.ensures, c.strings.ensures, ← c.self.view_is) (interned-at s.strings.strings
-    s.records.interned c.args.number c.get-interned.result c.self.invariant.tokens.interned c.get-interned.ensures).1
-
-pub get-interned-requires : goal.get-interned-requires
-get-interned-requires c = grind (arith, common_steps)
+returns c = rw (← c.self.view_is)
+    (rw (c.strings.ensures, c.as_slice.ensures.value, c.as_slice-2.ensures.value) at c.token_at.ensures)

@@ -1,6 +1,6 @@
-use Rattle.cweb_store.proofs.Common.{◌<◌, ◌∙◌, Some, ap, arith, length, sym, length-map, slice_get-get_or}
+use Rattle.cweb_store.proofs.Common.{◌<◌, ◌∙◌, Some, ap, arith, length, sym, length-map, slice_get-map, slice_get-get_or, option_map}
 use Rattle.cweb_store.specs.inner.TokenReaders.{direct_bytes_of_record}
-use Rattle.cweb_store.proofs.TokenReaderLemmas.{record-borrows, record-within}
+use Rattle.cweb_store.proofs.RecordLemmas.{record-at}
 use Rattle.cweb_store.proofs.tokens.token_reader.TokenReader.direct.Goals as goal
 
 pub bounds-self-inside-number : goal.bounds-self-inside-number
@@ -24,13 +24,14 @@ direct-requires c =
     let s = c.self.inside in
     let within : c.args.number < length s.records.now =
     omega (arith, c.requires, ap length c.self.view_is, length-map s.records.now (direct_bytes_of_record s.strings)) in
-    record-within s.strings s.records.now c.args.number _ c.self.invariant
-    (slice_get-get_or s.records.now c.args.number _ within)
+    (record-at (length s.strings) 0 c.self.invariant.0 s.records.now c.args.number _ c.self.invariant.1
+    (slice_get-get_or s.records.now c.args.number _ within)).0
 
 pub returns : goal.returns
 returns c =
     let s = c.self.inside in
     let within : c.args.number < length s.records.now =
     omega (arith, c.requires, ap length c.self.view_is, length-map s.records.now (direct_bytes_of_record s.strings)) in
-    rw (← c.self.view_is) (record-borrows s.strings s.records.now c.args.number _
-    (slice_get-get_or s.records.now c.args.number _ within) ∙ ap Some (sym c.direct.ensures))
+    rw (← c.self.view_is) (slice_get-map (direct_bytes_of_record s.strings) s.records.now c.args.number
+    ∙ ap (option_map (direct_bytes_of_record s.strings)) (slice_get-get_or s.records.now c.args.number _ within)
+    ∙ ap Some (sym c.direct.ensures))

@@ -20,31 +20,35 @@ chain-smaller c =
     let w = c.index-candidate.result.now in
     let there : slice_get ws k ≡ Some w =
     slice_get-get_or ws k w (omega arith) ∙ ap Some (sym c.index-candidate.ensures) in
-    omega (arith, (c.self.invariant.nexts k w there).within, c.next-link.ensures c.chain-test.true)
+    omega (
+      arith,
+      (c.self.invariant.from_word k w there).within,
+      rw c.as_slice-in-chain.ensures.value at c.link_at-link-in-chain.ensures,
+    )
 
 pub chain-preserved : goal.chain-preserved
 chain-preserved c =
     let ws = c.self.inside.words.items in
-    let buckets = length c.self.inside.chains.heads.items in
+    let buckets = length c.self.inside.heads.items in
     let k = c.chain.link - 1 in
     let w = c.index-candidate.result.now in
     let there : slice_get ws k ≡ Some w =
     slice_get-get_or ws k w (omega arith) ∙ ap Some (sym c.index-candidate.ensures) in
     let inside = c.chain.invariant.in_bucket k w (omega (arith, c.chain-test.true)) there in
-    let next : IsLink ws buckets (home_bucket_of c.args.key buckets) c.next-link.result k =
-    rw (c.next-link.ensures c.chain-test.true, ← inside) (c.self.invariant.nexts k w there) in
+    let next : IsLink ws buckets (home_bucket_of c.args.key buckets) c.link_at-link-in-chain.result k =
+    rw (c.link_at-link-in-chain.ensures, c.as_slice-in-chain.ensures.value, ← inside) (c.self.invariant.from_word k w there) in
     record {
       within = omega (arith, next.within);
       in_bucket = next.in_bucket;
       passed = next-passed (λ v. bytes_eq c.args.word.now (word_string c.args.strings.now v) ≡ false) ws buckets
-          (home_bucket_of c.args.key buckets) c.chain.link c.next-link.result w next there (sym c.if-is.ensures)
+          (home_bucket_of c.args.key buckets) c.chain.link c.link_at-link-in-chain.result w next there (sym c.if-is.ensures)
           c.chain.invariant.passed;
     }
 
 pub returns : goal.returns
 returns c =
     let ws = c.self.inside.words.items in
-    let buckets = length c.self.inside.chains.heads.items in
+    let buckets = length c.self.inside.heads.items in
     rw (← c.self.view_is) (no-word-found c.args.strings.now ws c.args.word.now buckets
     (rw c.self.view_is c.requires.describe) (λ k w there inside. c.chain.invariant.passed k w there (omega arith)
     (inside ∙ ap (λ x. home_bucket_of x buckets) (sym c.requires.key))))

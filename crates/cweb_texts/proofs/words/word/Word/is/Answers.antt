@@ -11,7 +11,7 @@ returns-then-not-has_key c =
       arith,
       bytes_decides c.args.string.now own,
       get-string c.args.strings.now c.args.self.now.number describes.string describes.there,
-      c.has_key.ensures.1,
+      c.has_key.ensures.is.1,
     )
 
 pub returns-then-string-le-KEY_BYTES : goal.returns-then-string-le-KEY_BYTES
@@ -22,15 +22,15 @@ returns-then-string-le-KEY_BYTES c =
       arith,
       bytes_decides c.args.string.now own,
       get-string c.args.strings.now c.args.self.now.number describes.string describes.there,
-      c.has_key.ensures.0,
+      c.has_key.ensures.is.0,
       key-tells c.args.string.now describes.string,
-      c.establish_byte_range.ensures,
+      c.has_key.ensures.bytes,
     )
 
 pub string-requires : goal.string-requires
 string-requires c = slice_get_within c.args.strings.now c.args.self.now.number c.requires.describes.string
     c.requires.describes.there
 
-pub returns : goal.returns
-returns c = c.eq.ensures ∙ ap (bytes_eq c.args.string.now) (sym (get-string c.args.strings.now c.args.self.now.number
+pub returns-else-string-le-KEY_BYTES : goal.returns-else-string-le-KEY_BYTES
+returns-else-string-le-KEY_BYTES c = c.eq.ensures ∙ ap (bytes_eq c.args.string.now) (sym (get-string c.args.strings.now c.args.self.now.number
     c.string.result.now c.string.ensures))

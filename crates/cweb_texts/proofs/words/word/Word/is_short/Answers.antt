@@ -9,7 +9,7 @@ returns-then-string-le-KEY_BYTES c = λ is strings describes.
       arith,
       bytes_decides c.args.string.now (word_string strings c.args.self.now),
       get-string strings c.args.self.now.number describes.string describes.there,
-      c.has_key.ensures.0 is,
+      c.has_key.ensures.is.0 is,
       key-tells c.args.string.now describes.string,
-      c.establish_byte_range.ensures,
+      c.has_key.ensures.bytes,
     )

@@ -1,6 +1,7 @@
 use Rattle.cweb_texts.proofs.Common.{◌≡◌, Some, None, ℕ, Vec, sym, ◌∙◌, ap, lookup, is_eq, nat_cmp, slice_cmp, Global, has_word}
+use Rattle.cweb_texts.proofs.ByteIdLemmas.{byte_ids-word}
 use Rattle.cweb_texts.proofs.InterningLemmas.{found-known, mapped-known, not-interned, sorted-interned, sorted-keeps}
-use Rattle.cweb_texts.proofs.words.WordInterner.intern_uncached.Goals as goal
+use Rattle.cweb_texts.proofs.string_table.StringTable.intern_uncached.Goals as goal
 
 pub returns-in-Some : goal.returns-in-Some
 returns-in-Some c =
@@ -11,15 +12,23 @@ returns-in-Some c =
 pub invariant_of-self-then-is_full : goal.invariant_of-self-then-is_full
 invariant_of-self-then-is_full c =
     let s = c.self.inside in
-    sorted-interned s.strings c.intern_sorted.new.strings s.table s.sorted.entries
-    c.intern_sorted.new.sorted.entries c.args.word.now c.in_ok-number.number c.self.invariant c.in_ok-number.ensures.ok
+    let word = c.args.word.now in
+    let number = c.in_ok-number.number in
+    let interned = c.self.invariant.interned in
+    record {
+      interned = sorted-interned s.strings c.intern_sorted.new.strings s.table s.sorted.entries
+          c.intern_sorted.new.sorted.entries word number interned c.in_ok-number.ensures.ok;
+      by_byte = byte_ids-word _ _ s.byte_ids.items word number (sorted-keeps s.strings c.intern_sorted.new.strings s.table
+          s.sorted.entries c.intern_sorted.new.sorted.entries word number interned c.in_default.ensures
+          c.in_ok-number.ensures.ok) c.self.invariant.by_byte;
+    }
 
 pub returns-then-is_full : goal.returns-then-is_full
 returns-then-is_full c =
     let s = c.self.inside in
     rw (← c.self.view_is)
     (sorted-keeps s.strings c.intern_sorted.new.strings s.table s.sorted.entries
-    c.intern_sorted.new.sorted.entries c.args.word.now c.in_ok-number.number c.self.invariant c.in_default.ensures
+    c.intern_sorted.new.sorted.entries c.args.word.now c.in_ok-number.number c.self.invariant.interned c.in_default.ensures
     c.in_ok-number.ensures.ok)
 
 pub returns-in-Some-copied : goal.returns-in-Some-copied
@@ -29,7 +38,7 @@ returns-in-Some-copied c =
     let found : lookup (λ (k : Vec ℕ Global). is_eq (slice_cmp nat_cmp word k.items)) s.sorted.entries
     ≡ Some c.in-Some-copied.number = sym c.get.ensures.value ∙ sym c.copied.ensures ∙ c.in-Some-copied.is in
     rw (← c.self.view_is)
-    (mapped-known s.strings s.table s.sorted.entries word c.in-Some-copied.number c.self.invariant found)
+    (mapped-known s.strings s.table s.sorted.entries word c.in-Some-copied.number c.self.invariant.interned found)
 
 pub add_new_word-requires-clause-absent : goal.add_new_word-requires-clause-absent
 add_new_word-requires-clause-absent c =

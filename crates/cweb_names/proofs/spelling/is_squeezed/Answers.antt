@@ -1,5 +1,0 @@
-use Rattle.cweb_names.proofs.Common.{rules}
-use Rattle.cweb_names.proofs.spelling.is_squeezed.Goals as goal
-
-pub loop-byte-init : goal.loop-byte-init
-loop-byte-init c = search rules
