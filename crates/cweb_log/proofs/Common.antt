@@ -1,5 +1,5 @@
 -- Imports that the proofs of this crate share.
-pub use Rattle.std.proofs.Common.{◌≡◌, ◌↔◌, List, ℕ, Option, None, Some, Result, Ok, Err, Bor, false, refl, sym, ◌∙◌}
+pub use Rattle.std.proofs.Common.{◌≡◌, ◌↔◌, List, ℕ, Option, None, Some, Result, Ok, Err, Bor, Bool, false, refl, sym, ◌∙◌}
 pub use Rattle.std.proofs.Common.{ap, arith, ◌<◌, ◌≤◌, [], ◌∷◌, length, map, ◌+◌, inl, inr, suc, ◌++◌, take, drop}
 pub use Rattle.std.proofs.Common.{get_or, subst, append_assoc, append-nil, ◌≢◌, ◌-◌, true, not, eq-eqb, rules, decimal}
 pub use Rattle.std.proofs.Math.Seq.{take-suc}
@@ -14,7 +14,7 @@ pub use Rattle.std.specs.List.{flat_map, after_last, before_last, list_any, suff
 pub use Rattle.std.specs.Option.{option_copied}
 pub use Rattle.std.specs.Prelude.{IfOk, IsErrOf, is_some, option_and_then, option_map, slice_get, IsTrue, OnOk, OnErr}
 pub use Rattle.std.specs.Prelude.{IsErr, ◌==◌, if◌then◌else◌, codes, slice_index_or, slice_range}
-pub use Rattle.cweb_files.specs.Bins.{CountsFailure, WritesPrefix}
+pub use Rattle.cweb_files.specs.Bins.{WritesPrefix}
 pub use Rattle.cweb_files.specs.declared.device.SinkFault.{SinkFault}
 pub use Rattle.cweb_input.specs.declared.fault.SourceFault.{SourceFault}
 pub use Rattle.cweb_input.specs.declared.stop.Stop.{Stop}
@@ -41,15 +41,16 @@ pub use Rattle.cweb_store.specs.declared.parts.PartKind.TheVariants.{Unnamed, Na
 pub use Rattle.cweb_log.specs.CommandLine.{OptionsModel, TangleNames, named_by, names_by, options_by, other_words}
 pub use Rattle.cweb_log.specs.CommandLine.{shown_by_default, words_shown, stem, letters_shown, web_names_by, is_dot}
 pub use Rattle.cweb_log.specs.CommandLine.{has_extension}
-pub use Rattle.cweb_log.specs.DeviceModels.{SinkModel, sink_model}
+pub use Rattle.cweb_log.specs.DeviceModels.{StreamModel, stream_model, known, appended, written, FailsWithin, Logs}
+pub use Rattle.cweb_log.specs.DeviceModels.{logged, log_failed}
 pub use Rattle.cweb_log.specs.Items.{LogItem, line, star, source_item, name_items, refusal_message}
 pub use Rattle.cweb_log.specs.inner.LogText.{items_of}
 pub use Rattle.cweb_log.specs.inner.Chunks.{joined_parts, part_bytes, chunks_of}
 pub use Rattle.cweb_log.specs.Log.{stop_line}
 pub use Rattle.cweb_log.specs.Items.{cycle_step, scan_item, name_item}
-pub use Rattle.cweb_log.specs.inner.LogWriting.{Logs}
 pub use Rattle.cweb_log.specs.declared.options.Options.{Options}
 pub use Rattle.cweb_log.specs.declared.shown.Shown.{Shown}
 pub use Rattle.cweb_log.specs.inner.LogBuffer.{unwritten_bytes}
-pub use Rattle.cweb_log.specs.inner.LogWriting.{WritesToStream, IsWrittenOrBuffered, AppendsToLog}
+pub use Rattle.cweb_log.specs.declared.log_buffer.LogBuffer.{LogBuffer}
+pub use Rattle.cweb_log.specs.inner.LogWriting.{WritesToStream, Buffers, AppendsToLog}
 pub use Rattle.cweb_log.specs.surface.Options.{options_of}

@@ -3,7 +3,7 @@ ghost use Rattle.std.specs.Prelude.{◌≡◌, ◌≤◌, ◌<◌, ◌+◌, ◌^
 ghost use Rattle.cweb_log.specs.inner.LogWriting.{WritesToStream, AppendsToLog};
 ghost use Rattle.cweb_log.specs.inner.Chunks.{joined_parts, part_bytes};
 ghost use Rattle.cweb_log.specs.declared.log_buffer.TheConstants.{ROOM};
-ghost use Rattle.cweb_log.specs.DeviceModels.{sink_model};
+ghost use Rattle.cweb_log.specs.DeviceModels.{stream_model};
 
 use crate::chunks::Part;
 use cweb_lines::{Sink, SinkFault, write_all};
@@ -40,7 +40,7 @@ impl LogBuffer {
     ) -> Result<(), SinkFault>
         requires { L.failed log.old + 1 < 2 ^ 64 }
         ensures { AppendsToLog (joined_parts parts.now)
-            (sink_model L.Sink log.old) (sink_model L.Sink log.new)
+            (stream_model L.Sink log.old) (stream_model L.Sink log.new)
             (unwritten_bytes self.old) (unwritten_bytes self.new) result }
     {
         'parts: for part in parts {
@@ -52,7 +52,7 @@ impl LogBuffer {
     fn add_part<L: Sink>(&mut self, log: &mut L, part: Part<'_>) -> Result<(), SinkFault>
         requires { L.failed log.old + 1 < 2 ^ 64 }
         ensures { AppendsToLog (part_bytes part.entry)
-            (sink_model L.Sink log.old) (sink_model L.Sink log.new)
+            (stream_model L.Sink log.old) (stream_model L.Sink log.new)
             (unwritten_bytes self.old) (unwritten_bytes self.new) result }
     {
         match part {
@@ -68,7 +68,7 @@ impl LogBuffer {
     fn add<L: Sink>(&mut self, log: &mut L, bytes: &[u8]) -> Result<(), SinkFault>
         requires { L.failed log.old + 1 < 2 ^ 64 }
         ensures { AppendsToLog bytes.now
-            (sink_model L.Sink log.old) (sink_model L.Sink log.new)
+            (stream_model L.Sink log.old) (stream_model L.Sink log.new)
             (unwritten_bytes self.old) (unwritten_bytes self.new) result }
     {
         if bytes.len() > ROOM - self.len {
@@ -95,7 +95,7 @@ impl LogBuffer {
     pub(crate) fn pass_on<L: Sink>(&mut self, log: &mut L) -> Result<(), SinkFault>
         requires { L.failed log.old + 1 < 2 ^ 64 }
         ensures writes { WritesToStream (unwritten_bytes self.old)
-            (sink_model L.Sink log.old) (sink_model L.Sink log.new) result }
+            (stream_model L.Sink log.old) (stream_model L.Sink log.new) result }
         ensures empty { OnOk result (unwritten_bytes self.new ≡ []) }
     {
         write_all(log, &self.bytes[..self.len])?;

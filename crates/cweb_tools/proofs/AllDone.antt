@@ -1,42 +1,73 @@
--- The state after all acts were done.
-use Rattle.cweb_tools.proofs.Common.{◌≡◌, inl, inr, List, [], ◌∷◌, ◌++◌, sym, ◌∙◌, ap, append-nil, append_assoc, None, flat_map, line, DeviceState, Act, judges, says, writes, after_act, PerformsActs, written_files, logged_items, prints, merges, printed_bytes, written_lines, emitted_lines}
+-- The devices after all acts were done.
+use Rattle.cweb_tools.proofs.Common.{◌≡◌, inl, inr, ℕ, List, [], ◌∷◌, ◌++◌, sym, ◌∙◌, ap, refl, append-nil, append_assoc, Option, None, Some, File, flat_map, line, Devices, OutContents, OutModel, Act, says, writes, after_act, changed, with_printed, written, PerformsActs, written_files, files_in, logged_items, prints, merges, printed_bytes, written_lines, emitted_lines}
 use Rattle.cweb_files.specs.Files.{put_file}
-use Rattle.std.specs.Prelude.{fold}
+use Rattle.cweb_log.proofs.BufferedLog.{written_none, written_on}
+use Rattle.std.specs.Prelude.{fold, option_map}
+use Rattle.std.proofs.lemmas.Iterator.Adapters.{option_map_id}
+use Rattle.cweb_tools.proofs.Leaving.{files_stay, put_first}
 
 -- The files.
-pub files_all : (acts : List Act) (old new : DeviceState) → PerformsActs acts None old new
-    → new.files ≡ fold put_file old.files (written_files acts)
-files_all [] old new is = ap (λ (d : DeviceState). d.files) is
-files_all (judges ∷ acts) old new (inl run) = files_all acts old new run.1
-files_all (act ∷ acts) old new (inl run) = files_all acts (after_act act old) new run.1
+pub files_all : (acts : List Act) (old new : Devices) → PerformsActs acts None old new
+    → files_in new.out ≡ option_map (λ (files : List File). fold put_file files (written_files acts)) (files_in old.out)
+files_all [] old new is = ap (λ (d : Devices). files_in d.out) is ∙ sym (option_map_id (files_in old.out))
 files_all (act ∷ acts) old new (inr stop) = absurd stop
+files_all (writes name text ∷ acts) old new (inl run) =
+    files_all acts (after_act (writes name text) old) new run.1
+    ∙ put_first (record { name = name; bytes = text }) (written_files acts) old.out
+files_all (merges names events ∷ acts) old new (inl run) =
+    files_all acts (after_act (merges names events) old) new run.1
+    ∙ ap (option_map (λ (files : List File). fold put_file files (written_files acts)))
+    (files_stay (with_printed _) (λ now. refl) old.out)
+files_all (prints text ∷ acts) old new (inl run) = files_all acts (after_act (prints text) old) new run.1
+    ∙ ap (option_map (λ (files : List File). fold put_file files (written_files acts)))
+    (files_stay (with_printed text) (λ now. refl) old.out)
+files_all (act ∷ acts) old new (inl run) = files_all acts (after_act act old) new run.1
 
 -- The log.
-pub log_all : (acts : List Act) (old new : DeviceState) → PerformsActs acts None old new
-    → new.log ≡ old.log ++ flat_map line (logged_items acts)
-log_all [] old new is = ap (λ (d : DeviceState). d.log) is ∙ sym (append-nil old.log)
-log_all (says item ∷ acts) old new (inl run) = log_all acts (after_act (says item) old) new run.1
-    ∙ append_assoc old.log (line item) (flat_map line (logged_items acts))
-log_all (act ∷ acts) old new (inl run) = log_all acts (after_act act old) new run.1
+pub log_all : (acts : List Act) (old new : Devices) → PerformsActs acts None old new
+    → new.log ≡ written (flat_map line (logged_items acts)) old.log
+log_all [] old new is = ap (λ (d : Devices). d.log) is ∙ written_none old.log
 log_all (act ∷ acts) old new (inr stop) = absurd stop
+log_all (says item ∷ acts) old new (inl run) = written_on (line item) (flat_map line (logged_items acts)) old.log refl
+    (log_all acts (after_act (says item) old) new run.1)
+log_all (act ∷ acts) old new (inl run) = log_all acts (after_act act old) new run.1
 
--- Without a written file, a draft stays as it was.
-pub draft_all : (acts : List Act) (old new : DeviceState) → written_files acts ≡ [] → PerformsActs acts None old new
-    → new.draft ≡ old.draft
-draft_all [] old new none is = ap (λ (d : DeviceState). d.draft) is
-draft_all (writes name text ∷ acts) old new none run = absurd (cc)
-draft_all (judges ∷ acts) old new none (inl run) = draft_all acts old new none run.1
-draft_all (act ∷ acts) old new none (inl run) = draft_all acts (after_act act old) new none run.1
-draft_all (act ∷ acts) old new none (inr stop) = absurd stop
+-- The printed bytes, without a written file.
+pub printed_none : (out : OutModel) → out ≡ changed (with_printed []) out
+printed_none out = λ i. record out { contents = all out.contents i }
+  where
+    draft_same : (draft : Option File)
+        → draft ≡ option_map (λ (draft : File). record draft { bytes = draft.bytes ++ [] }) draft
+    draft_same None = refl
+    draft_same (Some draft) = λ i. Some (record draft { bytes = sym (append-nil draft.bytes) i })
 
--- The printed bytes.
-pub printed_all : (acts : List Act) (old new : DeviceState) → PerformsActs acts None old new
-    → new.printed ≡ old.printed ++ printed_bytes acts
-printed_all [] old new is = ap (λ (d : DeviceState). d.printed) is ∙ sym (append-nil old.printed)
-printed_all (merges names events ∷ acts) old new (inl run) =
-    printed_all acts (after_act (merges names events) old) new run.1
-    ∙ append_assoc old.printed (written_lines (emitted_lines events)) (printed_bytes acts)
-printed_all (prints text ∷ acts) old new (inl run) = printed_all acts (after_act (prints text) old) new run.1
-    ∙ append_assoc old.printed text (printed_bytes acts)
-printed_all (act ∷ acts) old new (inl run) = printed_all acts (after_act act old) new run.1
-printed_all (act ∷ acts) old new (inr stop) = absurd stop
+    all : (contents : Option OutContents) → contents ≡ option_map (with_printed []) contents
+    all None = refl
+    all (Some now) = λ i. Some (record now { draft = draft_same now.draft i })
+
+pub printed_on : (a b : List ℕ) (out : OutModel)
+    → changed (with_printed b) (changed (with_printed a) out) ≡ changed (with_printed (a ++ b)) out
+printed_on a b out = λ i. record out { contents = all out.contents i }
+  where
+    on : (draft : Option File) → option_map (λ (draft : File). record draft { bytes = draft.bytes ++ b })
+        (option_map (λ (draft : File). record draft { bytes = draft.bytes ++ a }) draft)
+        ≡ option_map (λ (draft : File). record draft { bytes = draft.bytes ++ (a ++ b) }) draft
+    on None = refl
+    on (Some draft) = λ i. Some (record draft { bytes = append_assoc draft.bytes a b i })
+
+    all : (contents : Option OutContents) → option_map (with_printed b) (option_map (with_printed a) contents)
+        ≡ option_map (with_printed (a ++ b)) contents
+    all None = refl
+    all (Some now) = λ i. Some (record now { draft = on now.draft i })
+
+pub printed_all : (acts : List Act) (old new : Devices) → written_files acts ≡ [] → PerformsActs acts None old new
+    → new.out ≡ changed (with_printed (printed_bytes acts)) old.out
+printed_all [] old new none is = ap (λ (d : Devices). d.out) is ∙ printed_none old.out
+printed_all (act ∷ acts) old new none (inr stop) = absurd stop
+printed_all (writes name text ∷ acts) old new none (inl run) = absurd (cc)
+printed_all (merges names events ∷ acts) old new none (inl run) =
+    printed_all acts (after_act (merges names events) old) new none run.1
+    ∙ printed_on (written_lines (emitted_lines events)) (printed_bytes acts) old.out
+printed_all (prints text ∷ acts) old new none (inl run) =
+    printed_all acts (after_act (prints text) old) new none run.1 ∙ printed_on text (printed_bytes acts) old.out
+printed_all (act ∷ acts) old new none (inl run) = printed_all acts (after_act act old) new none run.1

@@ -1,19 +1,23 @@
--- A run that changed the files has read everything.
-use Rattle.cweb_tools.proofs.Common.{◌≡◌, ◌≢◌, inl, inr, ℕ, ◌+◌, Bool, false, List, [], ◌∷◌, ◌++◌, ◌∙◌, ap, Some, add-zero, Stop, ReadFault, LogItem, banner, fault_count, Shown, DeviceState, Act, says, opens, reads, merges, writes, after_act, ending, Breaks, PerformsActs, RunEnds, completes, stops, when, TangleCourse, unread, not_there, change_not_there, tangling, script, web_acts, planned_acts, closing_acts, Planning, refused, planned, Web, ActsKeepLimits, ReadAll}
-use Rattle.cweb_tools.proofs.Leaving.{broken, stop_logged}
+-- A run that changed the bins has read everything.
+use Rattle.cweb_tools.proofs.Common.{◌≡◌, ◌≢◌, ◌⊎◌, inl, inr, ℕ, ◌+◌, Bool, false, List, [], ◌∷◌, ◌++◌, ◌∙◌, ap, Some, Stop, ReadFault, LogItem, banner, fault_count, Shown, Devices, ShelfModel, OutModel, Act, says, opens, reads, merges, writes, prints, after_act, ending, Breaks, PerformsActs, RunEnds, completes, stops, when, TangleCourse, unread, not_there, change_not_there, tangling, script, web_acts, planned_acts, closing_acts, Planning, refused, planned, Web, ActsKeepLimits, HasReadAll}
+use Rattle.cweb_tools.proofs.Leaving.{broken}
 use Rattle.cweb_tools.proofs.WebActs.{when_on, said_on, starred_on, outputs_on, closing_on}
-use Rattle.cweb_tools.proofs.Endings.{counts_all, limits_all}
+use Rattle.cweb_tools.proofs.Doing.{counts_all}
+use Rattle.cweb_tools.proofs.Endings.{limits_all}
 
--- These acts read nothing.
+-- These acts read and print nothing.
 abbrev pub ReadsNone : List Act → Type 0
 ReadsNone [] = Unit {0}
 ReadsNone (reads names events ∷ acts) = ⊥
 ReadsNone (merges names events ∷ acts) = ⊥
+ReadsNone (prints text ∷ acts) = ⊥
 ReadsNone (_ ∷ acts) = ReadsNone acts
 
--- Nothing is read after the first file is written.
+-- Nothing is printed, and nothing is read after the first file is written.
 abbrev pub ReadsFirst : List Act → Type 0
 ReadsFirst [] = Unit {0}
+ReadsFirst (merges names events ∷ acts) = ⊥
+ReadsFirst (prints text ∷ acts) = ⊥
 ReadsFirst (writes name text ∷ acts) = ReadsNone acts
 ReadsFirst (_ ∷ acts) = ReadsFirst acts
 
@@ -22,6 +26,7 @@ reads_first : (acts : List Act) → ReadsNone acts → ReadsFirst acts
 reads_first [] none = tt
 reads_first (reads names events ∷ acts) none = absurd none
 reads_first (merges names events ∷ acts) none = absurd none
+reads_first (prints text ∷ acts) none = absurd none
 reads_first (writes name text ∷ acts) none = none
 reads_first (act ∷ acts) none = reads_first acts none
 
@@ -30,21 +35,24 @@ pub keeps_none : (acts : List Act) → ReadsNone acts → ActsKeepLimits acts
 keeps_none [] none = tt
 keeps_none (reads names events ∷ acts) none = absurd none
 keeps_none (merges names events ∷ acts) none = absurd none
+keeps_none (prints text ∷ acts) none = absurd none
 keeps_none (act ∷ acts) none = (tt, keeps_none acts none)
 
 -- The shelf stops only acts of reading.
-pub shelf_stays : (act : Act) (stop : Stop) (about : List ℕ) (old new : DeviceState) → ReadsNone (act ∷ [])
-    → Breaks act (ending stop about) old new → new.shelf_failed ≡ old.shelf_failed
+pub shelf_stays : (act : Act) (stop : Stop) (about : List ℕ) (old new : Devices) → ReadsNone (act ∷ [])
+    → Breaks act (ending stop about) old new → new.shelf.failed ≡ old.shelf.failed
 shelf_stays (reads names events) stop about old new none broke = absurd none
 shelf_stays (merges names events) stop about old new none broke = absurd none
 shelf_stays act (ReadFault file) about old new none broke = absurd broke
-shelf_stays act stop about old new none broke = (broken act stop about old new broke).shelf ∙ add-zero old.shelf_failed
+shelf_stays act stop about old new none broke =
+    ap (λ (shelf : ShelfModel). shelf.failed) (broken act stop about old new broke).shelf
 
-pub shelf_none : (acts : List Act) (stop : Stop) (about : List ℕ) (old new : DeviceState) → ReadsNone acts
-    → PerformsActs acts (Some (ending stop about)) old new → new.shelf_failed ≡ old.shelf_failed
+pub shelf_none : (acts : List Act) (stop : Stop) (about : List ℕ) (old new : Devices) → ReadsNone acts
+    → PerformsActs acts (Some (ending stop about)) old new → new.shelf.failed ≡ old.shelf.failed
 shelf_none [] stop about old new none run = absurd run
 shelf_none (reads names events ∷ acts) stop about old new none run = absurd none
 shelf_none (merges names events ∷ acts) stop about old new none run = absurd none
+shelf_none (prints text ∷ acts) stop about old new none run = absurd none
 shelf_none (act ∷ acts) stop about old new none (inl run) =
     shelf_none acts stop about (after_act act old) new none run.1
 shelf_none (act ∷ acts) stop about old new none (inr here) = shelf_stays act stop about old new tt here
@@ -81,29 +89,46 @@ script_reads_first shown (change_not_there change) = reads_first-banner shown (o
 script_reads_first shown (tangling files events web) = reads_first-banner shown
     (opens ∷ reads files events ∷ web_acts shown web) (reads_first (web_acts shown web) (reads_none-web shown web))
 
-all_read : (acts : List Act) (stop : Stop) (about : List ℕ) {old new : DeviceState} → ReadsFirst acts
-    → PerformsActs acts (Some (ending stop about)) old new → new.files ≢ old.files → ReadAll acts old new
-all_read [] stop about first run changed = absurd run
-all_read (writes name text ∷ acts) stop about {old} {new} first (inl run) changed = record {
+-- A run that changed the output has read everything.
+all_read : (acts : List Act) (stop : Stop) (about : List ℕ) (old new : Devices) → ReadsFirst acts
+    → PerformsActs acts (Some (ending stop about)) old new → (new.out ≡ old.out) ⊎ HasReadAll acts old new
+all_read [] stop about old new first run = absurd run
+all_read (merges names events ∷ acts) stop about old new first run = absurd first
+all_read (prints text ∷ acts) stop about old new first run = absurd first
+all_read (writes name text ∷ acts) stop about old new first (inl run) = inr (record {
   shelf = shelf_none acts stop about (after_act (writes name text) old) new first run.1;
   within = (tt, keeps_none acts first);
-}
-all_read (act ∷ acts) stop about {old} {new} first (inl run) changed =
-    let rest = all_read acts stop about first run.1 changed in
-    record { shelf = rest.shelf; within = (run.0, rest.within) }
-all_read (act ∷ acts) stop about {old} {new} first (inr here) changed =
-    absurd (changed (broken act stop about old new here).files)
+})
+all_read (writes name text ∷ acts) stop about old new first (inr here) = inr (record {
+  shelf = shelf_stays (writes name text) stop about old new tt here;
+  within = (tt, keeps_none acts first);
+})
+all_read (act ∷ acts) stop about old new first (inl run) =
+    elim (all_read acts stop about (after_act act old) new first run.1) [
+      | inl same ↦ inl same
+      | inr all ↦ inr (record { shelf = all.shelf; within = (run.0, all.within) })
+    ]
+all_read (act ∷ acts) stop about old new first (inr here) =
+    inl ((broken act stop about old new here).out (λ of_output. of_output))
 
-pub ends_read : (shown : Shown) (course : TangleCourse) {expected : ℕ} {old new : DeviceState} {status : ℕ}
+pub ends_read : (shown : Shown) (course : TangleCourse) {expected : ℕ} {old new : Devices} {status : ℕ}
     → RunEnds (script shown course) expected old new status
-    → new.files ≢ old.files → ReadAll (script shown course) old new
-ends_read shown course {old} {new} (completes run answered) changed =
-    record {
-      shelf = (counts_all (script shown course) old new run).0;
-      within = limits_all (script shown course) old new run;
-    }
-ends_read shown course {old} {new} (stops (ending stop about) then run logs answered) changed =
-    let is = stop_logged stop about then new logs in
-    let rest : ReadAll (script shown course) old then = all_read (script shown course) stop about
-    (script_reads_first shown course) run (λ same. changed (ap (λ (d : DeviceState). d.files) is ∙ same)) in
-    record { shelf = ap (λ (d : DeviceState). d.shelf_failed) is ∙ rest.shelf; within = rest.within }
+    → (new.out ≡ old.out) ⊎ HasReadAll (script shown course) old new
+ends_read shown course {old = old} {new = new} (completes run answered) = inr (record {
+  shelf = (counts_all (script shown course) old new run).0;
+  within = limits_all (script shown course) old new run;
+})
+ends_read shown course {old = old} {new = new} (stops (ending stop about) mid run logs answered) =
+    elim (all_read (script shown course) stop about old mid (script_reads_first shown course) run) [
+      | inl same ↦ inl (ap (λ (d : Devices). d.out) logs.others ∙ same)
+      | inr all ↦ inr (record {
+        shelf = ap (λ (d : Devices). d.shelf.failed) logs.others ∙ all.shelf;
+        within = all.within;
+      })
+    ]
+
+-- If the output differs, everything was read.
+pub read_if_changed : {A : Type 0} (part : OutModel → A) {acts : List Act} {old new : Devices}
+    → (new.out ≡ old.out) ⊎ HasReadAll acts old new → part new.out ≢ part old.out → HasReadAll acts old new
+read_if_changed part (inl same) changed = absurd (changed (ap part same))
+read_if_changed part (inr all) changed = all

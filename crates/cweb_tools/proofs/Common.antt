@@ -51,14 +51,15 @@ pub use Rattle.cweb_lines.specs.surface.MergerCalls.{BeginsMerge, StopsAtStart, 
 pub use Rattle.cweb_lines.specs.surface.Total.{merge}
 pub use Rattle.cweb_lines.specs.surface.Writing.{StopsWriting, WritingStops}
 pub use Rattle.cweb_log.specs.CommandLine.{OptionsModel, options_by, shown_by_default, WebNames, web_names_by}
-pub use Rattle.cweb_log.specs.DeviceModels.{SinkModel, Devices, ShelfModel, AreObservable, sink_model, shelf_model}
-pub use Rattle.cweb_log.specs.DeviceModels.{devices}
+pub use Rattle.cweb_log.specs.DeviceModels.{Devices, OutContents, OutModel, ShelfModel, StreamModel}
+pub use Rattle.cweb_log.specs.DeviceModels.{as_output, bins_model, contents_of, devices, known, printing_devices}
+pub use Rattle.cweb_log.specs.DeviceModels.{shelf_model, stream_model, appended, written, FailsWithin, Logs}
+pub use Rattle.cweb_log.specs.DeviceModels.{logged, log_failed}
 pub use Rattle.cweb_log.specs.Items.{line, LogItem, is_fault, source_item, fault, starred}
 pub use Rattle.cweb_log.specs.Items.{located, banner, closing, faults, no_errors, no_text, see_warning, stopped}
 pub use Rattle.cweb_log.specs.Items.{name_item, name_items, scan_item, refusal_message}
 pub use Rattle.cweb_log.specs.Log.{stop_line, file_name_at}
 pub use Rattle.cweb_log.specs.inner.LogText.{items_of}
-pub use Rattle.cweb_log.specs.inner.LogWriting.{Logs}
 pub use Rattle.cweb_log.specs.declared.shown.Shown.{Shown}
 pub use Rattle.cweb_log.specs.inner.Log.{start_subject, subject}
 pub use Rattle.cweb_log.specs.inner.LogWriting.{WritesToStream}
@@ -106,13 +107,14 @@ pub use Rattle.cweb_store.specs.Parts.{Number, Literal, Verbatim, Punct, Blank, 
 pub use Rattle.cweb_store.specs.declared.parts.PartKind.{PartKind}
 pub use Rattle.cweb_store.specs.surface.Parts.{numbers_from, numbers_where}
 pub use Rattle.cweb_texts.specs.Edges.{is_operator, last_is}
-pub use Rattle.cweb_tools.specs.Acts.{DeviceState, Act, judges, says, opens, reads, plans, reserves, writes, after_act}
-pub use Rattle.cweb_tools.specs.Acts.{PerformsActs, Breaks, Ending, ending, RunEnds, completes, stops, LogsLine}
-pub use Rattle.cweb_tools.specs.Acts.{LogsStop, IsOfFile, AgreesWith, prints, merges, FailsReading}
-pub use Rattle.cweb_tools.specs.Acts.{logged_items, acts_status, EndsIn, FollowsActs}
+pub use Rattle.cweb_tools.specs.Acts.{Act, judges, says, opens, reads, merges, plans, reserves, writes, prints}
+pub use Rattle.cweb_tools.specs.Acts.{after_act, blaming, changed, failing, with_file, without_file, with_printed}
+pub use Rattle.cweb_tools.specs.Acts.{PerformsActs, Breaks, Ending, ending, RunEnds, completes, stops, LogsEnding}
+pub use Rattle.cweb_tools.specs.Acts.{LogsStop, IsOfFile, FailsReading, FailsLog, FailsOutput}
+pub use Rattle.cweb_tools.specs.Acts.{logged_items, acts_status, FollowsActs}
 pub use Rattle.cweb_tools.specs.Course.{Course, merging, IsMergeCourse, change_name, world_of}
 pub use Rattle.cweb_tools.specs.Headline.{written_files, printed_bytes, ActsKeepLimits, RanFreely, DoesActs}
-pub use Rattle.cweb_tools.specs.Headline.{DoesActsFreely}
+pub use Rattle.cweb_tools.specs.Headline.{DoesActsFreely, files_in}
 pub use Rattle.cweb_tools.specs.MergeActs.{merge_acts, MergeCanCome, merge_devices}
 pub use Rattle.cweb_tools.specs.Script.{Numbers, closing_acts, unread, not_there}
 pub use Rattle.cweb_tools.specs.Script.{change_not_there, Planning, refused, Web, planned_acts, script, starred_acts}
@@ -127,17 +129,15 @@ pub use Rattle.cweb_tools.specs.Tangle.{planning, planning_by, TanglePromises}
 pub use Rattle.cweb_tools.specs.declared.outputs.Failed.{Failed}
 pub use Rattle.cweb_tools.specs.inner.Acts.{ending_of}
 pub use Rattle.cweb_tools.specs.inner.Course.{found_course, merge_course, EndsMerge, course_of}
-pub use Rattle.cweb_tools.specs.inner.Does.{Closes, ClosesLog, Does, DoesInBins, DoesInBoth, DoesInLog, done, halted}
-pub use Rattle.cweb_tools.specs.inner.Does.{log_blame, rise, log_ending, ClosesInLog, LogsEnding, FollowsCourse}
-pub use Rattle.cweb_tools.specs.inner.Does.{observed_state}
+pub use Rattle.cweb_tools.specs.inner.Does.{at, Does, DoesInOut, DoesInBoth, DoesInLog, EndsInBoth, EndsInLog}
+pub use Rattle.cweb_tools.specs.inner.Does.{log_ending, FollowsCourse}
 pub use Rattle.cweb_tools.specs.inner.Expanders.{PrintsSoFar, StaysReady, left_in, IsReady}
 pub use Rattle.cweb_tools.specs.inner.Expanders.{output_ending, file_at, planned_files}
 pub use Rattle.cweb_tools.specs.inner.Scanning.{EndsAs}
 pub use Rattle.cweb_tools.specs.inner.Tangle.{tangle_course, LaterActs, opening_acts, tangle_later, course_status}
 pub use Rattle.cweb_tools.specs.inner.Tangle.{web_status, status_by}
 pub use Rattle.cweb_tools.specs.inner.Web.{refusal_in, files_of, faults_of}
-pub use Rattle.cweb_tools.specs.laws.Leaves.{LeavesFiles, bins_blame, tangle_files, tangle_status}
-pub use Rattle.cweb_tools.specs.laws.RunEffects.{LeavesDevices, LeavesStates}
-pub use Rattle.cweb_tools.specs.laws.RunEffects.{PrintsActs, DoesAll, IsEnded}
-pub use Rattle.cweb_tools.specs.laws.RunEffects.{IsStopped, LogEnds, ReadAll, RisesOnce, TangleFailsOnce}
-pub use Rattle.cweb_tools.specs.laws.RunEffects.{TangleReportsFaults, cut, said}
+pub use Rattle.cweb_tools.specs.laws.Leaves.{HasReadAll, LeavesFiles, bins_blame, tangle_files, tangle_status}
+pub use Rattle.cweb_tools.specs.laws.LeftDevices.{draft_in, last_refusal}
+pub use Rattle.cweb_tools.specs.laws.RunEffects.{LeavesDevices, PrintsActs, DoesAll, IsEnded, Prints}
+pub use Rattle.cweb_tools.specs.laws.RunEffects.{IsStopped, RisesOnce, TangleFailsOnce, TangleReportsFaults}

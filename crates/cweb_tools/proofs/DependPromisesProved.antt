@@ -1,7 +1,7 @@
 -- A run of `wdep` keeps its promises, by how it ends.
 use Rattle.cweb_tools.proofs.Common.{◌≡◌, ℕ, ◌∷◌, refl, Some, World, OptionsModel, Devices, judges, TangleCourse, unread, not_there, change_not_there, tangling, CanCome, EndsAs, opening_acts, tangle_course, depend_acts, depend_web_acts}
 use Rattle.cweb_tools.specs.declared.rule_targets.Targets.{Targets}
-use Rattle.cweb_tools.proofs.Doing.{closes_on}
+use Rattle.cweb_tools.proofs.Doing.{ends_on}
 use Rattle.cweb_tools.proofs.Statuses.{depend_status_is}
 use Rattle.cweb_tools.proofs.RunEnds.{EndsRun, Judges, judged}
 
@@ -26,6 +26,6 @@ depend_ends targets world args before after status follows = record {
   taken = follows.taken;
   can = follows.can;
   is = follows.is;
-  closes = rw (depend_status_is targets follows.taken) (rw (depend_is targets args follows.taken follows.can)
-      (closes_on judged follows.closes));
+  ends = rw (depend_status_is targets follows.taken) (rw (depend_is targets args follows.taken follows.can)
+      (ends_on judged follows.ends));
 }

@@ -1,7 +1,8 @@
 -- The faults of a web as items: their number and their lines.
-use Rattle.cweb_tools.proofs.Common.{◌≡◌, ◌<◌, ◌+◌, ℕ, zero, suc, Bool, true, false, cond, List, [], ◌∷◌, ◌++◌, length, map, refl, sym, ◌∙◌, ap, subst, append_assoc, arith, length-append, flat_map-append, length-map, sum_by-append, sum_by-cons, flat_map, IsTrue, IsErr, None, Result, Ok, Err, count_by, SourceFault, Part, is_macro, numbers_from, numbers_where, PartKind, Scanned, WritesToStream, LogItem, fault_count, is_fault, line, source_item, SinkModel, name_item, name_items, scan_item, says, DoesInLog, ClosesInLog, acts_status, log_ending, web_of}
+use Rattle.cweb_tools.proofs.Common.{◌≡◌, ◌<◌, ◌+◌, ℕ, zero, suc, Bool, true, false, cond, List, [], ◌∷◌, ◌++◌, length, map, refl, sym, ◌∙◌, ap, arith, length-append, flat_map-append, length-map, sum_by-append, sum_by-cons, flat_map, IsErr, None, Result, Ok, Err, count_by, SourceFault, Part, is_macro, numbers_from, numbers_where, PartKind, Scanned, WritesToStream, LogItem, fault_count, is_fault, line, source_item, StreamModel, name_item, name_items, scan_item, says, DoesInLog, EndsInLog, acts_status, log_ending, web_of}
 use Rattle.cweb_store.specs.Faults as store
-use Rattle.cweb_tools.proofs.DoingFiles.{closes_reported}
+use Rattle.cweb_log.proofs.BufferedLog.{fails_in, fails_on, written_on}
+use Rattle.cweb_tools.proofs.DoingFiles.{ends_reported}
 use Rattle.cweb_tools.proofs.Logging.{said_all, said_none}
 
 -- The faults of the files, the source and the names.
@@ -52,62 +53,35 @@ some_from zero never = absurd (never refl)
 some_from (suc n) never = omega arith
 
 -- Without faults nothing is logged.
-pub none_said : (items : List LogItem) {stream : SinkModel}
+pub none_said : (items : List LogItem) {stream : StreamModel}
     → length items ≡ 0 → DoesInLog (map says items) None stream stream
 none_said [] {stream} none = said_none
 none_said (item ∷ items) none = absurd (omega (arith, none))
 
-pub some_said : {A E : Type 0} {r : Result A E} (items : List LogItem) {old new : SinkModel} → 0 < length items
+pub some_said : {A E : Type 0} {r : Result A E} (items : List LogItem) {old new : StreamModel} → 0 < length items
     → WritesToStream (flat_map line items) old new r → DoesInLog (map says items) (log_ending r) old new
 some_said [] some writes = absurd (omega (arith, some))
 some_said {r} (item ∷ items) {old} {new} some writes = said_all r item items writes
 
 -- Consecutive writes.
-pub writes_on : {A E B F : Type 0} (x : A) (r : Result B F) {a b : List ℕ} {old mid new : SinkModel}
+pub writes_on : {A E B F : Type 0} (x : A) (r : Result B F) {a b : List ℕ} {old mid new : StreamModel}
     → WritesToStream {E = E} a old mid (Ok x) → WritesToStream b mid new r → WritesToStream (a ++ b) old new r
-writes_on x (Ok y) {a} {b} {old} first then = record {
-  tells = then.tells ∙ first.tells;
-  counts = then.counts ∙ first.counts;
-  whole = λ tells. then.whole (subst IsTrue (sym first.tells) tells)
-      ∙ ap (λ (t : List ℕ). t ++ b) (first.whole tells) ∙ append_assoc old.bytes a b;
-  prefix = λ tells. tt;
-}
-writes_on x (Err e) {a} {old} first then = record {
-  tells = then.tells ∙ first.tells;
-  counts = then.counts ∙ ap (λ (n : ℕ). n + 1) first.counts;
-  whole = λ tells. tt;
-  prefix = λ tells. let prefix = then.prefix (subst IsTrue (sym first.tells) tells) in record {
-    prefix = a ++ prefix.prefix;
-    rest = prefix.rest;
-    written = prefix.written ∙ ap (λ (t : List ℕ). t ++ prefix.prefix) (first.whole tells)
-        ∙ append_assoc old.bytes a prefix.prefix;
-    whole = ap (λ (t : List ℕ). a ++ t) prefix.whole ∙ sym (append_assoc a prefix.prefix prefix.rest);
-  };
-}
+writes_on x (Ok y) {a} {b} {old} first then = record { ok = written_on a b old first.ok then.ok; err = tt }
+writes_on x (Err e) {a} first then = record { ok = tt; err = fails_on a first.ok then.err }
 
-pub writes_in : {A E B F : Type 0} (e : E) (r : Result B F) {a : List ℕ} (b : List ℕ) {old new : SinkModel}
+pub writes_in : {A E B F : Type 0} (e : E) (r : Result B F) {a : List ℕ} (b : List ℕ) {old new : StreamModel}
     → WritesToStream {A = A} a old new (Err e) → IsErr r → WritesToStream (a ++ b) old new r
 writes_in e (Ok x) b fails is = absurd (cc)
-writes_in e (Err f) b fails is = record {
-  tells = fails.tells;
-  counts = fails.counts;
-  whole = λ tells. tt;
-  prefix = λ tells. let prefix = fails.prefix tells in record {
-    prefix = prefix.prefix;
-    rest = prefix.rest ++ b;
-    written = prefix.written;
-    whole = ap (λ (t : List ℕ). t ++ b) prefix.whole ∙ append_assoc prefix.prefix prefix.rest b;
-  };
-}
+writes_in e (Err f) b fails is = record { ok = tt; err = fails_in b fails.err }
 
 -- The faults of a merge were logged, and the status is 1.
 pub faults_said : {A E : Type 0} (r : Result A E) (files : List (List ℕ)) (faults : List SourceFault)
-    {old new : SinkModel} → (length faults ≡ 0 → ⊥)
+    {old new : StreamModel} → (length faults ≡ 0 → ⊥)
     → WritesToStream (flat_map line (map (source_item files) faults)) old new r
-    → ClosesInLog (map says (map (source_item files) faults)) (acts_status (map says (map (source_item files) faults)))
+    → EndsInLog (map says (map (source_item files) faults)) (acts_status (map says (map (source_item files) faults)))
     old new 1
 faults_said r files [] some writes = absurd (some refl)
-faults_said r files (met ∷ faults) some writes = closes_reported r
+faults_said r files (met ∷ faults) some writes = ends_reported r
     (said_all r (source_item files met) (map (source_item files) faults) writes) refl refl
 
 -- The lines of a web's faults are those of its files, its source and its names.

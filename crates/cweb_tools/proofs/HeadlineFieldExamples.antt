@@ -1,14 +1,13 @@
 -- Worked examples: what each field of the headlines' records says of a run and its devices.
-use Rattle.cweb_tools.proofs.Common.{FileId, SourceLine, emitted_lines, written_lines, BreaksLimit, LineTooLong, Breaks, merges, ending, ◌≡◌, ◌+◌, ℕ, List, [], ◌∷◌, ◌++◌, refl, sym, ◌∙◌, ap, arith, codes, Option, Some, None, IsTrue, IsSome, File, no_device, Line, Event, took, fault, World, Found, web_at, change_at, found_course, OptionsModel, WebNames, Devices, AreObservable, DeviceState, Act, says, reads, writes, prints, after_act, RunEnds, completes, stops, RanFreely, DoesActs, AgreesWith, observed_state, acts_status, script, shown_by, Course, change_name, CanCome, MergeCanCome, TangleCourse, unread, not_there, change_not_there, tangling, tangled, planning, Web, Scanned, TanglePromises}
+use Rattle.cweb_tools.proofs.Common.{FileId, SourceLine, emitted_lines, written_lines, BreaksLimit, LineTooLong, ReadFault, OutNotOpened, WriteFault, LogFault, Breaks, merges, ending, ◌≡◌, ◌+◌, ℕ, List, [], ◌∷◌, ◌++◌, refl, ◌∙◌, ap, arith, codes, Option, Some, None, IsSome, File, no_device, Line, Event, took, fault, World, Found, web_at, change_at, found_course, OptionsModel, WebNames, Devices, OutContents, OutModel, StreamModel, appended, blaming, changed, failing, files_in, with_file, with_printed, without_file, Act, says, reads, writes, prints, after_act, RunEnds, completes, stops, RanFreely, DoesActs, acts_status, script, shown_by, Course, change_name, CanCome, MergeCanCome, TangleCourse, unread, not_there, change_not_there, tangling, tangled, planning, Web, Scanned, TanglePromises}
 use Rattle.cweb_files.specs.Files.{put_file}
-use Rattle.std.specs.Prelude.{fold}
+use Rattle.std.specs.Prelude.{fold, option_map}
 use Rattle.cweb_log.specs.Items.{writing}
 use Rattle.cweb_files.specs.declared.place.Place.{Place}
 use Rattle.cweb_lines.specs.Events.{emitted}
 use Rattle.cweb_tools.specs.Course as course
 use Rattle.cweb_tools.proofs.Courses.{tangle_only}
 use Rattle.cweb_tools.proofs.TangleExamples.{file}
-use Rattle.cweb_tools.proofs.TanglePromisesProved.{shown_reported}
 
 -- The acts of one output.
 abbrev output : List Act
@@ -32,20 +31,20 @@ long_line line before after free = omega (arith, free.within.0.short.0)
 
 -- Memory ran out in a file, after the line that it is written.
 out_of_memory : (before after : Devices)
-    → after.log.bytes ≡ before.log.bytes ++ codes "Writing a.c\n! Out of memory\n"
+    → after.log.bytes ≡ appended (codes "Writing a.c\n! Out of memory\n") before.log.bytes
     → RanFreely output before after → ⊥
 out_of_memory before after logged free =
     free.memory (says (writing (codes "a.c")) ∷ []) [] (writes (codes "a.c") (codes "x\n")) refl refl logged
 
 -- `DoesActs`: an older a.c is replaced.
 replaced : (before after : Devices) (status : ℕ) → DoesActs output before after status
-    → before.out.beside.files ≡ file (codes "a.c") (codes "old\n") ∷ file (codes "b.c") (codes "y\n") ∷ []
-    → after.out.beside.files ≡ file (codes "b.c") (codes "y\n") ∷ file (codes "a.c") (codes "x\n") ∷ []
-replaced before after status did older =
-    did.files ∙ ap (λ (files : List File). fold put_file files (file (codes "a.c") (codes "x\n") ∷ [])) older
+    → files_in before.out ≡ Some (file (codes "a.c") (codes "old\n") ∷ file (codes "b.c") (codes "y\n") ∷ [])
+    → files_in after.out ≡ Some (file (codes "b.c") (codes "y\n") ∷ file (codes "a.c") (codes "x\n") ∷ [])
+replaced before after status did older = did.files ∙ ap (option_map (λ (files : List File).
+    fold put_file files (file (codes "a.c") (codes "x\n") ∷ []))) older
 
 announced : (before after : Devices) (status : ℕ) → DoesActs output before after status
-    → after.log.bytes ≡ before.log.bytes ++ codes "Writing a.c\n"
+    → after.log.bytes ≡ appended (codes "Writing a.c\n") before.log.bytes
 announced before after status did = did.logged
 
 no_fault : (before after : Devices) (status : ℕ) → DoesActs output before after status → status ≡ 0
@@ -56,47 +55,65 @@ one_fault : (before after : Devices) (status : ℕ) → DoesActs (says (fault (c
 one_fault before after status did = did.answered
 
 -- An output that is open gets what is printed.
+abbrev open_with : List ℕ → Option OutContents
+open_with text = Some (record { files = []; draft = Some (file [] text); refused = None })
+
 rule : (before after : Devices) (status : ℕ) → DoesActs (prints (codes "a.c: a.w\n") ∷ []) before after status
-    → IsSome before.out.beside.draft → after.out.bytes ≡ before.out.bytes ++ codes "a.c: a.w\n"
-rule before after status did is_open = did.printed refl is_open
+    → before.out.contents ≡ open_with (codes "% ") → after.out.contents ≡ open_with (codes "% a.c: a.w\n")
+rule before after status did is_open = ap (λ (out : OutModel). out.contents) (did.printed refl)
+    ∙ ap (option_map (with_printed (codes "a.c: a.w\n"))) is_open
 
--- `AgreesWith`: a read of a.w failed. The shelf counts it and blames a.w.
-module _ (now : DeviceState) (after : Devices) (held : AgreesWith
-    (record now { shelf_failed = now.shelf_failed + 1; blamed = now.blamed ++ codes "a.w" ∷ [] }) after) where
-  read_is_counted : after.shelf.failed ≡ now.shelf_failed + 1
-  read_is_counted = sym held.shelf_failed
-
-  reader_is_blamed : IsTrue after.shelf.tells → after.shelf.blamed ≡ now.blamed ++ codes "a.w" ∷ []
-  reader_is_blamed tells = sym (held.blamed tells)
+-- `Breaks`: a read of a.w failed. The shelf counts it and blames a.w.
+read_fails : (file : FileId) (events : List Event) (old new : Devices)
+    → Breaks (reads (codes "a.w" ∷ []) events) (ending (ReadFault file) (codes "a.w")) old new
+    → old.shelf.blamed ≡ Some [] → new.shelf ≡ record {
+      failed = old.shelf.failed + 1;
+      blamed = Some (codes "a.w" ∷ []);
+    }
+read_fails file events old new broke none = ap (λ (d : Devices). d.shelf) broke.fails.1
+    ∙ (λ i. blaming (codes "a.w") (record { failed = old.shelf.failed; blamed = none i }))
 
 -- A file could not be begun. The bins count that and have the reason, the old files and no draft.
-module _ (now : DeviceState) (after : Devices) (held : AgreesWith
-    (record now { bins_failed = now.bins_failed + 1; draft = None; refused = Some no_device }) after) where
-  refusal_is_counted : after.out.failed ≡ now.bins_failed + 1
-  refusal_is_counted = sym held.bins_failed
+refuses : (old new : Devices)
+    → Breaks (writes (codes "a.c") (codes "x\n")) (ending OutNotOpened (codes "a.c")) old new
+    → old.out.contents ≡ open_with [] → new.out ≡ record {
+      failed = old.out.failed + 1;
+      contents = Some (record { files = []; draft = None; refused = Some no_device });
+    }
+refuses old new broke is_open = ap (λ (d : Devices). d.out) broke.1
+    ∙ (λ i. failing (without_file (Some no_device)) (record { failed = old.out.failed; contents = is_open i }))
 
-  files_stay : IsTrue after.out.tells → after.out.beside.files ≡ now.files
-  files_stay tells = sym (held.files tells)
+-- A file could not be committed.
+loses : (old new : Devices) → Breaks (writes (codes "a.c") (codes "x\n")) (ending WriteFault (codes "a.c")) old new
+    → old.out.contents ≡ open_with [] → new.out ≡ record {
+      failed = old.out.failed + 1;
+      contents = Some (record { files = []; draft = None; refused = None });
+    }
+loses old new broke is_open = ap (λ (d : Devices). d.out) broke.1
+    ∙ (λ i. failing (without_file None) (record { failed = old.out.failed; contents = is_open i }))
 
-  no_draft : IsTrue after.out.tells → after.out.beside.draft ≡ None
-  no_draft tells = sym (held.draft tells)
-
-  refusal_has_a_reason : IsTrue after.out.tells → after.out.beside.refused ≡ Some no_device
-  refusal_has_a_reason tells = sym (held.refused tells)
+-- A file is committed. Then there is no draft.
+commits : (now : Devices) → now.out.contents ≡ open_with []
+    → (after_act (writes (codes "a.c") (codes "x\n")) now).out ≡ record {
+      failed = now.out.failed;
+      contents = Some (record { files = file (codes "a.c") (codes "x\n") ∷ []; draft = None; refused = None });
+    }
+commits now is_open = λ i.
+    changed (with_file (codes "a.c") (codes "x\n")) (record { failed = now.out.failed; contents = is_open i })
 
 -- The log failed within a line.
-module _ (now : DeviceState) (after : Devices)
-    (held : AgreesWith (record now { log_failed = now.log_failed + 1; log = now.log ++ codes "Writ" }) after) where
-  log_is_counted : after.log.failed ≡ now.log_failed + 1
-  log_is_counted = sym held.log_failed
-
-  log_has_a_prefix : IsTrue after.log.tells → after.log.bytes ≡ now.log ++ codes "Writ"
-  log_has_a_prefix tells = sym (held.log tells)
-
--- A rule was printed to an open output.
-rule_is_printed : (now : DeviceState) (after : Devices) → AgreesWith (after_act (prints (codes "a.c: a.w\n")) now) after
-    → IsTrue after.out.tells → IsSome after.out.beside.draft → after.out.bytes ≡ now.printed ++ codes "a.c: a.w\n"
-rule_is_printed now after held tells is_open = sym (held.printed tells is_open)
+log_fails : (old new : Devices) → Breaks (says (writing (codes "a.c"))) (ending LogFault []) old new
+    → old.log.bytes ≡ Some [] → (new.log.failed ≡ old.log.failed + 1)
+    × ((prefix rest : List ℕ) × (new.log.bytes ≡ Some prefix) × (codes "Writing a.c\n" ≡ prefix ++ rest))
+log_fails old new broke none = (
+  ap (λ (log : StreamModel). log.failed) broke.log.is,
+  (
+    broke.log.prefix,
+    broke.log.rest,
+    ap (λ (log : StreamModel). log.bytes) broke.log.is ∙ ap (appended broke.log.prefix) none,
+    broke.log.whole,
+  ),
+)
 
 -- `CanCome`: words that can be read don't lead to the usage line, and others only to that.
 never_unread : (args : OptionsModel) → CanCome (Some args) unread → ⊥
@@ -137,7 +154,7 @@ merge_missing_change : (names : WebNames) (change : List ℕ)
 merge_missing_change names change can = can
 
 -- `FollowsActs`: whatever the shelf, a run of `ctangle` with unreadable words ends with status 1.
-one_by : {acts : List Act} {old new : DeviceState} {status : ℕ} (expected : ℕ) → expected ≡ 1
+one_by : {acts : List Act} {old new : Devices} {status : ℕ} (expected : ℕ) → expected ≡ 1
     → RunEnds acts expected old new status → status ≡ 1
 one_by expected is (completes run answered) = answered ∙ is
 one_by expected is (stops why mid run logs answered) = answered
@@ -145,9 +162,7 @@ one_by expected is (stops why mid run logs answered) = answered
 unread_words : (world : World) (before after : Devices) (status : ℕ) → TanglePromises world None before after status
     → status ≡ 1
 unread_words world before after status run =
-    let last = run.ends (observed_state before) shown_reported in
-    one_by _ (ap (λ (c : TangleCourse). acts_status (script (shown_by None) c)) (only_unread run.course run.can))
-    last.ends
+    one_by _ (ap (λ (c : TangleCourse). acts_status (script (shown_by None) c)) (only_unread run.course run.can)) run.ends
 
 -- Over an observable shelf a run goes as the files ask for: without any file, no web is there.
 abbrev empty_folder : World
@@ -158,17 +173,11 @@ no_web web None = refl
 no_web web (Some second) = refl
 
 no_files : (args : OptionsModel) (before after : Devices) (status : ℕ)
-    → (run : TanglePromises empty_folder (Some args) before after status) → IsTrue before.shelf.tells
+    → (run : TanglePromises empty_folder (Some args) before after status) → IsSome before.shelf.blamed
     → run.course ≡ not_there args.names.merge.web
-no_files args before after status run tells = tangle_only empty_folder (Some args) run.course (run.is tells)
+no_files args before after status run some = tangle_only empty_folder (Some args) run.course (run.is some)
     ∙ ap (λ (found : Option Found). tangled args.names.main (found_course empty_folder args.names.merge found
     (change_at empty_folder.texts args.names.merge.change))) (no_web args.names.merge.web args.names.merge.second)
-
--- Observable devices stay so.
-stay_observable : (world : World) (args : Option OptionsModel) (before after : Devices) (status : ℕ)
-    → TanglePromises world args before after status → AreObservable before → AreObservable after
-stay_observable world args before after status run tell =
-    (run.shelf_tells ∙ tell.0, run.bins_tell ∙ tell.1, run.log_tells ∙ tell.2)
 
 -- `BreaksReading`: a merge that comes to a line of a MiB has printed the line before it.
 module _ (file : FileId) (place : Place) (long : Line) where
@@ -198,8 +207,9 @@ module _ (file : FileId) (place : Place) (long : Line) where
       no_more [] e later none = cc
       no_more (x ∷ earlier) e later none = cc
 
-  printed_before_limit : (about : List ℕ) (old new : DeviceState)
+  printed_before_limit : (about : List ℕ) (old new : Devices)
       → Breaks (merges (codes "a.w" ∷ []) events) (ending (LineTooLong file) about) old new
-      → new.printed ≡ old.printed ++ codes "a\n"
-  printed_before_limit about old new broke = ap (λ (now : DeviceState). now.printed) broke.fails.2
-      ∙ ap (λ (text : List ℕ). old.printed ++ text) (printed_by broke.earlier broke.later broke.whole broke.fails.1)
+      → new.out ≡ changed (with_printed (codes "a\n")) old.out
+  printed_before_limit about old new broke = ap (λ (now : Devices). now.out) broke.fails.2
+      ∙ ap (λ (text : List ℕ). changed (with_printed text) old.out)
+      (printed_by broke.earlier broke.later broke.whole broke.fails.1)

@@ -1,7 +1,7 @@
 -- What a run in a folder leaves there.
-use Rattle.cweb_tools.proofs.Common.{◌≡◌, ◌∙◌, refl, sym, ap, subst, ℕ, Bool, List, [], ◌∷◌, map, Option, None, IsTrue, World, OptionsModel, TangleCourse, IsTangleCourse, RanFreely, All-nil, All-cons, File}
+use Rattle.cweb_tools.proofs.Common.{◌≡◌, ◌∙◌, refl, sym, ap, subst, ℕ, Bool, true, false, List, [], ◌∷◌, map, Option, None, IsSome, IsTrue, World, OptionsModel, TangleCourse, IsTangleCourse, FollowsActs, RanFreely, All-nil, All-cons, File, Act, Devices, OutContents, OutModel, ShelfModel, StreamModel, at, known, contents_of, world_of, script, shown_by, TanglePromises, written_files}
 use Rattle.cweb_files.specs.Files.{put_file}
-use Rattle.std.specs.Prelude.{fold}
+use Rattle.std.specs.Prelude.{fold, is_some, option_map}
 use Rattle.cweb_system.specs.declared.written.WrittenFile.{WrittenFile}
 use Rattle.cweb_system.specs.declared.file_system.FileSystem.{Ghosts as FileSystem}
 use Rattle.cweb_system.specs.declared.folder_bins.FolderBins.{FolderBins}
@@ -9,13 +9,10 @@ use Rattle.cweb_system.specs.declared.shelf.FolderShelf.{FolderShelf}
 use Rattle.cweb_system.specs.Bins.{bins_beside, bins_bytes, bins_failed, bins_system, contents_in, file_in}
 use Rattle.cweb_system.specs.inner.ShelfState.{shelf_failures, shelf_system}
 use Rattle.cweb_system.specs.Tree.{Tree, contents}
-use Rattle.cweb_log.specs.DeviceModels.{Devices, ShelfModel, SinkModel}
-use Rattle.cweb_tools.specs.Course.{world_of}
-use Rattle.cweb_tools.specs.Headline.{written_files}
 use Rattle.cweb_tools.specs.InFolder.{AreIn, KeepsInFolder, bins_after, devices_before, shelf_in}
-use Rattle.cweb_tools.specs.Script.{script}
-use Rattle.cweb_tools.specs.Tangle.{TanglePromises, shown_by}
-use Rattle.cweb_tools.proofs.Logging.{at}
+use Rattle.cweb_tools.proofs.Carried.{seen}
+use Rattle.cweb_tools.proofs.LeftShelves.{shelf_known}
+use Rattle.cweb_tools.proofs.MergeDevices.{some_known}
 use Rattle.cweb_tools.proofs.TanglePromisesProved.{tangled_freely}
 
 -- What can be read in a folder.
@@ -29,113 +26,118 @@ all_in tree (w ∷ written) = All-cons (λ (file : File). contents tree file.nam
 
 -- The files of the course are in the folder, if nothing failed.
 pub left_in_folder : {F H : Type 0} (system : FileSystem F H) (fs : F) (bins : FolderBins F H system) (world : World)
-    (args : Option OptionsModel) (log log' : SinkModel) (status : ℕ)
+    (args : Option OptionsModel) (log log' : StreamModel) (status : ℕ)
     → KeepsInFolder (TanglePromises world args) (devices_before system fs log) (bins_after system bins) log' status
-    → IsTrue (system.disk fs).tells → IsTrue log.tells → (course : TangleCourse) → IsTangleCourse world args course
+    → IsTrue (system.disk fs).tells → (course : TangleCourse) → IsTangleCourse world args course
     → RanFreely (script (shown_by args) course) (devices_before system fs log)
     (record { shelf = (devices_before system fs log).shelf; out = bins_after system bins; log = log' })
     → AreIn (system.disk (bins_system bins)).tree (fold put_file [] (written_files (script (shown_by args) course)))
-left_in_folder system fs bins world args log log' status run tells logs course is free =
-    let done = tangled_freely world args run.promises (tells, tells, logs) course is (record {
-      shelf = run.reads tells;
+left_in_folder system fs bins world args log log' status run tells course is free =
+    let some : IsSome (devices_before system fs log).shelf.blamed = some_known (system.disk fs).tells [] tells in
+    let done = tangled_freely world args run.promises some course is (record {
+      shelf = run.reads some;
       out = free.out;
       log = free.log;
       within = free.within;
       memory = free.memory;
     }) in
-    subst (λ (files : List File). AreIn (system.disk (bins_system bins)).tree files) done.files
+    subst (λ (files : List File). AreIn (system.disk (bins_system bins)).tree files)
+    (files_from (system.disk fs).tells (system.disk (bins_system bins)).tells (contents_of (bins_bytes system bins)
+    (bins_beside system bins)) (written_files (script (shown_by args) course)) tells done.files)
     (all_in (system.disk (bins_system bins)).tree bins.folder.files.written.items)
+  where
+    files_from : (before after : Bool) (now : OutContents) (files : List File) → IsTrue before
+        → option_map (λ (now : OutContents). now.files) (known after now)
+        ≡ option_map (λ (old : List File). fold put_file old files)
+        (option_map (λ (now : OutContents). now.files) (known before (record { files = []; draft = None; refused = None })))
+        → now.files ≡ fold put_file [] files
+    files_from true true now files tell is = cc
+    files_from true false now files tell is = absurd (cc)
+    files_from false after now files tell is = absurd (cc)
 
 -- The model of a shelf over a file system.
 abbrev pub shelf_seen : {F H : Type 0} (system : FileSystem F H) → FolderShelf F H system → ShelfModel
-shelf_seen system shelf = record {
-  tells = (system.disk shelf.fs).tells;
-  failed = shelf.failed;
-  texts = contents_in (system.disk shelf.fs).tree;
-  blamed = [];
-}
+shelf_seen system shelf = record { failed = shelf.failed; blamed = known (system.disk shelf.fs).tells [] }
+
+-- What can be read through it.
+abbrev pub world_seen : {F H : Type 0} (system : FileSystem F H) → FolderShelf F H system → Option (List ℕ) → World
+world_seen system shelf inputs = world_of (contents_in (system.disk shelf.fs).tree) inputs
+
+-- It stays observable or not.
+pub stays_so : {F H : Type 0} (system : FileSystem F H) (shelf shelf' : FolderShelf F H system) {C : Type 0}
+    {acts : C → List Act} {CanBe Is : C → Type 0} {out out' : OutModel} {log log' : StreamModel} {status : ℕ}
+    → FollowsActs acts CanBe Is (at (shelf_seen system shelf) out log) (at (shelf_seen system shelf') out' log') status
+    → (system.disk shelf'.fs).tells ≡ (system.disk shelf.fs).tells
+stays_so system shelf shelf' run = sym (known_is (system.disk shelf'.fs).tells) ∙ shelf_known run.ends
+    ∙ known_is (system.disk shelf.fs).tells
+  where
+    known_is : (tells : Bool) → is_some (known {A = List (List ℕ)} tells []) ≡ tells
+    known_is true = refl
+    known_is false = refl
 
 -- A new shelf over a file system.
 pub begins_in : {F H : Type 0} (system : FileSystem F H) (fs : F) (shelf : FolderShelf F H system)
     → shelf_system shelf ≡ fs → shelf_failures shelf ≡ 0 → shelf_seen system shelf ≡ shelf_in system fs
-begins_in system fs shelf same zero = λ i. record {
-  tells = (system.disk (same i)).tells;
-  failed = zero i;
-  texts = contents_in (system.disk (same i)).tree;
-  blamed = [];
-}
+begins_in system fs shelf same zero =
+    λ i. record { failed = zero i; blamed = known (system.disk (same i)).tells [] }
 
 -- A run over a new shelf runs in the folder.
 pub runs_in : {F H : Type 0} (system : FileSystem F H) (fs : F) (Promises : World → Devices → Devices → ℕ → Type 0)
-    (inputs : Option (List ℕ)) (shelf shelf' : FolderShelf F H system) (out out' log log' : SinkModel) (status : ℕ)
-    → shelf_system shelf ≡ fs → shelf_failures shelf ≡ 0
-    → (shelf_seen system shelf').tells ≡ (shelf_seen system shelf).tells
-    → Promises (world_of (shelf_seen system shelf).texts inputs) (at (shelf_seen system shelf) out log)
+    (inputs : Option (List ℕ)) (shelf shelf' : FolderShelf F H system) (out out' : OutModel) (log log' : StreamModel)
+    (status : ℕ) → shelf_system shelf ≡ fs → shelf_failures shelf ≡ 0
+    → (system.disk shelf'.fs).tells ≡ (system.disk shelf.fs).tells
+    → Promises (world_seen system shelf inputs) (at (shelf_seen system shelf) out log)
     (at (shelf_seen system shelf') out' log') status
     → KeepsInFolder (Promises (world_in system fs inputs)) (at (shelf_in system fs) out log) out' log' status
 runs_in system fs Promises inputs shelf shelf' out out' log log' status same zero stays run =
-    subst (λ (s : ShelfModel). KeepsInFolder (Promises (world_of s.texts inputs)) (at s out log) out' log' status)
-    (begins_in system fs shelf same zero)
+    subst (λ (from : ShelfModel × World). KeepsInFolder (Promises from.1) (at from.0 out log) out' log' status)
+    (λ i. (begins_in system fs shelf same zero i, world_in system (same i) inputs))
     (record {
       shelf = shelf_seen system shelf';
-      reads = λ tells. shelf'.whole (stays ∙ tells) ∙ sym zero;
+      reads = λ some. shelf'.whole (stays ∙ seen (system.disk shelf.fs).tells _ some) ∙ sym zero;
       promises = run;
     })
 
 -- New bins over a file system.
-pub bins_in : {F H : Type 0} (system : FileSystem F H) (fs : F) (log : SinkModel) (bins : FolderBins F H system)
-    → bins_system bins ≡ fs → bins_failed bins ≡ 0 → bins_bytes system bins ≡ []
+pub bins_in : {F H : Type 0} (system : FileSystem F H) (fs : F) (log : StreamModel) (bins : FolderBins F H system)
+    → (system.disk (bins_system bins)).tells ≡ (system.disk fs).tells → bins_failed bins ≡ 0
     → bins_beside system bins ≡ record { files = []; draft = None; refused = None }
     → bins_after system bins ≡ (devices_before system fs log).out
-bins_in system fs log bins of none no_bytes beside = λ i. record {
-  tells = (system.disk (of i)).tells;
+bins_in system fs log bins of none beside = λ i. record {
   failed = none i;
-  bytes = no_bytes i;
-  beside = beside i;
+  contents = known (of i) (contents_of (bins_bytes system bins) (beside i));
 }
 
 -- A run of `ctangle` in a folder, with any bins at first.
-abbrev pub TanglesIn : {F H : Type 0} → FileSystem F H → F → Option (List ℕ) → Option OptionsModel → SinkModel
-    → SinkModel → SinkModel → SinkModel → ℕ → Type 0
+abbrev pub TanglesIn : {F H : Type 0} → FileSystem F H → F → Option (List ℕ) → Option OptionsModel → OutModel
+    → StreamModel → OutModel → StreamModel → ℕ → Type 0
 TanglesIn system fs inputs args first log out log' status =
     KeepsInFolder (TanglePromises (world_in system fs inputs) args) (at (shelf_in system fs) first log) out log' status
 
 -- A run of `ctangle` that ends before it reads.
 pub unread_in : {F H : Type 0} (system : FileSystem F H) (fs : F) (inputs : Option (List ℕ))
-    (args : Option OptionsModel) (out log log' : SinkModel) (status : ℕ) → out ≡ (devices_before system fs log).out
+    (args : Option OptionsModel) (out : OutModel) (log log' : StreamModel) (status : ℕ)
+    → out ≡ (devices_before system fs log).out
     → TanglePromises (world_in system fs inputs) args (at (shelf_in system fs) out log)
     (at (shelf_in system fs) out log') status
     → TanglesIn system fs inputs args (devices_before system fs log).out log out log' status
 unread_in system fs inputs args out log log' status is run =
-    subst (λ (m : SinkModel). TanglesIn system fs inputs args m log out log' status) is
-    (record { shelf = shelf_in system fs; reads = λ tells. refl; promises = run })
-
--- Bins that have committed nothing.
-abbrev empty : Bool → SinkModel
-empty tells = record {
-  tells = tells;
-  failed = 0;
-  bytes = [];
-  beside = record { files = []; draft = None; refused = None };
-}
+    subst (λ (m : OutModel). TanglesIn system fs inputs args m log out log' status) is
+    (record { shelf = shelf_in system fs; reads = λ some. refl; promises = run })
 
 -- A run of `ctangle` over a new shelf, whose bins take over the file system from the shelf.
 pub tangles_in : {F H : Type 0} (system : FileSystem F H) (fs : F) (inputs : Option (List ℕ))
-    (args : Option OptionsModel) (shelf shelf' : FolderShelf F H system) (bins : FolderBins F H system) (out log log' : SinkModel) (status : ℕ)
+    (args : Option OptionsModel) (shelf shelf' : FolderShelf F H system) (bins : FolderBins F H system) (out : OutModel)
+    (log log' : StreamModel) (status : ℕ)
     → shelf_system shelf ≡ fs → shelf_failures shelf ≡ 0 → bins_system bins ≡ shelf_system shelf' → bins_failed bins ≡ 0
-    → bins_bytes system bins ≡ [] → bins_beside system bins ≡ record { files = []; draft = None; refused = None }
-    → TanglePromises (world_of (shelf_seen system shelf).texts inputs) args
+    → bins_beside system bins ≡ record { files = []; draft = None; refused = None }
+    → TanglePromises (world_seen system shelf inputs) args
     (at (shelf_seen system shelf) (bins_after system bins) log) (at (shelf_seen system shelf') out log') status
     → TanglesIn system fs inputs args (devices_before system fs log).out log out log' status
-tangles_in {F = F} system fs inputs args shelf shelf' bins out log log' status same zero of none no_bytes beside run =
-    subst (λ (m : SinkModel). TanglesIn system fs inputs args m log out log' status) begun
+tangles_in {F = F} system fs inputs args shelf shelf' bins out log log' status same zero of none beside run =
+    let stays = stays_so system shelf shelf' run in
+    subst (λ (m : OutModel). TanglesIn system fs inputs args m log out log' status)
+    (bins_in system fs log bins (ap (λ (f : F). (system.disk f).tells) of ∙ stays
+    ∙ ap (λ (f : F). (system.disk f).tells) same) none beside)
     (runs_in system fs (λ world. TanglePromises world args) inputs shelf shelf' (bins_after system bins) out log log'
-    status same zero run.shelf_tells run)
-  where
-    begun : bins_after system bins ≡ (devices_before system fs log).out
-    begun = (λ i. record {
-      tells = (system.disk (of i)).tells;
-      failed = none i;
-      bytes = no_bytes i;
-      beside = beside i;
-    }) ∙ ap empty (run.shelf_tells ∙ ap (λ (f : F). (system.disk f).tells) same)
+    status same zero stays run)

@@ -1,69 +1,75 @@
--- What runs leave in an observable shelf.
-use Rattle.cweb_tools.proofs.Common.{◌≡◌, ◌≢◌, ◌+◌, ℕ, List, ◌∷◌, [], ◌++◌, sym, ◌∙◌, ap, add-zero, append-nil, arith, codes, IsTrue, flat_map, line, Devices, Stop, ReadFault, DeviceState, Act, ending, RunEnds, completes, stops, FollowsActs, observed_state, IsStopped}
-use Rattle.cweb_log.specs.Log.{message_line}
+-- What runs leave in the shelf.
+use Rattle.cweb_tools.proofs.Common.{◌≡◌, inl, inr, ℕ, List, [], ◌∷◌, refl, ◌∙◌, ap, arith, Option, Some, None, flat_map, line, Devices, ShelfModel, StreamModel, Stop, ReadFault, Act, judges, after_act, ending, PerformsActs, RunEnds, completes, stops, FollowsActs, IsStopped}
+use Rattle.std.specs.Prelude.{is_some, option_map}
 use Rattle.cweb_tools.specs.laws.LeftDevices.{LeavesShelf}
-use Rattle.cweb_tools.proofs.Endings.{counts_all}
-use Rattle.cweb_tools.proofs.Leaving.{stop_logged}
-use Rattle.cweb_tools.proofs.LeftDevices.{blamed_all, blamed_by, blamed_until}
-use Rattle.cweb_tools.proofs.Stopping.{is_stopped}
-use Rattle.cweb_tools.proofs.TanglePromisesProved.{shown_reported}
+use Rattle.cweb_tools.proofs.Leaving.{broken, shelf_after}
+use Rattle.cweb_tools.proofs.Stopping.{is_stopped, logs_all}
 
--- One read failed, of the file of this name.
-record OneFailed (old new : DeviceState) (status : ℕ) : Type 0 where
-  name : List ℕ
-  once : new.shelf_failed ≡ old.shelf_failed + 1
-  blamed : new.blamed ≡ old.blamed ++ name ∷ []
-  logged : new.log_failed ≡ old.log_failed
-      → (lines : List ℕ) × (new.log ≡ old.log ++ (lines ++ message_line (codes "Read fault on ") name))
-  answered : status ≡ 1
+-- The shelf after acts that nothing stopped, and after a stop.
+shelf_all : (acts : List Act) (old new : Devices) → PerformsActs acts None old new → new.shelf ≡ old.shelf
+shelf_all [] old new is = ap (λ (d : Devices). d.shelf) is
+shelf_all (judges ∷ acts) old new (inl run) = shelf_all acts old new run.1
+shelf_all (act ∷ acts) old new (inl run) = shelf_all acts (after_act act old) new run.1
+shelf_all (act ∷ acts) old new (inr stop) = absurd stop
 
-record Blamed (old new : DeviceState) (status : ℕ) : Type 0 where
-  none : new.shelf_failed ≡ old.shelf_failed → new.blamed ≡ old.blamed
-  one : new.shelf_failed ≢ old.shelf_failed → OneFailed old new status
+shelf_until : (acts : List Act) (stop : Stop) (about : List ℕ) (old new : Devices)
+    → PerformsActs acts (Some (ending stop about)) old new → new.shelf ≡ shelf_after stop about old.shelf
+shelf_until [] stop about old new none = absurd none
+shelf_until (judges ∷ acts) stop about old new (inl run) = shelf_until acts stop about old new run.1
+shelf_until (act ∷ acts) stop about old new (inl run) = shelf_until acts stop about (after_act act old) new run.1
+shelf_until (act ∷ acts) stop about old new (inr here) = (broken act stop about old new here).shelf
 
-blamed_so : {acts : List Act} (stop : Stop) (about : List ℕ) {old new : DeviceState} {status : ℕ}
-    → IsStopped acts stop about old new → new.blamed ≡ old.blamed ++ blamed_by stop about → status ≡ 1
-    → Blamed old new status
-blamed_so (ReadFault file) about is blamed answered = record {
+shelf_so : {acts : List Act} (stop : Stop) (about : List ℕ) {old new : Devices} {status : ℕ}
+    → IsStopped acts stop about old new → new.shelf ≡ shelf_after stop about old.shelf → status ≡ 1
+    → LeavesShelf old.shelf new.shelf old.log new.log status
+shelf_so (ReadFault file) about is blamed answered = record {
   none = λ same. absurd (omega (arith, is.shelf, same));
   one = λ differs. record {
     name = about;
-    once = is.shelf;
     blamed = blamed;
-    logged = λ same. (flat_map line is.log.before, is.log.all same);
+    logged = λ same. (
+      flat_map line is.log.before,
+      ap (λ (log : StreamModel). log.bytes) (logs_all is.log.logs same),
+    );
     answered = answered;
   };
 }
-blamed_so stop about {old = old} is blamed answered = record {
-  none = λ same. blamed ∙ append-nil old.blamed;
-  one = λ differs. absurd (differs (is.shelf ∙ add-zero old.shelf_failed));
+shelf_so stop about is same answered = record {
+  none = λ counted. same;
+  one = λ differs. absurd (differs (ap (λ (shelf : ShelfModel). shelf.failed) same));
 }
 
-ends_blamed : {acts : List Act} {expected : ℕ} {old new : DeviceState} {status : ℕ}
-    → RunEnds acts expected old new status → Blamed old new status
-ends_blamed {acts} {old = old} {new = new} (completes run answered) = record {
-  none = λ same. blamed_all acts old new run;
-  one = λ differs. absurd (differs (counts_all acts old new run).0);
-}
-ends_blamed {acts} {old = old} {new = new} (stops (ending stop about) mid run logs answered) =
-    blamed_so stop about (is_stopped acts mid run logs)
-    (ap (λ (d : DeviceState). d.blamed) (stop_logged stop about mid new logs)
-    ∙ blamed_until acts stop about old mid run) answered
+ends_shelf : {acts : List Act} {expected : ℕ} {old new : Devices} {status : ℕ} → RunEnds acts expected old new status
+    → LeavesShelf old.shelf new.shelf old.log new.log status
+ends_shelf {acts} {old = old} {new = new} (completes run answered) =
+    let same = shelf_all acts old new run in record {
+      none = λ counted. same;
+      one = λ differs. absurd (differs (ap (λ (shelf : ShelfModel). shelf.failed) same));
+    }
+ends_shelf {acts} {old = old} (stops (ending stop about) mid run logs answered) = shelf_so stop about
+    (is_stopped acts mid run logs)
+    (ap (λ (d : Devices). d.shelf) logs.others ∙ shelf_until acts stop about old mid run) answered
 
 pub leave_shelf : {C : Type 0} {acts : C → List Act} {CanBe Is : C → Type 0} {before after : Devices} {status : ℕ}
-    → FollowsActs acts CanBe Is before after status → IsTrue before.shelf.tells
+    → FollowsActs acts CanBe Is before after status
     → LeavesShelf before.shelf after.shelf before.log after.log status
-leave_shelf {before = before} {after = after} run tells =
-    let last = run.ends (observed_state before) shown_reported in
-    let seen : IsTrue after.shelf.tells = run.shelf_tells ∙ tells in
-    let all = ends_blamed last.ends in record {
-      none = λ same. sym (last.agrees.blamed seen) ∙ all.none (last.agrees.shelf_failed ∙ same);
-      one = λ differs. let one = all.one (λ same. differs (sym last.agrees.shelf_failed ∙ same)) in record {
-        name = one.name;
-        once = sym last.agrees.shelf_failed ∙ one.once;
-        blamed = sym (last.agrees.blamed seen) ∙ one.blamed;
-        logged = λ tell same. let text = one.logged (last.agrees.log_failed ∙ same) in
-            (text.0, sym (last.agrees.log (run.log_tells ∙ tell)) ∙ text.1);
-        answered = one.answered;
-      };
-    }
+leave_shelf run = ends_shelf run.ends
+
+-- A shelf stays observable or not.
+mapped : {A : Type 0} (f : A → A) (known : Option A) → is_some (option_map f known) ≡ is_some known
+mapped f None = refl
+mapped f (Some x) = refl
+
+after_stop : (stop : Stop) (about : List ℕ) (shelf : ShelfModel)
+    → is_some (shelf_after stop about shelf).blamed ≡ is_some shelf.blamed
+after_stop (ReadFault file) about shelf = mapped _ shelf.blamed
+after_stop stop about shelf = refl
+
+pub shelf_known : {acts : List Act} {expected : ℕ} {old new : Devices} {status : ℕ}
+    → RunEnds acts expected old new status → is_some new.shelf.blamed ≡ is_some old.shelf.blamed
+shelf_known {acts} {old = old} {new = new} (completes run answered) =
+    ap (λ (shelf : ShelfModel). is_some shelf.blamed) (shelf_all acts old new run)
+shelf_known {acts} {old = old} (stops (ending stop about) mid run logs answered) =
+    ap (λ (d : Devices). is_some d.shelf.blamed) logs.others
+    ∙ ap (λ (shelf : ShelfModel). is_some shelf.blamed) (shelf_until acts stop about old mid run)
+    ∙ after_stop stop about old.shelf

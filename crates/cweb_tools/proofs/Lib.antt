@@ -1,6 +1,7 @@
 pub mod Common
 pub mod AllDone
 pub mod Arguments
+pub mod Carried
 pub mod Doing
 pub mod DoingFiles
 pub mod Endings
@@ -15,7 +16,6 @@ pub mod ReadyExpanders
 pub mod NamesOnce
 pub mod RuleWords
 pub mod Refusals
-pub mod ObservedRunEnds
 pub mod TanglePromisesProved
 pub mod DependPromisesProved
 mod DepfileExamples
@@ -36,7 +36,7 @@ pub mod RulesReadBack
 pub mod Marks
 pub mod OutputActs
 pub mod Targets
-mod NoFiles
+pub mod NoFiles
 mod WorkedExamples
 pub mod TangleExamples
 pub mod HeadlineExamples

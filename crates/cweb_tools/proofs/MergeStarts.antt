@@ -1,8 +1,8 @@
 -- A run of `wmerge` that can't begin its merge.
-use Rattle.cweb_tools.proofs.Common.{codes, ◌≡◌, ◌⊎◌, inl, inr, ℕ, List, [], ◌∷◌, refl, sym, subst, ◌∙◌, arith, Option, Some, None, IsTrue, World, Found, StartStops, read_failures_of, StopsAtStart, Stop, Usage, WebNotOpened, ChangeNotOpened, Memory, Logs, stop_line, start_subject, stopped, SinkModel, ShelfModel, LogItem, line, WebNames, Course, merging, merge_course, change_name, found_course, EndsMerge, merge_acts, MergeCanCome, Act, judges, opens, says, Ending, ending, DeviceState, PerformsActs, Closes, Does, rise, bins_blame, log_blame}
-use Rattle.cweb_tools.proofs.Doing.{closes_in, closes_on, quietly}
-use Rattle.cweb_tools.proofs.Logging.{at}
-use Rattle.cweb_tools.proofs.MergeDevices.{out_of, both_tell, agrees_on}
+use Rattle.cweb_tools.proofs.Common.{codes, ◌≡◌, ◌⊎◌, inl, inr, ℕ, List, [], ◌∷◌, refl, sym, subst, Option, Some, None, IsSome, World, Found, StartStops, StopsAtStart, Stop, Usage, WebNotOpened, ChangeNotOpened, Memory, Logs, stop_line, start_subject, stopped, StreamModel, OutModel, ShelfModel, LogItem, line, WebNames, Course, merging, merge_course, change_name, found_course, EndsMerge, merge_acts, MergeCanCome, Act, judges, opens, says, at, RunEnds}
+use Rattle.cweb_tools.proofs.Doing.{ends_on}
+use Rattle.cweb_tools.proofs.DoingFiles.{memory_halts}
+use Rattle.cweb_tools.proofs.MergeDevices.{out_of}
 use Rattle.cweb_tools.proofs.RunEnds.{Judges}
 use Rattle.cweb_tools.proofs.TangleExits.{reported_last}
 use Rattle.cweb_tools.specs.Course.{unread, not_there, change_not_there}
@@ -24,26 +24,25 @@ can_merge names world (Some web) None = refl
 can_merge names world (Some web) (Some change) = tt
 
 -- Memory ran out while the words were parsed or the files were opened.
-memory_ends : (names : WebNames) (course : Course) → MergeCanCome (Some names) course → (expected : ℕ) (a b : SinkModel)
-    (shelf shelf' : ShelfModel) {l l' : SinkModel} {status : ℕ}
-    → Does (judges ∷ []) (Some (ending Memory [])) (at shelf a l) (at shelf' b l)
+memory_ends : (names : WebNames) (course : Course) → MergeCanCome (Some names) course → (expected : ℕ)
+    (shelf : ShelfModel) (out : OutModel) {l l' : StreamModel} {status : ℕ}
     → Logs (stop_line Memory []) l l' → status ≡ 1
-    → Closes (merge_acts course) expected (at shelf a l) (at shelf' b l') status
-memory_ends names course can expected a b shelf shelf' {l} {l'} {status} does logs answered =
+    → RunEnds (merge_acts course) expected (at shelf out l) (at shelf out l') status
+memory_ends names course can expected shelf out {l} {l'} {status} logs answered =
     let begun = begins_acts names course can in
-    subst (λ (acts : List Act). Closes acts expected (at shelf a l) (at shelf' b l') status) (sym begun.1)
-    (closes_in begun.0 does (record { shelf = refl; bins = refl; log = logs }) answered)
+    subst (λ (acts : List Act). RunEnds acts expected (at shelf out l) (at shelf out l') status) (sym begun.1)
+    (memory_halts judges begun.0 refl logs answered)
 
 -- The words can't be read, or an allocation for their names failed.
-pub words_stopped : (world : World) (request : Option WebNames) (stop : Stop) (shelf : ShelfModel) (out : SinkModel)
-    {l l' : SinkModel} {status : ℕ} → (stop ≡ Usage) ⊎ (stop ≡ Memory) → (stop ≡ Usage → request ≡ None)
+pub words_stopped : (world : World) (request : Option WebNames) (stop : Stop) (shelf : ShelfModel) (out : OutModel)
+    {l l' : StreamModel} {status : ℕ} → (stop ≡ Usage) ⊎ (stop ≡ Memory) → (stop ≡ Usage → request ≡ None)
     → (request ≡ None → stop ≡ Usage) → Logs (stop_line stop usage) l l' → status ≡ 1
     → EndsMerge request (merge_course world request) (at shelf out l) (at shelf out l') status
 words_stopped world None stop shelf out {l} {l'} why none_by is_usage logs answered = record {
   taken = unread;
   can = tt;
   is = λ tell. refl;
-  closes = subst (Closes (says (stopped Usage usage) ∷ []) 1 (at shelf (out_of shelf out) l)
+  ends = subst (RunEnds (says (stopped Usage usage) ∷ []) 1 (at shelf (out_of shelf out) l)
       (at shelf (out_of shelf out) l')) (sym answered) (reported_last (stopped Usage usage) shelf (out_of shelf out)
       (subst (λ (s : Stop). Logs (stop_line s usage) l l') (is_usage refl) logs));
 }
@@ -51,7 +50,7 @@ words_stopped world (Some names) stop shelf out {l} {l'} why none_by is_usage lo
   taken = merge_course world (Some names);
   can = can_merge names world _ _;
   is = λ tell. refl;
-  closes = memory_ends names _ (can_merge names world _ _) _ _ _ shelf shelf (quietly refl refl refl (λ now. inr refl))
+  ends = memory_ends names _ (can_merge names world _ _) _ shelf (out_of shelf out)
       (subst (λ (s : Stop). Logs (stop_line s usage) l l') (some_memory names stop why none_by) logs) answered;
 }
   where
@@ -64,9 +63,8 @@ words_stopped world (Some names) stop shelf out {l} {l'} why none_by is_usage lo
     some_memory names stop (inr is) none_by = is
 
 -- A merge could not begin.
-module _ (world : World) (names : WebNames) (shelf shelf' : ShelfModel) (tells : shelf'.tells ≡ shelf.tells)
-    (failed : shelf'.failed ≡ shelf.failed) (blamed : IsTrue shelf.tells → shelf'.blamed ≡ shelf.blamed)
-    (out : SinkModel) (l l' : SinkModel) (status : ℕ) (answered : status ≡ 1) where
+module _ (world : World) (names : WebNames) (shelf : ShelfModel) (out : OutModel) (l l' : StreamModel) (status : ℕ)
+    (answered : status ≡ 1) where
   no_web : (found : Option Found) (changes : Option (Option Found)) → found ≡ None
       → not_there names.web ≡ found_course world names found changes
   no_web None changes is = refl
@@ -81,54 +79,31 @@ module _ (world : World) (names : WebNames) (shelf shelf' : ShelfModel) (tells :
   no_change (Some found) None web is = refl
   no_change (Some found) (Some change) web is = absurd (cc)
 
-  searched : (acts : List Act) (why : Option Ending) → rise read_failures_of why ≡ 0 → rise bins_blame why ≡ 0
-      → rise log_blame why ≡ 0 → ((now : DeviceState) → PerformsActs acts why now now)
-      → Does acts why (at shelf (out_of shelf out) l) (at shelf' (out_of shelf' out) l)
-  searched acts why no_read no_bins no_log runs = record {
-    shelf_tells = tells;
-    bins_tells = both_tell shelf shelf' tells out out refl l;
-    log_tells = refl;
-    shelf = omega (arith, failed, no_read);
-    bins = omega (arith, no_bins);
-    log = omega (arith, no_log);
-    runs = λ now held. record {
-      left = now;
-      observed = agrees_on shelf shelf' tells out out refl l now.shelf_failed now.blamed now.bins_failed now.printed
-          held
-          (held.shelf_failed ∙ sym failed) (λ tell. held.blamed tell ∙ sym (blamed tell)) held.bins_failed
-          (λ tell. held.printed tell refl);
-      runs = runs now;
-    };
-  }
-
-  ends_said : (item : LogItem) → Logs (line item) l l'
-      → Closes (judges ∷ opens ∷ says item ∷ []) 1 (at shelf (out_of shelf out) l)
-      (at shelf' (out_of shelf' out) l') status
-  ends_said item logs = closes_on
-      (searched (judges ∷ opens ∷ []) None refl refl refl (λ now. inl (tt, inl (tt, refl))))
-      (rw answered (reported_last item shelf' (out_of shelf' out) logs))
+  ends_said : (item : LogItem) → Logs (line item) l l' → RunEnds (judges ∷ opens ∷ says item ∷ []) 1
+      (at shelf (out_of shelf out) l) (at shelf (out_of shelf out) l') status
+  ends_said item logs = ends_on {xs = judges ∷ opens ∷ []} {mid = at shelf (out_of shelf out) l}
+      (record { runs = inl (tt, inl (tt, refl)) }) (rw answered (reported_last item shelf (out_of shelf out) logs))
 
   pub start_stopped : (found : Option Found) (changes : Option (Option Found)) (stop : Stop) → StartStops stop
-      → (IsTrue shelf.tells → StopsAtStart stop found changes)
+      → (IsSome shelf.blamed → StopsAtStart stop found changes)
       → Logs (stop_line stop (start_subject names.web (change_name names.change) stop)) l l'
-      → EndsMerge (Some names) (found_course world names found changes) (at shelf out l) (at shelf' out l') status
+      → EndsMerge (Some names) (found_course world names found changes) (at shelf out l) (at shelf out l') status
   start_stopped found changes WebNotOpened comes why logs = record {
     taken = not_there names.web;
     can = refl;
     is = λ tell. no_web found changes (why tell);
-    closes = ends_said (stopped WebNotOpened names.web) logs;
+    ends = ends_said (stopped WebNotOpened names.web) logs;
   }
   start_stopped found changes ChangeNotOpened comes why logs = record {
     taken = change_not_there (change_name names.change);
     can = refl;
     is = λ tell. no_change found changes (why tell).0 (why tell).1;
-    closes = ends_said (stopped ChangeNotOpened (change_name names.change)) logs;
+    ends = ends_said (stopped ChangeNotOpened (change_name names.change)) logs;
   }
   start_stopped found changes Memory comes why logs = record {
     taken = found_course world names found changes;
     can = can_merge names world found changes;
     is = λ tell. refl;
-    closes = memory_ends names _ (can_merge names world found changes) _ _ _ shelf shelf'
-        (searched (judges ∷ []) (Some (ending Memory [])) refl refl refl (λ now. inr refl)) logs answered;
+    ends = memory_ends names _ (can_merge names world found changes) _ shelf (out_of shelf out) logs answered;
   }
   start_stopped found changes stop comes why logs = absurd comes

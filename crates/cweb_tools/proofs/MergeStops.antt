@@ -1,29 +1,16 @@
 -- A merge that stops breaks the act of merging.
-use Rattle.cweb_tools.proofs.Common.{◌∙◌, ap, ◌∷◌, ◌≤◌, Bool, Line, IsTrue, length, files_named, begun_with, LINES, BYTES, after_act, ◌≡◌, ◌+◌, ℕ, List, [], ◌++◌, refl, sym, subst, add-zero, append-nil, Event, SoFar, blame, StopsReading, read_failures_of, emitted_lines, written_lines, StopsWriting, WritingStops, WritesPrefix, write_failures_of, Stop, ReadFault, LineTooLong, TooMuchText, Memory, WriteFault, Logs, stop_line, subject, SinkModel, merges, Breaks, FailsReading, ending, DeviceState, LogsEnding, bins_blame, log_blame}
+use Rattle.cweb_tools.proofs.Common.{◌∙◌, ap, ◌∷◌, ◌≤◌, Bool, Line, IsTrue, length, files_named, begun_with, LINES, BYTES, after_act, ◌≡◌, ℕ, List, [], ◌++◌, refl, subst, Event, SoFar, StopsReading, emitted_lines, written_lines, StopsWriting, WritingStops, WritesPrefix, Stop, ReadFault, LineTooLong, TooMuchText, Memory, WriteFault, LogFault, Logs, stop_line, subject, StreamModel, OutModel, Devices, merges, Breaks, FailsReading, ending, LogsEnding, changed, failing, with_printed}
 use Rattle.cweb_lines.specs.Events.{took, emitted, fault, opening}
+use Rattle.cweb_log.proofs.BufferedLog.{prefix_if}
 use Rattle.cweb_tools.specs.Acts.{BreaksReading}
+use Rattle.cweb_tools.proofs.Leaving.{shelf_after}
 use Rattle.cweb_tools.proofs.Limits.{CutAt, cut_at_limit}
-use Rattle.cweb_tools.proofs.Logging.{prefix_observed}
 use Rattle.cweb_tools.proofs.ReadingStops.{left_by, fails_so, cut_first, read_by}
 
-pub writing_ends : (stop : Stop) (about : List ℕ) {l l' : SinkModel} → WritingStops stop
+pub writing_ends : (stop : Stop) (about : List ℕ) {l l' : StreamModel} → WritingStops stop
     → Logs (stop_line stop about) l l' → LogsEnding (ending stop about) l l'
-writing_ends (ReadFault file) about kind logs = logs
-writing_ends (LineTooLong file) about kind logs = logs
-writing_ends TooMuchText about kind logs = logs
-writing_ends Memory about kind logs = logs
-writing_ends WriteFault about kind logs = logs
-writing_ends stop about kind logs = absurd kind
-
--- Writing fails the shelf or the output.
-pub writing_only : (stop : Stop) (n : ℕ) → WritingStops stop
-    → (bins_blame stop ≡ write_failures_of stop) × (n ≡ n + log_blame stop)
-writing_only (ReadFault file) n kind = (refl, sym (add-zero n))
-writing_only (LineTooLong file) n kind = (refl, sym (add-zero n))
-writing_only TooMuchText n kind = (refl, sym (add-zero n))
-writing_only Memory n kind = (refl, sym (add-zero n))
-writing_only WriteFault n kind = (refl, sym (add-zero n))
-writing_only stop n kind = absurd kind
+writing_ends LogFault about kind logs = absurd kind
+writing_ends stop about kind logs = logs
 
 -- An event that emits nothing comes before those.
 cut_more : (event : Event) {lines : List Line} {events : List Event} (cut : CutAt Memory lines events)
@@ -58,62 +45,40 @@ cut_lines (fault f ∷ events) (line ∷ lines) rest whole =
 cut_lines (opening n ∷ events) (line ∷ lines) rest whole =
     cut_more (opening n) (cut_lines events (line ∷ lines) rest whole) refl
 
--- The state after a stop, if this prefix was printed.
-abbrev pub left_after : Stop → List (List ℕ) → List ℕ → DeviceState → DeviceState
+-- The output after a stop, if this prefix was printed.
+abbrev pub out_after : Stop → List ℕ → OutModel → OutModel
+out_after WriteFault prefix out = failing (with_printed prefix) out
+out_after stop prefix out = changed (with_printed prefix) out
+
+-- The devices after it.
+abbrev pub left_after : Stop → List (List ℕ) → List ℕ → Devices → Devices
 left_after stop opened prefix now = record now {
-  shelf_failed = now.shelf_failed + read_failures_of stop;
-  blamed = now.blamed ++ blame opened stop;
-  bins_failed = now.bins_failed + write_failures_of stop;
-  printed = now.printed ++ prefix;
+  shelf = shelf_after stop (subject opened stop) now.shelf;
+  out = out_after stop prefix now.out;
 }
 
--- A stop of reading after these lines were printed.
-module _ (opened : List (List ℕ)) (now : DeviceState) {shown lines : List Line} (are : shown ≡ lines) where
-  abbrev mid : DeviceState
-  mid = record now { printed = now.printed ++ written_lines shown }
+left_so : (opened : List (List ℕ)) (now : Devices) {shown lines : List Line} → shown ≡ lines → (stop : Stop)
+    → StopsReading stop → left_by stop (subject opened stop)
+    (record now { out = changed (with_printed (written_lines shown)) now.out })
+    ≡ left_after stop opened (written_lines lines) now
+left_so opened now are WriteFault kind = absurd kind
+left_so opened now are stop kind = λ i. record now {
+  shelf = shelf_after stop (subject opened stop) now.shelf;
+  out = changed (with_printed (written_lines (are i))) now.out;
+}
 
-  -- Only the output changed.
-  abbrev quiet : DeviceState
-  quiet = record now {
-    shelf_failed = now.shelf_failed + 0;
-    blamed = now.blamed ++ [];
-    bins_failed = now.bins_failed + 0;
-    printed = now.printed ++ written_lines lines;
-  }
-
-  untouched : mid ≡ quiet
-  untouched i = record now {
-    shelf_failed = sym (add-zero now.shelf_failed) i;
-    blamed = sym (append-nil now.blamed) i;
-    bins_failed = sym (add-zero now.bins_failed) i;
-    printed = now.printed ++ written_lines (are i);
-  }
-
-  left_so : (stop : Stop) → StopsReading stop
-      → left_by stop (subject opened stop) mid ≡ left_after stop opened (written_lines lines) now
-  left_so (ReadFault file) kind = λ i. record now {
-    shelf_failed = now.shelf_failed + 1;
-    blamed = now.blamed ++ blame opened (ReadFault file);
-    bins_failed = sym (add-zero now.bins_failed) i;
-    printed = now.printed ++ written_lines (are i);
-  }
-  left_so (LineTooLong file) kind = untouched
-  left_so TooMuchText kind = untouched
-  left_so Memory kind = untouched
-  left_so stop kind = absurd kind
-
--- What was printed before a stop.
-pub record Prints (stop : Stop) (files opened : List (List ℕ)) (events : List Event) (tells : Type 0)
+-- What was printed before a stop. `tells` says whether that is known.
+pub record PrintsUntil (stop : Stop) (files opened : List (List ℕ)) (events : List Event) (tells : Bool)
     (old new : List ℕ) : Type 0 where
   pub prefix : List ℕ
-  pub written : tells → new ≡ old ++ prefix
-  pub breaks : (now : DeviceState) → Breaks (merges files events) (ending stop (subject opened stop)) now
+  pub written : IsTrue tells → new ≡ old ++ prefix
+  pub breaks : (now : Devices) → Breaks (merges files events) (ending stop (subject opened stop)) now
       (left_after stop opened prefix now)
 
 -- A stop within an act of merging. The files that were opened are among those of the act.
 module _ (files opened rest : List (List ℕ)) (names : files ≡ opened ++ rest) (events : List Event) where
   merges_broke : (stop : Stop) → StopsReading stop → files_named stop ≤ length opened → (lines : List Line)
-      → CutAt stop lines events → (now : DeviceState)
+      → CutAt stop lines events → (now : Devices)
       → BreaksReading (merges files) files events (ending stop (subject opened stop)) now
       (left_after stop opened (written_lines lines) now)
   merges_broke stop kind known lines cut now = record {
@@ -127,28 +92,17 @@ module _ (files opened rest : List (List ℕ)) (names : files ≡ opened ++ rest
   }
 
   pub cut_broke : (stop : Stop) → StopsReading stop → files_named stop ≤ length opened → (lines : List Line)
-      → CutAt stop lines events → (now : DeviceState)
+      → CutAt stop lines events → (now : Devices)
       → Breaks (merges files events) (ending stop (subject opened stop)) now
       (left_after stop opened (written_lines lines) now)
-  cut_broke (ReadFault file) kind known lines cut now = merges_broke (ReadFault file) kind known lines cut now
-  cut_broke (LineTooLong file) kind known lines cut now = merges_broke (LineTooLong file) kind known lines cut now
-  cut_broke TooMuchText kind known lines cut now = merges_broke TooMuchText kind known lines cut now
-  cut_broke Memory kind known lines cut now = merges_broke Memory kind known lines cut now
-  cut_broke stop kind known lines cut now = absurd kind
+  cut_broke WriteFault kind known lines cut now = absurd kind
+  cut_broke stop kind known lines cut now = merges_broke stop kind known lines cut now
 
   pub write_broke : (prefix more : List ℕ) → written_lines (emitted_lines events) ≡ prefix ++ more
-      → (now : DeviceState) → Breaks (merges files events) (ending WriteFault (subject opened WriteFault)) now
+      → (now : Devices) → Breaks (merges files events) (ending WriteFault (subject opened WriteFault)) now
       (left_after WriteFault opened prefix now)
-  write_broke prefix more whole now = (
-    refl,
-    record { prefix = prefix; rest = more; written = refl; whole = whole },
-    λ i. record now {
-      shelf_failed = add-zero now.shelf_failed i;
-      blamed = append-nil now.blamed i;
-      bins_failed = now.bins_failed + 1;
-      printed = now.printed ++ prefix;
-    },
-  )
+  write_broke prefix more whole now =
+      record { about_is = refl; prefix = prefix; rest = more; whole = whole; is = refl }
 
   -- An observable shelf: all lines before the stop were printed.
   pub prints_so : (stop : Stop) {first : List (List ℕ)} {old : SoFar} (new : SoFar) (Wrote : List ℕ → Type 0)
@@ -156,7 +110,7 @@ module _ (files opened rest : List (List ℕ)) (names : files ≡ opened ++ rest
       → WritingStops stop → files_named stop ≤ length opened → StopsWriting stop old new events Wrote
       → ((bytes : List ℕ) → Wrote bytes → IsTrue tells → out' ≡ out ++ bytes)
       → (IsTrue tells → WritesPrefix out out' (written_lines (emitted_lines events)))
-      → Prints stop files opened events (IsTrue tells) out out'
+      → PrintsUntil stop files opened events tells out out'
   prints_so (ReadFault file) new Wrote tells began few small kind known why wrote printed = record {
     prefix = written_lines why.lines;
     written = wrote _ why.wrote;
@@ -184,37 +138,21 @@ module _ (files opened rest : List (List ℕ)) (names : files ≡ opened ++ rest
     breaks = cut_broke Memory tt known why.lines (cut_lines events why.lines why.rest why.whole);
   }
   prints_so WriteFault new Wrote tells {out = out} {out' = out'} began few small kind known why wrote printed =
-      let part = prefix_observed tells {old = out} {new = out'} {text = written_lines (emitted_lines events)} printed in
-      record { prefix = part.prefix; written = part.written; breaks = write_broke part.prefix part.rest part.whole }
+      let part = prefix_if tells out out' (written_lines (emitted_lines events)) printed in
+      record { prefix = part.0; written = part.3; breaks = write_broke part.0 part.1 part.2 }
   prints_so stop new Wrote tells began few small kind known why wrote printed = absurd kind
 
--- An unobservable shelf may have had these events.
-pub prints_none : (stop : Stop) (opened rest : List (List ℕ)) (tells : Type 0) {out out' : List ℕ} → WritingStops stop
-    → files_named stop ≤ length opened → (tells → ⊥)
-    → Prints stop (opened ++ rest) opened (read_by stop) tells out out'
-prints_none (ReadFault file) opened rest tells kind known silent = record {
-  prefix = [];
-  written = λ tell. absurd (silent tell);
-  breaks = cut_broke _ opened rest refl _ (ReadFault file) tt known [] (cut_first (ReadFault file));
-}
-prints_none (LineTooLong file) opened rest tells kind known silent = record {
-  prefix = [];
-  written = λ tell. absurd (silent tell);
-  breaks = cut_broke _ opened rest refl _ (LineTooLong file) tt known [] (cut_first (LineTooLong file));
-}
-prints_none TooMuchText opened rest tells kind known silent = record {
-  prefix = [];
-  written = λ tell. absurd (silent tell);
-  breaks = cut_broke _ opened rest refl _ TooMuchText tt known [] (cut_first TooMuchText);
-}
-prints_none Memory opened rest tells kind known silent = record {
-  prefix = [];
-  written = λ tell. absurd (silent tell);
-  breaks = cut_broke _ opened rest refl _ Memory tt known [] (cut_first Memory);
-}
+-- An unobservable shelf: the stop may have come first.
+pub prints_none : (stop : Stop) (opened rest : List (List ℕ)) (tells : Bool) {out out' : List ℕ} → WritingStops stop
+    → files_named stop ≤ length opened → (IsTrue tells → ⊥)
+    → PrintsUntil stop (opened ++ rest) opened (read_by stop) tells out out'
 prints_none WriteFault opened rest tells kind known silent = record {
   prefix = [];
   written = λ tell. absurd (silent tell);
   breaks = write_broke _ opened rest refl (read_by WriteFault) [] [] refl;
 }
-prints_none stop opened rest tells kind known silent = absurd kind
+prints_none stop opened rest tells kind known silent = record {
+  prefix = [];
+  written = λ tell. absurd (silent tell);
+  breaks = cut_broke _ opened rest refl _ stop kind known [] (cut_first stop);
+}

@@ -1,73 +1,45 @@
--- Printing to standard output is the doing of an act.
-use Rattle.cweb_tools.proofs.Common.{◌≡◌, inl, inr, ◌+◌, ℕ, List, [], ◌∷◌, ◌++◌, refl, sym, ◌∙◌, ap, subst, add-zero, codes, Option, Some, None, IsSome, IsTrue, WritesPrefix, Beside, WriteFault, SinkModel, ShelfModel, Ending, ending, DeviceState, PerformsActs, prints, AgreesWith, DoesInBins, bins_blame, rise, read_failures_of, log_blame, arith, map, File, Output, Stored, output_file}
-use Rattle.std.proofs.lemmas.List.{take-map}
+-- A text that is printed to a stream, and the targets of a rule.
+use Rattle.cweb_tools.proofs.Common.{◌≡◌, ◌+◌, inl, inr, ℕ, List, [], ◌∷◌, refl, ◌∙◌, ap, codes, map, Option, Some, None, File, Stored, Output, output_file, WriteFault, FailsWithin, StreamModel, as_output, at, appended, changed, failing, with_printed, written, ending, prints, DoesInOut}
 use Rattle.std.specs.Prelude.{take}
+use Rattle.std.proofs.lemmas.List.{take-map}
+use Rattle.cweb_tools.specs.Depend.{among_outputs}
 use Rattle.cweb_tools.specs.declared.rule_targets.Targets.{Targets}
 use Rattle.cweb_tools.specs.declared.rule_targets.Targets.TheVariants.{All, Main}
-use Rattle.cweb_tools.specs.Depend.{among_outputs}
-use Rattle.cweb_tools.proofs.Logging.{at, prefix_observed}
 
--- The state after these bytes were printed.
-abbrev with_printed : DeviceState → ℕ → List ℕ → DeviceState
-with_printed now count text = record now { bins_failed = count; printed = now.printed ++ text }
+-- Bytes that a stream gets are those of its draft as an output.
+appended_is : (n : ℕ) (text : List ℕ) (bytes : Option (List ℕ))
+    → as_output (record { failed = n; bytes = appended text bytes })
+    ≡ changed (with_printed text) (as_output (record { failed = n; bytes = bytes }))
+appended_is n text None = refl
+appended_is n text (Some bytes) = refl
 
-module _ (text : List ℕ) {old new : SinkModel} (tells : new.tells ≡ old.tells)
-    (beside : IsTrue old.tells → new.beside ≡ old.beside) where
-  out_observed : {now : DeviceState} (count : ℕ) (shelf : ShelfModel) (log : SinkModel) (prefix : List ℕ)
-      → AgreesWith now (at shelf old log) → count ≡ new.failed → (IsTrue old.tells → new.bytes ≡ old.bytes ++ prefix)
-      → AgreesWith (with_printed now count prefix) (at shelf new log)
-  out_observed {now} count shelf log prefix observed counted bytes =
-      let first : IsTrue new.tells → IsTrue old.tells = λ tell. sym tells ∙ tell in record {
-        shelf_failed = observed.shelf_failed;
-        bins_failed = counted;
-        log_failed = observed.log_failed;
-        blamed = observed.blamed;
-        files = λ tell. observed.files (first tell) ∙ ap (λ (b : Beside). b.files) (sym (beside (first tell)));
-        draft = λ tell. observed.draft (first tell) ∙ ap (λ (b : Beside). b.draft) (sym (beside (first tell)));
-        refused = λ tell. observed.refused (first tell) ∙ ap (λ (b : Beside). b.refused) (sym (beside (first tell)));
-        log = observed.log;
-        printed = λ tell some.
-            ap (λ (t : List ℕ). t ++ prefix) (observed.printed (first tell)
-            (subst (λ (b : Beside). IsSome b.draft) (beside (first tell)) some))
-            ∙ sym (bytes (first tell));
-      }
+pub printed_is : (text : List ℕ) (old : StreamModel) {new : StreamModel} → new ≡ written text old
+    → as_output new ≡ changed (with_printed text) (as_output old)
+printed_is text old is = ap as_output is ∙ appended_is old.failed text old.bytes
 
-  does_printed : {why : Option Ending} (more : ℕ → ℕ) (prefix : List ℕ) → rise read_failures_of why ≡ 0
-      → rise log_blame why ≡ 0 → ((n : ℕ) → more n ≡ n + rise bins_blame why) → new.failed ≡ more old.failed
-      → (IsTrue old.tells → new.bytes ≡ old.bytes ++ prefix)
-      → ((now : DeviceState) → PerformsActs (prints text ∷ []) why now (with_printed now (more now.bins_failed) prefix))
-      → DoesInBins (prints text ∷ []) why old new
-  does_printed more prefix no_read no_log rises counted bytes runs = λ shelf log. record {
-    shelf_tells = refl;
-    bins_tells = tells;
-    log_tells = refl;
-    shelf = omega (arith, no_read);
-    bins = counted ∙ rises old.failed;
-    log = omega (arith, no_log);
-    runs = λ now observed. record {
-      left = with_printed now (more now.bins_failed) prefix;
-      observed = out_observed _ shelf log prefix observed (ap more observed.bins_failed ∙ sym counted) bytes;
-      runs = runs now;
-    };
-  }
+pub printing_is : (text : List ℕ) (old : StreamModel) {new : StreamModel}
+    → new ≡ record { failed = old.failed + 1; bytes = appended text old.bytes }
+    → as_output new ≡ failing (with_printed text) (as_output old)
+printing_is text old is = ap as_output is ∙ appended_is (old.failed + 1) text old.bytes
 
-  -- All bytes were written.
-  pub printed_whole : new.failed ≡ old.failed → (IsTrue old.tells → new.bytes ≡ old.bytes ++ text)
-      → DoesInBins (prints text ∷ []) None old new
-  printed_whole counts whole = does_printed (λ n. n) text refl refl (λ n. sym (add-zero n)) counts whole
-      (λ now. inl (tt, refl))
+-- All bytes were written.
+pub printed_whole : (text : List ℕ) (old : StreamModel) {new : StreamModel} → new ≡ written text old
+    → DoesInOut (prints text ∷ []) None (as_output old) (as_output new)
+printed_whole text old is =
+    λ shelf log. record { runs = inl (tt, ap (λ out. at shelf out log) (printed_is text old is)) }
 
-  -- A prefix was written, and the output failed.
-  pub printed_prefix : new.failed ≡ old.failed + 1 → (IsTrue old.tells → WritesPrefix old.bytes new.bytes text)
-      → DoesInBins (prints text ∷ []) (Some (ending WriteFault (codes "standard output"))) old new
-  printed_prefix counts prefix =
-      let wrote = prefix_observed old.tells prefix in
-      does_printed (λ n. n + 1) wrote.prefix refl refl (λ n. refl) counts wrote.written
-      (λ now. inr (
-        refl,
-        record { prefix = wrote.prefix; rest = wrote.rest; written = refl; whole = wrote.whole },
-        refl,
-      ))
+-- A prefix was written, and the output failed.
+pub printed_prefix : {text : List ℕ} (old new : StreamModel) → FailsWithin text old new
+    → DoesInOut (prints text ∷ []) (Some (ending WriteFault (codes "standard output"))) (as_output old) (as_output new)
+printed_prefix old new fails = λ shelf log. record {
+  runs = inr (record {
+    about_is = refl;
+    prefix = fails.prefix;
+    rest = fails.rest;
+    whole = fails.whole;
+    is = ap (λ out. at shelf out log) (printing_is fails.prefix old fails.is);
+  });
+}
 
 -- The targets are the names of the outputs.
 target_names : (web : Stored) (files : List (List ℕ)) (outputs : List Output)

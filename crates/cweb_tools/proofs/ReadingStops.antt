@@ -1,9 +1,8 @@
--- The state after a stop of reading, and its cause.
-use Rattle.cweb_tools.proofs.Common.{◌≤◌, ◌≡◌, ◌+◌, inr, ℕ, List, [], ◌∷◌, ◌++◌, length, length-append, refl, sym, ◌∙◌, ap, add-zero, append-nil, arith, get_or-append, IsTrue, FileId, SourceLine, Event, took, SoFar, BreaksLimit, counts_of, begun_with, blame, StopsFor, StopsReading, files_named, read_failures_of, openings, IsWithinLimits, LINE_LENGTH, LINES, BYTES, Stop, ReadFault, LineTooLong, TooMuchText, Memory, OutNotOpened, WriteFault, LogFault, StopsAfter, file_name_at, stop_line, subject, Logs, SinkModel, ShelfModel, Breaks, FailsReading, Line, ending, DeviceState, IsOfFile, reads, AgreesWith, LogsEnding, bins_blame, log_blame}
+-- The devices after a stop of reading, and its cause.
+use Rattle.cweb_tools.proofs.Common.{◌≤◌, ◌≡◌, ◌+◌, inr, ℕ, List, [], ◌∷◌, ◌++◌, length, length-append, refl, sym, ◌∙◌, ap, append-nil, arith, get_or-append, FileId, SourceLine, Event, took, SoFar, BreaksLimit, counts_of, begun_with, StopsFor, StopsReading, files_named, openings, IsWithinLimits, LINE_LENGTH, LINES, BYTES, Stop, ReadFault, LineTooLong, TooMuchText, Memory, LogFault, StopsAfter, file_name_at, stop_line, subject, Logs, StreamModel, Devices, Breaks, FailsReading, Line, ending, IsOfFile, reads, LogsEnding}
 use Rattle.cweb_input.specs.OpenSources.{RefusesLine}
 use Rattle.cweb_tools.proofs.Limits.{CutAt, NextBreaks, cut_at_limit}
-use Rattle.cweb_tools.proofs.Logging.{at}
-use Rattle.cweb_tools.proofs.TangleExits.{looked, shelf_observed}
+use Rattle.cweb_tools.proofs.Leaving.{shelf_after}
 
 -- The file of a stop is among those that the whole merge opens.
 of_file : (files opened rest : List (List ℕ)) (file : ℕ) → files ≡ opened ++ rest
@@ -14,28 +13,12 @@ of_file files opened rest file are known = (
       ∙ ap (λ (ns : List (List ℕ)). file_name_at ns file) (sym are),
 )
 
--- The state after a stop of reading with this name.
-abbrev pub left_by : Stop → List ℕ → DeviceState → DeviceState
-left_by (ReadFault file) about now =
-    record now { shelf_failed = now.shelf_failed + 1; blamed = now.blamed ++ about ∷ [] }
-left_by stop about now = now
-
-pub left_observed : (stop : Stop) (files : List (List ℕ)) {now : DeviceState} (shelf shelf' : ShelfModel)
-    (bins : SinkModel)
-    (l : SinkModel) → StopsReading stop → AgreesWith now (at shelf bins l) → shelf'.tells ≡ shelf.tells
-    → shelf'.failed
-    ≡ shelf.failed + read_failures_of stop → (IsTrue shelf.tells → shelf'.blamed ≡ shelf.blamed ++ blame files stop)
-    → AgreesWith (left_by stop (subject files stop) now) (at shelf' bins l)
-left_observed (ReadFault file) files {now} shelf shelf' bins l kind observed tells blames blamed =
-    shelf_observed _ _ shelf shelf' bins l observed (ap (λ (n : ℕ). n + 1) observed.shelf_failed ∙ sym blames) (λ tell.
-    let first : IsTrue shelf.tells = sym tells ∙ tell in
-    ap (λ (names : List (List ℕ)). names ++ file_name_at files file.0 ∷ []) (observed.blamed first) ∙ sym
-    (blamed first))
-left_observed stop files {now} shelf shelf' bins l kind observed tells blames blamed = looked shelf shelf' tells
-    (blames ∙ add-zero shelf.failed) (λ tell. blamed tell ∙ append-nil shelf.blamed) bins l l now observed
+-- The devices after a stop of reading with this name.
+abbrev pub left_by : Stop → List ℕ → Devices → Devices
+left_by stop about now = record now { shelf = shelf_after stop about now.shelf }
 
 -- A stop of reading, whatever was read before.
-pub fails_so : (stop : Stop) (files opened rest : List (List ℕ)) (earlier later : List Event) (now : DeviceState)
+pub fails_so : (stop : Stop) (files opened rest : List (List ℕ)) (earlier later : List Event) (now : Devices)
     → StopsReading stop → files ≡ opened ++ rest → files_named stop ≤ length opened → NextBreaks stop earlier later
     → FailsReading files earlier later (ending stop (subject opened stop)) now (left_by stop (subject opened stop) now)
 fails_so (ReadFault file) files opened rest earlier later now kind names known next =
@@ -63,7 +46,7 @@ cut_so stop new all began few small kind why = absurd kind
 
 -- Why reading ended early.
 pub reads_broke : (stop : Stop) (first opened rest : List (List ℕ)) (old new : SoFar) (all : List Event)
-    (now : DeviceState) → old ≡ begun_with first → new.count.lines ≤ LINES → new.count.bytes ≤ BYTES → StopsReading stop
+    (now : Devices) → old ≡ begun_with first → new.count.lines ≤ LINES → new.count.bytes ≤ BYTES → StopsReading stop
     → StopsFor (StopsAfter stop old new all) stop → first ++ openings all ≡ opened ++ rest
     → files_named stop ≤ length opened → Breaks
     (reads (first ++ openings all) all) (ending stop (subject opened stop)) now (left_by stop (subject opened stop) now)
@@ -114,7 +97,7 @@ cut_first TooMuchText = record {
 }
 cut_first stop = record { earlier = []; later = []; whole = refl; emits = refl; next = tt }
 
-pub silent_broke : (stop : Stop) (files : List (List ℕ)) (now : DeviceState) → StopsReading stop
+pub silent_broke : (stop : Stop) (files : List (List ℕ)) (now : Devices) → StopsReading stop
     → files_named stop ≤ length files
     → Breaks (reads files (read_by stop)) (ending stop (subject files stop)) now (left_by stop (subject files stop) now)
 silent_broke stop files now kind known =
@@ -126,14 +109,7 @@ silent_broke stop files now kind known =
       fails = fails_so stop files files [] cut.earlier cut.later now kind (sym (append-nil files)) known cut.next;
     }
 
-pub reading_ends : (stop : Stop) (about : List ℕ) {l l' : SinkModel} → StopsReading stop
+pub reading_ends : (stop : Stop) (about : List ℕ) {l l' : StreamModel} → StopsReading stop
     → Logs (stop_line stop about) l l' → LogsEnding (ending stop about) l l'
 reading_ends LogFault about kind logs = absurd kind
 reading_ends stop about kind logs = logs
-
--- Reading fails no other device.
-pub reading_only : (stop : Stop) (n : ℕ) → StopsReading stop → (n ≡ n + bins_blame stop) × (n ≡ n + log_blame stop)
-reading_only OutNotOpened n kind = absurd kind
-reading_only WriteFault n kind = absurd kind
-reading_only LogFault n kind = absurd kind
-reading_only stop n kind = (sym (add-zero n), sym (add-zero n))

@@ -1,7 +1,7 @@
 -- How a whole run ends, by the result of parsing its words.
-use Rattle.cweb_tools.proofs.Common.{◌≡◌, ◌⊎◌, inl, inr, ℕ, List, [], ◌∷◌, ◌++◌, refl, sym, subst, Option, Some, None, World, Stop, Usage, Memory, LogFault, banner, stopped, stop_line, OptionsModel, Logs, SinkModel, Devices, ShelfModel, Act, ending, judges, says, Closes, Does, DoesInLog, FollowsCourse, halted, TangleCourse, change_not_there, not_there, script, acts_status, tangling, unread, when, CanCome, opening_acts, tangle_later, EndsAs, shown_by, tangle_course}
-use Rattle.cweb_tools.proofs.Doing.{closes_on, does_in, does_on, quietly}
-use Rattle.cweb_tools.proofs.Logging.{at}
+use Rattle.cweb_tools.proofs.Common.{◌≡◌, ◌⊎◌, inl, inr, ℕ, List, [], ◌∷◌, ◌++◌, refl, sym, subst, Option, Some, None, World, Stop, Usage, Memory, LogFault, banner, stopped, stop_line, OptionsModel, Logs, StreamModel, OutModel, Devices, ShelfModel, Act, ending, judges, says, at, RunEnds, Does, DoesInLog, FollowsCourse, TangleCourse, change_not_there, not_there, script, acts_status, tangling, unread, when, CanCome, opening_acts, tangle_later, EndsAs, shown_by, tangle_course}
+use Rattle.cweb_tools.proofs.Doing.{does_in, does_on, ends_halted, ends_on}
+use Rattle.cweb_tools.proofs.DoingFiles.{log_halts_all}
 use Rattle.cweb_tools.proofs.Statuses.{status_is}
 use Rattle.cweb_tools.proofs.TangleExits.{reported_last, can_come}
 
@@ -16,7 +16,7 @@ script_is args (tangling names events web) can = refl
 
 -- The words were parsed.
 pub judged : {seen : Devices} → Does (judges ∷ []) None seen seen
-judged = quietly refl refl refl (λ now. inl (tt, refl))
+judged = record { runs = inl (tt, refl) }
 
 -- A run that does these acts ends as its course does.
 abbrev pub EndsRun : (TangleCourse → List Act) → World → Option OptionsModel → Devices → Devices → ℕ → Type 0
@@ -46,64 +46,60 @@ pub words_end : (usage : List ℕ) (acts : TangleCourse → List Act) → acts u
     → (world : World) (args : Option OptionsModel) →
     ((one : OptionsModel) → args ≡ Some one → (course : TangleCourse)
     → CanCome (Some one) course → Judges (acts course)) → (stop : Stop)
-    (shelf : ShelfModel) (bins : SinkModel) {l l' : SinkModel} (status : ℕ) → (stop ≡ Usage) ⊎ (stop ≡ Memory)
+    (shelf : ShelfModel) (out : OutModel) {l l' : StreamModel} (status : ℕ) → (stop ≡ Usage) ⊎ (stop ≡ Memory)
     → (stop ≡ Usage → args ≡ None) → (args ≡ None → stop ≡ Usage) → Logs (stop_line stop usage) l l'
-    → status ≡ 1 → EndsRun acts world args (at shelf bins l) (at shelf bins l') status
-words_end usage acts unread_is world None judged_by stop shelf bins {l} {l'} status why none_by is_usage logs
+    → status ≡ 1 → EndsRun acts world args (at shelf out l) (at shelf out l') status
+words_end usage acts unread_is world None judged_by stop shelf out {l} {l'} status why none_by is_usage logs
     answered = record {
       taken = unread;
       can = tt;
       is = λ tell. refl;
-      closes = subst (λ (done : List Act). Closes done (acts_status done) (at shelf bins l) (at shelf bins l') status)
+      ends = subst (λ (done : List Act). RunEnds done (acts_status done) (at shelf out l) (at shelf out l') status)
           (sym unread_is)
-          (subst (λ (n : ℕ). Closes (says (stopped Usage usage) ∷ []) 1 (at shelf bins l) (at shelf bins l') n)
-          (sym answered) (reported_last (stopped Usage usage) shelf bins
+          (subst (λ (n : ℕ). RunEnds (says (stopped Usage usage) ∷ []) 1 (at shelf out l) (at shelf out l') n)
+          (sym answered) (reported_last (stopped Usage usage) shelf out
           (subst (λ (s : Stop). Logs (stop_line s usage) l l') (is_usage refl) logs)));
     }
-words_end usage acts unread_is world (Some args) judged_by stop shelf bins {l} {l'} status why none_by is_usage logs
+words_end usage acts unread_is world (Some args) judged_by stop shelf out {l} {l'} status why none_by is_usage logs
     answered =
     let can = can_come args world _ _ in
     let begun = judged_by args refl (tangle_course world (Some args)) can in record {
       taken = tangle_course world (Some args);
       can = can;
       is = λ tell. refl;
-      closes = halted (ending Memory []) (at shelf bins l) (subst (λ (acts : List Act).
-          Does acts (Some (ending Memory [])) (at shelf bins l) (at shelf bins l)) (sym begun.1)
-          (quietly refl refl refl (λ now. inr refl)))
+      ends = ends_halted (subst (λ (acts : List Act).
+          Does acts (Some (ending Memory [])) (at shelf out l) (at shelf out l)) (sym begun.1)
+          (record { runs = inr refl }))
           (record {
-            shelf = refl;
-            bins = refl;
-            log = subst (λ (s : Stop). Logs (stop_line s usage) l l')
-                (memory_is args stop why none_by) logs;
+            log = subst (λ (s : Stop). Logs (stop_line s usage) l l') (memory_is args stop why none_by) logs;
+            others = refl;
           })
           answered;
     }
 
 -- The banner could not be logged.
-pub banner_ends : (world : World) (args : OptionsModel) (shelf : ShelfModel) (bins : SinkModel) {l l' : SinkModel}
+pub banner_ends : (world : World) (args : OptionsModel) (shelf : ShelfModel) (out : OutModel) {l l' : StreamModel}
     → DoesInLog (when args.shown.banner banner) (Some (ending LogFault [])) l l'
-    → EndsRun (script args.shown) world (Some args) (at shelf bins l) (at shelf bins l') 1
-banner_ends world args shelf bins {l} {l'} does =
+    → EndsRun (script args.shown) world (Some args) (at shelf out l) (at shelf out l') 1
+banner_ends world args shelf out {l} {l'} does =
     let can = can_come args world _ _ in record {
       taken = tangle_course world (Some args);
       can = can;
       is = λ tell. refl;
-      closes = halted (ending LogFault []) (at shelf bins l')
-          (rw (script_is args _ can) (does_on (judged) (does_in _ (does shelf bins))))
-          (record { shelf = refl; bins = refl; log = refl }) refl;
+      ends = log_halts_all (rw (script_is args _ can) (does_on judged (does_in _ (does shelf out)))) refl;
     }
 
 -- The run continued after the banner.
-pub named_ends : (world : World) (args : OptionsModel) (shelf : ShelfModel) (bins : SinkModel) {l l' : SinkModel}
+pub named_ends : (world : World) (args : OptionsModel) (shelf : ShelfModel) (out : OutModel) {l l' : StreamModel}
     (after : Devices) (status : ℕ) → DoesInLog (when args.shown.banner banner) None l l'
-    → EndsAs (tangle_later args.shown) args (tangle_course world (Some args)) (at shelf bins l') after status
-    → EndsRun (script args.shown) world (Some args) (at shelf bins l) after status
-named_ends world args shelf bins {l} after status does follows =
-    let first = does_on (judged) (does shelf bins) in
+    → EndsAs (tangle_later args.shown) args (tangle_course world (Some args)) (at shelf out l') after status
+    → EndsRun (script args.shown) world (Some args) (at shelf out l) after status
+named_ends world args shelf out {l} after status does follows =
+    let first = does_on (judged) (does shelf out) in
     record {
       taken = follows.taken;
       can = follows.can;
       is = follows.is;
-      closes = rw (status_is args.shown follows.taken) (rw (script_is args follows.taken
-          follows.can) (closes_on first follows.closes));
+      ends = rw (status_is args.shown follows.taken) (rw (script_is args follows.taken
+          follows.can) (ends_on first follows.ends));
     }

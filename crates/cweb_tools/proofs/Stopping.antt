@@ -1,168 +1,118 @@
 -- The log after a stop, and the failure counts that rise.
-use Rattle.cweb_tools.proofs.Common.{reads, ◌≡◌, inl, inr, ℕ, List, [], ◌∷◌, ◌++◌, refl, sym, ◌∙◌, ap, append-nil, append_assoc, WritesPrefix, arith, add-zero, Some, flat_map, Stop, LogFault, Memory, stop_line, LogItem, line, DeviceState, Act, says, merges, after_act, ending, Breaks, PerformsActs, LogsLine, LogsStop, logged_items, IsStopped, RisesOnce}
-use Rattle.cweb_tools.proofs.Leaving.{broken, stop_logged}
+use Rattle.cweb_tools.proofs.Common.{◌≡◌, inl, inr, ℕ, ◌+◌, List, [], ◌∷◌, ◌++◌, refl, sym, ◌∙◌, ap, subst, add-zero, append_assoc, arith, flat_map-append, None, Some, flat_map, Stop, LogFault, Memory, read_failures_of, bins_blame, stop_line, LogItem, line, Devices, StreamModel, Logs, logged, log_failed, written, Act, says, reads, merges, after_act, Ending, ending, Breaks, PerformsActs, LogsStop, logged_items, IsStopped}
+use Rattle.cweb_log.proofs.BufferedLog.{fails_in, fails_on, written_on}
+use Rattle.cweb_tools.proofs.AllDone.{log_all}
+use Rattle.cweb_tools.proofs.Doing.{counts_all}
+use Rattle.cweb_tools.proofs.Leaving.{broken, shelf_counted}
 
--- A line was logged, or the log failed within it.
-line_prefix : {text : List ℕ} (old new : DeviceState) → LogsLine text old new
-    → WritesPrefix old.log new.log text × (new.log_failed ≡ old.log_failed → new.log ≡ old.log ++ text)
-line_prefix {text} old new (inl is) =
-    let log = ap (λ (d : DeviceState). d.log) is in
-    (record { prefix = text; rest = []; written = log; whole = sym (append-nil text) }, λ same. log)
-line_prefix old new (inr fails) =
-    (fails.0, λ same. absurd (omega (arith, ap (λ (d : DeviceState). d.log_failed) fails.1, same)))
+-- A text was logged before.
+logs_on : (a : List ℕ) {b : List ℕ} {old mid new : StreamModel} → mid ≡ written a old → Logs b mid new
+    → Logs (a ++ b) old new
+logs_on a {b} {old} first (logged is) = logged (written_on a b old first is)
+logs_on a first (log_failed fails) = log_failed (fails_on a first fails)
 
-line_once : {text : List ℕ} (old new : DeviceState) → LogsLine text old new → RisesOnce old.log_failed new.log_failed
-line_once old new (inl is) = inl (ap (λ (d : DeviceState). d.log_failed) is)
-line_once old new (inr fails) = inr (ap (λ (d : DeviceState). d.log_failed) fails.1)
+-- A log that didn't fail has the whole text.
+pub logs_all : {text : List ℕ} {old new : StreamModel} → Logs text old new → new.failed ≡ old.failed
+    → new ≡ written text old
+logs_all (logged is) same = is
+logs_all (log_failed fails) same = absurd (omega (arith, ap (λ (stream : StreamModel). stream.failed) fails.is, same))
 
--- A stop at the first act: its line was logged, or the log failed within that line or within the act's own.
-stopped_at : (act : Act) (stop : Stop) {about : List ℕ} {old : DeviceState} (mid : DeviceState) {new : DeviceState}
-    → Breaks act (ending stop about) old mid
+-- The act within which something stopped the run.
+pub record HaltsWithin (acts : List Act) (why : Ending) (old mid : Devices) : Type 0 where
+  pub done : List Act
+  pub later : List Act
+  pub act : Act
+  pub from : Devices
+  pub whole : acts ≡ done ++ act ∷ later
+  pub runs : PerformsActs done None old from
+  pub breaks : Breaks act why from mid
+
+pub halts_within : (acts : List Act) (why : Ending) (old mid : Devices) → PerformsActs acts (Some why) old mid
+    → HaltsWithin acts why old mid
+halts_within [] why old mid run = absurd run
+halts_within (act ∷ acts) why old mid (inl run) =
+    let rest = halts_within acts why (after_act act old) mid run.1 in record {
+      done = act ∷ rest.done;
+      later = rest.later;
+      act = rest.act;
+      from = rest.from;
+      whole = ap (λ (all : List Act). act ∷ all) rest.whole;
+      runs = inl (run.0, rest.runs);
+      breaks = rest.breaks;
+    }
+halts_within (act ∷ acts) why old mid (inr here) =
+    record { done = []; later = acts; act = act; from = old; whole = refl; runs = refl; breaks = here }
+
+-- The line of that stop was logged, or the log failed within that line or within the act's own.
+stopped_at : (act : Act) (stop : Stop) (about : List ℕ) (old mid new : Devices) → Breaks act (ending stop about) old mid
     → LogsStop (ending stop about) mid new → (acts : List Act) → IsStopped (act ∷ acts) stop about old new
-stopped_at (says item) LogFault {old} mid fails is acts = record {
-  log = record {
-    before = item ∷ [];
-    later = logged_items acts;
-    whole = refl;
-    prefix = record {
-      prefix = fails.0.prefix;
-      rest = fails.0.rest;
-      written = ap (λ (d : DeviceState). d.log) is ∙ fails.0.written;
-      whole = append-nil (line item ++ []) ∙ append-nil (line item) ∙ fails.0.whole;
-    };
-    all = λ same. absurd (omega (arith, ap (λ (d : DeviceState). d.log_failed) (is ∙ fails.1), same));
-  };
-  shelf = ap (λ (d : DeviceState). d.shelf_failed) (is ∙ fails.1) ∙ sym (add-zero old.shelf_failed);
-  bins = ap (λ (d : DeviceState). d.bins_failed) (is ∙ fails.1) ∙ sym (add-zero old.bins_failed);
-  log_fails = λ _. ap (λ (d : DeviceState). d.log_failed) (is ∙ fails.1);
-  log_once = inr (ap (λ (d : DeviceState). d.log_failed) (is ∙ fails.1));
-}
-stopped_at (reads names events) LogFault mid broke logs acts = absurd broke.fails
-stopped_at (merges names events) LogFault mid broke logs acts = absurd broke.fails
-stopped_at act LogFault mid broke logs acts = absurd broke
-stopped_at act stop {about} {old} mid {new} broke logs acts =
+stopped_at (says item) LogFault about old mid new fails logs acts =
+    let is : new ≡ record old { log = new.log } = logs.others ∙ ap (λ (d : Devices). record d { log = new.log }) fails.others in
+    record {
+      log = record {
+        before = item ∷ [];
+        later = logged_items acts;
+        whole = refl;
+        logs = log_failed (rw logs.log (fails_in [] (fails_in [] fails.log)));
+      };
+      shelf = ap (λ (d : Devices). d.shelf.failed) is ∙ sym (add-zero old.shelf.failed);
+      bins = ap (λ (d : Devices). d.out.failed) is ∙ sym (add-zero old.out.failed);
+      log_fails = λ _. ap (λ (stream : StreamModel). stream.failed) (logs.log ∙ fails.log.is);
+    }
+stopped_at (reads names events) LogFault about old mid new broke logs acts = absurd broke.fails
+stopped_at (merges names events) LogFault about old mid new broke logs acts = absurd broke.fails
+stopped_at act LogFault about old mid new broke logs acts = absurd broke
+stopped_at act stop about old mid new broke logs acts =
     let left = broken act stop about old mid broke in
     let never : stop ≡ LogFault → ⊥ = λ is. cc in
-    let line = line_prefix mid new logs in
-    let alone = stop_logged stop about mid new logs in
     record {
       log = record {
         before = [];
         later = logged_items (act ∷ acts);
         whole = refl;
-        prefix = rw (← (left.log never).0) line.0;
-        all = λ same. line.1 (same ∙ sym (left.log never).1)
-            ∙ ap (λ (t : List ℕ). t ++ stop_line stop about) (left.log never).0;
+        logs = subst (λ (log : StreamModel). Logs (stop_line stop about) log new.log) (left.log never) logs.log;
       };
-      shelf = ap (λ (d : DeviceState). d.shelf_failed) alone ∙ left.shelf;
-      bins = ap (λ (d : DeviceState). d.bins_failed) alone ∙ left.bins;
+      shelf = ap (λ (d : Devices). d.shelf.failed) logs.others ∙ shelf_counted stop about old.shelf left.shelf;
+      bins = ap (λ (d : Devices). d.out.failed) logs.others ∙ left.bins;
       log_fails = λ fault. absurd (never fault);
-      log_once = rw (← (left.log never).1) (line_once mid new logs);
     }
 
--- One more line was logged before that.
-said_before : (item : LogItem) {acts : List Act} {stop : Stop} {about : List ℕ} {old new : DeviceState}
-    → IsStopped acts stop about (after_act (says item) old) new → IsStopped (says item ∷ acts) stop about old new
-said_before item {stop} {about} {old} rest = record {
-  log = record {
-    before = item ∷ rest.log.before;
-    later = rest.log.later;
-    whole = ap (λ (items : List LogItem). item ∷ items) rest.log.whole;
-    prefix = record {
-      prefix = line item ++ rest.log.prefix.prefix;
-      rest = rest.log.prefix.rest;
-      written = rest.log.prefix.written ∙ append_assoc old.log (line item) rest.log.prefix.prefix;
-      whole = append_assoc (line item) (flat_map line rest.log.before) (stop_line stop about)
-          ∙ ap (λ (t : List ℕ). line item ++ t) rest.log.prefix.whole
-          ∙ sym (append_assoc (line item) rest.log.prefix.prefix rest.log.prefix.rest);
-    };
-    all = λ same.
-        rest.log.all same ∙ append_assoc old.log (line item) (flat_map line rest.log.before ++ stop_line stop about)
-        ∙ ap (λ (t : List ℕ). old.log ++ t)
-        (sym (append_assoc (line item) (flat_map line rest.log.before) (stop_line stop about)));
-  };
-  shelf = rest.shelf;
-  bins = rest.bins;
-  log_fails = rest.log_fails;
-  log_once = rest.log_once;
-}
+logged-append : (xs ys : List Act) → logged_items (xs ++ ys) ≡ logged_items xs ++ logged_items ys
+logged-append [] ys = refl
+logged-append (says item ∷ xs) ys = ap (λ (items : List LogItem). item ∷ items) (logged-append xs ys)
+logged-append (act ∷ xs) ys = logged-append xs ys
 
-pub is_stopped : (acts : List Act) {stop : Stop} {about : List ℕ} {old : DeviceState} (mid : DeviceState)
-    {new : DeviceState}
+pub is_stopped : (acts : List Act) {stop : Stop} {about : List ℕ} {old : Devices} (mid : Devices) {new : Devices}
     → PerformsActs acts (Some (ending stop about)) old mid
     → LogsStop (ending stop about) mid new → IsStopped acts stop about old new
-is_stopped [] mid none logs = absurd none
-is_stopped (says item ∷ acts) {stop} {about} {old} mid {new} (inl run) logs =
-    said_before item (is_stopped acts mid run.1 logs)
-is_stopped (act ∷ acts) {stop} {about} {old} mid {new} (inl run) logs =
-    let rest = is_stopped acts mid run.1 logs in
-    let log = rest.log in
+is_stopped acts {stop} {about} {old} mid {new} run logs =
+    let halts = halts_within acts (ending stop about) old mid run in
+    let counts = counts_all halts.done old halts.from halts.runs in
+    let last = stopped_at halts.act stop about halts.from mid new halts.breaks logs halts.later in
+    let items : List LogItem = logged_items halts.done in
     record {
-      log = record { before = log.before; later = log.later; whole = log.whole; prefix = log.prefix; all = log.all };
-      shelf = rest.shelf;
-      bins = rest.bins;
-      log_fails = rest.log_fails;
-      log_once = rest.log_once;
+      log = record {
+        before = items ++ last.log.before;
+        later = last.log.later;
+        whole = ap logged_items halts.whole ∙ logged-append halts.done (halts.act ∷ halts.later)
+            ∙ ap (λ (more : List LogItem). items ++ more) last.log.whole
+            ∙ sym (append_assoc items last.log.before last.log.later);
+        logs = rw (flat_map-append line items last.log.before) (rw (append_assoc (flat_map line items)
+            (flat_map line last.log.before) (stop_line stop about))
+            (logs_on (flat_map line items) (log_all halts.done old halts.from halts.runs) last.log.logs));
+      };
+      shelf = last.shelf ∙ ap (λ (n : ℕ). n + read_failures_of stop) counts.0;
+      bins = last.bins ∙ ap (λ (n : ℕ). n + bins_blame stop) counts.1;
+      log_fails = λ fault. last.log_fails fault ∙ ap (λ (n : ℕ). n + 1) counts.2;
     }
-is_stopped (act ∷ acts) {stop} mid (inr stop_here) logs = stopped_at act stop mid stop_here logs acts
 
--- An act within which memory ran out, and the log with the lines of the acts before it.
-pub record RunsOut (acts : List Act) (old new : DeviceState) : Type 0 where
-  pub done : List Act
-  pub later : List Act
-  pub act : Act
-  pub about : List ℕ
-  pub from : DeviceState
-  pub to : DeviceState
-  pub whole : acts ≡ done ++ act ∷ later
-  pub breaks : Breaks act (ending Memory about) from to
-  pub log : new.log_failed ≡ old.log_failed
-      → new.log ≡ old.log ++ (flat_map line (logged_items done) ++ stop_line Memory [])
-
-pub runs_out : (acts : List Act) (about : List ℕ) {old : DeviceState} (mid : DeviceState) {new : DeviceState}
-    → PerformsActs acts (Some (ending Memory about)) old mid → LogsStop (ending Memory about) mid new
-    → RunsOut acts old new
-runs_out [] about {old} mid {new} none logs = absurd none
-runs_out (act ∷ acts) about {old} mid {new} (inr here) logs =
-    let left = broken act Memory about old mid here in
+-- If memory ran out, the log has the lines of the acts before that and the stop's line, unless it failed.
+pub runs_out : (acts : List Act) (about : List ℕ) {old : Devices} (mid : Devices) {new : Devices}
+    (halts : HaltsWithin acts (ending Memory about) old mid) → LogsStop (ending Memory about) mid new
+    → new.log.failed ≡ old.log.failed
+    → new.log ≡ written (flat_map line (logged_items halts.done) ++ stop_line Memory []) old.log
+runs_out acts about {old} mid {new} halts logs same =
     let never : Memory ≡ LogFault → ⊥ = λ is. cc in
-    record {
-      done = [];
-      later = acts;
-      act = act;
-      about = about;
-      from = old;
-      to = mid;
-      whole = refl;
-      breaks = here;
-      log = λ same. (line_prefix mid new logs).1 (same ∙ sym (left.log never).1)
-          ∙ ap (λ (t : List ℕ). t ++ stop_line Memory []) (left.log never).0;
-    }
-runs_out (says item ∷ acts) about {old} mid {new} (inl run) logs =
-    let rest = runs_out acts about mid run.1 logs in
-    let text : List ℕ = flat_map line (logged_items rest.done) in
-    record {
-      done = says item ∷ rest.done;
-      later = rest.later;
-      act = rest.act;
-      about = rest.about;
-      from = rest.from;
-      to = rest.to;
-      whole = ap (λ (all : List Act). says item ∷ all) rest.whole;
-      breaks = rest.breaks;
-      log = λ same. rest.log same ∙ append_assoc old.log (line item) (text ++ stop_line Memory [])
-          ∙ ap (λ (t : List ℕ). old.log ++ t) (sym (append_assoc (line item) text (stop_line Memory [])));
-    }
-runs_out (act ∷ acts) about {old} mid {new} (inl run) logs =
-    let rest = runs_out acts about mid run.1 logs in
-    record {
-      done = act ∷ rest.done;
-      later = rest.later;
-      act = rest.act;
-      about = rest.about;
-      from = rest.from;
-      to = rest.to;
-      whole = ap (λ (all : List Act). act ∷ all) rest.whole;
-      breaks = rest.breaks;
-      log = rest.log;
-    }
+    let last = broken halts.act Memory about halts.from mid halts.breaks in
+    logs_all (logs_on (flat_map line (logged_items halts.done)) (log_all halts.done old halts.from halts.runs)
+    (subst (λ (log : StreamModel). Logs (stop_line Memory []) log new.log) (last.log never) logs.log)) same

@@ -1,8 +1,7 @@
 -- The acts of a run, what they leave in its devices, and the promise that a run does the acts of its course.
-use Rattle.std.specs.Prelude.{◌≡◌, ◌<◌, ◌⊎◌, ℕ, ◌+◌, length, List, [], ◌∷◌, ◌++◌, Option, Some, None, IsTrue, IsSome}
-use Rattle.std.specs.Prelude.{codes, if◌then◌else◌}
+use Rattle.std.specs.Prelude.{◌≡◌, ◌<◌, ◌⊎◌, ℕ, ◌+◌, length, List, [], ◌∷◌, ◌++◌, Option, Some, None, IsSome}
+use Rattle.std.specs.Prelude.{codes, if◌then◌else◌, option_map}
 use Rattle.std.specs.List.{list_any}
-use Rattle.cweb_files.specs.Bins.{WritesPrefix}
 use Rattle.cweb_files.specs.Files.{File, Refused, no_device, no_memory, put_file}
 use Rattle.cweb_lines.specs.Events.{Event, IsWithinLimits, emitted_lines, taken_lines, written_lines, BreaksLimit}
 use Rattle.cweb_input.specs.declared.stop.Stop.{Stop}
@@ -10,22 +9,8 @@ use Rattle.cweb_input.specs.declared.stop.Stop.TheVariants.{ReadFault, LineTooLo
 use Rattle.cweb_input.specs.declared.stop.Stop.TheVariants.{WriteFault, LogFault}
 use Rattle.cweb_log.specs.Items.{LogItem, is_fault, line}
 use Rattle.cweb_log.specs.Log.{file_name_at, stop_line}
-use Rattle.cweb_log.specs.DeviceModels.{Devices}
-
--- The contents of a run's devices, and how often each has failed.
-pub record DeviceState : Type 0 where
-  pub shelf_failed : ℕ
-  -- The names of the files whose reads failed.
-  pub blamed : List (List ℕ)
-  pub bins_failed : ℕ
-  pub log_failed : ℕ
-  pub files : List File
-  pub draft : Option (List ℕ)
-  -- Why the bins refused to begin the last file, if they did.
-  pub refused : Option Refused
-  pub log : List ℕ
-  -- The bytes of standard output.
-  pub printed : List ℕ
+use Rattle.cweb_log.specs.DeviceModels.{Devices, FailsWithin, Logs, OutContents, OutModel, ShelfModel, StreamModel}
+use Rattle.cweb_log.specs.DeviceModels.{written}
 
 -- An act of a run.
 pub data Act : Type 0 where
@@ -48,13 +33,42 @@ pub data Act : Type 0 where
   -- These bytes are printed to standard output.
   prints : List ℕ → Act
 
--- The contents of the devices after an act.
-abbrev pub after_act : Act → DeviceState → DeviceState
-after_act (says item) now = record now { log = now.log ++ line item }
-after_act (writes name text) now =
-    record now { files = put_file now.files (record { name = name; bytes = text }); draft = None; refused = None }
-after_act (merges names events) now = record now { printed = now.printed ++ written_lines (emitted_lines events) }
-after_act (prints text) now = record now { printed = now.printed ++ text }
+-- A file is committed. Then there is no draft.
+abbrev pub with_file : List ℕ → List ℕ → OutContents → OutContents
+with_file name text now =
+    record { files = put_file now.files (record { name = name; bytes = text }); draft = None; refused = None }
+
+-- A file is not written. Then there is no draft. If it couldn't be begun, the bins have the reason.
+abbrev pub without_file : Option Refused → OutContents → OutContents
+without_file why now = record now { draft = None; refused = why }
+
+-- An open draft gets these bytes.
+abbrev pub with_printed : List ℕ → OutContents → OutContents
+with_printed text now =
+    record now { draft = option_map (λ (draft : File). record draft { bytes = draft.bytes ++ text }) now.draft }
+
+-- The contents of an output change.
+abbrev pub changed : (OutContents → OutContents) → OutModel → OutModel
+changed change out = record out { contents = option_map change out.contents }
+
+-- They change, and the output fails.
+abbrev pub failing : (OutContents → OutContents) → OutModel → OutModel
+failing change out = record { failed = out.failed + 1; contents = option_map change out.contents }
+
+-- A read of the file of this name fails.
+abbrev pub blaming : List ℕ → ShelfModel → ShelfModel
+blaming name shelf = record {
+  failed = shelf.failed + 1;
+  blamed = option_map (λ (names : List (List ℕ)). names ++ name ∷ []) shelf.blamed;
+}
+
+-- The devices after an act.
+abbrev pub after_act : Act → Devices → Devices
+after_act (says item) now = record now { log = written (line item) now.log }
+after_act (writes name text) now = record now { out = changed (with_file name text) now.out }
+after_act (merges names events) now =
+    record now { out = changed (with_printed (written_lines (emitted_lines events))) now.out }
+after_act (prints text) now = record now { out = changed (with_printed text) now.out }
 after_act _ now = now
 
 -- If an act of reading is done, its lines are within the limits.
@@ -68,23 +82,26 @@ pub data Ending : Type 0 where
   ending : Stop → List ℕ → Ending
 
 -- A prefix of a line was logged, and the log failed.
-abbrev pub FailsLog : List ℕ → DeviceState → DeviceState → Type 0
-FailsLog text old new = WritesPrefix old.log new.log text
-    × (new ≡ record old { log_failed = old.log_failed + 1; log = new.log })
+pub record FailsLog (text : List ℕ) (old new : Devices) : Type 0 where
+  pub log : FailsWithin text old.log new.log
+  pub others : new ≡ record old { log = new.log }
 
 -- Standard output failed, and a prefix of the bytes was printed.
-abbrev pub FailsOutput : List ℕ → List ℕ → DeviceState → DeviceState → Type 0
-FailsOutput text about old new = (about ≡ codes "standard output") × WritesPrefix old.printed new.printed text
-    × (new ≡ record old { bins_failed = old.bins_failed + 1; printed = new.printed })
+pub record FailsOutput (text about : List ℕ) (old new : Devices) : Type 0 where
+  pub about_is : about ≡ codes "standard output"
+  pub prefix : List ℕ
+  pub rest : List ℕ
+  pub whole : text ≡ prefix ++ rest
+  pub is : new ≡ record old { out = failing (with_printed prefix) old.out }
 
 -- A stop of reading is about one of the files that are read, and its line ends in that file's name.
 abbrev pub IsOfFile : List (List ℕ) → ℕ → List ℕ → Type 0
 IsOfFile names file about = (file < length names) × (about ≡ file_name_at names file)
 
 -- Reading stops after the events `earlier`: a read fails, the next line breaks a limit, or memory is refused.
-abbrev pub FailsReading : List (List ℕ) → List Event → List Event → Ending → DeviceState → DeviceState → Type 0
+abbrev pub FailsReading : List (List ℕ) → List Event → List Event → Ending → Devices → Devices → Type 0
 FailsReading names earlier later (ending (ReadFault file) about) old new = IsOfFile names file.0 about
-    × (new ≡ record old { shelf_failed = old.shelf_failed + 1; blamed = old.blamed ++ about ∷ [] })
+    × (new ≡ record old { shelf = blaming about old.shelf })
 FailsReading names earlier later (ending (LineTooLong file) about) old new =
     IsOfFile names file.0 about × BreaksLimit (LineTooLong file) earlier later × (new ≡ old)
 FailsReading names earlier later (ending TooMuchText about) old new =
@@ -94,15 +111,14 @@ FailsReading names earlier later why old new = ⊥
 
 -- Reading stops after some of the events. The lines that they emit have been printed, if the act prints lines.
 pub record BreaksReading (act : List Event → Act) (names : List (List ℕ)) (events : List Event) (why : Ending)
-    (old new : DeviceState) : Type 0 where
+    (old new : Devices) : Type 0 where
   pub earlier : List Event
   pub later : List Event
   pub whole : events ≡ earlier ++ later
   pub fails : FailsReading names earlier later why (after_act (act earlier) old) new
 
--- The state after a stop within an act. Each act has its own stops. A file that can't be begun or written to its end is
--- as it was, and there is no draft. If it couldn't be begun, the bins have the reason.
-abbrev pub Breaks : Act → Ending → DeviceState → DeviceState → Type 0
+-- A stop within an act. Each act has its own stops. A file that can't be begun or written to its end is as it was.
+abbrev pub Breaks : Act → Ending → Devices → Devices → Type 0
 Breaks judges (ending Memory about) old new = new ≡ old
 Breaks (says item) (ending LogFault about) old new = FailsLog (line item) old new
 Breaks opens (ending Memory about) old new = new ≡ old
@@ -112,54 +128,42 @@ Breaks (merges names events) (ending WriteFault about) old new =
 Breaks (merges names events) why old new = BreaksReading (merges names) names events why old new
 Breaks plans (ending Memory about) old new = new ≡ old
 Breaks reserves (ending Memory about) old new = new ≡ old
-Breaks (writes name text) (ending Memory about) old new = new ≡ record old { draft = None; refused = Some no_memory }
+Breaks (writes name text) (ending Memory about) old new =
+    new ≡ record old { out = changed (without_file (Some no_memory)) old.out }
 Breaks (writes name text) (ending OutNotOpened about) old new = (about ≡ name)
-    × (new ≡ record old { bins_failed = old.bins_failed + 1; draft = None; refused = Some no_device })
+    × (new ≡ record old { out = failing (without_file (Some no_device)) old.out })
 Breaks (writes name text) (ending WriteFault about) old new = (about ≡ name)
-    × (new ≡ record old { bins_failed = old.bins_failed + 1; draft = None; refused = None })
+    × (new ≡ record old { out = failing (without_file None) old.out })
 Breaks (prints text) (ending WriteFault about) old new = FailsOutput text about old new
 Breaks _ _ old new = ⊥
 
 -- A stop within an act, if there is one.
-abbrev pub StopsAt : Act → Option Ending → DeviceState → DeviceState → Type 0
+abbrev pub StopsAt : Act → Option Ending → Devices → Devices → Type 0
 StopsAt act None old new = ⊥
 StopsAt act (Some why) old new = Breaks act why old new
 
 -- The acts are done in order: all of them, or up to one within which something stops the run.
-abbrev pub PerformsActs : List Act → Option Ending → DeviceState → DeviceState → Type 0
+abbrev pub PerformsActs : List Act → Option Ending → Devices → Devices → Type 0
 PerformsActs [] None old new = new ≡ old
 PerformsActs [] (Some why) old new = ⊥
 PerformsActs (act ∷ acts) why old new = (ActKeepsLimits act × PerformsActs acts why (after_act act old) new)
     ⊎ StopsAt act why old new
 
--- A line is logged, or the log fails within it.
-abbrev pub LogsLine : List ℕ → DeviceState → DeviceState → Type 0
-LogsLine text old new = (new ≡ record old { log = old.log ++ text }) ⊎ FailsLog text old new
+-- The log after a stop has its line, or failed within it. A log that failed before gets no line.
+abbrev pub LogsEnding : Ending → StreamModel → StreamModel → Type 0
+LogsEnding (ending LogFault about) old new = new ≡ old
+LogsEnding (ending stop about) old new = Logs (stop_line stop about) old new
 
--- The line of a stop is logged last. A log that failed gets no line.
-abbrev pub LogsStop : Ending → DeviceState → DeviceState → Type 0
-LogsStop (ending LogFault about) old new = new ≡ old
-LogsStop (ending stop about) old new = LogsLine (stop_line stop about) old new
+-- What stopped a run is logged last.
+pub record LogsStop (why : Ending) (old new : Devices) : Type 0 where
+  pub log : LogsEnding why old.log new.log
+  pub others : new ≡ record old { log = new.log }
 
 -- The end of a run: all acts are done and the status is `expected`, or something stopped it, which is logged last.
-pub data RunEnds (acts : List Act) (expected : ℕ) (before after : DeviceState) (status : ℕ) : Type 0 where
+pub data RunEnds (acts : List Act) (expected : ℕ) (before after : Devices) (status : ℕ) : Type 0 where
   completes : PerformsActs acts None before after → status ≡ expected → RunEnds acts expected before after status
-  stops : (why : Ending) (mid : DeviceState) → PerformsActs acts (Some why) before mid → LogsStop why mid after
+  stops : (why : Ending) (mid : Devices) → PerformsActs acts (Some why) before mid → LogsStop why mid after
       → status ≡ 1 → RunEnds acts expected before after status
-
--- The state agrees with the devices. Failure counts are always observable, and so are an observable log's bytes,
--- observable bins' files, draft and refusal, an open output's bytes, and the files whose reads failed in an observable
--- shelf.
-pub record AgreesWith (now : DeviceState) (seen : Devices) : Type 0 where
-  pub shelf_failed : now.shelf_failed ≡ seen.shelf.failed
-  pub bins_failed : now.bins_failed ≡ seen.out.failed
-  pub log_failed : now.log_failed ≡ seen.log.failed
-  pub blamed : IsTrue seen.shelf.tells → now.blamed ≡ seen.shelf.blamed
-  pub files : IsTrue seen.out.tells → now.files ≡ seen.out.beside.files
-  pub draft : IsTrue seen.out.tells → now.draft ≡ seen.out.beside.draft
-  pub refused : IsTrue seen.out.tells → now.refused ≡ seen.out.beside.refused
-  pub log : IsTrue seen.log.tells → now.log ≡ seen.log.bytes
-  pub printed : IsTrue seen.out.tells → IsSome seen.out.beside.draft → now.printed ≡ seen.out.bytes
 
 -- The items that acts log.
 abbrev pub logged_items : List Act → List LogItem
@@ -171,23 +175,12 @@ logged_items (_ ∷ acts) = logged_items acts
 abbrev pub acts_status : List Act → ℕ
 acts_status acts = if list_any is_fault (logged_items acts) then 1 else 0
 
--- A run with these acts ends in a state that agrees with its observable devices.
-pub record EndsIn (acts : List Act) (expected : ℕ) (old : DeviceState) (after : Devices) (status : ℕ) : Type 0 where
-  pub new : DeviceState
-  pub agrees : AgreesWith new after
-  pub ends : RunEnds acts expected old new status
-
--- The acts of the course are done in order: all of them, or up to a stop within one, which is logged last.
+-- The acts of the course are done in order: all of them, or up to a stop within one, which is logged last. What isn't
+-- observable stays so.
 pub record FollowsActs {Course : Type 0} (acts : Course → List Act) (CanBe Is : Course → Type 0)
     (before after : Devices) (status : ℕ) : Type 0 where
   -- The course of the files and the words. For an unobservable shelf, some course that the words allow.
   pub course : Course
   pub can : CanBe course
-  pub is : IsTrue before.shelf.tells → Is course
-  -- For all contents of the devices that aren't observable.
-  pub ends : (old : DeviceState) → AgreesWith old before
-      → EndsIn (acts course) (acts_status (acts course)) old after status
-  -- An observable device stays observable.
-  pub shelf_tells : after.shelf.tells ≡ before.shelf.tells
-  pub bins_tell : after.out.tells ≡ before.out.tells
-  pub log_tells : after.log.tells ≡ before.log.tells
+  pub is : IsSome before.shelf.blamed → Is course
+  pub ends : RunEnds (acts course) (acts_status (acts course)) before after status

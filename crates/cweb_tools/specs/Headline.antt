@@ -1,14 +1,15 @@
 -- The headline theorem of the programs: if no device and no allocation fails and the web is within the limits, a run
 -- does all acts of its course.
-use Rattle.std.specs.Prelude.{fold, ◌≡◌, ◌≢◌, ℕ, Bool, true, false, List, [], ◌∷◌, ◌++◌, IsSome, IsTrue}
+use Rattle.std.specs.Prelude.{fold, ◌≡◌, ◌≢◌, ℕ, Bool, true, false, List, [], ◌∷◌, ◌++◌, IsSome, IsTrue, Option, option_map}
 use Rattle.std.specs.List.{flat_map}
 use Rattle.cweb_files.specs.Files.{File, put_file}
 use Rattle.cweb_lines.specs.Events.{emitted_lines, written_lines}
 use Rattle.cweb_input.specs.declared.stop.Stop.TheVariants.{Memory}
 use Rattle.cweb_log.specs.Items.{line}
 use Rattle.cweb_log.specs.Log.{stop_line}
-use Rattle.cweb_log.specs.DeviceModels.{Devices, AreObservable}
-use Rattle.cweb_tools.specs.Acts.{Act, says, merges, prints, writes, ActKeepsLimits, logged_items, acts_status}
+use Rattle.cweb_log.specs.DeviceModels.{Devices, OutContents, OutModel, appended}
+use Rattle.cweb_tools.specs.Acts.{Act, says, merges, prints, writes, ActKeepsLimits, acts_status, changed, logged_items}
+use Rattle.cweb_tools.specs.Acts.{with_printed}
 
 -- The files that acts write.
 abbrev pub written_files : List Act → List File
@@ -34,26 +35,31 @@ needs_memory (says item) = false
 needs_memory (prints text) = false
 needs_memory _ = true
 
--- No device failed, the limits were kept, and the log doesn't say that memory ran out within an act.
+-- No device failed, the limits were kept, and the log, whose bytes are known, doesn't say that memory ran out within an
+-- act.
 pub record RanFreely (acts : List Act) (before after : Devices) : Type 0 where
   pub shelf : after.shelf.failed ≡ before.shelf.failed
   pub out : after.out.failed ≡ before.out.failed
   pub log : after.log.failed ≡ before.log.failed
   pub within : ActsKeepLimits acts
   pub memory : (done later : List Act) (act : Act) → acts ≡ done ++ act ∷ later → IsTrue (needs_memory act)
-      → after.log.bytes ≢ before.log.bytes ++ (flat_map line (logged_items done) ++ stop_line Memory [])
+      → after.log.bytes ≢ appended (flat_map line (logged_items done) ++ stop_line Memory []) before.log.bytes
+
+-- The files of an output.
+abbrev pub files_in : OutModel → Option (List File)
+files_in out = option_map (λ (contents : OutContents). contents.files) out.contents
 
 -- All acts were done, and the status is theirs.
 pub record DoesActs (acts : List Act) (before after : Devices) (status : ℕ) : Type 0 where
-  pub files : after.out.beside.files ≡ fold put_file before.out.beside.files (written_files acts)
-  -- An open output has the printed bytes, if no file is written.
-  pub printed : written_files acts ≡ [] → IsSome before.out.beside.draft
-      → after.out.bytes ≡ before.out.bytes ++ printed_bytes acts
-  pub logged : after.log.bytes ≡ before.log.bytes ++ flat_map line (logged_items acts)
+  pub files : files_in after.out
+      ≡ option_map (λ (files : List File). fold put_file files (written_files acts)) (files_in before.out)
+  -- An open output gets the printed bytes, if no file is written.
+  pub printed : written_files acts ≡ [] → after.out ≡ changed (with_printed (printed_bytes acts)) before.out
+  pub logged : after.log.bytes ≡ appended (flat_map line (logged_items acts)) before.log.bytes
   pub answered : status ≡ acts_status acts
 
--- Over observable devices, a run that ran freely did all acts of its course.
+-- Over an observable shelf, a run that ran freely did all acts of its course.
 abbrev pub DoesActsFreely : {Course : Type 0} → (Course → List Act) → (Course → Type 0) → Devices → Devices → ℕ → Type 0
-DoesActsFreely {Course} acts Is before after status = AreObservable before
+DoesActsFreely {Course} acts Is before after status = IsSome before.shelf.blamed
     → (course : Course) → Is course → RanFreely (acts course) before after
     → DoesActs (acts course) before after status

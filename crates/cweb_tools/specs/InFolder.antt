@@ -1,48 +1,40 @@
 -- Runs in a folder.
-use Rattle.std.specs.Prelude.{◌≡◌, ℕ, List, [], None, IsTrue, All}
+use Rattle.std.specs.Prelude.{◌≡◌, ℕ, List, [], None, IsSome, All}
 use Rattle.cweb_files.specs.Files.{File}
 use Rattle.cweb_system.specs.declared.file_system.FileSystem.{Ghosts as FileSystem}
 use Rattle.cweb_system.specs.declared.folder_bins.FolderBins.{FolderBins}
-use Rattle.cweb_system.specs.Bins.{bins_beside, bins_bytes, bins_failed, bins_system, contents_in}
+use Rattle.cweb_system.specs.Bins.{bins_beside, bins_bytes, bins_failed, bins_system}
 use Rattle.cweb_system.specs.Tree.{Tree, contents}
-use Rattle.cweb_log.specs.DeviceModels.{Devices, ShelfModel, SinkModel}
+use Rattle.cweb_log.specs.DeviceModels.{Devices, OutModel, ShelfModel, StreamModel, contents_of, known}
 
--- The files of a folder, before a run.
+-- The shelf before a run.
 abbrev pub shelf_in : {F H : Type 0} → FileSystem F H → F → ShelfModel
-shelf_in system fs = record {
-  tells = (system.disk fs).tells;
-  failed = 0;
-  texts = contents_in (system.disk fs).tree;
-  blamed = [];
-}
+shelf_in system fs = record { failed = 0; blamed = known (system.disk fs).tells [] }
 
 -- The devices before a run of `ctangle`: the files of a folder, and bins that have committed none.
-abbrev pub devices_before : {F H : Type 0} → FileSystem F H → F → SinkModel → Devices
+abbrev pub devices_before : {F H : Type 0} → FileSystem F H → F → StreamModel → Devices
 devices_before system fs log = record {
   shelf = shelf_in system fs;
   out = record {
-    tells = (system.disk fs).tells;
     failed = 0;
-    bytes = [];
-    beside = record { files = []; draft = None; refused = None };
+    contents = known (system.disk fs).tells (record { files = []; draft = None; refused = None });
   };
   log = log;
 }
 
 -- The model of bins after a run.
-abbrev pub bins_after : {F H : Type 0} (system : FileSystem F H) → FolderBins F H system → SinkModel
+abbrev pub bins_after : {F H : Type 0} (system : FileSystem F H) → FolderBins F H system → OutModel
 bins_after system bins = record {
-  tells = (system.disk (bins_system bins)).tells;
   failed = bins_failed bins;
-  bytes = bins_bytes system bins;
-  beside = bins_beside system bins;
+  contents = known (system.disk (bins_system bins)).tells
+      (contents_of (bins_bytes system bins) (bins_beside system bins));
 }
 
 -- A run in a folder keeps these promises. If the file system is observable, no read failed.
-pub record KeepsInFolder (Promises : Devices → Devices → ℕ → Type 0) (before : Devices) (out log : SinkModel) (status : ℕ)
-    : Type 0 where
+pub record KeepsInFolder (Promises : Devices → Devices → ℕ → Type 0) (before : Devices) (out : OutModel)
+    (log : StreamModel) (status : ℕ) : Type 0 where
   pub shelf : ShelfModel
-  pub reads : IsTrue before.shelf.tells → shelf.failed ≡ before.shelf.failed
+  pub reads : IsSome before.shelf.blamed → shelf.failed ≡ before.shelf.failed
   pub promises : Promises before (record { shelf = shelf; out = out; log = log }) status
 
 -- Each file has its bytes under its name.

@@ -1,6 +1,6 @@
 -- The acts of a run of `wmerge`, its promise, and its headline theorem.
-use Rattle.std.specs.Prelude.{◌≡◌, ℕ, ◌&&◌, List, [], ◌∷◌, ◌++◌, codes, map, Option, None, Some}
-use Rattle.cweb_files.specs.Files.{always_open}
+use Rattle.std.specs.Prelude.{◌≡◌, ℕ, List, [], ◌∷◌, ◌++◌, codes, map, Option, None, Some}
+use Rattle.std.specs.Option.{option_and}
 use Rattle.cweb_input.specs.Include.{World}
 use Rattle.cweb_lines.specs.Events.{reported_faults, openings}
 use Rattle.cweb_input.specs.declared.stop.Stop.TheVariants.{Usage, WebNotOpened, ChangeNotOpened}
@@ -28,10 +28,10 @@ MergeCanCome (Some names) (change_not_there change) = change ≡ change_name nam
 MergeCanCome (Some names) (merging first events) = Unit {0}
 MergeCanCome args course = ⊥
 
--- The devices of a run: the output has only bytes. They are observable if the output and the shelf are.
+-- What is known of the devices: the printed lines are known only if the files are.
 abbrev pub merge_devices : Devices → Devices
 merge_devices seen = record seen {
-  out = record seen.out { tells = seen.shelf.tells && seen.out.tells; beside = always_open };
+  out = record seen.out { contents = option_and seen.shelf.blamed seen.out.contents };
 }
 
 -- A run of `wmerge` follows these acts.

@@ -1,11 +1,8 @@
 // What `wdep` says of itself.
-ghost use Rattle.std.specs.Prelude.{◌≡◌, ◌<◌, ◌+◌, ◌^◌, codes, map, IsTrue};
+ghost use Rattle.std.specs.Prelude.{◌≡◌, ◌<◌, ◌+◌, ◌^◌, codes, map};
 ghost use Rattle.std.specs.Option.{option_copied};
-ghost use Rattle.cweb_files.specs.Bins.{WritesPrefix};
-ghost use Rattle.cweb_files.specs.surface.Frames.{Writes};
 ghost use Rattle.cweb_log.specs.Log.{stop_line};
-ghost use Rattle.cweb_log.specs.DeviceModels.{SinkCountsFit, sink_model};
-ghost use Rattle.cweb_log.specs.inner.LogWriting.{Logs};
+ghost use Rattle.cweb_log.specs.DeviceModels.{FailsWithin, Logs, SinkCountsFit, stream_model, written};
 ghost use Rattle.cweb_tools.specs.inner.About.{about_wdep, about_word};
 
 use cweb_lines::{Sink, Stop, write_all};
@@ -45,14 +42,14 @@ fn about_word(word: &str) -> Option<&'static str>
 
 /// Prints a text, and returns the status. If that fails, a prefix is printed, and the fault is logged.
 pub fn write_about<W: Sink, L: Sink>(text: &str, out: &mut W, log: &mut L) -> u8
-    requires counts { SinkCountsFit (sink_model W.Sink out.old) (sink_model L.Sink log.old) }
+    requires counts { SinkCountsFit (W.failed out.old) (L.failed log.old) }
     ensures status { result < 2 }
-    ensures counts { W.failed out.new ≡ W.failed out.old + result }
-    ensures ok { result ≡ 0 → (Writes W.Sink out.old out.new text.now) × (log.new ≡ log.old) }
-    ensures prefix { IsTrue (W.tells out.old) →
-        WritesPrefix (W.written out.old) (W.written out.new) text.now }
-    ensures fault { result ≡ 1 → Logs (stop_line Stop.WriteFault (codes "standard output"))
-        (sink_model L.Sink log.old) (sink_model L.Sink log.new) }
+    ensures ok { result ≡ 0 → (log.new ≡ log.old) ×
+        (stream_model W.Sink out.new ≡ written text.now (stream_model W.Sink out.old)) }
+    ensures fault { result ≡ 1 →
+        FailsWithin text.now (stream_model W.Sink out.old) (stream_model W.Sink out.new) ×
+        Logs (stop_line Stop.WriteFault (codes "standard output"))
+        (stream_model L.Sink log.old) (stream_model L.Sink log.new) }
 {
     if let Err(_) = write_all(out, text.as_bytes()) {
         return log_stop(log, Stop::WriteFault, "standard output");

@@ -1,62 +1,59 @@
 //! Laws of whole runs, for all device failures and failed allocations, of blanks between tokens, and of depfiles.
 ghost use Rattle.std.specs.Prelude.{◌≡◌, ℕ, List, None};
+ghost use Rattle.cweb_log.specs.DeviceModels.{Devices};
 ghost use Rattle.cweb_lines.specs.Events.{Event};
 ghost use Rattle.cweb_log.specs.declared.shown.Shown.{Shown};
-ghost use Rattle.cweb_tools.specs.Acts.{DeviceState, RunEnds};
+ghost use Rattle.cweb_tools.specs.Acts.{RunEnds};
+ghost use Rattle.cweb_tools.specs.Headline.{files_in};
 ghost use Rattle.cweb_tools.specs.laws.Leaves.{LeavesFiles, tangle_files};
-ghost use Rattle.cweb_tools.specs.laws.LeftDevices.{EveryRunLeavesBins, EveryRunLeavesTheShelf};
+ghost use Rattle.cweb_tools.specs.laws.LeftDevices.{EveryRunLeavesBins, EveryRunLeavesTheShelf, draft_in};
 ghost use Rattle.cweb_tools.specs.laws.MakeReads.{MakeReadsNames};
 ghost use Rattle.cweb_tools.specs.laws.Targets.{TargetsAreWrittenFiles};
-ghost use Rattle.cweb_tools.specs.laws.RunEffects.{EveryRunLeavesDevices, EveryMergeLeavesOutput, EveryRunLeavesStates};
+ghost use Rattle.cweb_tools.specs.laws.RunEffects.{EveryRunLeavesDevices, EveryMergeLeavesOutput};
 ghost use Rattle.cweb_tools.specs.Script.{TangleCourse, Web, refused, script};
 ghost use Rattle.cweb_tools.specs.Script.{tangling};
 ghost use Rattle.cweb_tools.specs.Spacing.{Spacing};
 
 /// The committed files are the first of the expected ones, in order, each whole. All other files are unchanged.
 pub fn committed_files_are_a_prefix()
-    ensures { (shown : Shown) (course : TangleCourse) (expected : ℕ) (old new : DeviceState)
+    ensures { (shown : Shown) (course : TangleCourse) (expected : ℕ) (old new : Devices)
         (status : ℕ) →
         RunEnds (script shown course) expected old new status →
-        LeavesFiles (tangle_files shown course) old.files new.files }
+        LeavesFiles (tangle_files shown course) old.out new.out }
 {}
 
 /// A refused plan changes no file.
 pub fn refused_plans_write_no_file()
     ensures { (shown : Shown) (names : List (List ℕ)) (events : List Event) (web : Web)
         (text : List ℕ) → web.plan ≡ refused text →
-        (expected : ℕ) (old new : DeviceState) (status : ℕ) →
+        (expected : ℕ) (old new : Devices) (status : ℕ) →
         RunEnds (script shown (tangling names events web)) expected old new status →
-        new.files ≡ old.files }
+        files_in new.out ≡ files_in old.out }
 {}
 
 /// If there was no draft before a run, there is none after it.
 pub fn no_draft_remains()
-    ensures { (shown : Shown) (course : TangleCourse) (expected : ℕ) (old new : DeviceState)
+    ensures { (shown : Shown) (course : TangleCourse) (expected : ℕ) (old new : Devices)
         (status : ℕ) →
-        old.draft ≡ None →
-        RunEnds (script shown course) expected old new status → new.draft ≡ None }
+        draft_in old.out ≡ None →
+        RunEnds (script shown course) expected old new status → draft_in new.out ≡ None }
 {}
 
-/// A run of `ctangle` does all its acts, or logs what stopped it and returns 1. If it committed a file, it has read the
-/// whole web within the limits. A web that breaks the limits never gives status 0.
-pub fn every_run_leaves_states()
-    ensures { EveryRunLeavesStates }
-{}
-
-/// An observable log has the expected lines and observable bins the expected files, whatever the other devices are. No
-/// device fails twice, and a failed device makes the status 1.
+/// A run of `ctangle` does all its acts, or logs what stopped it and returns 1. The bins have the first expected files,
+/// each whole. If it committed a file, it has read the whole web within the limits. A web that breaks the limits never
+/// gives status 0. No device fails twice, and a failed device makes the status 1.
 pub fn every_run_leaves_devices()
     ensures { EveryRunLeavesDevices }
 {}
 
-/// Observable bins have the first expected files, each whole, and no draft, whatever stopped the run. They change only
+/// The bins have the first expected files, each whole, and no draft, whatever stopped the run. They change only
 /// if all was read within the limits. A file that the bins refuse makes the status 1.
 pub fn every_run_leaves_bins()
     ensures { EveryRunLeavesBins }
 {}
 
-/// After a run of `ctangle`, `wmerge` or `wdep`, an observable shelf blames the file whose read failed, and no other. The
-/// last line of an observable log names that file, unless the log failed.
+/// After a run of `ctangle`, `wmerge` or `wdep`, the shelf blames the file whose read failed, and no other. The
+/// last line of the log names that file, unless the log failed.
 pub fn every_run_leaves_the_shelf()
     ensures { EveryRunLeavesTheShelf }
 {}

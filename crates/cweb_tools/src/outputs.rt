@@ -7,10 +7,10 @@ ghost use Rattle.cweb_store.specs.Parts.{all_tokens};
 ghost use Rattle.cweb_scan.specs.surface.Scan.{IsMarkBelow};
 ghost use Rattle.cweb_out.specs.surface.Outputs.{output_name_at};
 ghost use Rattle.cweb_print.specs.Printing.{setting, file};
-ghost use Rattle.cweb_log.specs.DeviceModels.{SinkCountsFit, sink_model};
+ghost use Rattle.cweb_log.specs.DeviceModels.{SinkCountsFit, bins_model, stream_model};
 ghost use Rattle.cweb_tools.specs.inner.Acts.{ending_of};
 ghost use Rattle.cweb_tools.specs.Acts.{writes};
-ghost use Rattle.cweb_tools.specs.inner.Does.{DoesInBins, DoesInBoth};
+ghost use Rattle.cweb_tools.specs.inner.Does.{DoesInOut, DoesInBoth};
 ghost use Rattle.cweb_tools.specs.inner.Expanders.{IsReady, StaysReady, output_ending, file_at};
 ghost use Rattle.cweb_tools.specs.inner.Expanders.{planned_files, left_in};
 ghost use Rattle.cweb_tools.specs.Script.{output_acts, outputs_acts};
@@ -37,12 +37,12 @@ pub(crate) fn write_outputs<B: Bins, L: Sink>(
     log: &mut L,
 ) -> Result<(), Failed>
     requires ready { IsReady names.now expander.old }
-    requires counts { SinkCountsFit (sink_model B.Sink bins.old) (sink_model L.Sink log.old) }
+    requires counts { SinkCountsFit (B.failed bins.old) (L.failed log.old) }
     ensures known { IfErr result (λ failed. failed.output < length expander.old.plan.now.outputs) }
     ensures does { DoesInBoth (outputs_acts progress (planned_files names.now expander.old))
         (output_ending expander.old.plan.now.outputs result)
-        (sink_model B.Sink bins.old) (sink_model B.Sink bins.new)
-        (sink_model L.Sink log.old) (sink_model L.Sink log.new) }
+        (bins_model B.Sink bins.old) (bins_model B.Sink bins.new)
+        (stream_model L.Sink log.old) (stream_model L.Sink log.new) }
 {
     let plan = expander.plan;
     'outputs: for output in 0..plan.outputs() {
@@ -65,12 +65,12 @@ fn write_output<B: Bins, L: Sink>(
 ) -> Result<(), Stop>
     requires ready { IsReady names.now expander.old }
     requires output { output < length expander.old.plan.now.outputs }
-    requires counts { SinkCountsFit (sink_model B.Sink bins.old) (sink_model L.Sink log.old) }
+    requires counts { SinkCountsFit (B.failed bins.old) (L.failed log.old) }
     ensures stays { StaysReady expander.old expander.new }
     ensures does { DoesInBoth (output_acts progress (file_at names.now expander.old output))
         (ending_of (output_name_at expander.old.plan.now.outputs output) result)
-        (sink_model B.Sink bins.old) (sink_model B.Sink bins.new)
-        (sink_model L.Sink log.old) (sink_model L.Sink log.new) }
+        (bins_model B.Sink bins.old) (bins_model B.Sink bins.new)
+        (stream_model L.Sink log.old) (stream_model L.Sink log.new) }
 {
     let name = expander.plan.output_name(output);
     if let Err(_) = say(progress, LogLine::Writing(name), log) {
@@ -91,11 +91,11 @@ fn write_file<B: Bins>(
     requires output { output < length expander.old.plan.now.outputs }
     requires count { B.failed bins.old + 1 < 2 ^ 64 }
     ensures stays { StaysReady expander.old expander.new }
-    ensures does { DoesInBins
+    ensures does { DoesInOut
         (writes (output_name_at expander.old.plan.now.outputs output)
         (file_at names.now expander.old output).bytes ∷ [])
         (ending_of (output_name_at expander.old.plan.now.outputs output) result)
-        (sink_model B.Sink bins.old) (sink_model B.Sink bins.new) }
+        (bins_model B.Sink bins.old) (bins_model B.Sink bins.new) }
 {
     match bins.start_file(expander.plan.output_name(output)) {
         Ok(()) => {}

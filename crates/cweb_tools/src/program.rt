@@ -3,8 +3,7 @@ ghost use Rattle.std.specs.Prelude.{◌≡◌, ◌<◌, ◌+◌, ◌^◌, ℕ, L
 ghost use Rattle.std.specs.Prelude.{codes, map, option_map, string_bytes};
 ghost use Rattle.std.specs.Prelude.{IsUtf8};
 ghost use Rattle.cweb_log.specs.Log.{stop_line};
-ghost use Rattle.cweb_log.specs.DeviceModels.{sink_model};
-ghost use Rattle.cweb_log.specs.inner.LogWriting.{Logs};
+ghost use Rattle.cweb_log.specs.DeviceModels.{Logs, stream_model};
 
 use crate::environment::Environment;
 use cweb_lines::{Sink, Stop};
@@ -70,7 +69,7 @@ pub fn out_of_memory<L: Sink>(log: &mut L) -> u8
     requires { L.failed log.old + 1 < 2 ^ 64 }
     ensures status { result ≡ 1 }
     ensures logs { Logs (stop_line Stop.Memory [])
-        (sink_model L.Sink log.old) (sink_model L.Sink log.new) }
+        (stream_model L.Sink log.old) (stream_model L.Sink log.new) }
 {
     log_stop(log, Stop::Memory, "")
 }

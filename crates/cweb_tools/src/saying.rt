@@ -1,6 +1,6 @@
 // Log lines of `ctangle` that depend on its options.
 ghost use Rattle.std.specs.Prelude.{◌<◌, ◌+◌, ◌^◌};
-ghost use Rattle.cweb_log.specs.DeviceModels.{sink_model};
+ghost use Rattle.cweb_log.specs.DeviceModels.{stream_model};
 ghost use Rattle.cweb_log.specs.inner.LogText.{item_of};
 ghost use Rattle.cweb_tools.specs.inner.Does.{DoesInLog, log_ending};
 ghost use Rattle.cweb_tools.specs.Script.{closing_acts, starred_acts, when};
@@ -14,7 +14,7 @@ use cweb_log::{LogLine, LogText, Shown, write_log};
 pub(crate) fn say<L: Sink>(wanted: bool, line: LogLine<'_>, log: &mut L) -> Result<(), SinkFault>
     requires { L.failed log.old + 1 < 2 ^ 64 }
     ensures { DoesInLog (when wanted (item_of line.entry)) (log_ending result)
-        (sink_model L.Sink log.old) (sink_model L.Sink log.new) }
+        (stream_model L.Sink log.old) (stream_model L.Sink log.new) }
 {
     if !wanted {
         return Ok(());
@@ -30,7 +30,7 @@ pub(crate) fn say_starred<L: Sink>(
 ) -> Result<(), SinkFault>
     requires { L.failed log.old + 1 < 2 ^ 64 }
     ensures { DoesInLog (starred_acts progress numbers.now) (log_ending result)
-        (sink_model L.Sink log.old) (sink_model L.Sink log.new) }
+        (stream_model L.Sink log.old) (stream_model L.Sink log.new) }
 {
     if !progress || numbers.is_empty() {
         return Ok(());
@@ -48,7 +48,7 @@ pub(crate) fn say_end<L: Sink>(
 ) -> Result<(), SinkFault>
     requires { L.failed log.old + 1 < 2 ^ 64 }
     ensures { DoesInLog (closing_acts shown (counted numbers) count missing) (log_ending result)
-        (sink_model L.Sink log.old) (sink_model L.Sink log.new) }
+        (stream_model L.Sink log.old) (stream_model L.Sink log.new) }
 {
     let counts = LogLine::Counts(numbers.sections, numbers.names, numbers.macros);
     say(shown.statistics, counts, log)?;

@@ -5,12 +5,12 @@ ghost use Rattle.std.specs.Option.{option_copied};
 ghost use Rattle.cweb_scan.specs.surface.ScannedModel.{scanned_model};
 ghost use Rattle.cweb_out.specs.surface.Outputs.{IsPlanOf};
 ghost use Rattle.cweb_log.specs.CommandLine.{options_by};
-ghost use Rattle.cweb_log.specs.DeviceModels.{CountsFit, SinkCountsFit, devices, sink_model};
+ghost use Rattle.cweb_log.specs.DeviceModels.{CountsFit, SinkCountsFit, bins_model, devices, stream_model};
 ghost use Rattle.cweb_log.specs.Items.{banner};
 ghost use Rattle.cweb_log.specs.surface.Options.{options_of};
-ghost use Rattle.cweb_tools.specs.Acts.{ending, plans};
+ghost use Rattle.cweb_tools.specs.Acts.{LogsEnding, ending, plans};
 ghost use Rattle.cweb_tools.specs.Course.{world_of};
-ghost use Rattle.cweb_tools.specs.inner.Does.{ClosesInBoth, DoesInLog, LogsEnding};
+ghost use Rattle.cweb_tools.specs.inner.Does.{DoesInLog, EndsInBoth};
 ghost use Rattle.cweb_tools.specs.Script.{planned_acts, web_acts, when};
 ghost use Rattle.cweb_tools.specs.Tangle.{numbers_of, TanglePromises, TanglesFreely};
 ghost use Rattle.cweb_tools.specs.inner.Tangle.{EndsUnread, fault_count, plan_made, status_by, web_status};
@@ -43,12 +43,12 @@ pub fn run_ctangle<S: Shelf, B: Bins, L: Sink>(
     ensures promises { let before =
         devices S.Shelf B.Sink L.Sink shelf.old bins.old log.old in
         let args = options_by (map (λ word. word.now) words.now) in
-        let world = world_of before.shelf.texts (option_copied inputs.entry) in
+        let world = world_of (S.texts shelf.old) (option_copied inputs.entry) in
         TanglePromises world args before
         (devices S.Shelf B.Sink L.Sink shelf.new bins.new log.new) result }
     ensures freely { let before = devices S.Shelf B.Sink L.Sink shelf.old bins.old log.old in
         let args = options_by (map (λ word. word.now) words.now) in
-        let world = world_of before.shelf.texts (option_copied inputs.entry) in
+        let world = world_of (S.texts shelf.old) (option_copied inputs.entry) in
         TanglesFreely world args before
         (devices S.Shelf B.Sink L.Sink shelf.new bins.new log.new) result }
     ensures untouched { options_by (map (λ word. word.now) words.now) ≡ None →
@@ -85,10 +85,10 @@ pub(crate) fn begin_tangle<L: Sink>(
         ≡ Some (options_of options)) }
     ensures banner { IfOk result (λ options.
         DoesInLog (when (options_of options).shown.banner banner) None
-        (sink_model L.Sink log.old) (sink_model L.Sink log.new)) }
+        (stream_model L.Sink log.old) (stream_model L.Sink log.new)) }
     ensures ends { IfErr result (λ status.
         EndsUnread (options_by (map (λ word. word.now) words.now))
-        (sink_model L.Sink log.old) (sink_model L.Sink log.new) status) }
+        (stream_model L.Sink log.old) (stream_model L.Sink log.new) status) }
 {
     let options = match Options::read(alloc, words) {
         Ok(options) => options,
@@ -110,11 +110,11 @@ pub(crate) fn tangle_web<B: Bins, L: Sink>(
     log: &mut L,
 ) -> u8
     requires known { IsKnown web }
-    requires counts { SinkCountsFit (sink_model B.Sink bins.old) (sink_model L.Sink log.old) }
-    ensures { ClosesInBoth (web_acts shown (web_in web.entry main.now))
+    requires counts { SinkCountsFit (B.failed bins.old) (L.failed log.old) }
+    ensures { EndsInBoth (web_acts shown (web_in web.entry main.now))
         (web_status (web_in web.entry main.now))
-        (sink_model B.Sink bins.old) (sink_model B.Sink bins.new)
-        (sink_model L.Sink log.old) (sink_model L.Sink log.new) result }
+        (bins_model B.Sink bins.old) (bins_model B.Sink bins.new)
+        (stream_model L.Sink log.old) (stream_model L.Sink log.new) result }
 {
     if let Err(_) = say_starred(shown.progress, web.scanned.starred.as_slice(), log) {
         return 1;
@@ -139,15 +139,15 @@ fn tangle_planned<B: Bins, L: Sink>(
 ) -> u8
     requires known { IsKnown web }
     requires made { IsPlanOf web.scanned.now.store plan.now }
-    requires counts { SinkCountsFit (sink_model B.Sink bins.old) (sink_model L.Sink log.old) }
-    ensures { ClosesInBoth
+    requires counts { SinkCountsFit (B.failed bins.old) (L.failed log.old) }
+    ensures { EndsInBoth
         (planned_acts shown
         (numbers_of (scanned_model web.entry.scanned.now)) (fault_count (faults_of web.entry))
         (plan_made web.entry.scanned.now.store (files_of web.entry) plan.now))
         (status_by (fault_count (faults_of web.entry))
         (plan_made web.entry.scanned.now.store (files_of web.entry) plan.now))
-        (sink_model B.Sink bins.old) (sink_model B.Sink bins.new)
-        (sink_model L.Sink log.old) (sink_model L.Sink log.new) result }
+        (bins_model B.Sink bins.old) (bins_model B.Sink bins.new)
+        (stream_model L.Sink log.old) (stream_model L.Sink log.new) result }
 {
     if let Err(_) = say(plan.no_text(), LogLine::NoProgramText, log) {
         return 1;
@@ -180,7 +180,7 @@ fn log_failed<L: Sink>(log: &mut L, stop: Stop, name: &str) -> u8
     requires { stop ≢ Stop.LogFault → L.failed log.old + 1 < 2 ^ 64 }
     ensures status { result ≡ 1 }
     ensures logs { LogsEnding (ending stop name.now)
-        (sink_model L.Sink log.old) (sink_model L.Sink log.new) }
+        (stream_model L.Sink log.old) (stream_model L.Sink log.new) }
 {
     if let Stop::LogFault = stop {
         return 1;

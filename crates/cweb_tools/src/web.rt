@@ -6,7 +6,7 @@ ghost use Rattle.cweb_scan.specs.surface.Scan.{IsScanBelow};
 ghost use Rattle.cweb_scan.specs.surface.ScannedModel.{scanned_model};
 ghost use Rattle.cweb_log.specs.inner.LogWriting.{WritesToStream};
 ghost use Rattle.cweb_log.specs.Items.{line};
-ghost use Rattle.cweb_log.specs.DeviceModels.{sink_model};
+ghost use Rattle.cweb_log.specs.DeviceModels.{stream_model};
 ghost use Rattle.cweb_tools.specs.inner.Tangle.{fault_count};
 ghost use Rattle.cweb_tools.specs.inner.Does.{DoesInLog, log_ending};
 ghost use Rattle.cweb_tools.specs.Tangle.{numbers_of};
@@ -94,7 +94,7 @@ fn count_parts(mut parts: Parts<'_>) -> u32
 pub(crate) fn say_faults<L: Sink>(web: Web<'_>, log: &mut L) -> Result<(), SinkFault>
     requires { L.failed log.old + 1 < 2 ^ 64 }
     ensures { DoesInLog (said_faults web.entry) (log_ending result)
-        (sink_model L.Sink log.old) (sink_model L.Sink log.new) }
+        (stream_model L.Sink log.old) (stream_model L.Sink log.new) }
 {
     if web.fault_count() == 0 {
         return Ok(());
@@ -105,7 +105,7 @@ pub(crate) fn say_faults<L: Sink>(web: Web<'_>, log: &mut L) -> Result<(), SinkF
 fn write_web_faults<L: Sink>(web: Web<'_>, log: &mut L) -> Result<(), SinkFault>
     requires { L.failed log.old + 1 < 2 ^ 64 }
     ensures { WritesToStream (flat_map line (faults_of web.entry))
-        (sink_model L.Sink log.old) (sink_model L.Sink log.new) result }
+        (stream_model L.Sink log.old) (stream_model L.Sink log.new) result }
 {
     write_log(log, LogText::SourceFaults(web.names, web.faults))?;
     write_log(

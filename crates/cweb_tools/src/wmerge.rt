@@ -6,14 +6,14 @@ ghost use Rattle.cweb_input.specs.surface.OpenSources.{files_named};
 ghost use Rattle.cweb_lines.specs.surface.MergerCalls.{stop_in};
 ghost use Rattle.cweb_log.specs.Items.{source_item};
 ghost use Rattle.cweb_log.specs.inner.Log.{start_subject, subject};
-ghost use Rattle.cweb_log.specs.DeviceModels.{CountsFit, devices, sink_model};
+ghost use Rattle.cweb_log.specs.DeviceModels.{CountsFit, as_output, printing_devices, stream_model};
 ghost use Rattle.cweb_log.specs.CommandLine.{web_names_by};
 ghost use Rattle.cweb_log.specs.inner.Words.{merge_word_names};
 ghost use Rattle.cweb_tools.specs.inner.Begun.{MergesBegun};
 ghost use Rattle.cweb_tools.specs.Acts.{acts_status, says};
 ghost use Rattle.cweb_tools.specs.Course.{change_name, folder_of, world_of};
 ghost use Rattle.cweb_tools.specs.inner.Course.{EndsMerge, merge_course};
-ghost use Rattle.cweb_tools.specs.inner.Does.{ClosesInLog};
+ghost use Rattle.cweb_tools.specs.inner.Does.{EndsInLog};
 ghost use Rattle.cweb_tools.specs.MergeActs.{MergePromises, MergesFreely};
 
 use crate::subjects::{folder, subject};
@@ -35,17 +35,17 @@ pub fn run_wmerge<S: Shelf, W: Sink, L: Sink>(
     out: &mut W,
     log: &mut L,
 ) -> u8
-    requires counts { CountsFit (devices S.Shelf W.Sink L.Sink shelf.old out.old log.old) }
-    ensures promises { let before = devices S.Shelf W.Sink L.Sink shelf.old out.old log.old in
+    requires counts { CountsFit (printing_devices S.Shelf W.Sink L.Sink shelf.old out.old log.old) }
+    ensures promises { let before = printing_devices S.Shelf W.Sink L.Sink shelf.old out.old log.old in
         let args = web_names_by (map (λ word. word.now) words.now) in
-        let world = world_of before.shelf.texts (option_copied inputs.entry) in
+        let world = world_of (S.texts shelf.old) (option_copied inputs.entry) in
         MergePromises world args before
-        (devices S.Shelf W.Sink L.Sink shelf.new out.new log.new) result }
-    ensures freely { let before = devices S.Shelf W.Sink L.Sink shelf.old out.old log.old in
+        (printing_devices S.Shelf W.Sink L.Sink shelf.new out.new log.new) result }
+    ensures freely { let before = printing_devices S.Shelf W.Sink L.Sink shelf.old out.old log.old in
         let args = web_names_by (map (λ word. word.now) words.now) in
-        let world = world_of before.shelf.texts (option_copied inputs.entry) in
+        let world = world_of (S.texts shelf.old) (option_copied inputs.entry) in
         MergesFreely world args before
-        (devices S.Shelf W.Sink L.Sink shelf.new out.new log.new) result }
+        (printing_devices S.Shelf W.Sink L.Sink shelf.new out.new log.new) result }
     ensures untouched { web_names_by (map (λ word. word.now) words.now) ≡ None →
         (shelf.new ≡ shelf.old) × (out.new ≡ out.old) }
 {
@@ -64,12 +64,12 @@ fn merge_web<S: Shelf, W: Sink, L: Sink>(
     out: &mut W,
     log: &mut L,
 ) -> u8
-    requires counts { CountsFit (devices S.Shelf W.Sink L.Sink shelf.old out.old log.old) }
-    ensures { let before = devices S.Shelf W.Sink L.Sink shelf.old out.old log.old in
-        let world = world_of before.shelf.texts (option_copied inputs.entry) in
+    requires counts { CountsFit (printing_devices S.Shelf W.Sink L.Sink shelf.old out.old log.old) }
+    ensures { let before = printing_devices S.Shelf W.Sink L.Sink shelf.old out.old log.old in
+        let world = world_of (S.texts shelf.old) (option_copied inputs.entry) in
         let names = Some (merge_word_names args.now) in
         EndsMerge names (merge_course world names) before
-        (devices S.Shelf W.Sink L.Sink shelf.new out.new log.new) result }
+        (printing_devices S.Shelf W.Sink L.Sink shelf.new out.new log.new) result }
 {
     let started = Merger::start(
         alloc,
@@ -93,10 +93,10 @@ fn merge_begun<S: Shelf, W: Sink, L: Sink>(
     log: &mut L,
 ) -> u8
     requires running { stop_in merger.old ≡ None }
-    requires counts { CountsFit (devices S.Shelf W.Sink L.Sink shelf.old out.old log.old) }
+    requires counts { CountsFit (printing_devices S.Shelf W.Sink L.Sink shelf.old out.old log.old) }
     ensures { MergesBegun S.Shelf shelf.old merger.old
-        (sink_model W.Sink out.old) (sink_model L.Sink log.old)
-        (devices S.Shelf W.Sink L.Sink shelf.new out.new log.new) result }
+        (as_output (stream_model W.Sink out.old)) (stream_model L.Sink log.old)
+        (printing_devices S.Shelf W.Sink L.Sink shelf.new out.new log.new) result }
 {
     match write_merged_in_chunks(merger, shelf, out, CHUNK_SIZE) {
         Ok(()) => log_faults(log, merger.names(), merger.faults()),
@@ -120,8 +120,8 @@ fn start_subject(args: &MergeWords, stop: Stop) -> &str
 fn log_faults<L: Sink>(log: &mut L, names: &FileNames, faults: &[SourceFault]) -> u8
     requires { L.failed log.old + 1 < 2 ^ 64 }
     ensures { let items = map (source_item (spec.opened_file_names names.now)) faults.now in
-        ClosesInLog (map says items) (acts_status (map says items))
-        (sink_model L.Sink log.old) (sink_model L.Sink log.new) result }
+        EndsInLog (map says items) (acts_status (map says items))
+        (stream_model L.Sink log.old) (stream_model L.Sink log.new) result }
 {
     if faults.is_empty() {
         return 0;

@@ -2,11 +2,12 @@
 use Rattle.std.specs.Prelude.{ℕ, List, Some}
 use Rattle.cweb_input.specs.declared.fault.SourceFault.{SourceFault}
 use Rattle.cweb_log.specs.CommandLine.{OptionsModel}
-use Rattle.cweb_log.specs.DeviceModels.{Devices, ShelfModel, SinkModel}
+use Rattle.cweb_log.specs.DeviceModels.{Devices, OutModel, ShelfModel, StreamModel}
 use Rattle.cweb_scan.specs.Alone.{Scanned}
+use Rattle.cweb_tools.specs.Acts.{RunEnds}
 use Rattle.cweb_tools.specs.Script.{TangleCourse}
 use Rattle.cweb_tools.specs.Tangle.{CanCome, web_of}
-use Rattle.cweb_tools.specs.inner.Does.{Closes, FollowsCourse}
+use Rattle.cweb_tools.specs.inner.Does.{FollowsCourse, at}
 use Rattle.cweb_tools.specs.inner.Tangle.{LaterActs, opening_acts, course_status, web_status}
 
 -- The part of a run from the opening of the web ends as its course does.
@@ -15,17 +16,16 @@ EndsAs later args course before after status =
     FollowsCourse (opening_acts later) course_status (CanCome (Some args)) course before after status
 
 -- Something stopped the opening or the scan, and that was logged.
-abbrev pub StopsScan : OptionsModel → TangleCourse → ShelfModel → ShelfModel → SinkModel → SinkModel → ℕ → Type 0
-StopsScan args course shelf shelf' log log' status = (later : LaterActs) (out : SinkModel)
-    → EndsAs later args course (record { shelf = shelf; out = out; log = log })
-    (record { shelf = shelf'; out = out; log = log' }) status
+abbrev pub StopsScan : OptionsModel → TangleCourse → ShelfModel → ShelfModel → StreamModel → StreamModel → ℕ
+    → Type 0
+StopsScan args course shelf shelf' log log' status = (later : LaterActs) (out : OutModel)
+    → EndsAs later args course (at shelf out log) (at shelf' out log') status
 
 -- The web was scanned. If the acts after that end so, the run ends as its course does.
-abbrev pub CompletesScan : OptionsModel → TangleCourse → ShelfModel → ShelfModel → SinkModel → List (List ℕ)
+abbrev pub CompletesScan : OptionsModel → TangleCourse → ShelfModel → ShelfModel → StreamModel → List (List ℕ)
     → List SourceFault → Scanned → Type 0
 CompletesScan args course shelf shelf' log files faults made =
-    (later : LaterActs) (out : SinkModel) (after : Devices) (status : ℕ)
-    → Closes (later files (web_of files faults made args.names.main))
-    (web_status (web_of files faults made args.names.main)) (record { shelf = shelf'; out = out; log = log }) after
-    status
-    → EndsAs later args course (record { shelf = shelf; out = out; log = log }) after status
+    (later : LaterActs) (out : OutModel) (after : Devices) (status : ℕ)
+    → RunEnds (later files (web_of files faults made args.names.main))
+    (web_status (web_of files faults made args.names.main)) (at shelf' out log) after status
+    → EndsAs later args course (at shelf out log) after status

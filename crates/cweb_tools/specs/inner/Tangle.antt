@@ -8,13 +8,13 @@ use Rattle.cweb_store.specs.Calls.{Stored}
 use Rattle.cweb_log.specs.Items.{LogItem, is_fault, stopped}
 use Rattle.cweb_log.specs.CommandLine.{OptionsModel}
 use Rattle.cweb_log.specs.declared.shown.Shown.{Shown}
-use Rattle.cweb_log.specs.DeviceModels.{ShelfModel, SinkModel}
+use Rattle.cweb_log.specs.DeviceModels.{OutModel, ShelfModel, StreamModel}
 use Rattle.cweb_tools.specs.Acts.{Act, acts_status, opens, reads, says}
 use Rattle.cweb_tools.specs.Script.{Planning, TangleCourse, Web, unread, not_there, change_not_there, tangling}
 use Rattle.cweb_tools.specs.Script.{refused, planned, script, web_acts}
 use Rattle.cweb_tools.specs.Tangle.{CanCome, planning_by, shown_by, tangled}
 use Rattle.cweb_tools.specs.inner.Course.{merge_course}
-use Rattle.cweb_tools.specs.inner.Does.{FollowsCourse}
+use Rattle.cweb_tools.specs.inner.Does.{FollowsCourse, at}
 
 -- The outputs of a plan, as files.
 abbrev pub plan_made : Stored → List (List ℕ) → Planned → Planning
@@ -59,8 +59,7 @@ tangle_course world None = unread
 tangle_course world (Some args) = tangled args.names.main (merge_course world (Some args.names.merge))
 
 -- The run ended before it read anything, as its course does.
-abbrev pub EndsUnread : Option OptionsModel → SinkModel → SinkModel → ℕ → Type 0
-EndsUnread args log log' status = (world : World) (shelf : ShelfModel) (out : SinkModel)
+abbrev pub EndsUnread : Option OptionsModel → StreamModel → StreamModel → ℕ → Type 0
+EndsUnread args log log' status = (world : World) (shelf : ShelfModel) (out : OutModel)
     → FollowsCourse (script (shown_by args)) (λ course. acts_status (script (shown_by args) course)) (CanCome args)
-    (tangle_course world args) (record { shelf = shelf; out = out; log = log })
-    (record { shelf = shelf; out = out; log = log' }) status
+    (tangle_course world args) (at shelf out log) (at shelf out log') status

@@ -1,5 +1,5 @@
 -- The model of a scanned web.
-use Rattle.std.specs.Prelude.{ℕ, List, [], All, ◌<◌, length, map, Option, Some, None}
+use Rattle.std.specs.Prelude.{ℕ, List, [], length, map, Option, Some, None}
 use Rattle.cweb_input.specs.surface.OpenedFileNames.{opened_file_names}
 use Rattle.cweb_scan.specs.surface.ScannedModel.{scanned_model}
 use Rattle.cweb_scan.specs.surface.Scan.{IsScanBelow}

@@ -1,11 +1,12 @@
 -- The files after a run of `ctangle`, however it ends.
-use Rattle.std.specs.Prelude.{fold, ◌≡◌, ℕ, List, ◌++◌}
+use Rattle.std.specs.Prelude.{fold, ◌≡◌, ℕ, List, ◌++◌, option_map}
 use Rattle.cweb_files.specs.Files.{put_file, File}
 use Rattle.cweb_input.specs.declared.stop.Stop.{Stop}
 use Rattle.cweb_input.specs.declared.stop.Stop.TheVariants.{OutNotOpened, WriteFault}
+use Rattle.cweb_log.specs.DeviceModels.{Devices, OutModel}
 use Rattle.cweb_log.specs.declared.shown.Shown.{Shown}
-use Rattle.cweb_tools.specs.Acts.{acts_status}
-use Rattle.cweb_tools.specs.Headline.{written_files}
+use Rattle.cweb_tools.specs.Acts.{Act, acts_status}
+use Rattle.cweb_tools.specs.Headline.{ActsKeepLimits, files_in, written_files}
 use Rattle.cweb_tools.specs.Script.{TangleCourse, script}
 
 -- The files of a whole run.
@@ -17,11 +18,16 @@ abbrev pub tangle_status : Shown → TangleCourse → ℕ
 tangle_status shown course = acts_status (script shown course)
 
 -- The first of the expected files were committed, in order, each whole. All others are unchanged.
-pub record LeavesFiles (expected old new : List File) : Type 0 where
+pub record LeavesFiles (expected : List File) (old new : OutModel) : Type 0 where
   pub done : List File
   pub undone : List File
   pub whole : expected ≡ done ++ undone
-  pub is : new ≡ fold put_file old done
+  pub is : files_in new ≡ option_map (λ (files : List File). fold put_file files done) (files_in old)
+
+-- No read failed, and all lines were within the limits.
+pub record HasReadAll (acts : List Act) (before after : Devices) : Type 0 where
+  pub shelf : after.shelf.failed ≡ before.shelf.failed
+  pub within : ActsKeepLimits acts
 
 -- The increase of the bins' failure count at a stop.
 abbrev pub bins_blame : Stop → ℕ

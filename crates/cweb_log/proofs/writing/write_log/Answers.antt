@@ -1,5 +1,5 @@
 use Rattle.cweb_log.proofs.Common.{[], sym, refl, arith, chunks_of}
-use Rattle.cweb_log.proofs.BufferedLog.{buffers_all, buffers_failed, writes_all, writes_prefix}
+use Rattle.cweb_log.proofs.BufferedLog.{buffers_all, buffers_failed, buffers_next, writes_all, writes_prefix}
 use Rattle.cweb_log.proofs.JoinedChunks.{bytes, joined_is}
 use Rattle.cweb_log.proofs.writing.write_log.Goals as goal
 
@@ -8,6 +8,11 @@ returns-in_err-add_chunk g c = rw (sym (joined_is c.args.text)) (writes_prefix {
     c.in_err-add_chunk.field-0.0 _ (buffers_failed bytes (chunks_of c.args.text) c.chunks.index [] _ _
     (omega (arith, c.chunks-test.true, c.chunks-index-end.ensures)) c.chunks.invariant
     (rw c.chunk.ensures at c.in_err-add_chunk.ensures) refl) c.from_residual.ensures.0)
+
+pub chunks-preserved : goal.chunks-preserved
+chunks-preserved g c = buffers_next bytes (chunks_of c.args.text) c.chunks.index [] _ _
+    (omega (arith, c.chunks-test.true, c.chunks-index-end.ensures)) c.chunks.invariant
+    (rw c.chunk.ensures at c.in_ok-add_chunk.ensures)
 
 pub returns : goal.returns
 returns g c = rw (sym (joined_is c.args.text)) (writes_all _ (buffers_all bytes (chunks_of c.args.text) c.chunks.index

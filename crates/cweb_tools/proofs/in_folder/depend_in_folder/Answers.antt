@@ -1,7 +1,7 @@
-use Rattle.cweb_tools.proofs.Common.{ℕ, List, Bor, map, options_by, option_copied, sink_model}
+use Rattle.cweb_tools.proofs.Common.{ℕ, List, Bor, map, option_copied, as_output, stream_model}
 use Rattle.cweb_tools.specs.Depend.{DependPromises, DependsFreely, targets_by}
 use Rattle.cweb_tools.proofs.Courses.{options_in}
-use Rattle.cweb_tools.proofs.InFolder.{runs_in}
+use Rattle.cweb_tools.proofs.InFolder.{runs_in, stays_so}
 use Rattle.cweb_tools.proofs.in_folder.depend_in_folder.Goals as goal
 
 pub returns : goal.returns
@@ -12,8 +12,8 @@ returns g c =
       promises = runs_in g.F.FileSystem c.args.fs
           (λ world before after status. DependPromises world targets args before after status
           × DependsFreely world targets args before after status)
-          (option_copied c.args.inputs) c.new-shelf.result c.run_wdep.new.shelf (sink_model g.W.Sink c.args.out.now)
-          (sink_model g.W.Sink c.run_wdep.new.out) (sink_model g.L.Sink c.args.log.now)
-          (sink_model g.L.Sink c.run_wdep.new.log) c.run_wdep.result c.new-shelf.ensures.system c.new-shelf.ensures.failed
-          c.run_wdep.ensures.promises.shelf_tells (c.run_wdep.ensures.promises, c.run_wdep.ensures.freely);
+          (option_copied c.args.inputs) c.new-shelf.result c.run_wdep.new.shelf (as_output (stream_model g.W.Sink c.args.out.now))
+          (as_output (stream_model g.W.Sink c.run_wdep.new.out)) (stream_model g.L.Sink c.args.log.now)
+          (stream_model g.L.Sink c.run_wdep.new.log) c.run_wdep.result c.new-shelf.ensures.system c.new-shelf.ensures.failed
+          (stays_so g.F.FileSystem c.new-shelf.result c.run_wdep.new.shelf c.run_wdep.ensures.promises) (c.run_wdep.ensures.promises, c.run_wdep.ensures.freely);
     }

@@ -1,5 +1,5 @@
 use Rattle.cweb_tools.proofs.Common.{refl, arith, files_of}
-use Rattle.cweb_tools.proofs.Doing.{closes_on, log_counted}
+use Rattle.cweb_tools.proofs.Doing.{ends_on, log_counted}
 use Rattle.cweb_tools.proofs.DoingFiles.{does_plan, log_halts}
 use Rattle.cweb_tools.proofs.Refusals.{planning_made}
 use Rattle.cweb_tools.proofs.tangle.tangle_web.Goals as goal
@@ -11,7 +11,7 @@ pub say_faults-requires : goal.say_faults-requires
 say_faults-requires g c = omega (arith, log_counted c.in_default.ensures, c.requires.counts.log)
 
 pub returns-in-Err-say_faults : goal.returns-in-Err-say_faults
-returns-in-Err-say_faults g c = λ shelf. closes_on ((rw c.as_slice.ensures.value at c.in_default.ensures) shelf _)
+returns-in-Err-say_faults g c = λ shelf. ends_on ((rw c.as_slice.ensures.value at c.in_default.ensures) shelf _)
     (log_halts _ (c.in-Err-say_faults.ensures shelf _) refl)
 
 pub tangle_planned-requires-clause-counts : goal.tangle_planned-requires-clause-counts
@@ -31,10 +31,10 @@ tangle_unplanned-requires-clause-count g c =
     omega (arith, log_counted c.in_default.ensures, log_counted c.in_default-say_faults.ensures, c.requires.counts.log)
 
 pub returns-in-Ok : goal.returns-in-Ok
-returns-in-Ok g c = λ shelf. closes_on ((rw c.as_slice.ensures.value at c.in_default.ensures) shelf _) (closes_on
-    (c.in_default-say_faults.ensures shelf _) (closes_on does_plan (rw (planning_made c.args.web.scanned.now.store
+returns-in-Ok g c = λ shelf. ends_on ((rw c.as_slice.ensures.value at c.in_default.ensures) shelf _) (ends_on
+    (c.in_default-say_faults.ensures shelf _) (ends_on does_plan (rw (planning_made c.args.web.scanned.now.store
     (files_of c.args.web) c.args.main.now _ (rw c.store.ensures at c.in-Ok.ensures)) (c.tangle_planned.ensures shelf))))
 
 pub returns-in-Err-plan : goal.returns-in-Err-plan
-returns-in-Err-plan g c = λ shelf. closes_on ((rw c.as_slice.ensures.value at c.in_default.ensures) shelf _)
-    (closes_on (c.in_default-say_faults.ensures shelf _) (c.tangle_unplanned.ensures.closes shelf _))
+returns-in-Err-plan g c = λ shelf. ends_on ((rw c.as_slice.ensures.value at c.in_default.ensures) shelf _)
+    (ends_on (c.in_default-say_faults.ensures shelf _) (c.tangle_unplanned.ensures.closes shelf _))

@@ -1,7 +1,8 @@
-use Rattle.cweb_tools.proofs.Common.{◌≡◌, refl, sym, ◌∙◌, ap, subst, arith, codes, None, Some, ◌∷◌, [], ◌==◌, if◌then◌else◌, ℕ, List, DoesInBins, WriteFault, ending, prints, reserves, done, sink_model, files_of, plan_made, dependencies}
+use Rattle.cweb_tools.proofs.Common.{◌≡◌, refl, sym, ◌∙◌, ap, arith, ◌==◌, if◌then◌else◌, ℕ, List, reserves, stream_model, files_of, plan_made, dependencies}
 use Rattle.cweb_tools.specs.Depfile.{depfile, each_once}
-use Rattle.cweb_tools.proofs.Doing.{closes_in, closes_on, log_counted}
+use Rattle.cweb_tools.proofs.Doing.{ends_done, ends_halted, ends_on, log_counted}
 use Rattle.cweb_tools.proofs.DoingFiles.{does_reserve, log_halts, memory_halts}
+use Rattle.cweb_log.proofs.BufferedLog.{writes_by}
 use Rattle.cweb_tools.proofs.Printing.{printed_prefix, printed_whole, target_names_among}
 use Rattle.cweb_tools.proofs.wdep.depend_planned.Goals as goal
 
@@ -12,40 +13,36 @@ pub log_stop-requires : goal.log_stop-requires
 log_stop-requires g c = omega (arith, log_counted c.in_default.ensures, c.requires.counts.log)
 
 pub returns-in_default-depfile : goal.returns-in_default-depfile
-returns-in_default-depfile g c = λ shelf. closes_on ((rw c.no_text.ensures at c.in_default.ensures) shelf _)
-    (memory_halts reserves _ (λ now. refl) c.log_stop.ensures.logs c.log_stop.ensures.status)
+returns-in_default-depfile g c = λ shelf. ends_on ((rw c.no_text.ensures at c.in_default.ensures) shelf _)
+    (memory_halts reserves _ refl c.log_stop.ensures.logs c.log_stop.ensures.status)
 
 pub log_stop-requires-in-Err-write_all : goal.log_stop-requires-in-Err-write_all
 log_stop-requires-in-Err-write_all g c = omega (arith, log_counted c.in_default.ensures, c.requires.counts.log)
 
 pub returns-in-Err-write_all : goal.returns-in-Err-write_all
 returns-in-Err-write_all g c =
-    let wrote = c.in-Err-write_all.ensures.appends in
+    let wrote = writes_by g.W.Sink _ _ _ c.in-Err-write_all.ensures.appends in
     let files : List (List ℕ) = files_of c.args.web in
     let text : c.as_slice.result.now
     ≡ dependencies c.args.targets files (plan_made c.args.web.scanned.now.store files c.args.plan.now) =
     c.as_slice.ensures.value ∙ c.in-Ok.ensures
     ∙ ap (λ (names : List (List ℕ)). depfile names (each_once files))
     (sym (target_names_among c.args.web.scanned.now.store files c.args.targets c.args.plan.now.outputs)) in
-    λ shelf. closes_on ((rw c.no_text.ensures at c.in_default.ensures) shelf _) (closes_on does_reserve
-    (closes_in [] (subst (λ (t : List ℕ).
-    DoesInBins (prints t ∷ []) (Some (ending WriteFault (codes "standard output")))
-    (sink_model g.W.Sink c.args.out.now) (sink_model g.W.Sink c.write_all.new.out)) text
-    (printed_prefix _ wrote.keeps.tells wrote.keeps.beside wrote.keeps.failed wrote.wrote) shelf _)
-    (record { shelf = refl; bins = refl; log = c.log_stop-in-Err-write_all.ensures.logs })
+    λ shelf. ends_on ((rw c.no_text.ensures at c.in_default.ensures) shelf _) (ends_on does_reserve
+    (ends_halted (rw text at (printed_prefix (stream_model g.W.Sink c.args.out.now)
+    (stream_model g.W.Sink c.write_all.new.out) wrote.err) shelf _)
+    (record { others = refl; log = c.log_stop-in-Err-write_all.ensures.logs })
     c.log_stop-in-Err-write_all.ensures.status))
 
 pub returns : goal.returns
 returns g c =
-    let wrote = c.in_default-write_all.ensures.appends in
+    let wrote = writes_by g.W.Sink _ _ _ c.in_default-write_all.ensures.appends in
     let files : List (List ℕ) = files_of c.args.web in
     let text : c.as_slice.result.now
     ≡ dependencies c.args.targets files (plan_made c.args.web.scanned.now.store files c.args.plan.now) =
     c.as_slice.ensures.value ∙ c.in-Ok.ensures
     ∙ ap (λ (names : List (List ℕ)). depfile names (each_once files))
     (sym (target_names_among c.args.web.scanned.now.store files c.args.targets c.args.plan.now.outputs)) in
-    λ shelf. closes_on ((rw c.no_text.ensures at c.in_default.ensures) shelf _) (closes_on does_reserve
-    (done (subst (λ (t : List ℕ). DoesInBins (prints t ∷ []) None
-    (sink_model g.W.Sink c.args.out.now) (sink_model g.W.Sink c.write_all.new.out)) text
-    (printed_whole _ wrote.keeps.tells wrote.keeps.beside wrote.keeps.failed wrote.wrote) shelf _)
+    λ shelf. ends_on ((rw c.no_text.ensures at c.in_default.ensures) shelf _) (ends_on does_reserve
+    (ends_done (rw text at (printed_whole _ (stream_model g.W.Sink c.args.out.now) wrote.ok) shelf _)
     (c.status.ensures ∙ ap (λ (n : ℕ). if n == 0 then 0 else 1) c.fault_count.ensures.count)))

@@ -1,5 +1,6 @@
-use Rattle.cweb_tools.proofs.Common.{option_copied, World, shelf_model, sink_model, WebNames, world_of}
+use Rattle.cweb_tools.proofs.Common.{Some, option_copied, sym, ◌∙◌, subst, World, ShelfModel, OutModel, StreamModel, Devices, as_output, at, printing_devices, shelf_model, stream_model, EndsMerge, WebNames, merge_course, world_of}
 use Rattle.cweb_log.specs.inner.Words.{merge_word_names}
+use Rattle.cweb_tools.proofs.Carried.{seen, shelf_same}
 use Rattle.cweb_tools.proofs.MergeStarts.{start_stopped}
 use Rattle.cweb_tools.proofs.wmerge.merge_web.Goals as goal
 
@@ -7,21 +8,33 @@ pub returns-in-Err : goal.returns-in-Err
 returns-in-Err g c =
     let world : World = world_of (g.S.Shelf.texts c.args.shelf.now) (option_copied c.args.inputs) in
     let names : WebNames = merge_word_names c.args.args.now in
-    start_stopped world names (shelf_model g.S.Shelf c.args.shelf.now) (shelf_model g.S.Shelf c.start-started.new.shelf)
-    c.in-Err.ensures.keeps.tells c.in-Err.ensures.failed c.in-Err.ensures.blamed (sink_model g.W.Sink c.args.out.now)
-    _ _ _ c.log_stop.ensures.status _ _ c.in-Err.stop c.in-Err.ensures.only
-    (λ tells. rw (c.as_str.ensures.value, c.second.ensures, c.change.ensures) at (c.in-Err.ensures.stops tells))
-    (rw c.start_subject.ensures at c.log_stop.ensures.logs)
+    let searched = c.in-Err.ensures in
+    let first : ShelfModel = shelf_model g.S.Shelf c.args.shelf.now in
+    let out : OutModel = as_output (stream_model g.W.Sink c.args.out.now) in
+    let log : StreamModel = stream_model g.L.Sink c.args.log.now in
+    let log' : StreamModel = stream_model g.L.Sink c.log_stop.new.log in
+    subst (λ (shelf : ShelfModel). EndsMerge (Some names) (merge_course world (Some names)) (at first out log)
+    (at shelf out log') c.log_stop.result)
+    (sym (shelf_same g.S.Shelf searched.keeps.tells searched.failed searched.blamed))
+    (start_stopped world names first out log log' _ c.log_stop.ensures.status _ _ c.in-Err.stop searched.only
+    (λ some. rw (c.as_str.ensures.value, c.second.ensures, c.change.ensures)
+    at (searched.stops (seen (g.S.Shelf.tells c.args.shelf.now) _ some)))
+    (rw c.start_subject.ensures at c.log_stop.ensures.logs))
 
 pub returns-in-Ok : goal.returns-in-Ok
 returns-in-Ok g c =
     let world : World = world_of (g.S.Shelf.texts c.args.shelf.now) (option_copied c.args.inputs) in
-    c.merge_begun.ensures (merge_word_names c.args.args.now) (shelf_model g.S.Shelf c.args.shelf.now) world _ _
-    (record {
-      tells = c.in-Ok.ensures.keeps.tells;
-      failed = c.in-Ok.ensures.failed;
-      blamed = c.in-Ok.ensures.blamed;
-      begins = λ tells. rw (c.as_str.ensures.value, c.second.ensures, c.change.ensures, c.folder.ensures)
-          at (c.in-Ok.ensures.begins tells);
-      known = c.in-Ok.ensures.readers;
-    })
+    let names : WebNames = merge_word_names c.args.args.now in
+    let begun = c.in-Ok.ensures in
+    let out : OutModel = as_output (stream_model g.W.Sink c.args.out.now) in
+    let log : StreamModel = stream_model g.L.Sink c.args.log.now in
+    let after : Devices = printing_devices g.S.Shelf g.W.Sink g.L.Sink c.merge_begun.new.shelf c.merge_begun.new.out
+    c.merge_begun.new.log in
+    subst (λ (shelf : ShelfModel). EndsMerge (Some names) (merge_course world (Some names)) (at shelf out log) after
+    c.merge_begun.result)
+    (shelf_same g.S.Shelf begun.keeps.tells begun.failed begun.blamed)
+    (c.merge_begun.ensures names world _ _ (record {
+      begins = λ some. rw (c.as_str.ensures.value, c.second.ensures, c.change.ensures, c.folder.ensures)
+          at (begun.begins (sym begun.keeps.tells ∙ seen (g.S.Shelf.tells c.start-started.new.shelf) _ some));
+      known = λ some. begun.readers (sym begun.keeps.tells ∙ seen (g.S.Shelf.tells c.start-started.new.shelf) _ some);
+    }))

@@ -1,12 +1,12 @@
 use Rattle.cweb_log.proofs.Common.{arith, part_bytes}
-use Rattle.cweb_log.proofs.BufferedLog.{buffers_none, buffers_next, buffers_failed, buffers_all}
+use Rattle.cweb_log.proofs.BufferedLog.{count_kept, buffers_none, buffers_next, buffers_failed, buffers_all}
 use Rattle.cweb_log.proofs.log_buffer.LogBuffer.add_chunk.Goals as goal
 
 pub parts-init : goal.parts-init
 parts-init g c = buffers_none _
 
 pub add_part-requires : goal.add_part-requires
-add_part-requires g c = omega (arith, c.parts.invariant.counts, c.requires)
+add_part-requires g c = omega (arith, count_kept c.parts.invariant, c.requires)
 
 pub returns-in_err-add_part : goal.returns-in_err-add_part
 returns-in_err-add_part g c = buffers_failed part_bytes c.args.parts.now c.parts.part-index

@@ -1,4 +1,4 @@
-use Rattle.cweb_log.proofs.Common.{◌≡◌, ◌<◌, ◌∙◌, ℕ, List, length, map, sym, arith, opened_file_names, LogItem, line, source_item, scan_item, name_item}
+use Rattle.cweb_log.proofs.Common.{◌<◌, ◌∙◌, ℕ, List, length, map, sym, arith, opened_file_names, LogItem, line, source_item, scan_item, name_item}
 use Rattle.std.proofs.lemmas.List.{length-map}
 use Rattle.cweb_log.proofs.JoinedChunks.{at_lines}
 use Rattle.cweb_log.proofs.log_text.LogText.chunk.Goals as goal

@@ -1,22 +1,21 @@
-use Rattle.cweb_tools.proofs.Common.{List, ℕ, Act, SinkModel, ShelfModel, Closes, ClosesInLog, false, refl, ap, ◌+◌, SinkFault, items_of}
-use Rattle.cweb_tools.proofs.Doing.{closes_on}
-use Rattle.cweb_tools.proofs.DoingFiles.{closes_reported, closing_on, log_halts}
+use Rattle.cweb_tools.proofs.Common.{List, ℕ, Act, StreamModel, OutModel, ShelfModel, RunEnds, EndsInLog, at, false, refl, ap, ◌+◌, SinkFault, items_of}
+use Rattle.cweb_tools.proofs.Doing.{ends_on}
+use Rattle.cweb_tools.proofs.DoingFiles.{ends_reported, closing_on, log_halts}
 use Rattle.cweb_tools.proofs.Refusals.{each_some, refusal_said}
 use Rattle.cweb_tools.proofs.tangle.unplanned.tangle_refused.Goals as goal
 
-in_log : {acts : List Act} {expected status : ℕ} {old new : SinkModel} → ((shelf : ShelfModel) (bins : SinkModel)
-    → Closes acts expected (record { shelf = shelf; out = bins; log = old })
-    (record { shelf = shelf; out = bins; log = new }) status) → ClosesInLog acts expected old new status
-in_log closes = closes
+in_log : {acts : List Act} {expected status : ℕ} {old new : StreamModel} → ((shelf : ShelfModel) (out : OutModel)
+    → RunEnds acts expected (at shelf out old) (at shelf out new) status) → EndsInLog acts expected old new status
+in_log ends = ends
 
 pub returns-in-Err : goal.returns-in-Err
-returns-in-Err g c = each_some _ _ (λ r is. in_log (λ shelf bins. log_halts _ (refusal_said {A = Unit {0}}
+returns-in-Err g c = each_some _ _ (λ r is. in_log (λ shelf out. log_halts _ (refusal_said {A = Unit {0}}
     c.args.web.scanned.now.store c.args.main.now c.args.fault r (items_of c.unplanned.result) is
-    (rw c.store.ensures at c.unplanned.ensures) c.in-Err.ensures shelf bins) refl))
+    (rw c.store.ensures at c.unplanned.ensures) c.in-Err.ensures shelf out) refl))
 
 pub returns : goal.returns
-returns g c = each_some _ _ (λ r is. in_log (λ shelf bins. closes_on (refusal_said {A = Unit {0}} {E = SinkFault}
+returns g c = each_some _ _ (λ r is. in_log (λ shelf out. ends_on (refusal_said {A = Unit {0}} {E = SinkFault}
     c.args.web.scanned.now.store c.args.main.now c.args.fault r (items_of c.unplanned.result) is
-    (rw c.store.ensures at c.unplanned.ensures) c.in_default.ensures shelf bins)
-    (closes_reported c.say_end.result (closing_on c.args.shown {missing = false} {missing' = false} c.of.ensures
-    (ap (λ (n : ℕ). n + 1) c.fault_count-count.ensures.count) refl c.say_end.ensures) refl refl shelf bins)))
+    (rw c.store.ensures at c.unplanned.ensures) c.in_default.ensures shelf out)
+    (ends_reported c.say_end.result (closing_on c.args.shown {missing = false} {missing' = false} c.of.ensures
+    (ap (λ (n : ℕ). n + 1) c.fault_count-count.ensures.count) refl c.say_end.ensures) refl refl shelf out)))
