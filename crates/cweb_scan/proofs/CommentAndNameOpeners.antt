@@ -1,6 +1,5 @@
--- Openers of comments and names: reading on is reading with the item open.
-use Rattle.cweb_scan.proofs.Common.{◌≡◌, ℕ, suc, ◌+◌, Bool, true, false, List, [], ◌∷◌, take, drop, refl, ap, ◌∙◌, arith, if◌then◌else◌, codes, nat_lt, fold, Reading, on, each_line_end, enter_in, after_lexeme, blank, begins, is_line_end, reach_size, names_include, reads_c, reads_names, name_match, opener_after, comment_match, End, Comment, RuleMatch, InComment, InName, takes_opener, resume, match_in, lex, Context, Limbo, TeX, Definition, CText, ScanState, drop_definition}
-use Rattle.cweb_rules.specs.Items as items
+-- Openers of names: reading on is reading with the item open.
+use Rattle.cweb_scan.proofs.Common.{◌≡◌, ℕ, suc, ◌+◌, Bool, true, false, List, [], ◌∷◌, take, drop, refl, ap, ◌∙◌, arith, if◌then◌else◌, codes, nat_lt, fold, Reading, on, each_line_end, enter_in, after_lexeme, blank, begins, is_line_end, reach_size, names_include, reads_c, reads_names, name_match, opener_after, comment_match, End, Comment, RuleMatch, InName, takes_opener, resume, match_in, lex, Context, Limbo, TeX, Definition, CText, ScanState, drop_definition}
 use Rattle.cweb_rules.specs.inner.Reaches as reaches
 use Rattle.cweb_rules.specs.Matches.{Occurrence}
 use Rattle.cweb_scan.proofs.NextMatchPays.{fair}
@@ -13,24 +12,6 @@ with_prefix r t f = lex (after_lexeme r (record { kind = f.kind; bytes = take f.
 pub run_as : (r : Reading) (b : ℕ) (t : List ℕ) (f : RuleMatch)
     → match_in r.state.context (names_include r.state) (b ∷ t) ≡ f → lex r (b ∷ t) ≡ with_prefix r (b ∷ t) f
 run_as r b t f h = ap (fold after_lexeme r) (pieces_first r b t (fair r.state b t).some) ∙ ap (with_prefix r (b ∷ t)) h
-
-comment_prefix : (c : Context) (includes : Bool) (w : List ℕ) → reads_c c ≡ true
-    → match_in c includes (47 ∷ 42 ∷ w) ≡ comment_match (47 ∷ 42 ∷ w)
-comment_prefix Limbo includes w h = cc
-comment_prefix TeX includes w h = cc
-comment_prefix _ includes w h = refl
-
-enter_comment : (c : Context) (how : End) (s : ScanState) → enter_in c (Comment how) s ≡ s
-enter_comment Limbo how s = refl
-enter_comment _ how s = refl
-
-pub opened_comment : (r : Reading) (w : List ℕ) → reads_c r.state.context ≡ true
-    → lex r (47 ∷ 42 ∷ w) ≡ resume (InComment r.state.here) w (on blank r)
-opened_comment r w h =
-    let m = items.reach_of_comment w in
-    let e : 2 + reach_size m ≡ suc (suc (reach_size m)) = omega arith in
-    run_as r 47 (42 ∷ w) (comment_match (47 ∷ 42 ∷ w)) (comment_prefix r.state.context (names_include r.state) w h)
-    ∙ rw (e, enter_comment r.state.context m.how r.state) refl
 
 -- A lexeme that may not occur in a head ends it.
 abbrev pub leave_head_in : Context → ScanState → ScanState

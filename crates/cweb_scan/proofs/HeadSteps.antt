@@ -133,7 +133,7 @@ dropped_passes n u h v new begun r same none in_head some is left passes =
     none p in
     subst (λ (k : ReaderModel). MakesProgress n u k new) old (record {
       some = q.some;
-      within = q.within;
+      last = q.last;
       taken = record {
         begun = q.taken.begun;
         within = q.taken.within;

@@ -14,7 +14,7 @@ passed : (n : ℕ) (u : List ℕ) (s new : ScanState) (g : Bool) (f : RuleMatch)
 passed n [] s new g f stays line some is ends yields = absurd (omega (arith, some))
 passed n (b ∷ t) s new g f stays line some is ends yields = record {
   some = omega (arith, yields.size, ap (λ (v : RuleMatch). v.size) is, (fair s b t).some);
-  within = refl;
+  last = λ e. cc;
   taken = staying_takes s new g n b t f line stays is ends yields;
 }
 

@@ -62,6 +62,8 @@ pub mod PendingRests
 pub mod PendingReaders
 pub mod PendingSpans
 pub mod LineSteps
+pub mod HeldItems
+pub mod HeldComments
 pub mod PlainStates
 pub mod PlainReadings
 pub mod PlainTokens

@@ -1,5 +1,5 @@
 -- The effect of a newline on a reader, for each open item.
-use Rattle.cweb_scan.proofs.Common.{◌≡◌, ℕ, suc, ◌+◌, ◌-◌, Bool, true, false, List, [], ◌∷◌, ◌++◌, take, drop, refl, ap, ◌∙◌, arith, append_assoc, ◌&&◌, ◌==◌, if◌then◌else◌, fold, Place, Context, Limbo, TeX, End, Closed, Cut, Goes, Ends, Reach, reach_size, with_unit, reach_in, match_in, opener_after, Kind, Skipped, LineEnd, RuleMatch, rule_match, Lexeme, ScanState, move_to, names_include, Reading, on, line_end_in, line_end, comment_line_end, each_line_end, pass_comment, enter_in, item, after_lexeme, lexemes_in, lex, InComment, InName, InLiteral, takes_opener, resume_literal, resume, resume_comment}
+use Rattle.cweb_scan.proofs.Common.{◌≡◌, ℕ, suc, ◌+◌, ◌-◌, Bool, true, false, List, [], ◌∷◌, ◌++◌, take, drop, refl, ap, ◌∙◌, arith, append_assoc, ◌&&◌, ◌==◌, if◌then◌else◌, fold, Place, Context, Limbo, TeX, End, Closed, Cut, Goes, Ends, Reach, reach_size, with_unit, reach_in, match_in, opener_after, Kind, Skipped, LineEnd, RuleMatch, rule_match, Lexeme, ScanState, move_to, names_include, Reading, on, line_end_in, line_end, comment_line_end, each_line_end, pass_comment, enter_in, item, after_lexeme, lexemes_in, lex, InName, InLiteral, takes_opener, resume_literal, resume}
 use Rattle.cweb_rules.specs.Items as items
 use Rattle.cweb_rules.specs.inner.Reaches as reaches
 use Rattle.cweb_scan.specs.inner.Resume.{AfterBackslash}
@@ -37,27 +37,9 @@ pub run-newline : (q : Place) (s : ScanState) (later : List Place) (t : List ℕ
 run-newline q s later t = ap (from_prefix (reading s (q ∷ later)) t) (prefix-newline s.context (names_include s) t)
     ∙ ap (λ (r : Reading). lex r t) (item-newline s.context q s later refl)
 
-comment-newline : (t : List ℕ) → items.reach_of_comment (10 ∷ t) ≡ with_unit (10 ∷ []) (items.reach_of_comment t)
-comment-newline [] = refl
-comment-newline (b ∷ t) = refl
-
 name-newline : (t : List ℕ) → reaches.reach_of_name (10 ∷ t) ≡ with_unit (10 ∷ []) (reaches.reach_of_name t)
 name-newline [] = refl
 name-newline (b ∷ t) = refl
-
-abbrev sized_comment : Place → End → List ℕ → ℕ → Reading → Reading
-sized_comment begun how t n m =
-    lex (on (pass_comment how begun) (each_line_end comment_line_end (take n t) m)) (drop n t)
-
--- In a comment.
-pub resume-comment : (begun q : Place) (s : ScanState) (later : List Place) (t : List ℕ)
-    → resume (InComment begun) (10 ∷ t) (reading s (q ∷ later))
-    ≡ resume (InComment begun) t (reading (comment_line_end q s) later)
-resume-comment begun q s later t =
-    let r = items.reach_of_comment t in
-    let e : reach_size (with_unit (10 ∷ []) r) ≡ suc (reach_size r) = omega arith in
-    ap (λ (v : Reach). resume_comment begun v (10 ∷ t) (reading s (q ∷ later))) (comment-newline t)
-    ∙ ap (λ n. sized_comment begun r.how (10 ∷ t) n (reading s (q ∷ later))) e
 
 -- In a name.
 abbrev sign_size : ScanState → ℕ → ℕ

@@ -1,5 +1,5 @@
 -- The bytes of a line are taken step by step.
-use Rattle.cweb_scan.proofs.Common.{◌≡◌, ◌≤◌, ◌<◌, ℕ, ◌+◌, Bool, true, false, List, length, drop, refl, ap, sym, ◌∙◌, subst, arith, if◌then◌else◌, length-drop, IsLine, ReaderModel, TakesPrefix, awaits_line_end, TakesPending, item_of, PendingItem, MakesProgress, TakesStep, remaining_work, IsLine-drop, is_pending, drop-sum}
+use Rattle.cweb_scan.proofs.Common.{◌≡◌, ◌≤◌, ◌<◌, ℕ, ◌+◌, Bool, true, false, List, length, drop, refl, ap, sym, ◌∙◌, subst, arith, if◌then◌else◌, length-drop, IsLine, Place, ReaderModel, TakesPrefix, awaits_line_end, TakesPending, item_of, PendingItem, MakesProgress, TakesStep, remaining_work, IsLine-drop, is_pending, drop-sum}
 use Rattle.cweb_scan.specs.inner.Resume as item
 use Rattle.cweb_scan.specs.declared.reader.open.Open.{Open}
 use Rattle.cweb_scan.specs.declared.reader.open.Open.TheVariants.{Between}
@@ -14,7 +14,7 @@ pub between_turn : (n : ℕ) (u : List ℕ) (h new : ReaderModel) → h.item ≡
 between_turn n u h new none p = record {
   taken = p.taken;
   less = omega (arith, one (is_pending new.item), p.some, p.taken.within, length-drop n u);
-  last = λ e. let wrong : true ≡ false = sym e ∙ p.within in cc;
+  last = p.last;
 }
 
 abbrev bit : Bool → ℕ
@@ -34,10 +34,10 @@ open_turn n u h new opens p = record {
 }
 
 -- The item that the code stores as open is open in the model.
-pub kept_open : (kind : Open) (delimiter text : List ℕ)
-    → (kind ≡ Between → ⊥) → is_pending (item_of kind delimiter text) ≡ true
-kept_open Between d t h = absurd (h refl)
-kept_open _ d t h = refl
+pub kept_open : (kind : Open) (delimiter text held : List ℕ) (places : List Place)
+    → (kind ≡ Between → ⊥) → is_pending (item_of kind delimiter text held places) ≡ true
+kept_open Between d t w ps h = absurd (h refl)
+kept_open _ d t w ps h = refl
 
 -- The bytes before the rest of a line were taken.
 pub record TakesFirst (line rest : List ℕ) (old new : ReaderModel) : Type 0 where

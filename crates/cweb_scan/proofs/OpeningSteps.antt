@@ -1,35 +1,23 @@
 -- Openers are taken as the code takes them.
-use Rattle.cweb_scan.proofs.Common.{◌≡◌, ◌≤◌, ℕ, ◌+◌, Bool, true, false, ◌&&◌, ◌==◌, List, [], ◌∷◌, ◌++◌, length, take, drop, refl, ap, sym, ◌∙◌, subst, arith, codes, eqb-true, length-drop, begins, starts_raw, starts_literal, literal_prefix, quote_of, raw_prefix, delimiter, IsLine, Context, Definition, blank, is_head, ReaderModel, TakesPrefix, PendingItem, InComment, InName, InLiteral, InRaw, resume, lex, Place, ScanState, IsPast, reads_c, reads_names, reads_literals, and_parts, is_quoted-size}
+use Rattle.cweb_scan.proofs.Common.{◌≡◌, ◌≤◌, ℕ, ◌+◌, Bool, true, false, ◌&&◌, ◌==◌, List, [], ◌∷◌, ◌++◌, length, take, drop, refl, ap, sym, ◌∙◌, subst, arith, codes, eqb-true, length-drop, begins, starts_raw, starts_literal, literal_prefix, quote_of, raw_prefix, delimiter, IsLine, Context, Definition, blank, is_head, ReaderModel, TakesPrefix, PendingItem, InName, InLiteral, InRaw, resume, lex, Place, ScanState, IsPast, reads_c, reads_names, reads_literals, and_parts, is_quoted-size}
 use Rattle.cweb_scan.specs.inner.MatchSteps.{name_opener}
 use Rattle.cweb_rules.proofs.LineDelimiters.{sign-fits, has_delimiter-size}
 use Rattle.cweb_scan.specs.inner.Resume as item
-use Rattle.cweb_scan.proofs.CommentAndNameOpeners.{leave_head_in, leave_head, opened_comment, opened_name, opened_file}
+use Rattle.cweb_scan.proofs.CommentAndNameOpeners.{leave_head_in, leave_head, opened_name, opened_file}
 use Rattle.cweb_scan.proofs.LiteralOpeners.{opened_raw, opened_literal}
 use Rattle.cweb_scan.proofs.TakenItems.{reading}
 use Rattle.cweb_scan.proofs.FirstMatchTaken.{between}
-use Rattle.cweb_scan.proofs.Weights.{blank-weight}
 
 abbrev pub opened : ScanState → Bool → PendingItem → ReaderModel
 opened s g item = record { state = s; item = item; begun = g }
 
 -- A source that begins with two bytes.
-two : (x y : ℕ) (u : List ℕ) → begins (x ∷ y ∷ []) u ≡ true → (w : List ℕ) × (x ∷ y ∷ w ≡ u)
+pub two : (x y : ℕ) (u : List ℕ) → begins (x ∷ y ∷ []) u ≡ true → (w : List ℕ) × (x ∷ y ∷ w ≡ u)
 two x y [] h = cc
 two x y (a ∷ []) h = let wrong : false ≡ true = (and_parts (x == a) false h).1 in cc
 two x y (a ∷ b ∷ w) h =
     let p = and_parts (x == a) ((y == b) && true) h in
     (w, (λ i. eqb-true x a p.0 i ∷ eqb-true y b (and_parts (y == b) true p.1).0 i ∷ w))
-
-pub comment_opens : (s : ScanState) (g : Bool) (u : List ℕ) → reads_c s.context ≡ true
-    → begins (codes "/*") u ≡ true → TakesPrefix 2 u (between s g) (opened (blank s) g (InComment s.here))
-comment_opens s g u c h =
-    let p = two 47 42 u h in
-    subst (λ (v : List ℕ). TakesPrefix 2 v (between s g) (opened (blank s) g (InComment s.here))) p.1 (record {
-      begun = refl;
-      within = omega arith;
-      adds = omega (arith, blank-weight s);
-      same = λ later more e. sym (opened_comment (reading s later) (p.0 ++ more) c);
-    })
 
 no_head : (c : Context) (s : ScanState) → is_head c ≡ false → leave_head_in c s ≡ s
 no_head (Definition begun) s h = cc

@@ -1,5 +1,5 @@
 -- The open item as the code stores it, after each step.
-use Rattle.cweb_scan.proofs.Common.{◌≡◌, ℕ, Bool, true, false, List, ◌++◌, refl, ap, sym, ◌∙◌, subst, list_all, Place, delimiter, unit_bytes, Context, Look, ReaderModel, in_open_part, pending_bytes, with_pending_bytes, delimiter_of, literal_step, look_size, TakesPending, item_of, is_raw, HasRawCloser, PendingItem, Between, InComment, InName, InRaw, closer_of, in_line}
+use Rattle.cweb_scan.proofs.Common.{◌≡◌, ℕ, Bool, true, false, List, ◌++◌, refl, ap, sym, ◌∙◌, subst, list_all, Place, delimiter, unit_bytes, Context, Look, ReaderModel, in_open_part, pending_bytes, with_pending_bytes, delimiter_of, literal_step, look_size, TakesPending, item_of, is_raw, HasRawCloser, PendingItem, Between, Held, InName, InRaw, closer_of, in_line}
 use Rattle.cweb_rules.proofs.LineDelimiters.{closing_sign-in_line}
 use Rattle.cweb_scan.specs.declared.reader.open.Open.{Open}
 use Rattle.cweb_scan.specs.declared.reader.open.Open.TheVariants as code
@@ -14,22 +14,24 @@ open_at n u h v is i item new made same takes =
     subst (λ (k : ReaderModel). TakesPending n u k new) old
     (subst (λ (k : ReaderModel). TakesPending n u (opened v.state v.begun i) k) (sym same) takes)
 
-pub item_texted : (o : Open) (d t now : List ℕ) → item_of o d now ≡ with_pending_bytes now (item_of o d t)
-item_texted code.Between d t now = refl
-item_texted _ d t now = refl
+pub item_texted : (o : Open) (d t now w : List ℕ) (ps : List Place)
+    → item_of o d now w ps ≡ with_pending_bytes now (item_of o d t w ps)
+item_texted code.Between d t now w ps = refl
+item_texted _ d t now w ps = refl
 
 abbrev pub has_text : PendingItem → Bool
 has_text i =
     elim i [
       | Between ↦ false
-      | InComment begun ↦ false
+      | Held text places ↦ false
       | _ ↦ true
     ]
 
-pub text_kept : (o : Open) (d t : List ℕ) → has_text (item_of o d t) ≡ true → t ≡ pending_bytes (item_of o d t)
-text_kept code.Between d t h = cc
-text_kept (code.Comment begun) d t h = cc
-text_kept _ d t h = refl
+pub text_kept : (o : Open) (d t w : List ℕ) (ps : List Place) → has_text (item_of o d t w ps) ≡ true
+    → t ≡ pending_bytes (item_of o d t w ps)
+text_kept code.Between d t w ps h = cc
+text_kept code.Comment d t w ps h = cc
+text_kept _ d t w ps h = refl
 
 abbrev is_raw_item : PendingItem → Bool
 is_raw_item i =
@@ -38,28 +40,30 @@ is_raw_item i =
       | _ ↦ false
     ]
 
-raw_kept : (o : Open) (d t : List ℕ) → is_raw_item (item_of o d t) ≡ true
-    → (is_raw o ≡ true) × (d ≡ delimiter_of (item_of o d t))
-raw_kept (code.Raw begun) d t h = (refl, refl)
-raw_kept _ d t h = cc
+raw_kept : (o : Open) (d t w : List ℕ) (ps : List Place) → is_raw_item (item_of o d t w ps) ≡ true
+    → (is_raw o ≡ true) × (d ≡ delimiter_of (item_of o d t w ps))
+raw_kept (code.Raw begun) d t w ps h = (refl, refl)
+raw_kept _ d t w ps h = cc
 
 -- The stored closer.
-pub sign_kept : (o : Open) (c : Context) (d t sign : List ℕ) (h : ReaderModel) (begun : Place) → item_of o d t ≡ h.item
+pub sign_kept : (o : Open) (c : Context) (d t sign w : List ℕ) (ps : List Place) (h : ReaderModel) (begun : Place)
+    → item_of o d t w ps ≡ h.item
     → h.item ≡ InRaw begun (delimiter_of h.item) (pending_bytes h.item) → HasRawCloser o c d sign
     → (sign ≡ closer_of (delimiter_of h.item)) × (list_all in_line (closer_of (delimiter_of h.item)) ≡ true)
-sign_kept o c d t sign h begun is item signed =
-    let raw = raw_kept o d t (ap is_raw_item (is ∙ item)) in
+sign_kept o c d t sign w ps h begun is item signed =
+    let raw = raw_kept o d t w ps (ap is_raw_item (is ∙ item)) in
     let same : sign ≡ closer_of (delimiter_of h.item) = signed.signed raw.0
     ∙ ap closer_of (raw.1 ∙ ap delimiter_of is) in
     (same, ap (λ (x : List ℕ). list_all in_line x) (sym same) ∙ signed.clean raw.0)
 
 -- A name with more bytes.
-pub name_texted : (o : Open) (d t now : List ℕ) (h : ReaderModel) (begun : Place) (is_file : Bool) (unit : List ℕ)
-    → item_of o d t ≡ h.item → h.item ≡ InName begun is_file (pending_bytes h.item) → now ≡ t ++ unit_bytes unit
-    → item_of o d now ≡ InName begun is_file (pending_bytes h.item ++ unit_bytes unit)
-name_texted o d t now h begun is_file unit is item longer =
-    let kept : t ≡ pending_bytes h.item = text_kept o d t (ap has_text (is ∙ item)) ∙ ap pending_bytes is in
-    item_texted o d t now ∙ ap (with_pending_bytes now) (is ∙ item)
+pub name_texted : (o : Open) (d t now w : List ℕ) (ps : List Place) (h : ReaderModel) (begun : Place) (is_file : Bool)
+    (unit : List ℕ) → item_of o d t w ps ≡ h.item → h.item ≡ InName begun is_file (pending_bytes h.item)
+    → now ≡ t ++ unit_bytes unit
+    → item_of o d now w ps ≡ InName begun is_file (pending_bytes h.item ++ unit_bytes unit)
+name_texted o d t now w ps h begun is_file unit is item longer =
+    let kept : t ≡ pending_bytes h.item = text_kept o d t w ps (ap has_text (is ∙ item)) ∙ ap pending_bytes is in
+    item_texted o d t now w ps ∙ ap (with_pending_bytes now) (is ∙ item)
     ∙ ap (λ (x : List ℕ). InName begun is_file x) (longer ∙ ap (λ (x : List ℕ). x ++ unit_bytes unit) kept)
 
 -- A step of a literal.

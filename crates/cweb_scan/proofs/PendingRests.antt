@@ -1,10 +1,8 @@
 -- Steps in the rest of an open item.
-use Rattle.cweb_scan.proofs.Common.{◌≡◌, ◌==◌, ◌≤◌, ◌<◌, ℕ, ◌+◌, ◌*◌, AtLineEnd, Between, PendingItem, awaits_line_end, Bool, true, false, List, [], ◌∷◌, ◌++◌, length, take, drop, refl, ap, sym, ◌∙◌, subst, arith, if◌then◌else◌, codes, bytes_eq, nat_lt, list_all, length-drop, drop_all, Place, begins, Reach, reach, reach_size, opener_after, unit_bytes, look_in_comment, look_in_name, look_in_literal, look_in_raw, IsLine, reached, MovesOn, End, Cut, Open, Reached, Look, Goes, Ends, DoubleAtInString, pass_comment, occurrence, ended_as, unit_state, literal_step, look_size, TakesPending, InComment, InName, InLiteral, InRaw, resume, closer_of, takes_opener, weight, lex, ScanState, report, pending_cost, is_pending, in_line, stops}
+use Rattle.cweb_scan.proofs.Common.{◌≡◌, ◌==◌, ◌≤◌, ◌<◌, ℕ, ◌+◌, ◌*◌, AtLineEnd, Between, PendingItem, awaits_line_end, Bool, true, false, List, [], ◌∷◌, ◌++◌, length, take, drop, refl, ap, sym, ◌∙◌, subst, arith, if◌then◌else◌, codes, bytes_eq, nat_lt, list_all, length-drop, drop_all, Place, begins, Reach, reach, reach_size, opener_after, unit_bytes, look_in_comment, look_in_name, look_in_literal, look_in_raw, IsLine, reached, MovesOn, End, Cut, Open, Reached, Look, Goes, Ends, DoubleAtInString, pass_comment, occurrence, ended_as, unit_state, literal_step, look_size, TakesPending, InName, InLiteral, InRaw, resume, closer_of, takes_opener, weight, lex, ScanState, report, pending_cost, is_pending, in_line, stops}
 use Rattle.cweb_rules.specs.inner.LineItems.{is_unclosed as stays}
 use Rattle.cweb_rules.proofs.Looks.{literal-local, raw-local, IsWithin, comment-units, name-units, raw-units}
 use Rattle.cweb_rules.proofs.Sizes.{end_size, name-within, raw-within, comment-within, begins-size, reach-size, opener_after-size}
-use Rattle.cweb_scan.proofs.Ends.{size-at_end, how-at_end}
-use Rattle.cweb_scan.proofs.PendingItemsInLine.{comment_stays, comment_ends}
 use Rattle.cweb_scan.proofs.OpeningSteps.{opened}
 use Rattle.cweb_scan.proofs.TakenItems.{reading}
 use Rattle.cweb_scan.proofs.FirstMatchTaken.{between}
@@ -21,37 +19,6 @@ goes_with n u s new g i j within moves fits adds same = record {
   moves = moves;
   last = λ e. let wrong : false ≡ true = sym within ∙ e in cc;
 }
-
-abbrev in_comment : List ℕ → Reach
-in_comment u = reach (look_in_comment (begins (codes "*/")) 2) Open u
-
--- A comment that the line doesn't end.
-pub comment_goes : (s : ScanState) (g : Bool) (begun : Place) (u : List ℕ) (r : Reached)
-    → IsLine u → 1 ≤ length u → r ≡ reached (in_comment u) → stays r.how ≡ true
-    → TakesPending (length u) u (opened s g (InComment begun)) (opened s g (InComment begun))
-comment_goes s g begun u r line some is still = goes_with (length u) u s s g (InComment begun) (InComment begun) refl
-    (λ h. some) (omega arith) (omega arith) (λ later more e.
-    ap (λ (t : List ℕ). resume (InComment begun) (t ++ more) (reading s later)) (drop_all (length u) u (omega arith))
-    ∙ sym (comment_stays begun u more (reading s later) e line (sym (ap (λ (v : Reached). stays v.how) is) ∙ still)))
-
-ended_stays : (how : End) → stays how ≡ false → how ≡ ended_as Cut how
-ended_stays Open h = cc
-ended_stays _ h = refl
-
--- A comment that ends in the line.
-pub comment_over : (s : ScanState) (g : Bool) (begun : Place) (u : List ℕ) (r : Reached)
-    → IsLine u → r ≡ reached (in_comment u) → stays r.how ≡ false
-    → TakesPending (r.size + r.close) u (opened s g (InComment begun)) (between (pass_comment r.how begun s) g)
-comment_over s g begun u r line is ends =
-    let look = look_in_comment (begins (codes "*/")) 2 in
-    let units = comment-units (begins (codes "*/")) 2 in
-    let size : r.size + r.close ≡ reach_size (reach look Cut u) = size-at_end look units Cut u r is in
-    let how : r.how ≡ (reach look Cut u).how = ended_stays r.how ends ∙ how-at_end look units Cut u r is in
-    let fits = reach-size look Cut (comment-within (begins (codes "*/")) 2 (begins-size (codes "*/"))) u in
-    goes_with (r.size + r.close) u s (pass_comment r.how begun s) g (InComment begun) Between refl (λ h. cc)
-    (omega (arith, size, fits)) (omega (arith, comment-weight r.how begun s)) (λ later more e.
-    (λ i. lex (reading (pass_comment (how i) begun s) later) (drop (size i) u ++ more))
-    ∙ sym (comment_ends begun u more (reading s later) e line (sym (ap (λ (v : Reached). stays v.how) is) ∙ ends)))
 
 fits_as : (look : List ℕ → Look) (n b : ℕ) (t : List ℕ) → IsWithin (look (b ∷ t)) (length (b ∷ t))
     → look (b ∷ t) ≡ Goes n → (0 < n) × (n ≤ length (b ∷ t))

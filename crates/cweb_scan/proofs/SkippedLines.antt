@@ -23,7 +23,7 @@ pub text_passed : (h new : ReaderModel) (line : Line) (lines : List Line) → h.
     → reads_c h.state.context ≡ false → prefix_len is_skipped line.bytes ≡ length line.bytes → IsLine line.bytes
     → new ≡ gone_to line.place h → read_after new lines ≡ read_after h (line ∷ lines)
 text_passed h new line lines begun between text plain clean is =
-    next_taken h new new line lines begun ended (text_bytes line.bytes new plain
+    next_taken h new new line 0 lines begun ended (text_bytes line.bytes new plain
     (ap (λ (x : ReaderModel). x.item) is ∙ between) (ap (λ (x : ReaderModel). reads_c x.state.context) is ∙ text) clean)
   where
     was : h ≡ begun_reader h.state Between
@@ -36,7 +36,7 @@ text_passed h new line lines begun between text plain clean is =
       begun = begun i;
     })
 
-    ended : TakesLineEnd line.place h new
-    ended = subst (λ (x : ReaderModel). TakesLineEnd line.place x new) (sym was) (subst (λ (x : ReaderModel).
-        TakesLineEnd line.place (begun_reader h.state Between) x) (sym now)
-        (line_ends kind.Between [] [] line.place h.state))
+    ended : TakesLineEnd line.place line.bytes 0 h new
+    ended = subst (λ (x : ReaderModel). TakesLineEnd line.place line.bytes 0 x new) (sym was) (subst (λ (x : ReaderModel).
+        TakesLineEnd line.place line.bytes 0 (begun_reader h.state Between) x) (sym now)
+        (line_ends kind.Between [] [] [] [] line.place line.bytes h.state refl))

@@ -6,6 +6,7 @@ ghost use Rattle.cweb_store.specs.surface.TokenModels.{token_model};
 pub mod codes;
 pub mod effects;
 pub mod further;
+pub mod items;
 pub mod line_ends;
 pub mod names;
 pub mod plain;

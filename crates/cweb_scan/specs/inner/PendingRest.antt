@@ -9,12 +9,12 @@ use Rattle.cweb_scan.specs.inner.MatchSteps.{unit_state}
 use Rattle.cweb_scan.specs.inner.ReaderModel.{ReaderModel, TakesPrefix}
 use Rattle.cweb_rules.specs.inner.Quotes.{quote_byte}
 use Rattle.cweb_rules.specs.declared.quote.Quote.{Quote}
-use Rattle.cweb_scan.specs.inner.Resume.{PendingItem, Between, InComment, InName, InLiteral, AfterBackslash, InRaw}
+use Rattle.cweb_scan.specs.inner.Resume.{awaits_line_end, PendingItem, Between, Held, InName, InLiteral, AfterBackslash, InRaw}
 
--- An item's bytes so far. A comment has none.
+-- The bytes so far of an item that isn't held.
 abbrev pub pending_bytes : PendingItem → List ℕ
 pending_bytes Between = []
-pending_bytes (InComment begun) = []
+pending_bytes (Held text places) = []
 pending_bytes (InName begun is_file text) = text
 pending_bytes (InLiteral begun quote text) = text
 pending_bytes (AfterBackslash begun quote text) = text
@@ -22,7 +22,7 @@ pending_bytes (InRaw begun delimiter text) = text
 
 abbrev pub with_pending_bytes : List ℕ → PendingItem → PendingItem
 with_pending_bytes now Between = Between
-with_pending_bytes now (InComment begun) = InComment begun
+with_pending_bytes now (Held text places) = Held text places
 with_pending_bytes now (InName begun is_file text) = InName begun is_file now
 with_pending_bytes now (InLiteral begun quote text) = InLiteral begun quote now
 with_pending_bytes now (AfterBackslash begun quote text) = AfterBackslash begun quote now
@@ -30,7 +30,7 @@ with_pending_bytes now (InRaw begun delimiter text) = InRaw begun delimiter now
 
 abbrev pub delimiter_of : PendingItem → List ℕ
 delimiter_of Between = []
-delimiter_of (InComment begun) = []
+delimiter_of (Held text places) = []
 delimiter_of (InName begun is_file text) = []
 delimiter_of (InLiteral begun quote text) = []
 delimiter_of (AfterBackslash begun quote text) = []
@@ -46,7 +46,7 @@ raw_item begun i = InRaw begun (delimiter_of i) (pending_bytes i)
 abbrev pub is_pending : PendingItem → Bool
 is_pending i = elim i [
   | Between ↦ false
-  | InComment begun ↦ true
+  | Held text places ↦ true
   | InName begun is_file text ↦ true
   | InLiteral begun quote text ↦ true
   | AfterBackslash begun quote text ↦ true
@@ -58,24 +58,13 @@ abbrev pub is_pending_literal : PendingItem → Bool
 is_pending_literal i =
     elim i [
       | Between ↦ false
-      | InComment begun ↦ false
+      | Held text places ↦ false
       | InName begun is_file text ↦ false
       | InLiteral begun quote text
           ↦ true
       | AfterBackslash begun quote text ↦ false
       | InRaw begun delimiter text ↦ true
     ]
-
--- A literal whose line ended in `\`.
-abbrev pub awaits_line_end : PendingItem → Bool
-awaits_line_end i = elim i [
-  | Between ↦ false
-  | InComment begun ↦ false
-  | InName begun is_file text ↦ false
-  | InLiteral begun quote text ↦ false
-  | AfterBackslash begun quote text ↦ true
-  | InRaw begun delimiter text ↦ false
-]
 
 -- The first n bytes belong to the open item, one at least if it stays open. A literal to be continued takes them all.
 pub record TakesPending (n : ℕ) (rest : List ℕ) (old new : ReaderModel) : Type 0 where

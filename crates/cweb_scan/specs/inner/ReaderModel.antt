@@ -6,9 +6,9 @@ use Rattle.cweb_names.specs.surface.Names.{too_many}
 use Rattle.cweb_rules.specs.inner.LineItems.{AtLineEnd, IsLine}
 use Rattle.cweb_rules.specs.declared.end.End.TheVariants.{Cut}
 use Rattle.cweb_scan.specs.State.{ScanState, move_to, start_state}
-use Rattle.cweb_scan.specs.After.{Reading, line_end, comment_line_end, pass_comment, occurrence, emit_literal}
-use Rattle.cweb_scan.specs.inner.Resume.{PendingItem, Between, InComment, InName, InLiteral, AfterBackslash, InRaw}
-use Rattle.cweb_scan.specs.inner.Resume.{resume}
+use Rattle.cweb_scan.specs.After.{Reading, line_end, occurrence, emit_literal}
+use Rattle.cweb_scan.specs.inner.Resume.{PendingItem, Between, Held, InName, InLiteral, AfterBackslash, InRaw}
+use Rattle.cweb_scan.specs.inner.Resume.{awaits_line_end, resume}
 use Rattle.cweb_scan.specs.inner.Room.{weight}
 use Rattle.cweb_scan.specs.Alone.{read_lines}
 use Rattle.cweb_scan.specs.inner.ScanParts.{no_place}
@@ -28,10 +28,10 @@ new_reader = record { state = start_state no_place; item = Between; begun = fals
 abbrev pub begun_reader : ScanState → PendingItem → ReaderModel
 begun_reader s item = record { state = s; item = item; begun = true }
 
--- The reader after a newline, whose effect depends on the next line's place.
+-- The reader after a newline, whose effect depends on the next line's place, unless it holds an item.
 abbrev pub after_line_end : Place → PendingItem → ScanState → ReaderModel
+after_line_end q (Held text places) s = begun_reader s (Held text places)
 after_line_end q Between s = begun_reader (line_end q s) Between
-after_line_end q (InComment begun) s = begun_reader (comment_line_end q s) (InComment begun)
 after_line_end q (InName begun is_file text) s = begun_reader (move_to q s) (InName begun is_file (text ++ 10 ∷ []))
 after_line_end q (InLiteral begun quote text) s = begun_reader (line_end q (emit_literal text Cut begun s)) Between
 after_line_end q (AfterBackslash begun quote text) s =
@@ -52,10 +52,11 @@ read_after h lines = elim h.begun [
   | true ↦ read_on h (places lines) (newline_prefixed lines)
 ]
 
--- The newline before a line was taken.
-pub record TakesLineEnd (place : Place) (old new : ReaderModel) : Type 0 where
+-- The newline before a line was taken, and the first n bytes of the line with it.
+pub record TakesLineEnd (place : Place) (line : List ℕ) (n : ℕ) (old new : ReaderModel) : Type 0 where
   pub begun : new.begun ≡ true
-  pub same : (later : List Place) (t : List ℕ) → read_on new later t ≡ read_on old (place ∷ later) (10 ∷ t)
+  pub same : (later : List Place) (more : List ℕ) → AtLineEnd more
+      → read_on new later (drop n line ++ more) ≡ read_on old (place ∷ later) (10 ∷ line ++ more)
 
 -- The bytes of a line were taken. A newline or nothing follows.
 pub record TakesBytes (line : List ℕ) (old new : ReaderModel) : Type 0 where
@@ -66,7 +67,7 @@ pub record TakesBytes (line : List ℕ) (old new : ReaderModel) : Type 0 where
 -- What an open item will add to the weight when it ends.
 abbrev pub pending_cost : PendingItem → ℕ
 pending_cost Between = 0
-pending_cost (InComment begun) = 0
+pending_cost (Held text places) = 3 * length text
 pending_cost (InName begun is_file text) = 4
 pending_cost (InLiteral begun quote text) = 1
 pending_cost (AfterBackslash begun quote text) = 1
@@ -84,11 +85,14 @@ pub record TakesPrefix (n : ℕ) (rest : List ℕ) (old new : ReaderModel) : Typ
   pub same : (later : List Place) (more : List ℕ) → AtLineEnd more
       → read_on new later (drop n rest ++ more) ≡ read_on old later (rest ++ more)
 
--- A line begins: the first one, or one after a newline.
-pub record BeginsLine (place : Place) (old new : ReaderModel) : Type 0 where
-  pub first : old.begun ≡ false → new ≡ reader_at place
-  pub next : old.begun ≡ true → TakesLineEnd place old new
-  pub adds : cost new ≤ cost old + 3
+-- A line begins: the first one, or one after a newline. Its first n bytes belong to the held item, all if that stays
+-- open.
+pub record BeginsLine (place : Place) (line : List ℕ) (n : ℕ) (old new : ReaderModel) : Type 0 where
+  pub first : old.begun ≡ false → (n ≡ 0) × (new ≡ reader_at place)
+  pub next : old.begun ≡ true → TakesLineEnd place line n old new
+  pub within : n ≤ length line
+  pub adds : cost new ≤ cost old + 3 * (n + 1)
+  pub last : awaits_line_end new.item ≡ true → n ≡ length line
 
 -- A line without newlines, and room for what it and the newline before it add.
 pub record HasLineRoom (line : List ℕ) (h : ReaderModel) : Type 0 where
@@ -101,6 +105,10 @@ pub record TakesLine (place : Place) (line : List ℕ) (old new : ReaderModel) :
       → read_after new lines ≡ read_after old (record { bytes = line; place = place } ∷ lines)
   pub adds : cost new ≤ cost old + 3 * (length line + 1)
 
+-- Holds the source of an item that the line leaves open.
+abbrev pub holding : List ℕ → ReaderModel → ReaderModel
+holding text h = record { state = h.state; item = Held text []; begun = h.begun }
+
 -- Moves to another line outside C text.
 abbrev pub gone_to : Place → ReaderModel → ReaderModel
 gone_to place h = record h { state = move_to place h.state }
@@ -108,7 +116,7 @@ gone_to place h = record h { state = move_to place h.state }
 -- The state at the end of the source, which ends an open item.
 abbrev pub source_ended : PendingItem → ScanState → ScanState
 source_ended Between s = s
-source_ended (InComment begun) s = pass_comment Cut begun s
+source_ended (Held text places) s = (resume (Held text places) [] (record { state = s; later = [] })).state
 source_ended (InName begun is_file text) s = occurrence is_file text Cut false begun s
 source_ended (InLiteral begun quote text) s = emit_literal text Cut begun s
 source_ended (AfterBackslash begun quote text) s = emit_literal (text ++ 92 ∷ []) Cut begun s

@@ -9,28 +9,39 @@ use Rattle.cweb_rules.specs.Items as items
 use Rattle.cweb_rules.specs.inner.Reaches as reaches
 use Rattle.cweb_scan.specs.State.{ScanState, move_to}
 use Rattle.cweb_rules.specs.declared.context.Context.TheVariants.{Limbo, TeX, Definition, Macro, CText}
-use Rattle.cweb_scan.specs.After.{Reading, on, each_line_end, comment_line_end, pass_comment, occurrence}
+use Rattle.cweb_scan.specs.After.{Reading, on, each_line_end, occurrence}
 use Rattle.cweb_scan.specs.After.{emit_literal, literal_unit}
 use Rattle.cweb_scan.specs.Alone.{lex}
 
--- No item, a comment, a name with its bytes so far, or a literal with its quote and bytes so far. A literal may wait
--- for a newline after `\`, or be raw with its delimiter.
+-- No item, a held item with its source so far, a name with its bytes so far, or a literal with its quote and bytes so
+-- far. The lines after the newlines of a held item have these places. A literal may wait for a newline after `\`, or be
+-- raw with its delimiter.
 pub data PendingItem : Type 0 where
   Between : PendingItem
-  InComment : (begun : Place) → PendingItem
+  Held : (text : List ℕ) (places : List Place) → PendingItem
   InName : (begun : Place) (is_file : Bool) (text : List ℕ) → PendingItem
   InLiteral : (begun : Place) (quote : ℕ) (text : List ℕ) → PendingItem
   AfterBackslash : (begun : Place) (quote : ℕ) (text : List ℕ) → PendingItem
   InRaw : (begun : Place) (delimiter text : List ℕ) → PendingItem
 
+-- An item whose source so far is held.
+abbrev pub is_held : PendingItem → Bool
+is_held i = elim i [ Held text places ↦ true | _ ↦ false ]
+
+-- A held item, or a literal whose line ended in `\`.
+abbrev pub awaits_line_end : PendingItem → Bool
+awaits_line_end i = elim i [
+  | Between ↦ false
+  | Held text places ↦ true
+  | InName begun is_file text ↦ false
+  | InLiteral begun quote text ↦ false
+  | AfterBackslash begun quote text ↦ true
+  | InRaw begun delimiter text ↦ false
+]
+
 -- In C text a part opener is read as C text.
 abbrev pub takes_opener : ScanState → Bool
 takes_opener s = elim s.context [ Limbo ↦ true | TeX ↦ true | Definition begun ↦ true | Macro ↦ true | CText ↦ false ]
-
-abbrev pub resume_comment : Place → Reach → List ℕ → Reading → Reading
-resume_comment begun r t m =
-    lex (on (pass_comment r.how begun) (each_line_end comment_line_end (take (reach_size r) t) m))
-    (drop (reach_size r) t)
 
 abbrev pub resume_name : Place → Bool → List ℕ → Reach → ℕ → List ℕ → Reading → Reading
 resume_name begun is_file text r sign t m =
@@ -50,7 +61,7 @@ closer_of delimiter = codes ")" ++ delimiter ++ codes "\""
 -- The reading after the rest of a source, in which an item may be open.
 abbrev pub resume : PendingItem → List ℕ → Reading → Reading
 resume Between t m = lex m t
-resume (InComment begun) t m = resume_comment begun (items.reach_of_comment t) t m
+resume (Held text places) t m = lex (record { state = m.state; later = places ++ m.later }) (text ++ t)
 resume (InName begun is_file text) t m = let r = reaches.reach_of_name t in
     resume_name begun is_file text r (opener_after r.how (drop (reach_size r) t)) t m
 resume (InLiteral begun quote text) t m = resume_literal begun text (reaches.reach_of_literal quote t) t m

@@ -1,5 +1,5 @@
 // Takes the bytes of a line, step by step.
-ghost use Rattle.std.specs.Prelude.{◌≡◌, ◌≤◌, ◌<◌, ◌+◌, ◌*◌, IfOk, OnOk, length, false};
+ghost use Rattle.std.specs.Prelude.{◌≡◌, ◌≤◌, ◌<◌, ◌+◌, ◌*◌, IfOk, OnOk, length, true, false};
 ghost use Rattle.cweb_names.specs.surface.Names.{too_many};
 
 use crate::reader::Reader;
@@ -10,7 +10,7 @@ use std::alloc::AllocError;
 impl Reader {
     ghost use Rattle.cweb_rules.specs.inner.LineItems.{IsLine};
     ghost use Rattle.cweb_scan.specs.inner.ReaderModel.{cost, TakesBytes};
-    ghost use Rattle.cweb_scan.specs.inner.PendingRest.{awaits_line_end};
+    ghost use Rattle.cweb_scan.specs.inner.Resume.{awaits_line_end};
     ghost use Rattle.cweb_scan.specs.inner.ReaderSteps.{TakesStep};
 
     // One step: a run of plain C text and the lexeme after it, or a unit of the open item. Returns its size.
@@ -39,7 +39,7 @@ impl Reader {
     /// Takes the bytes of a line. Its newline is taken when the next line begins.
     pub(crate) fn take_bytes(&mut self, line: &[u8]) -> Result<(), AllocError>
         requires clean { IsLine line.now }
-        requires within { awaits_line_end self.old.item ≡ false }
+        requires last { awaits_line_end self.old.item ≡ true → length line.now ≡ 0 }
         requires room { cost self.old + 3 * length line.now + 8 < too_many }
         ensures bytes { OnOk result (TakesBytes line.now self.old self.new) }
         ensures cost { OnOk result (cost self.new ≤ cost self.old + 3 * length line.now) }

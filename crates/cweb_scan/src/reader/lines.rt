@@ -18,19 +18,20 @@ impl Reader {
     ghost use Rattle.cweb_scan.specs.inner.ReaderModel.{after_line_end, cost, gone_to, read_after};
     ghost use Rattle.cweb_scan.specs.inner.ReaderModel.{source_ended, BeginsLine};
     ghost use Rattle.cweb_scan.specs.inner.ReaderModel.{HasLineRoom, TakesLine};
-    ghost use Rattle.cweb_scan.specs.inner.PendingRest.{awaits_line_end};
+    ghost use Rattle.cweb_scan.specs.inner.Resume.{is_held};
     ghost use Rattle.cweb_scan.specs.inner.Resume.{Between};
     ghost use Rattle.cweb_scan.specs.inner.Room.{weight};
 
     // Takes the newline before a line, now that the line's place is known.
     fn end_line(&mut self, next: Place) -> Result<(), AllocError>
         requires begun { self.old.begun ≡ true }
+        requires loose { is_held self.old.item ≡ false }
         requires room { cost self.old + 8 < too_many }
         ensures { OnOk result (self.new ≡ after_line_end next self.old.item self.old.state) }
     {
         match self.item {
             Open::Between => self.scanner.end_line(next),
-            Open::Comment(_) => self.scanner.end_comment_line(next),
+            Open::Comment => Ok(()),
             Open::Name { .. } | Open::Raw(_) => {
                 self.text.push(b'\n')?;
                 self.scanner.go_to(next);
@@ -50,20 +51,22 @@ impl Reader {
         }
     }
 
-    // Begins a line: the first one, or one after a newline.
-    fn begin_line(&mut self, place: Place) -> Result<(), AllocError>
-        requires { cost self.old + 8 < too_many }
-        ensures begins { OnOk result (BeginsLine place self.old self.new) }
-        ensures within { OnOk result (awaits_line_end self.new.item ≡ false) }
+    // Begins a line: the first one, or one after a newline. Returns the number of its bytes that a held item takes.
+    fn begin_line(&mut self, place: Place, line: &[u8]) -> Result<usize, AllocError>
+        requires { HasLineRoom line.now self.old }
+        ensures { IfOk result (λ n. BeginsLine place line.now n self.old self.new) }
     {
-        if self.begun {
-            self.end_line(place)?;
-            return Ok(());
+        if !self.begun {
+            self.scanner = Scanner::new(self.alloc, place);
+            self.item = Open::Between;
+            self.begun = true;
+            return Ok(0);
         }
-        self.scanner = Scanner::new(self.alloc, place);
-        self.item = Open::Between;
-        self.begun = true;
-        Ok(())
+        if self.is_held() {
+            return self.go_on(place, line);
+        }
+        self.end_line(place)?;
+        Ok(0)
     }
 
     // Whether a line outside C text has no `@`, and is not the first.
@@ -109,8 +112,9 @@ impl Reader {
         requires { HasLineRoom line.now self.old }
         ensures { OnOk result (TakesLine place line.now self.old self.new) }
     {
-        self.begin_line(place)?;
-        self.take_bytes(line)?;
+        let taken = self.begin_line(place, line)?;
+        let (_, rest) = line.split_at(taken);
+        self.take_bytes(rest)?;
         Ok(())
     }
 
@@ -123,7 +127,10 @@ impl Reader {
         self.item = Open::Between;
         match item {
             Open::Between => Ok(()),
-            Open::Comment(begun) => self.scanner.pass_comment(End::Cut, begun),
+            Open::Comment => {
+                self.scanner.take_comment(&self.held, &self.places)?;
+                Ok(())
+            }
             Open::Name { begun, is_file } => {
                 self.scanner
                     .end_name(is_file, &self.text, End::Cut, false, begun)
@@ -155,6 +162,8 @@ impl Reader {
             alloc: _,
             scanner,
             item: _,
+            held: _,
+            places: _,
             text: _,
             delimiter: _,
             sign: _,

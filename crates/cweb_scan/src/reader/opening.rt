@@ -3,9 +3,10 @@ ghost use Rattle.std.specs.Prelude.{◌≡◌, IfOk, codes, true, false};
 
 use crate::reader::Reader;
 use crate::reader::open::Open;
+use crate::reader::opened::is_unclosed;
 use crate::rest::Rest;
 use cweb_rules::Quote;
-use cweb_rules::bytes::begins;
+use cweb_rules::items::{Item, reach};
 use cweb_rules::literals::{delimiter, literal_prefix, raw_prefix};
 use std::alloc::AllocError;
 
@@ -18,15 +19,18 @@ impl Reader {
 
     /// `/*`. Like the functions below, it returns the number of bytes taken.
     #[inline(never)]
-    pub(crate) fn open_comment(&mut self, rest: &[u8]) -> Result<usize, AllocError>
+    pub(crate) fn open_comment(&mut self, rest: Rest<'_>) -> Result<usize, AllocError>
         requires next { AwaitsLexeme (reads_c self.old.state.context ≡ true) self.old }
-        requires sign { spec.begins (codes "/*") rest.now ≡ true }
-        ensures { IfOk result (λ n. MakesProgress n rest.now self.old self.new) }
+        requires sign { spec.begins (codes "/*") rest.bytes.now ≡ true }
+        ensures { IfOk result (λ n. MakesProgress n rest.entry.bytes.now self.old self.new) }
     {
-        let begun = self.scanner.here();
-        self.scanner.blank()?;
-        self.item = Open::Comment(begun);
-        Ok(2)
+        let (_, inner) = rest.bytes.split_at(2);
+        if is_unclosed(reach(Item::Comment, inner).how) {
+            self.hold(Open::Comment, rest.bytes)?;
+            return Ok(rest.bytes.len());
+        }
+        let size = self.scanner.take_comment(rest.bytes, &[])?;
+        Ok(size)
     }
 
     /// `@<`, or `@(` for a file.

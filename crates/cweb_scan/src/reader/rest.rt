@@ -1,14 +1,14 @@
-// The rest of an open item: one unit per step, but the whole rest of a comment in its line.
+// The rest of an open name or literal: one unit per step.
 ghost use Rattle.std.specs.Prelude.{◌≡◌, ◌≤◌, ◌<◌, ◌+◌, [], IfOk, OnOk, codes, drop, length, true, false};
 ghost use Rattle.cweb_names.specs.surface.Names.{too_many};
 
 use crate::reader::Reader;
 use crate::reader::open::Open;
-use crate::reader::opened::{is_unclosed, opener_after};
+use crate::reader::opened::opener_after;
 use crate::rest::Rest;
 use cweb_files::Place;
 use cweb_rules::bytes::begins;
-use cweb_rules::items::{Item, reach};
+use cweb_rules::items::Item;
 use cweb_rules::{End, Look, Quote, push_unit};
 use std::alloc::AllocError;
 
@@ -18,25 +18,11 @@ impl Reader {
     ghost use Rattle.cweb_rules.specs.declared.items.Item.TheVariants.{Name};
     ghost use Rattle.cweb_rules.specs.inner.PlainBytes.{is_plain};
     ghost use Rattle.cweb_scan.specs.inner.ReaderModel.{cost};
-    ghost use Rattle.cweb_scan.specs.inner.PendingRest.{awaits_line_end, is_pending_literal};
+    ghost use Rattle.cweb_scan.specs.inner.PendingRest.{is_pending_literal};
     ghost use Rattle.cweb_scan.specs.inner.PendingRest.{is_pending, literal_item, literal_step};
     ghost use Rattle.cweb_scan.specs.inner.PendingRest.{look_size, raw_item, pending_bytes, with_span};
     ghost use Rattle.cweb_scan.specs.inner.PendingRest.{TakesPending};
-    ghost use Rattle.cweb_scan.specs.inner.Resume.{InComment, InName};
-
-    // Takes a comment up to its end or that of the line.
-    fn take_comment(&mut self, begun: Place, rest: Rest<'_>) -> Result<usize, AllocError>
-        requires open { self.old.item ≡ InComment begun }
-        ensures { IfOk result (λ n. TakesPending n rest.entry.bytes.now self.old self.new) }
-    {
-        let reached = reach(Item::Comment, rest.bytes);
-        if is_unclosed(reached.how) {
-            return Ok(rest.bytes.len());
-        }
-        self.item = Open::Between;
-        self.scanner.pass_comment(reached.how, begun)?;
-        Ok(reached.size + reached.close)
-    }
+    ghost use Rattle.cweb_scan.specs.inner.Resume.{awaits_line_end, InName};
 
     // Appends plain bytes of an item.
     fn take_span(&mut self, size: usize, rest: &[u8]) -> Result<(), AllocError>
@@ -192,11 +178,10 @@ impl Reader {
         ensures { IfOk result (λ n. TakesPending n rest.entry.bytes.now self.old self.new) }
     {
         match self.item {
-            Open::Comment(begun) => self.take_comment(begun, rest),
             Open::Name { begun, is_file } => self.take_name(begun, is_file, rest),
             Open::Literal { begun, quote } => self.take_literal(begun, quote, rest),
             Open::Raw(begun) => self.take_raw(begun, rest),
-            Open::Between | Open::AfterBackslash { .. } => Ok(0),
+            Open::Between | Open::Comment | Open::AfterBackslash { .. } => Ok(0),
         }
     }
 }

@@ -6,7 +6,7 @@ pub returns-clause-made : goal.returns-clause-made
 returns-clause-made c =
     let r = c.self.inside in
     let read = subst (λ (h : ReaderModel). (read_after h []).state ≡ source_ended h.item h.state) c.self.view_is
-    (text_read r.item r.delimiter.items r.text.items r.scanner r.begun c.if-not-self.false) in
+    (text_read r.item r.delimiter.items r.text.items r.held.items r.places.items r.scanner r.begun c.if-not-self.false) in
     ap (λ (h : ReaderModel). h.state) c.self-2.view_is ∙ c.in_ok-end_source.ensures ∙ sym read
 
 pub returns-clause-room : goal.returns-clause-room

@@ -14,7 +14,7 @@ returns c =
     let text = c.in_ok-extend_from_slice.ensures.items ∙ (λ i. c.clear.ensures.items i ++ c.split_at.ensures.front i) in
     record {
       some = omega arith;
-      within = refl;
+      last = λ e. cc;
       taken = takes_at (n + 1) u _ _ c.self.view_is c.requires.next.between (opened s g (InLiteral s.here
           (quote_of (drop n u)) (take (n + 1) u))) _ (λ i. opened s g (InLiteral (sym c.here.ensures i)
           (sym quote i) (sym text i))) (literal_opens_at s g u n c.literal_prefix-prefix.ensures.value reads

@@ -10,7 +10,7 @@ returns c =
     let reads = at_state (λ (u : ScanState). reads_names u.context ≡ true) _ _ c.self.view_is c.requires.next.context in
     record {
       some = omega arith;
-      within = refl;
+      last = λ e. cc;
       taken = takes_at 2 c.args.rest.now _ _ c.self.view_is c.requires.next.between
           (opened s g (InName s.here c.args.is_file [])) _
           (λ i. opened s g (InName (sym c.here.ensures i) c.args.is_file (sym c.clear.ensures.items i)))

@@ -21,8 +21,11 @@ invariant_of-self-2 c =
     ∙ (λ i. c.in_ok-extend_from_slice-3.ensures.items i ++ 34 ∷ [])
     ∙ (λ i. (c.in_ok-push.ensures.items i ++ d) ++ 34 ∷ [])
     ∙ (λ i. ((c.clear-3.ensures.items i ++ 41 ∷ []) ++ d) ++ 34 ∷ []) in
-    raw_signed s.context c.here.result
-    (drop (c.raw_prefix-start.result + 2) c.args.rest.bytes.now) d _ _ name kept sign (literals_in_part s.context reads)
+    record {
+      raw = raw_signed s.context c.here.result (drop (c.raw_prefix-start.result + 2) c.args.rest.bytes.now) d _ _ name
+          kept sign (literals_in_part s.context reads);
+      source = tt;
+    }
 
 pub returns : goal.returns
 returns c =
@@ -40,7 +43,7 @@ returns c =
     let kept = c.in_ok-extend_from_slice-2.ensures.items ∙ (λ i. c.clear-2.ensures.items i ++ d) in
     record {
       some = omega arith;
-      within = refl;
+      last = λ e. cc;
       taken = takes_at n u _ _ c.self.view_is c.requires.next.between (opened s g (InRaw s.here d (take n u))) _
           (λ i. opened s g (InRaw (sym c.here.ensures i) (sym kept i) (sym text i)))
           (raw_opens_at s g u p d c.raw_prefix-start.ensures.value name

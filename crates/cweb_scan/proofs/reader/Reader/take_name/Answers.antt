@@ -17,7 +17,7 @@ returns-in_ok-push_unit-in-Goes c =
     let longer = c.in_ok-push_unit-in-Goes.ensures
     ∙ ap (λ (x : List ℕ). r.text.items ++ unit_bytes x) c.split_at-in-Goes.ensures.front in
     let named = name_texted r.item r.delimiter.items
-    r.text.items c.push_unit.new.text.items h c.args.begun c.args.is_file (take n u) item c.requires.open longer in
+    r.text.items c.push_unit.new.text.items r.held.items r.places.items h c.args.begun c.args.is_file (take n u) item c.requires.open longer in
     open_at n u h _ c.self.view_is (InName c.args.begun c.args.is_file us) c.requires.open _ _
     (λ j. opened r.scanner r.begun (named j)) (name_goes r.scanner r.begun
     c.args.begun c.args.is_file us n u c.args.rest.line c.args.rest.some (sym c.look.ensures.value ∙ c.in-Goes.is))
@@ -32,7 +32,7 @@ returns-in_ok-end_name-in-Ends c =
     let us = pending_bytes h.item in
     let item = ap (λ (k : ReaderModel). k.item) c.self.view_is in
     let kept = c.deref.ensures.value
-    ∙ text_kept r.item r.delimiter.items r.text.items (ap has_text (item ∙ c.requires.open))
+    ∙ text_kept r.item r.delimiter.items r.text.items r.held.items r.places.items (ap has_text (item ∙ c.requires.open))
     ∙ ap pending_bytes item in
     let made = c.in_ok-end_name-in-Ends.ensures
     ∙ ap (λ (x : List ℕ). occurrence c.args.is_file x c.in-Ends.how (nat_lt 0 sign) c.args.begun r.scanner) kept in

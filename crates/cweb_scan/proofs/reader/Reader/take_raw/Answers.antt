@@ -16,8 +16,8 @@ returns c =
     let d = delimiter_of h.item in
     let us = pending_bytes h.item in
     let look = c.look-look.result in
-    let kept = sign_kept r.item r.scanner.context r.delimiter.items r.text.items r.sign.items h c.args.begun
-    (ap (λ (k : ReaderModel). k.item) c.self.view_is) c.requires.open c.self.invariant in
+    let kept = sign_kept r.item r.scanner.context r.delimiter.items r.text.items r.sign.items r.held.items
+    r.places.items h c.args.begun (ap (λ (k : ReaderModel). k.item) c.self.view_is) c.requires.open c.self.invariant.raw in
     let seen = ap (λ (x : List ℕ). look_in_raw x u) (sym (c.deref-2.ensures.value ∙ kept.0))
     ∙ sym c.look-look.ensures.value in
     turn_at c.in_ok-size.size look c.args.begun u h _
@@ -32,8 +32,8 @@ returns-then-plain-gt0 c =
     let u = c.args.rest.bytes.now in
     let d = delimiter_of h.item in
     let n = c.plain_len-plain.result in
-    let kept = sign_kept r.item r.scanner.context r.delimiter.items r.text.items r.sign.items h c.args.begun
-    (ap (λ (k : ReaderModel). k.item) c.self.view_is) c.requires.open c.self.invariant in
+    let kept = sign_kept r.item r.scanner.context r.delimiter.items r.text.items r.sign.items r.held.items
+    r.places.items h c.args.begun (ap (λ (k : ReaderModel). k.item) c.self.view_is) c.requires.open c.self.invariant.raw in
     let is = c.plain_len-plain.ensures.value
     ∙ ap (λ (x : List ℕ). prefix_len (λ b. not (is_raw_special x b)) u) (c.deref.ensures.value ∙ kept.0) in
     run_at n u h _ (λ (x : List ℕ). InRaw c.args.begun d x) c.requires.open c.in_ok-take_span.ensures refl

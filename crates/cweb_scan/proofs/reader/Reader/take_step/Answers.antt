@@ -12,7 +12,7 @@ returns-in_ok-size-in-Between c =
     let h = c.args.self.now in
     let n = c.in_ok-plain-in-Between.plain in
     let m = c.in_ok-size-in-Between.size in
-    let item = ap (λ (k : Open). item_of k r.delimiter.items r.text.items) c.in-Between.is in
+    let item = ap (λ (k : Open). item_of k r.delimiter.items r.text.items r.held.items r.places.items) c.in-Between.is in
     let none = sym (ap (λ (h : ReaderModel). h.item) c.self.view_is) ∙ item in
     let t = plain_held n u h _ c.take_plain.new.self c.self.view_is none c.in_ok-plain-in-Between.ensures in
     between_turn (n + m) u h c.take_between.new.self none (plain_then n
@@ -29,11 +29,11 @@ returns-then-is_empty c =
     let u = c.args.rest.bytes.now in
     let h = c.args.self.now in
     let n = c.in_ok-plain-in-Between.plain in
-    let item = ap (λ (k : Open). item_of k r.delimiter.items r.text.items) c.in-Between.is in
+    let item = ap (λ (k : Open). item_of k r.delimiter.items r.text.items r.held.items r.places.items) c.in-Between.is in
     let none = sym (ap (λ (h : ReaderModel). h.item) c.self.view_is) ∙ item in
     let t = plain_held n u h _ c.take_plain.new.self c.self.view_is none c.in_ok-plain-in-Between.ensures in
     let empty = eqb-true (length c.split_at.result.1.now) 0 (sym c.is_empty.ensures ∙ c.if-is_empty.true) in
-    between_turn n u h _ none (plain_all n u h _ t (ap awaits_line_end item)
+    between_turn n u h _ none (plain_all n u h _ t
     (sym (ap (λ (w : List ℕ). length w) c.split_at.ensures.back) ∙ empty) c.args.rest.some)
 
 pub invariant_of-take_between-clause-line : goal.invariant_of-take_between-clause-line
@@ -46,7 +46,7 @@ take_between-requires c =
     let u = c.args.rest.bytes.now in
     let h = c.args.self.now in
     let n = c.in_ok-plain-in-Between.plain in
-    let item = ap (λ (k : Open). item_of k r.delimiter.items r.text.items) c.in-Between.is in
+    let item = ap (λ (k : Open). item_of k r.delimiter.items r.text.items r.held.items r.places.items) c.in-Between.is in
     let none = sym (ap (λ (h : ReaderModel). h.item) c.self.view_is) ∙ item in
     let t = plain_held n u h _ c.take_plain.new.self c.self.view_is none c.in_ok-plain-in-Between.ensures in
     record { between = item; context = tt; room = plain_room n u h _ t c.requires.room }
@@ -56,4 +56,4 @@ returns-in_ok-size-in_default c =
     let r = c.self.inside in
     open_turn c.in_ok-size-in_default.size c.args.rest.bytes.now c.args.self.now c.take_open.new.self
     (ap (λ (h : ReaderModel). is_pending h.item) (sym c.self.view_is)
-    ∙ kept_open r.item r.delimiter.items r.text.items c.in_default.not-Between) c.in_ok-size-in_default.ensures
+    ∙ kept_open r.item r.delimiter.items r.text.items r.held.items r.places.items c.in_default.not-Between) c.in_ok-size-in_default.ensures
