@@ -1,16 +1,13 @@
 -- Comments, as one slice of the source.
-use Rattle.cweb_scan.proofs.Common.{◌≡◌, ◌≤◌, ◌<◌, ℕ, suc, ◌+◌, ◌-◌, Bool, true, false, ◌||◌, List, [], ◌∷◌, ◌++◌, length, take, drop, refl, ap, sym, ◌∙◌, subst, arith, codes, length-drop, take-append-add, drop-append-le, Place, begins, at_line_ends, Look, Goes, look_in_comment, Reach, reach, with_unit, reach_size, comment_match, RuleMatch, Comment, End, Cut, Open, Reached, reached, is_unclosed, IsLine, IsLine-take, opens_in, Context, Limbo, TeX, Definition, Macro, CText, match_in, Reading, comment_line_end, pass_comment, blank, on, enter_in, item, names_include, next_match, ScanState, AppliesOver, passed, ended_as, reads_c, LeavesOpen, lex, IsHeld, length-append}
-use Rattle.std.proofs.Common.{take_all}
-use Rattle.cweb_scan.specs.declared.reader.open.Open.TheVariants as kinds
+use Rattle.cweb_scan.proofs.Common.{◌≡◌, ℕ, ◌+◌, Bool, true, false, ◌||◌, List, [], ◌∷◌, length, take, drop, refl, ap, sym, ◌∙◌, subst, codes, Place, begins, at_line_ends, Look, Goes, look_in_comment, reach, reach_size, comment_match, RuleMatch, Comment, End, Cut, Open, Reached, reached, is_unclosed, opens_in, Context, Limbo, TeX, Definition, match_in, comment_line_end, pass_comment, blank, on, enter_in, names_include, next_match, ScanState, AppliesOver, passed, ended_as, reads_c, with_line}
+use Rattle.cweb_rules.specs.declared.items.Item.TheVariants as item
 use Rattle.cweb_rules.specs.inner.LineItems.{opens_comment}
-use Rattle.cweb_rules.proofs.Looks.{comment-local, comment-units, whole}
+use Rattle.cweb_rules.proofs.Looks.{comment-local, comment-units}
 use Rattle.cweb_rules.proofs.Seams.{begins_line}
 use Rattle.cweb_rules.proofs.Sizes.{begins-size}
-use Rattle.cweb_rules.proofs.UnitNewlines.{none-ends}
 use Rattle.cweb_scan.proofs.Ends.{size-at_end, how-at_end}
 use Rattle.cweb_scan.proofs.OpeningSteps.{two}
-use Rattle.cweb_scan.proofs.PendingItemsInLine.{after_units, reach-open, open_body, sizes}
-use Rattle.cweb_scan.proofs.HeldItems.{each-passed, with_line, with_line-is, OverLines, reach_over, size_over, size_ended, begins_more, all_newlines, held_newlines, TakesWhole, takes_whole, held_finished}
+use Rattle.cweb_scan.proofs.HeldItems.{each-passed, OverLines, over, over_ended}
 use Rattle.cweb_scan.proofs.TakenItems.{reading}
 
 abbrev look : List ℕ → Look
@@ -34,15 +31,14 @@ pub comment_applies : (t : List ℕ) (ps : List Place) (r : Reached) (s new : Sc
     → new ≡ pass_comment (ended_as Cut r.how) s.here (passed comment_line_end ps (blank s))
     → AppliesOver (comment_match t) t ps (2 + (r.size + r.close)) s new
 comment_applies t ps r s new is lines made =
-    let units = comment-units (begins (codes "*/")) 2 in
     let f = comment_match t in
     record {
-      size = ap (λ n. 2 + n) (size-at_end look units Cut (drop 2 t) r is);
+      size = ap (λ n. 2 + n) (size-at_end item.Comment Cut (drop 2 t) r is);
       state = λ later.
           ap (on (pass_comment (reach look Cut (drop 2 t)).how s.here))
           (each-passed comment_line_end (take f.size t) ps (blank s) later lines)
           ∙ ap (λ (e : End). reading (pass_comment e s.here (passed comment_line_end ps (blank s))) later)
-          (sym (how-at_end look units Cut (drop 2 t) r is))
+          (sym (how-at_end item.Comment Cut (drop 2 t) r is))
           ∙ ap (λ (v : ScanState). reading v later) (sym made);
     }
 
@@ -78,73 +74,11 @@ is_comment s u c h =
           ∙ enter_comment s.context (reach look Cut p.0).how s;
     })
 
--- The size of a held comment with the next line.
-pub comment_over : (w line : List ℕ) (lines : ℕ) → LeavesOpen (codes "/*") opens_comment w lines
+pub comment_over : (w line : List ℕ) → begins (codes "/*") w ≡ true → opens_comment w ≡ true
     → (opens_comment (with_line w line) ≡ is_unclosed (reach look Open line).how)
     × ((comment_match (with_line w line)).size ≡ length w + 1 + reach_size (reach look Cut line))
-comment_over w line lines h =
-    let two : 2 ≤ length w = begins-size (codes "/*") w h.begun in
-    let inner : drop 2 (with_line w line) ≡ drop 2 w ++ 10 ∷ line =
-    ap (drop 2) (with_line-is w line) ∙ drop-append-le 2 w (10 ∷ line) two in (
-      ap (λ (v : List ℕ). is_unclosed (reach look Open v).how) inner
-          ∙ ap (λ (r : Reach). is_unclosed r.how) (reach_over look over_lines Open (drop 2 w) line h.unclosed),
-      ap (λ (v : List ℕ). 2 + reach_size (reach look Cut v)) inner
-          ∙ ap (λ n. 2 + n) (size_over look over_lines Cut (drop 2 w) line h.unclosed)
-          ∙ (let e : 2 + (length (drop 2 w) + (1 + reach_size (reach look Cut line)))
-          ≡ length w + 1 + reach_size (reach look Cut line) = omega (arith, length-drop 2 w, two) in e),
-    )
+comment_over w line sign h = over look over_lines 2 w line (begins-size (codes "/*") w sign) h
 
--- A comment that the source's end ends.
-pub comment_ended : (w : List ℕ) (lines : ℕ) → LeavesOpen (codes "/*") opens_comment w lines
+pub comment_ended : (w : List ℕ) → begins (codes "/*") w ≡ true → opens_comment w ≡ true
     → (comment_match w).size ≡ length w
-comment_ended w lines h =
-    let two : 2 ≤ length w = begins-size (codes "/*") w h.begun in
-    omega (arith, size_ended look over_lines (drop 2 w) h.unclosed, length-drop 2 w, two)
-
--- It stays open in the next line.
-pub comment_stays : (c : Context) (w line : List ℕ) (ps : List Place) (q : Place) → IsHeld kinds.Comment c w ps
-    → IsLine line → is_unclosed (reach look Open line).how ≡ true
-    → IsHeld kinds.Comment c (with_line w line) (ps ++ q ∷ [])
-comment_stays c w line ps q h clean stays = (
-  h.0,
-  record {
-    begun = begins_more (codes "/*") (w ++ 10 ∷ []) line (begins_more (codes "/*") w (10 ∷ []) h.1.begun);
-    unclosed = (comment_over w line (length ps) h.1).0 ∙ stays;
-    newlines = omega (arith, all_newlines w line clean, h.1.newlines, length-append ps (q ∷ []));
-  },
-)
-
--- The newlines of a comment that the next line ends.
-pub comment_lines : (w line : List ℕ) (ps : List Place) (q : Place)
-    → LeavesOpen (codes "/*") opens_comment w (length ps) → IsLine line
-    → at_line_ends 1 (take (comment_match (with_line w line)).size (with_line w line)) ≡ length (ps ++ q ∷ [])
-comment_lines w line ps q h clean =
-    ap (λ n. at_line_ends 1 (take n (with_line w line))) (comment_over w line (length ps) h).1
-    ∙ omega (arith, held_newlines w line (reach_size (reach look Cut line)) clean, h.newlines, length-append ps (q ∷ []))
-
--- The next line ends it.
-pub comment_ends : (s : ScanState) (w line : List ℕ) (ps : List Place) (q : Place) (n : ℕ) (new : ScanState)
-    → IsHeld kinds.Comment s.context w ps → is_unclosed (reach look Open line).how ≡ false
-    → AppliesOver (comment_match (with_line w line)) (with_line w line) (ps ++ q ∷ []) n s new
-    → TakesWhole n (with_line w line) (ps ++ q ∷ []) s new
-comment_ends s w line ps q n new h ends applies =
-    let u = with_line w line in
-    let sign = begins_more (codes "/*") (w ++ 10 ∷ []) line (begins_more (codes "/*") w (10 ∷ []) h.1.begun) in
-    let is = is_comment s u h.0 sign in
-    let two : 2 ≤ length u = begins-size (codes "/*") u sign in
-    takes_whole s new u (ps ++ q ∷ []) n (comment_match u) (omega (arith, two)) is.stays is.is
-    (is.opens ∙ (comment_over w line (length ps) h.1).0 ∙ ends) applies
-
--- The source's end ends it.
-pub comment_finished : (s new : ScanState) (w : List ℕ) (ps : List Place) (n : ℕ) → IsHeld kinds.Comment s.context w ps
-    → AppliesOver (comment_match w) w ps n s new → new ≡ (lex (reading s (ps ++ [])) (w ++ [])).state
-comment_finished s new w ps n h applies =
-    let is = is_comment s w h.0 h.1.begun in
-    let two : 2 ≤ length w = begins-size (codes "/*") w h.1.begun in
-    held_finished s new w ps n (comment_match w) (omega (arith, two)) is.stays is.is
-    (comment_ended w (length ps) h.1) applies
-
-pub whole_lines : (w : List ℕ) (lines : ℕ) → LeavesOpen (codes "/*") opens_comment w lines
-    → at_line_ends 1 (take (comment_match w).size w) ≡ lines
-whole_lines w lines h = ap (λ n. at_line_ends 1 (take n w)) (comment_ended w lines h)
-    ∙ ap (at_line_ends 1) (take_all (length w) w (omega arith)) ∙ h.newlines
+comment_ended w sign h = over_ended look over_lines 2 w (begins-size (codes "/*") w sign) h

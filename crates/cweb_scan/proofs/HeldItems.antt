@@ -1,12 +1,12 @@
 -- Lexemes over some lines: each is one slice of the source.
-use Rattle.cweb_scan.proofs.Common.{◌≡◌, ◌≤◌, ◌<◌, ℕ, suc, ◌+◌, ◌*◌, Bool, true, false, List, [], ◌∷◌, ◌++◌, length, take, drop, refl, ap, sym, ◌∙◌, subst, arith, if◌then◌else◌, codes, length-append, append_assoc, append-nil, length-take-le, take-append-add, drop-append-add, drop_all, Place, begins, is_line_end, at_line_ends, look_in_comment, Reach, reach, with_unit, reach_size, comment_match, RuleMatch, rule_match, Comment, End, Cut, Open, Reached, reached, AtLineEnd, is_unclosed, IsLine, IsLine-take, opens_in, Context, Limbo, TeX, Definition, Macro, CText, match_in, Reading, each_line_end, next_line, comment_line_end, pass_comment, blank, on, enter_in, item, after_lexeme, lex, names_include, next_match, ScanState, weight, AppliesOver, passed, ended_as, reads_c, is_head, ReaderModel, TakesPrefix, MakesProgress, TakesLineEnd, BeginsLine, Between, Held, holding, cost, pending_cost, LeavesOpen, IsHeld, IsStored, item_of, is_held, get_or, ends-append, IsLocal, Look, Goes, and_parts, and_from, ◌==◌, ◌-◌}
+use Rattle.cweb_scan.proofs.Common.{◌≡◌, ◌≤◌, ◌<◌, ℕ, suc, ◌+◌, ◌*◌, Bool, true, false, List, [], ◌∷◌, ◌++◌, length, take, drop, refl, ap, sym, ◌∙◌, subst, arith, if◌then◌else◌, length-append, append_assoc, append-nil, length-take-le, take-append-add, drop-append-add, drop_all, Place, begins, is_line_end, at_line_ends, Reach, reach, with_unit, reach_size, RuleMatch, End, Cut, Open, AtLineEnd, is_unclosed, IsLine, IsLine-take, opens_in, Reading, each_line_end, next_line, enter_in, item, after_lexeme, lex, names_include, next_match, ScanState, weight, AppliesOver, passed, ReaderModel, MakesProgress, BeginsLine, Between, Held, holding, with_line, IsHeld, IsStored, item_of, is_held, is_between, drop-append-le, length-drop, get_or, ends-append, IsLocal, Look, Goes, and_parts, and_from, ◌==◌, HasItemRoom, move_to, reads_literals, literals_in_part}
+use Rattle.cweb_scan.specs.inner.Room.{CanEmit}
 use Rattle.cweb_scan.specs.declared.reader.open.Open as code
 use Rattle.cweb_scan.specs.declared.reader.open.Open.TheVariants as kinds
 use Rattle.std.proofs.Common.{drop-cons}
 use Rattle.cweb_rules.proofs.Looks.{AllWithin, whole}
 use Rattle.cweb_rules.proofs.Newlines.{is_known}
 use Rattle.cweb_rules.proofs.UnitNewlines.{none-ends}
-use Rattle.cweb_scan.proofs.CommentAndNameOpeners.{run_as}
 use Rattle.cweb_scan.proofs.Ends.{at_start}
 use Rattle.cweb_scan.proofs.FirstLexeme.{first}
 use Rattle.cweb_scan.proofs.FirstMatchTaken.{between}
@@ -14,7 +14,7 @@ use Rattle.cweb_scan.proofs.InLineItemSteps.{at_item}
 use Rattle.cweb_scan.proofs.NextMatchPays.{fair}
 use Rattle.cweb_scan.proofs.OpeningSteps.{opened}
 use Rattle.cweb_scan.proofs.PendingItemsInLine.{after_units, reach-open, open_body, sizes}
-use Rattle.cweb_scan.proofs.TakenItems.{reading, run_line_item}
+use Rattle.cweb_scan.proofs.TakenItems.{reading, run_as, run_line_item}
 use Rattle.cweb_scan.proofs.Walked.{run-walks}
 use Rattle.cweb_scan.proofs.Weights.{piece-weight, weighs}
 
@@ -42,6 +42,16 @@ pub passed_next : (f : Place → ScanState → ScanState) (ps : List Place) (i :
 passed_next f ps i d s h =
     let e : i + 1 ≡ suc i = omega arith in
     ap (λ k. passed f (drop k ps) (f (get_or ps i d) s)) e ∙ sym (ap (λ qs. passed f qs s) (drop-cons ps i d h))
+
+-- Moves over lines need no room.
+pub moved_room : (n : ℕ) (ps : List Place) (s : ScanState) → HasItemRoom n s → HasItemRoom n (passed move_to ps s)
+moved_room n [] s h = h
+moved_room n (p ∷ ps) s h = moved_room n ps (move_to p s) (record {
+  for_tokens = h.for_tokens;
+  for_a_part = h.for_a_part;
+  for_an_occurrence = h.for_an_occurrence;
+  for_a_section = h.for_a_section;
+})
 
 -- A lexeme with its newlines was taken, whatever follows its last line.
 pub record TakesWhole (n : ℕ) (u : List ℕ) (ps : List Place) (s new : ScanState) : Type 0 where
@@ -95,6 +105,19 @@ whole_at n u h v new f is none some stays match ends = subst (λ (k : ReaderMode
       taken = record { begun = refl; within = w.within; adds = omega (arith, w.adds); same = w.same };
     }))
 
+-- A literal may be emitted in a part.
+pub part_room : (h v : ReaderModel) → v ≡ h → reads_literals h.state.context ≡ true → HasItemRoom 2 h.state
+    → CanEmit 1 v.state
+part_room h v is reads room = subst (λ (k : ReaderModel). CanEmit 1 k.state) (sym is) (record {
+  part = literals_in_part h.state.context reads;
+  room = record {
+    for_tokens = omega (arith, room.for_tokens);
+    for_a_part = room.for_a_part;
+    for_an_occurrence = room.for_an_occurrence;
+    for_a_section = room.for_a_section;
+  };
+})
+
 -- An item that its line leaves open.
 pub holds_at : (u : List ℕ) (h new : ReaderModel) → h.item ≡ Between → 1 ≤ length u → new ≡ holding u h
     → MakesProgress (length u) u h new
@@ -111,10 +134,6 @@ holds_at u h new none some is =
             (drop_all (length u) u (omega arith));
       };
     }))
-
--- The source of a held item, with the next line.
-abbrev pub with_line : List ℕ → List ℕ → List ℕ
-with_line w line = (w ++ 10 ∷ []) ++ line
 
 pub with_line-is : (w line : List ℕ) → with_line w line ≡ w ++ 10 ∷ line
 with_line-is w line = append_assoc w (10 ∷ []) line
@@ -228,36 +247,47 @@ pub held-weight : (w : List ℕ) (ps : List Place) (s : ScanState)
     → weight (lex (reading s (ps ++ [])) (w ++ [])).state ≤ weight s + 3 * length w
 held-weight w ps s = omega (arith, run-walks weighs (reading s (ps ++ [])) (w ++ []), length-append w [])
 
--- What the reader stores once it holds an item.
-pub stored_as : (kind : code.Open) (c : Context) (d sign w : List ℕ) (ps : List Place)
-    → is_held (item_of kind [] [] [] []) ≡ true → IsHeld kind c w ps → IsStored kind c d sign w ps
-stored_as kinds.Comment c d sign w ps h source =
-    record { raw = record { signed = λ e. cc; clean = λ e. cc; in_part = λ e. cc }; source = source }
-stored_as _ c d sign w ps h source = cc
+-- The next line leaves it open, or ends it, as it does with the rest of an item.
+pub over : (look : List ℕ → Look) → OverLines look → (k : ℕ) (w line : List ℕ) → k ≤ length w
+    → is_unclosed (reach look Open (drop k w)).how ≡ true
+    → (is_unclosed (reach look Open (drop k (with_line w line))).how ≡ is_unclosed (reach look Open line).how)
+    × (k + reach_size (reach look Cut (drop k (with_line w line))) ≡ length w + 1 + reach_size (reach look Cut line))
+over look o k w line fits h =
+    let inner : drop k (with_line w line) ≡ drop k w ++ 10 ∷ line =
+    ap (drop k) (with_line-is w line) ∙ drop-append-le k w (10 ∷ line) fits in (
+      ap (λ (v : List ℕ). is_unclosed (reach look Open v).how) inner
+          ∙ ap (λ (r : Reach). is_unclosed r.how) (reach_over look o Open (drop k w) line h),
+      ap (λ (v : List ℕ). k + reach_size (reach look Cut v)) inner
+          ∙ ap (λ n. k + n) (size_over look o Cut (drop k w) line h)
+          ∙ (let e : k + (length (drop k w) + (1 + reach_size (reach look Cut line)))
+          ≡ length w + 1 + reach_size (reach look Cut line) = omega (arith, length-drop k w, fits) in e),
+    )
 
-pub held_as : (kind : code.Open) (d t w : List ℕ) (ps : List Place)
-    → is_held (item_of kind [] [] [] []) ≡ true → item_of kind d t w ps ≡ Held w ps
-held_as kinds.Comment d t w ps h = refl
-held_as _ d t w ps h = cc
+pub over_ended : (look : List ℕ → Look) → OverLines look → (k : ℕ) (w : List ℕ) → k ≤ length w
+    → is_unclosed (reach look Open (drop k w)).how ≡ true → k + reach_size (reach look Cut (drop k w)) ≡ length w
+over_ended look o k w fits h = omega (arith, size_ended look o (drop k w) h, length-drop k w, fits)
 
 -- What the reader holds.
+pub held_as : (kind : code.Open) (w : List ℕ) (ps : List Place) → is_between kind ≡ false → item_of kind w ps ≡ Held w ps
+held_as kinds.Between w ps h = cc
+held_as _ w ps h = refl
+
+pub held_kind : (kind : code.Open) (w : List ℕ) (ps : List Place) → is_held (item_of kind w ps) ≡ true
+    → is_between kind ≡ false
+held_kind kinds.Between w ps h = cc
+held_kind _ w ps h = refl
+
 pub record Holds (kind : code.Open) (s : ScanState) (g : Bool) (w : List ℕ) (ps : List Place) (h : ReaderModel)
     : Type 0 where
   pub view : opened s g (Held w ps) ≡ h
-  pub kind_is : kind ≡ kinds.Comment
-  pub source : IsHeld kinds.Comment s.context w ps
+  pub held : is_between kind ≡ false
+  pub source : IsHeld kind s.context w ps
 
-pub held_now : (kind : code.Open) (s : ScanState) (g : Bool) (d t w : List ℕ) (ps : List Place) (h : ReaderModel)
-    → opened s g (item_of kind d t w ps) ≡ h → is_held h.item ≡ true → IsHeld kind s.context w ps
-    → Holds kind s g w ps h
-held_now kinds.Comment s g d t w ps h is held source = record { view = is; kind_is = refl; source = source }
-held_now kinds.Between s g d t w ps h is held source =
-    let wrong = ap (λ (k : ReaderModel). is_held k.item) is ∙ held in cc
-held_now (kinds.Name begun is_file) s g d t w ps h is held source =
-    let wrong = ap (λ (k : ReaderModel). is_held k.item) is ∙ held in cc
-held_now (kinds.Literal begun quote) s g d t w ps h is held source =
-    let wrong = ap (λ (k : ReaderModel). is_held k.item) is ∙ held in cc
-held_now (kinds.AfterBackslash begun quote) s g d t w ps h is held source =
-    let wrong = ap (λ (k : ReaderModel). is_held k.item) is ∙ held in cc
-held_now (kinds.Raw begun) s g d t w ps h is held source =
-    let wrong = ap (λ (k : ReaderModel). is_held k.item) is ∙ held in cc
+pub held_now : (kind : code.Open) (s : ScanState) (g : Bool) (w : List ℕ) (ps : List Place) (h : ReaderModel)
+    → opened s g (item_of kind w ps) ≡ h → is_held h.item ≡ true → IsStored kind s.context w ps → Holds kind s g w ps h
+held_now kind s g w ps h is held stored =
+    let k = held_kind kind w ps (ap (λ (v : ReaderModel). is_held v.item) is ∙ held) in record {
+      view = ap (λ i. opened s g i) (sym (held_as kind w ps k)) ∙ is;
+      held = k;
+      source = stored k;
+    }

@@ -1,5 +1,5 @@
 -- One step without an open item: a lexeme that ends in its line.
-use Rattle.cweb_scan.proofs.Common.{◌≡◌, ◌≤◌, ℕ, Bool, false, List, [], ◌∷◌, length, refl, ap, sym, subst, arith, RuleMatch, rule_match, IsLine, opens_in, enter_in, Applies, is_head, ReaderModel, MakesProgress, Between, next_match, ScanState}
+use Rattle.cweb_scan.proofs.Common.{◌≡◌, ◌≤◌, ℕ, Bool, false, List, [], ◌∷◌, length, ap, sym, subst, arith, RuleMatch, rule_match, IsLine, opens_in, enter_in, Applies, is_head, ReaderModel, MakesProgress, Between, next_match, ScanState}
 use Rattle.cweb_scan.proofs.NextMatchPays.{fair}
 use Rattle.cweb_scan.proofs.FirstMatchTaken.{between, enter_same, staying_takes}
 

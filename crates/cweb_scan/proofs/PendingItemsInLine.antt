@@ -1,11 +1,7 @@
 -- An open item or comment over the rest of a line.
-use Rattle.cweb_scan.proofs.Common.{◌≡◌, ◌<◌, ℕ, zero, suc, ◌+◌, ◌-◌, true, false, List, [], ◌∷◌, ◌++◌, length, take, drop, refl, ap, sym, ◌∙◌, arith, length-append, take-append-drop, codes, flat_map, flat_map-append, take-append-le, drop-append-le, take-append-add, drop-append-add, Place, Reading, on, comment_line_end, pass_comment, begins, Look, Goes, Ends, Reach, reach, reach_in, body, reach_size, End, Cut, Open, look_in_comment, AtLineEnd, is_unclosed, resume, IsLine, lex, IsLine-take, begins_line}
+use Rattle.cweb_scan.proofs.Common.{◌≡◌, ◌<◌, ℕ, zero, suc, ◌+◌, ◌-◌, true, false, List, [], ◌∷◌, ◌++◌, length, take, drop, refl, ap, sym, ◌∙◌, arith, length-append, take-append-drop, flat_map, flat_map-append, Look, Goes, Ends, Reach, reach, reach_in, body, reach_size, End, Open, is_unclosed}
 use Rattle.cweb_scan.proofs.Ends.{at_start}
-use Rattle.cweb_rules.specs.Items as items
 use Rattle.cweb_rules.proofs.Reaches.{IsEnd, IsLocal, IsWhole, join, reach-append}
-use Rattle.cweb_rules.proofs.Looks.{reach_ends, whole, comment-local, comment-units}
-use Rattle.cweb_rules.proofs.Sizes.{reach-size, comment-within, begins-size}
-use Rattle.cweb_scan.proofs.LineHasNoNewline.{each-line, none-line}
 
 pub whole-end : (how : End) → IsEnd how → is_unclosed how ≡ false
 whole-end Open h = absurd h

@@ -13,7 +13,6 @@ pub mod plain;
 pub mod rule;
 pub mod scanned;
 pub mod sections;
-pub mod units;
 
 use crate::directive::{Directive, Last, Stage};
 use cweb_files::Place;

@@ -1,5 +1,5 @@
 -- The state after the next lexeme, if it ends in its line and no head is open.
-use Rattle.std.specs.Prelude.{◌≡◌, ℕ, Bool, true, false, not, List, [], ◌∷◌, ◌++◌, take, codes, bytes_eq, if◌then◌else◌}
+use Rattle.std.specs.Prelude.{◌≡◌, ℕ, Bool, true, false, ◌||◌, not, List, [], ◌∷◌, ◌++◌, take, codes, bytes_eq, if◌then◌else◌}
 use Rattle.cweb_files.specs.declared.place.Place.{Place}
 use Rattle.cweb_rules.specs.Bytes.{begins, is_blank, is_line_end, starts_section}
 use Rattle.cweb_texts.specs.Edges.{first_is}
@@ -93,8 +93,8 @@ reads_names Macro = true
 reads_names CText = true
 
 -- A name begins with `@<`, that of a file with `@(`.
-abbrev pub name_opener : Bool → List ℕ
-name_opener is_file = if is_file then codes "@(" else codes "@<"
+abbrev pub starts_name : List ℕ → Bool
+starts_name t = begins (codes "@<") t || begins (codes "@(") t
 
 -- A head has no literals.
 abbrev pub reads_literals : Context → Bool

@@ -7,7 +7,7 @@ use crate::reader::open::Open;
 use crate::scanner::Scanner;
 use crate::skipped::skipped_len;
 use cweb_files::{FileId, Place};
-use cweb_rules::{Context, End};
+use cweb_rules::Context;
 use std::alloc::AllocError;
 
 impl Reader {
@@ -15,41 +15,10 @@ impl Reader {
     ghost use Rattle.std.specs.Prelude.{true, false, IsTrue};
     ghost use Rattle.cweb_scan.specs.inner.Skipped.{is_skipped};
     ghost use Rattle.cweb_scan.specs.inner.MatchSteps.{reads_c};
-    ghost use Rattle.cweb_scan.specs.inner.ReaderModel.{after_line_end, cost, gone_to, read_after};
+    ghost use Rattle.cweb_scan.specs.inner.ReaderModel.{cost, gone_to, read_after, Between};
     ghost use Rattle.cweb_scan.specs.inner.ReaderModel.{source_ended, BeginsLine};
     ghost use Rattle.cweb_scan.specs.inner.ReaderModel.{HasLineRoom, TakesLine};
-    ghost use Rattle.cweb_scan.specs.inner.Resume.{is_held};
-    ghost use Rattle.cweb_scan.specs.inner.Resume.{Between};
     ghost use Rattle.cweb_scan.specs.inner.Room.{weight};
-
-    // Takes the newline before a line, now that the line's place is known.
-    fn end_line(&mut self, next: Place) -> Result<(), AllocError>
-        requires begun { self.old.begun ≡ true }
-        requires loose { is_held self.old.item ≡ false }
-        requires room { cost self.old + 8 < too_many }
-        ensures { OnOk result (self.new ≡ after_line_end next self.old.item self.old.state) }
-    {
-        match self.item {
-            Open::Between => self.scanner.end_line(next),
-            Open::Comment => Ok(()),
-            Open::Name { .. } | Open::Raw(_) => {
-                self.text.push(b'\n')?;
-                self.scanner.go_to(next);
-                Ok(())
-            }
-            Open::Literal { begun, .. } => {
-                self.item = Open::Between;
-                self.scanner.emit_literal(&self.text, End::Cut, begun)?;
-                self.scanner.end_line(next)
-            }
-            Open::AfterBackslash { begun, quote } => {
-                self.text.extend_from_slice(b"\\\n")?;
-                self.item = Open::Literal { begun, quote };
-                self.scanner.go_to(next);
-                Ok(())
-            }
-        }
-    }
 
     // Begins a line: the first one, or one after a newline. Returns the number of its bytes that a held item takes.
     fn begin_line(&mut self, place: Place, line: &[u8]) -> Result<usize, AllocError>
@@ -65,7 +34,7 @@ impl Reader {
         if self.is_held() {
             return self.go_on(place, line);
         }
-        self.end_line(place)?;
+        self.scanner.end_line(place)?;
         Ok(0)
     }
 
@@ -118,30 +87,19 @@ impl Reader {
         Ok(())
     }
 
-    // Ends the source, and the open item with it.
+    // Ends the source, and the held item with it.
     fn end_source(&mut self) -> Result<(), AllocError>
         requires { cost self.old + 8 < too_many }
-        ensures { OnOk result (self.new.state ≡ source_ended self.old.item self.old.state) }
+        ensures { OnOk result (self.new.state ≡ source_ended self.old) }
     {
-        let item = self.item;
-        self.item = Open::Between;
-        match item {
-            Open::Between => Ok(()),
-            Open::Comment => {
-                self.scanner.take_comment(&self.held, &self.places)?;
-                Ok(())
-            }
-            Open::Name { begun, is_file } => {
-                self.scanner
-                    .end_name(is_file, &self.text, End::Cut, false, begun)
-            }
-            Open::Literal { begun, .. } => self.scanner.emit_literal(&self.text, End::Cut, begun),
-            Open::Raw(begun) => self.scanner.emit_literal(&self.text, End::Cut, begun),
-            Open::AfterBackslash { begun, .. } => {
-                self.text.push(b'\\')?;
-                self.scanner.emit_literal(&self.text, End::Cut, begun)
-            }
+        let kind = self.item;
+        if !self.is_held() {
+            return Ok(());
         }
+        self.item = Open::Between;
+        self.scanner
+            .take_whole(kind, &self.held, &self.places)?;
+        Ok(())
     }
 
     /// Ends the source after the last line.
@@ -164,9 +122,6 @@ impl Reader {
             item: _,
             held: _,
             places: _,
-            text: _,
-            delimiter: _,
-            sign: _,
             begun: _,
         } = self;
         Ok(scanner)

@@ -31,7 +31,7 @@ impl Reader {
     {
         let effect = effect_of(self.scanner.context(), rest.bytes[1]);
         if is_name_effect(effect) {
-            return Ok(self.open_name(begins(b"@(", rest.bytes), rest.bytes));
+            return self.open_name(rest);
         }
         let size = self.scanner.take_item(effect, rest.bytes)?;
         Ok(size)

@@ -1,49 +1,66 @@
-use Rattle.cweb_scan.proofs.Common.{List, ℕ, ◌+◌, ◌*◌, ap, sym, ◌∙◌, subst, arith, length, take, drop, take-append-drop, cost, comment_match, Place, Held, item_of, IsHeld, ReaderModel, AppliesOver, source_ended, at_line_ends, ◌≡◌}
-use Rattle.cweb_scan.specs.declared.reader.open.Open.{Open}
-use Rattle.cweb_scan.specs.declared.reader.open.Open.TheVariants.{Comment}
+use Rattle.cweb_scan.proofs.Common.{List, ℕ, ap, sym, ◌∙◌, subst, arith, length, take, cost, Place, IsItem, AppliesOver, next_match, source_ended, at_line_ends}
 use Rattle.cweb_scan.proofs.HeldItems.{newlines_fit, held_now}
-use Rattle.cweb_scan.proofs.OpeningSteps.{opened}
-use Rattle.cweb_scan.proofs.HeldComments.{comment_ended, comment_finished, whole_lines}
+use Rattle.cweb_scan.proofs.HeldKinds.{ends_source, whole_newlines}
 use Rattle.cweb_scan.proofs.reader.Reader.end_source.Goals as goal
 
-pub take_comment-requires-clause-lines : goal.take_comment-requires-clause-lines
-take_comment-requires-clause-lines c =
+pub take_whole-requires-clause-kind : goal.take_whole-requires-clause-kind
+take_whole-requires-clause-kind c =
     let r = c.self.inside in
-    let source = subst (λ (k : Open). IsHeld k r.scanner.context r.held.items r.places.items) c.in-Comment.is
-    c.self.invariant.source in
-    ap (λ (t : List ℕ). at_line_ends 1 (take (comment_match t).size t)) c.deref.ensures.value
-    ∙ whole_lines r.held.items (length r.places.items) source.1
-    ∙ ap (λ (ps : List Place). length ps) (sym c.deref-in-Comment.ensures.value)
+    let s = r.scanner in
+    let w = r.held.items in
+    let ps = r.places.items in
+    let held = sym c.is_held.ensures ∙ c.if-not-is_held.false in
+    let now = held_now r.item s r.begun w ps c.args.self.now c.self.view_is held c.self.invariant in
+    now.held
 
-pub take_comment-requires-clause-room : goal.take_comment-requires-clause-room
-take_comment-requires-clause-room c =
+pub take_whole-requires-clause-item : goal.take_whole-requires-clause-item
+take_whole-requires-clause-item c =
     let r = c.self.inside in
-    let source = subst (λ (k : Open). IsHeld k r.scanner.context r.held.items r.places.items) c.in-Comment.is
-    c.self.invariant.source in
-    let view : opened r.scanner r.begun (Held r.held.items r.places.items) ≡ c.args.self.now =
-    (λ i. opened r.scanner r.begun (item_of (sym c.in-Comment.is i) r.delimiter.items r.text.items r.held.items
-    r.places.items)) ∙ c.self.view_is in
-    omega (
-      arith,
-      ap cost view,
-      c.requires,
-      newlines_fit r.held.items,
-      source.1.newlines,
-      ap (λ (ps : List Place). length ps) c.deref-in-Comment.ensures.value,
-    )
+    let s = r.scanner in
+    let w = r.held.items in
+    let ps = r.places.items in
+    let held = sym c.is_held.ensures ∙ c.if-not-is_held.false in
+    let now = held_now r.item s r.begun w ps c.args.self.now c.self.view_is held c.self.invariant in
+    subst (λ (v : List ℕ). IsItem r.item s.context v) (sym c.deref.ensures.value) now.source.item
 
-pub returns-in_ok-take_comment-in-Comment : goal.returns-in_ok-take_comment-in-Comment
-returns-in_ok-take_comment-in-Comment c =
+pub take_whole-requires-clause-lines : goal.take_whole-requires-clause-lines
+take_whole-requires-clause-lines c =
     let r = c.self.inside in
-    let source = subst (λ (k : Open). IsHeld k r.scanner.context r.held.items r.places.items) c.in-Comment.is
-    c.self.invariant.source in
-    let view : opened r.scanner r.begun (Held r.held.items r.places.items) ≡ c.args.self.now =
-    (λ i. opened r.scanner r.begun (item_of (sym c.in-Comment.is i) r.delimiter.items r.text.items r.held.items
-    r.places.items)) ∙ c.self.view_is in
-    let applies = subst (λ (t : List ℕ). AppliesOver (comment_match t) t r.places.items
-    c.in_ok-take_comment-in-Comment.field-0 r.scanner c.take_comment.new.self) c.deref.ensures.value
-    (subst (λ (ps : List Place). AppliesOver (comment_match c.deref.result.now) c.deref.result.now ps
-    c.in_ok-take_comment-in-Comment.field-0 r.scanner c.take_comment.new.self) c.deref-in-Comment.ensures.value
-    c.in_ok-take_comment-in-Comment.ensures) in
-    comment_finished r.scanner c.take_comment.new.self r.held.items r.places.items _ source applies
-    ∙ ap (λ (h : ReaderModel). source_ended h.item h.state) view
+    let s = r.scanner in
+    let w = r.held.items in
+    let ps = r.places.items in
+    let held = sym c.is_held.ensures ∙ c.if-not-is_held.false in
+    let now = held_now r.item s r.begun w ps c.args.self.now c.self.view_is held c.self.invariant in
+    ap (λ (t : List ℕ). at_line_ends 1 (take (next_match s t).size t)) c.deref.ensures.value
+    ∙ whole_newlines r.item s w ps now.held now.source ∙ ap (λ (qs : List Place). length qs) (sym c.deref-2.ensures.value)
+
+pub take_whole-requires-clause-room : goal.take_whole-requires-clause-room
+take_whole-requires-clause-room c =
+    let r = c.self.inside in
+    let s = r.scanner in
+    let w = r.held.items in
+    let ps = r.places.items in
+    let held = sym c.is_held.ensures ∙ c.if-not-is_held.false in
+    let now = held_now r.item s r.begun w ps c.args.self.now c.self.view_is held c.self.invariant in
+    let size = ap (λ (qs : List Place). length qs) c.deref-2.ensures.value in
+    record {
+      for_tokens = omega (arith, ap cost now.view, c.requires, newlines_fit w, now.source.newlines, size);
+      for_a_part = omega (arith, ap cost now.view, c.requires);
+      for_an_occurrence = omega (arith, ap cost now.view, c.requires);
+      for_a_section = omega (arith, ap cost now.view, c.requires);
+    }
+
+pub returns : goal.returns
+returns c =
+    let r = c.self.inside in
+    let s = r.scanner in
+    let w = r.held.items in
+    let ps = r.places.items in
+    let held = sym c.is_held.ensures ∙ c.if-not-is_held.false in
+    let now = held_now r.item s r.begun w ps c.args.self.now c.self.view_is held c.self.invariant in
+    let n = c.in_ok-take_whole.field-0 in
+    let new = c.take_whole.new.self in
+    let applies = subst (λ (t : List ℕ). AppliesOver (next_match s t) t ps n s new) c.deref.ensures.value
+    (subst (λ (qs : List Place). AppliesOver (next_match s c.deref.result.now) c.deref.result.now qs n s new)
+    c.deref-2.ensures.value c.in_ok-take_whole.ensures) in
+    ends_source r.item s new w ps n now.held now.source applies ∙ ap source_ended now.view

@@ -1,98 +1,121 @@
-use Rattle.cweb_scan.proofs.Common.{List, ℕ, ◌++◌, ◌+◌, ◌-◌, ◌*◌, ◌∷◌, [], true, false, refl, ap, sym, ◌∙◌, subst, arith, length, length-append, take, cost, weight, reach_size, Cut, Reached, is_unclosed, comment_match, Place, Held, item_of, IsHeld, IsStored, is_held, ReaderModel, BeginsLine, AppliesOver, ScanState, ◌≡◌, at_line_ends}
-use Rattle.cweb_scan.specs.declared.reader.open.Open.{Open}
-use Rattle.cweb_scan.specs.declared.reader.open.Open.TheVariants.{Comment}
+use Rattle.cweb_scan.proofs.Common.{List, ℕ, ◌++◌, ◌-◌, ◌∷◌, [], ap, sym, ◌∙◌, subst, arith, length, length-append, take, cost, opens_in, Place, IsItem, IsHeld, ReaderModel, BeginsLine, AppliesOver, next_match, at_line_ends, held_text, with_line}
 use Rattle.cweb_scan.proofs.FirstMatchTaken.{between}
-use Rattle.cweb_scan.proofs.OpeningSteps.{opened}
-use Rattle.cweb_scan.proofs.HeldItems.{with_line, with_line-length, newlines_fit, held_now, held_ends, stored_as}
-use Rattle.cweb_scan.proofs.HeldComments.{comment_over, comment_stays, comment_lines, comment_ends}
+use Rattle.cweb_scan.proofs.HeldItems.{with_line-length, newlines_fit, held_now, held_ends}
+use Rattle.cweb_scan.proofs.HeldKinds.{item_more, stays_with, ends_with}
 use Rattle.cweb_scan.proofs.reader.Reader.go_on.Goals as goal
 
 pub invariant_of-self-then-stays : goal.invariant_of-self-then-stays
-invariant_of-self-then-stays c =
+invariant_of-self-then-stays c k =
     let r = c.self.inside in
+    let s = r.scanner in
+    let w = r.held.items in
+    let ps = r.places.items in
     let line = c.args.line.now in
-    let now = held_now r.item r.scanner r.begun r.delimiter.items r.text.items r.held.items r.places.items _
-    c.self.view_is c.requires.held c.self.invariant.source in
-    let stays = sym (ap (λ (v : Reached). is_unclosed v.how) c.reach.ensures.value) ∙ sym c.is_unclosed-stays.ensures
-    ∙ c.if-stays.true in
+    let now = held_now r.item s r.begun w ps c.args.self.now c.self.view_is c.requires.held c.self.invariant in
     let text = c.in_ok-extend_from_slice.ensures.items ∙ ap (λ (v : List ℕ). v ++ line) c.in_ok-push.ensures.items in
-    subst (λ (k : Open). IsStored k r.scanner.context r.delimiter.items r.sign.items
-    c.extend_from_slice.new.self.items c.push-2.new.self.items) (sym now.kind_is)
-    (stored_as Comment r.scanner.context r.delimiter.items r.sign.items c.extend_from_slice.new.self.items
-    c.push-2.new.self.items (λ i. true)
-    (subst (λ (w : List ℕ). IsHeld Comment r.scanner.context w c.push-2.new.self.items) (sym text)
-    (subst (λ (ps : List Place). IsHeld Comment r.scanner.context (with_line r.held.items line) ps)
-    (sym c.in_ok-push-2.ensures.items)
-    (comment_stays r.scanner.context r.held.items line r.places.items c.args.place now.source c.requires.room.clean
-    stays))))
+    let opens = ap (λ (h : ReaderModel). opens_in h.state.context (with_line (held_text h.item) line)) now.view
+    ∙ sym c.in_ok-stays.ensures ∙ c.if-stays.true in
+    subst (λ (v : List ℕ). IsHeld r.item s.context v c.push-2.new.self.items) (sym text)
+    (subst (λ (qs : List Place). IsHeld r.item s.context (with_line w line) qs) (sym c.in_ok-push-2.ensures.items)
+    (stays_with r.item s w line ps c.args.place now.held now.source c.requires.room.clean opens))
 
-pub take_comment-requires-clause-lines : goal.take_comment-requires-clause-lines
-take_comment-requires-clause-lines c =
+pub take_whole-requires-clause-kind : goal.take_whole-requires-clause-kind
+take_whole-requires-clause-kind c =
     let r = c.self.inside in
+    let s = r.scanner in
+    let w = r.held.items in
+    let ps = r.places.items in
     let line = c.args.line.now in
-    let now = held_now r.item r.scanner r.begun r.delimiter.items r.text.items r.held.items r.places.items _
-    c.self.view_is c.requires.held c.self.invariant.source in
-    let text = c.deref.ensures.value ∙ c.in_ok-extend_from_slice.ensures.items
-    ∙ ap (λ (v : List ℕ). v ++ line) c.in_ok-push.ensures.items in
-    ap (λ (t : List ℕ). at_line_ends 1 (take (comment_match t).size t)) text
-    ∙ comment_lines r.held.items line r.places.items c.args.place now.source.1 c.requires.room.clean
-    ∙ ap (λ (ps : List Place). length ps) (sym (c.deref-2.ensures.value ∙ c.in_ok-push-2.ensures.items))
+    let now = held_now r.item s r.begun w ps c.args.self.now c.self.view_is c.requires.held c.self.invariant in
+    now.held
 
-pub take_comment-requires-clause-room : goal.take_comment-requires-clause-room
-take_comment-requires-clause-room c =
+pub take_whole-requires-clause-item : goal.take_whole-requires-clause-item
+take_whole-requires-clause-item c =
     let r = c.self.inside in
-    let now = held_now r.item r.scanner r.begun r.delimiter.items r.text.items r.held.items r.places.items _
-    c.self.view_is c.requires.held c.self.invariant.source in
-    omega (
-      arith,
-      ap cost now.view,
-      c.requires.room.room,
-      newlines_fit r.held.items,
-      now.source.1.newlines,
-      ap (λ (ps : List Place). length ps) (c.deref-2.ensures.value ∙ c.in_ok-push-2.ensures.items),
-      length-append r.places.items (c.args.place ∷ []),
-    )
+    let s = r.scanner in
+    let w = r.held.items in
+    let ps = r.places.items in
+    let line = c.args.line.now in
+    let now = held_now r.item s r.begun w ps c.args.self.now c.self.view_is c.requires.held c.self.invariant in
+    let text = c.in_ok-extend_from_slice.ensures.items ∙ ap (λ (v : List ℕ). v ++ line) c.in_ok-push.ensures.items in
+    subst (λ (v : List ℕ). IsItem r.item s.context v) (sym (c.deref.ensures.value ∙ text))
+    (item_more r.item s.context w line now.held now.source.item)
+
+pub take_whole-requires-clause-lines : goal.take_whole-requires-clause-lines
+take_whole-requires-clause-lines c =
+    let r = c.self.inside in
+    let s = r.scanner in
+    let w = r.held.items in
+    let ps = r.places.items in
+    let line = c.args.line.now in
+    let now = held_now r.item s r.begun w ps c.args.self.now c.self.view_is c.requires.held c.self.invariant in
+    let text = c.in_ok-extend_from_slice.ensures.items ∙ ap (λ (v : List ℕ). v ++ line) c.in_ok-push.ensures.items in
+    let opens = ap (λ (h : ReaderModel). opens_in h.state.context (with_line (held_text h.item) line)) now.view
+    ∙ sym c.in_ok-stays.ensures ∙ c.if-stays.false in
+    let ends = ends_with r.item s w line ps c.args.place now.held now.source c.requires.room.clean opens in
+    ap (λ (t : List ℕ). at_line_ends 1 (take (next_match s t).size t)) (c.deref.ensures.value ∙ text)
+    ∙ ends.newlines ∙ ap (λ (qs : List Place). length qs) (sym (c.deref-2.ensures.value ∙ c.in_ok-push-2.ensures.items))
+
+pub take_whole-requires-clause-room : goal.take_whole-requires-clause-room
+take_whole-requires-clause-room c =
+    let r = c.self.inside in
+    let s = r.scanner in
+    let w = r.held.items in
+    let ps = r.places.items in
+    let line = c.args.line.now in
+    let now = held_now r.item s r.begun w ps c.args.self.now c.self.view_is c.requires.held c.self.invariant in
+    let size = ap (λ (qs : List Place). length qs) (c.deref-2.ensures.value ∙ c.in_ok-push-2.ensures.items) in
+    let more = length-append ps (c.args.place ∷ []) in
+    let fits = newlines_fit w in
+    record {
+      for_tokens = omega (arith, ap cost now.view, c.requires.room.room, fits, now.source.newlines, size, more);
+      for_a_part = omega (arith, ap cost now.view, c.requires.room.room);
+      for_an_occurrence = omega (arith, ap cost now.view, c.requires.room.room);
+      for_a_section = omega (arith, ap cost now.view, c.requires.room.room);
+    }
 
 pub overflow_sub-result-2 : goal.overflow_sub-result-2
 overflow_sub-result-2 c =
     let r = c.self.inside in
+    let s = r.scanner in
+    let w = r.held.items in
+    let ps = r.places.items in
     let line = c.args.line.now in
-    let now = held_now r.item r.scanner r.begun r.delimiter.items r.text.items r.held.items r.places.items _
-    c.self.view_is c.requires.held c.self.invariant.source in
+    let now = held_now r.item s r.begun w ps c.args.self.now c.self.view_is c.requires.held c.self.invariant in
     let text = c.in_ok-extend_from_slice.ensures.items ∙ ap (λ (v : List ℕ). v ++ line) c.in_ok-push.ensures.items in
-    let size = c.in_ok-size.ensures.size
-    ∙ ap (λ (t : List ℕ). (comment_match t).size) (c.deref.ensures.value ∙ text)
-    ∙ (comment_over r.held.items line _ now.source.1).1 in
+    let opens = ap (λ (h : ReaderModel). opens_in h.state.context (with_line (held_text h.item) line)) now.view
+    ∙ sym c.in_ok-stays.ensures ∙ c.if-stays.false in
+    let ends = ends_with r.item s w line ps c.args.place now.held now.source c.requires.room.clean opens in
     omega (
       arith,
-      size,
+      c.in_ok-size.ensures.size ∙ ap (λ (t : List ℕ). (next_match s t).size) (c.deref.ensures.value ∙ text) ∙ ends.past,
       c.len.ensures,
       ap (λ (t : List ℕ). length t) text,
-      with_line-length r.held.items line,
+      with_line-length w line,
     )
 
 pub returns : goal.returns
 returns c =
     let r = c.self.inside in
-    let line = c.args.line.now in
+    let s = r.scanner in
     let w = r.held.items in
-    let q = c.args.place in
-    let now = held_now r.item r.scanner r.begun r.delimiter.items r.text.items w r.places.items _
-    c.self.view_is c.requires.held c.self.invariant.source in
+    let ps = r.places.items in
+    let line = c.args.line.now in
+    let now = held_now r.item s r.begun w ps c.args.self.now c.self.view_is c.requires.held c.self.invariant in
     let text = c.in_ok-extend_from_slice.ensures.items ∙ ap (λ (v : List ℕ). v ++ line) c.in_ok-push.ensures.items in
+    let opens = ap (λ (h : ReaderModel). opens_in h.state.context (with_line (held_text h.item) line)) now.view
+    ∙ sym c.in_ok-stays.ensures ∙ c.if-stays.false in
+    let ends = ends_with r.item s w line ps c.args.place now.held now.source c.requires.room.clean opens in
+    let q = c.args.place in
+    let new = c.take_whole.new.self in
+    let n = c.in_ok-size.size in
     let given = c.deref.ensures.value ∙ text in
-    let size = c.in_ok-size.ensures.size ∙ ap (λ (t : List ℕ). (comment_match t).size) given
-    ∙ (comment_over w line _ now.source.1).1 in
-    let ends = sym (ap (λ (v : Reached). is_unclosed v.how) c.reach.ensures.value) ∙ sym c.is_unclosed-stays.ensures
-    ∙ c.if-stays.false in
     let places = c.deref-2.ensures.value ∙ c.in_ok-push-2.ensures.items in
-    let applies = subst (λ (t : List ℕ).
-    AppliesOver (comment_match t) t (r.places.items ++ q ∷ []) c.in_ok-size.size r.scanner c.take_comment.new.self) given
-    (subst (λ (ps : List Place). AppliesOver (comment_match c.deref.result.now) c.deref.result.now ps
-    c.in_ok-size.size r.scanner c.take_comment.new.self) places c.in_ok-size.ensures) in
-    subst (λ (h : ReaderModel). BeginsLine q line (c.in_ok-size.size - (c.len.result - length line)) h
-    (between c.take_comment.new.self r.begun)) now.view
-    (held_ends w line r.places.items q r.scanner c.take_comment.new.self r.begun c.in_ok-size.size _
-    (ap (λ (h : ReaderModel). h.begun) now.view ∙ c.requires.begun)
-    (omega (arith, size, c.len.ensures, ap (λ (t : List ℕ). length t) text, with_line-length w line))
-    (comment_ends r.scanner w line r.places.items q c.in_ok-size.size c.take_comment.new.self now.source ends applies))
+    let applies = subst (λ (t : List ℕ). AppliesOver (next_match s t) t (ps ++ q ∷ []) n s new) given
+    (subst (λ (qs : List Place). AppliesOver (next_match s c.deref.result.now) c.deref.result.now qs n s new) places
+    c.in_ok-size.ensures) in
+    let k = n - (c.len.result - length line) in
+    subst (λ (h : ReaderModel). BeginsLine q line k h (between new r.begun)) now.view
+    (held_ends w line ps q s new r.begun n k (ap (λ (h : ReaderModel). h.begun) now.view ∙ c.requires.begun)
+    (omega (arith, applies.size, ends.past, c.len.ensures, ap (λ (t : List ℕ). length t) text, with_line-length w line))
+    (ends.taken n new applies))

@@ -1,20 +1,17 @@
-use Rattle.cweb_scan.proofs.Common.{◌≡◌, ◌∷◌, [], true, false, refl, arith, sym, ap, ◌∙◌, subst, length, take, reads_c, ReaderModel, MakesProgress, is_unclosed, reached, reach, Open, Reached, comment_match, IsLine-take, HasItemRoom}
-use Rattle.cweb_rules.specs.inner.LineItems.{opens_comment}
+use Rattle.cweb_scan.proofs.Common.{sym, ap, ◌∙◌, subst, arith, is_unclosed, Reached, ReaderModel, comment_match, IsLine-take, HasItemRoom}
 use Rattle.cweb_rules.proofs.UnitNewlines.{none-ends}
 use Rattle.cweb_scan.proofs.HeldItems.{holds_at, whole_at}
 use Rattle.cweb_scan.proofs.HeldComments.{is_comment}
 use Rattle.cweb_scan.proofs.reader.Reader.open_comment.Goals as goal
 
 pub hold-requires-clause-source : goal.hold-requires-clause-source
-hold-requires-clause-source c = (
-  c.requires.next.context,
-  record {
-    begun = c.requires.sign;
-    unclosed = sym (ap (λ (r : Reached). is_unclosed r.how) (rw c.split_at.ensures.back at c.reach.ensures.value))
-        ∙ sym c.is_unclosed.ensures ∙ c.if-is_unclosed.true;
-    newlines = none-ends c.args.rest.bytes.now c.args.rest.line;
-  },
-)
+hold-requires-clause-source c = record {
+  item = (c.requires.next.context, c.requires.sign);
+  unclosed = (is_comment c.args.self.now.state c.args.rest.bytes.now c.requires.next.context c.requires.sign).opens
+      ∙ sym (ap (λ (r : Reached). is_unclosed r.how) (rw c.split_at.ensures.back at c.reach.ensures.value))
+      ∙ sym c.is_unclosed.ensures ∙ c.if-is_unclosed.true;
+  newlines = none-ends c.args.rest.bytes.now c.args.rest.line;
+}
 
 pub take_comment-requires-clause-lines : goal.take_comment-requires-clause-lines
 take_comment-requires-clause-lines c = none-ends _ (IsLine-take (comment_match c.args.rest.bytes.now).size

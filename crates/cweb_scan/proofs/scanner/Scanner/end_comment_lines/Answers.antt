@@ -1,4 +1,4 @@
-use Rattle.cweb_scan.proofs.Common.{ap, ◌∙◌, sym, arith, get_or, drop, ◌+◌, passed, comment_line_end, ScanState}
+use Rattle.cweb_scan.proofs.Common.{ap, ◌∙◌, arith, get_or, drop, ◌+◌, passed, comment_line_end, ScanState}
 use Rattle.cweb_store.specs.surface.Growing.{token_count}
 use Rattle.cweb_scan.specs.inner.ScanParts.{no_place}
 use Rattle.cweb_scan.proofs.HeldItems.{passed_next}

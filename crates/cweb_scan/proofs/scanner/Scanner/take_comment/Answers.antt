@@ -1,4 +1,4 @@
-use Rattle.cweb_scan.proofs.Common.{ap, ◌∙◌, End, Cut, pass_comment, ended_as, passed, comment_line_end, ScanState}
+use Rattle.cweb_scan.proofs.Common.{ap, ◌∙◌, Cut, pass_comment, ended_as, passed, comment_line_end, ScanState}
 use Rattle.cweb_scan.proofs.HeldComments.{comment_applies}
 use Rattle.cweb_scan.proofs.scanner.Scanner.take_comment.Goals as goal
 
