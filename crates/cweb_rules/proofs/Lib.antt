@@ -18,6 +18,7 @@ pub mod MatchesPay
 pub mod LineComments
 pub mod LineConstants
 pub mod LineCodes
+pub mod OverLineEnds
 pub mod LineLiterals
 pub mod LineDelimiters
 pub mod LineMatches

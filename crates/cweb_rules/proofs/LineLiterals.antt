@@ -2,7 +2,8 @@
 use Rattle.cweb_rules.proofs.Common.{◌≡◌, ◌≤◌, ℕ, ◌+◌, Bool, true, false, ◌||◌, ◌==◌, List, [], ◌∷◌, ◌++◌, length, take, drop, refl, ap, ◌∙◌, arith, if◌then◌else◌, codes, take-append-le, drop-append-le, length-drop, begins, Look, Reach, reach, body, reach_size, Cut, Open, reach_of_literal, look_in_literal, Quoted, RuleMatch, rule_match, has_quote_at, literal_prefix, starts_literal, quoted_match, quote_of, literal_match, AtLineEnd, is_unclosed, opens_literal, and_parts}
 use Rattle.cweb_rules.proofs.Seams.{stops, begins_line, drop_line}
 use Rattle.cweb_rules.proofs.Reaches.{IsLocal, IsWhole}
-use Rattle.cweb_rules.proofs.Looks.{reach_ends, ended_whole, literal-local, literal-some}
+use Rattle.cweb_rules.proofs.Looks.{reach_ends}
+use Rattle.cweb_rules.proofs.OverLineEnds.{literal_ends}
 use Rattle.cweb_rules.proofs.Sizes.{IsWithin, begins-size, reach-size, literal-within}
 use Rattle.cweb_rules.proofs.LineComments.{and_same}
 
@@ -81,6 +82,12 @@ literal_at_line t more e starts ends =
     ap (λ n. literal_with n (quote_of (drop n (t ++ more))) (t ++ more)) (literal_prefix-line t more e)
     ∙ ap (λ v. literal_with n (if v then 39 else 34) (t ++ more))
     (drop_line (codes "'") n t more refl e (omega (arith, fits)))
-    ∙ quoted_ends (look_in_literal quote) (n + 1) t more fits (literal-within quote)
-    (literal-local quote more (stops (λ b. b == 64) more refl e)) (literal-local quote [] refl)
-    (ended_whole (look_in_literal quote) (literal-some quote) (drop (n + 1) t) ends) ends
+    ∙ ap (λ u. quoted_match (n + 1) (reach_of_literal quote u) (t ++ more)) (drop-append-le (n + 1) t more fits)
+    ∙ ap (λ r. quoted_match (n + 1) r (t ++ more)) (literal_ends quote (drop (n + 1) t) more
+    (no_newline (begins (codes "'") (drop n t))) e ends)
+    ∙ quoted-line (n + 1) (reach_of_literal quote (drop (n + 1) t)) t more fits
+    (reach-size (look_in_literal quote) Cut (literal-within quote) (drop (n + 1) t))
+  where
+    no_newline : (v : Bool) → ((if v then 39 else 34) == 10) ≡ false
+    no_newline true = refl
+    no_newline false = refl

@@ -65,7 +65,7 @@ begins_in look e some k [] = ([], drop-nil k)
 begins_in look e some (suc k) (b ∷ t) = begins_in look e some k t
 begins_in look e some zero (b ∷ t) = begins_at look e (look (b ∷ t)) b t (some b t) (λ k. begins_in look e some k t)
 
-units-prefix : (look : List ℕ → Look) (e : End) (t : List ℕ) → AllSome look
+pub units-prefix : (look : List ℕ → Look) (e : End) (t : List ℕ) → AllSome look
     → take (length (body (reach look e t))) t ≡ body (reach look e t)
 units-prefix look e t some = grind (arith, begins_in look e some 0 t, take-append_seam)
 

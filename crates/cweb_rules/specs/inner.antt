@@ -1,6 +1,7 @@
 -- Definitions that only the functions of this crate cite.
 pub mod Firsts
 pub mod Quotes
+pub mod RawOpeners
 pub mod WholeLiterals
 pub mod ByteClasses
 pub mod Punctuators

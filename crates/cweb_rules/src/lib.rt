@@ -41,5 +41,5 @@ pub use fault::{ScanFault, ScanKind};
 pub use firsts::{Plain, first_byte_class, past_blank};
 pub use look::Look;
 pub use quote::Quote;
-pub use units::{push_unit, push_units};
+pub use units::{continues, push_unit, push_units};
 pub use whole_literals::quoted_len;

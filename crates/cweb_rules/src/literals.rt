@@ -1,9 +1,11 @@
 // How literals of C text begin.
-ghost use Rattle.std.specs.Prelude.{◌≡◌, ◌<◌, ◌+◌, length, IsTrue};
+ghost use Rattle.std.specs.Prelude.{◌≡◌, ◌<◌, ◌+◌, length, true, IfOk, IsTrue};
 ghost use Rattle.cweb_rules.specs.Matches as spec;
+ghost use Rattle.cweb_rules.specs.inner.RawOpeners.{raw_opener_len, raw_closer_of};
 ghost use Rattle.cweb_rules.specs.inner.Spans.{IsSizeIn};
 
 use crate::bytes::{Class, begins, span_len};
+use std::alloc::{AllocError, Global};
 
 /// The maximum length of the delimiter of a raw literal, in bytes (as in C++).
 pub const MAX_DELIMITER: usize = 16;
@@ -60,10 +62,33 @@ pub fn starts_raw(text: &[u8]) -> bool
     has_delimiter(rest)
 }
 
-/// The delimiter of a raw literal. `text` is what follows its `R"`.
-pub fn delimiter(text: &[u8]) -> &[u8]
+// The delimiter of a raw literal. `text` is what follows its `R"`.
+fn delimiter(text: &[u8]) -> &[u8]
     ensures { result.now ≡ spec.delimiter text.now }
 {
     let (delimiter, _) = text.split_at(span_len(Class::Delimiter, text));
     delimiter
+}
+
+/// The length of the opener of a raw literal, up to its `(`.
+pub fn raw_opener_len(text: &[u8]) -> usize
+    requires { spec.starts_raw text.now ≡ true }
+    ensures { IsSizeIn raw_opener_len text.now result }
+{
+    let start = raw_prefix(text) + 2;
+    let (_, named) = text.split_at(start);
+    start + delimiter(named).len() + 1
+}
+
+/// The closer of a raw literal: `)`, its delimiter and `"`.
+pub fn raw_closer(alloc: Global, text: &[u8]) -> Result<Vec<u8>, AllocError>
+    requires { spec.starts_raw text.now ≡ true }
+    ensures { IfOk result (λ closer. closer.items ≡ raw_closer_of text.now) }
+{
+    let (_, named) = text.split_at(raw_prefix(text) + 2);
+    let mut closer = Vec::new(alloc);
+    closer.push(b')')?;
+    closer.extend_from_slice(delimiter(named))?;
+    closer.push(b'"')?;
+    Ok(closer)
 }

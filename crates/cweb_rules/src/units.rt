@@ -1,8 +1,9 @@
-// The bytes that units of delimited items emit.
+// The units of delimited items: the bytes that they emit, and those over a line end.
 ghost use Rattle.std.specs.Prelude.{◌≡◌, ◌++◌, OnOk};
 ghost use Rattle.cweb_rules.specs.Items as items;
 ghost use Rattle.cweb_rules.specs.inner.Looks.{look_of};
 ghost use Rattle.cweb_rules.specs.declared.end.End.TheVariants as how;
+ghost use Rattle.cweb_rules.specs.inner.LineItems.{goes_on};
 
 use crate::items::Item;
 use crate::look::Look;
@@ -37,4 +38,23 @@ pub fn push_units(text: &mut Vec<u8>, item: Item<'_>, line: &[u8]) -> Result<(),
         rest = after;
     }
     Ok(())
+}
+
+/// Whether a literal goes on in the next line: its last unit is a `\` and the newline. `text` follows its opening quote.
+pub fn continues(quote: u8, text: &[u8]) -> bool
+    ensures { result ≡ goes_on (items.look_in_literal quote) text.now }
+{
+    let mut rest = text;
+    'units: while !rest.is_empty() {
+        match Item::Literal(quote).look(rest) {
+            Look::Goes(size) => {
+                if rest.len() < size {
+                    return true;
+                }
+                rest = rest.split_at(size).1;
+            }
+            Look::Ends(_, _) => return false,
+        }
+    }
+    false
 }

@@ -58,7 +58,7 @@ skipped_at n u h is some none text line = subst (λ i. MakesProgress n u
     (record { state = h.state; item = i; begun = h.begun }) (record { state = h.state; item = i; begun = h.begun }))
     (sym none) (record {
       some = some;
-      within = refl;
+      last = λ e. cc;
       taken = subst (λ k. TakesPrefix k u (between h.state h.begun) (between h.state h.begun)) (sym is)
           (skipped_takes h.state h.begun u (text_is h.state.context text) line);
     })

@@ -138,24 +138,21 @@ pub use Rattle.cweb_scan.specs.inner.ScanParts.{end_macro_in}
 pub use Rattle.cweb_scan.specs.declared.directive.Directive.{Directive}
 pub use Rattle.cweb_scan.specs.declared.directive.Stage.{Stage}
 pub use Rattle.cweb_scan.specs.declared.directive.Stage.TheVariants.{Outside, Bare, Further}
-pub use Rattle.cweb_scan.specs.declared.reader.open.Open.TheVariants.{AfterBackslash, Raw}
 pub use Rattle.cweb_scan.specs.inner.Ahead.{ReadsAhead}
 pub use Rattle.cweb_scan.specs.inner.Bound.{sum_over, one, spelling_size, occurrence_size, replacement_size, part_size}
 pub use Rattle.cweb_scan.specs.inner.Bound.{open_size, parts_size, token_number, stored_bytes, AddsAtMost}
 pub use Rattle.cweb_scan.specs.inner.DirectiveInvariant.{in_open_part, IsTied}
 pub use Rattle.cweb_scan.specs.inner.MatchSteps.{Applies, effect_in, is_head, is_name_effect, reads_c, reads_literals}
-pub use Rattle.cweb_scan.specs.inner.MatchSteps.{IsPast, ended_as, unit_state, reads_names, ends_in_line, needs_two}
-pub use Rattle.cweb_scan.specs.inner.MatchSteps.{literals_in_part}
-pub use Rattle.cweb_scan.specs.inner.PendingItems.{item_of, is_raw, HasRawCloser}
-pub use Rattle.cweb_scan.specs.inner.PendingRest.{awaits_line_end, TakesPending, pending_bytes, with_pending_bytes}
-pub use Rattle.cweb_scan.specs.inner.PendingRest.{delimiter_of, literal_step, look_size, with_span, is_pending}
+pub use Rattle.cweb_scan.specs.inner.MatchSteps.{IsPast, ended_as, unit_state, reads_names, starts_name, ends_in_line, needs_two}
+pub use Rattle.cweb_scan.specs.inner.MatchSteps.{literals_in_part, AppliesOver, passed}
 pub use Rattle.cweb_scan.specs.inner.Plain.{TakesPlain, IsPlainC, IsPlainToken}
-pub use Rattle.cweb_scan.specs.inner.ReaderModel.{ReaderModel, cost, read_after, TakesPrefix, begun_reader}
-pub use Rattle.cweb_scan.specs.inner.ReaderModel.{after_line_end, read_on, source_ended, BeginsLine, TakesLineEnd}
-pub use Rattle.cweb_scan.specs.inner.ReaderModel.{TakesBytes, pending_cost, new_reader, reader_at, gone_to}
-pub use Rattle.cweb_scan.specs.inner.ReaderSteps.{MakesProgress, TakesStep, remaining_work}
-pub use Rattle.cweb_scan.specs.inner.Resume.{Between, PendingItem, takes_opener, InComment, InName, InLiteral, InRaw}
-pub use Rattle.cweb_scan.specs.inner.Resume.{resume_literal, resume, resume_comment, resume_name, closer_of}
+pub use Rattle.cweb_scan.specs.inner.ReaderModel.{ReaderModel, OpenItem, Between, Held, is_held, held_text, held_places}
+pub use Rattle.cweb_scan.specs.inner.ReaderModel.{with_line, cost, read_after, TakesPrefix, read_on, source_ended}
+pub use Rattle.cweb_scan.specs.inner.ReaderModel.{BeginsLine, TakesLineEnd, TakesBytes, new_reader, reader_at, gone_to}
+pub use Rattle.cweb_scan.specs.inner.ReaderModel.{holding}
+pub use Rattle.cweb_scan.specs.inner.ReaderSteps.{MakesProgress}
+pub use Rattle.cweb_scan.specs.inner.HeldItems.{is_between, item_of, IsItem, IsHeld, IsStored, takes_opener, quoted_as}
+pub use Rattle.cweb_scan.specs.inner.HeldItems.{PassesUnits}
 pub use Rattle.cweb_scan.specs.inner.Room.{weight, HasItemRoom, HasPartRoom}
 pub use Rattle.cweb_scan.specs.inner.Scan.{HasTaken}
 pub use Rattle.cweb_scan.specs.inner.Skipped.{is_skipped}

@@ -1,6 +1,7 @@
 -- C text outside directives: literals that end in their line and have no `@`.
 use Rattle.cweb_scan.proofs.Common.{◌≡◌, ◌≤◌, ℕ, ◌+◌, true, false, ◌&&◌, ◌==◌, not, List, [], ◌∷◌, ◌++◌, length, take, drop, refl, ap, sym, ◌∙◌, subst, arith, if◌then◌else◌, codes, bytes_eq, flat_map, fold, prefix_len, Literal, Reach, reach, body, reach_size, literal_match, literal_prefix, quote_of, look_in_literal, unit_bytes, unescaped, IsLine, is_unclosed, reached, c_rule, End, Closed, Cut, Open, Reached, Reading, each_line_end, emit_literal, literal_unit, Applies, TakesPlain, ScanState, emit, move_to, is_skipped, IsPlainC}
 use Rattle.cweb_rules.specs.declared.rule.Rule.TheVariants as rule
+use Rattle.cweb_rules.proofs.OverLineEnds.{ended_stops}
 use Rattle.cweb_rules.proofs.Looks.{ended_whole, ended_same, literal-local, literal-some}
 use Rattle.cweb_rules.proofs.UnitNewlines.{quoted-bytes}
 use Rattle.cweb_scan.proofs.Ends.{none_to_come, nothing_later}
@@ -26,7 +27,7 @@ unit_stays : (u : List ℕ) → HasNone u → unit_bytes u ≡ u
 unit_stays [] h = refl
 unit_stays (b ∷ t) h = ap (λ v. if v && bytes_eq t (codes "@") then codes "@" else b ∷ t) h.0
 
-text_stays : (us : List (List ℕ)) → HasNone (flat_map (λ u. u) us) → unescaped us ≡ flat_map (λ u. u) us
+pub text_stays : (us : List (List ℕ)) → HasNone (flat_map (λ u. u) us) → unescaped us ≡ flat_map (λ u. u) us
 text_stays [] h = refl
 text_stays (u ∷ us) h =
     let p = none_apart u (flat_map (λ u. u) us) h in (λ i. unit_stays u p.0 i ++ text_stays us p.1 i)
@@ -81,6 +82,8 @@ pub literal_turn : (n : ℕ) (u : List ℕ) (s new : ScanState) (r : Reached) �
     → rule.Literal ≡ c_rule false u → r ≡ reached (literal_reach u Open) → r.how ≡ Closed
     → n ≡ literal_prefix u + 1 + (r.size + r.close) → HasNone (take n u) → new ≡ emit (Literal (take n u)) s
     → TakesPlain n u s new
-literal_turn n u s new r line some h is reach closed size none made =
-    ended_turn n u s new rule.Literal line some h is (sym (ap (λ (v : Reached). is_unclosed v.how) reach)
-    ∙ ap is_unclosed closed) (literal_yields n u s new r reach closed size none made)
+literal_turn n u s new r line some h is seen closed size none made =
+    let quote = quote_of (drop (literal_prefix u) u) in
+    ended_turn n u s new rule.Literal line some h is (ended_stops (look_in_literal quote) (drop (literal_prefix u + 1) u)
+    (literal-local quote (10 ∷ []) refl) (literal-some quote) (sym (ap (λ (v : Reached). is_unclosed v.how) seen)
+    ∙ ap is_unclosed closed)) (literal_yields n u s new r seen closed size none made)

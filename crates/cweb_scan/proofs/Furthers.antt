@@ -1,6 +1,7 @@
 -- C text outside directives: lexemes that their first byte doesn't determine.
-use Rattle.cweb_scan.proofs.Common.{◌≡◌, ◌≤◌, ℕ, zero, suc, ◌+◌, Bool, false, ◌&&◌, ◌==◌, not, List, [], ◌∷◌, Option, Some, None, length, take, drop, refl, ap, sym, ◌∙◌, arith, if◌then◌else◌, codes, bytes_eq, Token, Number, Punct, Blank, begins, first_is, at_line_end, in_c, reach, reach_size, match_in, comment_match, look_in_comment, IsLine, is_unclosed, opens_in, reached, c_rule, c_match_by, listed, longest, number_len, Context, CText, End, Closed, Cut, Open, Reached, Look, Rule, Reading, blank, pass_comment, comment_line_end, punctuator, directive, is_c, names_include, Applies, ended_as, is_head, TakesPlain, ScanState, emit, and-false, some_include, is_last_blank, is_some, IsPlainC, IsPlainToken, comment-units}
+use Rattle.cweb_scan.proofs.Common.{◌≡◌, ◌≤◌, ℕ, zero, suc, ◌+◌, Bool, false, ◌&&◌, ◌==◌, not, List, [], ◌∷◌, Option, Some, None, length, take, drop, refl, ap, sym, ◌∙◌, arith, if◌then◌else◌, codes, bytes_eq, Token, Number, Punct, Blank, begins, first_is, at_line_end, in_c, reach, reach_size, match_in, comment_match, look_in_comment, IsLine, is_unclosed, opens_in, reached, c_rule, c_match_by, listed, longest, number_len, Context, CText, End, Closed, Cut, Open, Reached, Look, Rule, Reading, blank, pass_comment, comment_line_end, punctuator, directive, is_c, names_include, Applies, ended_as, is_head, TakesPlain, ScanState, emit, and-false, some_include, is_last_blank, is_some, IsPlainC, IsPlainToken}
 use Rattle.cweb_rules.specs.inner.Firsts.{stops_plain}
+use Rattle.cweb_rules.specs.declared.items.Item.TheVariants as item
 use Rattle.std.proofs.lemmas.Bool.{or_parts}
 use Rattle.cweb_rules.specs.declared.rule.Rule.TheVariants as rule
 use Rattle.cweb_scan.specs.declared.directive.Last.TheVariants as last
@@ -94,11 +95,11 @@ comment_yields : (t : List ℕ) (r : Reached) (s : ScanState) → r ≡ reached 
     → r.how ≡ Closed → blank s ≡ s → Applies (comment_match t) t (2 + (r.size + r.close)) s s
 comment_yields t r s is closed stays =
     let look = comment_look in
-    let units = comment-units (begins (codes "*/")) 2 in
+
     let m = reach look Cut (drop 2 t) in
-    let how : m.how ≡ Closed = sym (how-at_end look units Cut (drop 2 t) r is) ∙ ap (ended_as Cut) closed in
+    let how : m.how ≡ Closed = sym (how-at_end item.Comment Cut (drop 2 t) r is) ∙ ap (ended_as Cut) closed in
     record {
-      size = ap (λ k. 2 + k) (size-at_end look units Cut (drop 2 t) r is);
+      size = ap (λ k. 2 + k) (size-at_end item.Comment Cut (drop 2 t) r is);
       state = sym stays ∙ ap (λ (e : End). pass_comment e s.here (blank s)) (sym how)
           ∙ ap (λ (q : Reading). pass_comment m.how s.here q.state)
           (sym (none_to_come comment_line_end (take (2 + reach_size m) t) (blank s)));

@@ -1,7 +1,7 @@
 -- Blanks between two lexemes of C text.
 use Rattle.cweb_scan.proofs.Common.{◌≡◌, ℕ, suc, Bool, true, false, ◌&&◌, List, [], ◌∷◌, drop, take, refl, ap, sym, ◌∙◌, arith, if◌then◌else◌, not, prefix_len, is_blank, match_in, Blanks, rule_match, Context, CText, Blank, Reading, after_lexeme, blank, enter_in, directive, in_directive, names_include, lex, ScanState, emit, if_true}
 use Rattle.cweb_scan.specs.DirectiveTokens as spec
-use Rattle.cweb_scan.proofs.CommentAndNameOpeners.{run_as}
+use Rattle.cweb_scan.proofs.TakenItems.{run_as}
 
 blank_prefix : (c : Context) (includes : Bool) (b : ℕ) (t : List ℕ) → c ≡ CText → is_blank b ≡ true
     → match_in c includes (b ∷ t) ≡ rule_match Blanks (prefix_len is_blank (b ∷ t))

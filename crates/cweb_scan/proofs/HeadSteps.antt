@@ -8,9 +8,8 @@ use Rattle.cweb_rules.proofs.LineLiterals.{starts_literal_line}
 use Rattle.cweb_rules.proofs.LineDelimiters.{starts_raw_line}
 use Rattle.cweb_rules.proofs.Seams.{begins_line, starts_number_stop, starts_section_line, stops}
 use Rattle.cweb_scan.proofs.InLineItemSteps.{at_item}
-use Rattle.cweb_scan.proofs.CommentAndNameOpeners.{run_as}
 use Rattle.cweb_scan.proofs.RuleSteps.{is_ended}
-use Rattle.cweb_scan.proofs.TakenItems.{reading}
+use Rattle.cweb_scan.proofs.TakenItems.{reading, run_as}
 
 -- The kinds that may not occur in a head.
 abbrev pub is_foreign : Kind → Bool
@@ -133,7 +132,7 @@ dropped_passes n u h v new begun r same none in_head some is left passes =
     none p in
     subst (λ (k : ReaderModel). MakesProgress n u k new) old (record {
       some = q.some;
-      within = q.within;
+      last = q.last;
       taken = record {
         begun = q.taken.begun;
         within = q.taken.within;

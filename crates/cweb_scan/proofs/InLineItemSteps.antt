@@ -1,5 +1,5 @@
 -- One step without an open item: a lexeme that ends in its line.
-use Rattle.cweb_scan.proofs.Common.{◌≡◌, ◌≤◌, ℕ, Bool, false, List, [], ◌∷◌, length, refl, ap, sym, subst, arith, RuleMatch, rule_match, IsLine, opens_in, enter_in, Applies, is_head, ReaderModel, MakesProgress, Between, next_match, ScanState}
+use Rattle.cweb_scan.proofs.Common.{◌≡◌, ◌≤◌, ℕ, Bool, false, List, [], ◌∷◌, length, ap, sym, subst, arith, RuleMatch, rule_match, IsLine, opens_in, enter_in, Applies, is_head, ReaderModel, MakesProgress, Between, next_match, ScanState}
 use Rattle.cweb_scan.proofs.NextMatchPays.{fair}
 use Rattle.cweb_scan.proofs.FirstMatchTaken.{between, enter_same, staying_takes}
 
@@ -14,7 +14,7 @@ passed : (n : ℕ) (u : List ℕ) (s new : ScanState) (g : Bool) (f : RuleMatch)
 passed n [] s new g f stays line some is ends yields = absurd (omega (arith, some))
 passed n (b ∷ t) s new g f stays line some is ends yields = record {
   some = omega (arith, yields.size, ap (λ (v : RuleMatch). v.size) is, (fair s b t).some);
-  within = refl;
+  last = λ e. cc;
   taken = staying_takes s new g n b t f line stays is ends yields;
 }
 

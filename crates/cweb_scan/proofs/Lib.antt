@@ -27,9 +27,6 @@ pub mod Measures
 pub mod LexemesAreUnique
 pub mod Bounds
 pub mod PendingItemsInLine
-pub mod PendingNames
-pub mod PendingLiterals
-pub mod CommentAndNameOpeners
 pub mod LiteralOpeners
 pub mod Gaps
 pub mod LineEnds
@@ -51,17 +48,19 @@ mod ThousandNames
 mod LawExamples
 pub mod ClosedItemSteps
 pub mod OpeningSteps
-pub mod UnitsTaken
 pub mod SkippedRest
 pub mod CodeSteps
 pub mod SkippedLines
 pub mod RuleSteps
 pub mod HeadSteps
 pub mod HeadStays
-pub mod PendingRests
-pub mod PendingReaders
-pub mod PendingSpans
 pub mod LineSteps
+pub mod HeldItems
+pub mod HeldComments
+pub mod HeldNames
+pub mod CrossedLineEnds
+pub mod HeldLiterals
+pub mod HeldKinds
 pub mod PlainStates
 pub mod PlainReadings
 pub mod PlainTokens

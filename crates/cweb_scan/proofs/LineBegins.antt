@@ -1,111 +1,63 @@
 -- The start of a line for any reader, and the end of the source.
-use Rattle.cweb_scan.proofs.Common.{◌≡◌, ◌≤◌, ℕ, ◌+◌, Bool, true, false, List, [], ◌∷◌, ◌++◌, take, drop, refl, ap, sym, ◌∙◌, subst, arith, ◌==◌, if◌then◌else◌, append-nil, Place, Line, Cut, reach_size, opener_after, Reading, on, each_line_end, emit_literal, occurrence, ReaderModel, begun_reader, after_line_end, read_on, read_after, source_ended, BeginsLine, TakesLineEnd, TakesBytes, cost, pending_cost, awaits_line_end, item_of, quote_byte, PendingItem, takes_opener, weight, lex, ScanState, move_to, AfterBackslash, Raw, Quote, Single, Double}
-use Rattle.cweb_rules.specs.inner.Reaches as reaches
-use Rattle.cweb_scan.specs.inner.Resume as item
-use Rattle.cweb_scan.specs.declared.reader.open.Open.{Open}
-use Rattle.cweb_scan.specs.declared.reader.open.Open.TheVariants.{Between, Comment, Name, Literal}
-use Rattle.cweb_scan.proofs.LineEnds.{run-newline, resume-comment, resume-name, resume-literal}
-use Rattle.cweb_scan.proofs.PendingLiterals.{literal_cut, raw_line_end}
+use Rattle.cweb_scan.proofs.Common.{◌≡◌, ◌≤◌, ℕ, Bool, true, false, List, [], ◌∷◌, ◌++◌, refl, ap, sym, ◌∙◌, subst, arith, Place, Line, Reading, line_end, ReaderModel, OpenItem, Between, Held, is_held, read_on, read_lines, read_after, source_ended, BeginsLine, TakesLineEnd, TakesBytes, cost, weight, drop, newline_prefixed, places, ScanState}
+use Rattle.cweb_scan.proofs.FirstMatchTaken.{between}
+use Rattle.cweb_scan.proofs.HeldItems.{held-weight}
+use Rattle.cweb_scan.proofs.LineEnds.{run-newline}
 use Rattle.cweb_scan.proofs.Taken.{first_taken, next_taken}
-use Rattle.cweb_scan.proofs.Weights.{line_end-weight, comment_line_end-weight, comment-weight, occurrence-weight, literal-weight}
+use Rattle.cweb_scan.proofs.Weights.{line_end-weight}
 
-no_backslash : (quote : Quote) → (quote_byte quote == 92) ≡ false
-no_backslash Single = refl
-no_backslash Double = refl
+-- A newline between two items.
+pub line_ends : (q : Place) (line : List ℕ) (s : ScanState) (g : Bool) → g ≡ true
+    → TakesLineEnd q line 0 (between s g) (between (line_end q s) g)
+line_ends q line s g begun =
+    record { begun = begun; same = λ later more e. sym (run-newline q s later (line ++ more)) }
 
-no_newline : (quote : Quote) → (quote_byte quote == 10) ≡ false
-no_newline Single = refl
-no_newline Double = refl
-
--- A newline, with any item open.
-pub line_ends : (kind : Open) (d us : List ℕ) (q : Place) (s : ScanState)
-    → TakesLineEnd q (begun_reader s (item_of kind d us)) (after_line_end q (item_of kind d us) s)
-line_ends Between d us q s = record { begun = refl; same = λ later t. sym (run-newline q s later t) }
-line_ends (Comment begun) d us q s = record { begun = refl; same = λ later t. sym (resume-comment begun q s later t) }
-line_ends (Name begun is_file) d us q s =
-    record { begun = refl; same = λ later t. sym (resume-name begun is_file us q s later t) }
-line_ends (Literal begun quote) d us q s = record {
-  begun = refl;
-  same = λ later t. sym (run-newline q (emit_literal us Cut begun s) later t)
-      ∙ sym (literal_cut begun (quote_byte quote) us (10 ∷ t)
-      (record { state = s; later = q ∷ later }) (no_newline quote) refl);
-}
-line_ends (AfterBackslash begun quote) d us q s =
-    record {
-      begun = refl;
-      same = λ later t. sym (resume-literal begun (quote_byte quote) us q s later t (no_backslash quote));
-    }
-line_ends (Raw begun) d us q s = record { begun = refl; same = λ later t. sym (raw_line_end begun d us q s later t) }
-
-after_line_end-cost : (i : PendingItem) (q : Place) (s : ScanState)
-    → cost (after_line_end q i s) ≤ weight s + pending_cost i + 3
-after_line_end-cost item.Between q s = omega (arith, line_end-weight q s)
-after_line_end-cost (item.InComment begun) q s = omega (arith, comment_line_end-weight q s)
-after_line_end-cost (item.InLiteral begun quote text) q s =
-    omega (arith, line_end-weight q (emit_literal text Cut begun s), literal-weight text Cut begun s)
-after_line_end-cost _ q s = omega arith
-
--- After a newline no literal waits for one.
-pub never_awaits : (i : PendingItem) (q : Place) (s : ScanState) → awaits_line_end (after_line_end q i s).item ≡ false
-never_awaits item.Between q s = refl
-never_awaits _ q s = refl
+pub not_held : (i : OpenItem) → is_held i ≡ false → i ≡ Between
+not_held Between h = refl
+not_held (Held text ps) h = cc
 
 -- A line begins after a newline.
-pub begins_next : (kind : Open) (d us : List ℕ) (s : ScanState) (begun : Bool) (place : Place) (new : ReaderModel)
-    → begun ≡ true → new ≡ after_line_end place (item_of kind d us) s
-    → BeginsLine place (record { state = s; item = item_of kind d us; begun = begun }) new
-begins_next kind d us s true place new h is = record {
-  first = λ none. absurd (cc none);
-  next = λ begun.
-      subst (λ (h : ReaderModel). TakesLineEnd place (begun_reader s (item_of kind d us)) h) (sym is)
-      (line_ends kind d us place s);
-  adds = omega (arith, ap cost is, after_line_end-cost (item_of kind d us) place s);
+begins_between : (q : Place) (line : List ℕ) (s new : ScanState) (g : Bool) → g ≡ true → new ≡ line_end q s
+    → BeginsLine q line 0 (between s g) (between new g)
+begins_between q line s new g begun is = record {
+  first = λ none. absurd (cc (begun, none));
+  next = λ old. subst (λ (v : ScanState). TakesLineEnd q line 0 (between s g) (between v g)) (sym is)
+      (line_ends q line s g begun);
+  within = omega arith;
+  adds = omega (arith, ap weight is, line_end-weight q s);
+  last = λ e. cc;
 }
-begins_next kind d us s false place new h is = absurd (cc h)
+
+pub begins_next : (q : Place) (line : List ℕ) (h v : ReaderModel) (new : ScanState) → v ≡ h → h.begun ≡ true
+    → is_held h.item ≡ false → new ≡ line_end q v.state
+    → BeginsLine q line 0 h (record { state = new; item = v.item; begun = v.begun })
+begins_next q line h v new is begun loose made =
+    let none : v.item ≡ Between = ap (λ (k : ReaderModel). k.item) is ∙ not_held h.item loose in
+    subst (λ (k : ReaderModel). BeginsLine q line 0 k (record { state = new; item = v.item; begun = v.begun })) is
+    (subst (λ i. BeginsLine q line 0 (record { state = v.state; item = i; begun = v.begun })
+    (record { state = new; item = i; begun = v.begun })) (sym none)
+    (begins_between q line v.state new v.begun (ap (λ (k : ReaderModel). k.begun) is ∙ begun) made))
 
 -- A line that has begun is taken once its bytes are.
-pub line_taken : (old mid new : ReaderModel) (line : Line) (lines : List Line) → BeginsLine line.place old mid
-    → TakesBytes line.bytes mid new → read_after new lines ≡ read_after old (line ∷ lines)
-line_taken old mid new line lines begins took = by old.begun refl
+pub line_taken : (old mid new : ReaderModel) (line : Line) (n : ℕ) (lines : List Line)
+    → BeginsLine line.place line.bytes n old mid → TakesBytes (drop n line.bytes) mid new
+    → read_after new lines ≡ read_after old (line ∷ lines)
+line_taken old mid new line n lines begins took = by old.begun refl
   where
     by : (b : Bool) → old.begun ≡ b → read_after new lines ≡ read_after old (line ∷ lines)
-    by true h = next_taken old mid new line lines h (begins.next h) took
-    by false h = first_taken old mid new line lines h (begins.first h) took
-
-abbrev sign_size : Bool → ℕ
-sign_size takes = let r = reaches.reach_of_name [] in
-    reach_size r + (if takes then opener_after r.how (drop (reach_size r) []) else 0)
-
-no_sign : (takes : Bool) → sign_size takes ≡ 0
-no_sign true = refl
-no_sign false = refl
-
-abbrev named_end : Place → Bool → List ℕ → ℕ → ScanState → Reading
-named_end begun is_file us n s = lex (on (occurrence is_file (us ++ []) Cut false begun)
-    (each_line_end move_to (take n []) (record { state = s; later = [] }))) (drop n [])
-
-text_ends : (kind : Open) (d us : List ℕ) (s : ScanState)
-    → (read_on (begun_reader s (item_of kind d us)) [] []).state ≡ source_ended (item_of kind d us) s
-text_ends (Name begun is_file) d us s =
-    ap (λ (n : ℕ). (named_end begun is_file us n s).state) (no_sign (takes_opener s))
-    ∙ ap (λ (t : List ℕ). occurrence is_file t Cut false begun s) (append-nil us)
-text_ends (Literal begun quote) d us s = ap (λ (t : List ℕ). emit_literal t Cut begun s) (append-nil us)
-text_ends (Raw begun) d us s = ap (λ (t : List ℕ). emit_literal t Cut begun s) (append-nil us)
-text_ends (AfterBackslash begun Single) d us s = refl
-text_ends (AfterBackslash begun Double) d us s = refl
-text_ends _ d us s = refl
-
-pub text_ended-weight : (i : PendingItem) (s : ScanState) → weight (source_ended i s) ≤ weight s + pending_cost i
-text_ended-weight item.Between s = omega arith
-text_ended-weight (item.InComment begun) s = omega (arith, comment-weight Cut begun s)
-text_ended-weight (item.InName begun is_file text) s = occurrence-weight is_file text Cut false begun s
-text_ended-weight (item.InLiteral begun quote text) s = literal-weight text Cut begun s
-text_ended-weight (item.AfterBackslash begun quote text) s = literal-weight (text ++ 92 ∷ []) Cut begun s
-text_ended-weight (item.InRaw begun delimiter text) s = literal-weight text Cut begun s
+    by true h = next_taken old mid new line n lines h (begins.next h) took
+    by false h = first_taken old mid new line lines h (begins.first h).1
+        (subst (λ k. TakesBytes (drop k line.bytes) mid new) (begins.first h).0 took)
 
 -- The whole source was read once the open item has ended.
-pub text_read : (kind : Open) (d us : List ℕ) (s : ScanState) (begun : Bool) → begun ≡ true
-    → (read_after (record { state = s; item = item_of kind d us; begun = begun }) []).state
-    ≡ source_ended (item_of kind d us) s
-text_read kind d us s true h = text_ends kind d us s
-text_read kind d us s false h = absurd (cc h)
+pub source_read : (h : ReaderModel) → h.begun ≡ true → (read_after h []).state ≡ source_ended h
+source_read h begun = ap (λ v. (elim v as (λ w. Reading)
+    [ false ↦ read_lines [] | true ↦ read_on h (places []) (newline_prefixed []) ]).state) begun
+
+ended-weight : (i : OpenItem) (s : ScanState) (g : Bool) → (let h : ReaderModel = record { state = s; item = i; begun = g }
+    in weight (source_ended h) ≤ cost h)
+ended-weight Between s g = omega arith
+ended-weight (Held text ps) s g = held-weight text ps s
+
+pub source_ended-weight : (h : ReaderModel) → weight (source_ended h) ≤ cost h
+source_ended-weight h = ended-weight h.item h.state h.begun

@@ -1,11 +1,7 @@
 -- An open item or comment over the rest of a line.
-use Rattle.cweb_scan.proofs.Common.{◌≡◌, ◌<◌, ℕ, zero, suc, ◌+◌, ◌-◌, true, false, List, [], ◌∷◌, ◌++◌, length, take, drop, refl, ap, sym, ◌∙◌, arith, length-append, take-append-drop, codes, flat_map, flat_map-append, take-append-le, drop-append-le, take-append-add, drop-append-add, Place, Reading, on, comment_line_end, pass_comment, begins, Look, Goes, Ends, Reach, reach, reach_in, body, reach_size, End, Cut, Open, look_in_comment, AtLineEnd, is_unclosed, InComment, resume, IsLine, lex, IsLine-take, begins_line}
+use Rattle.cweb_scan.proofs.Common.{◌≡◌, ◌<◌, ℕ, zero, suc, ◌+◌, ◌-◌, true, false, List, [], ◌∷◌, ◌++◌, length, take, drop, refl, ap, sym, ◌∙◌, arith, length-append, take-append-drop, flat_map, flat_map-append, Look, Goes, Ends, Reach, reach, reach_in, body, reach_size, End, Open, is_unclosed}
 use Rattle.cweb_scan.proofs.Ends.{at_start}
-use Rattle.cweb_rules.specs.Items as items
 use Rattle.cweb_rules.proofs.Reaches.{IsEnd, IsLocal, IsWhole, join, reach-append}
-use Rattle.cweb_rules.proofs.Looks.{reach_ends, whole, comment-local, comment-units}
-use Rattle.cweb_rules.proofs.Sizes.{reach-size, comment-within, begins-size}
-use Rattle.cweb_scan.proofs.LineHasNoNewline.{each-line, none-line}
 
 pub whole-end : (how : End) → IsEnd how → is_unclosed how ≡ false
 whole-end Open h = absurd h
@@ -58,40 +54,3 @@ size-open us t m h =
 pub sizes : (us : List (List ℕ)) (t : List ℕ) (m : Reach)
     → flat_map (λ u. u) us ≡ t → reach_size (after_units us m) ≡ length t + reach_size m
 sizes us t m h = omega (arith, size-open us t m h)
-
-comment-sees : (more : List ℕ) → AtLineEnd more → IsLocal (look_in_comment (begins (codes "*/")) 2) more
-comment-sees more e = comment-local (begins (codes "*/")) 2 more e (λ b u. begins_line (codes "*/") (b ∷ u) more refl e)
-
--- A comment that continues after the line.
-pub comment_stays : (begun : Place) (t more : List ℕ) (m : Reading) → AtLineEnd more
-    → IsLine t → is_unclosed (reach (look_in_comment (begins (codes "*/")) 2) Open t).how ≡ true
-    → resume (InComment begun) (t ++ more) m ≡ resume (InComment begun) more m
-comment_stays begun t more m e line h =
-    let look = look_in_comment (begins (codes "*/")) 2 in
-    let w = whole look (comment-units (begins (codes "*/")) 2) t in
-    let n = reach_size (items.reach_of_comment more) in
-    rw (
-      reach-open look Cut t more (comment-sees more e) w h,
-      sizes (reach look Open t).units t (items.reach_of_comment more) (open_body look t w h),
-      take-append-add t more n,
-      each-line comment_line_end t (take n more) m line,
-      drop-append-add t more n,
-    ) refl
-
--- A comment that ends in the line.
-pub comment_ends : (begun : Place) (t more : List ℕ) (m : Reading) → AtLineEnd more
-    → IsLine t → is_unclosed (reach (look_in_comment (begins (codes "*/")) 2) Open t).how ≡ false
-    → resume (InComment begun) (t ++ more) m
-    ≡ lex (on (pass_comment (items.reach_of_comment t).how begun) m) (drop (reach_size (items.reach_of_comment t)) t
-    ++ more)
-comment_ends begun t more m e line h =
-    let look = look_in_comment (begins (codes "*/")) 2 in
-    let n = reach_size (items.reach_of_comment t) in
-    let fits = reach-size look Cut (comment-within (begins (codes "*/")) 2 (begins-size (codes "*/"))) t in
-    rw (
-      reach_ends look Cut t more (comment-sees more e) (comment-sees [] tt)
-          (whole look (comment-units (begins (codes "*/")) 2) t) h,
-      take-append-le n t more fits,
-      none-line comment_line_end (take n t) m (IsLine-take n t line),
-      drop-append-le n t more fits,
-    ) refl

@@ -1,6 +1,6 @@
 -- A line outside C text without `@` only changes the place.
-use Rattle.cweb_scan.proofs.Common.{◌≡◌, ℕ, true, false, List, [], ◌∷◌, ◌++◌, length, refl, ap, sym, ◌∙◌, subst, arith, prefix_len, drop-length, Place, Line, IsLine, Context, Macro, CText, line_end_in, is_skipped, reads_c, ReaderModel, begun_reader, after_line_end, read_on, gone_to, read_after, TakesBytes, TakesLineEnd, Between, ScanState, move_to}
-use Rattle.cweb_scan.specs.declared.reader.open.Open.TheVariants as kind
+use Rattle.cweb_scan.proofs.Common.{◌≡◌, ℕ, true, false, List, [], ◌∷◌, ◌++◌, length, refl, ap, sym, ◌∙◌, subst, arith, prefix_len, drop-length, Place, Line, IsLine, Context, Macro, CText, line_end, line_end_in, is_skipped, reads_c, ReaderModel, read_on, gone_to, read_after, TakesBytes, TakesLineEnd, Between, ScanState, move_to}
+use Rattle.cweb_scan.proofs.FirstMatchTaken.{between}
 use Rattle.cweb_scan.proofs.CodeSteps.{skipped_at}
 use Rattle.cweb_scan.proofs.LineBegins.{line_ends}
 use Rattle.cweb_scan.proofs.Taken.{next_taken}
@@ -22,21 +22,19 @@ text_bytes (b ∷ t) h plain between text clean = record {
 pub text_passed : (h new : ReaderModel) (line : Line) (lines : List Line) → h.begun ≡ true → h.item ≡ Between
     → reads_c h.state.context ≡ false → prefix_len is_skipped line.bytes ≡ length line.bytes → IsLine line.bytes
     → new ≡ gone_to line.place h → read_after new lines ≡ read_after h (line ∷ lines)
-text_passed h new line lines begun between text plain clean is =
-    next_taken h new new line lines begun ended (text_bytes line.bytes new plain
-    (ap (λ (x : ReaderModel). x.item) is ∙ between) (ap (λ (x : ReaderModel). reads_c x.state.context) is ∙ text) clean)
+text_passed h new line lines begun rest text plain clean is =
+    next_taken h new new line 0 lines begun ended (text_bytes line.bytes new plain
+    (ap (λ (x : ReaderModel). x.item) is ∙ rest) (ap (λ (x : ReaderModel). reads_c x.state.context) is ∙ text) clean)
   where
-    was : h ≡ begun_reader h.state Between
-    was = λ i. record { state = h.state; item = between i; begun = begun i }
-
-    now : new ≡ after_line_end line.place Between h.state
+    now : new ≡ between (line_end line.place h.state) h.begun
     now = is ∙ (λ i. record {
       state = sym (text_ends h.state.context line.place h.state text) i;
-      item = between i;
-      begun = begun i;
+      item = rest i;
+      begun = h.begun;
     })
 
-    ended : TakesLineEnd line.place h new
-    ended = subst (λ (x : ReaderModel). TakesLineEnd line.place x new) (sym was) (subst (λ (x : ReaderModel).
-        TakesLineEnd line.place (begun_reader h.state Between) x) (sym now)
-        (line_ends kind.Between [] [] line.place h.state))
+    ended : TakesLineEnd line.place line.bytes 0 h new
+    ended = subst (λ (x : ReaderModel). TakesLineEnd line.place line.bytes 0 x new)
+        (λ i. record { state = h.state; item = sym rest i; begun = h.begun })
+        (subst (λ (x : ReaderModel). TakesLineEnd line.place line.bytes 0 (between h.state h.begun) x) (sym now)
+        (line_ends line.place line.bytes h.state h.begun begun))

@@ -1,5 +1,5 @@
 -- The step after a run of C text outside directives.
-use Rattle.cweb_scan.proofs.Common.{◌≡◌, ◌≤◌, ◌<◌, ℕ, ◌+◌, ◌*◌, false, List, length, drop, ap, sym, ◌∙◌, subst, arith, length-drop, too_many, ReaderModel, cost, TakesPrefix, awaits_line_end, TakesPlain, PendingItem, Between, HasItemRoom, ScanState, MakesProgress}
+use Rattle.cweb_scan.proofs.Common.{◌≡◌, ◌≤◌, ◌<◌, ℕ, ◌+◌, ◌*◌, List, length, drop, ap, sym, ◌∙◌, subst, arith, length-drop, too_many, ReaderModel, cost, TakesPrefix, TakesPlain, OpenItem, Between, HasItemRoom, ScanState, MakesProgress}
 use Rattle.cweb_scan.proofs.InLineItemSteps.{at_item}
 use Rattle.cweb_scan.proofs.RestByLexemes.{takes_both}
 
@@ -8,19 +8,22 @@ pub plain_held : (n : ℕ) (u : List ℕ) (h v : ReaderModel) (new : ScanState) 
 plain_held n u h v new is none t =
     let item : v.item ≡ Between = ap (λ (k : ReaderModel). k.item) is ∙ none in
     subst (λ (k : ReaderModel). TakesPrefix n u k (at_item v new)) is
-    (subst (λ (i : PendingItem). TakesPrefix n u (record { state = v.state; item = i; begun = v.begun })
+    (subst (λ (i : OpenItem). TakesPrefix n u (record { state = v.state; item = i; begun = v.begun })
     (record { state = new; item = i; begun = v.begun })) (sym item) (t.taken v.begun))
 
-pub plain_all : (n : ℕ) (u : List ℕ) (h new : ReaderModel) → TakesPrefix n u h new → awaits_line_end new.item ≡ false
-    → length (drop n u) ≡ 0 → 1 ≤ length u → MakesProgress n u h new
-plain_all n u h new t within none some =
-    record { some = omega (arith, length-drop n u, none, some, t.within); within = within; taken = t }
+pub plain_all : (n : ℕ) (u : List ℕ) (h new : ReaderModel) → TakesPrefix n u h new → length (drop n u) ≡ 0 → 1 ≤ length u → MakesProgress n u h new
+plain_all n u h new t none some =
+    record {
+      some = omega (arith, length-drop n u, none, some, t.within);
+      last = λ e. omega (arith, length-drop n u, none, t.within);
+      taken = t;
+    }
 
 pub plain_then : (n m : ℕ) (u after : List ℕ) (h mid new : ReaderModel) → TakesPrefix n u h mid → after ≡ drop n u
     → MakesProgress m after mid new → MakesProgress (n + m) u h new
 plain_then n m u after h mid new t is p = record {
   some = omega (arith, p.some);
-  within = p.within;
+  last = λ e. omega (arith, p.last e, ap (λ (w : List ℕ). length w) is, length-drop n u, t.within);
   taken = takes_both n m u h mid new t (subst (λ (w : List ℕ). TakesPrefix m w mid new) is p.taken);
 }
 

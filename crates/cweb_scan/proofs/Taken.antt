@@ -1,5 +1,5 @@
--- Taking a line is taking its newline and its bytes.
-use Rattle.cweb_scan.proofs.Common.{◌≡◌, List, [], ◌∷◌, ◌++◌, true, false, refl, ap, sym, ◌∙◌, Line, Reading, AtLineEnd, newline_prefixed, read_lines, ReaderModel, read_on, places, read_after, reader_at, TakesLineEnd, TakesBytes}
+-- Taking a line is taking its newline, with the bytes of a held item, and its other bytes.
+use Rattle.cweb_scan.proofs.Common.{◌≡◌, ℕ, drop, List, [], ◌∷◌, ◌++◌, true, false, refl, ap, sym, ◌∙◌, Line, Reading, AtLineEnd, newline_prefixed, read_lines, ReaderModel, read_on, places, read_after, reader_at, TakesLineEnd, TakesBytes}
 
 pub AtLineEnd-further : (lines : List Line) → AtLineEnd (newline_prefixed lines)
 AtLineEnd-further [] = tt
@@ -16,12 +16,12 @@ fresh_after h lines e =
     ap (λ v. elim v as (λ w. Reading)
     [ false ↦ read_lines lines | true ↦ read_on h (places lines) (newline_prefixed lines) ]) e
 
-pub next_taken : (old mid new : ReaderModel) (line : Line) (lines : List Line)
-    → old.begun ≡ true → TakesLineEnd line.place old mid → TakesBytes line.bytes mid new
+pub next_taken : (old mid new : ReaderModel) (line : Line) (n : ℕ) (lines : List Line)
+    → old.begun ≡ true → TakesLineEnd line.place line.bytes n old mid → TakesBytes (drop n line.bytes) mid new
     → read_after new lines ≡ read_after old (line ∷ lines)
-next_taken old mid new line lines begun ended took = begun_after new lines (took.begun ∙ ended.begun)
+next_taken old mid new line n lines begun ended took = begun_after new lines (took.begun ∙ ended.begun)
     ∙ took.same (places lines) (newline_prefixed lines) (AtLineEnd-further lines)
-    ∙ ended.same (places lines) (line.bytes ++ newline_prefixed lines)
+    ∙ ended.same (places lines) (newline_prefixed lines) (AtLineEnd-further lines)
     ∙ sym (begun_after old (line ∷ lines) begun)
 
 pub first_taken : (old mid new : ReaderModel) (line : Line) (lines : List Line) → old.begun ≡ false

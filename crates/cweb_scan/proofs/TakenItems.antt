@@ -1,5 +1,5 @@
 -- The state after a lexeme that ends in its line, whatever lines follow.
-use Rattle.cweb_scan.proofs.Common.{◌≡◌, ℕ, false, List, [], ◌∷◌, ◌++◌, take, drop, refl, ap, sym, ◌∙◌, Place, Reading, on, comment_line_end, pass_comment, blank, occurrence, emit_literal, enter, item, after_lexeme, unescaped, Kind, Skipped, LineEnd, Comment, Quoted, RuleMatch, Lexeme, AtLineEnd, opens_in, IsLine, next_match, lex, fold, take-append-le, drop-append-le, names_include, ScanState, move_to}
+use Rattle.cweb_scan.proofs.Common.{◌≡◌, ℕ, false, List, [], ◌∷◌, ◌++◌, take, drop, refl, ap, sym, ◌∙◌, Place, Reading, on, comment_line_end, pass_comment, blank, occurrence, emit_literal, enter, item, after_lexeme, unescaped, Kind, Skipped, LineEnd, Comment, Quoted, RuleMatch, Lexeme, AtLineEnd, opens_in, IsLine, next_match, lex, fold, take-append-le, drop-append-le, names_include, match_in, ScanState, move_to}
 use Rattle.cweb_rules.specs.Matches.{Occurrence}
 use Rattle.cweb_rules.proofs.LineMatches.{prefix_line}
 use Rattle.cweb_rules.proofs.InLines.{InLine, valid}
@@ -31,6 +31,11 @@ item_line _ bytes s later h = refl
 
 abbrev with_prefix : Reading → List ℕ → RuleMatch → Reading
 with_prefix r t f = lex (after_lexeme r (record { kind = f.kind; bytes = take f.size t })) (drop f.size t)
+
+-- The reading after the next lexeme.
+pub run_as : (r : Reading) (b : ℕ) (t : List ℕ) (f : RuleMatch)
+    → match_in r.state.context (names_include r.state) (b ∷ t) ≡ f → lex r (b ∷ t) ≡ with_prefix r (b ∷ t) f
+run_as r b t f h = ap (fold after_lexeme r) (pieces_first r b t (fair r.state b t).some) ∙ ap (with_prefix r (b ∷ t)) h
 
 -- The reading after such a lexeme, and what follows.
 pub run_line_item : (r : Reading) (b : ℕ) (t more : List ℕ) → AtLineEnd more → opens_in r.state.context (b ∷ t) ≡ false

@@ -1,5 +1,5 @@
 -- How much each step adds to the weight: tokens, parts, occurrences and sections.
-use Rattle.cweb_scan.proofs.Common.{◌≤◌, ℕ, ◌+◌, ◌*◌, Bool, List, [], ◌∷◌, ◌++◌, Some, None, length, ap, arith, length-append, option_map, option_to_list, Place, PartKind, Token, Part, all_tokens, PartsSoFar, with_opened_part, with_pushed_token, part_with_token, Lexeme, Pays, End, Reading, next_line, ScanState, move_to, line_end, comment_line_end, blank, pass_comment, occurrence, emit_literal, after_lexeme, weight, append-nil, Tells}
+use Rattle.cweb_scan.proofs.Common.{◌≤◌, ℕ, ◌+◌, ◌*◌, Bool, List, [], ◌∷◌, ◌++◌, Some, None, length, ap, arith, length-append, option_map, option_to_list, Place, PartKind, Token, Part, all_tokens, PartsSoFar, with_opened_part, with_pushed_token, part_with_token, Lexeme, Pays, End, Reading, next_line, ScanState, move_to, line_end, comment_line_end, blank, pass_comment, occurrence, emit_literal, after_lexeme, weight, append-nil, Tells, Context, Macro, CText, Newline, line_end_in, line_end_token, in_directive, true, false, if◌then◌else◌}
 use Rattle.cweb_store.specs.surface.Growing.{token_count, part_count}
 use Rattle.cweb_store.proofs.CallerLemmas.{part_count_pushed, part_count_dropped, part_count_closed, token_count_closed, token_count_dropped, tokens-last}
 use Rattle.cweb_scan.proofs.Moves as step
@@ -44,6 +44,18 @@ part_opened kind v =
       | Some p ↦ omega (arith, length-append v.closed ((empty_part kind) ∷ []), length-append v.closed (p ∷ []))
     ]
 
+line_end_in-tokens : (c : Context) (p : Place) (s : ScanState)
+    → token_count (line_end_in c p s).contents.parts ≤ token_count s.contents.parts + 1
+line_end_in-tokens Macro p s = token_pushed Newline s.contents.parts
+line_end_in-tokens CText p s = token_pushed (line_end_token p s) s.contents.parts
+line_end_in-tokens _ p s = omega arith
+
+pub comment_line_end-tokens : (p : Place) (s : ScanState)
+    → token_count (comment_line_end p s).contents.parts ≤ token_count s.contents.parts + 1
+comment_line_end-tokens p s = elim (in_directive s)
+    as (λ v. token_count (if v then move_to p s else line_end p s).contents.parts ≤ token_count s.contents.parts + 1)
+    [ true ↦ omega arith | false ↦ line_end_in-tokens s.context p s ]
+
 abbrev Weighs : ℕ → ℕ → ℕ → ℕ → Reading → Reading → Type 0
 Weighs n w t b r m = weight m.state ≤ weight r.state + w
 
@@ -52,7 +64,7 @@ moved-weight : (s : ScanState) (later : List Place)
 moved-weight s [] = omega arith
 moved-weight s (p ∷ later) = omega arith
 
-weighs : Moves Any Weighs
+pub weighs : Moves Any Weighs
 weighs = record {
   nothing = λ r. omega arith;
   both = λ x y. omega (arith, x, y);

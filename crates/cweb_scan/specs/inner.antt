@@ -2,16 +2,14 @@
 pub mod ScanParts
 pub mod Stages
 pub mod Skipped
-pub mod Resume
 pub mod ReaderModel
 pub mod DirectiveInvariant
 pub mod Room
 pub mod MatchSteps
 pub mod FirstRule
-pub mod PendingRest
 pub mod ReaderSteps
 pub mod Plain
 pub mod Ahead
 pub mod Bound
-pub mod PendingItems
+pub mod HeldItems
 pub mod Scan

@@ -6,13 +6,13 @@ ghost use Rattle.cweb_store.specs.surface.TokenModels.{token_model};
 pub mod codes;
 pub mod effects;
 pub mod further;
+pub mod items;
 pub mod line_ends;
 pub mod names;
 pub mod plain;
 pub mod rule;
 pub mod scanned;
 pub mod sections;
-pub mod units;
 
 use crate::directive::{Directive, Last, Stage};
 use cweb_files::Place;

@@ -1,5 +1,5 @@
 -- Items that are still open at the end of their line.
-use Rattle.std.specs.Prelude.{◌≡◌, ◌≢◌, ℕ, ◌+◌, Bool, true, false, ◌&&◌, ◌||◌, List, [], ◌∷◌, length, drop, codes}
+use Rattle.std.specs.Prelude.{◌≡◌, ◌≢◌, ℕ, ◌+◌, Bool, true, false, ◌&&◌, ◌||◌, List, [], ◌∷◌, ◌++◌, length, drop, codes}
 use Rattle.std.specs.Prelude.{if◌then◌else◌}
 use Rattle.std.specs.Coded.{×_prop, →_prop, Unit-prop}
 use Rattle.cweb_rules.specs.Bytes.{is_blank, is_line_end, begins, at_line_end, starts_section}
@@ -9,6 +9,7 @@ use Rattle.cweb_rules.specs.declared.effect.Effect.TheVariants.{Named}
 use Rattle.cweb_rules.specs.Codes.{in_limbo, in_tex, in_macro, in_c}
 use Rattle.cweb_rules.specs.Items.{reach, look_in_comment, look_in_name, look_in_literal, look_in_raw}
 use Rattle.cweb_rules.specs.declared.end.End.{End}
+use Rattle.cweb_rules.specs.declared.look.Look.{Look}
 use Rattle.cweb_rules.specs.declared.end.End.TheVariants.{Closed, Cut, Nested, Open}
 use Rattle.cweb_rules.specs.Matches.{literal_prefix, quote_of, starts_literal, raw_prefix, delimiter, raw_closer}
 use Rattle.cweb_rules.specs.Matches.{starts_raw}
@@ -35,7 +36,11 @@ is_unclosed Closed = false
 is_unclosed Cut = false
 is_unclosed Nested = false
 
--- The next item is still open at the end of its line.
+-- The item is still open after the newline that ends its line.
+abbrev pub goes_on : (List ℕ → Look) → List ℕ → Bool
+goes_on look t = is_unclosed (reach look Open (t ++ 10 ∷ [])).how
+
+-- The next item is still open at the end of its line, or for a literal after the newline.
 abbrev pub opens_comment : List ℕ → Bool
 opens_comment t = is_unclosed (reach (look_in_comment (begins (codes "*/")) 2) Open (drop 2 t)).how
 
@@ -43,8 +48,7 @@ abbrev pub opens_name : List ℕ → Bool
 opens_name t = is_unclosed (reach look_in_name Open (drop 2 t)).how
 
 abbrev pub opens_literal : List ℕ → Bool
-opens_literal t = let n = literal_prefix t in
-    is_unclosed (reach (look_in_literal (quote_of (drop n t))) Open (drop (n + 1) t)).how
+opens_literal t = let n = literal_prefix t in goes_on (look_in_literal (quote_of (drop n t))) (drop (n + 1) t)
 
 abbrev pub opens_raw : List ℕ → Bool
 opens_raw t =

@@ -1,5 +1,6 @@
 -- The state after the next lexeme, if it ends in its line and no head is open.
-use Rattle.std.specs.Prelude.{◌≡◌, ℕ, Bool, true, false, not, List, [], take, codes, bytes_eq, if◌then◌else◌}
+use Rattle.std.specs.Prelude.{◌≡◌, ℕ, Bool, true, false, ◌||◌, not, List, [], ◌∷◌, ◌++◌, take, codes, bytes_eq, if◌then◌else◌}
+use Rattle.cweb_files.specs.declared.place.Place.{Place}
 use Rattle.cweb_rules.specs.Bytes.{begins, is_blank, is_line_end, starts_section}
 use Rattle.cweb_texts.specs.Edges.{first_is}
 use Rattle.cweb_rules.specs.Codes.{in_limbo, in_tex, in_macro, in_c}
@@ -24,6 +25,17 @@ after_match f t s = (item f.kind (take f.size t) (record { state = s; later = []
 pub record Applies (f : RuleMatch) (t : List ℕ) (n : ℕ) (old new : ScanState) : Type 0 where
   pub size : n ≡ f.size
   pub state : new ≡ after_match f t old
+
+-- A lexeme over some lines was taken. The lines after its newlines have these places.
+pub record AppliesOver (f : RuleMatch) (t : List ℕ) (places : List Place) (n : ℕ) (old new : ScanState) : Type 0 where
+  pub size : n ≡ f.size
+  pub state : (later : List Place) → item f.kind (take f.size t) (record { state = old; later = places ++ later })
+      ≡ record { state = new; later = later }
+
+-- A step for each of these lines.
+abbrev pub passed : (Place → ScanState → ScanState) → List Place → ScanState → ScanState
+passed f [] s = s
+passed f (place ∷ places) s = passed f places (f place s)
 
 -- The effect of a code in a context.
 abbrev pub effect_in : Context → ℕ → Effect
@@ -81,8 +93,8 @@ reads_names Macro = true
 reads_names CText = true
 
 -- A name begins with `@<`, that of a file with `@(`.
-abbrev pub name_opener : Bool → List ℕ
-name_opener is_file = if is_file then codes "@(" else codes "@<"
+abbrev pub starts_name : List ℕ → Bool
+starts_name t = begins (codes "@<") t || begins (codes "@(") t
 
 -- A head has no literals.
 abbrev pub reads_literals : Context → Bool

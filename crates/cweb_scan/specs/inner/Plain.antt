@@ -7,8 +7,7 @@ use Rattle.cweb_scan.specs.inner.Stages.{last_kind}
 use Rattle.cweb_scan.specs.declared.directive.Last.TheVariants as last
 use Rattle.cweb_scan.specs.State.{in_directive, ScanState}
 use Rattle.cweb_scan.specs.DirectiveTokens.{is_punct}
-use Rattle.cweb_scan.specs.inner.ReaderModel.{TakesPrefix}
-use Rattle.cweb_scan.specs.inner.Resume.{Between}
+use Rattle.cweb_scan.specs.inner.ReaderModel.{Between, TakesPrefix}
 use Rattle.cweb_scan.specs.inner.Room.{weight}
 
 -- The number of bytes that were taken, if any.

@@ -4,20 +4,34 @@ use Rattle.cweb_files.specs.declared.place.Place.{Place}
 use Rattle.cweb_input.specs.Lines.{Line}
 use Rattle.cweb_names.specs.surface.Names.{too_many}
 use Rattle.cweb_rules.specs.inner.LineItems.{AtLineEnd, IsLine}
-use Rattle.cweb_rules.specs.declared.end.End.TheVariants.{Cut}
 use Rattle.cweb_scan.specs.State.{ScanState, move_to, start_state}
-use Rattle.cweb_scan.specs.After.{Reading, line_end, comment_line_end, pass_comment, occurrence, emit_literal}
-use Rattle.cweb_scan.specs.inner.Resume.{PendingItem, Between, InComment, InName, InLiteral, AfterBackslash, InRaw}
-use Rattle.cweb_scan.specs.inner.Resume.{resume}
+use Rattle.cweb_scan.specs.After.{Reading}
 use Rattle.cweb_scan.specs.inner.Room.{weight}
-use Rattle.cweb_scan.specs.Alone.{read_lines}
+use Rattle.cweb_scan.specs.Alone.{lex, read_lines}
 use Rattle.cweb_scan.specs.inner.ScanParts.{no_place}
 use Rattle.cweb_scan.specs.laws.ReaderModel.{newline_prefixed}
 use Rattle.cweb_scan.specs.laws.ReaderModel.{places}
 
+-- No item, or the source so far of an open one. The lines after its newlines have these places.
+pub data OpenItem : Type 0 where
+  Between : OpenItem
+  Held : (text : List ℕ) (places : List Place) → OpenItem
+
+abbrev pub is_held : OpenItem → Bool
+is_held i = elim i [ Between ↦ false | Held text places ↦ true ]
+
+abbrev pub held_text : OpenItem → List ℕ
+held_text Between = []
+held_text (Held text places) = text
+
+abbrev pub held_places : OpenItem → List Place
+held_places Between = []
+held_places (Held text places) = places
+
+-- The state before the open item.
 pub record ReaderModel : Type 0 where
   pub state : ScanState
-  pub item : PendingItem
+  pub item : OpenItem
   -- Whether a line was taken.
   pub begun : Bool
 
@@ -25,25 +39,16 @@ pub record ReaderModel : Type 0 where
 abbrev pub new_reader : ReaderModel
 new_reader = record { state = start_state no_place; item = Between; begun = false }
 
-abbrev pub begun_reader : ScanState → PendingItem → ReaderModel
-begun_reader s item = record { state = s; item = item; begun = true }
-
--- The reader after a newline, whose effect depends on the next line's place.
-abbrev pub after_line_end : Place → PendingItem → ScanState → ReaderModel
-after_line_end q Between s = begun_reader (line_end q s) Between
-after_line_end q (InComment begun) s = begun_reader (comment_line_end q s) (InComment begun)
-after_line_end q (InName begun is_file text) s = begun_reader (move_to q s) (InName begun is_file (text ++ 10 ∷ []))
-after_line_end q (InLiteral begun quote text) s = begun_reader (line_end q (emit_literal text Cut begun s)) Between
-after_line_end q (AfterBackslash begun quote text) s =
-    begun_reader (move_to q s) (InLiteral begun quote (text ++ 92 ∷ 10 ∷ []))
-after_line_end q (InRaw begun delimiter text) s = begun_reader (move_to q s) (InRaw begun delimiter (text ++ 10 ∷ []))
+-- The source of a held item with the next line.
+abbrev pub with_line : List ℕ → List ℕ → List ℕ
+with_line text line = (text ++ 10 ∷ []) ++ line
 
 -- The reading after the rest of a line and the lines after it.
 abbrev pub read_on : ReaderModel → List Place → List ℕ → Reading
-read_on h later t = resume h.item t (record { state = h.state; later = later })
+read_on h later t = lex (record { state = h.state; later = held_places h.item ++ later }) (held_text h.item ++ t)
 
 abbrev pub reader_at : Place → ReaderModel
-reader_at place = begun_reader (start_state place) Between
+reader_at place = record { state = start_state place; item = Between; begun = true }
 
 -- The reading after the remaining lines.
 abbrev pub read_after : ReaderModel → List Line → Reading
@@ -52,10 +57,11 @@ read_after h lines = elim h.begun [
   | true ↦ read_on h (places lines) (newline_prefixed lines)
 ]
 
--- The newline before a line was taken.
-pub record TakesLineEnd (place : Place) (old new : ReaderModel) : Type 0 where
+-- The newline before a line was taken, and the first n bytes of the line with it.
+pub record TakesLineEnd (place : Place) (line : List ℕ) (n : ℕ) (old new : ReaderModel) : Type 0 where
   pub begun : new.begun ≡ true
-  pub same : (later : List Place) (t : List ℕ) → read_on new later t ≡ read_on old (place ∷ later) (10 ∷ t)
+  pub same : (later : List Place) (more : List ℕ) → AtLineEnd more
+      → read_on new later (drop n line ++ more) ≡ read_on old (place ∷ later) (10 ∷ line ++ more)
 
 -- The bytes of a line were taken. A newline or nothing follows.
 pub record TakesBytes (line : List ℕ) (old new : ReaderModel) : Type 0 where
@@ -63,18 +69,9 @@ pub record TakesBytes (line : List ℕ) (old new : ReaderModel) : Type 0 where
   pub same : (later : List Place) (more : List ℕ) → AtLineEnd more
       → read_on new later more ≡ read_on old later (line ++ more)
 
--- What an open item will add to the weight when it ends.
-abbrev pub pending_cost : PendingItem → ℕ
-pending_cost Between = 0
-pending_cost (InComment begun) = 0
-pending_cost (InName begun is_file text) = 4
-pending_cost (InLiteral begun quote text) = 1
-pending_cost (AfterBackslash begun quote text) = 1
-pending_cost (InRaw begun delimiter text) = 1
-
--- The weight so far, including the open item's.
+-- The weight so far, and what the open item may add: at most three for each byte.
 abbrev pub cost : ReaderModel → ℕ
-cost h = weight h.state + pending_cost h.item
+cost h = weight h.state + 3 * length (held_text h.item)
 
 -- The first n bytes of the rest of a line were taken. Each byte adds at most three to the cost.
 pub record TakesPrefix (n : ℕ) (rest : List ℕ) (old new : ReaderModel) : Type 0 where
@@ -84,11 +81,14 @@ pub record TakesPrefix (n : ℕ) (rest : List ℕ) (old new : ReaderModel) : Typ
   pub same : (later : List Place) (more : List ℕ) → AtLineEnd more
       → read_on new later (drop n rest ++ more) ≡ read_on old later (rest ++ more)
 
--- A line begins: the first one, or one after a newline.
-pub record BeginsLine (place : Place) (old new : ReaderModel) : Type 0 where
-  pub first : old.begun ≡ false → new ≡ reader_at place
-  pub next : old.begun ≡ true → TakesLineEnd place old new
-  pub adds : cost new ≤ cost old + 3
+-- A line begins: the first one, or one after a newline. Its first n bytes belong to the held item, all if that stays
+-- open.
+pub record BeginsLine (place : Place) (line : List ℕ) (n : ℕ) (old new : ReaderModel) : Type 0 where
+  pub first : old.begun ≡ false → (n ≡ 0) × (new ≡ reader_at place)
+  pub next : old.begun ≡ true → TakesLineEnd place line n old new
+  pub within : n ≤ length line
+  pub adds : cost new ≤ cost old + 3 * (n + 1)
+  pub last : is_held new.item ≡ true → n ≡ length line
 
 -- A line without newlines, and room for what it and the newline before it add.
 pub record HasLineRoom (line : List ℕ) (h : ReaderModel) : Type 0 where
@@ -101,15 +101,14 @@ pub record TakesLine (place : Place) (line : List ℕ) (old new : ReaderModel) :
       → read_after new lines ≡ read_after old (record { bytes = line; place = place } ∷ lines)
   pub adds : cost new ≤ cost old + 3 * (length line + 1)
 
+-- Holds the source of an item that the line leaves open.
+abbrev pub holding : List ℕ → ReaderModel → ReaderModel
+holding text h = record { state = h.state; item = Held text []; begun = h.begun }
+
 -- Moves to another line outside C text.
 abbrev pub gone_to : Place → ReaderModel → ReaderModel
 gone_to place h = record h { state = move_to place h.state }
 
 -- The state at the end of the source, which ends an open item.
-abbrev pub source_ended : PendingItem → ScanState → ScanState
-source_ended Between s = s
-source_ended (InComment begun) s = pass_comment Cut begun s
-source_ended (InName begun is_file text) s = occurrence is_file text Cut false begun s
-source_ended (InLiteral begun quote text) s = emit_literal text Cut begun s
-source_ended (AfterBackslash begun quote text) s = emit_literal (text ++ 92 ∷ []) Cut begun s
-source_ended (InRaw begun delimiter text) s = emit_literal text Cut begun s
+abbrev pub source_ended : ReaderModel → ScanState
+source_ended h = (read_on h [] []).state

@@ -7,7 +7,7 @@ use crate::reader::open::Open;
 use crate::scanner::Scanner;
 use crate::skipped::skipped_len;
 use cweb_files::{FileId, Place};
-use cweb_rules::{Context, End};
+use cweb_rules::Context;
 use std::alloc::AllocError;
 
 impl Reader {
@@ -15,55 +15,27 @@ impl Reader {
     ghost use Rattle.std.specs.Prelude.{true, false, IsTrue};
     ghost use Rattle.cweb_scan.specs.inner.Skipped.{is_skipped};
     ghost use Rattle.cweb_scan.specs.inner.MatchSteps.{reads_c};
-    ghost use Rattle.cweb_scan.specs.inner.ReaderModel.{after_line_end, cost, gone_to, read_after};
+    ghost use Rattle.cweb_scan.specs.inner.ReaderModel.{cost, gone_to, read_after, Between};
     ghost use Rattle.cweb_scan.specs.inner.ReaderModel.{source_ended, BeginsLine};
     ghost use Rattle.cweb_scan.specs.inner.ReaderModel.{HasLineRoom, TakesLine};
-    ghost use Rattle.cweb_scan.specs.inner.PendingRest.{awaits_line_end};
-    ghost use Rattle.cweb_scan.specs.inner.Resume.{Between};
     ghost use Rattle.cweb_scan.specs.inner.Room.{weight};
 
-    // Takes the newline before a line, now that the line's place is known.
-    fn end_line(&mut self, next: Place) -> Result<(), AllocError>
-        requires begun { self.old.begun ≡ true }
-        requires room { cost self.old + 8 < too_many }
-        ensures { OnOk result (self.new ≡ after_line_end next self.old.item self.old.state) }
+    // Begins a line: the first one, or one after a newline. Returns the number of its bytes that a held item takes.
+    fn begin_line(&mut self, place: Place, line: &[u8]) -> Result<usize, AllocError>
+        requires { HasLineRoom line.now self.old }
+        ensures { IfOk result (λ n. BeginsLine place line.now n self.old self.new) }
     {
-        match self.item {
-            Open::Between => self.scanner.end_line(next),
-            Open::Comment(_) => self.scanner.end_comment_line(next),
-            Open::Name { .. } | Open::Raw(_) => {
-                self.text.push(b'\n')?;
-                self.scanner.go_to(next);
-                Ok(())
-            }
-            Open::Literal { begun, .. } => {
-                self.item = Open::Between;
-                self.scanner.emit_literal(&self.text, End::Cut, begun)?;
-                self.scanner.end_line(next)
-            }
-            Open::AfterBackslash { begun, quote } => {
-                self.text.extend_from_slice(b"\\\n")?;
-                self.item = Open::Literal { begun, quote };
-                self.scanner.go_to(next);
-                Ok(())
-            }
+        if !self.begun {
+            self.scanner = Scanner::new(self.alloc, place);
+            self.item = Open::Between;
+            self.begun = true;
+            return Ok(0);
         }
-    }
-
-    // Begins a line: the first one, or one after a newline.
-    fn begin_line(&mut self, place: Place) -> Result<(), AllocError>
-        requires { cost self.old + 8 < too_many }
-        ensures begins { OnOk result (BeginsLine place self.old self.new) }
-        ensures within { OnOk result (awaits_line_end self.new.item ≡ false) }
-    {
-        if self.begun {
-            self.end_line(place)?;
-            return Ok(());
+        if self.is_held() {
+            return self.go_on(place, line);
         }
-        self.scanner = Scanner::new(self.alloc, place);
-        self.item = Open::Between;
-        self.begun = true;
-        Ok(())
+        self.scanner.end_line(place)?;
+        Ok(0)
     }
 
     // Whether a line outside C text has no `@`, and is not the first.
@@ -109,32 +81,25 @@ impl Reader {
         requires { HasLineRoom line.now self.old }
         ensures { OnOk result (TakesLine place line.now self.old self.new) }
     {
-        self.begin_line(place)?;
-        self.take_bytes(line)?;
+        let taken = self.begin_line(place, line)?;
+        let (_, rest) = line.split_at(taken);
+        self.take_bytes(rest)?;
         Ok(())
     }
 
-    // Ends the source, and the open item with it.
+    // Ends the source, and the held item with it.
     fn end_source(&mut self) -> Result<(), AllocError>
         requires { cost self.old + 8 < too_many }
-        ensures { OnOk result (self.new.state ≡ source_ended self.old.item self.old.state) }
+        ensures { OnOk result (self.new.state ≡ source_ended self.old) }
     {
-        let item = self.item;
-        self.item = Open::Between;
-        match item {
-            Open::Between => Ok(()),
-            Open::Comment(begun) => self.scanner.pass_comment(End::Cut, begun),
-            Open::Name { begun, is_file } => {
-                self.scanner
-                    .end_name(is_file, &self.text, End::Cut, false, begun)
-            }
-            Open::Literal { begun, .. } => self.scanner.emit_literal(&self.text, End::Cut, begun),
-            Open::Raw(begun) => self.scanner.emit_literal(&self.text, End::Cut, begun),
-            Open::AfterBackslash { begun, .. } => {
-                self.text.push(b'\\')?;
-                self.scanner.emit_literal(&self.text, End::Cut, begun)
-            }
+        let kind = self.item;
+        if !self.is_held() {
+            return Ok(());
         }
+        self.item = Open::Between;
+        self.scanner
+            .take_whole(kind, &self.held, &self.places)?;
+        Ok(())
     }
 
     /// Ends the source after the last line.
@@ -155,9 +120,8 @@ impl Reader {
             alloc: _,
             scanner,
             item: _,
-            text: _,
-            delimiter: _,
-            sign: _,
+            held: _,
+            places: _,
             begun: _,
         } = self;
         Ok(scanner)

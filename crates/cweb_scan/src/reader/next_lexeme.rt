@@ -31,7 +31,7 @@ impl Reader {
     {
         let effect = effect_of(self.scanner.context(), rest.bytes[1]);
         if is_name_effect(effect) {
-            return Ok(self.open_name(begins(b"@(", rest.bytes), rest.bytes));
+            return self.open_name(rest);
         }
         let size = self.scanner.take_item(effect, rest.bytes)?;
         Ok(size)
@@ -62,7 +62,7 @@ impl Reader {
         ensures { IfOk result (λ n. MakesProgress n rest.entry.bytes.now self.old self.new) }
     {
         match rule {
-            Rule::Comment => self.open_comment(rest.bytes),
+            Rule::Comment => self.open_comment(rest),
             Rule::Code => self.take_code(rest),
             Rule::RawLiteral => self.open_raw(rest),
             Rule::Literal => self.open_literal(rest),
@@ -111,7 +111,7 @@ impl Reader {
         let rule = c_rule(false, rest.bytes);
         match rule {
             Rule::Blanks => Ok(span_len(Class::Blank, rest.bytes)),
-            Rule::Comment => self.open_comment(rest.bytes),
+            Rule::Comment => self.open_comment(rest),
             Rule::LineComment => {
                 let size = self.scanner.take_line_comment(rest.bytes)?;
                 Ok(size)

@@ -1,16 +1,13 @@
 // The item that is open at the end of a line.
-use cweb_files::Place;
-use cweb_rules::Quote;
 
-/// The open item at the end of a line, with the place of its start.
+/// The kind of the open item at the end of a line.
 #[derive(Clone, Copy)]
 pub enum Open {
     Between,
-    Comment(Place),
-    /// The name of a section, or of a file if `is_file`.
-    Name { begun: Place, is_file: bool },
-    Literal { begun: Place, quote: Quote },
+    Comment,
+    /// The name of a section or a file.
+    Name,
     /// A literal whose line ended in `\`.
-    AfterBackslash { begun: Place, quote: Quote },
-    Raw(Place),
+    Literal,
+    RawLiteral,
 }

@@ -3,45 +3,52 @@ ghost use Rattle.std.specs.Prelude.{◌≡◌, IfOk, codes, true, false};
 
 use crate::reader::Reader;
 use crate::reader::open::Open;
+use crate::reader::opened::is_unclosed;
 use crate::rest::Rest;
-use cweb_rules::Quote;
-use cweb_rules::bytes::begins;
-use cweb_rules::literals::{delimiter, literal_prefix, raw_prefix};
+use cweb_rules::items::{Item, reach};
+use cweb_rules::literals::{literal_prefix, raw_closer, raw_opener_len};
+use cweb_rules::{Quote, continues};
 use std::alloc::AllocError;
 
 impl Reader {
     ghost use Rattle.cweb_rules.specs.Bytes as spec;
     ghost use Rattle.cweb_rules.specs.Matches.{starts_raw, starts_literal};
     ghost use Rattle.cweb_scan.specs.inner.MatchSteps.{is_head, reads_c, reads_names, reads_literals};
-    ghost use Rattle.cweb_scan.specs.inner.MatchSteps.{name_opener, IsPast};
+    ghost use Rattle.cweb_scan.specs.inner.MatchSteps.{starts_name, IsPast};
     ghost use Rattle.cweb_scan.specs.inner.ReaderSteps.{AwaitsLexeme, MakesProgress};
 
     /// `/*`. Like the functions below, it returns the number of bytes taken.
     #[inline(never)]
-    pub(crate) fn open_comment(&mut self, rest: &[u8]) -> Result<usize, AllocError>
+    pub(crate) fn open_comment(&mut self, rest: Rest<'_>) -> Result<usize, AllocError>
         requires next { AwaitsLexeme (reads_c self.old.state.context ≡ true) self.old }
-        requires sign { spec.begins (codes "/*") rest.now ≡ true }
-        ensures { IfOk result (λ n. MakesProgress n rest.now self.old self.new) }
+        requires sign { spec.begins (codes "/*") rest.bytes.now ≡ true }
+        ensures { IfOk result (λ n. MakesProgress n rest.entry.bytes.now self.old self.new) }
     {
-        let begun = self.scanner.here();
-        self.scanner.blank()?;
-        self.item = Open::Comment(begun);
-        Ok(2)
+        let (_, inner) = rest.bytes.split_at(2);
+        if is_unclosed(reach(Item::Comment, inner).how) {
+            self.hold(Open::Comment, rest.bytes)?;
+            return Ok(rest.bytes.len());
+        }
+        let size = self.scanner.take_comment(rest.bytes, &[])?;
+        Ok(size)
     }
 
     /// `@<`, or `@(` for a file.
-    pub(crate) fn open_name(&mut self, is_file: bool, rest: &[u8]) -> usize
+    #[inline(never)]
+    pub(crate) fn open_name(&mut self, rest: Rest<'_>) -> Result<usize, AllocError>
         requires next { AwaitsLexeme (reads_names self.old.state.context ≡ true) self.old }
         requires head { is_head self.old.state.context ≡ false }
-        requires sign { spec.begins (name_opener is_file) rest.now ≡ true }
-        ensures { MakesProgress result rest.now self.old self.new }
+        requires sign { starts_name rest.bytes.now ≡ true }
+        ensures { IfOk result (λ n. MakesProgress n rest.entry.bytes.now self.old self.new) }
     {
-        self.text.clear();
-        self.item = Open::Name {
-            begun: self.scanner.here(),
-            is_file,
-        };
-        2
+        let (_, inner) = rest.bytes.split_at(2);
+        let reached = reach(Item::Name, inner);
+        if is_unclosed(reached.how) {
+            self.hold(Open::Name, rest.bytes)?;
+            return Ok(rest.bytes.len());
+        }
+        let size = self.scanner.take_name(reached, rest.bytes, &[])?;
+        Ok(size)
     }
 
     /// A quote with an optional prefix.
@@ -54,16 +61,13 @@ impl Reader {
         ensures { IfOk result (λ n. MakesProgress n rest.entry.bytes.now self.old self.new) }
     {
         let prefix = literal_prefix(rest.bytes);
-        let (opener, _) = rest.bytes.split_at(prefix + 1);
-        self.text.clear();
-        self.text.extend_from_slice(opener)?;
-        let (_, quoted) = rest.bytes.split_at(prefix);
-        let quote = Quote::of(quoted);
-        self.item = Open::Literal {
-            begun: self.scanner.here(),
-            quote,
-        };
-        Ok(prefix + 1)
+        let quote = Quote::of(rest.bytes.split_at(prefix).1);
+        if continues(quote.byte(), rest.bytes.split_at(prefix + 1).1) {
+            self.hold(Open::Literal, rest.bytes)?;
+            return Ok(rest.bytes.len());
+        }
+        let size = self.scanner.take_literal(rest.bytes, &[])?;
+        Ok(size)
     }
 
     /// `R"` with an optional prefix, a delimiter and `(`.
@@ -74,19 +78,13 @@ impl Reader {
         requires sign { starts_raw rest.bytes.now ≡ true }
         ensures { IfOk result (λ n. MakesProgress n rest.entry.bytes.now self.old self.new) }
     {
-        let start = raw_prefix(rest.bytes) + 2;
-        let (_, named) = rest.bytes.split_at(start);
-        let name = delimiter(named);
-        let size = start + name.len() + 1;
-        self.text.clear();
-        self.text.extend_from_slice(rest.bytes.split_at(size).0)?;
-        self.delimiter.clear();
-        self.delimiter.extend_from_slice(name)?;
-        self.sign.clear();
-        self.sign.push(b')')?;
-        self.sign.extend_from_slice(name)?;
-        self.sign.push(b'"')?;
-        self.item = Open::Raw(self.scanner.here());
+        let closer = raw_closer(self.alloc, rest.bytes)?;
+        let (_, inner) = rest.bytes.split_at(raw_opener_len(rest.bytes));
+        if is_unclosed(reach(Item::RawLiteral(&closer), inner).how) {
+            self.hold(Open::RawLiteral, rest.bytes)?;
+            return Ok(rest.bytes.len());
+        }
+        let size = self.scanner.take_raw(rest.bytes, &[])?;
         Ok(size)
     }
 }

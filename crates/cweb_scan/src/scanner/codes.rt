@@ -7,7 +7,7 @@ use crate::scanner::Scanner;
 use cweb_rules::bytes::begins;
 use cweb_rules::constants::{MAX_REPLACEMENT, constant, letter};
 use cweb_rules::items::{Item, reach};
-use cweb_rules::{Context, Effect, End, ScanKind};
+use cweb_rules::{Context, Effect, End, ScanKind, push_units};
 use cweb_store::{PartKind, Token};
 use std::alloc::AllocError;
 
@@ -22,7 +22,7 @@ pub fn ended(at_end: End, how: End) -> End
 }
 
 impl Scanner {
-    ghost use Rattle.cweb_rules.specs.Matches.{section_match, control_text_match, constant_match};
+    ghost use Rattle.cweb_rules.specs.Matches.{section_match, control_text_match, verbatim_match, constant_match};
     ghost use Rattle.cweb_rules.specs.Matches.{letter_match, effect_match};
     ghost use Rattle.cweb_rules.specs.Matches.{line_comment_match};
     ghost use Rattle.cweb_scan.specs.After as spec;
@@ -78,6 +78,21 @@ impl Scanner {
         let (_, text) = rest.split_at(2);
         let reached = reach(Item::ControlText, text);
         self.pass_control_text(ended(End::Cut, reached.how))?;
+        Ok(2 + (reached.size + reached.close))
+    }
+
+    // `@=`: verbatim bytes up to `@>`.
+    fn take_verbatim(&mut self, rest: &[u8]) -> Result<usize, AllocError>
+        requires two { 2 ≤ length rest.now }
+        requires part { CanEmit 1 self.old }
+        ensures { IfOk result
+            (λ n. Applies (verbatim_match rest.now) rest.now n self.old self.new) }
+    {
+        let (_, line) = rest.split_at(2);
+        let reached = reach(Item::ControlText, line);
+        let mut text = Vec::new(self.alloc);
+        push_units(&mut text, Item::ControlText, line)?;
+        self.emit_verbatim(&text, ended(End::Cut, reached.how))?;
         Ok(2 + (reached.size + reached.close))
     }
 

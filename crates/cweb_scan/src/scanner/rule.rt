@@ -4,6 +4,7 @@ ghost use Rattle.std.specs.Prelude.{◌≡◌, ◌≤◌, IfOk, length, true, fa
 use crate::rest::Rest;
 use crate::scanner::Scanner;
 use cweb_rules::bytes::{Class, span_len};
+use cweb_rules::items::Item;
 use cweb_rules::numbers::number_len;
 use cweb_rules::punctuators::punctuator_len;
 use cweb_rules::rule::Rule;
@@ -31,7 +32,7 @@ impl Scanner {
                 Ok(span_len(Class::Blank, rest.bytes))
             }
             Rule::LineComment => self.take_line_comment(rest.bytes),
-            Rule::IncludedName => self.take_included_name(rest),
+            Rule::IncludedName => self.take_quoted(1, Item::IncludedName, rest.bytes, &[]),
             Rule::Number => {
                 let size = number_len(rest.bytes);
                 self.emit(Token::Number(rest.bytes.split_at(size).0))?;

@@ -1,22 +1,52 @@
-use Rattle.cweb_scan.proofs.Common.{refl, arith, ◌≡◌, true, sym, ap, ◌∙◌, ◌++◌, ◌+◌, take, drop, reads_literals, ScanState, quote_of, InLiteral}
-use Rattle.cweb_scan.proofs.OpeningSteps.{opened, literal_opens_at, takes_at, at_state}
+use Rattle.cweb_scan.proofs.Common.{sym, ap, ◌∙◌, arith, drop, ◌+◌, literal_match, literal_prefix, look_in_literal, IsLine-take, ap, refl}
+use Rattle.cweb_rules.specs.inner.LineItems.{goes_on}
+use Rattle.cweb_rules.proofs.LineLiterals.{is_quoted-size}
+use Rattle.cweb_rules.proofs.UnitNewlines.{none-ends}
+use Rattle.cweb_scan.proofs.HeldItems.{holds_at, whole_at, part_room}
+use Rattle.cweb_scan.proofs.HeldLiterals.{is_literal, quote_as}
 use Rattle.cweb_scan.proofs.reader.Reader.open_literal.Goals as goal
+
+pub split_at-requires-2 : goal.split_at-requires-2
+split_at-requires-2 c = omega (arith, c.literal_prefix-prefix.ensures.value, is_quoted-size (literal_prefix
+    c.args.rest.bytes.now) c.args.rest.bytes.now c.requires.sign)
+
+pub hold-requires-clause-source : goal.hold-requires-clause-source
+hold-requires-clause-source c =
+    let u = c.args.rest.bytes.now in
+    let p = c.literal_prefix-prefix.ensures.value in
+    let quote = quote_as u u u c.split_at.result.1.now c.literal_prefix-prefix.result c.byte.result refl refl p
+    c.split_at.ensures.back (c.byte.ensures ∙ c.of-quote.ensures) in
+    let inner = c.split_at-2.ensures.back ∙ ap (λ n. drop (n + 1) u) p in
+    record {
+      item = (c.requires.next.context, c.requires.past, c.requires.plain, c.requires.sign);
+      unclosed = (is_literal c.args.self.now.state u c.requires.next.context c.requires.past c.requires.plain
+          c.requires.sign).opens_is ∙ sym (λ i. goes_on (look_in_literal (quote i)) (inner i))
+          ∙ sym c.continues.ensures ∙ c.if-continues.true;
+      newlines = none-ends u c.args.rest.line;
+    }
+
+pub take_literal-requires-clause-part : goal.take_literal-requires-clause-part
+take_literal-requires-clause-part c = part_room c.args.self.now _ c.self.view_is c.requires.next.context
+    c.requires.next.room
+
+pub take_literal-requires-clause-lines : goal.take_literal-requires-clause-lines
+take_literal-requires-clause-lines c =
+    none-ends _ (IsLine-take (literal_match c.args.rest.bytes.now).size c.args.rest.bytes.now c.args.rest.line)
+
+pub returns-then-continues : goal.returns-then-continues
+returns-then-continues c = holds_at c.args.rest.bytes.now c.args.self.now c.hold.new.self c.requires.next.between
+    c.args.rest.some c.in_ok-hold.ensures
 
 pub returns : goal.returns
 returns c =
-    let s = c.self.inside.scanner in
-    let g = c.self.inside.begun in
     let u = c.args.rest.bytes.now in
-    let reads = at_state (λ (u : ScanState). reads_literals u.context ≡ true) _ _ c.self.view_is
-    c.requires.next.context in
-    let n = c.literal_prefix-prefix.result in
-    let quote = c.of-quote.ensures ∙ ap quote_of c.split_at-2.ensures.back in
-    let text = c.in_ok-extend_from_slice.ensures.items ∙ (λ i. c.clear.ensures.items i ++ c.split_at.ensures.front i) in
-    record {
-      some = omega arith;
-      within = refl;
-      taken = takes_at (n + 1) u _ _ c.self.view_is c.requires.next.between (opened s g (InLiteral s.here
-          (quote_of (drop n u)) (take (n + 1) u))) _ (λ i. opened s g (InLiteral (sym c.here.ensures i)
-          (sym quote i) (sym text i))) (literal_opens_at s g u n c.literal_prefix-prefix.ensures.value reads
-          c.args.rest.line c.requires.past c.requires.plain c.requires.sign);
-    }
+    let h = c.args.self.now in
+    let p = c.literal_prefix-prefix.ensures.value in
+    let is = is_literal h.state u c.requires.next.context c.requires.past c.requires.plain c.requires.sign in
+    let quote = quote_as u u u c.split_at.result.1.now c.literal_prefix-prefix.result c.byte.result refl refl p
+    c.split_at.ensures.back (c.byte.ensures ∙ c.of-quote.ensures) in
+    let inner = c.split_at-2.ensures.back ∙ ap (λ n. drop (n + 1) u) p in
+    let ends = sym (λ i. goes_on (look_in_literal (quote i)) (inner i)) ∙ sym c.continues.ensures
+    ∙ c.if-continues.false in
+    whole_at c.in_ok-size.size u h _ c.take_literal.new.self (literal_match u) c.self.view_is c.requires.next.between
+    c.args.rest.some is.stays is.is (is.opens_is ∙ ends) c.in_ok-size.ensures

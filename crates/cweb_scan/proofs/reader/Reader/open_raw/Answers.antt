@@ -1,48 +1,42 @@
-use Rattle.cweb_scan.proofs.Common.{refl, arith, ◌≡◌, true, [], sym, ap, ◌∙◌, ◌++◌, ◌+◌, ◌∷◌, length, take, drop, reads_literals, literals_in_part, ScanState, delimiter, InRaw}
-use Rattle.cweb_scan.proofs.PendingReaders.{raw_signed}
-use Rattle.cweb_scan.proofs.OpeningSteps.{opened, raw_opens_at, raw_fits_at, takes_at, at_state}
+use Rattle.cweb_scan.proofs.Common.{sym, ap, ◌∙◌, drop, raw_match, look_in_raw, reach, Reached, is_unclosed, Open, IsLine-take}
+use Rattle.cweb_rules.proofs.UnitNewlines.{none-ends}
+use Rattle.cweb_scan.proofs.HeldItems.{holds_at, whole_at, part_room}
+use Rattle.cweb_scan.proofs.HeldLiterals.{is_raw}
 use Rattle.cweb_scan.proofs.reader.Reader.open_raw.Goals as goal
 
-pub split_at-requires-2 : goal.split_at-requires-2
-split_at-requires-2 c =
-    let name = c.delimiter-name.ensures ∙ ap delimiter c.split_at.ensures.back in
-    raw_fits_at c.args.rest.bytes.now c.raw_prefix-start.result c.delimiter-name.result.now
-    c.raw_prefix-start.ensures.value name c.requires.sign
+pub hold-requires-clause-source : goal.hold-requires-clause-source
+hold-requires-clause-source c =
+    let u = c.args.rest.bytes.now in
+    let closer = c.deref.ensures.value ∙ c.in_ok-closer.ensures in
+    let inner = c.split_at.ensures.back ∙ ap (λ n. drop n u) c.raw_opener_len.ensures.value in
+    record {
+      item = (c.requires.next.context, c.requires.past, c.requires.sign);
+      unclosed = (is_raw c.args.self.now.state u c.requires.next.context c.requires.past c.requires.sign).opens_is
+          ∙ sym (c.is_unclosed.ensures ∙ ap (λ (r : Reached). is_unclosed r.how) c.reach.ensures.value
+          ∙ (λ i. is_unclosed (reach (look_in_raw (closer i)) Open (inner i)).how)) ∙ c.if-is_unclosed.true;
+      newlines = none-ends u c.args.rest.line;
+    }
 
-pub invariant_of-self-2 : goal.invariant_of-self-2
-invariant_of-self-2 c =
-    let s = c.self.inside.scanner in
-    let d = c.delimiter-name.result.now in
-    let reads = at_state (λ (u : ScanState). reads_literals u.context ≡ true) _ _ c.self.view_is
-    c.requires.next.context in
-    let name = c.delimiter-name.ensures ∙ ap delimiter c.split_at.ensures.back in
-    let kept = c.in_ok-extend_from_slice-2.ensures.items ∙ (λ i. c.clear-2.ensures.items i ++ d) in
-    let sign = c.in_ok-push-2.ensures.items
-    ∙ (λ i. c.in_ok-extend_from_slice-3.ensures.items i ++ 34 ∷ [])
-    ∙ (λ i. (c.in_ok-push.ensures.items i ++ d) ++ 34 ∷ [])
-    ∙ (λ i. ((c.clear-3.ensures.items i ++ 41 ∷ []) ++ d) ++ 34 ∷ []) in
-    raw_signed s.context c.here.result
-    (drop (c.raw_prefix-start.result + 2) c.args.rest.bytes.now) d _ _ name kept sign (literals_in_part s.context reads)
+pub take_raw-requires-clause-part : goal.take_raw-requires-clause-part
+take_raw-requires-clause-part c = part_room c.args.self.now _ c.self.view_is c.requires.next.context
+    c.requires.next.room
+
+pub take_raw-requires-clause-lines : goal.take_raw-requires-clause-lines
+take_raw-requires-clause-lines c =
+    none-ends _ (IsLine-take (raw_match c.args.rest.bytes.now).size c.args.rest.bytes.now c.args.rest.line)
+
+pub returns-then-is_unclosed : goal.returns-then-is_unclosed
+returns-then-is_unclosed c = holds_at c.args.rest.bytes.now c.args.self.now c.hold.new.self c.requires.next.between
+    c.args.rest.some c.in_ok-hold.ensures
 
 pub returns : goal.returns
 returns c =
-    let s = c.self.inside.scanner in
-    let g = c.self.inside.begun in
     let u = c.args.rest.bytes.now in
-    let reads = at_state (λ (u : ScanState). reads_literals u.context ≡ true) _ _ c.self.view_is
-    c.requires.next.context in
-    let p = c.raw_prefix-start.result in
-    let d = c.delimiter-name.result.now in
-    let name = c.delimiter-name.ensures ∙ ap delimiter c.split_at.ensures.back in
-    let n = p + 2 + length d + 1 in
-    let text =
-    c.in_ok-extend_from_slice.ensures.items ∙ (λ i. c.clear.ensures.items i ++ c.split_at-2.ensures.front i) in
-    let kept = c.in_ok-extend_from_slice-2.ensures.items ∙ (λ i. c.clear-2.ensures.items i ++ d) in
-    record {
-      some = omega arith;
-      within = refl;
-      taken = takes_at n u _ _ c.self.view_is c.requires.next.between (opened s g (InRaw s.here d (take n u))) _
-          (λ i. opened s g (InRaw (sym c.here.ensures i) (sym kept i) (sym text i)))
-          (raw_opens_at s g u p d c.raw_prefix-start.ensures.value name
-          reads c.args.rest.line c.requires.past c.requires.sign);
-    }
+    let h = c.args.self.now in
+    let is = is_raw h.state u c.requires.next.context c.requires.past c.requires.sign in
+    let closer = c.deref.ensures.value ∙ c.in_ok-closer.ensures in
+    let inner = c.split_at.ensures.back ∙ ap (λ n. drop n u) c.raw_opener_len.ensures.value in
+    let ends = sym (c.is_unclosed.ensures ∙ ap (λ (r : Reached). is_unclosed r.how) c.reach.ensures.value
+    ∙ (λ i. is_unclosed (reach (look_in_raw (closer i)) Open (inner i)).how)) ∙ c.if-is_unclosed.false in
+    whole_at c.in_ok-size.size u h _ c.take_raw.new.self (raw_match u) c.self.view_is c.requires.next.between
+    c.args.rest.some is.stays is.is (is.opens_is ∙ ends) c.in_ok-size.ensures

@@ -1,0 +1,84 @@
+-- Comments, as one slice of the source.
+use Rattle.cweb_scan.proofs.Common.{◌≡◌, ℕ, ◌+◌, Bool, true, false, ◌||◌, List, [], ◌∷◌, length, take, drop, refl, ap, sym, ◌∙◌, subst, codes, Place, begins, at_line_ends, Look, Goes, look_in_comment, reach, reach_size, comment_match, RuleMatch, Comment, End, Cut, Open, Reached, reached, is_unclosed, opens_in, Context, Limbo, TeX, Definition, match_in, comment_line_end, pass_comment, blank, on, enter_in, names_include, next_match, ScanState, AppliesOver, passed, ended_as, reads_c, with_line}
+use Rattle.cweb_rules.specs.declared.items.Item.TheVariants as item
+use Rattle.cweb_rules.specs.inner.LineItems.{opens_comment}
+use Rattle.cweb_rules.proofs.Looks.{comment-local, comment-units}
+use Rattle.cweb_rules.proofs.Seams.{begins_line}
+use Rattle.cweb_rules.proofs.Sizes.{begins-size}
+use Rattle.cweb_scan.proofs.Ends.{size-at_end, how-at_end}
+use Rattle.cweb_scan.proofs.OpeningSteps.{two}
+use Rattle.cweb_scan.proofs.HeldItems.{each-passed, OverLines, over, over_ended}
+use Rattle.cweb_scan.proofs.TakenItems.{reading}
+
+abbrev look : List ℕ → Look
+look t = look_in_comment (begins (codes "*/")) 2 t
+
+over_lines : OverLines look
+over_lines = record {
+  within = comment-units (begins (codes "*/")) 2;
+  local = λ more e. comment-local (begins (codes "*/")) 2 more e
+      (λ b t. begins_line (codes "*/") (b ∷ t) more refl e);
+  newline = λ t. newline_goes t;
+}
+  where
+    newline_goes : (t : List ℕ) → look (10 ∷ t) ≡ Goes 1
+    newline_goes [] = refl
+    newline_goes (b ∷ t) = refl
+
+-- The comment as the code takes it.
+pub comment_applies : (t : List ℕ) (ps : List Place) (r : Reached) (s new : ScanState)
+    → r ≡ reached (reach look Open (drop 2 t)) → at_line_ends 1 (take (comment_match t).size t) ≡ length ps
+    → new ≡ pass_comment (ended_as Cut r.how) s.here (passed comment_line_end ps (blank s))
+    → AppliesOver (comment_match t) t ps (2 + (r.size + r.close)) s new
+comment_applies t ps r s new is lines made =
+    let f = comment_match t in
+    record {
+      size = ap (λ n. 2 + n) (size-at_end item.Comment Cut (drop 2 t) r is);
+      state = λ later.
+          ap (on (pass_comment (reach look Cut (drop 2 t)).how s.here))
+          (each-passed comment_line_end (take f.size t) ps (blank s) later lines)
+          ∙ ap (λ (e : End). reading (pass_comment e s.here (passed comment_line_end ps (blank s))) later)
+          (sym (how-at_end item.Comment Cut (drop 2 t) r is))
+          ∙ ap (λ (v : ScanState). reading v later) (sym made);
+    }
+
+-- `/*` begins a comment wherever C text is read.
+pub record IsComment (s : ScanState) (u : List ℕ) : Type 0 where
+  pub is : next_match s u ≡ comment_match u
+  pub opens : opens_in s.context u ≡ opens_comment u
+  pub stays : enter_in s.context (next_match s u).kind s ≡ s
+
+seen : (c : Context) (includes : Bool) (w : List ℕ) → reads_c c ≡ true
+    → (match_in c includes (47 ∷ 42 ∷ w) ≡ comment_match (47 ∷ 42 ∷ w))
+    × (opens_in c (47 ∷ 42 ∷ w) ≡ opens_comment (47 ∷ 42 ∷ w))
+seen Limbo includes w h = cc
+seen TeX includes w h = cc
+seen (Definition begun) includes w h = (refl, or-none (opens_comment (47 ∷ 42 ∷ w)))
+  where
+    or-none : (v : Bool) → (v || false) ≡ v
+    or-none true = refl
+    or-none false = refl
+seen _ includes w h = (refl, refl)
+
+enter_comment : (c : Context) (how : End) (s : ScanState) → enter_in c (Comment how) s ≡ s
+enter_comment Limbo how s = refl
+enter_comment _ how s = refl
+
+pub is_comment : (s : ScanState) (u : List ℕ) → reads_c s.context ≡ true → begins (codes "/*") u ≡ true → IsComment s u
+is_comment s u c h =
+    let p = two 47 42 u h in
+    subst (IsComment s) p.1 (let f = seen s.context (names_include s) p.0 c in record {
+      is = f.0;
+      opens = f.1;
+      stays = ap (λ (v : RuleMatch). enter_in s.context v.kind s) f.0
+          ∙ enter_comment s.context (reach look Cut p.0).how s;
+    })
+
+pub comment_over : (w line : List ℕ) → begins (codes "/*") w ≡ true → opens_comment w ≡ true
+    → (opens_comment (with_line w line) ≡ is_unclosed (reach look Open line).how)
+    × ((comment_match (with_line w line)).size ≡ length w + 1 + reach_size (reach look Cut line))
+comment_over w line sign h = over look over_lines 2 w line (begins-size (codes "/*") w sign) h
+
+pub comment_ended : (w : List ℕ) → begins (codes "/*") w ≡ true → opens_comment w ≡ true
+    → (comment_match w).size ≡ length w
+comment_ended w sign h = over_ended look over_lines 2 w (begins-size (codes "/*") w sign) h

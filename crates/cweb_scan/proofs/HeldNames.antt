@@ -1,0 +1,146 @@
+-- Names, as one slice of the source.
+use Rattle.cweb_scan.proofs.Common.{◌≡◌, ◌≤◌, ℕ, ◌+◌, Bool, true, false, ◌||◌, List, [], ◌∷◌, length, take, drop, refl, ap, sym, ◌∙◌, subst, arith, codes, if◌then◌else◌, nat_lt, drop-sum, Place, begins, Goes, at_line_ends, look_in_name, Reach, reach, body, reach_size, unescaped, name_match, opener_after, End, Cut, Open, Reached, reached, is_unclosed, opens_in, Context, Limbo, Definition, CText, match_in, occurrence, move_to, on, enter_in, names_include, next_match, ScanState, AppliesOver, passed, ended_as, reads_names, is_head, starts_name, takes_opener, with_line}
+use Rattle.cweb_rules.specs.declared.items.Item.TheVariants as item
+use Rattle.cweb_rules.specs.inner.LineItems.{opens_name}
+use Rattle.cweb_rules.proofs.Looks.{name-local, name-units}
+use Rattle.cweb_rules.proofs.Sizes.{begins-size}
+use Rattle.cweb_rules.proofs.UnitNewlines.{units-prefix}
+use Rattle.cweb_scan.proofs.Ends.{item-some, reach-at_end, size-at_end, how-at_end}
+use Rattle.cweb_scan.proofs.FirstMatchTaken.{enter_same}
+use Rattle.cweb_scan.proofs.FurtherLiterals.{HasNone, text_stays}
+use Rattle.cweb_scan.proofs.HeldItems.{each-passed, OverLines, over, over_ended}
+use Rattle.cweb_scan.proofs.OpeningSteps.{two}
+use Rattle.cweb_scan.proofs.TakenItems.{reading}
+
+over_lines : OverLines look_in_name
+over_lines = record { within = name-units; local = name-local; newline = λ t. newline_goes t }
+  where
+    newline_goes : (t : List ℕ) → look_in_name (10 ∷ t) ≡ Goes 1
+    newline_goes [] = refl
+    newline_goes (b ∷ t) = refl
+
+-- A name as the code takes it.
+pub name_applies : (t : List ℕ) (ps : List Place) (r : Reached) (opener taken : ℕ) (x : List ℕ) (s new : ScanState)
+    → r ≡ reached (reach look_in_name Open (drop 2 t))
+    → opener ≡ opener_after (ended_as Cut r.how) (drop (r.size + r.close) (drop 2 t))
+    → taken ≡ (if takes_opener s then opener else 0)
+    → at_line_ends 1 (take (name_match (takes_opener s) t).size t) ≡ length ps
+    → x ≡ unescaped (reach look_in_name Open (drop 2 t)).units
+    → new ≡ occurrence (begins (codes "@(") t) x (ended_as Cut r.how) (nat_lt 0 opener) s.here (passed move_to ps s)
+    → AppliesOver (name_match (takes_opener s) t) t ps (2 + (r.size + r.close) + taken) s new
+name_applies t ps r opener taken x s new is after take_is lines text made =
+    let m = reach look_in_name Cut (drop 2 t) in
+    let size = size-at_end item.Name Cut (drop 2 t) r is in
+    let how = how-at_end item.Name Cut (drop 2 t) r is in
+    let f = name_match (takes_opener s) t in
+    let sign : opener ≡ opener_after m.how (drop (2 + reach_size m) t) = after
+    ∙ (λ i. opener_after (how i) (drop (size i) (drop 2 t)))
+    ∙ ap (opener_after m.how) (sym (drop-sum 2 (reach_size m) t)) in
+    let units : unescaped (reach look_in_name Open (drop 2 t)).units ≡ unescaped m.units =
+    ap (λ (v : Reach). unescaped v.units) (sym (reach-at_end item.Name Cut (drop 2 t))) in
+    record {
+      size = sized (takes_opener s) (2 + (r.size + r.close)) (2 + reach_size m) opener _ taken (ap (λ n. 2 + n) size) sign
+          take_is;
+      state = λ later.
+          ap (on (occurrence (begins (codes "@(") t) (unescaped m.units) m.how
+          (nat_lt 0 (opener_after m.how (drop (2 + reach_size m) t))) s.here))
+          (each-passed move_to (take f.size t) ps s later lines)
+          ∙ sym (ap (λ (v : ScanState). reading v later) (made
+          ∙ (λ i. occurrence (begins (codes "@(") t) ((text ∙ units) i) (how i) (nat_lt 0 (sign i)) s.here
+          (passed move_to ps s))));
+    }
+  where
+    sized : (takes : Bool) (n m opener sign taken : ℕ) → n ≡ m → opener ≡ sign
+        → taken ≡ (if takes then opener else 0) → n + taken ≡ (if takes then m + sign else m)
+    sized true n m opener sign taken e f g = omega (arith, e, f, g)
+    sized false n m opener sign taken e f g = omega (arith, e, g)
+
+-- A name without codes is its bytes.
+pub name_spelled : (inner x : List ℕ) (r : Reached) (n : ℕ) → r ≡ reached (reach look_in_name Open inner)
+    → x ≡ take r.size inner → HasNone x → x ≡ unescaped (reach look_in_name Open inner).units
+name_spelled inner x r n is text none =
+    let units = (reach look_in_name Open inner).units in
+    let same : x ≡ body (reach look_in_name Open inner) = text
+    ∙ ap (λ (v : Reached). take v.size inner) is ∙ units-prefix look_in_name Open inner (item-some item.Name) in
+    same ∙ sym (text_stays units (subst HasNone same none))
+
+-- `@<` or `@(` begins a name.
+pub record IsName (s : ScanState) (u : List ℕ) : Type 0 where
+  pub is : next_match s u ≡ name_match (takes_opener s) u
+  pub opens : opens_in s.context u ≡ opens_name u
+  pub stays : enter_in s.context (next_match s u).kind s ≡ s
+
+abbrev takes_in : Context → Bool
+takes_in CText = false
+takes_in _ = true
+
+section_names : (c : Context) (includes : Bool) (w : List ℕ) → reads_names c ≡ true → is_head c ≡ false
+    → (match_in c includes (64 ∷ 60 ∷ w) ≡ name_match (takes_in c) (64 ∷ 60 ∷ w))
+    × (opens_in c (64 ∷ 60 ∷ w) ≡ opens_name (64 ∷ 60 ∷ w))
+section_names Limbo includes w h k = cc
+section_names (Definition begun) includes w h k = cc
+section_names _ includes w h k = (refl, refl)
+
+file_names : (c : Context) (includes : Bool) (w : List ℕ) → reads_names c ≡ true → is_head c ≡ false
+    → (match_in c includes (64 ∷ 40 ∷ w) ≡ name_match (takes_in c) (64 ∷ 40 ∷ w))
+    × (opens_in c (64 ∷ 40 ∷ w) ≡ opens_name (64 ∷ 40 ∷ w))
+file_names Limbo includes w h k = cc
+file_names (Definition begun) includes w h k = cc
+file_names _ includes w h k = (refl, refl)
+
+takes_same : (c : Context) (s : ScanState) → s.context ≡ c → takes_opener s ≡ takes_in c
+takes_same _ s h = ap takes_in h
+
+pub is_name : (s : ScanState) (u : List ℕ) → reads_names s.context ≡ true → is_head s.context ≡ false
+    → starts_name u ≡ true → IsName s u
+is_name s u c head h = (elim (begins (codes "@<") u) as (λ v. begins (codes "@<") u ≡ v
+    → (v || begins (codes "@(") u) ≡ true → IsName s u) [
+      | true ↦ λ e g. let p = two 64 60 u e in subst (IsName s) p.1
+          (named (64 ∷ 60 ∷ p.0) (section_names s.context (names_include s) p.0 c head))
+      | false ↦ λ e g. let p = two 64 40 u g in subst (IsName s) p.1
+          (named (64 ∷ 40 ∷ p.0) (file_names s.context (names_include s) p.0 c head))
+    ]) refl h
+  where
+    named : (v : List ℕ) → (next_match s v ≡ name_match (takes_in s.context) v)
+        × (opens_in s.context v ≡ opens_name v) → IsName s v
+    named v f = record {
+      is = f.0 ∙ ap (λ w. name_match w v) (sym (takes_same s.context s refl));
+      opens = f.1;
+      stays = enter_same s.context (next_match s v).kind s head;
+    }
+
+pub name_two : (w : List ℕ) → starts_name w ≡ true → 2 ≤ length w
+name_two w h = (elim (begins (codes "@<") w) as (λ v. begins (codes "@<") w ≡ v
+    → (v || begins (codes "@(") w) ≡ true → 2 ≤ length w) [
+      | true ↦ λ e g. begins-size (codes "@<") w e
+      | false ↦ λ e g. begins-size (codes "@(") w g
+    ]) refl h
+
+pub name_over : (takes : Bool) (w line : List ℕ) → starts_name w ≡ true → opens_name w ≡ true
+    → (opens_name (with_line w line) ≡ is_unclosed (reach look_in_name Open line).how)
+    × (length w + 1 ≤ (name_match takes (with_line w line)).size)
+name_over takes w line sign h =
+    let o = over look_in_name over_lines 2 w line (name_two w sign) h in
+    (o.0, longer takes _ _ (omega (arith, o.1)))
+  where
+    longer : (takes : Bool) (n sign : ℕ) {m : ℕ} → m ≤ n → m ≤ (if takes then n + sign else n)
+    longer true n sign h = omega (arith, h)
+    longer false n sign h = h
+
+pub name_ended : (takes : Bool) (w : List ℕ) → starts_name w ≡ true → opens_name w ≡ true
+    → (name_match takes w).size ≡ length w
+name_ended takes w sign h =
+    let n = 2 + reach_size (reach look_in_name Cut (drop 2 w)) in
+    let cut = how-at_end item.Name Cut (drop 2 w) _ refl in
+    let none : opener_after (reach look_in_name Cut (drop 2 w)).how (drop n w) ≡ 0 =
+    ap (λ (e : End). opener_after e (drop n w)) (sym cut) ∙ not_closed (reach look_in_name Open (drop 2 w)).how (drop n w) h
+    in
+    whole takes n _ none ∙ over_ended look_in_name over_lines 2 w (name_two w sign) h
+  where
+    not_closed : (how : End) (t : List ℕ) → is_unclosed how ≡ true → opener_after (ended_as Cut how) t ≡ 0
+    not_closed Open t h = refl
+    not_closed _ t h = cc
+
+    whole : (takes : Bool) (n sign : ℕ) → sign ≡ 0 → (if takes then n + sign else n) ≡ n
+    whole true n sign h = omega (arith, h)
+    whole false n sign h = refl

@@ -1,0 +1,14 @@
+use Rattle.cweb_scan.proofs.Common.{ap, ◌∙◌, Cut, pass_comment, ended_as, passed, comment_line_end, ScanState}
+use Rattle.cweb_scan.proofs.HeldComments.{comment_applies}
+use Rattle.cweb_scan.proofs.scanner.Scanner.take_comment.Goals as goal
+
+pub returns : goal.returns
+returns c =
+    let s = c.args.self.now in
+    let ps = c.args.places.now in
+    comment_applies c.args.text.now ps c.reach-reached.result s c.pass_comment.new.self
+    (rw c.split_at.ensures.back at c.reach-reached.ensures.value) c.requires.lines
+    (c.in_ok-pass_comment.ensures
+    ∙ (λ i. pass_comment (c.ended.ensures i) (c.self.view_is i).here (c.in_ok-end_comment_lines.ensures i))
+    ∙ ap (λ (v : ScanState). pass_comment (ended_as Cut c.reach-reached.result.how) s.here (passed comment_line_end ps v))
+    c.in_ok-blank.ensures)
