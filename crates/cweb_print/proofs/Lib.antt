@@ -4,7 +4,6 @@ pub mod OverlappingEnds
 pub mod Lasts
 pub mod Steps
 pub mod Bytes
-pub mod OperatorTable
 pub mod Ranges
 pub mod MacroLines
 pub mod Prints

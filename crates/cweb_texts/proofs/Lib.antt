@@ -1,6 +1,7 @@
 pub mod Common
 pub mod ListLemmas
 pub mod EdgeLemmas
+pub mod OperatorTable
 pub mod StringListLemmas
 pub mod TruncationLemmas
 pub mod WordLemmas

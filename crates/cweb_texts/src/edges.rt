@@ -76,7 +76,7 @@ pub fn punctuator_edge(string: &[u8]) -> Edge
     };
     punctuator_edge_by(
         first_is_numeric(string),
-        first_is_operator(string),
+        begins_with_operator(string),
         *last == b'.',
         is_operator(*last),
     )
@@ -135,7 +135,8 @@ fn first_is_numeric(string: &[u8]) -> bool
     }
 }
 
-fn first_is_operator(string: &[u8]) -> bool
+/// Whether the first byte may be part of a longer operator.
+pub fn begins_with_operator(string: &[u8]) -> bool
     ensures { result ≡ first_is is_operator string.now }
 {
     match string {
@@ -144,26 +145,34 @@ fn first_is_operator(string: &[u8]) -> bool
     }
 }
 
-// Whether a byte may be part of a longer operator.
-fn is_operator(byte: u8) -> bool
+// The bytes that may combine with others to a longer operator. One lookup per byte.
+const OPERATOR_BYTES: [bool; 256] = [
+    false, false, false, false, false, false, false, false, false, false, false, false, false,
+    false, false, false, false, false, false, false, false, false, false, false, false, false,
+    false, false, false, false, false, false, false, true, false, true, false, true, true, false,
+    false, false, true, true, false, true, true, true, false, false, false, false, false, false,
+    false, false, false, false, true, false, true, true, true, true, false, false, false, false,
+    false, false, false, false, false, false, false, false, false, false, false, false, false,
+    false, false, false, false, false, false, false, false, false, false, false, false, false,
+    true, false, false, false, false, false, false, false, false, false, false, false, false,
+    false, false, false, false, false, false, false, false, false, false, false, false, false,
+    false, false, false, false, true, false, false, false, false, false, false, false, false,
+    false, false, false, false, false, false, false, false, false, false, false, false, false,
+    false, false, false, false, false, false, false, false, false, false, false, false, false,
+    false, false, false, false, false, false, false, false, false, false, false, false, false,
+    false, false, false, false, false, false, false, false, false, false, false, false, false,
+    false, false, false, false, false, false, false, false, false, false, false, false, false,
+    false, false, false, false, false, false, false, false, false, false, false, false, false,
+    false, false, false, false, false, false, false, false, false, false, false, false, false,
+    false, false, false, false, false, false, false, false, false, false, false, false, false,
+    false, false, false, false, false, false, false, false, false, false, false, false, false,
+    false, false, false, false, false, false,
+];
+
+/// Whether a byte may be part of a longer operator.
+#[inline(always)]
+pub fn is_operator(byte: u8) -> bool
     ensures { result ≡ is_operator byte }
 {
-    matches!(
-        byte,
-        b'+' | b'-'
-            | b'*'
-            | b'/'
-            | b'%'
-            | b'&'
-            | b'|'
-            | b'^'
-            | b'!'
-            | b'='
-            | b'<'
-            | b'>'
-            | b'.'
-            | b':'
-            | b'#'
-            | b'?'
-    )
+    OPERATOR_BYTES[byte as usize]
 }

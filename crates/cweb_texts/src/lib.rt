@@ -17,7 +17,9 @@ mod words;
 // strings in one table, those that repeat stored once
 mod string_table;
 
-pub use edges::{Edge, TokenBytes, has_high_byte, punctuator_edge};
+pub use edges::{
+    Edge, TokenBytes, begins_with_operator, has_high_byte, is_operator, punctuator_edge,
+};
 pub use slices::StringSlices;
 pub use string_table::StringTable;
 pub use strings::StringList;

@@ -6,6 +6,7 @@ ghost use Rattle.cweb_print.specs.surface.Classes.{class_by, class_of, punct_cla
 ghost use Rattle.cweb_print.specs.inner.Classes.{is_apart};
 
 use cweb_store::Token;
+use cweb_texts::{begins_with_operator, is_operator};
 
 /// What a printer stores about the previous token.
 #[derive(Clone, Copy)]
@@ -85,45 +86,6 @@ fn of_last(last: u8) -> Class
         Class::Operator
     } else {
         Class::Other
-    }
-}
-
-// The bytes that may combine with others to a longer operator. One lookup per byte.
-const OPERATOR_BYTES: [bool; 256] = [
-    false, false, false, false, false, false, false, false, false, false, false, false, false,
-    false, false, false, false, false, false, false, false, false, false, false, false, false,
-    false, false, false, false, false, false, false, true, false, true, false, true, true, false,
-    false, false, true, true, false, true, true, true, false, false, false, false, false, false,
-    false, false, false, false, true, false, true, true, true, true, false, false, false, false,
-    false, false, false, false, false, false, false, false, false, false, false, false, false,
-    false, false, false, false, false, false, false, false, false, false, false, false, false,
-    true, false, false, false, false, false, false, false, false, false, false, false, false,
-    false, false, false, false, false, false, false, false, false, false, false, false, false,
-    false, false, false, false, true, false, false, false, false, false, false, false, false,
-    false, false, false, false, false, false, false, false, false, false, false, false, false,
-    false, false, false, false, false, false, false, false, false, false, false, false, false,
-    false, false, false, false, false, false, false, false, false, false, false, false, false,
-    false, false, false, false, false, false, false, false, false, false, false, false, false,
-    false, false, false, false, false, false, false, false, false, false, false, false, false,
-    false, false, false, false, false, false, false, false, false, false, false, false, false,
-    false, false, false, false, false, false, false, false, false, false, false, false, false,
-    false, false, false, false, false, false, false, false, false, false, false, false, false,
-    false, false, false, false, false, false, false, false, false, false, false, false, false,
-    false, false, false, false, false, false,
-];
-
-fn is_operator(byte: u8) -> bool
-    ensures { result ≡ is_operator byte }
-{
-    OPERATOR_BYTES[byte as usize]
-}
-
-fn begins_with_operator(bytes: &[u8]) -> bool
-    ensures { result ≡ first_is is_operator bytes.now }
-{
-    match bytes {
-        [] => false,
-        [first, ..] => is_operator(*first),
     }
 }
 

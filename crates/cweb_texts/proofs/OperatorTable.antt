@@ -1,5 +1,6 @@
 -- The table of operator bytes agrees with its definition.
-use Rattle.cweb_print.proofs.Common.{◌≡◌, ◌<◌, ℕ, Bool, true, false, List, ◌++◌, replicate, slice_index_or, refl, is_operator}
+use Rattle.std.proofs.Common.{◌≡◌, ◌<◌, ℕ, Bool, true, false, List, ◌++◌, replicate, slice_index_or, refl}
+use Rattle.cweb_texts.specs.Edges.{is_operator}
 use Rattle.cweb_files.proofs.ByteTables.{known_by_table}
 
 -- The table as spans of equal entries.
