@@ -152,7 +152,7 @@ pub use Rattle.cweb_scan.specs.inner.ReaderModel.{BeginsLine, TakesLineEnd, Take
 pub use Rattle.cweb_scan.specs.inner.ReaderModel.{holding}
 pub use Rattle.cweb_scan.specs.inner.ReaderSteps.{MakesProgress}
 pub use Rattle.cweb_scan.specs.inner.HeldItems.{is_between, item_of, IsItem, IsHeld, IsStored, takes_opener, quoted_as}
-pub use Rattle.cweb_scan.specs.inner.HeldItems.{PassesUnits}
+pub use Rattle.cweb_scan.specs.inner.HeldItems.{PassesUnits, CanTake}
 pub use Rattle.cweb_scan.specs.inner.Room.{weight, HasItemRoom, HasPartRoom}
 pub use Rattle.cweb_scan.specs.inner.Scan.{HasTaken}
 pub use Rattle.cweb_scan.specs.inner.Skipped.{is_skipped}

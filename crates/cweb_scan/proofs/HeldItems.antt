@@ -18,6 +18,12 @@ use Rattle.cweb_scan.proofs.TakenItems.{reading, run_as, run_line_item}
 use Rattle.cweb_scan.proofs.Walked.{run-walks}
 use Rattle.cweb_scan.proofs.Weights.{piece-weight, weighs}
 
+-- The next lexeme, whether it leaves an item open, and that it ends no head.
+pub record IsNext (s : ScanState) (u : List ℕ) (f : RuleMatch) (opens : Bool) : Type 0 where
+  pub is : next_match s u ≡ f
+  pub opens_is : opens_in s.context u ≡ opens
+  pub stays : enter_in s.context (next_match s u).kind s ≡ s
+
 -- A step for each newline of some bytes.
 pub each-passed : (f : Place → ScanState → ScanState) (bytes : List ℕ) (ps : List Place) (s : ScanState)
     (later : List Place) → at_line_ends 1 bytes ≡ length ps

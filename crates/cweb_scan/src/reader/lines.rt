@@ -97,8 +97,7 @@ impl Reader {
             return Ok(());
         }
         self.item = Open::Between;
-        self.scanner
-            .take_whole(kind, &self.held, &self.places)?;
+        self.scanner.take_whole(kind, &self.held, &self.places)?;
         Ok(())
     }
 

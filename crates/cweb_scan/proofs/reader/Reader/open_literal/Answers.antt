@@ -7,8 +7,12 @@ use Rattle.cweb_scan.proofs.HeldLiterals.{is_literal, quote_as}
 use Rattle.cweb_scan.proofs.reader.Reader.open_literal.Goals as goal
 
 pub split_at-requires-2 : goal.split_at-requires-2
-split_at-requires-2 c = omega (arith, c.literal_prefix-prefix.ensures.value, is_quoted-size (literal_prefix
-    c.args.rest.bytes.now) c.args.rest.bytes.now c.requires.sign)
+split_at-requires-2 c = omega (
+  arith,
+  c.literal_prefix-prefix.ensures.value,
+  is_quoted-size (literal_prefix
+      c.args.rest.bytes.now) c.args.rest.bytes.now c.requires.sign,
+)
 
 pub hold-requires-clause-source : goal.hold-requires-clause-source
 hold-requires-clause-source c =

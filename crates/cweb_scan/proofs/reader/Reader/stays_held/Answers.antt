@@ -1,10 +1,11 @@
-use Rattle.cweb_scan.proofs.Common.{List, ℕ, ap, sym, ◌∙◌, subst, opens_in, is_unclosed, Reached, reach, look_in_raw, look_in_literal, IsHeld, ReaderModel, with_line, held_text, Open as Unclosed}
+use Rattle.cweb_scan.proofs.Common.{List, ℕ, ap, sym, ◌∙◌, subst, opens_in, is_unclosed, Reached, reach, look_in_raw, look_in_literal, IsHeld, ReaderModel, with_line, held_text, Open as Unclosed, false}
 use Rattle.cweb_rules.specs.inner.LineItems.{goes_on}
 use Rattle.cweb_rules.specs.inner.RawOpeners.{raw_closer_of}
 use Rattle.cweb_scan.specs.declared.reader.open.Open.{Open}
+use Rattle.cweb_scan.specs.declared.reader.open.Open.TheVariants.{Comment, Name, Literal, RawLiteral}
 use Rattle.cweb_scan.proofs.HeldItems.{held_now}
 use Rattle.cweb_scan.proofs.HeldLiterals.{quote_as}
-use Rattle.cweb_scan.proofs.HeldKinds.{comment_stays, name_stays, literal_stays, raw_stays, is_comment_kind}
+use Rattle.cweb_scan.proofs.HeldKinds.{stays_on, is_comment_kind}
 use Rattle.cweb_scan.proofs.reader.Reader.stays_held.Goals as goal
 
 pub returns-in-Name : goal.returns-in-Name
@@ -15,7 +16,7 @@ returns-in-Name c =
     c.self.invariant in
     let held = subst (λ (k : Open). IsHeld k r.scanner.context w r.places.items) c.in-Name.is now.source in
     c.is_unclosed.ensures ∙ ap (λ (v : Reached). is_unclosed v.how) c.reach.ensures.value
-    ∙ sym (name_stays r.scanner w c.args.line.now r.places.items held)
+    ∙ sym (stays_on Name r.scanner w c.args.line.now r.places.items (λ i. false) held)
     ∙ ap (λ (h : ReaderModel). opens_in h.state.context (with_line (held_text h.item) c.args.line.now)) now.view
 
 pub returns-in-Literal : goal.returns-in-Literal
@@ -29,7 +30,7 @@ returns-in-Literal c =
     c.deref-in-Literal.result.now c.split_at.result.1.now c.literal_prefix-prefix.result c.byte.result c.deref.ensures.value
     c.deref-in-Literal.ensures.value c.literal_prefix-prefix.ensures.value c.split_at.ensures.back
     (c.byte.ensures ∙ c.of-quote.ensures))
-    ∙ sym (literal_stays r.scanner w c.args.line.now r.places.items held)
+    ∙ sym (stays_on Literal r.scanner w c.args.line.now r.places.items (λ i. false) held)
     ∙ ap (λ (h : ReaderModel). opens_in h.state.context (with_line (held_text h.item) c.args.line.now)) now.view
 
 pub returns-in_ok-closer-in-RawLiteral : goal.returns-in_ok-closer-in-RawLiteral
@@ -42,7 +43,7 @@ returns-in_ok-closer-in-RawLiteral c =
     c.is_unclosed-in-RawLiteral.ensures ∙ ap (λ (v : Reached). is_unclosed v.how) c.reach-in-RawLiteral.ensures.value
     ∙ ap (λ (v : List ℕ). is_unclosed (reach (look_in_raw v) Unclosed c.args.line.now).how)
     (c.deref-in-RawLiteral-2.ensures.value ∙ c.in_ok-closer-in-RawLiteral.ensures ∙ ap raw_closer_of c.deref-in-RawLiteral.ensures.value)
-    ∙ sym (raw_stays r.scanner w c.args.line.now r.places.items held)
+    ∙ sym (stays_on RawLiteral r.scanner w c.args.line.now r.places.items (λ i. false) held)
     ∙ ap (λ (h : ReaderModel). opens_in h.state.context (with_line (held_text h.item) c.args.line.now)) now.view
 
 pub returns-in_default : goal.returns-in_default
@@ -54,6 +55,5 @@ returns-in_default c =
     let held = subst (λ (k : Open). IsHeld k r.scanner.context w r.places.items) (is_comment_kind r.item now.held c.in_default.not-Name
     c.in_default.not-Literal c.in_default.not-RawLiteral) now.source in
     c.is_unclosed-in_default.ensures ∙ ap (λ (v : Reached). is_unclosed v.how) c.reach-in_default.ensures.value
-    ∙ sym (comment_stays r.scanner w c.args.line.now r.places.items held)
+    ∙ sym (stays_on Comment r.scanner w c.args.line.now r.places.items (λ i. false) held)
     ∙ ap (λ (h : ReaderModel). opens_in h.state.context (with_line (held_text h.item) c.args.line.now)) now.view
-
