@@ -1,7 +1,7 @@
 use Rattle.cweb_scan.proofs.Common.{sym, ap, ◌∙◌, subst, arith, is_unclosed, Reached, ReaderModel, comment_match, IsLine-take, HasItemRoom}
 use Rattle.cweb_rules.proofs.UnitNewlines.{none-ends}
-use Rattle.cweb_scan.proofs.HeldItems.{holds_at, whole_at}
-use Rattle.cweb_scan.proofs.HeldComments.{is_comment}
+use Rattle.cweb_scan.proofs.PendingItems.{holds_at, whole_at}
+use Rattle.cweb_scan.proofs.PendingComments.{is_comment}
 use Rattle.cweb_scan.proofs.reader.Reader.open_comment.Goals as goal
 
 pub hold-requires-clause-source : goal.hold-requires-clause-source

@@ -2,8 +2,8 @@ use Rattle.cweb_scan.proofs.Common.{sym, ap, ◌∙◌, arith, drop, ◌+◌, li
 use Rattle.cweb_rules.specs.inner.LineItems.{goes_on}
 use Rattle.cweb_rules.proofs.LineLiterals.{is_quoted-size}
 use Rattle.cweb_rules.proofs.UnitNewlines.{none-ends}
-use Rattle.cweb_scan.proofs.HeldItems.{holds_at, whole_at, part_room}
-use Rattle.cweb_scan.proofs.HeldLiterals.{is_literal, quote_as}
+use Rattle.cweb_scan.proofs.PendingItems.{holds_at, whole_at, part_room}
+use Rattle.cweb_scan.proofs.PendingLiterals.{is_literal, quote_as}
 use Rattle.cweb_scan.proofs.reader.Reader.open_literal.Goals as goal
 
 pub split_at-requires-2 : goal.split_at-requires-2

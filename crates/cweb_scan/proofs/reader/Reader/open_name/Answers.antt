@@ -1,7 +1,7 @@
 use Rattle.cweb_scan.proofs.Common.{sym, ap, ◌∙◌, subst, is_unclosed, Reached, ReaderModel, name_match, takes_opener, IsLine-take, HasItemRoom, AppliesOver, []}
 use Rattle.cweb_rules.proofs.UnitNewlines.{none-ends}
-use Rattle.cweb_scan.proofs.HeldItems.{holds_at, whole_at}
-use Rattle.cweb_scan.proofs.HeldNames.{is_name, name_two}
+use Rattle.cweb_scan.proofs.PendingItems.{holds_at, whole_at}
+use Rattle.cweb_scan.proofs.PendingNames.{is_name, name_two}
 use Rattle.cweb_scan.proofs.reader.Reader.open_name.Goals as goal
 
 pub split_at-requires : goal.split_at-requires

@@ -7,7 +7,7 @@ use Rattle.cweb_rules.proofs.Seams.{begins_line}
 use Rattle.cweb_rules.proofs.Sizes.{begins-size}
 use Rattle.cweb_scan.proofs.Ends.{size-at_end, how-at_end}
 use Rattle.cweb_scan.proofs.OpeningSteps.{two}
-use Rattle.cweb_scan.proofs.HeldItems.{IsNext, each-passed, OverLines, over, over_ended}
+use Rattle.cweb_scan.proofs.PendingItems.{IsNext, each-passed, OverLines, over, over_ended}
 use Rattle.cweb_scan.proofs.TakenItems.{reading}
 
 abbrev look : List ℕ → Look

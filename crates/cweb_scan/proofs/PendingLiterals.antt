@@ -13,7 +13,7 @@ use Rattle.cweb_rules.proofs.Seams.{drop_line}
 use Rattle.cweb_rules.proofs.UnitNewlines.{quoted-bytes}
 use Rattle.cweb_scan.proofs.CrossedLineEnds.{literal_ends_at_newline, crossed_how, crossed_size, crossed_ended}
 use Rattle.cweb_scan.proofs.Ends.{item-some, reach-at_end, size-at_end, how-at_end, at_end, at_start}
-use Rattle.cweb_scan.proofs.HeldItems.{IsNext, each-passed, OverLines, over, over_ended, with_line-is}
+use Rattle.cweb_scan.proofs.PendingItems.{IsNext, each-passed, OverLines, over, over_ended, with_line-is}
 use Rattle.cweb_scan.proofs.LiteralOpeners.{c_prefix_raw, c_prefix_literal, literal_first, enter_quoted}
 use Rattle.cweb_scan.proofs.OpeningSteps.{not_back}
 use Rattle.cweb_scan.proofs.TakenItems.{reading}
@@ -333,7 +333,7 @@ quote_in t = quote_of (drop (literal_prefix t) t)
 
 pub quote_as : (w v u quoted : List ℕ) (p q : ℕ) → v ≡ w → u ≡ w → p ≡ literal_prefix v → quoted ≡ drop p u
     → q ≡ quote_of quoted → q ≡ quote_in w
-quote_as w v u quoted p q same held prefix back quote = quote ∙ ap quote_of (back ∙ (λ i. drop (prefix i) (held i)))
+quote_as w v u quoted p q same pending prefix back quote = quote ∙ ap quote_of (back ∙ (λ i. drop (prefix i) (pending i)))
     ∙ ap (λ (t : List ℕ). quote_of (drop (literal_prefix t) w)) same
 
 no_newline : (t : List ℕ) → (quote_of t == 10) ≡ false

@@ -8,7 +8,7 @@ use Rattle.cweb_rules.proofs.UnitNewlines.{units-prefix}
 use Rattle.cweb_scan.proofs.Ends.{item-some, reach-at_end, size-at_end, how-at_end}
 use Rattle.cweb_scan.proofs.FirstMatchTaken.{enter_same}
 use Rattle.cweb_scan.proofs.FurtherLiterals.{HasNone, text_stays}
-use Rattle.cweb_scan.proofs.HeldItems.{IsNext, each-passed, OverLines, over, over_ended}
+use Rattle.cweb_scan.proofs.PendingItems.{IsNext, each-passed, OverLines, over, over_ended}
 use Rattle.cweb_scan.proofs.OpeningSteps.{two}
 use Rattle.cweb_scan.proofs.TakenItems.{reading}
 

@@ -1,5 +1,5 @@
--- Held items of any kind, with the next line.
-use Rattle.cweb_scan.proofs.Common.{◌≡◌, ◌≤◌, ℕ, ◌+◌, Bool, true, false, ◌||◌, List, [], ◌∷◌, ◌++◌, length, take, refl, ap, sym, ◌∙◌, subst, arith, codes, length-append, Place, begins, at_line_ends, reach, look_in_comment, look_in_name, look_in_literal, look_in_raw, Open, is_unclosed, opens_in, IsLine, AtLineEnd, Context, literal_prefix, enter_in, next_match, RuleMatch, ScanState, is_between, IsItem, IsHeld, IsPast, starts_name, takes_opener, with_line, AppliesOver, lex, ◌-◌, comment_match, name_match, literal_match, raw_match, HasItemRoom, CanTake, ReaderModel, Held, cost, too_many, ◌<◌}
+-- Pending items of any kind, with the next line.
+use Rattle.cweb_scan.proofs.Common.{◌≡◌, ◌≤◌, ℕ, ◌+◌, Bool, true, false, ◌||◌, List, [], ◌∷◌, ◌++◌, length, take, refl, ap, sym, ◌∙◌, subst, arith, codes, length-append, Place, begins, at_line_ends, reach, look_in_comment, look_in_name, look_in_literal, look_in_raw, Open, is_unclosed, opens_in, IsLine, AtLineEnd, Context, literal_prefix, enter_in, next_match, RuleMatch, ScanState, is_between, IsItem, IsPending, IsPast, starts_name, takes_opener, with_line, AppliesOver, lex, ◌-◌, comment_match, name_match, literal_match, raw_match, HasItemRoom, CanTake, ReaderModel, Pending, cost, too_many, ◌<◌}
 use Rattle.cweb_scan.proofs.OpeningSteps.{opened}
 use Rattle.cweb_rules.specs.inner.LineItems.{goes_on, opens_comment, opens_name, opens_literal, opens_raw}
 use Rattle.cweb_rules.specs.inner.RawOpeners.{raw_closer_of}
@@ -9,10 +9,10 @@ use Rattle.cweb_rules.proofs.Sizes.{begins-size}
 use Rattle.std.proofs.Common.{take_all}
 use Rattle.cweb_scan.specs.declared.reader.open.Open as code
 use Rattle.cweb_scan.specs.declared.reader.open.Open.TheVariants.{Between, Comment, Name, Literal, RawLiteral}
-use Rattle.cweb_scan.proofs.HeldItems.{IsNext, newlines_fit, with_line-is, begins_more, held_newlines, all_newlines, TakesWhole, takes_whole, held_finished}
-use Rattle.cweb_scan.proofs.HeldComments.{is_comment, comment_over, comment_ended}
-use Rattle.cweb_scan.proofs.HeldNames.{is_name, name_two, name_over, name_ended}
-use Rattle.cweb_scan.proofs.HeldLiterals.{is_raw, is_literal, raw_fits, raw_over, raw_ended, literal_over, literal_ended, quote_in}
+use Rattle.cweb_scan.proofs.PendingItems.{IsNext, newlines_fit, with_line-is, begins_more, pending_newlines, all_newlines, TakesWhole, takes_whole, pending_finished}
+use Rattle.cweb_scan.proofs.PendingComments.{is_comment, comment_over, comment_ended}
+use Rattle.cweb_scan.proofs.PendingNames.{is_name, name_two, name_over, name_ended}
+use Rattle.cweb_scan.proofs.PendingLiterals.{is_raw, is_literal, raw_fits, raw_over, raw_ended, literal_over, literal_ended, quote_in}
 use Rattle.cweb_scan.proofs.LiteralOpeners.{past-line}
 use Rattle.cweb_scan.proofs.TakenItems.{reading}
 
@@ -117,12 +117,12 @@ item_stays : (kind : code.Open) (s : ScanState) (u : List ℕ) → is_between ki
 item_stays kind s u k i = ((known kind s u k i).next u i).stays
 
 is_open : (kind : code.Open) (s : ScanState) (w : List ℕ) (ps : List Place) (k : is_between kind ≡ false)
-    (h : IsHeld kind s.context w ps) → (known kind s w k h.item).opens w ≡ true
+    (h : IsPending kind s.context w ps) → (known kind s w k h.item).opens w ≡ true
 is_open kind s w ps k h = sym ((known kind s w k h.item).next w h.item).opens_is ∙ h.unclosed
 
 -- Whether the next line leaves it open.
 pub stays_on : (kind : code.Open) (s : ScanState) (w line : List ℕ) (ps : List Place) (k : is_between kind ≡ false)
-    (h : IsHeld kind s.context w ps)
+    (h : IsPending kind s.context w ps)
     → opens_in s.context (with_line w line) ≡ stays_by kind w line
 stays_on kind s w line ps k h =
     let x = known kind s w k h.item in
@@ -131,7 +131,7 @@ stays_on kind s w line ps k h =
 
 -- It extends over the newline before that line.
 item_past : (kind : code.Open) (s : ScanState) (w line : List ℕ) (ps : List Place) → is_between kind ≡ false
-    → IsHeld kind s.context w ps → length w + 1 ≤ (next_match s (with_line w line)).size
+    → IsPending kind s.context w ps → length w + 1 ≤ (next_match s (with_line w line)).size
 item_past kind s w line ps k h =
     let x = known kind s w k h.item in
     omega (
@@ -143,7 +143,7 @@ item_past kind s w line ps k h =
 
 -- The source's end ends it.
 item_ended : (kind : code.Open) (s : ScanState) (w : List ℕ) (ps : List Place) → is_between kind ≡ false
-    → IsHeld kind s.context w ps → (next_match s w).size ≡ length w
+    → IsPending kind s.context w ps → (next_match s w).size ≡ length w
 item_ended kind s w ps k h =
     let x = known kind s w k h.item in
     ap (λ (f : RuleMatch). f.size) (x.next w h.item).is ∙ x.ended (is_open kind s w ps k h)
@@ -161,8 +161,8 @@ applies_to s new t u ps qs n text places h = subst (λ (v : List ℕ). AppliesOv
 
 -- The item with a line that leaves it open.
 pub stays_with : (kind : code.Open) (s : ScanState) (w line : List ℕ) (ps : List Place) (q : Place)
-    → is_between kind ≡ false → IsHeld kind s.context w ps → IsLine line
-    → opens_in s.context (with_line w line) ≡ true → IsHeld kind s.context (with_line w line) (ps ++ q ∷ [])
+    → is_between kind ≡ false → IsPending kind s.context w ps → IsLine line
+    → opens_in s.context (with_line w line) ≡ true → IsPending kind s.context (with_line w line) (ps ++ q ∷ [])
 stays_with kind s w line ps q k h clean opens = record {
   item = item_more kind s.context w line k h.item;
   unclosed = opens;
@@ -178,7 +178,7 @@ pub record EndsWith (kind : code.Open) (s : ScanState) (w line : List ℕ) (ps :
       n s new → TakesWhole n (with_line w line) (ps ++ q ∷ []) s new
 
 pub ends_with : (kind : code.Open) (s : ScanState) (w line : List ℕ) (ps : List Place) (q : Place)
-    → is_between kind ≡ false → IsHeld kind s.context w ps → IsLine line
+    → is_between kind ≡ false → IsPending kind s.context w ps → IsLine line
     → opens_in s.context (with_line w line) ≡ false → EndsWith kind s w line ps q
 ends_with kind s w line ps q k h clean ends =
     let u = with_line w line in
@@ -190,10 +190,10 @@ ends_with kind s w line ps q k h clean ends =
       size = m;
       past = size;
       ready = λ room. record {
-        held = k;
+        pending = k;
         item = i;
         lines = ap (λ n. at_line_ends 1 (take n u)) size
-            ∙ omega (arith, held_newlines w line m clean, h.newlines, longer);
+            ∙ omega (arith, pending_newlines w line m clean, h.newlines, longer);
         room = record {
           for_tokens = omega (arith, room.for_tokens, longer);
           for_a_part = room.for_a_part;
@@ -207,26 +207,26 @@ ends_with kind s w line ps q k h clean ends =
 
 -- The item that the source's end ends.
 pub ends_source : (kind : code.Open) (s new : ScanState) (w : List ℕ) (ps : List Place) (n : ℕ)
-    → is_between kind ≡ false → IsHeld kind s.context w ps → AppliesOver (next_match s w) w ps n s new
+    → is_between kind ≡ false → IsPending kind s.context w ps → AppliesOver (next_match s w) w ps n s new
     → new ≡ (lex (reading s (ps ++ [])) (w ++ [])).state
-ends_source kind s new w ps n k h applies = held_finished s new w ps n (next_match s w)
+ends_source kind s new w ps n k h applies = pending_finished s new w ps n (next_match s w)
     (item_some kind s.context w k h.item) (item_stays kind s w k h.item) refl (item_ended kind s w ps k h) applies
 
 pub ready_at_end : (kind : code.Open) (s : ScanState) (w : List ℕ) (ps : List Place) → is_between kind ≡ false
-    → IsHeld kind s.context w ps → HasItemRoom (length ps + 2) s → CanTake kind w ps s
+    → IsPending kind s.context w ps → HasItemRoom (length ps + 2) s → CanTake kind w ps s
 ready_at_end kind s w ps k h room = record {
-  held = k;
+  pending = k;
   item = h.item;
   lines = ap (λ n. at_line_ends 1 (take n w)) (item_ended kind s w ps k h)
       ∙ ap (at_line_ends 1) (take_all (length w) w (omega arith)) ∙ h.newlines;
   room = room;
 }
 
--- The room that a held item has.
-pub held_room : (h : ReaderModel) (s : ScanState) (g : Bool) (w : List ℕ) (ps : List Place) (n : ℕ)
-    → opened s g (Held w ps) ≡ h → at_line_ends 1 w ≡ length ps → 1 ≤ n → cost h + n < too_many
+-- The room that a pending item has.
+pub pending_room : (h : ReaderModel) (s : ScanState) (g : Bool) (w : List ℕ) (ps : List Place) (n : ℕ)
+    → opened s g (Pending w ps) ≡ h → at_line_ends 1 w ≡ length ps → 1 ≤ n → cost h + n < too_many
     → HasItemRoom (length ps + n) s
-held_room h s g w ps n view lines some room = record {
+pending_room h s g w ps n view lines some room = record {
   for_tokens = omega (arith, ap cost view, room, newlines_fit w, lines);
   for_a_part = omega (arith, ap cost view, some, room);
   for_an_occurrence = omega (arith, ap cost view, some, room);
