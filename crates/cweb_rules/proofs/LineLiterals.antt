@@ -1,6 +1,6 @@
 -- A literal that ends in its line doesn't depend on the bytes after it.
 use Rattle.cweb_rules.proofs.Common.{◌≡◌, ◌≤◌, ℕ, ◌+◌, Bool, true, false, ◌||◌, ◌==◌, List, [], ◌∷◌, ◌++◌, length, take, drop, refl, ap, ◌∙◌, arith, if◌then◌else◌, codes, take-append-le, drop-append-le, length-drop, begins, Look, Reach, reach, body, reach_size, Cut, Open, reach_of_literal, look_in_literal, Quoted, RuleMatch, rule_match, has_quote_at, literal_prefix, starts_literal, quoted_match, quote_of, literal_match, AtLineEnd, is_unclosed, opens_literal, and_parts}
-use Rattle.cweb_rules.proofs.Seams.{stops, begins_line, drop_line}
+use Rattle.cweb_rules.proofs.Seams.{begins_line, drop_line}
 use Rattle.cweb_rules.proofs.Reaches.{IsLocal, IsWhole}
 use Rattle.cweb_rules.proofs.Looks.{reach_ends}
 use Rattle.cweb_rules.proofs.OverLineEnds.{literal_ends}

@@ -54,14 +54,6 @@ plain_goes (Literal quote) b t h = grind (arith, literal_goes quote b t, turned 
 plain_goes IncludedName b t h = grind (arith, include_goes b t, turned 62 b, turned 64 b)
 plain_goes (RawLiteral sign) b t h = raw_goes sign.now b t h
 
-pub no_at_in_literal : (quote b : ℕ) → is_special (Literal quote) b ≡ false → (b == 64) ≡ false
-no_at_in_literal quote b h =
-    (three (b == 64) (b == 92) (b == quote) (or_parts (b == 64 || b == 92 || b == quote) (b == 10) h).0).0
-
-pub no_at_in_raw : (sign : List ℕ) (b : ℕ) → is_raw_special sign b ≡ false → (b == 64) ≡ false
-no_at_in_raw [] b h = cc
-no_at_in_raw (first ∷ rest) b h = (or_parts (b == 64) (b == first) h).0
-
 -- The extent of an item after a span of plain bytes.
 pub reach_plain : (item : Item) (e : End) (t : List ℕ) → reached (reach (look_of item) e t)
     ≡ later_by (prefix_len (is_plain item) t) (reached (reach (look_of item) e (drop (prefix_len (is_plain item) t) t)))

@@ -10,9 +10,9 @@ none None = refl
 none (Some text) = refl
 
 -- No line yet.
-pub read_nothing : {R : Type 0} (run : MergeState R) (held : ReaderModel) → ReadsLines run [] held held
-read_nothing run held = record {
-  read = λ more. ap (λ (ls : List Line). read_after held (ls ++ more)) (sym (none (top_of run.stack)));
+pub read_nothing : {R : Type 0} (run : MergeState R) (pending : ReaderModel) → ReadsLines run [] pending pending
+read_nothing run pending = record {
+  read = λ more. ap (λ (ls : List Line). read_after pending (ls ++ more)) (sym (none (top_of run.stack)));
   below = subst (AreLinesBelow (length (opened_file_names run.names))) (sym (none (top_of run.stack)))
       (All-nil (λ (line : Line).
       line.place.file.0 < length (opened_file_names run.names)));
@@ -63,10 +63,10 @@ read_more run lines ahead old mid new looks first reads adds = record {
 
 -- The lines that were read are taken.
 pub read_taken : {R : Type 0} (old new : MergeState R) (lines : List (List ℕ)) (tells : Bool) (first : SoFar)
-    (all now later : List Event) (held next : ReaderModel) → TakesLines lines old new → ReadsLines old lines held next
+    (all now later : List Event) (pending next : ReaderModel) → TakesLines lines old new → ReadsLines old lines pending next
     → (IsTrue tells → EmitsLines (lines_next (top_of old.stack) lines) (so_far_of old) (so_far_of new) now later)
-    → HasTaken tells first (so_far_of old) all now held → HasTaken tells first (so_far_of new) all later next
-read_taken old new lines tells first all now later held next takes reads yields taken = record {
+    → HasTaken tells first (so_far_of old) all now pending → HasTaken tells first (so_far_of new) all later next
+read_taken old new lines tells first all now later pending next takes reads yields taken = record {
   lines = taken.lines ++ more_lines;
   read_is = λ more. reads.read more ∙ taken.read_is (more_lines ++ more)
       ∙ ap read_lines (sym (append_assoc taken.lines more_lines more));

@@ -3,7 +3,7 @@ use Rattle.cweb_scan.proofs.Common.{◌≡◌, ◌≤◌, ◌<◌, ℕ, zero, su
 use Rattle.cweb_rules.specs.inner.LineItems.{goes_on}
 use Rattle.cweb_rules.proofs.Looks.{IsSome, AllSome, literal-local, literal-some}
 use Rattle.cweb_scan.proofs.Ends.{at_start}
-use Rattle.cweb_scan.proofs.PendingItemsInLine.{after_units, sizes, whole-end}
+use Rattle.cweb_scan.proofs.OpenReaches.{after_units, sizes, whole-end}
 
 -- A newline ends the item, unless a unit of two bytes begins before it.
 pub record EndsAtNewline (look : List ℕ → Look) : Type 0 where

@@ -95,7 +95,6 @@ comment_yields : (t : List ℕ) (r : Reached) (s : ScanState) → r ≡ reached 
     → r.how ≡ Closed → blank s ≡ s → Applies (comment_match t) t (2 + (r.size + r.close)) s s
 comment_yields t r s is closed stays =
     let look = comment_look in
-
     let m = reach look Cut (drop 2 t) in
     let how : m.how ≡ Closed = sym (how-at_end item.Comment Cut (drop 2 t) r is) ∙ ap (ended_as Cut) closed in
     record {

@@ -26,7 +26,7 @@ pub mod FurtherLiterals
 pub mod Measures
 pub mod LexemesAreUnique
 pub mod Bounds
-pub mod PendingItemsInLine
+pub mod OpenReaches
 pub mod LiteralOpeners
 pub mod Gaps
 pub mod LineEnds
@@ -55,12 +55,12 @@ pub mod RuleSteps
 pub mod HeadSteps
 pub mod HeadStays
 pub mod LineSteps
-pub mod HeldItems
-pub mod HeldComments
-pub mod HeldNames
+pub mod PendingItems
+pub mod PendingComments
+pub mod PendingNames
 pub mod CrossedLineEnds
-pub mod HeldLiterals
-pub mod HeldKinds
+pub mod PendingLiterals
+pub mod PendingKinds
 pub mod PlainStates
 pub mod PlainReadings
 pub mod PlainTokens

@@ -1,7 +1,7 @@
 -- The start of a line for any reader, and the end of the source.
-use Rattle.cweb_scan.proofs.Common.{◌≡◌, ◌≤◌, ℕ, Bool, true, false, List, [], ◌∷◌, ◌++◌, refl, ap, sym, ◌∙◌, subst, arith, Place, Line, Reading, line_end, ReaderModel, OpenItem, Between, Held, is_held, read_on, read_lines, read_after, source_ended, BeginsLine, TakesLineEnd, TakesBytes, cost, weight, drop, newline_prefixed, places, ScanState}
+use Rattle.cweb_scan.proofs.Common.{◌≡◌, ◌≤◌, ℕ, Bool, true, false, List, [], ◌∷◌, ◌++◌, refl, ap, sym, ◌∙◌, subst, arith, Place, Line, Reading, line_end, ReaderModel, OpenItem, Between, Pending, is_pending, read_on, read_lines, read_after, source_ended, BeginsLine, TakesLineEnd, TakesBytes, cost, weight, drop, newline_prefixed, places, ScanState}
 use Rattle.cweb_scan.proofs.FirstMatchTaken.{between}
-use Rattle.cweb_scan.proofs.HeldItems.{held-weight}
+use Rattle.cweb_scan.proofs.PendingItems.{pending-weight}
 use Rattle.cweb_scan.proofs.LineEnds.{run-newline}
 use Rattle.cweb_scan.proofs.Taken.{first_taken, next_taken}
 use Rattle.cweb_scan.proofs.Weights.{line_end-weight}
@@ -12,9 +12,9 @@ pub line_ends : (q : Place) (line : List ℕ) (s : ScanState) (g : Bool) → g �
 line_ends q line s g begun =
     record { begun = begun; same = λ later more e. sym (run-newline q s later (line ++ more)) }
 
-pub not_held : (i : OpenItem) → is_held i ≡ false → i ≡ Between
-not_held Between h = refl
-not_held (Held text ps) h = cc
+pub not_pending : (i : OpenItem) → is_pending i ≡ false → i ≡ Between
+not_pending Between h = refl
+not_pending (Pending text ps) h = cc
 
 -- A line begins after a newline.
 begins_between : (q : Place) (line : List ℕ) (s new : ScanState) (g : Bool) → g ≡ true → new ≡ line_end q s
@@ -29,10 +29,10 @@ begins_between q line s new g begun is = record {
 }
 
 pub begins_next : (q : Place) (line : List ℕ) (h v : ReaderModel) (new : ScanState) → v ≡ h → h.begun ≡ true
-    → is_held h.item ≡ false → new ≡ line_end q v.state
+    → is_pending h.item ≡ false → new ≡ line_end q v.state
     → BeginsLine q line 0 h (record { state = new; item = v.item; begun = v.begun })
 begins_next q line h v new is begun loose made =
-    let none : v.item ≡ Between = ap (λ (k : ReaderModel). k.item) is ∙ not_held h.item loose in
+    let none : v.item ≡ Between = ap (λ (k : ReaderModel). k.item) is ∙ not_pending h.item loose in
     subst (λ (k : ReaderModel). BeginsLine q line 0 k (record { state = new; item = v.item; begun = v.begun })) is
     (subst (λ i. BeginsLine q line 0 (record { state = v.state; item = i; begun = v.begun })
     (record { state = new; item = i; begun = v.begun })) (sym none)
@@ -57,7 +57,7 @@ source_read h begun = ap (λ v. (elim v as (λ w. Reading)
 ended-weight : (i : OpenItem) (s : ScanState) (g : Bool) → (let h : ReaderModel = record { state = s; item = i; begun = g }
     in weight (source_ended h) ≤ cost h)
 ended-weight Between s g = omega arith
-ended-weight (Held text ps) s g = held-weight text ps s
+ended-weight (Pending text ps) s g = pending-weight text ps s
 
 pub source_ended-weight : (h : ReaderModel) → weight (source_ended h) ≤ cost h
 source_ended-weight h = ended-weight h.item h.state h.begun

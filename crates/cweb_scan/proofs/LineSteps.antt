@@ -1,5 +1,5 @@
 -- The bytes of a line are taken step by step.
-use Rattle.cweb_scan.proofs.Common.{◌≡◌, ℕ, ◌+◌, true, List, length, drop, ap, sym, ◌∙◌, subst, arith, length-drop, IsLine, ReaderModel, is_held, TakesPrefix, MakesProgress, IsLine-drop, drop-sum}
+use Rattle.cweb_scan.proofs.Common.{◌≡◌, ℕ, ◌+◌, true, List, length, drop, ap, sym, ◌∙◌, subst, arith, length-drop, IsLine, ReaderModel, is_pending, TakesPrefix, MakesProgress, IsLine-drop, drop-sum}
 use Rattle.cweb_scan.proofs.RestByLexemes.{takes_both}
 
 -- The bytes before the rest of a line were taken.
@@ -7,7 +7,7 @@ pub record TakesFirst (line rest : List ℕ) (old new : ReaderModel) : Type 0 wh
   pub size : ℕ
   pub rest_is : rest ≡ drop size line
   pub taken : TakesPrefix size line old new
-  pub last : is_held new.item ≡ true → length rest ≡ 0
+  pub last : is_pending new.item ≡ true → length rest ≡ 0
 
 pub prefix_goes_on : (n : ℕ) (line rest after : List ℕ) (old mid new : ReaderModel) → after ≡ drop n rest
     → TakesFirst line rest old mid → MakesProgress n rest mid new → TakesFirst line after old new

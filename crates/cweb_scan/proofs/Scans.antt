@@ -30,12 +30,12 @@ wider files more lines h below = All-weaker (λ (line : Line). line.place.file.0
     (λ line. line.place.file.0 < more) (λ line k. omega (arith, h, k)) lines below
 
 -- One more line.
-pub emitted_line_taken : (tells : Bool) (old so new : SoFar) (all now later : List Event) (held next : ReaderModel)
+pub emitted_line_taken : (tells : Bool) (old so new : SoFar) (all now later : List Event) (pending next : ReaderModel)
     (line : Line)
-    → HasTaken tells old so all now held → EmitsLine line.place line.bytes so new
-    → length so.names ≤ length new.names → ((more : List Line) → read_after next more ≡ read_after held (line ∷ more))
+    → HasTaken tells old so all now pending → EmitsLine line.place line.bytes so new
+    → length so.names ≤ length new.names → ((more : List Line) → read_after next more ≡ read_after pending (line ∷ more))
     → (IsTrue tells → EmitsLines (line ∷ []) so new now later) → HasTaken tells old new all later next
-emitted_line_taken tells old so new all now later held next line taken emitted names reads yields = record {
+emitted_line_taken tells old so new all now later pending next line taken emitted names reads yields = record {
   lines = taken.lines ++ line ∷ [];
   read_is = λ more.
       reads more ∙ taken.read_is (line ∷ more) ∙ ap read_lines (sym (append_assoc taken.lines (line ∷ []) more));
@@ -67,16 +67,16 @@ scanned-below files lines below =
     }
 
 -- The result of all lines that were taken.
-of_taken : (held : ReaderModel) (lines : List Line)
-    → ((more : List Line) → read_after held more ≡ read_lines (lines ++ more))
-    → scanned_of (read_after held []).state ≡ scanned lines
-of_taken held lines reads = ap (λ (r : Reading). scanned_of r.state) (reads [] ∙ ap read_lines (append-nil lines))
+of_taken : (pending : ReaderModel) (lines : List Line)
+    → ((more : List Line) → read_after pending more ≡ read_lines (lines ++ more))
+    → scanned_of (read_after pending []).state ≡ scanned lines
+of_taken pending lines reads = ap (λ (r : Reading). scanned_of r.state) (reads [] ∙ ap read_lines (append-nil lines))
 
-pub all_within : (tells : Bool) (old so new : SoFar) (all now : List Event) (held : ReaderModel) (s : Scanned)
-    → HasTaken tells old so all now held → s ≡ scanned_of (read_after held []).state
+pub all_within : (tells : Bool) (old so new : SoFar) (all now : List Event) (pending : ReaderModel) (s : Scanned)
+    → HasTaken tells old so all now pending → s ≡ scanned_of (read_after pending []).state
     → length so.names ≤ length new.names → so.count.bytes ≤ BYTES → so.count.lines ≤ LINES → ScansWithinLimits new s
-all_within tells old so new all now held s taken is names few_bytes few_lines =
-    let same : s ≡ scanned taken.lines = is ∙ of_taken held taken.lines taken.read_is in
+all_within tells old so new all now pending s taken is names few_bytes few_lines =
+    let same : s ≡ scanned taken.lines = is ∙ of_taken pending taken.lines taken.read_is in
     let opened = wider (length so.names) (length new.names) taken.lines names taken.below in
     record {
       lines = taken.lines;
@@ -88,17 +88,17 @@ all_within tells old so new all now held s taken is names few_bytes few_lines =
     }
 
 -- No line is left.
-pub all_scanned : (old so new : SoFar) (all now later : List Event) (lines : List Line) (held : ReaderModel)
+pub all_scanned : (old so new : SoFar) (all now later : List Event) (lines : List Line) (pending : ReaderModel)
     (s : Scanned)
-    → ((more : List Line) → read_after held more ≡ read_lines (lines ++ more))
+    → ((more : List Line) → read_after pending more ≡ read_lines (lines ++ more))
     → web_size lines ≤ so.count.bytes + so.count.lines → EmitsLines lines old so all now
-    → s ≡ scanned_of (read_after held []).state → EmitsLines [] so new now later → later ≡ [] → Scans s old new all
-all_scanned old so new all now later lines held s reads few yields is last none =
+    → s ≡ scanned_of (read_after pending []).state → EmitsLines [] so new now later → later ≡ [] → Scans s old new all
+all_scanned old so new all now later lines pending s reads few yields is last none =
     let whole = yields_both lines [] old so new all now later yields last in
     let here : emitted_lines all ≡ lines =
     emitted_prefix (lines ++ []) old new all later whole
     ∙ ap (λ (es : List Event). (lines ++ []) ++ emitted_lines es) none ∙ append-nil (lines ++ []) ∙ append-nil lines in
-    let same : s ≡ scanned lines = is ∙ of_taken held lines reads in
+    let same : s ≡ scanned lines = is ∙ of_taken pending lines reads in
     let size = bounded lines in
     record {
       made = same ∙ ap scanned (sym here);

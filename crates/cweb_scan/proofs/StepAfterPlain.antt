@@ -3,9 +3,9 @@ use Rattle.cweb_scan.proofs.Common.{◌≡◌, ◌≤◌, ◌<◌, ℕ, ◌+◌,
 use Rattle.cweb_scan.proofs.InLineItemSteps.{at_item}
 use Rattle.cweb_scan.proofs.RestByLexemes.{takes_both}
 
-pub plain_held : (n : ℕ) (u : List ℕ) (h v : ReaderModel) (new : ScanState) → v ≡ h → h.item ≡ Between
+pub plain_taken : (n : ℕ) (u : List ℕ) (h v : ReaderModel) (new : ScanState) → v ≡ h → h.item ≡ Between
     → TakesPlain n u v.state new → TakesPrefix n u h (at_item v new)
-plain_held n u h v new is none t =
+plain_taken n u h v new is none t =
     let item : v.item ≡ Between = ap (λ (k : ReaderModel). k.item) is ∙ none in
     subst (λ (k : ReaderModel). TakesPrefix n u k (at_item v new)) is
     (subst (λ (i : OpenItem). TakesPrefix n u (record { state = v.state; item = i; begun = v.begun })

@@ -1,4 +1,4 @@
--- Taking a line is taking its newline, with the bytes of a held item, and its other bytes.
+-- Taking a line is taking its newline, with the bytes of a pending item, and its other bytes.
 use Rattle.cweb_scan.proofs.Common.{◌≡◌, ℕ, drop, List, [], ◌∷◌, ◌++◌, true, false, refl, ap, sym, ◌∙◌, Line, Reading, AtLineEnd, newline_prefixed, read_lines, ReaderModel, read_on, places, read_after, reader_at, TakesLineEnd, TakesBytes}
 
 pub AtLineEnd-further : (lines : List Line) → AtLineEnd (newline_prefixed lines)

@@ -1,5 +1,5 @@
 -- How much each step adds to the weight: tokens, parts, occurrences and sections.
-use Rattle.cweb_scan.proofs.Common.{◌≤◌, ℕ, ◌+◌, ◌*◌, Bool, List, [], ◌∷◌, ◌++◌, Some, None, length, ap, arith, length-append, option_map, option_to_list, Place, PartKind, Token, Part, all_tokens, PartsSoFar, with_opened_part, with_pushed_token, part_with_token, Lexeme, Pays, End, Reading, next_line, ScanState, move_to, line_end, comment_line_end, blank, pass_comment, occurrence, emit_literal, after_lexeme, weight, append-nil, Tells, Context, Macro, CText, Newline, line_end_in, line_end_token, in_directive, true, false, if◌then◌else◌}
+use Rattle.cweb_scan.proofs.Common.{◌≤◌, ℕ, ◌+◌, ◌*◌, List, [], ◌∷◌, ◌++◌, Some, None, length, ap, arith, length-append, option_map, option_to_list, Place, PartKind, Token, Part, all_tokens, PartsSoFar, with_opened_part, with_pushed_token, part_with_token, Lexeme, Pays, Reading, next_line, ScanState, move_to, line_end, comment_line_end, after_lexeme, weight, append-nil, Tells, Context, Macro, CText, Newline, line_end_in, line_end_token, in_directive, true, false, if◌then◌else◌}
 use Rattle.cweb_store.specs.surface.Growing.{token_count, part_count}
 use Rattle.cweb_store.proofs.CallerLemmas.{part_count_pushed, part_count_dropped, part_count_closed, token_count_closed, token_count_dropped, tokens-last}
 use Rattle.cweb_scan.proofs.Moves as step
@@ -88,23 +88,6 @@ weighs = record {
 
 pub line_end-weight : (p : Place) (s : ScanState) → weight (line_end p s) ≤ weight s + 1
 line_end-weight p s = step.line_end-walks weighs (reading s (p ∷ []))
-
-pub comment_line_end-weight : (p : Place) (s : ScanState) → weight (comment_line_end p s) ≤ weight s + 1
-comment_line_end-weight p s = step.comment_line_end-walks weighs s (p ∷ [])
-
-pub blank-weight : (s : ScanState) → weight (blank s) ≤ weight s + 1
-blank-weight s = step.blank-walks weighs (reading s [])
-
-pub comment-weight : (how : End) (p : Place) (s : ScanState) → weight (pass_comment how p s) ≤ weight s + 0
-comment-weight how p s = step.comment-walks weighs how p (reading s []) tt
-
-pub occurrence-weight : (is_file : Bool) (text : List ℕ) (how : End) (opens : Bool) (p : Place) (s : ScanState)
-    → weight (occurrence is_file text how opens p s) ≤ weight s + 4
-occurrence-weight is_file text how opens p s = step.occurrence-walks weighs is_file text how opens p (reading s []) tt
-
-pub literal-weight : (text : List ℕ) (how : End) (p : Place) (s : ScanState)
-    → weight (emit_literal text how p s) ≤ weight s + 1
-literal-weight text how p s = step.literal-walks weighs text how p (reading s []) tt
 
 -- Each byte of a lexeme adds at most three.
 pub piece-weight : (r : Reading) (p : Lexeme) → 1 ≤ length p.bytes → Pays r.state.context p.kind p.bytes

@@ -11,5 +11,5 @@ pub mod ReaderSteps
 pub mod Plain
 pub mod Ahead
 pub mod Bound
-pub mod HeldItems
+pub mod PendingItems
 pub mod Scan

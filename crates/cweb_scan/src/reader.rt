@@ -2,13 +2,13 @@
 ghost use Rattle.std.specs.Prelude.{◌≡◌, ◌<◌};
 
 pub mod codes;
-pub mod held;
 pub mod line;
 pub mod lines;
 pub mod next_lexeme;
 pub mod open;
 pub mod opened;
 pub mod opening;
+pub mod pending;
 
 use crate::reader::open::Open;
 use crate::scanner::Scanner;
@@ -16,13 +16,13 @@ use cweb_files::{FileId, Place};
 use std::alloc::{AllocError, Global};
 use std::marker::Model;
 
-/// The lines so far: the scanner's state before the open item, and that item. `held` has its source so far, and `places`
+/// The lines so far: the scanner's state before the open item, and that item. `pending` has its source so far, and `places`
 /// those of the lines after its newlines.
 pub struct Reader {
     pub(crate) alloc: Global,
     pub(crate) scanner: Scanner,
     pub(crate) item: Open,
-    pub(crate) held: Vec<u8>,
+    pub(crate) pending: Vec<u8>,
     pub(crate) places: Vec<Place>,
     pub(crate) begun: bool,
 }
@@ -34,7 +34,7 @@ impl Drop for Reader {
             alloc: _,
             scanner: _,
             item: _,
-            held: _,
+            pending: _,
             places: _,
             begun: _,
         } = self;
@@ -43,18 +43,18 @@ impl Drop for Reader {
 
 impl Model for Reader {
     ghost use Rattle.cweb_scan.specs.inner.ReaderModel.{ReaderModel};
-    ghost use Rattle.cweb_scan.specs.inner.HeldItems.{item_of, IsStored};
+    ghost use Rattle.cweb_scan.specs.inner.PendingItems.{item_of, IsStored};
 
     ghost Value = { ReaderModel };
 
     ghost view = { λ r.
         record {
           state = r.scanner;
-          item = item_of r.item r.held.items r.places.items;
+          item = item_of r.item r.pending.items r.places.items;
           begun = r.begun;
         } };
 
-    ghost invariant = { λ r. IsStored r.item r.scanner.context r.held.items r.places.items };
+    ghost invariant = { λ r. IsStored r.item r.scanner.context r.pending.items r.places.items };
 }
 
 impl Reader {
@@ -74,7 +74,7 @@ impl Reader {
                 },
             ),
             item: Open::Between,
-            held: Vec::new(alloc),
+            pending: Vec::new(alloc),
             places: Vec::new(alloc),
             begun: false,
         }

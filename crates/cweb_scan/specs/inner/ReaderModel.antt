@@ -15,18 +15,18 @@ use Rattle.cweb_scan.specs.laws.ReaderModel.{places}
 -- No item, or the source so far of an open one. The lines after its newlines have these places.
 pub data OpenItem : Type 0 where
   Between : OpenItem
-  Held : (text : List ℕ) (places : List Place) → OpenItem
+  Pending : (text : List ℕ) (places : List Place) → OpenItem
 
-abbrev pub is_held : OpenItem → Bool
-is_held i = elim i [ Between ↦ false | Held text places ↦ true ]
+abbrev pub is_pending : OpenItem → Bool
+is_pending i = elim i [ Between ↦ false | Pending text places ↦ true ]
 
-abbrev pub held_text : OpenItem → List ℕ
-held_text Between = []
-held_text (Held text places) = text
+abbrev pub pending_text : OpenItem → List ℕ
+pending_text Between = []
+pending_text (Pending text places) = text
 
-abbrev pub held_places : OpenItem → List Place
-held_places Between = []
-held_places (Held text places) = places
+abbrev pub pending_places : OpenItem → List Place
+pending_places Between = []
+pending_places (Pending text places) = places
 
 -- The state before the open item.
 pub record ReaderModel : Type 0 where
@@ -39,13 +39,13 @@ pub record ReaderModel : Type 0 where
 abbrev pub new_reader : ReaderModel
 new_reader = record { state = start_state no_place; item = Between; begun = false }
 
--- The source of a held item with the next line.
+-- The source of a pending item with the next line.
 abbrev pub with_line : List ℕ → List ℕ → List ℕ
 with_line text line = (text ++ 10 ∷ []) ++ line
 
 -- The reading after the rest of a line and the lines after it.
 abbrev pub read_on : ReaderModel → List Place → List ℕ → Reading
-read_on h later t = lex (record { state = h.state; later = held_places h.item ++ later }) (held_text h.item ++ t)
+read_on h later t = lex (record { state = h.state; later = pending_places h.item ++ later }) (pending_text h.item ++ t)
 
 abbrev pub reader_at : Place → ReaderModel
 reader_at place = record { state = start_state place; item = Between; begun = true }
@@ -71,7 +71,7 @@ pub record TakesBytes (line : List ℕ) (old new : ReaderModel) : Type 0 where
 
 -- The weight so far, and what the open item may add: at most three for each byte.
 abbrev pub cost : ReaderModel → ℕ
-cost h = weight h.state + 3 * length (held_text h.item)
+cost h = weight h.state + 3 * length (pending_text h.item)
 
 -- The first n bytes of the rest of a line were taken. Each byte adds at most three to the cost.
 pub record TakesPrefix (n : ℕ) (rest : List ℕ) (old new : ReaderModel) : Type 0 where
@@ -81,14 +81,14 @@ pub record TakesPrefix (n : ℕ) (rest : List ℕ) (old new : ReaderModel) : Typ
   pub same : (later : List Place) (more : List ℕ) → AtLineEnd more
       → read_on new later (drop n rest ++ more) ≡ read_on old later (rest ++ more)
 
--- A line begins: the first one, or one after a newline. Its first n bytes belong to the held item, all if that stays
+-- A line begins: the first one, or one after a newline. Its first n bytes belong to the pending item, all if that stays
 -- open.
 pub record BeginsLine (place : Place) (line : List ℕ) (n : ℕ) (old new : ReaderModel) : Type 0 where
   pub first : old.begun ≡ false → (n ≡ 0) × (new ≡ reader_at place)
   pub next : old.begun ≡ true → TakesLineEnd place line n old new
   pub within : n ≤ length line
   pub adds : cost new ≤ cost old + 3 * (n + 1)
-  pub last : is_held new.item ≡ true → n ≡ length line
+  pub last : is_pending new.item ≡ true → n ≡ length line
 
 -- A line without newlines, and room for what it and the newline before it add.
 pub record HasLineRoom (line : List ℕ) (h : ReaderModel) : Type 0 where
@@ -103,7 +103,7 @@ pub record TakesLine (place : Place) (line : List ℕ) (old new : ReaderModel) :
 
 -- Holds the source of an item that the line leaves open.
 abbrev pub holding : List ℕ → ReaderModel → ReaderModel
-holding text h = record { state = h.state; item = Held text []; begun = h.begun }
+holding text h = record { state = h.state; item = Pending text []; begun = h.begun }
 
 -- Moves to another line outside C text.
 abbrev pub gone_to : Place → ReaderModel → ReaderModel

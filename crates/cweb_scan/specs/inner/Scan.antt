@@ -11,12 +11,12 @@ use Rattle.cweb_scan.specs.surface.Scan.{AreLinesBelow}
 
 -- The result of a scan if no line follows.
 abbrev pub scanned_after : ReaderModel → Scanned
-scanned_after held = scanned_of (read_after held []).state
+scanned_after reader = scanned_of (read_after reader []).state
 
 -- The reader has taken the merger's lines so far: more lines give what all lines together give.
-pub record HasTaken (tells : Bool) (old reported : SoFar) (all now : List Event) (held : ReaderModel) : Type 0 where
+pub record HasTaken (tells : Bool) (old reported : SoFar) (all now : List Event) (reader : ReaderModel) : Type 0 where
   pub lines : List Line
-  pub read_is : (more : List Line) → read_after held more ≡ read_lines (lines ++ more)
+  pub read_is : (more : List Line) → read_after reader more ≡ read_lines (lines ++ more)
   pub below : AreLinesBelow (length reported.names) lines
   pub few : web_size lines ≤ reported.count.bytes + reported.count.lines
   pub yields : IsTrue tells → EmitsLines lines old reported all now

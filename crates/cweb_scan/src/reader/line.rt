@@ -8,7 +8,7 @@ use std::alloc::AllocError;
 
 impl Reader {
     ghost use Rattle.cweb_rules.specs.inner.LineItems.{IsLine};
-    ghost use Rattle.cweb_scan.specs.inner.ReaderModel.{cost, is_held, Between, TakesBytes};
+    ghost use Rattle.cweb_scan.specs.inner.ReaderModel.{cost, is_pending, Between, TakesBytes};
     ghost use Rattle.cweb_scan.specs.inner.ReaderSteps.{MakesProgress};
 
     // One step: a run of plain C text and the lexeme after it. Returns its size.
@@ -29,7 +29,7 @@ impl Reader {
     /// Takes the bytes of a line. Its newline is taken when the next line begins.
     pub(crate) fn take_bytes(&mut self, line: &[u8]) -> Result<(), AllocError>
         requires clean { IsLine line.now }
-        requires last { is_held self.old.item ≡ true → length line.now ≡ 0 }
+        requires last { is_pending self.old.item ≡ true → length line.now ≡ 0 }
         requires room { cost self.old + 3 * length line.now + 8 < too_many }
         ensures bytes { OnOk result (TakesBytes line.now self.old self.new) }
         ensures cost { OnOk result (cost self.new ≤ cost self.old + 3 * length line.now) }

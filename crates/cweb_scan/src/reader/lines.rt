@@ -20,7 +20,7 @@ impl Reader {
     ghost use Rattle.cweb_scan.specs.inner.ReaderModel.{HasLineRoom, TakesLine};
     ghost use Rattle.cweb_scan.specs.inner.Room.{weight};
 
-    // Begins a line: the first one, or one after a newline. Returns the number of its bytes that a held item takes.
+    // Begins a line: the first one, or one after a newline. Returns the number of its bytes that a pending item takes.
     fn begin_line(&mut self, place: Place, line: &[u8]) -> Result<usize, AllocError>
         requires { HasLineRoom line.now self.old }
         ensures { IfOk result (λ n. BeginsLine place line.now n self.old self.new) }
@@ -31,7 +31,7 @@ impl Reader {
             self.begun = true;
             return Ok(0);
         }
-        if self.is_held() {
+        if self.is_pending() {
             return self.go_on(place, line);
         }
         self.scanner.end_line(place)?;
@@ -87,18 +87,17 @@ impl Reader {
         Ok(())
     }
 
-    // Ends the source, and the held item with it.
+    // Ends the source, and the pending item with it.
     fn end_source(&mut self) -> Result<(), AllocError>
         requires { cost self.old + 8 < too_many }
         ensures { OnOk result (self.new.state ≡ source_ended self.old) }
     {
         let kind = self.item;
-        if !self.is_held() {
+        if !self.is_pending() {
             return Ok(());
         }
         self.item = Open::Between;
-        self.scanner
-            .take_whole(kind, &self.held, &self.places)?;
+        self.scanner.take_whole(kind, &self.pending, &self.places)?;
         Ok(())
     }
 
@@ -120,7 +119,7 @@ impl Reader {
             alloc: _,
             scanner,
             item: _,
-            held: _,
+            pending: _,
             places: _,
             begun: _,
         } = self;

@@ -36,7 +36,8 @@ fn is_lone_at(unit: &[u8]) -> bool
 }
 
 impl Scanner {
-    ghost use Rattle.cweb_rules.specs.Items.{reach as spec_reach, body, look_in_name, unescaped};
+    ghost use Rattle.cweb_rules.specs.Items.{body, look_in_name, unescaped};
+    ghost use Rattle.cweb_rules.specs.Items as spec;
     ghost use Rattle.cweb_rules.specs.Matches.{comment_match, name_match, literal_match, raw_match};
     ghost use Rattle.cweb_rules.specs.Matches.{starts_literal, starts_raw};
     ghost use Rattle.cweb_rules.specs.declared.end.End.TheVariants as ends;
@@ -45,8 +46,8 @@ impl Scanner {
     ghost use Rattle.cweb_scan.specs.After.{comment_line_end, occurrence};
     ghost use Rattle.cweb_scan.specs.State.{move_to};
     ghost use Rattle.cweb_scan.specs.inner.MatchSteps.{AppliesOver, passed};
-    ghost use Rattle.cweb_scan.specs.inner.HeldItems.{is_between, quoted_as, IsItem, PassesUnits};
-    ghost use Rattle.cweb_scan.specs.inner.HeldItems.{takes_opener};
+    ghost use Rattle.cweb_scan.specs.inner.PendingItems.{quoted_as, CanTake, PassesUnits};
+    ghost use Rattle.cweb_scan.specs.inner.PendingItems.{takes_opener};
     ghost use Rattle.cweb_scan.specs.inner.Room.{CanEmit, HasItemRoom};
     ghost use Rattle.cweb_scan.specs.laws.Law.{next_match};
 
@@ -99,9 +100,9 @@ impl Scanner {
         begun: Place,
     ) -> Result<(), AllocError>
         requires room { HasItemRoom 2 self.old }
-        requires extent { extent ≡ reached (spec_reach look_in_name ends.Open inner.now) }
+        requires extent { extent ≡ reached (spec.reach look_in_name ends.Open inner.now) }
         ensures { OnOk result (self.new ≡ occurrence is_file
-            (unescaped (spec_reach look_in_name ends.Open inner.now).units) how opens begun self.old) }
+            (unescaped (spec.reach look_in_name ends.Open inner.now).units) how opens begun self.old) }
     {
         let (name, _) = inner.split_at(extent.size);
         if skipped_len(name) == name.len() {
@@ -115,9 +116,14 @@ impl Scanner {
     }
 
     /// `@<` or `@(`: a name of this extent after its opener, with the part opener after it. Returns its size.
-    pub fn take_name(&mut self, extent: Reached, text: &[u8], places: &[Place]) -> Result<usize, AllocError>
+    pub fn take_name(
+        &mut self,
+        extent: Reached,
+        text: &[u8],
+        places: &[Place],
+    ) -> Result<usize, AllocError>
         requires two { 2 ≤ length text.now }
-        requires extent { extent ≡ reached (spec_reach look_in_name ends.Open (drop 2 text.now)) }
+        requires extent { extent ≡ reached (spec.reach look_in_name ends.Open (drop 2 text.now)) }
         requires lines { at_line_ends 1 (take (name_match (takes_opener self.old) text.now).size text.now)
             ≡ length places.now }
         requires room { HasItemRoom 2 self.old }
@@ -150,9 +156,14 @@ impl Scanner {
     }
 
     // Passes the units of a literal after its opener.
-    fn pass_units<'a>(&mut self, item: Item<'_>, inner: &[u8], places: &'a [Place]) -> Result<&'a [Place], AllocError>
-        requires { at_line_ends 1 (body (spec_reach (look_of item) ends.Open inner.now)) ≤ length places.now }
-        ensures { IfOk result (λ left. PassesUnits (spec_reach (look_of item.entry) ends.Open inner.now).units
+    fn pass_units<'a>(
+        &mut self,
+        item: Item<'_>,
+        inner: &[u8],
+        places: &'a [Place],
+    ) -> Result<&'a [Place], AllocError>
+        requires { at_line_ends 1 (body (spec.reach (look_of item) ends.Open inner.now)) ≤ length places.now }
+        ensures { IfOk result (λ left. PassesUnits (spec.reach (look_of item.entry) ends.Open inner.now).units
             places.now left.now self.old self.new) }
     {
         let mut rest = inner;
@@ -169,7 +180,13 @@ impl Scanner {
     }
 
     /// A literal, raw or not, or an included name, with an opener of this size. Returns its size.
-    pub fn take_quoted(&mut self, opener: usize, item: Item<'_>, text: &[u8], places: &[Place]) -> Result<usize, AllocError>
+    pub fn take_quoted(
+        &mut self,
+        opener: usize,
+        item: Item<'_>,
+        text: &[u8],
+        places: &[Place],
+    ) -> Result<usize, AllocError>
         requires within { opener ≤ length text.now }
         requires part { CanEmit 1 self.old }
         requires lines { at_line_ends 1 (take (quoted_as opener item text.now).size text.now) ≡ length places.now }
@@ -215,16 +232,23 @@ impl Scanner {
             (λ n. AppliesOver (raw_match text.now) text.now places.now n self.old self.new) }
     {
         let closer = raw_closer(self.alloc, text)?;
-        let size = self.take_quoted(raw_opener_len(text), Item::RawLiteral(&closer), text, places)?;
+        let size = self.take_quoted(
+            raw_opener_len(text),
+            Item::RawLiteral(&closer),
+            text,
+            places,
+        )?;
         Ok(size)
     }
 
     /// Takes the item of this kind that the source begins with. Returns its size.
-    pub fn take_whole(&mut self, kind: Open, text: &[u8], places: &[Place]) -> Result<usize, AllocError>
-        requires kind { is_between kind ≡ false }
-        requires item { IsItem kind self.old.context text.now }
-        requires lines { at_line_ends 1 (take (next_match self.old text.now).size text.now) ≡ length places.now }
-        requires room { HasItemRoom (length places.now + 2) self.old }
+    pub fn take_whole(
+        &mut self,
+        kind: Open,
+        text: &[u8],
+        places: &[Place],
+    ) -> Result<usize, AllocError>
+        requires { CanTake kind text.now places.now self.old }
         ensures { IfOk result
             (λ n. AppliesOver (next_match self.old text.now) text.now places.now n self.old self.new) }
     {

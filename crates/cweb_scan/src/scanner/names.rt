@@ -12,7 +12,7 @@ impl Scanner {
     ghost use Rattle.cweb_scan.specs.After as spec;
     ghost use Rattle.cweb_scan.specs.State.{name_occurrence, add_name};
     ghost use Rattle.cweb_scan.specs.inner.ScanParts.{as_occurrence};
-    ghost use Rattle.cweb_scan.specs.inner.HeldItems.{takes_opener};
+    ghost use Rattle.cweb_scan.specs.inner.PendingItems.{takes_opener};
     ghost use Rattle.cweb_scan.specs.inner.Room.{HasItemRoom};
 
     // Adds the occurrence of a name as it is spelled, and returns its index.

@@ -1,13 +1,13 @@
 use Rattle.cweb_scan.proofs.Common.{sym, ap, ◌∙◌, subst, arith, is_unclosed, Reached, ReaderModel, comment_match, IsLine-take, HasItemRoom}
 use Rattle.cweb_rules.proofs.UnitNewlines.{none-ends}
-use Rattle.cweb_scan.proofs.HeldItems.{holds_at, whole_at}
-use Rattle.cweb_scan.proofs.HeldComments.{is_comment}
+use Rattle.cweb_scan.proofs.PendingItems.{holds_at, whole_at}
+use Rattle.cweb_scan.proofs.PendingComments.{is_comment}
 use Rattle.cweb_scan.proofs.reader.Reader.open_comment.Goals as goal
 
 pub hold-requires-clause-source : goal.hold-requires-clause-source
 hold-requires-clause-source c = record {
   item = (c.requires.next.context, c.requires.sign);
-  unclosed = (is_comment c.args.self.now.state c.args.rest.bytes.now c.requires.next.context c.requires.sign).opens
+  unclosed = (is_comment c.args.self.now.state c.args.rest.bytes.now c.requires.next.context c.requires.sign).opens_is
       ∙ sym (ap (λ (r : Reached). is_unclosed r.how) (rw c.split_at.ensures.back at c.reach.ensures.value))
       ∙ sym c.is_unclosed.ensures ∙ c.if-is_unclosed.true;
   newlines = none-ends c.args.rest.bytes.now c.args.rest.line;
@@ -34,4 +34,4 @@ returns c =
     let ends = sym (ap (λ (r : Reached). is_unclosed r.how) (rw c.split_at.ensures.back at c.reach.ensures.value))
     ∙ sym c.is_unclosed.ensures ∙ c.if-is_unclosed.false in
     whole_at c.in_ok-size.size u h _ c.take_comment.new.self (comment_match u) c.self.view_is c.requires.next.between
-    c.args.rest.some is.stays is.is (is.opens ∙ ends) c.in_ok-size.ensures
+    c.args.rest.some is.stays is.is (is.opens_is ∙ ends) c.in_ok-size.ensures

@@ -2,13 +2,17 @@ use Rattle.cweb_scan.proofs.Common.{sym, ap, ◌∙◌, arith, drop, ◌+◌, li
 use Rattle.cweb_rules.specs.inner.LineItems.{goes_on}
 use Rattle.cweb_rules.proofs.LineLiterals.{is_quoted-size}
 use Rattle.cweb_rules.proofs.UnitNewlines.{none-ends}
-use Rattle.cweb_scan.proofs.HeldItems.{holds_at, whole_at, part_room}
-use Rattle.cweb_scan.proofs.HeldLiterals.{is_literal, quote_as}
+use Rattle.cweb_scan.proofs.PendingItems.{holds_at, whole_at, part_room}
+use Rattle.cweb_scan.proofs.PendingLiterals.{is_literal, quote_as}
 use Rattle.cweb_scan.proofs.reader.Reader.open_literal.Goals as goal
 
 pub split_at-requires-2 : goal.split_at-requires-2
-split_at-requires-2 c = omega (arith, c.literal_prefix-prefix.ensures.value, is_quoted-size (literal_prefix
-    c.args.rest.bytes.now) c.args.rest.bytes.now c.requires.sign)
+split_at-requires-2 c = omega (
+  arith,
+  c.literal_prefix-prefix.ensures.value,
+  is_quoted-size (literal_prefix
+      c.args.rest.bytes.now) c.args.rest.bytes.now c.requires.sign,
+)
 
 pub hold-requires-clause-source : goal.hold-requires-clause-source
 hold-requires-clause-source c =

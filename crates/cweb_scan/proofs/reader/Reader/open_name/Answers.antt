@@ -1,7 +1,7 @@
 use Rattle.cweb_scan.proofs.Common.{sym, ap, ◌∙◌, subst, is_unclosed, Reached, ReaderModel, name_match, takes_opener, IsLine-take, HasItemRoom, AppliesOver, []}
 use Rattle.cweb_rules.proofs.UnitNewlines.{none-ends}
-use Rattle.cweb_scan.proofs.HeldItems.{holds_at, whole_at}
-use Rattle.cweb_scan.proofs.HeldNames.{is_name, name_two}
+use Rattle.cweb_scan.proofs.PendingItems.{holds_at, whole_at}
+use Rattle.cweb_scan.proofs.PendingNames.{is_name, name_two}
 use Rattle.cweb_scan.proofs.reader.Reader.open_name.Goals as goal
 
 pub split_at-requires : goal.split_at-requires
@@ -11,7 +11,7 @@ pub hold-requires-clause-source : goal.hold-requires-clause-source
 hold-requires-clause-source c = record {
   item = (c.requires.next.context, c.requires.head, c.requires.sign);
   unclosed = (is_name c.args.self.now.state c.args.rest.bytes.now c.requires.next.context c.requires.head
-      c.requires.sign).opens
+      c.requires.sign).opens_is
       ∙ sym (ap (λ (r : Reached). is_unclosed r.how) (rw c.split_at.ensures.back at c.reach-reached.ensures.value))
       ∙ sym c.is_unclosed.ensures ∙ c.if-is_unclosed.true;
   newlines = none-ends c.args.rest.bytes.now c.args.rest.line;
@@ -45,6 +45,6 @@ returns c =
     ∙ c.if-is_unclosed.false in
     let f = name_match (takes_opener h.state) u in
     whole_at c.in_ok-size.size u h _ c.take_name.new.self f c.self.view_is c.requires.next.between
-    c.args.rest.some is.stays is.is (is.opens ∙ ends) (subst (λ (v : ReaderModel).
+    c.args.rest.some is.stays is.is (is.opens_is ∙ ends) (subst (λ (v : ReaderModel).
     AppliesOver (name_match (takes_opener v.state) u) u [] c.in_ok-size.size c.self.inside.scanner c.take_name.new.self)
     c.self.view_is c.in_ok-size.ensures)

@@ -1,7 +1,7 @@
 use Rattle.cweb_scan.proofs.Common.{sym, ap, ◌∙◌, drop, raw_match, look_in_raw, reach, Reached, is_unclosed, Open, IsLine-take}
 use Rattle.cweb_rules.proofs.UnitNewlines.{none-ends}
-use Rattle.cweb_scan.proofs.HeldItems.{holds_at, whole_at, part_room}
-use Rattle.cweb_scan.proofs.HeldLiterals.{is_raw}
+use Rattle.cweb_scan.proofs.PendingItems.{holds_at, whole_at, part_room}
+use Rattle.cweb_scan.proofs.PendingLiterals.{is_raw}
 use Rattle.cweb_scan.proofs.reader.Reader.open_raw.Goals as goal
 
 pub hold-requires-clause-source : goal.hold-requires-clause-source

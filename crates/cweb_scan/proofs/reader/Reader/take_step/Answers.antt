@@ -1,6 +1,6 @@
 use Rattle.cweb_scan.proofs.Common.{ℕ, List, length, ap, sym, ◌∙◌, subst, eqb-true, IsLine, IsLine-drop, ReaderModel}
 use Rattle.cweb_scan.proofs.PlainLexemes.{piece_within}
-use Rattle.cweb_scan.proofs.StepAfterPlain.{plain_all, plain_held, plain_room, plain_then}
+use Rattle.cweb_scan.proofs.StepAfterPlain.{plain_all, plain_taken, plain_room, plain_then}
 use Rattle.cweb_scan.proofs.reader.Reader.take_step.Goals as goal
 
 pub returns : goal.returns
@@ -8,7 +8,7 @@ returns c =
     let u = c.args.rest.bytes.now in
     let h = c.args.self.now in
     let n = c.in_ok-plain.plain in
-    let t = plain_held n u h _ c.take_plain.new.self c.self.view_is c.requires.between c.in_ok-plain.ensures in
+    let t = plain_taken n u h _ c.take_plain.new.self c.self.view_is c.requires.between c.in_ok-plain.ensures in
     plain_then n c.in_ok-size.size u c.split_at.result.1.now h _ c.take_between.new.self t c.split_at.ensures.back
     c.in_ok-size.ensures
 
@@ -21,7 +21,7 @@ returns-then-is_empty c =
     let u = c.args.rest.bytes.now in
     let h = c.args.self.now in
     let n = c.in_ok-plain.plain in
-    let t = plain_held n u h _ c.take_plain.new.self c.self.view_is c.requires.between c.in_ok-plain.ensures in
+    let t = plain_taken n u h _ c.take_plain.new.self c.self.view_is c.requires.between c.in_ok-plain.ensures in
     let empty = eqb-true (length c.split_at.result.1.now) 0 (sym c.is_empty.ensures ∙ c.if-is_empty.true) in
     plain_all n u h _ t (sym (ap (λ (w : List ℕ). length w) c.split_at.ensures.back) ∙ empty) c.args.rest.some
 
@@ -34,5 +34,5 @@ take_between-requires c =
     let u = c.args.rest.bytes.now in
     let h = c.args.self.now in
     let n = c.in_ok-plain.plain in
-    let t = plain_held n u h _ c.take_plain.new.self c.self.view_is c.requires.between c.in_ok-plain.ensures in
+    let t = plain_taken n u h _ c.take_plain.new.self c.self.view_is c.requires.between c.in_ok-plain.ensures in
     record { between = ap (λ (k : ReaderModel). k.item) c.self.view_is ∙ c.requires.between; context = tt; room = plain_room n u h _ t c.requires.room }

@@ -1,7 +1,7 @@
 use Rattle.cweb_scan.proofs.Common.{List, ℕ, ◌++◌, ap, ◌∙◌, arith, reach, look_in_name, unescaped, occurrence, Open, Reached}
 use Rattle.cweb_rules.specs.declared.items.Item.TheVariants.{Name}
 use Rattle.cweb_rules.proofs.Lasts.{reach-fits}
-use Rattle.cweb_scan.proofs.HeldNames.{name_spelled}
+use Rattle.cweb_scan.proofs.PendingNames.{name_spelled}
 use Rattle.cweb_scan.proofs.FurtherLiterals.{none_valid}
 use Rattle.cweb_scan.proofs.scanner.Scanner.end_spelled.Goals as goal
 

@@ -1,6 +1,6 @@
 use Rattle.cweb_scan.proofs.Common.{ap, ◌∙◌, arith, drop, ◌+◌, passed, move_to}
 use Rattle.cweb_scan.specs.inner.ScanParts.{no_place}
-use Rattle.cweb_scan.proofs.HeldItems.{passed_next}
+use Rattle.cweb_scan.proofs.PendingItems.{passed_next}
 use Rattle.cweb_scan.proofs.scanner.Scanner.pass_lines.Goals as goal
 
 pub lines-preserved : goal.lines-preserved

@@ -1,5 +1,5 @@
 use Rattle.cweb_scan.proofs.Common.{ap, ◌∙◌, Cut, pass_comment, ended_as, passed, comment_line_end, ScanState}
-use Rattle.cweb_scan.proofs.HeldComments.{comment_applies}
+use Rattle.cweb_scan.proofs.PendingComments.{comment_applies}
 use Rattle.cweb_scan.proofs.scanner.Scanner.take_comment.Goals as goal
 
 pub returns : goal.returns

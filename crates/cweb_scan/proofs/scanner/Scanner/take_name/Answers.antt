@@ -1,8 +1,8 @@
 use Rattle.cweb_scan.proofs.Common.{List, ℕ, ◌+◌, ap, sym, ◌∙◌, subst, arith, length, drop, reach, look_in_name, unescaped, occurrence, opener_after, nat_lt, Open, reached, Reached, HasItemRoom, ◌≡◌, ◌≤◌}
 use Rattle.cweb_rules.specs.declared.items.Item.TheVariants.{Name}
 use Rattle.cweb_rules.proofs.Lasts.{reach-fits}
-use Rattle.cweb_scan.proofs.HeldItems.{moved_room}
-use Rattle.cweb_scan.proofs.HeldNames.{name_applies}
+use Rattle.cweb_scan.proofs.PendingItems.{moved_room}
+use Rattle.cweb_scan.proofs.PendingNames.{name_applies}
 use Rattle.cweb_scan.proofs.scanner.Scanner.take_name.Goals as goal
 
 fits : (t inner : List ℕ) (r : Reached) → r ≡ reached (reach look_in_name Open (drop 2 t)) → inner ≡ drop 2 t

@@ -1,6 +1,6 @@
 use Rattle.cweb_scan.proofs.Common.{ap, sym, ◌∙◌, subst, take, at_line_ends, RuleMatch, IsItem}
 use Rattle.cweb_scan.specs.declared.reader.open.Open.{Open}
-use Rattle.cweb_scan.proofs.HeldLiterals.{is_literal, is_raw}
+use Rattle.cweb_scan.proofs.PendingLiterals.{is_literal, is_raw}
 use Rattle.cweb_scan.proofs.scanner.Scanner.take_whole.Goals as goal
 
 pub take_literal-requires-clause-lines : goal.take_literal-requires-clause-lines

@@ -1,5 +1,5 @@
 -- Comments, as one slice of the source.
-use Rattle.cweb_scan.proofs.Common.{◌≡◌, ℕ, ◌+◌, Bool, true, false, ◌||◌, List, [], ◌∷◌, length, take, drop, refl, ap, sym, ◌∙◌, subst, codes, Place, begins, at_line_ends, Look, Goes, look_in_comment, reach, reach_size, comment_match, RuleMatch, Comment, End, Cut, Open, Reached, reached, is_unclosed, opens_in, Context, Limbo, TeX, Definition, match_in, comment_line_end, pass_comment, blank, on, enter_in, names_include, next_match, ScanState, AppliesOver, passed, ended_as, reads_c, with_line}
+use Rattle.cweb_scan.proofs.Common.{◌≡◌, ℕ, ◌+◌, Bool, true, false, ◌||◌, List, [], ◌∷◌, length, take, drop, refl, ap, sym, ◌∙◌, subst, codes, Place, begins, at_line_ends, Look, Goes, look_in_comment, reach, reach_size, comment_match, RuleMatch, Comment, End, Cut, Open, Reached, reached, is_unclosed, opens_in, Context, Limbo, TeX, Definition, match_in, comment_line_end, pass_comment, blank, on, enter_in, names_include, ScanState, AppliesOver, passed, ended_as, reads_c, with_line}
 use Rattle.cweb_rules.specs.declared.items.Item.TheVariants as item
 use Rattle.cweb_rules.specs.inner.LineItems.{opens_comment}
 use Rattle.cweb_rules.proofs.Looks.{comment-local, comment-units}
@@ -7,7 +7,7 @@ use Rattle.cweb_rules.proofs.Seams.{begins_line}
 use Rattle.cweb_rules.proofs.Sizes.{begins-size}
 use Rattle.cweb_scan.proofs.Ends.{size-at_end, how-at_end}
 use Rattle.cweb_scan.proofs.OpeningSteps.{two}
-use Rattle.cweb_scan.proofs.HeldItems.{each-passed, OverLines, over, over_ended}
+use Rattle.cweb_scan.proofs.PendingItems.{IsNext, each-passed, OverLines, over, over_ended}
 use Rattle.cweb_scan.proofs.TakenItems.{reading}
 
 abbrev look : List ℕ → Look
@@ -43,11 +43,6 @@ comment_applies t ps r s new is lines made =
     }
 
 -- `/*` begins a comment wherever C text is read.
-pub record IsComment (s : ScanState) (u : List ℕ) : Type 0 where
-  pub is : next_match s u ≡ comment_match u
-  pub opens : opens_in s.context u ≡ opens_comment u
-  pub stays : enter_in s.context (next_match s u).kind s ≡ s
-
 seen : (c : Context) (includes : Bool) (w : List ℕ) → reads_c c ≡ true
     → (match_in c includes (47 ∷ 42 ∷ w) ≡ comment_match (47 ∷ 42 ∷ w))
     × (opens_in c (47 ∷ 42 ∷ w) ≡ opens_comment (47 ∷ 42 ∷ w))
@@ -64,12 +59,12 @@ enter_comment : (c : Context) (how : End) (s : ScanState) → enter_in c (Commen
 enter_comment Limbo how s = refl
 enter_comment _ how s = refl
 
-pub is_comment : (s : ScanState) (u : List ℕ) → reads_c s.context ≡ true → begins (codes "/*") u ≡ true → IsComment s u
+pub is_comment : (s : ScanState) (u : List ℕ) → reads_c s.context ≡ true → begins (codes "/*") u ≡ true → IsNext s u (comment_match u) (opens_comment u)
 is_comment s u c h =
     let p = two 47 42 u h in
-    subst (IsComment s) p.1 (let f = seen s.context (names_include s) p.0 c in record {
+    subst (λ (v : List ℕ). IsNext s v (comment_match v) (opens_comment v)) p.1 (let f = seen s.context (names_include s) p.0 c in record {
       is = f.0;
-      opens = f.1;
+      opens_is = f.1;
       stays = ap (λ (v : RuleMatch). enter_in s.context v.kind s) f.0
           ∙ enter_comment s.context (reach look Cut p.0).how s;
     })

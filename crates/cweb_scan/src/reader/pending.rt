@@ -1,4 +1,4 @@
-// Held items: the reader stores the source of an item until a line ends it.
+// Pending items: the reader stores the source of an item until a line ends it.
 ghost use Rattle.std.specs.Prelude.{◌≡◌, [], IfOk, OnOk, false, true};
 
 use crate::reader::Reader;
@@ -12,14 +12,14 @@ use std::alloc::AllocError;
 
 impl Reader {
     ghost use Rattle.cweb_rules.specs.inner.LineItems.{opens_in};
-    ghost use Rattle.cweb_scan.specs.inner.ReaderModel.{is_held, held_text, with_line, holding};
+    ghost use Rattle.cweb_scan.specs.inner.ReaderModel.{is_pending, pending_text, with_line, holding};
     ghost use Rattle.cweb_scan.specs.inner.ReaderModel.{BeginsLine, HasLineRoom};
-    ghost use Rattle.cweb_scan.specs.inner.HeldItems.{is_between, IsHeld};
+    ghost use Rattle.cweb_scan.specs.inner.PendingItems.{is_between, IsPending};
 
     /// Whether an item is open.
     #[inline(always)]
-    pub(crate) fn is_held(&self) -> bool
-        ensures { result ≡ is_held self.now.item }
+    pub(crate) fn is_pending(&self) -> bool
+        ensures { result ≡ is_pending self.now.item }
     {
         !matches!(self.item, Open::Between)
     }
@@ -27,57 +27,57 @@ impl Reader {
     /// Stores the source of an item that its line leaves open.
     pub(crate) fn hold(&mut self, kind: Open, text: &[u8]) -> Result<(), AllocError>
         requires kind { is_between kind ≡ false }
-        requires source { IsHeld kind self.old.state.context text.now [] }
+        requires source { IsPending kind self.old.state.context text.now [] }
         ensures { OnOk result (self.new ≡ holding text.now self.old) }
     {
         self.item = Open::Between;
-        self.held.clear();
-        self.held.extend_from_slice(text)?;
+        self.pending.clear();
+        self.pending.extend_from_slice(text)?;
         self.places.clear();
         self.item = kind;
         Ok(())
     }
 
-    // Whether the next line leaves the held item open.
-    fn stays_held(&self, line: &[u8]) -> Result<bool, AllocError>
-        requires { is_held self.now.item ≡ true }
+    // Whether the next line leaves the pending item open.
+    fn stays_pending(&self, line: &[u8]) -> Result<bool, AllocError>
+        requires { is_pending self.now.item ≡ true }
         ensures { IfOk result (λ stays. stays
-            ≡ opens_in self.now.state.context (with_line (held_text self.now.item) line.now)) }
+            ≡ opens_in self.now.state.context (with_line (pending_text self.now.item) line.now)) }
     {
         match self.item {
             Open::Name => Ok(is_unclosed(reach(Item::Name, line).how)),
             Open::Literal => {
-                let prefix = literal_prefix(&self.held);
-                let quote = Quote::of(self.held.split_at(prefix).1);
+                let prefix = literal_prefix(&self.pending);
+                let quote = Quote::of(self.pending.split_at(prefix).1);
                 Ok(continues(quote.byte(), line))
             }
             Open::RawLiteral => {
-                let closer = raw_closer(self.alloc, &self.held)?;
+                let closer = raw_closer(self.alloc, &self.pending)?;
                 Ok(is_unclosed(reach(Item::RawLiteral(&closer), line).how))
             }
             _ => Ok(is_unclosed(reach(Item::Comment, line).how)),
         }
     }
 
-    /// Goes on with the held item in the next line, and takes it if the line ends it. Returns the number of bytes.
+    /// Goes on with the pending item in the next line, and takes it if the line ends it. Returns the number of bytes.
     #[inline(never)]
     pub(crate) fn go_on(&mut self, place: Place, line: &[u8]) -> Result<usize, AllocError>
         requires begun { self.old.begun ≡ true }
-        requires held { is_held self.old.item ≡ true }
+        requires pending { is_pending self.old.item ≡ true }
         requires room { HasLineRoom line.now self.old }
         ensures { IfOk result (λ n. BeginsLine place line.now n self.old self.new) }
     {
-        let stays = self.stays_held(line)?;
+        let stays = self.stays_pending(line)?;
         let kind = self.item;
         self.item = Open::Between;
-        self.held.push(b'\n')?;
-        self.held.extend_from_slice(line)?;
+        self.pending.push(b'\n')?;
+        self.pending.extend_from_slice(line)?;
         self.places.push(place)?;
         if stays {
             self.item = kind;
             return Ok(line.len());
         }
-        let size = self.scanner.take_whole(kind, &self.held, &self.places)?;
-        Ok(size - (self.held.len() - line.len()))
+        let size = self.scanner.take_whole(kind, &self.pending, &self.places)?;
+        Ok(size - (self.pending.len() - line.len()))
     }
 }

@@ -1,5 +1,5 @@
 -- Literals, raw or not, and included names, as one slice of the source.
-use Rattle.cweb_scan.proofs.Common.{◌≡◌, ◌≤◌, ◌<◌, ℕ, ◌+◌, Bool, true, false, ◌&&◌, ◌==◌, List, [], ◌∷◌, ◌++◌, length, take, drop, refl, ap, sym, ◌∙◌, subst, arith, codes, flat_map, fold, bytes_eq, append_assoc, append-nil, length-append, length-drop, drop-append-le, take-append-drop, flat_map-append, fold-append, Place, begins, Look, Goes, Ends, at_line_ends, look_in_literal, look_in_raw, Reach, reach, body, reach_size, unescaped, unit_bytes, raw_match, literal_match, literal_prefix, quote_of, raw_prefix, delimiter, starts_raw, starts_literal, RuleMatch, Quoted, End, Cut, Open, Reached, reached, AtLineEnd, is_unclosed, opens_in, c_opens, Context, Macro, CText, Reading, literal_unit, emit_literal, on, enter_in, names_include, next_match, ScanState, AppliesOver, ended_as, reads_literals, IsPast, PassesUnits, quoted_as, with_line, ends-append, at_line_end, in_macro, in_c, and_parts, Effect, c_match, rule_match, if◌then◌else◌, eqb-true, length-take-le, DoubleAtInString, report, each_line_end, move_to, passed, in_open_part, Contents, too_many}
+use Rattle.cweb_scan.proofs.Common.{◌≡◌, ◌≤◌, ◌<◌, ℕ, ◌+◌, Bool, true, false, ◌&&◌, ◌==◌, List, [], ◌∷◌, ◌++◌, length, take, drop, refl, ap, sym, ◌∙◌, subst, arith, codes, flat_map, fold, bytes_eq, append_assoc, append-nil, length-append, length-drop, drop-append-le, take-append-drop, flat_map-append, fold-append, Place, begins, Look, Goes, Ends, at_line_ends, look_in_literal, look_in_raw, Reach, reach, body, reach_size, unescaped, unit_bytes, raw_match, literal_match, literal_prefix, quote_of, raw_prefix, delimiter, starts_raw, starts_literal, RuleMatch, Quoted, End, Cut, Open, Reached, reached, AtLineEnd, is_unclosed, opens_in, c_opens, Context, Macro, CText, Reading, literal_unit, emit_literal, on, enter_in, names_include, ScanState, AppliesOver, ended_as, reads_literals, IsPast, PassesUnits, quoted_as, with_line, ends-append, at_line_end, in_macro, in_c, and_parts, Effect, c_match, rule_match, if◌then◌else◌, eqb-true, length-take-le, DoubleAtInString, report, each_line_end, move_to, passed, in_open_part, Contents, too_many}
 use Rattle.cweb_scan.specs.inner.Room.{CanEmit}
 use Rattle.cweb_store.specs.surface.Growing.{token_count, part_count}
 use Rattle.cweb_rules.specs.declared.items.Item.{Item}
@@ -13,7 +13,7 @@ use Rattle.cweb_rules.proofs.Seams.{drop_line}
 use Rattle.cweb_rules.proofs.UnitNewlines.{quoted-bytes}
 use Rattle.cweb_scan.proofs.CrossedLineEnds.{literal_ends_at_newline, crossed_how, crossed_size, crossed_ended}
 use Rattle.cweb_scan.proofs.Ends.{item-some, reach-at_end, size-at_end, how-at_end, at_end, at_start}
-use Rattle.cweb_scan.proofs.HeldItems.{each-passed, OverLines, over, over_ended, with_line-is}
+use Rattle.cweb_scan.proofs.PendingItems.{IsNext, each-passed, OverLines, over, over_ended, with_line-is}
 use Rattle.cweb_scan.proofs.LiteralOpeners.{c_prefix_raw, c_prefix_literal, literal_first, enter_quoted}
 use Rattle.cweb_scan.proofs.OpeningSteps.{not_back}
 use Rattle.cweb_scan.proofs.TakenItems.{reading}
@@ -79,15 +79,6 @@ ended_units look (b ∷ t) v is none = ap (λ w. (at_start look w (b ∷ t) Open
     by (Goes n) none = absurd (none n refl)
     by (Ends n how) none = refl
 
-pub unit_fits : (rest later : List (List ℕ)) (unit : List ℕ) (n : ℕ) → rest ≡ unit ∷ later
-    → at_line_ends 1 (flat_map (λ u. u) rest) ≤ n → at_line_ends 1 unit ≤ n
-unit_fits rest later unit n is h = omega (
-  arith,
-  h,
-  ap (λ (w : List (List ℕ)). at_line_ends 1 (flat_map (λ u. u) w)) is,
-  ends-append unit (flat_map (λ u. u) later),
-)
-
 pub quoted_passes : (first close : List ℕ) (us : List (List ℕ)) (a b c d : List Place) (s t v w : ScanState)
     → PassesUnits (first ∷ []) a b s t → PassesUnits us b c t v → PassesUnits (close ∷ []) c d v w
     → PassesUnits (first ∷ us ++ close ∷ []) a d s w
@@ -130,8 +121,12 @@ pub lines_passed : (u : List ℕ) (n : ℕ) (ps first left : List Place) (s new 
     → bytes_eq u (codes "@") ≡ false → n ≡ at_line_ends 1 u → n ≤ length ps → first ≡ take n ps → left ≡ drop n ps
     → new ≡ passed move_to first s → PassesUnits (u ∷ []) ps left s new
 lines_passed u n ps first left s new h count fits front back made =
-    let size : at_line_ends 1 u ≡ length first = omega (arith, count, ap (λ (v : List Place). length v) front,
-    length-take-le n ps fits) in
+    let size : at_line_ends 1 u ≡ length first = omega (
+      arith,
+      count,
+      ap (λ (v : List Place). length v) front,
+      length-take-le n ps fits,
+    ) in
     let all : ps ≡ first ++ left = sym (take-append-drop n ps) ∙ (λ i. sym front i ++ sym back i) in
     let same = moved_same first s in record {
       state = λ later. ap (λ v. if v then on (report DoubleAtInString) (reading s (ps ++ later))
@@ -268,11 +263,6 @@ raw_fits w starts =
     omega (arith, sign-fits w start.0, has_delimiter-size (drop m w) start.1, length-drop m w)
 
 -- A literal in a macro or in C text.
-pub record IsLiteral (s : ScanState) (u : List ℕ) (f : RuleMatch) (opens : Bool) : Type 0 where
-  pub is : next_match s u ≡ f
-  pub opens_is : opens_in s.context u ≡ opens
-  pub stays : enter_in s.context (next_match s u).kind s ≡ s
-
 opens_first : (c : Context) (b : ℕ) (t : List ℕ) (v : Bool) → reads_literals c ≡ true
     → begins (codes "\\") (b ∷ t) ≡ false → ((effect : ℕ → Effect) → c_opens effect (b ∷ t) ≡ v)
     → opens_in c (b ∷ t) ≡ v
@@ -285,7 +275,7 @@ is_quoted : (s : ScanState) (b : ℕ) (t : List ℕ) (us : List (List ℕ)) (how
     → reads_literals s.context ≡ true → begins (codes "\\") (b ∷ t) ≡ false
     → ((effect : ℕ → Effect) (takes includes : Bool) → c_match effect takes includes (b ∷ t)
     ≡ rule_match (Quoted us how) n) → ((effect : ℕ → Effect) → c_opens effect (b ∷ t) ≡ opens)
-    → IsLiteral s (b ∷ t) (rule_match (Quoted us how) n) opens
+    → IsNext s (b ∷ t) (rule_match (Quoted us how) n) opens
 is_quoted s b t us how n opens c back rule none =
     let is = literal_first s.context (names_include s) b t (rule_match (Quoted us how) n) c back rule in record {
       is = is;
@@ -294,14 +284,14 @@ is_quoted s b t us how n opens c back rule none =
     }
 
 pub is_raw : (s : ScanState) (u : List ℕ) → reads_literals s.context ≡ true → IsPast u → starts_raw u ≡ true
-    → IsLiteral s u (raw_match u) (opens_raw u)
+    → IsNext s u (raw_match u) (opens_raw u)
 is_raw s [] c past starts = let wrong : false ≡ true = starts in cc
 is_raw s (b ∷ t) c past starts = is_quoted s b t _ _ _ (opens_raw (b ∷ t)) c (not_back starts_raw b t refl starts)
     (λ effect takes includes. c_prefix_raw effect takes includes (b ∷ t) past starts)
     (λ effect. rw (past.blank, past.line_end, past.comment, past.line_comment, past.section, past.code, starts) refl)
 
 pub is_literal : (s : ScanState) (u : List ℕ) → reads_literals s.context ≡ true → IsPast u → starts_raw u ≡ false
-    → starts_literal u ≡ true → IsLiteral s u (literal_match u) (opens_literal u)
+    → starts_literal u ≡ true → IsNext s u (literal_match u) (opens_literal u)
 is_literal s [] c past raw starts = let wrong : false ≡ true = starts in cc
 is_literal s (b ∷ t) c past raw starts = is_quoted s b t _ _ _ (opens_literal (b ∷ t)) c
     (not_back starts_literal b t refl starts)
@@ -343,7 +333,7 @@ quote_in t = quote_of (drop (literal_prefix t) t)
 
 pub quote_as : (w v u quoted : List ℕ) (p q : ℕ) → v ≡ w → u ≡ w → p ≡ literal_prefix v → quoted ≡ drop p u
     → q ≡ quote_of quoted → q ≡ quote_in w
-quote_as w v u quoted p q same held prefix back quote = quote ∙ ap quote_of (back ∙ (λ i. drop (prefix i) (held i)))
+quote_as w v u quoted p q same pending prefix back quote = quote ∙ ap quote_of (back ∙ (λ i. drop (prefix i) (pending i)))
     ∙ ap (λ (t : List ℕ). quote_of (drop (literal_prefix t) w)) same
 
 no_newline : (t : List ℕ) → (quote_of t == 10) ≡ false

@@ -1,5 +1,5 @@
 -- Names, as one slice of the source.
-use Rattle.cweb_scan.proofs.Common.{◌≡◌, ◌≤◌, ℕ, ◌+◌, Bool, true, false, ◌||◌, List, [], ◌∷◌, length, take, drop, refl, ap, sym, ◌∙◌, subst, arith, codes, if◌then◌else◌, nat_lt, drop-sum, Place, begins, Goes, at_line_ends, look_in_name, Reach, reach, body, reach_size, unescaped, name_match, opener_after, End, Cut, Open, Reached, reached, is_unclosed, opens_in, Context, Limbo, Definition, CText, match_in, occurrence, move_to, on, enter_in, names_include, next_match, ScanState, AppliesOver, passed, ended_as, reads_names, is_head, starts_name, takes_opener, with_line}
+use Rattle.cweb_scan.proofs.Common.{◌≡◌, ◌≤◌, ℕ, ◌+◌, Bool, true, false, ◌||◌, List, [], ◌∷◌, length, take, drop, refl, ap, sym, ◌∙◌, subst, arith, codes, if◌then◌else◌, nat_lt, drop-sum, Place, begins, Goes, at_line_ends, look_in_name, Reach, reach, body, reach_size, unescaped, name_match, opener_after, End, Cut, Open, Reached, reached, is_unclosed, opens_in, Context, Limbo, Definition, CText, match_in, occurrence, move_to, on, names_include, next_match, ScanState, AppliesOver, passed, ended_as, reads_names, is_head, starts_name, takes_opener, with_line}
 use Rattle.cweb_rules.specs.declared.items.Item.TheVariants as item
 use Rattle.cweb_rules.specs.inner.LineItems.{opens_name}
 use Rattle.cweb_rules.proofs.Looks.{name-local, name-units}
@@ -8,7 +8,7 @@ use Rattle.cweb_rules.proofs.UnitNewlines.{units-prefix}
 use Rattle.cweb_scan.proofs.Ends.{item-some, reach-at_end, size-at_end, how-at_end}
 use Rattle.cweb_scan.proofs.FirstMatchTaken.{enter_same}
 use Rattle.cweb_scan.proofs.FurtherLiterals.{HasNone, text_stays}
-use Rattle.cweb_scan.proofs.HeldItems.{each-passed, OverLines, over, over_ended}
+use Rattle.cweb_scan.proofs.PendingItems.{IsNext, each-passed, OverLines, over, over_ended}
 use Rattle.cweb_scan.proofs.OpeningSteps.{two}
 use Rattle.cweb_scan.proofs.TakenItems.{reading}
 
@@ -65,11 +65,6 @@ name_spelled inner x r n is text none =
     same ∙ sym (text_stays units (subst HasNone same none))
 
 -- `@<` or `@(` begins a name.
-pub record IsName (s : ScanState) (u : List ℕ) : Type 0 where
-  pub is : next_match s u ≡ name_match (takes_opener s) u
-  pub opens : opens_in s.context u ≡ opens_name u
-  pub stays : enter_in s.context (next_match s u).kind s ≡ s
-
 abbrev takes_in : Context → Bool
 takes_in CText = false
 takes_in _ = true
@@ -92,20 +87,20 @@ takes_same : (c : Context) (s : ScanState) → s.context ≡ c → takes_opener 
 takes_same _ s h = ap takes_in h
 
 pub is_name : (s : ScanState) (u : List ℕ) → reads_names s.context ≡ true → is_head s.context ≡ false
-    → starts_name u ≡ true → IsName s u
+    → starts_name u ≡ true → IsNext s u (name_match (takes_opener s) u) (opens_name u)
 is_name s u c head h = (elim (begins (codes "@<") u) as (λ v. begins (codes "@<") u ≡ v
-    → (v || begins (codes "@(") u) ≡ true → IsName s u) [
-      | true ↦ λ e g. let p = two 64 60 u e in subst (IsName s) p.1
+    → (v || begins (codes "@(") u) ≡ true → IsNext s u (name_match (takes_opener s) u) (opens_name u)) [
+      | true ↦ λ e g. let p = two 64 60 u e in subst (λ (v : List ℕ). IsNext s v (name_match (takes_opener s) v) (opens_name v)) p.1
           (named (64 ∷ 60 ∷ p.0) (section_names s.context (names_include s) p.0 c head))
-      | false ↦ λ e g. let p = two 64 40 u g in subst (IsName s) p.1
+      | false ↦ λ e g. let p = two 64 40 u g in subst (λ (v : List ℕ). IsNext s v (name_match (takes_opener s) v) (opens_name v)) p.1
           (named (64 ∷ 40 ∷ p.0) (file_names s.context (names_include s) p.0 c head))
     ]) refl h
   where
     named : (v : List ℕ) → (next_match s v ≡ name_match (takes_in s.context) v)
-        × (opens_in s.context v ≡ opens_name v) → IsName s v
+        × (opens_in s.context v ≡ opens_name v) → IsNext s v (name_match (takes_opener s) v) (opens_name v)
     named v f = record {
       is = f.0 ∙ ap (λ w. name_match w v) (sym (takes_same s.context s refl));
-      opens = f.1;
+      opens_is = f.1;
       stays = enter_same s.context (next_match s v).kind s head;
     }
 

@@ -1,4 +1,4 @@
--- An open item or comment over the rest of a line.
+-- Items that are open at a seam.
 use Rattle.cweb_scan.proofs.Common.{◌≡◌, ◌<◌, ℕ, zero, suc, ◌+◌, ◌-◌, true, false, List, [], ◌∷◌, ◌++◌, length, take, drop, refl, ap, sym, ◌∙◌, arith, length-append, take-append-drop, flat_map, flat_map-append, Look, Goes, Ends, Reach, reach, reach_in, body, reach_size, End, Open, is_unclosed}
 use Rattle.cweb_scan.proofs.Ends.{at_start}
 use Rattle.cweb_rules.proofs.Reaches.{IsEnd, IsLocal, IsWhole, join, reach-append}

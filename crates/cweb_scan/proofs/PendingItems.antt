@@ -1,5 +1,5 @@
 -- Lexemes over some lines: each is one slice of the source.
-use Rattle.cweb_scan.proofs.Common.{◌≡◌, ◌≤◌, ◌<◌, ℕ, suc, ◌+◌, ◌*◌, Bool, true, false, List, [], ◌∷◌, ◌++◌, length, take, drop, refl, ap, sym, ◌∙◌, subst, arith, if◌then◌else◌, length-append, append_assoc, append-nil, length-take-le, take-append-add, drop-append-add, drop_all, Place, begins, is_line_end, at_line_ends, Reach, reach, with_unit, reach_size, RuleMatch, End, Cut, Open, AtLineEnd, is_unclosed, IsLine, IsLine-take, opens_in, Reading, each_line_end, next_line, enter_in, item, after_lexeme, lex, names_include, next_match, ScanState, weight, AppliesOver, passed, ReaderModel, MakesProgress, BeginsLine, Between, Held, holding, with_line, IsHeld, IsStored, item_of, is_held, is_between, drop-append-le, length-drop, get_or, ends-append, IsLocal, Look, Goes, and_parts, and_from, ◌==◌, HasItemRoom, move_to, reads_literals, literals_in_part}
+use Rattle.cweb_scan.proofs.Common.{◌≡◌, ◌≤◌, ◌<◌, ℕ, suc, ◌+◌, ◌*◌, Bool, true, false, List, [], ◌∷◌, ◌++◌, length, take, drop, refl, ap, sym, ◌∙◌, subst, arith, if◌then◌else◌, length-append, append_assoc, append-nil, length-take-le, take-append-add, drop-append-add, drop_all, Place, begins, is_line_end, at_line_ends, Reach, reach, with_unit, reach_size, RuleMatch, End, Cut, Open, AtLineEnd, is_unclosed, IsLine, IsLine-take, opens_in, Reading, each_line_end, next_line, enter_in, item, after_lexeme, lex, names_include, next_match, ScanState, weight, AppliesOver, passed, ReaderModel, MakesProgress, BeginsLine, Between, Pending, holding, with_line, IsPending, IsStored, item_of, is_pending, is_between, drop-append-le, length-drop, get_or, ends-append, IsLocal, Look, Goes, and_parts, and_from, ◌==◌, HasItemRoom, move_to, reads_literals, literals_in_part}
 use Rattle.cweb_scan.specs.inner.Room.{CanEmit}
 use Rattle.cweb_scan.specs.declared.reader.open.Open as code
 use Rattle.cweb_scan.specs.declared.reader.open.Open.TheVariants as kinds
@@ -13,10 +13,16 @@ use Rattle.cweb_scan.proofs.FirstMatchTaken.{between}
 use Rattle.cweb_scan.proofs.InLineItemSteps.{at_item}
 use Rattle.cweb_scan.proofs.NextMatchPays.{fair}
 use Rattle.cweb_scan.proofs.OpeningSteps.{opened}
-use Rattle.cweb_scan.proofs.PendingItemsInLine.{after_units, reach-open, open_body, sizes}
+use Rattle.cweb_scan.proofs.OpenReaches.{after_units, reach-open, open_body, sizes}
 use Rattle.cweb_scan.proofs.TakenItems.{reading, run_as, run_line_item}
 use Rattle.cweb_scan.proofs.Walked.{run-walks}
 use Rattle.cweb_scan.proofs.Weights.{piece-weight, weighs}
+
+-- The next lexeme, whether it leaves an item open, and that it ends no head.
+pub record IsNext (s : ScanState) (u : List ℕ) (f : RuleMatch) (opens : Bool) : Type 0 where
+  pub is : next_match s u ≡ f
+  pub opens_is : opens_in s.context u ≡ opens
+  pub stays : enter_in s.context (next_match s u).kind s ≡ s
 
 -- A step for each newline of some bytes.
 pub each-passed : (f : Place → ScanState → ScanState) (bytes : List ℕ) (ps : List Place) (s : ScanState)
@@ -142,10 +148,10 @@ pub with_line-length : (w line : List ℕ) → length (with_line w line) ≡ len
 with_line-length w line = omega (arith, length-append (w ++ 10 ∷ []) line, length-append w (10 ∷ []))
 
 -- The line ends it.
-pub held_ends : (w line : List ℕ) (ps : List Place) (q : Place) (s new : ScanState) (g : Bool) (n k : ℕ) → g ≡ true
+pub pending_ends : (w line : List ℕ) (ps : List Place) (q : Place) (s new : ScanState) (g : Bool) (n k : ℕ) → g ≡ true
     → n ≡ length w + 1 + k → TakesWhole n (with_line w line) (ps ++ q ∷ []) s new
-    → BeginsLine q line k (opened s g (Held w ps)) (between new g)
-held_ends w line ps q s new g n k begun past t =
+    → BeginsLine q line k (opened s g (Pending w ps)) (between new g)
+pending_ends w line ps q s new g n k begun past t =
     let size : n ≡ length (w ++ 10 ∷ []) + k = omega (arith, length-append w (10 ∷ []), past) in
     record {
       first = λ none. absurd (cc (begun, none));
@@ -164,9 +170,9 @@ held_ends w line ps q s new g n k begun past t =
     }
 
 -- Its newlines.
-pub held_newlines : (w line : List ℕ) (k : ℕ) → IsLine line
+pub pending_newlines : (w line : List ℕ) (k : ℕ) → IsLine line
     → at_line_ends 1 (take (length w + 1 + k) (with_line w line)) ≡ at_line_ends 1 w + 1
-held_newlines w line k h =
+pending_newlines w line k h =
     let start : length w + 1 + k ≡ length (w ++ 10 ∷ []) + k = omega (arith, length-append w (10 ∷ [])) in
     let bytes = ap (λ n. take n (with_line w line)) start ∙ take-append-add (w ++ 10 ∷ []) line k in
     omega (
@@ -227,12 +233,12 @@ size_ended look o v h =
     ∙ sizes (reach look Open v).units v (reach look Cut []) (open_body look v w h)
     ∙ (let e : length v + 0 ≡ length v = omega arith in e)
 
--- The whole source of a held item that the source's end ends.
-pub held_finished : (s new : ScanState) (u : List ℕ) (ps : List Place) (n : ℕ) (f : RuleMatch) → 1 ≤ length u
+-- The whole source of a pending item that the source's end ends.
+pub pending_finished : (s new : ScanState) (u : List ℕ) (ps : List Place) (n : ℕ) (f : RuleMatch) → 1 ≤ length u
     → enter_in s.context (next_match s u).kind s ≡ s → next_match s u ≡ f → f.size ≡ length u
     → AppliesOver f u ps n s new → new ≡ (lex (reading s (ps ++ [])) (u ++ [])).state
-held_finished s new [] ps n f some stays is all applies = absurd (omega (arith, some))
-held_finished s new (b ∷ t) ps n f some stays is all applies =
+pending_finished s new [] ps n f some stays is all applies = absurd (omega (arith, some))
+pending_finished s new (b ∷ t) ps n f some stays is all applies =
     let u = b ∷ t in
     let r = reading s (ps ++ []) in
     sym (ap (λ (v : List ℕ). (lex r v).state) (append-nil u)
@@ -243,9 +249,9 @@ held_finished s new (b ∷ t) ps n f some stays is all applies =
     (ap (λ (g : RuleMatch). enter_in s.context g.kind s) (sym is) ∙ stays)
     ∙ ap (λ (m : Reading). m.state) (applies.state []))
 
-pub held-weight : (w : List ℕ) (ps : List Place) (s : ScanState)
+pub pending-weight : (w : List ℕ) (ps : List Place) (s : ScanState)
     → weight (lex (reading s (ps ++ [])) (w ++ [])).state ≤ weight s + 3 * length w
-held-weight w ps s = omega (arith, run-walks weighs (reading s (ps ++ [])) (w ++ []), length-append w [])
+pending-weight w ps s = omega (arith, run-walks weighs (reading s (ps ++ [])) (w ++ []), length-append w [])
 
 -- The next line leaves it open, or ends it, as it does with the rest of an item.
 pub over : (look : List ℕ → Look) → OverLines look → (k : ℕ) (w line : List ℕ) → k ≤ length w
@@ -268,26 +274,26 @@ pub over_ended : (look : List ℕ → Look) → OverLines look → (k : ℕ) (w 
 over_ended look o k w fits h = omega (arith, size_ended look o (drop k w) h, length-drop k w, fits)
 
 -- What the reader holds.
-pub held_as : (kind : code.Open) (w : List ℕ) (ps : List Place) → is_between kind ≡ false → item_of kind w ps ≡ Held w ps
-held_as kinds.Between w ps h = cc
-held_as _ w ps h = refl
+pub pending_as : (kind : code.Open) (w : List ℕ) (ps : List Place) → is_between kind ≡ false → item_of kind w ps ≡ Pending w ps
+pending_as kinds.Between w ps h = cc
+pending_as _ w ps h = refl
 
-pub held_kind : (kind : code.Open) (w : List ℕ) (ps : List Place) → is_held (item_of kind w ps) ≡ true
+pub pending_kind : (kind : code.Open) (w : List ℕ) (ps : List Place) → is_pending (item_of kind w ps) ≡ true
     → is_between kind ≡ false
-held_kind kinds.Between w ps h = cc
-held_kind _ w ps h = refl
+pending_kind kinds.Between w ps h = cc
+pending_kind _ w ps h = refl
 
 pub record Holds (kind : code.Open) (s : ScanState) (g : Bool) (w : List ℕ) (ps : List Place) (h : ReaderModel)
     : Type 0 where
-  pub view : opened s g (Held w ps) ≡ h
-  pub held : is_between kind ≡ false
-  pub source : IsHeld kind s.context w ps
+  pub view : opened s g (Pending w ps) ≡ h
+  pub pending : is_between kind ≡ false
+  pub source : IsPending kind s.context w ps
 
-pub held_now : (kind : code.Open) (s : ScanState) (g : Bool) (w : List ℕ) (ps : List Place) (h : ReaderModel)
-    → opened s g (item_of kind w ps) ≡ h → is_held h.item ≡ true → IsStored kind s.context w ps → Holds kind s g w ps h
-held_now kind s g w ps h is held stored =
-    let k = held_kind kind w ps (ap (λ (v : ReaderModel). is_held v.item) is ∙ held) in record {
-      view = ap (λ i. opened s g i) (sym (held_as kind w ps k)) ∙ is;
-      held = k;
+pub pending_now : (kind : code.Open) (s : ScanState) (g : Bool) (w : List ℕ) (ps : List Place) (h : ReaderModel)
+    → opened s g (item_of kind w ps) ≡ h → is_pending h.item ≡ true → IsStored kind s.context w ps → Holds kind s g w ps h
+pending_now kind s g w ps h is pending stored =
+    let k = pending_kind kind w ps (ap (λ (v : ReaderModel). is_pending v.item) is ∙ pending) in record {
+      view = ap (λ i. opened s g i) (sym (pending_as kind w ps k)) ∙ is;
+      pending = k;
       source = stored k;
     }

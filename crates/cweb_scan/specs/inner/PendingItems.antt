@@ -1,5 +1,5 @@
 -- Items that are open at the end of their line: the reader holds their source so far.
-use Rattle.std.specs.Prelude.{◌≡◌, ℕ, ◌+◌, Bool, true, false, List, ◌++◌, length, drop, codes, fold, flat_map}
+use Rattle.std.specs.Prelude.{◌≡◌, ℕ, ◌+◌, Bool, true, false, List, ◌++◌, length, take, drop, codes, fold, flat_map}
 use Rattle.cweb_files.specs.declared.place.Place.{Place}
 use Rattle.cweb_rules.specs.Bytes.{begins}
 use Rattle.cweb_rules.specs.Items.{reach}
@@ -18,13 +18,15 @@ use Rattle.cweb_scan.specs.declared.reader.open.Open.TheVariants.{Between, Comme
 use Rattle.cweb_scan.specs.inner.MatchSteps.{is_head, reads_c, reads_names, reads_literals, starts_name, IsPast}
 use Rattle.cweb_scan.specs.inner.ReaderModel.{OpenItem}
 use Rattle.cweb_scan.specs.inner.ReaderModel as model
+use Rattle.cweb_scan.specs.inner.Room.{HasItemRoom}
+use Rattle.cweb_scan.specs.laws.Law.{next_match}
 
 abbrev pub is_between : Open → Bool
 is_between kind = elim kind [ Between ↦ true | _ ↦ false ]
 
 -- The open item as the code stores it.
 abbrev pub item_of : Open → List ℕ → List Place → OpenItem
-item_of kind text places = elim kind [ Between ↦ model.Between | _ ↦ model.Held text places ]
+item_of kind text places = elim kind [ Between ↦ model.Between | _ ↦ model.Pending text places ]
 
 -- The source begins with an item of this kind, which may occur in the context.
 abbrev pub IsItem : Open → Context → List ℕ → Type 0
@@ -36,14 +38,21 @@ IsItem Literal c text = (reads_literals c ≡ true) × IsPast text × (starts_ra
 IsItem RawLiteral c text = (reads_literals c ≡ true) × IsPast text × (starts_raw text ≡ true)
 
 -- It is still open at the end of its source so far, whose newlines have these places after them.
-pub record IsHeld (kind : Open) (c : Context) (text : List ℕ) (places : List Place) : Type 0 where
+pub record IsPending (kind : Open) (c : Context) (text : List ℕ) (places : List Place) : Type 0 where
   pub item : IsItem kind c text
   pub unclosed : opens_in c text ≡ true
   pub newlines : at_line_ends 1 text ≡ length places
 
 -- What the reader stores fits the open item.
 abbrev pub IsStored : Open → Context → List ℕ → List Place → Type 0
-IsStored kind c text places = is_between kind ≡ false → IsHeld kind c text places
+IsStored kind c text places = is_between kind ≡ false → IsPending kind c text places
+
+-- The source begins with an item of this kind, whose newlines have these places after them, and the store has room.
+pub record CanTake (kind : Open) (text : List ℕ) (places : List Place) (s : ScanState) : Type 0 where
+  pub pending : is_between kind ≡ false
+  pub item : IsItem kind s.context text
+  pub lines : at_line_ends 1 (take (next_match s text).size text) ≡ length places
+  pub room : HasItemRoom (length places + 2) s
 
 -- In C text a part opener is read as C text.
 abbrev pub takes_opener : ScanState → Bool
