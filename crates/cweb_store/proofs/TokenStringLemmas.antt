@@ -131,7 +131,8 @@ truncate-tokens strings places rs n k cut =
 
 pub truncate-are : (kept : StringTableModel) (places : List Place) (rs : List Record) (n k : ℕ)
     → AreTokens kept places rs → IsCut (length kept.strings) n rs (length places) k
-    → filter has_string (take n (tokens_of kept.strings places rs)) ≡ filter has_string (tokens_of kept.strings places rs)
+    → filter has_string (take n (tokens_of kept.strings places rs))
+    ≡ filter has_string (tokens_of kept.strings places rs)
     → AreTokens kept (take k places) (take n rs)
 truncate-are kept places rs n k all cut same =
     let us = tokens_of kept.strings (take k places) (take n rs) in

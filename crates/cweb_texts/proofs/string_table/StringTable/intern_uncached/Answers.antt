@@ -18,7 +18,8 @@ invariant_of-self-then-is_full c =
     record {
       interned = sorted-interned s.strings c.intern_sorted.new.strings s.table s.sorted.entries
           c.intern_sorted.new.sorted.entries word number interned c.in_ok-number.ensures.ok;
-      by_byte = byte_ids-word _ _ s.byte_ids.items word number (sorted-keeps s.strings c.intern_sorted.new.strings s.table
+      by_byte = byte_ids-word _ _ s.byte_ids.items word number (sorted-keeps s.strings
+          c.intern_sorted.new.strings s.table
           s.sorted.entries c.intern_sorted.new.sorted.entries word number interned c.in_default.ensures
           c.in_ok-number.ensures.ok) c.self.invariant.by_byte;
     }
@@ -28,8 +29,8 @@ returns-then-is_full c =
     let s = c.self.inside in
     rw (← c.self.view_is)
     (sorted-keeps s.strings c.intern_sorted.new.strings s.table s.sorted.entries
-    c.intern_sorted.new.sorted.entries c.args.word.now c.in_ok-number.number c.self.invariant.interned c.in_default.ensures
-    c.in_ok-number.ensures.ok)
+    c.intern_sorted.new.sorted.entries c.args.word.now c.in_ok-number.number c.self.invariant.interned
+    c.in_default.ensures c.in_ok-number.ensures.ok)
 
 pub returns-in-Some-copied : goal.returns-in-Some-copied
 returns-in-Some-copied c =

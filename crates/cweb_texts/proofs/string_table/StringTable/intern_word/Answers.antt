@@ -10,5 +10,6 @@ returns-in-Some-latest c =
     rw (← c.self.view_is) (found-known s.strings s.table s.sorted.entries word latest.now.number
     (found-word s.strings s.table word c.in-Some-latest.ensures.0 latest.now c.self.invariant.interned.in_table
     c.in-Some-latest.ensures.1
-    (c.is_short.ensures c.if-is_short.true s.strings (c.self.invariant.interned.in_table c.in-Some-latest.ensures.0 latest.now
+    (c.is_short.ensures c.if-is_short.true s.strings
+    (c.self.invariant.interned.in_table c.in-Some-latest.ensures.0 latest.now
     c.in-Some-latest.ensures.1))))

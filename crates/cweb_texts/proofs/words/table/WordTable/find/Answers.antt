@@ -36,12 +36,14 @@ chain-preserved c =
     slice_get-get_or ws k w (omega arith) ∙ ap Some (sym c.index-candidate.ensures) in
     let inside = c.chain.invariant.in_bucket k w (omega (arith, c.chain-test.true)) there in
     let next : IsLink ws buckets (home_bucket_of c.args.key buckets) c.link_at-link-in-chain.result k =
-    rw (c.link_at-link-in-chain.ensures, c.as_slice-in-chain.ensures.value, ← inside) (c.self.invariant.from_word k w there) in
+    rw (c.link_at-link-in-chain.ensures, c.as_slice-in-chain.ensures.value, ← inside)
+    (c.self.invariant.from_word k w there) in
     record {
       within = omega (arith, next.within);
       in_bucket = next.in_bucket;
       passed = next-passed (λ v. bytes_eq c.args.word.now (word_string c.args.strings.now v) ≡ false) ws buckets
-          (home_bucket_of c.args.key buckets) c.chain.link c.link_at-link-in-chain.result w next there (sym c.if-is.ensures)
+          (home_bucket_of c.args.key buckets) c.chain.link c.link_at-link-in-chain.result w next there
+          (sym c.if-is.ensures)
           c.chain.invariant.passed;
     }
 

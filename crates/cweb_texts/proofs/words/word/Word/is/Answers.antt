@@ -32,5 +32,5 @@ string-requires c = slice_get_within c.args.strings.now c.args.self.now.number c
     c.requires.describes.there
 
 pub returns-else-string-le-KEY_BYTES : goal.returns-else-string-le-KEY_BYTES
-returns-else-string-le-KEY_BYTES c = c.eq.ensures ∙ ap (bytes_eq c.args.string.now) (sym (get-string c.args.strings.now c.args.self.now.number
-    c.string.result.now c.string.ensures))
+returns-else-string-le-KEY_BYTES c = c.eq.ensures ∙ ap (bytes_eq c.args.string.now)
+    (sym (get-string c.args.strings.now c.args.self.now.number c.string.result.now c.string.ensures))
