@@ -24,6 +24,7 @@ pub mod MergeStarts
 pub mod MergeStops
 pub mod ChangedFilesWereRead
 pub mod InFolder
+pub mod Broken
 pub mod Leaving
 pub mod LeftDevices
 pub mod LeftShelves
