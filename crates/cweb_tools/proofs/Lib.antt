@@ -31,9 +31,6 @@ pub mod LeftShelves
 pub mod WebActs
 pub mod Limits
 pub mod Logging
-pub mod MakeReadings
-pub mod RuleEnds
-pub mod RulesReadBack
 pub mod Marks
 pub mod OutputActs
 pub mod Targets
