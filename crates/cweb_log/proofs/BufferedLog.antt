@@ -2,6 +2,7 @@
 use Rattle.cweb_log.proofs.Common.{◌≡◌, ◌<◌, ◌≤◌, ◌+◌, ℕ, suc, List, [], ◌∷◌, ◌++◌, length, map, take, drop, get_or, refl, sym, ◌∙◌, ap, append_assoc, append-nil, arith, flat_map-append, take-append-drop, take_all, take-suc, flat_map, Bool, true, false, IsTrue, Option, Some, None, Result, Ok, Err, OnOk, OnErr, IsErr, WritesPrefix, FailsWithin, Logs, logged, log_failed, WritesToStream, Buffers, AppendsToLog, StreamModel, appended, written, known, stream_model}
 use Rattle.cweb_files.specs.declared.device.Sink.{Ghosts as Sink}
 use Rattle.cweb_files.specs.inner.Appends.{Appends}
+use Rattle.cweb_log.proofs.Known.{carried}
 
 pub on_ok : {A E : Type 0} (r : Result A E) (P Q : Type 0) → (P → Q) → OnOk r P → OnOk r Q
 on_ok (Ok x) P Q map holds = map holds
@@ -49,14 +50,6 @@ fails_in b fails = record {
   is = fails.is;
 }
 
--- Known bytes grow.
-written_if : (tells tells' : Bool) (bytes bytes' text : List ℕ) → tells' ≡ tells
-    → (IsTrue tells → bytes' ≡ bytes ++ text) → known tells' bytes' ≡ appended text (known tells bytes)
-written_if true true bytes bytes' text same is = ap Some (is refl)
-written_if false false bytes bytes' text same is = refl
-written_if true false bytes bytes' text same is = absurd (cc)
-written_if false true bytes bytes' text same is = absurd (cc)
-
 -- Some prefix was written. If it isn't known, it is taken to be empty.
 pub prefix_if : (tells : Bool) (bytes bytes' text : List ℕ) → (IsTrue tells → WritesPrefix bytes bytes' text)
     → (prefix rest : List ℕ) × (text ≡ prefix ++ rest) × (IsTrue tells → bytes' ≡ bytes ++ prefix)
@@ -72,8 +65,8 @@ module _ {W : Type 0} (sink : Sink W) (old new : W) where
   writes_by (Ok x) {text} appends = record {
     ok = λ i. record {
       failed = appends.keeps.failed i;
-      bytes = written_if (sink.tells old) (sink.tells new) (sink.written old) (sink.written new) text
-          appends.keeps.tells appends.wrote i;
+      bytes = carried (λ (bytes : List ℕ). bytes ++ text) (sink.tells old) (sink.tells new) appends.keeps.tells
+          appends.wrote i;
     };
     err = tt;
   }
@@ -87,7 +80,7 @@ module _ {W : Type 0} (sink : Sink W) (old new : W) where
           whole = prefix.2;
           is = λ i. record {
             failed = appends.keeps.failed i;
-            bytes = written_if (sink.tells old) (sink.tells new) (sink.written old) (sink.written new) prefix.0
+            bytes = carried (λ (bytes : List ℕ). bytes ++ prefix.0) (sink.tells old) (sink.tells new)
                 appends.keeps.tells prefix.3 i;
           };
         };
@@ -221,7 +214,8 @@ pub writes_all : {A E B F : Type 0}
     → WritesToStream text before after r
 writes_all x {r} {text} {before} {mid} {after} {held} came writes =
     let begun = came.ok in record {
-      ok = on_ok r _ _ (λ (is : after ≡ written held mid). rw begun.whole (written_on begun.done held before begun.is is))
+      ok = on_ok r _ _
+          (λ (is : after ≡ written held mid). rw begun.whole (written_on begun.done held before begun.is is))
           writes.ok;
       err = on_err r _ _ (λ (fails : FailsWithin held mid after). rw begun.whole (fails_on begun.done begun.is fails))
           writes.err;

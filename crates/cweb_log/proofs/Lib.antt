@@ -1,6 +1,7 @@
 pub mod Common
 pub mod RequestedOptions
 pub mod WordCounts
+pub mod Known
 pub mod BufferedLog
 pub mod JoinedChunks
 pub mod Stems

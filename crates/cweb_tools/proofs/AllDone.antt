@@ -4,7 +4,8 @@ use Rattle.cweb_files.specs.Files.{put_file}
 use Rattle.cweb_log.proofs.BufferedLog.{written_none, written_on}
 use Rattle.std.specs.Prelude.{fold, option_map}
 use Rattle.std.proofs.lemmas.Iterator.Adapters.{option_map_id}
-use Rattle.cweb_tools.proofs.Leaving.{files_stay, put_first}
+use Rattle.cweb_tools.proofs.Broken.{files_stay}
+use Rattle.cweb_tools.proofs.Leaving.{put_first}
 
 -- The files.
 pub files_all : (acts : List Act) (old new : Devices) → PerformsActs acts None old new

@@ -1,37 +1,18 @@
 -- Clauses of devices, carried over to what is known of them.
-use Rattle.cweb_tools.proofs.Common.{◌≡◌, ◌+◌, ◌⊎◌, inl, inr, ℕ, Bool, true, false, List, ◌++◌, [], ◌∷◌, ◌∙◌, ap, refl, add-zero, append-nil, IsSome, IsTrue, Option, Some, None, Stop, ReadFault, read_failures_of, blame, file_name_at, subject, OutContents, bins_model, shelf_model, contents_of, known, changed, failing}
+use Rattle.cweb_tools.proofs.Common.{◌≡◌, ◌+◌, ◌⊎◌, inl, inr, ℕ, List, ◌++◌, [], ◌∷◌, ◌∙◌, refl, add-zero, append-nil, IsSome, IsTrue, Option, Some, None, Stop, ReadFault, read_failures_of, blame, file_name_at, subject, OutContents, bins_model, shelf_model, contents_of, changed, failing}
 use Rattle.cweb_files.specs.declared.device.Shelf.{Ghosts as Shelf}
 use Rattle.cweb_files.specs.declared.device.Sink.{Ghosts as Sink}
-use Rattle.std.specs.Prelude.{option_map}
-use Rattle.cweb_tools.proofs.Leaving.{shelf_after}
+use Rattle.cweb_log.proofs.Known.{carried, unchanged}
+use Rattle.cweb_tools.proofs.Broken.{shelf_after}
 
 -- Contents are known or not.
 pub either : {A : Type 0} (contents : Option A) → IsSome contents ⊎ (IsSome contents → ⊥)
 either (Some x) = inl refl
 either None = inr (λ is. cc)
 
--- Known contents are those of an observable device.
-pub seen : {A : Type 0} (tells : Bool) (x : A) → IsSome (known tells x) → IsTrue tells
-seen true x some = refl
-seen false x some = absurd (cc)
-
--- Known contents change.
-carried : {A : Type 0} (change : A → A) (tells tells' : Bool) {x x' : A} → tells' ≡ tells
-    → (IsTrue tells → x' ≡ change x) → known tells' x' ≡ option_map change (known tells x)
-carried change true true same is = ap Some (is refl)
-carried change false false same is = refl
-carried change true false same is = absurd (cc)
-carried change false true same is = absurd (cc)
-
-stays : {A : Type 0} (tells tells' : Bool) {x x' : A} → tells' ≡ tells → (IsTrue tells → x' ≡ x)
-    → known tells' x' ≡ known tells x
-stays true true same is = ap Some (is refl)
-stays false false same is = refl
-stays true false same is = absurd (cc)
-stays false true same is = absurd (cc)
-
 -- Bins whose contents changed.
-module _ {W : Type 0} (sink : Sink W) {a d : W} (tells : sink.tells d ≡ sink.tells a) (change : OutContents → OutContents)
+module _ {W : Type 0} (sink : Sink W) {a d : W} (tells : sink.tells d ≡ sink.tells a)
+    (change : OutContents → OutContents)
     (changes : IsTrue (sink.tells a)
     → contents_of (sink.written d) (sink.beside d) ≡ change (contents_of (sink.written a) (sink.beside a))) where
   pub bins_changed : sink.failed d ≡ sink.failed a → bins_model sink d ≡ changed change (bins_model sink a)
@@ -47,7 +28,7 @@ module _ {S R : Type 0} (shelf : Shelf S R) {old new : S} (tells : shelf.tells n
   pub shelf_same : shelf.failed new ≡ shelf.failed old
       → (IsTrue (shelf.tells old) → shelf.blamed new ≡ shelf.blamed old) → shelf_model shelf new ≡ shelf_model shelf old
   shelf_same same blamed =
-      λ i. record { failed = same i; blamed = stays (shelf.tells old) (shelf.tells new) tells blamed i }
+      λ i. record { failed = same i; blamed = unchanged (shelf.tells old) (shelf.tells new) tells blamed i }
 
   pub shelf_stopped : (stop : Stop) (names : List (List ℕ))
       → shelf.failed new ≡ shelf.failed old + read_failures_of stop

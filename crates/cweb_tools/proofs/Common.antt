@@ -130,11 +130,11 @@ pub use Rattle.cweb_tools.specs.declared.outputs.Failed.{Failed}
 pub use Rattle.cweb_tools.specs.inner.Acts.{ending_of}
 pub use Rattle.cweb_tools.specs.inner.Course.{found_course, merge_course, EndsMerge, course_of}
 pub use Rattle.cweb_tools.specs.inner.Does.{at, Does, DoesInOut, DoesInBoth, DoesInLog, EndsInBoth, EndsInLog}
-pub use Rattle.cweb_tools.specs.inner.Does.{log_ending, FollowsCourse}
+pub use Rattle.cweb_tools.specs.inner.Does.{log_ending}
 pub use Rattle.cweb_tools.specs.inner.Expanders.{PrintsSoFar, StaysReady, left_in, IsReady}
 pub use Rattle.cweb_tools.specs.inner.Expanders.{output_ending, file_at, planned_files}
 pub use Rattle.cweb_tools.specs.inner.Scanning.{EndsAs}
-pub use Rattle.cweb_tools.specs.inner.Tangle.{tangle_course, LaterActs, opening_acts, tangle_later, course_status}
+pub use Rattle.cweb_tools.specs.inner.Tangle.{tangle_course, LaterActs, opening_acts, tangle_later}
 pub use Rattle.cweb_tools.specs.inner.Tangle.{web_status, status_by}
 pub use Rattle.cweb_tools.specs.inner.Web.{refusal_in, files_of, faults_of}
 pub use Rattle.cweb_tools.specs.laws.Leaves.{HasReadAll, LeavesFiles, bins_blame, tangle_files, tangle_status}

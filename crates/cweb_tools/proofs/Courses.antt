@@ -1,5 +1,5 @@
 -- The way that a run goes exists, and there is no other.
-use Rattle.cweb_tools.proofs.Common.{◌≡◌, ◌∙◌, ℕ, List, Bor, map, options_by, Option, Some, None, Result, Err, Stop, refl, sym, ap, World, Found, WebNames, OptionsModel, Course, merging, IsMergeCourse, found_course, merge_course, merge-run_steps, contents_found, TangleCourse, IsTangleCourse, tangle_course, tangled, web_at, change_at, started}
+use Rattle.cweb_tools.proofs.Common.{◌≡◌, ◌∙◌, ℕ, List, Bor, map, options_by, Option, Some, None, Result, Err, Stop, refl, sym, ap, World, Found, WebNames, OptionsModel, Course, change_name, merging, IsMergeCourse, found_course, merge_course, merge-run_steps, contents_found, TangleCourse, IsTangleCourse, tangle_course, tangled, web_at, change_at, started}
 use Rattle.cweb_lines.specs.inner.Total.{merge_yields}
 use Rattle.cweb_tools.specs.Course.{IsFoundCourse, unread, not_there, change_not_there}
 
@@ -49,3 +49,19 @@ options_in words = options_by (map (λ (word : Bor (List ℕ)). word.now) words)
 -- A call fails with one stop.
 pub same_stop : {A : Type 0} (r : Result A Stop) (one other : Stop) → r ≡ Err one → r ≡ Err other → one ≡ other
 same_stop r one other is too = cc
+
+-- The courses of a search that found no web, or no change file.
+pub no_web : (world : World) (names : WebNames) (found : Option Found) (changes : Option (Option Found))
+    → found ≡ None → not_there names.web ≡ found_course world names found changes
+no_web world names None changes is = refl
+no_web world names (Some web) changes is = absurd (cc)
+
+pub no_change : (world : World) (names : WebNames) (found : Option Found) (changes : Option (Option Found))
+    → (web : Found) × (found ≡ Some web) → changes ≡ None
+    → change_not_there (change_name names.change) ≡ found_course world names found changes
+no_change world names None changes web is = absurd (no_some web)
+  where
+    no_some : (web : Found) × (None ≡ Some web) → ⊥
+    no_some web = let is : None ≡ Some web.0 = web.1 in cc
+no_change world names (Some found) None web is = refl
+no_change world names (Some found) (Some change) web is = absurd (cc)

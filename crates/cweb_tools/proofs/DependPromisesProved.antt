@@ -2,7 +2,6 @@
 use Rattle.cweb_tools.proofs.Common.{◌≡◌, ℕ, ◌∷◌, refl, Some, World, OptionsModel, Devices, judges, TangleCourse, unread, not_there, change_not_there, tangling, CanCome, EndsAs, opening_acts, tangle_course, depend_acts, depend_web_acts}
 use Rattle.cweb_tools.specs.declared.rule_targets.Targets.{Targets}
 use Rattle.cweb_tools.proofs.Doing.{ends_on}
-use Rattle.cweb_tools.proofs.Statuses.{depend_status_is}
 use Rattle.cweb_tools.proofs.RunEnds.{EndsRun, Judges, judged}
 
 -- The acts of a run whose words can be read.
@@ -23,9 +22,8 @@ pub depend_ends : (targets : Targets) (world : World) (args : OptionsModel) (bef
     → EndsAs (depend_web_acts targets) args (tangle_course world (Some args)) before after status
     → EndsRun (depend_acts targets) world (Some args) before after status
 depend_ends targets world args before after status follows = record {
-  taken = follows.taken;
+  course = follows.course;
   can = follows.can;
   is = follows.is;
-  ends = rw (depend_status_is targets follows.taken) (rw (depend_is targets args follows.taken follows.can)
-      (ends_on judged follows.ends));
+  ends = rw (depend_is targets args follows.course follows.can) (ends_on judged follows.ends);
 }

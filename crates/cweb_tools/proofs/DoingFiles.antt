@@ -1,7 +1,7 @@
 -- A file that is written, and the end of a run after calls.
 use Rattle.cweb_tools.proofs.Common.{◌≡◌, inl, inr, ℕ, Bool, List, [], ◌∷◌, ◌++◌, refl, ap, subst, Option, Some, None, Result, Ok, Err, Stop, WriteFault, LogFault, Memory, stop_line, Logs, StreamModel, OutModel, changed, failing, with_file, without_file, writes, DoesInBoth, DoesInOut, Shown, Act, Breaks, Ending, ending, plans, reserves, Does, RunEnds, Devices, ShelfModel, at, EndsInLog, DoesInLog, log_ending, Numbers, closing_acts}
 use Rattle.cweb_tools.proofs.Doing.{ends_done, ends_halted, ends_in, no_shelf}
-use Rattle.cweb_tools.proofs.Leaving.{log_until}
+use Rattle.cweb_tools.proofs.Broken.{log_until}
 
 -- The output after a file is written, or not.
 pub file_done : {name text : List ℕ} {a d : OutModel} → d ≡ changed (with_file name text) a

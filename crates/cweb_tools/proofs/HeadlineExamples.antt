@@ -130,7 +130,8 @@ hello_merged texts before after status some alone none run =
     names before after status) alone run in
     let did = run_there some course comes (free merge_within
     (record { shelf = none.shelf; out = none.out; log = none.log; memory = none.memory })) in record {
-      printed = did.printed refl ∙ ap (λ (text : List ℕ). changed (with_printed text) (merge_devices before).out) merge_text;
+      printed = did.printed refl
+          ∙ ap (λ (text : List ℕ). changed (with_printed text) (merge_devices before).out) merge_text;
       log = did.logged ∙ appended_none before.log.bytes;
       status_is = did.answered;
     }

@@ -162,7 +162,8 @@ one_by expected is (stops why mid run logs answered) = answered
 unread_words : (world : World) (before after : Devices) (status : ℕ) → TanglePromises world None before after status
     → status ≡ 1
 unread_words world before after status run =
-    one_by _ (ap (λ (c : TangleCourse). acts_status (script (shown_by None) c)) (only_unread run.course run.can)) run.ends
+    one_by _ (ap (λ (c : TangleCourse). acts_status (script (shown_by None) c)) (only_unread run.course run.can))
+    run.ends
 
 -- Over an observable shelf a run goes as the files ask for: without any file, no web is there.
 abbrev empty_folder : World

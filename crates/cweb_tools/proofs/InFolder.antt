@@ -10,9 +10,8 @@ use Rattle.cweb_system.specs.Bins.{bins_beside, bins_bytes, bins_failed, bins_sy
 use Rattle.cweb_system.specs.inner.ShelfState.{shelf_failures, shelf_system}
 use Rattle.cweb_system.specs.Tree.{Tree, contents}
 use Rattle.cweb_tools.specs.InFolder.{AreIn, KeepsInFolder, bins_after, devices_before, shelf_in}
-use Rattle.cweb_tools.proofs.Carried.{seen}
 use Rattle.cweb_tools.proofs.LeftShelves.{shelf_known}
-use Rattle.cweb_tools.proofs.MergeDevices.{some_known}
+use Rattle.cweb_log.proofs.Known.{seen, some_known}
 use Rattle.cweb_tools.proofs.TanglePromisesProved.{tangled_freely}
 
 -- What can be read in a folder.
@@ -49,7 +48,8 @@ left_in_folder system fs bins world args log log' status run tells course is fre
     files_from : (before after : Bool) (now : OutContents) (files : List File) → IsTrue before
         → option_map (λ (now : OutContents). now.files) (known after now)
         ≡ option_map (λ (old : List File). fold put_file old files)
-        (option_map (λ (now : OutContents). now.files) (known before (record { files = []; draft = None; refused = None })))
+        (option_map (λ (now : OutContents). now.files)
+        (known before (record { files = []; draft = None; refused = None })))
         → now.files ≡ fold put_file [] files
     files_from true true now files tell is = cc
     files_from true false now files tell is = absurd (cc)

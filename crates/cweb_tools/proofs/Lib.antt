@@ -24,15 +24,13 @@ pub mod MergeStarts
 pub mod MergeStops
 pub mod ChangedFilesWereRead
 pub mod InFolder
+pub mod Broken
 pub mod Leaving
 pub mod LeftDevices
 pub mod LeftShelves
 pub mod WebActs
 pub mod Limits
 pub mod Logging
-pub mod MakeReadings
-pub mod RuleEnds
-pub mod RulesReadBack
 pub mod Marks
 pub mod OutputActs
 pub mod Targets

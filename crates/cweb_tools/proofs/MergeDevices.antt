@@ -1,5 +1,5 @@
 -- The output of `wmerge`, as far as it is promised.
-use Rattle.cweb_tools.proofs.Common.{◌≡◌, ◌+◌, ◌&&◌, ℕ, Bool, true, false, List, ◌++◌, refl, ◌∙◌, ap, add-zero, Option, Some, IsSome, IsTrue, always_open, write_failures_of, Stop, WriteFault, OutContents, OutModel, ShelfModel, as_output, contents_of, known, shelf_model, stream_model, changed, with_printed}
+use Rattle.cweb_tools.proofs.Common.{◌≡◌, ◌+◌, ◌&&◌, ℕ, Bool, true, false, List, ◌++◌, refl, ◌∙◌, ap, add-zero, Option, Some, IsTrue, always_open, write_failures_of, Stop, WriteFault, OutContents, OutModel, ShelfModel, as_output, contents_of, known, shelf_model, stream_model, changed, with_printed}
 use Rattle.cweb_files.specs.declared.device.Shelf.{Ghosts as Shelf}
 use Rattle.cweb_files.specs.declared.device.Sink.{Ghosts as Sink}
 use Rattle.std.specs.Prelude.{option_map}
@@ -33,11 +33,6 @@ shelf_part false y both = both
 pub out_part : (x y : Bool) → IsTrue (x && y) → IsTrue y
 out_part true y both = both
 out_part false y both = absurd (cc)
-
--- Known contents of an observable device.
-pub some_known : {A : Type 0} (tells : Bool) (x : A) → IsTrue tells → IsSome (known tells x)
-some_known true x tell = refl
-some_known false x tell = absurd (cc)
 
 -- Shelf and output before and after a merge.
 module _ {S R W : Type 0} (shelf : Shelf S R) (sink : Sink W) (old new : S) (out out' : W)

@@ -1,10 +1,10 @@
 -- The exits of a merge that has begun.
-use Rattle.cweb_tools.proofs.Common.{◌≤◌, ◌≡◌, inl, inr, ℕ, Bool, List, [], ◌∷◌, ◌++◌, length, map, refl, sym, subst, ◌∙◌, ap, append-nil, Option, Some, IsSome, IsTrue, names_found, World, Found, Event, SoFar, EmitsLines, ReportsPrefix, files_named, emitted_lines, reported_faults, openings, taken_lines, IsWithinLimits, BeginsMerge, written_lines, StopsWriting, WritingStops, WritesPrefix, SourceFault, LINES, BYTES, Stop, Logs, stop_line, subject, source_item, StreamModel, OutModel, ShelfModel, Devices, LogItem, WebNames, Course, merging, found_course, FollowsCourse, MergeCanCome, merge_acts, acts_status, judges, opens, says, merges, at, Breaks, ending, changed, with_printed, RunEnds, EndsInLog}
+use Rattle.cweb_tools.proofs.Common.{◌≤◌, ◌≡◌, inl, inr, ℕ, Bool, List, [], ◌∷◌, ◌++◌, length, map, refl, sym, subst, ◌∙◌, ap, append-nil, Option, Some, IsSome, IsTrue, names_found, World, Found, Event, SoFar, EmitsLines, ReportsPrefix, files_named, emitted_lines, reported_faults, openings, taken_lines, IsWithinLimits, BeginsMerge, written_lines, StopsWriting, WritingStops, WritesPrefix, SourceFault, LINES, BYTES, Stop, Logs, stop_line, subject, source_item, StreamModel, OutModel, ShelfModel, Devices, LogItem, WebNames, Course, merging, found_course, FollowsActs, MergeCanCome, merge_acts, acts_status, judges, opens, says, merges, at, Breaks, ending, changed, with_printed, RunEnds, EndsInLog}
 use Rattle.cweb_lines.specs.Events.{fault}
 use Rattle.cweb_tools.proofs.Carried.{either}
 use Rattle.cweb_tools.proofs.Doing.{ends_halted, ends_on}
 use Rattle.cweb_tools.proofs.Exits.{begins_course, opened_by, names_reported, faults_reported, limits_kept}
-use Rattle.cweb_tools.proofs.Leaving.{shelf_after}
+use Rattle.cweb_tools.proofs.Broken.{shelf_after}
 use Rattle.cweb_tools.proofs.MergeStops.{out_after, writing_ends, left_after, prints_so, prints_none}
 use Rattle.cweb_tools.proofs.ReadingStops.{read_by, nothing_passes}
 
@@ -23,8 +23,8 @@ takes_none (met ∷ faults) = takes_none faults
 
 -- A run of `wmerge` between these devices.
 abbrev Merges : WebNames → Course → Devices → Devices → ℕ → Type 0
-Merges names course before after status = FollowsCourse merge_acts (λ taken. acts_status (merge_acts taken))
-    (MergeCanCome (Some names)) course before after status
+Merges names course before after status =
+    FollowsActs merge_acts (MergeCanCome (Some names)) (λ taken. taken ≡ course) before after status
 
 -- A run that begins a merge with these events.
 module _ (world : World) (names : WebNames) (found : Option Found) (changes : Option (Option Found))
@@ -62,7 +62,7 @@ module _ (world : World) (names : WebNames) (found : Option Found) (changes : Op
       elim (either shelf.blamed) [
         | inl some ↦
             let first = (begins some).name ∷ names_found (begins some).change in record {
-              taken = merging first all;
+              course = merging first all;
               can = tt;
               is = λ again. sym (begun some);
               ends = whole_so first files all faults
@@ -72,7 +72,7 @@ module _ (world : World) (names : WebNames) (found : Option Found) (changes : Op
                   (printed all (λ _. refl)) ends;
             }
         | inr silent ↦ record {
-          taken = merging files (map fault faults);
+          course = merging files (map fault faults);
           can = tt;
           is = λ some. absurd (silent some);
           ends = whole_so files files (map fault faults) faults
@@ -114,7 +114,7 @@ module _ (world : World) (names : WebNames) (found : Option Found) (changes : Op
             let later = opened_by first (begins some).so_far_is (reports some) opened opened_are in
             let prints = prints_so _ opened later.0 later.1 all stop new Wrote tells {out = bytes} {out' = bytes'}
             (begins some).so_far_is few small kind known (why some) wrote_is printed in record {
-              taken = merging first all;
+              course = merging first all;
               can = tt;
               is = λ again. sym (begun some);
               ends = stops_so stop first opened all prints.prefix kind read (wrote prints.prefix prints.written)
@@ -123,7 +123,7 @@ module _ (world : World) (names : WebNames) (found : Option Found) (changes : Op
         | inr silent ↦
             let prints = prints_none stop opened (openings (read_by stop)) tells {out = bytes} {out' = bytes'} kind
             known (λ tell. silent (shown tell)) in record {
-              taken = merging opened (read_by stop);
+              course = merging opened (read_by stop);
               can = tt;
               is = λ some. absurd (silent some);
               ends = stops_so stop opened opened (read_by stop) prints.prefix kind read

@@ -7,7 +7,7 @@ use Rattle.cweb_tools.proofs.AllDone.{printed_all, printed_none, printed_on}
 use Rattle.cweb_tools.proofs.Courses.{merge_only}
 use Rattle.cweb_tools.proofs.Doing.{counts_all}
 use Rattle.cweb_tools.proofs.Endings.{ends_within}
-use Rattle.cweb_tools.proofs.Leaving.{broken, reading_broken}
+use Rattle.cweb_tools.proofs.Broken.{broken, reading_broken}
 use Rattle.cweb_tools.proofs.NoFiles.{merge-writes-none}
 use Rattle.cweb_tools.proofs.RunLaws.{fail_once, faults_show}
 use Rattle.cweb_tools.proofs.Stopping.{is_stopped}

@@ -1,5 +1,6 @@
 -- A run of `wmerge` that can't begin its merge.
 use Rattle.cweb_tools.proofs.Common.{codes, ◌≡◌, ◌⊎◌, inl, inr, ℕ, List, [], ◌∷◌, refl, sym, subst, Option, Some, None, IsSome, World, Found, StartStops, StopsAtStart, Stop, Usage, WebNotOpened, ChangeNotOpened, Memory, Logs, stop_line, start_subject, stopped, StreamModel, OutModel, ShelfModel, LogItem, line, WebNames, Course, merging, merge_course, change_name, found_course, EndsMerge, merge_acts, MergeCanCome, Act, judges, opens, says, at, RunEnds}
+use Rattle.cweb_tools.proofs.Courses.{no_change, no_web}
 use Rattle.cweb_tools.proofs.Doing.{ends_on}
 use Rattle.cweb_tools.proofs.DoingFiles.{memory_halts}
 use Rattle.cweb_tools.proofs.MergeDevices.{out_of}
@@ -39,7 +40,7 @@ pub words_stopped : (world : World) (request : Option WebNames) (stop : Stop) (s
     → (request ≡ None → stop ≡ Usage) → Logs (stop_line stop usage) l l' → status ≡ 1
     → EndsMerge request (merge_course world request) (at shelf out l) (at shelf out l') status
 words_stopped world None stop shelf out {l} {l'} why none_by is_usage logs answered = record {
-  taken = unread;
+  course = unread;
   can = tt;
   is = λ tell. refl;
   ends = subst (RunEnds (says (stopped Usage usage) ∷ []) 1 (at shelf (out_of shelf out) l)
@@ -47,7 +48,7 @@ words_stopped world None stop shelf out {l} {l'} why none_by is_usage logs answe
       (subst (λ (s : Stop). Logs (stop_line s usage) l l') (is_usage refl) logs));
 }
 words_stopped world (Some names) stop shelf out {l} {l'} why none_by is_usage logs answered = record {
-  taken = merge_course world (Some names);
+  course = merge_course world (Some names);
   can = can_merge names world _ _;
   is = λ tell. refl;
   ends = memory_ends names _ (can_merge names world _ _) _ shelf (out_of shelf out)
@@ -65,20 +66,6 @@ words_stopped world (Some names) stop shelf out {l} {l'} why none_by is_usage lo
 -- A merge could not begin.
 module _ (world : World) (names : WebNames) (shelf : ShelfModel) (out : OutModel) (l l' : StreamModel) (status : ℕ)
     (answered : status ≡ 1) where
-  no_web : (found : Option Found) (changes : Option (Option Found)) → found ≡ None
-      → not_there names.web ≡ found_course world names found changes
-  no_web None changes is = refl
-  no_web (Some web) changes is = absurd (cc)
-
-  no_change : (found : Option Found) (changes : Option (Option Found)) → (web : Found) × (found ≡ Some web)
-      → changes ≡ None → change_not_there (change_name names.change) ≡ found_course world names found changes
-  no_change None changes web is = absurd (no_some web)
-    where
-      no_some : (web : Found) × (None ≡ Some web) → ⊥
-      no_some web = let is : None ≡ Some web.0 = web.1 in cc
-  no_change (Some found) None web is = refl
-  no_change (Some found) (Some change) web is = absurd (cc)
-
   ends_said : (item : LogItem) → Logs (line item) l l' → RunEnds (judges ∷ opens ∷ says item ∷ []) 1
       (at shelf (out_of shelf out) l) (at shelf (out_of shelf out) l') status
   ends_said item logs = ends_on {xs = judges ∷ opens ∷ []} {mid = at shelf (out_of shelf out) l}
@@ -89,19 +76,19 @@ module _ (world : World) (names : WebNames) (shelf : ShelfModel) (out : OutModel
       → Logs (stop_line stop (start_subject names.web (change_name names.change) stop)) l l'
       → EndsMerge (Some names) (found_course world names found changes) (at shelf out l) (at shelf out l') status
   start_stopped found changes WebNotOpened comes why logs = record {
-    taken = not_there names.web;
+    course = not_there names.web;
     can = refl;
-    is = λ tell. no_web found changes (why tell);
+    is = λ tell. no_web world names found changes (why tell);
     ends = ends_said (stopped WebNotOpened names.web) logs;
   }
   start_stopped found changes ChangeNotOpened comes why logs = record {
-    taken = change_not_there (change_name names.change);
+    course = change_not_there (change_name names.change);
     can = refl;
-    is = λ tell. no_change found changes (why tell).0 (why tell).1;
+    is = λ tell. no_change world names found changes (why tell).0 (why tell).1;
     ends = ends_said (stopped ChangeNotOpened (change_name names.change)) logs;
   }
   start_stopped found changes Memory comes why logs = record {
-    taken = found_course world names found changes;
+    course = found_course world names found changes;
     can = can_merge names world found changes;
     is = λ tell. refl;
     ends = memory_ends names _ (can_merge names world found changes) _ shelf (out_of shelf out) logs answered;

@@ -3,7 +3,7 @@ use Rattle.cweb_tools.proofs.Common.{◌∙◌, ap, ◌∷◌, ◌≤◌, Bool, 
 use Rattle.cweb_lines.specs.Events.{took, emitted, fault, opening}
 use Rattle.cweb_log.proofs.BufferedLog.{prefix_if}
 use Rattle.cweb_tools.specs.Acts.{BreaksReading}
-use Rattle.cweb_tools.proofs.Leaving.{shelf_after}
+use Rattle.cweb_tools.proofs.Broken.{shelf_after}
 use Rattle.cweb_tools.proofs.Limits.{CutAt, cut_at_limit}
 use Rattle.cweb_tools.proofs.ReadingStops.{left_by, fails_so, cut_first, read_by}
 

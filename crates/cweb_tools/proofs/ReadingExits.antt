@@ -1,9 +1,9 @@
 -- The exits of `ctangle` after its merge began are ends of a run.
-use Rattle.cweb_tools.proofs.Common.{◌≤◌, ◌≡◌, inl, inr, ℕ, List, [], ◌∷◌, ◌++◌, length, refl, sym, ◌∙◌, ap, IsSome, Option, Some, None, names_found, World, Found, Event, SoFar, StopsReading, files_named, emitted_lines, reported_faults, openings, taken_lines, IsWithinLimits, BeginsMerge, SourceFault, LINES, BYTES, Stop, Scanned, scanned, ScanEndsEarly, Scans, stop_line, subject, OptionsModel, Logs, StreamModel, OutModel, Devices, ShelfModel, Act, Breaks, ending, opens, reads, Course, found_course, merging, at, RunEnds, Does, TangleCourse, tangling, LaterActs, opening_acts, course_status, EndsAs, tangled, web_of, web_status}
+use Rattle.cweb_tools.proofs.Common.{◌≤◌, ◌≡◌, inl, inr, ℕ, List, [], ◌∷◌, ◌++◌, length, refl, sym, ◌∙◌, ap, IsSome, Option, Some, None, names_found, World, Found, Event, SoFar, StopsReading, files_named, emitted_lines, reported_faults, openings, taken_lines, IsWithinLimits, BeginsMerge, SourceFault, LINES, BYTES, Stop, Scanned, scanned, ScanEndsEarly, Scans, stop_line, subject, OptionsModel, Logs, StreamModel, OutModel, Devices, ShelfModel, Act, acts_status, Breaks, ending, opens, reads, Course, found_course, merging, at, RunEnds, Does, TangleCourse, tangling, LaterActs, opening_acts, EndsAs, tangled, web_of}
 use Rattle.cweb_tools.proofs.Carried.{either}
 use Rattle.cweb_tools.proofs.Doing.{ends_halted, ends_on}
 use Rattle.cweb_tools.proofs.Exits.{begins_course, faults_reported, limits_kept, names_reported, opened_by}
-use Rattle.cweb_tools.proofs.Leaving.{shelf_after}
+use Rattle.cweb_tools.proofs.Broken.{shelf_after}
 use Rattle.cweb_tools.proofs.ReadingStops.{left_by, reads_broke, read_by, silent_broke, reading_ends, nothing_passes}
 use Rattle.cweb_tools.proofs.TangleExits.{can_come}
 
@@ -30,7 +30,8 @@ module _ (later : LaterActs) (args : OptionsModel) (world : World) (found : Opti
   halts : (stop : Stop) (about : List ℕ) (l' : StreamModel) (course : TangleCourse)
       → StopsReading stop → Logs (stop_line stop about) l l' → status ≡ 1
       → Does (opening_acts later course) (Some (ending stop about)) (at shelf out l) (at shelf' out l)
-      → RunEnds (opening_acts later course) (course_status course) (at shelf out l) (at shelf' out l') status
+      → RunEnds (opening_acts later course) (acts_status (opening_acts later course)) (at shelf out l)
+      (at shelf' out l') status
   halts stop about l' course kind logs answered does =
       ends_halted does (record { log = reading_ends stop about kind logs; others = refl }) answered
 
@@ -45,7 +46,7 @@ module _ (later : LaterActs) (args : OptionsModel) (world : World) (found : Opti
       elim (either shelf.blamed) [
         | inl observed ↦
             let prefix = opened_by _ (begins observed).so_far_is (why observed).reported opened opened_are in record {
-              taken = tangled args.names.main merged;
+              course = tangled args.names.main merged;
               can = can_come args world found changes;
               is = λ tell. refl;
               ends = halts stop (subject opened stop) l' (tangled args.names.main merged) kind logs answered
@@ -54,7 +55,7 @@ module _ (later : LaterActs) (args : OptionsModel) (world : World) (found : Opti
             }
         | inr silent ↦
             let web = web_of opened [] (scanned []) args.names.main in record {
-              taken = tangling opened (read_by stop) web;
+              course = tangling opened (read_by stop) web;
               can = record { faults = []; made = scanned []; is = refl };
               is = λ tell. absurd (silent tell);
               ends = halts stop (subject opened stop) l' (tangling opened (read_by stop) web) kind logs answered
@@ -74,13 +75,14 @@ module _ (later : LaterActs) (args : OptionsModel) (world : World) (found : Opti
       ≡ new.names → faults ≡ new.faults → (IsSome shelf.blamed → Scans made old new all) → new.count.lines ≤ LINES
       → new.count.bytes ≤ BYTES → shelf' ≡ shelf
       → RunEnds (later files (web_of files faults made args.names.main))
-      (web_status (web_of files faults made args.names.main)) (at shelf' out l) after status
+      (acts_status (later files (web_of files faults made args.names.main))) (at shelf' out l) after status
       → EndsAs later args (tangled args.names.main merged) (at shelf out l) after status
   read_whole files faults made after files_are faults_are scans few small same ends =
       let main = args.names.main in
       let web = web_of files faults made main in
       let goes_on : (events : List Event) → IsWithinLimits (taken_lines events)
-      → RunEnds (opening_acts later (tangling files events web)) (web_status web) (at shelf out l) after status =
+      → RunEnds (opening_acts later (tangling files events web)) (acts_status (later files web)) (at shelf out l) after
+      status =
       λ events within. ends_on (reads_so files events within same) ends in
       elim (either shelf.blamed) [
         | inl observed ↦
@@ -91,14 +93,14 @@ module _ (later : LaterActs) (args : OptionsModel) (world : World) (found : Opti
             let of_faults : faults ≡ reported_faults all =
             faults_are ∙ faults_reported first all old new (begins observed).so_far_is yields in
             let of_text : made ≡ scanned (emitted_lines all) = (scans observed).made in record {
-              taken = tangling files all web;
+              course = tangling files all web;
               can = record { faults = faults; made = made; is = refl };
               is = λ tell. (λ i. tangling (of_files i) all (web_of (of_files i) (of_faults i) (of_text i) main))
                   ∙ ap (λ (c : Course). tangled main c) (sym (begun observed));
               ends = goes_on all (limits_kept _ all old new (begins observed).so_far_is yields few small);
             }
         | inr silent ↦ record {
-          taken = tangling files [] web;
+          course = tangling files [] web;
           can = record { faults = faults; made = made; is = refl };
           is = λ tell. absurd (silent tell);
           ends = goes_on [] nothing_passes;

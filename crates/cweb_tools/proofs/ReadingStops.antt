@@ -2,7 +2,7 @@
 use Rattle.cweb_tools.proofs.Common.{◌≤◌, ◌≡◌, ◌+◌, inr, ℕ, List, [], ◌∷◌, ◌++◌, length, length-append, refl, sym, ◌∙◌, ap, append-nil, arith, get_or-append, FileId, SourceLine, Event, took, SoFar, BreaksLimit, counts_of, begun_with, StopsFor, StopsReading, files_named, openings, IsWithinLimits, LINE_LENGTH, LINES, BYTES, Stop, ReadFault, LineTooLong, TooMuchText, Memory, LogFault, StopsAfter, file_name_at, stop_line, subject, Logs, StreamModel, Devices, Breaks, FailsReading, Line, ending, IsOfFile, reads, LogsEnding}
 use Rattle.cweb_input.specs.OpenSources.{RefusesLine}
 use Rattle.cweb_tools.proofs.Limits.{CutAt, NextBreaks, cut_at_limit}
-use Rattle.cweb_tools.proofs.Leaving.{shelf_after}
+use Rattle.cweb_tools.proofs.Broken.{shelf_after}
 
 -- The file of a stop is among those that the whole merge opens.
 of_file : (files opened rest : List (List ℕ)) (file : ℕ) → files ≡ opened ++ rest

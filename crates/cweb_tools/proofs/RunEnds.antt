@@ -1,8 +1,8 @@
 -- How a whole run ends, by the result of parsing its words.
-use Rattle.cweb_tools.proofs.Common.{◌≡◌, ◌⊎◌, inl, inr, ℕ, List, [], ◌∷◌, ◌++◌, refl, sym, subst, Option, Some, None, World, Stop, Usage, Memory, LogFault, banner, stopped, stop_line, OptionsModel, Logs, StreamModel, OutModel, Devices, ShelfModel, Act, ending, judges, says, at, RunEnds, Does, DoesInLog, FollowsCourse, TangleCourse, change_not_there, not_there, script, acts_status, tangling, unread, when, CanCome, opening_acts, tangle_later, EndsAs, shown_by, tangle_course}
+use Rattle.cweb_tools.proofs.Common.{◌≡◌, ◌⊎◌, inl, inr, ℕ, List, [], ◌∷◌, ◌++◌, refl, sym, subst, Option, Some, None, World, Stop, Usage, Memory, LogFault, banner, stopped, stop_line, OptionsModel, Logs, StreamModel, OutModel, Devices, ShelfModel, Act, ending, judges, says, at, RunEnds, Does, DoesInLog, FollowsActs, TangleCourse, change_not_there, not_there, script, acts_status, tangling, unread, when, CanCome, opening_acts, tangle_later, EndsAs, shown_by, tangle_course}
 use Rattle.cweb_tools.proofs.Doing.{does_in, does_on, ends_halted, ends_on}
 use Rattle.cweb_tools.proofs.DoingFiles.{log_halts_all}
-use Rattle.cweb_tools.proofs.Statuses.{status_is}
+use Rattle.cweb_tools.proofs.Statuses.{banner_status}
 use Rattle.cweb_tools.proofs.TangleExits.{reported_last, can_come}
 
 -- The acts of a run whose words can be read.
@@ -20,8 +20,8 @@ judged = record { runs = inl (tt, refl) }
 
 -- A run that does these acts ends as its course does.
 abbrev pub EndsRun : (TangleCourse → List Act) → World → Option OptionsModel → Devices → Devices → ℕ → Type 0
-EndsRun acts world args before after status = FollowsCourse acts (λ course. acts_status (acts course))
-    (CanCome args) (tangle_course world args) before after status
+EndsRun acts world args before after status =
+    FollowsActs acts (CanCome args) (λ taken. taken ≡ tangle_course world args) before after status
 
 -- The acts begin with the parsing of the words.
 abbrev pub Judges : List Act → Type 0
@@ -51,7 +51,7 @@ pub words_end : (usage : List ℕ) (acts : TangleCourse → List Act) → acts u
     → status ≡ 1 → EndsRun acts world args (at shelf out l) (at shelf out l') status
 words_end usage acts unread_is world None judged_by stop shelf out {l} {l'} status why none_by is_usage logs
     answered = record {
-      taken = unread;
+      course = unread;
       can = tt;
       is = λ tell. refl;
       ends = subst (λ (done : List Act). RunEnds done (acts_status done) (at shelf out l) (at shelf out l') status)
@@ -64,7 +64,7 @@ words_end usage acts unread_is world (Some args) judged_by stop shelf out {l} {l
     answered =
     let can = can_come args world _ _ in
     let begun = judged_by args refl (tangle_course world (Some args)) can in record {
-      taken = tangle_course world (Some args);
+      course = tangle_course world (Some args);
       can = can;
       is = λ tell. refl;
       ends = ends_halted (subst (λ (acts : List Act).
@@ -83,7 +83,7 @@ pub banner_ends : (world : World) (args : OptionsModel) (shelf : ShelfModel) (ou
     → EndsRun (script args.shown) world (Some args) (at shelf out l) (at shelf out l') 1
 banner_ends world args shelf out {l} {l'} does =
     let can = can_come args world _ _ in record {
-      taken = tangle_course world (Some args);
+      course = tangle_course world (Some args);
       can = can;
       is = λ tell. refl;
       ends = log_halts_all (rw (script_is args _ can) (does_on judged (does_in _ (does shelf out)))) refl;
@@ -97,9 +97,10 @@ pub named_ends : (world : World) (args : OptionsModel) (shelf : ShelfModel) (out
 named_ends world args shelf out {l} after status does follows =
     let first = does_on (judged) (does shelf out) in
     record {
-      taken = follows.taken;
+      course = follows.course;
       can = follows.can;
       is = follows.is;
-      ends = rw (status_is args.shown follows.taken) (rw (script_is args follows.taken
-          follows.can) (ends_on first follows.ends));
+      ends = rw (script_is args follows.course follows.can)
+          (rw (banner_status args.shown (opening_acts (tangle_later args.shown) follows.course))
+          (ends_on first follows.ends));
     }

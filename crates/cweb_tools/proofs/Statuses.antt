@@ -1,6 +1,6 @@
 -- The status of a run that nothing stops.
 use Rattle.cweb_tools.specs.declared.rule_targets.Targets.{Targets}
-use Rattle.cweb_tools.proofs.Common.{◌≡◌, ◌<◌, ◌+◌, ℕ, Bool, true, false, cond, ◌||◌, List, [], ◌∷◌, ◌++◌, map, refl, sym, ◌∙◌, ap, arith, nat_tests, sum_by-cons, or-true, or-false, list_any-append, ◌==◌, count_by, if◌then◌else◌, list_any, WebNotOpened, ChangeNotOpened, LogItem, banner, fault_count, faults, is_fault, no_errors, no_text, see_warning, stopped, Shown, Act, opens, reads, says, Numbers, Planning, TangleCourse, logged_items, planned, planned_acts, refused, tangle_status, acts_status, depend_acts, depend_plan_acts, tangling, unread, not_there, change_not_there, web_acts, when, course_status, status_by}
+use Rattle.cweb_tools.proofs.Common.{◌≡◌, ◌<◌, ◌+◌, ℕ, Bool, true, false, cond, ◌||◌, List, [], ◌∷◌, ◌++◌, map, refl, sym, ◌∙◌, ap, arith, nat_tests, sum_by-cons, or-true, or-false, list_any-append, ◌==◌, count_by, if◌then◌else◌, list_any, WebNotOpened, ChangeNotOpened, LogItem, banner, fault_count, faults, is_fault, no_errors, no_text, see_warning, stopped, Shown, Act, opens, reads, says, Numbers, Planning, TangleCourse, logged_items, planned, planned_acts, refused, tangle_status, Web, acts_status, depend_acts, depend_web_acts, depend_plan_acts, tangling, unread, not_there, change_not_there, web_acts, when, web_status, status_by}
 use Rattle.cweb_tools.proofs.WebActs.{when_on, starred_on, outputs_on, closing_on}
 
 -- Whether acts log a fault.
@@ -72,21 +72,18 @@ status_planned items (planned files missing) = ap status_for (or-false (list_any
     ∙ by_count
     (list_any is_fault items) (fault_count items) (counted_some is_fault items).0 (counted_some is_fault items).1
 
-banner_quiet : (b : Bool) (shown : Shown) (acts : List Act) → Shows b acts → Shows b (when shown.banner banner ++ acts)
-banner_quiet b shown acts rest = when_on IsQuiet (Shows b) (quiet_on b) shown.banner banner acts refl rest
+pub banner_status : (shown : Shown) (acts : List Act)
+    → acts_status (when shown.banner banner ++ acts) ≡ acts_status acts
+banner_status shown acts = ap status_for
+    (when_on IsQuiet (Shows (has_fault acts)) (quiet_on (has_fault acts)) shown.banner banner acts refl refl)
 
-pub status_is : (shown : Shown) (course : TangleCourse) → tangle_status shown course ≡ course_status course
-status_is shown unread = refl
-status_is shown (not_there web) =
-    ap status_for (banner_quiet true shown (opens ∷ says (stopped WebNotOpened web) ∷ []) refl)
-status_is shown (change_not_there change) =
-    ap status_for (banner_quiet true shown (opens ∷ says (stopped ChangeNotOpened change) ∷ []) refl)
-status_is shown (tangling names events web) =
+pub web_status_is : (shown : Shown) (web : Web) → acts_status (web_acts shown web) ≡ web_status web
+web_status_is shown web =
     let faults = list_any is_fault web.faults in
     let b = faults || is_refused web.plan in
-    ap status_for (banner_quiet b shown (opens ∷ reads names events ∷ web_acts shown web) (starred_on IsQuiet (Shows b)
-    (quiet_on b) shown.progress web.starred _ (λ ns. refl) (fault-said web.faults _ ∙ ap (λ (f : Bool). faults || f)
-    (fault-planned shown web.numbers (fault_count web.faults) web.plan))))
+    ap status_for (starred_on IsQuiet (Shows b) (quiet_on b) shown.progress web.starred _ (λ ns. refl)
+    (fault-said web.faults _ ∙ ap (λ (f : Bool). faults || f)
+    (fault-planned shown web.numbers (fault_count web.faults) web.plan)))
     ∙ status_planned web.faults web.plan
 
 fault-depend : (targets : Targets) (files : List (List ℕ)) (plan : Planning)
@@ -95,12 +92,19 @@ fault-depend targets files (refused text) = refl
 fault-depend targets files (planned outputs true) = refl
 fault-depend targets files (planned outputs false) = refl
 
-pub depend_status_is : (targets : Targets) (course : TangleCourse)
-    → acts_status (depend_acts targets course) ≡ course_status course
-depend_status_is targets unread = refl
-depend_status_is targets (not_there web) = refl
-depend_status_is targets (change_not_there change) = refl
-depend_status_is targets (tangling files events web) =
+pub depend_status_is : (targets : Targets) (files : List (List ℕ)) (web : Web)
+    → acts_status (depend_web_acts targets files web) ≡ web_status web
+depend_status_is targets files web =
     let faults = list_any is_fault web.faults in
     ap status_for (fault-said web.faults _ ∙ ap (λ (f : Bool). faults || f) (fault-depend targets files web.plan))
     ∙ status_planned web.faults web.plan
+
+pub same_status : (targets : Targets) (shown : Shown) (course : TangleCourse)
+    → acts_status (depend_acts targets course) ≡ tangle_status shown course
+same_status targets shown unread = refl
+same_status targets shown (not_there web) = sym (banner_status shown (opens ∷ says (stopped WebNotOpened web) ∷ []))
+same_status targets shown (change_not_there change) =
+    sym (banner_status shown (opens ∷ says (stopped ChangeNotOpened change) ∷ []))
+same_status targets shown (tangling files events web) =
+    depend_status_is targets files web ∙ sym (web_status_is shown web)
+    ∙ sym (banner_status shown (opens ∷ reads files events ∷ web_acts shown web))

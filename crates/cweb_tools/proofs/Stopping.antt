@@ -3,7 +3,7 @@ use Rattle.cweb_tools.proofs.Common.{◌≡◌, inl, inr, ℕ, ◌+◌, List, []
 use Rattle.cweb_log.proofs.BufferedLog.{fails_in, fails_on, written_on}
 use Rattle.cweb_tools.proofs.AllDone.{log_all}
 use Rattle.cweb_tools.proofs.Doing.{counts_all}
-use Rattle.cweb_tools.proofs.Leaving.{broken, shelf_counted}
+use Rattle.cweb_tools.proofs.Broken.{broken, shelf_counted}
 
 -- A text was logged before.
 logs_on : (a : List ℕ) {b : List ℕ} {old mid new : StreamModel} → mid ≡ written a old → Logs b mid new
@@ -47,7 +47,8 @@ halts_within (act ∷ acts) why old mid (inr here) =
 stopped_at : (act : Act) (stop : Stop) (about : List ℕ) (old mid new : Devices) → Breaks act (ending stop about) old mid
     → LogsStop (ending stop about) mid new → (acts : List Act) → IsStopped (act ∷ acts) stop about old new
 stopped_at (says item) LogFault about old mid new fails logs acts =
-    let is : new ≡ record old { log = new.log } = logs.others ∙ ap (λ (d : Devices). record d { log = new.log }) fails.others in
+    let is : new ≡ record old { log = new.log } =
+    logs.others ∙ ap (λ (d : Devices). record d { log = new.log }) fails.others in
     record {
       log = record {
         before = item ∷ [];

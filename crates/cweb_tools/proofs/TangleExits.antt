@@ -1,5 +1,6 @@
 -- The early exits of `ctangle`, before its web is read, are ends of a run.
 use Rattle.cweb_tools.proofs.Common.{◌≡◌, inl, inr, ℕ, List, [], ◌∷◌, refl, ap, IsSome, Option, Some, None, contents_found, World, Found, Event, started, StartStops, emitted_lines, reported_faults, merge, StopsAtStart, Stop, WebNotOpened, ChangeNotOpened, Memory, scanned, LogItem, line, stopped, start_subject, stop_line, OptionsModel, Logs, StreamModel, OutModel, ShelfModel, Act, ending, opens, says, change_name, found_course, at, Does, RunEnds, TangleCourse, change_not_there, not_there, CanCome, LaterActs, opening_acts, EndsAs, tangled}
+use Rattle.cweb_tools.proofs.Courses.{no_change, no_web}
 use Rattle.cweb_tools.proofs.Doing.{ends_halted, ends_on}
 use Rattle.cweb_tools.proofs.DoingFiles.{ends_reported}
 use Rattle.cweb_tools.proofs.Logging.{logs_write, said}
@@ -33,20 +34,6 @@ module _ (shelf shelf' : ShelfModel) (same : shelf' ≡ shelf) (out : OutModel) 
     abbrev pub course : Option Found → Option (Option Found) → TangleCourse
     course found changes = tangled args.names.main (found_course world args.names.merge found changes)
 
-    no_web : (found : Option Found) (changes : Option (Option Found))
-        → found ≡ None → not_there args.names.merge.web ≡ course found changes
-    no_web None changes is = refl
-    no_web (Some web) changes is = absurd (cc)
-
-    no_change : (found : Option Found) (changes : Option (Option Found)) → (web : Found) × (found ≡ Some web)
-        → changes ≡ None → change_not_there (change_name args.names.merge.change) ≡ course found changes
-    no_change None changes web is = absurd (no_some web)
-      where
-        no_some : (web : Found) × (None ≡ Some web) → ⊥
-        no_some web = let is : None ≡ Some web.0 = web.1 in cc
-    no_change (Some found) None web is = refl
-    no_change (Some found) (Some change) web is = absurd (cc)
-
     ends_said : (item : LogItem) → Logs (line item) l l'
         → RunEnds (opens ∷ says item ∷ []) 1 (at shelf out l) (at shelf' out l') status
     ends_said item logs = ends_on looks (rw answered (reported_last item shelf' out logs))
@@ -64,19 +51,20 @@ module _ (shelf shelf' : ShelfModel) (same : shelf' ≡ shelf) (out : OutModel) 
         l l'
         → EndsAs later args (course found changes) (at shelf out l) (at shelf' out l') status
     start_ends found changes WebNotOpened comes why logs = record {
-      taken = not_there args.names.merge.web;
+      course = not_there args.names.merge.web;
       can = refl;
-      is = λ tell. no_web found changes (why tell);
+      is = λ tell. ap (tangled args.names.main) (no_web world args.names.merge found changes (why tell));
       ends = ends_said (stopped WebNotOpened args.names.merge.web) logs;
     }
     start_ends found changes ChangeNotOpened comes why logs = record {
-      taken = change_not_there (change_name args.names.merge.change);
+      course = change_not_there (change_name args.names.merge.change);
       can = refl;
-      is = λ tell. no_change found changes (why tell).0 (why tell).1;
+      is = λ tell. ap (tangled args.names.main)
+          (no_change world args.names.merge found changes (why tell).0 (why tell).1);
       ends = ends_said (stopped ChangeNotOpened (change_name args.names.merge.change)) logs;
     }
     start_ends found changes Memory comes why logs = record {
-      taken = course found changes;
+      course = course found changes;
       can = can_come args world found changes;
       is = λ tell. refl;
       ends = ends_halted (memory_out found changes) (record { others = refl; log = logs }) answered;

@@ -1,23 +1,23 @@
 -- A run of `ctangle` keeps its promises, by how it ends.
-use Rattle.cweb_tools.proofs.Common.{◌≡◌, sym, ◌∙◌, ap, Option, World, OptionsModel, Devices, StreamModel, FollowsCourse, FollowsActs, List, Act, TangleCourse, acts_status, CanCome, tangle_course, IsTangleCourse, subst, RanFreely, DoesActs, DoesActsFreely, ℕ}
+use Rattle.cweb_tools.proofs.Common.{◌≡◌, sym, ◌∙◌, ap, Option, World, OptionsModel, Devices, StreamModel, FollowsActs, List, Act, TangleCourse, CanCome, tangle_course, IsTangleCourse, subst, RanFreely, DoesActs, DoesActsFreely, ℕ}
 use Rattle.cweb_tools.proofs.AllDone.{files_all, log_all, printed_all}
 use Rattle.cweb_tools.proofs.Courses.{tangle_comes, tangle_only}
 use Rattle.cweb_tools.proofs.Endings.{runs_freely}
 
--- A run that follows these acts keeps its promises.
+-- A run on this course keeps its promises.
 pub promised_by : {C : Type 0} {acts : C → List Act} {CanBe Is : C → Type 0} {course : C} {before after : Devices}
-    {status : ℕ} → Is course → FollowsCourse acts (λ taken. acts_status (acts taken)) CanBe course before after status
+    {status : ℕ} → Is course → FollowsActs acts CanBe (λ taken. taken ≡ course) before after status
     → FollowsActs acts CanBe Is before after status
 promised_by {Is = Is} comes follows = record {
-  course = follows.taken;
+  course = follows.course;
   can = follows.can;
-  is = λ tells. subst Is (sym (follows.is tells)) comes;
+  is = λ some. subst Is (sym (follows.is some)) comes;
   ends = follows.ends;
 }
 
 pub promised : (world : World) (args : Option OptionsModel) {before after : Devices} {status : ℕ}
-    {acts : TangleCourse → List Act} → FollowsCourse acts (λ course. acts_status (acts course))
-    (CanCome args) (tangle_course world args) before after status
+    {acts : TangleCourse → List Act}
+    → FollowsActs acts (CanCome args) (λ taken. taken ≡ tangle_course world args) before after status
     → FollowsActs acts (CanCome args) (IsTangleCourse world args) before after status
 promised world args follows = promised_by {Is = IsTangleCourse world args} (tangle_comes world args) follows
 

@@ -7,7 +7,7 @@ use Rattle.cweb_tools.specs.declared.rule_targets.Targets.TheVariants.{All, Main
 use Rattle.cweb_tools.specs.Depend.{among_outputs}
 use Rattle.std.proofs.lemmas.List.{take-map}
 use Rattle.cweb_tools.proofs.NoFiles.{depend-prints}
-use Rattle.cweb_tools.proofs.Statuses.{depend_status_is, status_is}
+use Rattle.cweb_tools.proofs.Statuses.{same_status}
 use Rattle.cweb_tools.proofs.WebActs.{when_on, said_on, starred_on, closing_on}
 
 abbrev Any : LogItem → Type 0
@@ -56,5 +56,5 @@ targets_are_written = record {
       ∙ ap (λ (names : List (List ℕ)). depfile names (each_once files)) (among_names targets outputs
       ∙ ap (λ (all : List File). among_outputs targets (named all))
       (sym (tangle_written shown files events web outputs missing is)));
-  status = λ shown targets course. depend_status_is targets course ∙ sym (status_is shown course);
+  status = λ shown targets course. same_status targets shown course;
 }

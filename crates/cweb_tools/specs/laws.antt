@@ -1,6 +1,5 @@
 -- Definitions that only laws cite.
 pub mod Leaves
 pub mod LeftDevices
-pub mod MakeReads
 pub mod RunEffects
 pub mod Targets

@@ -1,4 +1,4 @@
-//! Laws of whole runs, for all device failures and failed allocations, of blanks between tokens, and of depfiles.
+//! Laws of whole runs, for all device failures and failed allocations, of blanks between tokens, and of targets.
 ghost use Rattle.std.specs.Prelude.{◌≡◌, ℕ, List, None};
 ghost use Rattle.cweb_log.specs.DeviceModels.{Devices};
 ghost use Rattle.cweb_lines.specs.Events.{Event};
@@ -7,7 +7,6 @@ ghost use Rattle.cweb_tools.specs.Acts.{RunEnds};
 ghost use Rattle.cweb_tools.specs.Headline.{files_in};
 ghost use Rattle.cweb_tools.specs.laws.Leaves.{LeavesFiles, tangle_files};
 ghost use Rattle.cweb_tools.specs.laws.LeftDevices.{EveryRunLeavesBins, EveryRunLeavesTheShelf, draft_in};
-ghost use Rattle.cweb_tools.specs.laws.MakeReads.{MakeReadsNames};
 ghost use Rattle.cweb_tools.specs.laws.Targets.{TargetsAreWrittenFiles};
 ghost use Rattle.cweb_tools.specs.laws.RunEffects.{EveryRunLeavesDevices, EveryMergeLeavesOutput};
 ghost use Rattle.cweb_tools.specs.Script.{TangleCourse, Web, refused, script};
@@ -68,12 +67,6 @@ pub fn every_merge_leaves_output()
 /// tokens that would otherwise read differently.
 pub fn spacing()
     ensures { Spacing }
-{}
-
-/// `make` reads back the names of the rules that `wdep` prints, if they have no newline and no tab and end in no blank.
-/// The reader is a definition: `tests/depfiles` compares it with GNU make.
-pub fn make_reads_names()
-    ensures { MakeReadsNames }
 {}
 
 /// The targets that `wdep` prints are the files that `ctangle` writes, in order, and both end with the same status.

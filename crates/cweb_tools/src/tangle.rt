@@ -8,12 +8,12 @@ ghost use Rattle.cweb_log.specs.CommandLine.{options_by};
 ghost use Rattle.cweb_log.specs.DeviceModels.{CountsFit, SinkCountsFit, bins_model, devices, stream_model};
 ghost use Rattle.cweb_log.specs.Items.{banner};
 ghost use Rattle.cweb_log.specs.surface.Options.{options_of};
-ghost use Rattle.cweb_tools.specs.Acts.{LogsEnding, ending, plans};
+ghost use Rattle.cweb_tools.specs.Acts.{LogsEnding, acts_status, ending, plans};
 ghost use Rattle.cweb_tools.specs.Course.{world_of};
 ghost use Rattle.cweb_tools.specs.inner.Does.{DoesInLog, EndsInBoth};
 ghost use Rattle.cweb_tools.specs.Script.{planned_acts, web_acts, when};
 ghost use Rattle.cweb_tools.specs.Tangle.{numbers_of, TanglePromises, TanglesFreely};
-ghost use Rattle.cweb_tools.specs.inner.Tangle.{EndsUnread, fault_count, plan_made, status_by, web_status};
+ghost use Rattle.cweb_tools.specs.inner.Tangle.{EndsUnread, fault_count, plan_made, status_by};
 ghost use Rattle.cweb_tools.specs.inner.Web.{IsKnown, faults_of, files_of, web_in};
 
 mod unplanned;
@@ -111,8 +111,8 @@ pub(crate) fn tangle_web<B: Bins, L: Sink>(
 ) -> u8
     requires known { IsKnown web }
     requires counts { SinkCountsFit (B.failed bins.old) (L.failed log.old) }
-    ensures { EndsInBoth (web_acts shown (web_in web.entry main.now))
-        (web_status (web_in web.entry main.now))
+    ensures { let acts = web_acts shown (web_in web.entry main.now) in
+        EndsInBoth acts (acts_status acts)
         (bins_model B.Sink bins.old) (bins_model B.Sink bins.new)
         (stream_model L.Sink log.old) (stream_model L.Sink log.new) result }
 {

@@ -4,12 +4,13 @@ ghost use Rattle.std.specs.Option.{option_copied};
 ghost use Rattle.cweb_out.specs.surface.Outputs.{IsPlanOf};
 ghost use Rattle.cweb_log.specs.CommandLine.{options_by};
 ghost use Rattle.cweb_log.specs.DeviceModels.{CountsFit, SinkCountsFit, as_output, printing_devices, stream_model};
+ghost use Rattle.cweb_tools.specs.Acts.{acts_status};
 ghost use Rattle.cweb_tools.specs.Course.{world_of};
 ghost use Rattle.cweb_tools.specs.Depend.{DependPromises, DependsFreely, depend_plan_acts, depend_web_acts};
 ghost use Rattle.cweb_tools.specs.Depend.{targets_by};
 ghost use Rattle.cweb_tools.specs.declared.rule_targets.Targets.{Targets};
 ghost use Rattle.cweb_tools.specs.inner.Does.{EndsInBoth};
-ghost use Rattle.cweb_tools.specs.inner.Tangle.{fault_count, plan_made, status_by, web_status};
+ghost use Rattle.cweb_tools.specs.inner.Tangle.{fault_count, plan_made, status_by};
 ghost use Rattle.cweb_tools.specs.inner.Web.{faults_of, files_of, web_in};
 
 use crate::depfile::depfile;
@@ -35,13 +36,15 @@ pub fn run_wdep<S: Shelf, W: Sink, L: Sink>(
     log: &mut L,
 ) -> u8
     requires counts { CountsFit (printing_devices S.Shelf W.Sink L.Sink shelf.old out.old log.old) }
-    ensures promises { let before = printing_devices S.Shelf W.Sink L.Sink shelf.old out.old log.old in
+    ensures promises { let before =
+        printing_devices S.Shelf W.Sink L.Sink shelf.old out.old log.old in
         let args = options_by (map (λ word. word.now) words.now) in
         let world = world_of (S.texts shelf.old) (option_copied inputs.entry) in
         let targets = targets_by (map (λ word. word.now) words.now) in
         DependPromises world targets args before
         (printing_devices S.Shelf W.Sink L.Sink shelf.new out.new log.new) result }
-    ensures freely { let before = printing_devices S.Shelf W.Sink L.Sink shelf.old out.old log.old in
+    ensures freely { let before =
+        printing_devices S.Shelf W.Sink L.Sink shelf.old out.old log.old in
         let args = options_by (map (λ word. word.now) words.now) in
         let world = world_of (S.texts shelf.old) (option_copied inputs.entry) in
         let targets = targets_by (map (λ word. word.now) words.now) in
@@ -74,9 +77,9 @@ fn depend_web<W: Sink, L: Sink>(
     log: &mut L,
 ) -> u8
     requires counts { SinkCountsFit (W.failed out.old) (L.failed log.old) }
-    ensures { EndsInBoth
-        (depend_web_acts targets (files_of web.entry) (web_in web.entry main.now))
-        (web_status (web_in web.entry main.now))
+    ensures { let acts =
+        depend_web_acts targets (files_of web.entry) (web_in web.entry main.now) in
+        EndsInBoth acts (acts_status acts)
         (as_output (stream_model W.Sink out.old)) (as_output (stream_model W.Sink out.new))
         (stream_model L.Sink log.old) (stream_model L.Sink log.new) result }
 {

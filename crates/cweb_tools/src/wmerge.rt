@@ -36,12 +36,14 @@ pub fn run_wmerge<S: Shelf, W: Sink, L: Sink>(
     log: &mut L,
 ) -> u8
     requires counts { CountsFit (printing_devices S.Shelf W.Sink L.Sink shelf.old out.old log.old) }
-    ensures promises { let before = printing_devices S.Shelf W.Sink L.Sink shelf.old out.old log.old in
+    ensures promises { let before =
+        printing_devices S.Shelf W.Sink L.Sink shelf.old out.old log.old in
         let args = web_names_by (map (λ word. word.now) words.now) in
         let world = world_of (S.texts shelf.old) (option_copied inputs.entry) in
         MergePromises world args before
         (printing_devices S.Shelf W.Sink L.Sink shelf.new out.new log.new) result }
-    ensures freely { let before = printing_devices S.Shelf W.Sink L.Sink shelf.old out.old log.old in
+    ensures freely { let before =
+        printing_devices S.Shelf W.Sink L.Sink shelf.old out.old log.old in
         let args = web_names_by (map (λ word. word.now) words.now) in
         let world = world_of (S.texts shelf.old) (option_copied inputs.entry) in
         MergesFreely world args before
@@ -65,7 +67,8 @@ fn merge_web<S: Shelf, W: Sink, L: Sink>(
     log: &mut L,
 ) -> u8
     requires counts { CountsFit (printing_devices S.Shelf W.Sink L.Sink shelf.old out.old log.old) }
-    ensures { let before = printing_devices S.Shelf W.Sink L.Sink shelf.old out.old log.old in
+    ensures { let before =
+        printing_devices S.Shelf W.Sink L.Sink shelf.old out.old log.old in
         let world = world_of (S.texts shelf.old) (option_copied inputs.entry) in
         let names = Some (merge_word_names args.now) in
         EndsMerge names (merge_course world names) before

@@ -12,7 +12,8 @@ use Rattle.cweb_tools.specs.inner.Does.{at}
 -- The merge of the files that were found begins.
 pub record MergeHasBegun {S R : Type 0} (shelf : Shelf S R) (now : S) (merger : Merger S R) (world : World)
     (found : Option Found) (changes : Option (Option Found)) : Type 0 where
-  pub begins : IsSome (shelf_model shelf now).blamed → BeginsMerge world found changes (so_far merger) (to_come shelf now merger)
+  pub begins : IsSome (shelf_model shelf now).blamed
+      → BeginsMerge world found changes (so_far merger) (to_come shelf now merger)
   pub known : IsSome (shelf_model shelf now).blamed → KnowsReaders shelf now merger
 
 -- Whatever was found, a run of `wmerge` ends as its course does.

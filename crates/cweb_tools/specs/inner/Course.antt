@@ -1,14 +1,13 @@
 -- The course of `wmerge`, from its words.
-use Rattle.std.specs.Prelude.{ℕ, List, ◌∷◌, Option, None, Some}
+use Rattle.std.specs.Prelude.{◌≡◌, ℕ, List, ◌∷◌, Option, None, Some}
 use Rattle.cweb_input.specs.Include.{names_found, contents_found, World, Found, web_at, change_at}
 use Rattle.cweb_lines.specs.Merge.{started}
 use Rattle.cweb_lines.specs.surface.Total.{merge}
 use Rattle.cweb_log.specs.DeviceModels.{Devices}
 use Rattle.cweb_log.specs.CommandLine.{WebNames, web_names_by}
 use Rattle.cweb_tools.specs.Course.{Course, unread, not_there, change_not_there, merging, change_name, world_of}
-use Rattle.cweb_tools.specs.Acts.{acts_status}
+use Rattle.cweb_tools.specs.Acts.{FollowsActs}
 use Rattle.cweb_tools.specs.MergeActs.{MergeCanCome, merge_acts, merge_devices}
-use Rattle.cweb_tools.specs.inner.Does.{FollowsCourse}
 
 abbrev pub found_course : World → WebNames → Option Found → Option (Option Found) → Course
 found_course world names None changes = not_there names.web
@@ -26,5 +25,6 @@ course_of texts words inputs = merge_course (world_of texts inputs) (web_names_b
 
 -- A run of `wmerge` does the acts of its course.
 abbrev pub EndsMerge : Option WebNames → Course → Devices → Devices → ℕ → Type 0
-EndsMerge args course before after status = FollowsCourse merge_acts (λ taken. acts_status (merge_acts taken))
-    (MergeCanCome args) course (merge_devices before) (merge_devices after) status
+EndsMerge args course before after status =
+    FollowsActs merge_acts (MergeCanCome args) (λ taken. taken ≡ course) (merge_devices before) (merge_devices after)
+    status

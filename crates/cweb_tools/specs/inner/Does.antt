@@ -1,5 +1,5 @@
 -- The effect of calls as acts.
-use Rattle.std.specs.Prelude.{◌≡◌, ℕ, List, [], Option, Some, None, Result, Ok, Err, IsSome}
+use Rattle.std.specs.Prelude.{ℕ, List, [], Option, Some, None, Result, Ok, Err}
 use Rattle.cweb_input.specs.declared.stop.Stop.TheVariants.{LogFault}
 use Rattle.cweb_log.specs.DeviceModels.{Devices, OutModel, ShelfModel, StreamModel}
 use Rattle.cweb_tools.specs.Acts.{Act, Ending, ending, PerformsActs, RunEnds}
@@ -41,12 +41,3 @@ EndsInLog acts expected log log' status =
 abbrev pub EndsInBoth : List Act → ℕ → OutModel → OutModel → StreamModel → StreamModel → ℕ → Type 0
 EndsInBoth acts expected out out' log log' status =
     (shelf : ShelfModel) → RunEnds acts expected (at shelf out log) (at shelf out' log') status
-
--- The end of a run or its last part, for acts and a status that depend on the course. An observable shelf determines
--- the course; otherwise some possible one is taken.
-pub record FollowsCourse {Course : Type 0} (acts : Course → List Act) (expected : Course → ℕ) (CanBe : Course → Type 0)
-    (course : Course) (before after : Devices) (status : ℕ) : Type 0 where
-  pub taken : Course
-  pub can : CanBe taken
-  pub is : IsSome before.shelf.blamed → taken ≡ course
-  pub ends : RunEnds (acts taken) (expected taken) before after status

@@ -1,5 +1,5 @@
 -- The acts and status of a run after its words are parsed.
-use Rattle.std.specs.Prelude.{Ok, count_by, ℕ, ◌==◌, List, [], ◌∷◌, Option, None, Some, if◌then◌else◌}
+use Rattle.std.specs.Prelude.{Ok, count_by, ◌≡◌, ℕ, ◌==◌, List, [], ◌∷◌, Option, None, Some, if◌then◌else◌}
 use Rattle.cweb_input.specs.Include.{World}
 use Rattle.cweb_input.specs.declared.stop.Stop.TheVariants.{WebNotOpened, ChangeNotOpened}
 use Rattle.cweb_out.specs.Expansion.{names}
@@ -9,12 +9,12 @@ use Rattle.cweb_log.specs.Items.{LogItem, is_fault, stopped}
 use Rattle.cweb_log.specs.CommandLine.{OptionsModel}
 use Rattle.cweb_log.specs.declared.shown.Shown.{Shown}
 use Rattle.cweb_log.specs.DeviceModels.{OutModel, ShelfModel, StreamModel}
-use Rattle.cweb_tools.specs.Acts.{Act, acts_status, opens, reads, says}
+use Rattle.cweb_tools.specs.Acts.{Act, FollowsActs, opens, reads, says}
 use Rattle.cweb_tools.specs.Script.{Planning, TangleCourse, Web, unread, not_there, change_not_there, tangling}
 use Rattle.cweb_tools.specs.Script.{refused, planned, script, web_acts}
 use Rattle.cweb_tools.specs.Tangle.{CanCome, planning_by, shown_by, tangled}
 use Rattle.cweb_tools.specs.inner.Course.{merge_course}
-use Rattle.cweb_tools.specs.inner.Does.{FollowsCourse, at}
+use Rattle.cweb_tools.specs.inner.Does.{at}
 
 -- The outputs of a plan, as files.
 abbrev pub plan_made : Stored → List (List ℕ) → Planned → Planning
@@ -47,12 +47,6 @@ opening_acts later (tangling names events web) = opens ∷ reads names events �
 abbrev pub tangle_later : Shown → LaterActs
 tangle_later shown names web = web_acts shown web
 
-abbrev pub course_status : TangleCourse → ℕ
-course_status unread = 1
-course_status (not_there web) = 1
-course_status (change_not_there change) = 1
-course_status (tangling names events web) = web_status web
-
 -- The way that a run goes, as a function.
 abbrev pub tangle_course : World → Option OptionsModel → TangleCourse
 tangle_course world None = unread
@@ -61,5 +55,5 @@ tangle_course world (Some args) = tangled args.names.main (merge_course world (S
 -- The run ended before it read anything, as its course does.
 abbrev pub EndsUnread : Option OptionsModel → StreamModel → StreamModel → ℕ → Type 0
 EndsUnread args log log' status = (world : World) (shelf : ShelfModel) (out : OutModel)
-    → FollowsCourse (script (shown_by args)) (λ course. acts_status (script (shown_by args) course)) (CanCome args)
-    (tangle_course world args) (at shelf out log) (at shelf out log') status
+    → FollowsActs (script (shown_by args)) (CanCome args) (λ taken. taken ≡ tangle_course world args) (at shelf out log)
+    (at shelf out log') status

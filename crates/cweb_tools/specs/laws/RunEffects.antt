@@ -20,7 +20,8 @@ use Rattle.cweb_tools.specs.laws.Leaves.{HasReadAll, LeavesFiles, bins_blame, ta
 
 -- All acts were done: the files were committed, the items logged, and the status is `expected`.
 pub record DoesAll (acts : List Act) (expected : ℕ) (old new : Devices) (status : ℕ) : Type 0 where
-  pub files : files_in new.out ≡ option_map (λ (files : List File). fold put_file files (written_files acts)) (files_in old.out)
+  pub files : files_in new.out
+      ≡ option_map (λ (files : List File). fold put_file files (written_files acts)) (files_in old.out)
   pub log : new.log.bytes ≡ appended (flat_map line (logged_items acts)) old.log.bytes
   pub answered : status ≡ expected
 

@@ -12,8 +12,11 @@ returns g c =
       promises = runs_in g.F.FileSystem c.args.fs
           (λ world before after status. DependPromises world targets args before after status
           × DependsFreely world targets args before after status)
-          (option_copied c.args.inputs) c.new-shelf.result c.run_wdep.new.shelf (as_output (stream_model g.W.Sink c.args.out.now))
+          (option_copied c.args.inputs) c.new-shelf.result c.run_wdep.new.shelf
+          (as_output (stream_model g.W.Sink c.args.out.now))
           (as_output (stream_model g.W.Sink c.run_wdep.new.out)) (stream_model g.L.Sink c.args.log.now)
-          (stream_model g.L.Sink c.run_wdep.new.log) c.run_wdep.result c.new-shelf.ensures.system c.new-shelf.ensures.failed
-          (stays_so g.F.FileSystem c.new-shelf.result c.run_wdep.new.shelf c.run_wdep.ensures.promises) (c.run_wdep.ensures.promises, c.run_wdep.ensures.freely);
+          (stream_model g.L.Sink c.run_wdep.new.log) c.run_wdep.result c.new-shelf.ensures.system
+          c.new-shelf.ensures.failed
+          (stays_so g.F.FileSystem c.new-shelf.result c.run_wdep.new.shelf c.run_wdep.ensures.promises)
+          (c.run_wdep.ensures.promises, c.run_wdep.ensures.freely);
     }

@@ -11,8 +11,11 @@ returns g c =
       promises = runs_in g.F.FileSystem c.args.fs
           (λ world before after status. MergePromises world args before after status
           × MergesFreely world args before after status)
-          (option_copied c.args.inputs) c.new-shelf.result c.run_wmerge.new.shelf (as_output (stream_model g.W.Sink c.args.out.now))
+          (option_copied c.args.inputs) c.new-shelf.result c.run_wmerge.new.shelf
+          (as_output (stream_model g.W.Sink c.args.out.now))
           (as_output (stream_model g.W.Sink c.run_wmerge.new.out)) (stream_model g.L.Sink c.args.log.now)
-          (stream_model g.L.Sink c.run_wmerge.new.log) c.run_wmerge.result c.new-shelf.ensures.system c.new-shelf.ensures.failed
-          (stays_so g.F.FileSystem c.new-shelf.result c.run_wmerge.new.shelf c.run_wmerge.ensures.promises) (c.run_wmerge.ensures.promises, c.run_wmerge.ensures.freely);
+          (stream_model g.L.Sink c.run_wmerge.new.log) c.run_wmerge.result c.new-shelf.ensures.system
+          c.new-shelf.ensures.failed
+          (stays_so g.F.FileSystem c.new-shelf.result c.run_wmerge.new.shelf c.run_wmerge.ensures.promises)
+          (c.run_wmerge.ensures.promises, c.run_wmerge.ensures.freely);
     }

@@ -34,7 +34,8 @@ returns-in-Err-clause-promises g c =
     let bins = c.new-in-Err.ensures in
     unread_in g.F.FileSystem c.args.fs inputs (options_in c.args.words.now)
     (bins_after g.F.FileSystem c.new-in-Err.result) log (stream_model g.L.Sink c.begin_tangle.new.log) c.in-Err.status
-    (bins_in g.F.FileSystem c.args.fs log c.new-in-Err.result (ap (λ fs. (g.F.FileSystem.disk fs).tells) bins.system) bins.failed bins.beside)
+    (bins_in g.F.FileSystem c.args.fs log c.new-in-Err.result (ap (λ fs. (g.F.FileSystem.disk fs).tells) bins.system)
+    bins.failed bins.beside)
     (promised _ _ (c.in-Err.ensures.ends (world_in g.F.FileSystem c.args.fs inputs) (shelf_in g.F.FileSystem c.args.fs)
     (bins_after g.F.FileSystem c.new-in-Err.result)))
 

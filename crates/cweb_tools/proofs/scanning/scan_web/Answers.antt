@@ -1,6 +1,7 @@
 use Rattle.cweb_tools.proofs.Common.{◌≡◌, ◌+◌, ◌++◌, List, ℕ, refl, sym, ◌∙◌, ap, option_copied, IsSome, IsTrue, World, Stop, blame, read_failures_of, so_far, scanned_model, subject, OptionsModel, options_of, ShelfModel, stream_model, shelf_model, world_of}
-use Rattle.cweb_tools.proofs.Carried.{seen, shelf_same, shelf_stopped}
-use Rattle.cweb_tools.proofs.Leaving.{shelf_after}
+use Rattle.cweb_tools.proofs.Carried.{shelf_same, shelf_stopped}
+use Rattle.cweb_log.proofs.Known.{seen}
+use Rattle.cweb_tools.proofs.Broken.{shelf_after}
 use Rattle.cweb_tools.proofs.ReadingExits.{read_stops, read_whole}
 use Rattle.cweb_tools.proofs.TangleExits.{start_ends}
 use Rattle.cweb_tools.proofs.scanning.scan_web.Goals as goal

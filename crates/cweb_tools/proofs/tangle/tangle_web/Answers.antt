@@ -1,7 +1,9 @@
 use Rattle.cweb_tools.proofs.Common.{refl, arith, files_of}
+use Rattle.cweb_tools.specs.inner.Web.{web_in}
 use Rattle.cweb_tools.proofs.Doing.{ends_on, log_counted}
 use Rattle.cweb_tools.proofs.DoingFiles.{does_plan, log_halts}
 use Rattle.cweb_tools.proofs.Refusals.{planning_made}
+use Rattle.cweb_tools.proofs.Statuses.{web_status_is}
 use Rattle.cweb_tools.proofs.tangle.tangle_web.Goals as goal
 
 pub returns-in-Err : goal.returns-in-Err
@@ -31,10 +33,13 @@ tangle_unplanned-requires-clause-count g c =
     omega (arith, log_counted c.in_default.ensures, log_counted c.in_default-say_faults.ensures, c.requires.counts.log)
 
 pub returns-in-Ok : goal.returns-in-Ok
-returns-in-Ok g c = λ shelf. ends_on ((rw c.as_slice.ensures.value at c.in_default.ensures) shelf _) (ends_on
+returns-in-Ok g c = λ shelf. rw (web_status_is c.args.shown (web_in c.args.web c.args.main.now))
+    (ends_on ((rw c.as_slice.ensures.value at c.in_default.ensures) shelf _) (ends_on
     (c.in_default-say_faults.ensures shelf _) (ends_on does_plan (rw (planning_made c.args.web.scanned.now.store
-    (files_of c.args.web) c.args.main.now _ (rw c.store.ensures at c.in-Ok.ensures)) (c.tangle_planned.ensures shelf))))
+    (files_of c.args.web) c.args.main.now _ (rw c.store.ensures at c.in-Ok.ensures))
+    (c.tangle_planned.ensures shelf)))))
 
 pub returns-in-Err-plan : goal.returns-in-Err-plan
-returns-in-Err-plan g c = λ shelf. ends_on ((rw c.as_slice.ensures.value at c.in_default.ensures) shelf _)
-    (ends_on (c.in_default-say_faults.ensures shelf _) (c.tangle_unplanned.ensures.closes shelf _))
+returns-in-Err-plan g c = λ shelf. rw (web_status_is c.args.shown (web_in c.args.web c.args.main.now))
+    (ends_on ((rw c.as_slice.ensures.value at c.in_default.ensures) shelf _)
+    (ends_on (c.in_default-say_faults.ensures shelf _) (c.tangle_unplanned.ensures.closes shelf _)))

@@ -1,8 +1,9 @@
 use Rattle.cweb_tools.proofs.Common.{◌≡◌, ◌++◌, ◌&&◌, List, ℕ, Bool, sym, ◌∙◌, ap, Event, Stop, so_far, subject, written_lines, emitted_lines, shelf_model, stream_model}
 use Rattle.cweb_files.specs.surface.Frames.{Writes}
-use Rattle.cweb_tools.proofs.Carried.{seen, shelf_same, shelf_stopped}
-use Rattle.cweb_tools.proofs.Leaving.{shelf_after}
-use Rattle.cweb_tools.proofs.MergeDevices.{before, after, merge_printed, merge_stopped, out_part, shelf_part, some_known}
+use Rattle.cweb_tools.proofs.Carried.{shelf_same, shelf_stopped}
+use Rattle.cweb_log.proofs.Known.{seen, some_known}
+use Rattle.cweb_tools.proofs.Broken.{shelf_after}
+use Rattle.cweb_tools.proofs.MergeDevices.{before, after, merge_printed, merge_stopped, out_part, shelf_part}
 use Rattle.cweb_tools.proofs.MergeExits.{completed, halted_early}
 use Rattle.cweb_tools.proofs.wmerge.merge_begun.Goals as goal
 
@@ -58,5 +59,5 @@ returns-in-Err g c = λ names world found changes begun.
     (left ∙ ap (λ (names : List (List ℕ)). shelf_after stop (subject names stop)
     (shelf_model g.S.Shelf c.args.shelf.now)) (sym c.names-in-Err.ensures))
     (λ both. wrote.prefix (shelf_part tells out_tells both) (out_part tells out_tells both))
-    (λ text is. merge_stopped g.S.Shelf g.W.Sink _ _ _ _ wrote.keeps.0.tells wrote.keeps.1.tells stop text blames.out is)
+    (λ text. merge_stopped g.S.Shelf g.W.Sink _ _ _ _ wrote.keeps.0.tells wrote.keeps.1.tells stop text blames.out)
     (rw c.subject.ensures at c.log_stop.ensures.logs) c.log_stop.ensures.status

@@ -1,6 +1,7 @@
 use Rattle.cweb_tools.proofs.Common.{Some, option_copied, sym, ◌∙◌, subst, World, ShelfModel, OutModel, StreamModel, Devices, as_output, at, printing_devices, shelf_model, stream_model, EndsMerge, WebNames, merge_course, world_of}
 use Rattle.cweb_log.specs.inner.Words.{merge_word_names}
-use Rattle.cweb_tools.proofs.Carried.{seen, shelf_same}
+use Rattle.cweb_tools.proofs.Carried.{shelf_same}
+use Rattle.cweb_log.proofs.Known.{seen}
 use Rattle.cweb_tools.proofs.MergeStarts.{start_stopped}
 use Rattle.cweb_tools.proofs.wmerge.merge_web.Goals as goal
 

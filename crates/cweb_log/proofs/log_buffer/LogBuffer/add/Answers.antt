@@ -13,7 +13,12 @@ returns-then-bytes-self-2 g c = elim c.if-bytes-self.branch [
       (ap (stream_model g.L.Sink) w.log-is ∙ w.in_ok-pass_on.ensures.writes.ok)
       (ap unwritten_bytes w.self-is ∙ w.in_ok-pass_on.ensures.empty)
       (writes_by g.L.Sink _ _ _ c.write_all.ensures.appends)
-  | else-bytes-self w ↦ absurd (omega (arith, ap (λ (b : LogBuffer). b.len) w.self-is, c.if-bytes-self-2.true, w.if-bytes-self.false))
+  | else-bytes-self w ↦ absurd (omega (
+    arith,
+    ap (λ (b : LogBuffer). b.len) w.self-is,
+    c.if-bytes-self-2.true,
+    w.if-bytes-self.false,
+  ))
 ]
 
 pub returns : goal.returns
