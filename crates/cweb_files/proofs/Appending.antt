@@ -2,7 +2,8 @@
 use Rattle.std.proofs.Common.{◌≡◌, ◌++◌, ◌+◌, List, [], ℕ, refl, sym, ◌∙◌, ap, subst, arith}
 use Rattle.std.specs.Prelude.{IsTrue, IsErr, Result, Ok, Err}
 use Rattle.std.proofs.lemmas.List.{append-nil, append_assoc}
-use Rattle.cweb_files.specs.Bins.{CountsFailure, WritesPrefix}
+use Rattle.cweb_files.specs.Bins.{CountsFailure}
+use Rattle.cweb_files.specs.surface.Frames.{WritesPrefix}
 use Rattle.cweb_files.specs.inner.Appends.{Appends, Wrote}
 use Rattle.cweb_files.specs.declared.device.Sink.{Ghosts as Sink}
 

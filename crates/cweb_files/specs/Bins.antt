@@ -1,4 +1,4 @@
--- Calls of devices and of bins: their results, failure counts and partial writes.
+-- Calls of devices and of bins: their results and failure counts.
 use Rattle.std.specs.Prelude.{◌≡◌, ◌+◌, ◌++◌, ℕ, List, [], ◌∷◌, Result, Ok, Err, Option, Some, None}
 use Rattle.cweb_files.specs.Files.{Beside, Refused, no_memory, no_device, with_refusal}
 use Rattle.cweb_files.specs.declared.bins.BinFault.{BinFault}
@@ -38,10 +38,3 @@ refusal Device = no_device
 -- The state after a refused `start_file`: no draft, and the reason is recorded.
 abbrev pub refused_with : BinFault → Beside → Beside
 refused_with fault beside = with_refusal (refusal fault) beside
-
--- A prefix of `text` was appended.
-pub record WritesPrefix (old new text : List ℕ) : Type 0 where
-  pub prefix : List ℕ
-  pub rest : List ℕ
-  pub written : new ≡ old ++ prefix
-  pub whole : text ≡ prefix ++ rest

@@ -17,9 +17,8 @@ pub use Rattle.std.specs.Option.{is_some, option_copied}
 pub use Rattle.std.specs.Prelude.{slice_range, unwrap_or, IfSome, OnSome, nat_lt, IsTrue, Result, Ok, IfOk, OnOk, OnErr}
 pub use Rattle.std.specs.Prelude.{codes, option_map, IfErr, is_ok}
 pub use Rattle.std.specs.Str.{bytes_eq}
-pub use Rattle.cweb_files.specs.Bins.{WritesPrefix}
 pub use Rattle.cweb_files.specs.declared.place.Place.{Place}
-pub use Rattle.cweb_files.specs.surface.Frames.{KeepsPlace, Writes, KeepsShelf}
+pub use Rattle.cweb_files.specs.surface.Frames.{KeepsPlace, Writes, KeepsShelf, WritesPrefix}
 pub use Rattle.cweb_input.proofs.ReadersStayNamed.{stop_after, blames_none, blames_memory}
 pub use Rattle.cweb_input.proofs.SourceStacks.{over-none}
 pub use Rattle.cweb_input.specs.Include.{World, Found, found_at, include_name, is_include_line, change_at, names_found}

@@ -14,7 +14,7 @@ pub use Rattle.std.specs.List.{flat_map, after_last, before_last, list_any, suff
 pub use Rattle.std.specs.Option.{option_copied}
 pub use Rattle.std.specs.Prelude.{IfOk, IsErrOf, is_some, option_and_then, option_map, slice_get, IsTrue, OnOk, OnErr}
 pub use Rattle.std.specs.Prelude.{IsErr, ◌==◌, if◌then◌else◌, codes, slice_index_or, slice_range}
-pub use Rattle.cweb_files.specs.Bins.{WritesPrefix}
+pub use Rattle.cweb_files.specs.surface.Frames.{WritesPrefix}
 pub use Rattle.cweb_files.specs.declared.device.SinkFault.{SinkFault}
 pub use Rattle.cweb_input.specs.declared.fault.SourceFault.{SourceFault}
 pub use Rattle.cweb_input.specs.declared.stop.Stop.{Stop}

@@ -1,6 +1,6 @@
 -- The output of a printer's call, from the bytes that it wrote.
 use Rattle.cweb_print.proofs.Common.{arith, ◌≡◌, ◌++◌, append-nil, List, ℕ, Result, Ok, Err, IsErr, AddsBy}
-use Rattle.cweb_files.specs.Bins.{WritesPrefix}
+use Rattle.cweb_files.specs.surface.Frames.{WritesPrefix}
 
 -- A call that fails has written a prefix.
 pub adds_err : {A E : Type 0} (before after old new expected : List ℕ) (r : Result A E)

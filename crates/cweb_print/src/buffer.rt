@@ -36,7 +36,8 @@ impl Model for OutBuffer {
 
     ghost Value = { Buffered };
 
-    ghost view = { λ g. record { bytes = take g.used (boxed_slice_items g.bytes); failed = g.failed } };
+    ghost view = { λ g.
+        record { bytes = take g.used (boxed_slice_items g.bytes); failed = g.failed } };
 
     ghost invariant = { λ g. (length (boxed_slice_items g.bytes) ≡ ROOM) × (g.used ≤ ROOM) };
 }

@@ -19,7 +19,7 @@ pub use Rattle.std.specs.Prelude.{None, Option, Some, IsErr, IsSome, IsTrue, Res
 pub use Rattle.std.specs.Prelude.{◌==◌}
 pub use Rattle.std.specs.Prelude.{All, OnOk, IfSome, if◌then◌else◌, nat_le}
 pub use Rattle.std.specs.Str.{bytes_eq}
-pub use Rattle.cweb_files.specs.Bins.{WritesPrefix}
+pub use Rattle.cweb_files.specs.surface.Frames.{WritesPrefix}
 pub use Rattle.cweb_files.specs.Files.{Beside, always_open, committed, with_draft, File, no_device, no_memory}
 pub use Rattle.cweb_files.specs.Files.{without_draft}
 pub use Rattle.cweb_files.specs.declared.device.SinkFault.{SinkFault}

@@ -1,7 +1,6 @@
 -- What a call appends to a sink.
 use Rattle.std.specs.Prelude.{◌≡◌, ℕ, List, ◌++◌, IsTrue, Result, Ok, Err}
-use Rattle.cweb_files.specs.Bins.{WritesPrefix}
-use Rattle.cweb_files.specs.surface.Frames.{KeepsSink}
+use Rattle.cweb_files.specs.surface.Frames.{KeepsSink, WritesPrefix}
 use Rattle.cweb_files.specs.declared.device.Sink.{Ghosts as Sink}
 
 -- All bytes were written, or after a fault a prefix of them.

@@ -25,3 +25,10 @@ pub record KeepsSink {W A E : Type 0} (sink : Sink W) (old new : W) (result : Re
   pub tells : sink.tells new ≡ sink.tells old
   pub beside : IsTrue (sink.tells old) → sink.beside new ≡ sink.beside old
   pub failed : CountsFailure (sink.failed old) (sink.failed new) result
+
+-- A prefix of `text` was appended.
+pub record WritesPrefix (old new text : List ℕ) : Type 0 where
+  pub prefix : List ℕ
+  pub rest : List ℕ
+  pub written : new ≡ old ++ prefix
+  pub whole : text ≡ prefix ++ rest

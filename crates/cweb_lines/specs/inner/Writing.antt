@@ -1,6 +1,6 @@
 -- How far the output of a merge is.
 use Rattle.std.specs.Prelude.{◌<◌, ℕ, List, ◌++◌, length}
-use Rattle.cweb_files.specs.Bins.{WritesPrefix}
+use Rattle.cweb_files.specs.surface.Frames.{WritesPrefix}
 use Rattle.cweb_input.specs.Lines.{Line}
 use Rattle.cweb_lines.specs.Events.{Event, written_lines}
 use Rattle.cweb_lines.specs.surface.MergeProgress.{SoFar, EmitsLines}

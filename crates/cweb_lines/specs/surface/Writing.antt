@@ -1,8 +1,7 @@
 -- How far the output of a merge is, and why it stops.
 use Rattle.std.specs.Prelude.{◌≡◌, ◌≤◌, ◌+◌, ℕ, List, [], ◌∷◌, ◌++◌, length, Option, None, Some, Result, Err}
 use Rattle.std.specs.Prelude.{IsTrue, IfErr, IfSome, OnErr, OnOk}
-use Rattle.cweb_files.specs.Bins.{WritesPrefix}
-use Rattle.cweb_files.specs.surface.Frames.{KeepsPlace, KeepsShelf, Writes}
+use Rattle.cweb_files.specs.surface.Frames.{KeepsPlace, KeepsShelf, Writes, WritesPrefix}
 use Rattle.cweb_files.specs.declared.device.Shelf.{Ghosts as Shelf}
 use Rattle.cweb_files.specs.declared.device.Sink.{Ghosts as Sink}
 use Rattle.cweb_input.specs.Lines.{Line}

@@ -165,7 +165,8 @@ impl<'a> Printer<'a> {
     ) -> Result<(), SinkFault>
         requires count { W.failed out.old + 1 < 2 ^ 64 }
         requires can { CanPrint self.now printable }
-        ensures wrote { Appends W.Sink out.old out.new (printable_bytes self.now printable.entry) result }
+        ensures wrote { Appends W.Sink out.old out.new
+            (printable_bytes self.now printable.entry) result }
     {
         match printable {
             Printable::Token(token) => self.write_token(&token, out),

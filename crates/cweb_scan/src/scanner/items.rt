@@ -124,7 +124,8 @@ impl Scanner {
     ) -> Result<usize, AllocError>
         requires two { 2 ≤ length text.now }
         requires extent { extent ≡ reached (spec.reach look_in_name ends.Open (drop 2 text.now)) }
-        requires lines { at_line_ends 1 (take (name_match (takes_opener self.old) text.now).size text.now)
+        requires lines { at_line_ends 1
+            (take (name_match (takes_opener self.old) text.now).size text.now)
             ≡ length places.now }
         requires room { HasItemRoom 2 self.old }
         ensures { IfOk result (λ n. AppliesOver (name_match (takes_opener self.old) text.now)
@@ -144,7 +145,8 @@ impl Scanner {
     // Reports the fault of a literal's unit, and moves over its newlines. Returns the places after them.
     fn pass_unit<'a>(&mut self, unit: &[u8], places: &'a [Place]) -> Result<&'a [Place], AllocError>
         requires { at_line_ends 1 unit.now ≤ length places.now }
-        ensures { IfOk result (λ left. PassesUnits (unit.now ∷ []) places.now left.now self.old self.new) }
+        ensures { IfOk result (λ left.
+            PassesUnits (unit.now ∷ []) places.now left.now self.old self.new) }
     {
         if is_lone_at(unit) {
             self.fault(ScanKind::DoubleAtInString, self.here)?;
@@ -162,8 +164,10 @@ impl Scanner {
         inner: &[u8],
         places: &'a [Place],
     ) -> Result<&'a [Place], AllocError>
-        requires { at_line_ends 1 (body (spec.reach (look_of item) ends.Open inner.now)) ≤ length places.now }
-        ensures { IfOk result (λ left. PassesUnits (spec.reach (look_of item.entry) ends.Open inner.now).units
+        requires { at_line_ends 1
+            (body (spec.reach (look_of item) ends.Open inner.now)) ≤ length places.now }
+        ensures { IfOk result (λ left.
+            PassesUnits (spec.reach (look_of item.entry) ends.Open inner.now).units
             places.now left.now self.old self.new) }
     {
         let mut rest = inner;
@@ -189,7 +193,8 @@ impl Scanner {
     ) -> Result<usize, AllocError>
         requires within { opener ≤ length text.now }
         requires part { CanEmit 1 self.old }
-        requires lines { at_line_ends 1 (take (quoted_as opener item text.now).size text.now) ≡ length places.now }
+        requires lines { at_line_ends 1
+            (take (quoted_as opener item text.now).size text.now) ≡ length places.now }
         ensures { IfOk result (λ n. AppliesOver (quoted_as opener item.entry text.now)
             text.now places.now n self.old self.new) }
     {

@@ -36,7 +36,8 @@ macros-preserved g c =
     let whole = printable_bytes p Printable.LineStart ++ all_macro_lines p in
     let old : g.row.W.Denot × List ℕ = (c.args.out.now, c.args.buffer.now.bytes) in
     let mid : g.row.W.Denot × List ℕ = (c.macros.out, c.macros.buffer.bytes) in
-    let new : g.row.W.Denot × List ℕ = (c.append_printable-in-Some.new.out, c.append_printable-in-Some.new.buffer.bytes) in
+    let new : g.row.W.Denot × List ℕ =
+    (c.append_printable-in-Some.new.out, c.append_printable-in-Some.new.buffer.bytes) in
     let line = macro_line (replaced_in w) (tokens_of_part w c.in-Some.part) in
     record {
       ordered = (All-tail (λ (q : Part). q.first ≤ q.after) c.macros.parts
@@ -57,7 +58,8 @@ returns-in_err-append_printable-2 g c =
     let whole = printable_bytes p Printable.LineStart ++ all_macro_lines p in
     let old : g.row.W.Denot × List ℕ = (c.args.out.now, c.args.buffer.now.bytes) in
     let mid : g.row.W.Denot × List ℕ = (c.macros.out, c.macros.buffer.bytes) in
-    let new : g.row.W.Denot × List ℕ = (c.append_printable-in-Some.new.out, c.append_printable-in-Some.new.buffer.bytes) in
+    let new : g.row.W.Denot × List ℕ =
+    (c.append_printable-in-Some.new.out, c.append_printable-in-Some.new.buffer.bytes) in
     let line = macro_line (replaced_in w) (tokens_of_part w c.in-Some.part) in
     let result = c.from_residual-in_err-append_printable-2.result in
     apart g.W.Sink old.0 new.0 old.1 new.1 whole result

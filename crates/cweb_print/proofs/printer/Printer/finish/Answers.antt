@@ -14,7 +14,8 @@ pub returns-in_err-flush-clause-ends : goal.returns-in_err-flush-clause-ends
 returns-in_err-flush-clause-ends g c = λ tells ts is.
     adds_all (print (setting_of c.args.self.now) ts) _ _ _ _ c.from_residual-in_err-flush.result
     (file-end (setting_of c.args.self.now) (left_in_printer c.args.self.now) ts is)
-    (moved_same _ _ _ _ (c.in_err-flush.ensures.moved (subst IsTrue (sym c.in_ok-append_printable.ensures.keeps.tells) tells))
+    (moved_same _ _ _ _
+    (c.in_err-flush.ensures.moved (subst IsTrue (sym c.in_ok-append_printable.ensures.keeps.tells) tells))
     ∙ c.in_ok-append_printable.ensures.wrote tells)
 
 pub returns-clause-ends : goal.returns-clause-ends
@@ -23,5 +24,7 @@ returns-clause-ends g c = λ tells ts is.
     record {
       bytes = begin_by (left_in_printer c.args.self.now).class;
       expected = file-end s (left_in_printer c.args.self.now) ts is;
-      written = moved_same _ _ _ _ (c.in_ok-flush.ensures.moved (subst IsTrue (sym c.in_ok-append_printable.ensures.keeps.tells) tells)) ∙ c.in_ok-append_printable.ensures.wrote tells;
+      written = moved_same _ _ _ _
+          (c.in_ok-flush.ensures.moved (subst IsTrue (sym c.in_ok-append_printable.ensures.keeps.tells) tells))
+          ∙ c.in_ok-append_printable.ensures.wrote tells;
     }
