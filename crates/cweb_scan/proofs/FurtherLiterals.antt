@@ -19,7 +19,7 @@ none_valid (b ∷ t) h = (elim (b == 64) as (λ v.
       | false ↦ λ e g. (e, none_valid t (omega (arith, g)))
     ]) refl h
 
-none_apart : (t u : List ℕ) → HasNone (t ++ u) → HasNone t × HasNone u
+pub none_apart : (t u : List ℕ) → HasNone (t ++ u) → HasNone t × HasNone u
 none_apart [] u h = (tt, h)
 none_apart (b ∷ t) u h = let p = none_apart t u h.1 in ((h.0, p.0), p.1)
 

@@ -60,6 +60,7 @@ pub mod PendingComments
 pub mod PendingNames
 pub mod CrossedLineEnds
 pub mod PendingLiterals
+pub mod PlainBodies
 pub mod PendingKinds
 pub mod PlainStates
 pub mod PlainReadings

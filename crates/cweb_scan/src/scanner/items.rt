@@ -1,7 +1,10 @@
 // Delimited items, each as one slice of the source: from the opener on, over any number of lines.
-ghost use Rattle.std.specs.Prelude.{bytes_eq, codes, ◌≡◌, ◌≤◌, ◌<◌, ◌+◌, [], ◌∷◌, IfOk, OnOk, length, take, drop, true, false};
+ghost use Rattle.std.specs.Prelude.{bytes_eq, codes, ◌≡◌, ◌≤◌, ◌<◌, ◌+◌, ◌++◌, [], ◌∷◌, IfOk, OnOk, length, take, drop, true, false};
 ghost use Rattle.cweb_names.specs.surface.Names.{too_many};
 ghost use Rattle.cweb_rules.specs.laws.Pays.{at_line_ends};
+ghost use Rattle.cweb_rules.specs.Items as spec;
+ghost use Rattle.cweb_rules.specs.declared.end.End.TheVariants as ends;
+ghost use Rattle.cweb_rules.specs.inner.Looks.{look_of, reached};
 
 use crate::reader::open::Open;
 use crate::reader::opened::opener_after;
@@ -35,13 +38,29 @@ fn is_lone_at(unit: &[u8]) -> bool
     unit == b"@".as_slice()
 }
 
+// Appends the units of a literal after its opener, which have `size` bytes. Most have no `@`: then they are one copy.
+fn push_body(
+    text: &mut Vec<u8>,
+    item: Item<'_>,
+    inner: &[u8],
+    size: usize,
+) -> Result<(), AllocError>
+    requires { size ≡ (reached (spec.reach (look_of item) ends.Open inner.now)).size }
+    ensures { OnOk result (text.new.items ≡ text.old.items
+        ++ spec.unescaped (spec.reach (look_of item.entry) ends.Open inner.now).units) }
+{
+    let (whole, _) = inner.split_at(size);
+    if skipped_len(whole) == whole.len() {
+        text.extend_from_slice(whole)?;
+        return Ok(());
+    }
+    push_units(text, item, inner)
+}
+
 impl Scanner {
     ghost use Rattle.cweb_rules.specs.Items.{body, look_in_name, unescaped};
-    ghost use Rattle.cweb_rules.specs.Items as spec;
     ghost use Rattle.cweb_rules.specs.Matches.{comment_match, name_match, literal_match, raw_match};
     ghost use Rattle.cweb_rules.specs.Matches.{starts_literal, starts_raw};
-    ghost use Rattle.cweb_rules.specs.declared.end.End.TheVariants as ends;
-    ghost use Rattle.cweb_rules.specs.inner.Looks.{look_of, reached};
     ghost use Rattle.cweb_store.specs.surface.Growing.{token_count};
     ghost use Rattle.cweb_scan.specs.After.{comment_line_end, occurrence};
     ghost use Rattle.cweb_scan.specs.State.{move_to};
@@ -157,8 +176,30 @@ impl Scanner {
         Ok(left)
     }
 
-    // Passes the units of a literal after its opener.
+    // Passes the units of a literal after its opener, which have `size` bytes. Most have no `@`: then they pass as one.
     fn pass_units<'a>(
+        &mut self,
+        item: Item<'_>,
+        inner: &[u8],
+        size: usize,
+        places: &'a [Place],
+    ) -> Result<&'a [Place], AllocError>
+        requires size { size ≡ (reached (spec.reach (look_of item) ends.Open inner.now)).size }
+        requires lines { at_line_ends 1
+            (body (spec.reach (look_of item) ends.Open inner.now)) ≤ length places.now }
+        ensures { IfOk result (λ left.
+            PassesUnits (spec.reach (look_of item.entry) ends.Open inner.now).units
+            places.now left.now self.old self.new) }
+    {
+        let (whole, _) = inner.split_at(size);
+        if skipped_len(whole) == whole.len() {
+            let left = self.pass_unit(whole, places)?;
+            return Ok(left);
+        }
+        self.pass_each_unit(item, inner, places)
+    }
+
+    fn pass_each_unit<'a>(
         &mut self,
         item: Item<'_>,
         inner: &[u8],
@@ -205,10 +246,10 @@ impl Scanner {
         let (close, _) = closing.split_at(reached.close);
         let mut bytes = Vec::new(self.alloc);
         push_unit(&mut bytes, first)?;
-        push_units(&mut bytes, item, inner)?;
+        push_body(&mut bytes, item, inner, reached.size)?;
         push_unit(&mut bytes, close)?;
         let left = self.pass_unit(first, places)?;
-        let left = self.pass_units(item, inner, left)?;
+        let left = self.pass_units(item, inner, reached.size, left)?;
         self.pass_unit(close, left)?;
         self.emit_literal(&bytes, ended(End::Cut, reached.how), begun)?;
         Ok(opener + (reached.size + reached.close))

@@ -1,25 +1,24 @@
-use Rattle.cweb_scan.proofs.Common.{sym, ◌∙◌, length, Open, eqb-true}
+use Rattle.cweb_scan.proofs.Common.{ap, arith, at_line_ends, reach, Open}
 use Rattle.cweb_rules.specs.inner.Looks.{look_of}
-use Rattle.cweb_rules.proofs.Walks.{nonempty, units_from}
-use Rattle.cweb_scan.proofs.PendingLiterals.{passes_first, passes_last, no_units, ended_units}
+use Rattle.cweb_rules.proofs.Lasts.{reach-fits}
+use Rattle.cweb_scan.proofs.FurtherLiterals.{none_valid}
+use Rattle.cweb_scan.proofs.PlainBodies.{passes_as_one, whole_is}
 use Rattle.cweb_scan.proofs.scanner.Scanner.pass_units.Goals as goal
 
-pub units-preserved : goal.units-preserved
-units-preserved c =
-    let look = look_of c.args.item in
-    let rest = c.units.rest.now in
-    let on = units_from look Open c.in-Goes.size c.min.result rest c.split_at.result.0.now c.split_at.result.1.now
-    (sym c.look.ensures.value ∙ c.in-Goes.is) c.in-Goes.ensures.some
-    (nonempty rest c.is_empty.result c.is_empty.ensures c.units-test.true) c.min.ensures
-    c.split_at.ensures.front c.split_at.ensures.back in
-    passes_first _ _ _ _ _ _ _ _ _ _ on c.units.invariant c.in_ok-left.ensures
+pub split_at-requires : goal.split_at-requires
+split_at-requires c = omega (arith, c.requires.size, reach-fits c.args.item c.args.inner.now)
 
-pub returns-in_default : goal.returns-in_default
-returns-in_default c =
-    passes_last _ _ _ _ _ _ (ended_units (look_of c.args.item) c.units.rest.now c.look.result c.look.ensures.value
-    c.in_default.not-Goes) c.units.invariant
+pub pass_unit-requires : goal.pass_unit-requires
+pass_unit-requires c = omega (
+  arith,
+  ap (at_line_ends 1) (whole_is c.args.item c.args.inner.now c.split_at.result.0.now c.args.size c.requires.size
+      c.split_at.ensures.front),
+  c.requires.lines,
+)
 
-pub returns : goal.returns
-returns c =
-    passes_last _ _ _ _ _ _ (no_units (look_of c.args.item) c.units.rest.now
-    (eqb-true (length c.units.rest.now) 0 (sym c.is_empty.ensures ∙ c.units-test.false))) c.units.invariant
+pub returns-then-skipped_len-whole : goal.returns-then-skipped_len-whole
+returns-then-skipped_len-whole c =
+    let whole = c.split_at.result.0.now in
+    passes_as_one (reach (look_of c.args.item) Open c.args.inner.now).units whole _ _ _ _
+    (whole_is c.args.item c.args.inner.now whole c.args.size c.requires.size c.split_at.ensures.front)
+    (none_valid whole (omega (arith, c.skipped_len.ensures.value, c.if-skipped_len-whole.true))) c.in_ok-left.ensures

@@ -11,8 +11,8 @@ pass_unit-requires c = omega (
       (rw c.split_at.ensures.back at c.reach-reached.ensures.value) c.requires.lines,
 )
 
-pub pass_units-requires : goal.pass_units-requires
-pass_units-requires c = omega (
+pub pass_units-requires-clause-lines : goal.pass_units-requires-clause-lines
+pass_units-requires-clause-lines c = omega (
   arith,
   ap (at_line_ends 1) c.split_at.ensures.front,
   ap (at_line_ends 1) (append-nil c.split_at.result.0.now),
@@ -49,7 +49,7 @@ returns c =
     let close = c.split_at-3.result.0.now in
     let us = (reach look Open inner).units in
     let text = c.deref.ensures.value ∙ c.in_ok-push_unit-2.ensures
-    ∙ (λ i. c.in_ok-push_units.ensures i ++ unit_bytes close)
+    ∙ (λ i. c.in_ok-push_body.ensures i ++ unit_bytes close)
     ∙ (λ i. (c.in_ok-push_unit.ensures i ++ unescaped us) ++ unit_bytes close)
     ∙ (λ i. ((c.new-bytes.ensures.items i ++ unit_bytes first) ++ unescaped us) ++ unit_bytes close) in
     quoted_taken c.args.opener c.args.item c.args.text.now c.args.places.now _ r c.deref.result.now c.args.self.now

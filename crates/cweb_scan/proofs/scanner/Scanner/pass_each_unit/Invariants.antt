@@ -1,7 +1,7 @@
 use Rattle.cweb_scan.proofs.Common.{length, reach, Open}
 use Rattle.cweb_rules.specs.inner.Looks.{look_of}
 use Rattle.cweb_scan.proofs.PendingLiterals.{PassesRest}
-use Rattle.cweb_scan.proofs.scanner.Scanner.pass_units.Given as goal
+use Rattle.cweb_scan.proofs.scanner.Scanner.pass_each_unit.Given as goal
 
 abbrev pub invariant-units : goal.invariant-units
 invariant-units l = PassesRest (reach (look_of l.item) Open l.inner).units (reach (look_of l.item) Open l.rest).units
