@@ -6,7 +6,7 @@ use cweb_rules::bytes::{Class, span_len, starts_section};
 use cweb_rules::codes::{in_c, in_limbo, in_macro, in_tex};
 use cweb_rules::constants::{Transliteration, constant, letter};
 use cweb_rules::items::{Item, opener_len, reach};
-use cweb_rules::literals::{delimiter, literal_prefix, raw_prefix};
+use cweb_rules::literals::{literal_prefix, raw_opener_len, raw_prefix, starts_raw};
 use cweb_rules::numbers::number_len;
 use cweb_rules::punctuators::punctuator_len;
 use cweb_rules::rule::{Rule, c_rule};
@@ -88,7 +88,11 @@ fn sizes(rt: HostRuntime) {
     has_size(&rt, opener_len(b"\r="), 0);
     has_size(&rt, literal_prefix(b"u8\""), 2);
     has_size(&rt, raw_prefix(b"LR\""), 1);
-    has_size(&rt, delimiter(b"d(x").len(), 1);
+    let raw = b"LR\"d(x".as_slice();
+    holds(&rt, starts_raw(raw));
+    if starts_raw(raw) {
+        has_size(&rt, raw_opener_len(raw), 5);
+    }
     holds(&rt, starts_section(b"@\t") && !starts_section(b"@\r"));
 }
 
