@@ -157,14 +157,14 @@ fn a_word_of_each_length(rt: HostRuntime) {
     }
 }
 
-// The last newline is buffered, unless no short string fits. A string that doesn't fit is written after the buffer.
+// What doesn't fit the buffer is buffered after a flush, or written at once if it is longer than the whole buffer.
 #[test]
 fn a_word_at_the_end_of_the_room(rt: HostRuntime) {
     const EXAMPLES: &[(usize, u64)] = &[
-        (ROOM - 257, 1),
-        (ROOM - 256, 2),
-        (ROOM - 2, 2),
-        (ROOM - 1, 3),
+        (ROOM - 3, 1),
+        (ROOM - 2, 1),
+        (ROOM - 1, 2),
+        (ROOM, 3),
         (3 * ROOM, 3),
     ];
     for (size, writes) in EXAMPLES {
