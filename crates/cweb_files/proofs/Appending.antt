@@ -1,84 +1,71 @@
 -- What several calls append to a sink.
-use Rattle.std.proofs.Common.{◌≡◌, ◌++◌, ◌+◌, List, [], ℕ, refl, sym, ◌∙◌, ap, subst, arith}
-use Rattle.std.specs.Prelude.{IsTrue, IsErr, Result, Ok, Err}
+use Rattle.std.proofs.Common.{◌≡◌, ◌++◌, ◌+◌, List, [], ℕ, refl, sym, ◌∙◌, ap, subst}
+use Rattle.std.specs.Prelude.{IsErr, Option, Some, None, Result, Ok, Err, option_map}
 use Rattle.std.proofs.lemmas.List.{append-nil, append_assoc}
-use Rattle.cweb_files.specs.Bins.{CountsFailure}
-use Rattle.cweb_files.specs.surface.Frames.{WritesPrefix}
-use Rattle.cweb_files.specs.inner.Appends.{Appends, Wrote}
-use Rattle.cweb_files.specs.declared.device.Sink.{Ghosts as Sink}
+use Rattle.cweb_files.specs.Sinks.{FailsWithin, SinkContents, SinkModel, Wrote, failed_once, failing, with_printed, written}
 
-counts_then : {A E : Type 0} (a b c : ℕ) (r : Result A E) → b ≡ a → CountsFailure b c r → CountsFailure a c r
-counts_then a b c (Ok x) first then = then ∙ first
-counts_then a b c (Err e) first then = grind arith
+-- Consecutive texts.
+printed_on : (a b : List ℕ) (now : Option SinkContents)
+    → option_map (with_printed b) (option_map (with_printed a) now) ≡ option_map (with_printed (a ++ b)) now
+printed_on a b None = refl
+printed_on a b (Some now) = λ i. Some (record now { bytes = append_assoc now.bytes a b i })
 
-wrote_then : {A E : Type 0} (a b c first more : List ℕ) (r : Result A E)
-    → b ≡ a ++ first → Wrote b c more r → Wrote a c (first ++ more) r
-wrote_then a b c first more (Ok x) one other = other ∙ ap (λ (t : List ℕ). t ++ more) one ∙ append_assoc a first more
-wrote_then a b c first more (Err e) one other = record {
-  prefix = first ++ other.prefix;
-  rest = other.rest;
-  written = other.written ∙ ap (λ (t : List ℕ). t ++ other.prefix) one ∙ append_assoc a first other.prefix;
-  whole = ap (λ (t : List ℕ). first ++ t) other.whole ∙ sym (append_assoc first other.prefix other.rest);
+printed_none : (now : Option SinkContents) → option_map (with_printed []) now ≡ now
+printed_none None = refl
+printed_none (Some now) = λ i. Some (record now { bytes = append-nil now.bytes i })
+
+pub written_none : (sink : SinkModel) → sink ≡ written [] sink
+written_none sink = λ i. record sink { contents = sym (printed_none sink.contents) i }
+
+pub written_on : (a b : List ℕ) (old : SinkModel) → written b (written a old) ≡ written (a ++ b) old
+written_on a b old = λ i. record old { contents = printed_on a b old.contents i }
+
+pub written_then : (a b : List ℕ) (old : SinkModel) {mid new : SinkModel} → mid ≡ written a old → new ≡ written b mid
+    → new ≡ written (a ++ b) old
+written_then a b old first then = then ∙ ap (written b) first ∙ written_on a b old
+
+-- A text was written, and a write failed within the next one.
+pub fails_then : (a : List ℕ) {b : List ℕ} {old mid new : SinkModel} → mid ≡ written a old → FailsWithin b mid new
+    → FailsWithin (a ++ b) old new
+fails_then a {b} {old} first fails = record {
+  prefix = a ++ fails.prefix;
+  rest = fails.rest;
+  whole = ap (λ (t : List ℕ). a ++ t) fails.whole ∙ sym (append_assoc a fails.prefix fails.rest);
+  is = fails.is ∙ ap (failing (with_printed fails.prefix)) first
+      ∙ (λ i. record { failed = old.failed + 1; contents = printed_on a fails.prefix old.contents i });
 }
 
-counts_until : {A E : Type 0} (a b : ℕ) (r : Result A E) → IsErr r → b ≡ a + 1 → CountsFailure a b r
-counts_until a b (Ok x) is counts = cc is
-counts_until a b (Err e) is counts = counts
-
-wrote_until : {A E : Type 0} (a b text first rest : List ℕ) (r : Result A E)
-    → IsErr r → text ≡ first ++ rest → WritesPrefix a b first → Wrote a b text r
-wrote_until a b text first rest (Ok x) is whole wrote = cc is
-wrote_until a b text first rest (Err e) is whole wrote = record {
-  prefix = wrote.prefix;
-  rest = wrote.rest ++ rest;
-  written = wrote.written;
-  whole = whole ∙ ap (λ (t : List ℕ). t ++ rest) wrote.whole ∙ append_assoc wrote.prefix wrote.rest rest;
+-- More would have been written after a fault.
+pub fails_in : {a : List ℕ} (b : List ℕ) {old new : SinkModel} → FailsWithin a old new → FailsWithin (a ++ b) old new
+fails_in b fails = record {
+  prefix = fails.prefix;
+  rest = fails.rest ++ b;
+  whole = ap (λ (t : List ℕ). t ++ b) fails.whole ∙ append_assoc fails.prefix fails.rest b;
+  is = fails.is;
 }
 
--- All of these bytes were appended.
-abbrev pub Appended : {W : Type 0} → Sink W → W → W → List ℕ → Type 0
-Appended sink old new bytes = Appends {A = Unit {0}} {E = Unit {0}} sink old new bytes (Ok tt)
+-- A write failed at once.
+pub fails_at_once : (text : List ℕ) {old new : SinkModel} → new ≡ failed_once old → FailsWithin text old new
+fails_at_once text {old} is = record {
+  prefix = [];
+  rest = text;
+  whole = refl;
+  is = is ∙ (λ i. record { failed = old.failed + 1; contents = sym (printed_none old.contents) i });
+}
 
-module _ {W : Type 0} (sink : Sink W) where
-  pub appended_none : (w : W) → Appended sink w w []
-  appended_none w = record {
-    keeps = record { tells = refl; beside = λ tells. refl; failed = refl };
-    wrote = λ tells. sym (append-nil (sink.written w));
-  }
+-- These bytes were written, and then more or a prefix of them.
+pub wrote_then : {B F : Type 0} (first more : List ℕ) (a b c : SinkModel) (r : Result B F)
+    → b ≡ written first a → Wrote more b c r → Wrote (first ++ more) a c r
+wrote_then first more a b c (Ok x) one other = written_then first more a one other
+wrote_then first more a b c (Err e) one other = fails_then first one other
 
-  pub appended : {A E : Type 0} (a b : W) (bytes : List ℕ) (x : A)
-      → Appends {E = E} sink a b bytes (Ok x) → Appended sink a b bytes
-  appended a b bytes x appends = record {
-    keeps =
-        record { tells = appends.keeps.tells; beside = appends.keeps.beside; failed = appends.keeps.failed };
-    wrote = appends.wrote;
-  }
+-- A fault left a prefix of these bytes, and the rest doesn't follow.
+pub wrote_until : {B F : Type 0} (text first rest : List ℕ) (a b : SinkModel) (r : Result B F)
+    → IsErr r → text ≡ first ++ rest → FailsWithin first a b → Wrote text a b r
+wrote_until text first rest a b (Ok x) is whole fails = absurd (cc)
+wrote_until text first rest a b (Err e) is whole fails =
+    subst (λ (t : List ℕ). FailsWithin t a b) (sym whole) (fails_in rest fails)
 
-  -- These bytes were appended, and then more or a prefix of them.
-  pub appends_then : {A E B F : Type 0} (a b c : W) (first more : List ℕ) (x : A) (r : Result B F)
-      → Appends {E = E} sink a b first (Ok x) → Appends sink b c more r → Appends sink a c (first ++ more) r
-  appends_then a b c first more x r one other =
-      let known = λ (tells : IsTrue (sink.tells a)). subst IsTrue (sym one.keeps.tells) tells in record {
-        keeps = record {
-          tells = other.keeps.tells ∙ one.keeps.tells;
-          beside = λ tells. other.keeps.beside (known tells) ∙ one.keeps.beside tells;
-          failed = counts_then _ _ _ r one.keeps.failed other.keeps.failed;
-        };
-        wrote = λ tells. wrote_then _ _ _ first more r (one.wrote tells) (other.wrote (known tells));
-      }
-
-  -- A fault left a prefix of these bytes, and the rest doesn't follow.
-  pub appends_until : {A E B F : Type 0} (a b : W) (text first rest : List ℕ) (e : E) (r : Result B F)
-      → IsErr r → text ≡ first ++ rest → Appends {A = A} sink a b first (Err e) → Appends sink a b text r
-  appends_until a b text first rest e r is whole appends = record {
-    keeps = record {
-      tells = appends.keeps.tells;
-      beside = appends.keeps.beside;
-      failed = counts_until _ _ r is appends.keeps.failed;
-    };
-    wrote = λ tells. wrote_until _ _ text first rest r is whole (appends.wrote tells);
-  }
-
-  pub appends_same : {A E : Type 0} (a b : W) (text other : List ℕ) (r : Result A E)
-      → text ≡ other → Appends sink a b text r → Appends sink a b other r
-  appends_same a b text other r same = subst (λ (t : List ℕ). Appends sink a b t r) same
+pub wrote_same : {B F : Type 0} (text other : List ℕ) (a b : SinkModel) (r : Result B F)
+    → text ≡ other → Wrote text a b r → Wrote other a b r
+wrote_same text other a b r = subst (λ (t : List ℕ). Wrote t a b r)

@@ -1,6 +1,7 @@
--- Calls of devices and of bins: their results and failure counts.
+-- Calls of devices: their results, and what they change.
 use Rattle.std.specs.Prelude.{◌≡◌, ◌+◌, ◌++◌, ℕ, List, [], ◌∷◌, Result, Ok, Err, Option, Some, None}
-use Rattle.cweb_files.specs.Files.{Beside, Refused, no_memory, no_device, with_refusal}
+use Rattle.cweb_files.specs.Files.{Refused, no_memory, no_device}
+use Rattle.cweb_files.specs.Sinks.{SinkModel, changed, failing, with_refusal}
 use Rattle.cweb_files.specs.declared.bins.BinFault.{BinFault}
 use Rattle.cweb_files.specs.declared.bins.BinFault.TheVariants.{Memory, Device}
 
@@ -24,17 +25,12 @@ abbrev pub BlamesName : {A E : Type 0} → List ℕ → List (List ℕ) → List
 BlamesName name before now (Ok x) = now ≡ before
 BlamesName name before now (Err e) = now ≡ before ++ name ∷ []
 
--- The failure count rises by one on a fault of the device and is otherwise unchanged.
-abbrev pub CountsDeviceFailure : {A : Type 0} → ℕ → ℕ → Result A BinFault → Type 0
-CountsDeviceFailure before now (Ok x) = now ≡ before
-CountsDeviceFailure before now (Err Memory) = now ≡ before
-CountsDeviceFailure before now (Err Device) = now ≡ before + 1
-
 -- The reason that a fault of `start_file` is recorded as.
 abbrev pub refusal : BinFault → Refused
 refusal Memory = no_memory
 refusal Device = no_device
 
--- The state after a refused `start_file`: no draft, and the reason is recorded.
-abbrev pub refused_with : BinFault → Beside → Beside
-refused_with fault beside = with_refusal (refusal fault) beside
+-- Bins after a refused `start_file`: no draft, and the reason is recorded. Only a fault of the device is counted.
+abbrev pub refused : BinFault → SinkModel → SinkModel
+refused Memory bins = changed (with_refusal no_memory) bins
+refused Device bins = failing (with_refusal no_device) bins

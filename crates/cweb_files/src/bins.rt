@@ -1,7 +1,8 @@
 // The trait of a device that stores named files.
-ghost use Rattle.std.specs.Prelude.{◌≡◌, ◌<◌, ◌+◌, ◌^◌, [], IsTrue, IsSome, IfErr, OnOk, OnErr};
-ghost use Rattle.cweb_files.specs.Bins.{CountsFailure, CountsDeviceFailure, refused_with};
-ghost use Rattle.cweb_files.specs.Files.{committed, with_draft, without_draft};
+ghost use Rattle.std.specs.Prelude.{◌≡◌, ◌<◌, ◌+◌, ◌^◌, IfErr, OnOk, OnErr};
+ghost use Rattle.cweb_files.specs.Bins.{refused};
+ghost use Rattle.cweb_files.specs.Sinks.{HasDraft, changed, committed, failing, with_draft};
+ghost use Rattle.cweb_files.specs.Sinks.{without_draft};
 
 pub mod memory;
 
@@ -26,34 +27,22 @@ pub trait Bins: Sink {
     /// Begins an empty draft and discards an open one. The files are unchanged. After a fault there is no draft, and
     /// the device records why, until the next call succeeds.
     fn start_file(&mut self, name: &str) -> Result<(), BinFault>
-        requires { Self.failed self.old + 1 < 2 ^ 64 }
-        ensures tells { Self.tells self.new ≡ Self.tells self.old }
-        ensures failed { CountsDeviceFailure (Self.failed self.old) (Self.failed self.new) result }
-        ensures begun { IsTrue (Self.tells self.old)
-            → OnOk result (Self.beside self.new ≡ with_draft name.now (Self.beside self.old)) }
-        ensures empty { IsTrue (Self.tells self.old) → OnOk result (Self.written self.new ≡ []) }
-        ensures err { IsTrue (Self.tells self.old) →
-            IfErr result (λ fault. Self.beside self.new ≡ refused_with fault (Self.beside self.old)) };
+        requires { (Self.model self.old).failed + 1 < 2 ^ 64 }
+        ensures begun { OnOk result
+            (Self.model self.new ≡ changed (with_draft name.now) (Self.model self.old)) }
+        ensures err { IfErr result (λ fault. Self.model self.new ≡ refused fault (Self.model self.old)) };
 
     /// Appends the draft to the files and removes an earlier file of its name. It fails without a draft. After a fault
     /// the files are unchanged. In any case no draft remains. It allocates nothing, so its fault is never `Memory`.
     fn commit_file(&mut self) -> Result<(), BinFault>
-        requires { Self.failed self.old + 1 < 2 ^ 64 }
-        ensures tells { Self.tells self.new ≡ Self.tells self.old }
-        ensures failed { CountsFailure (Self.failed self.old) (Self.failed self.new) result }
+        requires { (Self.model self.old).failed + 1 < 2 ^ 64 }
         ensures device { IfErr result (λ fault. fault ≡ BinFault.Device) }
-        ensures begun { IsTrue (Self.tells self.old)
-            → OnOk result (IsSome (Self.beside self.old).draft) }
-        ensures ok { IsTrue (Self.tells self.old)
-            → OnOk result
-            (Self.beside self.new ≡ committed (Self.beside self.old) (Self.written self.old)) }
-        ensures err { IsTrue (Self.tells self.old)
-            → OnErr result (Self.beside self.new ≡ without_draft (Self.beside self.old)) };
+        ensures begun { OnOk result (HasDraft (Self.model self.old)) }
+        ensures ok { OnOk result (Self.model self.new ≡ changed committed (Self.model self.old)) }
+        ensures err { OnErr result
+            (Self.model self.new ≡ failing without_draft (Self.model self.old)) };
 
     /// Discards the draft, if there is one. It allocates nothing.
     fn abandon_file(&mut self)
-        ensures tells { Self.tells self.new ≡ Self.tells self.old }
-        ensures failed { Self.failed self.new ≡ Self.failed self.old }
-        ensures gone { IsTrue (Self.tells self.old)
-            → Self.beside self.new ≡ without_draft (Self.beside self.old) };
+        ensures gone { Self.model self.new ≡ changed without_draft (Self.model self.old) };
 }

@@ -154,14 +154,10 @@ impl MemorySink {
 }
 
 impl Sink for MemorySink {
-    ghost use Rattle.cweb_files.specs.surface.MemoryDevices.{sink_bytes, sink_room, sink_failed};
-    ghost use Rattle.std.specs.Prelude.{take};
+    ghost use Rattle.cweb_files.specs.surface.MemoryDevices.{sink_bytes, sink_failed, sink_model};
+    ghost use Rattle.cweb_files.specs.surface.MemoryDevices.{sink_room};
 
-    ghost tells = { λ _. true };
-
-    ghost written = { sink_bytes };
-
-    ghost failed = { sink_failed };
+    ghost model = { sink_model };
 
     fn write(&mut self, piece: &[u8]) -> Result<usize, SinkFault>
         requires { sink_failed self.old + 1 < 2 ^ 64 }

@@ -1,13 +1,13 @@
 // Writes of whole slices.
 ghost use Rattle.std.specs.Prelude.{◌<◌, ◌+◌, ◌^◌, OnErr, length};
-ghost use Rattle.cweb_files.specs.inner.Appends.{Appends};
+ghost use Rattle.cweb_files.specs.Sinks.{Wrote};
 
 use crate::device::{Sink, SinkFault};
 
 /// Writes all bytes in as many calls of `write` as it takes. After a fault a prefix of them is written.
 pub fn write_all<W: Sink>(out: &mut W, bytes: &[u8]) -> Result<(), SinkFault>
-    requires { W.failed out.old + 1 < 2 ^ 64 }
-    ensures appends { Appends W.Sink out.old out.new bytes.now result }
+    requires { (W.model out.old).failed + 1 < 2 ^ 64 }
+    ensures wrote { Wrote bytes.now (W.model out.old) (W.model out.new) result }
     ensures some { OnErr result (0 < length bytes.now) }
 {
     let mut at = 0;

@@ -1,6 +1,7 @@
 // The output buffer in front of a sink.
 ghost use Rattle.std.specs.Prelude.{◌≡◌, ◌≤◌, ◌<◌, ◌+◌, ◌^◌, ◌++◌, [], length, take, drop, true, IfOk};
-ghost use Rattle.std.specs.Prelude.{IfErr, IsTrue, OnOk};
+ghost use Rattle.std.specs.Prelude.{IfErr, IsOk, IsTrue, OnErr, OnOk};
+ghost use Rattle.cweb_files.specs.Bins.{CountsFailure};
 ghost use Rattle.cweb_files.specs.surface.Frames.{KeepsSink};
 ghost use Rattle.cweb_print.specs.inner.Flushing.{FlushesPrefix};
 
@@ -24,7 +25,7 @@ pub struct OutBuffer {
     pub bytes: BoxedSlice<u8>,
     /// The number of buffered bytes. Code that writes after them adds to it.
     pub used: usize,
-    /// The number of refused strings.
+    /// The number of strings that were refused since it was last set to 0.
     pub failed: u64,
 }
 
@@ -107,7 +108,14 @@ impl Sink for OutBuffer {
     ghost failed = { λ b. b.failed };
 
     #[inline(always)]
-    fn write(&mut self, piece: &[u8]) -> Result<usize, SinkFault> {
+    fn write(&mut self, piece: &[u8]) -> Result<usize, SinkFault>
+        requires { self.old.failed + 1 < 2 ^ 64 }
+        ensures failed { CountsFailure self.old.failed self.new.failed result }
+        ensures whole { IfOk result (λ n. n ≡ length piece.now) }
+        ensures bytes { OnOk result (self.new.bytes ≡ self.old.bytes ++ piece.now) }
+        ensures refused { OnErr result (self.new.bytes ≡ self.old.bytes) }
+        ensures within_room { length self.old.bytes + length piece.now ≤ ROOM → IsOk result }
+    {
         if self.used + piece.len() > ROOM {
             self.failed += 1;
             return Err(SinkFault);

@@ -3,7 +3,8 @@ use Rattle.std.specs.Prelude.{◌≡◌, ℕ, Bool, true, false, not, List, [], 
 use Rattle.std.specs.Prelude.{option_map, string_bytes, vec_capacity}
 use Rattle.std.specs.Option.{is_some}
 use Rattle.std.specs.Str.{bytes_eq}
-use Rattle.cweb_files.specs.Files.{File, Beside, Refused, no_memory}
+use Rattle.cweb_files.specs.Files.{File, Refused, no_memory}
+use Rattle.cweb_files.specs.Sinks.{Beside, SinkModel}
 use Rattle.cweb_files.specs.declared.bins.memory.BinFile.{BinFile}
 use Rattle.cweb_files.specs.declared.bins.memory.MemoryBins.{MemoryBins}
 
@@ -40,6 +41,12 @@ beside_draft bins = record {
   files = map as_file bins.files.items;
   draft = option_map bin_file_name bins.draft;
   refused = last_refusal bins;
+}
+
+abbrev pub bins_model : MemoryBins → SinkModel
+bins_model bins = record {
+  failed = bins.failed;
+  contents = Some (record { bytes = draft_bytes bins; beside = beside_draft bins });
 }
 
 abbrev pub bins_failed : MemoryBins → ℕ

@@ -2,6 +2,7 @@
 use Rattle.std.specs.Prelude.{◌≡◌, ◌<◌, ℕ, List, [], ◌∷◌, Option, Some, None, if◌then◌else◌, drop, length, slice_get}
 use Rattle.std.specs.Prelude.{string_bytes, vec_capacity}
 use Rattle.std.specs.Str.{bytes_eq}
+use Rattle.cweb_files.specs.Sinks.{SinkModel, always_open}
 use Rattle.cweb_files.specs.declared.memory.Entry.{Entry}
 use Rattle.cweb_files.specs.declared.memory.MemoryShelf.{MemoryShelf}
 use Rattle.cweb_files.specs.declared.memory.MemoryReader.{MemoryReader}
@@ -55,3 +56,9 @@ sink_room sink = vec_capacity sink.bytes
 
 abbrev pub sink_failed : MemorySink → ℕ
 sink_failed sink = sink.failed
+
+abbrev pub sink_model : MemorySink → SinkModel
+sink_model sink = record {
+  failed = sink.failed;
+  contents = Some (record { bytes = sink.bytes.items; beside = always_open });
+}

@@ -95,15 +95,10 @@ fn remove_named(files: &mut Vec<BinFile>, name: &str)
 
 impl Sink for MemoryBins {
     ghost use Rattle.cweb_files.specs.surface.MemoryBins.{KeepsFiles, KeepsDraftName, beside_draft};
-    ghost use Rattle.cweb_files.specs.surface.MemoryBins.{bins_failed, draft_bytes, draft_room, has_draft};
+    ghost use Rattle.cweb_files.specs.surface.MemoryBins.{bins_failed, bins_model, draft_bytes};
+    ghost use Rattle.cweb_files.specs.surface.MemoryBins.{draft_room, has_draft};
 
-    ghost tells = { λ _. true };
-
-    ghost written = { draft_bytes };
-
-    ghost failed = { bins_failed };
-
-    ghost beside = { beside_draft };
+    ghost model = { bins_model };
 
     fn write(&mut self, piece: &[u8]) -> Result<usize, SinkFault>
         requires { bins_failed self.old + 1 < 2 ^ 64 }
@@ -139,21 +134,18 @@ impl Sink for MemoryBins {
 }
 
 impl Bins for MemoryBins {
-    ghost use Rattle.cweb_files.specs.surface.MemoryBins.{KeepsFiles, beside_draft, bins_failed};
-    ghost use Rattle.cweb_files.specs.surface.MemoryBins.{draft_bytes, draft_room, files_with_draft};
+    ghost use Rattle.cweb_files.specs.surface.MemoryBins.{KeepsFiles, bins_failed, bins_model};
+    ghost use Rattle.cweb_files.specs.surface.MemoryBins.{draft_room, files_with_draft};
     ghost use Rattle.cweb_files.specs.surface.MemoryBins.{new_draft_room, committed_files, has_draft};
     ghost use Rattle.cweb_files.specs.surface.MemoryBins.{list_room};
-    ghost use Rattle.cweb_files.specs.Files.{committed, with_draft, without_draft};
-    ghost use Rattle.cweb_files.specs.Bins.{refused_with};
+    ghost use Rattle.cweb_files.specs.Sinks.{changed, committed, failing, with_draft, without_draft};
+    ghost use Rattle.cweb_files.specs.Bins.{refused};
 
     fn start_file(&mut self, name: &str) -> Result<(), BinFault>
         requires { bins_failed self.old + 1 < 2 ^ 64 }
-        ensures failed { bins_failed self.new ≡ bins_failed self.old }
         ensures begun { OnOk result
-            (beside_draft self.new ≡ with_draft name.now (beside_draft self.old)) }
-        ensures empty { OnOk result (draft_bytes self.new ≡ []) }
-        ensures err { IfErr result (λ fault.
-            beside_draft self.new ≡ refused_with fault (beside_draft self.old)) }
+            (bins_model self.new ≡ changed (with_draft name.now) (bins_model self.old)) }
+        ensures err { IfErr result (λ fault. bins_model self.new ≡ refused fault (bins_model self.old)) }
         // The only fault is `Memory`. The draft has the capacity that was set.
         ensures memory { IfErr result (λ fault. fault ≡ BinFault.Memory) }
         ensures room { OnOk result (new_draft_room self.old ≤ draft_room self.new) }
@@ -174,12 +166,11 @@ impl Bins for MemoryBins {
 
     fn commit_file(&mut self) -> Result<(), BinFault>
         requires { bins_failed self.old + 1 < 2 ^ 64 }
-        ensures failed { CountsFailure (bins_failed self.old) (bins_failed self.new) result }
         ensures device { IfErr result (λ fault. fault ≡ BinFault.Device) }
         ensures begun { OnOk result (has_draft self.old ≡ true) }
-        ensures ok { OnOk result
-            (beside_draft self.new ≡ committed (beside_draft self.old) (draft_bytes self.old)) }
-        ensures err { OnErr result (beside_draft self.new ≡ without_draft (beside_draft self.old)) }
+        ensures ok { OnOk result (bins_model self.new ≡ changed committed (bins_model self.old)) }
+        ensures err { OnErr result
+            (bins_model self.new ≡ failing without_draft (bins_model self.old)) }
         ensures set_room { new_draft_room self.new ≡ new_draft_room self.old }
         // It allocates nothing, and with a draft it never fails.
         ensures list { list_room self.new ≡ list_room self.old }
@@ -197,8 +188,7 @@ impl Bins for MemoryBins {
     }
 
     fn abandon_file(&mut self)
-        ensures failed { bins_failed self.new ≡ bins_failed self.old }
-        ensures gone { beside_draft self.new ≡ without_draft (beside_draft self.old) }
+        ensures gone { bins_model self.new ≡ changed without_draft (bins_model self.old) }
         ensures kept { KeepsFiles self.old self.new }
     {
         self.draft = None;

@@ -1,13 +1,11 @@
 use Rattle.std.proofs.Common.{◌≡◌, ◌≤◌, ◌-◌, length, take}
-use Rattle.cweb_files.specs.surface.Frames.{KeepsPlace, Writes}
+use Rattle.cweb_files.specs.Sinks.{written}
 use Rattle.cweb_files.proofs.writing.write_all.Given as goal
 
 abbrev pub invariant-pieces : goal.invariant-pieces
 invariant-pieces g l = record {
-  keeps : KeepsPlace g.W.Sink l.fn.out l.out;
-  failed : g.W.Sink.failed l.out ≡ g.W.Sink.failed l.fn.out;
   within : l.at ≤ length l.bytes;
-  written : Writes g.W.Sink l.fn.out l.out (take l.at l.bytes);
+  wrote : g.W.Sink.model l.out ≡ written (take l.at l.bytes) (g.W.Sink.model l.fn.out);
 }
 
 abbrev pub decreases-pieces : goal.decreases-pieces
