@@ -1,10 +1,9 @@
--- Strings that are appended part by part.
-use Rattle.cweb_print.proofs.Common.{arith, ap, ◌≡◌, ◌<◌, ◌+◌, ◌++◌, [], ◌∷◌, ◌∙◌, refl, sym, append_assoc, append-nil, ℕ, List, length, take, drop, suc, get_or, Result, Ok, Err, IsErr, flat_map, take_more, Appends}
+-- Strings that are written part by part.
+use Rattle.cweb_print.proofs.Common.{arith, ap, ◌≡◌, ◌<◌, ◌+◌, ◌++◌, [], ◌∷◌, ◌∙◌, refl, sym, append_assoc, append-nil, ℕ, List, length, take, drop, suc, get_or, Result, Ok, Err, IsErr, flat_map, take_more, FailsWithin, SinkModel, Wrote, written}
 use Rattle.std.proofs.Common.{drop-cons}
 use Rattle.std.proofs.lemmas.List.{take-append-drop}
 use Rattle.std.proofs.lemmas.List.Concat.{flat_map-append}
-use Rattle.cweb_files.proofs.Appending.{Appended, appended, appended_none, appends_then, appends_until, appends_same}
-use Rattle.cweb_files.specs.declared.device.Sink.{Ghosts as Sink}
+use Rattle.cweb_files.proofs.Appending.{fails_then, written_none, written_then, wrote_same, wrote_then, wrote_until}
 
 -- A list's strings: those before an item, that of the item, and those after it.
 flat_at : {X : Type 0} (f : X → List ℕ) (xs : List X) (i : ℕ) (d : X) → i < length xs
@@ -30,76 +29,64 @@ flat_more f xs i d lt =
       append-nil (f (get_or xs i d)),
     )
 
--- A prefix of a string was appended, and the rest is to come.
-pub record AppendedBefore {W : Type 0} (sink : Sink W) (old new : W) (text rest : List ℕ) : Type 0 where
+-- A prefix of a string was written, and the rest is to come.
+pub record WrittenBefore (old new : SinkModel) (text rest : List ℕ) : Type 0 where
   pub prefix : List ℕ
-  pub appended : Appended sink old new prefix
+  pub wrote : new ≡ written prefix old
   pub whole : text ≡ prefix ++ rest
 
-module _ {W : Type 0} (sink : Sink W) where
-  -- One more item of a list.
-  pub items_then : {X A E : Type 0} (f : X → List ℕ) (xs : List X) (i : ℕ) (d : X) (a b c : W) (x : A) → i < length xs
-      → Appended sink a b (flat_map f (take i xs)) → Appends {E = E} sink b c (f (get_or xs i d)) (Ok x)
-      → Appended sink a c (flat_map f (take (i + 1) xs))
-  items_then f xs i d a b c x lt before here =
-      appends_same sink a c _ _ (Ok tt) (flat_more f xs i d lt)
-      (appends_then sink a b c (flat_map f (take i xs)) (f (get_or xs i d)) tt (Ok tt) before (appended sink b c _ x here))
+-- One more item of a list.
+pub items_then : {X : Type 0} (f : X → List ℕ) (xs : List X) (i : ℕ) (d : X) {a b c : SinkModel} → i < length xs
+    → b ≡ written (flat_map f (take i xs)) a → c ≡ written (f (get_or xs i d)) b
+    → c ≡ written (flat_map f (take (i + 1) xs)) a
+items_then f xs i d {a} lt before here =
+    written_then (flat_map f (take i xs)) (f (get_or xs i d)) a before here
+    ∙ ap (λ (t : List ℕ). written t a) (flat_more f xs i d lt)
 
-  -- A fault at an item of a list.
-  pub items_until : {X A E B F : Type 0} (f : X → List ℕ) (xs : List X) (i : ℕ) (d : X) (a b c : W) (e : E)
-      (r : Result B F) → i < length xs → IsErr r → Appended sink a b (flat_map f (take i xs))
-      → Appends {A = A} sink b c (f (get_or xs i d)) (Err e) → Appends sink a c (flat_map f xs) r
-  items_until f xs i d a b c e r lt is before here =
-      appends_until sink a c (flat_map f xs) _ (flat_map f (drop (suc i) xs)) e r is (flat_at f xs i d lt)
-      (appends_then sink a b c (flat_map f (take i xs)) (f (get_or xs i d)) tt (Err e) before here)
+-- A fault at an item of a list.
+pub items_until : {X B F : Type 0} (f : X → List ℕ) (xs : List X) (i : ℕ) (d : X) (a b c : SinkModel) (r : Result B F)
+    → i < length xs → IsErr r → b ≡ written (flat_map f (take i xs)) a → FailsWithin (f (get_or xs i d)) b c
+    → Wrote (flat_map f xs) a c r
+items_until f xs i d a b c r lt is before here =
+    wrote_until (flat_map f xs) _ (flat_map f (drop (suc i) xs)) a c r is (flat_at f xs i d lt)
+    (fails_then (flat_map f (take i xs)) before here)
 
-  -- All was appended, whatever the call returns beside that.
-  pub appends_as : {A E B F : Type 0} (a b : W) (text other : List ℕ) (x : A) (y : B) → text ≡ other
-      → Appends {E = E} sink a b text (Ok x) → Appends {E = F} sink a b other (Ok y)
-  appends_as a b text other x y same appends = record {
-    keeps = record { tells = appends.keeps.tells; beside = appends.keeps.beside; failed = appends.keeps.failed };
-    wrote = λ tells. appends.wrote tells ∙ ap (λ (t : List ℕ). sink.written a ++ t) same;
-  }
+-- All was written.
+pub wrote_as : {text other : List ℕ} {a b : SinkModel} → text ≡ other → b ≡ written text a → b ≡ written other a
+wrote_as {a = a} same wrote = wrote ∙ ap (λ (t : List ℕ). written t a) same
 
-  -- A fault within a string.
-  pub appends_err : {A E B F : Type 0} (a b : W) (text other : List ℕ) (e : E) (r : Result B F) → IsErr r
-      → text ≡ other → Appends {A = A} sink a b text (Err e) → Appends sink a b other r
-  appends_err a b text other e r is same =
-      appends_until sink a b other text [] e r is (sym same ∙ sym (append-nil text))
+-- A fault within a string.
+pub wrote_err : {B F : Type 0} (text other : List ℕ) (a b : SinkModel) (r : Result B F) → IsErr r
+    → text ≡ other → FailsWithin text a b → Wrote other a b r
+wrote_err text other a b r is same = wrote_until other text [] a b r is (sym same ∙ sym (append-nil text))
 
-  pub before_none : (w : W) (text : List ℕ) → AppendedBefore sink w w text text
-  before_none w text = record { prefix = []; appended = appended_none sink w; whole = refl }
+pub before_none : (sink : SinkModel) (text : List ℕ) → WrittenBefore sink sink text text
+before_none sink text = record { prefix = []; wrote = written_none sink; whole = refl }
 
-  -- One more part of a string.
-  pub before_then : {A E : Type 0} (a b c : W) (text part rest : List ℕ) (x : A)
-      → AppendedBefore sink a b text (part ++ rest) → Appends {E = E} sink b c part (Ok x)
-      → AppendedBefore sink a c text rest
-  before_then a b c text part rest x before here = record {
-    prefix = before.prefix ++ part;
-    appended = appends_then sink a b c before.prefix part tt (Ok tt) before.appended (appended sink b c part x here);
-    whole = before.whole ∙ sym (append_assoc before.prefix part rest);
-  }
+-- One more part of a string.
+pub before_then : {a b c : SinkModel} {text : List ℕ} (part rest : List ℕ)
+    → WrittenBefore a b text (part ++ rest) → c ≡ written part b → WrittenBefore a c text rest
+before_then {a} part rest before here = record {
+  prefix = before.prefix ++ part;
+  wrote = written_then before.prefix part a before.wrote here;
+  whole = before.whole ∙ sym (append_assoc before.prefix part rest);
+}
 
-  -- A fault at a part of a string.
-  pub before_until : {A E B F : Type 0} (a b c : W) (text part rest : List ℕ) (e : E) (r : Result B F)
-      → IsErr r → AppendedBefore sink a b text (part ++ rest) → Appends {A = A} sink b c part (Err e)
-      → Appends sink a c text r
-  before_until a b c text part rest e r is before here =
-      appends_until sink a c text (before.prefix ++ part) rest e r is
-      (before.whole ∙ sym (append_assoc before.prefix part rest))
-      (appends_then sink a b c before.prefix part tt (Err e) before.appended here)
+-- A fault at a part of a string.
+pub before_until : {B F : Type 0} (a b c : SinkModel) (text part rest : List ℕ) (r : Result B F)
+    → IsErr r → WrittenBefore a b text (part ++ rest) → FailsWithin part b c → Wrote text a c r
+before_until a b c text part rest r is before here =
+    wrote_until text (before.prefix ++ part) rest a c r is
+    (before.whole ∙ sym (append_assoc before.prefix part rest)) (fails_then before.prefix before.wrote here)
 
-  -- A string of three parts: a fault at the second one, and all three.
-  pub second_until : {A E B F C G : Type 0} (a b c : W) (text first part rest : List ℕ) (x : A) (e : F) (r : Result C G)
-      → IsErr r → text ≡ first ++ (part ++ rest) → Appends {E = E} sink a b first (Ok x)
-      → Appends {A = B} sink b c part (Err e) → Appends sink a c text r
-  second_until a b c text first part rest x e r is whole one other =
-      before_until a b c text part rest e r is
-      (record { prefix = first; appended = appended sink a b first x one; whole = whole }) other
+-- A string of three parts: a fault at the second one, and all three.
+pub second_until : {C G : Type 0} (a b c : SinkModel) (text first part rest : List ℕ) (r : Result C G)
+    → IsErr r → text ≡ first ++ (part ++ rest) → b ≡ written first a → FailsWithin part b c → Wrote text a c r
+second_until a b c text first part rest r is whole one =
+    before_until a b c text part rest r is (record { prefix = first; wrote = one; whole = whole })
 
-  pub three_then : {A E B F C G : Type 0} (a b c d : W) (text first part last : List ℕ) (x : A) (y : B)
-      (r : Result C G) → text ≡ first ++ (part ++ last) → Appends {E = E} sink a b first (Ok x)
-      → Appends {E = F} sink b c part (Ok y) → Appends sink c d last r → Appends sink a d text r
-  three_then a b c d text first part last x y r whole one two three =
-      appends_same sink a d (first ++ (part ++ last)) text r (sym whole)
-      (appends_then sink a b d first (part ++ last) x r one (appends_then sink b c d part last y r two three))
+pub three_then : {C G : Type 0} (a b c d : SinkModel) (text first part last : List ℕ) (r : Result C G)
+    → text ≡ first ++ (part ++ last) → b ≡ written first a → c ≡ written part b → Wrote last c d r → Wrote text a d r
+three_then a b c d text first part last r whole one two three =
+    wrote_same (first ++ (part ++ last)) text a d r (sym whole)
+    (wrote_then first (part ++ last) a b d r one (wrote_then part last b c d r two three))

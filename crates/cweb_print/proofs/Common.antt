@@ -41,7 +41,7 @@ pub use Rattle.cweb_print.specs.declared.buffer.TheConstants.{ROOM}
 pub use Rattle.cweb_print.specs.declared.printer.Printer.{Printer}
 pub use Rattle.cweb_print.specs.declared.printer.class.Class.{Class}
 pub use Rattle.cweb_print.specs.declared.printer.left.Left.{Left}
-pub use Rattle.cweb_print.specs.inner.BufferedPrinting.{MovesBy, PrintsBy}
+pub use Rattle.cweb_print.specs.inner.BufferedPrinting.{AddsBytes, MovesBy, PrintsBy}
 pub use Rattle.cweb_print.specs.inner.Classes.{class_is_glue, class_is_literal, class_is_number, class_is_operator}
 pub use Rattle.cweb_print.specs.inner.Classes.{class_is_point, class_is_wordlike, is_apart, added, continuation_bytes}
 pub use Rattle.cweb_print.specs.inner.Classes.{macro_by, file_by, separator, all_added, begin_by, class_is_line_start}
@@ -50,9 +50,8 @@ pub use Rattle.cweb_print.specs.inner.DirectTokens.{AreDirect, is_direct}
 pub use Rattle.cweb_print.specs.inner.EdgeSpacing.{class_after_edge, edge_is_apart, left_after_edge, continued_by}
 pub use Rattle.cweb_print.specs.inner.EdgeSpacing.{edge_ends_line}
 pub use Rattle.cweb_print.specs.inner.Flushing.{blank_where}
-pub use Rattle.cweb_files.specs.surface.Frames.{KeepsSink}
-pub use Rattle.cweb_files.specs.inner.Appends.{Wrote, Appends}
+pub use Rattle.cweb_files.specs.Sinks.{FailsWithin, SinkModel, Wrote, failing, with_printed, written}
 pub use Rattle.cweb_print.specs.surface.Classes.{class_by, class_of, left_after_token, punct_class, is_dropped}
 pub use Rattle.cweb_print.specs.surface.Classes.{left_after_tokens, at_start}
-pub use Rattle.cweb_print.specs.surface.Printed.{AddsBytes, AddsBy, left_in_printer, setting_of, PrintsToken}
+pub use Rattle.cweb_print.specs.surface.Printed.{AddsBy, left_in_printer, setting_of, PrintsToken}
 pub use Rattle.cweb_print.specs.surface.TokenRanges.{tokens_of_part}

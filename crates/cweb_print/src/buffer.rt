@@ -1,8 +1,8 @@
 // The output buffer in front of a sink.
-ghost use Rattle.std.specs.Prelude.{◌≡◌, ◌≤◌, ◌<◌, ◌+◌, ◌^◌, ◌++◌, [], length, take, drop, true, IfOk};
-ghost use Rattle.std.specs.Prelude.{IfErr, IsOk, IsTrue, OnErr, OnOk};
+ghost use Rattle.std.specs.Prelude.{◌≡◌, ◌≤◌, ◌<◌, ◌+◌, ◌^◌, ◌++◌, [], length, take, drop, IfOk};
+ghost use Rattle.std.specs.Prelude.{IfErr, IsOk, OnErr, OnOk};
 ghost use Rattle.cweb_files.specs.Bins.{CountsFailure};
-ghost use Rattle.cweb_files.specs.surface.Frames.{KeepsSink};
+ghost use Rattle.cweb_files.specs.Sinks.{failing, with_printed, written};
 ghost use Rattle.cweb_print.specs.inner.Flushing.{FlushesPrefix};
 
 pub mod copying;
@@ -72,11 +72,12 @@ impl OutBuffer {
 
     /// Writes the buffered bytes to a sink. After a fault, the bytes that weren't written stay buffered.
     pub fn flush<W: Sink>(&mut self, out: &mut W) -> Result<(), SinkFault>
-        requires { W.failed out.old + 1 < 2 ^ 64 }
-        ensures keeps { KeepsSink W.Sink out.old out.new result }
-        ensures moved { IsTrue (W.tells out.old)
-            → FlushesPrefix (W.written out.old) self.old.bytes (W.written out.new) self.new.bytes }
+        requires { (W.model out.old).failed + 1 < 2 ^ 64 }
+        ensures moved { OnOk result
+            (W.model out.new ≡ written self.old.bytes (W.model out.old)) }
         ensures empty { OnOk result (self.new.bytes ≡ []) }
+        ensures err { OnErr result
+            (FlushesPrefix self.old.bytes self.new.bytes (W.model out.old) (W.model out.new)) }
     {
         match write_counted(out, &self.bytes[..self.used]) {
             Ok(()) => {
@@ -101,11 +102,9 @@ impl OutBuffer {
 }
 
 impl Sink for OutBuffer {
-    ghost tells = { λ _. true };
+    ghost use Rattle.cweb_print.specs.inner.Buffered.{buffer_model};
 
-    ghost written = { λ b. b.bytes };
-
-    ghost failed = { λ b. b.failed };
+    ghost model = { buffer_model };
 
     #[inline(always)]
     fn write(&mut self, piece: &[u8]) -> Result<usize, SinkFault>
@@ -131,13 +130,11 @@ impl Sink for OutBuffer {
 
 // Writes bytes. The error is the number of bytes that were written.
 fn write_counted<W: Sink>(out: &mut W, bytes: &[u8]) -> Result<(), usize>
-    requires { W.failed out.old + 1 < 2 ^ 64 }
-    ensures keeps { KeepsSink W.Sink out.old out.new result }
-    ensures ok { IsTrue (W.tells out.old)
-        → OnOk result (W.written out.new ≡ W.written out.old ++ bytes.now) }
+    requires { (W.model out.old).failed + 1 < 2 ^ 64 }
+    ensures ok { OnOk result (W.model out.new ≡ written bytes.now (W.model out.old)) }
     ensures within { IfErr result (λ taken. taken ≤ length bytes.now) }
-    ensures err { IsTrue (W.tells out.old) → IfErr result
-        (λ taken. W.written out.new ≡ W.written out.old ++ take taken bytes.now) }
+    ensures err { IfErr result (λ taken.
+        W.model out.new ≡ failing (with_printed (take taken bytes.now)) (W.model out.old)) }
 {
     let mut taken = 0;
     'pieces: while taken < bytes.len() {

@@ -1,6 +1,6 @@
 // Writes byte chunks in order.
 ghost use Rattle.std.specs.Prelude.{◌≡◌, ◌<◌, ◌+◌, ◌^◌, ◌++◌};
-ghost use Rattle.cweb_files.specs.inner.Appends.{Appends};
+ghost use Rattle.cweb_files.specs.Sinks.{Wrote};
 ghost use Rattle.cweb_print.specs.inner.Flushing.{blank_where};
 
 use cweb_files::{Sink, SinkFault, write_all};
@@ -8,8 +8,8 @@ use cweb_files::{Sink, SinkFault, write_all};
 /// Writes a whole chunk, in as many writes as needed. After a fault, a prefix of it is written.
 #[inline(always)]
 pub fn write_chunk<W: Sink>(out: &mut W, piece: &[u8]) -> Result<(), SinkFault>
-    requires { W.failed out.old + 1 < 2 ^ 64 }
-    ensures wrote { Appends W.Sink out.old out.new piece.now result }
+    requires { (W.model out.old).failed + 1 < 2 ^ 64 }
+    ensures wrote { Wrote piece.now (W.model out.old) (W.model out.new) result }
 {
     if piece.is_empty() {
         return Ok(());
@@ -25,8 +25,8 @@ pub fn write_chunk<W: Sink>(out: &mut W, piece: &[u8]) -> Result<(), SinkFault>
 /// Writes a blank, if one is wanted.
 #[inline(always)]
 pub fn write_blank<W: Sink>(out: &mut W, is_wanted: bool) -> Result<(), SinkFault>
-    requires { W.failed out.old + 1 < 2 ^ 64 }
-    ensures wrote { Appends W.Sink out.old out.new (blank_where is_wanted) result }
+    requires { (W.model out.old).failed + 1 < 2 ^ 64 }
+    ensures wrote { Wrote (blank_where is_wanted) (W.model out.old) (W.model out.new) result }
 {
     if is_wanted {
         write_chunk(out, b" ")
@@ -43,8 +43,9 @@ pub fn write_three<W: Sink>(
     second: &[u8],
     third: &[u8],
 ) -> Result<(), SinkFault>
-    requires { W.failed out.old + 1 < 2 ^ 64 }
-    ensures wrote { Appends W.Sink out.old out.new (first.now ++ (second.now ++ third.now)) result }
+    requires { (W.model out.old).failed + 1 < 2 ^ 64 }
+    ensures wrote { Wrote (first.now ++ (second.now ++ third.now))
+        (W.model out.old) (W.model out.new) result }
 {
     write_chunk(out, first)?;
     write_chunk(out, second)?;

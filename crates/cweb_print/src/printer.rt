@@ -1,7 +1,7 @@
 // The printer of tokens.
-ghost use Rattle.std.specs.Prelude.{◌≡◌, ◌<◌, ◌+◌, ◌^◌, [], IsTrue, OnOk, OnErr};
-ghost use Rattle.cweb_files.specs.surface.Frames.{KeepsSink};
-ghost use Rattle.cweb_files.specs.inner.Appends.{Appends};
+ghost use Rattle.std.specs.Prelude.{◌≡◌, ◌<◌, ◌+◌, ◌^◌, [], OnOk, OnErr};
+ghost use Rattle.cweb_files.specs.Bins.{CountsFailure};
+ghost use Rattle.cweb_files.specs.Sinks.{Wrote};
 ghost use Rattle.cweb_input.specs.surface.OpenedFileNames.{opened_file_names};
 ghost use Rattle.cweb_store.specs.surface.TokenModels.{token_model};
 ghost use Rattle.cweb_print.specs.inner.Classes.{added, begin_by, file_by, own_line_bytes};
@@ -55,16 +55,15 @@ impl<'a> Printer<'a> {
     /// Prints a token: the suffix that it adds to the output so far. A use of a name prints nothing. Allocates nothing.
     #[inline]
     pub fn write<W: Sink>(&mut self, token: Token<'_>, out: &mut W) -> Result<(), SinkFault>
-        requires count { W.failed out.old + 1 < 2 ^ 64 }
+        requires count { (W.model out.old).failed + 1 < 2 ^ 64 }
         requires named { MarkFileIsNamed (setting_of self.old) (token_model token) }
-        ensures keeps { KeepsSink W.Sink out.old out.new result }
+        ensures counts { CountsFailure (W.model out.old).failed (W.model out.new).failed result }
         ensures setting { setting_of self.new ≡ setting_of self.old }
         ensures moves { OnOk result
             (Moves (left_in_printer self.old) (token_model token.entry) (left_in_printer self.new)) }
         ensures err { OnErr result (self.new ≡ self.old) }
-        ensures prints { IsTrue (W.tells out.old)
-            → PrintsToken self.old (token_model token.entry) (W.written out.old)
-            (W.written out.new) result }
+        ensures prints { PrintsToken self.old (token_model token.entry)
+            (W.model out.old) (W.model out.new) result }
     {
         self.write_token(&token, out)?;
         self.left = self.left.after(&token);
@@ -73,13 +72,12 @@ impl<'a> Printer<'a> {
 
     /// Ends the last line of a file and resets to the start of the next one. Allocates nothing.
     pub fn end<W: Sink>(&mut self, out: &mut W) -> Result<(), SinkFault>
-        requires { W.failed out.old + 1 < 2 ^ 64 }
-        ensures keeps { KeepsSink W.Sink out.old out.new result }
+        requires { (W.model out.old).failed + 1 < 2 ^ 64 }
+        ensures counts { CountsFailure (W.model out.old).failed (W.model out.new).failed result }
         ensures setting { setting_of self.new ≡ setting_of self.old }
         ensures left { OnOk result (left_after_tokens [] ≡ left_in_printer self.new) }
         ensures err { OnErr result (self.new ≡ self.old) }
-        ensures ends { IsTrue (W.tells out.old)
-            → EndsFile self.old (W.written out.old) (W.written out.new) result }
+        ensures ends { EndsFile self.old (W.model out.old) (W.model out.new) result }
     {
         write_chunk(out, self.begin_line())?;
         self.left = Left::start();
@@ -87,11 +85,12 @@ impl<'a> Printer<'a> {
     }
 
     fn write_token<W: Sink>(&self, token: &Token<'_>, out: &mut W) -> Result<(), SinkFault>
-        requires count { W.failed out.old + 1 < 2 ^ 64 }
+        requires count { (W.model out.old).failed + 1 < 2 ^ 64 }
         requires named { MarkFileIsNamed (setting_of self.now) (token_model token.now) }
-        ensures wrote { Appends W.Sink out.old out.new
+        ensures wrote { Wrote
             (added (file_by (setting_of self.now)) (left_in_printer self.now)
-            (token_model token.now)) result }
+            (token_model token.now))
+            (W.model out.old) (W.model out.new) result }
     {
         if self.left.drops(token) {
             return Ok(());
@@ -103,11 +102,12 @@ impl<'a> Printer<'a> {
 
     #[inline(always)]
     fn write_placed<W: Sink>(&self, token: &Token<'_>, out: &mut W) -> Result<(), SinkFault>
-        requires count { W.failed out.old + 1 < 2 ^ 64 }
+        requires count { (W.model out.old).failed + 1 < 2 ^ 64 }
         requires named { MarkFileIsNamed (setting_of self.now) (token_model token.now) }
-        ensures wrote { Appends W.Sink out.old out.new
+        ensures wrote { Wrote
             (own_line_bytes (setting_of self.now) (left_in_printer self.now).class
-            (token_model token.now)) result }
+            (token_model token.now))
+            (W.model out.old) (W.model out.new) result }
     {
         match token {
             Token::Mark(place) => {

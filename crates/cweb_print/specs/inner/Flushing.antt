@@ -1,11 +1,12 @@
 -- Flushing of a buffer.
 use Rattle.std.specs.Prelude.{◌≡◌, ℕ, Bool, List, [], ◌++◌, codes, if◌then◌else◌}
+use Rattle.cweb_files.specs.Sinks.{SinkModel, failing, with_printed}
 
--- A prefix of the buffered bytes went to the sink, and the rest is still buffered.
-pub record FlushesPrefix (old before new after : List ℕ) : Type 0 where
+-- A prefix of the buffered bytes went to the sink, which then failed, and the rest is still buffered.
+pub record FlushesPrefix (before after : List ℕ) (old new : SinkModel) : Type 0 where
   pub prefix : List ℕ
-  pub written : new ≡ old ++ prefix
   pub whole : before ≡ prefix ++ after
+  pub is : new ≡ failing (with_printed prefix) old
 
 -- A blank, or nothing.
 abbrev pub blank_where : Bool → List ℕ

@@ -1,8 +1,5 @@
--- What is printed at once, and how it reaches the buffer or the sink.
-use Rattle.std.specs.Prelude.{◌≤◌, ℕ, List, ◌++◌, IsTrue, Result, length}
-use Rattle.cweb_files.specs.declared.device.Sink.{Ghosts as Sink}
-use Rattle.cweb_files.specs.inner.Appends.{Wrote}
-use Rattle.cweb_files.specs.surface.Frames.{KeepsSink}
+-- What is printed at once.
+use Rattle.std.specs.Prelude.{◌≤◌, ℕ, List, length}
 use Rattle.cweb_store.specs.Parts.{all_tokens}
 use Rattle.cweb_store.specs.surface.TokenModels.{token_model}
 use Rattle.cweb_print.specs.Printing.{macro_line, macro_lines, replaced_in}
@@ -29,9 +26,3 @@ CanPrint p (Printable.Macro part) =
 -- The lines of all macros.
 abbrev pub all_macro_lines : Printer → List ℕ
 all_macro_lines p = macro_lines (setting_of p)
-
--- These bytes are appended to those of the sink and of its buffer, or after a fault a prefix of them.
-pub record Buffers {W A E : Type 0} (sink : Sink W) (old new : W) (before after bytes : List ℕ) (result : Result A E)
-    : Type 0 where
-  pub keeps : KeepsSink sink old new result
-  pub wrote : IsTrue (sink.tells old) → Wrote (sink.written old ++ before) (sink.written new ++ after) bytes result

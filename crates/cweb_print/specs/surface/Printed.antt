@@ -1,5 +1,6 @@
 -- The bytes that a printer's calls add to a sink.
-use Rattle.std.specs.Prelude.{ℕ, ◌≡◌, List, [], ◌∷◌, ◌++◌, Result, Ok, Err}
+use Rattle.std.specs.Prelude.{ℕ, ◌≡◌, List, [], ◌∷◌, ◌++◌, Result}
+use Rattle.cweb_files.specs.Sinks.{SinkModel, Wrote}
 use Rattle.cweb_input.specs.surface.OpenedFileNames.{opened_file_names}
 use Rattle.cweb_store.specs.Parts.{Token}
 use Rattle.cweb_print.specs.Printing.{Setting, print, file, setting}
@@ -14,30 +15,19 @@ setting_of p = setting p.store.now (opened_file_names p.names.now)
 abbrev pub left_in_printer : Printer → Left
 left_in_printer p = p.left
 
--- `new` has the suffix over `old` that `after` has over `before`.
-pub record AddsBytes (before after old new : List ℕ) : Type 0 where
+-- The suffix that `after` has over `before` is written, or after a fault a prefix of it.
+pub record AddsBy {A E : Type 0} (before after : List ℕ) (old new : SinkModel) (result : Result A E) : Type 0 where
   pub bytes : List ℕ
   pub expected : after ≡ before ++ bytes
-  pub written : new ≡ old ++ bytes
-
--- `new` has a prefix of that suffix.
-pub record AddsPrefix (before after old new : List ℕ) : Type 0 where
-  pub prefix : List ℕ
-  pub rest : List ℕ
-  pub expected : after ≡ before ++ (prefix ++ rest)
-  pub written : new ≡ old ++ prefix
-
-abbrev pub AddsBy : {A E : Type 0} → List ℕ → List ℕ → List ℕ → List ℕ → Result A E → Type 0
-AddsBy before after old new (Ok x) = AddsBytes before after old new
-AddsBy before after old new (Err fault) = AddsPrefix before after old new
+  pub wrote : Wrote bytes old new result
 
 -- For each list that leads to the printer's state, the suffix that the token adds to its `print` is written.
-abbrev pub PrintsToken : {A E : Type 0} → Printer → Token → List ℕ → List ℕ → Result A E → Type 0
+abbrev pub PrintsToken : {A E : Type 0} → Printer → Token → SinkModel → SinkModel → Result A E → Type 0
 PrintsToken p t old new result = (ts : List Token) → left_after_tokens ts ≡ left_in_printer p
     → AddsBy (print (setting_of p) ts) (print (setting_of p) (ts ++ t ∷ [])) old new result
 
 -- For each list that leads to the printer's state, the suffix of `file` over `print` is written.
-abbrev pub EndsFile : {A E : Type 0} → Printer → List ℕ → List ℕ → Result A E → Type 0
+abbrev pub EndsFile : {A E : Type 0} → Printer → SinkModel → SinkModel → Result A E → Type 0
 EndsFile p old new result = (ts : List Token) → left_after_tokens ts ≡ left_in_printer p
     → AddsBy (print (setting_of p) ts) (file (setting_of p) ts) old new result
 

@@ -1,9 +1,9 @@
 // Prints into the buffer of a sink.
-ghost use Rattle.std.specs.Prelude.{◌≡◌, ◌<◌, ◌+◌, ◌^◌, ◌++◌, [], false, true, IsTrue, OnOk, OnErr};
-ghost use Rattle.cweb_files.specs.inner.Appends.{Appends};
-ghost use Rattle.cweb_files.specs.surface.Frames.{KeepsSink};
+ghost use Rattle.std.specs.Prelude.{◌≡◌, ◌<◌, ◌+◌, ◌^◌, ◌++◌, [], false, true, OnOk, OnErr};
+ghost use Rattle.cweb_files.specs.Bins.{CountsFailure};
+ghost use Rattle.cweb_files.specs.Sinks.{Wrote, written};
 ghost use Rattle.cweb_store.specs.surface.TokenModels.{token_model};
-ghost use Rattle.cweb_print.specs.inner.Printables.{Buffers, CanPrint, all_macro_lines, printable_bytes};
+ghost use Rattle.cweb_print.specs.inner.Printables.{CanPrint, all_macro_lines, printable_bytes};
 ghost use Rattle.cweb_print.specs.surface.Classes.{left_after_tokens};
 ghost use Rattle.cweb_print.specs.surface.Printers.{MarkFileIsNamed};
 ghost use Rattle.cweb_print.specs.surface.Printed.{EndsFile, Moves, PrintsToken, left_in_printer, setting_of};
@@ -35,15 +35,16 @@ impl<'a> Printer<'a> {
         buffer: &mut OutBuffer,
         out: &mut W,
     ) -> Result<(), SinkFault>
-        requires count { W.failed out.old + 1 < 2 ^ 64 }
+        requires count { (W.model out.old).failed + 1 < 2 ^ 64 }
         requires named { MarkFileIsNamed (setting_of self.old) (token_model token) }
-        ensures keeps { KeepsSink W.Sink out.old out.new result }
+        ensures counts { CountsFailure (W.model out.old).failed (W.model out.new).failed result }
         ensures setting { setting_of self.new ≡ setting_of self.old }
         ensures moves { OnOk result
             (Moves (left_in_printer self.old) (token_model token.entry) (left_in_printer self.new)) }
         ensures err { OnErr result (self.new ≡ self.old) }
-        ensures prints { IsTrue (W.tells out.old) → PrintsToken self.old (token_model token.entry)
-            (W.written out.old ++ buffer.old.bytes) (W.written out.new ++ buffer.new.bytes) result }
+        ensures prints { PrintsToken self.old (token_model token.entry)
+            (written buffer.old.bytes (W.model out.old))
+            (written buffer.new.bytes (W.model out.new)) result }
     {
         self.append_token(token, buffer, out)?;
         self.left = self.left.after(&token);
@@ -52,13 +53,13 @@ impl<'a> Printer<'a> {
 
     /// Ends the last line of a file, flushes the buffer, and resets to the start of the next file.
     pub fn finish<W: Sink>(&mut self, buffer: &mut OutBuffer, out: &mut W) -> Result<(), SinkFault>
-        requires { W.failed out.old + 1 < 2 ^ 64 }
-        ensures keeps { KeepsSink W.Sink out.old out.new result }
+        requires { (W.model out.old).failed + 1 < 2 ^ 64 }
+        ensures counts { CountsFailure (W.model out.old).failed (W.model out.new).failed result }
         ensures setting { setting_of self.new ≡ setting_of self.old }
         ensures left { OnOk result (left_after_tokens [] ≡ left_in_printer self.new) }
         ensures err { OnErr result (self.new ≡ self.old) }
-        ensures ends { IsTrue (W.tells out.old) → EndsFile self.old
-            (W.written out.old ++ buffer.old.bytes) (W.written out.new ++ buffer.new.bytes) result }
+        ensures ends { EndsFile self.old (written buffer.old.bytes (W.model out.old))
+            (written buffer.new.bytes (W.model out.new)) result }
         ensures empty { OnOk result (buffer.new.bytes ≡ []) }
     {
         self.append_printable(Printable::LineStart, buffer, out)?;
@@ -75,10 +76,11 @@ impl<'a> Printer<'a> {
         buffer: &mut OutBuffer,
         out: &mut W,
     ) -> Result<(), SinkFault>
-        requires count { W.failed out.old + 1 < 2 ^ 64 }
+        requires count { (W.model out.old).failed + 1 < 2 ^ 64 }
         requires named { MarkFileIsNamed (setting_of self.now) (token_model token) }
-        ensures { Buffers W.Sink out.old out.new buffer.old.bytes buffer.new.bytes
-            (printable_bytes self.now (Printable.Token token.entry)) result }
+        ensures { Wrote (printable_bytes self.now (Printable.Token token.entry))
+            (written buffer.old.bytes (W.model out.old))
+            (written buffer.new.bytes (W.model out.new)) result }
     {
         match token {
             Token::Defs => self.append_defs(buffer, out),
@@ -89,9 +91,10 @@ impl<'a> Printer<'a> {
     /// Appends the macro lines, from a line start on.
     #[inline(never)]
     fn append_defs<W: Sink>(&self, buffer: &mut OutBuffer, out: &mut W) -> Result<(), SinkFault>
-        requires { W.failed out.old + 1 < 2 ^ 64 }
-        ensures { Buffers W.Sink out.old out.new buffer.old.bytes buffer.new.bytes
-            (printable_bytes self.now Printable.LineStart ++ all_macro_lines self.now) result }
+        requires { (W.model out.old).failed + 1 < 2 ^ 64 }
+        ensures { Wrote (printable_bytes self.now Printable.LineStart ++ all_macro_lines self.now)
+            (written buffer.old.bytes (W.model out.old))
+            (written buffer.new.bytes (W.model out.new)) result }
     {
         self.append_printable(Printable::LineStart, buffer, out)?;
         let mut parts = self.store.macros();
@@ -109,10 +112,11 @@ impl<'a> Printer<'a> {
         buffer: &mut OutBuffer,
         out: &mut W,
     ) -> Result<(), SinkFault>
-        requires count { W.failed out.old + 1 < 2 ^ 64 }
+        requires count { (W.model out.old).failed + 1 < 2 ^ 64 }
         requires can { CanPrint self.now printable }
-        ensures { Buffers W.Sink out.old out.new buffer.old.bytes buffer.new.bytes
-            (printable_bytes self.now printable.entry) result }
+        ensures { Wrote (printable_bytes self.now printable.entry)
+            (written buffer.old.bytes (W.model out.old))
+            (written buffer.new.bytes (W.model out.new)) result }
     {
         if self.append_if_fits(printable, buffer) {
             return Ok(());
@@ -128,10 +132,11 @@ impl<'a> Printer<'a> {
         buffer: &mut OutBuffer,
         out: &mut W,
     ) -> Result<(), SinkFault>
-        requires count { W.failed out.old + 1 < 2 ^ 64 }
+        requires count { (W.model out.old).failed + 1 < 2 ^ 64 }
         requires can { CanPrint self.now printable }
-        ensures { Buffers W.Sink out.old out.new buffer.old.bytes buffer.new.bytes
-            (printable_bytes self.now printable.entry) result }
+        ensures { Wrote (printable_bytes self.now printable.entry)
+            (written buffer.old.bytes (W.model out.old))
+            (written buffer.new.bytes (W.model out.new)) result }
     {
         buffer.flush(out)?;
         if self.append_if_fits(printable, buffer) {
@@ -163,10 +168,10 @@ impl<'a> Printer<'a> {
         printable: Printable<'_>,
         out: &mut W,
     ) -> Result<(), SinkFault>
-        requires count { W.failed out.old + 1 < 2 ^ 64 }
+        requires count { (W.model out.old).failed + 1 < 2 ^ 64 }
         requires can { CanPrint self.now printable }
-        ensures wrote { Appends W.Sink out.old out.new
-            (printable_bytes self.now printable.entry) result }
+        ensures wrote { Wrote (printable_bytes self.now printable.entry)
+            (W.model out.old) (W.model out.new) result }
     {
         match printable {
             Printable::Token(token) => self.write_token(&token, out),

@@ -1,6 +1,6 @@
 // Writes macro lines to a sink.
 ghost use Rattle.std.specs.Prelude.{◌≡◌, ◌≤◌, ◌<◌, ◌+◌, ◌^◌, ◌++◌, length, map, IfOk};
-ghost use Rattle.cweb_files.specs.inner.Appends.{Appends};
+ghost use Rattle.cweb_files.specs.Sinks.{Wrote};
 ghost use Rattle.cweb_store.specs.surface.TokenModels.{token_model};
 ghost use Rattle.cweb_store.specs.Parts.{all_tokens};
 ghost use Rattle.cweb_store.specs.inner.DirectBytes.{direct_bytes};
@@ -24,9 +24,9 @@ use cweb_store::{Edge, Part, Store, Token, TokenBytes, TokenReader};
 /// Writes the lines of all macros, in order.
 #[inline(never)]
 pub(crate) fn write_macros<W: Sink>(store: &Store, out: &mut W) -> Result<(), SinkFault>
-    requires { W.failed out.old + 1 < 2 ^ 64 }
-    ensures wrote { Appends W.Sink out.old out.new
-        (flat_map (macro_line (replaced_in store.now)) (macros store.now)) result }
+    requires { (W.model out.old).failed + 1 < 2 ^ 64 }
+    ensures wrote { Wrote (flat_map (macro_line (replaced_in store.now)) (macros store.now))
+        (W.model out.old) (W.model out.new) result }
 {
     let mut parts = store.macros();
     'macros: while let Some(part) = parts.next() {
@@ -36,11 +36,11 @@ pub(crate) fn write_macros<W: Sink>(store: &Store, out: &mut W) -> Result<(), Si
 }
 
 pub(crate) fn write_macro<W: Sink>(store: &Store, part: Part, out: &mut W) -> Result<(), SinkFault>
-    requires count { W.failed out.old + 1 < 2 ^ 64 }
+    requires count { (W.model out.old).failed + 1 < 2 ^ 64 }
     requires ordered { part.first ≤ part.after }
     requires within { part.after ≤ length (all_tokens store.now.parts) }
-    ensures wrote { Appends W.Sink out.old out.new
-        (macro_line (replaced_in store.now) (tokens_of_part store.now part)) result }
+    ensures wrote { Wrote (macro_line (replaced_in store.now) (tokens_of_part store.now part))
+        (W.model out.old) (W.model out.new) result }
 {
     write_chunk(out, b"#define ")?;
     write_macro_tokens(store, part, out)?;
@@ -48,12 +48,12 @@ pub(crate) fn write_macro<W: Sink>(store: &Store, part: Part, out: &mut W) -> Re
 }
 
 fn write_macro_tokens<W: Sink>(store: &Store, part: Part, out: &mut W) -> Result<(), SinkFault>
-    requires count { W.failed out.old + 1 < 2 ^ 64 }
+    requires count { (W.model out.old).failed + 1 < 2 ^ 64 }
     requires ordered { part.first ≤ part.after }
     requires within { part.after ≤ length (all_tokens store.now.parts) }
-    ensures wrote { Appends W.Sink out.old out.new
-        (all_added (macro_by (replaced_in store.now)) at_start
-        (tokens_of_part store.now part)) result }
+    ensures wrote { Wrote
+        (all_added (macro_by (replaced_in store.now)) at_start (tokens_of_part store.now part))
+        (W.model out.old) (W.model out.new) result }
 {
     let token_reader = store.token_reader();
     let mut left = Left::start();
@@ -72,12 +72,13 @@ fn write_macro_token<W: Sink>(
     number: u32,
     out: &mut W,
 ) -> Result<Left, SinkFault>
-    requires count { W.failed out.old + 1 < 2 ^ 64 }
+    requires count { (W.model out.old).failed + 1 < 2 ^ 64 }
     requires reader { token_reader.now ≡ map direct_bytes (all_tokens store.now.parts) }
     requires within { number < length (all_tokens store.now.parts) }
     ensures next { IfOk result (λ next. next ≡ left_after_token left (token_at store.now number)) }
-    ensures wrote { Appends W.Sink out.old out.new
-        (added (macro_by (replaced_in store.now)) left (token_at store.now number)) result }
+    ensures wrote { Wrote
+        (added (macro_by (replaced_in store.now)) left (token_at store.now number))
+        (W.model out.old) (W.model out.new) result }
 {
     if let (false, Some(direct)) = (left.joined, token_reader.direct(number)) {
         write_direct(left.class, direct, out)?;
@@ -92,9 +93,11 @@ fn write_macro_token<W: Sink>(
 // Fast path: writes a token that is printed as its own bytes.
 #[inline(always)]
 fn write_direct<W: Sink>(class: Class, direct: TokenBytes<'_>, out: &mut W) -> Result<(), SinkFault>
-    requires { W.failed out.old + 1 < 2 ^ 64 }
-    ensures wrote { Appends W.Sink out.old out.new
-        (blank_where (edge_is_apart class direct.entry.edge) ++ continued_by (token_bytes_model direct.entry)) result }
+    requires { (W.model out.old).failed + 1 < 2 ^ 64 }
+    ensures wrote { Wrote
+        (blank_where (edge_is_apart class direct.entry.edge)
+        ++ continued_by (token_bytes_model direct.entry))
+        (W.model out.old) (W.model out.new) result }
 {
     write_blank(out, edge_is_apart(edge_of_class(class), direct.edge))?;
     write_chunk(out, continued_bytes(direct))
@@ -119,11 +122,12 @@ fn write_other<W: Sink>(
     number: u32,
     out: &mut W,
 ) -> Result<Left, SinkFault>
-    requires count { W.failed out.old + 1 < 2 ^ 64 }
+    requires count { (W.model out.old).failed + 1 < 2 ^ 64 }
     requires within { number < length (all_tokens store.now.parts) }
     ensures next { IfOk result (λ next. next ≡ left_after_token left (token_at store.now number)) }
-    ensures wrote { Appends W.Sink out.old out.new
-        (added (macro_by (replaced_in store.now)) left (token_at store.now number)) result }
+    ensures wrote { Wrote
+        (added (macro_by (replaced_in store.now)) left (token_at store.now number))
+        (W.model out.old) (W.model out.new) result }
 {
     let token = store.token(number);
     write_spaced(store, left, &token, out)?;
@@ -136,9 +140,9 @@ fn write_spaced<W: Sink>(
     token: &Token<'_>,
     out: &mut W,
 ) -> Result<(), SinkFault>
-    requires { W.failed out.old + 1 < 2 ^ 64 }
-    ensures wrote { Appends W.Sink out.old out.new
-        (added (macro_by (replaced_in store.now)) left (token_model token.now)) result }
+    requires { (W.model out.old).failed + 1 < 2 ^ 64 }
+    ensures wrote { Wrote (added (macro_by (replaced_in store.now)) left (token_model token.now))
+        (W.model out.old) (W.model out.new) result }
 {
     if left.drops(token) {
         return Ok(());

@@ -1,7 +1,7 @@
 // Line marks (`#line`).
 ghost use Rattle.std.specs.Prelude.{◌≡◌, ◌<◌, ◌+◌, ◌^◌, ◌++◌};
 ghost use Rattle.std.specs.List.{list_any};
-ghost use Rattle.cweb_files.specs.inner.Appends.{Appends};
+ghost use Rattle.cweb_files.specs.Sinks.{Wrote};
 ghost use Rattle.cweb_print.specs.Printing.{mark_line, quoted, quoted_byte};
 ghost use Rattle.cweb_print.specs.inner.PrintParts.{file_name_end, wants_backslash};
 
@@ -17,8 +17,9 @@ pub(crate) fn write_mark<W: Sink>(
     line: u32,
     out: &mut W,
 ) -> Result<(), SinkFault>
-    requires { W.failed out.old + 1 < 2 ^ 64 }
-    ensures wrote { Appends W.Sink out.old out.new (begin.now ++ mark_line name.now line) result }
+    requires { (W.model out.old).failed + 1 < 2 ^ 64 }
+    ensures wrote { Wrote (begin.now ++ mark_line name.now line)
+        (W.model out.old) (W.model out.new) result }
 {
     let mut digits = Buffer::new();
     write_three(out, begin, b"#line ", digits.format(line).as_bytes())?;
@@ -28,8 +29,8 @@ pub(crate) fn write_mark<W: Sink>(
 // Writes the end of a mark, from the blank after the line number on.
 #[inline(always)]
 fn write_file_name<W: Sink>(name: &[u8], out: &mut W) -> Result<(), SinkFault>
-    requires { W.failed out.old + 1 < 2 ^ 64 }
-    ensures wrote { Appends W.Sink out.old out.new (file_name_end name.now) result }
+    requires { (W.model out.old).failed + 1 < 2 ^ 64 }
+    ensures wrote { Wrote (file_name_end name.now) (W.model out.old) (W.model out.new) result }
 {
     write_chunk(out, b" \"")?;
     write_quoted(name, out)?;
@@ -39,8 +40,8 @@ fn write_file_name<W: Sink>(name: &[u8], out: &mut W) -> Result<(), SinkFault>
 // Few names have a quote or a backslash.
 #[inline(always)]
 fn write_quoted<W: Sink>(name: &[u8], out: &mut W) -> Result<(), SinkFault>
-    requires { W.failed out.old + 1 < 2 ^ 64 }
-    ensures wrote { Appends W.Sink out.old out.new (quoted name.now) result }
+    requires { (W.model out.old).failed + 1 < 2 ^ 64 }
+    ensures wrote { Wrote (quoted name.now) (W.model out.old) (W.model out.new) result }
 {
     if has_quotable(name) {
         write_quoted_bytes(name, out)
@@ -51,8 +52,8 @@ fn write_quoted<W: Sink>(name: &[u8], out: &mut W) -> Result<(), SinkFault>
 
 #[inline(never)]
 fn write_quoted_bytes<W: Sink>(name: &[u8], out: &mut W) -> Result<(), SinkFault>
-    requires { W.failed out.old + 1 < 2 ^ 64 }
-    ensures wrote { Appends W.Sink out.old out.new (quoted name.now) result }
+    requires { (W.model out.old).failed + 1 < 2 ^ 64 }
+    ensures wrote { Wrote (quoted name.now) (W.model out.old) (W.model out.new) result }
 {
     'bytes: for byte in name {
         write_quoted_byte(*byte, out)?;
@@ -61,8 +62,8 @@ fn write_quoted_bytes<W: Sink>(name: &[u8], out: &mut W) -> Result<(), SinkFault
 }
 
 fn write_quoted_byte<W: Sink>(byte: u8, out: &mut W) -> Result<(), SinkFault>
-    requires { W.failed out.old + 1 < 2 ^ 64 }
-    ensures wrote { Appends W.Sink out.old out.new (quoted_byte byte) result }
+    requires { (W.model out.old).failed + 1 < 2 ^ 64 }
+    ensures wrote { Wrote (quoted_byte byte) (W.model out.old) (W.model out.new) result }
 {
     if wants_backslash(byte) {
         write_chunk(out, &[b'\\', byte])

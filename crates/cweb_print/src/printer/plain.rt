@@ -1,7 +1,7 @@
 // The bytes of tokens that don't depend on the previous token.
 ghost use Rattle.std.specs.Prelude.{◌≡◌, ◌<◌, ◌+◌, ◌^◌, nat_le};
 ghost use Rattle.std.specs.List.{list_any};
-ghost use Rattle.cweb_files.specs.inner.Appends.{Appends};
+ghost use Rattle.cweb_files.specs.Sinks.{Wrote};
 ghost use Rattle.cweb_store.specs.surface.TokenModels.{token_model};
 ghost use Rattle.cweb_print.specs.Printing.{plain_bytes, word_byte, word_bytes};
 ghost use Rattle.cweb_print.specs.inner.PrintParts.{numbered_comment};
@@ -21,8 +21,8 @@ fn hex_digit(n: u8) -> u8
 
 // The replacement of a byte from 128 on: the store's, or `X` and two hexadecimal digits.
 fn write_replaced<W: Sink>(store: &Store, byte: u8, out: &mut W) -> Result<(), SinkFault>
-    requires { W.failed out.old + 1 < 2 ^ 64 }
-    ensures wrote { Appends W.Sink out.old out.new (replaced_in store.now byte) result }
+    requires { (W.model out.old).failed + 1 < 2 ^ 64 }
+    ensures wrote { Wrote (replaced_in store.now byte) (W.model out.old) (W.model out.new) result }
 {
     match store.replacement(byte) {
         Some(text) => write_chunk(out, text),
@@ -31,8 +31,9 @@ fn write_replaced<W: Sink>(store: &Store, byte: u8, out: &mut W) -> Result<(), S
 }
 
 fn write_word_byte<W: Sink>(store: &Store, byte: u8, out: &mut W) -> Result<(), SinkFault>
-    requires { W.failed out.old + 1 < 2 ^ 64 }
-    ensures wrote { Appends W.Sink out.old out.new (word_byte (replaced_in store.now) byte) result }
+    requires { (W.model out.old).failed + 1 < 2 ^ 64 }
+    ensures wrote { Wrote (word_byte (replaced_in store.now) byte)
+        (W.model out.old) (W.model out.new) result }
 {
     if byte >= 128 {
         write_replaced(store, byte, out)
@@ -43,9 +44,9 @@ fn write_word_byte<W: Sink>(store: &Store, byte: u8, out: &mut W) -> Result<(), 
 
 // Most Words are ASCII and need only one write.
 fn write_word<W: Sink>(store: &Store, bytes: &[u8], out: &mut W) -> Result<(), SinkFault>
-    requires { W.failed out.old + 1 < 2 ^ 64 }
-    ensures wrote { Appends W.Sink out.old out.new
-        (word_bytes (replaced_in store.now) bytes.now) result }
+    requires { (W.model out.old).failed + 1 < 2 ^ 64 }
+    ensures wrote { Wrote (word_bytes (replaced_in store.now) bytes.now)
+        (W.model out.old) (W.model out.new) result }
 {
     if has_high_byte(bytes) {
         write_word_bytes(store, bytes, out)
@@ -56,9 +57,9 @@ fn write_word<W: Sink>(store: &Store, bytes: &[u8], out: &mut W) -> Result<(), S
 
 #[inline(never)]
 fn write_word_bytes<W: Sink>(store: &Store, bytes: &[u8], out: &mut W) -> Result<(), SinkFault>
-    requires { W.failed out.old + 1 < 2 ^ 64 }
-    ensures wrote { Appends W.Sink out.old out.new
-        (word_bytes (replaced_in store.now) bytes.now) result }
+    requires { (W.model out.old).failed + 1 < 2 ^ 64 }
+    ensures wrote { Wrote (word_bytes (replaced_in store.now) bytes.now)
+        (W.model out.old) (W.model out.new) result }
 {
     'bytes: for byte in bytes {
         write_word_byte(store, *byte, out)?;
@@ -79,9 +80,9 @@ fn write_numbered<W: Sink>(
     after: &[u8],
     out: &mut W,
 ) -> Result<(), SinkFault>
-    requires { W.failed out.old + 1 < 2 ^ 64 }
-    ensures wrote { Appends W.Sink out.old out.new
-        (numbered_comment before.now section after.now) result }
+    requires { (W.model out.old).failed + 1 < 2 ^ 64 }
+    ensures wrote { Wrote (numbered_comment before.now section after.now)
+        (W.model out.old) (W.model out.new) result }
 {
     let mut digits = Buffer::new();
     write_three(out, before, digits.format(section).as_bytes(), after)
@@ -94,9 +95,9 @@ pub(crate) fn write_plain<W: Sink>(
     token: &Token<'_>,
     out: &mut W,
 ) -> Result<(), SinkFault>
-    requires { W.failed out.old + 1 < 2 ^ 64 }
-    ensures wrote { Appends W.Sink out.old out.new
-        (plain_bytes (replaced_in store.now) (token_model token.now)) result }
+    requires { (W.model out.old).failed + 1 < 2 ^ 64 }
+    ensures wrote { Wrote (plain_bytes (replaced_in store.now) (token_model token.now))
+        (W.model out.old) (W.model out.new) result }
 {
     match token {
         Token::Word(bytes) => write_word(store, bytes, out),

@@ -4,22 +4,20 @@ use Rattle.cweb_print.proofs.Steps.{print-push}
 use Rattle.cweb_print.proofs.printer.Printer.append.Goals as goal
 
 pub returns-in_err-append_token-clause-prints : goal.returns-in_err-append_token-clause-prints
-returns-in_err-append_token-clause-prints g c = λ tells ts is.
+returns-in_err-append_token-clause-prints g c = λ ts is.
     let s = setting_of c.args.self.now in
     let left = left_in_printer c.args.self.now in
     let t = token_model c.args.token in
-    adds_err (print s ts) (print s (ts ++ t ∷ [])) (g.W.Sink.written c.args.out.now ++ c.args.buffer.now.bytes)
-    (g.W.Sink.written c.append_token.new.out ++ c.append_token.new.buffer.bytes) (added (file_by s) left t)
-    c.from_residual.result c.from_residual.ensures.0 (print-push s left ts t is)
-    (c.in_err-append_token.ensures.wrote tells)
+    adds_err (print s ts) (print s (ts ++ t ∷ [])) (added (file_by s) left t) _ _ c.from_residual.result
+    c.from_residual.ensures.0 (print-push s left ts t is) c.in_err-append_token.ensures
 
 pub returns-clause-prints : goal.returns-clause-prints
-returns-clause-prints g c = λ tells ts is.
+returns-clause-prints g c = λ ts is.
     let s = setting_of c.args.self.now in
     let left = left_in_printer c.args.self.now in
     let t = token_model c.args.token in
     record {
       bytes = added (file_by s) left t;
       expected = print-push s left ts t is;
-      written = c.in_ok-append_token.ensures.wrote tells;
+      wrote = c.in_ok-append_token.ensures;
     }

@@ -1,6 +1,5 @@
-use Rattle.cweb_print.proofs.Common.{◌≤◌, ◌++◌, length, All, all_tokens}
-use Rattle.cweb_print.proofs.AppendedParts.{AppendedBefore}
-use Rattle.cweb_print.proofs.Buffering.{buffered_sink}
+use Rattle.cweb_print.proofs.Common.{◌≤◌, ◌++◌, length, All, all_tokens, written}
+use Rattle.cweb_print.proofs.AppendedParts.{WrittenBefore}
 use Rattle.cweb_print.proofs.MacroLines.{lines}
 use Rattle.cweb_print.specs.inner.Printables.{all_macro_lines, printable_bytes}
 use Rattle.cweb_print.specs.declared.printer.buffered.Printable.{Printable}
@@ -10,7 +9,8 @@ abbrev pub invariant-macros : goal.invariant-macros
 invariant-macros g l = record {
   ordered : All (λ p. p.first ≤ p.after) l.parts;
   within : All (λ p. p.after ≤ length (all_tokens l.self.store.now.parts)) l.parts;
-  appended : AppendedBefore (buffered_sink g.W.Sink) (l.fn.out, l.fn.buffer.bytes) (l.out, l.buffer.bytes)
+  wrote : WrittenBefore (written l.fn.buffer.bytes (g.W.Sink.model l.fn.out))
+      (written l.buffer.bytes (g.W.Sink.model l.out))
       (printable_bytes l.self Printable.LineStart ++ all_macro_lines l.self) (lines l.self.store.now l.parts);
 }
 

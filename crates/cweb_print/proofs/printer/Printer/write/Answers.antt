@@ -4,21 +4,20 @@ use Rattle.cweb_print.proofs.Steps.{print-push}
 use Rattle.cweb_print.proofs.printer.Printer.write.Goals as goal
 
 pub returns-in_err-write_token-clause-prints : goal.returns-in_err-write_token-clause-prints
-returns-in_err-write_token-clause-prints g c = λ tells ts is.
+returns-in_err-write_token-clause-prints g c = λ ts is.
     let s = setting_of c.args.self.now in
     let left = left_in_printer c.args.self.now in
     let t = token_model c.args.token in
-    adds_err (print s ts) (print s (ts ++ t ∷ [])) (g.W.Sink.written c.args.out.now)
-    (g.W.Sink.written c.write_token.new.out) (added (file_by s) left t) c.from_residual.result
-    c.from_residual.ensures.0 (print-push s left ts t is) (c.in_err-write_token.ensures.wrote.wrote tells)
+    adds_err (print s ts) (print s (ts ++ t ∷ [])) (added (file_by s) left t) _ _ c.from_residual.result
+    c.from_residual.ensures.0 (print-push s left ts t is) c.in_err-write_token.ensures.wrote
 
 pub returns-clause-prints : goal.returns-clause-prints
-returns-clause-prints g c = λ tells ts is.
+returns-clause-prints g c = λ ts is.
     let s = setting_of c.args.self.now in
     let left = left_in_printer c.args.self.now in
     let t = token_model c.args.token in
     record {
       bytes = added (file_by s) left t;
       expected = print-push s left ts t is;
-      written = c.in_ok-write_token.ensures.wrote.wrote tells;
+      wrote = c.in_ok-write_token.ensures.wrote;
     }

@@ -1,5 +1,5 @@
 use Rattle.cweb_print.proofs.Common.{◌∙◌, sym, ap, false, Some, option_map, Class, token_bytes_model}
-use Rattle.cweb_print.proofs.AppendedParts.{appends_as, appends_err}
+use Rattle.cweb_print.proofs.AppendedParts.{wrote_as, wrote_err}
 use Rattle.cweb_print.proofs.Continued.{direct_added, direct_leaves}
 use Rattle.cweb_print.proofs.printer.macros.write_macro_token.Goals as goal
 
@@ -7,8 +7,7 @@ pub returns-in_err-write_direct-clause-wrote : goal.returns-in_err-write_direct-
 returns-in_err-write_direct-clause-wrote g c =
     let l = token_bytes_model c.in-false-Some.direct in
     let is = c.direct.ensures ∙ ap (λ o. Some (option_map token_bytes_model o)) c.in-false-Some.is-1 in
-    appends_err g.W.Sink c.args.out.now c.write_direct.new.out _ _ _ c.from_residual.result c.from_residual.ensures.0
-    (sym (direct_added c.args.store.now c.args.left c.args.number l c.in-false-Some.is-0
+    wrote_err _ _ _ _ c.from_residual.result c.from_residual.ensures.0 (sym (direct_added c.args.store.now c.args.left c.args.number l c.in-false-Some.is-0
     c.args.token_reader.now c.requires.reader is))
     c.in_err-write_direct.ensures.wrote
 
@@ -24,7 +23,5 @@ pub returns-in-false-Some-clause-wrote : goal.returns-in-false-Some-clause-wrote
 returns-in-false-Some-clause-wrote g c =
     let l = token_bytes_model c.in-false-Some.direct in
     let is = c.direct.ensures ∙ ap (λ o. Some (option_map token_bytes_model o)) c.in-false-Some.is-1 in
-    appends_as g.W.Sink c.args.out.now c.write_direct.new.out _ _ _ _
-    (sym (direct_added c.args.store.now c.args.left c.args.number l c.in-false-Some.is-0
-    c.args.token_reader.now c.requires.reader is))
-    c.in_ok-write_direct.ensures.wrote
+    wrote_as (sym (direct_added c.args.store.now c.args.left c.args.number l c.in-false-Some.is-0
+    c.args.token_reader.now c.requires.reader is)) c.in_ok-write_direct.ensures.wrote

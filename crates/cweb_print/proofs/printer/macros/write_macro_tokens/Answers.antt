@@ -1,5 +1,5 @@
-use Rattle.cweb_print.proofs.Common.{rules, length, ◌<◌, arith, Ok, slice_range, all_tokens, added, all_added, at_start, macro_by, replaced_in}
-use Rattle.cweb_files.proofs.Appending.{appended, appended_none, appends_same, appends_then}
+use Rattle.cweb_print.proofs.Common.{◌∙◌, ap, List, ℕ, written, rules, length, ◌<◌, arith, slice_range, all_tokens, added, all_added, at_start, macro_by, replaced_in}
+use Rattle.cweb_files.proofs.Appending.{written_none, written_then}
 use Rattle.cweb_print.proofs.AppendedParts.{second_until}
 use Rattle.cweb_print.proofs.MacroLines.{left_more, none_added, one_added, tokens_at}
 use Rattle.cweb_print.proofs.Ranges.{there}
@@ -13,8 +13,8 @@ tokens-init g c =
       from = omega arith;
       end = search rules;
       left = search rules;
-      appended = appends_same g.W.Sink c.args.out.now c.args.out.now _ _ (Ok tt)
-          (none_added by ts c.args.part.first) (appended_none g.W.Sink c.args.out.now);
+      wrote = written_none (g.W.Sink.model c.args.out.now)
+          ∙ ap (λ (t : List ℕ). written t (g.W.Sink.model c.args.out.now)) (none_added by ts c.args.part.first);
     }
 
 pub tokens-preserved : goal.tokens-preserved
@@ -31,13 +31,11 @@ tokens-preserved g c =
       end = c.tokens.invariant.end;
       left = left_more ts first n t c.tokens.left c.in_ok-left.left c.tokens.invariant.from
           (there w n within) c.tokens.invariant.left c.in_ok-left.ensures.next;
-      appended = appends_same g.W.Sink c.args.out.now c.write_macro_token.new.out _ _ (Ok tt)
-          (one_added by ts first n t c.tokens.left c.tokens.invariant.from
-          (there w n within) c.tokens.invariant.left)
-          (appends_then g.W.Sink c.args.out.now c.tokens.out c.write_macro_token.new.out
-          (all_added by at_start (slice_range ts first n)) (added by c.tokens.left t) tt (Ok tt)
-          c.tokens.invariant.appended (appended g.W.Sink c.tokens.out c.write_macro_token.new.out
-          (added by c.tokens.left t) _ c.in_ok-left.ensures.wrote));
+      wrote = written_then (all_added by at_start (slice_range ts first n)) (added by c.tokens.left t)
+          (g.W.Sink.model c.args.out.now) c.tokens.invariant.wrote c.in_ok-left.ensures.wrote
+          ∙ ap (λ (text : List ℕ). written text (g.W.Sink.model c.args.out.now))
+          (one_added by ts first n t c.tokens.left c.tokens.invariant.from (there w n within)
+          c.tokens.invariant.left);
     }
 
 pub returns-in_err-left : goal.returns-in_err-left
@@ -49,9 +47,6 @@ returns-in_err-left g c =
     let t = token_at w n in
     let lt : n < c.args.part.after = omega (arith, c.tokens-test.true, c.tokens.invariant.end) in
     let within : n < length ts = omega (arith, lt, c.requires.within) in record {
-      wrote = second_until g.W.Sink c.args.out.now c.tokens.out c.write_macro_token.new.out _ _ _ _ tt _
-          c.from_residual.result c.from_residual.ensures.0
-          (tokens_at (macro_by (replaced_in w)) ts first n c.args.part.after t c.tokens.left c.tokens.invariant.from lt
-          c.requires.within (there w n within) c.tokens.invariant.left)
-          c.tokens.invariant.appended c.in_err-left.ensures.wrote;
+      wrote = second_until _ _ _ _ _ _ _ c.from_residual.result c.from_residual.ensures.0 (tokens_at (macro_by (replaced_in w)) ts first n c.args.part.after t c.tokens.left c.tokens.invariant.from lt
+          c.requires.within (there w n within) c.tokens.invariant.left) c.tokens.invariant.wrote c.in_err-left.ensures.wrote;
     }

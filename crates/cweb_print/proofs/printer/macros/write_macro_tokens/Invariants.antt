@@ -1,5 +1,4 @@
-use Rattle.cweb_print.proofs.Common.{◌≡◌, ◌≤◌, slice_range, all_tokens, all_added, at_start, left_after_tokens, macro_by, replaced_in}
-use Rattle.cweb_files.proofs.Appending.{Appended}
+use Rattle.cweb_print.proofs.Common.{written, ◌≡◌, ◌≤◌, slice_range, all_tokens, all_added, at_start, left_after_tokens, macro_by, replaced_in}
 use Rattle.cweb_print.proofs.printer.macros.write_macro_tokens.Given as goal
 
 abbrev pub invariant-tokens : goal.invariant-tokens
@@ -7,6 +6,6 @@ invariant-tokens g l = record {
   from : l.fn.part.first ≤ l.number;
   end : l.number-end ≡ l.fn.part.after;
   left : l.left ≡ left_after_tokens (slice_range (all_tokens l.store.parts) l.fn.part.first l.number);
-  appended : Appended g.W.Sink l.fn.out l.out (all_added (macro_by (replaced_in l.store)) at_start
-      (slice_range (all_tokens l.store.parts) l.fn.part.first l.number));
+  wrote : g.W.Sink.model l.out ≡ written (all_added (macro_by (replaced_in l.store)) at_start
+      (slice_range (all_tokens l.store.parts) l.fn.part.first l.number)) (g.W.Sink.model l.fn.out);
 }

@@ -1,17 +1,17 @@
 use Rattle.cweb_print.proofs.Common.{◌≡◌, ◌≤◌, ◌∷◌, ◌∙◌, ap, sym, subst, length, List, ℕ, Part, all_tokens, macro_line, replaced_in, tokens_of_part}
-use Rattle.cweb_print.proofs.AppendedParts.{AppendedBefore, before_none, before_then, before_until}
+use Rattle.cweb_print.proofs.AppendedParts.{WrittenBefore, before_none, before_then, before_until}
 use Rattle.cweb_print.proofs.MacroLines.{All-tail, all_lines, lines, lines_are}
 use Rattle.cweb_print.proofs.printer.macros.write_macros.Goals as goal
 
 pub macros-init : goal.macros-init
 macros-init g c =
     let w = c.args.store.now in
+    let sink = g.W.Sink.model c.args.out.now in
     record {
       ordered = c.macros-parts.ensures.ordered;
       within = c.macros-parts.ensures.within;
-      appended = subst (λ (t : List ℕ). AppendedBefore g.W.Sink c.args.out.now c.args.out.now (all_lines w) t)
-          (sym (ap (lines w) c.macros-parts.ensures.numbers ∙ lines_are w))
-          (before_none g.W.Sink c.args.out.now (all_lines w));
+      wrote = subst (λ (t : List ℕ). WrittenBefore sink sink (all_lines w) t)
+          (sym (ap (lines w) c.macros-parts.ensures.numbers ∙ lines_are w)) (before_none sink (all_lines w));
     }
 
 pub macros-preserved : goal.macros-preserved
@@ -23,10 +23,9 @@ macros-preserved g c =
           c.next.new.self c.in-Some.part is c.macros.invariant.ordered).1;
       within = (All-tail (λ (p : Part). p.after ≤ length (all_tokens w.parts)) c.macros.parts
           c.next.new.self c.in-Some.part is c.macros.invariant.within).1;
-      appended = before_then g.W.Sink c.args.out.now c.macros.out c.write_macro.new.out (all_lines w)
-          (macro_line (replaced_in w) (tokens_of_part w c.in-Some.part)) (lines w c.next.new.self) _
-          (subst (λ (ps : List Part). AppendedBefore g.W.Sink c.args.out.now c.macros.out (all_lines w) (lines w ps)) is
-          c.macros.invariant.appended) c.in_ok-write_macro.ensures.wrote;
+      wrote = before_then (macro_line (replaced_in w) (tokens_of_part w c.in-Some.part)) (lines w c.next.new.self)
+          (subst (λ (ps : List Part). WrittenBefore _ _ (all_lines w) (lines w ps)) is c.macros.invariant.wrote)
+          c.in_ok-write_macro.ensures.wrote;
     }
 
 pub returns-in_err-write_macro : goal.returns-in_err-write_macro
@@ -34,9 +33,8 @@ returns-in_err-write_macro g c =
     let w = c.args.store.now in
     let is : c.macros.parts ≡ c.in-Some.part ∷ c.next.new.self = c.in-Some.ensures.steps in
     record {
-      wrote = before_until g.W.Sink c.args.out.now c.macros.out c.write_macro.new.out (all_lines w)
-          (macro_line (replaced_in w) (tokens_of_part w c.in-Some.part)) (lines w c.next.new.self) _
-          c.from_residual.result c.from_residual.ensures.0
-          (subst (λ (ps : List Part). AppendedBefore g.W.Sink c.args.out.now c.macros.out (all_lines w) (lines w ps)) is
-          c.macros.invariant.appended) c.in_err-write_macro.ensures.wrote;
+      wrote = before_until _ _ _ (all_lines w) (macro_line (replaced_in w) (tokens_of_part w c.in-Some.part))
+          (lines w c.next.new.self) c.from_residual.result c.from_residual.ensures.0
+          (subst (λ (ps : List Part). WrittenBefore _ _ (all_lines w) (lines w ps)) is c.macros.invariant.wrote)
+          c.in_err-write_macro.ensures.wrote;
     }

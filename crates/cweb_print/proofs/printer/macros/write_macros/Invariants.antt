@@ -1,5 +1,5 @@
 use Rattle.cweb_print.proofs.Common.{◌≤◌, length, All, all_tokens}
-use Rattle.cweb_print.proofs.AppendedParts.{AppendedBefore}
+use Rattle.cweb_print.proofs.AppendedParts.{WrittenBefore}
 use Rattle.cweb_print.proofs.MacroLines.{lines, all_lines}
 use Rattle.cweb_print.proofs.printer.macros.write_macros.Given as goal
 
@@ -7,7 +7,7 @@ abbrev pub invariant-macros : goal.invariant-macros
 invariant-macros g l = record {
   ordered : All (λ p. p.first ≤ p.after) l.parts;
   within : All (λ p. p.after ≤ length (all_tokens l.store.parts)) l.parts;
-  appended : AppendedBefore g.W.Sink l.fn.out l.out (all_lines l.store) (lines l.store l.parts);
+  wrote : WrittenBefore (g.W.Sink.model l.fn.out) (g.W.Sink.model l.out) (all_lines l.store) (lines l.store l.parts);
 }
 
 abbrev pub decreases-macros : goal.decreases-macros

@@ -1,13 +1,11 @@
 use Rattle.cweb_print.proofs.Common.{◌∙◌, sym, ap, token_model, added, macro_by, replaced_in, left_after_token}
-use Rattle.cweb_print.proofs.AppendedParts.{appends_as, appends_err}
+use Rattle.cweb_print.proofs.AppendedParts.{wrote_as, wrote_err}
 use Rattle.cweb_print.proofs.Ranges.{at_index}
 use Rattle.cweb_print.proofs.printer.macros.write_other.Goals as goal
 
 pub returns-in_err-write_spaced-clause-wrote : goal.returns-in_err-write_spaced-clause-wrote
 returns-in_err-write_spaced-clause-wrote g c =
-    appends_err g.W.Sink c.args.out.now c.write_spaced.new.out _ _ _ c.from_residual.result
-    c.from_residual.ensures.0
-    (ap (added (macro_by (replaced_in c.args.store.now)) c.args.left)
+    wrote_err _ _ _ _ c.from_residual.result c.from_residual.ensures.0 (ap (added (macro_by (replaced_in c.args.store.now)) c.args.left)
     (sym (at_index c.args.store.now c.args.number (token_model c.token-token.result) c.token-token.ensures)))
     c.in_err-write_spaced.ensures.wrote
 
@@ -17,7 +15,5 @@ returns-clause-next g c = c.after.ensures ∙ ap (left_after_token c.args.left)
 
 pub returns-clause-wrote : goal.returns-clause-wrote
 returns-clause-wrote g c =
-    appends_as g.W.Sink c.args.out.now c.write_spaced.new.out _ _ _ _
-    (ap (added (macro_by (replaced_in c.args.store.now)) c.args.left)
-    (sym (at_index c.args.store.now c.args.number (token_model c.token-token.result) c.token-token.ensures)))
-    c.in_ok-write_spaced.ensures.wrote
+    wrote_as (ap (added (macro_by (replaced_in c.args.store.now)) c.args.left)
+    (sym (at_index c.args.store.now c.args.number (token_model c.token-token.result) c.token-token.ensures))) c.in_ok-write_spaced.ensures.wrote
