@@ -14,7 +14,6 @@ pub use Rattle.std.specs.List.{flat_map, after_last, before_last, list_any, suff
 pub use Rattle.std.specs.Option.{option_copied}
 pub use Rattle.std.specs.Prelude.{IfOk, IsErrOf, is_some, option_and_then, option_map, slice_get, IsTrue, OnOk, OnErr}
 pub use Rattle.std.specs.Prelude.{IsErr, ◌==◌, if◌then◌else◌, codes, slice_index_or, slice_range}
-pub use Rattle.cweb_files.specs.surface.Frames.{WritesPrefix}
 pub use Rattle.cweb_files.specs.declared.device.SinkFault.{SinkFault}
 pub use Rattle.cweb_input.specs.declared.fault.SourceFault.{SourceFault}
 pub use Rattle.cweb_input.specs.declared.stop.Stop.{Stop}
@@ -41,7 +40,8 @@ pub use Rattle.cweb_store.specs.declared.parts.PartKind.TheVariants.{Unnamed, Na
 pub use Rattle.cweb_log.specs.CommandLine.{OptionsModel, TangleNames, named_by, names_by, options_by, other_words}
 pub use Rattle.cweb_log.specs.CommandLine.{shown_by_default, words_shown, stem, letters_shown, web_names_by, is_dot}
 pub use Rattle.cweb_log.specs.CommandLine.{has_extension}
-pub use Rattle.cweb_log.specs.DeviceModels.{StreamModel, stream_model, known, appended, written, FailsWithin, Logs}
+pub use Rattle.cweb_files.specs.Sinks.{FailsWithin, SinkModel, Wrote, written}
+pub use Rattle.cweb_log.specs.DeviceModels.{known, Logs}
 pub use Rattle.cweb_log.specs.DeviceModels.{logged, log_failed}
 pub use Rattle.cweb_log.specs.Items.{LogItem, line, star, source_item, name_items, refusal_message}
 pub use Rattle.cweb_log.specs.inner.LogText.{items_of}
@@ -52,5 +52,5 @@ pub use Rattle.cweb_log.specs.declared.options.Options.{Options}
 pub use Rattle.cweb_log.specs.declared.shown.Shown.{Shown}
 pub use Rattle.cweb_log.specs.inner.LogBuffer.{unwritten_bytes}
 pub use Rattle.cweb_log.specs.declared.log_buffer.LogBuffer.{LogBuffer}
-pub use Rattle.cweb_log.specs.inner.LogWriting.{WritesToStream, Buffers, AppendsToLog}
+pub use Rattle.cweb_log.specs.inner.LogWriting.{Buffers, AppendsToLog}
 pub use Rattle.cweb_log.specs.surface.Options.{options_of}

@@ -1,9 +1,9 @@
 // A log buffer in a small array. No function here allocates.
 ghost use Rattle.std.specs.Prelude.{◌≡◌, ◌≤◌, ◌<◌, ◌+◌, ◌^◌, ◌++◌, [], length, OnOk};
-ghost use Rattle.cweb_log.specs.inner.LogWriting.{WritesToStream, AppendsToLog};
+ghost use Rattle.cweb_files.specs.Sinks.{Wrote};
+ghost use Rattle.cweb_log.specs.inner.LogWriting.{AppendsToLog};
 ghost use Rattle.cweb_log.specs.inner.Chunks.{joined_parts, part_bytes};
 ghost use Rattle.cweb_log.specs.declared.log_buffer.TheConstants.{ROOM};
-ghost use Rattle.cweb_log.specs.DeviceModels.{stream_model};
 
 use crate::chunks::Part;
 use cweb_lines::{Sink, SinkFault, write_all};
@@ -38,9 +38,9 @@ impl LogBuffer {
         log: &mut L,
         parts: &[Part<'_>],
     ) -> Result<(), SinkFault>
-        requires { L.failed log.old + 1 < 2 ^ 64 }
+        requires { (L.model log.old).failed + 1 < 2 ^ 64 }
         ensures { AppendsToLog (joined_parts parts.now)
-            (stream_model L.Sink log.old) (stream_model L.Sink log.new)
+            (L.model log.old) (L.model log.new)
             (unwritten_bytes self.old) (unwritten_bytes self.new) result }
     {
         'parts: for part in parts {
@@ -50,9 +50,9 @@ impl LogBuffer {
     }
 
     fn add_part<L: Sink>(&mut self, log: &mut L, part: Part<'_>) -> Result<(), SinkFault>
-        requires { L.failed log.old + 1 < 2 ^ 64 }
+        requires { (L.model log.old).failed + 1 < 2 ^ 64 }
         ensures { AppendsToLog (part_bytes part.entry)
-            (stream_model L.Sink log.old) (stream_model L.Sink log.new)
+            (L.model log.old) (L.model log.new)
             (unwritten_bytes self.old) (unwritten_bytes self.new) result }
     {
         match part {
@@ -66,9 +66,9 @@ impl LogBuffer {
 
     /// Appends bytes. If they don't fit, flushes the buffer first. If they are longer than the array, writes them at once.
     fn add<L: Sink>(&mut self, log: &mut L, bytes: &[u8]) -> Result<(), SinkFault>
-        requires { L.failed log.old + 1 < 2 ^ 64 }
+        requires { (L.model log.old).failed + 1 < 2 ^ 64 }
         ensures { AppendsToLog bytes.now
-            (stream_model L.Sink log.old) (stream_model L.Sink log.new)
+            (L.model log.old) (L.model log.new)
             (unwritten_bytes self.old) (unwritten_bytes self.new) result }
     {
         if bytes.len() > ROOM - self.len {
@@ -93,9 +93,9 @@ impl LogBuffer {
 
     /// Flushes the buffer.
     pub(crate) fn pass_on<L: Sink>(&mut self, log: &mut L) -> Result<(), SinkFault>
-        requires { L.failed log.old + 1 < 2 ^ 64 }
-        ensures writes { WritesToStream (unwritten_bytes self.old)
-            (stream_model L.Sink log.old) (stream_model L.Sink log.new) result }
+        requires { (L.model log.old).failed + 1 < 2 ^ 64 }
+        ensures writes { Wrote (unwritten_bytes self.old)
+            (L.model log.old) (L.model log.new) result }
         ensures empty { OnOk result (unwritten_bytes self.new ≡ []) }
     {
         write_all(log, &self.bytes[..self.len])?;

@@ -1,11 +1,11 @@
 // Writes to the log. No function here allocates.
 ghost use Rattle.std.specs.Prelude.{◌≡◌, ◌<◌, ◌+◌, ◌^◌};
 ghost use Rattle.std.specs.List.{flat_map};
-ghost use Rattle.cweb_log.specs.DeviceModels.{Logs, stream_model};
+ghost use Rattle.cweb_files.specs.Sinks.{Wrote};
+ghost use Rattle.cweb_log.specs.DeviceModels.{Logs};
 ghost use Rattle.cweb_log.specs.Items.{line};
 ghost use Rattle.cweb_log.specs.Log.{stop_line};
 ghost use Rattle.cweb_log.specs.inner.LogText.{items_of};
-ghost use Rattle.cweb_log.specs.inner.LogWriting.{WritesToStream};
 
 use crate::log_buffer::LogBuffer;
 use crate::log_text::{LogLine, LogText};
@@ -14,9 +14,9 @@ use cweb_lines::{Sink, SinkFault, Stop};
 /// Writes a text to the log. A text that fits the buffer takes one write.
 #[inline(never)]
 pub fn write_log<L: Sink>(log: &mut L, text: LogText<'_>) -> Result<(), SinkFault>
-    requires { L.failed log.old + 1 < 2 ^ 64 }
-    ensures { WritesToStream (flat_map line (items_of text.entry))
-        (stream_model L.Sink log.old) (stream_model L.Sink log.new) result }
+    requires { (L.model log.old).failed + 1 < 2 ^ 64 }
+    ensures { Wrote (flat_map line (items_of text.entry))
+        (L.model log.old) (L.model log.new) result }
 {
     let mut log_buffer = LogBuffer::new();
     'chunks: for index in 0..text.chunks() {
@@ -27,10 +27,10 @@ pub fn write_log<L: Sink>(log: &mut L, text: LogText<'_>) -> Result<(), SinkFaul
 
 /// Writes the line of a stop, and returns the exit status of such a run.
 pub fn log_stop<L: Sink>(log: &mut L, stop: Stop, name: &str) -> u8
-    requires { L.failed log.old + 1 < 2 ^ 64 }
+    requires { (L.model log.old).failed + 1 < 2 ^ 64 }
     ensures status { result ≡ 1 }
     ensures logs { Logs (stop_line stop name.now)
-        (stream_model L.Sink log.old) (stream_model L.Sink log.new) }
+        (L.model log.old) (L.model log.new) }
 {
     let _ = write_log(log, LogText::Line(LogLine::Stopped(stop, name)));
     1

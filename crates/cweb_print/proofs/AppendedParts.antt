@@ -1,33 +1,7 @@
 -- Strings that are written part by part.
-use Rattle.cweb_print.proofs.Common.{arith, ap, ◌≡◌, ◌<◌, ◌+◌, ◌++◌, [], ◌∷◌, ◌∙◌, refl, sym, append_assoc, append-nil, ℕ, List, length, take, drop, suc, get_or, Result, Ok, Err, IsErr, flat_map, take_more, FailsWithin, SinkModel, Wrote, written}
-use Rattle.std.proofs.Common.{drop-cons}
-use Rattle.std.proofs.lemmas.List.{take-append-drop}
-use Rattle.std.proofs.lemmas.List.Concat.{flat_map-append}
+use Rattle.cweb_print.proofs.Common.{ap, ◌≡◌, ◌<◌, ◌+◌, ◌++◌, [], ◌∙◌, refl, sym, append_assoc, append-nil, ℕ, List, length, take, drop, suc, get_or, Result, IsErr, flat_map, FailsWithin, SinkModel, Wrote, written}
+use Rattle.cweb_files.proofs.JoinedParts.{flat_at, flat_more}
 use Rattle.cweb_files.proofs.Appending.{fails_then, written_none, written_then, wrote_same, wrote_then, wrote_until}
-
--- A list's strings: those before an item, that of the item, and those after it.
-flat_at : {X : Type 0} (f : X → List ℕ) (xs : List X) (i : ℕ) (d : X) → i < length xs
-    → flat_map f xs ≡ (flat_map f (take i xs) ++ f (get_or xs i d)) ++ flat_map f (drop (suc i) xs)
-flat_at f xs i d lt =
-    grind (
-      arith,
-      take-append-drop i xs,
-      flat_map-append f (take i xs) (drop i xs),
-      drop-cons xs i d lt,
-      append_assoc
-          (flat_map f (take i xs)) (f (get_or xs i d)) (flat_map f (drop (suc i) xs)),
-      f (get_or xs i d),
-    )
-
-flat_more : {X : Type 0} (f : X → List ℕ) (xs : List X) (i : ℕ) (d : X) → i < length xs
-    → flat_map f (take i xs) ++ f (get_or xs i d) ≡ flat_map f (take (i + 1) xs)
-flat_more f xs i d lt =
-    grind (
-      arith,
-      take_more xs i d lt,
-      flat_map-append f (take i xs) (get_or xs i d ∷ []),
-      append-nil (f (get_or xs i d)),
-    )
 
 -- A prefix of a string was written, and the rest is to come.
 pub record WrittenBefore (old new : SinkModel) (text rest : List ℕ) : Type 0 where
@@ -50,10 +24,6 @@ pub items_until : {X B F : Type 0} (f : X → List ℕ) (xs : List X) (i : ℕ) 
 items_until f xs i d a b c r lt is before here =
     wrote_until (flat_map f xs) _ (flat_map f (drop (suc i) xs)) a c r is (flat_at f xs i d lt)
     (fails_then (flat_map f (take i xs)) before here)
-
--- All was written.
-pub wrote_as : {text other : List ℕ} {a b : SinkModel} → text ≡ other → b ≡ written text a → b ≡ written other a
-wrote_as {a = a} same wrote = wrote ∙ ap (λ (t : List ℕ). written t a) same
 
 -- A fault within a string.
 pub wrote_err : {B F : Type 0} (text other : List ℕ) (a b : SinkModel) (r : Result B F) → IsErr r

@@ -1,19 +1,19 @@
-use Rattle.cweb_log.proofs.Common.{[], sym, refl, arith, chunks_of}
-use Rattle.cweb_log.proofs.BufferedLog.{buffers_all, buffers_failed, buffers_next, writes_all, writes_prefix}
+use Rattle.cweb_log.proofs.Common.{[], sym, arith, chunks_of}
+use Rattle.cweb_log.proofs.BufferedLog.{buffers_all, buffers_next, fails_at, writes_all, writes_prefix}
 use Rattle.cweb_log.proofs.JoinedChunks.{bytes, joined_is}
 use Rattle.cweb_log.proofs.writing.write_log.Goals as goal
 
 pub returns-in_err-add_chunk : goal.returns-in_err-add_chunk
-returns-in_err-add_chunk g c = rw (sym (joined_is c.args.text)) (writes_prefix {A = Unit {0}}
-    c.in_err-add_chunk.field-0.0 _ (buffers_failed bytes (chunks_of c.args.text) c.chunks.index [] _ _
+returns-in_err-add_chunk g c = rw (sym (joined_is c.args.text)) (writes_prefix _
+    (fails_at bytes (chunks_of c.args.text) c.chunks.index []
     (omega (arith, c.chunks-test.true, c.chunks-index-end.ensures)) c.chunks.invariant
-    (rw c.chunk.ensures at c.in_err-add_chunk.ensures) refl) c.from_residual.ensures.0)
+    (rw c.chunk.ensures at c.in_err-add_chunk.ensures)) c.from_residual.ensures.0)
 
 pub chunks-preserved : goal.chunks-preserved
-chunks-preserved g c = buffers_next bytes (chunks_of c.args.text) c.chunks.index [] _ _
+chunks-preserved g c = buffers_next bytes (chunks_of c.args.text) c.chunks.index []
     (omega (arith, c.chunks-test.true, c.chunks-index-end.ensures)) c.chunks.invariant
     (rw c.chunk.ensures at c.in_ok-add_chunk.ensures)
 
 pub returns : goal.returns
 returns g c = rw (sym (joined_is c.args.text)) (writes_all _ (buffers_all bytes (chunks_of c.args.text) c.chunks.index
-    _ (omega (arith, c.chunks-test.false, c.chunks-index-end.ensures)) c.chunks.invariant) c.pass_on.ensures.writes)
+    (omega (arith, c.chunks-test.false, c.chunks-index-end.ensures)) c.chunks.invariant) c.pass_on.ensures.writes)

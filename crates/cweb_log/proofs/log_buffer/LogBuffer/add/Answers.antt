@@ -1,18 +1,16 @@
-use Rattle.cweb_log.proofs.Common.{◌∙◌, ap, arith, unwritten_bytes, stream_model, LogBuffer}
-use Rattle.cweb_log.proofs.BufferedLog.{buffers_nothing, flushed, passed, pass_failed, pending, writes_by}
+use Rattle.cweb_log.proofs.Common.{◌∙◌, ap, arith, unwritten_bytes, LogBuffer}
+use Rattle.cweb_log.proofs.BufferedLog.{buffers_nothing, flushed, passed, pass_failed, pending}
 use Rattle.cweb_log.proofs.log_buffer.LogBuffer.add.Goals.{then-bytes-self+in_ok-pass_on, else-bytes-self}
 use Rattle.cweb_log.proofs.log_buffer.LogBuffer.add.Goals as goal
 
 pub returns-in_err-pass_on : goal.returns-in_err-pass_on
-returns-in_err-pass_on g c = pass_failed {A = Unit {0}} c.in_err-pass_on.field-0.0 _ _ c.in_err-pass_on.ensures.writes
-    c.from_residual.ensures.0
+returns-in_err-pass_on g c = pass_failed _ _ c.in_err-pass_on.ensures.writes c.from_residual.ensures.0
 
 pub returns-then-bytes-self-2 : goal.returns-then-bytes-self-2
 returns-then-bytes-self-2 g c = elim c.if-bytes-self.branch [
   | then-bytes-self+in_ok-pass_on w ↦ passed _ _
-      (ap (stream_model g.L.Sink) w.log-is ∙ w.in_ok-pass_on.ensures.writes.ok)
-      (ap unwritten_bytes w.self-is ∙ w.in_ok-pass_on.ensures.empty)
-      (writes_by g.L.Sink _ _ _ c.write_all.ensures.appends)
+      (ap g.L.Sink.model w.log-is ∙ w.in_ok-pass_on.ensures.writes)
+      (ap unwritten_bytes w.self-is ∙ w.in_ok-pass_on.ensures.empty) c.write_all.ensures.wrote
   | else-bytes-self w ↦ absurd (omega (
     arith,
     ap (λ (b : LogBuffer). b.len) w.self-is,
@@ -22,9 +20,8 @@ returns-then-bytes-self-2 g c = elim c.if-bytes-self.branch [
 ]
 
 pub returns : goal.returns
-returns g c = pending _ (elim c.if-bytes-self.branch [
-  | then-bytes-self+in_ok-pass_on w ↦ flushed _
-      (ap (stream_model g.L.Sink) w.log-is ∙ w.in_ok-pass_on.ensures.writes.ok)
+returns g c = pending (elim c.if-bytes-self.branch [
+  | then-bytes-self+in_ok-pass_on w ↦ flushed _ (ap g.L.Sink.model w.log-is ∙ w.in_ok-pass_on.ensures.writes)
       (ap unwritten_bytes w.self-is ∙ w.in_ok-pass_on.ensures.empty)
-  | else-bytes-self w ↦ buffers_nothing (ap (stream_model g.L.Sink) w.log-is) (ap unwritten_bytes w.self-is)
+  | else-bytes-self w ↦ buffers_nothing (ap g.L.Sink.model w.log-is) (ap unwritten_bytes w.self-is)
 ]) c.keep.ensures

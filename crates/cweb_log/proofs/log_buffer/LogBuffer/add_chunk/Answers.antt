@@ -1,20 +1,20 @@
-use Rattle.cweb_log.proofs.Common.{arith, part_bytes}
-use Rattle.cweb_log.proofs.BufferedLog.{count_kept, buffers_none, buffers_next, buffers_failed, buffers_all}
+use Rattle.cweb_log.proofs.Common.{arith, part_bytes, refl}
+use Rattle.cweb_log.proofs.BufferedLog.{buffers_nothing, count_kept, buffers_next, fails_at, fails_if, buffers_all}
 use Rattle.cweb_log.proofs.log_buffer.LogBuffer.add_chunk.Goals as goal
 
 pub parts-init : goal.parts-init
-parts-init g c = buffers_none _
+parts-init g c = buffers_nothing refl refl
 
 pub add_part-requires : goal.add_part-requires
 add_part-requires g c = omega (arith, count_kept c.parts.invariant, c.requires)
 
 pub returns-in_err-add_part : goal.returns-in_err-add_part
-returns-in_err-add_part g c = buffers_failed part_bytes c.args.parts.now c.parts.part-index
-    _ _ _ c.parts-test.true c.parts.invariant c.in_err-add_part.ensures c.from_residual.ensures.0
+returns-in_err-add_part g c = fails_if _ c.from_residual.ensures.0 (fails_at part_bytes c.args.parts.now
+    c.parts.part-index _ c.parts-test.true c.parts.invariant c.in_err-add_part.ensures)
 
 pub parts-preserved : goal.parts-preserved
 parts-preserved g c = buffers_next part_bytes c.args.parts.now
-    c.parts.part-index _ _ _ c.parts-test.true c.parts.invariant c.in_ok-add_part.ensures
+    c.parts.part-index _ c.parts-test.true c.parts.invariant c.in_ok-add_part.ensures
 
 pub returns : goal.returns
-returns g c = buffers_all part_bytes c.args.parts.now c.parts.part-index _ c.parts-test.false c.parts.invariant
+returns g c = buffers_all part_bytes c.args.parts.now c.parts.part-index c.parts-test.false c.parts.invariant

@@ -1,5 +1,6 @@
 use Rattle.cweb_print.proofs.Common.{◌∙◌, sym, ap, false, Some, option_map, Class, token_bytes_model}
-use Rattle.cweb_print.proofs.AppendedParts.{wrote_as, wrote_err}
+use Rattle.cweb_files.proofs.Appending.{wrote_as}
+use Rattle.cweb_print.proofs.AppendedParts.{wrote_err}
 use Rattle.cweb_print.proofs.Continued.{direct_added, direct_leaves}
 use Rattle.cweb_print.proofs.printer.macros.write_macro_token.Goals as goal
 

@@ -1,5 +1,6 @@
 use Rattle.cweb_print.proofs.Common.{◌∙◌, sym, ap, token_model, added, macro_by, replaced_in, left_after_token}
-use Rattle.cweb_print.proofs.AppendedParts.{wrote_as, wrote_err}
+use Rattle.cweb_files.proofs.Appending.{wrote_as}
+use Rattle.cweb_print.proofs.AppendedParts.{wrote_err}
 use Rattle.cweb_print.proofs.Ranges.{at_index}
 use Rattle.cweb_print.proofs.printer.macros.write_other.Goals as goal
 
