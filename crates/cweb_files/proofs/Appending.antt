@@ -67,8 +67,9 @@ wrote_until text first rest a b (Err e) is whole fails =
     subst (λ (t : List ℕ). FailsWithin t a b) (sym whole) (fails_in rest fails)
 
 -- All was written.
-pub wrote_as : {text other : List ℕ} {a b : SinkModel} → text ≡ other → b ≡ written text a → b ≡ written other a
-wrote_as {a = a} same wrote = wrote ∙ ap (λ (t : List ℕ). written t a) same
+pub wrote_as : {text other : List ℕ} (a : SinkModel) {b : SinkModel} → text ≡ other → b ≡ written text a
+    → b ≡ written other a
+wrote_as a same wrote = wrote ∙ ap (λ (t : List ℕ). written t a) same
 
 pub wrote_same : {B F : Type 0} (text other : List ℕ) (a b : SinkModel) (r : Result B F)
     → text ≡ other → Wrote text a b r → Wrote other a b r

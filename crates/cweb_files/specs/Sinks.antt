@@ -81,6 +81,18 @@ pub record FailsWithin (text : List ℕ) (old new : SinkModel) : Type 0 where
   pub whole : text ≡ prefix ++ rest
   pub is : new ≡ failing (with_printed prefix) old
 
+-- A prefix of the text was written, whether or not the sink failed.
+pub record WritesPrefix (text : List ℕ) (old new : SinkModel) : Type 0 where
+  pub prefix : List ℕ
+  pub rest : List ℕ
+  pub whole : text ≡ prefix ++ rest
+  pub is : new.contents ≡ option_map (with_printed prefix) old.contents
+
+-- Some bytes were written, whether or not the sink failed.
+pub record Prints (old new : SinkModel) : Type 0 where
+  pub text : List ℕ
+  pub is : new.contents ≡ option_map (with_printed text) old.contents
+
 -- The text was written, or after a fault a prefix of it.
 abbrev pub Wrote : {A E : Type 0} → List ℕ → SinkModel → SinkModel → Result A E → Type 0
 Wrote text old new (Ok x) = new ≡ written text old

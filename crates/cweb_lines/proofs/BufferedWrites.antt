@@ -1,14 +1,37 @@
 -- Emitted lines are buffered, written or lost.
-use Rattle.cweb_lines.proofs.Common.{◌≡◌, ◌+◌, ◌<◌, ℕ, List, [], ◌∷◌, ◌++◌, length, ◌∙◌, ap, arith, length-append, IsTrue, append-nil, append_assoc, KeepsPlace, Writes, Line, Event, SoFar, EmitsLines, BuffersLines, emitted_lines, written_lines, all_but_last, WritesPrefix, HasWritten, FailsAmong, LosesLine, Result}
-use Rattle.cweb_files.specs.surface.Frames.{KeepsSink}
-use Rattle.cweb_files.specs.declared.device.Sink.{Ghosts as Sink}
-use Rattle.cweb_files.proofs.FramesCompose.{place_known, writes_then}
+use Rattle.cweb_lines.proofs.Common.{◌≡◌, ◌+◌, ◌<◌, ℕ, List, [], ◌∷◌, ◌++◌, length, ◌∙◌, ap, arith, length-append, append-nil, append_assoc, FailsWithin, SinkModel, Writes, Line, Event, SoFar, EmitsLines, BuffersLines, emitted_lines, written_lines, all_but_last, WritesPrefix, HasWritten, FailsAmong, LosesLine, Prints, WritesPrefix, written}
+use Rattle.cweb_files.proofs.Appending.{fails_then, written_none, written_then}
 use Rattle.cweb_lines.proofs.EmittedLinesAddUp.{yields_both}
 use Rattle.cweb_lines.proofs.WrittenLinesAddUp.{prefix_of_all, emitted_prefix, text_of-append, written-all_but_last}
 
-pub place_of : {W A E : Type 0} {sink : Sink W} {old new : W} {result : Result A E} → KeepsSink sink old new result
-    → KeepsPlace sink old new
-place_of keeps = record { tells = keeps.tells; beside = keeps.beside }
+-- A text was written.
+pub record Printed (old new : SinkModel) : Type 0 where
+  pub text : List ℕ
+  pub is : new ≡ written text old
+
+pub printed_none : (sink : SinkModel) → Printed sink sink
+printed_none sink = record { text = []; is = written_none sink }
+
+pub printed_then : {old mid new : SinkModel} (more : List ℕ) (done : Printed old mid) → new ≡ written more mid
+    → Printed old new
+printed_then {old} more done wrote =
+    record { text = done.text ++ more; is = written_then done.text more old done.is wrote }
+
+pub printed_all : {old new : SinkModel} → Printed old new → Prints old new
+printed_all done = record { text = done.text; is = ap (λ (sink : SinkModel). sink.contents) done.is }
+
+-- A write failed after it.
+pub printed_before : {old mid new : SinkModel} {more : List ℕ} → Printed old mid → FailsWithin more mid new
+    → Prints old new
+printed_before done fails = let both = fails_then done.text done.is fails in
+    record { text = both.prefix; is = ap (λ (sink : SinkModel). sink.contents) both.is }
+
+pub failed_same : {old new : SinkModel} → Printed old new → new.failed ≡ old.failed
+failed_same done = ap (λ (sink : SinkModel). sink.failed) done.is
+
+pub failed_next : {old mid new : SinkModel} {more : List ℕ} → Printed old mid → FailsWithin more mid new
+    → new.failed ≡ old.failed + 1
+failed_next done fails = ap (λ (sink : SinkModel). sink.failed) fails.is ∙ ap (λ (n : ℕ). n + 1) (failed_same done)
 
 pub held : (room : ℕ) (old so : SoFar) (all now : List Event) (Wrote : List ℕ → Type 0) →
     HasWritten old so all now Wrote
@@ -53,48 +76,44 @@ held_on room old so all now Wrote buffer h lines so' later next more is within =
   within = within_on room buffer h.buffered lines h.piece_is h.within within;
 }
 
-module _ {W : Type 0} (sink : Sink W) (first mid : W) (keeps : KeepsPlace sink first mid) (room : ℕ) (old so : SoFar)
-    (all now : List Event) (buffer : List ℕ) (h : BuffersLines room old so all now (Writes sink first mid) buffer) where
-  pub written_on : (new : W) → Writes sink mid new buffer → HasWritten old so all now (Writes sink first new)
+module _ (first mid : SinkModel) (room : ℕ) (old so : SoFar) (all now : List Event) (buffer : List ℕ)
+    (h : BuffersLines room old so all now (Writes first mid) buffer) where
+  pub written_on : (new : SinkModel) → Writes mid new buffer → HasWritten old so all now (Writes first new)
   written_on new wrote = record {
     lines = h.done ++ h.buffered;
     yields = h.yields;
     wrote = rw (text_of-append, ← h.piece_is)
-        (writes_then sink first mid new (written_lines h.done) buffer keeps h.wrote wrote);
+        (written_then (written_lines h.done) buffer first h.wrote wrote);
   }
 
-  pub fails_prefix : (new : W) → (IsTrue (sink.tells mid) → WritesPrefix (sink.written mid) (sink.written new) buffer)
-      → IsTrue (sink.tells first)
-      → WritesPrefix (sink.written first) (sink.written new) (written_lines (emitted_lines all))
-  fails_prefix new prefix tells =
-      prefix_of_all (emitted_lines all) h.done h.buffered (emitted_lines now) (sink.written first) (sink.written mid)
-      (sink.written new) buffer (emitted_prefix (h.done ++ h.buffered) old so all now h.yields ∙ append_assoc
-      h.done h.buffered (emitted_lines now)) (h.wrote tells) h.piece_is
-      (prefix (place_known sink first mid keeps tells))
+  pub fails_prefix : (new : SinkModel) → FailsWithin buffer mid new
+      → WritesPrefix (written_lines (emitted_lines all)) first new
+  fails_prefix new fails =
+      prefix_of_all (emitted_lines all) h.done h.buffered (emitted_lines now) first mid new buffer
+      (emitted_prefix (h.done ++ h.buffered) old so all now h.yields ∙ append_assoc
+      h.done h.buffered (emitted_lines now)) h.wrote h.piece_is fails
 
-  pub fails_among : (new : W) → IsTrue (sink.tells first) → (IsTrue (sink.tells mid) → WritesPrefix (sink.written mid)
-      (sink.written new) buffer) → FailsAmong room old so all now (sink.written first) (sink.written new)
-  fails_among new tells prefix = record {
+  pub fails_among : (new : SinkModel) → FailsWithin buffer mid new → FailsAmong room old so all now first new
+  fails_among new fails = record {
     done = h.done;
     buffered = h.buffered;
     yields = h.yields;
-    prefix = rw (h.wrote tells, h.piece_is) at (prefix (place_known sink first mid keeps tells));
+    fails = rw (h.wrote, h.piece_is) at fails;
     some = h.some;
     within = h.within;
   }
 
 -- Without buffering a write fault loses only one line.
-pub loses_line : (old new : SoFar) (all later : List Event) (before after : List ℕ) →
+pub loses_line : (old new : SoFar) (all later : List Event) (before after : SinkModel) →
     FailsAmong 0 old new all later before after → LosesLine old new all later before after
-loses_line old new all later before after failed =
-    by failed.buffered failed.some failed.within failed.yields failed.prefix
+loses_line old new all later before after failed = by failed.buffered failed.some failed.within failed.yields failed.fails
   where
     by : (buffered : List Line) → 0 < length buffered
         → (1 < length buffered → length (written_lines (all_but_last buffered)) < 0)
         → EmitsLines (failed.done ++ buffered) old new all later
-        → WritesPrefix (before ++ written_lines failed.done) after (written_lines buffered)
+        → FailsWithin (written_lines buffered) (written (written_lines failed.done) before) after
         → LosesLine old new all later before after
-    by [] some within yields prefix = absurd (omega (arith, some))
-    by (line ∷ []) some within yields prefix =
-        record { done = failed.done; line = line; yields = yields; prefix = prefix }
-    by (line ∷ other ∷ rest) some within yields prefix = absurd (omega (arith, within (omega arith)))
+    by [] some within yields fails = absurd (omega (arith, some))
+    by (line ∷ []) some within yields fails =
+        record { done = failed.done; line = line; yields = yields; fails = fails }
+    by (line ∷ other ∷ rest) some within yields fails = absurd (omega (arith, within (omega arith)))

@@ -18,7 +18,8 @@ pub use Rattle.std.specs.Prelude.{slice_range, unwrap_or, IfSome, OnSome, nat_lt
 pub use Rattle.std.specs.Prelude.{codes, option_map, IfErr, is_ok}
 pub use Rattle.std.specs.Str.{bytes_eq}
 pub use Rattle.cweb_files.specs.declared.place.Place.{Place}
-pub use Rattle.cweb_files.specs.surface.Frames.{KeepsPlace, Writes, KeepsShelf, WritesPrefix}
+pub use Rattle.cweb_files.specs.Sinks.{FailsWithin, Prints, SinkModel, WritesPrefix, written}
+pub use Rattle.cweb_files.specs.surface.Frames.{KeepsShelf}
 pub use Rattle.cweb_input.proofs.ReadersStayNamed.{stop_after, blames_none, blames_memory}
 pub use Rattle.cweb_input.proofs.SourceStacks.{over-none}
 pub use Rattle.cweb_input.specs.Include.{World, Found, found_at, include_name, is_include_line, change_at, names_found}
@@ -116,4 +117,4 @@ pub use Rattle.cweb_lines.specs.surface.MergerCalls.{Grows, to_come, so_far, sto
 pub use Rattle.cweb_lines.specs.surface.Stages.{change_in, pending_in, things_below, things_in}
 pub use Rattle.cweb_lines.specs.surface.Total.{merge}
 pub use Rattle.cweb_lines.specs.surface.Writing.{LosesLine, StopsWriting, WritingStops, FailureCounts, LeavesDevices}
-pub use Rattle.cweb_lines.specs.surface.Writing.{KeepsStop, WritesAll, WritesSome, WritesUpTo}
+pub use Rattle.cweb_lines.specs.surface.Writing.{Writes, KeepsStop, WritesAll, WritesSome, WritesUpTo}

@@ -1,6 +1,6 @@
 -- The written lines of consecutive calls are concatenated.
-use Rattle.cweb_lines.proofs.Common.{◌≡◌, ◌<◌, ◌+◌, ℕ, List, [], ◌∷◌, ◌++◌, length, refl, sym, ◌∙◌, ap, length-append, IsTrue, append-nil, append_assoc, Writes, Line, Event, SoFar, EmitsLines, Stopped, StopsAfterLines, ReportsPrefix, emitted_lines, written_lines, all_but_last, WritesPrefix, WritesAll, WritesSome, WritesUpTo, HasWritten, StopsWriting, Stop, ReadFault, LineTooLong, TooMuchText, Memory}
-use Rattle.cweb_files.specs.declared.device.Sink.{Ghosts as Sink}
+use Rattle.cweb_lines.proofs.Common.{◌≡◌, ◌<◌, ◌+◌, ℕ, List, [], ◌∷◌, ◌++◌, length, refl, sym, ◌∙◌, ap, length-append, append-nil, append_assoc, FailsWithin, SinkModel, Writes, written, Line, Event, SoFar, EmitsLines, Stopped, StopsAfterLines, ReportsPrefix, emitted_lines, written_lines, all_but_last, WritesPrefix, WritesAll, WritesSome, WritesUpTo, HasWritten, StopsWriting, Stop, ReadFault, LineTooLong, TooMuchText, Memory}
+use Rattle.cweb_files.proofs.Appending.{fails_then, written_none}
 use Rattle.cweb_lines.proofs.LinesInBuffer.{all_but_last-append}
 use Rattle.cweb_lines.proofs.Merges.{yields_nothing}
 use Rattle.cweb_lines.proofs.EmittedLinesAddUp.{emitted-append, reported-append, openings-append, yields_both, after_both, reads_both}
@@ -35,38 +35,42 @@ written-all_but_last a b some =
     ∙ length-append (written_lines a) (written_lines (all_but_last b))
 
 -- A prefix of the whole output: whole lines, then a prefix of the buffered lines.
-pub prefix_of_all : (all done buffered now : List Line) (old mid new buffer : List ℕ) → all ≡ done ++
-    (buffered ++ now) →
-    mid ≡ old ++ written_lines done → buffer ≡ written_lines buffered
-    → WritesPrefix mid new buffer → WritesPrefix old new (written_lines all)
-prefix_of_all all done buffered now old mid new buffer whole written is prefix = record {
-  prefix = written_lines done ++ prefix.prefix;
-  rest = prefix.rest ++ written_lines now;
-  written = simp (prefix.written, written, append_assoc);
-  whole = simp (whole, text_of-append, sym is ∙ prefix.whole, append_assoc);
-}
+pub prefix_of_all : (all done buffered now : List Line) (old mid new : SinkModel) (buffer : List ℕ) → all ≡ done ++
+    (buffered ++ now) → mid ≡ written (written_lines done) old → buffer ≡ written_lines buffered
+    → FailsWithin buffer mid new → WritesPrefix (written_lines all) old new
+prefix_of_all all done buffered now old mid new buffer whole wrote is fails =
+    let all_fails = fails_then (written_lines done) wrote fails in
+    record {
+      prefix = all_fails.prefix;
+      rest = all_fails.rest ++ written_lines now;
+      whole = ap written_lines whole ∙ text_of-append done (buffered ++ now)
+          ∙ ap (λ (t : List ℕ). written_lines done ++ t) (text_of-append buffered now)
+          ∙ sym (append_assoc (written_lines done) (written_lines buffered) (written_lines now))
+          ∙ ap (λ (t : List ℕ). (written_lines done ++ t) ++ written_lines now) (sym is)
+          ∙ ap (λ (t : List ℕ). t ++ written_lines now) all_fails.whole
+          ∙ append_assoc all_fails.prefix all_fails.rest (written_lines now);
+      is = ap (λ (sink : SinkModel). sink.contents) all_fails.is;
+    }
 
-pub nothing_yet : {W : Type 0} (sink : Sink W) (w : W) (so : SoFar) (all : List Event) →
-    HasWritten so so all all (Writes sink w w)
-nothing_yet sink w so all = record {
+pub nothing_yet : (sink : SinkModel) (so : SoFar) (all : List Event) → HasWritten so so all all (Writes sink sink)
+nothing_yet sink so all = record {
   lines = [];
   yields = yields_nothing so so all all refl refl refl refl;
-  wrote = λ tells. sym (append-nil (sink.written w));
+  wrote = written_none sink;
 }
 
-module _ {W : Type 0} (sink : Sink W) (first mid : W) (old so : SoFar) (all now : List Event)
-    (g : HasWritten old so all now (Writes sink first mid)) where
-  pub written_prefix : IsTrue (sink.tells first) → WritesPrefix (sink.written first) (sink.written mid)
-      (written_lines (emitted_lines all))
-  written_prefix tells = record {
+module _ (first mid : SinkModel) (old so : SoFar) (all now : List Event)
+    (g : HasWritten old so all now (Writes first mid)) where
+  pub written_prefix : WritesPrefix (written_lines (emitted_lines all)) first mid
+  written_prefix = record {
     prefix = written_lines g.lines;
     rest = written_lines (emitted_lines now);
-    written = g.wrote tells;
     whole = simp (emitted_prefix g.lines old so all now g.yields, text_of-append);
+    is = ap (λ (sink : SinkModel). sink.contents) g.wrote;
   }
 
   pub written_whole : (so' : SoFar) (later : List Event) → EmitsLines [] so so' now later → later ≡ [] →
-      WritesAll old so' all (Writes sink first mid)
+      WritesAll old so' all (Writes first mid)
   written_whole so' later next none =
       let yields = rw append-nil at (yields_both g.lines [] old so so' all now later g.yields next) in
       record {
@@ -74,7 +78,7 @@ module _ {W : Type 0} (sink : Sink W) (first mid : W) (old so : SoFar) (all now 
         wrote = simp (emitted_prefix g.lines old so' all later yields, none, append-nil) g.wrote;
       }
 
-  pub written_some : WritesSome all (Writes sink first mid)
+  pub written_some : WritesSome all (Writes first mid)
   written_some = record {
     lines = g.lines;
     rest = emitted_lines now;
@@ -83,15 +87,14 @@ module _ {W : Type 0} (sink : Sink W) (first mid : W) (old so : SoFar) (all now 
   }
 
   up_to : (stop : Stop) (new : SoFar) → StopsAfterLines [] stop so new now
-      → WritesUpTo stop old new all (Writes sink first
-      mid)
+      → WritesUpTo stop old new all (Writes first mid)
   up_to stop new stops = record {
     lines = g.lines;
     stops = rw append-nil at (after_both g.lines [] stop old so new all now g.yields stops);
     wrote = g.wrote;
   }
 
-  pub written_by : (stop : Stop) (new : SoFar) → Stopped stop so new now → StopsWriting stop old new all (Writes sink
+  pub written_by : (stop : Stop) (new : SoFar) → Stopped stop so new now → StopsWriting stop old new all (Writes
       first mid)
   written_by (ReadFault file) new reads = record {
     lines = g.lines;

@@ -36,21 +36,21 @@ fails_on : {old more : List ℕ} {before mid after : SinkModel} {held between : 
 fails_on {more = more} came fails = rw (joins more came) (fails_then came.done came.is fails)
 
 -- The pending bytes were written, and then some more.
-pub passed : {A E : Type 0} (r : Result A E) (held : List ℕ) {bytes now : List ℕ} {before mid after : SinkModel}
+pub passed : {A E : Type 0} (r : Result A E) (held bytes now : List ℕ) (before mid after : SinkModel)
     → mid ≡ written held before → now ≡ [] → Wrote bytes mid after r → AppendsToLog bytes before after held now r
-passed (Ok x) held {bytes} {now} {before} is none wrote = record {
+passed (Ok x) held bytes now before mid after is none wrote = record {
   done = held ++ bytes;
   whole = sym (append-nil (held ++ bytes)) ∙ ap (λ (t : List ℕ). (held ++ bytes) ++ t) (sym none);
   is = written_then held bytes before is wrote;
 }
-passed (Err e) held is none fails = fails_then held is fails
+passed (Err e) held bytes now before mid after is none fails = fails_then held is fails
 
 -- They could not be written.
-pub pass_failed : {B F : Type 0} (r : Result B F) {held : List ℕ} (bytes : List ℕ) {now : List ℕ}
+pub pass_failed : {B F : Type 0} (r : Result B F) {held : List ℕ} (bytes now : List ℕ)
     {before after : SinkModel} → FailsWithin held before after → IsErr r
     → AppendsToLog bytes before after held now r
-pass_failed (Ok x) bytes fails is = absurd (cc)
-pass_failed (Err f) bytes fails is = fails_in bytes fails
+pass_failed (Ok x) bytes now fails is = absurd (cc)
+pass_failed (Err f) bytes now fails is = fails_in bytes fails
 
 -- Bytes became pending, maybe after the earlier ones were written.
 pub flushed : (held : List ℕ) {now : List ℕ} {before mid : SinkModel} → mid ≡ written held before → now ≡ []
@@ -69,10 +69,10 @@ fails_at f xs i d {held = held} lt came fails =
     rw (ap (λ (t : List ℕ). held ++ t) (flat_at f xs i d lt) ∙ sym (append_assoc held _ _))
     (fails_in (flat_map f (drop (suc i) xs)) (fails_on came fails))
 
-pub fails_if : {A E : Type 0} (r : Result A E) {more held now : List ℕ} {before after : SinkModel} → IsErr r
+pub fails_if : {A E : Type 0} (r : Result A E) (more held now : List ℕ) {before after : SinkModel} → IsErr r
     → FailsWithin (held ++ more) before after → AppendsToLog more before after held now r
-fails_if (Ok x) is fails = absurd (cc)
-fails_if (Err e) is fails = fails
+fails_if (Ok x) more held now is fails = absurd (cc)
+fails_if (Err e) more held now is fails = fails
 
 -- One more element was appended.
 pub buffers_next : {X : Type 0} (f : X → List ℕ) (xs : List X) (i : ℕ) (d : X) {before mid after : SinkModel}
@@ -87,11 +87,12 @@ pub buffers_all : {X : Type 0} (f : X → List ℕ) (xs : List X) (i : ℕ) {bef
 buffers_all f xs i le came = rw take_all at came
 
 -- Nothing was buffered before, and the buffer is flushed at the end.
-pub writes_all : {B F : Type 0} (r : Result B F) {text : List ℕ} {before mid after : SinkModel} {held : List ℕ}
+pub writes_all : {B F : Type 0} (r : Result B F) {text : List ℕ} {before mid : SinkModel} (after : SinkModel)
+    {held : List ℕ}
     → Buffers text before mid [] held → Wrote held mid after r → Wrote text before after r
-writes_all (Ok x) {before = before} {held = held} came wrote =
+writes_all (Ok x) {before = before} after {held = held} came wrote =
     rw came.whole (written_then came.done held before came.is wrote)
-writes_all (Err e) came fails = rw came.whole (fails_then came.done came.is fails)
+writes_all (Err e) after came fails = rw came.whole (fails_then came.done came.is fails)
 
 pub writes_prefix : {B F : Type 0} (r : Result B F) {text : List ℕ} {before after : SinkModel}
     → FailsWithin text before after → IsErr r → Wrote text before after r
@@ -99,7 +100,7 @@ writes_prefix (Ok x) fails is = absurd (cc)
 writes_prefix (Err e) fails is = fails
 
 -- Writing and logging have the same effect.
-pub logs_by : {A E : Type 0} (r : Result A E) {text : List ℕ} {before after : SinkModel}
+pub logs_by : {A E : Type 0} (r : Result A E) (text : List ℕ) (before after : SinkModel)
     → Wrote text before after r → Logs text before after
-logs_by (Ok x) wrote = logged wrote
-logs_by (Err e) fails = log_failed fails
+logs_by (Ok x) text before after wrote = logged wrote
+logs_by (Err e) text before after fails = log_failed fails

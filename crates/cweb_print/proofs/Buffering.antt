@@ -5,9 +5,9 @@ use Rattle.cweb_files.proofs.Appending.{fails_then, written_none, written_on}
 use Rattle.cweb_print.specs.inner.Flushing.{FlushesPrefix}
 
 -- A flush leaves what sink and buffer have together unchanged.
-pub moved_same : (before after : List ℕ) {old new : SinkModel} → new ≡ written before old → after ≡ []
+pub moved_same : (before after : List ℕ) (old new : SinkModel) → new ≡ written before old → after ≡ []
     → written after new ≡ written before old
-moved_same before after {old} {new} moved empty =
+moved_same before after old new moved empty =
     ap (λ (t : List ℕ). written t new) empty ∙ sym (written_none new) ∙ moved
 
 -- So does a flush that fails.

@@ -1,7 +1,8 @@
 -- How far the output of a merge is, and why it stops.
 use Rattle.std.specs.Prelude.{◌≡◌, ◌≤◌, ◌+◌, ℕ, List, [], ◌∷◌, ◌++◌, length, Option, None, Some, Result, Err}
 use Rattle.std.specs.Prelude.{IsTrue, IfErr, IfSome, OnErr, OnOk}
-use Rattle.cweb_files.specs.surface.Frames.{KeepsPlace, KeepsShelf, Writes, WritesPrefix}
+use Rattle.cweb_files.specs.Sinks.{FailsWithin, Prints, SinkModel, WritesPrefix, written}
+use Rattle.cweb_files.specs.surface.Frames.{KeepsShelf}
 use Rattle.cweb_files.specs.declared.device.Shelf.{Ghosts as Shelf}
 use Rattle.cweb_files.specs.declared.device.Sink.{Ghosts as Sink}
 use Rattle.cweb_input.specs.Lines.{Line}
@@ -14,6 +15,10 @@ use Rattle.cweb_lines.specs.surface.MergerCalls.{stop_in, to_come}
 use Rattle.cweb_lines.specs.declared.merger.Merger.{Merger}
 use Rattle.cweb_input.specs.declared.stop.Stop.{Stop}
 use Rattle.cweb_input.specs.declared.stop.Stop.TheVariants.{ReadFault, LineTooLong, TooMuchText, Memory, WriteFault}
+
+-- This text was written to a sink.
+abbrev pub Writes : SinkModel → SinkModel → List ℕ → Type 0
+Writes old new text = new ≡ written text old
 
 -- All lines were emitted and written.
 pub record WritesAll (old new : SoFar) (all : List Event) (Wrote : List ℕ → Type 0) : Type 0 where
@@ -54,11 +59,11 @@ pub record StopsWritingEarly (stop : Stop) (old new : SoFar) (all : List Event) 
   pub reported : ReportsPrefix old new all
 
 -- A write failed within one line. The next line is the one after it.
-pub record LosesLine (old new : SoFar) (all later : List Event) (before after : List ℕ) : Type 0 where
+pub record LosesLine (old new : SoFar) (all later : List Event) (before after : SinkModel) : Type 0 where
   pub done : List Line
   pub line : Line
   pub yields : EmitsLines (done ++ line ∷ []) old new all later
-  pub prefix : WritesPrefix (before ++ written_lines done) after (line.bytes ++ 10 ∷ [])
+  pub fails : FailsWithin (line.bytes ++ 10 ∷ []) (written (written_lines done) before) after
 
 -- The stops of writing.
 abbrev pub WritingStops : Stop → Type 0
@@ -95,28 +100,29 @@ pub record LeavesDevices (stop : Stop) (old new : FailureCounts) (in_merger : Op
 
 -- The lines to come are written. `Loses` says which of them a write fault loses.
 pub record WritesMerged {S R W A : Type 0} (shelf : Shelf S R) (sink : Sink W)
-    (Loses : SoFar → SoFar → List Event → List Event → List ℕ → List ℕ → Type 0) (old new : S)
+    (Loses : SoFar → SoFar → List Event → List Event → SinkModel → SinkModel → Type 0) (old new : S)
     (merger merger' : Merger S R) (out out' : W) (result : Result A Stop) : Type 0 where
-  pub keeps : KeepsShelf shelf old new × KeepsPlace sink out out'
+  pub keeps : KeepsShelf shelf old new
   pub grows : Grows (so_far merger) (so_far merger')
+  pub printed : Prints (sink.model out) (sink.model out')
   -- all lines were written
   pub ok : IsTrue (shelf.tells old) → OnOk result (WritesAll (so_far merger) (so_far merger') (to_come shelf old merger)
-      (Writes sink out out'))
+      (Writes (sink.model out) (sink.model out')))
   pub ended : OnOk result ((stop_in merger' ≡ None) × HasEnded merger' × (shelf.failed new ≡ shelf.failed old)
-      × (sink.failed out' ≡ sink.failed out))
+      × ((sink.model out').failed ≡ (sink.model out).failed))
   -- a prefix of them was written, and why
-  pub prefix : IsTrue (shelf.tells old) → IsTrue (sink.tells out) → OnErr result
-      (WritesPrefix (sink.written out) (sink.written out') (written_lines (lines_to_come shelf old merger)))
+  pub prefix : IsTrue (shelf.tells old) → OnErr result
+      (WritesPrefix (written_lines (lines_to_come shelf old merger)) (sink.model out) (sink.model out'))
   pub stops : IsTrue (shelf.tells old) → stop_in merger ≡ None → IfErr result (λ stop. StopsWritingEarly stop
-      (so_far merger) (so_far merger') (to_come shelf old merger) (Writes sink out out'))
-  pub fault : IsTrue (shelf.tells old) → IsTrue (sink.tells out) → stop_in merger ≡ None → result ≡ Err WriteFault
-      → Loses (so_far merger) (so_far merger') (to_come shelf old merger) (to_come shelf new merger') (sink.written out)
-      (sink.written out')
+      (so_far merger) (so_far merger') (to_come shelf old merger) (Writes (sink.model out) (sink.model out')))
+  pub fault : IsTrue (shelf.tells old) → stop_in merger ≡ None → result ≡ Err WriteFault
+      → Loses (so_far merger) (so_far merger') (to_come shelf old merger) (to_come shelf new merger') (sink.model out)
+      (sink.model out')
   -- the device that the stop names has failed, once, and no other
   pub blames : stop_in merger ≡ None → IfErr result (λ stop. LeavesDevices stop
-      (record { shelf = shelf.failed old; out = sink.failed out }) (record {
+      (record { shelf = shelf.failed old; out = (sink.model out).failed }) (record {
         shelf = shelf.failed new;
-        out = sink.failed out';
+        out = (sink.model out').failed;
       }) (stop_in merger') (length (so_far merger').names))
   pub known : IsTrue (shelf.tells old) → KnowsReaders shelf old merger → StaysKnown shelf old new merger merger' result
   -- after an earlier stop nothing happens

@@ -6,12 +6,13 @@ returns g c =
     let writes = c.write_merged_in_chunks.ensures in
     record {
       keeps = writes.keeps;
+      printed = writes.printed;
       grows = writes.grows;
       ok = writes.ok;
       ended = writes.ended;
       prefix = writes.prefix;
       stops = writes.stops;
-      fault = λ tells out before is. loses_line _ _ _ _ _ _ (writes.fault tells out before is);
+      fault = λ tells before is. loses_line _ _ _ _ _ _ (writes.fault tells before is);
       blames = writes.blames;
       known = writes.known;
       again = writes.again;

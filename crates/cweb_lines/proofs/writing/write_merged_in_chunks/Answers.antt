@@ -1,7 +1,7 @@
-use Rattle.cweb_lines.proofs.Common.{rules, [], Ok, Err, Line, ◌+◌, refl, ap, sym, ◌∙◌, arith, IsTrue, Writes, BuffersLines, HasWritten, events_to_come, so_far_of, to_come, so_far, blames_none, WriteFault}
+use Rattle.cweb_lines.proofs.Common.{rules, [], Ok, Err, Line, refl, sym, ◌∙◌, arith, IsTrue, Writes, BuffersLines, HasWritten, events_to_come, so_far_of, to_come, so_far, blames_none, WriteFault}
 use Rattle.cweb_lines.proofs.ReportsOnlyGrow.{grows_reported, reported_same}
-use Rattle.cweb_lines.proofs.BufferedWrites.{held, held_on, fails_prefix, fails_among, place_of, written_on}
-use Rattle.cweb_files.proofs.FramesCompose.{keeps_same, place_same, place_then}
+use Rattle.cweb_lines.proofs.BufferedWrites.{failed_next, failed_same, held, held_on, fails_prefix, fails_among, printed_all, printed_before, printed_none, printed_then, written_on}
+use Rattle.cweb_files.proofs.FramesCompose.{keeps_same}
 use Rattle.cweb_lines.proofs.NoReadFails.{Quiet, quiet_same, reads_halted, reads_passed, reads_then, stays_known, still_tells}
 use Rattle.cweb_lines.proofs.WrittenLinesAddUp.{nothing_yet, written_by, written_prefix, written_some, written_whole, tells_some, tells_more, tells_same}
 use Rattle.cweb_lines.proofs.WriteStops.{blames_own, blames_write, memory_failed, memory_write, none_before}
@@ -12,12 +12,11 @@ use Rattle.cweb_lines.proofs.writing.write_merged_in_chunks.Goals.{After-pass_li
 pub lines-init : goal.lines-init
 lines-init g c = record {
   quiet = quiet_same _ _;
-  place = place_same g.W.Sink _;
-  out_failed = refl;
+  printed = printed_none _;
   running = sym c.stopped.ensures.stop ∙ c.in_default.is;
   before = sym c.stopped.ensures.stop ∙ c.in_default.is;
   empty = c.new-buffer.ensures.items;
-  written = λ tells. nothing_yet g.W.Sink _ _ _;
+  written = λ tells. nothing_yet _ _ _;
 }
 
 quiet : (g : given.Over) (c : In-Ok g) → Quiet g.S.Shelf c.args.shelf.now c.next_line.new.shelf c.args.merger.now.run
@@ -36,7 +35,7 @@ more : (g : given.Over) (c : After-pass_lines-passed g) → IsTrue (g.S.Shelf.te
     (to_come g.S.Shelf c.args.shelf.now c.args.merger.now)
     (events_to_come (g.S.Shelf.texts c.next_line.new.shelf)
     (g.S.Shelf.left c.next_line.new.shelf) c.pass_lines-passed.new.self.run)
-    (Writes g.W.Sink c.args.out.now c.lines.out) c.pass_lines-passed.new.buffer.items
+    (Writes (g.W.Sink.model c.args.out.now) (g.W.Sink.model c.lines.out)) c.pass_lines-passed.new.buffer.items
 more g c tells =
     let next = rw c.in-Some-next.is at (c.in-Ok.ensures.next (still_tells c.lines.invariant.quiet tells)) in
     let line : Line = record { bytes = c.next_line.new.line.items; place = c.in-Some-next.field-0 } in
@@ -48,7 +47,8 @@ more g c tells =
 
 pub returns-in-Some : goal.returns-in-Some
 returns-in-Some g c = record {
-  keeps = (keeps_same g.S.Shelf _, place_same g.W.Sink _);
+  keeps = keeps_same g.S.Shelf _;
+  printed = printed_all (printed_none _);
   grows = grows_reported c.args.merger.now.run (reported_same _ _ refl refl);
   ok = search rules;
   ended = search rules;
@@ -72,21 +72,22 @@ returns-in-Err g c =
       still = next.grows.reported;
     }) in
     record {
-      keeps = (reads.keeps, c.lines.invariant.place);
+      keeps = reads.keeps;
+      printed = printed_all c.lines.invariant.printed;
       grows = record { reported = reads.still; lines = next.grows.lines; bytes = next.grows.bytes };
       ok = λ _. tt;
       ended = tt;
-      prefix = λ tells. written_prefix g.W.Sink _ _ _ _ _ _ (c.lines.invariant.written tells);
+      prefix = λ tells. written_prefix _ _ _ _ _ _ (c.lines.invariant.written tells);
       stops = λ tells before.
           let written = c.lines.invariant.written tells in
           let there = next.stops (still_tells c.lines.invariant.quiet tells) c.lines.invariant.running in
           record {
-            why = written_by g.W.Sink _ _ _ _ _ _ written c.in-Err.stop _ there.why;
+            why = written_by _ _ _ _ _ _ written c.in-Err.stop _ there.why;
             reported = tells_more _ _ _ _ _ _ written.yields there.reported;
           };
       fault = search rules;
       blames = λ before. blames_own c.in-Err.stop _ _ _ _ blames.reading next.leaves.kept next.leaves.named reads.failed
-          c.lines.invariant.out_failed;
+          (failed_same c.lines.invariant.printed);
       known = stays_known (Err c.in-Err.stop) reads;
       again = none_before _ c.lines.invariant.before;
     }
@@ -95,12 +96,13 @@ pub returns-in_default-next : goal.returns-in_default-next
 returns-in_default-next g c =
     let q = quiet g (goal.at.returns-in_default-next g c).In-Ok in
     record {
-      keeps = (q.keeps, c.lines.invariant.place);
+      keeps = q.keeps;
+      printed = printed_all c.lines.invariant.printed;
       grows = grows_reported c.next_line.new.self.run q.still;
       ok = λ tells.
           let last = rw c.in_default-next.is at
           (c.in-Ok.ensures.next (still_tells c.lines.invariant.quiet tells)) in
-          written_whole g.W.Sink _ _ _ _ _ _ (c.lines.invariant.written tells) _ _ last.0 last.1;
+          written_whole _ _ _ _ _ _ (c.lines.invariant.written tells) _ _ last.0 last.1;
       ended = search rules;
       prefix = search rules;
       stops = search rules;
@@ -116,23 +118,24 @@ returns-in-Err-append_line g c =
     let reads = reads_then (quiet g (goal.at.returns-in-Err-append_line g c).In-Ok)
     (reads_halted c.halt.ensures.readers c.halt.ensures.so_far is_memory) in
     record {
-      keeps = (reads.keeps, c.lines.invariant.place);
+      keeps = reads.keeps;
+      printed = printed_all c.lines.invariant.printed;
       grows = grows_reported c.halt.new.self.run reads.still;
       ok = λ _. tt;
       ended = tt;
-      prefix = λ tells. written_prefix g.W.Sink _ _ _ _ _ _ (c.lines.invariant.written tells);
+      prefix = λ tells. written_prefix _ _ _ _ _ _ (c.lines.invariant.written tells);
       stops = λ tells before.
           let written = c.lines.invariant.written tells in
           let next = rw c.in-Some-next.is at
           (c.in-Ok.ensures.next (still_tells c.lines.invariant.quiet tells)) in
           record {
-            why = memory_failed _ _ _ _ _ is_memory (written_some g.W.Sink _ _ _ _ _ _ written);
+            why = memory_failed _ _ _ _ _ is_memory (written_some _ _ _ _ _ _ written);
             reported = tells_same _ _ _ _ c.halt.ensures.so_far (tells_more _ _ _ _ _ _ written.yields
                 (tells_some _ _ _ _ _ next));
           };
-      fault = λ tells out before is. absurd (memory_write _ _ refl is_memory is);
+      fault = λ tells before is. absurd (memory_write _ _ refl is_memory is);
       blames = λ before. blames_own c.halt.result _ _ _ _ (rw is_memory tt) c.halt.ensures.kept c.halt.ensures.named
-          reads.failed c.lines.invariant.out_failed;
+          reads.failed (failed_same c.lines.invariant.printed);
       known = stays_known (Err c.halt.result) reads;
       again = none_before _ c.lines.invariant.before;
     }
@@ -142,23 +145,23 @@ returns-in-Err-write_all g c =
     let at = goal.at.returns-in-Err-write_all g c in
     let passes = c.pass_lines-passed.ensures.passes in
     let q = reads_then (quiet g at.In-Ok) (reads_passed passes) in
-    let appends = c.in-Err-write_all.ensures.appends in
-    let err = rw c.deref-in-lines.ensures.value at appends.wrote in
+    let err = rw c.deref-in-lines.ensures.value at c.in-Err-write_all.ensures.wrote in
     record {
-      keeps = (q.keeps, place_then g.W.Sink _ _ _ c.lines.invariant.place (place_of appends.keeps));
+      keeps = q.keeps;
+      printed = printed_before c.lines.invariant.printed err;
       grows = grows_reported c.pass_lines-passed.new.self.run q.still;
       ok = λ _. tt;
       ended = tt;
-      prefix = λ tells. fails_prefix g.W.Sink _ _ c.lines.invariant.place _ _ _ _ _ _
-          (more g at.After-pass_lines-passed tells) c.write_all.new.out err;
+      prefix = λ tells. fails_prefix _ _ _ _ _ _ _ _
+          (more g at.After-pass_lines-passed tells) (g.W.Sink.model c.write_all.new.out) err;
       stops = λ tells before. record {
         why = tt;
         reported = tells_some _ _ _ _ _ (more g at.After-pass_lines-passed tells).yields;
       };
-      fault = λ tells out before is. fails_among g.W.Sink _ _ c.lines.invariant.place _ _ _ _ _ _
-          (more g at.After-pass_lines-passed tells) c.write_all.new.out out err;
+      fault = λ tells before is. fails_among _ _ _ _ _ _ _ _
+          (more g at.After-pass_lines-passed tells) (g.W.Sink.model c.write_all.new.out) err;
       blames = λ before. blames_write _ _ _ _ (passes.stopped ∙ c.in-Ok.ensures.leaves.running) q.failed
-          (appends.keeps.failed ∙ ap (λ n. n + 1) c.lines.invariant.out_failed);
+          (failed_next c.lines.invariant.printed err);
       known = λ tells known. record {
         readers = q.readers tells known;
         blamed = λ before. blames_none [] _ _ WriteFault refl (q.blamed tells known);
@@ -171,35 +174,37 @@ wrote : (g : given.Over) (c : In_default-write_all g) → IsTrue (g.S.Shelf.tell
     c.args.merger.now) (so_far_of c.pass_lines-passed.new.self.run)
     (to_come g.S.Shelf c.args.shelf.now c.args.merger.now)
     (events_to_come (g.S.Shelf.texts c.next_line.new.shelf) (g.S.Shelf.left c.next_line.new.shelf)
-    c.pass_lines-passed.new.self.run) (Writes g.W.Sink c.args.out.now c.write_all.new.out)
-wrote g c tells = written_on g.W.Sink _ _ c.lines.invariant.place _ _ _ _ _ _
-    (more g (goal.at.In_default-write_all g c).After-pass_lines-passed tells) c.write_all.new.out
-    (rw c.deref-in-lines.ensures.value at c.in_default-write_all.ensures.appends.wrote)
+    c.pass_lines-passed.new.self.run) (Writes (g.W.Sink.model c.args.out.now)
+    (g.W.Sink.model c.write_all.new.out))
+wrote g c tells = written_on _ _ _ _ _ _ _ _
+    (more g (goal.at.In_default-write_all g c).After-pass_lines-passed tells) (g.W.Sink.model c.write_all.new.out)
+    (rw c.deref-in-lines.ensures.value at c.in_default-write_all.ensures.wrote)
 
 pub returns-in-Err-passed : goal.returns-in-Err-passed
 returns-in-Err-passed g c =
     let at = goal.at.returns-in-Err-passed g c in
     let passes = c.pass_lines-passed.ensures.passes in
     let halted = c.halt-in-Err-passed.ensures in
-    let appends = c.in_default-write_all.ensures.appends in
     let is_memory = halted.stop (passes.stopped ∙ c.in-Ok.ensures.leaves.running) in
     let reads = reads_then (reads_then (quiet g at.In-Ok) (reads_passed passes))
     (reads_halted halted.readers halted.so_far is_memory) in
     record {
-      keeps = (reads.keeps, place_then g.W.Sink _ _ _ c.lines.invariant.place (place_of appends.keeps));
+      keeps = reads.keeps;
+      printed = printed_all (printed_then _ c.lines.invariant.printed c.in_default-write_all.ensures.wrote);
       grows = grows_reported c.halt-in-Err-passed.new.self.run reads.still;
       ok = λ _. tt;
       ended = tt;
-      prefix = λ tells. written_prefix g.W.Sink _ _ _ _ _ _ (wrote g at.In_default-write_all tells);
+      prefix = λ tells. written_prefix _ _ _ _ _ _ (wrote g at.In_default-write_all tells);
       stops = λ tells before.
           let written = wrote g at.In_default-write_all tells in
           record {
-            why = memory_failed _ _ _ _ _ is_memory (written_some g.W.Sink _ _ _ _ _ _ written);
+            why = memory_failed _ _ _ _ _ is_memory (written_some _ _ _ _ _ _ written);
             reported = tells_same _ _ _ _ halted.so_far (tells_some _ _ _ _ _ written.yields);
           };
-      fault = λ tells out before is. absurd (memory_write _ _ refl is_memory is);
+      fault = λ tells before is. absurd (memory_write _ _ refl is_memory is);
       blames = λ before. blames_own c.halt-in-Err-passed.result _ _ _ _ (rw is_memory tt) halted.kept halted.named
-          reads.failed (appends.keeps.failed ∙ c.lines.invariant.out_failed);
+          reads.failed
+          (failed_same (printed_then _ c.lines.invariant.printed c.in_default-write_all.ensures.wrote));
       known = stays_known (Err c.halt-in-Err-passed.result) reads;
       again = none_before _ c.lines.invariant.before;
     }
@@ -208,11 +213,9 @@ pub lines-preserved : goal.lines-preserved
 lines-preserved g c =
     let at = goal.at.lines-preserved g c in
     let passes = c.pass_lines-passed.ensures.passes in
-    let appends = c.in_default-write_all.ensures.appends in
     record {
       quiet = reads_then (quiet g at.In-Ok) (reads_passed passes);
-      place = place_then g.W.Sink _ _ _ c.lines.invariant.place (place_of appends.keeps);
-      out_failed = appends.keeps.failed ∙ c.lines.invariant.out_failed;
+      printed = printed_then _ c.lines.invariant.printed c.in_default-write_all.ensures.wrote;
       running = passes.stopped ∙ c.in-Ok.ensures.leaves.running;
       before = c.lines.invariant.before;
       empty = c.clear.ensures.items;

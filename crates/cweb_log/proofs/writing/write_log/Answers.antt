@@ -15,5 +15,5 @@ chunks-preserved g c = buffers_next bytes (chunks_of c.args.text) c.chunks.index
     (rw c.chunk.ensures at c.in_ok-add_chunk.ensures)
 
 pub returns : goal.returns
-returns g c = rw (sym (joined_is c.args.text)) (writes_all _ (buffers_all bytes (chunks_of c.args.text) c.chunks.index
+returns g c = rw (sym (joined_is c.args.text)) (writes_all _ _ (buffers_all bytes (chunks_of c.args.text) c.chunks.index
     (omega (arith, c.chunks-test.false, c.chunks-index-end.ensures)) c.chunks.invariant) c.pass_on.ensures.writes)

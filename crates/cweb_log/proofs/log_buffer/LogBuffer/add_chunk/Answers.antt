@@ -9,7 +9,7 @@ pub add_part-requires : goal.add_part-requires
 add_part-requires g c = omega (arith, count_kept c.parts.invariant, c.requires)
 
 pub returns-in_err-add_part : goal.returns-in_err-add_part
-returns-in_err-add_part g c = fails_if _ c.from_residual.ensures.0 (fails_at part_bytes c.args.parts.now
+returns-in_err-add_part g c = fails_if _ _ _ _ c.from_residual.ensures.0 (fails_at part_bytes c.args.parts.now
     c.parts.part-index _ c.parts-test.true c.parts.invariant c.in_err-add_part.ensures)
 
 pub parts-preserved : goal.parts-preserved

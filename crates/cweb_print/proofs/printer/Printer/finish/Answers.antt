@@ -23,6 +23,6 @@ returns-clause-ends g c = λ ts is.
     record {
       bytes = begin_by (left_in_printer c.args.self.now).class;
       expected = file-end (setting_of c.args.self.now) (left_in_printer c.args.self.now) ts is;
-      wrote = moved_same _ _ c.in_ok-flush.ensures.moved c.in_ok-flush.ensures.empty
+      wrote = moved_same _ _ _ _ c.in_ok-flush.ensures.moved c.in_ok-flush.ensures.empty
           ∙ c.in_ok-append_printable.ensures;
     }

@@ -24,5 +24,5 @@ pub returns-in-false-Some-clause-wrote : goal.returns-in-false-Some-clause-wrote
 returns-in-false-Some-clause-wrote g c =
     let l = token_bytes_model c.in-false-Some.direct in
     let is = c.direct.ensures ∙ ap (λ o. Some (option_map token_bytes_model o)) c.in-false-Some.is-1 in
-    wrote_as (sym (direct_added c.args.store.now c.args.left c.args.number l c.in-false-Some.is-0
+    wrote_as _ (sym (direct_added c.args.store.now c.args.left c.args.number l c.in-false-Some.is-0
     c.args.token_reader.now c.requires.reader is)) c.in_ok-write_direct.ensures.wrote

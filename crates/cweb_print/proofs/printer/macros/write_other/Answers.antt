@@ -16,5 +16,5 @@ returns-clause-next g c = c.after.ensures ∙ ap (left_after_token c.args.left)
 
 pub returns-clause-wrote : goal.returns-clause-wrote
 returns-clause-wrote g c =
-    wrote_as (ap (added (macro_by (replaced_in c.args.store.now)) c.args.left)
+    wrote_as _ (ap (added (macro_by (replaced_in c.args.store.now)) c.args.left)
     (sym (at_index c.args.store.now c.args.number (token_model c.token-token.result) c.token-token.ensures))) c.in_ok-write_spaced.ensures.wrote
