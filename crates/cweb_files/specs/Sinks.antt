@@ -1,5 +1,5 @@
 -- What is known of a sink or of bins, and how calls change it.
-use Rattle.std.specs.Prelude.{◌≡◌, ◌+◌, ℕ, List, [], ◌++◌, Option, Some, None, IfSome, IsSome, Result, Ok, Err}
+use Rattle.std.specs.Prelude.{◌≡◌, ◌+◌, ℕ, Bool, true, false, List, [], ◌++◌, Option, Some, None, IfSome, IsSome, Result, Ok, Err}
 use Rattle.std.specs.Prelude.{option_map}
 use Rattle.cweb_files.specs.Files.{File, Refused, with_bytes}
 
@@ -18,6 +18,11 @@ always_open = record { files = []; draft = Some []; refused = None }
 pub record SinkContents : Type 0 where
   pub bytes : List ℕ
   pub beside : Beside
+
+-- The contents of a device, if it is observable.
+abbrev pub known : {A : Type 0} → Bool → A → Option A
+known true contents = Some contents
+known false contents = None
 
 -- A sink: the number of failed calls, and the contents if they are observable, which never changes.
 pub record SinkModel : Type 0 where
@@ -70,6 +75,10 @@ committed now = record {
 abbrev pub HasDraft : SinkModel → Type 0
 HasDraft sink = IfSome sink.contents (λ now. IsSome now.beside.draft)
 
+-- The contents after this text is written.
+abbrev pub appended : List ℕ → Option SinkContents → Option SinkContents
+appended text contents = option_map (with_printed text) contents
+
 -- A sink after this text is written to it.
 abbrev pub written : List ℕ → SinkModel → SinkModel
 written text sink = changed (with_printed text) sink
@@ -86,12 +95,12 @@ pub record WritesPrefix (text : List ℕ) (old new : SinkModel) : Type 0 where
   pub prefix : List ℕ
   pub rest : List ℕ
   pub whole : text ≡ prefix ++ rest
-  pub is : new.contents ≡ option_map (with_printed prefix) old.contents
+  pub is : new.contents ≡ appended prefix old.contents
 
 -- Some bytes were written, whether or not the sink failed.
 pub record Prints (old new : SinkModel) : Type 0 where
   pub text : List ℕ
-  pub is : new.contents ≡ option_map (with_printed text) old.contents
+  pub is : new.contents ≡ appended text old.contents
 
 -- The text was written, or after a fault a prefix of it.
 abbrev pub Wrote : {A E : Type 0} → List ℕ → SinkModel → SinkModel → Result A E → Type 0

@@ -1,7 +1,6 @@
 pub mod Common
 pub mod RequestedOptions
 pub mod WordCounts
-pub mod Known
 pub mod BufferedLog
 pub mod JoinedChunks
 pub mod Stems

@@ -1,6 +1,6 @@
 -- What is known of the devices of a run. The contents of a device are known if it is observable, which never changes.
-use Rattle.std.specs.Prelude.{◌≡◌, ℕ, ◌+◌, ◌^◌, ◌<◌, List, Bool, true, false, Option, Some, None}
-use Rattle.cweb_files.specs.Sinks.{FailsWithin, SinkModel, written}
+use Rattle.std.specs.Prelude.{◌≡◌, ℕ, ◌+◌, ◌^◌, ◌<◌, List, Option}
+use Rattle.cweb_files.specs.Sinks.{FailsWithin, SinkModel, known, written}
 use Rattle.cweb_files.specs.declared.device.Shelf.{Ghosts as Shelf}
 use Rattle.cweb_files.specs.declared.device.Sink.{Ghosts as Sink}
 
@@ -14,11 +14,6 @@ pub record Devices : Type 0 where
   pub shelf : ShelfModel
   pub out : SinkModel
   pub log : SinkModel
-
--- The contents of a device, if it is observable.
-abbrev pub known : {A : Type 0} → Bool → A → Option A
-known true contents = Some contents
-known false contents = None
 
 abbrev pub shelf_model : {S R : Type 0} → Shelf S R → S → ShelfModel
 shelf_model shelf s = record { failed = shelf.failed s; blamed = known (shelf.tells s) (shelf.blamed s) }

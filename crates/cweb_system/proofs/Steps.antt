@@ -1,12 +1,12 @@
 -- Each call is a decent step.
-use Rattle.std.proofs.Common.{◌≡◌, ◌∙◌, ◌⊎◌, inl, inr, ⊎_elim, ◌∷◌, ◌++◌, [], ℕ, List, Bool, true, false, refl, sym, ap, subst, Option, Some, None, Contains, IsTrue}
+use Rattle.std.proofs.Common.{◌≡◌, ◌∙◌, ◌⊎◌, inl, inr, ⊎_elim, ◌∷◌, ◌++◌, [], ℕ, List, Bool, true, false, refl, sym, ap, subst, Option, Some, None, IsTrue}
 use Rattle.std.specs.Prelude.{Result, Ok, Err, OnErr, IfOk, IfSome}
 use Rattle.std.specs.Str.{bytes_eq}
 use Rattle.std.proofs.lemmas.Slice.Eq.{bytes_eq-Decides}
 use Rattle.cweb_system.specs.declared.node.FileFault.{FileFault}
 use Rattle.cweb_system.specs.declared.node.FileKey.{FileKey}
 use Rattle.cweb_system.specs.declared.node.Node.{Node}
-use Rattle.cweb_system.specs.Tree.{Tree, IsFile, at, bytes_of, Appends, Creates, MayCreate, Removes, Renames, SetsMode}
+use Rattle.cweb_system.specs.Tree.{Tree, IsFile, bytes_of, Appends, Creates, MayCreate, Removes, Renames, SetsMode}
 use Rattle.cweb_system.specs.inner.Drafts.{IsAlone, KeepsDecent}
 use Rattle.cweb_system.specs.Steps.{AreDecent, Arrives, Changes, Disk, IsDecent, IsDraftPlace, NotesFailure, Stays, TakesStep}
 use Rattle.cweb_system.specs.inner.Drafts.{IsDraftAlone, IsUnread}

@@ -1,7 +1,8 @@
 -- What bins and shelf over a file system have.
 use Rattle.std.specs.Prelude.{ℕ, List, [], map, Option, Some, None, option_map, string_bytes}
 use Rattle.cweb_files.specs.Bins.{refusal}
-use Rattle.cweb_files.specs.Files.{File, Beside}
+use Rattle.cweb_files.specs.Files.{File}
+use Rattle.cweb_files.specs.Sinks.{Beside, SinkContents, SinkModel, known}
 use Rattle.cweb_system.specs.declared.bins.Folder.{Folder}
 use Rattle.cweb_system.specs.declared.drafts.path.Draft.{Draft}
 use Rattle.cweb_system.specs.declared.file_system.FileSystem.{Ghosts as FileSystem}
@@ -36,6 +37,17 @@ folder_beside system folder = record {
   refused = option_map refusal folder.refused;
 }
 
+-- The draft's bytes and what is beside them.
+abbrev pub folder_contents : {F H : Type 0} (system : FileSystem F H) → Folder F H system → SinkContents
+folder_contents system folder =
+    record { bytes = folder_bytes system folder; beside = folder_beside system folder }
+
+abbrev pub folder_model : {F H : Type 0} (system : FileSystem F H) → Folder F H system → SinkModel
+folder_model system folder = record {
+  failed = folder.failed;
+  contents = known (system.disk folder.fs).tells (folder_contents system folder);
+}
+
 abbrev pub bins_system : {F H : Type 0} {system : FileSystem F H} → FolderBins F H system → F
 bins_system bins = bins.folder.fs
 
@@ -43,11 +55,14 @@ bins_system bins = bins.folder.fs
 abbrev pub bins_read : {F H : Type 0} {system : FileSystem F H} → FolderBins F H system → List FileKey
 bins_read bins = keys_in bins.folder.files.read
 
-abbrev pub bins_failed : {F H : Type 0} {system : FileSystem F H} → FolderBins F H system → ℕ
-bins_failed bins = bins.folder.failed
+-- Bins that have committed no file.
+abbrev pub empty_bins : {F H : Type 0} → FileSystem F H → F → SinkModel
+empty_bins system fs = record {
+  failed = 0;
+  contents = known (system.disk fs).tells
+      (record { bytes = []; beside = record { files = []; draft = None; refused = None } });
+}
 
-abbrev pub bins_beside : {F H : Type 0} (system : FileSystem F H) → FolderBins F H system → Beside
-bins_beside system bins = folder_beside system bins.folder
-
-abbrev pub bins_bytes : {F H : Type 0} (system : FileSystem F H) → FolderBins F H system → List ℕ
-bins_bytes system bins = folder_bytes system bins.folder
+-- The bins as a sink.
+abbrev pub bins_model : {F H : Type 0} (system : FileSystem F H) → FolderBins F H system → SinkModel
+bins_model system bins = folder_model system bins.folder

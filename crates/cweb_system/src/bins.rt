@@ -1,7 +1,6 @@
 // Files of a file system as bins.
 ghost use Rattle.std.specs.Prelude.{◌≡◌, ◌≤◌, ◌<◌, ◌+◌, ◌^◌, ◌++◌, [], None, IsTrue, IsSome, IfSome, IfOk, IfErr, OnOk, OnErr};
 ghost use Rattle.std.specs.Prelude.{length, take, string_bytes};
-ghost use Rattle.cweb_files.specs.Bins.{CountsDeviceFailure};
 ghost use Rattle.cweb_system.specs.inner.Drafts.{IfCanBegin, IfCanPlace, IsCleared};
 ghost use Rattle.cweb_system.specs.inner.Drafts.{KeepsMode};
 ghost use Rattle.cweb_system.specs.inner.FolderSound.{IsSound, IsSound_prop};
@@ -27,22 +26,24 @@ pub struct Folder<F: FileSystem + Drop> {
 }
 
 impl<F: FileSystem + Drop> Folder<F> {
-    ghost use Rattle.cweb_system.specs.Bins.{folder_beside, folder_bytes};
+    ghost use Rattle.cweb_system.specs.Bins.{folder_contents, folder_model};
     ghost use Rattle.cweb_system.specs.inner.FolderCalls.{KeepsFolder, UsesDraft};
-    ghost use Rattle.cweb_files.specs.Bins.{refused_with};
-    ghost use Rattle.cweb_files.specs.Files.{committed, with_draft, without_draft};
+    ghost use Rattle.cweb_files.specs.Bins.{refusal, refused};
+    ghost use Rattle.cweb_files.specs.Sinks.{committed, with_draft, with_printed, with_refusal};
+    ghost use Rattle.cweb_files.specs.Sinks.{without_draft};
 
     /// Begins an empty draft and discards an open one.
     pub fn start(&mut self, name: &str) -> Result<(), BinFault>
         requires { self.old.failed + 1 < 2 ^ 64 }
         ensures keeps { KeepsFolder F.FileSystem self.old self.new }
-        ensures failed { CountsDeviceFailure self.old.failed self.new.failed result }
-        ensures begun { IsTrue (F.disk self.old.fs).tells → OnOk result (folder_beside F.FileSystem
-            self.new ≡ with_draft name.now (folder_beside F.FileSystem self.old)) }
-        ensures empty { IsTrue (F.disk self.old.fs).tells → OnOk result
-            (folder_bytes F.FileSystem self.new ≡ []) }
-        ensures err { IsTrue (F.disk self.old.fs).tells → IfErr result (λ fault. folder_beside
-            F.FileSystem self.new ≡ refused_with fault (folder_beside F.FileSystem self.old)) }
+        ensures failed { IfErr result (λ fault.
+            self.new.failed ≡ (refused fault (folder_model F.FileSystem self.old)).failed) }
+        ensures kept { OnOk result (self.new.failed ≡ self.old.failed) }
+        ensures begun { IsTrue (F.disk self.old.fs).tells → OnOk result (folder_contents F.FileSystem
+            self.new ≡ with_draft name.now (folder_contents F.FileSystem self.old)) }
+        ensures err { IsTrue (F.disk self.old.fs).tells → IfErr result (λ fault.
+            folder_contents F.FileSystem self.new
+            ≡ with_refusal (refusal fault) (folder_contents F.FileSystem self.old)) }
         ensures cause { self.old.draft ≡ None →
             IfCanBegin self.old.files name.now (F.disk self.old.fs) (IfErr result
             (λ fault. fault ≡ BinFault.Device → IsTrue (F.disk self.new.fs).failed)) }
@@ -71,12 +72,11 @@ impl<F: FileSystem + Drop> Folder<F> {
         ensures uses { UsesDraft F.FileSystem self.old self.new result }
         ensures within { IfOk result (λ n. n ≤ length piece.now) }
         ensures some { 0 < length piece.now → IfOk result (λ n. 0 < n) }
-        ensures bytes { IsTrue (F.disk self.old.fs).tells → IfOk result (λ n. folder_bytes
-            F.FileSystem self.new ≡ folder_bytes F.FileSystem self.old ++ take n piece.now) }
+        ensures ok { IsTrue (F.disk self.old.fs).tells → IfOk result (λ n.
+            folder_contents F.FileSystem self.new
+            ≡ with_printed (take n piece.now) (folder_contents F.FileSystem self.old)) }
         ensures err { IsTrue (F.disk self.old.fs).tells → OnErr result
-            (folder_bytes F.FileSystem self.new ≡ folder_bytes F.FileSystem self.old) }
-        ensures beside { IsTrue (F.disk self.old.fs).tells →
-            folder_beside F.FileSystem self.new ≡ folder_beside F.FileSystem self.old }
+            (folder_contents F.FileSystem self.new ≡ folder_contents F.FileSystem self.old) }
         ensures cause { IsTrue (F.disk self.old.fs).tells → IsSome self.old.draft →
             OnErr result (IsTrue (F.disk self.new.fs).failed) }
     {
@@ -101,15 +101,15 @@ impl<F: FileSystem + Drop> Folder<F> {
         ensures uses { UsesDraft F.FileSystem self.old self.new result }
         ensures device { IfErr result (λ fault. fault ≡ BinFault.Device) }
         ensures ok { IsTrue (F.disk self.old.fs).tells → OnOk result
-            (folder_beside F.FileSystem self.new ≡ committed (folder_beside F.FileSystem self.old)
-            (folder_bytes F.FileSystem self.old)) }
+            (folder_contents F.FileSystem self.new
+            ≡ committed (folder_contents F.FileSystem self.old)) }
         ensures mode { IsTrue (F.disk self.old.fs).tells → OnOk result (IfSome self.old.draft
             (λ draft. KeepsMode (string_bytes draft.name) (string_bytes draft.name) draft.key
             (F.disk self.old.fs).tree (F.disk self.new.fs).tree)) }
         ensures removed { IsTrue (F.disk self.old.fs).tells → IfSome self.old.draft (λ draft.
             IsCleared (string_bytes draft.path) (F.disk self.new.fs)) }
-        ensures err { IsTrue (F.disk self.old.fs).tells → OnErr result (folder_beside
-            F.FileSystem self.new ≡ without_draft (folder_beside F.FileSystem self.old)) }
+        ensures err { IsTrue (F.disk self.old.fs).tells → OnErr result (folder_contents
+            F.FileSystem self.new ≡ without_draft (folder_contents F.FileSystem self.old)) }
         ensures cause { IfSome self.old.draft (λ draft. IfCanPlace self.old.files draft
             (F.disk self.old.fs) (OnErr result (IsTrue (F.disk self.new.fs).failed))) }
     {
@@ -130,8 +130,8 @@ impl<F: FileSystem + Drop> Folder<F> {
     pub fn abandon(&mut self)
         ensures keeps { KeepsFolder F.FileSystem self.old self.new }
         ensures failed { self.new.failed ≡ self.old.failed }
-        ensures gone { IsTrue (F.disk self.old.fs).tells → folder_beside F.FileSystem self.new
-            ≡ without_draft (folder_beside F.FileSystem self.old) }
+        ensures gone { IsTrue (F.disk self.old.fs).tells → folder_contents F.FileSystem self.new
+            ≡ without_draft (folder_contents F.FileSystem self.old) }
         ensures removed { IsTrue (F.disk self.old.fs).tells → IfSome self.old.draft (λ draft.
             IsCleared (string_bytes draft.path) (F.disk self.new.fs)) }
         ensures idle { self.old.draft ≡ None → self.new.fs ≡ self.old.fs }

@@ -20,18 +20,15 @@ pub struct FolderBins<F: FileSystem + Drop> {
 }
 
 impl<F: FileSystem + Drop> FolderBins<F> {
-    ghost use Rattle.std.specs.Prelude.{◌≡◌, [], None};
-    ghost use Rattle.cweb_system.specs.Bins.{bins_system, bins_beside, bins_bytes, bins_failed, bins_read};
+    ghost use Rattle.std.specs.Prelude.{◌≡◌, []};
+    ghost use Rattle.cweb_system.specs.Bins.{bins_model, bins_read, bins_system, empty_bins};
 
     /// Bins that have committed no file. No output replaces a file in `read`.
     pub fn new(alloc: Global, fs: F, read: FileSet) -> Self
         requires { IsTrue (F.disk fs).tells → (F.disk fs).past ≡ [] }
         ensures system { bins_system result ≡ fs }
         ensures read { bins_read result ≡ keys_in read }
-        ensures beside { bins_beside F.FileSystem result
-            ≡ record { files = []; draft = None; refused = None } }
-        ensures bytes { bins_bytes F.FileSystem result ≡ [] }
-        ensures failed { bins_failed result ≡ 0 }
+        ensures empty { bins_model F.FileSystem result ≡ empty_bins F.FileSystem fs }
     {
         FolderBins {
             folder: Folder {
@@ -60,15 +57,9 @@ impl<F: FileSystem + Drop> FolderBins<F> {
 }
 
 impl<F: FileSystem + Drop> Sink for FolderBins<F> {
-    ghost use Rattle.cweb_system.specs.Bins.{folder_beside, folder_bytes};
+    ghost use Rattle.cweb_system.specs.Bins.{bins_model};
 
-    ghost tells = { λ b. (F.disk b.folder.fs).tells };
-
-    ghost written = { λ b. folder_bytes F.FileSystem b.folder };
-
-    ghost failed = { λ b. b.folder.failed };
-
-    ghost beside = { λ b. folder_beside F.FileSystem b.folder };
+    ghost model = { bins_model F.FileSystem };
 
     fn write(&mut self, piece: &[u8]) -> Result<usize, SinkFault> {
         self.folder.add(piece)

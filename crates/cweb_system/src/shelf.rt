@@ -28,7 +28,7 @@ pub struct FolderShelf<F: FileSystem + Drop> {
 }
 
 impl<F: FileSystem + Drop> FolderShelf<F> {
-    ghost use Rattle.cweb_system.specs.Bins.{bins_beside, bins_bytes, bins_failed, bins_read, bins_system};
+    ghost use Rattle.cweb_system.specs.Bins.{bins_model, bins_read, bins_system, empty_bins};
     ghost use Rattle.cweb_system.specs.inner.ShelfState.{shelf_failures, shelf_read, shelf_system};
 
     /// A shelf that doesn't record what it opens.
@@ -63,10 +63,7 @@ impl<F: FileSystem + Drop> FolderShelf<F> {
     pub fn into_bins(self, alloc: Global) -> FolderBins<F>
         ensures system { bins_system result ≡ shelf_system self }
         ensures read { bins_read result ≡ unwrap_or (shelf_read self) [] }
-        ensures beside { bins_beside F.FileSystem result
-            ≡ record { files = []; draft = None; refused = None } }
-        ensures bytes { bins_bytes F.FileSystem result ≡ [] }
-        ensures failed { bins_failed result ≡ 0 }
+        ensures empty { bins_model F.FileSystem result ≡ empty_bins F.FileSystem (shelf_system self) }
     {
         let FolderShelf {
             fs,

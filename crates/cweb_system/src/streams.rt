@@ -5,7 +5,7 @@ ghost use Rattle.std.specs.Option.{is_some, unwrap_or};
 ghost use Rattle.std.proofs.Props.{props};
 ghost use Rattle.std.specs.Io.KnownBytes.{ReadConsumes};
 ghost use Rattle.cweb_system.specs.inner.StreamCalls.{WritesPart};
-ghost use Rattle.cweb_files.specs.Bins.{CountsFailure};
+ghost use Rattle.cweb_files.specs.Sinks.{failed_once, written};
 
 use cweb_files::{ShelfFault, Sink, SinkFault};
 use std::io::{ErrorKind, Read, Write};
@@ -68,23 +68,17 @@ impl<W: Write + Drop> StdSink<W> {
 }
 
 impl<W: Write + Drop> Sink for StdSink<W> {
-    ghost use Rattle.cweb_system.specs.inner.Streams.{sink_bytes, sink_failures, sink_is_known, stream_of};
+    ghost use Rattle.cweb_system.specs.inner.Streams.{sink_model, stream_of};
 
-    ghost tells = { sink_is_known };
-
-    ghost written = { sink_bytes W.Write };
-
-    ghost failed = { sink_failures };
+    ghost model = { sink_model W.Write };
 
     /// The bytes go to the stream in order; none is lost or added.
     fn write(&mut self, piece: &[u8]) -> Result<usize, SinkFault>
-        requires { sink_failures self.old + 1 < 2 ^ 64 }
-        ensures tells { sink_is_known self.new ≡ sink_is_known self.old }
-        ensures failed { CountsFailure (sink_failures self.old) (sink_failures self.new) result }
-        ensures bytes { IsTrue (sink_is_known self.old) → IfOk result (λ n.
-            sink_bytes W.Write self.new ≡ sink_bytes W.Write self.old ++ take n piece.now) }
-        ensures err { IsTrue (sink_is_known self.old) →
-            OnErr result (sink_bytes W.Write self.new ≡ sink_bytes W.Write self.old) }
+        requires { (sink_model W.Write self.old).failed + 1 < 2 ^ 64 }
+        ensures ok { IfOk result (λ n. sink_model W.Write self.new
+            ≡ written (take n piece.now) (sink_model W.Write self.old)) }
+        ensures err { OnErr result
+            (sink_model W.Write self.new ≡ failed_once (sink_model W.Write self.old)) }
         ensures passes { WritesPart (W.contents (stream_of self.old))
             (W.contents (stream_of self.new)) piece.now result }
     {

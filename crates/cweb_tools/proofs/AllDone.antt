@@ -1,5 +1,5 @@
 -- The devices after all acts were done.
-use Rattle.cweb_tools.proofs.Common.{◌≡◌, inl, inr, ℕ, List, [], ◌∷◌, ◌++◌, sym, ◌∙◌, ap, refl, append-nil, append_assoc, Option, None, Some, File, flat_map, line, Devices, OutContents, OutModel, Act, says, writes, after_act, changed, with_printed, written, PerformsActs, written_files, files_in, logged_items, prints, merges, printed_bytes, written_lines, emitted_lines}
+use Rattle.cweb_tools.proofs.Common.{◌≡◌, inl, inr, ℕ, List, [], ◌∷◌, ◌++◌, sym, ◌∙◌, ap, refl, append-nil, append_assoc, Option, None, Some, File, flat_map, line, Devices, SinkContents, SinkModel, Act, says, writes, after_act, changed, with_printed, written, PerformsActs, written_files, files_in, logged_items, prints, merges, printed_bytes, written_lines, emitted_lines}
 use Rattle.cweb_files.specs.Files.{put_file}
 use Rattle.cweb_log.proofs.BufferedLog.{written_none, written_on}
 use Rattle.std.specs.Prelude.{fold, option_map}
@@ -34,7 +34,7 @@ log_all (says item ∷ acts) old new (inl run) = written_on (line item) (flat_ma
 log_all (act ∷ acts) old new (inl run) = log_all acts (after_act act old) new run.1
 
 -- The printed bytes, without a written file.
-pub printed_none : (out : OutModel) → out ≡ changed (with_printed []) out
+pub printed_none : (out : SinkModel) → out ≡ changed (with_printed []) out
 printed_none out = λ i. record out { contents = all out.contents i }
   where
     draft_same : (draft : Option File)
@@ -42,11 +42,11 @@ printed_none out = λ i. record out { contents = all out.contents i }
     draft_same None = refl
     draft_same (Some draft) = λ i. Some (record draft { bytes = sym (append-nil draft.bytes) i })
 
-    all : (contents : Option OutContents) → contents ≡ option_map (with_printed []) contents
+    all : (contents : Option SinkContents) → contents ≡ option_map (with_printed []) contents
     all None = refl
     all (Some now) = λ i. Some (record now { draft = draft_same now.draft i })
 
-pub printed_on : (a b : List ℕ) (out : OutModel)
+pub printed_on : (a b : List ℕ) (out : SinkModel)
     → changed (with_printed b) (changed (with_printed a) out) ≡ changed (with_printed (a ++ b)) out
 printed_on a b out = λ i. record out { contents = all out.contents i }
   where
@@ -56,7 +56,7 @@ printed_on a b out = λ i. record out { contents = all out.contents i }
     on None = refl
     on (Some draft) = λ i. Some (record draft { bytes = append_assoc draft.bytes a b i })
 
-    all : (contents : Option OutContents) → option_map (with_printed b) (option_map (with_printed a) contents)
+    all : (contents : Option SinkContents) → option_map (with_printed b) (option_map (with_printed a) contents)
         ≡ option_map (with_printed (a ++ b)) contents
     all None = refl
     all (Some now) = λ i. Some (record now { draft = on now.draft i })

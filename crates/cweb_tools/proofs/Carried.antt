@@ -1,5 +1,5 @@
 -- Clauses of devices, carried over to what is known of them.
-use Rattle.cweb_tools.proofs.Common.{◌≡◌, ◌+◌, ◌⊎◌, inl, inr, ℕ, List, ◌++◌, [], ◌∷◌, ◌∙◌, refl, add-zero, append-nil, IsSome, IsTrue, Option, Some, None, Stop, ReadFault, read_failures_of, blame, file_name_at, subject, OutContents, bins_model, shelf_model, contents_of, changed, failing}
+use Rattle.cweb_tools.proofs.Common.{◌≡◌, ◌+◌, ◌⊎◌, inl, inr, ℕ, List, ◌++◌, [], ◌∷◌, ◌∙◌, refl, add-zero, append-nil, IsSome, IsTrue, Option, Some, None, Stop, ReadFault, read_failures_of, blame, file_name_at, subject, SinkContents, bins_model, shelf_model, contents_of, changed, failing}
 use Rattle.cweb_files.specs.declared.device.Shelf.{Ghosts as Shelf}
 use Rattle.cweb_files.specs.declared.device.Sink.{Ghosts as Sink}
 use Rattle.cweb_log.proofs.Known.{carried, unchanged}
@@ -12,7 +12,7 @@ either None = inr (λ is. cc)
 
 -- Bins whose contents changed.
 module _ {W : Type 0} (sink : Sink W) {a d : W} (tells : sink.tells d ≡ sink.tells a)
-    (change : OutContents → OutContents)
+    (change : SinkContents → SinkContents)
     (changes : IsTrue (sink.tells a)
     → contents_of (sink.written d) (sink.beside d) ≡ change (contents_of (sink.written a) (sink.beside a))) where
   pub bins_changed : sink.failed d ≡ sink.failed a → bins_model sink d ≡ changed change (bins_model sink a)

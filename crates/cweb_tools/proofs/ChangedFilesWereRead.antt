@@ -1,5 +1,5 @@
 -- A run that changed the bins has read everything.
-use Rattle.cweb_tools.proofs.Common.{◌≡◌, ◌≢◌, ◌⊎◌, inl, inr, ℕ, ◌+◌, Bool, false, List, [], ◌∷◌, ◌++◌, ◌∙◌, ap, Some, Stop, ReadFault, LogItem, banner, fault_count, Shown, Devices, ShelfModel, OutModel, Act, says, opens, reads, merges, writes, prints, after_act, ending, Breaks, PerformsActs, RunEnds, completes, stops, when, TangleCourse, unread, not_there, change_not_there, tangling, script, web_acts, planned_acts, closing_acts, Planning, refused, planned, Web, ActsKeepLimits, HasReadAll}
+use Rattle.cweb_tools.proofs.Common.{◌≡◌, ◌≢◌, ◌⊎◌, inl, inr, ℕ, ◌+◌, Bool, false, List, [], ◌∷◌, ◌++◌, ◌∙◌, ap, Some, Stop, ReadFault, LogItem, banner, fault_count, Shown, Devices, ShelfModel, SinkModel, Act, says, opens, reads, merges, writes, prints, after_act, ending, Breaks, PerformsActs, RunEnds, completes, stops, when, TangleCourse, unread, not_there, change_not_there, tangling, script, web_acts, planned_acts, closing_acts, Planning, refused, planned, Web, ActsKeepLimits, HasReadAll}
 use Rattle.cweb_tools.proofs.Broken.{broken}
 use Rattle.cweb_tools.proofs.WebActs.{when_on, said_on, starred_on, outputs_on, closing_on}
 use Rattle.cweb_tools.proofs.Doing.{counts_all}
@@ -128,7 +128,7 @@ ends_read shown course {old = old} {new = new} (stops (ending stop about) mid ru
     ]
 
 -- If the output differs, everything was read.
-pub read_if_changed : {A : Type 0} (part : OutModel → A) {acts : List Act} {old new : Devices}
+pub read_if_changed : {A : Type 0} (part : SinkModel → A) {acts : List Act} {old new : Devices}
     → (new.out ≡ old.out) ⊎ HasReadAll acts old new → part new.out ≢ part old.out → HasReadAll acts old new
 read_if_changed part (inl same) changed = absurd (changed (ap part same))
 read_if_changed part (inr all) changed = all

@@ -51,8 +51,8 @@ pub use Rattle.cweb_lines.specs.surface.MergerCalls.{BeginsMerge, StopsAtStart, 
 pub use Rattle.cweb_lines.specs.surface.Total.{merge}
 pub use Rattle.cweb_lines.specs.surface.Writing.{StopsWriting, WritingStops}
 pub use Rattle.cweb_log.specs.CommandLine.{OptionsModel, options_by, shown_by_default, WebNames, web_names_by}
-pub use Rattle.cweb_log.specs.DeviceModels.{Devices, OutContents, OutModel, ShelfModel, StreamModel}
-pub use Rattle.cweb_log.specs.DeviceModels.{as_output, bins_model, contents_of, devices, known, printing_devices}
+pub use Rattle.cweb_log.specs.DeviceModels.{Devices, SinkContents, SinkModel, ShelfModel, SinkModel}
+pub use Rattle.cweb_log.specs.DeviceModels.{as_output, bins_model, contents_of, devices, known, devices}
 pub use Rattle.cweb_log.specs.DeviceModels.{shelf_model, stream_model, appended, written, FailsWithin, Logs}
 pub use Rattle.cweb_log.specs.DeviceModels.{logged, log_failed}
 pub use Rattle.cweb_log.specs.Items.{line, LogItem, is_fault, source_item, fault, starred}

@@ -1,5 +1,5 @@
 -- The effect of consecutive calls on the devices.
-use Rattle.cweb_tools.proofs.Common.{reads, ◌≡◌, inl, inr, ℕ, List, [], ◌∷◌, ◌++◌, refl, ap, Option, Some, None, IsErr, Result, Ok, Err, Ending, ending, LogFault, StreamModel, Devices, ShelfModel, OutModel, Act, Breaks, PerformsActs, LogsStop, RunEnds, completes, stops, after_act, says, merges, Does, DoesInBoth, DoesInLog, log_ending}
+use Rattle.cweb_tools.proofs.Common.{reads, ◌≡◌, inl, inr, ℕ, List, [], ◌∷◌, ◌++◌, refl, ap, Option, Some, None, IsErr, Result, Ok, Err, Ending, ending, LogFault, SinkModel, Devices, ShelfModel, SinkModel, Act, Breaks, PerformsActs, LogsStop, RunEnds, completes, stops, after_act, says, merges, Does, DoesInBoth, DoesInLog, log_ending}
 use Rattle.cweb_tools.proofs.Running.{runs_on, stops_in}
 
 pub does_none : {seen : Devices} → Does [] None seen seen
@@ -55,19 +55,19 @@ counts_all (act ∷ acts) old new (inl run) = counts_all acts (after_act act old
 abbrev pub no_shelf : ShelfModel
 no_shelf = record { failed = 0; blamed = None }
 
-pub bins_counted : {acts : List Act} {a b : OutModel} {k l : StreamModel} → DoesInBoth acts None a b k l
+pub bins_counted : {acts : List Act} {a b : SinkModel} {k l : SinkModel} → DoesInBoth acts None a b k l
     → b.failed ≡ a.failed
 bins_counted {acts} does = (counts_all acts _ _ (does no_shelf).runs).1
 
-pub logs_counted : {acts : List Act} {a b : OutModel} {k l : StreamModel} → DoesInBoth acts None a b k l
+pub logs_counted : {acts : List Act} {a b : SinkModel} {k l : SinkModel} → DoesInBoth acts None a b k l
     → l.failed ≡ k.failed
 logs_counted {acts} does = (counts_all acts _ _ (does no_shelf).runs).2
 
-pub log_counted : {acts : List Act} {old new : StreamModel} → DoesInLog acts None old new → new.failed ≡ old.failed
+pub log_counted : {acts : List Act} {old new : SinkModel} → DoesInLog acts None old new → new.failed ≡ old.failed
 log_counted {acts} does = (counts_all acts _ _ (does no_shelf (record { failed = 0; contents = None })).runs).2
 
 -- The log failed in the first acts.
-pub log_fails : {E B F : Type 0} (e : E) (r : Result B F) {xs : List Act} (ys : List Act) {old new : StreamModel}
+pub log_fails : {E B F : Type 0} (e : E) (r : Result B F) {xs : List Act} (ys : List Act) {old new : SinkModel}
     → DoesInLog xs (log_ending {A = Unit {0}} (Err e)) old new → IsErr r → DoesInLog (xs ++ ys) (log_ending r) old new
 log_fails e (Ok x) ys does is = absurd (cc)
 log_fails e (Err f) ys does is = λ shelf out. does_in ys (does shelf out)

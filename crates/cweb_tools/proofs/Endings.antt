@@ -1,5 +1,5 @@
 -- The consequences of a run's promises for its endings.
-use Rattle.cweb_tools.proofs.Common.{◌≡◌, inl, inr, ℕ, List, [], ◌∷◌, ◌++◌, refl, ap, arith, subst, IsTrue, Some, None, Stop, Usage, WebNotOpened, ChangeNotOpened, ReadFault, LineTooLong, TooMuchText, Memory, OutNotOpened, WriteFault, LogFault, Devices, StreamModel, Act, says, prints, reads, merges, after_act, ending, Breaks, LogsStop, PerformsActs, RunEnds, completes, stops, DoesAll, IsStopped, IsEnded, ActsKeepLimits, RanFreely}
+use Rattle.cweb_tools.proofs.Common.{◌≡◌, inl, inr, ℕ, List, [], ◌∷◌, ◌++◌, refl, ap, arith, subst, IsTrue, Some, None, Stop, Usage, WebNotOpened, ChangeNotOpened, ReadFault, LineTooLong, TooMuchText, Memory, OutNotOpened, WriteFault, LogFault, Devices, SinkModel, Act, says, prints, reads, merges, after_act, ending, Breaks, LogsStop, PerformsActs, RunEnds, completes, stops, DoesAll, IsStopped, IsEnded, ActsKeepLimits, RanFreely}
 use Rattle.cweb_tools.proofs.AllDone.{files_all, log_all}
 use Rattle.cweb_tools.proofs.Limits.{beyond}
 use Rattle.cweb_tools.specs.Acts.{ActKeepsLimits}
@@ -16,7 +16,7 @@ does_all : {acts : List Act} {expected : ℕ} {old new : Devices} {status : ℕ}
 does_all {acts} {old} {new} run answered =
     record {
       files = files_all acts old new run;
-      log = ap (λ (log : StreamModel). log.bytes) (log_all acts old new run);
+      log = ap (λ (log : SinkModel). log.bytes) (log_all acts old new run);
       answered = answered;
     }
 
@@ -82,7 +82,7 @@ stop_is_free : {acts : List Act} (stop : Stop) (about : List ℕ) (old mid : Dev
 stop_is_free {acts} Memory about old mid run logs free =
     let halts = halts_within acts (ending Memory about) old mid run in
     free.memory halts.done halts.later halts.act halts.whole (needs halts.act about halts.from mid halts.breaks)
-    (ap (λ (log : StreamModel). log.bytes) (runs_out acts about mid halts logs free.log))
+    (ap (λ (log : SinkModel). log.bytes) (runs_out acts about mid halts logs free.log))
 stop_is_free {acts} stop about old mid run logs free =
     let halts = halts_within acts (ending stop about) old mid run in
     not_free stop (λ is. cc) (cause_of halts.act stop about halts.from mid halts.breaks

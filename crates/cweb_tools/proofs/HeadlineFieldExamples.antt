@@ -1,5 +1,5 @@
 -- Worked examples: what each field of the headlines' records says of a run and its devices.
-use Rattle.cweb_tools.proofs.Common.{FileId, SourceLine, emitted_lines, written_lines, BreaksLimit, LineTooLong, ReadFault, OutNotOpened, WriteFault, LogFault, Breaks, merges, ending, ◌≡◌, ◌+◌, ℕ, List, [], ◌∷◌, ◌++◌, refl, ◌∙◌, ap, arith, codes, Option, Some, None, IsSome, File, no_device, Line, Event, took, fault, World, Found, web_at, change_at, found_course, OptionsModel, WebNames, Devices, OutContents, OutModel, StreamModel, appended, blaming, changed, failing, files_in, with_file, with_printed, without_file, Act, says, reads, writes, prints, after_act, RunEnds, completes, stops, RanFreely, DoesActs, acts_status, script, shown_by, Course, change_name, CanCome, MergeCanCome, TangleCourse, unread, not_there, change_not_there, tangling, tangled, planning, Web, Scanned, TanglePromises}
+use Rattle.cweb_tools.proofs.Common.{FileId, SourceLine, emitted_lines, written_lines, BreaksLimit, LineTooLong, ReadFault, OutNotOpened, WriteFault, LogFault, Breaks, merges, ending, ◌≡◌, ◌+◌, ℕ, List, [], ◌∷◌, ◌++◌, refl, ◌∙◌, ap, arith, codes, Option, Some, None, IsSome, File, no_device, Line, Event, took, fault, World, Found, web_at, change_at, found_course, OptionsModel, WebNames, Devices, SinkContents, SinkModel, SinkModel, appended, blaming, changed, failing, files_in, with_file, with_printed, without_file, Act, says, reads, writes, prints, after_act, RunEnds, completes, stops, RanFreely, DoesActs, acts_status, script, shown_by, Course, change_name, CanCome, MergeCanCome, TangleCourse, unread, not_there, change_not_there, tangling, tangled, planning, Web, Scanned, TanglePromises}
 use Rattle.cweb_files.specs.Files.{put_file}
 use Rattle.std.specs.Prelude.{fold, option_map}
 use Rattle.cweb_log.specs.Items.{writing}
@@ -55,12 +55,12 @@ one_fault : (before after : Devices) (status : ℕ) → DoesActs (says (fault (c
 one_fault before after status did = did.answered
 
 -- An output that is open gets what is printed.
-abbrev open_with : List ℕ → Option OutContents
+abbrev open_with : List ℕ → Option SinkContents
 open_with text = Some (record { files = []; draft = Some (file [] text); refused = None })
 
 rule : (before after : Devices) (status : ℕ) → DoesActs (prints (codes "a.c: a.w\n") ∷ []) before after status
     → before.out.contents ≡ open_with (codes "% ") → after.out.contents ≡ open_with (codes "% a.c: a.w\n")
-rule before after status did is_open = ap (λ (out : OutModel). out.contents) (did.printed refl)
+rule before after status did is_open = ap (λ (out : SinkModel). out.contents) (did.printed refl)
     ∙ ap (option_map (with_printed (codes "a.c: a.w\n"))) is_open
 
 -- `Breaks`: a read of a.w failed. The shelf counts it and blames a.w.
@@ -106,11 +106,11 @@ log_fails : (old new : Devices) → Breaks (says (writing (codes "a.c"))) (endin
     → old.log.bytes ≡ Some [] → (new.log.failed ≡ old.log.failed + 1)
     × ((prefix rest : List ℕ) × (new.log.bytes ≡ Some prefix) × (codes "Writing a.c\n" ≡ prefix ++ rest))
 log_fails old new broke none = (
-  ap (λ (log : StreamModel). log.failed) broke.log.is,
+  ap (λ (log : SinkModel). log.failed) broke.log.is,
   (
     broke.log.prefix,
     broke.log.rest,
-    ap (λ (log : StreamModel). log.bytes) broke.log.is ∙ ap (appended broke.log.prefix) none,
+    ap (λ (log : SinkModel). log.bytes) broke.log.is ∙ ap (appended broke.log.prefix) none,
     broke.log.whole,
   ),
 )

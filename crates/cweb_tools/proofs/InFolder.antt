@@ -1,5 +1,5 @@
 -- What a run in a folder leaves there.
-use Rattle.cweb_tools.proofs.Common.{◌≡◌, ◌∙◌, refl, sym, ap, subst, ℕ, Bool, true, false, List, [], ◌∷◌, map, Option, None, IsSome, IsTrue, World, OptionsModel, TangleCourse, IsTangleCourse, FollowsActs, RanFreely, All-nil, All-cons, File, Act, Devices, OutContents, OutModel, ShelfModel, StreamModel, at, known, contents_of, world_of, script, shown_by, TanglePromises, written_files}
+use Rattle.cweb_tools.proofs.Common.{◌≡◌, ◌∙◌, refl, sym, ap, subst, ℕ, Bool, true, false, List, [], ◌∷◌, map, Option, None, IsSome, IsTrue, World, OptionsModel, TangleCourse, IsTangleCourse, FollowsActs, RanFreely, All-nil, All-cons, File, Act, Devices, SinkContents, SinkModel, ShelfModel, SinkModel, at, known, contents_of, world_of, script, shown_by, TanglePromises, written_files}
 use Rattle.cweb_files.specs.Files.{put_file}
 use Rattle.std.specs.Prelude.{fold, is_some, option_map}
 use Rattle.cweb_system.specs.declared.written.WrittenFile.{WrittenFile}
@@ -25,7 +25,7 @@ all_in tree (w ∷ written) = All-cons (λ (file : File). contents tree file.nam
 
 -- The files of the course are in the folder, if nothing failed.
 pub left_in_folder : {F H : Type 0} (system : FileSystem F H) (fs : F) (bins : FolderBins F H system) (world : World)
-    (args : Option OptionsModel) (log log' : StreamModel) (status : ℕ)
+    (args : Option OptionsModel) (log log' : SinkModel) (status : ℕ)
     → KeepsInFolder (TanglePromises world args) (devices_before system fs log) (bins_after system bins) log' status
     → IsTrue (system.disk fs).tells → (course : TangleCourse) → IsTangleCourse world args course
     → RanFreely (script (shown_by args) course) (devices_before system fs log)
@@ -45,10 +45,10 @@ left_in_folder system fs bins world args log log' status run tells course is fre
     (bins_beside system bins)) (written_files (script (shown_by args) course)) tells done.files)
     (all_in (system.disk (bins_system bins)).tree bins.folder.files.written.items)
   where
-    files_from : (before after : Bool) (now : OutContents) (files : List File) → IsTrue before
-        → option_map (λ (now : OutContents). now.files) (known after now)
+    files_from : (before after : Bool) (now : SinkContents) (files : List File) → IsTrue before
+        → option_map (λ (now : SinkContents). now.files) (known after now)
         ≡ option_map (λ (old : List File). fold put_file old files)
-        (option_map (λ (now : OutContents). now.files)
+        (option_map (λ (now : SinkContents). now.files)
         (known before (record { files = []; draft = None; refused = None })))
         → now.files ≡ fold put_file [] files
     files_from true true now files tell is = cc
@@ -65,7 +65,7 @@ world_seen system shelf inputs = world_of (contents_in (system.disk shelf.fs).tr
 
 -- It stays observable or not.
 pub stays_so : {F H : Type 0} (system : FileSystem F H) (shelf shelf' : FolderShelf F H system) {C : Type 0}
-    {acts : C → List Act} {CanBe Is : C → Type 0} {out out' : OutModel} {log log' : StreamModel} {status : ℕ}
+    {acts : C → List Act} {CanBe Is : C → Type 0} {out out' : SinkModel} {log log' : SinkModel} {status : ℕ}
     → FollowsActs acts CanBe Is (at (shelf_seen system shelf) out log) (at (shelf_seen system shelf') out' log') status
     → (system.disk shelf'.fs).tells ≡ (system.disk shelf.fs).tells
 stays_so system shelf shelf' run = sym (known_is (system.disk shelf'.fs).tells) ∙ shelf_known run.ends
@@ -83,7 +83,7 @@ begins_in system fs shelf same zero =
 
 -- A run over a new shelf runs in the folder.
 pub runs_in : {F H : Type 0} (system : FileSystem F H) (fs : F) (Promises : World → Devices → Devices → ℕ → Type 0)
-    (inputs : Option (List ℕ)) (shelf shelf' : FolderShelf F H system) (out out' : OutModel) (log log' : StreamModel)
+    (inputs : Option (List ℕ)) (shelf shelf' : FolderShelf F H system) (out out' : SinkModel) (log log' : SinkModel)
     (status : ℕ) → shelf_system shelf ≡ fs → shelf_failures shelf ≡ 0
     → (system.disk shelf'.fs).tells ≡ (system.disk shelf.fs).tells
     → Promises (world_seen system shelf inputs) (at (shelf_seen system shelf) out log)
@@ -99,7 +99,7 @@ runs_in system fs Promises inputs shelf shelf' out out' log log' status same zer
     })
 
 -- New bins over a file system.
-pub bins_in : {F H : Type 0} (system : FileSystem F H) (fs : F) (log : StreamModel) (bins : FolderBins F H system)
+pub bins_in : {F H : Type 0} (system : FileSystem F H) (fs : F) (log : SinkModel) (bins : FolderBins F H system)
     → (system.disk (bins_system bins)).tells ≡ (system.disk fs).tells → bins_failed bins ≡ 0
     → bins_beside system bins ≡ record { files = []; draft = None; refused = None }
     → bins_after system bins ≡ (devices_before system fs log).out
@@ -109,26 +109,26 @@ bins_in system fs log bins of none beside = λ i. record {
 }
 
 -- A run of `ctangle` in a folder, with any bins at first.
-abbrev pub TanglesIn : {F H : Type 0} → FileSystem F H → F → Option (List ℕ) → Option OptionsModel → OutModel
-    → StreamModel → OutModel → StreamModel → ℕ → Type 0
+abbrev pub TanglesIn : {F H : Type 0} → FileSystem F H → F → Option (List ℕ) → Option OptionsModel → SinkModel
+    → SinkModel → SinkModel → SinkModel → ℕ → Type 0
 TanglesIn system fs inputs args first log out log' status =
     KeepsInFolder (TanglePromises (world_in system fs inputs) args) (at (shelf_in system fs) first log) out log' status
 
 -- A run of `ctangle` that ends before it reads.
 pub unread_in : {F H : Type 0} (system : FileSystem F H) (fs : F) (inputs : Option (List ℕ))
-    (args : Option OptionsModel) (out : OutModel) (log log' : StreamModel) (status : ℕ)
+    (args : Option OptionsModel) (out : SinkModel) (log log' : SinkModel) (status : ℕ)
     → out ≡ (devices_before system fs log).out
     → TanglePromises (world_in system fs inputs) args (at (shelf_in system fs) out log)
     (at (shelf_in system fs) out log') status
     → TanglesIn system fs inputs args (devices_before system fs log).out log out log' status
 unread_in system fs inputs args out log log' status is run =
-    subst (λ (m : OutModel). TanglesIn system fs inputs args m log out log' status) is
+    subst (λ (m : SinkModel). TanglesIn system fs inputs args m log out log' status) is
     (record { shelf = shelf_in system fs; reads = λ some. refl; promises = run })
 
 -- A run of `ctangle` over a new shelf, whose bins take over the file system from the shelf.
 pub tangles_in : {F H : Type 0} (system : FileSystem F H) (fs : F) (inputs : Option (List ℕ))
-    (args : Option OptionsModel) (shelf shelf' : FolderShelf F H system) (bins : FolderBins F H system) (out : OutModel)
-    (log log' : StreamModel) (status : ℕ)
+    (args : Option OptionsModel) (shelf shelf' : FolderShelf F H system) (bins : FolderBins F H system) (out : SinkModel)
+    (log log' : SinkModel) (status : ℕ)
     → shelf_system shelf ≡ fs → shelf_failures shelf ≡ 0 → bins_system bins ≡ shelf_system shelf' → bins_failed bins ≡ 0
     → bins_beside system bins ≡ record { files = []; draft = None; refused = None }
     → TanglePromises (world_seen system shelf inputs) args
@@ -136,7 +136,7 @@ pub tangles_in : {F H : Type 0} (system : FileSystem F H) (fs : F) (inputs : Opt
     → TanglesIn system fs inputs args (devices_before system fs log).out log out log' status
 tangles_in {F = F} system fs inputs args shelf shelf' bins out log log' status same zero of none beside run =
     let stays = stays_so system shelf shelf' run in
-    subst (λ (m : OutModel). TanglesIn system fs inputs args m log out log' status)
+    subst (λ (m : SinkModel). TanglesIn system fs inputs args m log out log' status)
     (bins_in system fs log bins (ap (λ (f : F). (system.disk f).tells) of ∙ stays
     ∙ ap (λ (f : F). (system.disk f).tells) same) none beside)
     (runs_in system fs (λ world. TanglePromises world args) inputs shelf shelf' (bins_after system bins) out log log'

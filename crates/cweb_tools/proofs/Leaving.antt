@@ -1,5 +1,5 @@
 -- The files and the draft after a run.
-use Rattle.cweb_tools.proofs.Common.{◌≡◌, inl, inr, ℕ, ◌+◌, false, List, [], ◌∷◌, ◌++◌, refl, sym, ◌∙◌, ap, Option, Some, None, File, Event, LogItem, fault_count, Shown, Devices, OutModel, Act, says, merges, writes, prints, after_act, changed, with_file, with_printed, Ending, ending, PerformsActs, RunEnds, completes, stops, LeavesFiles, draft_in, files_in, refused, Web, written_files, script, tangling}
+use Rattle.cweb_tools.proofs.Common.{◌≡◌, inl, inr, ℕ, ◌+◌, false, List, [], ◌∷◌, ◌++◌, refl, sym, ◌∙◌, ap, Option, Some, None, File, Event, LogItem, fault_count, Shown, Devices, SinkModel, Act, says, merges, writes, prints, after_act, changed, with_file, with_printed, Ending, ending, PerformsActs, RunEnds, completes, stops, LeavesFiles, draft_in, files_in, refused, Web, written_files, script, tangling}
 use Rattle.cweb_files.specs.Files.{put_file}
 use Rattle.std.specs.Prelude.{fold, option_map}
 use Rattle.std.proofs.lemmas.Iterator.Adapters.{option_map_id}
@@ -7,12 +7,12 @@ use Rattle.cweb_tools.proofs.Broken.{broken, draft_goes, draft_stays, files_stay
 use Rattle.cweb_tools.proofs.WebActs.{when_on, said_on, starred_on, closing_on}
 
 -- Nothing was committed.
-none_done : {expected : List File} {old new : OutModel} → files_in new ≡ files_in old → LeavesFiles expected old new
+none_done : {expected : List File} {old new : SinkModel} → files_in new ≡ files_in old → LeavesFiles expected old new
 none_done {expected} {old} same =
     record { done = []; undone = expected; whole = refl; is = same ∙ sym (option_map_id (files_in old)) }
 
 -- One more file was committed first.
-pub put_first : (file : File) (done : List File) (out : OutModel)
+pub put_first : (file : File) (done : List File) (out : SinkModel)
     → option_map (λ (files : List File). fold put_file files done)
     (files_in (changed (with_file file.name file.bytes) out))
     ≡ option_map (λ (files : List File). fold put_file files (file ∷ done)) (files_in out)
@@ -22,11 +22,11 @@ put_first file done out =
     ∙ map_on _ _ out.contents ∙ sym (map_on _ _ out.contents)
 
 -- The files and the draft after acts.
-abbrev Leaves : List Act → OutModel → OutModel → Type 0
+abbrev Leaves : List Act → SinkModel → SinkModel → Type 0
 Leaves acts old new = LeavesFiles (written_files acts) old new × (draft_in old ≡ None → draft_in new ≡ None)
 
 -- After the printing of a text.
-left_printed : (acts : List Act) (text : List ℕ) (old : OutModel) {new : OutModel}
+left_printed : (acts : List Act) (text : List ℕ) (old : SinkModel) {new : SinkModel}
     → Leaves acts (changed (with_printed text) old) new → Leaves acts old new
 left_printed acts text old left = (
   record {
@@ -93,7 +93,7 @@ refused_files shown names events web text is =
     (λ item. tt) (rw is (closing_on Any None-in said shown web.numbers (fault_count web.faults + 1) false tt tt refl))))
 
 -- If no files are expected, none is committed.
-none_expected : {expected : List File} {old new : OutModel} → expected ≡ [] → LeavesFiles expected old new
+none_expected : {expected : List File} {old new : SinkModel} → expected ≡ [] → LeavesFiles expected old new
     → files_in new ≡ files_in old
 none_expected {old = old} {new = new} none leaves =
     nothing leaves.done leaves.undone (sym none ∙ leaves.whole) leaves.is

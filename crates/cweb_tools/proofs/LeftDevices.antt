@@ -1,5 +1,5 @@
 -- What a run of `ctangle` leaves in the bins.
-use Rattle.cweb_tools.proofs.Common.{◌≡◌, ◌⊎◌, inl, inr, ℕ, List, [], ◌∷◌, refl, sym, ◌∙◌, ap, Option, Some, None, Devices, OutContents, OutModel, Act, merges, writes, prints, after_act, changed, with_file, with_printed, PerformsActs, RunEnds, completes, stops, last_refusal, shown_by}
+use Rattle.cweb_tools.proofs.Common.{◌≡◌, ◌⊎◌, inl, inr, ℕ, List, [], ◌∷◌, refl, sym, ◌∙◌, ap, Option, Some, None, Devices, SinkContents, SinkModel, Act, merges, writes, prints, after_act, changed, with_file, with_printed, PerformsActs, RunEnds, completes, stops, last_refusal, shown_by}
 use Rattle.cweb_files.specs.Files.{Refused}
 use Rattle.std.specs.Prelude.{option_map}
 use Rattle.std.specs.Option.{option_and_then}
@@ -8,14 +8,14 @@ use Rattle.cweb_tools.proofs.ChangedFilesWereRead.{ends_read, read_if_changed}
 use Rattle.cweb_tools.proofs.Leaving.{ends_draft, ends_files}
 
 -- The last refusal after a change of the contents.
-refusal_after : (change : OutContents → OutContents) (refused : Option Refused → Option Refused) → refused None ≡ None
-    → ((now : OutContents) → (change now).refused ≡ refused now.refused) → (out : OutModel)
+refusal_after : (change : SinkContents → SinkContents) (refused : Option Refused → Option Refused) → refused None ≡ None
+    → ((now : SinkContents) → (change now).refused ≡ refused now.refused) → (out : SinkModel)
     → last_refusal (changed change out) ≡ refused (last_refusal out)
 refusal_after change refused none is out = all out.contents
   where
-    all : (contents : Option OutContents)
-        → option_and_then (λ (now : OutContents). now.refused) (option_map change contents)
-        ≡ refused (option_and_then (λ (now : OutContents). now.refused) contents)
+    all : (contents : Option SinkContents)
+        → option_and_then (λ (now : SinkContents). now.refused) (option_map change contents)
+        ≡ refused (option_and_then (λ (now : SinkContents). now.refused) contents)
     all None = sym none
     all (Some now) = is now
 
@@ -48,6 +48,6 @@ pub leave_bins : EveryRunLeavesBins
 leave_bins world args before after status run = record {
   files = ends_files run.ends;
   draft = λ none. ends_draft none run.ends;
-  read = read_if_changed (λ (out : OutModel). out.contents) (ends_read (shown_by args) run.course run.ends);
+  read = read_if_changed (λ (out : SinkModel). out.contents) (ends_read (shown_by args) run.course run.ends);
   refused = λ why. refused_so why run.ends;
 }

@@ -1,5 +1,5 @@
 -- What runs leave in the shelf.
-use Rattle.cweb_tools.proofs.Common.{◌≡◌, inl, inr, ℕ, List, [], ◌∷◌, refl, ◌∙◌, ap, arith, Option, Some, None, flat_map, line, Devices, ShelfModel, StreamModel, Stop, ReadFault, Act, judges, after_act, ending, PerformsActs, RunEnds, completes, stops, FollowsActs, IsStopped}
+use Rattle.cweb_tools.proofs.Common.{◌≡◌, inl, inr, ℕ, List, [], ◌∷◌, refl, ◌∙◌, ap, arith, Option, Some, None, flat_map, line, Devices, ShelfModel, SinkModel, Stop, ReadFault, Act, judges, after_act, ending, PerformsActs, RunEnds, completes, stops, FollowsActs, IsStopped}
 use Rattle.std.specs.Prelude.{is_some, option_map}
 use Rattle.cweb_tools.specs.laws.LeftDevices.{LeavesShelf}
 use Rattle.cweb_tools.proofs.Broken.{broken, shelf_after}
@@ -29,7 +29,7 @@ shelf_so (ReadFault file) about is blamed answered = record {
     blamed = blamed;
     logged = λ same. (
       flat_map line is.log.before,
-      ap (λ (log : StreamModel). log.bytes) (logs_all is.log.logs same),
+      ap (λ (log : SinkModel). log.bytes) (logs_all is.log.logs same),
     );
     answered = answered;
   };

@@ -1,5 +1,5 @@
 -- Logging of items is the doing of acts.
-use Rattle.cweb_tools.proofs.Common.{◌≡◌, ◌<◌, ◌+◌, ◌⊎◌, inl, inr, ℕ, zero, suc, List, [], ◌∷◌, ◌++◌, map, refl, sym, ◌∙◌, ap, append-nil, length, arith, flat_map, ◌==◌, Bool, true, false, None, Some, Result, Ok, Err, LogFault, WritesToStream, FailsWithin, Logs, logged, log_failed, appended, written, LogItem, line, starred, StreamModel, ShelfModel, OutModel, ending, PerformsActs, says, at, DoesInLog, log_ending, starred_acts, when}
+use Rattle.cweb_tools.proofs.Common.{◌≡◌, ◌<◌, ◌+◌, ◌⊎◌, inl, inr, ℕ, zero, suc, List, [], ◌∷◌, ◌++◌, map, refl, sym, ◌∙◌, ap, append-nil, length, arith, flat_map, ◌==◌, Bool, true, false, None, Some, Result, Ok, Err, LogFault, WritesToStream, FailsWithin, Logs, logged, log_failed, appended, written, LogItem, line, starred, SinkModel, ShelfModel, SinkModel, ending, PerformsActs, says, at, DoesInLog, log_ending, starred_acts, when}
 use Rattle.cweb_log.proofs.BufferedLog.{appended_on, written_on, written_none}
 use Rattle.cweb_tools.proofs.Doing.{does_none}
 
@@ -19,7 +19,7 @@ cuts (x ∷ a) b (y ∷ prefix) rest is =
     ]
 
 -- The log failed within one of the lines.
-lines_stop : (item : LogItem) (items : List LogItem) (shelf : ShelfModel) (out : OutModel) (old new : StreamModel)
+lines_stop : (item : LogItem) (items : List LogItem) (shelf : ShelfModel) (out : SinkModel) (old new : SinkModel)
     → FailsWithin (flat_map line (item ∷ items)) old new
     → PerformsActs (map says (item ∷ items)) (Some (ending LogFault [])) (at shelf out old) (at shelf out new)
 lines_stop item [] shelf out old new fails =
@@ -43,7 +43,7 @@ lines_stop item (next ∷ items) shelf out old new fails =
     ]
 
 -- All lines were logged.
-lines_said : (items : List LogItem) (shelf : ShelfModel) (out : OutModel) (old new : StreamModel)
+lines_said : (items : List LogItem) (shelf : ShelfModel) (out : SinkModel) (old new : SinkModel)
     → new ≡ written (flat_map line items) old → PerformsActs (map says items) None (at shelf out old) (at shelf out new)
 lines_said [] shelf out old new is = ap (at shelf out) (is ∙ sym (written_none old))
 lines_said (item ∷ items) shelf out old new is = inl (
@@ -53,7 +53,7 @@ lines_said (item ∷ items) shelf out old new is = inl (
 )
 
 -- Writing the lines of a nonempty list of items is logging them.
-pub said_all : {A E : Type 0} (r : Result A E) (item : LogItem) (items : List LogItem) {old new : StreamModel}
+pub said_all : {A E : Type 0} (r : Result A E) (item : LogItem) (items : List LogItem) {old new : SinkModel}
     → WritesToStream (flat_map line (item ∷ items)) old new r
     → DoesInLog (map says (item ∷ items)) (log_ending r) old new
 said_all (Ok x) item items {old} {new} writes =
@@ -62,29 +62,29 @@ said_all (Err e) item items {old} {new} writes =
     λ shelf out. record { runs = lines_stop item items shelf out old new writes.err }
 
 -- One line.
-pub said : {A E : Type 0} {r : Result A E} (item : LogItem) {old new : StreamModel}
+pub said : {A E : Type 0} {r : Result A E} (item : LogItem) {old new : SinkModel}
     → WritesToStream (line item) old new r → DoesInLog (says item ∷ []) (log_ending r) old new
 said {r} item {old} {new} writes = said_all r item [] (rw (append-nil (line item)) writes)
 
 -- The logged bytes, or a prefix of them, were written.
-pub logs_write : {text : List ℕ} {old new : StreamModel}
+pub logs_write : {text : List ℕ} {old new : SinkModel}
     → Logs text old new → (r : Result (Unit {0}) (Unit {0})) × WritesToStream text old new r
 logs_write (logged is) = (Ok tt, record { ok = is; err = tt })
 logs_write (log_failed fails) = (Err tt, record { ok = tt; err = fails })
 
 -- Nothing was to be logged.
-pub said_none : {stream : StreamModel} → DoesInLog [] None stream stream
+pub said_none : {stream : SinkModel} → DoesInLog [] None stream stream
 said_none = λ shelf out. does_none
 
 -- A line that is wanted.
-pub said_when : {A E : Type 0} {r : Result A E} (wanted : Bool) (item : LogItem) {old new : StreamModel}
+pub said_when : {A E : Type 0} {r : Result A E} (wanted : Bool) (item : LogItem) {old new : SinkModel}
     → wanted ≡ true → WritesToStream (flat_map line (item ∷ [])) old new r
     → DoesInLog (when wanted item) (log_ending r) old new
 said_when {r} true item is writes = said_all r item [] writes
 said_when false item is writes = absurd (cc)
 
 -- A line that isn't wanted.
-pub said_not : (wanted : Bool) (item : LogItem) {stream : StreamModel} → wanted ≡ false
+pub said_not : (wanted : Bool) (item : LogItem) {stream : SinkModel} → wanted ≡ false
     → DoesInLog (when wanted item) None stream stream
 said_not true item is = absurd (cc)
 said_not false item is = said_none
@@ -95,7 +95,7 @@ some_by zero is = absurd (cc)
 some_by (suc n) is = omega arith
 
 -- The numbers of a nonempty list of starred sections.
-pub said_starred : {A E : Type 0} {r : Result A E} (progress : Bool) (numbers : List ℕ) {old new : StreamModel}
+pub said_starred : {A E : Type 0} {r : Result A E} (progress : Bool) (numbers : List ℕ) {old new : SinkModel}
     → progress ≡ true → 0 < length numbers
     → WritesToStream (flat_map line (starred numbers ∷ [])) old new r
     → DoesInLog (starred_acts progress numbers) (log_ending r) old new

@@ -1,16 +1,16 @@
 -- The output of `wmerge`, as far as it is promised.
-use Rattle.cweb_tools.proofs.Common.{◌≡◌, ◌+◌, ◌&&◌, ℕ, Bool, true, false, List, ◌++◌, refl, ◌∙◌, ap, add-zero, Option, Some, IsTrue, always_open, write_failures_of, Stop, WriteFault, OutContents, OutModel, ShelfModel, as_output, contents_of, known, shelf_model, stream_model, changed, with_printed}
+use Rattle.cweb_tools.proofs.Common.{◌≡◌, ◌+◌, ◌&&◌, ℕ, Bool, true, false, List, ◌++◌, refl, ◌∙◌, ap, add-zero, Option, Some, IsTrue, always_open, write_failures_of, Stop, WriteFault, SinkContents, SinkModel, ShelfModel, as_output, contents_of, known, shelf_model, stream_model, changed, with_printed}
 use Rattle.cweb_files.specs.declared.device.Shelf.{Ghosts as Shelf}
 use Rattle.cweb_files.specs.declared.device.Sink.{Ghosts as Sink}
 use Rattle.std.specs.Prelude.{option_map}
 use Rattle.std.specs.Option.{option_and}
 use Rattle.cweb_tools.proofs.MergeStops.{out_after}
 
-abbrev pub out_of : ShelfModel → OutModel → OutModel
+abbrev pub out_of : ShelfModel → SinkModel → SinkModel
 out_of shelf out = record out { contents = option_and shelf.blamed out.contents }
 
 -- The printed bytes are known if files and output are.
-abbrev merged : {A : Type 0} → Bool → Bool → A → List ℕ → Option OutContents
+abbrev merged : {A : Type 0} → Bool → Bool → A → List ℕ → Option SinkContents
 merged shelf out blamed bytes =
     option_and (known shelf blamed) (option_map (λ (bytes : List ℕ). contents_of bytes always_open) (known out bytes))
 
@@ -37,10 +37,10 @@ out_part false y both = absurd (cc)
 -- Shelf and output before and after a merge.
 module _ {S R W : Type 0} (shelf : Shelf S R) (sink : Sink W) (old new : S) (out out' : W)
     (tells : shelf.tells new ≡ shelf.tells old) (out_tells : sink.tells out' ≡ sink.tells out) where
-  abbrev pub before : OutModel
+  abbrev pub before : SinkModel
   before = out_of (shelf_model shelf old) (as_output (stream_model sink out))
 
-  abbrev pub after : OutModel
+  abbrev pub after : SinkModel
   after = out_of (shelf_model shelf new) (as_output (stream_model sink out'))
 
   pub merge_printed : (text : List ℕ) → sink.failed out' ≡ sink.failed out

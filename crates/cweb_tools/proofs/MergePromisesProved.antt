@@ -1,5 +1,5 @@
 -- The ends of a run of `wmerge` keep its promises.
-use Rattle.cweb_tools.proofs.Common.{◌≤◌, ◌≡◌, inl, inr, ℕ, ◌+◌, List, [], ◌∷◌, ◌++◌, refl, sym, ◌∙◌, ap, append-nil, append_assoc, arith, subst, Option, Some, IsSome, World, read_failures_of, bins_blame, Event, emitted_lines, written_lines, Stop, ReadFault, OutNotOpened, WriteFault, WebNames, Course, IsMergeCourse, merge_acts, merge_devices, PrintsActs, Prints, ActsKeepLimits, Act, reads, writes, merges, prints, after_act, changed, with_printed, ending, Breaks, FailsOutput, Devices, OutModel, PerformsActs, RunEnds, completes, stops, printed_bytes, written_files, RisesOnce}
+use Rattle.cweb_tools.proofs.Common.{◌≤◌, ◌≡◌, inl, inr, ℕ, ◌+◌, List, [], ◌∷◌, ◌++◌, refl, sym, ◌∙◌, ap, append-nil, append_assoc, arith, subst, Option, Some, IsSome, World, read_failures_of, bins_blame, Event, emitted_lines, written_lines, Stop, ReadFault, OutNotOpened, WriteFault, WebNames, Course, IsMergeCourse, merge_acts, merge_devices, PrintsActs, Prints, ActsKeepLimits, Act, reads, writes, merges, prints, after_act, changed, with_printed, ending, Breaks, FailsOutput, Devices, SinkModel, PerformsActs, RunEnds, completes, stops, printed_bytes, written_files, RisesOnce}
 use Rattle.cweb_lines.proofs.EmittedLinesAddUp.{emitted-append}
 use Rattle.cweb_lines.proofs.WrittenLinesAddUp.{text_of-append}
 use Rattle.cweb_tools.specs.laws.RunEffects.{EveryMergeLeavesOutput}
@@ -18,22 +18,22 @@ pub one_course : (world : World) (args : Option WebNames) (one other : Course) �
 one_course world args one other is too = merge_only world args one is ∙ sym (merge_only world args other too)
 
 -- A prefix of a text was printed.
-record Printed (text : List ℕ) (old new : OutModel) : Type 0 where
+record Printed (text : List ℕ) (old new : SinkModel) : Type 0 where
   prefix : List ℕ
   rest : List ℕ
   whole : text ≡ prefix ++ rest
   printed : Prints prefix old new
 
-nothing : {old new : OutModel} (text : List ℕ) → new ≡ old → Printed text old new
+nothing : {old new : SinkModel} (text : List ℕ) → new ≡ old → Printed text old new
 nothing {old} text same = record {
   prefix = [];
   rest = text;
   whole = refl;
-  printed = ap (λ (out : OutModel). out.contents) (same ∙ printed_none old);
+  printed = ap (λ (out : SinkModel). out.contents) (same ∙ printed_none old);
 }
 
 -- More would have been printed after a prefix.
-more_after : {text : List ℕ} (more : List ℕ) {old new : OutModel} → Printed text old new
+more_after : {text : List ℕ} (more : List ℕ) {old new : SinkModel} → Printed text old new
     → Printed (text ++ more) old new
 more_after more wrote = record {
   prefix = wrote.prefix;
@@ -43,13 +43,13 @@ more_after more wrote = record {
 }
 
 -- This was printed before a prefix.
-more_before : (text : List ℕ) {more : List ℕ} (old : OutModel) {new : OutModel}
+more_before : (text : List ℕ) {more : List ℕ} (old : SinkModel) {new : SinkModel}
     → Printed more (changed (with_printed text) old) new → Printed (text ++ more) old new
 more_before text old wrote = record {
   prefix = text ++ wrote.prefix;
   rest = wrote.rest;
   whole = ap (λ (t : List ℕ). text ++ t) wrote.whole ∙ sym (append_assoc text wrote.prefix wrote.rest);
-  printed = wrote.printed ∙ ap (λ (out : OutModel). out.contents) (printed_on text wrote.prefix old);
+  printed = wrote.printed ∙ ap (λ (out : SinkModel). out.contents) (printed_on text wrote.prefix old);
 }
 
 printing_failed : {text about : List ℕ} {old new : Devices} → FailsOutput text about old new
@@ -73,7 +73,7 @@ printed_at (merges names events) acts stop about old new none broke = more_after
   whole = ap (λ (es : List Event). written_lines (emitted_lines es)) broke.whole
       ∙ ap written_lines (emitted-append broke.earlier broke.later)
       ∙ text_of-append (emitted_lines broke.earlier) (emitted_lines broke.later);
-  printed = ap (λ (out : OutModel). out.contents) ((reading_broken (reads names events) names broke.earlier broke.later
+  printed = ap (λ (out : SinkModel). out.contents) ((reading_broken (reads names events) names broke.earlier broke.later
       stop about (after_act (merges names broke.earlier) old) new broke.fails).out (λ of_output. of_output));
 })
 printed_at (prints text) acts WriteFault about old new none broke =
@@ -100,7 +100,7 @@ not_zero status one none = absurd (omega (arith, one, none))
 printed_by : {acts : List Act} {expected : ℕ} {old new : Devices} {status : ℕ} → written_files acts ≡ []
     → RunEnds acts expected old new status → PrintsActs acts old.out new.out status
 printed_by {acts} {old = old} {new = new} none (completes run answered) =
-    let all = ap (λ (out : OutModel). out.contents) (printed_all acts old new none run) in
+    let all = ap (λ (out : SinkModel). out.contents) (printed_all acts old new none run) in
     record {
       prefix = printed_bytes acts;
       rest = [];

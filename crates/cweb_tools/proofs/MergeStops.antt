@@ -1,5 +1,5 @@
 -- A merge that stops breaks the act of merging.
-use Rattle.cweb_tools.proofs.Common.{◌∙◌, ap, ◌∷◌, ◌≤◌, Bool, Line, IsTrue, length, files_named, begun_with, LINES, BYTES, after_act, ◌≡◌, ℕ, List, [], ◌++◌, refl, subst, Event, SoFar, StopsReading, emitted_lines, written_lines, StopsWriting, WritingStops, WritesPrefix, Stop, ReadFault, LineTooLong, TooMuchText, Memory, WriteFault, LogFault, Logs, stop_line, subject, StreamModel, OutModel, Devices, merges, Breaks, FailsReading, ending, LogsEnding, changed, failing, with_printed}
+use Rattle.cweb_tools.proofs.Common.{◌∙◌, ap, ◌∷◌, ◌≤◌, Bool, Line, IsTrue, length, files_named, begun_with, LINES, BYTES, after_act, ◌≡◌, ℕ, List, [], ◌++◌, refl, subst, Event, SoFar, StopsReading, emitted_lines, written_lines, StopsWriting, WritingStops, WritesPrefix, Stop, ReadFault, LineTooLong, TooMuchText, Memory, WriteFault, LogFault, Logs, stop_line, subject, SinkModel, SinkModel, Devices, merges, Breaks, FailsReading, ending, LogsEnding, changed, failing, with_printed}
 use Rattle.cweb_lines.specs.Events.{took, emitted, fault, opening}
 use Rattle.cweb_log.proofs.BufferedLog.{prefix_if}
 use Rattle.cweb_tools.specs.Acts.{BreaksReading}
@@ -7,7 +7,7 @@ use Rattle.cweb_tools.proofs.Broken.{shelf_after}
 use Rattle.cweb_tools.proofs.Limits.{CutAt, cut_at_limit}
 use Rattle.cweb_tools.proofs.ReadingStops.{left_by, fails_so, cut_first, read_by}
 
-pub writing_ends : (stop : Stop) (about : List ℕ) {l l' : StreamModel} → WritingStops stop
+pub writing_ends : (stop : Stop) (about : List ℕ) {l l' : SinkModel} → WritingStops stop
     → Logs (stop_line stop about) l l' → LogsEnding (ending stop about) l l'
 writing_ends LogFault about kind logs = absurd kind
 writing_ends stop about kind logs = logs
@@ -46,7 +46,7 @@ cut_lines (opening n ∷ events) (line ∷ lines) rest whole =
     cut_more (opening n) (cut_lines events (line ∷ lines) rest whole) refl
 
 -- The output after a stop, if this prefix was printed.
-abbrev pub out_after : Stop → List ℕ → OutModel → OutModel
+abbrev pub out_after : Stop → List ℕ → SinkModel → SinkModel
 out_after WriteFault prefix out = failing (with_printed prefix) out
 out_after stop prefix out = changed (with_printed prefix) out
 

@@ -1,5 +1,5 @@
 -- The exits of `ctangle` after its merge began are ends of a run.
-use Rattle.cweb_tools.proofs.Common.{◌≤◌, ◌≡◌, inl, inr, ℕ, List, [], ◌∷◌, ◌++◌, length, refl, sym, ◌∙◌, ap, IsSome, Option, Some, None, names_found, World, Found, Event, SoFar, StopsReading, files_named, emitted_lines, reported_faults, openings, taken_lines, IsWithinLimits, BeginsMerge, SourceFault, LINES, BYTES, Stop, Scanned, scanned, ScanEndsEarly, Scans, stop_line, subject, OptionsModel, Logs, StreamModel, OutModel, Devices, ShelfModel, Act, acts_status, Breaks, ending, opens, reads, Course, found_course, merging, at, RunEnds, Does, TangleCourse, tangling, LaterActs, opening_acts, EndsAs, tangled, web_of}
+use Rattle.cweb_tools.proofs.Common.{◌≤◌, ◌≡◌, inl, inr, ℕ, List, [], ◌∷◌, ◌++◌, length, refl, sym, ◌∙◌, ap, IsSome, Option, Some, None, names_found, World, Found, Event, SoFar, StopsReading, files_named, emitted_lines, reported_faults, openings, taken_lines, IsWithinLimits, BeginsMerge, SourceFault, LINES, BYTES, Stop, Scanned, scanned, ScanEndsEarly, Scans, stop_line, subject, OptionsModel, Logs, SinkModel, SinkModel, Devices, ShelfModel, Act, acts_status, Breaks, ending, opens, reads, Course, found_course, merging, at, RunEnds, Does, TangleCourse, tangling, LaterActs, opening_acts, EndsAs, tangled, web_of}
 use Rattle.cweb_tools.proofs.Carried.{either}
 use Rattle.cweb_tools.proofs.Doing.{ends_halted, ends_on}
 use Rattle.cweb_tools.proofs.Exits.{begins_course, faults_reported, limits_kept, names_reported, opened_by}
@@ -10,7 +10,7 @@ use Rattle.cweb_tools.proofs.TangleExits.{can_come}
 -- A run that begins a merge with these events.
 module _ (later : LaterActs) (args : OptionsModel) (world : World) (found : Option Found)
     (changes : Option (Option Found))
-    (shelf shelf' : ShelfModel) (out : OutModel) (l : StreamModel) (status : ℕ) (old new : SoFar) (all : List Event)
+    (shelf shelf' : ShelfModel) (out : SinkModel) (l : SinkModel) (status : ℕ) (old new : SoFar) (all : List Event)
     (begins : IsSome shelf.blamed → BeginsMerge world found changes old all) where
   abbrev merged : Course
   merged = found_course world args.names.merge found changes
@@ -27,7 +27,7 @@ module _ (later : LaterActs) (args : OptionsModel) (world : World) (found : Opti
       (Some (ending stop (subject opened stop))) (at shelf out l) (at shelf' out l)
   breaks_so stop opened files events acts is breaks = rw is (record { runs = inl (tt, inr breaks) })
 
-  halts : (stop : Stop) (about : List ℕ) (l' : StreamModel) (course : TangleCourse)
+  halts : (stop : Stop) (about : List ℕ) (l' : SinkModel) (course : TangleCourse)
       → StopsReading stop → Logs (stop_line stop about) l l' → status ≡ 1
       → Does (opening_acts later course) (Some (ending stop about)) (at shelf out l) (at shelf' out l)
       → RunEnds (opening_acts later course) (acts_status (opening_acts later course)) (at shelf out l)
@@ -36,7 +36,7 @@ module _ (later : LaterActs) (args : OptionsModel) (world : World) (found : Opti
       ends_halted does (record { log = reading_ends stop about kind logs; others = refl }) answered
 
   -- Reading ended early.
-  pub read_stops : (stop : Stop) (opened : List (List ℕ)) (l' : StreamModel) → opened ≡ new.names → StopsReading stop
+  pub read_stops : (stop : Stop) (opened : List (List ℕ)) (l' : SinkModel) → opened ≡ new.names → StopsReading stop
       → (IsSome shelf.blamed → ScanEndsEarly stop old new all) → shelf' ≡ shelf_after stop (subject opened stop) shelf
       → files_named stop ≤ length new.names → new.count.lines ≤ LINES → new.count.bytes ≤ BYTES
       → Logs (stop_line stop (subject opened stop)) l l' → status ≡ 1

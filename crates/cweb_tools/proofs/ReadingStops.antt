@@ -1,5 +1,5 @@
 -- The devices after a stop of reading, and its cause.
-use Rattle.cweb_tools.proofs.Common.{◌≤◌, ◌≡◌, ◌+◌, inr, ℕ, List, [], ◌∷◌, ◌++◌, length, length-append, refl, sym, ◌∙◌, ap, append-nil, arith, get_or-append, FileId, SourceLine, Event, took, SoFar, BreaksLimit, counts_of, begun_with, StopsFor, StopsReading, files_named, openings, IsWithinLimits, LINE_LENGTH, LINES, BYTES, Stop, ReadFault, LineTooLong, TooMuchText, Memory, LogFault, StopsAfter, file_name_at, stop_line, subject, Logs, StreamModel, Devices, Breaks, FailsReading, Line, ending, IsOfFile, reads, LogsEnding}
+use Rattle.cweb_tools.proofs.Common.{◌≤◌, ◌≡◌, ◌+◌, inr, ℕ, List, [], ◌∷◌, ◌++◌, length, length-append, refl, sym, ◌∙◌, ap, append-nil, arith, get_or-append, FileId, SourceLine, Event, took, SoFar, BreaksLimit, counts_of, begun_with, StopsFor, StopsReading, files_named, openings, IsWithinLimits, LINE_LENGTH, LINES, BYTES, Stop, ReadFault, LineTooLong, TooMuchText, Memory, LogFault, StopsAfter, file_name_at, stop_line, subject, Logs, SinkModel, Devices, Breaks, FailsReading, Line, ending, IsOfFile, reads, LogsEnding}
 use Rattle.cweb_input.specs.OpenSources.{RefusesLine}
 use Rattle.cweb_tools.proofs.Limits.{CutAt, NextBreaks, cut_at_limit}
 use Rattle.cweb_tools.proofs.Broken.{shelf_after}
@@ -109,7 +109,7 @@ silent_broke stop files now kind known =
       fails = fails_so stop files files [] cut.earlier cut.later now kind (sym (append-nil files)) known cut.next;
     }
 
-pub reading_ends : (stop : Stop) (about : List ℕ) {l l' : StreamModel} → StopsReading stop
+pub reading_ends : (stop : Stop) (about : List ℕ) {l l' : SinkModel} → StopsReading stop
     → Logs (stop_line stop about) l l' → LogsEnding (ending stop about) l l'
 reading_ends LogFault about kind logs = absurd kind
 reading_ends stop about kind logs = logs

@@ -1,5 +1,5 @@
 -- An expander between outputs, with its store and its plan.
-use Rattle.cweb_tools.proofs.Common.{◌≡◌, ℕ, Bool, List, length, map, refl, sym, ◌∙◌, ap, subst, Bor, All, Result, File, opened_file_names, FileNames, Stop, Stored, Token, IsMarkBelow, expand, left, Planned, output_name_at, output_at, root_at, root_list, setting, file, names, Expander, OutModel, StreamModel, ending_of, DoesInBoth, IsReady, StaysReady, output_ending, file_at, planned_files, left_in, output_acts, outputs_acts, output_file, Failed}
+use Rattle.cweb_tools.proofs.Common.{◌≡◌, ℕ, Bool, List, length, map, refl, sym, ◌∙◌, ap, subst, Bor, All, Result, File, opened_file_names, FileNames, Stop, Stored, Token, IsMarkBelow, expand, left, Planned, output_name_at, output_at, root_at, root_list, setting, file, names, Expander, SinkModel, SinkModel, ending_of, DoesInBoth, IsReady, StaysReady, output_ending, file_at, planned_files, left_in, output_acts, outputs_acts, output_file, Failed}
 use Rattle.cweb_tools.proofs.Marks.{expansion_all}
 
 pub stays : {names : FileNames} {e : Expander} → IsReady names e → StaysReady e e
@@ -33,7 +33,7 @@ text_on files a b ts same yields =
 
 -- The acts of an output are those of the initial expander.
 pub output_on : {A : Type 0} (progress : Bool) (files : FileNames) {a b : Expander}
-    (n : ℕ) (r : Result A Stop) {x y : OutModel} {k l : StreamModel} → StaysReady a b
+    (n : ℕ) (r : Result A Stop) {x y : SinkModel} {k l : SinkModel} → StaysReady a b
     → DoesInBoth (output_acts progress (file_at files b n)) (ending_of (output_name_at b.plan.now.outputs n) r) x y k l
     → DoesInBoth (output_acts progress (file_at files a n)) (ending_of (output_name_at a.plan.now.outputs n) r) x y k l
 output_on progress files {a} {b} n r {x} {y} {k} {l} on does = subst (λ (f : File). DoesInBoth (output_acts progress f)
@@ -43,7 +43,7 @@ output_on progress files {a} {b} n r {x} {y} {k} {l} on does = subst (λ (f : Fi
 
 -- The acts of all outputs are those of the store and the plan.
 pub all_on : {A : Type 0} (progress : Bool) (files : FileNames) (e : Expander) {store : Stored} {plan : Planned}
-    (r : Result A Failed) {x y : OutModel} {k l : StreamModel} → e.store.now ≡ store → e.plan.now ≡ plan
+    (r : Result A Failed) {x y : SinkModel} {k l : SinkModel} → e.store.now ≡ store → e.plan.now ≡ plan
     → DoesInBoth (outputs_acts progress (planned_files files e)) (output_ending e.plan.now.outputs r) x y k l
     → DoesInBoth
     (outputs_acts progress (map (output_file store (opened_file_names files)) plan.outputs))

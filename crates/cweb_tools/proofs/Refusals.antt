@@ -1,5 +1,5 @@
 -- Plans and refusals.
-use Rattle.cweb_tools.proofs.Common.{◌≡◌, ◌∙◌, ℕ, List, [], ◌∷◌, refl, ap, subst, flat_map, IfSome, Option, None, Some, Result, Ok, Err, Stored, Planned, Refusal, bad_name, same_name, cycle, IsExpectedFault, PlanFault, Cycle, SameName, BadName, fault, line, plan_item, LogItem, StreamModel, WritesToStream, DoesInLog, log_ending, EndsInLog, plans, says, status_by, refusal_message, refused, plan_made, planning, planning_by, refusal_in}
+use Rattle.cweb_tools.proofs.Common.{◌≡◌, ◌∙◌, ℕ, List, [], ◌∷◌, refl, ap, subst, flat_map, IfSome, Option, None, Some, Result, Ok, Err, Stored, Planned, Refusal, bad_name, same_name, cycle, IsExpectedFault, PlanFault, Cycle, SameName, BadName, fault, line, plan_item, LogItem, SinkModel, WritesToStream, DoesInLog, log_ending, EndsInLog, plans, says, status_by, refusal_message, refused, plan_made, planning, planning_by, refusal_in}
 use Rattle.cweb_out.specs.Outputs as out
 use Rattle.cweb_out.specs.declared.outputs.fault.PlanFault.TheVariants.{Memory}
 use Rattle.cweb_log.proofs.BufferedLog.{logs_by}
@@ -29,7 +29,7 @@ refusal_item w main Memory r is = absurd (cc)
 
 -- A refusal was logged.
 pub refusal_said : {A E : Type 0} {result : Result A E} (w : Stored) (main : List ℕ) (f : PlanFault) (r : Refusal)
-    (items : List LogItem) {old new : StreamModel} → refusal_in f ≡ Some r → items ≡ plan_item w main f ∷ []
+    (items : List LogItem) {old new : SinkModel} → refusal_in f ≡ Some r → items ≡ plan_item w main f ∷ []
     → WritesToStream (flat_map line items) old new result
     → DoesInLog (says (fault (refusal_message w main r)) ∷ []) (log_ending result) old new
 refusal_said {result} w main f r items {old} {new} is are writes = said_all result (fault (refusal_message w main r)) []
@@ -64,7 +64,7 @@ planning_refused w files main r is = ap (planning_by w files main) is
 
 -- A run of `wdep` whose outputs could not be planned.
 refused_ends : {A E : Type 0} (r : Result A E) (w : Stored) (files : List (List ℕ)) (main : List ℕ) (targets : Targets)
-    (count : ℕ) (f : PlanFault) {old new : StreamModel} → IsRefused w main f
+    (count : ℕ) (f : PlanFault) {old new : SinkModel} → IsRefused w main f
     → WritesToStream (flat_map line (plan_item w main f ∷ [])) old new r
     → EndsInLog (plans ∷ depend_plan_acts targets files (planning w files main))
     (status_by count (planning w files main)) old new 1
@@ -73,7 +73,7 @@ refused_ends r w files main targets count f why writes = λ shelf out. ends_on d
     (ends_reported r (refusal_said w main f why.refusal _ why.is_refusal refl writes) refl refl shelf out))
 
 pub unplanned_ends : {A E : Type 0} (r : Result A E) (w : Stored) (files : List (List ℕ)) (main : List ℕ)
-    (targets : Targets) (count : ℕ) (f : PlanFault) {old new : StreamModel} → IsExpectedFault (out.planned w main) f
+    (targets : Targets) (count : ℕ) (f : PlanFault) {old new : SinkModel} → IsExpectedFault (out.planned w main) f
     → WritesToStream (flat_map line (plan_item w main f ∷ [])) old new r
     → EndsInLog (plans ∷ depend_plan_acts targets files (planning w files main))
     (status_by count (planning w files main)) old new 1

@@ -1,5 +1,5 @@
 -- The laws of runs.
-use Rattle.cweb_tools.proofs.Common.{◌≡◌, ◌+◌, ◌⊎◌, inl, inr, ℕ, List, refl, ap, arith, Option, World, read_failures_of, Stop, ReadFault, OutNotOpened, WriteFault, OptionsModel, Devices, StreamModel, Logs, logged, log_failed, Act, ending, RunEnds, completes, stops, bins_blame, files_in, tangle_status, script, shown_by, TangleFailsOnce, TangleReportsFaults, RisesOnce, TanglePromises, LeavesDevices}
+use Rattle.cweb_tools.proofs.Common.{◌≡◌, ◌+◌, ◌⊎◌, inl, inr, ℕ, List, refl, ap, arith, Option, World, read_failures_of, Stop, ReadFault, OutNotOpened, WriteFault, OptionsModel, Devices, SinkModel, Logs, logged, log_failed, Act, ending, RunEnds, completes, stops, bins_blame, files_in, tangle_status, script, shown_by, TangleFailsOnce, TangleReportsFaults, RisesOnce, TanglePromises, LeavesDevices}
 use Rattle.cweb_tools.proofs.ChangedFilesWereRead.{ends_read, read_if_changed}
 use Rattle.cweb_tools.proofs.Doing.{counts_all}
 use Rattle.cweb_tools.proofs.Endings.{ends_so, ends_within}
@@ -20,9 +20,9 @@ bins_once OutNotOpened = inr refl
 bins_once WriteFault = inr refl
 bins_once stop = inl refl
 
-log_once : {text : List ℕ} {old new : StreamModel} → Logs text old new → RisesOnce old.failed new.failed
-log_once (logged is) = inl (ap (λ (log : StreamModel). log.failed) is)
-log_once (log_failed fails) = inr (ap (λ (log : StreamModel). log.failed) fails.is)
+log_once : {text : List ℕ} {old new : SinkModel} → Logs text old new → RisesOnce old.failed new.failed
+log_once (logged is) = inl (ap (λ (log : SinkModel). log.failed) is)
+log_once (log_failed fails) = inr (ap (λ (log : SinkModel). log.failed) fails.is)
 
 -- No device failed twice.
 pub fail_once : {acts : List Act} {expected : ℕ} {old new : Devices} {status : ℕ}

@@ -1,21 +1,21 @@
 -- The log after a stop, and the failure counts that rise.
-use Rattle.cweb_tools.proofs.Common.{◌≡◌, inl, inr, ℕ, ◌+◌, List, [], ◌∷◌, ◌++◌, refl, sym, ◌∙◌, ap, subst, add-zero, append_assoc, arith, flat_map-append, None, Some, flat_map, Stop, LogFault, Memory, read_failures_of, bins_blame, stop_line, LogItem, line, Devices, StreamModel, Logs, logged, log_failed, written, Act, says, reads, merges, after_act, Ending, ending, Breaks, PerformsActs, LogsStop, logged_items, IsStopped}
+use Rattle.cweb_tools.proofs.Common.{◌≡◌, inl, inr, ℕ, ◌+◌, List, [], ◌∷◌, ◌++◌, refl, sym, ◌∙◌, ap, subst, add-zero, append_assoc, arith, flat_map-append, None, Some, flat_map, Stop, LogFault, Memory, read_failures_of, bins_blame, stop_line, LogItem, line, Devices, SinkModel, Logs, logged, log_failed, written, Act, says, reads, merges, after_act, Ending, ending, Breaks, PerformsActs, LogsStop, logged_items, IsStopped}
 use Rattle.cweb_log.proofs.BufferedLog.{fails_in, fails_on, written_on}
 use Rattle.cweb_tools.proofs.AllDone.{log_all}
 use Rattle.cweb_tools.proofs.Doing.{counts_all}
 use Rattle.cweb_tools.proofs.Broken.{broken, shelf_counted}
 
 -- A text was logged before.
-logs_on : (a : List ℕ) {b : List ℕ} {old mid new : StreamModel} → mid ≡ written a old → Logs b mid new
+logs_on : (a : List ℕ) {b : List ℕ} {old mid new : SinkModel} → mid ≡ written a old → Logs b mid new
     → Logs (a ++ b) old new
 logs_on a {b} {old} first (logged is) = logged (written_on a b old first is)
 logs_on a first (log_failed fails) = log_failed (fails_on a first fails)
 
 -- A log that didn't fail has the whole text.
-pub logs_all : {text : List ℕ} {old new : StreamModel} → Logs text old new → new.failed ≡ old.failed
+pub logs_all : {text : List ℕ} {old new : SinkModel} → Logs text old new → new.failed ≡ old.failed
     → new ≡ written text old
 logs_all (logged is) same = is
-logs_all (log_failed fails) same = absurd (omega (arith, ap (λ (stream : StreamModel). stream.failed) fails.is, same))
+logs_all (log_failed fails) same = absurd (omega (arith, ap (λ (stream : SinkModel). stream.failed) fails.is, same))
 
 -- The act within which something stopped the run.
 pub record HaltsWithin (acts : List Act) (why : Ending) (old mid : Devices) : Type 0 where
@@ -58,7 +58,7 @@ stopped_at (says item) LogFault about old mid new fails logs acts =
       };
       shelf = ap (λ (d : Devices). d.shelf.failed) is ∙ sym (add-zero old.shelf.failed);
       bins = ap (λ (d : Devices). d.out.failed) is ∙ sym (add-zero old.out.failed);
-      log_fails = λ _. ap (λ (stream : StreamModel). stream.failed) (logs.log ∙ fails.log.is);
+      log_fails = λ _. ap (λ (stream : SinkModel). stream.failed) (logs.log ∙ fails.log.is);
     }
 stopped_at (reads names events) LogFault about old mid new broke logs acts = absurd broke.fails
 stopped_at (merges names events) LogFault about old mid new broke logs acts = absurd broke.fails
@@ -71,7 +71,7 @@ stopped_at act stop about old mid new broke logs acts =
         before = [];
         later = logged_items (act ∷ acts);
         whole = refl;
-        logs = subst (λ (log : StreamModel). Logs (stop_line stop about) log new.log) (left.log never) logs.log;
+        logs = subst (λ (log : SinkModel). Logs (stop_line stop about) log new.log) (left.log never) logs.log;
       };
       shelf = ap (λ (d : Devices). d.shelf.failed) logs.others ∙ shelf_counted stop about old.shelf left.shelf;
       bins = ap (λ (d : Devices). d.out.failed) logs.others ∙ left.bins;
@@ -116,4 +116,4 @@ runs_out acts about {old} mid {new} halts logs same =
     let never : Memory ≡ LogFault → ⊥ = λ is. cc in
     let last = broken halts.act Memory about halts.from mid halts.breaks in
     logs_all (logs_on (flat_map line (logged_items halts.done)) (log_all halts.done old halts.from halts.runs)
-    (subst (λ (log : StreamModel). Logs (stop_line Memory []) log new.log) (last.log never) logs.log)) same
+    (subst (λ (log : SinkModel). Logs (stop_line Memory []) log new.log) (last.log never) logs.log)) same

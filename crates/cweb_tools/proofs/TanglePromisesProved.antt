@@ -1,5 +1,5 @@
 -- A run of `ctangle` keeps its promises, by how it ends.
-use Rattle.cweb_tools.proofs.Common.{◌≡◌, sym, ◌∙◌, ap, Option, World, OptionsModel, Devices, StreamModel, FollowsActs, List, Act, TangleCourse, CanCome, tangle_course, IsTangleCourse, subst, RanFreely, DoesActs, DoesActsFreely, ℕ}
+use Rattle.cweb_tools.proofs.Common.{◌≡◌, sym, ◌∙◌, ap, Option, World, OptionsModel, Devices, SinkModel, FollowsActs, List, Act, TangleCourse, CanCome, tangle_course, IsTangleCourse, subst, RanFreely, DoesActs, DoesActsFreely, ℕ}
 use Rattle.cweb_tools.proofs.AllDone.{files_all, log_all, printed_all}
 use Rattle.cweb_tools.proofs.Courses.{tangle_comes, tangle_only}
 use Rattle.cweb_tools.proofs.Endings.{runs_freely}
@@ -31,7 +31,7 @@ done_freely acts before after run free =
     record {
       files = files_all all before after done.0;
       printed = λ none. printed_all all before after none done.0;
-      logged = ap (λ (log : StreamModel). log.bytes) (log_all all before after done.0);
+      logged = ap (λ (log : SinkModel). log.bytes) (log_all all before after done.0);
       answered = done.1;
     }
 

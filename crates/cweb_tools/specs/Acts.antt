@@ -2,15 +2,16 @@
 use Rattle.std.specs.Prelude.{◌≡◌, ◌<◌, ◌⊎◌, ℕ, ◌+◌, length, List, [], ◌∷◌, ◌++◌, Option, Some, None, IsSome}
 use Rattle.std.specs.Prelude.{codes, if◌then◌else◌, option_map}
 use Rattle.std.specs.List.{list_any}
-use Rattle.cweb_files.specs.Files.{File, Refused, no_device, no_memory, put_file}
+use Rattle.cweb_files.specs.Files.{Refused, no_device, no_memory, put_file}
 use Rattle.cweb_lines.specs.Events.{Event, IsWithinLimits, emitted_lines, taken_lines, written_lines, BreaksLimit}
 use Rattle.cweb_input.specs.declared.stop.Stop.{Stop}
 use Rattle.cweb_input.specs.declared.stop.Stop.TheVariants.{ReadFault, LineTooLong, TooMuchText, Memory, OutNotOpened}
 use Rattle.cweb_input.specs.declared.stop.Stop.TheVariants.{WriteFault, LogFault}
 use Rattle.cweb_log.specs.Items.{LogItem, is_fault, line}
 use Rattle.cweb_log.specs.Log.{file_name_at, stop_line}
-use Rattle.cweb_log.specs.DeviceModels.{Devices, FailsWithin, Logs, OutContents, OutModel, ShelfModel, StreamModel}
-use Rattle.cweb_log.specs.DeviceModels.{written}
+use Rattle.cweb_log.specs.DeviceModels.{Devices, Logs, ShelfModel}
+use Rattle.cweb_files.specs.Sinks.{FailsWithin, SinkContents, SinkModel, changed, failing, with_printed, written}
+use Rattle.cweb_files.specs.Sinks.{FailsWithin, SinkContents, SinkModel, changed, failing, with_printed, written}
 
 -- An act of a run.
 pub data Act : Type 0 where
@@ -34,26 +35,20 @@ pub data Act : Type 0 where
   prints : List ℕ → Act
 
 -- A file is committed. Then there is no draft.
-abbrev pub with_file : List ℕ → List ℕ → OutContents → OutContents
-with_file name text now =
-    record { files = put_file now.files (record { name = name; bytes = text }); draft = None; refused = None }
+abbrev pub with_file : List ℕ → List ℕ → SinkContents → SinkContents
+with_file name text now = record {
+  bytes = [];
+  beside = record {
+    files = put_file now.beside.files (record { name = name; bytes = text });
+    draft = None;
+    refused = None;
+  };
+}
 
 -- A file is not written. Then there is no draft. If it couldn't be begun, the bins have the reason.
-abbrev pub without_file : Option Refused → OutContents → OutContents
-without_file why now = record now { draft = None; refused = why }
-
--- An open draft gets these bytes.
-abbrev pub with_printed : List ℕ → OutContents → OutContents
-with_printed text now =
-    record now { draft = option_map (λ (draft : File). record draft { bytes = draft.bytes ++ text }) now.draft }
-
--- The contents of an output change.
-abbrev pub changed : (OutContents → OutContents) → OutModel → OutModel
-changed change out = record out { contents = option_map change out.contents }
-
--- They change, and the output fails.
-abbrev pub failing : (OutContents → OutContents) → OutModel → OutModel
-failing change out = record { failed = out.failed + 1; contents = option_map change out.contents }
+abbrev pub without_file : Option Refused → SinkContents → SinkContents
+without_file why now =
+    record { bytes = []; beside = record { files = now.beside.files; draft = None; refused = why } }
 
 -- A read of the file of this name fails.
 abbrev pub blaming : List ℕ → ShelfModel → ShelfModel
@@ -67,8 +62,8 @@ abbrev pub after_act : Act → Devices → Devices
 after_act (says item) now = record now { log = written (line item) now.log }
 after_act (writes name text) now = record now { out = changed (with_file name text) now.out }
 after_act (merges names events) now =
-    record now { out = changed (with_printed (written_lines (emitted_lines events))) now.out }
-after_act (prints text) now = record now { out = changed (with_printed text) now.out }
+    record now { out = written (written_lines (emitted_lines events)) now.out }
+after_act (prints text) now = record now { out = written text now.out }
 after_act _ now = now
 
 -- If an act of reading is done, its lines are within the limits.
@@ -150,7 +145,7 @@ PerformsActs (act ∷ acts) why old new = (ActKeepsLimits act × PerformsActs ac
     ⊎ StopsAt act why old new
 
 -- The log after a stop has its line, or failed within it. A log that failed before gets no line.
-abbrev pub LogsEnding : Ending → StreamModel → StreamModel → Type 0
+abbrev pub LogsEnding : Ending → SinkModel → SinkModel → Type 0
 LogsEnding (ending LogFault about) old new = new ≡ old
 LogsEnding (ending stop about) old new = Logs (stop_line stop about) old new
 

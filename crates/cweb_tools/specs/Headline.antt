@@ -7,9 +7,9 @@ use Rattle.cweb_lines.specs.Events.{emitted_lines, written_lines}
 use Rattle.cweb_input.specs.declared.stop.Stop.TheVariants.{Memory}
 use Rattle.cweb_log.specs.Items.{line}
 use Rattle.cweb_log.specs.Log.{stop_line}
-use Rattle.cweb_log.specs.DeviceModels.{Devices, OutContents, OutModel, appended}
-use Rattle.cweb_tools.specs.Acts.{Act, says, merges, prints, writes, ActKeepsLimits, acts_status, changed, logged_items}
-use Rattle.cweb_tools.specs.Acts.{with_printed}
+use Rattle.cweb_log.specs.DeviceModels.{Devices}
+use Rattle.cweb_files.specs.Sinks.{SinkContents, SinkModel, appended, written}
+use Rattle.cweb_tools.specs.Acts.{Act, says, merges, prints, writes, ActKeepsLimits, acts_status, logged_items}
 
 -- The files that acts write.
 abbrev pub written_files : List Act → List File
@@ -43,19 +43,19 @@ pub record RanFreely (acts : List Act) (before after : Devices) : Type 0 where
   pub log : after.log.failed ≡ before.log.failed
   pub within : ActsKeepLimits acts
   pub memory : (done later : List Act) (act : Act) → acts ≡ done ++ act ∷ later → IsTrue (needs_memory act)
-      → after.log.bytes ≢ appended (flat_map line (logged_items done) ++ stop_line Memory []) before.log.bytes
+      → after.log.contents ≢ appended (flat_map line (logged_items done) ++ stop_line Memory []) before.log.contents
 
 -- The files of an output.
-abbrev pub files_in : OutModel → Option (List File)
-files_in out = option_map (λ (contents : OutContents). contents.files) out.contents
+abbrev pub files_in : SinkModel → Option (List File)
+files_in out = option_map (λ (contents : SinkContents). contents.beside.files) out.contents
 
 -- All acts were done, and the status is theirs.
 pub record DoesActs (acts : List Act) (before after : Devices) (status : ℕ) : Type 0 where
   pub files : files_in after.out
       ≡ option_map (λ (files : List File). fold put_file files (written_files acts)) (files_in before.out)
   -- An open output gets the printed bytes, if no file is written.
-  pub printed : written_files acts ≡ [] → after.out ≡ changed (with_printed (printed_bytes acts)) before.out
-  pub logged : after.log.bytes ≡ appended (flat_map line (logged_items acts)) before.log.bytes
+  pub printed : written_files acts ≡ [] → after.out ≡ written (printed_bytes acts) before.out
+  pub logged : after.log.contents ≡ appended (flat_map line (logged_items acts)) before.log.contents
   pub answered : status ≡ acts_status acts
 
 -- Over an observable shelf, a run that ran freely did all acts of its course.

@@ -1,38 +1,23 @@
 -- Runs in a folder.
-use Rattle.std.specs.Prelude.{◌≡◌, ℕ, List, [], None, IsSome, All}
+use Rattle.std.specs.Prelude.{◌≡◌, ℕ, List, [], IsSome, All}
 use Rattle.cweb_files.specs.Files.{File}
 use Rattle.cweb_system.specs.declared.file_system.FileSystem.{Ghosts as FileSystem}
-use Rattle.cweb_system.specs.declared.folder_bins.FolderBins.{FolderBins}
-use Rattle.cweb_system.specs.Bins.{bins_beside, bins_bytes, bins_failed, bins_system}
+use Rattle.cweb_system.specs.Bins.{empty_bins}
 use Rattle.cweb_system.specs.Tree.{Tree, contents}
-use Rattle.cweb_log.specs.DeviceModels.{Devices, OutModel, ShelfModel, StreamModel, contents_of, known}
+use Rattle.cweb_log.specs.DeviceModels.{Devices, ShelfModel}
+use Rattle.cweb_files.specs.Sinks.{SinkModel, known}
 
 -- The shelf before a run.
 abbrev pub shelf_in : {F H : Type 0} → FileSystem F H → F → ShelfModel
 shelf_in system fs = record { failed = 0; blamed = known (system.disk fs).tells [] }
 
 -- The devices before a run of `ctangle`: the files of a folder, and bins that have committed none.
-abbrev pub devices_before : {F H : Type 0} → FileSystem F H → F → StreamModel → Devices
-devices_before system fs log = record {
-  shelf = shelf_in system fs;
-  out = record {
-    failed = 0;
-    contents = known (system.disk fs).tells (record { files = []; draft = None; refused = None });
-  };
-  log = log;
-}
-
--- The model of bins after a run.
-abbrev pub bins_after : {F H : Type 0} (system : FileSystem F H) → FolderBins F H system → OutModel
-bins_after system bins = record {
-  failed = bins_failed bins;
-  contents = known (system.disk (bins_system bins)).tells
-      (contents_of (bins_bytes system bins) (bins_beside system bins));
-}
+abbrev pub devices_before : {F H : Type 0} → FileSystem F H → F → SinkModel → Devices
+devices_before system fs log = record { shelf = shelf_in system fs; out = empty_bins system fs; log = log }
 
 -- A run in a folder keeps these promises. If the file system is observable, no read failed.
-pub record KeepsInFolder (Promises : Devices → Devices → ℕ → Type 0) (before : Devices) (out : OutModel)
-    (log : StreamModel) (status : ℕ) : Type 0 where
+pub record KeepsInFolder (Promises : Devices → Devices → ℕ → Type 0) (before : Devices) (out : SinkModel)
+    (log : SinkModel) (status : ℕ) : Type 0 where
   pub shelf : ShelfModel
   pub reads : IsSome before.shelf.blamed → shelf.failed ≡ before.shelf.failed
   pub promises : Promises before (record { shelf = shelf; out = out; log = log }) status

@@ -2,7 +2,8 @@
 ghost use Rattle.std.specs.Prelude.{◌≡◌, ◌<◌, ◌+◌, ◌^◌, codes, map};
 ghost use Rattle.std.specs.Option.{option_copied};
 ghost use Rattle.cweb_log.specs.Log.{stop_line};
-ghost use Rattle.cweb_log.specs.DeviceModels.{FailsWithin, Logs, SinkCountsFit, stream_model, written};
+ghost use Rattle.cweb_log.specs.DeviceModels.{Logs, SinkCountsFit};
+ghost use Rattle.cweb_files.specs.Sinks.{FailsWithin, written};
 ghost use Rattle.cweb_tools.specs.inner.About.{about_wdep, about_word};
 
 use cweb_lines::{Sink, Stop, write_all};
@@ -42,14 +43,14 @@ fn about_word(word: &str) -> Option<&'static str>
 
 /// Prints a text, and returns the status. If that fails, a prefix is printed, and the fault is logged.
 pub fn write_about<W: Sink, L: Sink>(text: &str, out: &mut W, log: &mut L) -> u8
-    requires counts { SinkCountsFit (W.failed out.old) (L.failed log.old) }
+    requires counts { SinkCountsFit (W.model out.old).failed (L.model log.old).failed }
     ensures status { result < 2 }
     ensures ok { result ≡ 0 → (log.new ≡ log.old) ×
-        (stream_model W.Sink out.new ≡ written text.now (stream_model W.Sink out.old)) }
+        (W.model out.new ≡ written text.now (W.model out.old)) }
     ensures fault { result ≡ 1 →
-        FailsWithin text.now (stream_model W.Sink out.old) (stream_model W.Sink out.new) ×
+        FailsWithin text.now (W.model out.old) (W.model out.new) ×
         Logs (stop_line Stop.WriteFault (codes "standard output"))
-        (stream_model L.Sink log.old) (stream_model L.Sink log.new) }
+        (L.model log.old) (L.model log.new) }
 {
     if let Err(_) = write_all(out, text.as_bytes()) {
         return log_stop(log, Stop::WriteFault, "standard output");

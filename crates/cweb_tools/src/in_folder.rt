@@ -2,14 +2,14 @@
 ghost use Rattle.std.specs.Prelude.{◌≡◌, ◌<◌, ◌+◌, ◌^◌, IsTrue, [], fold, map};
 ghost use Rattle.cweb_files.specs.Files.{put_file};
 ghost use Rattle.std.specs.Option.{option_copied};
-ghost use Rattle.cweb_system.specs.Bins.{bins_read, bins_system, contents_in};
+ghost use Rattle.cweb_system.specs.Bins.{bins_model, bins_read, bins_system, contents_in};
 ghost use Rattle.cweb_system.specs.Steps.{AreDecent};
 ghost use Rattle.cweb_log.specs.CommandLine.{options_by, web_names_by};
-ghost use Rattle.cweb_log.specs.DeviceModels.{SinkCountsFit, as_output, stream_model};
+ghost use Rattle.cweb_log.specs.DeviceModels.{SinkCountsFit};
 ghost use Rattle.cweb_tools.specs.Course.{world_of};
 ghost use Rattle.cweb_tools.specs.Depend.{DependPromises, DependsFreely, targets_by};
 ghost use Rattle.cweb_tools.specs.Headline.{RanFreely, written_files};
-ghost use Rattle.cweb_tools.specs.InFolder.{AreIn, KeepsInFolder, bins_after, devices_before, shelf_in};
+ghost use Rattle.cweb_tools.specs.InFolder.{AreIn, KeepsInFolder, devices_before, shelf_in};
 ghost use Rattle.cweb_tools.specs.MergeActs.{MergePromises, MergesFreely};
 ghost use Rattle.cweb_tools.specs.Script.{TangleCourse, script};
 ghost use Rattle.cweb_tools.specs.Tangle.{IsTangleCourse, TanglePromises, shown_by};
@@ -33,15 +33,15 @@ pub fn tangle_in_folder<F: FileSystem + Drop, L: Sink>(
     log: &mut L,
 ) -> (u8, FolderBins<F>)
     requires begun { IsTrue (F.disk fs).tells → (F.disk fs).past ≡ [] }
-    requires count { L.failed log.old + 1 < 2 ^ 64 }
+    requires count { (L.model log.old).failed + 1 < 2 ^ 64 }
     // If nothing failed, the folder has the files of the course, with their bytes.
-    ensures files { let before = devices_before F.FileSystem fs (stream_model L.Sink log.old) in
+    ensures files { let before = devices_before F.FileSystem fs (L.model log.old) in
         let args = options_by (map (λ word. word.now) words.now) in
         let world = world_of (contents_in (F.disk fs).tree) (option_copied inputs.entry) in
         IsTrue (F.disk fs).tells → (course : TangleCourse) → IsTangleCourse world args course →
         RanFreely (script (shown_by args) course) before (record before {
-          out = bins_after F.FileSystem result.1;
-          log = stream_model L.Sink log.new;
+          out = bins_model F.FileSystem result.1;
+          log = L.model log.new;
         }) →
         AreIn (F.disk (bins_system result.1)).tree
         (fold put_file [] (written_files (script (shown_by args) course))) }
@@ -52,8 +52,8 @@ pub fn tangle_in_folder<F: FileSystem + Drop, L: Sink>(
     ensures promises { let args = options_by (map (λ word. word.now) words.now) in
         let world = world_of (contents_in (F.disk fs).tree) (option_copied inputs.entry) in
         KeepsInFolder (TanglePromises world args)
-        (devices_before F.FileSystem fs (stream_model L.Sink log.old))
-        (bins_after F.FileSystem result.1) (stream_model L.Sink log.new) result.0 }
+        (devices_before F.FileSystem fs (L.model log.old))
+        (bins_model F.FileSystem result.1) (L.model log.new) result.0 }
 {
     let options = match begin_tangle(alloc, words, log) {
         Ok(options) => options,
@@ -88,17 +88,17 @@ pub fn merge_in_folder<F: FileSystem + Drop, W: Sink, L: Sink>(
     log: &mut L,
 ) -> u8
     requires begun { IsTrue (F.disk fs).tells → (F.disk fs).past ≡ [] }
-    requires counts { SinkCountsFit (W.failed out.old) (L.failed log.old) }
+    requires counts { SinkCountsFit (W.model out.old).failed (L.model log.old).failed }
     ensures promises { let args = web_names_by (map (λ word. word.now) words.now) in
         let world = world_of (contents_in (F.disk fs).tree) (option_copied inputs.entry) in
         KeepsInFolder (λ before after status.
         MergePromises world args before after status × MergesFreely world args before after status)
         (record {
           shelf = shelf_in F.FileSystem fs;
-          out = as_output (stream_model W.Sink out.old);
-          log = stream_model L.Sink log.old;
+          out = W.model out.old;
+          log = L.model log.old;
         })
-        (as_output (stream_model W.Sink out.new)) (stream_model L.Sink log.new) result }
+        (W.model out.new) (L.model log.new) result }
 {
     let mut shelf = FolderShelf::new(fs);
     run_wmerge(alloc, words, inputs, &mut shelf, out, log)
@@ -114,7 +114,7 @@ pub fn depend_in_folder<F: FileSystem + Drop, W: Sink, L: Sink>(
     log: &mut L,
 ) -> u8
     requires begun { IsTrue (F.disk fs).tells → (F.disk fs).past ≡ [] }
-    requires counts { SinkCountsFit (W.failed out.old) (L.failed log.old) }
+    requires counts { SinkCountsFit (W.model out.old).failed (L.model log.old).failed }
     ensures promises { let args = options_by (map (λ word. word.now) words.now) in
         let world = world_of (contents_in (F.disk fs).tree) (option_copied inputs.entry) in
         let targets = targets_by (map (λ word. word.now) words.now) in
@@ -122,10 +122,10 @@ pub fn depend_in_folder<F: FileSystem + Drop, W: Sink, L: Sink>(
         × DependsFreely world targets args before after status)
         (record {
           shelf = shelf_in F.FileSystem fs;
-          out = as_output (stream_model W.Sink out.old);
-          log = stream_model L.Sink log.old;
+          out = W.model out.old;
+          log = L.model log.old;
         })
-        (as_output (stream_model W.Sink out.new)) (stream_model L.Sink log.new) result }
+        (W.model out.new) (L.model log.new) result }
 {
     let mut shelf = FolderShelf::new(fs);
     run_wdep(alloc, words, inputs, &mut shelf, out, log)

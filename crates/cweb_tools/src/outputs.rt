@@ -1,13 +1,13 @@
 // Writes the outputs of a run in order.
-ghost use Rattle.std.specs.Prelude.{◌≡◌, ◌<◌, ◌+◌, ◌^◌, ◌++◌, ◌∷◌, [], length, All, IsTrue, IfErr};
-ghost use Rattle.std.specs.Prelude.{OnOk};
-ghost use Rattle.cweb_files.specs.surface.Frames.{KeepsSink};
+ghost use Rattle.std.specs.Prelude.{◌≡◌, ◌<◌, ◌+◌, ◌^◌, ◌∷◌, [], length, All, IfErr};
+ghost use Rattle.std.specs.Prelude.{OnErr, OnOk};
+ghost use Rattle.cweb_files.specs.Sinks.{changed, failing, without_draft, written};
 ghost use Rattle.cweb_input.specs.surface.OpenedFileNames.{opened_file_names};
 ghost use Rattle.cweb_store.specs.Parts.{all_tokens};
 ghost use Rattle.cweb_scan.specs.surface.Scan.{IsMarkBelow};
 ghost use Rattle.cweb_out.specs.surface.Outputs.{output_name_at};
 ghost use Rattle.cweb_print.specs.Printing.{setting, file};
-ghost use Rattle.cweb_log.specs.DeviceModels.{SinkCountsFit, bins_model, stream_model};
+ghost use Rattle.cweb_log.specs.DeviceModels.{SinkCountsFit};
 ghost use Rattle.cweb_tools.specs.inner.Acts.{ending_of};
 ghost use Rattle.cweb_tools.specs.Acts.{writes};
 ghost use Rattle.cweb_tools.specs.inner.Does.{DoesInOut, DoesInBoth};
@@ -37,12 +37,12 @@ pub(crate) fn write_outputs<B: Bins, L: Sink>(
     log: &mut L,
 ) -> Result<(), Failed>
     requires ready { IsReady names.now expander.old }
-    requires counts { SinkCountsFit (B.failed bins.old) (L.failed log.old) }
+    requires counts { SinkCountsFit (B.model bins.old).failed (L.model log.old).failed }
     ensures known { IfErr result (λ failed. failed.output < length expander.old.plan.now.outputs) }
     ensures does { DoesInBoth (outputs_acts progress (planned_files names.now expander.old))
         (output_ending expander.old.plan.now.outputs result)
-        (bins_model B.Sink bins.old) (bins_model B.Sink bins.new)
-        (stream_model L.Sink log.old) (stream_model L.Sink log.new) }
+        (B.model bins.old) (B.model bins.new)
+        (L.model log.old) (L.model log.new) }
 {
     let plan = expander.plan;
     'outputs: for output in 0..plan.outputs() {
@@ -65,12 +65,12 @@ fn write_output<B: Bins, L: Sink>(
 ) -> Result<(), Stop>
     requires ready { IsReady names.now expander.old }
     requires output { output < length expander.old.plan.now.outputs }
-    requires counts { SinkCountsFit (B.failed bins.old) (L.failed log.old) }
+    requires counts { SinkCountsFit (B.model bins.old).failed (L.model log.old).failed }
     ensures stays { StaysReady expander.old expander.new }
     ensures does { DoesInBoth (output_acts progress (file_at names.now expander.old output))
         (ending_of (output_name_at expander.old.plan.now.outputs output) result)
-        (bins_model B.Sink bins.old) (bins_model B.Sink bins.new)
-        (stream_model L.Sink log.old) (stream_model L.Sink log.new) }
+        (B.model bins.old) (B.model bins.new)
+        (L.model log.old) (L.model log.new) }
 {
     let name = expander.plan.output_name(output);
     if let Err(_) = say(progress, LogLine::Writing(name), log) {
@@ -89,13 +89,13 @@ fn write_file<B: Bins>(
 ) -> Result<(), Stop>
     requires ready { IsReady names.now expander.old }
     requires output { output < length expander.old.plan.now.outputs }
-    requires count { B.failed bins.old + 1 < 2 ^ 64 }
+    requires count { (B.model bins.old).failed + 1 < 2 ^ 64 }
     ensures stays { StaysReady expander.old expander.new }
     ensures does { DoesInOut
         (writes (output_name_at expander.old.plan.now.outputs output)
         (file_at names.now expander.old output).bytes ∷ [])
         (ending_of (output_name_at expander.old.plan.now.outputs output) result)
-        (bins_model B.Sink bins.old) (bins_model B.Sink bins.new) }
+        (B.model bins.old) (B.model bins.new) }
 {
     match bins.start_file(expander.plan.output_name(output)) {
         Ok(()) => {}
@@ -123,12 +123,13 @@ fn print_all<W: Sink>(
     requires ready { IsReady names.now expander.old }
     requires left { All (IsMarkBelow (length (opened_file_names names.now)))
         (left_in expander.old) }
-    requires count { W.failed out.old + 1 < 2 ^ 64 }
+    requires count { (W.model out.old).failed + 1 < 2 ^ 64 }
     ensures stays { StaysReady expander.old expander.new }
-    ensures keeps { KeepsSink W.Sink out.old out.new result }
-    ensures prints { IsTrue (W.tells out.old) → OnOk result (W.written out.new
-        ≡ W.written out.old ++ file (setting expander.old.store.now (opened_file_names names.now))
-        (left_in expander.old)) }
+    ensures prints { OnOk result (W.model out.new
+        ≡ written (file (setting expander.old.store.now (opened_file_names names.now))
+        (left_in expander.old)) (W.model out.old)) }
+    ensures err { OnErr result
+        (changed without_draft (W.model out.new) ≡ failing without_draft (W.model out.old)) }
 {
     let mut printer = Printer::new(expander.store, names);
     buffer.clear();

@@ -3,7 +3,7 @@ ghost use Rattle.std.specs.Prelude.{◌≡◌, ◌<◌, ◌+◌, ◌^◌, ℕ, L
 ghost use Rattle.std.specs.Prelude.{codes, map, option_map, string_bytes};
 ghost use Rattle.std.specs.Prelude.{IsUtf8};
 ghost use Rattle.cweb_log.specs.Log.{stop_line};
-ghost use Rattle.cweb_log.specs.DeviceModels.{Logs, stream_model};
+ghost use Rattle.cweb_log.specs.DeviceModels.{Logs};
 
 use crate::environment::Environment;
 use cweb_lines::{Sink, Stop};
@@ -66,10 +66,10 @@ pub fn read_inputs<E: Environment>(alloc: Global, env: &E) -> Result<Option<Stri
 
 /// Logs that there was no memory for the arguments, and returns the exit status.
 pub fn out_of_memory<L: Sink>(log: &mut L) -> u8
-    requires { L.failed log.old + 1 < 2 ^ 64 }
+    requires { (L.model log.old).failed + 1 < 2 ^ 64 }
     ensures status { result ≡ 1 }
     ensures logs { Logs (stop_line Stop.Memory [])
-        (stream_model L.Sink log.old) (stream_model L.Sink log.new) }
+        (L.model log.old) (L.model log.new) }
 {
     log_stop(log, Stop::Memory, "")
 }

@@ -1,6 +1,5 @@
 // Log lines of `ctangle` that depend on its options.
 ghost use Rattle.std.specs.Prelude.{◌<◌, ◌+◌, ◌^◌};
-ghost use Rattle.cweb_log.specs.DeviceModels.{stream_model};
 ghost use Rattle.cweb_log.specs.inner.LogText.{item_of};
 ghost use Rattle.cweb_tools.specs.inner.Does.{DoesInLog, log_ending};
 ghost use Rattle.cweb_tools.specs.Script.{closing_acts, starred_acts, when};
@@ -12,9 +11,9 @@ use cweb_log::{LogLine, LogText, Shown, write_log};
 
 /// Logs a line if it is wanted.
 pub(crate) fn say<L: Sink>(wanted: bool, line: LogLine<'_>, log: &mut L) -> Result<(), SinkFault>
-    requires { L.failed log.old + 1 < 2 ^ 64 }
+    requires { (L.model log.old).failed + 1 < 2 ^ 64 }
     ensures { DoesInLog (when wanted (item_of line.entry)) (log_ending result)
-        (stream_model L.Sink log.old) (stream_model L.Sink log.new) }
+        (L.model log.old) (L.model log.new) }
 {
     if !wanted {
         return Ok(());
@@ -28,9 +27,9 @@ pub(crate) fn say_starred<L: Sink>(
     numbers: &[u32],
     log: &mut L,
 ) -> Result<(), SinkFault>
-    requires { L.failed log.old + 1 < 2 ^ 64 }
+    requires { (L.model log.old).failed + 1 < 2 ^ 64 }
     ensures { DoesInLog (starred_acts progress numbers.now) (log_ending result)
-        (stream_model L.Sink log.old) (stream_model L.Sink log.new) }
+        (L.model log.old) (L.model log.new) }
 {
     if !progress || numbers.is_empty() {
         return Ok(());
@@ -46,9 +45,9 @@ pub(crate) fn say_end<L: Sink>(
     missing: bool,
     log: &mut L,
 ) -> Result<(), SinkFault>
-    requires { L.failed log.old + 1 < 2 ^ 64 }
+    requires { (L.model log.old).failed + 1 < 2 ^ 64 }
     ensures { DoesInLog (closing_acts shown (counted numbers) count missing) (log_ending result)
-        (stream_model L.Sink log.old) (stream_model L.Sink log.new) }
+        (L.model log.old) (L.model log.new) }
 {
     let counts = LogLine::Counts(numbers.sections, numbers.names, numbers.macros);
     say(shown.statistics, counts, log)?;

@@ -6,7 +6,7 @@ ghost use Rattle.cweb_scan.specs.surface.Scan.{IsScanBelow};
 ghost use Rattle.cweb_scan.specs.surface.ScannedModel.{scanned_model};
 ghost use Rattle.cweb_log.specs.inner.Log.{start_subject};
 ghost use Rattle.cweb_log.specs.surface.Options.{options_of};
-ghost use Rattle.cweb_log.specs.DeviceModels.{shelf_model, stream_model};
+ghost use Rattle.cweb_log.specs.DeviceModels.{shelf_model};
 ghost use Rattle.cweb_tools.specs.Course.{change_name, world_of};
 ghost use Rattle.cweb_tools.specs.inner.Scanning.{CompletesScan, StopsScan};
 ghost use Rattle.cweb_tools.specs.inner.Tangle.{tangle_course};
@@ -26,11 +26,11 @@ pub(crate) fn scan_web<S: Shelf, L: Sink>(
     log: &mut L,
 ) -> Result<(Merger<S>, Scanned), u8>
     requires shelf_count { S.failed shelf.old + 1 < 2 ^ 64 }
-    requires log_count { L.failed log.old + 1 < 2 ^ 64 }
+    requires log_count { (L.model log.old).failed + 1 < 2 ^ 64 }
     ensures scans { IfOk result (λ read. CompletesScan (options_of options.now)
         (tangle_course (world_of (S.texts shelf.old) (option_copied inputs.entry))
         (Some (options_of options.now)))
-        (shelf_model S.Shelf shelf.old) (shelf_model S.Shelf shelf.new) (stream_model L.Sink log.old)
+        (shelf_model S.Shelf shelf.old) (shelf_model S.Shelf shelf.new) (L.model log.old)
         (so_far read.0).names (so_far read.0).faults (scanned_model read.1)) }
     ensures below { IfOk result
         (λ read. IsScanBelow (length (so_far read.0).names) (scanned_model read.1)) }
@@ -39,7 +39,7 @@ pub(crate) fn scan_web<S: Shelf, L: Sink>(
         (tangle_course (world_of (S.texts shelf.old) (option_copied inputs.entry))
         (Some (options_of options.now)))
         (shelf_model S.Shelf shelf.old) (shelf_model S.Shelf shelf.new)
-        (stream_model L.Sink log.old) (stream_model L.Sink log.new) status) }
+        (L.model log.old) (L.model log.new) status) }
 {
     let started = Merger::start(
         alloc,

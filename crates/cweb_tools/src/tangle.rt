@@ -5,7 +5,7 @@ ghost use Rattle.std.specs.Option.{option_copied};
 ghost use Rattle.cweb_scan.specs.surface.ScannedModel.{scanned_model};
 ghost use Rattle.cweb_out.specs.surface.Outputs.{IsPlanOf};
 ghost use Rattle.cweb_log.specs.CommandLine.{options_by};
-ghost use Rattle.cweb_log.specs.DeviceModels.{CountsFit, SinkCountsFit, bins_model, devices, stream_model};
+ghost use Rattle.cweb_log.specs.DeviceModels.{CountsFit, SinkCountsFit, devices};
 ghost use Rattle.cweb_log.specs.Items.{banner};
 ghost use Rattle.cweb_log.specs.surface.Options.{options_of};
 ghost use Rattle.cweb_tools.specs.Acts.{LogsEnding, acts_status, ending, plans};
@@ -80,15 +80,15 @@ pub(crate) fn begin_tangle<L: Sink>(
     words: &[&str],
     log: &mut L,
 ) -> Result<Options, u8>
-    requires { L.failed log.old + 1 < 2 ^ 64 }
+    requires { (L.model log.old).failed + 1 < 2 ^ 64 }
     ensures ok { IfOk result (λ options. options_by (map (λ word. word.now) words.now)
         ≡ Some (options_of options)) }
     ensures banner { IfOk result (λ options.
         DoesInLog (when (options_of options).shown.banner banner) None
-        (stream_model L.Sink log.old) (stream_model L.Sink log.new)) }
+        (L.model log.old) (L.model log.new)) }
     ensures ends { IfErr result (λ status.
         EndsUnread (options_by (map (λ word. word.now) words.now))
-        (stream_model L.Sink log.old) (stream_model L.Sink log.new) status) }
+        (L.model log.old) (L.model log.new) status) }
 {
     let options = match Options::read(alloc, words) {
         Ok(options) => options,
@@ -110,11 +110,11 @@ pub(crate) fn tangle_web<B: Bins, L: Sink>(
     log: &mut L,
 ) -> u8
     requires known { IsKnown web }
-    requires counts { SinkCountsFit (B.failed bins.old) (L.failed log.old) }
+    requires counts { SinkCountsFit (B.model bins.old).failed (L.model log.old).failed }
     ensures { let acts = web_acts shown (web_in web.entry main.now) in
         EndsInBoth acts (acts_status acts)
-        (bins_model B.Sink bins.old) (bins_model B.Sink bins.new)
-        (stream_model L.Sink log.old) (stream_model L.Sink log.new) result }
+        (B.model bins.old) (B.model bins.new)
+        (L.model log.old) (L.model log.new) result }
 {
     if let Err(_) = say_starred(shown.progress, web.scanned.starred.as_slice(), log) {
         return 1;
@@ -139,15 +139,15 @@ fn tangle_planned<B: Bins, L: Sink>(
 ) -> u8
     requires known { IsKnown web }
     requires made { IsPlanOf web.scanned.now.store plan.now }
-    requires counts { SinkCountsFit (B.failed bins.old) (L.failed log.old) }
+    requires counts { SinkCountsFit (B.model bins.old).failed (L.model log.old).failed }
     ensures { EndsInBoth
         (planned_acts shown
         (numbers_of (scanned_model web.entry.scanned.now)) (fault_count (faults_of web.entry))
         (plan_made web.entry.scanned.now.store (files_of web.entry) plan.now))
         (status_by (fault_count (faults_of web.entry))
         (plan_made web.entry.scanned.now.store (files_of web.entry) plan.now))
-        (bins_model B.Sink bins.old) (bins_model B.Sink bins.new)
-        (stream_model L.Sink log.old) (stream_model L.Sink log.new) result }
+        (B.model bins.old) (B.model bins.new)
+        (L.model log.old) (L.model log.new) result }
 {
     if let Err(_) = say(plan.no_text(), LogLine::NoProgramText, log) {
         return 1;
@@ -177,10 +177,10 @@ fn tangle_planned<B: Bins, L: Sink>(
 
 /// Logs what stopped the writing of the outputs. A log that failed gets no line.
 fn log_failed<L: Sink>(log: &mut L, stop: Stop, name: &str) -> u8
-    requires { stop ≢ Stop.LogFault → L.failed log.old + 1 < 2 ^ 64 }
+    requires { stop ≢ Stop.LogFault → (L.model log.old).failed + 1 < 2 ^ 64 }
     ensures status { result ≡ 1 }
     ensures logs { LogsEnding (ending stop name.now)
-        (stream_model L.Sink log.old) (stream_model L.Sink log.new) }
+        (L.model log.old) (L.model log.new) }
 {
     if let Stop::LogFault = stop {
         return 1;

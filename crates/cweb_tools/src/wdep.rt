@@ -3,7 +3,7 @@ ghost use Rattle.std.specs.Prelude.{◌≡◌, ◌≢◌, ◌<◌, ◌+◌, ◌^
 ghost use Rattle.std.specs.Option.{option_copied};
 ghost use Rattle.cweb_out.specs.surface.Outputs.{IsPlanOf};
 ghost use Rattle.cweb_log.specs.CommandLine.{options_by};
-ghost use Rattle.cweb_log.specs.DeviceModels.{CountsFit, SinkCountsFit, as_output, printing_devices, stream_model};
+ghost use Rattle.cweb_log.specs.DeviceModels.{CountsFit, SinkCountsFit, devices};
 ghost use Rattle.cweb_tools.specs.Acts.{acts_status};
 ghost use Rattle.cweb_tools.specs.Course.{world_of};
 ghost use Rattle.cweb_tools.specs.Depend.{DependPromises, DependsFreely, depend_plan_acts, depend_web_acts};
@@ -35,21 +35,21 @@ pub fn run_wdep<S: Shelf, W: Sink, L: Sink>(
     out: &mut W,
     log: &mut L,
 ) -> u8
-    requires counts { CountsFit (printing_devices S.Shelf W.Sink L.Sink shelf.old out.old log.old) }
+    requires counts { CountsFit (devices S.Shelf W.Sink L.Sink shelf.old out.old log.old) }
     ensures promises { let before =
-        printing_devices S.Shelf W.Sink L.Sink shelf.old out.old log.old in
+        devices S.Shelf W.Sink L.Sink shelf.old out.old log.old in
         let args = options_by (map (λ word. word.now) words.now) in
         let world = world_of (S.texts shelf.old) (option_copied inputs.entry) in
         let targets = targets_by (map (λ word. word.now) words.now) in
         DependPromises world targets args before
-        (printing_devices S.Shelf W.Sink L.Sink shelf.new out.new log.new) result }
+        (devices S.Shelf W.Sink L.Sink shelf.new out.new log.new) result }
     ensures freely { let before =
-        printing_devices S.Shelf W.Sink L.Sink shelf.old out.old log.old in
+        devices S.Shelf W.Sink L.Sink shelf.old out.old log.old in
         let args = options_by (map (λ word. word.now) words.now) in
         let world = world_of (S.texts shelf.old) (option_copied inputs.entry) in
         let targets = targets_by (map (λ word. word.now) words.now) in
         DependsFreely world targets args before
-        (printing_devices S.Shelf W.Sink L.Sink shelf.new out.new log.new) result }
+        (devices S.Shelf W.Sink L.Sink shelf.new out.new log.new) result }
     ensures untouched { options_by (map (λ word. word.now) words.now) ≡ None →
         (shelf.new ≡ shelf.old) × (out.new ≡ out.old) }
 {
@@ -76,12 +76,12 @@ fn depend_web<W: Sink, L: Sink>(
     out: &mut W,
     log: &mut L,
 ) -> u8
-    requires counts { SinkCountsFit (W.failed out.old) (L.failed log.old) }
+    requires counts { SinkCountsFit (W.model out.old).failed (L.model log.old).failed }
     ensures { let acts =
         depend_web_acts targets (files_of web.entry) (web_in web.entry main.now) in
         EndsInBoth acts (acts_status acts)
-        (as_output (stream_model W.Sink out.old)) (as_output (stream_model W.Sink out.new))
-        (stream_model L.Sink log.old) (stream_model L.Sink log.new) result }
+        (W.model out.old) (W.model out.new)
+        (L.model log.old) (L.model log.new) result }
 {
     if let Err(_) = say_faults(web, log) {
         return 1;
@@ -105,13 +105,13 @@ fn depend_planned<W: Sink, L: Sink>(
     log: &mut L,
 ) -> u8
     requires made { IsPlanOf web.scanned.now.store plan.now }
-    requires counts { SinkCountsFit (W.failed out.old) (L.failed log.old) }
+    requires counts { SinkCountsFit (W.model out.old).failed (L.model log.old).failed }
     ensures { EndsInBoth (depend_plan_acts targets (files_of web.entry)
         (plan_made web.entry.scanned.now.store (files_of web.entry) plan.now))
         (status_by (fault_count (faults_of web.entry))
         (plan_made web.entry.scanned.now.store (files_of web.entry) plan.now))
-        (as_output (stream_model W.Sink out.old)) (as_output (stream_model W.Sink out.new))
-        (stream_model L.Sink log.old) (stream_model L.Sink log.new) result }
+        (W.model out.old) (W.model out.new)
+        (L.model log.old) (L.model log.new) result }
 {
     if let Err(_) = say(plan.no_text(), LogLine::NoProgramText, log) {
         return 1;

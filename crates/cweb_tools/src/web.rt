@@ -4,9 +4,7 @@ ghost use Rattle.std.specs.List.{flat_map};
 ghost use Rattle.cweb_lines.specs.surface.MergerCalls.{so_far};
 ghost use Rattle.cweb_scan.specs.surface.Scan.{IsScanBelow};
 ghost use Rattle.cweb_scan.specs.surface.ScannedModel.{scanned_model};
-ghost use Rattle.cweb_log.specs.inner.LogWriting.{WritesToStream};
 ghost use Rattle.cweb_log.specs.Items.{line};
-ghost use Rattle.cweb_log.specs.DeviceModels.{stream_model};
 ghost use Rattle.cweb_tools.specs.inner.Tangle.{fault_count};
 ghost use Rattle.cweb_tools.specs.inner.Does.{DoesInLog, log_ending};
 ghost use Rattle.cweb_tools.specs.Tangle.{numbers_of};
@@ -92,9 +90,9 @@ fn count_parts(mut parts: Parts<'_>) -> u32
 
 /// Logs the faults of the files, the source and the names.
 pub(crate) fn say_faults<L: Sink>(web: Web<'_>, log: &mut L) -> Result<(), SinkFault>
-    requires { L.failed log.old + 1 < 2 ^ 64 }
+    requires { (L.model log.old).failed + 1 < 2 ^ 64 }
     ensures { DoesInLog (said_faults web.entry) (log_ending result)
-        (stream_model L.Sink log.old) (stream_model L.Sink log.new) }
+        (L.model log.old) (L.model log.new) }
 {
     if web.fault_count() == 0 {
         return Ok(());
@@ -103,9 +101,9 @@ pub(crate) fn say_faults<L: Sink>(web: Web<'_>, log: &mut L) -> Result<(), SinkF
 }
 
 fn write_web_faults<L: Sink>(web: Web<'_>, log: &mut L) -> Result<(), SinkFault>
-    requires { L.failed log.old + 1 < 2 ^ 64 }
-    ensures { WritesToStream (flat_map line (faults_of web.entry))
-        (stream_model L.Sink log.old) (stream_model L.Sink log.new) result }
+    requires { (L.model log.old).failed + 1 < 2 ^ 64 }
+    ensures { Wrote (flat_map line (faults_of web.entry))
+        (L.model log.old) (L.model log.new) result }
 {
     write_log(log, LogText::SourceFaults(web.names, web.faults))?;
     write_log(

@@ -6,7 +6,7 @@ ghost use Rattle.cweb_input.specs.surface.OpenSources.{files_named};
 ghost use Rattle.cweb_lines.specs.surface.MergerCalls.{stop_in};
 ghost use Rattle.cweb_log.specs.Items.{source_item};
 ghost use Rattle.cweb_log.specs.inner.Log.{start_subject, subject};
-ghost use Rattle.cweb_log.specs.DeviceModels.{CountsFit, as_output, printing_devices, stream_model};
+ghost use Rattle.cweb_log.specs.DeviceModels.{CountsFit, devices};
 ghost use Rattle.cweb_log.specs.CommandLine.{web_names_by};
 ghost use Rattle.cweb_log.specs.inner.Words.{merge_word_names};
 ghost use Rattle.cweb_tools.specs.inner.Begun.{MergesBegun};
@@ -35,19 +35,19 @@ pub fn run_wmerge<S: Shelf, W: Sink, L: Sink>(
     out: &mut W,
     log: &mut L,
 ) -> u8
-    requires counts { CountsFit (printing_devices S.Shelf W.Sink L.Sink shelf.old out.old log.old) }
+    requires counts { CountsFit (devices S.Shelf W.Sink L.Sink shelf.old out.old log.old) }
     ensures promises { let before =
-        printing_devices S.Shelf W.Sink L.Sink shelf.old out.old log.old in
+        devices S.Shelf W.Sink L.Sink shelf.old out.old log.old in
         let args = web_names_by (map (λ word. word.now) words.now) in
         let world = world_of (S.texts shelf.old) (option_copied inputs.entry) in
         MergePromises world args before
-        (printing_devices S.Shelf W.Sink L.Sink shelf.new out.new log.new) result }
+        (devices S.Shelf W.Sink L.Sink shelf.new out.new log.new) result }
     ensures freely { let before =
-        printing_devices S.Shelf W.Sink L.Sink shelf.old out.old log.old in
+        devices S.Shelf W.Sink L.Sink shelf.old out.old log.old in
         let args = web_names_by (map (λ word. word.now) words.now) in
         let world = world_of (S.texts shelf.old) (option_copied inputs.entry) in
         MergesFreely world args before
-        (printing_devices S.Shelf W.Sink L.Sink shelf.new out.new log.new) result }
+        (devices S.Shelf W.Sink L.Sink shelf.new out.new log.new) result }
     ensures untouched { web_names_by (map (λ word. word.now) words.now) ≡ None →
         (shelf.new ≡ shelf.old) × (out.new ≡ out.old) }
 {
@@ -66,13 +66,13 @@ fn merge_web<S: Shelf, W: Sink, L: Sink>(
     out: &mut W,
     log: &mut L,
 ) -> u8
-    requires counts { CountsFit (printing_devices S.Shelf W.Sink L.Sink shelf.old out.old log.old) }
+    requires counts { CountsFit (devices S.Shelf W.Sink L.Sink shelf.old out.old log.old) }
     ensures { let before =
-        printing_devices S.Shelf W.Sink L.Sink shelf.old out.old log.old in
+        devices S.Shelf W.Sink L.Sink shelf.old out.old log.old in
         let world = world_of (S.texts shelf.old) (option_copied inputs.entry) in
         let names = Some (merge_word_names args.now) in
         EndsMerge names (merge_course world names) before
-        (printing_devices S.Shelf W.Sink L.Sink shelf.new out.new log.new) result }
+        (devices S.Shelf W.Sink L.Sink shelf.new out.new log.new) result }
 {
     let started = Merger::start(
         alloc,
@@ -96,10 +96,10 @@ fn merge_begun<S: Shelf, W: Sink, L: Sink>(
     log: &mut L,
 ) -> u8
     requires running { stop_in merger.old ≡ None }
-    requires counts { CountsFit (printing_devices S.Shelf W.Sink L.Sink shelf.old out.old log.old) }
+    requires counts { CountsFit (devices S.Shelf W.Sink L.Sink shelf.old out.old log.old) }
     ensures { MergesBegun S.Shelf shelf.old merger.old
-        (as_output (stream_model W.Sink out.old)) (stream_model L.Sink log.old)
-        (printing_devices S.Shelf W.Sink L.Sink shelf.new out.new log.new) result }
+        (W.model out.old) (L.model log.old)
+        (devices S.Shelf W.Sink L.Sink shelf.new out.new log.new) result }
 {
     match write_merged_in_chunks(merger, shelf, out, CHUNK_SIZE) {
         Ok(()) => log_faults(log, merger.names(), merger.faults()),
@@ -121,10 +121,10 @@ fn start_subject(args: &MergeWords, stop: Stop) -> &str
 
 /// Logs the faults of a merge that has ended, and returns the exit status.
 fn log_faults<L: Sink>(log: &mut L, names: &FileNames, faults: &[SourceFault]) -> u8
-    requires { L.failed log.old + 1 < 2 ^ 64 }
+    requires { (L.model log.old).failed + 1 < 2 ^ 64 }
     ensures { let items = map (source_item (spec.opened_file_names names.now)) faults.now in
         EndsInLog (map says items) (acts_status (map says items))
-        (stream_model L.Sink log.old) (stream_model L.Sink log.new) result }
+        (L.model log.old) (L.model log.new) result }
 {
     if faults.is_empty() {
         return 0;

@@ -1,6 +1,7 @@
 -- What contracts know of a stream.
 use Rattle.std.specs.Prelude.{ℕ, Bool, List, []}
 use Rattle.std.specs.Option.{unwrap_or}
+use Rattle.cweb_files.specs.Sinks.{SinkModel, always_open, known}
 use Rattle.std.specs.declared.io.traits.Write.{Ghosts as Write}
 use Rattle.cweb_system.specs.declared.streams.StdSink.{StdSink}
 
@@ -16,3 +17,9 @@ stream_of sink = sink.stream
 -- The bytes of the stream, if they are known.
 abbrev pub sink_bytes : {W : Type 0} (write : Write W) → StdSink W write → List ℕ
 sink_bytes write sink = unwrap_or (write.contents sink.stream) []
+
+abbrev pub sink_model : {W : Type 0} (write : Write W) → StdSink W write → SinkModel
+sink_model write sink = record {
+  failed = sink.failed;
+  contents = known sink.is_known (record { bytes = sink_bytes write sink; beside = always_open });
+}

@@ -5,7 +5,8 @@ use Rattle.cweb_input.specs.Include.{World, Found}
 use Rattle.cweb_lines.specs.surface.MergerCalls.{BeginsMerge, KnowsReaders, so_far, to_come}
 use Rattle.cweb_lines.specs.declared.merger.Merger.{Merger}
 use Rattle.cweb_log.specs.CommandLine.{WebNames}
-use Rattle.cweb_log.specs.DeviceModels.{Devices, OutModel, StreamModel, shelf_model}
+use Rattle.cweb_log.specs.DeviceModels.{Devices, shelf_model}
+use Rattle.cweb_files.specs.Sinks.{SinkModel}
 use Rattle.cweb_tools.specs.inner.Course.{EndsMerge, found_course}
 use Rattle.cweb_tools.specs.inner.Does.{at}
 
@@ -17,7 +18,7 @@ pub record MergeHasBegun {S R : Type 0} (shelf : Shelf S R) (now : S) (merger : 
   pub known : IsSome (shelf_model shelf now).blamed → KnowsReaders shelf now merger
 
 -- Whatever was found, a run of `wmerge` ends as its course does.
-abbrev pub MergesBegun : {S R : Type 0} → Shelf S R → S → Merger S R → OutModel → StreamModel → Devices → ℕ
+abbrev pub MergesBegun : {S R : Type 0} → Shelf S R → S → Merger S R → SinkModel → SinkModel → Devices → ℕ
     → Type 0
 MergesBegun shelf now merger out log after status =
     (names : WebNames) (world : World) (found : Option Found) (changes : Option (Option Found))

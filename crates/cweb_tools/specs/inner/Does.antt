@@ -1,11 +1,12 @@
 -- The effect of calls as acts.
 use Rattle.std.specs.Prelude.{ℕ, List, [], Option, Some, None, Result, Ok, Err}
 use Rattle.cweb_input.specs.declared.stop.Stop.TheVariants.{LogFault}
-use Rattle.cweb_log.specs.DeviceModels.{Devices, OutModel, ShelfModel, StreamModel}
+use Rattle.cweb_log.specs.DeviceModels.{Devices, ShelfModel}
+use Rattle.cweb_files.specs.Sinks.{SinkModel}
 use Rattle.cweb_tools.specs.Acts.{Act, Ending, ending, PerformsActs, RunEnds}
 
 -- The devices of a run.
-abbrev pub at : ShelfModel → OutModel → StreamModel → Devices
+abbrev pub at : ShelfModel → SinkModel → SinkModel → Devices
 at shelf out log = record { shelf = shelf; out = out; log = log }
 
 -- The end of a call that logs.
@@ -18,26 +19,26 @@ pub record Does (acts : List Act) (why : Option Ending) (before after : Devices)
   pub runs : PerformsActs acts why before after
 
 -- Acts of a call that has only the log, whatever the other devices contain.
-abbrev pub DoesInLog : List Act → Option Ending → StreamModel → StreamModel → Type 0
+abbrev pub DoesInLog : List Act → Option Ending → SinkModel → SinkModel → Type 0
 DoesInLog acts why log log' =
-    (shelf : ShelfModel) (out : OutModel) → Does acts why (at shelf out log) (at shelf out log')
+    (shelf : ShelfModel) (out : SinkModel) → Does acts why (at shelf out log) (at shelf out log')
 
 -- Acts of a call that has only the output.
-abbrev pub DoesInOut : List Act → Option Ending → OutModel → OutModel → Type 0
+abbrev pub DoesInOut : List Act → Option Ending → SinkModel → SinkModel → Type 0
 DoesInOut acts why out out' =
-    (shelf : ShelfModel) (log : StreamModel) → Does acts why (at shelf out log) (at shelf out' log)
+    (shelf : ShelfModel) (log : SinkModel) → Does acts why (at shelf out log) (at shelf out' log)
 
 -- Acts of a call that has the output and the log.
-abbrev pub DoesInBoth : List Act → Option Ending → OutModel → OutModel → StreamModel → StreamModel → Type 0
+abbrev pub DoesInBoth : List Act → Option Ending → SinkModel → SinkModel → SinkModel → SinkModel → Type 0
 DoesInBoth acts why out out' log log' =
     (shelf : ShelfModel) → Does acts why (at shelf out log) (at shelf out' log')
 
 -- The end of a part of a run that has only the log.
-abbrev pub EndsInLog : List Act → ℕ → StreamModel → StreamModel → ℕ → Type 0
+abbrev pub EndsInLog : List Act → ℕ → SinkModel → SinkModel → ℕ → Type 0
 EndsInLog acts expected log log' status =
-    (shelf : ShelfModel) (out : OutModel) → RunEnds acts expected (at shelf out log) (at shelf out log') status
+    (shelf : ShelfModel) (out : SinkModel) → RunEnds acts expected (at shelf out log) (at shelf out log') status
 
 -- The end of a part that has the output and the log.
-abbrev pub EndsInBoth : List Act → ℕ → OutModel → OutModel → StreamModel → StreamModel → ℕ → Type 0
+abbrev pub EndsInBoth : List Act → ℕ → SinkModel → SinkModel → SinkModel → SinkModel → ℕ → Type 0
 EndsInBoth acts expected out out' log log' status =
     (shelf : ShelfModel) → RunEnds acts expected (at shelf out log) (at shelf out' log') status

@@ -1,8 +1,8 @@
 -- The state of an expander between outputs, and the files of its plan.
-use Rattle.std.specs.Prelude.{◌≡◌, ℕ, List, ◌++◌, IsTrue, All, length, map, vec_capacity, Option, Some, None, Result}
+use Rattle.std.specs.Prelude.{◌≡◌, ℕ, List, ◌++◌, All, length, map, vec_capacity, Option, Some, None, Result}
 use Rattle.std.specs.Prelude.{Ok, Err}
 use Rattle.cweb_files.specs.Files.{File}
-use Rattle.cweb_files.specs.declared.device.Sink.{Ghosts as Sink}
+use Rattle.cweb_files.specs.Sinks.{SinkModel, written}
 use Rattle.cweb_input.specs.surface.OpenedFileNames.{opened_file_names}
 use Rattle.cweb_input.specs.declared.files.FileNames.{FileNames}
 use Rattle.cweb_store.specs.Parts.{Token, all_tokens}
@@ -49,15 +49,11 @@ output_ending outputs (Ok x) = None
 output_ending outputs (Err failed) = Some (ending failed.stop (output_name_at outputs failed.output))
 
 -- Some of the remaining tokens are printed. The sink has a prefix of their bytes, and the buffer the rest.
-pub record PrintsSoFar {W : Type 0} (sink : Sink W) (files : List (List ℕ)) (first now : Expander) (printer : Printer)
-    (old new : W) (buffer : List ℕ) : Type 0 where
+pub record PrintsSoFar (files : List (List ℕ)) (first now : Expander) (printer : Printer) (old new : SinkModel)
+    (buffer : List ℕ) : Type 0 where
   pub ready : StaysReady first now
   pub setting_is : setting_of printer ≡ setting first.store.now files
-  pub tells : sink.tells new ≡ sink.tells old
-  pub failed : sink.failed new ≡ sink.failed old
-  pub beside : IsTrue (sink.tells old) → sink.beside new ≡ sink.beside old
   pub done : List Token
   pub whole : left_in first ≡ done ++ left_in now
   pub kept : left_after_tokens done ≡ left_in_printer printer
-  pub written : IsTrue (sink.tells old)
-      → sink.written new ++ buffer ≡ sink.written old ++ print (setting first.store.now files) done
+  pub wrote : written buffer new ≡ written (print (setting first.store.now files) done) old

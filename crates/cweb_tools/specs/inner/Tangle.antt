@@ -8,7 +8,8 @@ use Rattle.cweb_store.specs.Calls.{Stored}
 use Rattle.cweb_log.specs.Items.{LogItem, is_fault, stopped}
 use Rattle.cweb_log.specs.CommandLine.{OptionsModel}
 use Rattle.cweb_log.specs.declared.shown.Shown.{Shown}
-use Rattle.cweb_log.specs.DeviceModels.{OutModel, ShelfModel, StreamModel}
+use Rattle.cweb_log.specs.DeviceModels.{ShelfModel}
+use Rattle.cweb_files.specs.Sinks.{SinkModel}
 use Rattle.cweb_tools.specs.Acts.{Act, FollowsActs, opens, reads, says}
 use Rattle.cweb_tools.specs.Script.{Planning, TangleCourse, Web, unread, not_there, change_not_there, tangling}
 use Rattle.cweb_tools.specs.Script.{refused, planned, script, web_acts}
@@ -53,7 +54,7 @@ tangle_course world None = unread
 tangle_course world (Some args) = tangled args.names.main (merge_course world (Some args.names.merge))
 
 -- The run ended before it read anything, as its course does.
-abbrev pub EndsUnread : Option OptionsModel → StreamModel → StreamModel → ℕ → Type 0
-EndsUnread args log log' status = (world : World) (shelf : ShelfModel) (out : OutModel)
+abbrev pub EndsUnread : Option OptionsModel → SinkModel → SinkModel → ℕ → Type 0
+EndsUnread args log log' status = (world : World) (shelf : ShelfModel) (out : SinkModel)
     → FollowsActs (script (shown_by args)) (CanCome args) (λ taken. taken ≡ tangle_course world args) (at shelf out log)
     (at shelf out log') status

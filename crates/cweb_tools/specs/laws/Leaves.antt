@@ -3,7 +3,8 @@ use Rattle.std.specs.Prelude.{fold, ◌≡◌, ℕ, List, ◌++◌, option_map}
 use Rattle.cweb_files.specs.Files.{put_file, File}
 use Rattle.cweb_input.specs.declared.stop.Stop.{Stop}
 use Rattle.cweb_input.specs.declared.stop.Stop.TheVariants.{OutNotOpened, WriteFault}
-use Rattle.cweb_log.specs.DeviceModels.{Devices, OutModel}
+use Rattle.cweb_log.specs.DeviceModels.{Devices}
+use Rattle.cweb_files.specs.Sinks.{SinkModel}
 use Rattle.cweb_log.specs.declared.shown.Shown.{Shown}
 use Rattle.cweb_tools.specs.Acts.{Act, acts_status}
 use Rattle.cweb_tools.specs.Headline.{ActsKeepLimits, files_in, written_files}
@@ -18,7 +19,7 @@ abbrev pub tangle_status : Shown → TangleCourse → ℕ
 tangle_status shown course = acts_status (script shown course)
 
 -- The first of the expected files were committed, in order, each whole. All others are unchanged.
-pub record LeavesFiles (expected : List File) (old new : OutModel) : Type 0 where
+pub record LeavesFiles (expected : List File) (old new : SinkModel) : Type 0 where
   pub done : List File
   pub undone : List File
   pub whole : expected ≡ done ++ undone

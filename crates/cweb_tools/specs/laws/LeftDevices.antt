@@ -1,10 +1,11 @@
 -- What a run leaves in bins and shelf, however it ends.
 use Rattle.std.specs.Prelude.{◌≡◌, ◌≢◌, ◌⊎◌, ℕ, List, ◌++◌, codes, Option, Some, None}
 use Rattle.std.specs.Option.{option_and_then}
-use Rattle.cweb_files.specs.Files.{File, Refused}
+use Rattle.cweb_files.specs.Files.{Refused}
 use Rattle.cweb_input.specs.Include.{World}
 use Rattle.cweb_log.specs.CommandLine.{OptionsModel, WebNames}
-use Rattle.cweb_log.specs.DeviceModels.{Devices, OutContents, OutModel, ShelfModel, StreamModel, appended}
+use Rattle.cweb_log.specs.DeviceModels.{Devices, ShelfModel}
+use Rattle.cweb_files.specs.Sinks.{SinkContents, SinkModel, appended}
 use Rattle.cweb_log.specs.Log.{message_line}
 use Rattle.cweb_tools.specs.Acts.{Act, blaming}
 use Rattle.cweb_tools.specs.Depend.{DependPromises}
@@ -15,13 +16,13 @@ use Rattle.cweb_tools.specs.Script.{script}
 use Rattle.cweb_tools.specs.Tangle.{shown_by, TanglePromises}
 use Rattle.cweb_tools.specs.laws.Leaves.{HasReadAll, LeavesFiles}
 
--- The draft of an output, if one is open.
-abbrev pub draft_in : OutModel → Option File
-draft_in out = option_and_then (λ (contents : OutContents). contents.draft) out.contents
+-- The name of the draft of an output, if one is open.
+abbrev pub draft_in : SinkModel → Option (List ℕ)
+draft_in out = option_and_then (λ (contents : SinkContents). contents.beside.draft) out.contents
 
 -- Why the last file was refused, if it was.
-abbrev pub last_refusal : OutModel → Option Refused
-last_refusal out = option_and_then (λ (contents : OutContents). contents.refused) out.contents
+abbrev pub last_refusal : SinkModel → Option Refused
+last_refusal out = option_and_then (λ (contents : SinkContents). contents.beside.refused) out.contents
 
 -- The bins after a run of `ctangle`, whatever shelf and log are.
 pub record LeavesBins (acts : List Act) (before after : Devices) (status : ℕ) : Type 0 where
@@ -41,19 +42,19 @@ EveryRunLeavesBins = (world : World) (args : Option OptionsModel) (before after 
     → LeavesBins (script (shown_by args) run.course) before after status
 
 -- The last line of a log that didn't fail says that a read of this file failed.
-abbrev pub NamesReadFault : List ℕ → StreamModel → StreamModel → Type 0
+abbrev pub NamesReadFault : List ℕ → SinkModel → SinkModel → Type 0
 NamesReadFault name old new = new.failed ≡ old.failed
-    → (lines : List ℕ) × (new.bytes ≡ appended (lines ++ message_line (codes "Read fault on ") name) old.bytes)
+    → (lines : List ℕ) × (new.contents ≡ appended (lines ++ message_line (codes "Read fault on ") name) old.contents)
 
 -- One read failed. The shelf blames one file, the log names it, and the status is 1.
-pub record BlamesOneFile (old new : ShelfModel) (log log' : StreamModel) (status : ℕ) : Type 0 where
+pub record BlamesOneFile (old new : ShelfModel) (log log' : SinkModel) (status : ℕ) : Type 0 where
   pub name : List ℕ
   pub blamed : new ≡ blaming name old
   pub logged : NamesReadFault name log log'
   pub answered : status ≡ 1
 
 -- The shelf after a run, and the log.
-pub record LeavesShelf (old new : ShelfModel) (log log' : StreamModel) (status : ℕ) : Type 0 where
+pub record LeavesShelf (old new : ShelfModel) (log log' : SinkModel) (status : ℕ) : Type 0 where
   pub none : new.failed ≡ old.failed → new ≡ old
   pub one : new.failed ≢ old.failed → BlamesOneFile old new log log' status
 

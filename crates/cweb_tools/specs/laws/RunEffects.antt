@@ -9,8 +9,9 @@ use Rattle.cweb_input.specs.declared.stop.Stop.TheVariants.{LogFault}
 use Rattle.cweb_log.specs.Items.{LogItem, line}
 use Rattle.cweb_log.specs.Log.{stop_line}
 use Rattle.cweb_log.specs.CommandLine.{OptionsModel, WebNames}
-use Rattle.cweb_log.specs.DeviceModels.{Devices, Logs, OutModel, StreamModel, appended}
-use Rattle.cweb_tools.specs.Acts.{Act, logged_items, with_printed}
+use Rattle.cweb_log.specs.DeviceModels.{Devices, Logs}
+use Rattle.cweb_files.specs.Sinks.{SinkModel, appended}
+use Rattle.cweb_tools.specs.Acts.{Act, logged_items}
 use Rattle.cweb_tools.specs.Course.{Course, IsMergeCourse}
 use Rattle.cweb_tools.specs.Headline.{ActsKeepLimits, files_in, printed_bytes, written_files}
 use Rattle.cweb_tools.specs.MergeActs.{MergePromises, merge_acts, merge_devices}
@@ -22,11 +23,11 @@ use Rattle.cweb_tools.specs.laws.Leaves.{HasReadAll, LeavesFiles, bins_blame, ta
 pub record DoesAll (acts : List Act) (expected : ℕ) (old new : Devices) (status : ℕ) : Type 0 where
   pub files : files_in new.out
       ≡ option_map (λ (files : List File). fold put_file files (written_files acts)) (files_in old.out)
-  pub log : new.log.bytes ≡ appended (flat_map line (logged_items acts)) old.log.bytes
+  pub log : new.log.contents ≡ appended (flat_map line (logged_items acts)) old.log.contents
   pub answered : status ≡ expected
 
 -- The first items were logged and then the stop's line, or the log failed within them.
-pub record LogsUpTo (items : List LogItem) (stop : Stop) (about : List ℕ) (old new : StreamModel) : Type 0 where
+pub record LogsUpTo (items : List LogItem) (stop : Stop) (about : List ℕ) (old new : SinkModel) : Type 0 where
   pub before : List LogItem
   pub later : List LogItem
   pub whole : items ≡ before ++ later
@@ -80,11 +81,11 @@ EveryRunLeavesDevices = (world : World) (args : Option OptionsModel) (before aft
     status
 
 -- These bytes were printed.
-abbrev pub Prints : List ℕ → OutModel → OutModel → Type 0
-Prints text old new = new.contents ≡ option_map (with_printed text) old.contents
+abbrev pub Prints : List ℕ → SinkModel → SinkModel → Type 0
+Prints text old new = new.contents ≡ appended text old.contents
 
 -- A prefix of what these acts print was printed, and all of it if the status is 0.
-pub record PrintsActs (acts : List Act) (old new : OutModel) (status : ℕ) : Type 0 where
+pub record PrintsActs (acts : List Act) (old new : SinkModel) (status : ℕ) : Type 0 where
   pub prefix : List ℕ
   pub rest : List ℕ
   pub whole : printed_bytes acts ≡ prefix ++ rest

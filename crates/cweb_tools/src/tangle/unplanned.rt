@@ -4,7 +4,6 @@ ghost use Rattle.cweb_scan.specs.surface.ScannedModel.{scanned_model};
 ghost use Rattle.cweb_out.specs.Outputs.{planned};
 ghost use Rattle.cweb_out.specs.surface.Planning.{IsExpectedFault};
 ghost use Rattle.cweb_log.specs.Items.{refusal_message};
-ghost use Rattle.cweb_log.specs.DeviceModels.{stream_model};
 ghost use Rattle.cweb_tools.specs.Acts.{plans};
 ghost use Rattle.cweb_tools.specs.inner.Does.{EndsInLog};
 ghost use Rattle.cweb_tools.specs.Script.{planned_acts, refused};
@@ -27,20 +26,20 @@ pub fn tangle_unplanned<L: Sink>(
     log: &mut L,
 ) -> u8
     requires expected { IsExpectedFault (planned web.scanned.now.store main.now) fault }
-    requires count { L.failed log.old + 1 < 2 ^ 64 }
+    requires count { (L.model log.old).failed + 1 < 2 ^ 64 }
     ensures closes { EndsInLog
         (plans ∷ planned_acts shown
         (numbers_of (scanned_model web.entry.scanned.now)) (fault_count (faults_of web.entry))
         (planning web.entry.scanned.now.store (files_of web.entry) main.now))
         (status_by (fault_count (faults_of web.entry))
         (planning web.entry.scanned.now.store (files_of web.entry) main.now))
-        (stream_model L.Sink log.old) (stream_model L.Sink log.new) result }
+        (L.model log.old) (L.model log.new) result }
     // Any fault but a failed allocation is reported as such.
     ensures logged { IfSome (refusal_in fault) (λ refusal. EndsInLog
         (planned_acts shown
         (numbers_of (scanned_model web.entry.scanned.now)) (fault_count (faults_of web.entry))
         (refused (refusal_message web.entry.scanned.now.store main.now refusal)))
-        1 (stream_model L.Sink log.old) (stream_model L.Sink log.new) result) }
+        1 (L.model log.old) (L.model log.new) result) }
 {
     if let PlanFault::Memory = fault {
         return log_stop(log, Stop::Memory, "");
@@ -56,12 +55,12 @@ fn tangle_refused<L: Sink>(
     fault: PlanFault,
     log: &mut L,
 ) -> u8
-    requires { L.failed log.old + 1 < 2 ^ 64 }
+    requires { (L.model log.old).failed + 1 < 2 ^ 64 }
     ensures { IfSome (refusal_in fault) (λ refusal. EndsInLog
         (planned_acts shown
         (numbers_of (scanned_model web.entry.scanned.now)) (fault_count (faults_of web.entry))
         (refused (refusal_message web.entry.scanned.now.store main.now refusal)))
-        1 (stream_model L.Sink log.old) (stream_model L.Sink log.new) result) }
+        1 (L.model log.old) (L.model log.new) result) }
 {
     if let Err(_) = write_log(log, LogText::unplanned(web.store(), &fault, main)) {
         return 1;

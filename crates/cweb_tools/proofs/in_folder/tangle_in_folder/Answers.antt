@@ -1,5 +1,5 @@
 use Rattle.cweb_tools.proofs.Common.{ℕ, List, ap, arith, option_copied, World, OptionsModel, Option, Some, options_of, stream_model, tangle_later}
-use Rattle.cweb_log.specs.DeviceModels.{OutModel, ShelfModel, StreamModel}
+use Rattle.cweb_log.specs.DeviceModels.{SinkModel, ShelfModel, SinkModel}
 use Rattle.cweb_tools.specs.InFolder.{bins_after, shelf_in}
 use Rattle.cweb_tools.proofs.Courses.{options_in}
 use Rattle.cweb_tools.proofs.Doing.{log_counted}
@@ -29,7 +29,7 @@ tangle_web-status-requires-clause-counts g c = record {
 
 pub returns-in-Err-clause-promises : goal.returns-in-Err-clause-promises
 returns-in-Err-clause-promises g c =
-    let log : StreamModel = stream_model g.L.Sink c.args.log.now in
+    let log : SinkModel = stream_model g.L.Sink c.args.log.now in
     let inputs : Option (List ℕ) = option_copied c.args.inputs in
     let bins = c.new-in-Err.ensures in
     unread_in g.F.FileSystem c.args.fs inputs (options_in c.args.words.now)
@@ -48,9 +48,9 @@ returns-in-Err-clause-files g c = left_in_folder g.F.FileSystem c.args.fs c.new-
 pub returns-in-Ok-scan_web-clause-promises : goal.returns-in-Ok-scan_web-clause-promises
 returns-in-Ok-scan_web-clause-promises g c =
     let inputs : Option (List ℕ) = option_copied c.args.inputs in
-    let first : OutModel = bins_after g.F.FileSystem c.into_bins-bins.result in
-    let out : OutModel = bins_after g.F.FileSystem c.tangle_web-status.new.bins in
-    let log : StreamModel = stream_model g.L.Sink c.tangle_web-status.new.log in
+    let first : SinkModel = bins_after g.F.FileSystem c.into_bins-bins.result in
+    let out : SinkModel = bins_after g.F.FileSystem c.tangle_web-status.new.bins in
+    let log : SinkModel = stream_model g.L.Sink c.tangle_web-status.new.log in
     let shelf : ShelfModel = shelf_seen g.F.FileSystem c.noting-shelf.result in
     let read : ShelfModel = shelf_seen g.F.FileSystem c.scan_web.new.shelf in
     let world : World = world_seen g.F.FileSystem c.noting-shelf.result inputs in
@@ -82,8 +82,8 @@ returns-in-Ok-scan_web-clause-files g c = left_in_folder g.F.FileSystem c.args.f
 pub returns-clause-promises : goal.returns-clause-promises
 returns-clause-promises g c =
     let inputs : Option (List ℕ) = option_copied c.args.inputs in
-    let out : OutModel = bins_after g.F.FileSystem c.into_bins.result in
-    let log : StreamModel = stream_model g.L.Sink c.scan_web.new.log in
+    let out : SinkModel = bins_after g.F.FileSystem c.into_bins.result in
+    let log : SinkModel = stream_model g.L.Sink c.scan_web.new.log in
     let shelf : ShelfModel = shelf_seen g.F.FileSystem c.noting-shelf.result in
     let read : ShelfModel = shelf_seen g.F.FileSystem c.scan_web.new.shelf in
     let world : World = world_seen g.F.FileSystem c.noting-shelf.result inputs in

@@ -1,14 +1,14 @@
-use Rattle.std.proofs.Common.{sym, ◌∙◌, subst, Option}
+use Rattle.std.proofs.Common.{◌≡◌, ◌++◌, rules, sym, ◌∙◌, subst, Option}
 use Rattle.std.specs.Prelude.{option_map, take}
 use Rattle.cweb_files.specs.Bins.{refusal}
 use Rattle.cweb_system.specs.declared.drafts.path.Draft.{Draft}
-use Rattle.cweb_system.specs.Bins.{draft_name}
+use Rattle.cweb_system.specs.Bins.{draft_bytes, draft_name}
 use Rattle.cweb_system.specs.inner.FolderSound.{IsDraftSound}
 use Rattle.cweb_system.proofs.Views.{appending, files_left}
 use Rattle.cweb_system.proofs.bins.Folder.add.Goals as goal
 
-pub returns-in-Ok-clause-beside : goal.returns-in-Ok-clause-beside
-returns-in-Ok-clause-beside g c = λ tells.
+pub returns-in-Ok-clause-ok : goal.returns-in-Ok-clause-ok
+returns-in-Ok-clause-ok g c = λ tells.
     let was = sym c.take.ensures.value ∙ c.in-Some.is in
     let sound = (subst (λ (o : Option (Draft g.row.F-File.Denot)). IsDraftSound g.F.FileSystem.key
     c.args.self.now.files o (g.F.FileSystem.disk c.args.self.now.fs)) was c.args.self.now.sound.draft).1 tells in
@@ -19,8 +19,13 @@ returns-in-Ok-clause-beside g c = λ tells.
     let left = files_left ws old new (c.args.self.now.sound.files tells)
     (appending ws c.in-Some.draft.key (g.F.FileSystem.key c.in-Some.draft.file) (take c.in-Ok.n c.args.piece.now)
     old new sound.new sound.opened (wrote.place tells) (wrote.ok tells)) in
+    let bytes : new.bytes c.in-Some.draft.key ≡ draft_bytes old c.args.self.now.draft ++ take c.in-Ok.n c.args.piece.now =
+    search rules in
     λ i. record {
-      files = left i;
-      draft = option_map draft_name (sym was i);
-      refused = option_map refusal c.args.self.now.refused;
+      bytes = bytes i;
+      beside = record {
+        files = left i;
+        draft = option_map draft_name (sym was i);
+        refused = option_map refusal c.args.self.now.refused;
+      };
     }

@@ -20,9 +20,12 @@ returns-in_default-put_in_place-clause-err g c = λ tells.
     let left = files_left ws old (g.F.FileSystem.disk c.discard.new.fs).tree (c.args.self.now.sound.files tells)
     (leaves_then ws _ _ _ first (c.discard.ensures.leaves.leaves (c.put_in_place.ensures.decent.tells ∙ tells))) in
     λ i. record {
-      files = left i;
-      draft = option_map draft_name (c.take.ensures.after i);
-      refused = option_map refusal c.args.self.now.refused;
+      bytes = draft_bytes (g.F.FileSystem.disk c.discard.new.fs).tree (c.take.ensures.after i);
+      beside = record {
+        files = left i;
+        draft = option_map draft_name (c.take.ensures.after i);
+        refused = option_map refusal c.args.self.now.refused;
+      };
     }
 
 pub invariant_of-self-2 : goal.invariant_of-self-2
@@ -55,7 +58,10 @@ returns-clause-ok g c = λ tells.
     ∙ sym (ap (λ (o : Option (Draft g.row.F-File.Denot)). with_bytes (map (file_in old) ws) (option_map draft_name o)
     (draft_bytes old o)) was) in
     λ i. record {
-      files = files i;
-      draft = option_map draft_name (c.take.ensures.after i);
-      refused = option_map refusal c.args.self.now.refused;
+      bytes = draft_bytes new (c.take.ensures.after i);
+      beside = record {
+        files = files i;
+        draft = option_map draft_name (c.take.ensures.after i);
+        refused = option_map refusal c.args.self.now.refused;
+      };
     }

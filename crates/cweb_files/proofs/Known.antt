@@ -1,7 +1,8 @@
 -- Clauses of a device, carried over to what is known of it.
-use Rattle.cweb_log.proofs.Common.{◌≡◌, ◌∙◌, ap, refl, Bool, true, false, IsTrue, Option, Some, option_map, known}
+use Rattle.std.proofs.Common.{◌≡◌, ◌∙◌, ap, refl, Bool, true, false, Option, Some}
+use Rattle.std.specs.Prelude.{IsSome, IsTrue, option_map}
 use Rattle.std.proofs.lemmas.Iterator.Adapters.{option_map_id}
-use Rattle.std.specs.Prelude.{IsSome}
+use Rattle.cweb_files.specs.Sinks.{known}
 
 -- Known contents are those of an observable device.
 pub seen : {A : Type 0} (tells : Bool) (x : A) → IsSome (known tells x) → IsTrue tells
