@@ -2,23 +2,22 @@
 use Rattle.std.proofs.Common.{◌≡◌, ◌++◌, ◌+◌, List, [], ℕ, refl, sym, ◌∙◌, ap, subst}
 use Rattle.std.specs.Prelude.{IsErr, Option, Some, None, Result, Ok, Err, option_map}
 use Rattle.std.proofs.lemmas.List.{append-nil, append_assoc}
-use Rattle.cweb_files.specs.Sinks.{FailsWithin, SinkContents, SinkModel, Wrote, failed_once, failing, with_printed, written}
+use Rattle.cweb_files.specs.Sinks.{FailsWithin, SinkContents, SinkModel, Wrote, appended, failed_once, failing, with_printed, written}
 
 -- Consecutive texts.
-printed_on : (a b : List ℕ) (now : Option SinkContents)
-    → option_map (with_printed b) (option_map (with_printed a) now) ≡ option_map (with_printed (a ++ b)) now
-printed_on a b None = refl
-printed_on a b (Some now) = λ i. Some (record now { bytes = append_assoc now.bytes a b i })
+pub appended_on : (a b : List ℕ) (now : Option SinkContents) → appended b (appended a now) ≡ appended (a ++ b) now
+appended_on a b None = refl
+appended_on a b (Some now) = λ i. Some (record now { bytes = append_assoc now.bytes a b i })
 
-printed_none : (now : Option SinkContents) → option_map (with_printed []) now ≡ now
-printed_none None = refl
-printed_none (Some now) = λ i. Some (record now { bytes = append-nil now.bytes i })
+pub appended_none : (now : Option SinkContents) → appended [] now ≡ now
+appended_none None = refl
+appended_none (Some now) = λ i. Some (record now { bytes = append-nil now.bytes i })
 
 pub written_none : (sink : SinkModel) → sink ≡ written [] sink
-written_none sink = λ i. record sink { contents = sym (printed_none sink.contents) i }
+written_none sink = λ i. record sink { contents = sym (appended_none sink.contents) i }
 
 pub written_on : (a b : List ℕ) (old : SinkModel) → written b (written a old) ≡ written (a ++ b) old
-written_on a b old = λ i. record old { contents = printed_on a b old.contents i }
+written_on a b old = λ i. record old { contents = appended_on a b old.contents i }
 
 pub written_then : (a b : List ℕ) (old : SinkModel) {mid new : SinkModel} → mid ≡ written a old → new ≡ written b mid
     → new ≡ written (a ++ b) old
@@ -32,7 +31,7 @@ fails_then a {b} {old} first fails = record {
   rest = fails.rest;
   whole = ap (λ (t : List ℕ). a ++ t) fails.whole ∙ sym (append_assoc a fails.prefix fails.rest);
   is = fails.is ∙ ap (failing (with_printed fails.prefix)) first
-      ∙ (λ i. record { failed = old.failed + 1; contents = printed_on a fails.prefix old.contents i });
+      ∙ (λ i. record { failed = old.failed + 1; contents = appended_on a fails.prefix old.contents i });
 }
 
 -- More would have been written after a fault.
@@ -50,7 +49,7 @@ fails_at_once text {old} is = record {
   prefix = [];
   rest = text;
   whole = refl;
-  is = is ∙ (λ i. record { failed = old.failed + 1; contents = sym (printed_none old.contents) i });
+  is = is ∙ (λ i. record { failed = old.failed + 1; contents = sym (appended_none old.contents) i });
 }
 
 -- These bytes were written, and then more or a prefix of them.

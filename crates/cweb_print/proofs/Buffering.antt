@@ -1,5 +1,5 @@
 -- A sink and its buffer as one sink.
-use Rattle.cweb_print.proofs.Common.{◌≡◌, ◌++◌, List, ℕ, ap, sym, ◌∙◌, SinkModel, failing, with_printed, written}
+use Rattle.cweb_print.proofs.Common.{◌≡◌, [], List, ℕ, ap, sym, ◌∙◌, SinkModel, failing, with_printed, written}
 use Rattle.cweb_files.specs.Sinks.{failed_once}
 use Rattle.cweb_files.proofs.Appending.{fails_then, written_none, written_on}
 use Rattle.cweb_print.specs.inner.Flushing.{FlushesPrefix}

@@ -1,7 +1,7 @@
 -- The devices after all acts were done.
 use Rattle.cweb_tools.proofs.Common.{◌≡◌, inl, inr, ℕ, List, [], ◌∷◌, ◌++◌, sym, ◌∙◌, ap, refl, append-nil, append_assoc, Option, None, Some, File, flat_map, line, Devices, SinkContents, SinkModel, Act, says, writes, after_act, changed, with_printed, written, PerformsActs, written_files, files_in, logged_items, prints, merges, printed_bytes, written_lines, emitted_lines}
 use Rattle.cweb_files.specs.Files.{put_file}
-use Rattle.cweb_log.proofs.BufferedLog.{written_none, written_on}
+use Rattle.cweb_files.proofs.Appending.{written_none, written_then}
 use Rattle.std.specs.Prelude.{fold, option_map}
 use Rattle.std.proofs.lemmas.Iterator.Adapters.{option_map_id}
 use Rattle.cweb_tools.proofs.Broken.{files_stay}
@@ -29,7 +29,7 @@ pub log_all : (acts : List Act) (old new : Devices) → PerformsActs acts None o
     → new.log ≡ written (flat_map line (logged_items acts)) old.log
 log_all [] old new is = ap (λ (d : Devices). d.log) is ∙ written_none old.log
 log_all (act ∷ acts) old new (inr stop) = absurd stop
-log_all (says item ∷ acts) old new (inl run) = written_on (line item) (flat_map line (logged_items acts)) old.log refl
+log_all (says item ∷ acts) old new (inl run) = written_then (line item) (flat_map line (logged_items acts)) old.log refl
     (log_all acts (after_act (says item) old) new run.1)
 log_all (act ∷ acts) old new (inl run) = log_all acts (after_act act old) new run.1
 

@@ -19,9 +19,9 @@ pub use Rattle.std.specs.Prelude.{None, Option, Some, IsErr, IsSome, IsTrue, Res
 pub use Rattle.std.specs.Prelude.{◌==◌}
 pub use Rattle.std.specs.Prelude.{All, OnOk, IfSome, if◌then◌else◌, nat_le}
 pub use Rattle.std.specs.Str.{bytes_eq}
-pub use Rattle.cweb_files.specs.surface.Frames.{WritesPrefix}
-pub use Rattle.cweb_files.specs.Files.{Beside, always_open, committed, with_draft, File, no_device, no_memory}
-pub use Rattle.cweb_files.specs.Files.{without_draft}
+pub use Rattle.cweb_files.specs.Files.{File, no_device, no_memory}
+pub use Rattle.cweb_files.specs.Sinks.{FailsWithin, SinkContents, SinkModel, WritesPrefix, Wrote, appended, changed}
+pub use Rattle.cweb_files.specs.Sinks.{committed, failing, known, with_draft, with_printed, without_draft, written}
 pub use Rattle.cweb_files.specs.declared.device.SinkFault.{SinkFault}
 pub use Rattle.cweb_files.specs.declared.place.FileId.{FileId}
 pub use Rattle.cweb_files.specs.declared.place.Place.{Place}
@@ -51,10 +51,7 @@ pub use Rattle.cweb_lines.specs.surface.MergerCalls.{BeginsMerge, StopsAtStart, 
 pub use Rattle.cweb_lines.specs.surface.Total.{merge}
 pub use Rattle.cweb_lines.specs.surface.Writing.{StopsWriting, WritingStops}
 pub use Rattle.cweb_log.specs.CommandLine.{OptionsModel, options_by, shown_by_default, WebNames, web_names_by}
-pub use Rattle.cweb_log.specs.DeviceModels.{Devices, SinkContents, SinkModel, ShelfModel, SinkModel}
-pub use Rattle.cweb_log.specs.DeviceModels.{as_output, bins_model, contents_of, devices, known, devices}
-pub use Rattle.cweb_log.specs.DeviceModels.{shelf_model, stream_model, appended, written, FailsWithin, Logs}
-pub use Rattle.cweb_log.specs.DeviceModels.{logged, log_failed}
+pub use Rattle.cweb_log.specs.DeviceModels.{Devices, Logs, ShelfModel, devices, log_failed, logged, shelf_model}
 pub use Rattle.cweb_log.specs.Items.{line, LogItem, is_fault, source_item, fault, starred}
 pub use Rattle.cweb_log.specs.Items.{located, banner, closing, faults, no_errors, no_text, see_warning, stopped}
 pub use Rattle.cweb_log.specs.Items.{name_item, name_items, scan_item, refusal_message}
@@ -62,7 +59,7 @@ pub use Rattle.cweb_log.specs.Log.{stop_line, file_name_at}
 pub use Rattle.cweb_log.specs.inner.LogText.{items_of}
 pub use Rattle.cweb_log.specs.declared.shown.Shown.{Shown}
 pub use Rattle.cweb_log.specs.inner.Log.{start_subject, subject}
-pub use Rattle.cweb_log.specs.inner.LogWriting.{WritesToStream}
+pub use Rattle.cweb_log.specs.inner.LogWriting.{Wrote}
 pub use Rattle.cweb_log.specs.inner.WebItems.{plan_item}
 pub use Rattle.cweb_log.specs.surface.Options.{options_of}
 pub use Rattle.cweb_names.specs.declared.name.NameId.{NameId}
@@ -108,7 +105,7 @@ pub use Rattle.cweb_store.specs.declared.parts.PartKind.{PartKind}
 pub use Rattle.cweb_store.specs.surface.Parts.{numbers_from, numbers_where}
 pub use Rattle.cweb_texts.specs.Edges.{is_operator, last_is}
 pub use Rattle.cweb_tools.specs.Acts.{Act, judges, says, opens, reads, merges, plans, reserves, writes, prints}
-pub use Rattle.cweb_tools.specs.Acts.{after_act, blaming, changed, failing, with_file, without_file, with_printed}
+pub use Rattle.cweb_tools.specs.Acts.{after_act, blaming, with_file, without_file}
 pub use Rattle.cweb_tools.specs.Acts.{PerformsActs, Breaks, Ending, ending, RunEnds, completes, stops, LogsEnding}
 pub use Rattle.cweb_tools.specs.Acts.{LogsStop, IsOfFile, FailsReading, FailsLog, FailsOutput}
 pub use Rattle.cweb_tools.specs.Acts.{logged_items, acts_status, FollowsActs}

@@ -1,5 +1,5 @@
 -- The effect of consecutive calls on the devices.
-use Rattle.cweb_tools.proofs.Common.{reads, ◌≡◌, inl, inr, ℕ, List, [], ◌∷◌, ◌++◌, refl, ap, Option, Some, None, IsErr, Result, Ok, Err, Ending, ending, LogFault, SinkModel, Devices, ShelfModel, SinkModel, Act, Breaks, PerformsActs, LogsStop, RunEnds, completes, stops, after_act, says, merges, Does, DoesInBoth, DoesInLog, log_ending}
+use Rattle.cweb_tools.proofs.Common.{reads, ◌≡◌, inl, inr, ℕ, List, [], ◌∷◌, ◌++◌, refl, ap, Option, Some, None, IsErr, Result, Ok, Err, Ending, ending, LogFault, SinkModel, Devices, ShelfModel, Act, Breaks, PerformsActs, LogsStop, RunEnds, completes, stops, after_act, says, merges, Does, DoesInBoth, DoesInLog, log_ending}
 use Rattle.cweb_tools.proofs.Running.{runs_on, stops_in}
 
 pub does_none : {seen : Devices} → Does [] None seen seen

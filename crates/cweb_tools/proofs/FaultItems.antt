@@ -1,7 +1,6 @@
 -- The faults of a web as items: their number and their lines.
-use Rattle.cweb_tools.proofs.Common.{◌≡◌, ◌<◌, ◌+◌, ℕ, zero, suc, Bool, true, false, cond, List, [], ◌∷◌, ◌++◌, length, map, refl, sym, ◌∙◌, ap, arith, length-append, flat_map-append, length-map, sum_by-append, sum_by-cons, flat_map, IsErr, None, Result, Ok, Err, count_by, SourceFault, Part, is_macro, numbers_from, numbers_where, PartKind, Scanned, WritesToStream, LogItem, fault_count, is_fault, line, source_item, SinkModel, name_item, name_items, scan_item, says, DoesInLog, EndsInLog, acts_status, log_ending, web_of}
+use Rattle.cweb_tools.proofs.Common.{◌≡◌, ◌<◌, ◌+◌, ℕ, zero, suc, Bool, true, false, cond, List, [], ◌∷◌, ◌++◌, length, map, refl, sym, ◌∙◌, ap, arith, length-append, flat_map-append, length-map, sum_by-append, sum_by-cons, flat_map, IsErr, None, Result, Ok, Err, count_by, SourceFault, Part, is_macro, numbers_from, numbers_where, PartKind, Scanned, Wrote, LogItem, fault_count, is_fault, line, source_item, SinkModel, name_item, name_items, scan_item, says, DoesInLog, EndsInLog, acts_status, log_ending, web_of}
 use Rattle.cweb_store.specs.Faults as store
-use Rattle.cweb_log.proofs.BufferedLog.{fails_in, fails_on, written_on}
 use Rattle.cweb_tools.proofs.DoingFiles.{ends_reported}
 use Rattle.cweb_tools.proofs.Logging.{said_all, said_none}
 
@@ -59,25 +58,14 @@ none_said [] {stream} none = said_none
 none_said (item ∷ items) none = absurd (omega (arith, none))
 
 pub some_said : {A E : Type 0} {r : Result A E} (items : List LogItem) {old new : SinkModel} → 0 < length items
-    → WritesToStream (flat_map line items) old new r → DoesInLog (map says items) (log_ending r) old new
+    → Wrote (flat_map line items) old new r → DoesInLog (map says items) (log_ending r) old new
 some_said [] some writes = absurd (omega (arith, some))
 some_said {r} (item ∷ items) {old} {new} some writes = said_all r item items writes
-
--- Consecutive writes.
-pub writes_on : {A E B F : Type 0} (x : A) (r : Result B F) {a b : List ℕ} {old mid new : SinkModel}
-    → WritesToStream {E = E} a old mid (Ok x) → WritesToStream b mid new r → WritesToStream (a ++ b) old new r
-writes_on x (Ok y) {a} {b} {old} first then = record { ok = written_on a b old first.ok then.ok; err = tt }
-writes_on x (Err e) {a} first then = record { ok = tt; err = fails_on a first.ok then.err }
-
-pub writes_in : {A E B F : Type 0} (e : E) (r : Result B F) {a : List ℕ} (b : List ℕ) {old new : SinkModel}
-    → WritesToStream {A = A} a old new (Err e) → IsErr r → WritesToStream (a ++ b) old new r
-writes_in e (Ok x) b fails is = absurd (cc)
-writes_in e (Err f) b fails is = record { ok = tt; err = fails_in b fails.err }
 
 -- The faults of a merge were logged, and the status is 1.
 pub faults_said : {A E : Type 0} (r : Result A E) (files : List (List ℕ)) (faults : List SourceFault)
     {old new : SinkModel} → (length faults ≡ 0 → ⊥)
-    → WritesToStream (flat_map line (map (source_item files) faults)) old new r
+    → Wrote (flat_map line (map (source_item files) faults)) old new r
     → EndsInLog (map says (map (source_item files) faults)) (acts_status (map says (map (source_item files) faults)))
     old new 1
 faults_said r files [] some writes = absurd (some refl)

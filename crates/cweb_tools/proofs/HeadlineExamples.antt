@@ -3,7 +3,7 @@
 use Rattle.cweb_tools.proofs.Common.{◌≡◌, ◌≢◌, ℕ, List, [], ◌∷◌, ◌++◌, refl, sym, ◌∙◌, ap, subst, rules, Option, None, IsSome, codes, flat_map, File, World, world_of, Event, run_steps, started, merge, merge-run_steps, taken_lines, IsWithinLimits, Memory, LogItem, line, stop_line, OptionsModel, options_by, WebNames, web_names_by, Devices, appended, changed, with_printed, files_in, Act, logged_items, acts_status, ActsKeepLimits, written_files, RanFreely, Course, IsMergeCourse, merging, merge_course, merge_acts, merge_devices, TangleCourse, IsTangleCourse, tangle_course, tangle_files, tangle_status, tangled, printed_bytes, script, shown_by, depend_acts}
 use Rattle.cweb_files.specs.Files.{put_file}
 use Rattle.std.specs.Prelude.{fold, option_map}
-use Rattle.cweb_log.proofs.BufferedLog.{appended_none, appended_on}
+use Rattle.cweb_files.proofs.Appending.{appended_none, appended_on}
 use Rattle.std.specs.Fmt.{digits}
 use Rattle.std.specs.Str.{is_utf8, chars}
 use lib.Utf8.{encode}
@@ -20,7 +20,7 @@ pub record NothingFailed (before after : Devices) : Type 0 where
   pub shelf : after.shelf.failed ≡ before.shelf.failed
   pub out : after.out.failed ≡ before.out.failed
   pub log : after.log.failed ≡ before.log.failed
-  pub memory : (first : Option (List ℕ)) → after.log.bytes ≢ appended (stop_line Memory []) first
+  pub memory : (first : Option SinkContents) → after.log.contents ≢ appended (stop_line Memory []) first
 
 -- Then a run within the limits ran freely.
 free : {acts : List Act} {before after : Devices} → ActsKeepLimits acts → NothingFailed before after
@@ -31,8 +31,8 @@ free {before = before} within none = record {
   log = none.log;
   within = within;
   memory = λ done later act is needs same.
-      none.memory (appended (flat_map line (logged_items done)) before.log.bytes)
-      (same ∙ sym (appended_on (flat_map line (logged_items done)) (stop_line Memory []) before.log.bytes));
+      none.memory (appended (flat_map line (logged_items done)) before.log.contents)
+      (same ∙ sym (appended_on (flat_map line (logged_items done)) (stop_line Memory []) before.log.contents));
 }
 
 -- The files of the folder, and the words of each run.
@@ -82,8 +82,8 @@ pub record HelloTangled (before after : Devices) (status : ℕ) : Type 0 where
       (codes "/*1:*/\n#line 2 \"hello.w\"\n\n#include <stdio.h>\nint main(void){/*2:*/\n"
       ++ codes "#line 5 \"hello.w\"\n\nputs(\"hi\");/*:2*/\n#line 4 \"hello.w\"\nreturn 0;}\n/*:1*/\n") ∷ []))
       (files_in before.out)
-  pub log : after.log.bytes ≡ appended
-      (codes "This is CTANGLE, profile of CWEB 3\nWriting hello.c\n(No errors were found.)\n") before.log.bytes
+  pub log : after.log.contents ≡ appended
+      (codes "This is CTANGLE, profile of CWEB 3\nWriting hello.c\n(No errors were found.)\n") before.log.contents
   pub status_is : status ≡ 0
 
 tangle_within : ActsKeepLimits (script (shown_by args) web_course)
@@ -104,15 +104,15 @@ hello_tangled texts before after status some alone none run =
     option_map (λ (files : List File). fold put_file files written) (files_in before.out) in record {
       files = did.files ∙ ap (λ (c : TangleCourse). put (tangle_files (shown_by args) c)) is
           ∙ ap (λ (left : Left). put left.files) hello_run;
-      log = did.logged ∙ ap (λ (c : TangleCourse). appended (tangle_log (shown_by args) c) before.log.bytes) is
-          ∙ ap (λ (left : Left). appended left.log before.log.bytes) hello_run;
+      log = did.logged ∙ ap (λ (c : TangleCourse). appended (tangle_log (shown_by args) c) before.log.contents) is
+          ∙ ap (λ (left : Left). appended left.log before.log.contents) hello_run;
       status_is = did.answered ∙ ap (tangle_status (shown_by args)) is ∙ ap (λ (left : Left). left.status) hello_run;
     }
 
 -- What the headline of `wmerge` says of this web. No line has a blank at its end, so the lines are printed as they are.
 pub record HelloMerged (before after : Devices) (status : ℕ) : Type 0 where
   pub printed : (merge_devices after).out ≡ changed (with_printed hello_text) (merge_devices before).out
-  pub log : after.log.bytes ≡ before.log.bytes
+  pub log : after.log.contents ≡ before.log.contents
   pub status_is : status ≡ 0
 
 merge_within : ActsKeepLimits (merge_acts course)
@@ -132,14 +132,14 @@ hello_merged texts before after status some alone none run =
     (record { shelf = none.shelf; out = none.out; log = none.log; memory = none.memory })) in record {
       printed = did.printed refl
           ∙ ap (λ (text : List ℕ). changed (with_printed text) (merge_devices before).out) merge_text;
-      log = did.logged ∙ appended_none before.log.bytes;
+      log = did.logged ∙ appended_none before.log.contents;
       status_is = did.answered;
     }
 
 -- What the headline of `wdep` says of this web.
 pub record HelloDepends (before after : Devices) (status : ℕ) : Type 0 where
   pub printed : after.out ≡ changed (with_printed (codes "hello.c: hello.w\n")) before.out
-  pub log : after.log.bytes ≡ before.log.bytes
+  pub log : after.log.contents ≡ before.log.contents
   pub status_is : status ≡ 0
 
 -- What its acts leave.
@@ -165,7 +165,7 @@ hello_depends texts before after status some alone none run =
       printed = did.printed rule_only.none
           ∙ ap (λ (text : List ℕ). changed (with_printed text) before.out) rule_only.printed;
       log = did.logged
-          ∙ ap (λ (items : List LogItem). appended (flat_map line items) before.log.bytes) rule_only.logged
-          ∙ appended_none before.log.bytes;
+          ∙ ap (λ (items : List LogItem). appended (flat_map line items) before.log.contents) rule_only.logged
+          ∙ appended_none before.log.contents;
       status_is = did.answered ∙ rule_only.answered;
     }

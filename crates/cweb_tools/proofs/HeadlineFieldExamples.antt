@@ -1,5 +1,5 @@
 -- Worked examples: what each field of the headlines' records says of a run and its devices.
-use Rattle.cweb_tools.proofs.Common.{FileId, SourceLine, emitted_lines, written_lines, BreaksLimit, LineTooLong, ReadFault, OutNotOpened, WriteFault, LogFault, Breaks, merges, ending, ◌≡◌, ◌+◌, ℕ, List, [], ◌∷◌, ◌++◌, refl, ◌∙◌, ap, arith, codes, Option, Some, None, IsSome, File, no_device, Line, Event, took, fault, World, Found, web_at, change_at, found_course, OptionsModel, WebNames, Devices, SinkContents, SinkModel, SinkModel, appended, blaming, changed, failing, files_in, with_file, with_printed, without_file, Act, says, reads, writes, prints, after_act, RunEnds, completes, stops, RanFreely, DoesActs, acts_status, script, shown_by, Course, change_name, CanCome, MergeCanCome, TangleCourse, unread, not_there, change_not_there, tangling, tangled, planning, Web, Scanned, TanglePromises}
+use Rattle.cweb_tools.proofs.Common.{FileId, SourceLine, emitted_lines, written_lines, BreaksLimit, LineTooLong, ReadFault, OutNotOpened, WriteFault, LogFault, Breaks, merges, ending, ◌≡◌, ◌+◌, ℕ, List, [], ◌∷◌, ◌++◌, refl, ◌∙◌, ap, arith, codes, Option, Some, None, IsSome, File, no_device, Line, Event, took, fault, World, Found, web_at, change_at, found_course, OptionsModel, WebNames, Devices, SinkContents, SinkModel, appended, blaming, changed, failing, files_in, with_file, with_printed, without_file, Act, says, reads, writes, prints, after_act, RunEnds, completes, stops, RanFreely, DoesActs, acts_status, script, shown_by, Course, change_name, CanCome, MergeCanCome, TangleCourse, unread, not_there, change_not_there, tangling, tangled, planning, Web, Scanned, TanglePromises}
 use Rattle.cweb_files.specs.Files.{put_file}
 use Rattle.std.specs.Prelude.{fold, option_map}
 use Rattle.cweb_log.specs.Items.{writing}
@@ -31,7 +31,7 @@ long_line line before after free = omega (arith, free.within.0.short.0)
 
 -- Memory ran out in a file, after the line that it is written.
 out_of_memory : (before after : Devices)
-    → after.log.bytes ≡ appended (codes "Writing a.c\n! Out of memory\n") before.log.bytes
+    → after.log.contents ≡ appended (codes "Writing a.c\n! Out of memory\n") before.log.contents
     → RanFreely output before after → ⊥
 out_of_memory before after logged free =
     free.memory (says (writing (codes "a.c")) ∷ []) [] (writes (codes "a.c") (codes "x\n")) refl refl logged
@@ -44,7 +44,7 @@ replaced before after status did older = did.files ∙ ap (option_map (λ (files
     fold put_file files (file (codes "a.c") (codes "x\n") ∷ []))) older
 
 announced : (before after : Devices) (status : ℕ) → DoesActs output before after status
-    → after.log.bytes ≡ appended (codes "Writing a.c\n") before.log.bytes
+    → after.log.contents ≡ appended (codes "Writing a.c\n") before.log.contents
 announced before after status did = did.logged
 
 no_fault : (before after : Devices) (status : ℕ) → DoesActs output before after status → status ≡ 0
@@ -103,8 +103,8 @@ commits now is_open = λ i.
 
 -- The log failed within a line.
 log_fails : (old new : Devices) → Breaks (says (writing (codes "a.c"))) (ending LogFault []) old new
-    → old.log.bytes ≡ Some [] → (new.log.failed ≡ old.log.failed + 1)
-    × ((prefix rest : List ℕ) × (new.log.bytes ≡ Some prefix) × (codes "Writing a.c\n" ≡ prefix ++ rest))
+    → old.log.contents ≡ Some [] → (new.log.failed ≡ old.log.failed + 1)
+    × ((prefix rest : List ℕ) × (new.log.contents ≡ Some prefix) × (codes "Writing a.c\n" ≡ prefix ++ rest))
 log_fails old new broke none = (
   ap (λ (log : SinkModel). log.failed) broke.log.is,
   (

@@ -1,17 +1,17 @@
 -- What a run in a folder leaves there.
-use Rattle.cweb_tools.proofs.Common.{◌≡◌, ◌∙◌, refl, sym, ap, subst, ℕ, Bool, true, false, List, [], ◌∷◌, map, Option, None, IsSome, IsTrue, World, OptionsModel, TangleCourse, IsTangleCourse, FollowsActs, RanFreely, All-nil, All-cons, File, Act, Devices, SinkContents, SinkModel, ShelfModel, SinkModel, at, known, contents_of, world_of, script, shown_by, TanglePromises, written_files}
+use Rattle.cweb_tools.proofs.Common.{◌≡◌, ◌∙◌, refl, sym, ap, subst, ℕ, Bool, true, false, List, [], ◌∷◌, map, Option, None, IsSome, IsTrue, World, OptionsModel, TangleCourse, IsTangleCourse, FollowsActs, RanFreely, All-nil, All-cons, File, Act, Devices, SinkContents, SinkModel, ShelfModel, at, known, world_of, script, shown_by, TanglePromises, written_files}
 use Rattle.cweb_files.specs.Files.{put_file}
 use Rattle.std.specs.Prelude.{fold, is_some, option_map}
 use Rattle.cweb_system.specs.declared.written.WrittenFile.{WrittenFile}
 use Rattle.cweb_system.specs.declared.file_system.FileSystem.{Ghosts as FileSystem}
 use Rattle.cweb_system.specs.declared.folder_bins.FolderBins.{FolderBins}
 use Rattle.cweb_system.specs.declared.shelf.FolderShelf.{FolderShelf}
-use Rattle.cweb_system.specs.Bins.{bins_beside, bins_bytes, bins_failed, bins_system, contents_in, file_in}
+use Rattle.cweb_system.specs.Bins.{bins_model, bins_system, contents_in, empty_bins, file_in, folder_contents}
 use Rattle.cweb_system.specs.inner.ShelfState.{shelf_failures, shelf_system}
 use Rattle.cweb_system.specs.Tree.{Tree, contents}
-use Rattle.cweb_tools.specs.InFolder.{AreIn, KeepsInFolder, bins_after, devices_before, shelf_in}
+use Rattle.cweb_tools.specs.InFolder.{AreIn, KeepsInFolder, devices_before, shelf_in}
 use Rattle.cweb_tools.proofs.LeftShelves.{shelf_known}
-use Rattle.cweb_log.proofs.Known.{seen, some_known}
+use Rattle.cweb_files.proofs.Known.{seen, some_known}
 use Rattle.cweb_tools.proofs.TanglePromisesProved.{tangled_freely}
 
 -- What can be read in a folder.
@@ -26,10 +26,10 @@ all_in tree (w ∷ written) = All-cons (λ (file : File). contents tree file.nam
 -- The files of the course are in the folder, if nothing failed.
 pub left_in_folder : {F H : Type 0} (system : FileSystem F H) (fs : F) (bins : FolderBins F H system) (world : World)
     (args : Option OptionsModel) (log log' : SinkModel) (status : ℕ)
-    → KeepsInFolder (TanglePromises world args) (devices_before system fs log) (bins_after system bins) log' status
+    → KeepsInFolder (TanglePromises world args) (devices_before system fs log) (bins_model system bins) log' status
     → IsTrue (system.disk fs).tells → (course : TangleCourse) → IsTangleCourse world args course
     → RanFreely (script (shown_by args) course) (devices_before system fs log)
-    (record { shelf = (devices_before system fs log).shelf; out = bins_after system bins; log = log' })
+    (record { shelf = (devices_before system fs log).shelf; out = bins_model system bins; log = log' })
     → AreIn (system.disk (bins_system bins)).tree (fold put_file [] (written_files (script (shown_by args) course)))
 left_in_folder system fs bins world args log log' status run tells course is free =
     let some : IsSome (devices_before system fs log).shelf.blamed = some_known (system.disk fs).tells [] tells in
@@ -41,16 +41,16 @@ left_in_folder system fs bins world args log log' status run tells course is fre
       memory = free.memory;
     }) in
     subst (λ (files : List File). AreIn (system.disk (bins_system bins)).tree files)
-    (files_from (system.disk fs).tells (system.disk (bins_system bins)).tells (contents_of (bins_bytes system bins)
-    (bins_beside system bins)) (written_files (script (shown_by args) course)) tells done.files)
+    (files_from (system.disk fs).tells (system.disk (bins_system bins)).tells (folder_contents system bins.folder)
+    (written_files (script (shown_by args) course)) tells done.files)
     (all_in (system.disk (bins_system bins)).tree bins.folder.files.written.items)
   where
     files_from : (before after : Bool) (now : SinkContents) (files : List File) → IsTrue before
-        → option_map (λ (now : SinkContents). now.files) (known after now)
+        → option_map (λ (now : SinkContents). now.beside.files) (known after now)
         ≡ option_map (λ (old : List File). fold put_file old files)
-        (option_map (λ (now : SinkContents). now.files)
-        (known before (record { files = []; draft = None; refused = None })))
-        → now.files ≡ fold put_file [] files
+        (option_map (λ (now : SinkContents). now.beside.files)
+        (known before (record { bytes = []; beside = record { files = []; draft = None; refused = None } })))
+        → now.beside.files ≡ fold put_file [] files
     files_from true true now files tell is = cc
     files_from true false now files tell is = absurd (cc)
     files_from false after now files tell is = absurd (cc)
@@ -99,14 +99,14 @@ runs_in system fs Promises inputs shelf shelf' out out' log log' status same zer
     })
 
 -- New bins over a file system.
-pub bins_in : {F H : Type 0} (system : FileSystem F H) (fs : F) (log : SinkModel) (bins : FolderBins F H system)
-    → (system.disk (bins_system bins)).tells ≡ (system.disk fs).tells → bins_failed bins ≡ 0
-    → bins_beside system bins ≡ record { files = []; draft = None; refused = None }
-    → bins_after system bins ≡ (devices_before system fs log).out
-bins_in system fs log bins of none beside = λ i. record {
-  failed = none i;
-  contents = known (of i) (contents_of (bins_bytes system bins) (beside i));
-}
+pub bins_in : {F H : Type 0} (system : FileSystem F H) (fs old : F) (bins : FolderBins F H system)
+    → (system.disk old).tells ≡ (system.disk fs).tells → bins_model system bins ≡ empty_bins system old
+    → bins_model system bins ≡ empty_bins system fs
+bins_in system fs old bins same empty = empty ∙ (λ i. record {
+  failed = 0;
+  contents = known (same i)
+      (record { bytes = []; beside = record { files = []; draft = None; refused = None } });
+})
 
 -- A run of `ctangle` in a folder, with any bins at first.
 abbrev pub TanglesIn : {F H : Type 0} → FileSystem F H → F → Option (List ℕ) → Option OptionsModel → SinkModel
@@ -129,15 +129,13 @@ unread_in system fs inputs args out log log' status is run =
 pub tangles_in : {F H : Type 0} (system : FileSystem F H) (fs : F) (inputs : Option (List ℕ))
     (args : Option OptionsModel) (shelf shelf' : FolderShelf F H system) (bins : FolderBins F H system) (out : SinkModel)
     (log log' : SinkModel) (status : ℕ)
-    → shelf_system shelf ≡ fs → shelf_failures shelf ≡ 0 → bins_system bins ≡ shelf_system shelf' → bins_failed bins ≡ 0
-    → bins_beside system bins ≡ record { files = []; draft = None; refused = None }
+    → shelf_system shelf ≡ fs → shelf_failures shelf ≡ 0 → bins_model system bins ≡ empty_bins system (shelf_system shelf')
     → TanglePromises (world_seen system shelf inputs) args
-    (at (shelf_seen system shelf) (bins_after system bins) log) (at (shelf_seen system shelf') out log') status
+    (at (shelf_seen system shelf) (bins_model system bins) log) (at (shelf_seen system shelf') out log') status
     → TanglesIn system fs inputs args (devices_before system fs log).out log out log' status
-tangles_in {F = F} system fs inputs args shelf shelf' bins out log log' status same zero of none beside run =
+tangles_in {F = F} system fs inputs args shelf shelf' bins out log log' status same zero empty run =
     let stays = stays_so system shelf shelf' run in
     subst (λ (m : SinkModel). TanglesIn system fs inputs args m log out log' status)
-    (bins_in system fs log bins (ap (λ (f : F). (system.disk f).tells) of ∙ stays
-    ∙ ap (λ (f : F). (system.disk f).tells) same) none beside)
-    (runs_in system fs (λ world. TanglePromises world args) inputs shelf shelf' (bins_after system bins) out log log'
+    (bins_in system fs (shelf_system shelf') bins (stays ∙ ap (λ (f : F). (system.disk f).tells) same) empty)
+    (runs_in system fs (λ world. TanglePromises world args) inputs shelf shelf' (bins_model system bins) out log log'
     status same zero stays run)

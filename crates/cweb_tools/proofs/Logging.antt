@@ -1,6 +1,6 @@
 -- Logging of items is the doing of acts.
-use Rattle.cweb_tools.proofs.Common.{◌≡◌, ◌<◌, ◌+◌, ◌⊎◌, inl, inr, ℕ, zero, suc, List, [], ◌∷◌, ◌++◌, map, refl, sym, ◌∙◌, ap, append-nil, length, arith, flat_map, ◌==◌, Bool, true, false, None, Some, Result, Ok, Err, LogFault, WritesToStream, FailsWithin, Logs, logged, log_failed, appended, written, LogItem, line, starred, SinkModel, ShelfModel, SinkModel, ending, PerformsActs, says, at, DoesInLog, log_ending, starred_acts, when}
-use Rattle.cweb_log.proofs.BufferedLog.{appended_on, written_on, written_none}
+use Rattle.cweb_tools.proofs.Common.{◌≡◌, ◌<◌, ◌+◌, ◌⊎◌, inl, inr, ℕ, zero, suc, List, [], ◌∷◌, ◌++◌, map, refl, sym, ◌∙◌, ap, append-nil, length, arith, flat_map, ◌==◌, Bool, true, false, None, Some, Result, Ok, Err, LogFault, Wrote, FailsWithin, Logs, logged, log_failed, appended, written, LogItem, line, starred, SinkModel, ShelfModel, ending, PerformsActs, says, at, DoesInLog, log_ending, starred_acts, when}
+use Rattle.cweb_files.proofs.Appending.{appended_on, written_none, written_then}
 use Rattle.cweb_tools.proofs.Doing.{does_none}
 
 -- Two ways to split a list of bytes: one prefix is a prefix of the other.
@@ -36,8 +36,11 @@ lines_stop item (next ∷ items) shelf out old new fails =
           prefix = cut.0;
           rest = fails.rest;
           whole = cut.2;
-          is = fails.is ∙ (λ i. record { failed = old.failed + 1; bytes = appended (cut.1 i) old.bytes })
-              ∙ (λ i. record { failed = old.failed + 1; bytes = sym (appended_on (line item) cut.0 old.bytes) i });
+          is = fails.is ∙ (λ i. record { failed = old.failed + 1; contents = appended (cut.1 i) old.contents })
+              ∙ (λ i. record {
+                failed = old.failed + 1;
+                contents = sym (appended_on (line item) cut.0 old.contents) i;
+              });
         }),
       )
     ]
@@ -49,28 +52,28 @@ lines_said [] shelf out old new is = ap (at shelf out) (is ∙ sym (written_none
 lines_said (item ∷ items) shelf out old new is = inl (
   tt,
   lines_said items shelf out (written (line item) old) new
-      (is ∙ sym (written_on (line item) (flat_map line items) old refl refl)),
+      (is ∙ sym (written_then (line item) (flat_map line items) old refl refl)),
 )
 
 -- Writing the lines of a nonempty list of items is logging them.
 pub said_all : {A E : Type 0} (r : Result A E) (item : LogItem) (items : List LogItem) {old new : SinkModel}
-    → WritesToStream (flat_map line (item ∷ items)) old new r
+    → Wrote (flat_map line (item ∷ items)) old new r
     → DoesInLog (map says (item ∷ items)) (log_ending r) old new
 said_all (Ok x) item items {old} {new} writes =
-    λ shelf out. record { runs = lines_said (item ∷ items) shelf out old new writes.ok }
+    λ shelf out. record { runs = lines_said (item ∷ items) shelf out old new writes }
 said_all (Err e) item items {old} {new} writes =
-    λ shelf out. record { runs = lines_stop item items shelf out old new writes.err }
+    λ shelf out. record { runs = lines_stop item items shelf out old new writes }
 
 -- One line.
 pub said : {A E : Type 0} {r : Result A E} (item : LogItem) {old new : SinkModel}
-    → WritesToStream (line item) old new r → DoesInLog (says item ∷ []) (log_ending r) old new
+    → Wrote (line item) old new r → DoesInLog (says item ∷ []) (log_ending r) old new
 said {r} item {old} {new} writes = said_all r item [] (rw (append-nil (line item)) writes)
 
 -- The logged bytes, or a prefix of them, were written.
 pub logs_write : {text : List ℕ} {old new : SinkModel}
-    → Logs text old new → (r : Result (Unit {0}) (Unit {0})) × WritesToStream text old new r
-logs_write (logged is) = (Ok tt, record { ok = is; err = tt })
-logs_write (log_failed fails) = (Err tt, record { ok = tt; err = fails })
+    → Logs text old new → (r : Result (Unit {0}) (Unit {0})) × Wrote text old new r
+logs_write (logged is) = (Ok tt, is)
+logs_write (log_failed fails) = (Err tt, fails)
 
 -- Nothing was to be logged.
 pub said_none : {stream : SinkModel} → DoesInLog [] None stream stream
@@ -78,7 +81,7 @@ said_none = λ shelf out. does_none
 
 -- A line that is wanted.
 pub said_when : {A E : Type 0} {r : Result A E} (wanted : Bool) (item : LogItem) {old new : SinkModel}
-    → wanted ≡ true → WritesToStream (flat_map line (item ∷ [])) old new r
+    → wanted ≡ true → Wrote (flat_map line (item ∷ [])) old new r
     → DoesInLog (when wanted item) (log_ending r) old new
 said_when {r} true item is writes = said_all r item [] writes
 said_when false item is writes = absurd (cc)
@@ -97,7 +100,7 @@ some_by (suc n) is = omega arith
 -- The numbers of a nonempty list of starred sections.
 pub said_starred : {A E : Type 0} {r : Result A E} (progress : Bool) (numbers : List ℕ) {old new : SinkModel}
     → progress ≡ true → 0 < length numbers
-    → WritesToStream (flat_map line (starred numbers ∷ [])) old new r
+    → Wrote (flat_map line (starred numbers ∷ [])) old new r
     → DoesInLog (starred_acts progress numbers) (log_ending r) old new
 said_starred progress [] is some writes = absurd (omega (arith, some))
 said_starred progress (n ∷ numbers) is some writes = said_when progress (starred (n ∷ numbers)) is writes

@@ -1,10 +1,11 @@
 -- The exits of a merge that has begun.
-use Rattle.cweb_tools.proofs.Common.{◌≤◌, ◌≡◌, inl, inr, ℕ, Bool, List, [], ◌∷◌, ◌++◌, length, map, refl, sym, subst, ◌∙◌, ap, append-nil, Option, Some, IsSome, IsTrue, names_found, World, Found, Event, SoFar, EmitsLines, ReportsPrefix, files_named, emitted_lines, reported_faults, openings, taken_lines, IsWithinLimits, BeginsMerge, written_lines, StopsWriting, WritingStops, WritesPrefix, SourceFault, LINES, BYTES, Stop, Logs, stop_line, subject, source_item, SinkModel, SinkModel, ShelfModel, Devices, LogItem, WebNames, Course, merging, found_course, FollowsActs, MergeCanCome, merge_acts, acts_status, judges, opens, says, merges, at, Breaks, ending, changed, with_printed, RunEnds, EndsInLog}
+use Rattle.cweb_tools.proofs.Common.{◌≤◌, ◌≡◌, inl, inr, ℕ, ◌+◌, List, [], ◌∷◌, ◌++◌, length, map, refl, sym, subst, ◌∙◌, ap, append-nil, Option, Some, IsSome, names_found, World, Found, Event, SoFar, EmitsLines, ReportsPrefix, files_named, emitted_lines, reported_faults, openings, taken_lines, IsWithinLimits, BeginsMerge, written_lines, StopsWriting, WritingStops, WritesPrefix, SourceFault, LINES, BYTES, Stop, Logs, stop_line, subject, source_item, SinkModel, ShelfModel, Devices, LogItem, WebNames, Course, merging, found_course, FollowsActs, MergeCanCome, merge_acts, acts_status, judges, opens, says, merges, at, Breaks, ending, appended, changed, with_printed, write_failures_of, RunEnds, EndsInLog}
 use Rattle.cweb_lines.specs.Events.{fault}
 use Rattle.cweb_tools.proofs.Carried.{either}
 use Rattle.cweb_tools.proofs.Doing.{ends_halted, ends_on}
 use Rattle.cweb_tools.proofs.Exits.{begins_course, opened_by, names_reported, faults_reported, limits_kept}
 use Rattle.cweb_tools.proofs.Broken.{shelf_after}
+use Rattle.cweb_tools.proofs.MergeDevices.{out_is}
 use Rattle.cweb_tools.proofs.MergeStops.{out_after, writing_ends, left_after, prints_so, prints_none}
 use Rattle.cweb_tools.proofs.ReadingStops.{read_by, nothing_passes}
 
@@ -28,7 +29,7 @@ Merges names course before after status =
 
 -- A run that begins a merge with these events.
 module _ (world : World) (names : WebNames) (found : Option Found) (changes : Option (Option Found))
-    (shelf shelf' : ShelfModel) (out out' : SinkModel) (l l' : SinkModel) (status : ℕ) (old : SoFar) (all : List Event)
+    (shelf shelf' : ShelfModel) (out out' l l' : SinkModel) (status : ℕ) (old : SoFar) (all : List Event)
     (begins : IsSome shelf.blamed → BeginsMerge world found changes old all) where
   begun : (some : IsSome shelf.blamed)
       → found_course world names found changes ≡ merging ((begins some).name ∷ names_found (begins some).change) all
@@ -94,39 +95,39 @@ module _ (world : World) (names : WebNames) (found : Option Found) (changes : Op
       (rw read (rw wrote (record { runs = inl (tt, inl (tt, inr breaks)) })))
       (record { log = writing_ends stop (subject opened stop) kind logs; others = refl }) answered
 
-  pub halted_early : (stop : Stop) (new : SoFar) (opened : List (List ℕ)) (Wrote : List ℕ → Type 0) (tells : Bool)
-      {bytes bytes' : List ℕ} → (IsTrue tells → IsSome shelf.blamed)
+  pub halted_early : (stop : Stop) (new : SoFar) (opened : List (List ℕ)) (Wrote : List ℕ → Type 0)
       → opened ≡ new.names → new.count.lines ≤ LINES → new.count.bytes ≤ BYTES → WritingStops stop
       → (IsSome shelf.blamed → StopsWriting stop old new all Wrote)
-      → ((text : List ℕ) → Wrote text → IsTrue tells → bytes' ≡ bytes ++ text)
+      → ((text : List ℕ) → Wrote text → out'.contents ≡ appended text out.contents)
       → files_named stop ≤ length new.names
       → (IsSome shelf.blamed → ReportsPrefix old new all) → shelf' ≡ shelf_after stop (subject opened stop) shelf
-      → (IsTrue tells → WritesPrefix bytes bytes' (written_lines (emitted_lines all)))
-      → ((text : List ℕ) → (IsTrue tells → bytes' ≡ bytes ++ text) → out' ≡ out_after stop text out)
+      → (IsSome shelf.blamed → WritesPrefix (written_lines (emitted_lines all)) out out')
+      → ((IsSome shelf.blamed → ⊥) → out'.contents ≡ appended [] out.contents)
+      → out'.failed ≡ out.failed + write_failures_of stop
       → Logs (stop_line stop (subject opened stop)) l l' → status ≡ 1
       → Merges names (found_course world names found changes) (at shelf out l) (at shelf' out' l') status
-  halted_early stop new opened Wrote tells {bytes} {bytes'} shown opened_are few small kind why wrote_is named reports
-      read printed wrote logs answered =
+  halted_early stop new opened Wrote opened_are few small kind why wrote named reports read printed none failed logs
+      answered =
       let known : files_named stop ≤ length opened = rw opened_are named in
       elim (either shelf.blamed) [
         | inl some ↦
             let first = (begins some).name ∷ names_found (begins some).change in
             let later = opened_by first (begins some).so_far_is (reports some) opened opened_are in
-            let prints = prints_so _ opened later.0 later.1 all stop new Wrote tells {out = bytes} {out' = bytes'}
-            (begins some).so_far_is few small kind known (why some) wrote_is printed in record {
+            let prints = prints_so _ opened later.0 later.1 all stop new Wrote {out = out} {out' = out'}
+            (begins some).so_far_is few small kind known (why some) wrote (printed some) in record {
               course = merging first all;
               can = tt;
               is = λ again. sym (begun some);
-              ends = stops_so stop first opened all prints.prefix kind read (wrote prints.prefix prints.written)
+              ends = stops_so stop first opened all prints.prefix kind read (out_is stop prints.prefix failed prints.is)
                   (prints.breaks (at shelf out l)) logs answered;
             }
         | inr silent ↦
-            let prints = prints_none stop opened (openings (read_by stop)) tells {out = bytes} {out' = bytes'} kind
-            known (λ tell. silent (shown tell)) in record {
+            let prints = prints_none stop opened (openings (read_by stop)) {out = out} {out' = out'} kind known
+            (none silent) in record {
               course = merging opened (read_by stop);
               can = tt;
               is = λ some. absurd (silent some);
               ends = stops_so stop opened opened (read_by stop) prints.prefix kind read
-                  (wrote prints.prefix prints.written) (prints.breaks (at shelf out l)) logs answered;
+                  (out_is stop prints.prefix failed prints.is) (prints.breaks (at shelf out l)) logs answered;
             }
       ]

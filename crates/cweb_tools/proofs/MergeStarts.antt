@@ -1,5 +1,5 @@
 -- A run of `wmerge` that can't begin its merge.
-use Rattle.cweb_tools.proofs.Common.{codes, ◌≡◌, ◌⊎◌, inl, inr, ℕ, List, [], ◌∷◌, refl, sym, subst, Option, Some, None, IsSome, World, Found, StartStops, StopsAtStart, Stop, Usage, WebNotOpened, ChangeNotOpened, Memory, Logs, stop_line, start_subject, stopped, SinkModel, SinkModel, ShelfModel, LogItem, line, WebNames, Course, merging, merge_course, change_name, found_course, EndsMerge, merge_acts, MergeCanCome, Act, judges, opens, says, at, RunEnds}
+use Rattle.cweb_tools.proofs.Common.{codes, ◌≡◌, ◌⊎◌, inl, inr, ℕ, List, [], ◌∷◌, refl, sym, subst, Option, Some, None, IsSome, World, Found, StartStops, StopsAtStart, Stop, Usage, WebNotOpened, ChangeNotOpened, Memory, Logs, stop_line, start_subject, stopped, SinkModel, ShelfModel, LogItem, line, WebNames, Course, merging, merge_course, change_name, found_course, EndsMerge, merge_acts, MergeCanCome, Act, judges, opens, says, at, RunEnds}
 use Rattle.cweb_tools.proofs.Courses.{no_change, no_web}
 use Rattle.cweb_tools.proofs.Doing.{ends_on}
 use Rattle.cweb_tools.proofs.DoingFiles.{memory_halts}

@@ -1,7 +1,6 @@
 -- A merge that stops breaks the act of merging.
-use Rattle.cweb_tools.proofs.Common.{◌∙◌, ap, ◌∷◌, ◌≤◌, Bool, Line, IsTrue, length, files_named, begun_with, LINES, BYTES, after_act, ◌≡◌, ℕ, List, [], ◌++◌, refl, subst, Event, SoFar, StopsReading, emitted_lines, written_lines, StopsWriting, WritingStops, WritesPrefix, Stop, ReadFault, LineTooLong, TooMuchText, Memory, WriteFault, LogFault, Logs, stop_line, subject, SinkModel, SinkModel, Devices, merges, Breaks, FailsReading, ending, LogsEnding, changed, failing, with_printed}
+use Rattle.cweb_tools.proofs.Common.{◌∙◌, ap, ◌∷◌, ◌≤◌, Line, length, files_named, begun_with, LINES, BYTES, after_act, ◌≡◌, ℕ, List, [], ◌++◌, refl, subst, Event, SoFar, StopsReading, emitted_lines, written_lines, StopsWriting, WritingStops, WritesPrefix, Stop, ReadFault, LineTooLong, TooMuchText, Memory, WriteFault, LogFault, Logs, stop_line, subject, SinkModel, Devices, merges, Breaks, FailsReading, ending, LogsEnding, appended, changed, failing, with_printed}
 use Rattle.cweb_lines.specs.Events.{took, emitted, fault, opening}
-use Rattle.cweb_log.proofs.BufferedLog.{prefix_if}
 use Rattle.cweb_tools.specs.Acts.{BreaksReading}
 use Rattle.cweb_tools.proofs.Broken.{shelf_after}
 use Rattle.cweb_tools.proofs.Limits.{CutAt, cut_at_limit}
@@ -67,11 +66,11 @@ left_so opened now are stop kind = λ i. record now {
   out = changed (with_printed (written_lines (are i))) now.out;
 }
 
--- What was printed before a stop. `tells` says whether that is known.
-pub record PrintsUntil (stop : Stop) (files opened : List (List ℕ)) (events : List Event) (tells : Bool)
-    (old new : List ℕ) : Type 0 where
+-- What was printed before a stop.
+pub record PrintsUntil (stop : Stop) (files opened : List (List ℕ)) (events : List Event)
+    (old new : SinkModel) : Type 0 where
   pub prefix : List ℕ
-  pub written : IsTrue tells → new ≡ old ++ prefix
+  pub is : new.contents ≡ appended prefix old.contents
   pub breaks : (now : Devices) → Breaks (merges files events) (ending stop (subject opened stop)) now
       (left_after stop opened prefix now)
 
@@ -106,14 +105,14 @@ module _ (files opened rest : List (List ℕ)) (names : files ≡ opened ++ rest
 
   -- An observable shelf: all lines before the stop were printed.
   pub prints_so : (stop : Stop) {first : List (List ℕ)} {old : SoFar} (new : SoFar) (Wrote : List ℕ → Type 0)
-      (tells : Bool) {out out' : List ℕ} → old ≡ begun_with first → new.count.lines ≤ LINES → new.count.bytes ≤ BYTES
+      {out out' : SinkModel} → old ≡ begun_with first → new.count.lines ≤ LINES → new.count.bytes ≤ BYTES
       → WritingStops stop → files_named stop ≤ length opened → StopsWriting stop old new events Wrote
-      → ((bytes : List ℕ) → Wrote bytes → IsTrue tells → out' ≡ out ++ bytes)
-      → (IsTrue tells → WritesPrefix out out' (written_lines (emitted_lines events)))
-      → PrintsUntil stop files opened events tells out out'
-  prints_so (ReadFault file) new Wrote tells began few small kind known why wrote printed = record {
+      → ((text : List ℕ) → Wrote text → out'.contents ≡ appended text out.contents)
+      → WritesPrefix (written_lines (emitted_lines events)) out out'
+      → PrintsUntil stop files opened events out out'
+  prints_so (ReadFault file) new Wrote began few small kind known why wrote printed = record {
     prefix = written_lines why.lines;
-    written = wrote _ why.wrote;
+    is = wrote _ why.wrote;
     breaks = cut_broke (ReadFault file) tt known why.lines (record {
       earlier = why.reads.yields.events;
       later = why.reads.later;
@@ -122,37 +121,39 @@ module _ (files opened rest : List (List ℕ)) (names : files ≡ opened ++ rest
       next = tt;
     });
   }
-  prints_so (LineTooLong file) new Wrote tells began few small kind known why wrote printed = record {
+  prints_so (LineTooLong file) new Wrote began few small kind known why wrote printed = record {
     prefix = written_lines why.lines;
-    written = wrote _ why.wrote;
+    is = wrote _ why.wrote;
     breaks = cut_broke (LineTooLong file) tt known why.lines (cut_at_limit began few small why.stops);
   }
-  prints_so TooMuchText new Wrote tells began few small kind known why wrote printed = record {
+  prints_so TooMuchText new Wrote began few small kind known why wrote printed = record {
     prefix = written_lines why.lines;
-    written = wrote _ why.wrote;
+    is = wrote _ why.wrote;
     breaks = cut_broke TooMuchText tt known why.lines (cut_at_limit began few small why.stops);
   }
-  prints_so Memory new Wrote tells began few small kind known why wrote printed = record {
+  prints_so Memory new Wrote began few small kind known why wrote printed = record {
     prefix = written_lines why.lines;
-    written = wrote _ why.wrote;
+    is = wrote _ why.wrote;
     breaks = cut_broke Memory tt known why.lines (cut_lines events why.lines why.rest why.whole);
   }
-  prints_so WriteFault new Wrote tells {out = out} {out' = out'} began few small kind known why wrote printed =
-      let part = prefix_if tells out out' (written_lines (emitted_lines events)) printed in
-      record { prefix = part.0; written = part.3; breaks = write_broke part.0 part.1 part.2 }
-  prints_so stop new Wrote tells began few small kind known why wrote printed = absurd kind
+  prints_so WriteFault new Wrote began few small kind known why wrote printed = record {
+    prefix = printed.prefix;
+    is = printed.is;
+    breaks = write_broke printed.prefix printed.rest printed.whole;
+  }
+  prints_so stop new Wrote began few small kind known why wrote printed = absurd kind
 
 -- An unobservable shelf: the stop may have come first.
-pub prints_none : (stop : Stop) (opened rest : List (List ℕ)) (tells : Bool) {out out' : List ℕ} → WritingStops stop
-    → files_named stop ≤ length opened → (IsTrue tells → ⊥)
-    → PrintsUntil stop (opened ++ rest) opened (read_by stop) tells out out'
-prints_none WriteFault opened rest tells kind known silent = record {
+pub prints_none : (stop : Stop) (opened rest : List (List ℕ)) {out out' : SinkModel} → WritingStops stop
+    → files_named stop ≤ length opened → out'.contents ≡ appended [] out.contents
+    → PrintsUntil stop (opened ++ rest) opened (read_by stop) out out'
+prints_none WriteFault opened rest kind known none = record {
   prefix = [];
-  written = λ tell. absurd (silent tell);
+  is = none;
   breaks = write_broke _ opened rest refl (read_by WriteFault) [] [] refl;
 }
-prints_none stop opened rest tells kind known silent = record {
+prints_none stop opened rest kind known none = record {
   prefix = [];
-  written = λ tell. absurd (silent tell);
+  is = none;
   breaks = cut_broke _ opened rest refl _ stop kind known [] (cut_first stop);
 }

@@ -1,14 +1,14 @@
 -- Tokens of an expander that are printed in order.
-use Rattle.cweb_tools.proofs.Common.{◌≡◌, ℕ, List, [], ◌∷◌, ◌++◌, length, sym, ◌∙◌, ap, subst, append_assoc, append-nil, All-head, Bor, All, IsTrue, OnOk, Result, Ok, Err, Stored, Token, IsMarkBelow, left, PrintsPrefix, AddsBytes, Moves, PrintsToken, left_in_printer, setting_of, MarkFileIsNamed, setting, Setting, file, print, Expander, Printer, PrintsSoFar, StaysReady, left_in}
-use Rattle.cweb_files.specs.declared.device.Sink.{Ghosts as Sink}
-use Rattle.cweb_print.specs.surface.Printed.{EndsFile}
+use Rattle.cweb_tools.proofs.Common.{◌≡◌, ℕ, List, [], ◌∷◌, ◌++◌, length, sym, ◌∙◌, ap, subst, append_assoc, append-nil, All-head, Bor, All, IsErr, Option, Some, None, refl, option_map, Result, Ok, Err, Stored, Token, IsMarkBelow, left, PrintsPrefix, Moves, PrintsToken, left_in_printer, setting_of, MarkFileIsNamed, setting, Setting, file, print, Expander, Printer, PrintsSoFar, SinkContents, SinkModel, StaysReady, changed, failing, left_in, with_printed, without_draft, written}
+use Rattle.cweb_files.specs.Sinks.{FailsWithin}
+use Rattle.cweb_files.proofs.Appending.{fails_then, written_none, written_on, written_then}
+use Rattle.cweb_print.specs.surface.Printed.{AddsBy, EndsFile}
 use Rattle.cweb_tools.proofs.Marks.{all_back, mark_named}
 use Rattle.cweb_tools.proofs.ReadyExpanders.{stays_on}
 
 -- The files of the remaining marks have names if those of all marks do.
-pub next_named : {W : Type 0}
-    {sink : Sink W} {files : List (List ℕ)} {first now : Expander} {printer : Printer} {old new : W} {buffer : List ℕ}
-    (so_far : PrintsSoFar sink files first now printer old new buffer) (t : Token) (rest : List Token)
+pub next_named : {files : List (List ℕ)} {first now : Expander} {printer : Printer} {old new : SinkModel}
+    {buffer : List ℕ} (so_far : PrintsSoFar files first now printer old new buffer) (t : Token) (rest : List Token)
     → All (IsMarkBelow (length files)) (left_in first) → left_in now ≡ t ∷ rest → MarkFileIsNamed (setting_of printer) t
 next_named {files = files} {first = first} {now = now} so_far t rest all yields =
     let later : All (IsMarkBelow (length files)) (left_in now) = all_back (IsMarkBelow (length files)) so_far.done
@@ -17,97 +17,98 @@ next_named {files = files} {first = first} {now = now} so_far t rest all yields 
     All-head (IsMarkBelow (length files)) t rest (subst (All (IsMarkBelow (length files))) yields later) in
     rw so_far.setting_is (mark_named (setting first.store.now files) t here)
 
--- The written and buffered bytes, with the new ones appended.
-more_written : (old : List ℕ) {new new' : List ℕ} (s s' : Setting) (done more : List Token)
-    → s ≡ s' → new ≡ old ++ print s' done
-    → AddsBytes (print s done) (print s (done ++ more)) new new' → new' ≡ old ++ print s' (done ++ more)
-more_written old s s' done more same written adds =
-    adds.written
-    ∙ ap (λ (b : List ℕ). b ++ adds.bytes) (written ∙ ap (λ (s : Setting). old ++ print s done) (sym same))
-    ∙ append_assoc old (print s done) adds.bytes
-    ∙ ap (λ (b : List ℕ). old ++ b) (sym adds.expected) ∙ ap (λ (s : Setting). old ++ print s (done ++ more)) same
+-- The printed bytes, with the new ones appended.
+more_written : (s s' : Setting) (done more : List Token) (bytes : List ℕ) (old mid new : SinkModel) → s ≡ s'
+    → mid ≡ written (print s' done) old → print s (done ++ more) ≡ print s done ++ bytes → new ≡ written bytes mid
+    → new ≡ written (print s' (done ++ more)) old
+more_written s s' done more bytes old mid new same wrote expected adds =
+    written_then (print s' done) bytes old wrote adds
+    ∙ ap (λ (t : List ℕ). written t old) (ap (λ (s : Setting). print s done ++ bytes) (sym same) ∙ sym expected
+    ∙ ap (λ (s : Setting). print s (done ++ more)) same)
 
 -- More tokens were printed into the buffer.
-pub prints_prefix : {W : Type 0} {sink : Sink W} {files : List (List ℕ)}
-    {first mid : Expander} {printer printer' : Printer} {old new : W} {buffer buffer' : List ℕ} {now : Expander}
-    → PrintsSoFar sink files first mid printer old new buffer
+pub prints_prefix : {files : List (List ℕ)} {first mid : Expander} {printer printer' : Printer} {old new : SinkModel}
+    {buffer buffer' : List ℕ} {now : Expander} → PrintsSoFar files first mid printer old new buffer
     → StaysReady mid now → setting_of printer' ≡ setting_of printer
     → PrintsPrefix printer printer' (left_in mid) (left mid.store.now now.frames.items) buffer buffer'
-    → PrintsSoFar sink files first now printer' old new buffer'
-prints_prefix {sink = sink} {files = files} {first = first} {mid = mid} {printer = printer}
-    {old = old} {new = new} {buffer = buffer} {buffer' = buffer'} {now} so_far ready same prefix =
+    → PrintsSoFar files first now printer' old new buffer'
+prints_prefix {files = files} {first = first} {printer = printer} {old = old} {new = new} {buffer = buffer}
+    {now = now} so_far ready same prefix =
+    let adds = prefix.prints so_far.done so_far.kept in
     record {
       ready = stays_on so_far.ready ready;
       setting_is = same ∙ so_far.setting_is;
-      tells = so_far.tells;
-      failed = so_far.failed;
-      beside = so_far.beside;
       done = so_far.done ++ prefix.done;
       whole = so_far.whole
           ∙ ap (λ (ts : List Token). so_far.done ++ ts)
           (prefix.whole ∙ ap (λ (s : Bor Stored). prefix.done ++ left s.now now.frames.items) (sym ready.store))
           ∙ sym (append_assoc so_far.done prefix.done (left_in now));
       kept = prefix.moves so_far.done so_far.kept;
-      written = λ observed. more_written (sink.written old) (setting_of printer)
-          (setting first.store.now files) so_far.done prefix.done so_far.setting_is (so_far.written observed)
-          (adds_after (sink.written new) buffer buffer' (prefix.prints so_far.done so_far.kept));
-    }
-  where
-    adds_after : {before after : List ℕ} (mid old new : List ℕ)
-        → AddsBytes before after old new → AddsBytes before after (mid ++ old) (mid ++ new)
-    adds_after mid old new adds = record {
-      bytes = adds.bytes;
-      expected = adds.expected;
-      written = ap (λ (t : List ℕ). mid ++ t) adds.written ∙ sym (append_assoc mid old adds.bytes);
+      wrote = more_written (setting_of printer) (setting first.store.now files) so_far.done prefix.done adds.bytes old
+          (written buffer new) _ so_far.setting_is so_far.wrote adds.expected
+          (ap (λ (t : List ℕ). written t new) adds.written ∙ sym (written_on buffer adds.bytes new));
     }
 
 -- One more token was printed.
-pub prints_more : {W : Type 0} {sink : Sink W} {files : List (List ℕ)} {first : Expander}
-    {mid now : Expander} {printer printer' : Printer} {old new new' : W} {buffer buffer' : List ℕ} (t : Token)
-    → PrintsSoFar sink files first mid printer old new buffer → StaysReady mid now
+pub prints_more : {files : List (List ℕ)} {first : Expander} {mid now : Expander} {printer printer' : Printer}
+    {old new : SinkModel} (new' : SinkModel) {buffer : List ℕ} (buffer' : List ℕ) (t : Token)
+    → PrintsSoFar files first mid printer old new buffer → StaysReady mid now
     → left_in mid ≡ t ∷ left mid.store.now now.frames.items → setting_of printer' ≡ setting_of printer
-    → Moves (left_in_printer printer) t (left_in_printer printer') → sink.tells new' ≡ sink.tells new
-    → sink.failed new' ≡ sink.failed new → (IsTrue (sink.tells new) → sink.beside new' ≡ sink.beside new)
-    → (IsTrue (sink.tells new) → PrintsToken {A = Unit {0}} {E = Unit {0}} printer t (sink.written new ++ buffer)
-    (sink.written new' ++ buffer') (Ok tt)) → PrintsSoFar sink files first now printer' old new' buffer'
-prints_more {sink} {files} {first} {mid} {now} {printer} {old} {new}
-    t so_far ready yields same moves tells failed beside prints =
-    let tell : IsTrue (sink.tells old) → IsTrue (sink.tells new) =
-    λ observed. subst IsTrue (sym so_far.tells) observed in
+    → Moves (left_in_printer printer) t (left_in_printer printer')
+    → PrintsToken {A = Unit {0}} {E = Unit {0}} printer t (written buffer new) (written buffer' new') (Ok tt)
+    → PrintsSoFar files first now printer' old new' buffer'
+prints_more {files} {first} {mid} {now} {printer} {old = old} {new} new' {buffer} buffer' t so_far ready yields same
+    moves prints =
+    let adds = prints so_far.done so_far.kept in
     record {
       ready = stays_on so_far.ready ready;
       setting_is = same ∙ so_far.setting_is;
-      tells = tells ∙ so_far.tells;
-      failed = failed ∙ so_far.failed;
-      beside = λ observed. beside (tell observed) ∙ so_far.beside observed;
       done = so_far.done ++ t ∷ [];
       whole = so_far.whole
           ∙ ap (λ (ts : List Token). so_far.done ++ ts)
           (yields ∙ ap (λ (s : Bor Stored). t ∷ left s.now now.frames.items) (sym ready.store))
           ∙ sym (append_assoc so_far.done (t ∷ []) (left_in now));
       kept = moves so_far.done so_far.kept;
-      written = λ observed. more_written (sink.written old)
-          (setting_of printer) (setting first.store.now files) so_far.done (t ∷ []) so_far.setting_is
-          (so_far.written observed) (prints (tell observed) so_far.done so_far.kept);
+      wrote = more_written (setting_of printer) (setting first.store.now files) so_far.done (t ∷ []) adds.bytes old
+          (written buffer new) _ so_far.setting_is so_far.wrote adds.expected adds.wrote;
     }
 
 -- Nothing remains, and the last line was ended.
-pub prints_all : {A E W : Type 0} {sink : Sink W} {files : List (List ℕ)} {first now : Expander} {printer : Printer}
-    {old new : W} {buffer : List ℕ} (new' : W) (buffer' : List ℕ) (r : Result A E)
-    → PrintsSoFar sink files first now printer old new buffer → left_in now ≡ []
-    → (IsTrue (sink.tells new) → EndsFile printer (sink.written new ++ buffer) (sink.written new' ++ buffer') r)
-    → OnOk r (buffer' ≡ []) → IsTrue (sink.tells old)
-    → OnOk r (sink.written new' ≡ sink.written old ++ file (setting first.store.now files) (left_in first))
-prints_all {sink = sink} {files = files} {first = first} {printer = printer}
-    {old = old} new' buffer' (Ok x) so_far none ends empty observed =
+pub prints_all : {A E : Type 0} {files : List (List ℕ)} {first now : Expander} {printer : Printer}
+    {old new : SinkModel} {buffer : List ℕ} (new' : SinkModel) (buffer' : List ℕ) (x : A)
+    → PrintsSoFar files first now printer old new buffer → left_in now ≡ []
+    → EndsFile {E = E} printer (written buffer new) (written buffer' new') (Ok x) → buffer' ≡ []
+    → new' ≡ written (file (setting first.store.now files) (left_in first)) old
+prints_all {files = files} {first = first} {printer = printer} {old = old} {new = new} {buffer = buffer} new' buffer' x
+    so_far none ends empty =
     let done : List Token = so_far.done in
-    let text : Setting → List ℕ = λ s. sink.written old ++ print s done in
-    let adds = ends (subst IsTrue (sym so_far.tells) observed) done so_far.kept in
-    sym (append-nil (sink.written new')) ∙ ap (λ (t : List ℕ). sink.written new' ++ t) (sym empty) ∙ adds.written
-    ∙ ap (λ (t : List ℕ). t ++ adds.bytes) (so_far.written observed ∙ ap text (sym so_far.setting_is))
-    ∙ append_assoc (sink.written old) (print (setting_of printer) done) adds.bytes
-    ∙ ap (λ (t : List ℕ). sink.written old ++ t) (sym adds.expected)
-    ∙ ap (λ (s : Setting). sink.written old ++ file s done) so_far.setting_is
-    ∙ ap (λ (ts : List Token). sink.written old ++ file (setting first.store.now files) ts)
-    (sym (so_far.whole ∙ ap (λ (ts : List Token). done ++ ts) none ∙ append-nil done))
-prints_all new' buffer' (Err e) so_far none ends empty observed = tt
+    let adds = ends done so_far.kept in
+    written_none new' ∙ ap (λ (t : List ℕ). written t new') (sym empty)
+    ∙ written_then (print (setting first.store.now files) done) adds.bytes old so_far.wrote adds.wrote
+    ∙ ap (λ (t : List ℕ). written t old)
+    (ap (λ (s : Setting). print s done ++ adds.bytes) (sym so_far.setting_is) ∙ sym adds.expected
+    ∙ ap (λ (s : Setting). file s done) so_far.setting_is
+    ∙ ap (file (setting first.store.now files))
+    (sym (so_far.whole ∙ ap (λ (ts : List Token). done ++ ts) none ∙ append-nil done)))
+
+-- Without its draft, it doesn't matter what was written to it.
+drafts_gone : (a b : List ℕ) (now now' : Option SinkContents)
+    → option_map (with_printed a) now' ≡ option_map (with_printed b) now
+    → option_map without_draft now' ≡ option_map without_draft now
+drafts_gone a b None None is = refl
+drafts_gone a b (Some now) (Some now') is = cc
+drafts_gone a b None (Some now') is = absurd (cc)
+drafts_gone a b (Some now) None is = absurd (cc)
+
+-- A write failed.
+pub prints_until : {A E : Type 0} {files : List (List ℕ)} {first now : Expander} {printer : Printer}
+    {old new : SinkModel} {buffer : List ℕ} (new' : SinkModel) (buffer' : List ℕ) {before after : List ℕ} (e : E)
+    → PrintsSoFar files first now printer old new buffer
+    → AddsBy {A = A} before after (written buffer new) (written buffer' new') (Err e)
+    → changed without_draft new' ≡ failing without_draft old
+prints_until {files = files} {first = first} {old = old} new' buffer' e so_far adds =
+    let fails = fails_then (print (setting first.store.now files) so_far.done) so_far.wrote adds.wrote in
+    λ i. record {
+      failed = (fails.is i).failed;
+      contents = drafts_gone buffer' fails.prefix old.contents new'.contents (λ j. (fails.is j).contents) i;
+    }

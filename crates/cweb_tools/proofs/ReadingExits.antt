@@ -1,5 +1,5 @@
 -- The exits of `ctangle` after its merge began are ends of a run.
-use Rattle.cweb_tools.proofs.Common.{◌≤◌, ◌≡◌, inl, inr, ℕ, List, [], ◌∷◌, ◌++◌, length, refl, sym, ◌∙◌, ap, IsSome, Option, Some, None, names_found, World, Found, Event, SoFar, StopsReading, files_named, emitted_lines, reported_faults, openings, taken_lines, IsWithinLimits, BeginsMerge, SourceFault, LINES, BYTES, Stop, Scanned, scanned, ScanEndsEarly, Scans, stop_line, subject, OptionsModel, Logs, SinkModel, SinkModel, Devices, ShelfModel, Act, acts_status, Breaks, ending, opens, reads, Course, found_course, merging, at, RunEnds, Does, TangleCourse, tangling, LaterActs, opening_acts, EndsAs, tangled, web_of}
+use Rattle.cweb_tools.proofs.Common.{◌≤◌, ◌≡◌, inl, inr, ℕ, List, [], ◌∷◌, ◌++◌, length, refl, sym, ◌∙◌, ap, IsSome, Option, Some, None, names_found, World, Found, Event, SoFar, StopsReading, files_named, emitted_lines, reported_faults, openings, taken_lines, IsWithinLimits, BeginsMerge, SourceFault, LINES, BYTES, Stop, Scanned, scanned, ScanEndsEarly, Scans, stop_line, subject, OptionsModel, Logs, SinkModel, Devices, ShelfModel, Act, acts_status, Breaks, ending, opens, reads, Course, found_course, merging, at, RunEnds, Does, TangleCourse, tangling, LaterActs, opening_acts, EndsAs, tangled, web_of}
 use Rattle.cweb_tools.proofs.Carried.{either}
 use Rattle.cweb_tools.proofs.Doing.{ends_halted, ends_on}
 use Rattle.cweb_tools.proofs.Exits.{begins_course, faults_reported, limits_kept, names_reported, opened_by}

@@ -1,5 +1,5 @@
 -- An expander between outputs, with its store and its plan.
-use Rattle.cweb_tools.proofs.Common.{◌≡◌, ℕ, Bool, List, length, map, refl, sym, ◌∙◌, ap, subst, Bor, All, Result, File, opened_file_names, FileNames, Stop, Stored, Token, IsMarkBelow, expand, left, Planned, output_name_at, output_at, root_at, root_list, setting, file, names, Expander, SinkModel, SinkModel, ending_of, DoesInBoth, IsReady, StaysReady, output_ending, file_at, planned_files, left_in, output_acts, outputs_acts, output_file, Failed}
+use Rattle.cweb_tools.proofs.Common.{◌≡◌, ℕ, Bool, List, length, map, refl, sym, ◌∙◌, ap, subst, Bor, All, Result, File, opened_file_names, FileNames, Stop, Stored, Token, IsMarkBelow, expand, left, Planned, output_name_at, output_at, root_at, root_list, setting, file, names, Expander, SinkModel, ending_of, DoesInBoth, IsReady, StaysReady, output_ending, file_at, planned_files, left_in, output_acts, outputs_acts, output_file, Failed}
 use Rattle.cweb_tools.proofs.Marks.{expansion_all}
 
 pub stays : {names : FileNames} {e : Expander} → IsReady names e → StaysReady e e

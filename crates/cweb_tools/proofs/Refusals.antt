@@ -1,5 +1,5 @@
 -- Plans and refusals.
-use Rattle.cweb_tools.proofs.Common.{◌≡◌, ◌∙◌, ℕ, List, [], ◌∷◌, refl, ap, subst, flat_map, IfSome, Option, None, Some, Result, Ok, Err, Stored, Planned, Refusal, bad_name, same_name, cycle, IsExpectedFault, PlanFault, Cycle, SameName, BadName, fault, line, plan_item, LogItem, SinkModel, WritesToStream, DoesInLog, log_ending, EndsInLog, plans, says, status_by, refusal_message, refused, plan_made, planning, planning_by, refusal_in}
+use Rattle.cweb_tools.proofs.Common.{◌≡◌, ◌∙◌, ℕ, List, [], ◌∷◌, refl, ap, subst, flat_map, IfSome, Option, None, Some, Result, Ok, Err, Stored, Planned, Refusal, bad_name, same_name, cycle, IsExpectedFault, PlanFault, Cycle, SameName, BadName, fault, line, plan_item, LogItem, SinkModel, Wrote, DoesInLog, log_ending, EndsInLog, plans, says, status_by, refusal_message, refused, plan_made, planning, planning_by, refusal_in}
 use Rattle.cweb_out.specs.Outputs as out
 use Rattle.cweb_out.specs.declared.outputs.fault.PlanFault.TheVariants.{Memory}
 use Rattle.cweb_log.proofs.BufferedLog.{logs_by}
@@ -30,10 +30,10 @@ refusal_item w main Memory r is = absurd (cc)
 -- A refusal was logged.
 pub refusal_said : {A E : Type 0} {result : Result A E} (w : Stored) (main : List ℕ) (f : PlanFault) (r : Refusal)
     (items : List LogItem) {old new : SinkModel} → refusal_in f ≡ Some r → items ≡ plan_item w main f ∷ []
-    → WritesToStream (flat_map line items) old new result
+    → Wrote (flat_map line items) old new result
     → DoesInLog (says (fault (refusal_message w main r)) ∷ []) (log_ending result) old new
 refusal_said {result} w main f r items {old} {new} is are writes = said_all result (fault (refusal_message w main r)) []
-    (subst (λ (items : List LogItem). WritesToStream (flat_map line items) old new result)
+    (subst (λ (items : List LogItem). Wrote (flat_map line items) old new result)
     (are ∙ ap (λ (item : LogItem). item ∷ []) (refusal_item w main f r is)) writes)
 
 -- A fault other than a failed allocation is the expected refusal.
@@ -65,7 +65,7 @@ planning_refused w files main r is = ap (planning_by w files main) is
 -- A run of `wdep` whose outputs could not be planned.
 refused_ends : {A E : Type 0} (r : Result A E) (w : Stored) (files : List (List ℕ)) (main : List ℕ) (targets : Targets)
     (count : ℕ) (f : PlanFault) {old new : SinkModel} → IsRefused w main f
-    → WritesToStream (flat_map line (plan_item w main f ∷ [])) old new r
+    → Wrote (flat_map line (plan_item w main f ∷ [])) old new r
     → EndsInLog (plans ∷ depend_plan_acts targets files (planning w files main))
     (status_by count (planning w files main)) old new 1
 refused_ends r w files main targets count f why writes = λ shelf out. ends_on does_plan
@@ -74,11 +74,11 @@ refused_ends r w files main targets count f why writes = λ shelf out. ends_on d
 
 pub unplanned_ends : {A E : Type 0} (r : Result A E) (w : Stored) (files : List (List ℕ)) (main : List ℕ)
     (targets : Targets) (count : ℕ) (f : PlanFault) {old new : SinkModel} → IsExpectedFault (out.planned w main) f
-    → WritesToStream (flat_map line (plan_item w main f ∷ [])) old new r
+    → Wrote (flat_map line (plan_item w main f ∷ [])) old new r
     → EndsInLog (plans ∷ depend_plan_acts targets files (planning w files main))
     (status_by count (planning w files main)) old new 1
 unplanned_ends r w files main targets count Memory expected writes = λ shelf out.
-    memory_halts plans _ refl (logs_by r writes) refl
+    memory_halts plans _ refl (logs_by r _ _ _ writes) refl
 unplanned_ends r w files main targets count (Cycle names) expected writes =
     refused_ends r w files main targets count (Cycle names) (refused_by (Cycle names) expected (λ is. cc)) writes
 unplanned_ends r w files main targets count (SameName name) expected writes =

@@ -1,5 +1,5 @@
 -- How a whole run ends, by the result of parsing its words.
-use Rattle.cweb_tools.proofs.Common.{◌≡◌, ◌⊎◌, inl, inr, ℕ, List, [], ◌∷◌, ◌++◌, refl, sym, subst, Option, Some, None, World, Stop, Usage, Memory, LogFault, banner, stopped, stop_line, OptionsModel, Logs, SinkModel, SinkModel, Devices, ShelfModel, Act, ending, judges, says, at, RunEnds, Does, DoesInLog, FollowsActs, TangleCourse, change_not_there, not_there, script, acts_status, tangling, unread, when, CanCome, opening_acts, tangle_later, EndsAs, shown_by, tangle_course}
+use Rattle.cweb_tools.proofs.Common.{◌≡◌, ◌⊎◌, inl, inr, ℕ, List, [], ◌∷◌, ◌++◌, refl, sym, subst, Option, Some, None, World, Stop, Usage, Memory, LogFault, banner, stopped, stop_line, OptionsModel, Logs, SinkModel, Devices, ShelfModel, Act, ending, judges, says, at, RunEnds, Does, DoesInLog, FollowsActs, TangleCourse, change_not_there, not_there, script, acts_status, tangling, unread, when, CanCome, opening_acts, tangle_later, EndsAs, shown_by, tangle_course}
 use Rattle.cweb_tools.proofs.Doing.{does_in, does_on, ends_halted, ends_on}
 use Rattle.cweb_tools.proofs.DoingFiles.{log_halts_all}
 use Rattle.cweb_tools.proofs.Statuses.{banner_status}

@@ -1,6 +1,6 @@
 -- The log after a stop, and the failure counts that rise.
 use Rattle.cweb_tools.proofs.Common.{◌≡◌, inl, inr, ℕ, ◌+◌, List, [], ◌∷◌, ◌++◌, refl, sym, ◌∙◌, ap, subst, add-zero, append_assoc, arith, flat_map-append, None, Some, flat_map, Stop, LogFault, Memory, read_failures_of, bins_blame, stop_line, LogItem, line, Devices, SinkModel, Logs, logged, log_failed, written, Act, says, reads, merges, after_act, Ending, ending, Breaks, PerformsActs, LogsStop, logged_items, IsStopped}
-use Rattle.cweb_log.proofs.BufferedLog.{fails_in, fails_on, written_on}
+use Rattle.cweb_files.proofs.Appending.{fails_in, fails_then, written_then}
 use Rattle.cweb_tools.proofs.AllDone.{log_all}
 use Rattle.cweb_tools.proofs.Doing.{counts_all}
 use Rattle.cweb_tools.proofs.Broken.{broken, shelf_counted}
@@ -8,8 +8,8 @@ use Rattle.cweb_tools.proofs.Broken.{broken, shelf_counted}
 -- A text was logged before.
 logs_on : (a : List ℕ) {b : List ℕ} {old mid new : SinkModel} → mid ≡ written a old → Logs b mid new
     → Logs (a ++ b) old new
-logs_on a {b} {old} first (logged is) = logged (written_on a b old first is)
-logs_on a first (log_failed fails) = log_failed (fails_on a first fails)
+logs_on a {b} {old} first (logged is) = logged (written_then a b old first is)
+logs_on a first (log_failed fails) = log_failed (fails_then a first fails)
 
 -- A log that didn't fail has the whole text.
 pub logs_all : {text : List ℕ} {old new : SinkModel} → Logs text old new → new.failed ≡ old.failed

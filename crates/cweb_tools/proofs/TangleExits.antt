@@ -1,5 +1,5 @@
 -- The early exits of `ctangle`, before its web is read, are ends of a run.
-use Rattle.cweb_tools.proofs.Common.{◌≡◌, inl, inr, ℕ, List, [], ◌∷◌, refl, ap, IsSome, Option, Some, None, contents_found, World, Found, Event, started, StartStops, emitted_lines, reported_faults, merge, StopsAtStart, Stop, WebNotOpened, ChangeNotOpened, Memory, scanned, LogItem, line, stopped, start_subject, stop_line, OptionsModel, Logs, SinkModel, SinkModel, ShelfModel, Act, ending, opens, says, change_name, found_course, at, Does, RunEnds, TangleCourse, change_not_there, not_there, CanCome, LaterActs, opening_acts, EndsAs, tangled}
+use Rattle.cweb_tools.proofs.Common.{◌≡◌, inl, inr, ℕ, List, [], ◌∷◌, refl, ap, IsSome, Option, Some, None, contents_found, World, Found, Event, started, StartStops, emitted_lines, reported_faults, merge, StopsAtStart, Stop, WebNotOpened, ChangeNotOpened, Memory, scanned, LogItem, line, stopped, start_subject, stop_line, OptionsModel, Logs, SinkModel, ShelfModel, Act, ending, opens, says, change_name, found_course, at, Does, RunEnds, TangleCourse, change_not_there, not_there, CanCome, LaterActs, opening_acts, EndsAs, tangled}
 use Rattle.cweb_tools.proofs.Courses.{no_change, no_web}
 use Rattle.cweb_tools.proofs.Doing.{ends_halted, ends_on}
 use Rattle.cweb_tools.proofs.DoingFiles.{ends_reported}

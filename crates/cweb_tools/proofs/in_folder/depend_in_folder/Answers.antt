@@ -1,4 +1,4 @@
-use Rattle.cweb_tools.proofs.Common.{ℕ, List, Bor, map, option_copied, as_output, stream_model}
+use Rattle.cweb_tools.proofs.Common.{ℕ, List, Bor, map, option_copied}
 use Rattle.cweb_tools.specs.Depend.{DependPromises, DependsFreely, targets_by}
 use Rattle.cweb_tools.proofs.Courses.{options_in}
 use Rattle.cweb_tools.proofs.InFolder.{runs_in, stays_so}
@@ -13,9 +13,9 @@ returns g c =
           (λ world before after status. DependPromises world targets args before after status
           × DependsFreely world targets args before after status)
           (option_copied c.args.inputs) c.new-shelf.result c.run_wdep.new.shelf
-          (as_output (stream_model g.W.Sink c.args.out.now))
-          (as_output (stream_model g.W.Sink c.run_wdep.new.out)) (stream_model g.L.Sink c.args.log.now)
-          (stream_model g.L.Sink c.run_wdep.new.log) c.run_wdep.result c.new-shelf.ensures.system
+          (g.W.Sink.model c.args.out.now)
+          (g.W.Sink.model c.run_wdep.new.out) (g.L.Sink.model c.args.log.now)
+          (g.L.Sink.model c.run_wdep.new.log) c.run_wdep.result c.new-shelf.ensures.system
           c.new-shelf.ensures.failed
           (stays_so g.F.FileSystem c.new-shelf.result c.run_wdep.new.shelf c.run_wdep.ensures.promises)
           (c.run_wdep.ensures.promises, c.run_wdep.ensures.freely);

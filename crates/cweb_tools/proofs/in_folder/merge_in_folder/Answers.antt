@@ -1,4 +1,4 @@
-use Rattle.cweb_tools.proofs.Common.{ℕ, List, Bor, map, option_copied, as_output, stream_model}
+use Rattle.cweb_tools.proofs.Common.{ℕ, List, Bor, map, option_copied}
 use Rattle.cweb_log.specs.CommandLine.{web_names_by}
 use Rattle.cweb_tools.specs.MergeActs.{MergePromises, MergesFreely}
 use Rattle.cweb_tools.proofs.InFolder.{runs_in, stays_so}
@@ -12,9 +12,9 @@ returns g c =
           (λ world before after status. MergePromises world args before after status
           × MergesFreely world args before after status)
           (option_copied c.args.inputs) c.new-shelf.result c.run_wmerge.new.shelf
-          (as_output (stream_model g.W.Sink c.args.out.now))
-          (as_output (stream_model g.W.Sink c.run_wmerge.new.out)) (stream_model g.L.Sink c.args.log.now)
-          (stream_model g.L.Sink c.run_wmerge.new.log) c.run_wmerge.result c.new-shelf.ensures.system
+          (g.W.Sink.model c.args.out.now)
+          (g.W.Sink.model c.run_wmerge.new.out) (g.L.Sink.model c.args.log.now)
+          (g.L.Sink.model c.run_wmerge.new.log) c.run_wmerge.result c.new-shelf.ensures.system
           c.new-shelf.ensures.failed
           (stays_so g.F.FileSystem c.new-shelf.result c.run_wmerge.new.shelf c.run_wmerge.ensures.promises)
           (c.run_wmerge.ensures.promises, c.run_wmerge.ensures.freely);

@@ -1,9 +1,11 @@
-use Rattle.cweb_tools.proofs.Common.{ℕ, List, ap, arith, option_copied, World, OptionsModel, Option, Some, options_of, stream_model, tangle_later}
-use Rattle.cweb_log.specs.DeviceModels.{SinkModel, ShelfModel, SinkModel}
-use Rattle.cweb_tools.specs.InFolder.{bins_after, shelf_in}
+use Rattle.cweb_tools.proofs.Common.{ℕ, List, ap, arith, option_copied, World, OptionsModel, Option, Some, options_of, tangle_later}
+use Rattle.cweb_files.specs.Sinks.{SinkModel}
+use Rattle.cweb_log.specs.DeviceModels.{ShelfModel}
+use Rattle.cweb_system.specs.Bins.{bins_model}
+use Rattle.cweb_tools.specs.InFolder.{shelf_in}
 use Rattle.cweb_tools.proofs.Courses.{options_in}
 use Rattle.cweb_tools.proofs.Doing.{log_counted}
-use Rattle.cweb_tools.proofs.InFolder.{bins_in, left_in_folder, shelf_seen, tangles_in, unread_in, world_in, world_seen}
+use Rattle.cweb_tools.proofs.InFolder.{left_in_folder, shelf_seen, tangles_in, unread_in, world_in, world_seen}
 use Rattle.cweb_tools.specs.inner.Does.{at}
 use Rattle.cweb_tools.proofs.TanglePromisesProved.{promised}
 use Rattle.cweb_tools.proofs.RunEnds.{named_ends}
@@ -22,44 +24,43 @@ tangle_web-status-requires-clause-counts g c = record {
       omega (
         arith,
         log_counted c.in-Ok.ensures.banner,
-        ap g.L.Sink.failed c.in-Ok-scan_web.ensures.silent,
+        ap (g.L.Sink.model c.in-Ok-scan_web.ensures.silent).failed,
         c.requires.count,
       );
 }
 
 pub returns-in-Err-clause-promises : goal.returns-in-Err-clause-promises
 returns-in-Err-clause-promises g c =
-    let log : SinkModel = stream_model g.L.Sink c.args.log.now in
+    let log : SinkModel = g.L.Sink.model c.args.log.now in
     let inputs : Option (List ℕ) = option_copied c.args.inputs in
     let bins = c.new-in-Err.ensures in
     unread_in g.F.FileSystem c.args.fs inputs (options_in c.args.words.now)
-    (bins_after g.F.FileSystem c.new-in-Err.result) log (stream_model g.L.Sink c.begin_tangle.new.log) c.in-Err.status
-    (bins_in g.F.FileSystem c.args.fs log c.new-in-Err.result (ap (λ fs. (g.F.FileSystem.disk fs).tells) bins.system)
-    bins.failed bins.beside)
+    (bins_model g.F.FileSystem c.new-in-Err.result) log (g.L.Sink.model c.begin_tangle.new.log) c.in-Err.status
+    bins.empty
     (promised _ _ (c.in-Err.ensures.ends (world_in g.F.FileSystem c.args.fs inputs) (shelf_in g.F.FileSystem c.args.fs)
-    (bins_after g.F.FileSystem c.new-in-Err.result)))
+    (bins_model g.F.FileSystem c.new-in-Err.result)))
 
 pub returns-in-Err-clause-files : goal.returns-in-Err-clause-files
 returns-in-Err-clause-files g c = left_in_folder g.F.FileSystem c.args.fs c.new-in-Err.result
     (world_in g.F.FileSystem c.args.fs (option_copied c.args.inputs)) (options_in c.args.words.now)
-    (stream_model g.L.Sink c.args.log.now) (stream_model g.L.Sink c.begin_tangle.new.log) c.in-Err.status
+    (g.L.Sink.model c.args.log.now) (g.L.Sink.model c.begin_tangle.new.log) c.in-Err.status
     (returns-in-Err-clause-promises g c)
 
 pub returns-in-Ok-scan_web-clause-promises : goal.returns-in-Ok-scan_web-clause-promises
 returns-in-Ok-scan_web-clause-promises g c =
     let inputs : Option (List ℕ) = option_copied c.args.inputs in
-    let first : SinkModel = bins_after g.F.FileSystem c.into_bins-bins.result in
-    let out : SinkModel = bins_after g.F.FileSystem c.tangle_web-status.new.bins in
-    let log : SinkModel = stream_model g.L.Sink c.tangle_web-status.new.log in
+    let first : SinkModel = bins_model g.F.FileSystem c.into_bins-bins.result in
+    let out : SinkModel = bins_model g.F.FileSystem c.tangle_web-status.new.bins in
+    let log : SinkModel = g.L.Sink.model c.tangle_web-status.new.log in
     let shelf : ShelfModel = shelf_seen g.F.FileSystem c.noting-shelf.result in
     let read : ShelfModel = shelf_seen g.F.FileSystem c.scan_web.new.shelf in
     let world : World = world_seen g.F.FileSystem c.noting-shelf.result inputs in
     let args : OptionsModel = options_of c.in-Ok.options in
     let bins = c.into_bins-bins.ensures in
     tangles_in g.F.FileSystem c.args.fs inputs (options_in c.args.words.now)
-    c.noting-shelf.result c.scan_web.new.shelf c.into_bins-bins.result out (stream_model g.L.Sink c.args.log.now)
+    c.noting-shelf.result c.scan_web.new.shelf c.into_bins-bins.result out (g.L.Sink.model c.args.log.now)
     log c.tangle_web-status.result c.noting-shelf.ensures.system c.noting-shelf.ensures.failed
-    bins.system bins.failed bins.beside
+    bins.empty
     (rw c.in-Ok.ensures.ok (promised world (Some args)
     (named_ends world args shelf first (at read out log) _ c.in-Ok.ensures.banner
     (c.in-Ok-scan_web.ensures.scans (tangle_later args.shown) first _ _
@@ -76,23 +77,23 @@ returns-in-Ok-scan_web-clause-promises g c =
 pub returns-in-Ok-scan_web-clause-files : goal.returns-in-Ok-scan_web-clause-files
 returns-in-Ok-scan_web-clause-files g c = left_in_folder g.F.FileSystem c.args.fs c.tangle_web-status.new.bins
     (world_in g.F.FileSystem c.args.fs (option_copied c.args.inputs)) (options_in c.args.words.now)
-    (stream_model g.L.Sink c.args.log.now) (stream_model g.L.Sink c.tangle_web-status.new.log) c.tangle_web-status.result
+    (g.L.Sink.model c.args.log.now) (g.L.Sink.model c.tangle_web-status.new.log) c.tangle_web-status.result
     (returns-in-Ok-scan_web-clause-promises g c)
 
 pub returns-clause-promises : goal.returns-clause-promises
 returns-clause-promises g c =
     let inputs : Option (List ℕ) = option_copied c.args.inputs in
-    let out : SinkModel = bins_after g.F.FileSystem c.into_bins.result in
-    let log : SinkModel = stream_model g.L.Sink c.scan_web.new.log in
+    let out : SinkModel = bins_model g.F.FileSystem c.into_bins.result in
+    let log : SinkModel = g.L.Sink.model c.scan_web.new.log in
     let shelf : ShelfModel = shelf_seen g.F.FileSystem c.noting-shelf.result in
     let read : ShelfModel = shelf_seen g.F.FileSystem c.scan_web.new.shelf in
     let world : World = world_seen g.F.FileSystem c.noting-shelf.result inputs in
     let args : OptionsModel = options_of c.in-Ok.options in
     let bins = c.into_bins.ensures in
     tangles_in g.F.FileSystem c.args.fs inputs (options_in c.args.words.now)
-    c.noting-shelf.result c.scan_web.new.shelf c.into_bins.result out (stream_model g.L.Sink c.args.log.now) log
+    c.noting-shelf.result c.scan_web.new.shelf c.into_bins.result out (g.L.Sink.model c.args.log.now) log
     c.in-Err-scan_web.status c.noting-shelf.ensures.system c.noting-shelf.ensures.failed
-    bins.system bins.failed bins.beside
+    bins.empty
     (rw c.in-Ok.ensures.ok (promised world (Some args)
     (named_ends world args shelf out (at read out log) _ c.in-Ok.ensures.banner
     (c.in-Err-scan_web.ensures.stops (tangle_later args.shown) out))))
@@ -100,5 +101,5 @@ returns-clause-promises g c =
 pub returns-clause-files : goal.returns-clause-files
 returns-clause-files g c = left_in_folder g.F.FileSystem c.args.fs c.into_bins.result
     (world_in g.F.FileSystem c.args.fs (option_copied c.args.inputs)) (options_in c.args.words.now)
-    (stream_model g.L.Sink c.args.log.now) (stream_model g.L.Sink c.scan_web.new.log) c.in-Err-scan_web.status
+    (g.L.Sink.model c.args.log.now) (g.L.Sink.model c.scan_web.new.log) c.in-Err-scan_web.status
     (returns-clause-promises g c)

@@ -1,4 +1,4 @@
-use Rattle.cweb_tools.proofs.Common.{ap, arith, option_copied, World, OptionsModel, Some, options_of, bins_model, devices, shelf_model, world_of, tangle_later}
+use Rattle.cweb_tools.proofs.Common.{ap, arith, option_copied, World, OptionsModel, Some, options_of, devices, shelf_model, world_of, tangle_later}
 use Rattle.cweb_tools.proofs.Courses.{options_in}
 use Rattle.cweb_tools.proofs.Doing.{log_counted}
 use Rattle.cweb_tools.proofs.TanglePromisesProved.{promised, tangled_freely}
@@ -10,7 +10,7 @@ scan_web-requires g c = omega (arith, log_counted c.in-Ok.ensures.banner, c.requ
 
 pub returns-in-Err-clause-promises : goal.returns-in-Err-clause-promises
 returns-in-Err-clause-promises g c = promised _ _
-    (c.in-Err.ensures.ends _ (shelf_model g.S.Shelf c.args.shelf.now) (bins_model g.B.Sink c.args.bins.now))
+    (c.in-Err.ensures.ends _ (shelf_model g.S.Shelf c.args.shelf.now) (g.B.Sink.model c.args.bins.now))
 
 pub returns-in-Err-clause-freely : goal.returns-in-Err-clause-freely
 returns-in-Err-clause-freely g c = tangled_freely (world_of (g.S.Shelf.texts c.args.shelf.now)
@@ -23,7 +23,7 @@ tangle_web-requires-clause-counts g c = record {
       omega (
         arith,
         log_counted c.in-Ok.ensures.banner,
-        ap g.L.Sink.failed c.in-Ok-scan_web.ensures.silent,
+        ap (g.L.Sink.model c.in-Ok-scan_web.ensures.silent).failed,
         c.requires.counts.sinks.log,
       );
 }
@@ -34,9 +34,9 @@ returns-in-Ok-scan_web-clause-promises g c =
     let args : OptionsModel = options_of c.in-Ok.options in
     rw c.in-Ok.ensures.ok (promised world (Some args)
     (named_ends world args (shelf_model g.S.Shelf c.args.shelf.now)
-    (bins_model g.B.Sink c.args.bins.now) (devices g.S.Shelf g.B.Sink g.L.Sink c.scan_web.new.shelf
+    (g.B.Sink.model c.args.bins.now) (devices g.S.Shelf g.B.Sink g.L.Sink c.scan_web.new.shelf
     c.tangle_web.new.bins c.tangle_web.new.log) _ c.in-Ok.ensures.banner
-    (c.in-Ok-scan_web.ensures.scans (tangle_later args.shown) (bins_model g.B.Sink c.args.bins.now) _ _
+    (c.in-Ok-scan_web.ensures.scans (tangle_later args.shown) (g.B.Sink.model c.args.bins.now) _ _
     (rw (
       c.shown.ensures,
       c.as_str.ensures.value,
@@ -58,9 +58,9 @@ returns-clause-promises g c =
     let args : OptionsModel = options_of c.in-Ok.options in
     rw c.in-Ok.ensures.ok (promised world (Some args)
     (named_ends world args (shelf_model g.S.Shelf c.args.shelf.now)
-    (bins_model g.B.Sink c.args.bins.now) (devices g.S.Shelf g.B.Sink g.L.Sink c.scan_web.new.shelf
+    (g.B.Sink.model c.args.bins.now) (devices g.S.Shelf g.B.Sink g.L.Sink c.scan_web.new.shelf
     c.args.bins.now c.scan_web.new.log) _ c.in-Ok.ensures.banner
-    (c.in-Err-scan_web.ensures.stops (tangle_later args.shown) (bins_model g.B.Sink c.args.bins.now))))
+    (c.in-Err-scan_web.ensures.stops (tangle_later args.shown) (g.B.Sink.model c.args.bins.now))))
 
 pub returns-clause-freely : goal.returns-clause-freely
 returns-clause-freely g c = tangled_freely (world_of (g.S.Shelf.texts c.args.shelf.now) (option_copied c.args.inputs))

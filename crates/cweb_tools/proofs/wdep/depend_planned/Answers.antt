@@ -1,8 +1,7 @@
-use Rattle.cweb_tools.proofs.Common.{◌≡◌, refl, sym, ◌∙◌, ap, arith, ◌==◌, if◌then◌else◌, ℕ, List, reserves, stream_model, files_of, plan_made, dependencies}
+use Rattle.cweb_tools.proofs.Common.{◌≡◌, refl, sym, ◌∙◌, ap, arith, ◌==◌, if◌then◌else◌, ℕ, List, reserves, files_of, plan_made, dependencies}
 use Rattle.cweb_tools.specs.Depfile.{depfile, each_once}
 use Rattle.cweb_tools.proofs.Doing.{ends_done, ends_halted, ends_on, log_counted}
 use Rattle.cweb_tools.proofs.DoingFiles.{does_reserve, log_halts, memory_halts}
-use Rattle.cweb_log.proofs.BufferedLog.{writes_by}
 use Rattle.cweb_tools.proofs.Printing.{printed_prefix, printed_whole, target_names_among}
 use Rattle.cweb_tools.proofs.wdep.depend_planned.Goals as goal
 
@@ -21,7 +20,6 @@ log_stop-requires-in-Err-write_all g c = omega (arith, log_counted c.in_default.
 
 pub returns-in-Err-write_all : goal.returns-in-Err-write_all
 returns-in-Err-write_all g c =
-    let wrote = writes_by g.W.Sink _ _ _ c.in-Err-write_all.ensures.appends in
     let files : List (List ℕ) = files_of c.args.web in
     let text : c.as_slice.result.now
     ≡ dependencies c.args.targets files (plan_made c.args.web.scanned.now.store files c.args.plan.now) =
@@ -29,14 +27,12 @@ returns-in-Err-write_all g c =
     ∙ ap (λ (names : List (List ℕ)). depfile names (each_once files))
     (sym (target_names_among c.args.web.scanned.now.store files c.args.targets c.args.plan.now.outputs)) in
     λ shelf. ends_on ((rw c.no_text.ensures at c.in_default.ensures) shelf _) (ends_on does_reserve
-    (ends_halted (rw text at (printed_prefix (stream_model g.W.Sink c.args.out.now)
-    (stream_model g.W.Sink c.write_all.new.out) wrote.err) shelf _)
+    (ends_halted (rw text at (printed_prefix c.in-Err-write_all.ensures.wrote) shelf _)
     (record { others = refl; log = c.log_stop-in-Err-write_all.ensures.logs })
     c.log_stop-in-Err-write_all.ensures.status))
 
 pub returns : goal.returns
 returns g c =
-    let wrote = writes_by g.W.Sink _ _ _ c.in_default-write_all.ensures.appends in
     let files : List (List ℕ) = files_of c.args.web in
     let text : c.as_slice.result.now
     ≡ dependencies c.args.targets files (plan_made c.args.web.scanned.now.store files c.args.plan.now) =
@@ -44,5 +40,6 @@ returns g c =
     ∙ ap (λ (names : List (List ℕ)). depfile names (each_once files))
     (sym (target_names_among c.args.web.scanned.now.store files c.args.targets c.args.plan.now.outputs)) in
     λ shelf. ends_on ((rw c.no_text.ensures at c.in_default.ensures) shelf _) (ends_on does_reserve
-    (ends_done (rw text at (printed_whole _ (stream_model g.W.Sink c.args.out.now) wrote.ok) shelf _)
+    (ends_done (rw text at (printed_whole _ (g.W.Sink.model c.args.out.now)
+    c.in_default-write_all.ensures.wrote) shelf _)
     (c.status.ensures ∙ ap (λ (n : ℕ). if n == 0 then 0 else 1) c.fault_count.ensures.count)))

@@ -1,4 +1,4 @@
-use Rattle.cweb_tools.proofs.Common.{ℕ, List, Bor, map, ap, refl, Err, option_copied, World, OptionsModel, Some, options_of, as_output, stream_model, shelf_model, world_of, depend_acts, depend_web_acts}
+use Rattle.cweb_tools.proofs.Common.{ℕ, List, Bor, map, ap, refl, Err, option_copied, World, OptionsModel, Some, options_of, shelf_model, world_of, depend_acts, depend_web_acts}
 use Rattle.cweb_tools.specs.declared.rule_targets.Targets.{Targets}
 use Rattle.cweb_tools.specs.Depend.{targets_by}
 use Rattle.cweb_tools.proofs.Courses.{options_in, same_stop}
@@ -13,7 +13,7 @@ targets_of words = targets_by (map (λ (word : Bor (List ℕ)). word.now) words)
 pub returns-in-Err-clause-promises : goal.returns-in-Err-clause-promises
 returns-in-Err-clause-promises g c = promised _ _ (words_end _ (depend_acts _) refl _ _
     (λ one is course can. depend_judges _ one course can) c.in-Err.stop (shelf_model g.S.Shelf c.args.shelf.now)
-    (as_output (stream_model g.W.Sink c.args.out.now)) _ c.in-Err.ensures.stops (λ is. c.in-Err.ensures.usage.0 (ap Err is))
+    (g.W.Sink.model c.args.out.now) _ c.in-Err.ensures.stops (λ is. c.in-Err.ensures.usage.0 (ap Err is))
     (λ none. same_stop _ _ _ refl (c.in-Err.ensures.usage.1 none)) c.log_stop.ensures.logs c.log_stop.ensures.status)
 
 pub returns-in-Err-clause-freely : goal.returns-in-Err-clause-freely
@@ -27,7 +27,7 @@ returns-in-Ok-scan_web-clause-promises g c =
     let args : OptionsModel = options_of c.in-Ok.options in
     rw c.in-Ok.ensures.ok (promised world (Some args)
     (depend_ends _ world args _ _ _ (c.in-Ok-scan_web.ensures.scans (depend_web_acts (targets_of c.args.words.now))
-    (as_output (stream_model g.W.Sink c.args.out.now)) _ _ (rw (
+    (g.W.Sink.model c.args.out.now) _ _ (rw (
       c.of-targets.ensures,
       c.as_str.ensures.value,
       c.of-web.ensures.names,
@@ -48,7 +48,7 @@ returns-clause-promises g c =
     let args : OptionsModel = options_of c.in-Ok.options in
     rw c.in-Ok.ensures.ok (promised world (Some args)
     (depend_ends _ world args _ _ _ (c.in-Err-scan_web.ensures.stops (depend_web_acts (targets_of c.args.words.now))
-    (as_output (stream_model g.W.Sink c.args.out.now)))))
+    (g.W.Sink.model c.args.out.now))))
 
 pub returns-clause-freely : goal.returns-clause-freely
 returns-clause-freely g c = tangled_freely (world_of (g.S.Shelf.texts c.args.shelf.now) (option_copied c.args.inputs))

@@ -1,7 +1,7 @@
-use Rattle.cweb_tools.proofs.Common.{Some, option_copied, sym, ◌∙◌, subst, World, ShelfModel, SinkModel, SinkModel, Devices, as_output, at, devices, shelf_model, stream_model, EndsMerge, WebNames, merge_course, world_of}
+use Rattle.cweb_tools.proofs.Common.{Some, option_copied, sym, ◌∙◌, subst, World, ShelfModel, SinkModel, Devices, at, devices, shelf_model, EndsMerge, WebNames, merge_course, world_of}
 use Rattle.cweb_log.specs.inner.Words.{merge_word_names}
 use Rattle.cweb_tools.proofs.Carried.{shelf_same}
-use Rattle.cweb_log.proofs.Known.{seen}
+use Rattle.cweb_files.proofs.Known.{seen}
 use Rattle.cweb_tools.proofs.MergeStarts.{start_stopped}
 use Rattle.cweb_tools.proofs.wmerge.merge_web.Goals as goal
 
@@ -11,9 +11,9 @@ returns-in-Err g c =
     let names : WebNames = merge_word_names c.args.args.now in
     let searched = c.in-Err.ensures in
     let first : ShelfModel = shelf_model g.S.Shelf c.args.shelf.now in
-    let out : SinkModel = as_output (stream_model g.W.Sink c.args.out.now) in
-    let log : SinkModel = stream_model g.L.Sink c.args.log.now in
-    let log' : SinkModel = stream_model g.L.Sink c.log_stop.new.log in
+    let out : SinkModel = g.W.Sink.model c.args.out.now in
+    let log : SinkModel = g.L.Sink.model c.args.log.now in
+    let log' : SinkModel = g.L.Sink.model c.log_stop.new.log in
     subst (λ (shelf : ShelfModel). EndsMerge (Some names) (merge_course world (Some names)) (at first out log)
     (at shelf out log') c.log_stop.result)
     (sym (shelf_same g.S.Shelf searched.keeps.tells searched.failed searched.blamed))
@@ -27,8 +27,8 @@ returns-in-Ok g c =
     let world : World = world_of (g.S.Shelf.texts c.args.shelf.now) (option_copied c.args.inputs) in
     let names : WebNames = merge_word_names c.args.args.now in
     let begun = c.in-Ok.ensures in
-    let out : SinkModel = as_output (stream_model g.W.Sink c.args.out.now) in
-    let log : SinkModel = stream_model g.L.Sink c.args.log.now in
+    let out : SinkModel = g.W.Sink.model c.args.out.now in
+    let log : SinkModel = g.L.Sink.model c.args.log.now in
     let after : Devices = devices g.S.Shelf g.W.Sink g.L.Sink c.merge_begun.new.shelf c.merge_begun.new.out
     c.merge_begun.new.log in
     subst (λ (shelf : ShelfModel). EndsMerge (Some names) (merge_course world (Some names)) (at shelf out log) after

@@ -1,4 +1,4 @@
-use Rattle.cweb_tools.proofs.Common.{ℕ, List, Bor, map, web_names_by, merge_acts, ap, Err, refl, Some, World, WebNames, IsMergeCourse, as_output, shelf_model, stream_model, world_of, option_copied}
+use Rattle.cweb_tools.proofs.Common.{ℕ, List, Bor, map, web_names_by, merge_acts, ap, Err, refl, Some, World, WebNames, IsMergeCourse, shelf_model, world_of, option_copied}
 use Rattle.cweb_log.specs.inner.Words.{merge_word_names}
 use Rattle.cweb_tools.proofs.Courses.{merge_comes, same_stop}
 use Rattle.cweb_tools.proofs.MergeStarts.{words_stopped}
@@ -12,7 +12,7 @@ returns-in-Err-clause-promises g c = promised_by (merge_comes
     (web_names_by (map (λ (word : Bor (List ℕ)). word.now) c.args.words.now)))
     (words_stopped (world_of (g.S.Shelf.texts c.args.shelf.now) (option_copied c.args.inputs))
     (web_names_by (map (λ (word : Bor (List ℕ)). word.now) c.args.words.now)) c.in-Err.stop
-    (shelf_model g.S.Shelf c.args.shelf.now) (as_output (stream_model g.W.Sink c.args.out.now)) c.in-Err.ensures.stops
+    (shelf_model g.S.Shelf c.args.shelf.now) (g.W.Sink.model c.args.out.now) c.in-Err.ensures.stops
     (λ is. c.in-Err.ensures.usage.0 (ap Err is))
     (λ none. same_stop _ _ _ refl (c.in-Err.ensures.usage.1 none)) c.log_stop.ensures.logs c.log_stop.ensures.status)
 

@@ -10,10 +10,11 @@ macros-init g c =
     let p = c.args.self.now in
     let begin = printable_bytes p Printable.LineStart in
     let old : SinkModel = written c.args.buffer.now.bytes (g.W.Sink.model c.args.out.now) in
+    let mid : SinkModel = written c.append_printable.new.buffer.bytes (g.W.Sink.model c.append_printable.new.out) in
     record {
       ordered = c.macros-parts.ensures.ordered;
       within = c.macros-parts.ensures.within;
-      wrote = subst (λ (t : List ℕ). WrittenBefore old _ (begin ++ all_macro_lines p) t)
+      wrote = subst (λ (t : List ℕ). WrittenBefore old mid (begin ++ all_macro_lines p) t)
           (sym (ap (lines p.store.now) c.macros-parts.ensures.numbers ∙ lines_are p.store.now))
           (before_then begin (all_macro_lines p) (before_none old (begin ++ all_macro_lines p))
           c.in_ok-append_printable.ensures);
@@ -29,13 +30,15 @@ macros-preserved g c =
     let w = p.store.now in
     let is : c.macros.parts ≡ c.in-Some.part ∷ c.next.new.self = c.in-Some.ensures.steps in
     let whole = printable_bytes p Printable.LineStart ++ all_macro_lines p in
+    let old : SinkModel = written c.args.buffer.now.bytes (g.W.Sink.model c.args.out.now) in
+    let mid : SinkModel = written c.macros.buffer.bytes (g.W.Sink.model c.macros.out) in
     record {
       ordered = (All-tail (λ (q : Part). q.first ≤ q.after) c.macros.parts
           c.next.new.self c.in-Some.part is c.macros.invariant.ordered).1;
       within = (All-tail (λ (q : Part). q.after ≤ length (all_tokens w.parts)) c.macros.parts
           c.next.new.self c.in-Some.part is c.macros.invariant.within).1;
       wrote = before_then (macro_line (replaced_in w) (tokens_of_part w c.in-Some.part)) (lines w c.next.new.self)
-          (subst (λ (ps : List Part). WrittenBefore _ _ whole (lines w ps)) is c.macros.invariant.wrote)
+          (subst (λ (ps : List Part). WrittenBefore old mid whole (lines w ps)) is c.macros.invariant.wrote)
           c.in_ok-append_printable-2.ensures;
     }
 
@@ -45,9 +48,11 @@ returns-in_err-append_printable-2 g c =
     let w = p.store.now in
     let is : c.macros.parts ≡ c.in-Some.part ∷ c.next.new.self = c.in-Some.ensures.steps in
     let whole = printable_bytes p Printable.LineStart ++ all_macro_lines p in
+    let old : SinkModel = written c.args.buffer.now.bytes (g.W.Sink.model c.args.out.now) in
+    let mid : SinkModel = written c.macros.buffer.bytes (g.W.Sink.model c.macros.out) in
     before_until _ _ _ whole (macro_line (replaced_in w) (tokens_of_part w c.in-Some.part)) (lines w c.next.new.self)
     c.from_residual-in_err-append_printable-2.result c.from_residual-in_err-append_printable-2.ensures.0
-    (subst (λ (ps : List Part). WrittenBefore _ _ whole (lines w ps)) is c.macros.invariant.wrote)
+    (subst (λ (ps : List Part). WrittenBefore old mid whole (lines w ps)) is c.macros.invariant.wrote)
     c.in_err-append_printable-2.ensures
 
 pub returns : goal.returns

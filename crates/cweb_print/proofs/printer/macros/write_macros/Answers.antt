@@ -24,7 +24,8 @@ macros-preserved g c =
       within = (All-tail (λ (p : Part). p.after ≤ length (all_tokens w.parts)) c.macros.parts
           c.next.new.self c.in-Some.part is c.macros.invariant.within).1;
       wrote = before_then (macro_line (replaced_in w) (tokens_of_part w c.in-Some.part)) (lines w c.next.new.self)
-          (subst (λ (ps : List Part). WrittenBefore _ _ (all_lines w) (lines w ps)) is c.macros.invariant.wrote)
+          (subst (λ (ps : List Part). WrittenBefore (g.W.Sink.model c.args.out.now) (g.W.Sink.model c.macros.out)
+          (all_lines w) (lines w ps)) is c.macros.invariant.wrote)
           c.in_ok-write_macro.ensures.wrote;
     }
 
@@ -35,6 +36,7 @@ returns-in_err-write_macro g c =
     record {
       wrote = before_until _ _ _ (all_lines w) (macro_line (replaced_in w) (tokens_of_part w c.in-Some.part))
           (lines w c.next.new.self) c.from_residual.result c.from_residual.ensures.0
-          (subst (λ (ps : List Part). WrittenBefore _ _ (all_lines w) (lines w ps)) is c.macros.invariant.wrote)
+          (subst (λ (ps : List Part). WrittenBefore (g.W.Sink.model c.args.out.now) (g.W.Sink.model c.macros.out)
+          (all_lines w) (lines w ps)) is c.macros.invariant.wrote)
           c.in_err-write_macro.ensures.wrote;
     }

@@ -11,13 +11,16 @@ in_two begin name digits line is =
 
 pub returns-in_err-write_three : goal.returns-in_err-write_three
 returns-in_err-write_three g c = record {
-  wrote = wrote_until _ _ (file_name_end c.args.name.now) _ _ c.from_residual.result c.from_residual.ensures.0 (in_two c.args.begin.now c.args.name.now c.as_bytes.result.now c.args.line
+  wrote = wrote_until _ _ (file_name_end c.args.name.now) _ _ c.from_residual.result c.from_residual.ensures.0
+      (in_two c.args.begin.now c.args.name.now c.as_bytes.result.now c.args.line
       (c.as_bytes.ensures.value ∙ c.format.ensures.text)) c.in_err-write_three.ensures.wrote;
 }
 
 pub returns : goal.returns
 returns g c = record {
-  wrote = wrote_same _ _ _ _ c.write_file_name.result (sym (in_two c.args.begin.now c.args.name.now c.as_bytes.result.now c.args.line
-      (c.as_bytes.ensures.value ∙ c.format.ensures.text))) (wrote_then g.W.Sink c.args.out.now c.write_three.new.out c.write_file_name.new.out _
-      (file_name_end c.args.name.now) _ _ c.in_ok-write_three.ensures.wrote c.write_file_name.ensures.wrote);
+  wrote = wrote_same _ _ _ _ c.write_file_name.result
+      (sym (in_two c.args.begin.now c.args.name.now c.as_bytes.result.now c.args.line
+      (c.as_bytes.ensures.value ∙ c.format.ensures.text)))
+      (wrote_then _ (file_name_end c.args.name.now) _ _ _ _ c.in_ok-write_three.ensures.wrote
+      c.write_file_name.ensures.wrote);
 }

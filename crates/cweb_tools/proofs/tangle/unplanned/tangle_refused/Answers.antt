@@ -1,4 +1,4 @@
-use Rattle.cweb_tools.proofs.Common.{List, ℕ, Act, SinkModel, SinkModel, ShelfModel, RunEnds, EndsInLog, at, false, refl, ap, ◌+◌, SinkFault, items_of}
+use Rattle.cweb_tools.proofs.Common.{List, ℕ, Act, SinkModel, ShelfModel, RunEnds, EndsInLog, at, false, refl, ap, ◌+◌, SinkFault, items_of}
 use Rattle.cweb_tools.proofs.Doing.{ends_on}
 use Rattle.cweb_tools.proofs.DoingFiles.{ends_reported, closing_on, log_halts}
 use Rattle.cweb_tools.proofs.Refusals.{each_some, refusal_said}
