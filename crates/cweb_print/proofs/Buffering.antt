@@ -1,7 +1,7 @@
 -- A sink and its buffer as one sink.
-use Rattle.cweb_print.proofs.Common.{◌≡◌, [], List, ℕ, ap, sym, ◌∙◌, SinkModel, failing, with_printed, written}
+use Rattle.cweb_print.proofs.Common.{◌≡◌, [], List, ℕ, ap, sym, ◌∙◌, SinkModel, written}
 use Rattle.cweb_files.specs.Sinks.{failed_once}
-use Rattle.cweb_files.proofs.Appending.{fails_then, written_none, written_on}
+use Rattle.cweb_files.proofs.Appending.{written_none, written_on}
 use Rattle.cweb_print.specs.inner.Flushing.{FlushesPrefix}
 
 -- A flush leaves what sink and buffer have together unchanged.

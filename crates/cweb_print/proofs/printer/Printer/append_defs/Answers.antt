@@ -1,4 +1,5 @@
-use Rattle.cweb_print.proofs.Common.{arith, append-nil, ◌≡◌, ◌≤◌, ◌∷◌, ◌++◌, ◌∙◌, ap, sym, subst, length, List, ℕ, Part, SinkModel, all_tokens, macro_line, replaced_in, tokens_of_part, written}
+use Rattle.cweb_print.proofs.Common.{arith, append-nil, ◌≡◌, ◌≤◌, ◌∷◌, ◌++◌, ◌∙◌, ap, refl, sym, subst, length, List, ℕ, Part, SinkModel, all_tokens, macro_line, replaced_in, tokens_of_part, written}
+use Rattle.cweb_files.proofs.Appending.{wrote_until}
 use Rattle.cweb_print.proofs.AppendedParts.{WrittenBefore, before_none, before_then, before_until}
 use Rattle.cweb_print.proofs.MacroLines.{All-tail, lines, lines_are}
 use Rattle.cweb_print.specs.inner.Printables.{all_macro_lines, printable_bytes}
@@ -19,6 +20,11 @@ macros-init g c =
           (before_then begin (all_macro_lines p) (before_none old (begin ++ all_macro_lines p))
           c.in_ok-append_printable.ensures);
     }
+
+pub returns-in_err-append_printable : goal.returns-in_err-append_printable
+returns-in_err-append_printable g c =
+    wrote_until _ _ (all_macro_lines c.args.self.now) _ _ c.from_residual.result c.from_residual.ensures.0 refl
+    c.in_err-append_printable.ensures
 
 pub append_printable-requires-in-Some-clause-count : goal.append_printable-requires-in-Some-clause-count
 append_printable-requires-in-Some-clause-count g c =
