@@ -1,8 +1,9 @@
 -- What several calls append to a sink.
 use Rattle.std.proofs.Common.{◌≡◌, ◌++◌, ◌+◌, List, [], ℕ, refl, sym, ◌∙◌, ap, subst}
-use Rattle.std.specs.Prelude.{IsErr, Option, Some, None, Result, Ok, Err, option_map}
+use Rattle.std.specs.Prelude.{IsErr, Option, Some, None, Result, Ok, Err}
 use Rattle.std.proofs.lemmas.List.{append-nil, append_assoc}
-use Rattle.cweb_files.specs.Sinks.{FailsWithin, SinkContents, SinkModel, Wrote, appended, failed_once, failing, with_printed, written}
+use Rattle.cweb_files.specs.Sinks.{FailsWithin, SinkContents, SinkModel, appended, failed_once, failing, with_printed, written}
+use Rattle.cweb_files.specs.surface.Writes.{Wrote}
 
 -- Consecutive texts.
 pub appended_on : (a b : List ℕ) (now : Option SinkContents) → appended b (appended a now) ≡ appended (a ++ b) now

@@ -1,5 +1,5 @@
 -- Clauses of a device, carried over to what is known of it.
-use Rattle.std.proofs.Common.{◌≡◌, ◌∙◌, ap, refl, Bool, true, false, Option, Some}
+use Rattle.std.proofs.Common.{◌≡◌, ◌∙◌, ap, refl, Bool, true, false, Some}
 use Rattle.std.specs.Prelude.{IsSome, IsTrue, option_map}
 use Rattle.std.proofs.lemmas.Iterator.Adapters.{option_map_id}
 use Rattle.cweb_files.specs.Sinks.{known}

@@ -1,5 +1,5 @@
 -- What is known of a sink or of bins, and how calls change it.
-use Rattle.std.specs.Prelude.{◌≡◌, ◌+◌, ℕ, Bool, true, false, List, [], ◌++◌, Option, Some, None, IfSome, IsSome, Result, Ok, Err}
+use Rattle.std.specs.Prelude.{◌≡◌, ◌+◌, ℕ, Bool, true, false, List, [], ◌++◌, Option, Some, None, IfSome, IsSome}
 use Rattle.std.specs.Prelude.{option_map}
 use Rattle.cweb_files.specs.Files.{File, Refused, with_bytes}
 
@@ -9,10 +9,6 @@ pub record Beside : Type 0 where
   pub files : List File
   pub draft : Option (List ℕ)
   pub refused : Option Refused
-
--- The state of a plain sink: one unnamed draft that is always open.
-abbrev pub always_open : Beside
-always_open = record { files = []; draft = Some []; refused = None }
 
 -- The bytes written so far, which are those of the draft, and what is beside them. With no draft there are no bytes.
 pub record SinkContents : Type 0 where
@@ -89,20 +85,3 @@ pub record FailsWithin (text : List ℕ) (old new : SinkModel) : Type 0 where
   pub rest : List ℕ
   pub whole : text ≡ prefix ++ rest
   pub is : new ≡ failing (with_printed prefix) old
-
--- A prefix of the text was written, whether or not the sink failed.
-pub record WritesPrefix (text : List ℕ) (old new : SinkModel) : Type 0 where
-  pub prefix : List ℕ
-  pub rest : List ℕ
-  pub whole : text ≡ prefix ++ rest
-  pub is : new.contents ≡ appended prefix old.contents
-
--- Some bytes were written, whether or not the sink failed.
-pub record Prints (old new : SinkModel) : Type 0 where
-  pub text : List ℕ
-  pub is : new.contents ≡ appended text old.contents
-
--- The text was written, or after a fault a prefix of it.
-abbrev pub Wrote : {A E : Type 0} → List ℕ → SinkModel → SinkModel → Result A E → Type 0
-Wrote text old new (Ok x) = new ≡ written text old
-Wrote text old new (Err fault) = FailsWithin text old new

@@ -1,6 +1,6 @@
 // Writes of whole slices.
 ghost use Rattle.std.specs.Prelude.{◌<◌, ◌+◌, ◌^◌, OnErr, length};
-ghost use Rattle.cweb_files.specs.Sinks.{Wrote};
+ghost use Rattle.cweb_files.specs.surface.Writes.{Wrote};
 
 use crate::device::{Sink, SinkFault};
 

@@ -18,7 +18,8 @@ pub use Rattle.std.specs.Prelude.{slice_range, unwrap_or, IfSome, OnSome, nat_lt
 pub use Rattle.std.specs.Prelude.{codes, option_map, IfErr, is_ok}
 pub use Rattle.std.specs.Str.{bytes_eq}
 pub use Rattle.cweb_files.specs.declared.place.Place.{Place}
-pub use Rattle.cweb_files.specs.Sinks.{FailsWithin, Prints, SinkModel, WritesPrefix, written}
+pub use Rattle.cweb_files.specs.Sinks.{FailsWithin, SinkModel, written}
+pub use Rattle.cweb_files.specs.surface.Writes.{Prints, WritesPrefix}
 pub use Rattle.cweb_files.specs.surface.Frames.{KeepsShelf}
 pub use Rattle.cweb_input.proofs.ReadersStayNamed.{stop_after, blames_none, blames_memory}
 pub use Rattle.cweb_input.proofs.SourceStacks.{over-none}

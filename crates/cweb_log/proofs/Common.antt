@@ -40,7 +40,8 @@ pub use Rattle.cweb_store.specs.declared.parts.PartKind.TheVariants.{Unnamed, Na
 pub use Rattle.cweb_log.specs.CommandLine.{OptionsModel, TangleNames, named_by, names_by, options_by, other_words}
 pub use Rattle.cweb_log.specs.CommandLine.{shown_by_default, words_shown, stem, letters_shown, web_names_by, is_dot}
 pub use Rattle.cweb_log.specs.CommandLine.{has_extension}
-pub use Rattle.cweb_files.specs.Sinks.{FailsWithin, SinkModel, Wrote, written}
+pub use Rattle.cweb_files.specs.Sinks.{FailsWithin, SinkModel, written}
+pub use Rattle.cweb_files.specs.surface.Writes.{Wrote}
 pub use Rattle.cweb_log.specs.DeviceModels.{Logs}
 pub use Rattle.cweb_log.specs.DeviceModels.{logged, log_failed}
 pub use Rattle.cweb_log.specs.Items.{LogItem, line, star, source_item, name_items, refusal_message}

@@ -1,6 +1,6 @@
 // A log buffer in a small array. No function here allocates.
 ghost use Rattle.std.specs.Prelude.{◌≡◌, ◌≤◌, ◌<◌, ◌+◌, ◌^◌, ◌++◌, [], length, OnOk};
-ghost use Rattle.cweb_files.specs.Sinks.{Wrote};
+ghost use Rattle.cweb_files.specs.surface.Writes.{Wrote};
 ghost use Rattle.cweb_log.specs.inner.LogWriting.{AppendsToLog};
 ghost use Rattle.cweb_log.specs.inner.Chunks.{joined_parts, part_bytes};
 ghost use Rattle.cweb_log.specs.declared.log_buffer.TheConstants.{ROOM};

@@ -1,7 +1,7 @@
 // Writes to the log. No function here allocates.
 ghost use Rattle.std.specs.Prelude.{◌≡◌, ◌<◌, ◌+◌, ◌^◌};
 ghost use Rattle.std.specs.List.{flat_map};
-ghost use Rattle.cweb_files.specs.Sinks.{Wrote};
+ghost use Rattle.cweb_files.specs.surface.Writes.{Wrote};
 ghost use Rattle.cweb_log.specs.DeviceModels.{Logs};
 ghost use Rattle.cweb_log.specs.Items.{line};
 ghost use Rattle.cweb_log.specs.Log.{stop_line};

@@ -3,7 +3,7 @@ use Rattle.cweb_out.proofs.Common.{◌≡◌, ◌++◌, ◌∙◌, [], refl, sym
 use Rattle.std.proofs.lemmas.List.Folds.{list_all-append}
 use Rattle.cweb_print.specs.surface.Classes.{left_after_tokens}
 use Rattle.cweb_print.specs.declared.printer.Printer.{Printer}
-use Rattle.cweb_print.specs.surface.Printed.{AddsBytes}
+use Rattle.cweb_print.specs.inner.BufferedPrinting.{AddsBytes}
 use Rattle.cweb_print.proofs.DirectPrefixes.{passed_none}
 use Rattle.cweb_out.specs.inner.Frames.{PrintsFrame}
 use Rattle.cweb_out.specs.declared.frame.Frame.{Frame}

@@ -50,7 +50,8 @@ pub use Rattle.cweb_print.specs.inner.DirectTokens.{AreDirect, is_direct}
 pub use Rattle.cweb_print.specs.inner.EdgeSpacing.{class_after_edge, edge_is_apart, left_after_edge, continued_by}
 pub use Rattle.cweb_print.specs.inner.EdgeSpacing.{edge_ends_line}
 pub use Rattle.cweb_print.specs.inner.Flushing.{blank_where}
-pub use Rattle.cweb_files.specs.Sinks.{FailsWithin, SinkModel, Wrote, failing, with_printed, written}
+pub use Rattle.cweb_files.specs.Sinks.{FailsWithin, SinkModel, failing, with_printed, written}
+pub use Rattle.cweb_files.specs.surface.Writes.{Wrote}
 pub use Rattle.cweb_print.specs.surface.Classes.{class_by, class_of, left_after_token, punct_class, is_dropped}
 pub use Rattle.cweb_print.specs.surface.Classes.{left_after_tokens, at_start}
 pub use Rattle.cweb_print.specs.surface.Printed.{AddsBy, left_in_printer, setting_of, PrintsToken}

@@ -1,7 +1,7 @@
 // A client that relies on the headlines: it runs each program on one web in memory, and its contracts have the bytes.
 ghost use Rattle.std.specs.Prelude.{◌≡◌, IfOk};
 ghost use Rattle.cweb_surface_tests.specs.inner.Hello.{IsMergedHello, IsRuleOfHello, IsTangledHello, NoneFailed};
-ghost use Rattle.cweb_surface_tests.specs.inner.Hello.{hello_contents};
+ghost use Rattle.cweb_surface_tests.specs.inner.Hello.{files_of, hello_contents, text_of};
 
 use cweb_lines::{MemoryShelf, MemorySink, Shelf, Sink};
 use cweb_out::MemoryBins;
@@ -39,10 +39,10 @@ fn hello_shelf(alloc: Global) -> Result<MemoryShelf, AllocError>
 
 /// Tangles hello.w.
 pub fn tangle_hello(alloc: Global) -> Result<Tangled, AllocError>
-    ensures { IfOk result (λ run. let log = ⟦<MemorySink as Sink>⟧.written run.log in
-        NoneFailed (⟦<MemoryBins as Sink>⟧.failed run.bins)
-        (⟦<MemorySink as Sink>⟧.failed run.log) log
-        → IsTangledHello (⟦<MemoryBins as Sink>⟧.beside run.bins).files log run.status) }
+    ensures { IfOk result (λ run. let log = text_of (⟦<MemorySink as Sink>⟧.model run.log) in
+        NoneFailed (⟦<MemoryBins as Sink>⟧.model run.bins).failed
+        (⟦<MemorySink as Sink>⟧.model run.log).failed log
+        → IsTangledHello (files_of (⟦<MemoryBins as Sink>⟧.model run.bins)) log run.status) }
 {
     let mut shelf = hello_shelf(alloc)?;
     let mut bins = MemoryBins::with_room(alloc, 1, 4096)?;
@@ -53,10 +53,10 @@ pub fn tangle_hello(alloc: Global) -> Result<Tangled, AllocError>
 
 /// Prints the merged lines of hello.w.
 pub fn merge_hello(alloc: Global) -> Result<Printed, AllocError>
-    ensures { IfOk result (λ run. let log = ⟦<MemorySink as Sink>⟧.written run.log in
-        NoneFailed (⟦<MemorySink as Sink>⟧.failed run.out)
-        (⟦<MemorySink as Sink>⟧.failed run.log) log
-        → IsMergedHello (⟦<MemorySink as Sink>⟧.written run.out) log run.status) }
+    ensures { IfOk result (λ run. let log = text_of (⟦<MemorySink as Sink>⟧.model run.log) in
+        NoneFailed (⟦<MemorySink as Sink>⟧.model run.out).failed
+        (⟦<MemorySink as Sink>⟧.model run.log).failed log
+        → IsMergedHello (text_of (⟦<MemorySink as Sink>⟧.model run.out)) log run.status) }
 {
     let mut shelf = hello_shelf(alloc)?;
     let mut out = MemorySink::with_room(alloc, 4096)?;
@@ -67,10 +67,10 @@ pub fn merge_hello(alloc: Global) -> Result<Printed, AllocError>
 
 /// Prints the dependencies of hello.w.
 pub fn depend_hello(alloc: Global) -> Result<Printed, AllocError>
-    ensures { IfOk result (λ run. let log = ⟦<MemorySink as Sink>⟧.written run.log in
-        NoneFailed (⟦<MemorySink as Sink>⟧.failed run.out)
-        (⟦<MemorySink as Sink>⟧.failed run.log) log
-        → IsRuleOfHello (⟦<MemorySink as Sink>⟧.written run.out) log run.status) }
+    ensures { IfOk result (λ run. let log = text_of (⟦<MemorySink as Sink>⟧.model run.log) in
+        NoneFailed (⟦<MemorySink as Sink>⟧.model run.out).failed
+        (⟦<MemorySink as Sink>⟧.model run.log).failed log
+        → IsRuleOfHello (text_of (⟦<MemorySink as Sink>⟧.model run.out)) log run.status) }
 {
     let mut shelf = hello_shelf(alloc)?;
     let mut out = MemorySink::with_room(alloc, 4096)?;

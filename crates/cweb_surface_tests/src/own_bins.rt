@@ -48,15 +48,9 @@ fn empty_file(alloc: Global, name: &str) -> Result<NamedFile, AllocError>
 }
 
 impl Sink for OneBin {
-    ghost use Rattle.cweb_surface_tests.specs.inner.OneBin.{beside_in, written_in};
+    ghost use Rattle.cweb_surface_tests.specs.inner.OneBin.{model_of};
 
-    ghost tells = { λ _. true };
-
-    ghost written = { written_in };
-
-    ghost failed = { λ bin. bin.failed };
-
-    ghost beside = { beside_in };
+    ghost model = { model_of };
 
     fn write(&mut self, piece: &[u8]) -> Result<usize, SinkFault> {
         let Some(mut draft) = self.draft.take() else {
@@ -78,8 +72,6 @@ impl Sink for OneBin {
 }
 
 impl Bins for OneBin {
-    ghost use Rattle.cweb_surface_tests.specs.inner.OneBin.{beside_in, written_in};
-
     fn start_file(&mut self, name: &str) -> Result<(), BinFault> {
         self.draft = None;
         match empty_file(self.alloc, name) {

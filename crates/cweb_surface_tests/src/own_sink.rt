@@ -1,5 +1,6 @@
 // A sink of a client's own.
-ghost use Rattle.std.specs.Prelude.{◌≡◌, true};
+ghost use Rattle.std.specs.Prelude.{◌≡◌, Some};
+ghost use Rattle.cweb_out.specs.Sinks.{always_open};
 
 use cweb_lines::{Sink, SinkFault};
 use std::alloc::Global;
@@ -24,11 +25,10 @@ impl ByteSink {
 }
 
 impl Sink for ByteSink {
-    ghost tells = { λ _. true };
-
-    ghost written = { λ sink. sink.bytes.items };
-
-    ghost failed = { λ sink. sink.failed };
+    ghost model = { λ sink. record {
+          failed = sink.failed;
+          contents = Some (record { bytes = sink.bytes.items; beside = always_open });
+        } };
 
     fn write(&mut self, piece: &[u8]) -> Result<usize, SinkFault> {
         let Some((first, _)) = piece.split_first() else {

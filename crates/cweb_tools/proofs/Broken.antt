@@ -1,5 +1,5 @@
 -- The devices after a stop within an act.
-use Rattle.cweb_tools.proofs.Common.{◌≡◌, inl, inr, ℕ, ◌+◌, List, [], ◌∷◌, ◌++◌, refl, sym, ◌∙◌, ap, subst, add-zero, arith, Option, Some, None, read_failures_of, bins_blame, File, Event, Stop, ReadFault, LineTooLong, TooMuchText, Memory, OutNotOpened, WriteFault, LogFault, Devices, SinkContents, SinkModel, ShelfModel, Act, says, reads, merges, writes, prints, FailsReading, FailsOutput, after_act, blaming, changed, failing, without_file, with_printed, ending, Breaks, PerformsActs, draft_in, files_in}
+use Rattle.cweb_tools.proofs.Common.{◌≡◌, inl, inr, ℕ, ◌+◌, List, [], ◌∷◌, ◌++◌, refl, sym, ◌∙◌, ap, subst, add-zero, arith, Option, Some, None, read_failures_of, bins_blame, Event, Stop, ReadFault, LineTooLong, TooMuchText, Memory, OutNotOpened, WriteFault, LogFault, Devices, SinkContents, SinkModel, ShelfModel, Act, says, reads, merges, writes, prints, FailsReading, FailsOutput, after_act, appended, blaming, changed, failing, without_file, with_printed, ending, Breaks, PerformsActs, draft_in, files_in}
 use Rattle.std.specs.Prelude.{option_map}
 use Rattle.std.specs.Option.{option_and_then}
 
@@ -15,34 +15,31 @@ then_on f g None = refl
 then_on f g (Some x) = refl
 
 -- The files and the draft after a change of an output's contents.
-pub files_stay : (change : SinkContents → SinkContents) → ((now : SinkContents) → (change now).files ≡ now.files)
+pub files_stay : (change : SinkContents → SinkContents) → ((now : SinkContents) → (change now).beside.files ≡ now.beside.files)
     → (out : SinkModel) → files_in (changed change out) ≡ files_in out
 files_stay change same out = map_on change _ out.contents
     ∙ (λ i. option_map (λ (now : SinkContents). same now i) out.contents)
 
-pub draft_goes : (change : SinkContents → SinkContents) → ((now : SinkContents) → (change now).draft ≡ None)
+pub draft_goes : (change : SinkContents → SinkContents) → ((now : SinkContents) → (change now).beside.draft ≡ None)
     → (out : SinkModel) → draft_in (changed change out) ≡ None
 draft_goes change gone out = then_on change _ out.contents
     ∙ (λ i. option_and_then (λ (now : SinkContents). gone now i) out.contents) ∙ no_draft out.contents
   where
     no_draft : (contents : Option SinkContents)
-        → option_and_then {U = File} (λ (now : SinkContents). None) contents ≡ None
+        → option_and_then {U = List ℕ} (λ (now : SinkContents). None) contents ≡ None
     no_draft None = refl
     no_draft (Some now) = refl
 
 -- Without a draft nothing is printed.
 pub draft_stays : (text : List ℕ) (out : SinkModel) → draft_in out ≡ None
     → draft_in (changed (with_printed text) out) ≡ None
-draft_stays text out none = printed_in out.contents ∙ ap (option_map more) none
+draft_stays text out none = same out.contents ∙ none
   where
-    more : File → File
-    more draft = record draft { bytes = draft.bytes ++ text }
-
-    printed_in : (contents : Option SinkContents)
-        → option_and_then (λ (now : SinkContents). now.draft) (option_map (with_printed text) contents)
-        ≡ option_map more (option_and_then (λ (now : SinkContents). now.draft) contents)
-    printed_in None = refl
-    printed_in (Some now) = refl
+    same : (contents : Option SinkContents)
+        → option_and_then (λ (now : SinkContents). now.beside.draft) (appended text contents)
+        ≡ option_and_then (λ (now : SinkContents). now.beside.draft) contents
+    same None = refl
+    same (Some now) = refl
 
 -- The shelf after a stop.
 abbrev pub shelf_after : Stop → List ℕ → ShelfModel → ShelfModel
@@ -106,7 +103,7 @@ after_printing text {old} broke = record {
 
 -- A change of the output.
 module _ {act : Act} {stop : Stop} {about : List ℕ} (of_output : IsOfOutput act) (change : SinkContents → SinkContents)
-    {old new : Devices} (same : (now : SinkContents) → (change now).files ≡ now.files)
+    {old new : Devices} (same : (now : SinkContents) → (change now).beside.files ≡ now.beside.files)
     (closed : draft_in old.out ≡ None → draft_in (changed change old.out) ≡ None)
     (no_read : shelf_after stop about old.shelf ≡ old.shelf) where
   output_broken : new ≡ record old { out = failing change old.out } → bins_blame stop ≡ 1

@@ -14,13 +14,15 @@ pub use Rattle.std.proofs.lemmas.List.Sums.{sum_by-append, sum_by-cons}
 pub use Rattle.std.proofs.lemmas.Option.{same_Some}
 pub use Rattle.std.specs.Borrow.{Bor}
 pub use Rattle.std.specs.List.{flat_map, list_all, list_any}
+pub use Rattle.std.specs.Prelude.{option_map}
 pub use Rattle.std.specs.Option.{option_copied}
 pub use Rattle.std.specs.Prelude.{None, Option, Some, IsErr, IsSome, IsTrue, Result, Ok, Err, count_by, decimal, codes}
 pub use Rattle.std.specs.Prelude.{◌==◌}
 pub use Rattle.std.specs.Prelude.{All, OnOk, IfSome, if◌then◌else◌, nat_le}
 pub use Rattle.std.specs.Str.{bytes_eq}
 pub use Rattle.cweb_files.specs.Files.{File, no_device, no_memory}
-pub use Rattle.cweb_files.specs.Sinks.{FailsWithin, SinkContents, SinkModel, WritesPrefix, Wrote, appended, changed}
+pub use Rattle.cweb_files.specs.Sinks.{FailsWithin, SinkContents, SinkModel, appended, changed}
+pub use Rattle.cweb_files.specs.surface.Writes.{WritesPrefix, Wrote}
 pub use Rattle.cweb_files.specs.Sinks.{committed, failing, known, with_draft, with_printed, without_draft, written}
 pub use Rattle.cweb_files.specs.declared.device.SinkFault.{SinkFault}
 pub use Rattle.cweb_files.specs.declared.place.FileId.{FileId}

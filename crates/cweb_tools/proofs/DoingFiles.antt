@@ -3,12 +3,6 @@ use Rattle.cweb_tools.proofs.Common.{◌≡◌, inl, inr, ℕ, Bool, List, [], �
 use Rattle.cweb_tools.proofs.Doing.{ends_done, ends_halted, ends_in, no_shelf}
 use Rattle.cweb_tools.proofs.Broken.{log_until}
 
--- Two changes of contents are one.
-pub changed_on : (f g : SinkContents → SinkContents) (contents : Option SinkContents)
-    → option_map f (option_map g contents) ≡ option_map (λ now. f (g now)) contents
-changed_on f g None = refl
-changed_on f g (Some now) = refl
-
 -- The output after a file is written, or not.
 pub file_done : {name text : List ℕ} {a d : SinkModel} → d ≡ changed (with_file name text) a
     → DoesInOut (writes name text ∷ []) None a d

@@ -1,6 +1,7 @@
 -- Worked examples: what each field of the headlines' records says of a run and its devices.
 use Rattle.cweb_tools.proofs.Common.{FileId, SourceLine, emitted_lines, written_lines, BreaksLimit, LineTooLong, ReadFault, OutNotOpened, WriteFault, LogFault, Breaks, merges, ending, ◌≡◌, ◌+◌, ℕ, List, [], ◌∷◌, ◌++◌, refl, ◌∙◌, ap, arith, codes, Option, Some, None, IsSome, File, no_device, Line, Event, took, fault, World, Found, web_at, change_at, found_course, OptionsModel, WebNames, Devices, SinkContents, SinkModel, appended, blaming, changed, failing, files_in, with_file, with_printed, without_file, Act, says, reads, writes, prints, after_act, RunEnds, completes, stops, RanFreely, DoesActs, acts_status, script, shown_by, Course, change_name, CanCome, MergeCanCome, TangleCourse, unread, not_there, change_not_there, tangling, tangled, planning, Web, Scanned, TanglePromises}
 use Rattle.cweb_files.specs.Files.{put_file}
+use Rattle.cweb_files.specs.surface.Writes.{always_open}
 use Rattle.std.specs.Prelude.{fold, option_map}
 use Rattle.cweb_log.specs.Items.{writing}
 use Rattle.cweb_files.specs.declared.place.Place.{Place}
@@ -56,7 +57,7 @@ one_fault before after status did = did.answered
 
 -- An output that is open gets what is printed.
 abbrev open_with : List ℕ → Option SinkContents
-open_with text = Some (record { files = []; draft = Some (file [] text); refused = None })
+open_with text = Some (record { bytes = text; beside = always_open })
 
 rule : (before after : Devices) (status : ℕ) → DoesActs (prints (codes "a.c: a.w\n") ∷ []) before after status
     → before.out.contents ≡ open_with (codes "% ") → after.out.contents ≡ open_with (codes "% a.c: a.w\n")
@@ -78,7 +79,8 @@ refuses : (old new : Devices)
     → Breaks (writes (codes "a.c") (codes "x\n")) (ending OutNotOpened (codes "a.c")) old new
     → old.out.contents ≡ open_with [] → new.out ≡ record {
       failed = old.out.failed + 1;
-      contents = Some (record { files = []; draft = None; refused = Some no_device });
+      contents =
+          Some (record { bytes = []; beside = record { files = []; draft = None; refused = Some no_device } });
     }
 refuses old new broke is_open = ap (λ (d : Devices). d.out) broke.1
     ∙ (λ i. failing (without_file (Some no_device)) (record { failed = old.out.failed; contents = is_open i }))
@@ -87,7 +89,7 @@ refuses old new broke is_open = ap (λ (d : Devices). d.out) broke.1
 loses : (old new : Devices) → Breaks (writes (codes "a.c") (codes "x\n")) (ending WriteFault (codes "a.c")) old new
     → old.out.contents ≡ open_with [] → new.out ≡ record {
       failed = old.out.failed + 1;
-      contents = Some (record { files = []; draft = None; refused = None });
+      contents = Some (record { bytes = []; beside = record { files = []; draft = None; refused = None } });
     }
 loses old new broke is_open = ap (λ (d : Devices). d.out) broke.1
     ∙ (λ i. failing (without_file None) (record { failed = old.out.failed; contents = is_open i }))
@@ -96,21 +98,24 @@ loses old new broke is_open = ap (λ (d : Devices). d.out) broke.1
 commits : (now : Devices) → now.out.contents ≡ open_with []
     → (after_act (writes (codes "a.c") (codes "x\n")) now).out ≡ record {
       failed = now.out.failed;
-      contents = Some (record { files = file (codes "a.c") (codes "x\n") ∷ []; draft = None; refused = None });
+      contents = Some (record {
+        bytes = [];
+        beside = record { files = file (codes "a.c") (codes "x\n") ∷ []; draft = None; refused = None };
+      });
     }
 commits now is_open = λ i.
     changed (with_file (codes "a.c") (codes "x\n")) (record { failed = now.out.failed; contents = is_open i })
 
 -- The log failed within a line.
 log_fails : (old new : Devices) → Breaks (says (writing (codes "a.c"))) (ending LogFault []) old new
-    → old.log.contents ≡ Some [] → (new.log.failed ≡ old.log.failed + 1)
-    × ((prefix rest : List ℕ) × (new.log.contents ≡ Some prefix) × (codes "Writing a.c\n" ≡ prefix ++ rest))
+    → old.log.contents ≡ open_with [] → (new.log.failed ≡ old.log.failed + 1)
+    × ((prefix rest : List ℕ) × (new.log.contents ≡ open_with prefix) × (codes "Writing a.c\n" ≡ prefix ++ rest))
 log_fails old new broke none = (
   ap (λ (log : SinkModel). log.failed) broke.log.is,
   (
     broke.log.prefix,
     broke.log.rest,
-    ap (λ (log : SinkModel). log.bytes) broke.log.is ∙ ap (appended broke.log.prefix) none,
+    ap (λ (log : SinkModel). log.contents) broke.log.is ∙ ap (appended broke.log.prefix) none,
     broke.log.whole,
   ),
 )

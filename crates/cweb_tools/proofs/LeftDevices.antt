@@ -9,13 +9,13 @@ use Rattle.cweb_tools.proofs.Leaving.{ends_draft, ends_files}
 
 -- The last refusal after a change of the contents.
 refusal_after : (change : SinkContents → SinkContents) (refused : Option Refused → Option Refused) → refused None ≡ None
-    → ((now : SinkContents) → (change now).refused ≡ refused now.refused) → (out : SinkModel)
+    → ((now : SinkContents) → (change now).beside.refused ≡ refused now.beside.refused) → (out : SinkModel)
     → last_refusal (changed change out) ≡ refused (last_refusal out)
 refusal_after change refused none is out = all out.contents
   where
     all : (contents : Option SinkContents)
-        → option_and_then (λ (now : SinkContents). now.refused) (option_map change contents)
-        ≡ refused (option_and_then (λ (now : SinkContents). now.refused) contents)
+        → option_and_then (λ (now : SinkContents). now.beside.refused) (option_map change contents)
+        ≡ refused (option_and_then (λ (now : SinkContents). now.beside.refused) contents)
     all None = sym none
     all (Some now) = is now
 

@@ -56,11 +56,7 @@ impl TrialSink {
 }
 
 impl Sink for TrialSink {
-    ghost tells = { λ _. false };
-
-    ghost written = { λ _. [] };
-
-    ghost failed = { λ sink. sink.failed };
+    ghost model = { λ sink. record { failed = sink.failed; contents = None } };
 
     fn write(&mut self, piece: &[u8]) -> Result<usize, SinkFault> {
         self.writes = self.writes.saturating_add(1);

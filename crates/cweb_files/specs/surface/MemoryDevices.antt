@@ -2,7 +2,8 @@
 use Rattle.std.specs.Prelude.{◌≡◌, ◌<◌, ℕ, List, [], ◌∷◌, Option, Some, None, if◌then◌else◌, drop, length, slice_get}
 use Rattle.std.specs.Prelude.{string_bytes, vec_capacity}
 use Rattle.std.specs.Str.{bytes_eq}
-use Rattle.cweb_files.specs.Sinks.{SinkModel, always_open}
+use Rattle.cweb_files.specs.Sinks.{SinkModel}
+use Rattle.cweb_files.specs.surface.Writes.{always_open}
 use Rattle.cweb_files.specs.declared.memory.Entry.{Entry}
 use Rattle.cweb_files.specs.declared.memory.MemoryShelf.{MemoryShelf}
 use Rattle.cweb_files.specs.declared.memory.MemoryReader.{MemoryReader}

@@ -1,7 +1,8 @@
 -- How far the output of a merge is, and why it stops.
 use Rattle.std.specs.Prelude.{◌≡◌, ◌≤◌, ◌+◌, ℕ, List, [], ◌∷◌, ◌++◌, length, Option, None, Some, Result, Err}
 use Rattle.std.specs.Prelude.{IsTrue, IfErr, IfSome, OnErr, OnOk}
-use Rattle.cweb_files.specs.Sinks.{FailsWithin, Prints, SinkModel, WritesPrefix, written}
+use Rattle.cweb_files.specs.Sinks.{FailsWithin, SinkModel, written}
+use Rattle.cweb_files.specs.surface.Writes.{Prints, WritesPrefix}
 use Rattle.cweb_files.specs.surface.Frames.{KeepsShelf}
 use Rattle.cweb_files.specs.declared.device.Shelf.{Ghosts as Shelf}
 use Rattle.cweb_files.specs.declared.device.Sink.{Ghosts as Sink}

@@ -1,6 +1,7 @@
 -- What an output buffer holds.
 use Rattle.std.specs.Prelude.{ℕ, List, Some}
-use Rattle.cweb_files.specs.Sinks.{SinkModel, always_open}
+use Rattle.cweb_files.specs.Sinks.{SinkModel}
+use Rattle.cweb_files.specs.surface.Writes.{always_open}
 
 -- The buffered bytes, and how many strings were refused because they didn't fit.
 pub record Buffered : Type 0 where

@@ -1,6 +1,7 @@
 -- The bytes that a printer's calls add to a sink.
 use Rattle.std.specs.Prelude.{ℕ, ◌≡◌, List, [], ◌∷◌, ◌++◌, Result}
-use Rattle.cweb_files.specs.Sinks.{SinkModel, Wrote}
+use Rattle.cweb_files.specs.Sinks.{SinkModel}
+use Rattle.cweb_files.specs.surface.Writes.{Wrote}
 use Rattle.cweb_input.specs.surface.OpenedFileNames.{opened_file_names}
 use Rattle.cweb_store.specs.Parts.{Token}
 use Rattle.cweb_print.specs.Printing.{Setting, print, file, setting}

@@ -1,7 +1,8 @@
 // Prints into the buffer of a sink.
 ghost use Rattle.std.specs.Prelude.{◌≡◌, ◌<◌, ◌+◌, ◌^◌, ◌++◌, [], false, true, OnOk, OnErr};
 ghost use Rattle.cweb_files.specs.Bins.{CountsFailure};
-ghost use Rattle.cweb_files.specs.Sinks.{Wrote, written};
+ghost use Rattle.cweb_files.specs.Sinks.{written};
+ghost use Rattle.cweb_files.specs.surface.Writes.{Wrote};
 ghost use Rattle.cweb_store.specs.surface.TokenModels.{token_model};
 ghost use Rattle.cweb_print.specs.inner.Printables.{CanPrint, all_macro_lines, printable_bytes};
 ghost use Rattle.cweb_print.specs.surface.Classes.{left_after_tokens};

@@ -1,6 +1,6 @@
 // Writes macro lines to a sink.
 ghost use Rattle.std.specs.Prelude.{◌≡◌, ◌≤◌, ◌<◌, ◌+◌, ◌^◌, ◌++◌, length, map, IfOk};
-ghost use Rattle.cweb_files.specs.Sinks.{Wrote};
+ghost use Rattle.cweb_files.specs.surface.Writes.{Wrote};
 ghost use Rattle.cweb_store.specs.surface.TokenModels.{token_model};
 ghost use Rattle.cweb_store.specs.Parts.{all_tokens};
 ghost use Rattle.cweb_store.specs.inner.DirectBytes.{direct_bytes};

@@ -1,7 +1,7 @@
 // Line marks (`#line`).
 ghost use Rattle.std.specs.Prelude.{◌≡◌, ◌<◌, ◌+◌, ◌^◌, ◌++◌};
 ghost use Rattle.std.specs.List.{list_any};
-ghost use Rattle.cweb_files.specs.Sinks.{Wrote};
+ghost use Rattle.cweb_files.specs.surface.Writes.{Wrote};
 ghost use Rattle.cweb_print.specs.Printing.{mark_line, quoted, quoted_byte};
 ghost use Rattle.cweb_print.specs.inner.PrintParts.{file_name_end, wants_backslash};
 

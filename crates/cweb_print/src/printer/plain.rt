@@ -1,7 +1,7 @@
 // The bytes of tokens that don't depend on the previous token.
 ghost use Rattle.std.specs.Prelude.{◌≡◌, ◌<◌, ◌+◌, ◌^◌, nat_le};
 ghost use Rattle.std.specs.List.{list_any};
-ghost use Rattle.cweb_files.specs.Sinks.{Wrote};
+ghost use Rattle.cweb_files.specs.surface.Writes.{Wrote};
 ghost use Rattle.cweb_store.specs.surface.TokenModels.{token_model};
 ghost use Rattle.cweb_print.specs.Printing.{plain_bytes, word_byte, word_bytes};
 ghost use Rattle.cweb_print.specs.inner.PrintParts.{numbered_comment};

@@ -1,12 +1,22 @@
 -- What the programs make of the web hello.w.
-use Rattle.std.specs.Prelude.{◌≡◌, ◌≢◌, ℕ, List, [], ◌∷◌, ◌++◌, codes, Option, Some, None, if◌then◌else◌}
+use Rattle.std.specs.Prelude.{◌≡◌, ◌≢◌, ℕ, List, [], ◌∷◌, ◌++◌, codes, Option, Some, None, if◌then◌else◌, option_map}
+use Rattle.std.specs.Option.{unwrap_or}
 use Rattle.std.specs.Str.{bytes_eq}
 use Rattle.cweb_out.specs.Files.{File}
+use Rattle.cweb_out.specs.Sinks.{SinkContents, SinkModel}
 use Rattle.cweb_surface_tests.specs.declared.hello.TheConstants.{HELLO}
 
 -- The files of a shelf with hello.w alone.
 abbrev pub hello_contents : List ℕ → Option (List ℕ)
 hello_contents name = if bytes_eq (codes "hello.w") name then Some HELLO.now else None
+
+-- The bytes of an observable sink.
+abbrev pub text_of : SinkModel → List ℕ
+text_of sink = unwrap_or (option_map (λ (now : SinkContents). now.bytes) sink.contents) []
+
+-- The files of observable bins.
+abbrev pub files_of : SinkModel → List File
+files_of bins = unwrap_or (option_map (λ (now : SinkContents). now.beside.files) bins.contents) []
 
 -- No write to the output or to the log failed, and the log doesn't end with the line that memory ran out.
 pub record NoneFailed (out_failed log_failed : ℕ) (log : List ℕ) : Type 0 where

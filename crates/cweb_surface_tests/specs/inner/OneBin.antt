@@ -1,6 +1,7 @@
 -- What bins of one file store.
 use Rattle.std.specs.Prelude.{ℕ, List, [], Option, Some, None, option_map, option_to_list, string_bytes}
-use Rattle.cweb_out.specs.Files.{File, Beside, Refused, no_device, no_memory}
+use Rattle.cweb_out.specs.Files.{File, Refused, no_device, no_memory}
+use Rattle.cweb_out.specs.Sinks.{Beside, SinkModel}
 use Rattle.cweb_out.specs.declared.BinFault.{BinFault}
 use Rattle.cweb_out.specs.declared.BinFault.TheVariants.{Memory, Device}
 use Rattle.cweb_surface_tests.specs.declared.own_bins.NamedFile.{NamedFile}
@@ -13,9 +14,6 @@ abbrev pub draft_bytes : Option NamedFile → List ℕ
 draft_bytes None = []
 draft_bytes (Some file) = file.bytes.items
 
-abbrev pub written_in : OneBin → List ℕ
-written_in bin = draft_bytes bin.draft
-
 abbrev pub why : Option BinFault → Option Refused
 why None = None
 why (Some Memory) = Some no_memory
@@ -26,4 +24,10 @@ beside_in bin = record {
   files = option_to_list (option_map file_of bin.file);
   draft = option_map (λ (file : NamedFile). string_bytes file.name) bin.draft;
   refused = why bin.refused;
+}
+
+abbrev pub model_of : OneBin → SinkModel
+model_of bin = record {
+  failed = bin.failed;
+  contents = Some (record { bytes = draft_bytes bin.draft; beside = beside_in bin });
 }

@@ -1,7 +1,8 @@
 -- What contracts know of a stream.
 use Rattle.std.specs.Prelude.{ℕ, Bool, List, []}
 use Rattle.std.specs.Option.{unwrap_or}
-use Rattle.cweb_files.specs.Sinks.{SinkModel, always_open, known}
+use Rattle.cweb_files.specs.Sinks.{SinkModel, known}
+use Rattle.cweb_files.specs.surface.Writes.{always_open}
 use Rattle.std.specs.declared.io.traits.Write.{Ghosts as Write}
 use Rattle.cweb_system.specs.declared.streams.StdSink.{StdSink}
 

@@ -24,11 +24,7 @@ impl FailingBins {
 }
 
 impl Sink for FailingBins {
-    ghost tells = { λ _. false };
-
-    ghost written = { λ _. [] };
-
-    ghost failed = { λ bins. bins.failed };
+    ghost model = { λ bins. record { failed = bins.failed; contents = None } };
 
     fn write(&mut self, piece: &[u8]) -> Result<usize, SinkFault> {
         if (self.good == 0 && self.failed == 0) || self.bins.failures() > 0 {

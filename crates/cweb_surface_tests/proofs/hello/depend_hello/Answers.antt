@@ -1,6 +1,6 @@
 use Rattle.std.proofs.Common.{refl, sym, ◌∙◌}
 use Rattle.cweb_tools.proofs.HeadlineExamples.{hello_depends}
-use Rattle.cweb_surface_tests.proofs.KnownBytes.{ends_not, printed, value}
+use Rattle.cweb_surface_tests.proofs.KnownBytes.{bytes_of, ends_not, printed}
 use Rattle.cweb_surface_tests.proofs.hello.depend_hello.Goals as goal
 
 pub returns : goal.returns
@@ -12,6 +12,6 @@ returns c = λ none.
       memory = ends_not none.memory;
     }) c.run_wdep-status.ensures.freely in record {
       printed = rw c.in_ok-out.ensures.empty at (printed left.printed);
-      logged = value left.log ∙ c.in_ok-log.ensures.empty;
+      logged = bytes_of left.log ∙ c.in_ok-log.ensures.empty;
       answered = left.status_is;
     }

@@ -1,6 +1,6 @@
 use Rattle.std.proofs.Common.{refl, sym, ◌∙◌}
 use Rattle.cweb_tools.proofs.HeadlineExamples.{hello_tangled}
-use Rattle.cweb_surface_tests.proofs.KnownBytes.{ends_not, value}
+use Rattle.cweb_surface_tests.proofs.KnownBytes.{bytes_of, ends_not, value}
 use Rattle.cweb_surface_tests.proofs.hello.tangle_hello.Goals as goal
 
 pub returns : goal.returns
@@ -12,6 +12,6 @@ returns c = λ none.
       memory = ends_not none.memory;
     }) c.run_ctangle-status.ensures.freely in record {
       written = rw c.in_ok-bins.ensures.empty at (value left.files);
-      logged = rw c.in_ok-log.ensures.empty at (value left.log);
+      logged = rw c.in_ok-log.ensures.empty at (bytes_of left.log);
       answered = left.status_is;
     }
