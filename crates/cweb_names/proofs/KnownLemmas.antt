@@ -59,12 +59,6 @@ pub within-push : (n : ℕ) (firsts : List ℕ) (f : ℕ) → AllByRecursion (λ
 within-push n [] f within less = (less, tt)
 within-push n (g ∷ firsts) f within less = (within.0, within-push n firsts f within.1 less)
 
-pub within-at : (n : ℕ) (firsts : List ℕ) (i f : ℕ) → AllByRecursion (λ (g : ℕ). g < n) firsts
-    → slice_get firsts i ≡ Some f → f < n
-within-at n [] i f within here = cc
-within-at n (g ∷ firsts) zero f within here = let same : g ≡ f = cc in subst (λ (h : ℕ). h < n) same within.0
-within-at n (g ∷ firsts) (suc i) f within here = within-at n firsts i f within.1 here
-
 pub firsts-back : (strings : List (List ℕ)) (firsts : List ℕ)
     → map (λ (n : Name). n.first) (names_at strings firsts) ≡ firsts
 firsts-back strings [] = refl

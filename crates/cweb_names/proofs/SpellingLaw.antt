@@ -12,10 +12,6 @@ use Rattle.cweb_names.specs.Names.{squeezed, squeezed_after}
 use Rattle.cweb_names.specs.laws.Squeezed.{is_other, HasSingleBlanks, SpellingsAreSqueezed}
 use Rattle.cweb_names.proofs.Squeezing.{squeezed_by, fits_by, squeezed_stays}
 
-byte-fits : (gap : Bool) (b : ℕ) (t : List ℕ) → is_white b ≡ false → is_squeezed_after false t ≡ true
-    → is_squeezed_after gap (b ∷ t) ≡ true
-byte-fits gap b t e h = ap (λ w. fits_by w gap b t) e ∙ h
-
 -- The rest after a byte that isn't white, and after white space.
 abbrev Fits : List ℕ → Type 0
 Fits t = (is_squeezed_after false (squeezed_after true [] t) ≡ true)

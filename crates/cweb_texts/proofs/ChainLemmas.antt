@@ -53,23 +53,6 @@ nexts-push ws w nexts buckets head count last old k v there = elim (get-push ws 
       (link-grow ws w buckets (home_bucket_of w.key buckets) head (length ws) last (omega arith)))
 ]
 
--- a word that was linked
-pub chains-push : (ws : List Word) (w : Word) (heads nexts : List ℕ) (bucket : ℕ) → length nexts < 4294967295
-    → bucket ≡ home_bucket_of w.key (length heads) → bucket < length heads → AreChains ws heads nexts
-    → AreChains (ws ++ w ∷ []) (set heads bucket (length nexts + 1)) (nexts ++ slice_index_or heads bucket 0 ∷ [])
-chains-push ws w heads nexts bucket few own within chains =
-    let head = slice_index_or heads bucket 0 in
-    grind (
-      arith,
-      length-set heads bucket (length nexts + 1),
-      length-append nexts (head ∷ []),
-      length-append ws (w ∷ []),
-      heads-push ws w heads,
-      nexts-push ws w nexts (length heads) head,
-      chains.from_bucket,
-      chains.from_word,
-    )
-
 -- all words of the bucket from the next link on are others, where those from a link on are
 pub next-passed : (other : Word → Type 0) (ws : List Word) (buckets bucket link next : ℕ) (w : Word)
     → IsLink ws buckets bucket next (link - 1) → slice_get ws (link - 1) ≡ Some w → other w
