@@ -57,7 +57,7 @@ pub use Rattle.cweb_out.specs.inner.Uses.{PassesNoUse}
 pub use Rattle.cweb_out.specs.laws.Laws.{EachUsesNext, IsCycle, ReplacesUses, is_no_use, is_joined, print_following}
 pub use Rattle.cweb_out.specs.laws.Laws.{is_whole_lines}
 pub use Rattle.cweb_out.specs.surface.FrameStacks.{left, RanksAreBelow, IsFrameStack, rank, AreOwned, IsOwned}
-pub use Rattle.cweb_out.specs.surface.FrameStacks.{left_at_depth, AreRanked}
+pub use Rattle.cweb_out.specs.surface.FrameStacks.{left_at_depth}
 pub use Rattle.cweb_out.specs.surface.FrameSuffixes.{suffix, FrameIsWithin, PartIsWithin}
 pub use Rattle.cweb_out.specs.surface.Outputs.{root_at, IsPlanOf}
 pub use Rattle.cweb_out.specs.surface.Ranks.{least, name_rank}

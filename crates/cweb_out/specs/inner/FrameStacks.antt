@@ -48,7 +48,6 @@ level w fs = names w + 1 - length fs
 -- A token of the top frame was taken.
 pub record Advances (w : Stored) (old new : List Frame) (t : Token) : Type 0 where
   pub left : left w old ≡ put w (expanded_name w (level w new)) t ++ left w new
-  pub below : RanksAreBelow w (level w new) (use_of w t)
   pub lower : UsesLower w new t
   pub work : token_work w (name_work w (level w new)) t + work_of w (names w) new ≤ work_of w (names w) old
   pub some : 0 < length new
