@@ -1,15 +1,20 @@
 -- Steps of a stack of frames.
 use Rattle.std.specs.Prelude.{ℕ, ◌≤◌, ◌<◌, ◌≡◌, ◌+◌, ◌-◌, suc, zero, List, [], ◌∷◌, ◌++◌, Option, Some, None}
-use Rattle.std.specs.Prelude.{length, sum_by}
+use Rattle.std.specs.Prelude.{length, sum_by, true}
+use Rattle.std.specs.List.{list_all}
 use Rattle.cweb_names.specs.declared.name.NameId.{NameId}
 use Rattle.cweb_names.specs.declared.name.NameRef.{NameRef}
 use Rattle.cweb_store.specs.Parts.{Token, Name}
 use Rattle.cweb_store.specs.Calls.{Stored}
-use Rattle.cweb_out.specs.Expansion.{names, joined, use_of, resolved_use, expanded_name, put}
+use Rattle.cweb_out.specs.Expansion.{names, ends_below, joined, use_of, resolved_use, expanded_name, put}
 use Rattle.cweb_out.specs.surface.FrameSuffixes.{suffix}
 use Rattle.cweb_out.specs.declared.expander.Expander.{Expander}
 use Rattle.cweb_out.specs.declared.frame.Frame.{Frame}
-use Rattle.cweb_out.specs.surface.FrameStacks.{IsReady, RanksAreBelow, rank, left}
+use Rattle.cweb_out.specs.surface.FrameStacks.{IsReady, rank, left}
+
+-- Each name of the list has a rank below k.
+abbrev pub RanksAreBelow : Stored → ℕ → List NameId → Type 0
+RanksAreBelow w k ns = list_all (ends_below w k) ns ≡ true
 
 -- The rank of the top frame's owner, or a bound if there is no frame.
 abbrev pub top_rank : Stored → ℕ → List Frame → ℕ

@@ -1,10 +1,9 @@
 -- The model and invariant of a stack of frames.
 use Rattle.std.specs.Prelude.{ℕ, ◌<◌, ◌≡◌, ◌+◌, suc, zero, List, [], ◌∷◌, ◌++◌, true, Option, Some, None, vec_capacity}
-use Rattle.std.specs.List.{list_all}
 use Rattle.cweb_names.specs.declared.name.NameId.{NameId}
 use Rattle.cweb_store.specs.Parts.{Token}
 use Rattle.cweb_store.specs.Calls.{Stored}
-use Rattle.cweb_out.specs.Expansion.{names, ends_below, list_ends, expand}
+use Rattle.cweb_out.specs.Expansion.{names, list_ends, expand}
 use Rattle.cweb_out.specs.surface.Ranks.{name_rank}
 use Rattle.cweb_out.specs.Outputs.{root_list}
 use Rattle.cweb_out.specs.surface.FrameSuffixes.{FrameIsWithin, suffix}
@@ -16,10 +15,6 @@ abbrev pub left_at_depth : Stored → ℕ → List Frame → List Token
 left_at_depth w k [] = []
 left_at_depth w zero (f ∷ fs) = left_at_depth w zero fs ++ expand w zero (suffix w f)
 left_at_depth w (suc k) (f ∷ fs) = left_at_depth w k fs ++ expand w (suc k) (suffix w f)
-
--- Each name of the list has a rank below k.
-abbrev pub RanksAreBelow : Stored → ℕ → List NameId → Type 0
-RanksAreBelow w k ns = list_all (ends_below w k) ns ≡ true
 
 -- The frame is within the tokens. It holds a suffix of its owner's list, and all names that the list uses have ranks.
 pub record IsOwned (w : Stored) (f : Frame) : Type 0 where
