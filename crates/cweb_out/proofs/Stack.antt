@@ -1,25 +1,19 @@
 -- The model and invariant of a stack under push and pop.
-use Rattle.cweb_out.proofs.Common.{◌≡◌, ◌≤◌, ◌+◌, ◌-◌, ℕ, zero, suc, [], ◌∷◌, ◌++◌, List, length, sym, ◌∙◌, ap, arith, append_assoc, append-nil, length-append, subst, sum_by, sum_by-cons, Token, Stored, names, expand, expanded_name, put, Frame, suffix, left_at_depth, work_of, list_work, AreOwned, IsFrameStack, UsesLower, Advances, left, level, name_work, token_work}
+use Rattle.cweb_out.proofs.Common.{◌≡◌, ◌≤◌, ◌+◌, ◌-◌, ℕ, suc, [], ◌∷◌, ◌++◌, List, length, sym, ◌∙◌, ap, arith, append_assoc, append-nil, length-append, subst, sum_by, sum_by-cons, Token, Stored, names, expand, expanded_name, put, Frame, suffix, left_at_depth, work_of, list_work, AreOwned, IsFrameStack, UsesLower, Advances, left, level, name_work, token_work}
 use Rattle.cweb_out.proofs.Owners.{OnTop, AreOwned-pop, AreOwned-push}
 
 pub left_of-push : (w : Stored) (k : ℕ) (fs : List Frame) (f : Frame)
     → left_at_depth w k (fs ++ f ∷ []) ≡ expand w (k - length fs) (suffix w f) ++ left_at_depth w k fs
-left_of-push w zero [] f = sym (append-nil _)
-left_of-push w (suc k) [] f = let n : suc k - 0 ≡ suc k = omega arith in rw n (sym (append-nil _))
-left_of-push w zero (g ∷ fs) f =
-    let n : zero - suc (length fs) ≡ zero - length fs = omega arith in rw (left_of-push w zero fs f, append_assoc, n)
-left_of-push w (suc k) (g ∷ fs) f =
-    let n : suc k - suc (length fs) ≡ k - length fs = omega arith in rw (left_of-push w k fs f, append_assoc, n)
+left_of-push w k [] f = let n : k - 0 ≡ k = omega arith in rw n (sym (append-nil _))
+left_of-push w k (g ∷ fs) f =
+    let n : k - suc (length fs) ≡ (k - 1) - length fs = omega arith in
+    rw (left_of-push w (k - 1) fs f, append_assoc, n)
 
 pub work_of-push : (w : Stored) (k : ℕ) (fs : List Frame) (f : Frame)
     → work_of w k (fs ++ f ∷ []) ≡ list_work w (k - length fs) (suffix w f) + work_of w k fs
-work_of-push w zero [] f = omega arith
-work_of-push w (suc k) [] f = let n : suc k - 0 ≡ suc k = omega arith in rw n (omega arith)
-work_of-push w zero (g ∷ fs) f =
-    let n : zero - suc (length fs) ≡ zero - length fs = omega arith in
-    rw n (omega (arith, work_of-push w zero fs f))
-work_of-push w (suc k) (g ∷ fs) f =
-    let n : suc k - suc (length fs) ≡ k - length fs = omega arith in rw n (omega (arith, work_of-push w k fs f))
+work_of-push w k [] f = let n : k - 0 ≡ k = omega arith in rw n (omega arith)
+work_of-push w k (g ∷ fs) f =
+    let n : k - suc (length fs) ≡ (k - 1) - length fs = omega arith in rw n (omega (arith, work_of-push w (k - 1) fs f))
 
 pub Valid-pop : {w : Stored} {all fs : List Frame} {f : Frame} {room : ℕ} → all ≡ fs ++ f ∷ []
     → IsFrameStack w all room → IsFrameStack w fs room × OnTop w (names w + 1) fs f

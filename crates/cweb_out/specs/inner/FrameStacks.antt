@@ -43,8 +43,7 @@ list_work w k ts = 1 + sum_by (token_work w (name_work w k)) ts
 
 abbrev pub work_of : Stored → ℕ → List Frame → ℕ
 work_of w k [] = 0
-work_of w zero (f ∷ fs) = work_of w zero fs + list_work w zero (suffix w f)
-work_of w (suc k) (f ∷ fs) = work_of w k fs + list_work w (suc k) (suffix w f)
+work_of w k (f ∷ fs) = work_of w (k - 1) fs + list_work w k (suffix w f)
 
 -- The depth to which the top frame is expanded.
 abbrev pub level : Stored → List Frame → ℕ

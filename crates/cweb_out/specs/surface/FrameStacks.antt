@@ -1,5 +1,5 @@
 -- The model and invariant of a stack of frames.
-use Rattle.std.specs.Prelude.{ℕ, ◌<◌, ◌≡◌, ◌+◌, suc, zero, List, [], ◌∷◌, ◌++◌, true, Option, Some, None, vec_capacity}
+use Rattle.std.specs.Prelude.{ℕ, ◌<◌, ◌≡◌, ◌+◌, ◌-◌, List, [], ◌∷◌, ◌++◌, true, Option, Some, None, vec_capacity}
 use Rattle.cweb_names.specs.declared.name.NameId.{NameId}
 use Rattle.cweb_store.specs.Parts.{Token}
 use Rattle.cweb_store.specs.Calls.{Stored}
@@ -13,8 +13,7 @@ use Rattle.cweb_out.specs.declared.frame.Frame.{Frame}
 -- The expanded suffixes of all frames, top frame first. The bottom frame is first in the list and is expanded k deep.
 abbrev pub left_at_depth : Stored → ℕ → List Frame → List Token
 left_at_depth w k [] = []
-left_at_depth w zero (f ∷ fs) = left_at_depth w zero fs ++ expand w zero (suffix w f)
-left_at_depth w (suc k) (f ∷ fs) = left_at_depth w k fs ++ expand w (suc k) (suffix w f)
+left_at_depth w k (f ∷ fs) = left_at_depth w (k - 1) fs ++ expand w k (suffix w f)
 
 -- The frame is within the tokens. It holds a suffix of its owner's list, and all names that the list uses have ranks.
 pub record IsOwned (w : Stored) (f : Frame) : Type 0 where

@@ -1,4 +1,4 @@
-use Rattle.cweb_out.proofs.Common.{arith, ◌≡◌, ◌∷◌, vec_capacity, refl, sym, ap, ◌∙◌, subst, Some, length, rules, All, all_tokens, Stored, resolved_use, joined, PartIsWithin, tokens_of_parts}
+use Rattle.cweb_out.proofs.Common.{arith, ◌≡◌, ◌∷◌, vec_capacity, refl, sym, ap, ◌∙◌, subst, Some, length, All, all_tokens, Stored, resolved_use, joined, PartIsWithin, tokens_of_parts}
 use Rattle.cweb_out.proofs.Owners.{room-above}
 use Rattle.cweb_out.proofs.StackUses.{Entered, entered}
 use Rattle.cweb_out.proofs.expander.Expander.enter.Goals as goal
@@ -32,9 +32,3 @@ returns-clause-keeps c = record { store = refl; plan = refl; valid = (all c).val
 
 pub returns-clause-enters : goal.returns-clause-enters
 returns-clause-enters c = (all c).enters
-
-pub returns-in_default-next-clause-keeps : goal.returns-in_default-next-clause-keeps
-returns-in_default-next-clause-keeps c = search rules
-
-pub returns-in_default-next-clause-enters : goal.returns-in_default-next-clause-enters
-returns-in_default-next-clause-enters c = search rules
