@@ -1,5 +1,5 @@
 -- The owners of frames: the ranks of their lists, and the prefixes that were taken.
-use Rattle.cweb_out.proofs.Common.{◌≡◌, ◌≤◌, ◌<◌, ◌+◌, ◌-◌, ℕ, zero, suc, Bool, true, false, List, [], ◌∷◌, ◌++◌, refl, sym, ◌∙◌, ap, arith, append_assoc, subst, Option, Some, None, option_to_list, list_all, NameId, NameRef, Token, Name, Stored, names, use_of, uses, resolved_use, joined, ends_below, least, list_ends, name_rank, root_list, Frame, FrameIsWithin, suffix, length, rank, top_rank, RanksAreBelow, AreOwned, IsOwned, UsesLower, and_parts}
+use Rattle.cweb_out.proofs.Common.{◌≡◌, ◌≤◌, ◌<◌, ◌+◌, ◌-◌, ℕ, zero, suc, Bool, true, false, List, [], ◌∷◌, ◌++◌, refl, sym, ◌∙◌, ap, arith, append_assoc, subst, Option, Some, None, list_all, NameId, NameRef, Token, Name, Stored, names, use_of, uses, resolved_use, joined, ends_below, least, list_ends, name_rank, root_list, Frame, FrameIsWithin, suffix, length, rank, top_rank, RanksAreBelow, AreOwned, IsOwned, UsesLower, and_parts}
 use Rattle.cweb_out.proofs.Ranks.{all-parts, grows-more}
 
 least-le : (test : ℕ → Bool) (n k : ℕ) → test k ≡ true → least test n ≤ k
@@ -14,12 +14,7 @@ least-le test (suc n) k h = by (test zero) refl k h (λ j e. least-le (λ i. tes
 
 least-holds : (test : ℕ → Bool) (n : ℕ) → test n ≡ true → test (least test n) ≡ true
 least-holds test zero h = h
-least-holds test (suc n) h = by (test zero) refl (least-holds (λ i. test (suc i)) n h)
-  where
-    by : (b : Bool) → test zero ≡ b → test (suc (least (λ i. test (suc i)) n)) ≡ true
-        → test (elim b [ true ↦ zero | false ↦ suc (least (λ i. test (suc i)) n) ]) ≡ true
-    by true e later = e
-    by false e later = later
+least-holds test (suc n) h = grind (arith, test zero, least-holds (λ i. test (suc i)) n h)
 
 -- A rank is below each number that bounds it.
 rank-below : (w : Stored) (k : ℕ) (n : NameId) → ends_below w k n ≡ true → name_rank w n < k
@@ -40,21 +35,12 @@ top-lower w above (f ∷ fs) h = omega (arith, h.1, top-lower w (rank w f.owner)
 
 used-below : (w : Stored) (fs : List Frame) (r : NameRef) (m : NameId) → UsesLower w fs (Name r)
     → resolved_use w r ≡ Some m → ends_below w (top_rank w (names w + 1) fs) m ≡ true
-used-below w fs r m lower e =
-    let top : ℕ = top_rank w (names w + 1) fs in
-    let used : list_all (ends_below w top) (m ∷ []) ≡ true =
-    subst (λ p. list_all (ends_below w top) (option_to_list p) ≡ true) e lower in
-    (and_parts (ends_below w top m) true used).0
+used-below w fs r m lower e = grind (arith, and_parts)
 
 -- A name that the top frame's list uses has room on the stack.
 pub room-above : (w : Stored) (fs : List Frame) (r : NameRef) (m : NameId) → AreOwned w (names w + 1) fs
     → UsesLower w fs (Name r) → resolved_use w r ≡ Some m → length fs < names w + 1
-room-above w fs r m below lower e =
-    omega (
-      arith,
-      rank-below w (top_rank w (names w + 1) fs) m (used-below w fs r m lower e),
-      top-lower w (names w + 1) fs below,
-    )
+room-above w fs r m below lower e = grind (arith, rank-below, used-below, top-lower)
 
 -- A frame that may be pushed onto others.
 pub record OnTop (w : Stored) (above : ℕ) (fs : List Frame) (f : Frame) : Type 0 where
@@ -79,14 +65,11 @@ AreOwned-push {w} above (g ∷ fs) t = (
 pub AreOwned-pop : {w : Stored} (above : ℕ) (fs : List Frame) {f : Frame} → AreOwned w above (fs ++ f ∷ [])
     → OnTop w above fs f
 AreOwned-pop above [] h = record { below = tt; owned = h.0; lower = h.1 }
-AreOwned-pop {w} above (g ∷ fs) h =
-    let t = AreOwned-pop (rank w g.owner) fs h.2 in
-    record { below = (h.0, h.1, t.below); owned = t.owned; lower = t.lower }
+AreOwned-pop {w} above (g ∷ fs) h = grind (arith, AreOwned-pop (rank w g.owner) fs h.2)
 
 uses-append : (w : Stored) (xs ys : List Token) → uses w (xs ++ ys) ≡ uses w xs ++ uses w ys
 uses-append w [] ys = refl
-uses-append w (x ∷ xs) ys = ap (λ (ns : List NameId). use_of w x ++ ns) (uses-append w xs ys)
-    ∙ sym (append_assoc (use_of w x) (uses w xs) (uses w ys))
+uses-append w (x ∷ xs) ys = grind (arith, append_assoc, uses-append w xs ys)
 
 -- A token of the list was taken.
 pub OnTop-next : {w : Stored} {above : ℕ} {fs : List Frame} {f g : Frame} (t : Token) → suffix w f ≡ t ∷ suffix w g

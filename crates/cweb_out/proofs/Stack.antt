@@ -1,30 +1,24 @@
 -- The model and invariant of a stack under push and pop.
-use Rattle.cweb_out.proofs.Common.{◌≡◌, ◌≤◌, ◌+◌, ◌-◌, ℕ, suc, [], ◌∷◌, ◌++◌, List, length, sym, ◌∙◌, ap, arith, append_assoc, append-nil, length-append, subst, sum_by, sum_by-cons, Token, Stored, names, expand, expanded_name, put, Frame, suffix, left_at_depth, work_of, list_work, AreOwned, IsFrameStack, UsesLower, Advances, left, level, name_work, token_work}
+use Rattle.cweb_out.proofs.Common.{◌≡◌, ◌≤◌, ◌+◌, ◌-◌, ℕ, [], ◌∷◌, ◌++◌, List, length, sym, ◌∙◌, ap, arith, append_assoc, append-nil, length-append, sum_by, sum_by-cons, Token, Stored, names, expand, expanded_name, put, Frame, suffix, left_at_depth, work_of, list_work, IsFrameStack, UsesLower, Advances, left, level, name_work, token_work}
 use Rattle.cweb_out.proofs.Owners.{OnTop, AreOwned-pop, AreOwned-push}
 
 pub left_of-push : (w : Stored) (k : ℕ) (fs : List Frame) (f : Frame)
     → left_at_depth w k (fs ++ f ∷ []) ≡ expand w (k - length fs) (suffix w f) ++ left_at_depth w k fs
 left_of-push w k [] f = let n : k - 0 ≡ k = omega arith in rw n (sym (append-nil _))
-left_of-push w k (g ∷ fs) f =
-    let n : k - suc (length fs) ≡ (k - 1) - length fs = omega arith in
-    rw (left_of-push w (k - 1) fs f, append_assoc, n)
+left_of-push w k (g ∷ fs) f = grind (arith, append_assoc, left_of-push w (k - 1) fs f)
 
 pub work_of-push : (w : Stored) (k : ℕ) (fs : List Frame) (f : Frame)
     → work_of w k (fs ++ f ∷ []) ≡ list_work w (k - length fs) (suffix w f) + work_of w k fs
 work_of-push w k [] f = let n : k - 0 ≡ k = omega arith in rw n (omega arith)
-work_of-push w k (g ∷ fs) f =
-    let n : k - suc (length fs) ≡ (k - 1) - length fs = omega arith in rw n (omega (arith, work_of-push w (k - 1) fs f))
+work_of-push w k (g ∷ fs) f = grind (arith, work_of-push w (k - 1) fs f)
 
 pub Valid-pop : {w : Stored} {all fs : List Frame} {f : Frame} {room : ℕ} → all ≡ fs ++ f ∷ []
     → IsFrameStack w all room → IsFrameStack w fs room × OnTop w (names w + 1) fs f
-Valid-pop {w} {fs} {f} e s =
-    let o = AreOwned-pop (names w + 1) fs (subst (AreOwned w (names w + 1)) e s.owned) in
-    (record { owned = o.below; room = s.room }, o)
+Valid-pop {w} {fs} {f} e s = grind (arith, AreOwned-pop)
 
 pub Valid-push : {w : Stored} {all fs : List Frame} {f : Frame} {room : ℕ} → all ≡ fs ++ f ∷ [] → room ≡ names w + 1
     → OnTop w (names w + 1) fs f → IsFrameStack w all room
-Valid-push {w} {fs} e r o =
-    record { owned = subst (AreOwned w (names w + 1)) (sym e) (AreOwned-push (names w + 1) fs o); room = r }
+Valid-push {w} {fs} e r o = grind (arith, AreOwned-push)
 
 pub level-push : (w : Stored) (fs : List Frame) (f : Frame) → level w (fs ++ f ∷ []) ≡ names w - length fs
 level-push w fs f = let l = length-append fs (f ∷ []) in omega arith

@@ -1,5 +1,5 @@
 -- The model of a stack after a use of a name, and after one that expands to nothing.
-use Rattle.cweb_out.proofs.Common.{◌≡◌, ◌+◌, ◌-◌, ℕ, zero, suc, [], ◌∷◌, ◌++◌, List, length, refl, sym, ◌∙◌, ap, arith, Some, false, All, NameId, NameRef, Part, Name, all_tokens, Stored, names, uses, resolved_use, joined, expand, expanded_name, put, tokens_for, root_list, Frame, suffix, tokens_of_parts, work_of, list_work, RanksAreBelow, PartIsWithin, FrameIsWithin, IsFrameStack, UsesLower, Enters, left, level, name_work, token_work, work_for}
+use Rattle.cweb_out.proofs.Common.{◌≡◌, ◌+◌, ◌-◌, ℕ, suc, [], ◌∷◌, ◌++◌, List, length, refl, sym, ◌∙◌, ap, arith, Some, false, All, NameId, NameRef, Part, Name, all_tokens, Stored, names, uses, resolved_use, joined, expand, expanded_name, put, tokens_for, root_list, Frame, suffix, tokens_of_parts, work_of, list_work, RanksAreBelow, PartIsWithin, FrameIsWithin, IsFrameStack, UsesLower, Enters, left, level, name_work, token_work, work_for}
 use Rattle.cweb_out.proofs.Owners.{OnTop-entered, OnTop-first, room-above}
 use Rattle.cweb_out.proofs.Stack.{left_of-push, work_of-push, Valid-push}
 
@@ -43,11 +43,7 @@ passed_none {w} {fs} none = record { left = ap (λ ts. ts ++ left w fs) (sym non
 -- A name without parts has an empty list.
 pub no_parts : (w : Stored) (fs : List Frame) (r : NameRef) (m : NameId)
     → resolved_use w r ≡ Some m → joined w m ≡ [] → put w (expanded_name w (level w fs)) (Name r) ≡ []
-no_parts w fs r m e none = ap (tokens_for (expanded_name w (level w fs))) e ∙ empty (level w fs)
-  where
-    empty : (k : ℕ) → expanded_name w k m ≡ []
-    empty zero = refl
-    empty (suc k) = ap (expand w k) none
+no_parts w fs r m e none = grind (arith, none)
 
 pub Valid-one : {w : Stored} {all : List Frame} {f : Frame} {room : ℕ} → all ≡ f ∷ []
     → FrameIsWithin w f → RanksAreBelow w (names w) (uses w (suffix w f)) → room ≡ names w + 1

@@ -13,13 +13,7 @@ pub record HasTop (n : ℕ) (fs : List Frame) (f : Frame) : Type 0 where
   pub is : f ≡ get_or fs (n - 1) f
 
 pub top_read : {n : ℕ} {fs : List Frame} {f : Frame} → HasTop n fs f → fs ≡ lower n fs ++ f ∷ []
-top_read {n} {fs} {f} h =
-    let c = h.count in
-    let some = h.some in
-    let all : length fs ≡ n - 1 + 1 = omega arith in
-    let lt : n - 1 < length fs = omega arith in
-    sym (take-length fs) ∙ ap (λ k. take k fs) all ∙ take_more fs (n - 1) f lt
-    ∙ ap (λ (x : Frame). lower n fs ++ x ∷ []) (sym h.is)
+top_read {n} {fs} {f} h = grind (arith, take-length, take_more)
 
 pub top_written : {n : ℕ} {fs : List Frame} {f : Frame} (g : Frame) → HasTop n fs f → set fs (n - 1) g
     ≡ lower n fs ++ g ∷ []

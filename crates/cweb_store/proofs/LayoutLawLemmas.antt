@@ -29,8 +29,7 @@ left-before test t ts (u ∷ us) layout f =
 left-last : (test : Token → Bool) (ts : List Token) → ((t : Token) → test t ≡ true → is_layout t ≡ true)
     → IsLeft ts (without_last test ts)
 left-last test [] layout = record { rest = []; splits = refl; layout = refl }
-left-last test (t ∷ ts) layout =
-    left-before test t ts (without_last test ts) (layout t) (left-last test ts layout)
+left-last test (t ∷ ts) layout = grind (arith, left-before, left-last test ts layout)
 
 left-after : (n : ℕ) (ts : List Token) → IsLeft ts (without_last_after n is_layout ts)
 left-after n ts =

@@ -1,10 +1,5 @@
 -- The chains of a hash table, where a word is linked.
-use Rattle.cweb_texts.proofs.Common.{◌≡◌, ℕ, ◌+◌, ◌-◌, ◌<◌, ◌≤◌, List, [], ◌∷◌, ◌++◌, inl, inr, Some, sym, ◌∙◌, arith, length, set, slice_get, slice_index_or, slice_get_within, length-append, length-set, Word, IsLink, AreChains, home_bucket_of}
-use Rattle.std.proofs.Common.{get_or-set_other}
-use Rattle.std.proofs.lemmas.Grind.{get_or-set_at}
-use Rattle.std.proofs.lemmas.List.{get_or_append_left}
-use Rattle.std.proofs.Math.Seq.{get_or-append_seam}
-use Rattle.cweb_texts.proofs.ListLemmas.{get-push}
+use Rattle.cweb_texts.proofs.Common.{◌≡◌, ℕ, ◌-◌, ◌≤◌, List, Some, arith, slice_get, Word, IsLink, home_bucket_of}
 
 -- all words of the bucket from the next link on are others, where those from a link on are
 pub next-passed : (other : Word → Type 0) (ws : List Word) (buckets bucket link next : ℕ) (w : Word)
