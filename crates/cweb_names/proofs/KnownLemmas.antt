@@ -1,5 +1,5 @@
 -- A spelling is inserted with its number, or with the next one. Names by their first occurrences.
-use Rattle.cweb_names.proofs.Common.{◌≡◌, ℕ, zero, suc, ◌<◌, true, false, List, [], ◌∷◌, ◌++◌, Some, length, map, map-append, subst, slice_get, AllByRecursion, name_at, names_at, option_map, refl, sym, ◌∙◌, ap, arith, bytes_eq, unwrap_or, list_any, position_or_len, keys_of, lookup, insert_entry, is_at, length-map, NameId, Name, spellings, NameEntry, compare_bytes, IsNameMap}
+use Rattle.cweb_names.proofs.Common.{◌≡◌, ℕ, zero, suc, ◌<◌, true, false, List, [], ◌∷◌, ◌++◌, Some, length, map, map-append, slice_get, AllByRecursion, names_at, option_map, refl, sym, ◌∙◌, ap, arith, bytes_eq, unwrap_or, list_any, position_or_len, keys_of, lookup, insert_entry, is_at, length-map, NameId, Name, spellings, NameEntry, compare_bytes, IsNameMap}
 use Rattle.std.specs.List.Sorted.{IsStrictlySortedBy}
 use Rattle.std.specs.Prelude.{slice_index_or}
 use Rattle.cweb_texts.specs.inner.StringLists.{string_at}
@@ -59,12 +59,6 @@ pub within-push : (n : ℕ) (firsts : List ℕ) (f : ℕ) → AllByRecursion (λ
 within-push n [] f within less = (less, tt)
 within-push n (g ∷ firsts) f within less = (within.0, within-push n firsts f within.1 less)
 
-pub within-at : (n : ℕ) (firsts : List ℕ) (i f : ℕ) → AllByRecursion (λ (g : ℕ). g < n) firsts
-    → slice_get firsts i ≡ Some f → f < n
-within-at n [] i f within here = cc
-within-at n (g ∷ firsts) zero f within here = let same : g ≡ f = cc in subst (λ (h : ℕ). h < n) same within.0
-within-at n (g ∷ firsts) (suc i) f within here = within-at n firsts i f within.1 here
-
 pub firsts-back : (strings : List (List ℕ)) (firsts : List ℕ)
     → map (λ (n : Name). n.first) (names_at strings firsts) ≡ firsts
 firsts-back strings [] = refl
@@ -73,10 +67,7 @@ firsts-back strings (f ∷ firsts) = ap (λ (fs : List ℕ). f ∷ fs) (firsts-b
 -- One more name, that of an occurrence with this text.
 pub names-push : (strings : List (List ℕ)) (firsts : List ℕ) (f : ℕ) (text : List ℕ) → slice_get strings f ≡ Some text
     → names_at strings (firsts ++ f ∷ []) ≡ names_at strings firsts ++ (record { text = text; first = f }) ∷ []
-names-push strings firsts f text given =
-    map-append (name_at strings) firsts (f ∷ [])
-    ∙ ap (λ (t : List ℕ). let n : Name = record { text = t; first = f } in names_at strings firsts ++ n ∷ [])
-    (get-string strings f text given)
+names-push strings firsts f text given = grind (arith, map-append, names_at, get-string)
 
 -- The spelling of a name is that of its first occurrence.
 pub text-at : (strings : List (List ℕ)) (firsts : List ℕ) (i f : ℕ) → i < length firsts → f ≡ slice_index_or firsts i f

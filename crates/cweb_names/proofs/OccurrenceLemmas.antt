@@ -71,8 +71,7 @@ with_text-position i ns text =
 pub position-grows : (text : List ℕ) (old new : List Name) → Grows old new
     → list_any (bytes_eq text) (spellings old) ≡ true
     → position_or_len (bytes_eq text) (spellings new) ≡ position_or_len (bytes_eq text) (spellings old)
-position-grows text old new g there =
-    cc (strings-append old g.more, position-append (bytes_eq text) (spellings old) (spellings g.more) there)
+position-grows text old new g there = grind (arith, strings-append, position-append, there)
 
 by_found-the_one : (ns : List NameId) (otherwise : Resolution) → by_found (found_of ns) otherwise ≡ the_one ns otherwise
 by_found-the_one [] otherwise = refl

@@ -57,10 +57,6 @@ pub resolve-resolutions : (os : List Occurrence) (fs : List Found) → fs ≡ ea
     → resolve_all (names os) (map occurrence_text os) fs ≡ resolutions os
 resolve-resolutions os fs found = resolve-from 0 [] os fs (names os) refl found
 
-pub resolve-none : (known : List Name) (ts : List (List ℕ)) → resolve_all known ts [] ≡ []
-resolve-none known [] = refl
-resolve-none known (t ∷ ts) = refl
-
 pub resolve-count : (known : List Name) (ts : List (List ℕ)) (fs : List Found)
     → length ts ≡ length fs → length (resolve_all known ts fs) ≡ length fs
 resolve-count known [] [] e = refl

@@ -12,10 +12,6 @@ use Rattle.cweb_names.specs.Names.{squeezed, squeezed_after}
 use Rattle.cweb_names.specs.laws.Squeezed.{is_other, HasSingleBlanks, SpellingsAreSqueezed}
 use Rattle.cweb_names.proofs.Squeezing.{squeezed_by, fits_by, squeezed_stays}
 
-byte-fits : (gap : Bool) (b : ℕ) (t : List ℕ) → is_white b ≡ false → is_squeezed_after false t ≡ true
-    → is_squeezed_after gap (b ∷ t) ≡ true
-byte-fits gap b t e h = ap (λ w. fits_by w gap b t) e ∙ h
-
 -- The rest after a byte that isn't white, and after white space.
 abbrev Fits : List ℕ → Type 0
 Fits t = (is_squeezed_after false (squeezed_after true [] t) ≡ true)
@@ -64,8 +60,7 @@ white-span begun (b ∷ gap) t h =
 
 spans-after : (begun : Bool) (gap before span t : List ℕ) (b : ℕ) → is_white b ≡ true → list_all is_white span ≡ true
     → squeezed_after begun gap (before ++ b ∷ (span ++ t)) ≡ squeezed_after begun gap (before ++ 32 ∷ t)
-spans-after begun gap [] span t b e h =
-    ap (λ w. squeezed_by w begun gap b (span ++ t)) e ∙ white-span begun span t h
+spans-after begun gap [] span t b e h = grind (arith, begun, white-span)
 spans-after begun gap (x ∷ before) span t b e h =
     grind (
       arith,
@@ -81,15 +76,7 @@ first-other (b ∷ t) h = grind (arith, is_white b, h)
 single-after : (gap : Bool) (before : List ℕ) (b : ℕ) (after : List ℕ)
     → is_squeezed_after gap (before ++ b ∷ after) ≡ true → is_white b ≡ true
     → (b ≡ 32) × (gap ≡ true → before ≢ []) × (first_is is_other after ≡ true)
-single-after gap [] b after h e =
-    let k : (not gap && (b == 32) && is_squeezed_after true after) ≡ true =
-    ap (λ w. fits_by w gap b after) (sym e) ∙ h in
-    let p = and_parts (not gap && (b == 32)) (is_squeezed_after true after) k in
-    let q = and_parts (not gap) (b == 32) p.0 in (
-      eqb-true b 32 q.1,
-      λ g z. let bad : false ≡ true = ap not (sym g) ∙ q.0 in cc,
-      first-other after p.1,
-    )
+single-after gap [] b after h e = grind (arith, after, and_parts, eqb-true, first-other)
 single-after gap (x ∷ before) b after h e = (elim (is_white x) as (λ w. fits_by w gap x (before ++ b ∷ after) ≡ true
     → (b ≡ 32) × (gap ≡ true → (x ∷ before) ≢ []) × (first_is is_other after ≡ true)) [
       | true ↦ λ k.
@@ -116,8 +103,7 @@ AreSingle gap t = (before : List ℕ) (b : ℕ) (after : List ℕ) → t ≡ bef
     → (b ≡ 32) × (gap ≡ true → before ≢ []) × (first_is is_other after ≡ true)
 
 white-first : (b : ℕ) (t after : List ℕ) → is_white b ≡ true → t ≡ b ∷ after → first_is is_other t ≡ true → ⊥
-white-first b t after w e h =
-    let bad : not true ≡ true = ap not (sym w) ∙ ap (first_is is_other) (sym e) ∙ h in cc
+white-first b t after w e h = grind arith
 
 no-gap : (gap : Bool) → (gap ≡ true → ⊥) → not gap ≡ true
 no-gap true f = absurd (f refl)

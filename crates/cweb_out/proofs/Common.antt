@@ -47,7 +47,7 @@ pub use Rattle.cweb_out.specs.Outputs.{has_no_program, is_good_name, name_spelli
 pub use Rattle.cweb_out.specs.Outputs.{planned, planned_apart, planned_ending, root_list, start_of, Output, is_slash}
 pub use Rattle.cweb_out.specs.declared.frame.Frame.{Frame}
 pub use Rattle.cweb_out.specs.declared.outputs.search.Waiting.{Waiting}
-pub use Rattle.cweb_out.specs.inner.FrameStacks.{level, work_of, list_work, name_work, token_work, UsesLower, top_rank}
+pub use Rattle.cweb_out.specs.inner.FrameStacks.{RanksAreBelow, level, work_of, list_work, name_work, token_work, UsesLower, top_rank}
 pub use Rattle.cweb_out.specs.inner.FrameStacks.{Advances, Enters, work_for}
 pub use Rattle.cweb_out.specs.inner.Outputs.{IsRoot}
 pub use Rattle.cweb_out.specs.inner.Planning.{is_bad, is_endless}
@@ -56,8 +56,8 @@ pub use Rattle.cweb_out.specs.inner.Search.{FindsUnranked, IsScanned, is_marked}
 pub use Rattle.cweb_out.specs.inner.Uses.{PassesNoUse}
 pub use Rattle.cweb_out.specs.laws.Laws.{EachUsesNext, IsCycle, ReplacesUses, is_no_use, is_joined, print_following}
 pub use Rattle.cweb_out.specs.laws.Laws.{is_whole_lines}
-pub use Rattle.cweb_out.specs.surface.FrameStacks.{left, RanksAreBelow, IsFrameStack, rank, AreOwned, IsOwned}
-pub use Rattle.cweb_out.specs.surface.FrameStacks.{left_at_depth, AreRanked}
+pub use Rattle.cweb_out.specs.surface.FrameStacks.{left, IsFrameStack, rank, AreOwned, IsOwned}
+pub use Rattle.cweb_out.specs.surface.FrameStacks.{left_at_depth}
 pub use Rattle.cweb_out.specs.surface.FrameSuffixes.{suffix, FrameIsWithin, PartIsWithin}
 pub use Rattle.cweb_out.specs.surface.Outputs.{root_at, IsPlanOf}
 pub use Rattle.cweb_out.specs.surface.Ranks.{least, name_rank}

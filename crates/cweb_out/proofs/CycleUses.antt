@@ -62,8 +62,7 @@ text-endless w n l h = failing (uses w (joined w n)) (false_from_ne_true (list_e
     (λ e. different (has_rank w n) (has_rank w n) (rank_by_uses w n l e) h refl))
 
 pub name-endless : (w : Stored) (n : NameId) → list_ends w (joined w n) ≡ false → has_rank w n ≡ false
-name-endless w n h = false_from_ne_true (has_rank w n)
-    (λ e. different (list_ends w (joined w n)) (list_ends w (joined w n)) (rank-grows w (names w) n e) h refl)
+name-endless w n h = grind (arith, false_from_ne_true, different, joined, rank-grows)
 
 each-tail : (w : Stored) (n : NameId) (ns : List NameId) → EachUsesNext w (n ∷ ns) → EachUsesNext w ns
 each-tail w n [] h = tt

@@ -1,13 +1,9 @@
 -- Direct tokens need no frame.
-use Rattle.cweb_out.proofs.Common.{◌≡◌, ◌++◌, ◌∙◌, [], ◌∷◌, refl, ap, List, true, flat_map, list_all, NameId, Token, Name, Stored, use_of, uses, put, AreDirect, is_direct, and_parts}
+use Rattle.cweb_out.proofs.Common.{◌≡◌, ◌++◌, ◌∙◌, [], ◌∷◌, refl, ap, List, true, flat_map, list_all, NameId, Token, Name, Stored, put, AreDirect, is_direct, and_parts}
 
 put-direct : (w : Stored) (text : NameId → List Token) (t : Token) → is_direct t ≡ true → put w text t ≡ t ∷ []
 put-direct w text (Name r) h = cc
 put-direct w text _ h = refl
-
-use-direct : (w : Stored) (t : Token) → is_direct t ≡ true → use_of w t ≡ []
-use-direct w (Name r) h = cc
-use-direct w _ h = refl
 
 -- Expansion keeps them.
 pub put-all-direct : (w : Stored) (text : NameId → List Token) (ts rest : List Token) → AreDirect ts
@@ -17,11 +13,3 @@ put-all-direct w text (t ∷ ts) rest h = ap (λ (us : List Token). us ++ flat_m
     (put-direct w text t (and_parts (is_direct t) (list_all is_direct ts) h).0)
     ∙ ap (λ (us : List Token). t ∷ us)
     (put-all-direct w text ts rest (and_parts (is_direct t) (list_all is_direct ts) h).1)
-
--- They use no name.
-pub uses-direct : (w : Stored) (ts rest : List Token) → AreDirect ts → uses w (ts ++ rest) ≡ uses w rest
-uses-direct w [] rest h = refl
-uses-direct w (t ∷ ts) rest h = ap
-    (λ (ns : List NameId). ns ++ uses w (ts ++ rest))
-    (use-direct w t (and_parts (is_direct t) (list_all is_direct ts) h).0)
-    ∙ uses-direct w ts rest (and_parts (is_direct t) (list_all is_direct ts) h).1

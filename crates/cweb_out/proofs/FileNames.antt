@@ -1,5 +1,5 @@
 -- There is at most one output more than names.
-use Rattle.cweb_out.proofs.Common.{◌≡◌, ◌≤◌, ◌<◌, ◌+◌, ℕ, suc, Bool, true, false, List, [], ◌∷◌, ◌++◌, refl, arith, length, Option, Some, None, inl, inr, All, list_any, length-map, NameId, is_id, Stored, names, file_outputs, outputs, AreNew, or_cases}
+use Rattle.cweb_out.proofs.Common.{◌≡◌, ◌≤◌, ◌<◌, ◌+◌, ℕ, suc, Bool, true, false, List, [], ◌∷◌, arith, length, Option, Some, None, inl, inr, All, list_any, length-map, NameId, is_id, Stored, names, file_outputs, outputs, AreNew, or_cases}
 use Rattle.std.specs.Prelude.{if◌then◌else◌}
 use Rattle.cweb_names.specs.Names.{Occurrence, Resolution, with_id, with_file, resolved_at}
 use Rattle.cweb_names.specs.inner.FromNumbers.{with_some, files_from}
@@ -10,11 +10,7 @@ use Rattle.cweb_out.proofs.Ranks.{few}
 use Rattle.cweb_store.proofs.TokenStringLemmas.{filter-few}
 
 with_id-new : (ns : List NameId) (n : NameId) → AreNew [] ns → AreNew [] (with_id ns n)
-with_id-new ns n a = by (list_any (is_id n) ns) refl
-  where
-    by : (b : Bool) → list_any (is_id n) ns ≡ b → AreNew [] (if b then ns else ns ++ n ∷ [])
-    by true e = a
-    by false e = new-push [] ns n a e
+with_id-new ns n a = grind (arith, list_any (is_id n) ns, new-push)
 
 with_some-new : (ns : List NameId) (o : Option NameId) → AreNew [] ns → AreNew [] (with_some ns o)
 with_some-new ns None a = a

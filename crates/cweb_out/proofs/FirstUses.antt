@@ -2,13 +2,11 @@
 use Rattle.cweb_out.proofs.Common.{◌≡◌, ◌<◌, ◌||◌, true, false, List, [], ◌∷◌, ◌++◌, length, refl, sym, ◌∙◌, ap, arith, append_assoc, length-append, list_any, list_any-append, flat_map-append, Part, Token, Stored, uses, use_of, defs_first, suffix, tokens_of_parts, Frame, PassesNoUse}
 use Rattle.cweb_store.specs.inner.Next.{is_name_use}
 use Rattle.cweb_print.specs.surface.TokenRanges.{tokens_of_part}
-use Rattle.std.proofs.lemmas.Bool.{or_from}
 use Rattle.cweb_store.specs.Parts as spec
 
 none-append : (ts us : List Token) → list_any is_name_use ts ≡ false
     → list_any is_name_use us ≡ false → list_any is_name_use (ts ++ us) ≡ false
-none-append ts us a b = list_any-append is_name_use ts us
-    ∙ or_from (list_any is_name_use ts) (list_any is_name_use us) a b
+none-append ts us a b = grind (arith, list_any-append)
 
 pub pass-on : {a b c : List Token} → PassesNoUse a b → PassesNoUse b c → PassesNoUse a c
 pass-on {c} x y = record {

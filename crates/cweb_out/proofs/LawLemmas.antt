@@ -1,5 +1,5 @@
 -- The laws of expansion and printing.
-use Rattle.cweb_out.proofs.Common.{◌≡◌, ◌≤◌, ◌+◌, ◌-◌, ◌==◌, ◌&&◌, ℕ, zero, suc, Bool, true, false, cond, List, [], ◌∷◌, ◌++◌, refl, sym, ◌∙◌, ap, arith, append_assoc, append-nil, Option, None, Some, codes, decimal, fold, flat_map, option_to_list, list_all, flat_map-append, NameId, Token, Newline, Defs, Name, Stored, joined, resolved_use, uses, use_of, ends_below, expand, expanded_name, put, tokens_for, last_is, sep, Setting, begin_line, file, file_token_bytes, without_joined_layout, last_token, left_after, macro_line, macro_lines, mark_line, file_name, macro_token_bytes, is_layout, print, print_after, printed_tokens, quoted, starts_line, stays_joined, Class, class_of, separator, ReplacesUses, is_no_use, is_joined, print_following, is_whole_lines, and_parts}
+use Rattle.cweb_out.proofs.Common.{◌≡◌, ◌≤◌, ◌+◌, ◌-◌, ◌==◌, ℕ, zero, suc, Bool, true, false, cond, List, [], ◌∷◌, ◌++◌, refl, sym, ◌∙◌, ap, arith, append_assoc, append-nil, Option, None, Some, codes, fold, flat_map, option_to_list, list_all, flat_map-append, NameId, Token, Newline, Defs, Name, Stored, joined, resolved_use, uses, use_of, ends_below, expand, expanded_name, put, tokens_for, last_is, sep, Setting, file, file_token_bytes, without_joined_layout, last_token, left_after, macro_line, macro_lines, mark_line, print, print_after, starts_line, stays_joined, Class, separator, ReplacesUses, is_no_use, print_following, is_whole_lines, and_parts}
 use Rattle.cweb_store.specs.Parts.{Mark}
 use Rattle.cweb_print.specs.declared.printer.class.Class.TheVariants as class
 use Rattle.cweb_out.proofs.Ranks.{all-append, all-parts, rank-grows, uses-weaker}
@@ -18,8 +18,7 @@ put-text w f t h = refl
 puts-text : (w : Stored) (f : NameId → List Token) (ts : List Token)
     → ((n : NameId) → list_all is_no_use (f n) ≡ true) → list_all is_no_use (flat_map (put w f) ts) ≡ true
 puts-text w f [] h = refl
-puts-text w f (t ∷ ts) h =
-    all-append is_no_use (put w f t) (flat_map (put w f) ts) (put-text w f t h) (puts-text w f ts h)
+puts-text w f (t ∷ ts) h = grind (arith, all-append, put-text, puts-text w f ts h)
 
 name-text : (w : Stored) (k : ℕ) (n : NameId) → list_all is_no_use (expanded_name w k n) ≡ true
 name-text w zero n = refl
@@ -58,9 +57,8 @@ puts-use w p f g t same h = refl
 puts-same : (w : Stored) (p : NameId → Bool) (f g : NameId → List Token) (ts : List Token)
     → AreSame p f g → list_all p (uses w ts) ≡ true → flat_map (put w f) ts ≡ flat_map (put w g) ts
 puts-same w p f g [] same h = refl
-puts-same w p f g (t ∷ ts) same h = ap (λ (u : List Token). u ++ flat_map (put w f) ts)
-    (puts-use w p f g t same (all-parts p (use_of w t) (uses w ts) h).0)
-    ∙ ap (λ (u : List Token). put w g t ++ u) (puts-same w p f g ts same (all-parts p (use_of w t) (uses w ts) h).1)
+puts-same w p f g (t ∷ ts) same h =
+    grind (arith, puts-use, same, all-parts, puts-same w p f g ts same (all-parts p (use_of w t) (uses w ts) h).1)
 
 name-same : (w : Stored) (k : ℕ) (n : NameId) → ends_below w k n ≡ true
     → expanded_name w (suc k) n ≡ expanded_name w k n
@@ -93,32 +91,16 @@ kept-append : (joined : Bool) (xs ys : List Token)
     → without_joined_layout joined (xs ++ ys) ≡ without_joined_layout joined xs
     ++ without_joined_layout (fold stays_joined joined xs) ys
 kept-append joined [] ys = refl
-kept-append joined (x ∷ xs) ys = cases (joined && is_layout x) (kept-append (stays_joined joined x) xs ys)
-  where
-    cases : (b : Bool) → without_joined_layout (stays_joined joined x) (xs ++ ys)
-        ≡ without_joined_layout (stays_joined joined x) xs
-        ++ without_joined_layout (fold stays_joined (stays_joined joined x) xs) ys
-        → cond b (without_joined_layout (stays_joined joined x) (xs ++ ys))
-        (x ∷ without_joined_layout (stays_joined joined x) (xs ++ ys))
-        ≡ cond b (without_joined_layout (stays_joined joined x) xs)
-        (x ∷ without_joined_layout (stays_joined joined x) xs)
-        ++ without_joined_layout (fold stays_joined (stays_joined joined x) xs) ys
-    cases true later = later
-    cases false later = ap (λ (ts : List Token). x ∷ ts) later
+kept-append joined (x ∷ xs) ys = grind (arith, joined, kept-append (stays_joined joined x) xs ys)
 
 print_after-append : (text : Option Token → Token → List ℕ) (l : Option Token) (xs ys : List Token)
     → print_after text l (xs ++ ys) ≡ print_after text l xs ++ print_after text (last_token l xs) ys
 print_after-append text l [] ys = refl
-print_after-append text l (x ∷ xs) ys =
-    ap (λ (u : List ℕ). (sep l x ++ text l x) ++ u) (print_after-append text (Some x) xs ys)
-    ∙ sym
-    (append_assoc (sep l x ++ text l x) (print_after text (Some x) xs) (print_after text (last_token (Some x) xs) ys))
+print_after-append text l (x ∷ xs) ys = grind (arith, append_assoc, print_after-append text (Some x) xs ys)
 
 pub print_goes_on : (s : Setting) (before ts : List Token)
     → print s (before ++ ts) ≡ print s before ++ print_following s before ts
-print_goes_on s before ts = ap (print_after (file_token_bytes s) None) (kept-append false before ts)
-    ∙ print_after-append (file_token_bytes s) None (without_joined_layout false before)
-    (without_joined_layout (is_joined before) ts)
+print_goes_on s before ts = grind (arith, kept-append, print_after-append)
 
 abbrev is_ended : List ℕ → Bool
 is_ended bytes = last_is (λ x. x == 10) bytes
@@ -141,9 +123,7 @@ abbrev newline : List ℕ
 newline = codes "\n"
 
 macro-ended : (replaced : ℕ → List ℕ) (ts : List Token) → is_ended (macro_line replaced ts) ≡ true
-macro-ended replaced ts =
-    let text = printed_tokens (λ left. macro_token_bytes replaced) ts in
-    ended-after (codes "#define ") (text ++ newline) (ended-after text newline refl)
+macro-ended replaced ts = grind (arith, replaced, ended-after)
 
 macros-whole : (replaced : ℕ → List ℕ) (macros : List (List Token))
     → is_whole_lines (flat_map (macro_line replaced) macros) ≡ true
@@ -152,11 +132,7 @@ macros-whole replaced (ts ∷ macros) = whole-append (macro_line replaced ts) (f
     (whole-ended (macro_line replaced ts) (macro-ended replaced ts)) (macros-whole replaced macros)
 
 mark-ended : (name : List ℕ) (line : ℕ) → is_ended (mark_line name line) ≡ true
-mark-ended name line =
-    let end = codes "\"\n" in
-    let quote = codes " \"" in
-    ended-after (codes "#line ") (decimal line ++ (quote ++ (quoted name ++ end))) (ended-after (decimal line)
-    (quote ++ (quoted name ++ end)) (ended-after quote (quoted name ++ end) (ended-after (quoted name) end refl)))
+mark-ended name line = grind (arith, ended-after)
 
 separator-none : (c : Class) → separator c Defs ≡ []
 separator-none class.LineStart = refl
@@ -173,16 +149,9 @@ defs-whole s bytes false h = ap is_whole_lines (sym (append_assoc bytes newline 
 token-whole : (s : Setting) (l : Option Token) (bytes : List ℕ) (t : Token)
     → (starts_line l ≡ true → is_whole_lines bytes ≡ true) → starts_line (Some t) ≡ true
     → is_whole_lines (bytes ++ (sep l t ++ file_token_bytes s l t)) ≡ true
-token-whole s l bytes Newline h k = whole-ended (bytes ++ (sep l Newline ++ newline))
-    (ended-after bytes (sep l Newline ++ newline) (ended-after (sep l Newline) newline refl))
-token-whole s l bytes (Mark p) h k =
-    let mark = mark_line (file_name s p) p.line in
-    whole-ended (bytes ++ (sep l (Mark p) ++ (begin_line l ++ mark)))
-    (ended-after bytes (sep l (Mark p) ++ (begin_line l ++ mark)) (ended-after (sep l (Mark p))
-    (begin_line l ++ mark) (ended-after (begin_line l) mark (mark-ended (file_name s p) p.line))))
-token-whole s l bytes Defs h k = ap (λ (u : List ℕ). is_whole_lines (bytes ++ (u ++ (begin_line l ++ macro_lines s))))
-    (sep_by_class l Defs ∙ separator-none (class_of l))
-    ∙ defs-whole s bytes (starts_line l) h
+token-whole s l bytes Newline h k = grind (arith, whole-ended, ended-after)
+token-whole s l bytes (Mark p) h k = grind (arith, whole-ended, ended-after, mark-ended)
+token-whole s l bytes Defs h k = grind (arith, sep_by_class, separator-none, defs-whole)
 token-whole s l bytes t h k = cc
 
 list-whole : (s : Setting) (l : Option Token) (bytes : List ℕ) (ts : List Token)

@@ -1,5 +1,5 @@
 -- The top frame passes direct tokens, and then takes a use or ends.
-use Rattle.cweb_out.proofs.Common.{◌≡◌, ◌≤◌, ◌<◌, ◌+◌, ◌-◌, ◌++◌, ◌∷◌, [], ℕ, List, length, refl, sym, ◌∙◌, ap, arith, subst, sum_by, set, length-set, get_or-set_same, set-set, take-set, sum_by-append, Token, Stored, names, use_of, expanded_name, put, Frame, suffix, left, level, work_of, list_work, name_work, token_work, RanksAreBelow, FrameIsWithin, IsFrameStack, UsesLower, AreDirect}
+use Rattle.cweb_out.proofs.Common.{◌≡◌, ◌≤◌, ◌<◌, ◌+◌, ◌-◌, ◌++◌, ◌∷◌, [], ℕ, List, length, refl, sym, ◌∙◌, ap, arith, subst, sum_by, set, length-set, get_or-set_same, set-set, take-set, sum_by-append, Token, Stored, names, expanded_name, put, Frame, suffix, left, level, work_of, list_work, name_work, token_work, FrameIsWithin, IsFrameStack, UsesLower, AreDirect}
 use Rattle.cweb_out.proofs.TopAfterDirect.{top_passed}
 use Rattle.cweb_out.proofs.Stack.{work_of-push}
 use Rattle.cweb_out.proofs.Tops.{HasTop, lower, top_ended, TopMoved, top_moved, top_read, top_written}
@@ -32,7 +32,6 @@ work-passed w {n} {fs} {f} g ts h s =
 pub record TopUsed (w : Stored) (fs new : List Frame) (ts : List Token) (t : Token) (room : ℕ) : Type 0 where
   pub valid : IsFrameStack w new room
   pub left : left w fs ≡ ts ++ (put w (expanded_name w (level w new)) t ++ left w new)
-  pub below : RanksAreBelow w (level w new) (use_of w t)
   pub lower : UsesLower w new t
   pub work : token_work w (name_work w (level w new)) t + work_of w (names w) new ≤ work_of w (names w) fs
   pub some : 0 < length new
@@ -52,7 +51,6 @@ top_used {w} {n} {fs} {f} {g} {h} {ts} {t} {room} valid top s direct within owne
     record {
       valid = moved.valid;
       left = passed.left ∙ ap (λ (us : List Token). ts ++ us) moved.advances.left;
-      below = moved.advances.below;
       lower = moved.advances.lower;
       work = omega (arith, less, more);
       some = moved.advances.some;

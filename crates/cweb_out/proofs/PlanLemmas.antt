@@ -1,6 +1,5 @@
 -- The expected plan, from the search results.
-use Rattle.cweb_out.proofs.Common.{◌≡◌, ◌<◌, ◌+◌, ℕ, Bool, true, false, not, ◌&&◌, List, [], ◌∷◌, ◌++◌, refl, sym, ◌∙◌, ap, arith, length, take, get_or, Option, Some, None, map, inl, inr, Ok, Err, find, list_all, list_any, take_more, length-map, NameId, Stored, cycle_from, has_no_program, is_good_name, output_name, output_of, outputs, start_of, false_from_ne_true, eqb_tells}
-use Rattle.std.proofs.Common.{nat_eq}
+use Rattle.cweb_out.proofs.Common.{◌≡◌, ◌<◌, ◌+◌, ℕ, Bool, true, false, not, ◌&&◌, List, [], ◌∷◌, ◌++◌, refl, sym, ◌∙◌, ap, arith, length, take, get_or, Option, Some, None, map, Ok, Err, find, list_all, list_any, take_more, NameId, Stored, cycle_from, is_good_name, output_name, output_of, start_of, false_from_ne_true}
 use Rattle.std.specs.Prelude.{option_map}
 use Rattle.std.specs.List.{after_last}
 use Rattle.std.specs.Str.{IsUtf8, is_utf8}
@@ -14,7 +13,6 @@ use Rattle.cweb_out.specs.declared.outputs.fault.PlanFault.{PlanFault}
 use Rattle.cweb_store.specs.Parts as parts
 use Rattle.cweb_store.specs.surface.Parts as surface
 use Rattle.cweb_store.proofs.PartLemmas.{numbers-some}
-use Rattle.cweb_out.specs.Outputs as expected
 use Rattle.cweb_out.specs.declared.outputs.planned.Output.{Output}
 use Rattle.cweb_out.specs.declared.outputs.fault.PlanFault.TheVariants as fault
 use Rattle.cweb_out.proofs.Finds.{find-at}
@@ -60,26 +58,6 @@ unnamed-one w =
     by [] false f g = refl
     by (p ∷ ps) true f g = refl
     by (p ∷ ps) false f g = sym (g (omega arith))
-
--- There is no output but the main file.
-pub one-output : (w : Stored) (n : ℕ) → n ≡ length (outputs w) → nat_eq n 1 ≡ nat_eq
-    (length (expected.file_outputs w)) 0
-one-output w n e =
-    let size = length-map (expected.file_outputs w) (λ m. Some m) in
-    elim (eqb_tells n 1) [
-      | inl a ↦ elim (eqb_tells (length (expected.file_outputs w)) 0)
-          [ inl b ↦ a.0 ∙ sym b.0 | inr b ↦ absurd (omega (arith, a.1, b.1, size, e)) ]
-      | inr a ↦ elim (eqb_tells (length (expected.file_outputs w)) 0)
-          [ inl b ↦ absurd (omega (arith, a.1, b.1, size, e)) | inr b ↦ a.0 ∙ sym b.0 ]
-    ]
-
-pub no-text : (w : Stored) (n : ℕ) → n ≡ length (outputs w)
-    → list_any (λ (p : parts.Part). parts.is_unnamed p.kind) w.parts ≡ false → nat_eq n 1 ≡ has_no_program w
-no-text w n e u = one-output w n e ∙ ap (λ b. not b && nat_eq (length (expected.file_outputs w)) 0) (sym u)
-
-pub some-text : (w : Stored)
-    → list_any (λ (p : parts.Part). parts.is_unnamed p.kind) w.parts ≡ true → false ≡ has_no_program w
-some-text w u = ap (λ b. not b && nat_eq (length (expected.file_outputs w)) 0) (sym u)
 
 pub bad-utf8 : (w : Stored) (main : List ℕ) (root : Option NameId) (bytes : List ℕ)
     → bytes ≡ output_name w main root → (IsUtf8 bytes → ⊥) → is_bad w main root ≡ true

@@ -1,5 +1,5 @@
 -- More depth changes nothing: a rank is below the number of names.
-use Rattle.cweb_out.proofs.Common.{◌≡◌, ◌≤◌, ◌<◌, ◌+◌, ℕ, zero, suc, Bool, true, false, cond, ◌||◌, List, [], ◌∷◌, ◌++◌, refl, sym, ◌∙◌, ap, arith, length, inl, inr, Option, Some, None, IfSome, option_to_list, list_all, list_any, list_any-append, NameId, id, is_id, Token, Name, Stored, names, joined, uses, use_of, resolved_use, ends_below, has_rank, AreNew, and_parts, or_left, or_right, ◌⊎◌, eqb_tells}
+use Rattle.cweb_out.proofs.Common.{◌≡◌, ◌≤◌, ◌<◌, ◌+◌, ℕ, zero, suc, Bool, true, false, cond, List, [], ◌∷◌, ◌++◌, refl, sym, ◌∙◌, ap, arith, length, inl, inr, Option, Some, None, IfSome, option_to_list, list_all, list_any, list_any-append, NameId, id, is_id, Token, Name, Stored, names, joined, uses, use_of, resolved_use, ends_below, has_rank, AreNew, and_parts, or_left, or_right, ◌⊎◌, eqb_tells}
 use Rattle.std.proofs.lemmas.Bool.{and_from, cases_lt, true_from_ne_false}
 use Rattle.std.proofs.lemmas.List.Folds.{list_all-append}
 use Rattle.cweb_store.proofs.BoundLemmas.{standing-within}
@@ -11,9 +11,7 @@ counted f (suc n) = cond (f n) 1 0 + counted f n
 
 counted-le : (f : ℕ → Bool) (n : ℕ) → counted f n ≤ n
 counted-le f zero = omega arith
-counted-le f (suc n) =
-    let h = counted-le f n in
-    elim (f n) as (λ b. cond b 1 0 + counted f n ≤ suc n) [ true ↦ omega arith | false ↦ omega arith ]
+counted-le f (suc n) = grind (arith, f n, counted-le f n)
 
 bit-le : (a b : Bool) → (a ≡ true → b ≡ true) → cond a 1 0 ≤ cond b 1 0
 bit-le true b w = rw (w refl) (omega arith)
@@ -21,8 +19,7 @@ bit-le false b w = omega arith
 
 counted-grows : (f g : ℕ → Bool) (n : ℕ) → ((i : ℕ) → i < n → f i ≡ true → g i ≡ true) → counted f n ≤ counted g n
 counted-grows f g zero w = omega arith
-counted-grows f g (suc n) w =
-    omega (arith, bit-le (f n) (g n) (w n (omega arith)), counted-grows f g n (λ i l. w i (omega (arith, l))))
+counted-grows f g (suc n) w = grind (arith, bit-le, counted-grows f g n (λ i l. w i (omega (arith, l))))
 
 -- A weaker test passes at least one number more.
 counted-more : (f g : ℕ → Bool) (n j : ℕ) → ((i : ℕ) → i < n → f i ≡ true → g i ≡ true)
@@ -100,11 +97,7 @@ reach w (suc k) = elim (reach w k) [
 ]
 
 still : (w : Stored) → IsStill w (names w)
-still w =
-    elim (reach w (names w)) [
-      | inl s ↦ s
-      | inr h ↦ absurd (omega (arith, h, counted-le (λ i. ends_below w (suc (names w)) (id i)) (names w)))
-    ]
+still w = grind (arith, reach w (names w), reach, counted-le)
 
 still-more : (w : Stored) (k j : ℕ) → IsStill w k → (m : NameId)
     → m.0 < names w → ends_below w (j + k) m ≡ true → ends_below w k m ≡ true
@@ -145,13 +138,11 @@ pub id-same : (n : NameId) → is_id n n ≡ true
 id-same n = elim (eqb_tells n.0 n.0) [ inl e ↦ e.0 | inr e ↦ absurd (e.1 refl) ]
 
 pub on-last : (seen : List NameId) (n : NameId) → list_any (is_id n) (seen ++ n ∷ []) ≡ true
-on-last seen n = list_any-append (is_id n) seen (n ∷ [])
-    ∙ or_right (list_any (is_id n) seen) (is_id n n || false) (or_left (is_id n n) false (id-same n))
+on-last seen n = grind (arith, list_any-append, seen, or_right, or_left, id-same)
 
 pub on-prefix : (seen more : List NameId) (n : NameId)
     → list_any (is_id n) seen ≡ true → list_any (is_id n) (seen ++ more) ≡ true
-on-prefix seen more n h =
-    list_any-append (is_id n) seen more ∙ or_left (list_any (is_id n) seen) (list_any (is_id n) more) h
+on-prefix seen more n h = grind (arith, list_any-append, seen, more, or_left)
 
 few-from : (count : ℕ) (seen ns : List NameId) → AreNew seen ns
     → ((n : NameId) → list_any (is_id n) ns ≡ true → n.0 < count) → counted (on seen) count + length ns ≤ count

@@ -34,9 +34,7 @@ suffix-left {w} {f} d n k none =
 
 pub suffix-next : (w : Stored) (f : Frame) (q : Part) (more : List Part) → f.part.after ≤ f.part.first
     → f.rest ≡ q ∷ more → suffix w f ≡ suffix w (record { owner = f.owner; defs = f.defs; part = q; rest = more })
-suffix-next w f q more n e = ap (λ xs. defs_first f.defs ++ (xs ++ tokens_of_parts w f.rest))
-    (range-none (all_tokens w.parts) f.part.first f.part.after n)
-    ∙ ap (λ ps. defs_first f.defs ++ tokens_of_parts w ps) e
+suffix-next w f q more n e = grind (arith, range-none)
 
 pub IsWithin-next : {w : Stored} {f : Frame} (q : Part) (more : List Part) → f.rest ≡ q ∷ more
     → FrameIsWithin w f → PartIsWithin (length (all_tokens w.parts)) q

@@ -1,23 +1,16 @@
 -- The top frame of a stack passes direct tokens.
-use Rattle.cweb_out.proofs.Common.{◌≡◌, ◌-◌, ◌++◌, ◌∷◌, [], ℕ, List, length, refl, sym, ◌∙◌, ap, append_assoc, set, Token, Stored, names, uses, expand, expanded_name, root_list, Frame, suffix, left, FrameIsWithin, IsFrameStack, AreDirect}
+use Rattle.cweb_out.proofs.Common.{◌≡◌, ◌-◌, ◌++◌, ◌∷◌, [], ℕ, List, length, sym, ◌∙◌, ap, append_assoc, set, Token, Stored, names, expand, expanded_name, root_list, Frame, suffix, left, FrameIsWithin, IsFrameStack, AreDirect}
 use Rattle.cweb_out.proofs.Owners.{OnTop}
-use Rattle.cweb_out.proofs.DirectExpansion.{put-all-direct, uses-direct}
-use Rattle.cweb_out.proofs.Stack.{Valid-push, Top, left_of-push}
+use Rattle.cweb_out.proofs.DirectExpansion.{put-all-direct}
+use Rattle.cweb_out.proofs.Stack.{Valid-push, left_of-push}
 use Rattle.cweb_out.proofs.Tops.{HasTop, lower, valid_lower, top_read, top_written}
 
-Top-passed : {w : Stored} {k : ℕ} {fs : List Frame} {f g : Frame} (ts : List Token) → suffix w f ≡ ts ++ suffix w g
-    → AreDirect ts → FrameIsWithin w g → Top w k fs f → Top w k fs g
-Top-passed {w} {k} {fs} {g} ts s direct within h = record {
-  ranked = h.ranked;
-  within = within;
-  below = rw (← (ap (uses w) s ∙ uses-direct w ts (suffix w g) direct)) h.below;
-}
-
 OnTop-passed : {w : Stored} {above : ℕ} {fs : List Frame} {f g : Frame} (ts : List Token)
-    → suffix w f ≡ ts ++ suffix w g → g.owner ≡ f.owner → OnTop w above fs f → OnTop w above fs g
-OnTop-passed {w} {above} {fs} {g} ts s o h = record {
+    → suffix w f ≡ ts ++ suffix w g → FrameIsWithin w g → g.owner ≡ f.owner → OnTop w above fs f → OnTop w above fs g
+OnTop-passed {w} {above} {fs} {g} ts s i o h = record {
   below = h.below;
   owned = record {
+    within = i;
     yielded = h.owned.yielded ++ ts;
     list = ap (root_list w) o ∙ h.owned.list ∙ ap (λ (us : List Token). h.owned.yielded ++ us) s
         ∙ sym (append_assoc h.owned.yielded ts (suffix w g));
@@ -41,8 +34,7 @@ top_passed {w} {n} {fs} {f} {g} {ts} {room} s h goes direct i o =
     let p = valid_lower s h in
     let k : ℕ = names w - length below in
     record {
-      valid = Valid-push after refl p.0 (Top-passed ts goes direct i p.1) p.2
-          (OnTop-passed ts goes o p.3);
+      valid = Valid-push after s.room (OnTop-passed ts goes i o p.1);
       left =
           ap (left w) both ∙ left_of-push w (names w) below f
           ∙ ap (λ (us : List Token). expand w k us ++ left w below) goes

@@ -1,7 +1,7 @@
 -- The top frame of a stack, read and written in place. It is the last of the list.
-use Rattle.cweb_out.proofs.Common.{◌≡◌, ◌<◌, ◌≤◌, ◌+◌, ◌-◌, ◌++◌, ◌∷◌, [], ℕ, List, length, take, get_or, refl, sym, ◌∙◌, ap, arith, set, take-length, length-set, take_more, take_more_set, Token, Stored, names, Frame, suffix, left, work_of, FrameIsWithin, IsFrameStack, Advances, rank, top_rank}
+use Rattle.cweb_out.proofs.Common.{◌≡◌, ◌<◌, ◌≤◌, ◌+◌, ◌-◌, ◌++◌, ◌∷◌, [], ℕ, List, length, take, get_or, sym, ◌∙◌, ap, arith, set, take-length, length-set, take_more, take_more_set, Token, Stored, names, Frame, suffix, left, work_of, FrameIsWithin, IsFrameStack, Advances, rank, top_rank}
 use Rattle.cweb_out.proofs.Owners.{OnTop, OnTop-next, top_rank-push}
-use Rattle.cweb_out.proofs.Stack.{Top, Valid-pop, Valid-push, Top-next, advances, left-ended, work-ended}
+use Rattle.cweb_out.proofs.Stack.{Valid-pop, Valid-push, advances, left-ended, work-ended}
 
 -- The frames below the top of a stack of n.
 abbrev pub lower : ℕ → List Frame → List Frame
@@ -13,13 +13,7 @@ pub record HasTop (n : ℕ) (fs : List Frame) (f : Frame) : Type 0 where
   pub is : f ≡ get_or fs (n - 1) f
 
 pub top_read : {n : ℕ} {fs : List Frame} {f : Frame} → HasTop n fs f → fs ≡ lower n fs ++ f ∷ []
-top_read {n} {fs} {f} h =
-    let c = h.count in
-    let some = h.some in
-    let all : length fs ≡ n - 1 + 1 = omega arith in
-    let lt : n - 1 < length fs = omega arith in
-    sym (take-length fs) ∙ ap (λ k. take k fs) all ∙ take_more fs (n - 1) f lt
-    ∙ ap (λ (x : Frame). lower n fs ++ x ∷ []) (sym h.is)
+top_read {n} {fs} {f} h = grind (arith, take-length, take_more)
 
 pub top_written : {n : ℕ} {fs : List Frame} {f : Frame} (g : Frame) → HasTop n fs f → set fs (n - 1) g
     ≡ lower n fs ++ g ∷ []
@@ -33,9 +27,8 @@ top_written {n} {fs} g h =
 -- A stack without its top, and the invariant of the top.
 pub valid_lower : {w : Stored} {n : ℕ} {fs : List Frame} {f : Frame} {room : ℕ} → IsFrameStack w fs room
     → HasTop n fs f
-    → IsFrameStack w (lower n fs) room × Top w (names w) (lower n fs) f
-    × (length (lower n fs) < names w + 1) × OnTop w (names w + 1) (lower n fs) f
-valid_lower s h = Valid-pop (top_read h) refl s
+    → IsFrameStack w (lower n fs) room × OnTop w (names w + 1) (lower n fs) f
+valid_lower s h = Valid-pop (top_read h) s
 
 -- The top frame advanced by a token.
 pub record TopMoved (w : Stored) (old new : List Frame) (t : Token) (room : ℕ) : Type 0 where
@@ -49,14 +42,13 @@ top_moved {w} {n} {old} {fs} {f} {g} {t} s e m h goes i o =
     let both : fs ≡ lower n fs ++ f ∷ [] = top_read h in
     let after : set fs (n - 1) g ≡ lower n fs ++ g ∷ [] = top_written g h in
     let p = valid_lower s h in
-    let q = Top-next t goes i p.1 in
-    let v = OnTop-next t goes o p.3 in
+    let v = OnTop-next t goes i o p.1 in
     let top : top_rank w (names w + 1) (set fs (n - 1) g) ≡ rank w g.owner =
     ap (top_rank w (names w + 1)) after ∙ top_rank-push w (names w + 1) (lower n fs) g in
     record {
-      valid = Valid-push after refl p.0 q.0 p.2 v.0;
+      valid = Valid-push after s.room v.0;
       advances = advances (lower n fs) f g (e ∙ ap (left w) both) (rw (← (ap (work_of w (names w)) both)) m)
-          goes q.1 (rw top v.1) after;
+          goes (rw top v.1) after;
     }
 
 -- The top frame had ended.

@@ -115,12 +115,7 @@ fits-swap path f g e i t =
 -- A waiting name is one of the names.
 pub top-name : {w : Stored} {marks : List Mark} {path : List Waiting} (n : NameId)
     → MarksFitPath w marks path → list_any (is_id n) (path_of path) ≡ true → n.0 < names w
-top-name {w} {marks} n t h = elim (cases_lt n.0 (names w)) [
-  | inr le ↦
-      let past : mark_of marks n ≡ Unseen = get_or_past marks n.0 Unseen (omega (arith, le, t.all)) in
-      let bad : Unseen ≡ Waits = sym past ∙ t.marked n h in cc
-  | inl lt ↦ lt
-]
+top-name {w} {marks} n t h = grind (arith, cases_lt n.0 (names w), cases_lt, get_or_past)
 
 pub on-top : (path : List Waiting) (f : Waiting) → list_any (is_id f.name) (path_of (path ++ f ∷ [])) ≡ true
 on-top path f = ap (list_any (is_id f.name)) (path-push path f) ∙ on-last (path_of path) f.name

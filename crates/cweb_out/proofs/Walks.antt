@@ -1,5 +1,5 @@
 -- The walk along a path that closes is its cycle.
-use Rattle.cweb_out.proofs.Common.{◌≡◌, ◌≤◌, ◌<◌, ◌+◌, ℕ, zero, suc, Bool, true, false, not, cond, List, [], ◌∷◌, ◌++◌, refl, sym, ◌∙◌, ap, arith, length, inl, inr, append-nil, append_assoc, drop, take, subst, Some, get_or, list_any, position_or_len, length-map, take_more, NameId, is_id, Stored, names, joined, has_rank, first_endless, walk, cycle_from, AreNew, or_right, or_left, ◌⊎◌, Waiting}
+use Rattle.cweb_out.proofs.Common.{◌≡◌, ◌≤◌, ◌<◌, ◌+◌, ℕ, zero, suc, Bool, true, false, cond, List, [], ◌∷◌, ◌++◌, refl, sym, ◌∙◌, ap, arith, length, inl, inr, append-nil, append_assoc, drop, take, subst, Some, get_or, list_any, position_or_len, length-map, take_more, NameId, is_id, Stored, names, joined, has_rank, first_endless, walk, cycle_from, AreNew, or_right, or_left, ◌⊎◌, Waiting}
 use Rattle.cweb_out.specs.declared.outputs.search.Mark.{Mark}
 use Rattle.cweb_out.specs.inner.Search.{PathBegins, Chain, MarksFitPath, IsEndless, IsScanned, back_to, path_next, path_of, cycle_with_next}
 use Rattle.cweb_out.proofs.Ranks.{few, id-same}
@@ -13,19 +13,7 @@ walks : (w : Stored) (seen : List NameId) (path : List Waiting) (again : NameId)
     → ((n : NameId) → (n ≡ again) ⊎ (list_any (is_id n) (path_of path) ≡ true) → has_rank w n ≡ false)
     → walk w (suc k) seen (path_next path (Some again))
     ≡ drop (position_or_len (is_id again) (seen ++ path_of path)) (seen ++ path_of path) ++ again ∷ []
-walks w seen [] again k le c a h e =
-    let s : seen ++ [] ≡ seen = append-nil seen in
-    closes (list_any (is_id again) seen) (sym (ap (list_any (is_id again)) s) ∙ h)
-    ∙ ap (λ (ns : List NameId). drop (position_or_len (is_id again) ns) ns ++ again ∷ []) (sym s)
-  where
-    closes : (b : Bool) → b ≡ true
-        → (elim b [
-          | true ↦ drop (position_or_len (is_id again) seen) seen ++ again ∷ []
-          | false ↦ walk w k (seen ++ again ∷ []) (first_endless w (joined w again))
-        ])
-        ≡ drop (position_or_len (is_id again) seen) seen ++ again ∷ []
-    closes true g = refl
-    closes false g = cc
+walks w seen [] again k le c a h e = grind (arith, seen, append-nil, joined)
 walks w seen (f ∷ path) again zero le c a h e = absurd (omega (arith, le))
 walks w seen (f ∷ path) again (suc k) le c a h e =
     let s : (seen ++ f.name ∷ []) ++ path_of path ≡ seen ++ path_of (f ∷ path) =
@@ -77,25 +65,12 @@ abbrev pub from_first : NameId → List NameId → List NameId
 from_first n ns = drop (position_or_len (is_id n) ns) ns
 
 from-cons : (n m : NameId) (ns : List NameId) → from_first n (m ∷ ns) ≡ cond (is_id n m) (m ∷ ns) (from_first n ns)
-from-cons n m ns = elim (is_id n m) as (λ b.
-    drop (cond (not b) (1 + position_or_len (is_id n) ns) 0) (m ∷ ns) ≡ cond b (m ∷ ns) (from_first n ns)) [
-      | true ↦ refl
-      | false ↦ (let e : 1 + position_or_len (is_id n) ns ≡ suc (position_or_len (is_id n) ns) = omega arith in
-          ap (λ k. drop k (m ∷ ns)) e)
-    ]
+from-cons n m ns = grind (arith, is_id n m)
 
 from-push : (n : NameId) (ns : List NameId) (m : NameId)
     → from_first n (ns ++ m ∷ []) ≡ cycle_with_next n (from_first n ns) m
 from-push n [] m = from-cons n m []
-from-push n (k ∷ ns) m =
-    from-cons n k (ns ++ m ∷ []) ∙ by (is_id n k) (from-push n ns m)
-    ∙ ap (λ (xs : List NameId). cycle_with_next n xs m) (sym (from-cons n k ns))
-  where
-    by : (b : Bool) → from_first n (ns ++ m ∷ []) ≡ cycle_with_next n (from_first n ns) m
-        → cond b (k ∷ (ns ++ m ∷ [])) (from_first n (ns ++ m ∷ []))
-        ≡ cycle_with_next n (cond b (k ∷ ns) (from_first n ns)) m
-    by true later = refl
-    by false later = later
+from-push n (k ∷ ns) m = grind (arith, is_id n k, from-cons, from-push n ns m)
 
 -- One more name of a path.
 pub from-more : (n : NameId) (path : List Waiting) (i : ℕ) (f : Waiting) → i < length path → f ≡ get_or path i f

@@ -3,11 +3,11 @@ ghost use Rattle.std.specs.Prelude.{◌≡◌, ◌≤◌, ◌<◌, ◌+◌, ◌+
 ghost use Rattle.std.specs.Prelude.{IfSome, option_map, vec_capacity};
 ghost use Rattle.cweb_store.specs.surface.TokenModels.{token_model};
 ghost use Rattle.cweb_store.specs.Parts.{Name};
-ghost use Rattle.cweb_out.specs.Expansion.{names, use_of, expand};
+ghost use Rattle.cweb_out.specs.Expansion.{names, expand};
 ghost use Rattle.cweb_out.specs.surface.Outputs.{IsPlanOf, root_at};
 ghost use Rattle.cweb_out.specs.Outputs.{root_list};
-ghost use Rattle.cweb_out.specs.inner.FrameStacks.{Advances, Enters, KeepsExpander, UsesLower, level};
-ghost use Rattle.cweb_out.specs.surface.FrameStacks.{RanksAreBelow, YieldsNext, IsFrameStack, IsReady, left};
+ghost use Rattle.cweb_out.specs.inner.FrameStacks.{Advances, Enters, KeepsExpander, UsesLower};
+ghost use Rattle.cweb_out.specs.surface.FrameStacks.{YieldsNext, IsFrameStack, IsReady, left};
 
 pub mod appending;
 
@@ -122,9 +122,6 @@ impl<'a> Expander<'a> {
     fn enter(&mut self, name: NameRef)
         requires valid { IsReady self.old }
         requires some { 0 < length self.old.frames.items }
-        requires below { RanksAreBelow self.old.store.now
-            (level self.old.store.now self.old.frames.items)
-            (use_of self.old.store.now (Name name)) }
         requires lower { UsesLower self.old.store.now self.old.frames.items (Name name) }
         ensures keeps { KeepsExpander self.old self.new }
         ensures enters { Enters self.old.store.now

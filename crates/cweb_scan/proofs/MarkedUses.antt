@@ -2,7 +2,7 @@
 use Rattle.cweb_scan.proofs.Common.{◌≡◌, ℕ, Bool, true, false, not, ◌||◌, List, [], ◌∷◌, ◌++◌, Option, Some, None, refl, ap, sym, ◌∙◌, subst, append_assoc, append-nil, fold, and_parts, and_from, option_map, option_to_list, if◌then◌else◌, All, All-nil, All-push, Place, Line, NameRef, PartKind, Token, Name, Defs, Mark, Join, Tail, Punct, Part, is_macro, at_close, without_layout, without_blank, without_last, is_newline, part_with_token, Context, TeX, Macro, CText, Effect, Define, Format, Program, InsertDefs, Joins, EmitAt, Faulty, End, Cut, Kind, Lexeme, Skipped, Section, Code, Defined, unescaped, codes, ScanState, emit, add_name, begin_part, end_part, end_macro_in, leave_in, leave, name_occurrence, Reading, item, after_lexeme, enter, apply_effect, define, report_name_fault, use_name, open_name, name_in_context, each_line_end, move_to, source_start}
 use Rattle.cweb_store.specs.Parts.{is_c_part}
 use Rattle.cweb_store.specs.declared.parts.PartKind.TheVariants as part
-use Rattle.cweb_store.proofs.LayoutLawLemmas.{dropping_keeps_the_prefix}
+use Rattle.cweb_store.proofs.LayoutLawLemmas.{only_layout_is_dropped}
 use Rattle.cweb_rules.specs.Matches.{Occurrence}
 use Rattle.cweb_scan.specs.laws.Counted.{lexemes_of_lines}
 use Rattle.cweb_scan.specs.laws.PartTokens.{needs_mark, is_mark_or_join, first_token_is, marks_follow, MarksFollowUses}
@@ -67,7 +67,7 @@ joined : (o : Option Part) → IsOpenMarked o
     → IsOpenMarked (option_map (part_with_token Join) (option_map without_layout o))
 joined None h = tt
 joined (Some p) h = λ c.
-    let k = (dropping_keeps_the_prefix p).prefix in
+    let k = only_layout_is_dropped.dropped p in
     marks-join (without_layout p).tokens k.rest (ap marks_follow (sym k.splits) ∙ h c)
 
 at_close-marked : (p : Part) → IsMarked p → IsMarked (at_close p)

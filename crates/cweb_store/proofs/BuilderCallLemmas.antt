@@ -19,16 +19,7 @@ takes-one c (x ∷ xs) call all next = (all.0, takes-one (after_call c x) xs cal
 pub taken-one : (answers : List Answered) (a : Answered) (c : Contents) → c ≡ contents (accepted_calls answers)
     → AcceptsCalls empty (accepted_calls answers) → (IsTrue a.is_ok → AcceptsCall c (call_model a.call))
     → AcceptsCalls empty (accepted_calls (answers ++ a ∷ []))
-taken-one answers a c held all next =
-    rw (forms-one answers a)
-    (grind (
-      arith,
-      a.is_ok,
-      takes-one empty (accepted_calls answers) (call_model a.call) all,
-      append-nil (accepted_calls answers),
-      held,
-      next,
-    ))
+taken-one answers a c held all next = grind (arith, forms-one, takes-one, append-nil, held)
 
 at-most-after : (n : ℕ) (c : Contents) (call : Call) → HoldsAtMost n c → AcceptsCall c call
     → HoldsAtMost (n + 1) (after_call c call)

@@ -86,10 +86,9 @@ pub use Rattle.cweb_store.specs.laws.Calls.{contents}
 pub use Rattle.cweb_store.specs.laws.Laws.{defines_with_prefix, AbbreviationsStay, EarlierNamesDecide}
 pub use Rattle.cweb_store.specs.laws.Laws.{FullNamesResolveToThemselves, JoiningConcatenates}
 pub use Rattle.cweb_store.specs.laws.Laws.{OccurrencesAreThoseOfCalls, occurrence_of_call}
-pub use Rattle.cweb_store.specs.laws.MoreLaws.{AllPass, IsTokenPrefix, DroppingKeepsThePrefix, MacrosKeepTwoTokens}
+pub use Rattle.cweb_store.specs.laws.MoreLaws.{IsLeft, OnlyLayoutIsDropped}
 pub use Rattle.cweb_store.specs.laws.MoreLaws.{NamesAreDistinct, AbbreviationsBeginTheirNames, OneFaultForNoName}
 pub use Rattle.cweb_store.specs.laws.MoreLaws.{left_of_macro}
-pub use Rattle.cweb_store.specs.laws.TokenLaws.{AreInPlace, IsLeftOfTokens, TokensAreThosePushed}
 pub use Rattle.cweb_store.specs.surface.Growing.{part_count, token_count}
 pub use Rattle.cweb_store.specs.surface.Parts.{numbers_where, tokens_at}
 pub use Rattle.cweb_store.specs.surface.Replacements.{replacement_of}

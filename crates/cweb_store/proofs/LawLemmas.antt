@@ -34,11 +34,7 @@ names_from-append i j ns (o ∷ os) later e =
 beginning-other : (i : ℕ) (p : List ℕ) (ns : List Name) (n : Name)
     → starts_with nat_eq n.text p ≡ false → beginning_from i p (ns ++ n ∷ []) ≡ beginning_from i p ns
 beginning-other i p [] n h = beginning-step i p n [] ∙ ap (λ b. if b then id i ∷ [] else []) h
-beginning-other i p (m ∷ ns) n h = cc (
-  beginning-step i p m (ns ++ n ∷ []),
-  beginning-step i p m ns,
-  beginning-other (i + 1) p ns n h,
-)
+beginning-other i p (m ∷ ns) n h = grind (arith, beginning-step, beginning-other (i + 1) p ns n h)
 
 beginning-with_text : (j : ℕ) (p : List ℕ) (ns : List Name) (text : List ℕ)
     → starts_with nat_eq text p ≡ false → beginning p (with_full_name j ns text) ≡ beginning p ns
@@ -100,12 +96,7 @@ names_decide_resolutions earlier later o =
     )
 
 pub earlier_names_decide : EarlierNamesDecide
-earlier_names_decide earlier later o n prefix only =
-    cc (
-      names_decide_resolutions earlier later o,
-      among-prefix (names earlier) (names (earlier ++ o ∷ later)) o.text o.how o.is_file prefix,
-      only,
-    )
+earlier_names_decide earlier later o n prefix only = grind (arith, names_decide_resolutions, among-prefix)
 
 pub any-grows : (p : List ℕ → Bool) (old new : List Name) → Grows old new
     → list_any p (spellings old) ≡ true → list_any p (spellings new) ≡ true
@@ -159,8 +150,7 @@ occurrences-from : (c : Contents) (calls : List Call)
     → (fold after_call c calls).occurrences ≡ c.occurrences ++ filter_map occurrence_of_call calls
 occurrences-from c [] = sym (append-nil c.occurrences)
 occurrences-from c (Occurs o ∷ calls) =
-    occurrences-from (after_call c (Occurs o)) calls
-    ∙ append_assoc c.occurrences (o ∷ []) (filter_map occurrence_of_call calls)
+    grind (arith, append_assoc, occurrences-from (after_call c (Occurs o)) calls)
 occurrences-from c (call ∷ calls) = occurrences-from (after_call c call) calls
 
 pub occurrences_are_those_of_calls : OccurrencesAreThoseOfCalls

@@ -31,8 +31,7 @@ before_last-strings t token (u ∷ us) = refl
 without_last-strings : (t : Trailing) (ts : List Token)
     → filter has_string (without_last (is_trailing t) ts) ≡ filter has_string ts
 without_last-strings t [] = refl
-without_last-strings t (x ∷ ts) =
-    cc (before_last-strings t x (without_last (is_trailing t) ts), without_last-strings t ts)
+without_last-strings t (x ∷ ts) = grind (arith, before_last-strings, without_last-strings t ts)
 
 pub trimmed-strings : (n : ℕ) (t : Trailing) (ts : List Token)
     → filter has_string (without_last_after n (is_trailing t) ts) ≡ filter has_string ts

@@ -45,11 +45,7 @@ put-visits rs r ranges skips old skip new w put linked =
 pub put-linked : (rs : List Resolution) (r : PartRange) (ranges : List PartRange)
     (skips : List ℕ) (old : Heads) (skip : ℕ) (new : Heads) → IsPut (group_of rs r.kind) (length ranges) old skip new
     → AreLinked rs ranges skips old → AreLinked rs (r ∷ ranges) (skip ∷ skips) new
-put-linked rs r ranges skips old skip new put linked = record {
-  within = λ w. (put-visits rs r ranges skips old skip new w put linked).0;
-  follow = λ w. (put-visits rs r ranges skips old skip new w put linked).1;
-  some = λ n. put-some rs r ranges skips old skip new n put linked;
-}
+put-linked rs r ranges skips old skip new put linked = grind (arith, put-visits, put-some)
 
 -- The first visited part, and the parts after it.
 pub followed-none : (ranges : List PartRange) (skips : List ℕ) (n : ℕ) → length ranges ≤ n
@@ -75,16 +71,12 @@ followed-some (x ∷ ranges) (k ∷ skips) zero r skip here there = cc
 followed-some (x ∷ ranges) (k ∷ skips) (suc n) r skip here there = followed-some ranges skips n r skip here there
 
 range-end : {X : Type 0} (xs : List X) (n : ℕ) → drop (suc n) xs ≡ slice_range xs (n + 1) (length xs)
-range-end xs n =
-    let next : suc n ≡ n + 1 = omega arith in
-    sym (take_all (length xs - suc n) (drop (suc n) xs) (omega (arith, length-drop (suc n) xs)))
-    ∙ ap (λ k. slice_range xs k (length xs)) next
+range-end xs n = grind (arith, take_all, length-drop)
 
 pub followed-next : (ranges : List PartRange) (skips : List ℕ) (n : ℕ) (r : PartRange) (skip : ℕ)
     → slice_get ranges n ≡ Some r → slice_get skips n ≡ Some skip → followed ranges skips n
     ≡ r.part ∷ followed (slice_range ranges (n + 1) (length ranges)) (slice_range skips (n + 1) (length skips)) skip
-followed-next ranges skips n r skip here there = followed-some ranges skips n r skip here there
-    ∙ (λ i. r.part ∷ followed (range-end ranges n i) (range-end skips n i) skip)
+followed-next ranges skips n r skip here there = grind (arith, followed-some, there, range-end)
 
 -- One more part at the head, since links are built from the last part backwards.
 pub step-linked : (rs : List Resolution) (ranges : List PartRange) (i after skip : ℕ) (d : PartRange)

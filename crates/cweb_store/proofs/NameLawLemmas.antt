@@ -30,18 +30,7 @@ first-begins : (all ns : List Name) (i : ℕ) (p : List ℕ) (n : NameId) (more 
     → drop i all ≡ ns → beginning_from i p ns ≡ n ∷ more → Begins p all n
 first-begins all [] i p n more h found = cc
 first-begins all (m ∷ ns) i p n more h found =
-    let here = drop-here all i m ns h in
-    let next : suc i ≡ i + 1 = omega arith in
-    grind (
-      arith,
-      starts_with nat_eq m.text p,
-      here.0,
-      here.1,
-      next,
-      found,
-      beginning-step i p m ns,
-      first-begins all ns (i + 1) p n more,
-    )
+    grind (arith, drop-here, found, beginning-step, more, first-begins all ns (i + 1) p n more)
 
 get-grows : (ns more : List Name) (k : ℕ) (p : List ℕ)
     → option_map (λ (m : Name). starts_with nat_eq m.text p) (slice_get ns k) ≡ Some true
@@ -98,9 +87,7 @@ own-fault : (j k : ℕ) (rs : List Resolution) (i : ℕ) (r : Resolution) → sl
     → k ≡ j + i → filter (is_at k) (unresolved_faults_from j rs) ≡ option_to_list (unresolved_fault k r)
 own-fault j k [] i r h e = cc
 own-fault j k (Ok m ∷ rs) zero r h e = grind (arith, no-faults k (j + 1) rs (omega arith))
-own-fault j k (Err kind ∷ rs) zero r h e =
-    let place : j ≡ k = omega arith in
-    grind (arith, eq-eqb j k place, place, no-faults k (j + 1) rs (omega arith))
+own-fault j k (Err kind ∷ rs) zero r h e = grind (arith, eq-eqb, no-faults)
 own-fault j k (Ok m ∷ rs) (suc i) r h e = own-fault (j + 1) k rs i r h (omega arith)
 own-fault j k (Err kind ∷ rs) (suc i) r h e = grind (arith, differs j k, own-fault (j + 1) k rs i r h (omega arith))
 

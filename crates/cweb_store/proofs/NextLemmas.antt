@@ -17,9 +17,7 @@ none-before : (test : Token → Bool) (n k : ℕ) (ts : List Token)
     → BeginsFrom (n + k) (token_numbers test n ts) → list_any test (take k ts) ≡ false
 none-before test n zero ts from = refl
 none-before test n (suc k) [] from = refl
-none-before test n (suc k) (t ∷ ts) from =
-    let next : n + suc k ≡ (n + 1) + k = omega arith in
-    grind (arith, next, test t, from, none-before test (n + 1) k ts)
+none-before test n (suc k) (t ∷ ts) from = grind (arith, none-before test (n + 1) k ts)
 
 -- The token at the first number passes.
 first-passes : (test : Token → Bool) (n m : ℕ) (ts : List Token) (xs : List ℕ)

@@ -45,11 +45,7 @@ closed-whole : (ranges : List PartRange) (ts : List Token) (n end : ℕ) → Ran
     → end ≤ length ts → all_tokens (map (closed_in ts) ranges) ++ drop end ts ≡ drop n ts
 closed-whole [] ts n end h within = ap (λ k. drop k ts) (sym h)
 closed-whole (r ∷ ranges) ts n end h within =
-    cc (
-      append_assoc (slice_range ts r.part.first r.part.after) (all_tokens (map (closed_in ts) ranges)) (drop end ts),
-      closed-whole ranges ts r.part.after end h.2 within,
-      slice_range-drop ts n r.part.first r.part.after h.0 h.1,
-    )
+    grind (arith, append_assoc, closed_in, slice_range-drop, closed-whole ranges ts r.part.after end h.2 within)
 
 pub tokens-whole : (ts : List Token) (ranges : List PartRange) (current : Option Open) (places : ℕ)
     → ArePartRanges ts ranges current places → all_tokens (all_parts (parts_in ts ranges current)) ≡ ts
@@ -67,11 +63,7 @@ pub push-parts : (ts : List Token) (t : Token) (ranges : List PartRange) (curren
     → IsSome (option_map (open_in ts) current) → ArePartRanges ts ranges current places
     → parts_in (ts ++ t ∷ []) ranges current ≡ with_pushed_token t (parts_in ts ranges current)
 push-parts ts t ranges None places some tied = cc
-push-parts ts t ranges (Some o) places some tied =
-    cc (
-      parts-add_string ranges (ts ++ t ∷ []) ts 0 o.first tied.follow (take-append-le o.first ts (t ∷ []) tied.within),
-      drop-append-le o.first ts (t ∷ []) tied.within,
-    )
+push-parts ts t ranges (Some o) places some tied = grind (arith, parts-add_string, take-append-le, drop-append-le)
 
 pub push-are : (ts : List Token) (t : Token) (ranges : List PartRange) (current : Option Open) (places : ℕ)
     → length ts + 1 < too_many → IsSome (option_map (open_in ts) current)
@@ -89,11 +81,7 @@ pub close-parts : (ts : List Token) (ranges : List PartRange) (o : Open) (places
     → ArePartRanges ts ranges (Some o) places
     → parts_in ts (ranges ++ last_range o (length ts) ∷ []) None
     ≡ record { closed = all_parts (parts_in ts ranges (Some o)); current = None }
-close-parts ts ranges o places tied =
-    cc (
-      take_all (length ts - o.first) (drop o.first ts) (omega (arith, length-drop o.first ts)),
-      map-append (closed_in ts) ranges (last_range o (length ts) ∷ []),
-    )
+close-parts ts ranges o places tied = grind (arith, take_all, length-drop, map-append, closed_in)
 
 pub close-are : (ts : List Token) (ranges : List PartRange) (o : Open) (places more : ℕ)
     → ArePartRanges ts ranges (Some o) places → ArePartRanges ts (ranges ++ last_range o (length ts) ∷ []) None more

@@ -1,5 +1,5 @@
 -- Records and their tokens: after more strings and places, of a prefix, and at an index.
-use Rattle.cweb_store.proofs.Common.{◌≡◌, ℕ, zero, suc, ◌+◌, ◌≤◌, true, false, cond, List, [], ◌∷◌, ◌++◌, Some, length, take, drop, refl, sym, subst, ap, arith, length-append, slice_get, map-append, direct_bytes, Place, Record}
+use Rattle.cweb_store.proofs.Common.{◌≡◌, ℕ, zero, suc, ◌+◌, ◌≤◌, true, false, cond, List, [], ◌∷◌, ◌++◌, Some, length, take, drop, refl, ap, arith, length-append, slice_get, map-append, direct_bytes, Place, Record}
 use Rattle.std.proofs.Math.ListN.{get_or-append}
 use Rattle.cweb_store.specs.inner.Records.{token_of_record, tokens_of, has_place, StringIsWithin, PlaceHasNumber, places_of, AreRecords, AddsPlace, InternsToken, PlaceIsWithin}
 use Rattle.cweb_store.specs.declared.tokens.records.Record.TheVariants.{Word, Number, Literal, Verbatim, Punct, Mark}
@@ -50,18 +50,14 @@ within-grow n m _ le h = h
 -- One more record.
 records-push : (n m from end : ℕ) (rs : List Record) (r : Record) → AreRecords n from rs end → n ≤ m
     → StringIsWithin m r → PlaceHasNumber end r → AreRecords m from (rs ++ r ∷ []) (end + places_of r)
-records-push n m from end [] r h le within at =
-    (within, subst (λ k. PlaceHasNumber k r) (sym h) at, ap (λ k. k + places_of r) h)
+records-push n m from end [] r h le within at = grind (arith, at)
 records-push n m from end (q ∷ rs) r h le within at =
     (within-grow n m q le h.0, h.1, records-push n m (from + places_of q) end rs r h.2 le within at)
 
 pub push-records : (old new : StringTableModel) (was now : List Place) (rs : List Record) (t : spec.Token) (r : Record)
     → AreRecords (length old.strings) 0 rs (length was) → InternsToken old t now r new → AddsPlace was r now
     → AreRecords (length new.strings) 0 (rs ++ r ∷ []) (length now)
-push-records old new was now rs t r all packs placed =
-    subst (AreRecords (length new.strings) 0 (rs ++ r ∷ [])) (sym placed.count)
-    (records-push (length old.strings) (length new.strings) 0 (length was) rs r all
-    (omega (arith, ap length packs.grows, length-append old.strings packs.more)) packs.within placed.at)
+push-records old new was now rs t r all packs placed = grind (arith, records-push, length-append)
 
 pub push-tokens : (old new : StringTableModel) (was now : List Place) (rs : List Record) (t : spec.Token) (r : Record)
     → AreRecords (length old.strings) 0 rs (length was) → InternsToken old t now r new → AddsPlace was r now
@@ -107,10 +103,7 @@ place-within _ from end at h = tt
 pub record-at : (n from end : ℕ) (rs : List Record) (i : ℕ) (r : Record) → AreRecords n from rs end
     → slice_get rs i ≡ Some r → StringIsWithin n r × PlaceIsWithin end r
 record-at n from end [] i r all h = cc
-record-at n from end (q ∷ rs) zero r all h =
-    let is : q ≡ r = cc in
-    subst (λ q. StringIsWithin n q × PlaceIsWithin end q) is
-    (all.0, place-within q from end all.1 (records-le n (from + places_of q) end rs all.2))
+record-at n from end (q ∷ rs) zero r all h = grind (arith, place-within, records-le)
 record-at n from end (q ∷ rs) (suc i) r all h = record-at n (from + places_of q) end rs i r all.2 h
 
 -- The bytes of a record don't depend on the places.

@@ -1,5 +1,5 @@
 -- The model of a store, from its tokens, occurrences and names.
-use Rattle.cweb_store.proofs.Common.{◌≡◌, ℕ, zero, suc, ◌+◌, ◌<◌, Bool, List, [], ◌∷◌, ◌++◌, Option, Some, map, length, drop, refl, sym, ◌∙◌, ap, subst, arith, length-append, get_or, slice_get, option_map, length-map, drop-append_seam, NameId, NameFault, OccurrenceForm, PartRange, Links, Occurrence, Name, Resolution, with_full_name, with_occurrence_name, names_from, names, Token, Replacement, IsWhole, closed_in, stored, too_many, AreAnswers, AreLinked, occurrence_text, replacement_bytes, occurrence_form, occurrences_at, replacements_at, stored_in, AreLast, AreStored}
+use Rattle.cweb_store.proofs.Common.{◌≡◌, ℕ, zero, suc, ◌+◌, ◌<◌, Bool, List, [], ◌∷◌, ◌++◌, Option, Some, map, length, drop, refl, sym, ◌∙◌, ap, arith, length-append, get_or, slice_get, option_map, length-map, drop-append_seam, NameId, NameFault, OccurrenceForm, PartRange, Links, Occurrence, Name, Resolution, with_full_name, with_occurrence_name, names_from, names, Token, Replacement, IsWhole, closed_in, stored, too_many, AreAnswers, AreLinked, occurrence_text, replacement_bytes, occurrence_form, occurrences_at, replacements_at, stored_in, AreLast, AreStored}
 use Rattle.std.specs.Prelude.{◌^◌}
 use Rattle.cweb_store.proofs.RangeLemmas.{drop-here}
 
@@ -15,13 +15,7 @@ replacements-back (r ∷ rs) = ap (λ rest. r ∷ rest) (replacements-back rs)
 replacements-after : (os : List Occurrence) (rs : List Replacement) → replacements_at
     (drop (length (map occurrence_form os)) (map occurrence_text os ++ map replacement_bytes rs)) (map (λ r. r.byte) rs)
     ≡ rs
-replacements-after os rs =
-    cc (
-      length-map os occurrence_form,
-      length-map os occurrence_text,
-      drop-append_seam (map occurrence_text os) (map replacement_bytes rs),
-      replacements-back rs,
-    )
+replacements-after os rs = grind (arith, length-map, drop-append_seam, replacements-back)
 
 -- The strings of occurrences, then those of replacements.
 abbrev pub strings_of : List Occurrence → List Replacement → List (List ℕ)
@@ -44,27 +38,7 @@ pub stored-are : (ts : List Token)
     (map occurrence_form os) (map (λ r. r.byte) rs) last_places firsts resolutions files faults has_defs
 stored-are ts ranges links os rs last_places firsts resolutions files faults has_defs whole linked last places few
     small answers =
-    let back = occurrences-back os (map replacement_bytes rs) in
-    record {
-      whole = whole;
-      linked = linked;
-      strings =
-          omega (
-            arith,
-            length-append (map occurrence_text os) (map replacement_bytes rs),
-            length-map os occurrence_text,
-            length-map os occurrence_form,
-            length-map rs replacement_bytes,
-            length-map rs (λ (r : Replacement). r.byte),
-          );
-      last = last;
-      small = small;
-      few = omega (arith, ap length places, length-map (names os) (λ (n : Name). n.first), few);
-      first_places = places ∙ ap (λ xs. map (λ (n : Name). n.first) (names xs)) (sym back);
-      answers =
-          subst (λ (xs : List Occurrence). AreAnswers xs (map (closed_in ts) ranges) resolutions files faults has_defs)
-          (sym back) answers;
-    }
+    grind (arith, occurrences-back, whole, length-append, length-map, small, few, closed_in)
 
 pub occurrence-text : (ts : List (List ℕ)) (gs : List OccurrenceForm) (k : ℕ) → k < length (occurrences_at ts gs)
     → option_map (λ (o : Occurrence). o.text) (slice_get (occurrences_at ts gs) k) ≡ slice_get ts k
@@ -131,6 +105,4 @@ pub first-string : (ts : List (List ℕ)) (gs : List OccurrenceForm) (n k : ℕ)
     → k ≡ get_or (map (λ (m : Name). m.first) (names (occurrences_at ts gs))) n k
     → (k < length (occurrences_at ts gs))
     × (option_map (λ (m : Name). m.text) (slice_get (names (occurrences_at ts gs)) n) ≡ slice_get ts k)
-first-string ts gs n k less is =
-    let first = first-place (occurrences_at ts gs) n k less is in
-    (first.within, first.same ∙ occurrence-text ts gs k first.within)
+first-string ts gs n k less is = grind (arith, first-place, less, occurrence-text)

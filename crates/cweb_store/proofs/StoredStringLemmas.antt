@@ -1,5 +1,5 @@
 -- The strings of a store: replacements, and the number of bytes.
-use Rattle.cweb_store.proofs.Common.{◌≡◌, ℕ, suc, ◌+◌, ◌≤◌, ◌<◌, Bool, true, false, List, [], ◌∷◌, ◌++◌, Option, Some, None, map, length, drop, refl, sym, ◌∙◌, ap, subst, arith, length-append, length-drop, flat_map, slice_get, option_and_then, nat_eq, if◌then◌else◌, OccurrenceForm, PartRange, Token, all_tokens, replaced_by, replacement, IsWhole, closed_in, Stored, total, token_strings, interned_token_bytes, occurrence_text, replacement_bytes, stored_strings, uninterned_store_bytes, interned_store_bytes, AreSpansOf, AreInOneList, occurrences_at, replacements_at, last_from, stored_in}
+use Rattle.cweb_store.proofs.Common.{◌≡◌, ℕ, ◌+◌, ◌≤◌, ◌<◌, Bool, true, false, List, [], ◌∷◌, ◌++◌, Option, Some, None, map, length, drop, refl, sym, ap, subst, arith, length-append, length-drop, flat_map, slice_get, option_and_then, nat_eq, if◌then◌else◌, OccurrenceForm, PartRange, Token, all_tokens, replaced_by, replacement, IsWhole, closed_in, Stored, total, token_strings, interned_token_bytes, occurrence_text, replacement_bytes, stored_strings, uninterned_store_bytes, interned_store_bytes, AreSpansOf, AreInOneList, occurrences_at, replacements_at, last_from, stored_in}
 use Rattle.cweb_store.proofs.RangeLemmas.{drop-here}
 use Rattle.cweb_texts.proofs.ListLemmas.{get-drop}
 use Rattle.cweb_texts.specs.inner.StringLists.{text_bytes}
@@ -16,9 +16,7 @@ last-replaces : (all ts : List (List ℕ)) (bs : List ℕ) (byte i : ℕ) (found
 last-replaces all ts [] byte i found h size = refl
 last-replaces all [] (b ∷ bs) byte i found h size = absurd (let none : ⊥ = omega arith in none)
 last-replaces all (t ∷ ts) (b ∷ bs) byte i found h size =
-    let here = drop-here all i t ts h in
-    let next : suc i ≡ i + 1 = omega arith in
-    grind (arith, nat_eq b byte, here.0, here.1, next, last-replaces all ts bs byte (i + 1))
+    grind (arith, drop-here, last-replaces all ts bs byte (i + 1))
 
 last-is : (ts : List (List ℕ)) (bs : List ℕ) (byte : ℕ) → length ts ≡ length bs
     → replacement (replacements_at ts bs) byte ≡ at_last ts (last_from byte None 0 bs)
@@ -28,11 +26,8 @@ last-is ts bs byte size = last-replaces ts ts bs byte 0 None refl size
 pub replacement-at : (strings : List (List ℕ)) (n : ℕ) (bs : List ℕ) (byte : ℕ) (found : Option ℕ)
     → length strings ≡ n + length bs → last_from byte None 0 bs ≡ found
     → replacement (replacements_at (drop n strings) bs) byte ≡ option_and_then (λ k. slice_get strings (n + k)) found
-replacement-at strings n bs byte None size is =
-    last-is (drop n strings) bs byte (omega (arith, length-drop n strings, size)) ∙ ap (at_last (drop n strings)) is
-replacement-at strings n bs byte (Some k) size is =
-    last-is (drop n strings) bs byte (omega (arith, length-drop n strings, size)) ∙ ap (at_last (drop n strings)) is
-    ∙ get-drop strings n k
+replacement-at strings n bs byte None size is = grind (arith, last-is, length-drop)
+replacement-at strings n bs byte (Some k) size is = grind (arith, last-is, length-drop, get-drop)
 
 last_from-within : (byte i n : ℕ) (found : Option ℕ) (bs : List ℕ) (k : ℕ)
     → ((j : ℕ) → found ≡ Some j → j < n) → i + length bs ≤ n → last_from byte found i bs ≡ Some k → k < n

@@ -65,9 +65,7 @@ pub tokens-valid : (ts : List (List ℕ)) (places : List Place) (from end : ℕ)
     → AreSpansOf (text_bytes ts) (flat_map token_strings (tokens_of ts places rs))
 tokens-valid ts places from end [] h = tt
 tokens-valid ts places from end (r ∷ rs) h =
-    all-both (text_bytes ts) (token_strings (token_of_record ts places r))
-    (flat_map token_strings (tokens_of ts places rs)) (token-stored ts places r h.0)
-    (tokens-valid ts places (from + places_of r) end rs h.2)
+    grind (arith, all-both, text_bytes, token-stored, tokens-valid ts places (from + places_of r) end rs h.2)
 
 pub bytes-total : (ts : List (List ℕ)) → length (text_bytes ts) ≡ total length ts
 bytes-total [] = refl

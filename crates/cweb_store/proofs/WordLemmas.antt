@@ -23,12 +23,9 @@ word-bytes ws w = grind (arith, total-append length ws (w ∷ []))
 pub same-more-bytes : (ws vs : List (List ℕ)) (t : Token)
     → ((q : List ℕ) → list_any (bytes_eq q) ws ≡ list_any (bytes_eq q) vs)
     → total length (with_word_of ws t) + total length vs ≡ total length (with_word_of vs t) + total length ws
-same-more-bytes ws vs (Word b) same =
-    omega (arith, word-bytes ws b, word-bytes vs b, ap (λ v. cond v 0 (length b)) (same b))
-same-more-bytes ws vs (Number b) same =
-    omega (arith, word-bytes ws b, word-bytes vs b, ap (λ v. cond v 0 (length b)) (same b))
-same-more-bytes ws vs (Punct b) same =
-    omega (arith, word-bytes ws b, word-bytes vs b, ap (λ v. cond v 0 (length b)) (same b))
+same-more-bytes ws vs (Word b) same = grind (arith, word-bytes, same)
+same-more-bytes ws vs (Number b) same = grind (arith, word-bytes, same)
+same-more-bytes ws vs (Punct b) same = grind (arith, word-bytes, same)
 same-more-bytes ws vs _ same = omega arith
 
 pub words-push : (ts : List Token) (t : Token) → words_of (ts ++ t ∷ []) ≡ with_word_of (words_of ts) t
@@ -53,8 +50,7 @@ same-words ts us same = sym (words-strings [] ts) ∙ ap words_of same ∙ words
 
 pub same-bytes : (ts us : List Token) → filter has_string ts ≡ filter has_string us
     → interned_token_bytes ts ≡ interned_token_bytes us
-same-bytes ts us same = omega
-    (arith, ap (total length) (same-words ts us same), other-strings ts, other-strings us, ap (total other_bytes) same)
+same-bytes ts us same = grind (arith, same-words, same, other-strings)
 
 -- Interning stores no more bytes than were added.
 word-few : (ws : List (List ℕ)) (b : List ℕ) → total length (with_word ws b) ≤ total length ws + length b

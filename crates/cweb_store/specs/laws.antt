@@ -4,4 +4,3 @@ pub mod BuilderCalls
 pub mod Laws
 pub mod MoreLaws
 pub mod NameLaws
-pub mod TokenLaws

@@ -7,12 +7,10 @@ ghost use Rattle.cweb_names.specs.surface.Names.{too_many};
 ghost use Rattle.cweb_store.specs.laws.Laws.{AbbreviationsStay, EarlierNamesDecide};
 ghost use Rattle.cweb_store.specs.laws.Laws.{FullNamesResolveToThemselves, JoiningConcatenates};
 ghost use Rattle.cweb_store.specs.laws.Laws.{OccurrencesAreThoseOfCalls};
-ghost use Rattle.cweb_store.specs.laws.MoreLaws.{AbbreviationsBeginTheirNames, DroppingKeepsThePrefix};
-ghost use Rattle.cweb_store.specs.laws.MoreLaws.{MacrosKeepTwoTokens, NamesAreDistinct};
-ghost use Rattle.cweb_store.specs.laws.MoreLaws.{OneFaultForNoName};
+ghost use Rattle.cweb_store.specs.laws.MoreLaws.{AbbreviationsBeginTheirNames, NamesAreDistinct};
+ghost use Rattle.cweb_store.specs.laws.MoreLaws.{OneFaultForNoName, OnlyLayoutIsDropped};
 ghost use Rattle.cweb_store.specs.laws.NameLaws.{FilesAreNamesOfOccurrences};
 ghost use Rattle.cweb_store.specs.laws.NameLaws.{NamesDecideResolutions};
-ghost use Rattle.cweb_store.specs.laws.TokenLaws.{TokensAreThosePushed};
 ghost use Rattle.cweb_store.specs.laws.BuilderCalls.{accepted_calls, AcceptsCalls};
 
 use crate::builder::Builder;
@@ -41,67 +39,28 @@ pub fn store_holds_calls_answered_ok<'a>(
     Ok((answers, store))
 }
 
-/// Names that don't begin with an abbreviation's prefix don't change its resolution.
-pub fn abbreviations_stay()
-    ensures { AbbreviationsStay }
+/// Names are distinct, and a full one resolves to itself. An abbreviation resolves to a name that begins with its prefix:
+/// the only one among earlier names, whatever comes later. Names that don't begin with the prefix change nothing.
+pub fn names()
+    ensures names_are_distinct { NamesAreDistinct }
+    ensures full_names_resolve_to_themselves { FullNamesResolveToThemselves }
+    ensures abbreviations_begin_their_names { AbbreviationsBeginTheirNames }
+    ensures abbreviations_stay { AbbreviationsStay }
+    ensures earlier_names_decide { EarlierNamesDecide }
+    ensures names_decide_resolutions { NamesDecideResolutions }
+    ensures one_fault_for_no_name { OneFaultForNoName }
 {}
 
-/// An abbreviation with only one match among the earlier names resolves to it, whatever comes later.
-pub fn earlier_names_decide()
-    ensures { EarlierNamesDecide }
+/// The occurrences are those of the calls, in order. A file name is one that some file occurrence resolves to, and is in
+/// the list once.
+pub fn occurrences()
+    ensures are_those_of_calls { OccurrencesAreThoseOfCalls }
+    ensures yield_the_file_names { FilesAreNamesOfOccurrences }
 {}
 
-/// What an occurrence resolves to depends only on the names given before it and on all names.
-pub fn names_decide_resolutions()
-    ensures { NamesDecideResolutions }
-{}
-
-/// A file name is one that some file occurrence resolves to. Each such name is in the list once.
-pub fn files_are_names_of_occurrences()
-    ensures { FilesAreNamesOfOccurrences }
-{}
-
-/// A full name resolves to itself.
-pub fn full_names_resolve_to_themselves()
-    ensures { FullNamesResolveToThemselves }
-{}
-
-/// The parts of a name join to their concatenation, in order.
-pub fn joining_concatenates()
-    ensures { JoiningConcatenates }
-{}
-
-/// The occurrences are those of the calls, in order.
-pub fn occurrences_are_those_of_calls()
-    ensures { OccurrencesAreThoseOfCalls }
-{}
-
-/// No two names have equal bytes.
-pub fn names_are_distinct()
-    ensures { NamesAreDistinct }
-{}
-
-/// An abbreviation resolves to a name that begins with its prefix.
-pub fn abbreviations_begin_their_names()
-    ensures { AbbreviationsBeginTheirNames }
-{}
-
-/// An occurrence resolves to a name without a fault of its own, or has exactly one fault.
-pub fn one_fault_for_no_name()
-    ensures { OneFaultForNoName }
-{}
-
-/// Dropping layout keeps all tokens before it, and the first two of a macro.
-pub fn dropping_keeps_the_prefix()
-    ensures { DroppingKeepsThePrefix }
-{}
-
-/// A macro keeps its first two tokens. After them, all trailing layout is dropped and nothing else.
-pub fn macros_keep_two_tokens()
-    ensures { MacrosKeepTwoTokens }
-{}
-
-/// The tokens of the parts are those that were pushed, in order, less dropped layout.
-pub fn tokens_are_those_pushed()
-    ensures { TokensAreThosePushed }
+/// The parts of a name join to their concatenation, in order. Dropping layout and closing remove only trailing layout.
+/// A macro keeps its first two tokens, and no layout after them.
+pub fn parts()
+    ensures joining_concatenates { JoiningConcatenates }
+    ensures only_layout_is_dropped { OnlyLayoutIsDropped }
 {}

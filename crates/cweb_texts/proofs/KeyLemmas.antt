@@ -22,8 +22,7 @@ key-middle word h g = cc (not-less (length word) 4 h, less (length word) 8 g)
 
 pub key-long : (word : List ℕ) → 8 ≤ length word → length word ≤ 16 → key_of word ≡ long_key word
 unfolding key_of
-key-long word h g =
-    cc (not-less (length word) 4 (omega (arith, h)), not-less (length word) 8 h, not-less 16 (length word) g)
+key-long word h g = grind (arith, not-less, word)
 
 pub key-hashed : (word : List ℕ) → 16 < length word → key_of word ≡ hashed_key word
 unfolding key_of
@@ -85,12 +84,8 @@ parts-same : (n : ℕ) (number : List ℕ → ℕ) → ((a b : List ℕ) → len
     → number a ≡ number b → a ≡ b) → (q w : List ℕ) → length q ≡ length w → n ≤ length q → length q ≤ n + n
     → AreBytes q → AreBytes w → number (take n q) ≡ number (take n w)
     → number (drop (length q - n) q) ≡ number (drop (length w - n) w) → q ≡ w
-parts-same n number one q w len long few all_q all_w first last = ends-same q w n len long few
-    (one (take n q) (take n w) (length-take-le n q long) (length-take-le n w (omega (arith, len, long)))
-    (take-bytes n q all_q) (take-bytes n w all_w) first)
-    (one (drop (length q - n) q) (drop (length w - n) w) (omega (arith, length-drop (length q - n) q, long))
-    (omega (arith, length-drop (length w - n) w, len, long)) (drop-bytes (length q - n) q all_q)
-    (drop-bytes (length w - n) w all_w) last)
+parts-same n number one q w len long few all_q all_w first last =
+    grind (arith, ends-same, long, few, length-take-le, take-bytes, length-drop, drop-bytes)
 
 middle-same : (q w : List ℕ) → length q ≡ length w → 4 ≤ length q → length q < 8 → AreBytes q → AreBytes w
     → middle_key q ≡ middle_key w → q ≡ w

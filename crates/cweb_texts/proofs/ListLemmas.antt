@@ -28,7 +28,4 @@ pub get-push : {X : Type 0} (xs : List X) (x : X) (k : ℕ) (y : X) → slice_ge
 get-push [] x zero y h = let same : x ≡ y = cc in inr (refl, same)
 get-push [] x (suc k) y h = cc
 get-push (z ∷ xs) x zero y h = inl h
-get-push (z ∷ xs) x (suc k) y h = elim (get-push xs x k y h) [
-  | inl old ↦ inl old
-  | inr new ↦ inr (ap suc new.0, new.1)
-]
+get-push (z ∷ xs) x (suc k) y h = grind (arith, get-push xs x k y h, get-push xs x k y h)

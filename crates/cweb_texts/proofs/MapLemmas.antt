@@ -1,5 +1,5 @@
 -- Words in the sorted map.
-use Rattle.cweb_texts.proofs.Common.{arith, ◌≡◌, ℕ, true, false, ◌||◌, List, [], ◌∷◌, ◌++◌, map, Some, None, refl, sym, subst, ◌∙◌, ap, slice_get, bytes_eq, Vec, list_any, lookup, insert_entry, is_eq, nat_cmp, slice_cmp, bytes_decides, Equal, Global, is_eq-slice_cmp, compare_vecs, Entries, AreMapped, IsInserted, entry_word, or_comm}
+use Rattle.cweb_texts.proofs.Common.{arith, ◌≡◌, ℕ, true, false, ◌||◌, List, [], ◌∷◌, ◌++◌, map, Some, None, refl, sym, ◌∙◌, ap, slice_get, bytes_eq, Vec, list_any, lookup, insert_entry, is_eq, nat_cmp, slice_cmp, bytes_decides, Equal, Global, is_eq-slice_cmp, compare_vecs, Entries, AreMapped, IsInserted, entry_word, or_comm}
 use Rattle.cweb_texts.proofs.ListLemmas.{or-assoc}
 use Rattle.cweb_texts.proofs.StringListLemmas.{get-grow}
 
@@ -59,5 +59,4 @@ insert-any q word es new number put = cc (entry-any q es put.key number)
 pub insert-mapped : (strings : List (List ℕ)) (word : List ℕ) (es new : Entries) (number : ℕ)
     → slice_get strings number ≡ Some word → AreMapped strings es → IsInserted es word number new
     → AreMapped strings new
-insert-mapped strings word es new number stored m put =
-    subst (AreMapped strings) (sym put.now) (entry-mapped strings es put.key number (stored ∙ ap Some (sym put.is)) m)
+insert-mapped strings word es new number stored m put = grind (arith, entry-mapped, number)

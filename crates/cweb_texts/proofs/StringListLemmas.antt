@@ -7,8 +7,7 @@ ends-le n all (e ∷ es) h = omega (arith, h.0, ends-le e all es h.1)
 
 pub range-grow : (bytes more : List ℕ) (i j : ℕ) → i ≤ j → j ≤ length bytes
     → slice_range (bytes ++ more) i j ≡ slice_range bytes i j
-range-grow bytes more i j le within = ap (take (j - i)) (drop-append-le i bytes more (omega arith))
-    ∙ take-append-le (j - i) (drop i bytes) more (omega (arith, length-drop i bytes))
+range-grow bytes more i j le within = grind (arith, drop-append-le, more, take-append-le, length-drop)
 
 range-end : (bytes string : List ℕ) → slice_range (bytes ++ string) (length bytes) (length (bytes ++ string)) ≡ string
 range-end bytes string = grind (arith, drop-append_seam bytes string, length-append bytes string, take-length string)

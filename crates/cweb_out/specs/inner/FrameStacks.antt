@@ -1,15 +1,20 @@
 -- Steps of a stack of frames.
 use Rattle.std.specs.Prelude.{ℕ, ◌≤◌, ◌<◌, ◌≡◌, ◌+◌, ◌-◌, suc, zero, List, [], ◌∷◌, ◌++◌, Option, Some, None}
-use Rattle.std.specs.Prelude.{length, sum_by}
+use Rattle.std.specs.Prelude.{length, sum_by, true}
+use Rattle.std.specs.List.{list_all}
 use Rattle.cweb_names.specs.declared.name.NameId.{NameId}
 use Rattle.cweb_names.specs.declared.name.NameRef.{NameRef}
 use Rattle.cweb_store.specs.Parts.{Token, Name}
 use Rattle.cweb_store.specs.Calls.{Stored}
-use Rattle.cweb_out.specs.Expansion.{names, joined, use_of, resolved_use, expanded_name, put}
+use Rattle.cweb_out.specs.Expansion.{names, ends_below, joined, use_of, resolved_use, expanded_name, put}
 use Rattle.cweb_out.specs.surface.FrameSuffixes.{suffix}
 use Rattle.cweb_out.specs.declared.expander.Expander.{Expander}
 use Rattle.cweb_out.specs.declared.frame.Frame.{Frame}
-use Rattle.cweb_out.specs.surface.FrameStacks.{IsReady, RanksAreBelow, rank, left}
+use Rattle.cweb_out.specs.surface.FrameStacks.{IsReady, rank, left}
+
+-- Each name of the list has a rank below k.
+abbrev pub RanksAreBelow : Stored → ℕ → List NameId → Type 0
+RanksAreBelow w k ns = list_all (ends_below w k) ns ≡ true
 
 -- The rank of the top frame's owner, or a bound if there is no frame.
 abbrev pub top_rank : Stored → ℕ → List Frame → ℕ
@@ -38,8 +43,7 @@ list_work w k ts = 1 + sum_by (token_work w (name_work w k)) ts
 
 abbrev pub work_of : Stored → ℕ → List Frame → ℕ
 work_of w k [] = 0
-work_of w zero (f ∷ fs) = work_of w zero fs + list_work w zero (suffix w f)
-work_of w (suc k) (f ∷ fs) = work_of w k fs + list_work w (suc k) (suffix w f)
+work_of w k (f ∷ fs) = work_of w (k - 1) fs + list_work w k (suffix w f)
 
 -- The depth to which the top frame is expanded.
 abbrev pub level : Stored → List Frame → ℕ
@@ -48,7 +52,6 @@ level w fs = names w + 1 - length fs
 -- A token of the top frame was taken.
 pub record Advances (w : Stored) (old new : List Frame) (t : Token) : Type 0 where
   pub left : left w old ≡ put w (expanded_name w (level w new)) t ++ left w new
-  pub below : RanksAreBelow w (level w new) (use_of w t)
   pub lower : UsesLower w new t
   pub work : token_work w (name_work w (level w new)) t + work_of w (names w) new ≤ work_of w (names w) old
   pub some : 0 < length new

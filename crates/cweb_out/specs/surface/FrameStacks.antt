@@ -1,10 +1,9 @@
 -- The model and invariant of a stack of frames.
-use Rattle.std.specs.Prelude.{ℕ, ◌≤◌, ◌<◌, ◌≡◌, ◌+◌, suc, zero, List, [], ◌∷◌, ◌++◌, true, Option, Some, None, length, vec_capacity}
-use Rattle.std.specs.List.{list_all}
+use Rattle.std.specs.Prelude.{ℕ, ◌<◌, ◌≡◌, ◌+◌, ◌-◌, List, [], ◌∷◌, ◌++◌, true, Option, Some, None, vec_capacity}
 use Rattle.cweb_names.specs.declared.name.NameId.{NameId}
 use Rattle.cweb_store.specs.Parts.{Token}
 use Rattle.cweb_store.specs.Calls.{Stored}
-use Rattle.cweb_out.specs.Expansion.{names, uses, ends_below, list_ends, expand}
+use Rattle.cweb_out.specs.Expansion.{names, list_ends, expand}
 use Rattle.cweb_out.specs.surface.Ranks.{name_rank}
 use Rattle.cweb_out.specs.Outputs.{root_list}
 use Rattle.cweb_out.specs.surface.FrameSuffixes.{FrameIsWithin, suffix}
@@ -14,21 +13,11 @@ use Rattle.cweb_out.specs.declared.frame.Frame.{Frame}
 -- The expanded suffixes of all frames, top frame first. The bottom frame is first in the list and is expanded k deep.
 abbrev pub left_at_depth : Stored → ℕ → List Frame → List Token
 left_at_depth w k [] = []
-left_at_depth w zero (f ∷ fs) = left_at_depth w zero fs ++ expand w zero (suffix w f)
-left_at_depth w (suc k) (f ∷ fs) = left_at_depth w k fs ++ expand w (suc k) (suffix w f)
+left_at_depth w k (f ∷ fs) = left_at_depth w (k - 1) fs ++ expand w k (suffix w f)
 
--- Each name of the list has a rank below k.
-abbrev pub RanksAreBelow : Stored → ℕ → List NameId → Type 0
-RanksAreBelow w k ns = list_all (ends_below w k) ns ≡ true
-
--- Each frame is within the tokens and uses only names with ranks below its depth. The depth falls from frame to frame.
-abbrev pub AreRanked : Stored → ℕ → List Frame → Type 0
-AreRanked w k [] = Unit {0}
-AreRanked w zero (f ∷ fs) = FrameIsWithin w f × RanksAreBelow w zero (uses w (suffix w f)) × AreRanked w zero fs
-AreRanked w (suc k) (f ∷ fs) = FrameIsWithin w f × RanksAreBelow w (suc k) (uses w (suffix w f)) × AreRanked w k fs
-
--- The frame holds a suffix of its owner's list. All names that the list uses have ranks.
+-- The frame is within the tokens. It holds a suffix of its owner's list, and all names that the list uses have ranks.
 pub record IsOwned (w : Stored) (f : Frame) : Type 0 where
+  pub within : FrameIsWithin w f
   pub yielded : List Token
   pub list : root_list w f.owner ≡ yielded ++ suffix w f
   pub ends : list_ends w (root_list w f.owner) ≡ true
@@ -43,11 +32,9 @@ abbrev pub AreOwned : Stored → ℕ → List Frame → Type 0
 AreOwned w above [] = Unit {0}
 AreOwned w above (f ∷ fs) = IsOwned w f × (rank w f.owner < above) × AreOwned w (rank w f.owner) fs
 
--- A stack that an expander may have. Its capacity is constant.
+-- A stack that an expander may have: by the ranks, it has at most one frame more than names. Its capacity is constant.
 pub record IsFrameStack (w : Stored) (fs : List Frame) (capacity : ℕ) : Type 0 where
   pub owned : AreOwned w (names w + 1) fs
-  pub ranked : AreRanked w (names w) fs
-  pub depth : length fs ≤ names w + 1
   pub room : capacity ≡ names w + 1
 
 -- The stack of an expander.

@@ -1,12 +1,12 @@
 -- Laws of names, faults and dropped layout for any calls.
 use Rattle.std.specs.Prelude.{◌≡◌, ℕ, Bool, true, nat_eq, List, [], ◌∷◌, ◌++◌, Some, take, slice_get, filter}
 use Rattle.std.specs.Prelude.{option_to_list}
-use Rattle.std.specs.List.{starts_with}
+use Rattle.std.specs.List.{list_all, starts_with}
 use Rattle.cweb_names.specs.declared.name.How.TheVariants.{Prefix}
 use Rattle.cweb_names.specs.declared.name.NameFault.{NameFault}
 use Rattle.cweb_store.specs.declared.parts.PartKind.TheVariants.{Macro}
 use Rattle.cweb_names.specs.Names.{Occurrence, Resolution, spellings, names}
-use Rattle.cweb_store.specs.Parts.{Token, Part, is_layout, protected_count, without_layout}
+use Rattle.cweb_store.specs.Parts.{Token, Part, at_close, is_layout, protected_count, without_layout}
 use Rattle.cweb_store.specs.Faults.{unresolved_fault, unresolved_faults}
 use Rattle.cweb_names.specs.laws.Found.{Distinct}
 use Rattle.cweb_store.specs.laws.Laws.{resolved_spelling}
@@ -28,31 +28,21 @@ abbrev pub OneFaultForNoName : Type 0
 OneFaultForNoName = (rs : List Resolution) (i : ℕ) (r : Resolution) → slice_get rs i ≡ Some r
     → filter (is_at i) (unresolved_faults rs) ≡ option_to_list (unresolved_fault i r)
 
-abbrev pub AllPass : (Token → Bool) → List Token → Type 0
-AllPass test [] = Unit {0}
-AllPass test (t ∷ ts) = (test t ≡ true) × AllPass test ts
-
--- `prefix` is a prefix of `whole`, and all other tokens pass a test.
-pub record IsTokenPrefix (test : Token → Bool) (whole prefix : List Token) : Type 0 where
+-- `prefix` is a prefix of `whole`, and all other tokens are layout.
+pub record IsLeft (whole prefix : List Token) : Type 0 where
   pub rest : List Token
   pub splits : whole ≡ prefix ++ rest
-  pub passes : AllPass test rest
-
--- Dropping layout removes only layout, and keeps the first two tokens of a macro.
-pub record KeepsPrefix (p : Part) : Type 0 where
-  pub prefix : IsTokenPrefix is_layout p.tokens (without_layout p).tokens
-  pub firsts : take (protected_count p.kind) (without_layout p).tokens ≡ take (protected_count p.kind) p.tokens
-
-abbrev pub DroppingKeepsThePrefix : Type 0
-DroppingKeepsThePrefix = (p : Part) → KeepsPrefix p
+  pub layout : list_all is_layout rest ≡ true
 
 -- The tokens of a macro without trailing layout.
 abbrev pub left_of_macro : List Token → List Token
 left_of_macro ts = (without_layout (record { kind = Macro; tokens = ts })).tokens
 
--- A macro keeps its first two tokens. After them, all trailing layout is dropped and nothing else.
-pub record MacrosKeepTwoTokens : Type 0 where
-  pub firsts : (ts : List Token) → take 2 (left_of_macro ts) ≡ take 2 ts
-  pub prefixes : (ts : List Token) → IsTokenPrefix is_layout ts (left_of_macro ts)
-  pub no_more : (t u : Token) (layout : List Token) → AllPass is_layout layout
+-- Dropping layout and closing remove only trailing layout. A macro keeps its first two tokens, and no layout after them.
+pub record OnlyLayoutIsDropped : Type 0 where
+  pub dropped : (p : Part) → IsLeft p.tokens (without_layout p).tokens
+  pub closed : (p : Part) → IsLeft p.tokens (at_close p).tokens
+  pub firsts : (p : Part) → take (protected_count p.kind) (without_layout p).tokens
+      ≡ take (protected_count p.kind) p.tokens
+  pub no_more : (t u : Token) (layout : List Token) → list_all is_layout layout ≡ true
       → left_of_macro (t ∷ u ∷ layout) ≡ t ∷ u ∷ []

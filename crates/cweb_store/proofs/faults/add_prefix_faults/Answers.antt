@@ -1,4 +1,4 @@
-use Rattle.cweb_store.proofs.Common.{◌≡◌, ◌∙◌, ◌++◌, false, length, arith, ◌<◌, sym, ap, append-nil, common_steps, list_any, PrefixOfAnother, is_prefix_of_another, spellings}
+use Rattle.cweb_store.proofs.Common.{◌≡◌, ◌∙◌, ◌++◌, false, length, arith, ◌<◌, sym, ap, append-nil, list_any, PrefixOfAnother, is_prefix_of_another, spellings}
 use Rattle.cweb_store.proofs.FaultLemmas.{faults-step, faults-none}
 use Rattle.cweb_store.proofs.faults.add_prefix_faults.Goals as goal
 
@@ -19,6 +19,3 @@ returns-then-not-has_prefix c =
     let none : list_any (is_prefix_of_another ns) (spellings ns) ≡ false = sym c.has_prefix.ensures
     ∙ c.if-not-has_prefix.true in
     sym (append-nil old) ∙ ap (λ fs. old ++ fs) (sym (faults-none PrefixOfAnother (is_prefix_of_another ns) 0 ns none))
-
-pub returns : goal.returns
-returns c = grind (arith, common_steps)

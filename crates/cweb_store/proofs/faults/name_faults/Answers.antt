@@ -26,6 +26,3 @@ returns-clause-found c =
     c.in_ok-add_missing_faults.ensures (spec.names os) (c.as_slice.ensures.value ∙ c.close-firsts.ensures
     ∙ ap (map (λ (n : Name). n.first)) c.requires.named)
     ∙ (λ i. second i ++ faults_where NotPresent (λ n text. missing n i) (spec.names os))
-
-pub returns-clause-firsts : goal.returns-clause-firsts
-returns-clause-firsts c = c.close-firsts.ensures ∙ ap (map (λ (n : Name). n.first)) c.requires.named

@@ -1,4 +1,4 @@
-use Rattle.cweb_store.proofs.Common.{ℕ, List, Option, None, Some, length, get_or, sym, ◌∙◌, ap, arith, common_steps, drop_all, get_or-replicate, slice_get-get_or, last_from}
+use Rattle.cweb_store.proofs.Common.{ℕ, List, Option, None, Some, length, get_or, sym, ◌∙◌, ap, arith, drop_all, get_or-replicate, slice_get-get_or, last_from}
 use Rattle.cweb_store.proofs.replacements.last_places.Goals as goal
 
 pub loop-i-init : goal.loop-i-init
@@ -16,6 +16,3 @@ returns c = λ byte h.
     let none = drop_all c.loop-i.i c.args.bytes.now c.loop-i-test.false in
     slice_get-get_or places byte None (omega (arith, h, c.loop-i.invariant.all))
     ∙ ap Some (ap (last_from byte _ c.loop-i.i) (sym none) ∙ c.loop-i.invariant.last byte h)
-
-pub loop-i-preserved : goal.loop-i-preserved
-loop-i-preserved c = grind (arith, common_steps)

@@ -7,7 +7,7 @@ take-requires c =
     let frames = c.frames.self.frames in
     let top : HasTop (vec_len frames) frames.items c.in-Some.frame.now =
     record { count = frames.ok.0; some = c.in-Some.ensures.item.3.0; is = c.in-Some.ensures.value } in
-    (valid_lower c.frames.invariant.valid top).1.within
+    (valid_lower c.frames.invariant.valid top).1.owned.within
 
 abbrev moved : (c : goal.In-Some-take)
     → TopMoved c.args.self.now.store.now c.args.self.now.frames.items (slice_set c.frames.self.frames.items

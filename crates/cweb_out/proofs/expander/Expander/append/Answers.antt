@@ -10,7 +10,7 @@ pub append-requires : goal.append-requires
 append-requires c =
     let top : HasTop (vec_len c.frames.self.frames) c.frames.self.frames.items c.in-Some.frame.now =
     record { count = c.frames.self.frames.ok.0; some = c.in-Some.ensures.item.3.0; is = c.in-Some.ensures.value } in
-    (valid_lower c.frames.invariant.valid top).1.within
+    (valid_lower c.frames.invariant.valid top).1.owned.within
 
 abbrev gone : (c : After-pop) → TopGone c.args.self.now.store.now
     c.frames.self.frames.items c.pop.new.self.items c.append.ensures.prints.prints.done
@@ -52,9 +52,6 @@ taken c =
 
 pub enter-requires-clause-valid : goal.enter-requires-clause-valid
 enter-requires-clause-valid c = rw c.frames.invariant.store (taken c).valid
-
-pub enter-requires-clause-below : goal.enter-requires-clause-below
-enter-requires-clause-below c = rw c.frames.invariant.store (taken c).below
 
 pub enter-requires-clause-lower : goal.enter-requires-clause-lower
 enter-requires-clause-lower c = rw c.frames.invariant.store (taken c).lower

@@ -1,4 +1,5 @@
-use Rattle.cweb_out.proofs.Common.{◌≡◌, ◌∷◌, vec_capacity, refl, sym, ap, ◌∙◌, subst, Some, length, rules, All, all_tokens, Stored, resolved_use, joined, PartIsWithin, tokens_of_parts}
+use Rattle.cweb_out.proofs.Common.{arith, ◌≡◌, ◌∷◌, vec_capacity, refl, sym, ap, ◌∙◌, subst, Some, length, All, all_tokens, Stored, resolved_use, joined, PartIsWithin, tokens_of_parts}
+use Rattle.cweb_out.proofs.Owners.{room-above}
 use Rattle.cweb_out.proofs.StackUses.{Entered, entered}
 use Rattle.cweb_out.proofs.expander.Expander.enter.Goals as goal
 
@@ -13,16 +14,21 @@ all c =
     let within : All (PartIsWithin (length (all_tokens w.parts))) (c.in-Some-next.part ∷ c.next.new.self) =
     subst (All (PartIsWithin (length (all_tokens w.parts)))) h c.parts-rest.ensures.within in
     entered c.in-Some.id c.in-Some-next.part c.next.new.self c.requires.valid c.push_reserved.ensures.capacity
-    c.requires.below c.requires.lower e text within c.push_reserved.ensures.items
+    c.requires.lower e text within c.push_reserved.ensures.items
+
+pub push_reserved-requires : goal.push_reserved-requires
+push_reserved-requires c =
+    let self = c.args.self.now in
+    omega (
+      arith,
+      self.frames.ok.0,
+      c.requires.valid.room,
+      room-above self.store.now self.frames.items c.args.name c.in-Some.id c.requires.valid.owned c.requires.lower
+          (sym c.standing.ensures.name ∙ c.in-Some.is),
+    )
 
 pub returns-clause-keeps : goal.returns-clause-keeps
 returns-clause-keeps c = record { store = refl; plan = refl; valid = (all c).valid }
 
 pub returns-clause-enters : goal.returns-clause-enters
 returns-clause-enters c = (all c).enters
-
-pub returns-in_default-next-clause-keeps : goal.returns-in_default-next-clause-keeps
-returns-in_default-next-clause-keeps c = search rules
-
-pub returns-in_default-next-clause-enters : goal.returns-in_default-next-clause-enters
-returns-in_default-next-clause-enters c = search rules

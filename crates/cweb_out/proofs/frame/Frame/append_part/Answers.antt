@@ -1,5 +1,4 @@
 use Rattle.cweb_out.proofs.Common.{all_tokens, refl, rules, slice_range}
-use Rattle.cweb_out.proofs.PrintedPrefixes.{prefix_none}
 use Rattle.cweb_out.proofs.Suffixes.{suffix-passed}
 use Rattle.cweb_out.proofs.frame.Frame.append_part.Goals as goal
 
@@ -19,7 +18,3 @@ returns-then-self-clause-prints c =
         prints = run.ensures.prints;
       };
     }
-
-pub returns-else-self-clause-prints : goal.returns-else-self-clause-prints
-returns-else-self-clause-prints c =
-    record { owner = refl; within = c.requires.within; setting = refl; prints = prefix_none }

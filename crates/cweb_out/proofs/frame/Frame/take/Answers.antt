@@ -1,4 +1,4 @@
-use Rattle.cweb_out.proofs.Common.{arith, ◌∙◌, ◌≡◌, ◌∷◌, rules}
+use Rattle.cweb_out.proofs.Common.{arith, ◌∙◌, ◌≡◌, ◌∷◌}
 use Rattle.cweb_out.proofs.Suffixes.{suffix-first, suffix-next, IsWithin-next}
 use Rattle.cweb_out.proofs.frame.Frame.take.Goals as goal
 
@@ -18,6 +18,3 @@ pub returns-clause-some : goal.returns-clause-some
 returns-clause-some c = c.parts.invariant.same
     ∙ suffix-first _ c.parts.invariant.started
     (omega (arith, c.parts-test.false)) c.parts.invariant.within c.token-token.ensures
-
-pub returns-clause-keeps : goal.returns-clause-keeps
-returns-clause-keeps c = search rules

@@ -1,4 +1,4 @@
-use Rattle.cweb_out.proofs.Common.{◌≡◌, ◌∷◌, ◌∙◌, ap, arith, length, Some, None, map, List, filter, NameId, Stored, has_part, outputs, common_steps}
+use Rattle.cweb_out.proofs.Common.{◌≡◌, ◌∷◌, ◌∙◌, ap, arith, length, Some, None, map, List, filter, NameId, Stored, has_part, outputs}
 use Rattle.std.proofs.lemmas.List.{take_all}
 use Rattle.cweb_names.specs.Names as spec
 use Rattle.cweb_out.proofs.FileNames.{outputs-few}
@@ -12,9 +12,3 @@ returns-clause-few c =
     let is : c.files.roots.items ≡ outputs w = c.files.invariant.roots
     ∙ ap (λ (ns : List NameId). None ∷ map Some (filter (has_part (spec.resolutions w.occurrences) w.parts) ns)) all in
     omega (arith, ap length is, outputs-few w, c.names-names.ensures.count, c.names-names.ensures.few)
-
-pub files-preserved : goal.files-preserved
-files-preserved c = grind (arith, common_steps)
-
-pub returns-clause-roots : goal.returns-clause-roots
-returns-clause-roots c = grind (arith, common_steps)

@@ -1,4 +1,4 @@
-use Rattle.cweb_out.proofs.Common.{refl, None, arith, common_steps, is_bad}
+use Rattle.cweb_out.proofs.Common.{refl, None, is_bad}
 use Rattle.cweb_out.proofs.Finds.{find-more}
 use Rattle.cweb_out.proofs.PlanLemmas.{names-err, names-more}
 use Rattle.cweb_out.proofs.outputs.planning.outputs.Goals as goal
@@ -18,6 +18,3 @@ roots-preserved c =
           names-more w main c.args.roots.now c.roots.outputs.items c.add.new.outputs.items c.roots.root-index _ None
           c.in-Ok.output c.roots-test.true refl c.in-Ok.ensures c.roots.invariant.outputs c.in_ok-add-in-Ok.ensures;
     }
-
-pub returns : goal.returns
-returns c = grind (arith, common_steps)

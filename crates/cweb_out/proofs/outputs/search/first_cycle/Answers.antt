@@ -1,4 +1,4 @@
-use Rattle.cweb_out.proofs.Common.{ap, refl, not, arith, common_steps, is_endless}
+use Rattle.cweb_out.proofs.Common.{ap, refl, not, is_endless}
 use Rattle.cweb_out.proofs.Finds.{find-more}
 use Rattle.cweb_out.proofs.PlanLemmas.{cycle-found}
 use Rattle.cweb_out.proofs.outputs.search.first_cycle.Goals as goal
@@ -15,6 +15,3 @@ roots-preserved c = record {
       c.args.roots.now c.roots.root-index _ _ c.roots-test.true refl c.roots.invariant.before
       (ap not (rw c.in_default.is at c.in_ok-cycle.ensures.settles));
 }
-
-pub returns : goal.returns
-returns c = grind (arith, common_steps)

@@ -1,4 +1,4 @@
-use Rattle.cweb_out.proofs.Common.{rules, ◌≡◌, ◌∙◌, ap, sym, arith, true, false, ◌&&◌, refl, option_to_list, list_all, Name, suffix, common_steps, is_marked}
+use Rattle.cweb_out.proofs.Common.{rules, ◌≡◌, ◌∙◌, ap, sym, arith, true, false, ◌&&◌, refl, option_to_list, list_all, Name, suffix, is_marked}
 use Rattle.cweb_out.proofs.FirstUses.{none-used, use-shorter}
 use Rattle.cweb_out.proofs.ScannedUses.{passes-on, passes-more, passes-all, meets}
 use Rattle.cweb_out.proofs.outputs.search.next_unranked.Goals as goal
@@ -46,9 +46,3 @@ returns-clause-none c = λ none.
     let w = c.args.store.now in
     let mid = suffix w c.uses.text in
     passes-all c.uses.invariant.passes (none-used w mid (c.in_default.ensures.none refl))
-
-pub returns-then-not-is_ranked-clause-shorter : goal.returns-then-not-is_ranked-clause-shorter
-returns-then-not-is_ranked-clause-shorter c = grind (arith, common_steps)
-
-pub uses-smaller-else-not-is_ranked : goal.uses-smaller-else-not-is_ranked
-uses-smaller-else-not-is_ranked c = grind (arith, common_steps)

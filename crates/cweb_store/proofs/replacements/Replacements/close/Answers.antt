@@ -1,4 +1,4 @@
-use Rattle.cweb_store.proofs.Common.{◌≡◌, ℕ, ◌++◌, List, map, ◌∙◌, ap, arith, common_steps, append_assoc, take_all, replacement_in, Replacement, replacement_bytes}
+use Rattle.cweb_store.proofs.Common.{◌≡◌, ℕ, ◌++◌, List, map, ◌∙◌, ap, take_all, replacement_in, Replacement, replacement_bytes}
 use Rattle.cweb_store.proofs.StoredStringLemmas.{map-both}
 use Rattle.cweb_store.proofs.replacements.Replacements.close.Goals as goal
 
@@ -20,6 +20,3 @@ returns-clause-strings c =
     ∙ ap (λ (ts : List (List ℕ)). c.args.strings.now ++ ts)
     (ap (map (λ x. replacement_bytes (replacement_in x))) (all ∙ items)
     ∙ map-both replacement_bytes replacement_in s.entries.items ∙ ap (map replacement_bytes) c.self.view_is)
-
-pub loop-replaced-preserved : goal.loop-replaced-preserved
-loop-replaced-preserved c = grind (arith, common_steps, append_assoc)

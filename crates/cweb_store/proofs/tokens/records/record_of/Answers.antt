@@ -43,22 +43,11 @@ word-packs {new} {word} {number} token item keeps within stored is_word none one
   few = omega (arith, keeps.few, one);
 }
 
-pub returns-in_ok-intern_word-in-Word-clause-packs : goal.returns-in_ok-intern_word-in-Word-clause-packs
-returns-in_ok-intern_word-in-Word-clause-packs c =
-    rw c.in-Word.is (word-packs (spec.Word c.in-Word.string.now) (record_of.Word
-    c.in_ok-intern_word-in-Word.field-0) c.in_ok-intern_word-in-Word.ensures (λ w. w) (ap spec.Word) refl refl refl)
-
 pub returns-in_ok-intern_punctuator-in-Punct-clause-packs : goal.returns-in_ok-intern_punctuator-in-Punct-clause-packs
 returns-in_ok-intern_punctuator-in-Punct-clause-packs c =
     rw c.in-Punct.is (word-packs (spec.Punct c.in-Punct.string.now)
     (record_of.Punct c.in_ok-intern_punctuator-in-Punct.field-0)
     c.in_ok-intern_punctuator-in-Punct.ensures (λ w. w) (ap spec.Punct) refl refl refl)
-
-pub returns-in_ok-intern_word-in-Number-clause-packs : goal.returns-in_ok-intern_word-in-Number-clause-packs
-returns-in_ok-intern_word-in-Number-clause-packs c =
-    rw c.in-Number.is (word-packs (spec.Number c.in-Number.string.now) (record_of.Number
-    c.in_ok-intern_word-in-Number.field-0) c.in_ok-intern_word-in-Number.ensures
-    (λ w. w) (ap spec.Number) refl refl refl)
 
 pub returns-in_ok-add_string-in-Literal-clause-packs : goal.returns-in_ok-add_string-in-Literal-clause-packs
 returns-in_ok-add_string-in-Literal-clause-packs c =

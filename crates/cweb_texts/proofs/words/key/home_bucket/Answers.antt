@@ -10,6 +10,3 @@ returns-clause-is c = ap (λ m. (m * c.args.slots) / 2 ^ 64) c.key_hash.ensures
 below : (h slots n : ℕ) → h < n → 0 < slots → (h * slots) / n < slots
 below h slots n less some = (div-lt_iff_lt-mul (omega (arith, less))).1
     (rw (mul_comm h slots) (mul-lt-mul_of_pos_left less some))
-
-pub returns-clause-below : goal.returns-clause-below
-returns-clause-below c = λ some. below c.key_hash.result c.args.slots (2 ^ 64) c.key_hash.type_inv some

@@ -1,4 +1,4 @@
-use Rattle.cweb_out.proofs.Common.{rules, ◌∙◌, ap, sym, List, get_or, arith, common_steps, Waiting}
+use Rattle.cweb_out.proofs.Common.{rules, ◌∙◌, ap, sym, List, get_or, Waiting}
 use Rattle.cweb_out.specs.inner.Search.{cycle_with_next}
 use Rattle.cweb_out.proofs.Walks.{from-more}
 use Rattle.cweb_out.proofs.outputs.search.Search.back_to.Goals as goal
@@ -12,6 +12,3 @@ path-preserved c =
     ∙ sym (from-more again path i c.waiting-item.result (search rules)
     (c.waiting-item.is
     ∙ ap (λ (ps : List Waiting). get_or ps i c.waiting-item.result) c.deref-waiting-items.ensures.value))
-
-pub returns : goal.returns
-returns c = grind (arith, common_steps)

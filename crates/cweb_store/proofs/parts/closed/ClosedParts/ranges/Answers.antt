@@ -8,6 +8,3 @@ returns-clause-ranges c =
     c.as_slice.ensures.value
     ∙ sym (runs_from-parts s.ranges.items s.tokens 0
     (length s.tokens) c.self.invariant.follow (omega arith)) ∙ ap (ranges_from 0) c.self.view_is
-
-pub returns-clause-few : goal.returns-clause-few
-returns-clause-few c = rw c.as_slice.ensures.value c.self.invariant.few_parts

@@ -1,4 +1,4 @@
-use Rattle.cweb_store.proofs.Common.{◌≡◌, ◌-◌, ℕ, suc, [], ◌∷◌, length, drop, ◌∙◌, ap, subst, arith, length-append, common_steps, AreLinked, reverse}
+use Rattle.cweb_store.proofs.Common.{◌≡◌, ◌-◌, ℕ, suc, [], ◌∷◌, length, drop, ◌∙◌, ap, subst, arith, length-append, AreLinked, reverse}
 use Rattle.cweb_store.proofs.LinkLemmas.{step-linked}
 use Rattle.cweb_store.proofs.parts.links.Links.new.Goals as goal
 
@@ -27,9 +27,3 @@ loop-i-preserved c =
             length-append c.loop-i.skips.items (c.put-skip.result ∷ []),
           );
     }
-
-pub loop-i-init : goal.loop-i-init
-loop-i-init c = grind (arith, common_steps)
-
-pub put-skip-requires-clause-within : goal.put-skip-requires-clause-within
-put-skip-requires-clause-within c = grind (arith, common_steps)

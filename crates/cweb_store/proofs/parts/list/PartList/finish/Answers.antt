@@ -1,4 +1,4 @@
-use Rattle.cweb_store.proofs.Common.{◌≡◌, ◌∙◌, ap, subst, length, arith, [], ◌∷◌, ◌++◌, Option, common_steps, IsWhole, vec_capacity, Open}
+use Rattle.cweb_store.proofs.Common.{◌≡◌, ◌∙◌, ap, subst, length, arith, [], ◌∷◌, ◌++◌, Option, IsWhole, vec_capacity, Open}
 use Rattle.cweb_store.specs.inner.PartRanges.{ArePartRanges, last_range}
 use Rattle.cweb_store.proofs.PartRangeLemmas.{close-are}
 use Rattle.cweb_store.proofs.parts.list.PartList.finish.Goals as goal
@@ -15,6 +15,3 @@ invariant_of-result-2 c =
     let whole : IsWhole s.tokens.tokens (s.ranges.items ++ last_range c.in-Some.current (length s.tokens.tokens) ∷ []) =
     record { follow = after.follow; few_tokens = after.few_tokens; few_parts = omega (arith, after.few_parts) } in
     rw (c.push_reserved.ensures.items, range, c.close-tokens.ensures) whole
-
-pub returns : goal.returns
-returns c = grind (arith, common_steps)

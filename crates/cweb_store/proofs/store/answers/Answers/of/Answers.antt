@@ -1,23 +1,7 @@
-use Rattle.cweb_store.proofs.Common.{◌≡◌, refl, List, [], length, sym, ◌∙◌, ap, subst, PartRange, Resolution, files_from, has_part, AreLinked, list_any, is_of}
+use Rattle.cweb_store.proofs.Common.{◌≡◌, refl, length, sym, ◌∙◌, ap, PartRange, has_part, list_any, is_of}
 use Rattle.cweb_store.proofs.BoundLemmas.{resolutions-within}
 use Rattle.cweb_store.proofs.NameSetLemmas.{any-part}
 use Rattle.cweb_store.proofs.store.answers.Answers.of.Goals as goal
-
-pub returns-clause-answers : goal.returns-clause-answers
-returns-clause-answers c = record {
-  settled = c.in_ok-names.ensures.resolutions;
-  forms = c.in_ok-files.ensures ∙ ap (λ ss. files_from ss [] 0 c.args.table.now)
-      (c.as_slice.ensures.value ∙ c.in_ok-names.ensures.resolutions);
-  found = c.in_ok-faults.ensures.found;
-  defs = c.has_defs_code.ensures;
-}
-
-pub returns-clause-linked : goal.returns-clause-linked
-returns-clause-linked c =
-    let links = c.in_ok-links.links in
-    subst (λ (xs : List PartRange). AreLinked c.in_ok-names.resolutions.items xs links.skips.items links.heads)
-    c.ranges-2.ensures.ranges (subst (λ (ss : List Resolution).
-    AreLinked ss c.ranges-2.result.now links.skips.items links.heads) c.as_slice-2.ensures.value c.in_ok-links.ensures)
 
 pub new-requires-clause-known : goal.new-requires-clause-known
 new-requires-clause-known c = resolutions-within c.args.table.now c.as_slice-2.result.now c.len.result

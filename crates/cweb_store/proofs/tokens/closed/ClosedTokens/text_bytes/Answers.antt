@@ -1,4 +1,4 @@
-use Rattle.cweb_store.proofs.Common.{◌∙◌, ap, sym, List, Token, flat_map, subst, AreInOneList, interned_token_bytes, token_strings}
+use Rattle.cweb_store.proofs.Common.{sym, List, Token, flat_map, subst, AreInOneList, token_strings}
 use Rattle.cweb_store.proofs.TokenStringLemmas.{tokens-valid}
 use Rattle.cweb_texts.specs.inner.StringLists.{text_bytes}
 use Rattle.cweb_store.proofs.tokens.closed.ClosedTokens.text_bytes.Goals as goal
@@ -12,7 +12,3 @@ returns-clause-strings c =
       count = sym c.text_bytes.ensures.bytes;
       ranges = tokens-valid s.strings s.places.items 0 _ s.records.items c.self.invariant.numbers;
     })
-
-pub returns-clause-once : goal.returns-clause-once
-returns-clause-once c =
-    c.text_bytes.ensures.bytes ∙ c.self.invariant.bytes ∙ ap interned_token_bytes c.self.view_is

@@ -1,11 +1,5 @@
-use Rattle.cweb_store.proofs.Common.{length}
 use Rattle.cweb_store.proofs.TokenReaderLemmas.{direct-by}
 use Rattle.cweb_store.proofs.tokens.closed.ClosedTokens.token_reader.Goals as goal
-
-pub invariant_of-result : goal.invariant_of-result
-invariant_of-result c =
-    let s = c.self.inside in
-    (length s.places.items, rw (c.slices.ensures, c.as_slice.ensures.value) c.self.invariant.numbers)
 
 pub returns : goal.returns
 returns c =

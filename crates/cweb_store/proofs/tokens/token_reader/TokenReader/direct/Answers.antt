@@ -3,22 +3,6 @@ use Rattle.cweb_store.specs.inner.TokenReaders.{direct_bytes_of_record}
 use Rattle.cweb_store.proofs.RecordLemmas.{record-at}
 use Rattle.cweb_store.proofs.tokens.token_reader.TokenReader.direct.Goals as goal
 
-pub bounds-self-inside-number : goal.bounds-self-inside-number
-bounds-self-inside-number c =
-    let s = c.self.inside in
-    omega (arith, c.requires, ap length c.self.view_is, length-map s.records.now (direct_bytes_of_record s.strings))
-
-pub offset_bounds-self-inside-number : goal.offset_bounds-self-inside-number
-offset_bounds-self-inside-number c =
-    let s = c.self.inside in
-    omega (
-      arith,
-      c.requires,
-      ap length c.self.view_is,
-      length-map s.records.now (direct_bytes_of_record s.strings),
-      c.self.told,
-    )
-
 pub direct-requires : goal.direct-requires
 direct-requires c =
     let s = c.self.inside in

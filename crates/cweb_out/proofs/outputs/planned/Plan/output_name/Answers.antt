@@ -1,5 +1,0 @@
-use Rattle.cweb_out.proofs.Common.{arith, common_steps}
-use Rattle.cweb_out.proofs.outputs.planned.Plan.output_name.Goals as goal
-
-pub returns : goal.returns
-returns c = grind (arith, common_steps)

@@ -1,5 +1,0 @@
-use Rattle.cweb_store.proofs.Common.{rules}
-use Rattle.cweb_store.proofs.builder.Builder.close_part.Goals as goal
-
-pub returns : goal.returns
-returns c = search rules

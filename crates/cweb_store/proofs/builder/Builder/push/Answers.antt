@@ -1,5 +1,0 @@
-use Rattle.cweb_store.proofs.Common.{rules}
-use Rattle.cweb_store.proofs.builder.Builder.push.Goals as goal
-
-pub returns-clause-ok : goal.returns-clause-ok
-returns-clause-ok c = search rules
