@@ -1,7 +1,7 @@
-use Rattle.cweb_lines.proofs.Common.{rules, [], Ok, Err, Line, ◌+◌, refl, ap, sym, ◌∙◌, arith, IsTrue, Writes, BuffersLines, HasWritten, events_to_come, so_far_of, to_come, so_far, blames_none, WriteFault}
-use Rattle.cweb_lines.proofs.ReportsOnlyGrow.{grows_reported, reported_same}
+use Rattle.cweb_lines.proofs.Common.{rules, [], Ok, Err, Line, ◌+◌, refl, ap, sym, ◌∙◌, IsTrue, Writes, BuffersLines, HasWritten, events_to_come, so_far_of, to_come, so_far, blames_none, WriteFault}
+use Rattle.cweb_lines.proofs.ReportsOnlyGrow.{grows_reported}
 use Rattle.cweb_lines.proofs.BufferedWrites.{held, held_on, fails_prefix, fails_among, place_of, written_on}
-use Rattle.cweb_files.proofs.FramesCompose.{keeps_same, place_same, place_then}
+use Rattle.cweb_files.proofs.FramesCompose.{place_same, place_then}
 use Rattle.cweb_lines.proofs.NoReadFails.{Quiet, quiet_same, reads_halted, reads_passed, reads_then, stays_known, still_tells}
 use Rattle.cweb_lines.proofs.WrittenLinesAddUp.{nothing_yet, written_by, written_prefix, written_some, written_whole, tells_some, tells_more, tells_same}
 use Rattle.cweb_lines.proofs.WriteStops.{blames_own, blames_write, memory_failed, memory_write, none_before}
@@ -45,20 +45,6 @@ more g c tells =
     (rw c.deref.ensures.value at c.in_default-append_line.ensures.ok)) passes.lines _ _
     (passes.yields (g.S.Shelf.texts c.next_line.new.shelf) (g.S.Shelf.left c.next_line.new.shelf))
     _ passes.buffered passes.within
-
-pub returns-in-Some : goal.returns-in-Some
-returns-in-Some g c = record {
-  keeps = (keeps_same g.S.Shelf _, place_same g.W.Sink _);
-  grows = grows_reported c.args.merger.now.run (reported_same _ _ refl refl);
-  ok = search rules;
-  ended = search rules;
-  prefix = search rules;
-  stops = search rules;
-  fault = search rules;
-  blames = search rules;
-  known = search rules;
-  again = search rules;
-}
 
 pub returns-in-Err : goal.returns-in-Err
 returns-in-Err g c =
@@ -218,14 +204,3 @@ lines-preserved g c =
       empty = c.clear.ensures.items;
       written = λ tells. wrote g at.In_default-write_all tells;
     }
-
-pub lines-smaller : goal.lines-smaller
-lines-smaller g c =
-    let emitted = rw c.in-Some-next.is at c.in-Ok.ensures.emitted in
-    omega (
-      arith,
-      emitted.lines,
-      c.pass_lines-passed.ensures.passes.counted,
-      c.in-Ok.ensures.grows.lines,
-      c.pass_lines-passed.new.self.run.limits.few,
-    )
