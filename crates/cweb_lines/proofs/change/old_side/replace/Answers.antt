@@ -80,8 +80,7 @@ lines-preserved g c = record {
 
 pub lines-preserved-in-None : goal.lines-preserved-in-None
 lines-preserved-in-None g c = record {
-  quiet = reads_then (reads_set _ refl refl refl
-      (quiet g (goal.at.lines-preserved-in-None g c).In-Ok)) c.in-Ok-compare.ensures.reads;
+  quiet = search (rules, reads_then, reads_set);
   frame = search rules;
   goes_on = c.in-Ok-compare.ensures.away.ended ∙ c.lines.invariant.goes_on;
   replaces = λ tells.

@@ -31,7 +31,7 @@ returns-in_default g c =
     let took = c.in-Ok.ensures.takes in
     let report = c.in_default-report.ensures in
     record {
-      reads = reads_set _ refl refl refl (reads_then took.reads (reads_reported _ report.only report.reported tt));
+      reads = search rules;
       turns = search rules;
       yields = λ tells.
           let taken = rw c.in_default.is at (c.in-Ok.ensures.taken tells) in
@@ -48,7 +48,7 @@ returns-in-None g c =
     let took = c.in-Ok.ensures.takes in
     let obeys = c.emit_or_obey.ensures.obeys in
     record {
-      reads = reads_then took.reads (reads_obeyed obeys);
+      reads = search rules;
       turns = search rules;
       yields = λ tells.
           let taken = rw c.in-Some.is at (c.in-Ok.ensures.taken tells) in
@@ -67,7 +67,7 @@ pub returns-then-eq : goal.returns-then-eq
 returns-then-eq g c =
     let took = c.in-Ok.ensures.takes in
     record {
-      reads = reads_set _ refl refl refl took.reads;
+      reads = search rules;
       turns = search rules;
       yields = λ tells.
           let taken = rw c.in-Some.is at (c.in-Ok.ensures.taken tells) in
@@ -84,7 +84,7 @@ returns-in_default-report-2 g c =
     let took = c.in-Ok.ensures.takes in
     let report = c.in_default-report-2.ensures in
     record {
-      reads = reads_then took.reads (reads_reported _ report.only report.reported tt);
+      reads = search rules;
       turns = search rules;
       yields = λ tells.
           let taken = rw c.in-Some.is at (c.in-Ok.ensures.taken tells) in
