@@ -1,5 +1,5 @@
 -- Emitted lines are buffered, written or lost.
-use Rattle.cweb_lines.proofs.Common.{◌≡◌, ◌+◌, ◌<◌, ℕ, List, [], ◌∷◌, ◌++◌, length, ◌∙◌, ap, arith, length-append, IsTrue, append-nil, append_assoc, KeepsPlace, Writes, Line, Event, SoFar, EmitsLines, BuffersLines, emitted_lines, written_lines, all_but_last, WritesPrefix, HasWritten, FailsAmong, LosesLine, Result}
+use Rattle.cweb_lines.proofs.Common.{rules, ◌≡◌, ◌+◌, ◌<◌, ℕ, List, [], ◌∷◌, ◌++◌, length, ◌∙◌, ap, arith, length-append, IsTrue, append-nil, append_assoc, KeepsPlace, Writes, Line, Event, SoFar, EmitsLines, BuffersLines, emitted_lines, written_lines, all_but_last, WritesPrefix, HasWritten, FailsAmong, LosesLine, Result}
 use Rattle.cweb_files.specs.surface.Frames.{KeepsSink}
 use Rattle.cweb_files.specs.declared.device.Sink.{Ghosts as Sink}
 use Rattle.cweb_files.proofs.FramesCompose.{place_known, writes_then}
@@ -74,14 +74,7 @@ module _ {W : Type 0} (sink : Sink W) (first mid : W) (keeps : KeepsPlace sink f
 
   pub fails_among : (new : W) → IsTrue (sink.tells first) → (IsTrue (sink.tells mid) → WritesPrefix (sink.written mid)
       (sink.written new) buffer) → FailsAmong room old so all now (sink.written first) (sink.written new)
-  fails_among new tells prefix = record {
-    done = h.done;
-    buffered = h.buffered;
-    yields = h.yields;
-    prefix = rw (h.wrote tells, h.piece_is) at (prefix (place_known sink first mid keeps tells));
-    some = h.some;
-    within = h.within;
-  }
+  fails_among new tells prefix = search rules
 
 -- Without buffering a write fault loses only one line.
 pub loses_line : (old new : SoFar) (all later : List Event) (before after : List ℕ) →

@@ -1,8 +1,7 @@
 -- The written lines of consecutive calls are concatenated.
-use Rattle.cweb_lines.proofs.Common.{◌≡◌, ◌<◌, ◌+◌, ℕ, List, [], ◌∷◌, ◌++◌, length, refl, sym, ◌∙◌, ap, length-append, IsTrue, append-nil, append_assoc, Writes, Line, Event, SoFar, EmitsLines, Stopped, StopsAfterLines, ReportsPrefix, emitted_lines, written_lines, all_but_last, WritesPrefix, WritesAll, WritesSome, WritesUpTo, HasWritten, StopsWriting, Stop, ReadFault, LineTooLong, TooMuchText, Memory}
+use Rattle.cweb_lines.proofs.Common.{rules, ◌≡◌, ◌<◌, ◌+◌, ℕ, List, [], ◌∷◌, ◌++◌, length, refl, sym, ◌∙◌, ap, length-append, IsTrue, append-nil, append_assoc, Writes, Line, Event, SoFar, EmitsLines, Stopped, StopsAfterLines, ReportsPrefix, emitted_lines, written_lines, all_but_last, WritesPrefix, WritesAll, WritesSome, WritesUpTo, HasWritten, StopsWriting, Stop, ReadFault, LineTooLong, TooMuchText, Memory}
 use Rattle.cweb_files.specs.declared.device.Sink.{Ghosts as Sink}
 use Rattle.cweb_lines.proofs.LinesInBuffer.{all_but_last-append}
-use Rattle.cweb_lines.proofs.Merges.{yields_nothing}
 use Rattle.cweb_lines.proofs.EmittedLinesAddUp.{emitted-append, reported-append, openings-append, yields_both, after_both, reads_both}
 
 pub emitted_prefix : (lines : List Line) (old new : SoFar) (all later : List Event)
@@ -12,16 +11,7 @@ emitted_prefix lines old new all later yields = simp (yields.whole, emitted-appe
 
 pub yields_all : (lines : List Line) (old new : SoFar) (all later : List Event) → EmitsLines lines old new all later →
     later ≡ [] → EmitsLines (emitted_lines all) old new all []
-yields_all lines old new all later yields none = record {
-  events = yields.events;
-  whole = simp (yields.whole, none);
-  emitted = simp (emitted_prefix lines old new all later yields, yields.emitted, none, append-nil);
-  faults = yields.faults;
-  names = yields.names;
-  lines_are = yields.lines_are;
-  bytes_are = yields.bytes_are;
-  short = yields.short;
-}
+yields_all lines old new all later yields none = search rules
 
 pub text_of-append : (a b : List Line) → written_lines (a ++ b) ≡ written_lines a ++ written_lines b
 text_of-append [] b = refl
@@ -48,11 +38,7 @@ prefix_of_all all done buffered now old mid new buffer whole written is prefix =
 
 pub nothing_yet : {W : Type 0} (sink : Sink W) (w : W) (so : SoFar) (all : List Event) →
     HasWritten so so all all (Writes sink w w)
-nothing_yet sink w so all = record {
-  lines = [];
-  yields = yields_nothing so so all all refl refl refl refl;
-  wrote = λ tells. sym (append-nil (sink.written w));
-}
+nothing_yet sink w so all = search rules
 
 module _ {W : Type 0} (sink : Sink W) (first mid : W) (old so : SoFar) (all now : List Event)
     (g : HasWritten old so all now (Writes sink first mid)) where
@@ -105,14 +91,7 @@ module _ {W : Type 0} (sink : Sink W) (first mid : W) (old so : SoFar) (all now 
 
 pub tells_some : (lines : List Line) (old new : SoFar) (all later : List Event) → EmitsLines lines old new all later →
     ReportsPrefix old new all
-tells_some lines old new all later yields = record {
-  events = yields.events;
-  later = later;
-  whole = yields.whole;
-  faults =
-      yields.faults;
-  names = yields.names;
-}
+tells_some lines old new all later yields = search rules
 
 pub tells_more : (lines : List Line) (old mid new : SoFar) (all now : List Event) → EmitsLines lines old mid all now →
     ReportsPrefix mid new now → ReportsPrefix old new all

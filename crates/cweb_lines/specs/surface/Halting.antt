@@ -5,7 +5,7 @@ use Rattle.std.specs.Prelude.{nat_lt}
 use Rattle.std.specs.Str.{bytes_eq}
 use Rattle.std.proofs.lemmas.Bool.Decides.{nat_tests}
 use Rattle.cweb_files.specs.declared.place.Place.{Place}
-use Rattle.cweb_input.specs.Lines.{Line, SourceLine, lines_in, RawLine, Thing, seek, raw, reported, passed, raws}
+use Rattle.cweb_input.specs.Lines.{SourceLine, lines_in, RawLine, Thing, seek, raw, reported, passed, raws}
 use Rattle.cweb_input.specs.Include.{World, Found, include_name, is_include_line, found_at}
 use Rattle.cweb_lines.specs.Change.{change_code, WaitingEntry, Sought, sought, outside, after_x, OldSide, old_at}
 use Rattle.cweb_lines.specs.Change.{dropping, old_lines}
@@ -14,7 +14,7 @@ use Rattle.cweb_lines.specs.declared.change.code.Code.{Code}
 use Rattle.cweb_lines.specs.declared.change.code.Code.TheVariants.{OldSide as old_side, NewSide as new_side}
 use Rattle.cweb_lines.specs.declared.change.code.Code.TheVariants.{EndSide as end_side}
 use Rattle.cweb_lines.specs.Events.{Event}
-use Rattle.cweb_lines.specs.Merge.{MergeStateModel, NewSide, new_at}
+use Rattle.cweb_lines.specs.Merge.{MergeStateModel, new_at}
 use Rattle.cweb_lines.specs.Merge.{new_lines, after_old, Next, obeyed, open_include, included, plain}
 use Rattle.cweb_lines.specs.Merge.{at_entry, at_raw, past, step, onto, step_then_run, run_steps}
 

@@ -1,9 +1,9 @@
-use Rattle.cweb_lines.proofs.Common.{rules, Some, refl, ap, sym, subst, ◌∙◌, change_code, counters_of, Stopped, change_lines, so_far_of}
+use Rattle.cweb_lines.proofs.Common.{rules, Some, ap, sym, subst, ◌∙◌, change_code, counters_of, Stopped, change_lines, so_far_of}
 use Rattle.cweb_lines.proofs.ReportsOnlyGrow.{took_faults, took_names}
 use Rattle.cweb_input.proofs.Found.{IfOk-map}
 use Rattle.cweb_lines.proofs.EmittedLinesAddUp.{yields_took}
 use Rattle.cweb_lines.proofs.NewSideLines.{coming_is, new_ended, new_faulty, new_first, new_side_ended, new_stops}
-use Rattle.cweb_lines.proofs.NoReadFails.{reads_obeyed, reads_reported, reads_set, reads_then, still_tells}
+use Rattle.cweb_lines.proofs.NoReadFails.{still_tells}
 use Rattle.cweb_lines.proofs.Codes.{is_end}
 use Rattle.cweb_lines.proofs.Stops.{reported_stays, stops_unreported, unreported}
 use Rattle.cweb_lines.proofs.step.turning.take_new.Goals as goal
