@@ -1,5 +1,5 @@
 -- Code lines within a change.
-use Rattle.cweb_lines.proofs.Common.{◌≡◌, ℕ, true, false, List, [], ◌∷◌, Some, Option, refl, ◌∙◌, ap, Place, OldSide, change_code, old_after, old_at, old_lines, at_place, Line, SourceLine, Thing, took, fault, WantsY, sameb, the_type, Code, NewSide, new_at, new_things, passed, reported, WantsZ}
+use Rattle.cweb_lines.proofs.Common.{rules, ◌≡◌, ℕ, true, false, List, [], ◌∷◌, Some, Option, refl, Place, OldSide, change_code, old_after, old_at, old_lines, at_place, Line, SourceLine, Thing, took, fault, WantsY, sameb, the_type, Code, NewSide, new_at, new_things, passed, reported, WantsZ}
 use Rattle.cweb_lines.specs.declared.change.code.Code.TheVariants.{NewSide as new_side, EndSide as end_side}
 
 pub is_new : (code : Code) → sameb the_type code new_side ≡ true → code ≡ new_side
@@ -16,10 +16,7 @@ pub old_code_at : (code : Option Code) (line : SourceLine) (lines : List SourceL
     (bytes : List ℕ) (place : Place) → line.line ≡ record { bytes = bytes; place = place } → change_code bytes ≡ code
     → old_lines (line ∷ lines) things ≡ old_after (took line)
     (old_at code (record { bytes = bytes; place = place }) lines things (λ rest. old_lines lines rest))
-old_code_at code line lines things bytes place is test = ap (λ (l : Line). old_after (took line)
-    (old_at (change_code l.bytes) l lines things (λ rest. old_lines lines rest))) is
-    ∙ ap (λ k. old_after (took line)
-    (old_at k (record { bytes = bytes; place = place }) lines things (λ rest. old_lines lines rest))) test
+old_code_at code line lines things bytes place is test = search rules
 
 pub is_end : (code : Code) → sameb the_type code end_side ≡ true → code ≡ end_side
 is_end end_side same = refl

@@ -99,12 +99,12 @@ pub use Rattle.cweb_lines.specs.inner.StepCalls.{OnlyOpens}
 pub use Rattle.cweb_lines.specs.inner.Steps.{OnlyTakes, OnlyReports}
 pub use Rattle.cweb_lines.specs.inner.Total.{merge_yields, merge_next, merge-run_steps, merge_end}
 pub use Rattle.cweb_lines.specs.inner.Writing.{HasWritten, FailsAmong}
-pub use Rattle.cweb_lines.specs.laws.Laws.{file_with_change, ChangeFilesWithoutEntriesChangeNothing, is_change_code}
-pub use Rattle.cweb_lines.specs.laws.Laws.{IncludeLinesAreReplaced, Includes, LinesComeApart, IncludesMergeAsWebs}
-pub use Rattle.cweb_lines.specs.laws.Laws.{is_too_deep, IsPlainSplice, Splice, spliced, web_lines}
+pub use Rattle.cweb_lines.specs.laws.Laws.{is_change_code}
+pub use Rattle.cweb_lines.specs.laws.Laws.{IncludeLinesAreReplaced, Includes, LinesComeApart}
+pub use Rattle.cweb_lines.specs.laws.Laws.{IsPlainSplice, Splice, spliced, web_lines}
 pub use Rattle.cweb_lines.specs.laws.Laws.{UnmatchedEntriesAreReported, PrintedMergesComeAgain, ChangesSplice}
 pub use Rattle.cweb_lines.specs.laws.Laws.{WebsWithoutIncludesAreTheirOwnLines}
-pub use Rattle.cweb_lines.specs.laws.MergeOutcome.{fault_renumbered, line_renumbered, renumbered, outcome_of_events}
+pub use Rattle.cweb_lines.specs.laws.MergeOutcome.{outcome_of_events}
 pub use Rattle.cweb_lines.specs.laws.MergeOutcome.{followed_by, only_lines, MergeOutcome, outcome_of_lines, placed}
 pub use Rattle.cweb_lines.specs.laws.MergeOutcome.{placed_line, only_fault}
 pub use Rattle.cweb_lines.specs.surface.Halting.{halts}

@@ -14,12 +14,6 @@ compares_empty bytes before old new same start all later r = record {
   things = r.things;
 }
 
-pub compares_none : (bytes : List ℕ) (before : Replaced) (things things' : List Thing) (old new : SoFar)
-    → things ≡ things' → things' ≡ [] → new ≡ old → Compares
-    bytes before (record { unequal = before.unequal; ran_out = true; ended = before.ended }) things things' old new
-compares_none bytes before things things' old new is none same =
-    rw (is, none) (compares_empty bytes before old new same)
-
 pub compares_some : (bytes raw_bytes : List ℕ) (before after : Replaced) (at : LineAt) (things things' : List Thing)
     (old new : SoFar) (t : CountsLine raw_bytes at.place old.count new.count) → things ≡ raw_thing at t.line ∷ things'
     → new.faults ≡ old.faults → new.names ≡ old.names → after.unequal

@@ -1,5 +1,5 @@
 -- An include line is replaced by the merged lines of its file.
-use Rattle.cweb_lines.proofs.Common.{◌≡◌, ◌≢◌, ◌<◌, ◌+◌, ℕ, Bool, true, false, List, [], ◌∷◌, ◌++◌, None, Some, refl, sym, ◌∙◌, ap, append-nil, subst, arith, length, nat_tests, AllByRecursion, nat_lt, SourceLine, lines_in, World, include_name, is_include_line, at_place, IncludeLinesAreReplaced, Includes, LinesComeApart, MergeOutcome, followed_by, outcome_of_events, outcome_of_lines, Event, Next, RawLine, MergeStateModel, Thing, fault, emitted, included, obeyed, open_include, opening, plain, raw, raws, taking, took, openings, merge, merge-run_steps, merge_end, merge_next, halts, NoName, NotThere, TooDeep, OPEN_FILES}
+use Rattle.cweb_lines.proofs.Common.{rules, ◌≡◌, ◌≢◌, ◌<◌, ◌+◌, ℕ, Bool, true, false, List, [], ◌∷◌, ◌++◌, None, Some, refl, sym, ◌∙◌, ap, append-nil, subst, arith, length, nat_tests, AllByRecursion, nat_lt, SourceLine, lines_in, World, include_name, is_include_line, at_place, IncludeLinesAreReplaced, Includes, LinesComeApart, MergeOutcome, followed_by, outcome_of_events, outcome_of_lines, Event, Next, RawLine, MergeStateModel, Thing, fault, emitted, included, obeyed, open_include, opening, plain, raw, raws, taking, took, openings, merge, merge-run_steps, merge_end, merge_next, halts, NoName, NotThere, TooDeep, OPEN_FILES}
 use Rattle.cweb_lines.proofs.IndependentLines.{IsNoSearch, prefix, raws_seek_not}
 use Rattle.cweb_lines.proofs.Merges.{state}
 use Rattle.cweb_input.proofs.SourceStacks.{raws-append}
@@ -36,10 +36,7 @@ names_some world r s things next b include named room is = ap (λ b. plain b wor
 opens_text : (world : World) (r : RawLine) (things : List Thing) (s : MergeStateModel) (name text : List ℕ)
     → Includes world r.source.line.bytes name text → r.depth < OPEN_FILES
     → plain (is_include_line r.source.line.bytes) world s r things ≡ obeyed (Some (name, text)) s r things
-opens_text world r things s name text includes shallow =
-    let room : nat_lt r.depth OPEN_FILES ≡ true = grind (arith, nat_tests) in
-    names_some world r s things (obeyed (Some (name, text)) s r things) true includes.include includes.named room
-    (ap (λ found. obeyed found s r things) includes.found)
+opens_text world r things s name text includes shallow = search rules
 
 one_event : (world : World) (depth files : ℕ) (line : SourceLine) (event : Event) →
     let r : RawLine = record { source = line; depth = depth; may_match = true } in

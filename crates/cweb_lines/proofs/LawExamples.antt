@@ -1,5 +1,5 @@
 -- Worked examples of the laws: their premises can be met.
-use Rattle.cweb_lines.proofs.Common.{◌≡◌, ◌+◌, true, false, List, [], ◌∷◌, ◌++◌, Option, Some, None, refl, cond, codes, option_map, bytes_eq, AllByRecursion, list_any, lines, lines_in, World, is_include_line, Includes, IsPlainSplice, Splice, file_with_change, is_change_code, spliced, web_lines, MergeOutcome, only_lines, placed, renumbered, outcome_of_events, Event, raws, run_steps, started, written_lines, NoMatch, NoName}
+use Rattle.cweb_lines.proofs.Common.{◌≡◌, true, false, List, [], ◌∷◌, ◌++◌, Option, Some, None, refl, cond, codes, option_map, bytes_eq, AllByRecursion, list_any, lines, lines_in, World, is_include_line, Includes, IsPlainSplice, Splice, is_change_code, spliced, web_lines, MergeOutcome, only_lines, placed, outcome_of_events, Event, raws, run_steps, started, written_lines, NoMatch, NoName}
 use Rattle.std.specs.Str.{is_utf8, chars}
 use lib.Utf8.{encode}
 use Rattle.cweb_lines.specs.laws.Laws.{spliced_change_lines}
@@ -99,10 +99,6 @@ record Computed : Type 0 where
   -- the included file is file 2 instead of 1
   it_changes_nothing : seen_by (run_steps 20 a_file_included
       (started (codes "A\n@i b\n") (Some (codes "a comment\n@ alone\n"))))
-      ≡ option_map (renumbered file_with_change)
-      (seen_by (run_steps 20 a_file_included (started (codes "A\n@i b\n") None)))
-  it_shows : option_map (renumbered file_with_change)
-      (seen_by (run_steps 20 a_file_included (started (codes "A\n@i b\n") None)))
       ≡ Some (record {
         lines = placed 0 1 (codes "A" ∷ []) ++ placed 2 1 (codes "B" ∷ []);
         faults = record { kind = NoName; place = record { file = record { 0 = 2 }; line = 2 }; count = 0 } ∷ [];
@@ -129,10 +125,14 @@ record Computed : Type 0 where
         faults = record { kind = NoMatch; place = record { file = record { 0 = 1 }; line = 2 }; count = 0 } ∷ [];
         included = [];
       })
-  -- an included file at depth 2 as file 1, and the same file as a web
+  -- an included file at depth 2 as file 1: its lines are those of the file as a web
   it_merges_as_a_web : seen_by (run_steps 20 a_file_included (record
-      { things = raws 2 true (lines_in 1 (codes "A\n@i b\n")); pending = None; change = []; files = 2 })) ≡ option_map
-      (renumbered (λ number. 1 + number)) (seen_by (run_steps 20 a_file_included (started (codes "A\n@i b\n") None)))
+      { things = raws 2 true (lines_in 1 (codes "A\n@i b\n")); pending = None; change = []; files = 2 }))
+      ≡ Some (record {
+        lines = placed 1 1 (codes "A" ∷ []) ++ placed 2 1 (codes "B" ∷ []);
+        faults = record { kind = NoName; place = record { file = record { 0 = 2 }; line = 2 }; count = 0 } ∷ [];
+        included = codes "b" ∷ [];
+      })
 
 computed : Computed
 unfolding is_utf8 chars encode

@@ -1,5 +1,5 @@
 -- Lookahead at consecutive lines in the buffer.
-use Rattle.cweb_lines.proofs.Common.{◌≡◌, ◌≤◌, ◌<◌, ◌+◌, ◌-◌, ℕ, List, [], ◌∷◌, ◌++◌, length, map, Option, None, Some, refl, sym, ◌∙◌, ap, subst, arith, append_cancel_right, length-append, length-map, map-append, slice_range, unwrap_or, IfSome, OnSome, Place, FitsLimits, FitsLimitsAt, IsAhead, LooksAhead, LooksAheadIn, WaitingEntry, BorrowsLines, line_span_at, Line, IsOneLine, SourceLine, numbered_lines, trimmed, pending_of, so_far_of, ComesNext, EmitsBufferedLines, HasRoomFor, IsStretch, Reaches, IsStretchAt, IsStretchOf, OnlyLastExceeds, line_with_newline, lines_next, top_of, IsSettled, floor_of, files_up_to, TakenCounters, LINES, Ahead, LineSpan, Stretch, MergeState, OpenSource}
+use Rattle.cweb_lines.proofs.Common.{rules, ◌≡◌, ◌≤◌, ◌<◌, ◌+◌, ◌-◌, ℕ, List, [], ◌∷◌, ◌++◌, length, map, Option, None, Some, refl, sym, ◌∙◌, ap, subst, arith, append_cancel_right, length-append, length-map, map-append, slice_range, unwrap_or, IfSome, OnSome, Place, FitsLimits, FitsLimitsAt, IsAhead, LooksAhead, LooksAheadIn, WaitingEntry, BorrowsLines, line_span_at, Line, IsOneLine, SourceLine, numbered_lines, trimmed, pending_of, so_far_of, ComesNext, EmitsBufferedLines, HasRoomFor, IsStretch, Reaches, IsStretchAt, IsStretchOf, OnlyLastExceeds, line_with_newline, lines_next, top_of, IsSettled, floor_of, files_up_to, TakenCounters, LINES, Ahead, LineSpan, Stretch, MergeState, OpenSource}
 use Rattle.cweb_lines.proofs.ReportsOnlyGrow.{grows_reported, reported_emitted, reported_then}
 use Rattle.cweb_input.proofs.SourceStacks.{most_at}
 use Rattle.cweb_lines.proofs.LinesInBuffer.{few_lines, joined, numbered-append}
@@ -169,13 +169,7 @@ looks_next run slot before (Some ahead) same fits looks =
 
 pub is_ahead : {R : Type 0} (run : MergeState R) (before : List (List ℕ)) (ahead : Ahead)
     → FitsLimitsAt run.limits (top_of run.stack) → LooksAhead run before ahead → IsAhead run ahead
-is_ahead run before ahead fits looks = record {
-  lines = before ++ looks.raw ∷ [];
-  comes = looks.comes;
-  inside = looks.inside;
-  ordered = looks.ordered;
-  fits = fits;
-}
+is_ahead run before ahead fits looks = search rules
 
 pub are_ahead : {R : Type 0} (run : MergeState R) (before : Ahead) (next : Option Ahead) → (is : IsAhead run before)
     → IfSome next (λ ahead. (lines : List (List ℕ)) → ComesNext run before.stretch lines → LooksAhead run lines ahead)

@@ -1,15 +1,10 @@
 -- The readers of a merger stay opened under the names of their files.
-use Rattle.cweb_lines.proofs.Common.{◌≡◌, ℕ, List, sym, ap, subst, opened_file_names, AreReadersNamed, AreReadersKnown, IsReaderNamed, OnlyReports, MergeState}
+use Rattle.cweb_lines.proofs.Common.{rules, ◌≡◌, ℕ, List, ap, opened_file_names, AreReadersKnown, OnlyReports, MergeState}
 
 pub knows_same : {R : Type 0} (opened_as : R → List ℕ) (old new : MergeState R) → new.stack.texts ≡ old.stack.texts
     → new.change ≡ old.change → opened_file_names new.names ≡ opened_file_names old.names
     → AreReadersKnown opened_as old → AreReadersKnown opened_as new
-knows_same opened_as old new texts change names known = record {
-  texts = subst (λ (ns : List (List ℕ)). AreReadersNamed opened_as ns new.stack.texts) (sym names)
-      (subst (λ ts. AreReadersNamed opened_as (opened_file_names old.names) ts) (sym texts) known.texts);
-  change = subst (λ (ns : List (List ℕ)). IsReaderNamed opened_as ns new.change) (sym names)
-      (subst (λ t. IsReaderNamed opened_as (opened_file_names old.names) t) (sym change) known.change);
-}
+knows_same opened_as old new texts change names known = search rules
 
 pub knows_only : {R : Type 0} {opened_as : R → List ℕ} {old new : MergeState R} → OnlyReports old new
     → AreReadersKnown opened_as old → AreReadersKnown opened_as new

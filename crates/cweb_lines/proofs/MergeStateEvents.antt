@@ -1,5 +1,5 @@
 -- The events to come of a merger, by its stack, stage, files and faults.
-use Rattle.cweb_lines.proofs.Common.{OnlyOpens, OnlyReports, append-nil, Some, Bool, true, false, if◌then◌else◌, ◌≡◌, ◌≤◌, ◌<◌, ◌+◌, ◌-◌, ℕ, zero, suc, get_or, List, [], ◌∷◌, ◌++◌, Option, None, refl, sym, ◌∙◌, ap, arith, length, length-append, le-max_left, le-max_right, max-le, Place, WaitingEntry, at_place, Found, World, lines_found, names_found, contents_found, optional_string_bytes, SourceLine, lines_in, Event, Thing, fault, raws, seek, new_lines, started, EmitsLines, NothingLeft, events_to_come, so_far_of, things_of, opened_file_names, IsSettled, begun_stage, change_in, files_begun, stage_for, floor_of, pending_in, things_below, things_in, TakenCountersModel, OpensSource, StaysBelow, StopsAbove, TakesAbove, TakesFirst, TopStops, lines_at, lines_left, things_above, things_over, merge, merge_end, merge_next, SourceFault, NoMatch, MergeState, Stack, Change, Stage, Seeking, Waiting, Changing, Stop, LineAt, OpenSource, counters_of, over-none}
+use Rattle.cweb_lines.proofs.Common.{rules, OnlyOpens, OnlyReports, Some, Bool, true, false, if◌then◌else◌, ◌≡◌, ◌≤◌, ◌<◌, ◌+◌, ◌-◌, ℕ, zero, suc, get_or, List, [], ◌∷◌, ◌++◌, Option, None, refl, sym, ◌∙◌, ap, arith, length, length-append, le-max_left, le-max_right, max-le, Place, WaitingEntry, at_place, Found, World, lines_found, names_found, contents_found, optional_string_bytes, SourceLine, lines_in, Event, Thing, fault, raws, seek, started, EmitsLines, NothingLeft, events_to_come, so_far_of, things_of, opened_file_names, IsSettled, begun_stage, change_in, files_begun, stage_for, floor_of, pending_in, things_below, things_in, TakenCountersModel, OpensSource, StaysBelow, StopsAbove, TakesAbove, TakesFirst, TopStops, lines_at, lines_left, things_above, merge, merge_end, merge_next, SourceFault, NoMatch, MergeState, Stack, Change, Stage, Seeking, Waiting, Changing, Stop, LineAt, OpenSource, counters_of, over-none}
 use Rattle.cweb_lines.specs.inner.Faults.{files_of_faults}
 use Rattle.cweb_lines.proofs.Merges.{state, yields_fault}
 
@@ -37,9 +37,7 @@ coming_of t inputs l stage change first files things = merge (record { texts = t
 below_same : {R : Type 0} (left left' : R → List ℕ) (same : left' ≡ left) (change : Change) (lines : List SourceLine)
     (old new : Stack R) → StaysBelow change.below old.texts new.texts
     → things_below left change lines old ≡ things_below left' change lines new
-below_same left left' same change lines old new stays =
-    ap (λ (ts : List Thing). (new_lines change.depth change.begin lines).things ++ seek ∷ ts)
-    (sym (stays left change.below (omega arith) []) ∙ ap (λ l. things_over l 0 change.below new.texts []) (sym same))
+below_same left left' same change lines old new stays = search rules
 
 pub takes_in : {R : Type 0} (left left' : R → List ℕ) (same : left' ≡ left) (stage : Stage) (lines : List SourceLine)
     (old new : Stack R) (at : Option LineAt) (bytes : List ℕ) (before after : TakenCountersModel) → IsSettled stage
@@ -152,9 +150,7 @@ pub begun : {R : Type 0} (left : R
     → List ℕ) (stack : Stack R) (text : OpenSource R) (rest : List (Option (OpenSource R))) →
     stack.depth ≡ 1 → stack.texts ≡ Some text ∷ rest → text.depth ≡ 1 → text.may_match ≡ true
     → things_above left 0 stack [] ≡ raws 1 true (lines_left left text)
-begun left stack text rest depth texts deep matches = (λ i. things_over left 0 (depth i - 0) (texts i) [])
-    ∙ append-nil (raws text.depth text.may_match (lines_left left text))
-    ∙ (λ i. raws (deep i) (matches i) (lines_left left text))
+begun left stack text rest depth texts deep matches = search rules
 
 pub begun_coming : {R : Type 0} (world : World) (left : R → List ℕ) (stack : Stack R) (change : Option Found)
     (stage : Stage) (lines : List SourceLine) (first : List ℕ) (files : ℕ) (text : List ℕ) →

@@ -1,5 +1,5 @@
 -- The events of a line that was taken.
-use Rattle.cweb_lines.proofs.Common.{Option, if◌then◌else◌, ◌&&◌, ◌≡◌, ◌≤◌, ◌<◌, ◌+◌, ◌==◌, ℕ, Bool, true, false, List, [], ◌∷◌, ◌++◌, Some, None, refl, sym, ◌∙◌, ap, arith, length, append-nil, nat_lt, nat_tests, Place, bytes_eq, WaitingEntry, at_place, World, is_include_line, include_name, found_at, Line, SourceLine, lines_in, MergeStateModel, RawLine, Thing, raw, Event, took, emitted, fault, opening, Next, at_entry, at_raw, included, open_include, obeyed, plain, taking, raws, begun_by, OPEN_FILES, LineAt, SoFar, EmitsLines, taken_lines, reported_faults, openings, emitted_lines, merge, merge_next, SourceFault, NoName, TooDeep, NotThere}
+use Rattle.cweb_lines.proofs.Common.{rules, Option, if◌then◌else◌, ◌&&◌, ◌≡◌, ◌≤◌, ◌<◌, ◌+◌, ◌==◌, ℕ, Bool, true, false, List, [], ◌∷◌, ◌++◌, Some, None, refl, sym, ◌∙◌, ap, arith, length, append-nil, nat_lt, nat_tests, Place, bytes_eq, WaitingEntry, at_place, World, is_include_line, include_name, found_at, Line, SourceLine, lines_in, MergeStateModel, RawLine, Thing, raw, Event, took, emitted, fault, opening, Next, at_entry, at_raw, included, open_include, obeyed, plain, taking, raws, begun_by, OPEN_FILES, LineAt, SoFar, EmitsLines, taken_lines, reported_faults, openings, emitted_lines, merge, merge_next, SourceFault, NoName, TooDeep, NotThere}
 
 abbrev pub state : List Thing → Option WaitingEntry → List SourceLine → ℕ → MergeStateModel
 state things pending change files = record { things = things; pending = pending; change = change; files = files }
@@ -125,8 +125,7 @@ module _ (old new : SoFar) (all later : List Event) (count : new.count ≡ old.c
       (simp (names, append-nil))
 
   pub yields_nothing : all ≡ later → new.faults ≡ old.faults → new.names ≡ old.names → EmitsLines [] old new all later
-  yields_nothing whole faults names = yields_untaken [] refl whole (simp (faults, append-nil))
-      (simp (names, append-nil))
+  yields_nothing whole faults names = search rules
 
 pub include_long : (line : List ℕ) → is_include_line line ≡ true → 2 ≤ length line
 include_long [] is = absurd (cc)

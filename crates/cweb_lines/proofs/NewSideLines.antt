@@ -1,5 +1,5 @@
 -- The new side of a change, line by line.
-use Rattle.cweb_lines.proofs.Common.{subst, OnlyTakes, OnlyReports, lines_at, ◌≡◌, ◌-◌, ℕ, false, List, [], ◌∷◌, ◌++◌, Some, None, Option, refl, sym, ◌∙◌, ap, arith, length, sameb, Place, at_place, change_code, world_in, World, Line, SourceLine, Event, NewSide, Thing, fault, new_at, new_lines, passed, raw, seek, reported, took, EmitsLines, SoFar, Stopped, change_lines, events_to_come, events_after_line, things_of, so_far_of, counters_of, opened_file_names, change_in, pending_in, things_below, things_in, FirstStops, StopsFor, CountsLine, raw_thing, things_above, things_over, merge, merge_next, the_type, Code, EndedBeforeZ, WantsZ, MergeState, Change, Changing, Stack, Stop, LineAt, over-none}
+use Rattle.cweb_lines.proofs.Common.{rules, subst, OnlyTakes, OnlyReports, lines_at, ◌≡◌, ℕ, false, List, [], ◌∷◌, ◌++◌, Some, None, Option, refl, sym, ◌∙◌, ap, arith, length, sameb, Place, at_place, change_code, world_in, World, Line, SourceLine, Event, NewSide, Thing, fault, new_at, new_lines, passed, raw, seek, reported, took, EmitsLines, SoFar, Stopped, change_lines, events_to_come, events_after_line, things_of, so_far_of, counters_of, opened_file_names, FirstStops, StopsFor, CountsLine, raw_thing, things_above, things_over, merge, merge_next, the_type, Code, EndedBeforeZ, WantsZ, MergeState, Change, Changing, Stack, Stop, LineAt}
 use Rattle.cweb_lines.specs.declared.change.code.Code.TheVariants.{OldSide as old_side, NewSide as new_side, EndSide as end_side}
 use Rattle.cweb_lines.proofs.AddedEvents.{takes_one}
 use Rattle.cweb_lines.proofs.EmittedLinesAddUp.{yields_both}
@@ -96,23 +96,18 @@ module _ {R : Type 0} (t : List ℕ → Option (List ℕ)) (l : R → List ℕ) 
   texts_below = things_over l 0 change.below run.stack.texts []
 
   things_new : things_of l run ≡ (new_lines change.depth change.begin (change_lines l run)).things ++ seek ∷ texts_below
-  things_new = (λ i. things_in l (stage i) (change_lines l run) run.stack)
-      ∙ over-none l change.below (run.stack.depth - change.below) run.stack.texts
-      (things_below l change (change_lines l run) run.stack) (omega (arith, low))
+  things_new = search rules
 
   pub coming_is : events_to_come t l run ≡ coming_new (world_in t run.inputs) change (change_lines l run) texts_below
       (length (opened_file_names run.names))
-  coming_is = λ i. merge (world_in t run.inputs) (state (things_new i) (pending_in (stage i) run.first.items)
-      (change_in (stage i) (change_lines l run)) (length (opened_file_names run.names)))
+  coming_is = search rules
 
   pub coming_after_is : (at : LineAt) (source : SourceLine) → events_after_line t l run at source ≡ merge (world_in t
       run.inputs) (state (raw_thing at source ∷ (new_lines change.depth change.begin (change_lines l run)).things
       ++ seek
       ∷ texts_below) None (new_lines change.depth change.begin (change_lines l run)).rest
       (length (opened_file_names run.names)))
-  coming_after_is at source = λ i. merge (world_in t run.inputs) (state (raw_thing at source ∷ things_new i)
-      (pending_in (stage i) run.first.items) (change_in (stage i) (change_lines l run))
-      (length (opened_file_names run.names)))
+  coming_after_is at source = search rules
 
   pub below_are : things_above l 0 run.stack [] ≡ texts_below
   below_are = ap (λ n. things_over l 0 n run.stack.texts []) (omega (arith, low))
@@ -134,11 +129,7 @@ module _ {R : Type 0} {t t' : List ℕ → Option (List ℕ)} {l l' : R → List
       List Thing → List Thing) (lines : List SourceLine) → merge world (state (prefix under) None lines files) ≡ merge
       (world_in t' new.inputs)
       (state (prefix (things_above l' 0 new.stack [])) None lines (length (opened_file_names new.names)))
-  later_is new inputs stack names prefix lines = sym (
-      (λ i. merge (world_in (texts i) (inputs i)) (state (prefix (things_above (left i) 0 (stack i) [])) None lines
-      (length (opened_file_names (names i)))))
-      ∙ ap (λ (things : List Thing). merge world (state (prefix things) None lines files))
-      (below_are t l run change stage low))
+  later_is new inputs stack names prefix lines = search rules
 
   pub new_ended : (new : MergeState R) → OnlyReports mid new
       → change_lines l run ≡ [] → counters_of new.limits ≡ counters_of run.limits → new.faults.items ≡ mid.faults.items
@@ -159,8 +150,7 @@ module _ {R : Type 0} {t t' : List ℕ → Option (List ℕ)} {l l' : R → List
 
     first : (rest : List SourceLine) → change_lines l run ≡ taken.line ∷ rest
         → events_to_come t l run ≡ coming_new world change (taken.line ∷ rest) under files
-    first rest is = coming_is t l run change stage low
-        ∙ ap (λ (ls : List SourceLine). coming_new world change ls under files) is
+    first rest is = search rules
 
     pub new_side_ended : (rest : List SourceLine) → change_lines l run ≡ taken.line ∷ rest → change_code bytes
         ≡ Some end_side → EmitsLines [] (so_far_of run) (so_far_of mid) (events_to_come t l run)
@@ -195,12 +185,4 @@ module _ {R : Type 0} {t t' : List ℕ → Option (List ℕ)} {l l' : R → List
     pub new_first : change_lines l run ≡ taken.line ∷ change_lines l' mid → change_code bytes ≡ None
         → events_to_come t l run
         ≡ events_after_line t' l' mid (record { place = place; depth = change.depth; may_match = false }) taken.line
-    new_first rest test = first _ rest
-        ∙ new_line world change under files taken.line (change_lines l' mid) bytes place taken.is test
-        ∙ sym (coming_after_is t' l' mid change (only.stage ∙ stage) (ap (λ (s : Stack R). s.depth) stack ∙ low)
-        (record { place = place; depth = change.depth; may_match = false }) taken.line
-        ∙ (λ i. merge (world_in (texts i) (only.inputs i))
-        (state (raw (record { source = taken.line; depth = change.depth; may_match = false }) ∷ (new_lines change.depth
-        change.begin (change_lines l' mid)).things ++ seek ∷ things_over (left i) 0 change.below ((stack i).texts) [])
-        None (new_lines change.depth change.begin (change_lines l' mid)).rest
-        (length (opened_file_names (only.names i))))))
+    new_first rest test = search rules

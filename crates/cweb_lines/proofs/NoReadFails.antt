@@ -1,5 +1,5 @@
 -- Calls that may read, one after another. Each but the last has read without a fault.
-use Rattle.cweb_lines.proofs.Common.{◌≡◌, ◌++◌, ℕ, List, [], arith, refl, sym, ◌∙◌, ap, subst, IsTrue, so_far_of, opened_file_names, read_failures_of, Memory, append-nil, blames_memory, OnlyReports, SourceFault, MergeState, AppendsPassedLines, AreReadersKnown, Line, LineAt, Stop, Result, Ok, Err, IfErr}
+use Rattle.cweb_lines.proofs.Common.{◌≡◌, ◌++◌, ℕ, List, arith, refl, ap, subst, IsTrue, so_far_of, opened_file_names, read_failures_of, Memory, blames_memory, OnlyReports, SourceFault, MergeState, AppendsPassedLines, AreReadersKnown, Line, LineAt, Stop, Result, Ok, Err, IfErr}
 use Rattle.cweb_files.specs.declared.device.Shelf.{Ghosts as Shelf}
 use Rattle.cweb_files.specs.surface.Frames.{KeepsShelf}
 use Rattle.cweb_files.proofs.FramesCompose.{keeps_known, keeps_same, keeps_then}
@@ -86,10 +86,6 @@ module _ {S R : Type 0} {shelf : Shelf S R} where
   reads_reported {s = s} more only reported memory =
       reads_none (reads_nothing s) (λ tells known. knows_only only known) (reported_after _ _ more reported (ap
       opened_file_names only.names)) memory
-
-  pub reads_unreported : {result : Result (Unit {0}) Stop} {s : S} {run run' : MergeState R} → OnlyReports run run'
-      → run'.faults.items ≡ run.faults.items → IfErr result (λ stop. stop ≡ Memory) → Reads shelf s s run run' result
-  reads_unreported only same memory = reads_reported [] only (same ∙ sym (append-nil _)) memory
 
   -- What isn't in the frame changes.
   pub reads_set : {result : Result (Unit {0}) Stop} {old new : S} {x y : MergeState R} (z : MergeState R)

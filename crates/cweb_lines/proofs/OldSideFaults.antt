@@ -1,6 +1,6 @@
 -- The faults of an old side as a whole.
-use Rattle.cweb_lines.proofs.Common.{◌≡◌, List, [], ◌++◌, sym, ◌∙◌, ap, subst, append-nil, map, map-append, Place, OldSide, SourceLine, Thing, Event, fault, change_events, closing_faults, SoFar, EmitsLines, ReportsPrefix, IsReplaced, ReportsFaultPrefix, Replaced}
-use Rattle.cweb_lines.proofs.AddedEvents.{reports, reports_some, yields_more}
+use Rattle.cweb_lines.proofs.Common.{rules, ◌≡◌, List, [], ◌++◌, sym, ◌∙◌, ap, subst, append-nil, map, map-append, Place, OldSide, SourceLine, Thing, Event, fault, change_events, closing_faults, SoFar, EmitsLines, ReportsPrefix, IsReplaced, ReportsFaultPrefix, Replaced}
+use Rattle.cweb_lines.proofs.AddedEvents.{reports, reports_some}
 use Rattle.cweb_lines.proofs.EmittedLinesAddUp.{yields_both}
 use Rattle.cweb_lines.proofs.WrittenLinesAddUp.{tells_more}
 
@@ -13,8 +13,7 @@ module _ (begin : Place) (side : OldSide) (so_far : Replaced) (change : List Sou
   closing_are i = map fault (closing_faults begin (by.ended i) (by.ran_out i) (by.unequal i))
 
   lines_taken : EmitsLines [] old mid (change_events begin side) closing
-  lines_taken = subst (λ (es : List Event). EmitsLines [] old mid (side.events ++ es) closing) (sym closing_are)
-      (yields_more closing by.yields)
+  lines_taken = search rules
 
   pub closes_some : ReportsFaultPrefix (closing_faults begin so_far.ended so_far.ran_out so_far.unequal) mid.faults
       new.faults → new.names ≡ mid.names → ReportsPrefix old new (change_events begin side)

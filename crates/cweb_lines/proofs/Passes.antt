@@ -1,7 +1,6 @@
 -- Lines that pass through, taken from the stack of a merger.
-use Rattle.cweb_lines.proofs.Common.{◌≡◌, ◌<◌, ◌+◌, ◌-◌, ℕ, List, [], ◌∷◌, ◌++◌, length, Option, refl, sym, ◌∙◌, ap, subst, arith, length-append, append-nil, append_assoc, counters_of, optional_string_bytes, world_in, Line, SourceLine, Thing, EmitsLines, so_far_of, events_to_come, change_lines, pending_of, opened_file_names, ComesNext, EmitsBufferedLines, AppendsPassedLines, PassesTop, lines_next, sources_next, stretch_bytes, top_of, all_but_last, OnlyLastExceeds, change_in, floor_of, things_in, StaysBelow, lines_at, AreShort, size_of_lines, written_lines, TakenCounters, Stretch, MergeState, Stack}
+use Rattle.cweb_lines.proofs.Common.{◌≡◌, ◌<◌, ◌+◌, ◌-◌, ℕ, List, [], ◌∷◌, ◌++◌, length, Option, sym, ◌∙◌, ap, subst, arith, length-append, append-nil, append_assoc, counters_of, optional_string_bytes, world_in, Line, SourceLine, Thing, EmitsLines, so_far_of, events_to_come, change_lines, pending_of, opened_file_names, ComesNext, EmitsBufferedLines, AppendsPassedLines, PassesTop, lines_next, sources_next, stretch_bytes, top_of, all_but_last, OnlyLastExceeds, change_in, floor_of, things_in, StaysBelow, lines_at, AreShort, size_of_lines, written_lines, TakenCounters, Stretch, MergeState, Stack}
 use Rattle.cweb_lines.proofs.EmittedLines.{events_of, events-emitted, events-unreported, events-unopened, events-taken, merge_next_lines, next-length, next-size, next-short, next-text, next-within}
-use Rattle.cweb_lines.proofs.Merges.{yields_nothing}
 use Rattle.cweb_lines.proofs.EmittedLinesAddUp.{yields_both}
 use Rattle.cweb_lines.proofs.MergeStateEvents.{coming_of, passes_in}
 use Rattle.cweb_lines.proofs.WrittenLinesAddUp.{text_of-append, written-all_but_last}
@@ -68,19 +67,6 @@ passes_next room old new s lines buffer more next emitted buffered small within 
   names = emitted.names;
   counted = omega (arith, emitted.counted);
   readers = emitted.readers;
-}
-
-pub passes_nothing : {R : Type 0} (room : ℕ) (run : MergeState R) (buffer : List ℕ)
-    → AppendsPassedLines room run run buffer buffer
-passes_nothing room run buffer = record {
-  lines = [];
-  yields = λ t l. yields_nothing _ _ _ _ refl refl refl refl;
-  buffered = sym (append-nil buffer);
-  within = λ some. absurd (omega (arith, some));
-  stopped = refl;
-  names = refl;
-  counted = omega arith;
-  readers = λ opened_as known. known;
 }
 
 within_then : (room n m : ℕ) (a b : List Line) → m ≡ n + length (written_lines a)

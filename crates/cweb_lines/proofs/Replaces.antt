@@ -1,21 +1,10 @@
 -- The old side of a change, line by line.
-use Rattle.cweb_lines.proofs.Common.{◌≡◌, ◌+◌, ◌||◌, ℕ, Bool, false, List, [], ◌∷◌, ◌++◌, Some, None, Option, refl, sym, ◌∙◌, ap, arith, subst, append_assoc, map, Place, OldSide, at_place, change_code, change_events, closing_faults, dropping, old_after, old_at, old_lines, SourceLine, Thing, raw, seek, reported, passed, Event, took, fault, SoFar, EmitsLines, ReadsNext, ReportsPrefix, StopsAfterLines, StopsOldSide, Compares, IsReplaced, Replaces, FirstStops, CountsLine, TopStops, RefusesLine, Code, WantsY, Replaced, StopsFor, Stop, ReadFault, LineTooLong, TooMuchText, Memory, or-false}
+use Rattle.cweb_lines.proofs.Common.{rules, ◌≡◌, ◌+◌, ◌||◌, ℕ, Bool, false, List, [], ◌∷◌, ◌++◌, Some, None, Option, refl, sym, ◌∙◌, ap, subst, append_assoc, map, Place, OldSide, at_place, change_code, change_events, closing_faults, dropping, old_after, old_at, old_lines, SourceLine, Thing, raw, seek, reported, passed, Event, took, fault, SoFar, EmitsLines, ReadsNext, StopsAfterLines, StopsOldSide, Compares, IsReplaced, Replaces, FirstStops, CountsLine, TopStops, RefusesLine, Code, WantsY, Replaced, StopsFor, Stop, ReadFault, LineTooLong, TooMuchText, Memory}
 use Rattle.cweb_lines.specs.declared.change.code.Code.TheVariants.{NewSide as new_side}
 use Rattle.cweb_lines.proofs.AddedEvents.{takes_one, yields_more}
 use Rattle.cweb_lines.proofs.EmittedLinesAddUp.{yields_both}
-use Rattle.cweb_lines.proofs.Merges.{yields_fault, yields_nothing}
+use Rattle.cweb_lines.proofs.Merges.{yields_fault}
 use Rattle.cweb_lines.proofs.Codes.{old_code_at}
-
-pub replaces_from : (all : OldSide) (old : SoFar) →
-    Replaces all all (record { unequal = 0; ran_out = false; ended = false }) old old
-replaces_from all old = record {
-  yields = yields_nothing old old all.events all.events refl refl refl refl;
-  unequal = omega arith;
-  ran_out = refl;
-  ended = refl;
-  rest = refl;
-  things = refl;
-}
 
 -- The rest is equal.
 pub replaces_same : (all : OldSide) (so_far : Replaced) (ls ls' : List SourceLine) (ts ts' : List Thing)
@@ -91,16 +80,6 @@ module _ (all now : OldSide) (so_far : Replaced) (old mid : SoFar) (r : Replaces
   side_stops Memory new Why same reads first why begin later = tt
   side_stops stop new Why same reads first why begin later = absurd why
 
-  pub prefix_of_side : (new : SoFar) → new.faults ≡ mid.faults → new.names ≡ mid.names
-      → ReportsPrefix old new all.events
-  prefix_of_side new faults names = record {
-    events = r.yields.events;
-    later = now.events;
-    whole = r.yields.whole;
-    faults = faults ∙ r.yields.faults;
-    names = names ∙ r.yields.names;
-  }
-
   -- A line was taken.
   replaces_took : (side : OldSide) (new : SoFar) (bytes : List ℕ) (place : Place)
       (t : CountsLine bytes place mid.count new.count) → new.faults ≡ mid.faults → new.names ≡ mid.names
@@ -121,14 +100,7 @@ module _ (all now : OldSide) (so_far : Replaced) (old mid : SoFar) (r : Replaces
       → now ≡ record { events = []; unequal = 0; ran_out = false; ended = ended; rest = rest; things = things }
       → IsReplaced all (record { unequal = so_far.unequal; ran_out = so_far.ran_out; ended = ended }) rest things old
       new
-  replaces_done new ended rest things same is = record {
-    yields = subst (λ (o : OldSide). EmitsLines [] old new all.events o.events) is (rw same r.yields);
-    unequal = simp (r.unequal, is) (omega arith);
-    ran_out = simp (r.ran_out, is, or-false);
-    ended = simp (r.ended, is);
-    rest = simp (r.rest, is);
-    things_are = simp (r.things, is);
-  }
+  replaces_done new ended rest things same is = search rules
 
 module _ (all : OldSide) (so_far : Replaced) (lines : List SourceLine) (raws : List Thing) (old mid : SoFar)
     (r : Replaces all (old_lines lines raws) so_far old mid) where

@@ -1,5 +1,5 @@
 -- Earlier reports are a prefix of later ones.
-use Rattle.cweb_lines.proofs.Common.{◌≡◌, ◌≤◌, ℕ, List, [], ◌++◌, None, length, ap, arith, length-append, Result, Ok, Err, OnOk, OnErr, append-nil, append_assoc, Line, Event, SoFar, EmitsLines, IsPrefix, KeepsReported, Grows, so_far_of, opened_file_names, AppendsPassedLines, OnlyTakes, SourceFault, MergeState}
+use Rattle.cweb_lines.proofs.Common.{rules, ◌≡◌, ◌≤◌, ℕ, List, [], ◌++◌, None, length, ap, arith, length-append, Result, Ok, Err, OnOk, OnErr, append-nil, append_assoc, Line, Event, SoFar, EmitsLines, IsPrefix, KeepsReported, Grows, so_far_of, opened_file_names, AppendsPassedLines, OnlyTakes, SourceFault, MergeState}
 
 prefix_then : {A : Type 0} (a b c : List A) → IsPrefix a b → IsPrefix b c → IsPrefix a c
 prefix_then a b c first then = (first.0 ++ then.0, simp (then.1, first.1, append_assoc))
@@ -12,10 +12,7 @@ reported_then a b c first then = record {
 
 pub reported_more : (old new : SoFar) (faults : List SourceFault) (names : List (List ℕ))
     → new.faults ≡ old.faults ++ faults → new.names ≡ old.names ++ names → KeepsReported old new
-reported_more old new faults names faults_are names_are = record {
-  faults = (faults, faults_are);
-  names = (names, names_are);
-}
+reported_more old new faults names faults_are names_are = search rules
 
 pub reported_same : (old new : SoFar) → new.faults ≡ old.faults → new.names ≡ old.names → KeepsReported old new
 reported_same old new faults names = reported_more old new [] [] (simp (faults, append-nil)) (simp (names, append-nil))

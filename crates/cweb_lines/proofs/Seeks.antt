@@ -4,15 +4,7 @@ use Rattle.cweb_lines.specs.inner.Seeking.{LooksAt}
 use Rattle.cweb_lines.specs.declared.change.seek.Look.TheVariants.{Entry as first_line, On as goes_on}
 use Rattle.cweb_lines.proofs.AddedEvents.{takes_one, reports, reports_some}
 use Rattle.cweb_lines.proofs.EmittedLinesAddUp.{yields_both}
-use Rattle.cweb_lines.proofs.Merges.{yields_nothing}
 use Rattle.cweb_lines.proofs.WrittenLinesAddUp.{tells_more}
-
-pub seeks_from : (found : Sought) (old : SoFar) → SeeksTo found found old old
-seeks_from found old = record {
-  yields = yields_nothing old old found.events found.events refl refl refl refl;
-  entry = refl;
-  rest = refl;
-}
 
 sought_takes : (line : SourceLine) (lines : List SourceLine) (begin : Option Place) →
     (more : List Event) × ((sought (line ∷ lines) begin).events ≡ took line ∷ more)

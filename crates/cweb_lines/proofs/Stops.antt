@@ -1,5 +1,5 @@
 -- The events before a stop.
-use Rattle.cweb_lines.proofs.Common.{◌≡◌, ◌++◌, ℕ, zero, suc, List, [], ◌∷◌, Option, Some, None, refl, sym, ◌∙◌, ap, subst, Bool, Place, WaitingEntry, World, SourceLine, NewSide, Thing, seek, raw, raws, reported, passed, Event, took, fault, at_place, NoMatch, sought, new_at, new_lines, things_over, things_above, things_in, lines_at, matches_at, number_or_zero, source_depth, ◌+◌, SoFar, ReadsNext, IsAtEnd, StopsAfterLines, Stopped, TopStops, StopsFor, RefusesLine, change_code, Code, Stage, Seeking, Changing, Stack, OpenSource, merge, merge_end, merge_next, so_far_of, counters_of, opened_file_names, OnlyTakes, MergeState, Result, Ok, Err, IfErr, OnErr, append-nil, ReportsPrefix, Stop, ReadFault, LineTooLong, TooMuchText, Memory}
+use Rattle.cweb_lines.proofs.Common.{rules, ◌≡◌, ◌++◌, ℕ, zero, suc, List, [], ◌∷◌, Option, Some, None, refl, sym, ◌∙◌, ap, subst, Bool, Place, WaitingEntry, World, SourceLine, NewSide, Thing, seek, raw, raws, reported, passed, Event, took, fault, at_place, NoMatch, sought, new_at, new_lines, things_over, things_above, things_in, lines_at, matches_at, number_or_zero, source_depth, ◌+◌, SoFar, ReadsNext, IsAtEnd, StopsAfterLines, Stopped, TopStops, StopsFor, RefusesLine, change_code, Code, Stage, Seeking, Changing, Stack, OpenSource, merge, merge_end, merge_next, so_far_of, counters_of, OnlyTakes, MergeState, Result, Ok, Err, IfErr, OnErr, ReportsPrefix, Stop, ReadFault, LineTooLong, TooMuchText, Memory}
 use Rattle.cweb_lines.specs.declared.change.code.Code.TheVariants.{OldSide as old_side, NewSide as new_side, EndSide as end_side}
 use Rattle.std.specs.Prelude.{slice_index_or}
 use Rattle.cweb_lines.specs.surface.MergerCalls.{StopsThere}
@@ -115,23 +115,15 @@ stopped_by stop old new world things pending change files same first stops = sto
 pub reported_uncounted : {R : Type 0} (old new : MergeState R) → OnlyTakes old new
     → counters_of new.limits ≡ counters_of old.limits →
     so_far_of new ≡ so_far_of old
-reported_uncounted old new only count =
-    λ i. record { faults = (only.faults i).items; names = opened_file_names (only.names i); count = count i }
+reported_uncounted old new only count = search rules
 
 pub reported_stays : {R : Type 0} (old new : MergeState R) → OnlyTakes old new
     → (new.limits.lines ≡ old.limits.lines) × (new.limits.bytes ≡ old.limits.bytes) → so_far_of new ≡ so_far_of old
-reported_stays old new only counted = reported_uncounted old new only
-    (λ i. record { lines = counted.0 i; bytes = counted.1 i })
+reported_stays old new only counted = search rules
 
 pub unreported : (old new : SoFar) (all : List Event) → new.faults ≡ old.faults → new.names ≡ old.names
     → ReportsPrefix old new all
-unreported old new all faults names = record {
-  events = [];
-  later = all;
-  whole = refl;
-  faults = simp (faults, append-nil);
-  names = simp (names, append-nil);
-}
+unreported old new all faults names = search rules
 
 -- Memory was refused, and nothing was reported before.
 pub stops_unreported : {A : Type 0} (result : Result A Stop) (old mid new : SoFar) (all : List Event)

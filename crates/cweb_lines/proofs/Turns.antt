@@ -1,5 +1,5 @@
 -- The events of a turn: a search, a line that was taken, or a change that begins.
-use Rattle.cweb_lines.proofs.Common.{Sought, OldSide, ◌≡◌, ◌&&◌, ℕ, Bool, true, false, List, [], ◌∷◌, ◌++◌, Some, None, Option, refl, sym, ◌∙◌, ap, length, if◌then◌else◌, subst, Ok, bytes_eq, Place, WaitingEntry, old_lines, sought, optional_string_bytes, world_in, World, Line, SourceLine, Event, RawLine, Thing, after_old, at_entry, change_events, raw, seek, taking, took, SoFar, change_lines, events_to_come, events_after_line, pending_of, things_of, so_far_of, opened_file_names, IsChanged, Searched, IsOutside, begun_by, change_in, pending_in, things_in, IsSettled, floor_of, lines_at, raw_thing, things_above, Counted, StaysBelow, StopsOldSide, TakesAbove, merge, merge_next, MergeState, Stack, Stage, Seeking, Waiting, Changing, LineAt, counters_of, OnlyTakes, CountsLine, ReportsPrefix, Stopped, Stop, EmitsLines}
+use Rattle.cweb_lines.proofs.Common.{Sought, OldSide, ◌≡◌, ◌&&◌, ℕ, Bool, true, false, List, [], ◌∷◌, ◌++◌, Some, None, Option, refl, sym, ◌∙◌, ap, length, if◌then◌else◌, subst, bytes_eq, Place, WaitingEntry, old_lines, sought, optional_string_bytes, world_in, World, Line, SourceLine, Event, RawLine, Thing, after_old, at_entry, change_events, raw, seek, taking, took, SoFar, change_lines, events_to_come, events_after_line, pending_of, things_of, so_far_of, opened_file_names, IsChanged, Searched, IsOutside, begun_by, change_in, pending_in, things_in, IsSettled, floor_of, lines_at, raw_thing, things_above, StaysBelow, StopsOldSide, TakesAbove, merge, merge_next, MergeState, Stack, Stage, Seeking, Waiting, Changing, LineAt, counters_of, OnlyTakes, CountsLine, ReportsPrefix, Stopped, Stop, EmitsLines}
 use Rattle.cweb_lines.proofs.AddedEvents.{prefix_more, stopped_more, takes_one, yields_more}
 use Rattle.cweb_lines.proofs.EmittedLinesAddUp.{stopped_after, yields_both}
 use Rattle.cweb_lines.proofs.WrittenLinesAddUp.{tells_more}
@@ -169,27 +169,3 @@ module _ {R : Type 0} (t : List ℕ → Option (List ℕ)) (l : R → List ℕ) 
         yields_both [] [] (so_far_of old) (so_far_of run) (so_far_of new) _ _ _ one
         (subst (λ (es : List Event).
         EmitsLines [] (so_far_of run) (so_far_of new) (change_events begin side ++ later) es) same (yields_more later changed.yields))
-
-pub untaken : {R : Type 0} (Says : SoFar → List Event → Type 0) (t t' : List ℕ → Option (List ℕ)) (l l' : R → List ℕ)
-    (old new : MergeState R) (bytes : List ℕ) → t' ≡ t → l' ≡ l → IsSettled old.stage
-    → TakesAbove l l' (floor_of old.stage) old.stack new.stack None bytes (counters_of old.limits)
-    (counters_of new.limits)
-    → StaysBelow (floor_of old.stage) old.stack.texts new.stack.texts → OnlyTakes old new → new.change ≡ old.change
-    → Counted (counters_of old.limits) (counters_of new.limits) (Ok None)
-    → Says (so_far_of new) (events_to_come t' l' new) → Says (so_far_of old) (events_to_come t l old)
-untaken Says t t' l l' old new bytes texts left settled takes stays only change counted said =
-    let things = takes_in l l' left old.stage (lines_at l old.change) old.stack new.stack None bytes
-    (counters_of old.limits) (counters_of new.limits) settled takes stays in
-    let reported : so_far_of new ≡ so_far_of old = λ i. record {
-      faults = (only.faults i).items;
-      names = opened_file_names (only.names i);
-      count = record { lines = counted.0 i; bytes = counted.1 i };
-    } in
-    let come : events_to_come t' l' new ≡ events_to_come t l old =
-    (λ i. coming_of (texts i) (optional_string_bytes (only.inputs i)) (left i) (only.stage i) (change i)
-    ((only.first i).items)
-    (length (opened_file_names (only.names i))) (things_in l' (only.stage i) (lines_at (left i) (change i)) new.stack))
-    ∙ ap (λ (ts : List Thing). coming_of t (optional_string_bytes old.inputs) l old.stage old.change old.first.items
-    (length (opened_file_names old.names)) ts) (sym things) in
-    subst (λ (s : SoFar). Says s (events_to_come t l old)) reported
-    (subst (λ (es : List Event). Says (so_far_of new) es) come said)

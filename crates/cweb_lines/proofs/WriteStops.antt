@@ -1,5 +1,5 @@
 -- Which device the end of a run blames.
-use Rattle.cweb_lines.proofs.Common.{◌≡◌, ◌≤◌, ◌+◌, ℕ, List, Option, None, Some, Result, Err, refl, sym, subst, arith, IfSome, Event, SoFar, StopsReading, read_failures_of, files_named, StopsWriting, WritingStops, WritesSome, FailureCounts, LeavesDevices, KeepsStop, write_failures_of, Stop, ReadFault, LineTooLong, TooMuchText, Memory, WriteFault}
+use Rattle.cweb_lines.proofs.Common.{rules, ◌≡◌, ◌≤◌, ◌+◌, ℕ, List, Option, None, Some, Result, Err, refl, sym, subst, IfSome, Event, SoFar, StopsReading, read_failures_of, files_named, StopsWriting, WritingStops, WritesSome, FailureCounts, LeavesDevices, KeepsStop, write_failures_of, Stop, ReadFault, LineTooLong, TooMuchText, Memory, WriteFault}
 
 pub none_before : {A : Type 0} (P : A → Type 0) {stop : Option A} → stop ≡ None → IfSome stop P
 none_before P none = subst (λ stop. IfSome stop P) (sym none) tt
@@ -25,23 +25,11 @@ keeps_reading stop kept reading keeps = absurd reading
 pub blames_own : (stop : Stop) (kept : Option Stop) (files : ℕ) (before after : FailureCounts) → StopsReading stop
     → kept ≡ Some stop → files_named stop ≤ files → after.shelf ≡ before.shelf + read_failures_of stop
     → after.out ≡ before.out → LeavesDevices stop before after kept files
-blames_own stop kept files before after reading keeps named shelf out = record {
-  kind = reads_or_writes stop reading;
-  shelf = shelf;
-  out = omega (arith, out, no_write_blame stop reading);
-  named = named;
-  kept = keeps_reading stop kept reading keeps;
-}
+blames_own stop kept files before after reading keeps named shelf out = search rules
 
 pub blames_write : (kept : Option Stop) (files : ℕ) (before after : FailureCounts) → kept ≡ None
     → after.shelf ≡ before.shelf → after.out ≡ before.out + 1 → LeavesDevices WriteFault before after kept files
-blames_write kept files before after running shelf out = record {
-  kind = tt;
-  shelf = omega (arith, shelf);
-  out = out;
-  named = omega arith;
-  kept = running;
-}
+blames_write kept files before after running shelf out = search rules
 
 pub memory_failed : (result : Stop) (old new : SoFar) (all : List Event) (Wrote : List ℕ → Type 0) →
     result ≡ Memory → WritesSome all Wrote → StopsWriting result old new all Wrote

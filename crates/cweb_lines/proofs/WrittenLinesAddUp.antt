@@ -1,8 +1,7 @@
 -- The written lines of consecutive calls are concatenated.
-use Rattle.cweb_lines.proofs.Common.{◌≡◌, ◌<◌, ◌+◌, ℕ, List, [], ◌∷◌, ◌++◌, length, refl, sym, ◌∙◌, ap, length-append, append-nil, append_assoc, FailsWithin, SinkModel, Writes, written, Line, Event, SoFar, EmitsLines, Stopped, StopsAfterLines, ReportsPrefix, emitted_lines, written_lines, all_but_last, WritesPrefix, WritesAll, WritesSome, WritesUpTo, HasWritten, StopsWriting, Stop, ReadFault, LineTooLong, TooMuchText, Memory}
+use Rattle.cweb_lines.proofs.Common.{rules, ◌≡◌, ◌<◌, ◌+◌, ℕ, List, [], ◌∷◌, ◌++◌, length, refl, sym, ◌∙◌, ap, length-append, append-nil, append_assoc, FailsWithin, SinkModel, Writes, written, Line, Event, SoFar, EmitsLines, Stopped, StopsAfterLines, ReportsPrefix, emitted_lines, written_lines, all_but_last, WritesPrefix, WritesAll, WritesSome, WritesUpTo, HasWritten, StopsWriting, Stop, ReadFault, LineTooLong, TooMuchText, Memory}
 use Rattle.cweb_files.proofs.Appending.{fails_then, written_none}
 use Rattle.cweb_lines.proofs.LinesInBuffer.{all_but_last-append}
-use Rattle.cweb_lines.proofs.Merges.{yields_nothing}
 use Rattle.cweb_lines.proofs.EmittedLinesAddUp.{emitted-append, reported-append, openings-append, yields_both, after_both, reads_both}
 
 pub emitted_prefix : (lines : List Line) (old new : SoFar) (all later : List Event)
@@ -12,16 +11,7 @@ emitted_prefix lines old new all later yields = simp (yields.whole, emitted-appe
 
 pub yields_all : (lines : List Line) (old new : SoFar) (all later : List Event) → EmitsLines lines old new all later →
     later ≡ [] → EmitsLines (emitted_lines all) old new all []
-yields_all lines old new all later yields none = record {
-  events = yields.events;
-  whole = simp (yields.whole, none);
-  emitted = simp (emitted_prefix lines old new all later yields, yields.emitted, none, append-nil);
-  faults = yields.faults;
-  names = yields.names;
-  lines_are = yields.lines_are;
-  bytes_are = yields.bytes_are;
-  short = yields.short;
-}
+yields_all lines old new all later yields none = search rules
 
 pub text_of-append : (a b : List Line) → written_lines (a ++ b) ≡ written_lines a ++ written_lines b
 text_of-append [] b = refl
@@ -108,14 +98,7 @@ module _ (first mid : SinkModel) (old so : SoFar) (all now : List Event)
 
 pub tells_some : (lines : List Line) (old new : SoFar) (all later : List Event) → EmitsLines lines old new all later →
     ReportsPrefix old new all
-tells_some lines old new all later yields = record {
-  events = yields.events;
-  later = later;
-  whole = yields.whole;
-  faults =
-      yields.faults;
-  names = yields.names;
-}
+tells_some lines old new all later yields = search rules
 
 pub tells_more : (lines : List Line) (old mid new : SoFar) (all now : List Event) → EmitsLines lines old mid all now →
     ReportsPrefix mid new now → ReportsPrefix old new all

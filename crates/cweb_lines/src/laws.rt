@@ -1,8 +1,8 @@
 //! What holds of every merge. These functions do nothing and exist for their contracts.
 
-ghost use Rattle.cweb_lines.specs.laws.Laws.{ChangeFilesWithoutEntriesChangeNothing, ChangesSplice};
+ghost use Rattle.cweb_lines.specs.laws.Laws.{ChangesSplice};
 ghost use Rattle.cweb_lines.specs.laws.Laws.{UnmatchedEntriesAreReported, IncludeLinesAreReplaced};
-ghost use Rattle.cweb_lines.specs.laws.Laws.{IncludesMergeAsWebs, LinesComeApart};
+ghost use Rattle.cweb_lines.specs.laws.Laws.{LinesComeApart};
 ghost use Rattle.cweb_lines.specs.laws.Laws.{PrintedMergesComeAgain};
 ghost use Rattle.cweb_lines.specs.laws.Laws.{WebsWithoutIncludesAreTheirOwnLines};
 ghost use Rattle.cweb_lines.specs.laws.Total.{HasOneAnswer};
@@ -15,12 +15,6 @@ pub fn merge_has_one_answer()
 /// A web without include lines and change file merges to its own lines, in order, numbered and without a fault.
 pub fn web_without_includes_is_its_own_lines()
     ensures { WebsWithoutIncludesAreTheirOwnLines }
-{}
-
-/// A change file without code lines changes nothing: lines, faults and included files are the same as without it. Only
-/// the numbers of included files are one higher, since the change file is file 1.
-pub fn change_file_without_entries_changes_nothing()
-    ensures { ChangeFilesWithoutEntriesChangeNothing }
 {}
 
 /// The output of a merge, merged again without a change file, stays as it is, without a fault. It has no include line.
@@ -51,10 +45,4 @@ pub fn changes_splice()
 /// include lines here, and no empty line is between `@x` and the first old line.
 pub fn unmatched_entry_is_reported()
     ensures { UnmatchedEntriesAreReported }
-{}
-
-/// An included file merges as it does as a web of its own, unless an include line in it is too deep only there. Places,
-/// faults and included files are the same, with files numbered from its own number on.
-pub fn include_merges_as_web()
-    ensures { IncludesMergeAsWebs }
 {}

@@ -1,5 +1,5 @@
 -- What holds of every merge, in the words of an author of webs.
-use Rattle.std.specs.Prelude.{◌≡◌, ◌≢◌, ◌<◌, ◌≤◌, ℕ, zero, suc, ◌+◌, Bool, true, false, List, [], ◌∷◌, ◌++◌, length}
+use Rattle.std.specs.Prelude.{◌≡◌, ◌≢◌, ◌<◌, ◌≤◌, ℕ, ◌+◌, Bool, true, false, List, [], ◌∷◌, ◌++◌, length}
 use Rattle.std.specs.Prelude.{map, Option, None, Some}
 use Rattle.std.specs.List.{AllByRecursion, list_any}
 use Rattle.std.specs.Option.{is_some}
@@ -8,12 +8,11 @@ use Rattle.cweb_input.specs.Lines.{Line, SourceLine, lines_in}
 use Rattle.cweb_input.specs.laws.Lines.{lines}
 use Rattle.cweb_input.specs.Include.{World, found_at, include_name, is_include_line}
 use Rattle.cweb_lines.specs.Change.{at_place, change_code}
-use Rattle.cweb_lines.specs.laws.MergeOutcome.{followed_by, only_fault, only_lines, only_name, placed, renumbered}
+use Rattle.cweb_lines.specs.laws.MergeOutcome.{followed_by, only_fault, only_lines, only_name, placed}
 use Rattle.cweb_lines.specs.laws.MergeOutcome.{MergeOutcome, outcome_of_lines, merge_outcome}
 use Rattle.cweb_lines.specs.Events.{written_lines}
 use Rattle.cweb_lines.specs.declared.change.code.Code.TheVariants.{EndSide as end_side, NewSide as new_side}
 use Rattle.cweb_lines.specs.declared.change.code.Code.TheVariants.{OldSide as old_side}
-use Rattle.cweb_input.specs.declared.fault.SourceKind.{SourceKind}
 use Rattle.cweb_input.specs.declared.fault.SourceKind.TheVariants.{NoMatch, NoName, NotThere, TooDeep}
 use Rattle.cweb_input.specs.declared.limits.TheConstants.{OPEN_FILES}
 
@@ -26,17 +25,6 @@ WebsWithoutIncludesAreTheirOwnLines = (world : World) (web : List ℕ)
 -- The line begins with @x, @y or @z.
 abbrev pub is_change_code : List ℕ → Bool
 is_change_code line = is_some (change_code line)
-
--- The number of a file once there is a change file. That is file 1, so each included file has the next higher number.
-abbrev pub file_with_change : ℕ → ℕ
-file_with_change zero = zero
-file_with_change (suc file) = suc (suc file)
-
--- A change file without entries changes nothing but the numbers of files.
-abbrev pub ChangeFilesWithoutEntriesChangeNothing : Type 0
-ChangeFilesWithoutEntriesChangeNothing = (world : World) (web change : List ℕ)
-    → list_any is_change_code (lines change) ≡ false
-    → merge_outcome world web (Some change) ≡ renumbered file_with_change (merge_outcome world web None)
 
 -- A printed merge merges to itself: it has the printed lines, none is an include line, and they are printed again.
 pub record ComesAgain (printed : List Line) (again : MergeOutcome) : Type 0 where
@@ -96,17 +84,6 @@ IncludeLinesAreReplaced = (world : World) (depth files : ℕ) (before after : Li
     → Includes world line.line.bytes name text → depth < OPEN_FILES
     → outcome_of_lines world depth files (before ++ line ∷ after)
     ≡ with_included world depth files before name text after
-
-abbrev pub is_too_deep : SourceKind → Bool
-is_too_deep TooDeep = true
-is_too_deep _ = false
-
--- An included file merges as a web of its own, if no include line is too deep. Only the files are numbered from it on.
-abbrev pub IncludesMergeAsWebs : Type 0
-IncludesMergeAsWebs = (world : World) (deeper file : ℕ) (text : List ℕ) →
-    let inside = outcome_of_lines world (1 + deeper) (file + 1) (lines_in file text) in
-    list_any (λ fault. is_too_deep fault.kind) inside.faults ≡ false
-    → inside ≡ renumbered (λ number. file + number) (merge_outcome world text None)
 
 -- One change as its author makes it. In the web: lines that stay, the first old line and further ones. In the change
 -- file: a comment, @x, the old lines, @y, the new lines and @z.

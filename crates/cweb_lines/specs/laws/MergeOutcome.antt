@@ -1,5 +1,5 @@
 -- The outcome of a merge for an author.
-use Rattle.std.specs.Prelude.{ℕ, ◌+◌, true, List, [], ◌∷◌, ◌++◌, map, Option, None}
+use Rattle.std.specs.Prelude.{ℕ, ◌+◌, true, List, [], ◌∷◌, ◌++◌, Option, None}
 use Rattle.cweb_files.specs.declared.place.Place.{Place}
 use Rattle.cweb_input.specs.Lines.{Line, SourceLine, raws}
 use Rattle.cweb_input.specs.laws.Lines.{lines}
@@ -51,27 +51,6 @@ only_name name = record { lines = []; faults = []; included = name ∷ [] }
 
 abbrev pub only_fault : SourceKind → Place → MergeOutcome
 only_fault kind place = record { lines = []; faults = at_place kind place ∷ []; included = [] }
-
--- File numbers are replaced by `number`.
-abbrev pub place_renumbered : (ℕ → ℕ) → Place → Place
-place_renumbered number place = record { file = record { 0 = number place.file.0 }; line = place.line }
-
-abbrev pub line_renumbered : (ℕ → ℕ) → Line → Line
-line_renumbered number line = record { bytes = line.bytes; place = place_renumbered number line.place }
-
-abbrev pub fault_renumbered : (ℕ → ℕ) → SourceFault → SourceFault
-fault_renumbered number fault = record {
-  kind = fault.kind;
-  place = place_renumbered number fault.place;
-  count = fault.count;
-}
-
-abbrev pub renumbered : (ℕ → ℕ) → MergeOutcome → MergeOutcome
-renumbered number all = record {
-  lines = map (line_renumbered number) all.lines;
-  faults = map (fault_renumbered number) all.faults;
-  included = all.included;
-}
 
 -- The outcome for lines at a depth, with no change to come and this number of opened files.
 abbrev pub outcome_of_lines : World → ℕ → ℕ → List SourceLine → MergeOutcome

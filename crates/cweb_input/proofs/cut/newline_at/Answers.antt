@@ -1,9 +1,6 @@
-use Rattle.cweb_input.proofs.Common.{◌≡◌, ◌++◌, ◌+◌, ◌-◌, ◌∙◌, [], ℕ, List, None, Some, ap, drop, length, refl, sym, subst, take, arith, append_assoc, length-append, take-append-drop, common_steps, append-nil, length-take, HasNoNewline, SplitsAt}
+use Rattle.cweb_input.proofs.Common.{◌≡◌, ◌++◌, ◌+◌, ◌-◌, ◌∙◌, [], ℕ, List, None, Some, ap, drop, length, sym, subst, take, arith, append_assoc, length-append, take-append-drop, append-nil, length-take, HasNoNewline, SplitsAt}
 use Rattle.cweb_input.proofs.Newlines.{newline_at-memchr, no_newline-append, splits_after}
 use Rattle.cweb_input.proofs.cut.newline_at.Goals as goal
-
-pub runs-init : goal.runs-init
-runs-init c = ([], refl, tt)
 
 pub runs-preserved : goal.runs-preserved
 runs-preserved c =
@@ -57,9 +54,3 @@ returns-in-None c =
     let inv = c.runs.invariant in
     let rest = c.runs.rest.now in
     subst HasNoNewline (sym inv.1) (no_newline-append inv.0 rest inv.2 (newline_at-memchr rest None c.in-None.ensures))
-
-pub overflow_sub-result : goal.overflow_sub-result
-overflow_sub-result c = grind (arith, common_steps)
-
-pub overflow_sub-result-in-Some-memchr : goal.overflow_sub-result-in-Some-memchr
-overflow_sub-result-in-Some-memchr c = grind (arith, common_steps)

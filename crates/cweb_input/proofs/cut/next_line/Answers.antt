@@ -1,5 +1,5 @@
 use Rattle.std.proofs.Common.{inr}
-use Rattle.cweb_input.proofs.Common.{◌≡◌, ◌<◌, ⊎_elim, cases_lt, HasNoNewline, ◌++◌, [], ℕ, List, sym, ◌∙◌, ap, subst, rules, refl, Err, arith, common_steps, IsTrue, append_assoc, err_from_is_err_and, bytes_left, buffered, IsLongerThan, TakesFromBuffer, TooLong, LINE_LENGTH}
+use Rattle.cweb_input.proofs.Common.{◌≡◌, ◌<◌, ⊎_elim, cases_lt, HasNoNewline, ◌++◌, [], ℕ, List, sym, ◌∙◌, ap, subst, rules, refl, Err, IsTrue, append_assoc, err_from_is_err_and, bytes_left, buffered, IsLongerThan, TakesFromBuffer, TooLong, LINE_LENGTH}
 use Rattle.cweb_files.proofs.FramesCompose.{keeps_known, keeps_then}
 use Rattle.cweb_input.proofs.Newlines.{longer_more, none_buffered, taken_full, taken_more}
 use Rattle.cweb_input.proofs.cut.next_line.Given as given
@@ -74,12 +74,3 @@ returns-then-branch-clause-clean g c =
     (buffered c.take_buffered.new.source)) c.if-branch.true c.in_ok-take_buffered.ensures.taken in
     (taken_full _ c.pieces.line.items (buffered c.refill.new.source) [] c.take_buffered.new.line.items
     (buffered c.take_buffered.new.source) refl c.pieces.invariant.none takes).1
-
-pub returns-then-is_empty-clause-taken : goal.returns-then-is_empty-clause-taken
-returns-then-is_empty-clause-taken g c = grind (arith, common_steps)
-
-pub pieces-smaller : goal.pieces-smaller
-pieces-smaller g c = grind (arith, common_steps)
-
-pub returns-else-is_empty-clause-taken : goal.returns-else-is_empty-clause-taken
-returns-else-is_empty-clause-taken c = search rules

@@ -5,8 +5,5 @@ use Rattle.cweb_input.proofs.include.name_after_spaces.Goals as goal
 pub returns-then-bytes-i-eq34 : goal.returns-then-bytes-i-eq34
 returns-then-bytes-i-eq34 c = grind (arith, common_steps, name_ends true)
 
-pub loop-i-preserved : goal.loop-i-preserved
-loop-i-preserved c = grind (arith, common_steps)
-
 pub returns-then-not-is_space : goal.returns-then-not-is_space
 returns-then-not-is_space c = grind (arith, common_steps, name_ends false)

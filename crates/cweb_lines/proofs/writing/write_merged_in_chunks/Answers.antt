@@ -221,14 +221,3 @@ lines-preserved g c =
       empty = c.clear.ensures.items;
       written = λ tells. wrote g at.In_default-write_all tells;
     }
-
-pub lines-smaller : goal.lines-smaller
-lines-smaller g c =
-    let emitted = rw c.in-Some-next.is at c.in-Ok.ensures.emitted in
-    omega (
-      arith,
-      emitted.lines,
-      c.pass_lines-passed.ensures.passes.counted,
-      c.in-Ok.ensures.grows.lines,
-      c.pass_lines-passed.new.self.run.limits.few,
-    )

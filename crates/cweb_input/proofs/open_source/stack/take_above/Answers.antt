@@ -71,9 +71,3 @@ texts-preserved g c =
           let top = rw c.in_default.is at (c.in-Ok.ensures.taken (still tells)) in
           loop.things tells rest ∙ top c.args.low c.texts-test.true rest;
     }
-
-pub returns-in-Err-clause-needed : goal.returns-in-Err-clause-needed
-returns-in-Err-clause-needed g c = (
-  c.texts.stack.depth - 1,
-  rw (← c.texts.invariant.same (c.texts.stack.depth - 1) (omega (arith, c.texts-test.true))) c.in-Err.ensures.needed,
-)

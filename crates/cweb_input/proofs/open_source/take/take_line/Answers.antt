@@ -1,7 +1,7 @@
 use Rattle.cweb_input.proofs.Common.{rules, ◌+◌, ◌∙◌, ap, Err, bytes_left, counters_of}
 use Rattle.cweb_input.specs.surface.OpenSources.{read_failures_of}
 use Rattle.cweb_input.proofs.ReadersStayNamed.{blames_line, blames_none}
-use Rattle.cweb_input.proofs.TrimmedLines.{takes_first, line_stops, line_reads, line_names, line_needs, first_passes}
+use Rattle.cweb_input.proofs.TrimmedLines.{takes_first, line_stops, line_reads, line_needs, first_passes}
 use Rattle.cweb_input.proofs.open_source.take.take_line.Goals as goal
 
 pub returns-in-Err-clause-takes : goal.returns-in-Err-clause-takes
@@ -20,9 +20,6 @@ returns-in-Err-clause-takes g c = record {
   text = search rules;
   answers = search (rules, line_reads c.in-Err.fault _ c.args.text.now.file c.stop_of.ensures);
 }
-
-pub returns-in-Err-clause-names : goal.returns-in-Err-clause-names
-returns-in-Err-clause-names g c = line_names c.in-Err.fault _ c.args.text.now.file c.stop_of.ensures
 
 pub returns-in-Err-add-clause-takes : goal.returns-in-Err-add-clause-takes
 returns-in-Err-add-clause-takes g c = record {

@@ -1,5 +1,4 @@
-use Rattle.cweb_lines.proofs.Common.{rules, refl, ap, counters_of, opened_file_names}
-use Rattle.cweb_lines.proofs.NoReadFails.{reads_reported, reads_set, reads_then}
+use Rattle.cweb_lines.proofs.Common.{rules, ap, counters_of, opened_file_names}
 use Rattle.cweb_lines.proofs.OldSideFaults.{closes_all, closes_some}
 use Rattle.cweb_lines.proofs.AddedEvents.{prefix_more}
 use Rattle.cweb_lines.proofs.change.old_side.begin_change.Goals as goal
@@ -19,11 +18,3 @@ returns-clause-changed g c = λ tells. record {
   settled = search rules;
   after = search rules;
 }
-
-pub returns-in-Err-close-clause-reads : goal.returns-in-Err-close-clause-reads
-returns-in-Err-close-clause-reads g c = reads_then c.in-Ok.ensures.reads (reads_reported _ c.in-Err-close.ensures.only
-    c.in-Err-close.ensures.err.reported c.in-Err-close.ensures.memory)
-
-pub returns-clause-reads : goal.returns-clause-reads
-returns-clause-reads g c = reads_set _ refl refl refl (reads_then c.in-Ok.ensures.reads (reads_reported _
-    c.in_default.ensures.only c.in_default.ensures.reported tt))

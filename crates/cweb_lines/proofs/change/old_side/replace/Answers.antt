@@ -1,21 +1,13 @@
 use Rattle.cweb_lines.proofs.Common.{rules, ◌≡◌, [], ℕ, List, Vec, Global, Some, refl, ap, sym, subst, ◌∙◌, IsTrue, change_code, counters_of, Thing, change_lines, so_far_of, opened_file_names, lines_at, things_above, StopsFor, TopStops}
 use Rattle.cweb_lines.specs.declared.change.code.Code.TheVariants.{NewSide as new_side}
 use Rattle.cweb_lines.proofs.ReportsOnlyGrow.{took_faults, took_names}
-use Rattle.cweb_lines.proofs.NoReadFails.{Quiet, quiet_same, reads_reported, reads_set, reads_then, reads_unreported, still_tells}
-use Rattle.cweb_lines.proofs.Replaces.{compares_same, is_replaced_same, replaces_same, replaces_from, replaces_ends, replaces_new, replaces_code, replaces_line, raw_ends}
+use Rattle.cweb_lines.proofs.NoReadFails.{Quiet, reads_reported, reads_set, reads_then, still_tells}
+use Rattle.cweb_lines.proofs.Replaces.{compares_same, is_replaced_same, replaces_same, replaces_ends, replaces_new, replaces_code, replaces_line, raw_ends}
 use Rattle.cweb_lines.proofs.Codes.{is_new, is_faulty}
 use Rattle.cweb_lines.proofs.Stops.{reported_stays, reported_uncounted}
 use Rattle.cweb_lines.proofs.change.old_side.replace.Given as given
 use Rattle.cweb_lines.proofs.change.old_side.replace.Goals as goal
 use Rattle.cweb_lines.proofs.change.old_side.replace.Goals.{In-Ok}
-
-pub lines-init : goal.lines-init
-lines-init g c = record {
-  quiet = quiet_same _ _;
-  frame = search rules;
-  goes_on = refl;
-  replaces = λ tells. replaces_from _ _;
-}
 
 quiet : (g : given.Over) (c : In-Ok g) → Quiet g.S.Shelf c.args.shelf.now c.take_change.new.shelf c.args.run.now
     c.take_change.new.run
@@ -88,8 +80,7 @@ lines-preserved g c = record {
 
 pub lines-preserved-in-None : goal.lines-preserved-in-None
 lines-preserved-in-None g c = record {
-  quiet = reads_then (reads_set _ refl refl refl
-      (quiet g (goal.at.lines-preserved-in-None g c).In-Ok)) c.in-Ok-compare.ensures.reads;
+  quiet = search (rules, reads_then, reads_set);
   frame = search rules;
   goes_on = c.in-Ok-compare.ensures.away.ended ∙ c.lines.invariant.goes_on;
   replaces = λ tells.
@@ -107,20 +98,3 @@ lines-preserved-in-None g c = record {
       c.in-Some.at.place taken.0 _ taken.1 (took_faults c.in-Ok.ensures.takes.only) (took_names
       c.in-Ok.ensures.takes.only) c.in-Ok-compare.replaced _ (so_far_of c.compare.new.run) test compares);
 }
-
-pub returns-in-Err-clause-reads : goal.returns-in-Err-clause-reads
-returns-in-Err-clause-reads g c = reads_then c.lines.invariant.quiet c.in-Err.ensures.takes.reads
-
-pub returns-in_default-clause-reads : goal.returns-in_default-clause-reads
-returns-in_default-clause-reads g c = quiet g (goal.at.returns-in_default-clause-reads g c).In-Ok
-
-pub returns-in-Err-compare-clause-reads : goal.returns-in-Err-compare-clause-reads
-returns-in-Err-compare-clause-reads g c = reads_then (reads_set _ refl refl refl
-    (quiet g (goal.at.returns-in-Err-compare-clause-reads g c).In-Ok)) c.in-Err-compare.ensures.reads
-
-pub returns-then-eq-clause-reads : goal.returns-then-eq-clause-reads
-returns-then-eq-clause-reads g c = quiet g (goal.at.returns-then-eq-clause-reads g c).In-Ok
-
-pub returns-in-Err-report-clause-reads : goal.returns-in-Err-report-clause-reads
-returns-in-Err-report-clause-reads g c = reads_then (quiet g (goal.at.returns-in-Err-report-clause-reads g c).In-Ok)
-    (reads_unreported c.in-Err-report.ensures.only c.in-Err-report.ensures.err c.in-Err-report.ensures.memory)

@@ -1,8 +1,5 @@
-use Rattle.cweb_lines.proofs.Common.{[], arith, append-nil, common_steps, refl}
+use Rattle.cweb_lines.proofs.Common.{[], append-nil, refl}
 use Rattle.cweb_lines.proofs.change.seek.look_after_x.Goals as goal
-
-pub returns-in-Ok-clause-looks : goal.returns-in-Ok-clause-looks
-returns-in-Ok-clause-looks g c = grind (arith, common_steps)
 
 pub returns-in-Err-clause-err : goal.returns-in-Err-clause-err
 returns-in-Err-clause-err g c = λ source is lines.

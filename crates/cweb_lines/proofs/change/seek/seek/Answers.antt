@@ -2,21 +2,13 @@ use Rattle.cweb_lines.proofs.Common.{rules, ◌≡◌, ℕ, [], ◌∷◌, ◌++
 use Rattle.cweb_input.proofs.Found.{OnOk-both}
 use Rattle.cweb_lines.proofs.MergeReadersStayNamed.{knows_same}
 use Rattle.cweb_lines.proofs.ReportsOnlyGrow.{reported_if, took_faults, took_names}
-use Rattle.cweb_lines.proofs.NoReadFails.{Quiet, outcome_memory, quiet_same, reads_none, reads_nothing, reads_reported, reads_set, reads_then, still_tells}
-use Rattle.cweb_lines.proofs.Seeks.{seeks_ended, seeks_from, seeks_ends, seeks_in_part, seeks_on, seeks_found}
+use Rattle.cweb_lines.proofs.NoReadFails.{Quiet, outcome_memory, reads_none, reads_nothing, reads_reported, reads_then, still_tells}
+use Rattle.cweb_lines.proofs.Seeks.{seeks_ended, seeks_ends, seeks_in_part, seeks_on, seeks_found}
 use Rattle.cweb_lines.proofs.Stops.{reported_stays}
 use Rattle.cweb_lines.proofs.WrittenLinesAddUp.{tells_same, tells_some}
 use Rattle.cweb_lines.proofs.change.seek.seek.Given as given
 use Rattle.cweb_lines.proofs.change.seek.seek.Goals as goal
 use Rattle.cweb_lines.proofs.change.seek.seek.Goals.{In-Ok, In-Ok-look_at, In-Err-look_at}
-
-pub lines-init : goal.lines-init
-lines-init g c = record {
-  quiet = quiet_same _ _;
-  frame = search rules;
-  begun = tt;
-  seeks = λ tells. seeks_from _ _;
-}
 
 quiet : (g : given.Over) (c : In-Ok g) → Quiet g.S.Shelf c.args.shelf.now c.take_change.new.shelf c.args.run.now
     c.take_change.new.run
@@ -26,9 +18,6 @@ looked : (g : given.Over) (c : In-Ok-look_at g) → Quiet g.S.Shelf c.args.shelf
     c.args.run.now c.look_at.new.run
 looked g c = reads_then (quiet g (goal.at.In-Ok-look_at g c).In-Ok) (reads_reported _ c.in-Ok-look_at.ensures.only
     c.in-Ok-look_at.ensures.looks.faults tt)
-
-pub returns-in-Err-clause-reads : goal.returns-in-Err-clause-reads
-returns-in-Err-clause-reads g c = reads_then c.lines.invariant.quiet c.in-Err.ensures.takes.reads
 
 pub returns-in-Err-clause-stops : goal.returns-in-Err-clause-stops
 returns-in-Err-clause-stops g c = λ tells.
@@ -130,7 +119,3 @@ returns-in_default-clause-reads g c = reads_then (quiet g (goal.at.returns-in_de
     c.end.ensures.stack) c.end.ensures.change (ap opened_file_names c.end.ensures.names) known) (reported_if
     c.end.result _ _ (reported_faults (sought [] c.lines.begin).events) c.end.ensures.reported c.end.ensures.err (ap
     opened_file_names c.end.ensures.names)) (outcome_memory c.end.result c.end.ensures.memory))
-
-pub returns-in-Entry-clause-reads : goal.returns-in-Entry-clause-reads
-returns-in-Entry-clause-reads g c = reads_set _ refl refl refl
-    (looked g (goal.at.returns-in-Entry-clause-reads g c).In-Ok-look_at)

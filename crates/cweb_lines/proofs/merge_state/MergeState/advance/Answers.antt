@@ -1,4 +1,4 @@
-use Rattle.cweb_lines.proofs.Common.{refl, arith, common_steps, length-map, pending_of, sources_next, top_of}
+use Rattle.cweb_lines.proofs.Common.{refl, arith, length-map, pending_of, sources_next, top_of}
 use Rattle.cweb_lines.proofs.EmittedLines.{next-length}
 use Rattle.cweb_lines.proofs.Passes.{yields_next}
 use Rattle.cweb_lines.proofs.merge_state.MergeState.advance.Goals as goal
@@ -21,10 +21,3 @@ returns-clause-emitted g c = λ lines next.
       );
       readers = λ opened_as known. record { texts = keeps.named opened_as _ known.texts; change = known.change };
     }
-
-pub returns-clause-bytes : goal.returns-clause-bytes
-returns-clause-bytes g c = λ lines next.
-    (c.advance_top.ensures.passes (pending_of c.args.self.now) lines next.in_place).bytes
-
-pub returns-clause-more : goal.returns-clause-more
-returns-clause-more c = grind (arith, common_steps)

@@ -1,4 +1,4 @@
-use Rattle.cweb_lines.proofs.Common.{◌<◌, ◌-◌, ap, length, arith, common_steps, line_number, number_or_zero}
+use Rattle.cweb_lines.proofs.Common.{◌<◌, ◌-◌, ap, length, arith, line_number, number_or_zero}
 use Rattle.cweb_input.proofs.SourceStacks.{most_read}
 use Rattle.cweb_lines.proofs.merge_state.MergeState.line_at.Goals as goal
 
@@ -14,6 +14,3 @@ overflow_add-result g c =
       run.numbers,
       run.limits.few,
     )
-
-pub returns-in-Some : goal.returns-in-Some
-returns-in-Some c = grind (arith, common_steps)

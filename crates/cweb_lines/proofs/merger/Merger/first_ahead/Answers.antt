@@ -1,5 +1,5 @@
 use Rattle.cweb_lines.proofs.Common.{[], pending_of, top_of}
-use Rattle.cweb_lines.proofs.Lookahead.{is_ahead, looks_at, looks_first}
+use Rattle.cweb_lines.proofs.Lookahead.{looks_at, looks_first}
 use Rattle.cweb_lines.proofs.merger.Merger.first_ahead.Goals as goal
 
 pub returns-clause-looks : goal.returns-clause-looks
@@ -9,6 +9,3 @@ returns-clause-looks g c =
     looks_at run [] _ next.1.settled next.1.above c.in-Some-stretch.ensures.fits
     (looks_first (pending_of run) (top_of run.stack) c.in-Some-stretch.stretch
     c.in-Some-line_at.line next.0 next.1.in_place next.2 c.in-Some-line_at.ensures)
-
-pub returns-clause-ahead : goal.returns-clause-ahead
-returns-clause-ahead g c = is_ahead c.args.self.now.run [] _ c.in-Some-stretch.ensures.fits (returns-clause-looks g c)

@@ -1,4 +1,4 @@
-use Rattle.cweb_lines.proofs.Common.{◌≡◌, ◌-◌, ◌<◌, ◌∙◌, ℕ, List, None, Some, ap, arith, length, subst, get_or_default, IfSome, FitsLimitsAt, LooksAheadIn, IsStretchAt, pending_in, line_number, number_or_zero, rules, top_of}
+use Rattle.cweb_lines.proofs.Common.{◌≡◌, ◌-◌, ◌<◌, ◌∙◌, ℕ, List, None, Some, ap, arith, length, subst, get_or_default, IfSome, FitsLimitsAt, LooksAheadIn, IsStretchAt, pending_in, line_number, number_or_zero, top_of}
 use Rattle.cweb_input.proofs.SourceStacks.{most_at}
 use Rattle.cweb_lines.proofs.Lookahead.{are_ahead, looks_next}
 use Rattle.cweb_lines.proofs.merger.Merger.next_ahead.Goals as goal
@@ -34,6 +34,3 @@ line_after-requires-clause-fits g c =
         run.numbers,
       ),
     )
-
-pub line_after-requires-clause-joins : goal.line_after-requires-clause-joins
-line_after-requires-clause-joins c = search rules

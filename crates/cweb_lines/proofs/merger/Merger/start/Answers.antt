@@ -87,11 +87,3 @@ returns-clause-readers g c = λ tells.
           (named_first opened_as (opened_file_names c.open_change.new.names) c.in-Ok.web (OPEN_FILES - 1) top);
       change = c.in-Ok-open_change.ensures.named opened_as (rw c.in-Some-2.is at (c.in_ok-change.ensures.opened later));
     }
-
-pub returns-in_default-2-clause-stops : goal.returns-in_default-2-clause-stops
-returns-in_default-2-clause-stops g c = λ tells.
-    let later = subst IsTrue (sym c.in_ok-web.ensures.reads.keeps.tells) tells in (
-      (_, sym (rw c.in-Some.is at (c.in_ok-web.ensures.found tells))),
-      ap (λ t. change_at t (option_copied c.args.change)) (sym (c.in_ok-web.ensures.reads.keeps.texts tells))
-          ∙ sym (rw c.in_default-2.is at (c.in_ok-change.ensures.found later)),
-    )

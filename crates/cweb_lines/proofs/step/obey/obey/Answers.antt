@@ -1,13 +1,10 @@
 use Rattle.cweb_lines.proofs.Common.{rules, ◌<◌, ◌∷◌, ℕ, List, Vec, Global, length, refl, ap, sym, subst, ◌∙◌, arith, string_bytes, common_steps, opened_file_names, at_place, counters_of, world_in, found_at, Event, opening, AreReadersKnown, SourceFault, NoName, TooDeep, NotThere}
 use Rattle.cweb_lines.proofs.MergeReadersStayNamed.{knows_only}
-use Rattle.cweb_lines.proofs.ReportsOnlyGrow.{reported_if, reported_same}
+use Rattle.cweb_lines.proofs.ReportsOnlyGrow.{reported_if}
 use Rattle.cweb_input.proofs.Found.{OnOk-map}
-use Rattle.cweb_lines.proofs.Merges.{yields_opening, merge_no_name, merge_too_deep, merge_not_there, merge_opens, include_long, empty_is, some_are}
+use Rattle.cweb_lines.proofs.Merges.{yields_opening, merge_no_name, merge_too_deep, merge_not_there, merge_opens, empty_is, some_are}
 use Rattle.cweb_lines.proofs.MergeStateEvents.{coming_opened, yields_reported}
 use Rattle.cweb_lines.proofs.step.obey.obey.Goals as goal
-
-pub include_name-name-requires : goal.include_name-name-requires
-include_name-name-requires g c = include_long c.args.line.now c.requires.include
 
 pub returns-then-is_empty : goal.returns-then-is_empty
 returns-then-is_empty g c =
@@ -103,14 +100,4 @@ returns g c = record {
             names.1 c.open.ensures.below)) (ap (λ (v : Vec SourceFault Global). v.items) c.open.ensures.only.faults)
             names.0;
       }) c.open.ensures.opens;
-}
-
-pub returns-in_err-opening : goal.returns-in_err-opening
-returns-in_err-opening g c = record {
-  reads = c.in_err-opening.ensures.reads;
-  readers = λ tells known.
-      subst (λ f. AreReadersKnown f c.args.run.now) (sym (c.in_err-opening.ensures.reads.keeps.names tells)) known;
-  still = reported_same _ _ refl refl;
-  only = search rules;
-  yields = search rules;
 }

@@ -1,6 +1,5 @@
-use Rattle.cweb_lines.proofs.Common.{◌≡◌, ◌+◌, ◌∷◌, [], ℕ, List, length, refl, sym, arith, ap, ◌∙◌, length-append, string_bytes, ◌++◌, subst, get_or, rules, append-nil, get_or_push, opened_file_names, AreReadersNamed, IsReaderNamed, line_number, files_up_to}
+use Rattle.cweb_lines.proofs.Common.{◌≡◌, ◌+◌, ◌∷◌, [], ℕ, List, length, sym, arith, ap, ◌∙◌, length-append, string_bytes, ◌++◌, subst, get_or, get_or_push, opened_file_names, AreReadersNamed, IsReaderNamed, line_number, files_up_to}
 use Rattle.cweb_input.proofs.ReadersStayNamed.{change_more, named_more, named_set}
-use Rattle.cweb_lines.proofs.ReportsOnlyGrow.{reported_more, reported_same}
 use Rattle.cweb_input.proofs.SourceStacks.{most_set}
 use Rattle.cweb_lines.proofs.step.obey.open.Goals as goal
 
@@ -27,18 +26,6 @@ invariant_of-run-2 g c =
       stop_known = omega (arith, count, c.args.run.now.stop_known);
     }
 
-pub returns-clause-still : goal.returns-clause-still
-returns-clause-still g c = reported_more _ _ [] _ (sym (append-nil c.args.run.now.faults.items)) c.in_default.ensures.ok
-
-pub returns-in-Err-clause-still : goal.returns-in-Err-clause-still
-returns-in-Err-clause-still g c = reported_same _ _ refl c.in-Err.ensures.err
-
-pub returns-in_err-buffer-clause-still : goal.returns-in_err-buffer-clause-still
-returns-in_err-buffer-clause-still g c = reported_same _ _ refl refl
-
-pub returns-in_err-source-clause-still : goal.returns-in_err-source-clause-still
-returns-in_err-source-clause-still g c = reported_same _ _ refl refl
-
 pub returns-clause-readers : goal.returns-clause-readers
 returns-clause-readers g c = λ opened_as opened known.
     let run = c.args.run.now in
@@ -57,23 +44,3 @@ returns-clause-readers g c = λ opened_as opened known.
       change = subst (λ (ns : List (List ℕ)). IsReaderNamed opened_as ns run.change) (sym names)
           (change_more opened_as (opened_file_names run.names) more run.change run.change_known known.change);
     }
-
-pub returns-in-Err-clause-readers : goal.returns-in-Err-clause-readers
-returns-in-Err-clause-readers g c = λ opened_as opened known. record {
-  texts = subst (λ (ns : List (List ℕ)). AreReadersNamed opened_as ns c.args.run.now.stack.texts)
-      (sym c.in-Err.ensures.err)
-      known.texts;
-  change = subst (λ (ns : List (List ℕ)). IsReaderNamed opened_as ns c.args.run.now.change) (sym c.in-Err.ensures.err)
-      known.change;
-}
-
-pub returns-in_err-buffer-clause-readers : goal.returns-in_err-buffer-clause-readers
-returns-in_err-buffer-clause-readers g c = λ opened_as opened known.
-    record { texts = known.texts; change = known.change }
-
-pub returns-in_err-source-clause-readers : goal.returns-in_err-source-clause-readers
-returns-in_err-source-clause-readers g c = λ opened_as opened known.
-    record { texts = known.texts; change = known.change }
-
-pub returns-clause-opens : goal.returns-clause-opens
-returns-clause-opens c = search rules

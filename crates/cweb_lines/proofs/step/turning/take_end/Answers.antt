@@ -1,8 +1,7 @@
-use Rattle.cweb_lines.proofs.Common.{rules, ◌∷◌, List, length, Err, ap, sym, ◌∙◌, refl, at_place, counters_of, world_in, Event, fault, so_far_of, opened_file_names, floor_of, NoMatch, Turn}
+use Rattle.cweb_lines.proofs.Common.{rules, ◌∷◌, List, length, ap, sym, ◌∙◌, refl, at_place, counters_of, world_in, Event, fault, so_far_of, opened_file_names, floor_of, NoMatch}
 use Rattle.cweb_lines.proofs.Merges.{yields_fault}
 use Rattle.cweb_lines.proofs.MergeStateEvents.{no_match, nothing_above}
-use Rattle.cweb_lines.proofs.NoReadFails.{reads_reported, reads_set, reads_unreported}
-use Rattle.cweb_lines.proofs.Stops.{stops_unreported}
+use Rattle.cweb_lines.proofs.NoReadFails.{reads_reported, reads_set}
 use Rattle.cweb_lines.proofs.step.turning.take_end.Goals as goal
 
 pub returns-in_default : goal.returns-in_default
@@ -22,14 +21,3 @@ returns-in_default g c = record {
       c.in_default.ensures.reported (ap opened_file_names c.in_default.ensures.only.names);
   stops = λ tells. tt;
 }
-
-pub returns-in-Err : goal.returns-in-Err
-returns-in-Err g c =
-    let report = c.in-Err.ensures in
-    record {
-      reads = reads_unreported report.only report.err report.memory;
-      turns = search rules;
-      yields = λ tells. tt;
-      stops = λ tells. stops_unreported {A = Turn} (Err c.in-Err.stop) _ (so_far_of c.args.run.now) _ _ refl refl
-          report.memory (report.err, ap opened_file_names report.only.names);
-    }

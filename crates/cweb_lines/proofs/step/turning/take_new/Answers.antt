@@ -1,9 +1,9 @@
-use Rattle.cweb_lines.proofs.Common.{rules, Some, Err, refl, ap, sym, subst, ◌∙◌, change_code, counters_of, Stopped, change_lines, so_far_of, opened_file_names, Turn}
+use Rattle.cweb_lines.proofs.Common.{rules, Some, ap, sym, subst, ◌∙◌, change_code, counters_of, Stopped, change_lines, so_far_of}
 use Rattle.cweb_lines.proofs.ReportsOnlyGrow.{took_faults, took_names}
 use Rattle.cweb_input.proofs.Found.{IfOk-map}
 use Rattle.cweb_lines.proofs.EmittedLinesAddUp.{yields_took}
 use Rattle.cweb_lines.proofs.NewSideLines.{coming_is, new_ended, new_faulty, new_first, new_side_ended, new_stops}
-use Rattle.cweb_lines.proofs.NoReadFails.{reads_obeyed, reads_reported, reads_set, reads_then, reads_unreported, still_tells}
+use Rattle.cweb_lines.proofs.NoReadFails.{still_tells}
 use Rattle.cweb_lines.proofs.Codes.{is_end}
 use Rattle.cweb_lines.proofs.Stops.{reported_stays, stops_unreported, unreported}
 use Rattle.cweb_lines.proofs.step.turning.take_new.Goals as goal
@@ -26,25 +26,12 @@ returns-in-Err g c =
       };
     }
 
-pub returns-in-Err-report : goal.returns-in-Err-report
-returns-in-Err-report g c =
-    let took = c.in-Ok.ensures.takes in
-    let report = c.in-Err-report.ensures in
-    record {
-      reads = reads_then took.reads (reads_unreported report.only report.err report.memory);
-      turns = search rules;
-      yields = λ tells. tt;
-      stops = λ tells. stops_unreported {A = Turn} (Err c.in-Err-report.stop) _ (so_far_of c.take_change.new.run) _ _
-          (took_faults took.only) (took_names took.only) report.memory
-          (report.err, ap opened_file_names report.only.names);
-    }
-
 pub returns-in_default : goal.returns-in_default
 returns-in_default g c =
     let took = c.in-Ok.ensures.takes in
     let report = c.in_default-report.ensures in
     record {
-      reads = reads_set _ refl refl refl (reads_then took.reads (reads_reported _ report.only report.reported tt));
+      reads = search rules;
       turns = search rules;
       yields = λ tells.
           let taken = rw c.in_default.is at (c.in-Ok.ensures.taken tells) in
@@ -61,7 +48,7 @@ returns-in-None g c =
     let took = c.in-Ok.ensures.takes in
     let obeys = c.emit_or_obey.ensures.obeys in
     record {
-      reads = reads_then took.reads (reads_obeyed obeys);
+      reads = search rules;
       turns = search rules;
       yields = λ tells.
           let taken = rw c.in-Some.is at (c.in-Ok.ensures.taken tells) in
@@ -80,7 +67,7 @@ pub returns-then-eq : goal.returns-then-eq
 returns-then-eq g c =
     let took = c.in-Ok.ensures.takes in
     record {
-      reads = reads_set _ refl refl refl took.reads;
+      reads = search rules;
       turns = search rules;
       yields = λ tells.
           let taken = rw c.in-Some.is at (c.in-Ok.ensures.taken tells) in
@@ -92,25 +79,12 @@ returns-then-eq g c =
       stops = λ tells. tt;
     }
 
-pub returns-in-Err-report-2 : goal.returns-in-Err-report-2
-returns-in-Err-report-2 g c =
-    let took = c.in-Ok.ensures.takes in
-    let report = c.in-Err-report-2.ensures in
-    record {
-      reads = reads_then took.reads (reads_unreported report.only report.err report.memory);
-      turns = search rules;
-      yields = λ tells. tt;
-      stops = λ tells. stops_unreported {A = Turn} (Err c.in-Err-report-2.stop) _ (so_far_of c.take_change.new.run) _ _
-          (took_faults took.only) (took_names took.only) report.memory
-          (report.err, ap opened_file_names report.only.names);
-    }
-
 pub returns-in_default-report-2 : goal.returns-in_default-report-2
 returns-in_default-report-2 g c =
     let took = c.in-Ok.ensures.takes in
     let report = c.in_default-report-2.ensures in
     record {
-      reads = reads_then took.reads (reads_reported _ report.only report.reported tt);
+      reads = search rules;
       turns = search rules;
       yields = λ tells.
           let taken = rw c.in-Some.is at (c.in-Ok.ensures.taken tells) in

@@ -1,13 +1,11 @@
-use Rattle.cweb_lines.proofs.Common.{rules, List, Some, ◌≡◌, sym, ◌∙◌, IsTrue, IfOk, IfErr, counters_of, Event, change_lines, pending_of, things_of, so_far_of, EmitsLines, SoFar, CountsLine, events_to_come, events_after_line, turn_lines, begun_by, pending_in}
-use Rattle.cweb_lines.specs.surface.MergerCalls.{StopsThere}
-use Rattle.cweb_lines.specs.inner.StepCalls.{coming}
+use Rattle.cweb_lines.proofs.Common.{rules, Some, ◌≡◌, sym, ◌∙◌, IsTrue, counters_of, change_lines, pending_of, things_of, so_far_of, CountsLine, events_to_come, events_after_line, begun_by, pending_in}
 use Rattle.cweb_lines.proofs.ReportsOnlyGrow.{took_faults, took_names}
 use Rattle.cweb_input.proofs.Found.{IfOk-map}
 use Rattle.cweb_lines.proofs.Stops.{stopped_by, stops_unreported, reported_stays, things_first, unreported}
 use Rattle.cweb_lines.proofs.EmittedLinesAddUp.{yields_took}
 use Rattle.cweb_lines.proofs.MergeStateEvents.{stops_in}
 use Rattle.cweb_input.proofs.SourceStacks.{stops_map}
-use Rattle.cweb_lines.proofs.Turns.{began_yields, began_stops, began_tells, raw_taken, untaken}
+use Rattle.cweb_lines.proofs.Turns.{began_yields, began_stops, began_tells, raw_taken}
 use Rattle.cweb_files.proofs.FramesCompose.{keeps_known}
 use Rattle.cweb_lines.proofs.NoReadFails.{reads_obeyed, reads_then}
 use Rattle.cweb_lines.proofs.step.turning.take_settled.Given as given
@@ -31,24 +29,6 @@ returns-in-Err g c =
             (counters_of c.args.run.now.limits) c.requires.settled) (c.in-Err.ensures.stops tells));
         reported = unreported _ _ _ (took_faults took.only) (took_names took.only);
       };
-    }
-
-pub returns-in_default : goal.returns-in_default
-returns-in_default g c =
-    let took = c.in-Ok.ensures.takes in
-    let still = keeps_known g.S.Shelf _ _ took.reads.keeps in
-    let same = λ (tells : IsTrue (g.S.Shelf.tells c.args.shelf.now)) (Says : SoFar → List Event → Type 0).
-    untaken Says _ _ _ _ c.args.run.now c.take_raw.new.run c.take_raw.new.line.items (took.reads.keeps.texts tells)
-    (took.reads.keeps.left tells) c.requires.settled (rw c.in_default.is at (c.in-Ok.ensures.taken tells))
-    c.in-Ok.ensures.closes.below took.only c.in-Ok.ensures.change (rw c.in_default.is at took.answers.counted) in
-    record {
-      reads = reads_then took.reads c.take_end.ensures.reads;
-      turns = search rules;
-      yields = λ tells. same tells (λ reported all. IfOk c.take_end.result (λ turn. EmitsLines
-          (turn_lines turn c.take_end.new.line.items) reported (so_far_of c.take_end.new.run) all
-          (coming g.S.Shelf c.take_end.new.shelf c.take_end.new.run))) (c.take_end.ensures.yields (still tells));
-      stops = λ tells. same tells (λ reported all. IfErr c.take_end.result (λ stop.
-          StopsThere stop reported (so_far_of c.take_end.new.run) all)) (c.take_end.ensures.stops (still tells));
     }
 
 taken : (g : given.Over) (c : In-Some g) → IsTrue (g.S.Shelf.tells c.args.shelf.now) → (t : CountsLine

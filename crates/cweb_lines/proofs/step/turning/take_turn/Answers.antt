@@ -1,16 +1,6 @@
 use Rattle.cweb_lines.proofs.Common.{rules}
-use Rattle.cweb_lines.proofs.NoReadFails.{quiet_same}
 use Rattle.cweb_lines.proofs.Turns.{sought_yields, sought_stops, sought_tells}
-use Rattle.cweb_lines.proofs.ExclusiveAnswers.{true_false}
 use Rattle.cweb_lines.proofs.step.turning.take_turn.Goals as goal
-
-pub returns-then-has_ended-clause-turn : goal.returns-then-has_ended-clause-turn
-returns-then-has_ended-clause-turn g c = record {
-  reads = (quiet_same _ _);
-  turns = search rules;
-  yields = search rules;
-  stops = λ tells. tt;
-}
 
 pub returns-in-Err-clause-turn : goal.returns-in-Err-clause-turn
 returns-in-Err-clause-turn g c = record {
@@ -37,12 +27,3 @@ returns-in-Seeking-clause-turn g c =
           tells) (seek.reads.keeps.left tells) seek.only.inputs seek.only.stack seek.only.names (seek.searched tells);
       stops = λ tells. tt;
     }
-
-pub returns-in-Err-clause-ended : goal.returns-in-Err-clause-ended
-returns-in-Err-clause-ended g c = λ none. absurd (true_false _ (c.has_ended.ensures.no none) c.if-has_ended.false)
-
-pub returns-in-Seeking-clause-ended : goal.returns-in-Seeking-clause-ended
-returns-in-Seeking-clause-ended g c = λ none. absurd (true_false _ (c.has_ended.ensures.no none) c.if-has_ended.false)
-
-pub returns-clause-ended : goal.returns-clause-ended
-returns-clause-ended g c = λ none. absurd (true_false _ (c.has_ended.ensures.no none) c.if-has_ended.false)

@@ -1,9 +1,6 @@
 use Rattle.cweb_lines.proofs.Common.{◌≡◌, ◌-◌, ℕ, List, [], ◌∷◌, ◌++◌, ◌∙◌, ap, subst, arith, length, OnlyLastExceeds}
-use Rattle.cweb_lines.proofs.Passes.{passes_next, passes_nothing, passes_then}
+use Rattle.cweb_lines.proofs.Passes.{passes_next, passes_then}
 use Rattle.cweb_lines.proofs.writing.pass.pass_lines.Goals as goal
-
-pub lines-init : goal.lines-init
-lines-init g c = record { passes = passes_nothing c.args.room c.args.run.now c.args.buffer.now.items }
 
 pub lines-preserved : goal.lines-preserved
 lines-preserved g c =

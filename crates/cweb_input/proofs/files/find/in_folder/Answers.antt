@@ -1,5 +1,0 @@
-use Rattle.cweb_input.proofs.Common.{arith, common_steps}
-use Rattle.cweb_input.proofs.files.find.in_folder.Goals as goal
-
-pub returns : goal.returns
-returns c = grind (arith, common_steps)

@@ -1,5 +1,0 @@
-use Rattle.cweb_lines.proofs.Common.{rules}
-use Rattle.cweb_lines.proofs.merger.Merger.stopped.Goals as goal
-
-pub returns-clause-stop : goal.returns-clause-stop
-returns-clause-stop c = search rules
