@@ -22,9 +22,5 @@ units-preserved-then-plain-gt0 c =
           ∙ ap (λ (u : List ℕ). later_by (size + n) (reached (reach look Open u))) (sym back);
     }
 
-pub returns-in-Ends-clause-value : goal.returns-in-Ends-clause-value
-returns-in-Ends-clause-value c = grind (arith, common_steps)
-
 pub returns-in-Ends-clause-within : goal.returns-in-Ends-clause-within
-returns-in-Ends-clause-within c = subst (λ (r : Reached). r.size + r.close ≤ length c.args.text.now)
-    (sym (returns-in-Ends-clause-value c)) (reach-fits c.args.item c.args.text.now)
+returns-in-Ends-clause-within c = grind (arith, common_steps, reach-fits c.args.item c.args.text.now)
