@@ -80,6 +80,12 @@ reach_plain item e (b ∷ t) = by (is_plain item b) refl (reach_plain item e t)
               (plain_goes item b t (not-true (is_special item b) on)),
         )
 
+pub reach_from : (item : Item) (e : End) (t rest : List ℕ) (n : ℕ) → n ≡ prefix_len (is_plain item) t → rest ≡ drop n t
+    → reached (reach (look_of item) e t) ≡ later_by n (reached (reach (look_of item) e rest))
+reach_from item e t rest n size back = reach_plain item e t
+    ∙ (λ i. later_by (sym size i) (reached (reach (look_of item) e (drop (sym size i) t))))
+    ∙ ap (λ (u : List ℕ). later_by n (reached (reach (look_of item) e u))) (sym back)
+
 -- Whether it goes on after its line.
 pub plain_goes_on : (item : Item) (t : List ℕ)
     → goes_on (look_of item) (drop (prefix_len (is_plain item) t) t) ≡ goes_on (look_of item) t
