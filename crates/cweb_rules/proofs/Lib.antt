@@ -1,6 +1,5 @@
 pub mod Walks
 mod FirstTable
-mod WholeLiterals
 pub mod Common
 pub mod Longest
 mod Seconds
@@ -38,4 +37,3 @@ pub mod UnitNewlines
 pub mod Newlines
 pub mod FirstBytes
 pub mod WordTable
-pub mod WordSpans

@@ -2,7 +2,8 @@
 use Rattle.cweb_rules.proofs.Common.{◌≡◌, ◌≤◌, ℕ, ◌+◌, Bool, false, List, [], ◌∷◌, ◌++◌, Option, Some, None, length, take, drop, refl, ap, ◌∙◌, arith, if◌then◌else◌, codes, nat_le, nat_lt, take-append-le, drop-append-le, length-drop, prefix_len-le-length, begins, is_gap, Effect, Named, letter, Transliteration, Reach, reach_size, End, Closed, Cut, reach_of_name, opener_len, look_in_name, Letter, Occurrence, RuleMatch, rule_match, found_letter_match, opener_after, name_match, effect_match, code_match, AtLineEnd, opens_name, opens_effect, opens_code}
 use Rattle.cweb_rules.specs.declared.effect.Effect.TheVariants as effect
 use Rattle.cweb_rules.proofs.Seams.{run_line}
-use Rattle.cweb_rules.proofs.Looks.{reach_ends, whole, name-local, name-units}
+use Rattle.cweb_rules.proofs.Looks.{all_some, name-local, name-units}
+use Rattle.cweb_rules.proofs.OverLineEnds.{ends_in_line}
 use Rattle.cweb_rules.proofs.Sizes.{reach-size, name-within}
 use Rattle.cweb_rules.proofs.TokenSizes.{letter-size, IsLetter}
 use Rattle.cweb_rules.proofs.LineConstants.{control_text-line, constant-line, letter-line}
@@ -39,7 +40,7 @@ name_at-line with_opener a b t more e ends =
     let r = reach_of_name t in
     let u = a ∷ b ∷ t in
     let same : reach_of_name (t ++ more) ≡ r =
-    reach_ends look_in_name Cut t more (name-local more e) (name-local [] tt) (whole look_in_name name-units t) ends in
+    ends_in_line look_in_name t more (all_some look_in_name name-units) name-local e (λ h. cc) ends in
     let fits = reach-size look_in_name Cut name-within t in
     ap (λ (r : Reach).
     named (begins (codes "@(") u) with_opener r (opener_after r.how (drop (2 + reach_size r) (u ++ more)))) same

@@ -2,7 +2,7 @@
 use Rattle.cweb_rules.proofs.Common.{◌≡◌, ◌≤◌, ℕ, suc, ◌+◌, true, false, cond, ◌&&◌, List, [], ◌∷◌, ◌++◌, length, take, drop, refl, ap, ◌∙◌, arith, codes, list_all, prefix_len, take-append-le, drop-append-le, length-drop, length-take-le, prefix_len-le-length, begins, is_blank, is_delimiter, Cut, reach_of_included_name, reach_of_raw_literal, look_in_include, look_in_raw, RuleMatch, quoted_match, raw_prefix, has_delimiter, starts_raw, delimiter, raw_closer, raw_match, starts_include, include_match, AtLineEnd, opens_raw, or-true, and_parts}
 use Rattle.cweb_rules.proofs.Seams.{in_line, begins_line, drop_line, run_line}
 use Rattle.cweb_rules.proofs.Reaches.{reach-line}
-use Rattle.cweb_rules.proofs.Looks.{whole, include-local, include-units, raw-local, raw-units}
+use Rattle.cweb_rules.proofs.Looks.{all_some, whole, include-local, include-units, raw-local, raw-units}
 use Rattle.cweb_rules.proofs.Sizes.{begins-size, reach-size, raw-within, include-within}
 use Rattle.cweb_rules.proofs.LineComments.{and_same}
 use Rattle.cweb_rules.proofs.LineLiterals.{quoted-line, quoted_ends}
@@ -70,7 +70,7 @@ raw_at_line t more e starts ends =
     ap (λ n. raw_from (n + 2) (delimiter (drop (n + 2) (t ++ more))) (t ++ more)) (raw_prefix-line t more e)
     ∙ ap (λ d. raw_from m d (t ++ more)) (ap delimiter (drop-append-le m t more two) ∙ delimiter-line (drop m t) more e)
     ∙ quoted_ends look n t more (omega (arith, some, two, length-drop m t)) (raw-within sign)
-    (raw-local sign more clean e) (raw-local sign [] clean tt) (whole look (raw-units sign) (drop n t)) ends
+    (all_some look (raw-units sign)) (λ m f. raw-local sign m clean f) e (λ h. cc) ends
 
 include-stops : (more : List ℕ) → AtLineEnd more
     → reach_of_included_name more ≡ record { units = []; close = 0; how = Cut }

@@ -1,9 +1,10 @@
 -- A literal that ends in its line doesn't depend on the bytes after it.
-use Rattle.cweb_rules.proofs.Common.{◌≡◌, ◌≤◌, ℕ, ◌+◌, Bool, true, false, ◌||◌, ◌==◌, List, [], ◌∷◌, ◌++◌, length, take, drop, refl, ap, ◌∙◌, arith, if◌then◌else◌, codes, take-append-le, drop-append-le, length-drop, begins, Look, Reach, reach, body, reach_size, Cut, Open, reach_of_literal, look_in_literal, Quoted, RuleMatch, rule_match, has_quote_at, literal_prefix, starts_literal, quoted_match, quote_of, literal_match, AtLineEnd, is_unclosed, opens_literal, and_parts}
-use Rattle.cweb_rules.proofs.Seams.{begins_line, drop_line}
-use Rattle.cweb_rules.proofs.Reaches.{IsLocal, IsWhole}
-use Rattle.cweb_rules.proofs.Looks.{reach_ends}
-use Rattle.cweb_rules.proofs.OverLineEnds.{literal_ends}
+use Rattle.cweb_rules.proofs.Common.{◌≡◌, ◌≤◌, ℕ, ◌+◌, Bool, true, false, ◌||◌, ◌==◌, List, [], ◌∷◌, ◌++◌, length, take, drop, refl, ap, ◌∙◌, arith, if◌then◌else◌, codes, take-append-le, drop-append-le, length-drop, begins, Look, Reach, reach, body, reach_size, Cut, Open, reach_of_literal, look_in_literal, Quoted, RuleMatch, rule_match, has_quote_at, literal_prefix, starts_literal, quoted_match, quote_of, literal_match, AtLineEnd, is_unclosed, opens_literal, and_parts, ◌&&◌, Ends, Closed}
+use Rattle.cweb_rules.proofs.Seams.{begins_line, drop_line, stops}
+use Rattle.cweb_rules.proofs.Reaches.{IsLocal, at_start}
+use Rattle.cweb_rules.proofs.Looks.{AllSome, literal-local, literal-some}
+use Rattle.cweb_rules.specs.inner.LineItems.{goes_on}
+use Rattle.cweb_rules.proofs.OverLineEnds.{ends_in_line, newline}
 use Rattle.cweb_rules.proofs.Sizes.{IsWithin, begins-size, reach-size, literal-within}
 use Rattle.cweb_rules.proofs.LineComments.{and_same}
 
@@ -18,12 +19,15 @@ quoted-line n r t more fits within =
     ∙ take-append-le r.close (drop m t) more (omega (arith, fits, within, d, length-drop m t)) in
     λ i. rule_match (Quoted (first i ∷ r.units ++ last i ∷ []) r.how) (n + reach_size r)
 
-pub quoted_ends : (look : List ℕ → Look) (n : ℕ) (t more : List ℕ) → n ≤ length t → IsWithin look → IsLocal look more
-    → IsLocal look [] → IsWhole look 0 (drop n t) → is_unclosed (reach look Open (drop n t)).how ≡ false
+-- A literal that ends in its line, or with it.
+pub quoted_ends : (look : List ℕ → Look) (n : ℕ) (t more : List ℕ) → n ≤ length t → IsWithin look → AllSome look
+    → ((more : List ℕ) → AtLineEnd more → IsLocal look more) → AtLineEnd more
+    → (is_unclosed (reach look Open newline).how ≡ false → reach look Cut more ≡ reach look Cut [])
+    → goes_on look (drop n t) ≡ false
     → quoted_match n (reach look Cut (drop n (t ++ more))) (t ++ more) ≡ quoted_match n (reach look Cut (drop n t)) t
-quoted_ends look n t more fits within local local0 h ends =
+quoted_ends look n t more fits within some local e stops ends =
     ap (λ u. quoted_match n (reach look Cut u) (t ++ more)) (drop-append-le n t more fits)
-    ∙ ap (λ r. quoted_match n r (t ++ more)) (reach_ends look Cut (drop n t) more local local0 h ends)
+    ∙ ap (λ r. quoted_match n r (t ++ more)) (ends_in_line look (drop n t) more some local e stops ends)
     ∙ quoted-line n (reach look Cut (drop n t)) t more fits (reach-size look Cut within (drop n t))
 
 is_quoted-line : (n : ℕ) (t more : List ℕ) → AtLineEnd more → n ≤ length t
@@ -70,6 +74,12 @@ is_quoted-size n t h =
     (length (drop n t)) h (begins-size (codes "\"") (drop n t)) (begins-size (codes "'") (drop n t)) in
     omega (arith, some, length-drop n t)
 
+literal-stops : (quote : ℕ) (more : List ℕ) → (quote == 10) ≡ false → AtLineEnd more
+    → reach_of_literal quote more ≡ record { units = []; close = 0; how = Cut }
+literal-stops quote [] h e = refl
+literal-stops quote (b ∷ more) h e = ap (λ n. reach_of_literal quote (n ∷ more)) e
+    ∙ ap (λ v. at_start (look_in_literal quote) (if v && true then Ends 1 Closed else Ends 0 Cut) (10 ∷ more) Cut more) h
+
 abbrev pub literal_with : ℕ → ℕ → List ℕ → RuleMatch
 literal_with n quote t = quoted_match (n + 1) (reach_of_literal quote (drop (n + 1) t)) t
 
@@ -82,11 +92,9 @@ literal_at_line t more e starts ends =
     ap (λ n. literal_with n (quote_of (drop n (t ++ more))) (t ++ more)) (literal_prefix-line t more e)
     ∙ ap (λ v. literal_with n (if v then 39 else 34) (t ++ more))
     (drop_line (codes "'") n t more refl e (omega (arith, fits)))
-    ∙ ap (λ u. quoted_match (n + 1) (reach_of_literal quote u) (t ++ more)) (drop-append-le (n + 1) t more fits)
-    ∙ ap (λ r. quoted_match (n + 1) r (t ++ more)) (literal_ends quote (drop (n + 1) t) more
-    (no_newline (begins (codes "'") (drop n t))) e ends)
-    ∙ quoted-line (n + 1) (reach_of_literal quote (drop (n + 1) t)) t more fits
-    (reach-size (look_in_literal quote) Cut (literal-within quote) (drop (n + 1) t))
+    ∙ quoted_ends (look_in_literal quote) (n + 1) t more fits (literal-within quote) (literal-some quote)
+    (λ m f. literal-local quote m (stops (λ b. b == 64) m refl f)) e
+    (λ h. literal-stops quote more (no_newline (begins (codes "'") (drop n t))) e) ends
   where
     no_newline : (v : Bool) → ((if v then 39 else 34) == 10) ≡ false
     no_newline true = refl

@@ -137,11 +137,9 @@ literal-some quote b t = some_if (begins (quote ∷ []) (b ∷ t)) _ _ tt
     (some_if (is_line_end b) _ _ tt (some_if (begins (codes "\\@") (b ∷ t)) _ _ (omega arith)
     (some_if (begins (codes "\\") (b ∷ t) || begins (codes "@@") (b ∷ t)) _ _ (omega arith) (omega arith))))
 
-pub ended_same : (look : List ℕ → Look) (e : End) (t : List ℕ) → IsLocal look [] → IsWhole look 0 t
-    → is_unclosed (reach look Open t).how ≡ false → reach look e t ≡ reach look Open t
-ended_same look e t local h ended = ap (reach look e) (sym (append-nil t)) ∙ reach-ended look e t [] local h ended
-
-pub reach_ends : (look : List ℕ → Look) (e : End) (t more : List ℕ) → IsLocal look more → IsLocal look []
-    → IsWhole look 0 t → is_unclosed (reach look Open t).how ≡ false → reach look e (t ++ more) ≡ reach look e t
-reach_ends look e t more local local0 h ended =
-    reach-ended look e t more local h ended ∙ sym (ended_same look e t local0 h ended)
+pub all_some : (look : List ℕ → Look) → AllWithin look → AllSome look
+all_some look h b t = some_of (look (b ∷ t)) (length (b ∷ t)) (h b t)
+  where
+    some_of : (v : Look) (m : ℕ) → IsWithin v m → IsSome v
+    some_of (Goes n) m h = h.0
+    some_of (Ends n how) m h = h

@@ -1,9 +1,8 @@
 -- Items that go on after a newline, or end before it.
-use Rattle.cweb_rules.proofs.Common.{◌≡◌, ℕ, zero, suc, ◌-◌, ◌&&◌, ◌==◌, true, false, List, [], ◌∷◌, ◌++◌, refl, ap, sym, ◌∙◌, if◌then◌else◌, Look, Goes, Ends, Reach, reach, reach_in, Closed, Cut, Open, reach_of_literal, look_in_literal, AtLineEnd, is_unclosed}
+use Rattle.cweb_rules.proofs.Common.{◌≡◌, ℕ, zero, suc, ◌-◌, ◌&&◌, ◌==◌, true, false, List, [], ◌∷◌, ◌++◌, refl, ap, sym, ◌∙◌, if◌then◌else◌, Look, Goes, Ends, Reach, reach, reach_in, End, Cut, Open, AtLineEnd, is_unclosed, append-nil}
 use Rattle.cweb_rules.specs.inner.LineItems.{goes_on}
-use Rattle.cweb_rules.proofs.Looks.{IsSome, AllSome, ended_whole, literal-local, literal-some}
-use Rattle.cweb_rules.proofs.Reaches.{IsLocal, IsWhole, WholeAt, at_start, reach-ended, reach-line}
-use Rattle.cweb_rules.proofs.Seams.{stops}
+use Rattle.cweb_rules.proofs.Looks.{IsSome, AllSome, AllWithin, ended_whole, whole}
+use Rattle.cweb_rules.proofs.Reaches.{IsLocal, IsWhole, WholeAt, at_start, join, reach-append, reach-ended}
 
 abbrev pub newline : List ℕ
 newline = 10 ∷ []
@@ -24,20 +23,38 @@ whole_in look local some zero (b ∷ t) h = whole_at look b t (look (b ∷ t)) (
     (λ k g. whole_in look local some k t g)
     (ap (λ v. is_unclosed (at_start look v (b ∷ t ++ newline) Open (t ++ newline)).how) (sym (local b t)) ∙ h)
 
-literal-stops : (quote : ℕ) (more : List ℕ) → (quote == 10) ≡ false → AtLineEnd more
-    → reach_of_literal quote more ≡ record { units = []; close = 0; how = Cut }
-literal-stops quote [] h e = refl
-literal-stops quote (b ∷ more) h e = ap (λ n. reach_of_literal quote (n ∷ more)) e
-    ∙ ap (λ v. at_start (look_in_literal quote) (if v && true then Ends 1 Closed else Ends 0 Cut) (10 ∷ more) Cut more) h
+join_same : (us : List (List ℕ)) (k : ℕ) (how : End) (m n next : Reach) → (is_unclosed next.how ≡ false → m ≡ n)
+    → is_unclosed (join (record { units = us; close = k; how = how }) next).how ≡ false
+    → join (record { units = us; close = k; how = how }) m ≡ join (record { units = us; close = k; how = how }) n
+join_same us k Open m n next same h = ap (join (record { units = us; close = k; how = Open })) (same h)
+join_same us k _ m n next same h = refl
 
--- A literal that ends in its line, or with it.
-pub literal_ends : (quote : ℕ) (t more : List ℕ) → (quote == 10) ≡ false → AtLineEnd more
-    → goes_on (look_in_literal quote) t ≡ false → reach_of_literal quote (t ++ more) ≡ reach_of_literal quote t
-literal_ends quote t more h e ends =
-    reach-line (look_in_literal quote) Cut t more (literal-local quote more (stops (λ b. b == 64) more refl e))
-    (literal-local quote [] refl)
-    (whole_in (look_in_literal quote) (literal-local quote newline refl) (literal-some quote) 0 t ends)
-    (literal-stops quote more h e)
+-- An item that ends in its line, or with it, doesn't depend on the bytes after the line.
+pub ends_in_line : (look : List ℕ → Look) (t more : List ℕ) → AllSome look
+    → ((more : List ℕ) → AtLineEnd more → IsLocal look more) → AtLineEnd more
+    → (is_unclosed (reach look Open newline).how ≡ false → reach look Cut more ≡ reach look Cut [])
+    → goes_on look t ≡ false → reach look Cut (t ++ more) ≡ reach look Cut t
+ends_in_line look t more some local e stops ends =
+    let w = whole_in look (local newline refl) some 0 t ends in
+    let r = reach look Open t in
+    reach-append look Cut t more (local more e) w
+    ∙ join_same r.units r.close r.how (reach look Cut more) (reach look Cut []) (reach look Open newline) stops
+    (ap (λ (m : Reach). is_unclosed m.how) (sym (reach-append look Open t newline (local newline refl) w)) ∙ ends)
+    ∙ sym (ap (reach look Cut) (sym (append-nil t)) ∙ reach-append look Cut t [] (local [] tt) w)
+
+join_open : (us : List (List ℕ)) (k : ℕ) (how : End) (next : Reach) → is_unclosed next.how ≡ true
+    → is_unclosed (join (record { units = us; close = k; how = how }) next).how ≡ is_unclosed how
+join_open us k Open next h = h
+join_open us k _ next h = refl
+
+-- If a newline is a unit, an item goes on after its line unless it ends in it.
+pub goes_on_is : (look : List ℕ → Look) (t : List ℕ) → AllWithin look → IsLocal look newline → look newline ≡ Goes 1
+    → goes_on look t ≡ is_unclosed (reach look Open t).how
+goes_on_is look t within local goes =
+    let r = reach look Open t in
+    ap (λ (m : Reach). is_unclosed m.how) (reach-append look Open t newline local (whole look within t))
+    ∙ join_open r.units r.close r.how (reach look Open newline)
+    (ap (λ v. is_unclosed (at_start look v newline Open []).how) goes)
 
 -- An item that ends in its line doesn't go on.
 pub ended_stops : (look : List ℕ → Look) (t : List ℕ) → IsLocal look newline → AllSome look

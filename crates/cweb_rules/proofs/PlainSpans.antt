@@ -1,8 +1,11 @@
 -- Spans of plain bytes.
-use Rattle.cweb_rules.proofs.Common.{◌≡◌, ◌<◌, ℕ, ◌+◌, Bool, true, false, cond, not, ◌||◌, ◌==◌, List, [], ◌∷◌, Option, Some, None, length, drop, get_or, refl, ap, sym, arith, prefix_len, unwrap_or, ne_eqb, eqb-false, prefix_len_is, IsFirstByte, at_line_end, reach, look_in_control, look_in_name, look_in_comment, look_in_literal, look_in_include, look_in_raw, look_of, reached, is_raw_special, is_special, is_plain, End, Item, Name, LineComment, Literal, IncludedName, RawLiteral, Look, Goes, not-true, or_parts}
+use Rattle.cweb_rules.proofs.Common.{◌≡◌, ◌<◌, ℕ, ◌+◌, suc, ◌++◌, ◌∙◌, Open, is_unclosed, Bool, true, false, cond, not, ◌||◌, ◌==◌, List, [], ◌∷◌, Option, Some, None, length, drop, get_or, refl, ap, sym, arith, prefix_len, unwrap_or, ne_eqb, eqb-false, prefix_len_is, IsFirstByte, at_line_end, reach, look_in_control, look_in_name, look_in_comment, look_in_literal, look_in_include, look_in_raw, look_of, reached, is_raw_special, is_special, is_plain, End, Item, Name, LineComment, Literal, IncludedName, RawLiteral, Look, Goes, not-true, or_parts}
 use Rattle.cweb_rules.specs.declared.items.Item.TheVariants.{ControlText, Comment}
 use Rattle.cweb_rules.proofs.Ranges.{later_by, later_by-zero, reach_goes}
 use Rattle.cweb_rules.proofs.TokensStay.{no_section}
+use Rattle.cweb_rules.specs.inner.LineItems.{goes_on}
+use Rattle.cweb_rules.proofs.OverLineEnds.{newline}
+use Rattle.cweb_rules.proofs.Reaches.{at_start}
 
 not_passed : (b : Bool) → (b ≡ true → ⊥) → not b ≡ true
 not_passed true h = absurd (h refl)
@@ -76,6 +79,33 @@ reach_plain item e (b ∷ t) = by (is_plain item b) refl (reach_plain item e t)
           reach_goes look e 1 (b ∷ t) (omega arith) (omega arith)
               (plain_goes item b t (not-true (is_special item b) on)),
         )
+
+pub reach_from : (item : Item) (e : End) (t rest : List ℕ) (n : ℕ) → n ≡ prefix_len (is_plain item) t → rest ≡ drop n t
+    → reached (reach (look_of item) e t) ≡ later_by n (reached (reach (look_of item) e rest))
+reach_from item e t rest n size back = reach_plain item e t
+    ∙ (λ i. later_by (sym size i) (reached (reach (look_of item) e (drop (sym size i) t))))
+    ∙ ap (λ (u : List ℕ). later_by n (reached (reach (look_of item) e u))) (sym back)
+
+-- Whether it goes on after its line.
+pub plain_goes_on : (item : Item) (t : List ℕ)
+    → goes_on (look_of item) (drop (prefix_len (is_plain item) t) t) ≡ goes_on (look_of item) t
+plain_goes_on item [] = refl
+plain_goes_on item (b ∷ t) = by (is_plain item b) refl (plain_goes_on item t)
+  where
+    look : List ℕ → Look
+    look = look_of item
+
+    n : ℕ
+    n = prefix_len (is_plain item) t
+
+    by : (v : Bool) → is_plain item b ≡ v → goes_on look (drop n t) ≡ goes_on look t
+        → goes_on look (drop (cond v (1 + n) 0) (b ∷ t)) ≡ goes_on look (b ∷ t)
+    by false off rest = refl
+    by true on rest =
+        let e : 1 + n ≡ suc n = omega arith in
+        ap (λ k. goes_on look (drop k (b ∷ t))) e ∙ rest
+        ∙ sym (ap (λ w. is_unclosed (at_start look w (b ∷ t ++ newline) Open (t ++ newline)).how)
+        (plain_goes item b (t ++ newline) (not-true (is_special item b) on)))
 
 pub no_sign-none : (sign t : List ℕ) → length sign < 1 → 0 ≡ prefix_len (λ b. not (is_raw_special sign b)) t
 no_sign-none [] [] h = refl

@@ -4,6 +4,8 @@ ghost use Rattle.cweb_rules.specs.Items as spec;
 ghost use Rattle.cweb_rules.specs.inner.Looks.{look_of, reached, MovesOn};
 ghost use Rattle.cweb_rules.specs.declared.end.End.TheVariants as how;
 ghost use Rattle.cweb_rules.specs.inner.Spans.{IsSizeIn};
+ghost use Rattle.cweb_rules.specs.inner.PlainBytes.{is_plain};
+ghost use Rattle.std.specs.List.{prefix_len};
 
 use crate::bytes::{Class, at_line_end, begins, span_len, starts_section};
 use crate::end::End;
@@ -151,27 +153,32 @@ impl Item<'_> {
     }
 }
 
-/// The extent of an item within a source that may end before the item does. Spans of single-byte units are skipped.
+/// The extent of an item within a source that may end before the item does.
 pub fn reach(item: Item<'_>, text: &[u8]) -> Reached
     ensures value { result ≡ reached (spec.reach (look_of item.entry) how.Open text.now) }
     ensures within { result.size + result.close ≤ length text.now }
 {
-    let mut rest = text;
-    let mut size = 0;
+    reach_after(item, text, item.plain_len(text))
+}
+
+/// The extent of an item that begins with this many single-byte units. Spans of those are skipped.
+pub fn reach_after(item: Item<'_>, text: &[u8], plain: usize) -> Reached
+    requires { IsSizeIn (prefix_len (is_plain item)) text.now plain }
+    ensures value { result ≡ reached (spec.reach (look_of item.entry) how.Open text.now) }
+    ensures within { result.size + result.close ≤ length text.now }
+{
+    let mut rest = text.split_at(plain).1;
+    let mut size = plain;
     'units: while !rest.is_empty() {
-        let plain = item.plain_len(rest);
-        if plain > 0 {
-            rest = rest.split_at(plain).1;
-            size += plain;
-        } else {
-            match item.look(rest) {
-                Look::Goes(unit) => {
-                    let step = unit.min(rest.len());
-                    rest = rest.split_at(step).1;
-                    size += step;
-                }
-                Look::Ends(close, how) => return Reached { size, close, how },
+        match item.look(rest) {
+            Look::Goes(unit) => {
+                let step = unit.min(rest.len());
+                let after = rest.split_at(step).1;
+                let plain = item.plain_len(after);
+                rest = after.split_at(plain).1;
+                size += step + plain;
             }
+            Look::Ends(close, how) => return Reached { size, close, how },
         }
     }
     Reached {

@@ -44,16 +44,22 @@ pub fn push_units(text: &mut Vec<u8>, item: Item<'_>, line: &[u8]) -> Result<(),
 pub fn continues(quote: u8, text: &[u8]) -> bool
     ensures { result ≡ goes_on (items.look_in_literal quote) text.now }
 {
+    let item = Item::Literal(quote);
     let mut rest = text;
     'units: while !rest.is_empty() {
-        match Item::Literal(quote).look(rest) {
-            Look::Goes(size) => {
-                if rest.len() < size {
-                    return true;
+        let plain = item.plain_len(rest);
+        if plain > 0 {
+            rest = rest.split_at(plain).1;
+        } else {
+            match item.look(rest) {
+                Look::Goes(size) => {
+                    if rest.len() < size {
+                        return true;
+                    }
+                    rest = rest.split_at(size).1;
                 }
-                rest = rest.split_at(size).1;
+                Look::Ends(_, _) => return false,
             }
-            Look::Ends(_, _) => return false,
         }
     }
     false

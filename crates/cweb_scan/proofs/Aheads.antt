@@ -63,7 +63,8 @@ read_more run lines ahead old mid new looks first reads adds = record {
 
 -- The lines that were read are taken.
 pub read_taken : {R : Type 0} (old new : MergeState R) (lines : List (List ℕ)) (tells : Bool) (first : SoFar)
-    (all now later : List Event) (pending next : ReaderModel) → TakesLines lines old new → ReadsLines old lines pending next
+    (all now later : List Event) (pending next : ReaderModel) → TakesLines lines old new
+    → ReadsLines old lines pending next
     → (IsTrue tells → EmitsLines (lines_next (top_of old.stack) lines) (so_far_of old) (so_far_of new) now later)
     → HasTaken tells first (so_far_of old) all now pending → HasTaken tells first (so_far_of new) all later next
 read_taken old new lines tells first all now later pending next takes reads yields taken = record {

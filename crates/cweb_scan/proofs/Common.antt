@@ -48,7 +48,7 @@ pub use Rattle.cweb_names.specs.surface.Names.{too_many}
 pub use Rattle.cweb_rules.proofs.FirstBytes.{if_true}
 pub use Rattle.cweb_rules.proofs.InLines.{IsLine-drop, IsLine-take}
 pub use Rattle.cweb_rules.proofs.LineLiterals.{is_quoted-size}
-pub use Rattle.cweb_rules.proofs.Looks.{comment-units, reach_ends}
+pub use Rattle.cweb_rules.proofs.Looks.{comment-units}
 pub use Rattle.cweb_rules.proofs.Reaches.{IsEnd, IsLocal}
 pub use Rattle.cweb_rules.proofs.Seams.{begins_line, in_line, stops}
 pub use Rattle.cweb_rules.proofs.UnitNewlines.{drop-sum, Tells, ends-append}

@@ -1,12 +1,13 @@
 -- Items that a line end ends.
-use Rattle.cweb_scan.proofs.Common.{◌≡◌, ℕ, zero, suc, ◌+◌, ◌-◌, true, false, List, [], ◌∷◌, length, take, drop, refl, ap, sym, ◌∙◌, if◌then◌else◌, Place, at_line_end, Reach, reach, reach_in, with_unit, reach_size, line_comment_match, look_in_comment, reached, End, Closed, Cut, Open, Reached, Look, Goes, Ends, Reading, next_line, each_line_end, comment_line_end, pass_comment, pass_control_text, blank, ended_as, Applies, ScanState, look_in_control, look_in_name, look_in_raw, begins, codes, is_line_end, IsEnd}
+use Rattle.cweb_scan.proofs.Common.{arith, ◌≤◌, ◌≡◌, ℕ, zero, suc, ◌+◌, ◌-◌, true, false, List, [], ◌∷◌, length, take, drop, refl, ap, sym, ◌∙◌, if◌then◌else◌, Place, at_line_end, Reach, reach, reach_in, with_unit, reach_size, line_comment_match, look_in_comment, reached, End, Closed, Cut, Open, Reached, Look, Goes, Ends, Reading, next_line, each_line_end, comment_line_end, pass_comment, pass_control_text, blank, ended_as, Applies, ScanState, look_in_control, look_in_name, look_in_raw, begins, codes, is_line_end, IsEnd}
 use Rattle.cweb_rules.specs.Matches.{control_text_match}
 use Rattle.cweb_rules.specs.Items.{look_in_include}
 use Rattle.cweb_rules.specs.declared.items.Item.{Item}
 use Rattle.cweb_rules.specs.declared.items.Item.TheVariants.{ControlText, Name, Comment, LineComment, Literal}
 use Rattle.cweb_rules.specs.declared.items.Item.TheVariants.{IncludedName, RawLiteral}
 use Rattle.cweb_rules.specs.inner.Looks.{look_of}
-use Rattle.cweb_rules.proofs.Looks.{IsWithin, AllWithin, IsSome, AllSome, control-units, name-units, comment-units}
+use Rattle.cweb_rules.proofs.Looks.{all_some, IsSome, AllSome, control-units, name-units, comment-units}
+use Rattle.cweb_rules.proofs.Lasts.{reach-fits}
 use Rattle.cweb_rules.proofs.Looks.{include-units, raw-units, literal-some}
 pub use Rattle.cweb_rules.proofs.Walks.{at_start}
 
@@ -32,13 +33,6 @@ reach_in-at_end look some e (suc k) (b ∷ t) = reach_in-at_end look some e k t
 reach_in-at_end look some e zero (b ∷ t) =
     one_look look e (b ∷ t) t (look (b ∷ t)) (some b t) (λ k. reach_in-at_end look some e k t)
 
-some_of : (v : Look) (m : ℕ) → IsWithin v m → IsSome v
-some_of (Goes n) m h = h.0
-some_of (Ends n how) m h = h
-
-all_some : (look : List ℕ → Look) → AllWithin look → AllSome look
-all_some look h b t = some_of (look (b ∷ t)) (length (b ∷ t)) (h b t)
-
 -- No unit of an item is empty.
 pub item-some : (item : Item) → AllSome (look_of item)
 item-some ControlText = all_some look_in_control control-units
@@ -58,6 +52,10 @@ pub size-at_end : (item : Item) (e : End) (t : List ℕ) (r : Reached) → r ≡
     → r.size + r.close ≡ reach_size (reach (look_of item) e t)
 size-at_end item e t r is =
     ap (λ (v : Reached). v.size + v.close) is ∙ ap reach_size (sym (reach-at_end item e t))
+
+pub extent_fits : (item : Item) (t : List ℕ) (r : Reached) → r ≡ reached (reach (look_of item) Open t)
+    → r.size + r.close ≤ length t
+extent_fits item t r is = omega (arith, ap (λ (v : Reached). v.size + v.close) is, reach-fits item t)
 
 pub how-at_end : (item : Item) (e : End) (t : List ℕ) (r : Reached) → r ≡ reached (reach (look_of item) Open t)
     → ended_as e r.how ≡ (reach (look_of item) e t).how

@@ -1,14 +1,8 @@
 -- Taking the next lexeme, once the code knows its rule.
 use Rattle.cweb_rules.proofs.FirstBytes.{known_if}
-use Rattle.cweb_scan.proofs.Common.{◌≡◌, ℕ, Bool, true, false, ◌&&◌, List, [], ◌∷◌, ◌++◌, take, drop, refl, ap, sym, ◌∙◌, subst, arith, if◌then◌else◌, codes, length-take-le, begins, first_is, is_blank, is_word_byte, starts_section, starts_raw, starts_literal, starts_include, Kind, RuleMatch, IsLine, opens_in, opens_code, c_opens, c_rule, starts_number, Context, Definition, Effect, Rule, enter_in, item, names_include, Applies, is_head, IsPast, ReaderModel, TakesPrefix, Between, weight, next_match, lex, ScanState, is_line_end}
+use Rattle.cweb_scan.proofs.Common.{◌≡◌, ℕ, Bool, true, false, ◌&&◌, List, refl, subst, if◌then◌else◌, codes, begins, first_is, is_blank, is_word_byte, starts_section, starts_raw, starts_literal, starts_include, Kind, opens_code, c_opens, c_rule, starts_number, Context, Definition, Effect, Rule, enter_in, is_head, IsPast, ReaderModel, Between, ScanState, is_line_end}
 use Rattle.cweb_rules.specs.inner.LineItems.{opens_comment, opens_raw, opens_literal}
-use Rattle.cweb_scan.specs.inner.MatchSteps.{after_match}
 use Rattle.cweb_rules.specs.declared.rule.Rule.TheVariants as rule
-use Rattle.cweb_scan.proofs.NextMatchPays.{fair}
-use Rattle.cweb_scan.proofs.FirstLexeme.{first}
-use Rattle.cweb_scan.proofs.TakenItems.{reading, state_after, taken}
-use Rattle.cweb_scan.proofs.Weights.{piece-weight}
-use Rattle.cweb_rules.proofs.Newlines.{is_known}
 use Rattle.cweb_rules.proofs.ByRules.{by_test}
 
 pub enter_same : (c : Context) (k : Kind) (s : ScanState) → is_head c ≡ false → enter_in c k s ≡ s
@@ -17,32 +11,6 @@ enter_same _ k s h = refl
 
 abbrev pub between : ScanState → Bool → ReaderModel
 between s g = record { state = s; item = Between; begun = g }
-
--- A lexeme that ends no head.
-pub staying_takes : (s new : ScanState) (g : Bool) (n b : ℕ) (t : List ℕ) (f : RuleMatch) → IsLine (b ∷ t)
-    → enter_in s.context (next_match s (b ∷ t)).kind s ≡ s → next_match s (b ∷ t) ≡ f
-    → opens_in s.context (b ∷ t) ≡ false
-    → Applies f (b ∷ t) n s new → TakesPrefix n (b ∷ t) (between s g) (between new g)
-staying_takes s new g n b t f line stays is ends yields =
-    let u = b ∷ t in
-    let f0 = next_match s u in
-    let p = first (reading s []) u in
-    let fits = fair s b t in
-    let same : state_after s p ≡ new =
-    ap (λ (v : ScanState). (item f0.kind (take f0.size u) (reading v [])).state) stays
-    ∙ ap (λ (v : RuleMatch). after_match v u s) is ∙ sym yields.state in
-    let size : n ≡ f0.size = yields.size ∙ ap (λ (v : RuleMatch). v.size) (sym is) in
-    let long = length-take-le f0.size u fits.within in
-    let adds = piece-weight (reading s []) p (omega (arith, long, fits.some)) fits.pays
-    (is_known s.context (names_include s) b t) in
-    record {
-      begun = refl;
-      within = omega (arith, size, fits.within);
-      adds = omega (arith, adds, ap (λ (v : ScanState). weight v) same, size, long);
-      same = λ later more e. ap (λ (v : ScanState). lex (reading v later) (drop n u ++ more)) (sym same)
-          ∙ ap (λ k. lex (reading (state_after s p) later) (drop k u ++ more)) size
-          ∙ sym (taken s later b t more line e ends);
-    }
 
 -- Whether the lexeme of a rule leaves an item open.
 abbrev pub opens_by : (ℕ → Effect) → List ℕ → Rule → Bool

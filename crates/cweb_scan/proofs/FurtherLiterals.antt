@@ -1,10 +1,11 @@
 -- C text outside directives: literals that end in their line and have no `@`.
-use Rattle.cweb_scan.proofs.Common.{◌≡◌, ◌≤◌, ℕ, ◌+◌, true, false, ◌&&◌, ◌==◌, not, List, [], ◌∷◌, ◌++◌, length, take, drop, refl, ap, sym, ◌∙◌, subst, arith, if◌then◌else◌, codes, bytes_eq, flat_map, fold, prefix_len, Literal, Reach, reach, body, reach_size, literal_match, literal_prefix, quote_of, look_in_literal, unit_bytes, unescaped, IsLine, is_unclosed, reached, c_rule, End, Closed, Cut, Open, Reached, Reading, each_line_end, emit_literal, literal_unit, Applies, TakesPlain, ScanState, emit, move_to, is_skipped, IsPlainC}
+use Rattle.cweb_scan.proofs.Common.{◌≡◌, ◌≤◌, ℕ, ◌+◌, suc, true, false, ◌&&◌, ◌==◌, not, List, [], ◌∷◌, ◌++◌, length, take, drop, refl, ap, sym, ◌∙◌, subst, arith, if◌then◌else◌, codes, bytes_eq, flat_map, fold, prefix_len, Literal, Reach, reach, body, reach_size, literal_match, literal_prefix, quote_of, look_in_literal, unit_bytes, unescaped, IsLine, is_unclosed, reached, c_rule, End, Closed, Cut, Open, Reached, Reading, ended_as, each_line_end, emit_literal, literal_unit, Applies, TakesPlain, ScanState, emit, move_to, is_skipped, IsPlainC}
 use Rattle.cweb_rules.specs.declared.rule.Rule.TheVariants as rule
 use Rattle.cweb_rules.proofs.OverLineEnds.{ended_stops}
-use Rattle.cweb_rules.proofs.Looks.{ended_whole, ended_same, literal-local, literal-some}
+use Rattle.cweb_rules.proofs.Looks.{literal-local, literal-some}
 use Rattle.cweb_rules.proofs.UnitNewlines.{quoted-bytes}
-use Rattle.cweb_scan.proofs.Ends.{none_to_come, nothing_later}
+use Rattle.cweb_scan.proofs.Ends.{none_to_come, nothing_later, size-at_end, how-at_end}
+use Rattle.cweb_rules.specs.declared.items.Item.TheVariants as item
 use Rattle.cweb_scan.proofs.Furthers.{ended_turn}
 
 abbrev pub HasNone : List ℕ → Type 0
@@ -18,6 +19,16 @@ none_valid (b ∷ t) h = (elim (b == 64) as (λ v.
       | true ↦ λ e g. absurd (omega (arith, g))
       | false ↦ λ e g. (e, none_valid t (omega (arith, g)))
     ]) refl h
+
+pub none_before : (t : List ℕ) → HasNone (take (prefix_len is_skipped t) t)
+none_before [] = tt
+none_before (b ∷ t) = (elim (b == 64) as (λ v.
+    (b == 64) ≡ v → HasNone (take (if not v then 1 + prefix_len is_skipped t else 0) (b ∷ t))) [
+      | true ↦ λ e. tt
+      | false ↦ λ e.
+          let one : 1 + prefix_len is_skipped t ≡ suc (prefix_len is_skipped t) = omega arith in
+          subst (λ n. HasNone (take n (b ∷ t))) (sym one) (e, none_before t)
+    ]) refl
 
 pub none_apart : (t u : List ℕ) → HasNone (t ++ u) → HasNone t × HasNone u
 none_apart [] u h = (tt, h)
@@ -49,13 +60,6 @@ abbrev pub literal_reach : List ℕ → End → Reach
 literal_reach u e =
     let n = literal_prefix u in reach (look_in_literal (quote_of (drop n u))) e (drop (n + 1) u)
 
-same_reach : (u : List ℕ) → is_unclosed (literal_reach u Open).how ≡ false → literal_reach u Cut ≡ literal_reach u Open
-same_reach u ends =
-    let n = literal_prefix u in
-    let quote = quote_of (drop n u) in
-    ended_same (look_in_literal quote) Cut (drop (n + 1) u) (literal-local quote [] refl)
-    (ended_whole (look_in_literal quote) (literal-some quote) (drop (n + 1) u) ends) ends
-
 literal_yields : (n : ℕ) (u : List ℕ) (s new : ScanState) (r : Reached) → r ≡ reached (literal_reach u Open)
     → r.how ≡ Closed → n ≡ literal_prefix u + 1 + (r.size + r.close) → HasNone (take n u)
     → new ≡ emit (Literal (take n u)) s → Applies (literal_match u) u n s new
@@ -64,13 +68,12 @@ literal_yields n u s new r is closed size none made =
     let look = look_in_literal (quote_of (drop (literal_prefix u) u)) in
     let m = literal_reach u Cut in
     let us = take k u ∷ m.units ++ take m.close (drop (k + length (body m)) u) ∷ [] in
-    let ends = sym (ap (λ (v : Reached). is_unclosed v.how) is) ∙ ap is_unclosed closed in
-    let same : r ≡ reached m = is ∙ ap reached (sym (same_reach u ends)) in
-    let fits : n ≡ k + reach_size m = size ∙ ap (λ (v : Reached). k + (v.size + v.close)) same in
+    let of = item.Literal (quote_of (drop (literal_prefix u) u)) in
+    let fits : n ≡ k + reach_size m = size ∙ ap (λ j. k + j) (size-at_end of Cut (drop k u) r is) in
     let bytes : flat_map (λ u. u) us ≡ take n u =
     quoted-bytes look (literal-some (quote_of (drop (literal_prefix u) u))) k u ∙ ap (λ j. take j u) (sym fits) in
     let clean = subst HasNone (sym bytes) none in
-    let how : m.how ≡ Closed = sym (ap (λ (v : Reached). v.how) same) ∙ closed in
+    let how : m.how ≡ Closed = sym (how-at_end of Cut (drop k u) r is) ∙ ap (ended_as Cut) closed in
     record {
       size = fits;
       state = made ∙ ap (λ x. emit (Literal x) s) (sym bytes ∙ sym (text_stays us clean))
@@ -84,6 +87,7 @@ pub literal_turn : (n : ℕ) (u : List ℕ) (s new : ScanState) (r : Reached) �
     → TakesPlain n u s new
 literal_turn n u s new r line some h is seen closed size none made =
     let quote = quote_of (drop (literal_prefix u) u) in
-    ended_turn n u s new rule.Literal line some h is (ended_stops (look_in_literal quote) (drop (literal_prefix u + 1) u)
+    ended_turn n u s new rule.Literal line some h is (ended_stops (look_in_literal quote) (drop
+    (literal_prefix u + 1) u)
     (literal-local quote (10 ∷ []) refl) (literal-some quote) (sym (ap (λ (v : Reached). is_unclosed v.how) seen)
     ∙ ap is_unclosed closed)) (literal_yields n u s new r seen closed size none made)

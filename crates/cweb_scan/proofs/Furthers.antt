@@ -7,6 +7,7 @@ use Rattle.cweb_rules.specs.declared.rule.Rule.TheVariants as rule
 use Rattle.cweb_scan.specs.declared.directive.Last.TheVariants as last
 use Rattle.cweb_scan.proofs.InLineItemSteps.{closed_at}
 use Rattle.cweb_scan.proofs.Ends.{how-at_end, line_comment_yields, none_to_come, size-at_end}
+use Rattle.cweb_scan.proofs.PendingComments.{comment_goes_on}
 use Rattle.cweb_scan.proofs.Plains.{none_open, rule_at, turn}
 use Rattle.cweb_scan.proofs.RestByLexemes.{c_is, c_opens_is}
 use Rattle.cweb_scan.proofs.FirstMatchTaken.{between, opens_by}
@@ -108,5 +109,6 @@ pub comment_turn : (u : List ℕ) (s : ScanState) (r : Reached) → IsLine u →
     → rule.Comment ≡ c_rule false u → r ≡ reached (reach (look_in_comment (begins (codes "*/")) 2) Open (drop 2 u))
     → r.how ≡ Closed → TakesPlain (2 + (r.size + r.close)) u s s
 comment_turn u s r line some h is reach closed =
-    ended_turn (2 + (r.size + r.close)) u s s rule.Comment line some h is (sym (ap (λ (v : Reached).
-    is_unclosed v.how) reach) ∙ ap is_unclosed closed) (comment_yields u r s reach closed (blank_is s h))
+    ended_turn (2 + (r.size + r.close)) u s s rule.Comment line some h is
+    (comment_goes_on (drop 2 u) ∙ sym (ap (λ (v : Reached). is_unclosed v.how) reach) ∙ ap is_unclosed closed)
+    (comment_yields u r s reach closed (blank_is s h))

@@ -4,9 +4,9 @@ pub mod TiedSteps
 pub mod Rooms
 pub mod NextMatchPays
 pub mod FirstLexeme
-pub mod LineHasNoNewline
 pub mod LineUnits
 pub mod TakenItems
+pub mod WholeItems
 pub mod NameSizes
 pub mod Moves
 pub mod LexemeMoves
@@ -26,7 +26,6 @@ pub mod FurtherLiterals
 pub mod Measures
 pub mod LexemesAreUnique
 pub mod Bounds
-pub mod OpenReaches
 pub mod LiteralOpeners
 pub mod Gaps
 pub mod LineEnds
@@ -46,7 +45,6 @@ mod CodeExamples
 mod RawLiteralExamples
 mod ThousandNames
 mod LawExamples
-pub mod ClosedItemSteps
 pub mod OpeningSteps
 pub mod SkippedRest
 pub mod CodeSteps
@@ -59,6 +57,7 @@ pub mod PendingItems
 pub mod PendingComments
 pub mod PendingNames
 pub mod CrossedLineEnds
+pub mod QuotedItems
 pub mod PendingLiterals
 pub mod PlainBodies
 pub mod PendingKinds

@@ -54,7 +54,8 @@ pub source_read : (h : ReaderModel) → h.begun ≡ true → (read_after h []).s
 source_read h begun = ap (λ v. (elim v as (λ w. Reading)
     [ false ↦ read_lines [] | true ↦ read_on h (places []) (newline_prefixed []) ]).state) begun
 
-ended-weight : (i : OpenItem) (s : ScanState) (g : Bool) → (let h : ReaderModel = record { state = s; item = i; begun = g }
+ended-weight : (i : OpenItem) (s : ScanState) (g : Bool)
+    → (let h : ReaderModel = record { state = s; item = i; begun = g }
     in weight (source_ended h) ≤ cost h)
 ended-weight Between s g = omega arith
 ended-weight (Pending text ps) s g = pending-weight text ps s

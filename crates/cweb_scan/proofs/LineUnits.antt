@@ -1,12 +1,17 @@
 -- The units of a literal in one line don't use the places of later lines.
-use Rattle.cweb_scan.proofs.Common.{◌≡◌, ℕ, true, false, List, [], ◌∷◌, refl, ap, ◌∙◌, if◌then◌else◌, codes, bytes_eq, fold, Place, DoubleAtInString, Reading, on, literal_unit, IsLine, unit_state, ScanState, report, move_to}
+use Rattle.cweb_scan.proofs.Common.{ne_eqb, each_line_end, next_line, ◌≡◌, ℕ, true, false, List, [], ◌∷◌, refl, ap, ◌∙◌, if◌then◌else◌, codes, bytes_eq, fold, Place, DoubleAtInString, Reading, on, literal_unit, IsLine, unit_state, ScanState, report, move_to}
 use Rattle.cweb_rules.proofs.InLines.{AreLines}
-use Rattle.cweb_scan.proofs.LineHasNoNewline.{none-line}
+
+-- A line has no newline that could move the place.
+pub none-line : (f : Place → ScanState → ScanState) (t : List ℕ) (m : Reading) → IsLine t → each_line_end f t m ≡ m
+none-line f [] m h = refl
+none-line f (b ∷ t) m h =
+    ap (λ v. each_line_end f t (if v then next_line f m else m)) (ne_eqb b 10 h.0) ∙ none-line f t m h.1
 
 abbrev pub reading : ScanState → List Place → Reading
 reading s later = record { state = s; later = later }
 
-pub one-unit : (s : ScanState) (later : List Place) (u : List ℕ) → IsLine u
+one-unit : (s : ScanState) (later : List Place) (u : List ℕ) → IsLine u
     → literal_unit (reading s later) u ≡ reading (unit_state s u) later
 one-unit s later u h = ap (λ (r : Reading). if bytes_eq u
     (codes "@") then on (report DoubleAtInString) (reading s later) else r) (none-line move_to u (reading s later) h)

@@ -1,29 +1,30 @@
 -- Comments, as one slice of the source.
-use Rattle.cweb_scan.proofs.Common.{◌≡◌, ℕ, ◌+◌, Bool, true, false, ◌||◌, List, [], ◌∷◌, length, take, drop, refl, ap, sym, ◌∙◌, subst, codes, Place, begins, at_line_ends, Look, Goes, look_in_comment, reach, reach_size, comment_match, RuleMatch, Comment, End, Cut, Open, Reached, reached, is_unclosed, opens_in, Context, Limbo, TeX, Definition, match_in, comment_line_end, pass_comment, blank, on, enter_in, names_include, ScanState, AppliesOver, passed, ended_as, reads_c, with_line}
+use Rattle.cweb_scan.proofs.Common.{◌≡◌, ℕ, ◌+◌, Bool, true, false, ◌||◌, List, [], ◌∷◌, length, take, drop, refl, ap, sym, ◌∙◌, subst, codes, Place, begins, at_line_ends, Look, look_in_comment, reach, reach_size, comment_match, RuleMatch, Comment, End, Cut, Open, Reached, reached, is_unclosed, opens_in, Context, Limbo, TeX, Definition, match_in, comment_line_end, pass_comment, blank, on, enter_in, names_include, ScanState, AppliesOver, passed, ended_as, reads_c, with_line}
 use Rattle.cweb_rules.specs.declared.items.Item.TheVariants as item
-use Rattle.cweb_rules.specs.inner.LineItems.{opens_comment}
-use Rattle.cweb_rules.proofs.Looks.{comment-local, comment-units}
-use Rattle.cweb_rules.proofs.Seams.{begins_line}
+use Rattle.cweb_rules.specs.inner.LineItems.{opens_comment, goes_on}
+use Rattle.cweb_rules.proofs.Looks.{comment-units}
+use Rattle.cweb_rules.proofs.LineComments.{comment_local}
+use Rattle.cweb_rules.proofs.OverLineEnds.{goes_on_is}
 use Rattle.cweb_rules.proofs.Sizes.{begins-size}
 use Rattle.cweb_scan.proofs.Ends.{size-at_end, how-at_end}
 use Rattle.cweb_scan.proofs.OpeningSteps.{two}
-use Rattle.cweb_scan.proofs.PendingItems.{IsNext, each-passed, OverLines, over, over_ended}
+use Rattle.cweb_scan.proofs.CrossedLineEnds.{CrossesNewline, crosses}
+use Rattle.cweb_scan.proofs.PendingItems.{IsNext, each-passed, over, over_ended}
 use Rattle.cweb_scan.proofs.TakenItems.{reading}
 
 abbrev look : List ℕ → Look
 look t = look_in_comment (begins (codes "*/")) 2 t
 
-over_lines : OverLines look
-over_lines = record {
-  within = comment-units (begins (codes "*/")) 2;
-  local = λ more e. comment-local (begins (codes "*/")) 2 more e
-      (λ b t. begins_line (codes "*/") (b ∷ t) more refl e);
-  newline = λ t. newline_goes t;
-}
+comment_crosses : CrossesNewline look
+comment_crosses = crosses look (comment-units (begins (codes "*/")) 2) comment_local newline
   where
-    newline_goes : (t : List ℕ) → look (10 ∷ t) ≡ Goes 1
-    newline_goes [] = refl
-    newline_goes (b ∷ t) = refl
+    newline : (line : List ℕ) → look (10 ∷ line) ≡ look (10 ∷ [])
+    newline [] = refl
+    newline (b ∷ line) = refl
+
+-- As the code sees it.
+pub comment_goes_on : (t : List ℕ) → goes_on look t ≡ is_unclosed (reach look Open t).how
+comment_goes_on t = goes_on_is look t (comment-units (begins (codes "*/")) 2) (comment_local (10 ∷ []) refl) refl
 
 -- The comment as the code takes it.
 pub comment_applies : (t : List ℕ) (ps : List Place) (r : Reached) (s new : ScanState)
@@ -59,10 +60,12 @@ enter_comment : (c : Context) (how : End) (s : ScanState) → enter_in c (Commen
 enter_comment Limbo how s = refl
 enter_comment _ how s = refl
 
-pub is_comment : (s : ScanState) (u : List ℕ) → reads_c s.context ≡ true → begins (codes "/*") u ≡ true → IsNext s u (comment_match u) (opens_comment u)
+pub is_comment : (s : ScanState) (u : List ℕ) → reads_c s.context ≡ true → begins (codes "/*") u ≡ true
+    → IsNext s u (comment_match u) (opens_comment u)
 is_comment s u c h =
     let p = two 47 42 u h in
-    subst (λ (v : List ℕ). IsNext s v (comment_match v) (opens_comment v)) p.1 (let f = seen s.context (names_include s) p.0 c in record {
+    subst (λ (v : List ℕ). IsNext s v (comment_match v) (opens_comment v)) p.1 (let f = seen s.context
+    (names_include s) p.0 c in record {
       is = f.0;
       opens_is = f.1;
       stays = ap (λ (v : RuleMatch). enter_in s.context v.kind s) f.0
@@ -70,10 +73,10 @@ is_comment s u c h =
     })
 
 pub comment_over : (w line : List ℕ) → begins (codes "/*") w ≡ true → opens_comment w ≡ true
-    → (opens_comment (with_line w line) ≡ is_unclosed (reach look Open line).how)
+    → (opens_comment (with_line w line) ≡ goes_on look line)
     × ((comment_match (with_line w line)).size ≡ length w + 1 + reach_size (reach look Cut line))
-comment_over w line sign h = over look over_lines 2 w line (begins-size (codes "/*") w sign) h
+comment_over w line sign h = over look comment_crosses 2 w line (begins-size (codes "/*") w sign) h
 
 pub comment_ended : (w : List ℕ) → begins (codes "/*") w ≡ true → opens_comment w ≡ true
     → (comment_match w).size ≡ length w
-comment_ended w sign h = over_ended look over_lines 2 w (begins-size (codes "/*") w sign) h
+comment_ended w sign h = over_ended look comment_crosses 2 w (begins-size (codes "/*") w sign) h

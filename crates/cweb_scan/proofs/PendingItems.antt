@@ -1,22 +1,18 @@
 -- Lexemes over some lines: each is one slice of the source.
-use Rattle.cweb_scan.proofs.Common.{◌≡◌, ◌≤◌, ◌<◌, ℕ, suc, ◌+◌, ◌*◌, Bool, true, false, List, [], ◌∷◌, ◌++◌, length, take, drop, refl, ap, sym, ◌∙◌, subst, arith, if◌then◌else◌, length-append, append_assoc, append-nil, length-take-le, take-append-add, drop-append-add, drop_all, Place, begins, is_line_end, at_line_ends, Reach, reach, with_unit, reach_size, RuleMatch, End, Cut, Open, AtLineEnd, is_unclosed, IsLine, IsLine-take, opens_in, Reading, each_line_end, next_line, enter_in, item, after_lexeme, lex, names_include, next_match, ScanState, weight, AppliesOver, passed, ReaderModel, MakesProgress, BeginsLine, Between, Pending, holding, with_line, IsPending, IsStored, item_of, is_pending, is_between, drop-append-le, length-drop, get_or, ends-append, IsLocal, Look, Goes, and_parts, and_from, ◌==◌, HasItemRoom, move_to, reads_literals, literals_in_part}
+use Rattle.cweb_scan.proofs.Common.{◌≡◌, ◌≤◌, ◌<◌, ℕ, suc, ◌+◌, ◌*◌, Bool, true, false, List, [], ◌∷◌, ◌++◌, length, take, drop, refl, ap, sym, ◌∙◌, subst, arith, if◌then◌else◌, length-append, append_assoc, append-nil, take-append-add, drop-append-add, drop_all, Place, begins, is_line_end, at_line_ends, reach, reach_size, RuleMatch, Cut, IsLine, IsLine-take, opens_in, Reading, each_line_end, next_line, enter_in, item, after_lexeme, lex, next_match, ScanState, weight, AppliesOver, passed, ReaderModel, MakesProgress, BeginsLine, Between, Pending, holding, with_line, IsPending, IsStored, item_of, is_pending, is_between, drop-append-le, length-drop, get_or, ends-append, Look, and_parts, and_from, ◌==◌, HasItemRoom, move_to, reads_literals, literals_in_part}
 use Rattle.cweb_scan.specs.inner.Room.{CanEmit}
 use Rattle.cweb_scan.specs.declared.reader.open.Open as code
 use Rattle.cweb_scan.specs.declared.reader.open.Open.TheVariants as kinds
 use Rattle.std.proofs.Common.{drop-cons}
-use Rattle.cweb_rules.proofs.Looks.{AllWithin, whole}
-use Rattle.cweb_rules.proofs.Newlines.{is_known}
 use Rattle.cweb_rules.proofs.UnitNewlines.{none-ends}
-use Rattle.cweb_scan.proofs.Ends.{at_start}
-use Rattle.cweb_scan.proofs.FirstLexeme.{first}
 use Rattle.cweb_scan.proofs.FirstMatchTaken.{between}
-use Rattle.cweb_scan.proofs.InLineItemSteps.{at_item}
-use Rattle.cweb_scan.proofs.NextMatchPays.{fair}
+use Rattle.cweb_scan.proofs.WholeItems.{TakesWhole}
 use Rattle.cweb_scan.proofs.OpeningSteps.{opened}
-use Rattle.cweb_scan.proofs.OpenReaches.{after_units, reach-open, open_body, sizes}
-use Rattle.cweb_scan.proofs.TakenItems.{reading, run_as, run_line_item}
+use Rattle.cweb_rules.specs.inner.LineItems.{goes_on}
+use Rattle.cweb_scan.proofs.CrossedLineEnds.{CrossesNewline, crossed_how, crossed_size, crossed_ended}
+use Rattle.cweb_scan.proofs.TakenItems.{reading, run_as}
 use Rattle.cweb_scan.proofs.Walked.{run-walks}
-use Rattle.cweb_scan.proofs.Weights.{piece-weight, weighs}
+use Rattle.cweb_scan.proofs.Weights.{weighs}
 
 -- The next lexeme, whether it leaves an item open, and that it ends no head.
 pub record IsNext (s : ScanState) (u : List ℕ) (f : RuleMatch) (opens : Bool) : Type 0 where
@@ -58,58 +54,6 @@ moved_room n (p ∷ ps) s h = moved_room n ps (move_to p s) (record {
   for_an_occurrence = h.for_an_occurrence;
   for_a_section = h.for_a_section;
 })
-
--- A lexeme with its newlines was taken, whatever follows its last line.
-pub record TakesWhole (n : ℕ) (u : List ℕ) (ps : List Place) (s new : ScanState) : Type 0 where
-  pub some : 1 ≤ n
-  pub within : n ≤ length u
-  pub adds : weight new ≤ weight s + 3 * n
-  pub same : (later : List Place) (more : List ℕ) → AtLineEnd more
-      → lex (reading new later) (drop n u ++ more) ≡ lex (reading s (ps ++ later)) (u ++ more)
-
-whole_of : (s new : ScanState) (b : ℕ) (t : List ℕ) (ps : List Place) (n : ℕ) (f : RuleMatch)
-    → enter_in s.context (next_match s (b ∷ t)).kind s ≡ s → next_match s (b ∷ t) ≡ f
-    → opens_in s.context (b ∷ t) ≡ false → AppliesOver f (b ∷ t) ps n s new → TakesWhole n (b ∷ t) ps s new
-whole_of s new b t ps n f stays is ends applies =
-    let u = b ∷ t in
-    let f0 = next_match s u in
-    let fits = fair s b t in
-    let size : n ≡ f0.size = applies.size ∙ ap (λ (v : RuleMatch). v.size) (sym is) in
-    let long = length-take-le f0.size u fits.within in
-    let after : (later : List Place) → after_lexeme (reading s (ps ++ later)) (first (reading s (ps ++ later)) u)
-    ≡ reading new later =
-    λ later. ap (λ (v : ScanState). item f0.kind (take f0.size u) (reading v (ps ++ later))) stays
-    ∙ ap (λ (v : RuleMatch). item v.kind (take v.size u) (reading s (ps ++ later))) is ∙ applies.state later in
-    let p = first (reading s (ps ++ [])) u in
-    let adds = piece-weight (reading s (ps ++ [])) p (omega (arith, long, fits.some)) fits.pays
-    (is_known s.context (names_include s) b t) in
-    record {
-      some = omega (arith, size, fits.some);
-      within = omega (arith, size, fits.within);
-      adds = omega (arith, adds, ap (λ (r : Reading). weight r.state) (after []), size, long);
-      same = λ later more e. ap (λ k. lex (reading new later) (drop k u ++ more)) size
-          ∙ ap (λ (r : Reading). lex r (drop f0.size u ++ more)) (sym (after later))
-          ∙ sym (run_line_item (reading s (ps ++ later)) b t more e ends);
-    }
-
-pub takes_whole : (s new : ScanState) (u : List ℕ) (ps : List Place) (n : ℕ) (f : RuleMatch) → 1 ≤ length u
-    → enter_in s.context (next_match s u).kind s ≡ s → next_match s u ≡ f
-    → opens_in s.context u ≡ false → AppliesOver f u ps n s new → TakesWhole n u ps s new
-takes_whole s new [] ps n f some stays is ends applies = absurd (omega (arith, some))
-takes_whole s new (b ∷ t) ps n f some stays is ends applies = whole_of s new b t ps n f stays is ends applies
-
--- In its line.
-pub whole_at : (n : ℕ) (u : List ℕ) (h v : ReaderModel) (new : ScanState) (f : RuleMatch) → v ≡ h → h.item ≡ Between
-    → 1 ≤ length u → enter_in h.state.context (next_match h.state u).kind h.state ≡ h.state → next_match h.state u ≡ f
-    → opens_in h.state.context u ≡ false → AppliesOver f u [] n v.state new → MakesProgress n u h (at_item v new)
-whole_at n u h v new f is none some stays match ends = subst (λ (k : ReaderModel). AppliesOver f u [] n k.state new
-    → MakesProgress n u h (at_item k new)) (sym is) (λ applies.
-    let w = takes_whole h.state new u [] n f some stays match ends applies in
-    subst (λ i. MakesProgress n u (opened h.state h.begun i) (opened new h.begun i)) (sym none) (record {
-      some = w.some;
-      last = λ e. cc;
-      taken = record { begun = refl; within = w.within; adds = omega (arith, w.adds); same = w.same };
-    }))
 
 -- A literal may be emitted in a part.
 pub part_room : (h v : ReaderModel) → v ≡ h → reads_literals h.state.context ≡ true → HasItemRoom 2 h.state
@@ -201,38 +145,6 @@ begins_more (x ∷ sign) (b ∷ w) more h =
     let p = and_parts (x == b) (begins sign w) h in
     and_from (x == b) (begins sign (w ++ more)) p.0 (begins_more sign w more p.1)
 
--- An item whose units are within a line, or are newlines.
-pub record OverLines (look : List ℕ → Look) : Type 0 where
-  pub within : AllWithin look
-  pub local : (more : List ℕ) → AtLineEnd more → IsLocal look more
-  pub newline : (t : List ℕ) → look (10 ∷ t) ≡ Goes 1
-
-pub reach_over : (look : List ℕ → Look) → OverLines look → (e : End) (v line : List ℕ)
-    → is_unclosed (reach look Open v).how ≡ true
-    → reach look e (v ++ 10 ∷ line) ≡ after_units (reach look Open v).units (with_unit (10 ∷ []) (reach look e line))
-reach_over look o e v line h =
-    reach-open look e v (10 ∷ line) (o.local (10 ∷ line) refl) (whole look o.within v) h
-    ∙ ap (after_units (reach look Open v).units) (ap (λ w. at_start look w (10 ∷ line) e line) (o.newline line))
-
-pub size_over : (look : List ℕ → Look) → OverLines look → (e : End) (v line : List ℕ)
-    → is_unclosed (reach look Open v).how ≡ true
-    → reach_size (reach look e (v ++ 10 ∷ line)) ≡ length v + (1 + reach_size (reach look e line))
-size_over look o e v line h =
-    let r = reach look e line in
-    let one : reach_size (with_unit (10 ∷ []) r) ≡ 1 + reach_size r = omega arith in
-    ap reach_size (reach_over look o e v line h)
-    ∙ sizes (reach look Open v).units v (with_unit (10 ∷ []) r) (open_body look v (whole look o.within v) h)
-    ∙ ap (λ n. length v + n) one
-
-pub size_ended : (look : List ℕ → Look) → OverLines look → (v : List ℕ)
-    → is_unclosed (reach look Open v).how ≡ true → reach_size (reach look Cut v) ≡ length v
-size_ended look o v h =
-    let w = whole look o.within v in
-    ap (λ (t : List ℕ). reach_size (reach look Cut t)) (sym (append-nil v))
-    ∙ ap reach_size (reach-open look Cut v [] (o.local [] tt) w h)
-    ∙ sizes (reach look Open v).units v (reach look Cut []) (open_body look v w h)
-    ∙ (let e : length v + 0 ≡ length v = omega arith in e)
-
 -- The whole source of a pending item that the source's end ends.
 pub pending_finished : (s new : ScanState) (u : List ℕ) (ps : List Place) (n : ℕ) (f : RuleMatch) → 1 ≤ length u
     → enter_in s.context (next_match s u).kind s ≡ s → next_match s u ≡ f → f.size ≡ length u
@@ -254,27 +166,29 @@ pub pending-weight : (w : List ℕ) (ps : List Place) (s : ScanState)
 pending-weight w ps s = omega (arith, run-walks weighs (reading s (ps ++ [])) (w ++ []), length-append w [])
 
 -- The next line leaves it open, or ends it, as it does with the rest of an item.
-pub over : (look : List ℕ → Look) → OverLines look → (k : ℕ) (w line : List ℕ) → k ≤ length w
-    → is_unclosed (reach look Open (drop k w)).how ≡ true
-    → (is_unclosed (reach look Open (drop k (with_line w line))).how ≡ is_unclosed (reach look Open line).how)
+pub over : (look : List ℕ → Look) → CrossesNewline look → (k : ℕ) (w line : List ℕ) → k ≤ length w
+    → goes_on look (drop k w) ≡ true → (goes_on look (drop k (with_line w line)) ≡ goes_on look line)
     × (k + reach_size (reach look Cut (drop k (with_line w line))) ≡ length w + 1 + reach_size (reach look Cut line))
 over look o k w line fits h =
     let inner : drop k (with_line w line) ≡ drop k w ++ 10 ∷ line =
     ap (drop k) (with_line-is w line) ∙ drop-append-le k w (10 ∷ line) fits in (
-      ap (λ (v : List ℕ). is_unclosed (reach look Open v).how) inner
-          ∙ ap (λ (r : Reach). is_unclosed r.how) (reach_over look o Open (drop k w) line h),
-      ap (λ (v : List ℕ). k + reach_size (reach look Cut v)) inner
-          ∙ ap (λ n. k + n) (size_over look o Cut (drop k w) line h)
-          ∙ (let e : k + (length (drop k w) + (1 + reach_size (reach look Cut line)))
-          ≡ length w + 1 + reach_size (reach look Cut line) = omega (arith, length-drop k w, fits) in e),
+      ap (goes_on look) inner ∙ crossed_how look o (drop k w) line h,
+      omega (
+        arith,
+        ap (λ (v : List ℕ). reach_size (reach look Cut v)) inner,
+        crossed_size look o (drop k w) line h,
+        length-drop k w,
+        fits,
+      ),
     )
 
-pub over_ended : (look : List ℕ → Look) → OverLines look → (k : ℕ) (w : List ℕ) → k ≤ length w
-    → is_unclosed (reach look Open (drop k w)).how ≡ true → k + reach_size (reach look Cut (drop k w)) ≡ length w
-over_ended look o k w fits h = omega (arith, size_ended look o (drop k w) h, length-drop k w, fits)
+pub over_ended : (look : List ℕ → Look) → CrossesNewline look → (k : ℕ) (w : List ℕ) → k ≤ length w
+    → goes_on look (drop k w) ≡ true → k + reach_size (reach look Cut (drop k w)) ≡ length w
+over_ended look o k w fits h = omega (arith, crossed_ended look o (drop k w) h, length-drop k w, fits)
 
 -- What the reader holds.
-pub pending_as : (kind : code.Open) (w : List ℕ) (ps : List Place) → is_between kind ≡ false → item_of kind w ps ≡ Pending w ps
+pub pending_as : (kind : code.Open) (w : List ℕ) (ps : List Place) → is_between kind ≡ false
+    → item_of kind w ps ≡ Pending w ps
 pending_as kinds.Between w ps h = cc
 pending_as _ w ps h = refl
 
@@ -290,7 +204,8 @@ pub record Holds (kind : code.Open) (s : ScanState) (g : Bool) (w : List ℕ) (p
   pub source : IsPending kind s.context w ps
 
 pub pending_now : (kind : code.Open) (s : ScanState) (g : Bool) (w : List ℕ) (ps : List Place) (h : ReaderModel)
-    → opened s g (item_of kind w ps) ≡ h → is_pending h.item ≡ true → IsStored kind s.context w ps → Holds kind s g w ps h
+    → opened s g (item_of kind w ps) ≡ h → is_pending h.item ≡ true → IsStored kind s.context w ps
+    → Holds kind s g w ps h
 pending_now kind s g w ps h is pending stored =
     let k = pending_kind kind w ps (ap (λ (v : ReaderModel). is_pending v.item) is ∙ pending) in record {
       view = ap (λ i. opened s g i) (sym (pending_as kind w ps k)) ∙ is;

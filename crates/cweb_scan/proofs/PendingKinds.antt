@@ -1,5 +1,5 @@
 -- Pending items of any kind, with the next line.
-use Rattle.cweb_scan.proofs.Common.{◌≡◌, ◌≤◌, ℕ, ◌+◌, Bool, true, false, ◌||◌, List, [], ◌∷◌, ◌++◌, length, take, refl, ap, sym, ◌∙◌, subst, arith, codes, length-append, Place, begins, at_line_ends, reach, look_in_comment, look_in_name, look_in_literal, look_in_raw, Open, is_unclosed, opens_in, IsLine, AtLineEnd, Context, literal_prefix, enter_in, next_match, RuleMatch, ScanState, is_between, IsItem, IsPending, IsPast, starts_name, takes_opener, with_line, AppliesOver, lex, ◌-◌, comment_match, name_match, literal_match, raw_match, HasItemRoom, CanTake, ReaderModel, Pending, cost, too_many, ◌<◌}
+use Rattle.cweb_scan.proofs.Common.{◌≡◌, ◌≤◌, ℕ, ◌+◌, Bool, true, false, ◌||◌, List, [], ◌∷◌, ◌++◌, length, take, refl, ap, sym, ◌∙◌, subst, arith, codes, length-append, Place, begins, at_line_ends, look_in_comment, look_in_name, look_in_literal, look_in_raw, opens_in, IsLine, AtLineEnd, Context, literal_prefix, enter_in, next_match, RuleMatch, ScanState, is_between, IsItem, IsPending, IsPast, starts_name, takes_opener, with_line, AppliesOver, lex, ◌-◌, comment_match, name_match, literal_match, raw_match, HasItemRoom, CanTake, ReaderModel, Pending, cost, too_many, ◌<◌}
 use Rattle.cweb_scan.proofs.OpeningSteps.{opened}
 use Rattle.cweb_rules.specs.inner.LineItems.{goes_on, opens_comment, opens_name, opens_literal, opens_raw}
 use Rattle.cweb_rules.specs.inner.RawOpeners.{raw_closer_of}
@@ -9,7 +9,8 @@ use Rattle.cweb_rules.proofs.Sizes.{begins-size}
 use Rattle.std.proofs.Common.{take_all}
 use Rattle.cweb_scan.specs.declared.reader.open.Open as code
 use Rattle.cweb_scan.specs.declared.reader.open.Open.TheVariants.{Between, Comment, Name, Literal, RawLiteral}
-use Rattle.cweb_scan.proofs.PendingItems.{IsNext, newlines_fit, with_line-is, begins_more, pending_newlines, all_newlines, TakesWhole, takes_whole, pending_finished}
+use Rattle.cweb_scan.proofs.PendingItems.{IsNext, newlines_fit, with_line-is, begins_more, pending_newlines, all_newlines, pending_finished}
+use Rattle.cweb_scan.proofs.WholeItems.{TakesWhole, takes_whole}
 use Rattle.cweb_scan.proofs.PendingComments.{is_comment, comment_over, comment_ended}
 use Rattle.cweb_scan.proofs.PendingNames.{is_name, name_two, name_over, name_ended}
 use Rattle.cweb_scan.proofs.PendingLiterals.{is_raw, is_literal, raw_fits, raw_over, raw_ended, literal_over, literal_ended, quote_in}
@@ -62,10 +63,10 @@ item_more kind c w line h i = subst (IsItem kind c) (sym (with_line-is w line)) 
 
 -- Whether another line leaves it open.
 abbrev pub stays_by : code.Open → List ℕ → List ℕ → Bool
-stays_by Name w line = is_unclosed (reach look_in_name Open line).how
+stays_by Name w line = goes_on look_in_name line
 stays_by Literal w line = goes_on (look_in_literal (quote_in w)) line
-stays_by RawLiteral w line = is_unclosed (reach (look_in_raw (raw_closer_of w)) Open line).how
-stays_by kind w line = is_unclosed (reach (look_in_comment (begins (codes "*/")) 2) Open line).how
+stays_by RawLiteral w line = goes_on (look_in_raw (raw_closer_of w)) line
+stays_by kind w line = goes_on (look_in_comment (begins (codes "*/")) 2) line
 
 -- What is known of an item by its source: its match, and whether it is open, also after another line.
 pub record IsKnown (kind : code.Open) (s : ScanState) (w : List ℕ) : Type 0 where
@@ -174,7 +175,8 @@ pub record EndsWith (kind : code.Open) (s : ScanState) (w line : List ℕ) (ps :
   pub size : ℕ
   pub past : (next_match s (with_line w line)).size ≡ length w + 1 + size
   pub ready : HasItemRoom (length ps + 3) s → CanTake kind (with_line w line) (ps ++ q ∷ []) s
-  pub taken : (n : ℕ) (new : ScanState) → AppliesOver (next_match s (with_line w line)) (with_line w line) (ps ++ q ∷ [])
+  pub taken : (n : ℕ) (new : ScanState)
+      → AppliesOver (next_match s (with_line w line)) (with_line w line) (ps ++ q ∷ [])
       n s new → TakesWhole n (with_line w line) (ps ++ q ∷ []) s new
 
 pub ends_with : (kind : code.Open) (s : ScanState) (w line : List ℕ) (ps : List Place) (q : Place)

@@ -1,247 +1,16 @@
--- Literals, raw or not, and included names, as one slice of the source.
-use Rattle.cweb_scan.proofs.Common.{◌≡◌, ◌≤◌, ◌<◌, ℕ, ◌+◌, Bool, true, false, ◌&&◌, ◌==◌, List, [], ◌∷◌, ◌++◌, length, take, drop, refl, ap, sym, ◌∙◌, subst, arith, codes, flat_map, fold, bytes_eq, append_assoc, append-nil, length-append, length-drop, drop-append-le, take-append-drop, flat_map-append, fold-append, Place, begins, Look, Goes, Ends, at_line_ends, look_in_literal, look_in_raw, Reach, reach, body, reach_size, unescaped, unit_bytes, raw_match, literal_match, literal_prefix, quote_of, raw_prefix, delimiter, starts_raw, starts_literal, RuleMatch, Quoted, End, Cut, Open, Reached, reached, AtLineEnd, is_unclosed, opens_in, c_opens, Context, Macro, CText, Reading, literal_unit, emit_literal, on, enter_in, names_include, ScanState, AppliesOver, ended_as, reads_literals, IsPast, PassesUnits, quoted_as, with_line, ends-append, at_line_end, in_macro, in_c, and_parts, Effect, c_match, rule_match, if◌then◌else◌, eqb-true, length-take-le, DoubleAtInString, report, each_line_end, move_to, passed, in_open_part, Contents, too_many}
-use Rattle.cweb_scan.specs.inner.Room.{CanEmit}
-use Rattle.cweb_store.specs.surface.Growing.{token_count, part_count}
-use Rattle.cweb_rules.specs.declared.items.Item.{Item}
-use Rattle.cweb_rules.specs.inner.Looks.{look_of}
+-- Literals that are open at the end of their line.
+use Rattle.cweb_scan.proofs.Common.{ℕ, ◌≡◌, ◌≤◌, ◌+◌, Bool, true, false, ◌&&◌, List, [], ◌∷◌, ◌++◌, length, drop, refl, ap, ◌∙◌, arith, codes, length-drop, drop-append-le, begins, look_in_literal, look_in_raw, reach, reach_size, raw_match, literal_match, literal_prefix, quote_of, raw_prefix, delimiter, starts_raw, starts_literal, RuleMatch, Quoted, End, Cut, Open, AtLineEnd, IsLocal, is_unclosed, opens_in, c_opens, Context, Macro, CText, enter_in, names_include, ScanState, reads_literals, IsPast, with_line, at_line_end, in_macro, in_c, and_parts, Effect, c_match, rule_match, if◌then◌else◌}
 use Rattle.cweb_rules.specs.inner.LineItems.{opens_raw, opens_literal, goes_on}
 use Rattle.cweb_rules.specs.inner.RawOpeners.{raw_opener_len, raw_closer_of}
 use Rattle.cweb_rules.proofs.LineDelimiters.{raw_prefix-line, delimiter-line, sign-fits, has_delimiter-size, closing_sign-in_line}
 use Rattle.cweb_rules.proofs.LineLiterals.{literal_prefix-line, is_quoted-size}
 use Rattle.cweb_rules.proofs.Looks.{raw-local, raw-units}
 use Rattle.cweb_rules.proofs.Seams.{drop_line}
-use Rattle.cweb_rules.proofs.UnitNewlines.{quoted-bytes}
-use Rattle.cweb_scan.proofs.CrossedLineEnds.{literal_ends_at_newline, crossed_how, crossed_size, crossed_ended}
-use Rattle.cweb_scan.proofs.Ends.{item-some, reach-at_end, size-at_end, how-at_end, at_end, at_start}
-use Rattle.cweb_scan.proofs.PendingItems.{IsNext, each-passed, OverLines, over, over_ended, with_line-is}
+use Rattle.cweb_scan.proofs.CrossedLineEnds.{CrossesNewline, crosses, literal_crosses}
+use Rattle.cweb_scan.proofs.PendingItems.{IsNext, over, over_ended, with_line-is}
+use Rattle.cweb_rules.proofs.OverLineEnds.{goes_on_is}
 use Rattle.cweb_scan.proofs.LiteralOpeners.{c_prefix_raw, c_prefix_literal, literal_first, enter_quoted}
 use Rattle.cweb_scan.proofs.OpeningSteps.{not_back}
-use Rattle.cweb_scan.proofs.TakenItems.{reading}
-
--- Units one after another.
-pub passes_both : (us vs : List (List ℕ)) (a b c : List Place) (s t v : ScanState) → PassesUnits us a b s t
-    → PassesUnits vs b c t v → PassesUnits (us ++ vs) a c s v
-passes_both us vs a b c s t v x y = record {
-  state = λ later. fold-append literal_unit (reading s (a ++ later)) us vs
-      ∙ ap (λ (r : Reading). fold literal_unit r vs) (x.state later) ∙ y.state later;
-  lines = omega (
-    arith,
-    x.lines,
-    y.lines,
-    ap (at_line_ends 1) (flat_map-append (λ u. u) us vs),
-    ends-append (flat_map (λ u. u) us) (flat_map (λ u. u) vs),
-  );
-  context = y.context ∙ x.context;
-  contents = y.contents ∙ x.contents;
-  sections = y.sections ∙ x.sections;
-}
-
-pub passes_none : (a : List Place) (s : ScanState) → PassesUnits [] a a s s
-passes_none a s = record { state = λ later. refl; lines = omega arith; context = refl; contents = refl; sections = refl }
-
--- Some units were passed, and the rest are to come.
-pub record PassesRest (us rest : List (List ℕ)) (places left : List Place) (old mid : ScanState) : Type 0 where
-  pub goes_on : (end : List Place) (new : ScanState) → PassesUnits rest left end mid new
-      → PassesUnits us places end old new
-  pub lines : at_line_ends 1 (flat_map (λ u. u) rest) ≤ length left
-
-pub passes_first : (us rest : List (List ℕ)) (unit : List ℕ) (later : List (List ℕ)) (a b c : List Place)
-    (s t v : ScanState) → rest ≡ unit ∷ later → PassesRest us rest a b s t → PassesUnits (unit ∷ []) b c t v
-    → PassesRest us later a c s v
-passes_first us rest unit later a b c s t v is x y = record {
-  goes_on = λ end new z. x.goes_on end new (subst (λ (w : List (List ℕ)). PassesUnits w b end t new) (sym is)
-      (passes_both (unit ∷ []) later b c end t v new y z));
-  lines = omega (
-    arith,
-    x.lines,
-    y.lines,
-    ap (λ (w : List (List ℕ)). at_line_ends 1 (flat_map (λ u. u) w)) is,
-    ends-append unit (flat_map (λ u. u) later),
-    ap (at_line_ends 1) (append-nil unit),
-  );
-}
-
-pub passes_last : (us rest : List (List ℕ)) (a b : List Place) (s t : ScanState) → rest ≡ [] → PassesRest us rest a b s t
-    → PassesUnits us a b s t
-passes_last us rest a b s t is x = x.goes_on b t
-    (subst (λ (w : List (List ℕ)). PassesUnits w b b t t) (sym is) (passes_none b t))
-
-pub no_units : (look : List ℕ → Look) (t : List ℕ) → length t ≡ 0 → (reach look Open t).units ≡ []
-no_units look [] h = refl
-no_units look (b ∷ t) h = absurd (omega (arith, h))
-
-pub ended_units : (look : List ℕ → Look) (t : List ℕ) (v : Look) → v ≡ look t → ((n : ℕ) → v ≡ Goes n → ⊥)
-    → (reach look Open t).units ≡ []
-ended_units look [] v is none = refl
-ended_units look (b ∷ t) v is none = ap (λ w. (at_start look w (b ∷ t) Open t).units) (sym is) ∙ by v none
-  where
-    by : (v : Look) → ((n : ℕ) → v ≡ Goes n → ⊥) → (at_start look v (b ∷ t) Open t).units ≡ []
-    by (Goes n) none = absurd (none n refl)
-    by (Ends n how) none = refl
-
-pub quoted_passes : (first close : List ℕ) (us : List (List ℕ)) (a b c d : List Place) (s t v w : ScanState)
-    → PassesUnits (first ∷ []) a b s t → PassesUnits us b c t v → PassesUnits (close ∷ []) c d v w
-    → PassesUnits (first ∷ us ++ close ∷ []) a d s w
-quoted_passes first close us a b c d s t v w x y z =
-    passes_both (first ∷ []) (us ++ close ∷ []) a b d s t w x (passes_both us (close ∷ []) b c d t v w y z)
-
--- The units of a literal, opener and closer included.
-abbrev pub all_units : ℕ → Reach → List ℕ → List (List ℕ)
-all_units k r t = take k t ∷ r.units ++ take r.close (drop (k + length (body r)) t) ∷ []
-
-no_place_left : (left : List Place) → length left ≡ 0 → left ≡ []
-no_place_left [] h = refl
-no_place_left (p ∷ ps) h = absurd (omega (arith, h))
-
-moved_same : (ps : List Place) (s : ScanState) → ((passed move_to ps s).context ≡ s.context)
-    × ((passed move_to ps s).contents ≡ s.contents) × ((passed move_to ps s).sections ≡ s.sections)
-moved_same [] s = (refl, refl, refl)
-moved_same (p ∷ ps) s = moved_same ps (move_to p s)
-
-no_line_end : (u : List ℕ) → bytes_eq u (codes "@") ≡ true → at_line_ends 1 u ≡ 0
-no_line_end [] h = refl
-no_line_end (b ∷ []) h =
-    let same = eqb-true b 64 (and_parts (b == 64) true h).0 in ap (λ n. at_line_ends 1 (n ∷ [])) same
-no_line_end (b ∷ c ∷ t) h = let wrong = (and_parts (b == 64) false h).1 in cc
-
--- An `@` that isn't doubled.
-pub lone_at : (u : List ℕ) (ps : List Place) (s new : ScanState) → bytes_eq u (codes "@") ≡ true
-    → new ≡ report DoubleAtInString s → PassesUnits (u ∷ []) ps ps s new
-lone_at u ps s new h made = record {
-  state = λ later. ap (λ v. if v then on (report DoubleAtInString) (reading s (ps ++ later))
-      else each_line_end move_to u (reading s (ps ++ later))) h ∙ ap (λ (v : ScanState). reading v (ps ++ later)) (sym made);
-  lines = omega (arith, ap (at_line_ends 1) (append-nil u), no_line_end u h);
-  context = ap (λ (v : ScanState). v.context) made;
-  contents = ap (λ (v : ScanState). v.contents) made;
-  sections = ap (λ (v : ScanState). v.sections) made;
-}
-
--- Any other unit.
-pub lines_passed : (u : List ℕ) (n : ℕ) (ps first left : List Place) (s new : ScanState)
-    → bytes_eq u (codes "@") ≡ false → n ≡ at_line_ends 1 u → n ≤ length ps → first ≡ take n ps → left ≡ drop n ps
-    → new ≡ passed move_to first s → PassesUnits (u ∷ []) ps left s new
-lines_passed u n ps first left s new h count fits front back made =
-    let size : at_line_ends 1 u ≡ length first = omega (
-      arith,
-      count,
-      ap (λ (v : List Place). length v) front,
-      length-take-le n ps fits,
-    ) in
-    let all : ps ≡ first ++ left = sym (take-append-drop n ps) ∙ (λ i. sym front i ++ sym back i) in
-    let same = moved_same first s in record {
-      state = λ later. ap (λ v. if v then on (report DoubleAtInString) (reading s (ps ++ later))
-          else each_line_end move_to u (reading s (ps ++ later))) h
-          ∙ ap (λ (v : List Place). each_line_end move_to u (reading s v))
-          (ap (λ (v : List Place). v ++ later) all ∙ append_assoc first left later)
-          ∙ each-passed move_to u first s (left ++ later) size
-          ∙ ap (λ (v : ScanState). reading v (left ++ later)) (sym made);
-      lines = omega (
-        arith,
-        ap (at_line_ends 1) (append-nil u),
-        size,
-        ap (λ (v : List Place). length v) all,
-        length-append first left,
-      );
-      context = ap (λ (v : ScanState). v.context) made ∙ same.0;
-      contents = ap (λ (v : ScanState). v.contents) made ∙ same.1;
-      sections = ap (λ (v : ScanState). v.sections) made ∙ same.2;
-    }
-
-pub emits_after : (us : List (List ℕ)) (a b : List Place) (s t : ScanState) → PassesUnits us a b s t → CanEmit 1 s
-    → CanEmit 1 t
-emits_after us a b s t x h = record {
-  part = ap in_open_part x.context ∙ h.part;
-  room = record {
-    for_tokens = subst (λ (c : Contents). token_count c.parts + 1 < too_many) (sym x.contents) h.room.for_tokens;
-    for_a_part = subst (λ (c : Contents). part_count c.parts + 1 < too_many) (sym x.contents) h.room.for_a_part;
-    for_an_occurrence =
-        subst (λ (c : Contents). length c.occurrences + 1 < too_many) (sym x.contents) h.room.for_an_occurrence;
-    for_a_section = subst (λ (n : ℕ). n + 1 < too_many) (sym x.sections) h.room.for_a_section;
-  };
-}
-
--- The newlines of its opener, its units and its closer.
-pub quoted_lines : (k : ℕ) (item : Item) (t : List ℕ) (r : Reached) (n : ℕ)
-    → r ≡ reached (reach (look_of item) Open (drop k t)) → at_line_ends 1 (take (quoted_as k item t).size t) ≡ n
-    → at_line_ends 1 (take k t) + (at_line_ends 1 (body (reach (look_of item) Open (drop k t)))
-    + at_line_ends 1 (take r.close (drop (k + r.size) t))) ≡ n
-quoted_lines k item t r n is lines =
-    let look = look_of item in
-    let o = reach look Open (drop k t) in
-    let close = take r.close (drop (k + r.size) t) in
-    let same : take k t ∷ o.units ++ close ∷ [] ≡ all_units k (reach look Cut (drop k t)) t =
-    ap (λ (v : Reached). take k t ∷ o.units ++ take v.close (drop (k + v.size) t) ∷ []) is
-    ∙ ap (λ (v : Reach). all_units k v t) (sym (reach-at_end item Cut (drop k t))) in
-    omega (
-      arith,
-      lines,
-      ap (λ (v : List (List ℕ)). at_line_ends 1 (flat_map (λ u. u) v)) same,
-      ap (at_line_ends 1) (quoted-bytes look (item-some item) k t),
-      ends-append (take k t) (flat_map (λ u. u) (o.units ++ close ∷ [])),
-      ap (at_line_ends 1) (flat_map-append (λ u. u) o.units (close ∷ [])),
-      ends-append (body o) (flat_map (λ u. u) (close ∷ [])),
-      ap (at_line_ends 1) (append-nil close),
-    )
-
-pub quoted_text : (first close : List ℕ) (us : List (List ℕ))
-    → (unit_bytes first ++ unescaped us) ++ unit_bytes close ≡ unescaped (first ∷ us ++ close ∷ [])
-quoted_text first close us = append_assoc (unit_bytes first) (unescaped us) (unit_bytes close)
-    ∙ ap (λ (v : List ℕ). unit_bytes first ++ v) (sym (flat_map-append unit_bytes us (close ∷ [])
-    ∙ ap (λ (v : List ℕ). unescaped us ++ v) (append-nil (unit_bytes close))))
-
--- A literal as the code takes it.
-quoted_applies : (k : ℕ) (item : Item) (t : List ℕ) (ps left : List Place) (r : Reached) (x : List ℕ)
-    (s mid new : ScanState) → r ≡ reached (reach (look_of item) Open (drop k t))
-    → at_line_ends 1 (take (quoted_as k item t).size t) ≡ length ps
-    → PassesUnits (take k t ∷ (reach (look_of item) Open (drop k t)).units ++ take r.close (drop (k + r.size) t) ∷ [])
-    ps left s mid
-    → x ≡ unescaped (take k t ∷ (reach (look_of item) Open (drop k t)).units ++ take r.close (drop (k + r.size) t) ∷ [])
-    → new ≡ emit_literal x (ended_as Cut r.how) s.here mid
-    → AppliesOver (quoted_as k item t) t ps (k + (r.size + r.close)) s new
-quoted_applies k item t ps left r x s mid new is lines passes text made =
-    let look = look_of item in
-    let o = reach look Open (drop k t) in
-    let units = take k t ∷ o.units ++ take r.close (drop (k + r.size) t) ∷ [] in
-    let m = reach look Cut (drop k t) in
-    let end : m ≡ at_end Cut o = reach-at_end item Cut (drop k t) in
-    let us : take k t ∷ o.units ++ take r.close (drop (k + r.size) t) ∷ [] ≡ all_units k m t =
-    ap (λ (v : Reached). take k t ∷ o.units ++ take v.close (drop (k + v.size) t) ∷ []) is
-    ∙ ap (λ (v : Reach). all_units k v t) (sym end) in
-    let bytes : flat_map (λ u. u) (all_units k m t) ≡ take (k + reach_size m) t =
-    quoted-bytes look (item-some item) k t in
-    let none : left ≡ [] = no_place_left left (omega (
-      arith,
-      passes.lines,
-      ap (λ (v : List (List ℕ)). at_line_ends 1 (flat_map (λ u. u) v)) us,
-      ap (at_line_ends 1) bytes,
-      lines,
-    )) in
-    record {
-      size = ap (λ n. k + n) (size-at_end item Cut (drop k t) r is);
-      state = λ later. ap (λ (v : List (List ℕ)). on (emit_literal (unescaped v) m.how s.here)
-          (fold literal_unit (reading s (ps ++ later)) v)) (sym us)
-          ∙ ap (on (emit_literal (unescaped units) m.how s.here)) (passes.state later)
-          ∙ (λ i. reading (emit_literal (sym text i) (sym (how-at_end item Cut (drop k t) r is) i) s.here mid)
-          (none i ++ later))
-          ∙ ap (λ (v : ScanState). reading v later) (sym made);
-    }
-
-pub quoted_taken : (k : ℕ) (item : Item) (t : List ℕ) (ps left : List Place) (r : Reached) (x : List ℕ)
-    (s mid new : ScanState) (first inner close : List ℕ) → first ≡ take k t → inner ≡ drop k t
-    → close ≡ take r.close (drop (k + r.size) t) → r ≡ reached (reach (look_of item) Open inner)
-    → at_line_ends 1 (take (quoted_as k item t).size t) ≡ length ps
-    → PassesUnits (first ∷ (reach (look_of item) Open inner).units ++ close ∷ []) ps left s mid
-    → x ≡ (unit_bytes first ++ unescaped (reach (look_of item) Open inner).units) ++ unit_bytes close
-    → new ≡ emit_literal x (ended_as Cut r.how) s.here mid
-    → AppliesOver (quoted_as k item t) t ps (k + (r.size + r.close)) s new
-quoted_taken k item t ps left r x s mid new first inner close front back closes is lines passes text made =
-    let look = look_of item in
-    let units : first ∷ (reach look Open inner).units ++ close ∷ []
-    ≡ take k t ∷ (reach look Open (drop k t)).units ++ take r.close (drop (k + r.size) t) ∷ [] =
-    (λ i. front i ∷ (reach look Open (back i)).units ++ closes i ∷ []) in
-    quoted_applies k item t ps left r x s mid new (is ∙ ap (λ (v : List ℕ). reached (reach look Open v)) back) lines
-    (subst (λ (v : List (List ℕ)). PassesUnits v ps left s mid) units passes)
-    (text ∙ quoted_text first close (reach look Open inner).units ∙ ap unescaped units) made
 
 -- Its opener and closer are in its first line.
 pub raw_same : (w more : List ℕ) → AtLineEnd more → starts_raw w ≡ true
@@ -296,21 +65,27 @@ is_literal s [] c past raw starts = let wrong : false ≡ true = starts in cc
 is_literal s (b ∷ t) c past raw starts = is_quoted s b t _ _ _ (opens_literal (b ∷ t)) c
     (not_back starts_literal b t refl starts)
     (λ effect takes includes. c_prefix_literal effect takes includes (b ∷ t) past raw starts)
-    (λ effect. rw (past.blank, past.line_end, past.comment, past.line_comment, past.section, past.code, raw, starts) refl)
+    (λ effect. rw (past.blank, past.line_end, past.comment, past.line_comment, past.section, past.code, raw, starts)
+    refl)
 
-raw_lines : (w : List ℕ) → OverLines (look_in_raw (raw_closer_of w))
-raw_lines w = record {
-  within = raw-units (raw_closer_of w);
-  local = λ more e. raw-local (raw_closer_of w) more (closing_sign-in_line (drop (raw_prefix w + 2) w)) e;
-  newline = λ t. newline_goes t;
-}
+raw_local : (w more : List ℕ) → AtLineEnd more → IsLocal (look_in_raw (raw_closer_of w)) more
+raw_local w more e = raw-local (raw_closer_of w) more (closing_sign-in_line (drop (raw_prefix w + 2) w)) e
+
+raw_crosses : (w : List ℕ) → CrossesNewline (look_in_raw (raw_closer_of w))
+raw_crosses w = crosses (look_in_raw (raw_closer_of w)) (raw-units (raw_closer_of w)) (raw_local w) newline
   where
-    newline_goes : (t : List ℕ) → look_in_raw (raw_closer_of w) (10 ∷ t) ≡ Goes 1
-    newline_goes [] = refl
-    newline_goes (b ∷ t) = refl
+    newline : (line : List ℕ) → look_in_raw (raw_closer_of w) (10 ∷ line) ≡ look_in_raw (raw_closer_of w) (10 ∷ [])
+    newline [] = refl
+    newline (b ∷ line) = refl
+
+-- As the code sees it.
+pub raw_goes_on : (w t : List ℕ)
+    → goes_on (look_in_raw (raw_closer_of w)) t ≡ is_unclosed (reach (look_in_raw (raw_closer_of w)) Open t).how
+raw_goes_on w t =
+    goes_on_is (look_in_raw (raw_closer_of w)) t (raw-units (raw_closer_of w)) (raw_local w (10 ∷ []) refl) refl
 
 pub raw_over : (w line : List ℕ) → starts_raw w ≡ true → opens_raw w ≡ true
-    → (opens_raw (with_line w line) ≡ is_unclosed (reach (look_in_raw (raw_closer_of w)) Open line).how)
+    → (opens_raw (with_line w line) ≡ goes_on (look_in_raw (raw_closer_of w)) line)
     × ((raw_match (with_line w line)).size
     ≡ length w + 1 + reach_size (reach (look_in_raw (raw_closer_of w)) Cut line))
 raw_over w line starts h =
@@ -318,14 +93,14 @@ raw_over w line starts h =
     let same = raw_same w (10 ∷ line) refl starts in
     let opener = ap raw_opener_len (with_line-is w line) ∙ same.0 in
     let closer = ap raw_closer_of (with_line-is w line) ∙ same.1 in
-    let o = over (look_in_raw (raw_closer_of w)) (raw_lines w) (raw_opener_len w) w line (raw_fits w starts) h in (
-      (λ i. is_unclosed (reach (look_in_raw (closer i)) Open (drop (opener i) u)).how) ∙ o.0,
+    let o = over (look_in_raw (raw_closer_of w)) (raw_crosses w) (raw_opener_len w) w line (raw_fits w starts) h in (
+      (λ i. goes_on (look_in_raw (closer i)) (drop (opener i) u)) ∙ o.0,
       (λ i. opener i + reach_size (reach (look_in_raw (closer i)) Cut (drop (opener i) u))) ∙ o.1,
     )
 
 pub raw_ended : (w : List ℕ) → starts_raw w ≡ true → opens_raw w ≡ true → (raw_match w).size ≡ length w
 raw_ended w starts h =
-    over_ended (look_in_raw (raw_closer_of w)) (raw_lines w) (raw_opener_len w) w (raw_fits w starts) h
+    over_ended (look_in_raw (raw_closer_of w)) (raw_crosses w) (raw_opener_len w) w (raw_fits w starts) h
 
 -- The quote of a literal.
 abbrev pub quote_in : List ℕ → ℕ
@@ -333,12 +108,9 @@ quote_in t = quote_of (drop (literal_prefix t) t)
 
 pub quote_as : (w v u quoted : List ℕ) (p q : ℕ) → v ≡ w → u ≡ w → p ≡ literal_prefix v → quoted ≡ drop p u
     → q ≡ quote_of quoted → q ≡ quote_in w
-quote_as w v u quoted p q same pending prefix back quote = quote ∙ ap quote_of (back ∙ (λ i. drop (prefix i) (pending i)))
+quote_as w v u quoted p q same pending prefix back quote = quote
+    ∙ ap quote_of (back ∙ (λ i. drop (prefix i) (pending i)))
     ∙ ap (λ (t : List ℕ). quote_of (drop (literal_prefix t) w)) same
-
-no_newline : (t : List ℕ) → (quote_of t == 10) ≡ false
-no_newline t = elim (begins (codes "'") t) as (λ v. ((if v then 39 else 34) == 10) ≡ false)
-    [ true ↦ refl | false ↦ refl ]
 
 literal_same : (w more : List ℕ) → AtLineEnd more → starts_literal w ≡ true
     → (literal_prefix (w ++ more) ≡ literal_prefix w) × (quote_in (w ++ more) ≡ quote_in w)
@@ -355,30 +127,17 @@ pub literal_over : (w line : List ℕ) → starts_literal w ≡ true → opens_l
     × ((literal_match (with_line w line)).size
     ≡ length w + 1 + reach_size (reach (look_in_literal (quote_in w)) Cut line))
 literal_over w line starts h =
-    let k = literal_prefix w + 1 in
-    let look = look_in_literal (quote_in w) in
-    let o = literal_ends_at_newline (quote_in w) (no_newline (drop (literal_prefix w) w)) in
-    let fits = is_quoted-size (literal_prefix w) w starts in
+    let u = with_line w line in
     let same = literal_same w (10 ∷ line) refl starts in
-    let inner : drop k (w ++ 10 ∷ line) ≡ drop k w ++ 10 ∷ line = drop-append-le k w (10 ∷ line) fits in (
-      ap opens_literal (with_line-is w line)
-          ∙ (λ i. goes_on (look_in_literal (same.1 i)) (drop (same.0 i + 1) (w ++ 10 ∷ line)))
-          ∙ ap (goes_on look) inner ∙ crossed_how look o (drop k w) line h,
-      ap (λ (t : List ℕ). (literal_match t).size) (with_line-is w line)
-          ∙ (λ i. same.0 i + 1 + reach_size (reach (look_in_literal (same.1 i)) Cut (drop (same.0 i + 1) (w ++ 10 ∷ line))))
-          ∙ ap (λ (t : List ℕ). k + reach_size (reach look Cut t)) inner
-          ∙ ap (λ n. k + n) (crossed_size look o (drop k w) line h)
-          ∙ (let e : k + (length (drop k w) + 1 + reach_size (reach look Cut line))
-          ≡ length w + 1 + reach_size (reach look Cut line) = omega (arith, length-drop k w, fits) in e),
+    let prefix = ap literal_prefix (with_line-is w line) ∙ same.0 in
+    let quote = ap quote_in (with_line-is w line) ∙ same.1 in
+    let o = over (look_in_literal (quote_in w)) (literal_crosses (quote_in w)) (literal_prefix w + 1) w line
+    (is_quoted-size (literal_prefix w) w starts) h in (
+      (λ i. goes_on (look_in_literal (quote i)) (drop (prefix i + 1) u)) ∙ o.0,
+      (λ i. prefix i + 1 + reach_size (reach (look_in_literal (quote i)) Cut (drop (prefix i + 1) u))) ∙ o.1,
     )
 
 pub literal_ended : (w : List ℕ) → starts_literal w ≡ true → opens_literal w ≡ true → (literal_match w).size ≡ length w
-literal_ended w starts h =
-    let k = literal_prefix w + 1 in
-    let o = literal_ends_at_newline (quote_in w) (no_newline (drop (literal_prefix w) w)) in
-    omega (
-      arith,
-      crossed_ended (look_in_literal (quote_in w)) o (drop k w) h,
-      length-drop k w,
-      is_quoted-size (literal_prefix w) w starts,
-    )
+literal_ended w starts h = over_ended (look_in_literal (quote_in w)) (literal_crosses (quote_in w))
+    (literal_prefix w + 1) w
+    (is_quoted-size (literal_prefix w) w starts) h

@@ -1,34 +1,41 @@
 -- Names, as one slice of the source.
-use Rattle.cweb_scan.proofs.Common.{◌≡◌, ◌≤◌, ℕ, ◌+◌, Bool, true, false, ◌||◌, List, [], ◌∷◌, length, take, drop, refl, ap, sym, ◌∙◌, subst, arith, codes, if◌then◌else◌, nat_lt, drop-sum, Place, begins, Goes, at_line_ends, look_in_name, Reach, reach, body, reach_size, unescaped, name_match, opener_after, End, Cut, Open, Reached, reached, is_unclosed, opens_in, Context, Limbo, Definition, CText, match_in, occurrence, move_to, on, names_include, next_match, ScanState, AppliesOver, passed, ended_as, reads_names, is_head, starts_name, takes_opener, with_line}
+use Rattle.cweb_scan.proofs.Common.{◌≡◌, ◌≤◌, prefix_len, is_skipped, ℕ, ◌+◌, Bool, true, false, ◌||◌, List, [], ◌∷◌, length, take, drop, refl, ap, sym, ◌∙◌, subst, arith, codes, if◌then◌else◌, nat_lt, drop-sum, Place, begins, at_line_ends, look_in_name, Reach, reach, body, reach_size, unescaped, name_match, opener_after, End, Cut, Open, Reached, reached, is_unclosed, opens_in, Context, Limbo, Definition, CText, match_in, occurrence, move_to, on, names_include, next_match, ScanState, AppliesOver, passed, ended_as, reads_names, is_head, starts_name, takes_opener, with_line}
 use Rattle.cweb_rules.specs.declared.items.Item.TheVariants as item
-use Rattle.cweb_rules.specs.inner.LineItems.{opens_name}
+use Rattle.cweb_rules.specs.inner.LineItems.{opens_name, goes_on}
+use Rattle.cweb_rules.proofs.OverLineEnds.{goes_on_is}
 use Rattle.cweb_rules.proofs.Looks.{name-local, name-units}
 use Rattle.cweb_rules.proofs.Sizes.{begins-size}
 use Rattle.cweb_rules.proofs.UnitNewlines.{units-prefix}
 use Rattle.cweb_scan.proofs.Ends.{item-some, reach-at_end, size-at_end, how-at_end}
 use Rattle.cweb_scan.proofs.FirstMatchTaken.{enter_same}
-use Rattle.cweb_scan.proofs.FurtherLiterals.{HasNone, text_stays}
-use Rattle.cweb_scan.proofs.PendingItems.{IsNext, each-passed, OverLines, over, over_ended}
+use Rattle.cweb_scan.proofs.FurtherLiterals.{HasNone, none_before, text_stays}
+use Rattle.cweb_scan.proofs.CrossedLineEnds.{CrossesNewline, crosses}
+use Rattle.cweb_scan.proofs.PendingItems.{IsNext, each-passed, over, over_ended}
 use Rattle.cweb_scan.proofs.OpeningSteps.{two}
 use Rattle.cweb_scan.proofs.TakenItems.{reading}
 
-over_lines : OverLines look_in_name
-over_lines = record { within = name-units; local = name-local; newline = λ t. newline_goes t }
+name_crosses : CrossesNewline look_in_name
+name_crosses = crosses look_in_name name-units name-local newline
   where
-    newline_goes : (t : List ℕ) → look_in_name (10 ∷ t) ≡ Goes 1
-    newline_goes [] = refl
-    newline_goes (b ∷ t) = refl
+    newline : (line : List ℕ) → look_in_name (10 ∷ line) ≡ look_in_name (10 ∷ [])
+    newline [] = refl
+    newline (b ∷ line) = refl
+
+-- As the code sees it.
+pub name_goes_on : (t : List ℕ) → goes_on look_in_name t ≡ is_unclosed (reach look_in_name Open t).how
+name_goes_on t = goes_on_is look_in_name t name-units (name-local (10 ∷ []) refl) refl
 
 -- A name as the code takes it.
-pub name_applies : (t : List ℕ) (ps : List Place) (r : Reached) (opener taken : ℕ) (x : List ℕ) (s new : ScanState)
+pub name_applies : (t : List ℕ) (ps : List Place) (r : Reached) (opener taken : ℕ) (s new : ScanState)
     → r ≡ reached (reach look_in_name Open (drop 2 t))
     → opener ≡ opener_after (ended_as Cut r.how) (drop (r.size + r.close) (drop 2 t))
     → taken ≡ (if takes_opener s then opener else 0)
     → at_line_ends 1 (take (name_match (takes_opener s) t).size t) ≡ length ps
-    → x ≡ unescaped (reach look_in_name Open (drop 2 t)).units
-    → new ≡ occurrence (begins (codes "@(") t) x (ended_as Cut r.how) (nat_lt 0 opener) s.here (passed move_to ps s)
+    → new ≡ occurrence (begins (codes "@(") t) (unescaped (reach look_in_name Open (drop 2 t)).units)
+    (ended_as Cut r.how)
+    (nat_lt 0 opener) s.here (passed move_to ps s)
     → AppliesOver (name_match (takes_opener s) t) t ps (2 + (r.size + r.close) + taken) s new
-name_applies t ps r opener taken x s new is after take_is lines text made =
+name_applies t ps r opener taken s new is after take_is lines made =
     let m = reach look_in_name Cut (drop 2 t) in
     let size = size-at_end item.Name Cut (drop 2 t) r is in
     let how = how-at_end item.Name Cut (drop 2 t) r is in
@@ -39,14 +46,15 @@ name_applies t ps r opener taken x s new is after take_is lines text made =
     let units : unescaped (reach look_in_name Open (drop 2 t)).units ≡ unescaped m.units =
     ap (λ (v : Reach). unescaped v.units) (sym (reach-at_end item.Name Cut (drop 2 t))) in
     record {
-      size = sized (takes_opener s) (2 + (r.size + r.close)) (2 + reach_size m) opener _ taken (ap (λ n. 2 + n) size) sign
+      size = sized (takes_opener s) (2 + (r.size + r.close)) (2 + reach_size m) opener _ taken (ap
+          (λ n. 2 + n) size) sign
           take_is;
       state = λ later.
           ap (on (occurrence (begins (codes "@(") t) (unescaped m.units) m.how
           (nat_lt 0 (opener_after m.how (drop (2 + reach_size m) t))) s.here))
           (each-passed move_to (take f.size t) ps s later lines)
           ∙ sym (ap (λ (v : ScanState). reading v later) (made
-          ∙ (λ i. occurrence (begins (codes "@(") t) ((text ∙ units) i) (how i) (nat_lt 0 (sign i)) s.here
+          ∙ (λ i. occurrence (begins (codes "@(") t) (units i) (how i) (nat_lt 0 (sign i)) s.here
           (passed move_to ps s))));
     }
   where
@@ -56,13 +64,16 @@ name_applies t ps r opener taken x s new is after take_is lines text made =
     sized false n m opener sign taken e f g = omega (arith, e, g)
 
 -- A name without codes is its bytes.
-pub name_spelled : (inner x : List ℕ) (r : Reached) (n : ℕ) → r ≡ reached (reach look_in_name Open inner)
-    → x ≡ take r.size inner → HasNone x → x ≡ unescaped (reach look_in_name Open inner).units
-name_spelled inner x r n is text none =
+pub name_spelled : (inner x : List ℕ) (r : Reached) (plain : ℕ) → r ≡ reached (reach look_in_name Open inner)
+    → plain ≡ prefix_len is_skipped inner → plain ≡ r.size → x ≡ take plain inner
+    → x ≡ unescaped (reach look_in_name Open inner).units
+name_spelled inner x r plain is first all text =
     let units = (reach look_in_name Open inner).units in
     let same : x ≡ body (reach look_in_name Open inner) = text
-    ∙ ap (λ (v : Reached). take v.size inner) is ∙ units-prefix look_in_name Open inner (item-some item.Name) in
-    same ∙ sym (text_stays units (subst HasNone same none))
+    ∙ ap (λ n. take n inner) (all ∙ ap (λ (v : Reached). v.size) is)
+    ∙ units-prefix look_in_name Open inner (item-some item.Name) in
+    same ∙ sym (text_stays units (subst HasNone (sym (ap (λ n. take n inner) first) ∙ sym text
+    ∙ same) (none_before inner)))
 
 -- `@<` or `@(` begins a name.
 abbrev takes_in : Context → Bool
@@ -90,9 +101,11 @@ pub is_name : (s : ScanState) (u : List ℕ) → reads_names s.context ≡ true 
     → starts_name u ≡ true → IsNext s u (name_match (takes_opener s) u) (opens_name u)
 is_name s u c head h = (elim (begins (codes "@<") u) as (λ v. begins (codes "@<") u ≡ v
     → (v || begins (codes "@(") u) ≡ true → IsNext s u (name_match (takes_opener s) u) (opens_name u)) [
-      | true ↦ λ e g. let p = two 64 60 u e in subst (λ (v : List ℕ). IsNext s v (name_match (takes_opener s) v) (opens_name v)) p.1
+      | true ↦ λ e g. let p = two 64 60 u e in subst (λ (v : List ℕ). IsNext s v (name_match (takes_opener s) v)
+          (opens_name v)) p.1
           (named (64 ∷ 60 ∷ p.0) (section_names s.context (names_include s) p.0 c head))
-      | false ↦ λ e g. let p = two 64 40 u g in subst (λ (v : List ℕ). IsNext s v (name_match (takes_opener s) v) (opens_name v)) p.1
+      | false ↦ λ e g. let p = two 64 40 u g in subst (λ (v : List ℕ). IsNext s v (name_match (takes_opener s) v)
+          (opens_name v)) p.1
           (named (64 ∷ 40 ∷ p.0) (file_names s.context (names_include s) p.0 c head))
     ]) refl h
   where
@@ -112,10 +125,10 @@ name_two w h = (elim (begins (codes "@<") w) as (λ v. begins (codes "@<") w ≡
     ]) refl h
 
 pub name_over : (takes : Bool) (w line : List ℕ) → starts_name w ≡ true → opens_name w ≡ true
-    → (opens_name (with_line w line) ≡ is_unclosed (reach look_in_name Open line).how)
+    → (opens_name (with_line w line) ≡ goes_on look_in_name line)
     × (length w + 1 ≤ (name_match takes (with_line w line)).size)
 name_over takes w line sign h =
-    let o = over look_in_name over_lines 2 w line (name_two w sign) h in
+    let o = over look_in_name name_crosses 2 w line (name_two w sign) h in
     (o.0, longer takes _ _ (omega (arith, o.1)))
   where
     longer : (takes : Bool) (n sign : ℕ) {m : ℕ} → m ≤ n → m ≤ (if takes then n + sign else n)
@@ -128,9 +141,11 @@ name_ended takes w sign h =
     let n = 2 + reach_size (reach look_in_name Cut (drop 2 w)) in
     let cut = how-at_end item.Name Cut (drop 2 w) _ refl in
     let none : opener_after (reach look_in_name Cut (drop 2 w)).how (drop n w) ≡ 0 =
-    ap (λ (e : End). opener_after e (drop n w)) (sym cut) ∙ not_closed (reach look_in_name Open (drop 2 w)).how (drop n w) h
+    ap (λ (e : End). opener_after e (drop n w)) (sym cut)
+    ∙ not_closed (reach look_in_name Open (drop 2 w)).how (drop n w)
+    (sym (name_goes_on (drop 2 w)) ∙ h)
     in
-    whole takes n _ none ∙ over_ended look_in_name over_lines 2 w (name_two w sign) h
+    whole takes n _ none ∙ over_ended look_in_name name_crosses 2 w (name_two w sign) h
   where
     not_closed : (how : End) (t : List ℕ) → is_unclosed how ≡ true → opener_after (ended_as Cut how) t ≡ 0
     not_closed Open t h = refl

@@ -33,7 +33,8 @@ wider files more lines h below = All-weaker (λ (line : Line). line.place.file.0
 pub emitted_line_taken : (tells : Bool) (old so new : SoFar) (all now later : List Event) (pending next : ReaderModel)
     (line : Line)
     → HasTaken tells old so all now pending → EmitsLine line.place line.bytes so new
-    → length so.names ≤ length new.names → ((more : List Line) → read_after next more ≡ read_after pending (line ∷ more))
+    → length so.names ≤ length new.names
+    → ((more : List Line) → read_after next more ≡ read_after pending (line ∷ more))
     → (IsTrue tells → EmitsLines (line ∷ []) so new now later) → HasTaken tells old new all later next
 emitted_line_taken tells old so new all now later pending next line taken emitted names reads yields = record {
   lines = taken.lines ++ line ∷ [];

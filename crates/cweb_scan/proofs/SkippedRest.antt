@@ -1,8 +1,8 @@
 -- The rest of a line: all of it, and the bytes before the next `@`.
-use Rattle.cweb_scan.proofs.Common.{◌≡◌, ℕ, ◌+◌, Bool, true, false, ◌==◌, not, List, [], ◌∷◌, refl, ap, sym, if◌then◌else◌, prefix_len, starts_section, match_in, Skipped, rule_match, IsLine, opens_in, Context, Limbo, TeX, Definition, Macro, CText, Reading, names_include, is_head, is_skipped, TakesPrefix, ScanState, move_to}
+use Rattle.cweb_scan.proofs.Common.{arith, ◌≡◌, ℕ, ◌+◌, Bool, true, false, ◌==◌, not, List, [], ◌∷◌, refl, ap, sym, if◌then◌else◌, prefix_len, starts_section, match_in, Skipped, rule_match, IsLine, opens_in, Context, Limbo, TeX, Definition, Macro, CText, Reading, names_include, is_head, is_skipped, TakesPrefix, ScanState, move_to}
 use Rattle.cweb_scan.proofs.Ends.{none_to_come}
 use Rattle.cweb_scan.proofs.FirstMatchTaken.{between}
-use Rattle.cweb_scan.proofs.ClosedItemSteps.{closed_takes}
+use Rattle.cweb_scan.proofs.InLineItemSteps.{closed_at}
 use Rattle.cweb_scan.proofs.RestByLexemes.{takes_none, takes_both}
 use Rattle.cweb_rules.proofs.TokensStay.{no_section}
 use Rattle.cweb_rules.proofs.PlainSpans.{turned}
@@ -30,11 +30,12 @@ one_skipped : (s : ScanState) (g : Bool) (b : ℕ) (t : List ℕ) → is_text s.
     → (b == 64) ≡ false → (64 == b) ≡ false → TakesPrefix 1 (b ∷ t) (between s g) (between s g)
 one_skipped s g b t c line h k =
     let section = no_section b t h in
-    closed_takes s s g 1 b t (rule_match Skipped 1) line (no_head s.context c)
-    (skipped_prefix s.context (names_include s) b t c section k) (skipped_opens s.context b t c section k) (record {
+    (closed_at 1 (b ∷ t) (between s g) (between s g) s (rule_match Skipped 1) refl refl (no_head s.context c) line
+    (omega arith) (skipped_prefix s.context (names_include s) b t c section k)
+    (skipped_opens s.context b t c section k) (record {
       size = refl;
       state = sym (ap (λ (r : Reading). r.state) (none_to_come move_to (b ∷ []) s));
-    })
+    })).taken
 
 -- The bytes before the first `@` are skipped.
 pub skipped_takes : (s : ScanState) (g : Bool) (u : List ℕ) → is_text s.context ≡ true

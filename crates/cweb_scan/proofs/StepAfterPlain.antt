@@ -11,7 +11,8 @@ plain_taken n u h v new is none t =
     (subst (λ (i : OpenItem). TakesPrefix n u (record { state = v.state; item = i; begun = v.begun })
     (record { state = new; item = i; begun = v.begun })) (sym item) (t.taken v.begun))
 
-pub plain_all : (n : ℕ) (u : List ℕ) (h new : ReaderModel) → TakesPrefix n u h new → length (drop n u) ≡ 0 → 1 ≤ length u → MakesProgress n u h new
+pub plain_all : (n : ℕ) (u : List ℕ) (h new : ReaderModel) → TakesPrefix n u h new → length (drop n u) ≡ 0
+    → 1 ≤ length u → MakesProgress n u h new
 plain_all n u h new t none some =
     record {
       some = omega (arith, length-drop n u, none, some, t.within);

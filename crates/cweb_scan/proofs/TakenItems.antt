@@ -1,18 +1,14 @@
 -- The state after a lexeme that ends in its line, whatever lines follow.
-use Rattle.cweb_scan.proofs.Common.{◌≡◌, ℕ, false, List, [], ◌∷◌, ◌++◌, take, drop, refl, ap, sym, ◌∙◌, Place, Reading, on, comment_line_end, pass_comment, blank, occurrence, emit_literal, enter, item, after_lexeme, unescaped, Kind, Skipped, LineEnd, Comment, Quoted, RuleMatch, Lexeme, AtLineEnd, opens_in, IsLine, next_match, lex, fold, take-append-le, drop-append-le, names_include, match_in, ScanState, move_to}
+use Rattle.cweb_scan.proofs.Common.{◌≡◌, ℕ, false, List, [], ◌∷◌, ◌++◌, take, drop, refl, ap, sym, ◌∙◌, Place, Reading, on, comment_line_end, pass_comment, blank, occurrence, emit_literal, item, after_lexeme, unescaped, Kind, Skipped, LineEnd, Comment, Quoted, RuleMatch, AtLineEnd, opens_in, next_match, lex, fold, take-append-le, drop-append-le, names_include, match_in, ScanState, move_to}
 use Rattle.cweb_rules.specs.Matches.{Occurrence}
 use Rattle.cweb_rules.proofs.LineMatches.{prefix_line}
-use Rattle.cweb_rules.proofs.InLines.{InLine, valid}
+use Rattle.cweb_rules.proofs.InLines.{InLine}
 use Rattle.cweb_scan.proofs.NextMatchPays.{fair}
 pub use Rattle.cweb_scan.proofs.LineUnits.{reading}
-use Rattle.cweb_scan.proofs.LineUnits.{units_line}
-use Rattle.cweb_scan.proofs.LineHasNoNewline.{none-line}
+use Rattle.cweb_scan.proofs.LineUnits.{none-line, units_line}
 use Rattle.cweb_scan.proofs.FirstLexeme.{first, pieces_first}
 
-abbrev pub state_after : ScanState → Lexeme → ScanState
-state_after s p = (after_lexeme (reading s []) p).state
-
-item_line : (k : Kind) (bytes : List ℕ) (s : ScanState) (later : List Place) → InLine k bytes
+pub item_line : (k : Kind) (bytes : List ℕ) (s : ScanState) (later : List Place) → InLine k bytes
     → item k bytes (reading s later) ≡ reading (item k bytes (reading s [])).state later
 item_line Skipped bytes s later h = none-line move_to bytes (reading s later) h
     ∙ ap (λ (r : Reading). reading r.state later) (sym (none-line move_to bytes (reading s []) h))
@@ -49,22 +45,3 @@ run_line_item r b t more e h =
     ∙ ap (λ u. lex (after_lexeme r (record { kind = f.kind; bytes = u })) (drop f.size (b ∷ t ++ more)))
     (take-append-le f.size (b ∷ t) more fits)
     ∙ ap (λ u. lex (after_lexeme r (first r (b ∷ t))) u) (drop-append-le f.size (b ∷ t) more fits)
-
--- The state after such a lexeme.
-pub taken_item : (s : ScanState) (later : List Place) (b : ℕ) (t more : List ℕ) → AtLineEnd more
-    → opens_in s.context (b ∷ t) ≡ false → InLine (next_match s (b ∷ t)).kind (take (next_match s (b ∷ t)).size (b ∷ t))
-    → lex (reading s later) (b ∷ t ++ more) ≡
-    lex (reading (state_after s (first (reading s []) (b ∷ t))) later) (drop (next_match s (b ∷ t)).size (b ∷ t)
-    ++ more)
-taken_item s later b t more e ends h =
-    let f = next_match s (b ∷ t) in
-    run_line_item (reading s later) b t more e ends
-    ∙ ap (λ (r : Reading). lex r (drop f.size (b ∷ t) ++ more))
-    (item_line f.kind (take f.size (b ∷ t)) (enter f.kind s) later h)
-
--- An item that ends in its line.
-pub taken : (s : ScanState) (later : List Place) (b : ℕ) (t more : List ℕ)
-    → IsLine (b ∷ t) → AtLineEnd more → opens_in s.context (b ∷ t) ≡ false → lex (reading s later) (b ∷ t ++ more) ≡
-    lex (reading (state_after s (first (reading s []) (b ∷ t))) later) (drop (next_match s (b ∷ t)).size (b ∷ t)
-    ++ more)
-taken s later b t more h e ends = taken_item s later b t more e ends (valid s.context (names_include s) b t h)

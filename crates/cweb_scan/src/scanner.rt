@@ -8,6 +8,7 @@ pub mod effects;
 pub mod further;
 pub mod items;
 pub mod line_ends;
+pub mod literals;
 pub mod names;
 pub mod plain;
 pub mod rule;

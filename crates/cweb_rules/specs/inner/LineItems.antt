@@ -40,12 +40,12 @@ is_unclosed Nested = false
 abbrev pub goes_on : (List ℕ → Look) → List ℕ → Bool
 goes_on look t = is_unclosed (reach look Open (t ++ 10 ∷ [])).how
 
--- The next item is still open at the end of its line, or for a literal after the newline.
+-- The next item is still open after the newline that ends its line.
 abbrev pub opens_comment : List ℕ → Bool
-opens_comment t = is_unclosed (reach (look_in_comment (begins (codes "*/")) 2) Open (drop 2 t)).how
+opens_comment t = goes_on (look_in_comment (begins (codes "*/")) 2) (drop 2 t)
 
 abbrev pub opens_name : List ℕ → Bool
-opens_name t = is_unclosed (reach look_in_name Open (drop 2 t)).how
+opens_name t = goes_on look_in_name (drop 2 t)
 
 abbrev pub opens_literal : List ℕ → Bool
 opens_literal t = let n = literal_prefix t in goes_on (look_in_literal (quote_of (drop n t))) (drop (n + 1) t)
@@ -53,7 +53,7 @@ opens_literal t = let n = literal_prefix t in goes_on (look_in_literal (quote_of
 abbrev pub opens_raw : List ℕ → Bool
 opens_raw t =
     let m = raw_prefix t + 2 in
-    is_unclosed (reach (look_in_raw (raw_closer (drop m t))) Open (drop (m + length (delimiter (drop m t)) + 1) t)).how
+    goes_on (look_in_raw (raw_closer (drop m t))) (drop (m + length (delimiter (drop m t)) + 1) t)
 
 abbrev pub opens_effect : Effect → List ℕ → Bool
 opens_effect Named t = opens_name t

@@ -5,7 +5,7 @@ use crate::reader::Reader;
 use crate::reader::open::Open;
 use crate::reader::opened::is_unclosed;
 use crate::rest::Rest;
-use cweb_rules::items::{Item, reach};
+use cweb_rules::items::{Item, reach, reach_after};
 use cweb_rules::literals::{literal_prefix, raw_closer, raw_opener_len};
 use cweb_rules::{Quote, continues};
 use std::alloc::AllocError;
@@ -25,11 +25,12 @@ impl Reader {
         ensures { IfOk result (λ n. MakesProgress n rest.entry.bytes.now self.old self.new) }
     {
         let (_, inner) = rest.bytes.split_at(2);
-        if is_unclosed(reach(Item::Comment, inner).how) {
+        let reached = reach(Item::Comment, inner);
+        if is_unclosed(reached.how) {
             self.hold(Open::Comment, rest.bytes)?;
             return Ok(rest.bytes.len());
         }
-        let size = self.scanner.take_comment(rest.bytes, &[])?;
+        let size = self.scanner.take_comment(reached, rest.bytes, &[])?;
         Ok(size)
     }
 
@@ -42,12 +43,13 @@ impl Reader {
         ensures { IfOk result (λ n. MakesProgress n rest.entry.bytes.now self.old self.new) }
     {
         let (_, inner) = rest.bytes.split_at(2);
-        let reached = reach(Item::Name, inner);
+        let plain = Item::Name.plain_len(inner);
+        let reached = reach_after(Item::Name, inner, plain);
         if is_unclosed(reached.how) {
             self.hold(Open::Name, rest.bytes)?;
             return Ok(rest.bytes.len());
         }
-        let size = self.scanner.take_name(reached, rest.bytes, &[])?;
+        let size = self.scanner.take_name(reached, plain, rest.bytes, &[])?;
         Ok(size)
     }
 

@@ -11,10 +11,6 @@ pub returns-in-Lone : goal.returns-in-Lone
 returns-in-Lone c = (known-at c.args.includes c.args.text.now plain.Lone c.in-len1-up.len_at_least (sym c.in-Lone.is
     ∙ c.first_byte_class.ensures)).0
 
-pub returns-in-Blank : goal.returns-in-Blank
-returns-in-Blank c = (known-at c.args.includes c.args.text.now plain.Blank c.in-len1-up.len_at_least (sym c.in-Blank.is
-    ∙ c.first_byte_class.ensures)).0
-
 pub returns-in-Operator : goal.returns-in-Operator
 returns-in-Operator c =
     (known-at false c.args.text.now plain.Operator c.in-len1-up.len_at_least (sym c.in-Operator.is

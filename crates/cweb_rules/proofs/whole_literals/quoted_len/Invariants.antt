@@ -1,9 +1,15 @@
-use Rattle.cweb_rules.proofs.Common.{length}
-use Rattle.cweb_rules.proofs.WholeLiterals.{GoesTo}
+use Rattle.cweb_rules.proofs.Common.{◌≡◌, ◌≤◌, ◌-◌, length, reach, look_in_literal, IsLine, reached, Open}
+use Rattle.cweb_rules.specs.inner.Quotes.{quote_byte}
+use Rattle.cweb_rules.proofs.Ranges.{later_by}
 use Rattle.cweb_rules.proofs.whole_literals.quoted_len.Given as goal
 
 abbrev pub invariant-units : goal.invariant-units
-invariant-units l = GoesTo l.quote l.text l.rest
+invariant-units l = record {
+  line : IsLine l.rest;
+  within : length l.rest ≤ length l.text;
+  so_far : reached (reach (look_in_literal (quote_byte l.quote)) Open l.text) ≡ later_by (length l.text - length l.rest)
+      (reached (reach (look_in_literal (quote_byte l.quote)) Open l.rest));
+}
 
 abbrev pub decreases-units : goal.decreases-units
 decreases-units l = length l.rest

@@ -9,10 +9,13 @@ take_whole-requires c =
     let s = r.scanner in
     let w = r.pending.items in
     let ps = r.places.items in
-    let now = pending_now r.item s r.begun w ps c.args.self.now c.self.view_is (sym c.is_pending.ensures ∙ c.if-not-is_pending.false)
+    let now = pending_now r.item s r.begun w ps c.args.self.now c.self.view_is (sym c.is_pending.ensures
+    ∙ c.if-not-is_pending.false)
     c.self.invariant in
-    can_take r.item s _ _ _ _ c.deref.ensures.value c.deref-2.ensures.value (ready_at_end r.item s w ps now.pending now.source
-    (pending_room c.args.self.now s r.begun w ps 2 now.view now.source.newlines (omega arith) (omega (arith, c.requires))))
+    can_take r.item s _ _ _ _ c.deref.ensures.value c.deref-2.ensures.value
+    (ready_at_end r.item s w ps now.pending now.source
+    (pending_room c.args.self.now s r.begun w ps 2 now.view now.source.newlines (omega arith) (omega
+    (arith, c.requires))))
 
 pub returns : goal.returns
 returns c =
@@ -20,7 +23,8 @@ returns c =
     let s = r.scanner in
     let w = r.pending.items in
     let ps = r.places.items in
-    let now = pending_now r.item s r.begun w ps c.args.self.now c.self.view_is (sym c.is_pending.ensures ∙ c.if-not-is_pending.false)
+    let now = pending_now r.item s r.begun w ps c.args.self.now c.self.view_is (sym c.is_pending.ensures
+    ∙ c.if-not-is_pending.false)
     c.self.invariant in
     let applies = applies_to s c.take_whole.new.self _ _ _ _ _ c.deref.ensures.value c.deref-2.ensures.value
     c.in_ok-take_whole.ensures in

@@ -73,6 +73,7 @@ returns c =
     (c.deref-2.ensures.value ∙ c.in_ok-push-2.ensures.items) c.in_ok-size.ensures in
     let k = n - (c.len.result - length line) in
     subst (λ (h : ReaderModel). BeginsLine c.args.place line k h (between new r.begun)) now.view
-    (pending_ends w line ps c.args.place s new r.begun n k (ap (λ (h : ReaderModel). h.begun) now.view ∙ c.requires.begun)
+    (pending_ends w line ps c.args.place s new r.begun n k (ap (λ (h : ReaderModel). h.begun) now.view
+    ∙ c.requires.begun)
     (omega (arith, applies.size, ends.past, c.len.ensures, ap (λ (t : List ℕ). length t) text, with_line-length w line))
     (ends.taken n new applies))

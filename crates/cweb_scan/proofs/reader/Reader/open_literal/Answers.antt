@@ -2,7 +2,7 @@ use Rattle.cweb_scan.proofs.Common.{sym, ap, ◌∙◌, arith, drop, ◌+◌, li
 use Rattle.cweb_rules.specs.inner.LineItems.{goes_on}
 use Rattle.cweb_rules.proofs.LineLiterals.{is_quoted-size}
 use Rattle.cweb_rules.proofs.UnitNewlines.{none-ends}
-use Rattle.cweb_scan.proofs.PendingItems.{holds_at, whole_at, part_room}
+use Rattle.cweb_scan.proofs.InLineItemSteps.{whole_at}
 use Rattle.cweb_scan.proofs.PendingLiterals.{is_literal, quote_as}
 use Rattle.cweb_scan.proofs.reader.Reader.open_literal.Goals as goal
 
@@ -29,17 +29,9 @@ hold-requires-clause-source c =
       newlines = none-ends u c.args.rest.line;
     }
 
-pub take_literal-requires-clause-part : goal.take_literal-requires-clause-part
-take_literal-requires-clause-part c = part_room c.args.self.now _ c.self.view_is c.requires.next.context
-    c.requires.next.room
-
 pub take_literal-requires-clause-lines : goal.take_literal-requires-clause-lines
 take_literal-requires-clause-lines c =
     none-ends _ (IsLine-take (literal_match c.args.rest.bytes.now).size c.args.rest.bytes.now c.args.rest.line)
-
-pub returns-then-continues : goal.returns-then-continues
-returns-then-continues c = holds_at c.args.rest.bytes.now c.args.self.now c.hold.new.self c.requires.next.between
-    c.args.rest.some c.in_ok-hold.ensures
 
 pub returns : goal.returns
 returns c =

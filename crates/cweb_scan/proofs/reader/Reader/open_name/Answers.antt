@@ -1,47 +1,31 @@
-use Rattle.cweb_scan.proofs.Common.{sym, ap, ◌∙◌, subst, is_unclosed, Reached, ReaderModel, name_match, takes_opener, IsLine-take, HasItemRoom, AppliesOver, []}
+use Rattle.cweb_scan.proofs.Common.{sym, ap, drop, ◌∙◌, subst, is_unclosed, Reached, ReaderModel, name_match, takes_opener, IsLine-take, AppliesOver, []}
 use Rattle.cweb_rules.proofs.UnitNewlines.{none-ends}
-use Rattle.cweb_scan.proofs.PendingItems.{holds_at, whole_at}
-use Rattle.cweb_scan.proofs.PendingNames.{is_name, name_two}
+use Rattle.cweb_scan.proofs.InLineItemSteps.{whole_at}
+use Rattle.cweb_scan.proofs.PendingNames.{is_name, name_goes_on}
 use Rattle.cweb_scan.proofs.reader.Reader.open_name.Goals as goal
-
-pub split_at-requires : goal.split_at-requires
-split_at-requires c = name_two c.args.rest.bytes.now c.requires.sign
 
 pub hold-requires-clause-source : goal.hold-requires-clause-source
 hold-requires-clause-source c = record {
   item = (c.requires.next.context, c.requires.head, c.requires.sign);
   unclosed = (is_name c.args.self.now.state c.args.rest.bytes.now c.requires.next.context c.requires.head
-      c.requires.sign).opens_is
-      ∙ sym (ap (λ (r : Reached). is_unclosed r.how) (rw c.split_at.ensures.back at c.reach-reached.ensures.value))
+      c.requires.sign).opens_is ∙ name_goes_on (drop 2 c.args.rest.bytes.now)
+      ∙ sym (ap (λ (r : Reached). is_unclosed r.how)
+      (rw c.split_at.ensures.back at c.reach_after-reached.ensures.value))
       ∙ sym c.is_unclosed.ensures ∙ c.if-is_unclosed.true;
   newlines = none-ends c.args.rest.bytes.now c.args.rest.line;
 }
 
-pub take_name-requires-clause-two : goal.take_name-requires-clause-two
-take_name-requires-clause-two c = name_two c.args.rest.bytes.now c.requires.sign
-
-pub take_name-requires-clause-extent : goal.take_name-requires-clause-extent
-take_name-requires-clause-extent c = rw c.split_at.ensures.back at c.reach-reached.ensures.value
-
 pub take_name-requires-clause-lines : goal.take_name-requires-clause-lines
 take_name-requires-clause-lines c = none-ends _ (IsLine-take (name_match (takes_opener c.self.inside.scanner)
     c.args.rest.bytes.now).size c.args.rest.bytes.now c.args.rest.line)
-
-pub take_name-requires-clause-room : goal.take_name-requires-clause-room
-take_name-requires-clause-room c =
-    subst (λ (v : ReaderModel). HasItemRoom 2 v.state) (sym c.self.view_is) c.requires.next.room
-
-pub returns-then-is_unclosed : goal.returns-then-is_unclosed
-returns-then-is_unclosed c = holds_at c.args.rest.bytes.now c.args.self.now c.hold.new.self c.requires.next.between
-    c.args.rest.some c.in_ok-hold.ensures
 
 pub returns : goal.returns
 returns c =
     let u = c.args.rest.bytes.now in
     let h = c.args.self.now in
     let is = is_name h.state u c.requires.next.context c.requires.head c.requires.sign in
-    let ends = sym (ap (λ (r : Reached). is_unclosed r.how)
-    (rw c.split_at.ensures.back at c.reach-reached.ensures.value)) ∙ sym c.is_unclosed.ensures
+    let ends = name_goes_on (drop 2 u) ∙ sym (ap (λ (r : Reached). is_unclosed r.how)
+    (rw c.split_at.ensures.back at c.reach_after-reached.ensures.value)) ∙ sym c.is_unclosed.ensures
     ∙ c.if-is_unclosed.false in
     let f = name_match (takes_opener h.state) u in
     whole_at c.in_ok-size.size u h _ c.take_name.new.self f c.self.view_is c.requires.next.between

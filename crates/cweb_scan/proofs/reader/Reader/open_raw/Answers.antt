@@ -1,7 +1,8 @@
 use Rattle.cweb_scan.proofs.Common.{sym, ap, ◌∙◌, drop, raw_match, look_in_raw, reach, Reached, is_unclosed, Open, IsLine-take}
 use Rattle.cweb_rules.proofs.UnitNewlines.{none-ends}
-use Rattle.cweb_scan.proofs.PendingItems.{holds_at, whole_at, part_room}
-use Rattle.cweb_scan.proofs.PendingLiterals.{is_raw}
+use Rattle.cweb_scan.proofs.InLineItemSteps.{whole_at}
+use Rattle.cweb_scan.proofs.PendingLiterals.{is_raw, raw_goes_on}
+use Rattle.cweb_rules.specs.inner.RawOpeners.{raw_opener_len}
 use Rattle.cweb_scan.proofs.reader.Reader.open_raw.Goals as goal
 
 pub hold-requires-clause-source : goal.hold-requires-clause-source
@@ -12,22 +13,15 @@ hold-requires-clause-source c =
     record {
       item = (c.requires.next.context, c.requires.past, c.requires.sign);
       unclosed = (is_raw c.args.self.now.state u c.requires.next.context c.requires.past c.requires.sign).opens_is
+          ∙ raw_goes_on u (drop (raw_opener_len u) u)
           ∙ sym (c.is_unclosed.ensures ∙ ap (λ (r : Reached). is_unclosed r.how) c.reach.ensures.value
           ∙ (λ i. is_unclosed (reach (look_in_raw (closer i)) Open (inner i)).how)) ∙ c.if-is_unclosed.true;
       newlines = none-ends u c.args.rest.line;
     }
 
-pub take_raw-requires-clause-part : goal.take_raw-requires-clause-part
-take_raw-requires-clause-part c = part_room c.args.self.now _ c.self.view_is c.requires.next.context
-    c.requires.next.room
-
 pub take_raw-requires-clause-lines : goal.take_raw-requires-clause-lines
 take_raw-requires-clause-lines c =
     none-ends _ (IsLine-take (raw_match c.args.rest.bytes.now).size c.args.rest.bytes.now c.args.rest.line)
-
-pub returns-then-is_unclosed : goal.returns-then-is_unclosed
-returns-then-is_unclosed c = holds_at c.args.rest.bytes.now c.args.self.now c.hold.new.self c.requires.next.between
-    c.args.rest.some c.in_ok-hold.ensures
 
 pub returns : goal.returns
 returns c =
@@ -39,4 +33,5 @@ returns c =
     let ends = sym (c.is_unclosed.ensures ∙ ap (λ (r : Reached). is_unclosed r.how) c.reach.ensures.value
     ∙ (λ i. is_unclosed (reach (look_in_raw (closer i)) Open (inner i)).how)) ∙ c.if-is_unclosed.false in
     whole_at c.in_ok-size.size u h _ c.take_raw.new.self (raw_match u) c.self.view_is c.requires.next.between
-    c.args.rest.some is.stays is.is (is.opens_is ∙ ends) c.in_ok-size.ensures
+    c.args.rest.some is.stays is.is (is.opens_is ∙ raw_goes_on u (drop (raw_opener_len u) u)
+    ∙ ends) c.in_ok-size.ensures

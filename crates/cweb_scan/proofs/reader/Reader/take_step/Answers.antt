@@ -35,4 +35,9 @@ take_between-requires c =
     let h = c.args.self.now in
     let n = c.in_ok-plain.plain in
     let t = plain_taken n u h _ c.take_plain.new.self c.self.view_is c.requires.between c.in_ok-plain.ensures in
-    record { between = ap (λ (k : ReaderModel). k.item) c.self.view_is ∙ c.requires.between; context = tt; room = plain_room n u h _ t c.requires.room }
+    record {
+      between = ap (λ (k : ReaderModel). k.item) c.self.view_is
+          ∙ c.requires.between;
+      context = tt;
+      room = plain_room n u h _ t c.requires.room;
+    }

@@ -11,7 +11,8 @@ lines-preserved c =
     let ps = c.args.places.now in
     let made = c.in_ok-end_comment_line.ensures in (
       ap (passed comment_line_end (drop (i + 1) ps)) made
-          ∙ passed_next comment_line_end ps i no_place c.lines.self (omega (arith, c.lines-test.true)) ∙ c.lines.invariant.0,
+          ∙ passed_next comment_line_end ps i no_place c.lines.self (omega (arith, c.lines-test.true))
+          ∙ c.lines.invariant.0,
       omega (
         arith,
         ap (λ (s : ScanState). token_count s.contents.parts) made,

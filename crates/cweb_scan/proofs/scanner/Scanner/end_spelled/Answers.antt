@@ -1,24 +1,24 @@
-use Rattle.cweb_scan.proofs.Common.{List, ℕ, ◌++◌, ap, ◌∙◌, arith, reach, look_in_name, unescaped, occurrence, Open, Reached}
-use Rattle.cweb_rules.specs.declared.items.Item.TheVariants.{Name}
-use Rattle.cweb_rules.proofs.Lasts.{reach-fits}
+use Rattle.cweb_scan.proofs.Common.{List, take, ℕ, ◌++◌, drop, ap, ◌∙◌, reach, look_in_name, unescaped, occurrence, Open}
 use Rattle.cweb_scan.proofs.PendingNames.{name_spelled}
-use Rattle.cweb_scan.proofs.FurtherLiterals.{none_valid}
 use Rattle.cweb_scan.proofs.scanner.Scanner.end_spelled.Goals as goal
 
-pub split_at-requires : goal.split_at-requires
-split_at-requires c =
-    omega (arith, ap (λ (r : Reached). r.size) c.requires.extent, reach-fits Name c.args.inner.now)
-
-pub returns-then-skipped_len-name : goal.returns-then-skipped_len-name
-returns-then-skipped_len-name c =
-    let x = c.split_at.result.0.now in
-    let none = none_valid x (omega (arith, c.skipped_len.ensures.value, c.if-skipped_len-name.true)) in
-    c.in_ok-end_name.ensures ∙ ap (λ (v : List ℕ). occurrence c.args.is_file v c.args.how c.args.opens c.args.begun
-    c.args.self.now) (name_spelled c.args.inner.now x c.args.extent 0 c.requires.extent c.split_at.ensures.front none)
+pub returns-then-plain-extent : goal.returns-then-plain-extent
+returns-then-plain-extent c =
+    let inner = c.split_at.ensures.back in
+    c.in_ok-end_name.ensures
+    ∙ (λ i. occurrence (c.begins-is_file.ensures.value i)
+    (name_spelled (drop 2 c.args.text.now) c.split_at-then-plain-extent.result.0.now c.args.extent c.args.plain
+    c.requires.extent
+    c.requires.plain.value c.if-plain-extent.true (c.split_at-then-plain-extent.ensures.front
+    ∙ ap (take c.args.plain) inner) i)
+    c.args.how c.args.opens c.args.begun c.args.self.now)
 
 pub returns : goal.returns
 returns c =
+    let inner = c.split_at.ensures.back in
     let text = c.deref.ensures.value ∙ c.in_ok-push_units.ensures
-    ∙ ap (λ (v : List ℕ). v ++ unescaped (reach look_in_name Open c.args.inner.now).units) c.new-bytes.ensures.items in
+    ∙ ap (λ (v : List ℕ). v ++ unescaped
+    (reach look_in_name Open c.split_at.result.1.now).units) c.new-bytes.ensures.items
+    ∙ ap (λ (v : List ℕ). unescaped (reach look_in_name Open v).units) inner in
     c.in_ok-end_name-2.ensures
-    ∙ (λ i. occurrence c.args.is_file (text i) c.args.how c.args.opens c.args.begun c.args.self.now)
+    ∙ (λ i. occurrence (c.begins-is_file.ensures.value i) (text i) c.args.how c.args.opens c.args.begun c.args.self.now)

@@ -1,6 +1,6 @@
 use Rattle.cweb_scan.proofs.Common.{length, reach, Open}
 use Rattle.cweb_rules.specs.inner.Looks.{look_of}
-use Rattle.cweb_scan.proofs.PendingLiterals.{PassesRest}
+use Rattle.cweb_scan.proofs.QuotedItems.{PassesRest}
 use Rattle.cweb_scan.proofs.scanner.Scanner.pass_each_unit.Given as goal
 
 abbrev pub invariant-units : goal.invariant-units

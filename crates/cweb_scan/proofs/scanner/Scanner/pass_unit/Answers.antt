@@ -1,5 +1,5 @@
 use Rattle.cweb_scan.proofs.Common.{ap, sym, ◌∙◌, arith, ScanState, report_at, DoubleAtInString}
-use Rattle.cweb_scan.proofs.PendingLiterals.{lone_at, lines_passed}
+use Rattle.cweb_scan.proofs.QuotedItems.{lone_at, lines_passed}
 use Rattle.cweb_scan.proofs.scanner.Scanner.pass_unit.Goals as goal
 
 pub returns-then-is_lone_at : goal.returns-then-is_lone_at

@@ -67,20 +67,9 @@ take_operator-requires-clause-first c =
     (known-at false c.args.rest.bytes.now plain.Operator c.args.rest.some
     (sym c.in-Operator.is ∙ c.first_byte_class.ensures)).0
 
-pub take_operator-requires-clause-kept : goal.take_operator-requires-clause-kept
-take_operator-requires-clause-kept c =
-    (known-at false c.args.rest.bytes.now plain.Operator c.args.rest.some
-    (sym c.in-Operator.is ∙ c.first_byte_class.ensures)).1
-
 pub nonempty_span_len-requires : goal.nonempty_span_len-requires
 nonempty_span_len-requires c = record {
   first =
       (known-at false c.args.rest.bytes.now plain.Blank c.args.rest.some
       (sym c.in-Blank.is ∙ c.first_byte_class.ensures)).1;
-}
-
-pub nonempty_span_len-size-requires : goal.nonempty_span_len-size-requires
-nonempty_span_len-size-requires c = record {
-  first = (known-at false c.args.rest.bytes.now plain.Word c.args.rest.some
-      (sym c.in-Word.is ∙ c.first_byte_class.ensures)).1;
 }

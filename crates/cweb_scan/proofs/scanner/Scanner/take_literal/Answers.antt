@@ -1,4 +1,4 @@
-use Rattle.cweb_scan.proofs.Common.{ℕ, ◌+◌, List, take, drop, ap, ◌∙◌, subst, literal_prefix, literal_match, quote_of, at_line_ends, AppliesOver, quoted_as, RuleMatch, ◌≡◌}
+use Rattle.cweb_scan.proofs.Common.{ℕ, ◌+◌, List, drop, ap, ◌∙◌, subst, literal_prefix, literal_match, quote_of, AppliesOver, quoted_as, RuleMatch, ◌≡◌}
 use Rattle.cweb_rules.specs.declared.items.Item.TheVariants.{Literal}
 use Rattle.cweb_scan.proofs.scanner.Scanner.take_literal.Goals as goal
 
@@ -8,11 +8,6 @@ same t quoted p q prefix back quote =
     let is = quote ∙ ap quote_of back in
     (λ i. quoted_as (p + 1) (Literal (is i)) t)
     ∙ (λ i. quoted_as (prefix i + 1) (Literal (quote_of (drop (prefix i) t))) t)
-
-pub take_quoted-requires-clause-lines : goal.take_quoted-requires-clause-lines
-take_quoted-requires-clause-lines c = ap (λ (f : RuleMatch). at_line_ends 1 (take f.size c.args.text.now))
-    (same c.args.text.now c.split_at.result.1.now c.literal_prefix-prefix.result c.byte.result
-    c.literal_prefix-prefix.ensures.value c.split_at.ensures.back (c.byte.ensures ∙ c.of-quote.ensures)) ∙ c.requires.lines
 
 pub returns : goal.returns
 returns c = subst (λ (f : RuleMatch). AppliesOver f c.args.text.now c.args.places.now c.in_ok-size.size c.args.self.now

@@ -1,28 +1,25 @@
-use Rattle.cweb_scan.proofs.Common.{List, ℕ, ◌+◌, ap, sym, ◌∙◌, subst, arith, length, drop, reach, look_in_name, unescaped, occurrence, opener_after, nat_lt, Open, reached, Reached, HasItemRoom, ◌≡◌, ◌≤◌}
+use Rattle.cweb_scan.proofs.Common.{length-drop, codes, begins, ◌+◌, ap, sym, ◌∙◌, subst, arith, drop, reach, look_in_name, unescaped, occurrence, opener_after, nat_lt, Open, HasItemRoom}
 use Rattle.cweb_rules.specs.declared.items.Item.TheVariants.{Name}
-use Rattle.cweb_rules.proofs.Lasts.{reach-fits}
+use Rattle.cweb_scan.proofs.Ends.{extent_fits}
 use Rattle.cweb_scan.proofs.PendingItems.{moved_room}
 use Rattle.cweb_scan.proofs.PendingNames.{name_applies}
 use Rattle.cweb_scan.proofs.scanner.Scanner.take_name.Goals as goal
 
-fits : (t inner : List ℕ) (r : Reached) → r ≡ reached (reach look_in_name Open (drop 2 t)) → inner ≡ drop 2 t
-    → r.size + r.close ≤ length inner
-fits t inner r is same = omega (
-  arith,
-  ap (λ (v : Reached). v.size + v.close) is,
-  reach-fits Name (drop 2 t),
-  ap (λ (v : List ℕ). length v) same,
-)
-
 pub split_at-requires-2 : goal.split_at-requires-2
 split_at-requires-2 c =
-    fits c.args.text.now c.split_at.result.1.now c.args.extent c.requires.extent c.split_at.ensures.back
+    omega (
+      arith,
+      extent_fits Name (drop 2 c.args.text.now) c.args.extent c.requires.extent,
+      length-drop 2 c.args.text.now,
+      c.split_at.ensures.back_len,
+    )
 
 pub overflow_add-extent : goal.overflow_add-extent
 overflow_add-extent c = omega (
   arith,
-  fits c.args.text.now c.split_at.result.1.now c.args.extent c.requires.extent c.split_at.ensures.back,
-  c.split_at.ensures.back_len,
+  extent_fits Name (drop 2 c.args.text.now) c.args.extent c.requires.extent,
+  length-drop 2 c.args.text.now,
+  c.requires.two,
 )
 
 pub end_spelled-requires-clause-room : goal.end_spelled-requires-clause-room
@@ -34,13 +31,11 @@ returns c =
     let s = c.args.self.now in
     let t = c.args.text.now in
     let r = c.args.extent in
-    let inner = c.split_at.ensures.back in
-    let after = c.split_at-2.ensures.back ∙ ap (drop (r.size + r.close)) inner in
+    let after = c.split_at-2.ensures.back ∙ ap (drop (r.size + r.close)) c.split_at.ensures.back in
     let how = c.ended-how.ensures in
-    name_applies t c.args.places.now r c.opener_after-opener.result c.opener_taken-taken.result
-    (unescaped (reach look_in_name Open c.split_at.result.1.now).units) s c.end_spelled.new.self c.requires.extent
-    (c.opener_after-opener.ensures.value ∙ (λ i. opener_after (how i) (after i))) c.opener_taken-taken.ensures
-    c.requires.lines (ap (λ (v : List ℕ). unescaped (reach look_in_name Open v).units) inner)
-    (c.in_ok-end_spelled.ensures ∙ (λ i. occurrence (c.begins.ensures.value i)
-    (unescaped (reach look_in_name Open c.split_at.result.1.now).units) (how i) (nat_lt 0 c.opener_after-opener.result)
+    name_applies t c.args.places.now r c.opener_after-opener.result c.opener_taken-taken.result s c.end_spelled.new.self
+    c.requires.extent (c.opener_after-opener.ensures.value ∙ (λ i. opener_after (how i) (after i)))
+    c.opener_taken-taken.ensures c.requires.lines
+    (c.in_ok-end_spelled.ensures ∙ (λ i. occurrence (begins (codes "@(") t)
+    (unescaped (reach look_in_name Open (drop 2 t)).units) (how i) (nat_lt 0 c.opener_after-opener.result)
     (c.self.view_is i).here (c.pass_lines.ensures i)))

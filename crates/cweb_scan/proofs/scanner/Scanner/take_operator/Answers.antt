@@ -1,4 +1,4 @@
-use Rattle.cweb_scan.proofs.Common.{List, ℕ, false, take, arith, sym, ap, ◌∙◌, subst, Punct, ScanState, emit, IsPlainC, IsPlainToken, punctuator_fits}
+use Rattle.cweb_scan.proofs.Common.{List, ℕ, false, take, arith, sym, ap, ◌∙◌, subst, Punct, ScanState, emit, IsPlainC, punctuator_fits}
 use Rattle.cweb_scan.proofs.Furthers.{operator_token, operator_turn}
 use Rattle.cweb_scan.proofs.Plains.{stays_plain}
 use Rattle.cweb_scan.proofs.scanner.Scanner.take_operator.Goals as goal
@@ -6,11 +6,6 @@ use Rattle.cweb_scan.proofs.scanner.Scanner.take_operator.Goals as goal
 pub split_at-requires : goal.split_at-requires
 split_at-requires c =
     omega (arith, c.punctuator_len-size.ensures, punctuator_fits c.args.rest.bytes.now c.args.rest.some)
-
-pub emit_plain-requires-clause-plain : goal.emit_plain-requires-clause-plain
-emit_plain-requires-clause-plain c =
-    subst (λ (x : List ℕ). IsPlainToken (Punct x)) (sym c.split_at.ensures.front) (operator_token
-    c.punctuator_len-size.result c.args.rest.bytes.now c.punctuator_len-size.ensures c.args.rest.some c.requires.kept)
 
 pub returns : goal.returns
 returns c = record {

@@ -1,4 +1,4 @@
-use Rattle.cweb_scan.proofs.Common.{rules, sym, subst}
+use Rattle.cweb_scan.proofs.Common.{sym, subst}
 use Rattle.cweb_scan.proofs.Blanks.{blank_passed}
 use Rattle.cweb_scan.proofs.PlainLexemes.{left_line, none_taken, piece_within, some_ended, some_goes_on, some_taken, TakesSome}
 use Rattle.cweb_scan.proofs.scanner.Scanner.take_plain.Goals as goal
@@ -51,6 +51,3 @@ returns-then-is_empty c =
     let old = c.args.self.now in
     (subst (λ t. TakesSome text t old c.pieces.self) (sym c.past_blank-piece.ensures) (blank_passed text
     c.pieces.left.now old c.pieces.self c.requires.line c.pieces.invariant.1 c.pieces.invariant.0)).taken
-
-pub pieces-init : goal.pieces-init
-pieces-init c = search rules

@@ -1,5 +1,5 @@
 use Rattle.cweb_rules.specs.declared.rule.Rule.TheVariants as rule
-use Rattle.cweb_scan.proofs.Common.{◌≡◌, ◌+◌, List, ℕ, false, length, drop, arith, refl, sym, ap, ◌∙◌, subst, length-drop, Literal, reach, literal_prefix, quote_of, look_in_literal, IsLine, reached, Closed, Open, Reached, emit, IsLine-drop, IsPlainC, is_quoted-size}
+use Rattle.cweb_scan.proofs.Common.{◌≡◌, ◌+◌, List, ℕ, false, length, drop, arith, refl, sym, ap, ◌∙◌, subst, Literal, reach, literal_prefix, quote_of, look_in_literal, IsLine, reached, Closed, Open, Reached, emit, IsLine-drop, IsPlainC, is_quoted-size}
 use Rattle.cweb_scan.proofs.FurtherLiterals.{HasNone, literal_reach, literal_turn, none_valid}
 use Rattle.cweb_scan.proofs.Plains.{stays_plain}
 use Rattle.cweb_scan.proofs.FirstMatchTaken.{seen}
@@ -15,12 +15,6 @@ pub quoted_len-requires : goal.quoted_len-requires
 quoted_len-requires c = subst IsLine
     (sym c.split_at-2.ensures.back) (IsLine-drop (c.literal_prefix-prefix.result + 1) c.args.rest.bytes.now
     c.args.rest.line)
-
-pub split_at-requires-in-Some : goal.split_at-requires-in-Some
-split_at-requires-in-Some c =
-    let k = c.literal_prefix-prefix.result + 1 in
-    let size = ap (λ (x : List ℕ). length x) c.split_at-2.ensures.back ∙ length-drop k c.args.rest.bytes.now in
-    omega (arith, size, c.in-Some.ensures.within)
 
 pub returns-in_ok-emit_plain-in-Some : goal.returns-in_ok-emit_plain-in-Some
 returns-in_ok-emit_plain-in-Some c = record {

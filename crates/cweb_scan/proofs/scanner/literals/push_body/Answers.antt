@@ -3,7 +3,7 @@ use Rattle.cweb_rules.specs.inner.Looks.{look_of}
 use Rattle.cweb_rules.proofs.Lasts.{reach-fits}
 use Rattle.cweb_scan.proofs.FurtherLiterals.{HasNone, none_valid, text_stays}
 use Rattle.cweb_scan.proofs.PlainBodies.{whole_is}
-use Rattle.cweb_scan.proofs.scanner.items.push_body.Goals as goal
+use Rattle.cweb_scan.proofs.scanner.literals.push_body.Goals as goal
 
 pub split_at-requires : goal.split_at-requires
 split_at-requires c = omega (arith, c.requires, reach-fits c.args.item c.args.inner.now)

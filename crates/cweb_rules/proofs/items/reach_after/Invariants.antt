@@ -1,6 +1,6 @@
 use Rattle.cweb_rules.proofs.Common.{◌≡◌, ◌+◌, length, reach, look_of, reached, Open}
 use Rattle.cweb_rules.proofs.Ranges.{later_by}
-use Rattle.cweb_rules.proofs.items.reach.Given as goal
+use Rattle.cweb_rules.proofs.items.reach_after.Given as goal
 
 abbrev pub invariant-units : goal.invariant-units
 invariant-units l = record {

@@ -1,5 +1,5 @@
 use Rattle.cweb_scan.proofs.Common.{◌≡◌, ◌≤◌, ◌+◌, drop, at_line_ends}
-use Rattle.cweb_scan.proofs.scanner.items.newlines.Given as goal
+use Rattle.cweb_scan.proofs.scanner.literals.newlines.Given as goal
 
 abbrev pub invariant-bytes : goal.invariant-bytes
 invariant-bytes l = record {

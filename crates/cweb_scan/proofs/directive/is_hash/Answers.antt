@@ -1,5 +1,0 @@
-use Rattle.cweb_scan.proofs.Common.{rules}
-use Rattle.cweb_scan.proofs.directive.is_hash.Goals as goal
-
-pub returns-in-Punct : goal.returns-in-Punct
-returns-in-Punct c = search rules

@@ -1,5 +1,0 @@
-use Rattle.cweb_scan.proofs.Common.{rules}
-use Rattle.cweb_scan.proofs.scanner.Scanner.scanned.Goals as goal
-
-pub returns : goal.returns
-returns c = search rules
