@@ -45,7 +45,7 @@ prefix_of_all all done buffered now old mid new buffer whole wrote is fails =
 pub nothing_yet : (sink : SinkModel) (so : SoFar) (all : List Event) → HasWritten so so all all (Writes sink sink)
 nothing_yet sink so all = record {
   lines = [];
-  yields = yields_nothing so so all all refl refl refl refl;
+  yields = search rules;
   wrote = written_none sink;
 }
 

@@ -54,5 +54,5 @@ pub use Rattle.cweb_files.specs.Sinks.{FailsWithin, SinkModel, failing, with_pri
 pub use Rattle.cweb_files.specs.surface.Writes.{Wrote}
 pub use Rattle.cweb_print.specs.surface.Classes.{class_by, class_of, left_after_token, punct_class, is_dropped}
 pub use Rattle.cweb_print.specs.surface.Classes.{left_after_tokens, at_start}
-pub use Rattle.cweb_print.specs.surface.Printed.{AddsBy, left_in_printer, setting_of, PrintsToken}
+pub use Rattle.cweb_print.specs.surface.Printed.{left_in_printer, setting_of, PrintsToken}
 pub use Rattle.cweb_print.specs.surface.TokenRanges.{tokens_of_part}

@@ -6,7 +6,6 @@ pub mod Steps
 pub mod Bytes
 pub mod Ranges
 pub mod MacroLines
-pub mod Prints
 pub mod DirectPrinting
 pub mod ApartTable
 pub mod DirectEdges

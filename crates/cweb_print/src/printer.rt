@@ -1,6 +1,5 @@
 // The printer of tokens.
 ghost use Rattle.std.specs.Prelude.{◌≡◌, ◌<◌, ◌+◌, ◌^◌, [], OnOk, OnErr};
-ghost use Rattle.cweb_files.specs.Bins.{CountsFailure};
 ghost use Rattle.cweb_files.specs.surface.Writes.{Wrote};
 ghost use Rattle.cweb_input.specs.surface.OpenedFileNames.{opened_file_names};
 ghost use Rattle.cweb_store.specs.surface.TokenModels.{token_model};
@@ -57,7 +56,6 @@ impl<'a> Printer<'a> {
     pub fn write<W: Sink>(&mut self, token: Token<'_>, out: &mut W) -> Result<(), SinkFault>
         requires count { (W.model out.old).failed + 1 < 2 ^ 64 }
         requires named { MarkFileIsNamed (setting_of self.old) (token_model token) }
-        ensures counts { CountsFailure (W.model out.old).failed (W.model out.new).failed result }
         ensures setting { setting_of self.new ≡ setting_of self.old }
         ensures moves { OnOk result
             (Moves (left_in_printer self.old) (token_model token.entry) (left_in_printer self.new)) }
@@ -73,7 +71,6 @@ impl<'a> Printer<'a> {
     /// Ends the last line of a file and resets to the start of the next one. Allocates nothing.
     pub fn end<W: Sink>(&mut self, out: &mut W) -> Result<(), SinkFault>
         requires { (W.model out.old).failed + 1 < 2 ^ 64 }
-        ensures counts { CountsFailure (W.model out.old).failed (W.model out.new).failed result }
         ensures setting { setting_of self.new ≡ setting_of self.old }
         ensures left { OnOk result (left_after_tokens [] ≡ left_in_printer self.new) }
         ensures err { OnErr result (self.new ≡ self.old) }

@@ -80,7 +80,7 @@ pub use Rattle.cweb_print.specs.Printing.{without_joined_layout}
 pub use Rattle.cweb_print.specs.Spacing.{sep, are_apart}
 pub use Rattle.cweb_print.specs.declared.printer.Printer.{Printer}
 pub use Rattle.cweb_print.specs.inner.BufferedPrinting.{PrintsPrefix}
-pub use Rattle.cweb_print.specs.surface.Printed.{AddsBytes, Moves, PrintsToken, left_in_printer, setting_of}
+pub use Rattle.cweb_print.specs.surface.Printed.{Moves, PrintsToken, left_in_printer, setting_of}
 pub use Rattle.cweb_print.specs.surface.Printers.{MarkFileIsNamed}
 pub use Rattle.cweb_rules.specs.Bytes.{is_digit, is_letter, is_word_byte, is_white}
 pub use Rattle.cweb_texts.specs.Edges.{first_is, is_one_of}

@@ -1,8 +1,8 @@
 -- Tokens of an expander that are printed in order.
-use Rattle.cweb_tools.proofs.Common.{◌≡◌, ℕ, List, [], ◌∷◌, ◌++◌, length, sym, ◌∙◌, ap, subst, append_assoc, append-nil, All-head, Bor, All, IsErr, Option, Some, None, refl, option_map, Result, Ok, Err, Stored, Token, IsMarkBelow, left, PrintsPrefix, Moves, PrintsToken, left_in_printer, setting_of, MarkFileIsNamed, setting, Setting, file, print, Expander, Printer, PrintsSoFar, SinkContents, SinkModel, StaysReady, changed, failing, left_in, with_printed, without_draft, written}
+use Rattle.cweb_tools.proofs.Common.{◌≡◌, ℕ, List, [], ◌∷◌, ◌++◌, length, sym, ◌∙◌, ap, subst, append_assoc, append-nil, All-head, Bor, All, OnErr, OnOk, Option, Some, None, refl, option_map, Result, Ok, Err, Stored, Token, IsMarkBelow, left, PrintsPrefix, Moves, PrintsToken, left_in_printer, setting_of, MarkFileIsNamed, setting, Setting, file, print, Expander, Printer, PrintsSoFar, SinkContents, SinkModel, StaysReady, changed, failing, left_in, with_printed, without_draft, written}
 use Rattle.cweb_files.specs.Sinks.{FailsWithin}
 use Rattle.cweb_files.proofs.Appending.{fails_then, written_none, written_on, written_then}
-use Rattle.cweb_print.specs.surface.Printed.{AddsBy, EndsFile}
+use Rattle.cweb_print.specs.surface.Printed.{EndsFile}
 use Rattle.cweb_tools.proofs.Marks.{all_back, mark_named}
 use Rattle.cweb_tools.proofs.ReadyExpanders.{stays_on}
 
@@ -59,7 +59,6 @@ pub prints_more : {files : List (List ℕ)} {first : Expander} {mid now : Expand
     → PrintsSoFar files first now printer' old new' buffer'
 prints_more {files} {first} {mid} {now} {printer} {old = old} {new} new' {buffer} buffer' t so_far ready yields same
     moves prints =
-    let adds = prints so_far.done so_far.kept in
     record {
       ready = stays_on so_far.ready ready;
       setting_is = same ∙ so_far.setting_is;
@@ -69,27 +68,26 @@ prints_more {files} {first} {mid} {now} {printer} {old = old} {new} new' {buffer
           (yields ∙ ap (λ (s : Bor Stored). t ∷ left s.now now.frames.items) (sym ready.store))
           ∙ sym (append_assoc so_far.done (t ∷ []) (left_in now));
       kept = moves so_far.done so_far.kept;
-      wrote = more_written (setting_of printer) (setting first.store.now files) so_far.done (t ∷ []) adds.bytes old
-          (written buffer new) _ so_far.setting_is so_far.wrote adds.expected adds.wrote;
+      wrote = more_written (setting_of printer) (setting first.store.now files) so_far.done (t ∷ []) prints.bytes old
+          (written buffer new) _ so_far.setting_is so_far.wrote (prints.expected so_far.done so_far.kept) prints.wrote;
     }
 
 -- Nothing remains, and the last line was ended.
 pub prints_all : {A E : Type 0} {files : List (List ℕ)} {first now : Expander} {printer : Printer}
-    {old new : SinkModel} {buffer : List ℕ} (new' : SinkModel) (buffer' : List ℕ) (x : A)
+    {old new : SinkModel} {buffer : List ℕ} (new' : SinkModel) (buffer' : List ℕ) (r : Result A E)
     → PrintsSoFar files first now printer old new buffer → left_in now ≡ []
-    → EndsFile {E = E} printer (written buffer new) (written buffer' new') (Ok x) → buffer' ≡ []
-    → new' ≡ written (file (setting first.store.now files) (left_in first)) old
-prints_all {files = files} {first = first} {printer = printer} {old = old} {new = new} {buffer = buffer} new' buffer' x
-    so_far none ends empty =
+    → EndsFile printer (written buffer new) (written buffer' new') r → OnOk r (buffer' ≡ [])
+    → OnOk r (new' ≡ written (file (setting first.store.now files) (left_in first)) old)
+prints_all {files = files} {first = first} {printer = printer} {old = old} new' buffer' (Ok x) so_far none ends empty =
     let done : List Token = so_far.done in
-    let adds = ends done so_far.kept in
     written_none new' ∙ ap (λ (t : List ℕ). written t new') (sym empty)
-    ∙ written_then (print (setting first.store.now files) done) adds.bytes old so_far.wrote adds.wrote
+    ∙ written_then (print (setting first.store.now files) done) ends.bytes old so_far.wrote ends.wrote
     ∙ ap (λ (t : List ℕ). written t old)
-    (ap (λ (s : Setting). print s done ++ adds.bytes) (sym so_far.setting_is) ∙ sym adds.expected
-    ∙ ap (λ (s : Setting). file s done) so_far.setting_is
+    (ap (λ (s : Setting). print s done ++ ends.bytes) (sym so_far.setting_is)
+    ∙ sym (ends.expected done so_far.kept) ∙ ap (λ (s : Setting). file s done) so_far.setting_is
     ∙ ap (file (setting first.store.now files))
     (sym (so_far.whole ∙ ap (λ (ts : List Token). done ++ ts) none ∙ append-nil done)))
+prints_all new' buffer' (Err e) so_far none ends empty = tt
 
 -- Without its draft, it doesn't matter what was written to it.
 drafts_gone : (a b : List ℕ) (now now' : Option SinkContents)
@@ -101,14 +99,22 @@ drafts_gone a b None (Some now') is = absurd (cc)
 drafts_gone a b (Some now) None is = absurd (cc)
 
 -- A write failed.
-pub prints_until : {A E : Type 0} {files : List (List ℕ)} {first now : Expander} {printer : Printer}
-    {old new : SinkModel} {buffer : List ℕ} (new' : SinkModel) (buffer' : List ℕ) {before after : List ℕ} (e : E)
+pub prints_until : {files : List (List ℕ)} {first now : Expander} {printer : Printer} {old new : SinkModel}
+    {buffer : List ℕ} (new' : SinkModel) (buffer' : List ℕ) {bytes : List ℕ}
     → PrintsSoFar files first now printer old new buffer
-    → AddsBy {A = A} before after (written buffer new) (written buffer' new') (Err e)
+    → FailsWithin bytes (written buffer new) (written buffer' new')
     → changed without_draft new' ≡ failing without_draft old
-prints_until {files = files} {first = first} {old = old} new' buffer' e so_far adds =
-    let fails = fails_then (print (setting first.store.now files) so_far.done) so_far.wrote adds.wrote in
+prints_until {files = files} {first = first} {old = old} new' buffer' so_far fail =
+    let fails = fails_then (print (setting first.store.now files) so_far.done) so_far.wrote fail in
     λ i. record {
       failed = (fails.is i).failed;
       contents = drafts_gone buffer' fails.prefix old.contents new'.contents (λ j. (fails.is j).contents) i;
     }
+
+pub end_failed : {A E : Type 0} {files : List (List ℕ)} {first now : Expander} {printer : Printer}
+    {old new : SinkModel} {buffer : List ℕ} (new' : SinkModel) (buffer' : List ℕ) (r : Result A E)
+    → PrintsSoFar files first now printer old new buffer
+    → EndsFile printer (written buffer new) (written buffer' new') r
+    → OnErr r (changed without_draft new' ≡ failing without_draft old)
+end_failed new' buffer' (Ok x) so_far ends = tt
+end_failed new' buffer' (Err e) so_far ends = prints_until new' buffer' so_far ends.wrote

@@ -16,21 +16,22 @@ setting_of p = setting p.store.now (opened_file_names p.names.now)
 abbrev pub left_in_printer : Printer → Left
 left_in_printer p = p.left
 
--- The suffix that `after` has over `before` is written, or after a fault a prefix of it.
-pub record AddsBy {A E : Type 0} (before after : List ℕ) (old new : SinkModel) (result : Result A E) : Type 0 where
+-- Bytes are written, or after a fault a prefix of them. For each list that leads to the printer's state, they are the
+-- suffix of `after` over `before`.
+pub record AddsSuffix {A E : Type 0} (p : Printer) (before after : List Token → List ℕ) (old new : SinkModel)
+    (result : Result A E) : Type 0 where
   pub bytes : List ℕ
-  pub expected : after ≡ before ++ bytes
+  pub expected : (ts : List Token) → left_after_tokens ts ≡ left_in_printer p → after ts ≡ before ts ++ bytes
   pub wrote : Wrote bytes old new result
 
--- For each list that leads to the printer's state, the suffix that the token adds to its `print` is written.
+-- The suffix that the token adds to `print` is written.
 abbrev pub PrintsToken : {A E : Type 0} → Printer → Token → SinkModel → SinkModel → Result A E → Type 0
-PrintsToken p t old new result = (ts : List Token) → left_after_tokens ts ≡ left_in_printer p
-    → AddsBy (print (setting_of p) ts) (print (setting_of p) (ts ++ t ∷ [])) old new result
+PrintsToken p t old new result =
+    AddsSuffix p (print (setting_of p)) (λ ts. print (setting_of p) (ts ++ t ∷ [])) old new result
 
--- For each list that leads to the printer's state, the suffix of `file` over `print` is written.
+-- The suffix of `file` over `print` is written.
 abbrev pub EndsFile : {A E : Type 0} → Printer → SinkModel → SinkModel → Result A E → Type 0
-EndsFile p old new result = (ts : List Token) → left_after_tokens ts ≡ left_in_printer p
-    → AddsBy (print (setting_of p) ts) (file (setting_of p) ts) old new result
+EndsFile p old new result = AddsSuffix p (print (setting_of p)) (file (setting_of p)) old new result
 
 -- Each list that leads to the old state leads to the new one with the token appended.
 abbrev pub Moves : Left → Token → Left → Type 0
