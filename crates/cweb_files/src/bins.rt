@@ -30,7 +30,8 @@ pub trait Bins: Sink {
         requires { (Self.model self.old).failed + 1 < 2 ^ 64 }
         ensures begun { OnOk result
             (Self.model self.new ≡ changed (with_draft name.now) (Self.model self.old)) }
-        ensures err { IfErr result (λ fault. Self.model self.new ≡ refused fault (Self.model self.old)) };
+        ensures err { IfErr result
+            (λ fault. Self.model self.new ≡ refused fault (Self.model self.old)) };
 
     /// Appends the draft to the files and removes an earlier file of its name. It fails without a draft. After a fault
     /// the files are unchanged. In any case no draft remains. It allocates nothing, so its fault is never `Memory`.

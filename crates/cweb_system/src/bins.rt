@@ -39,8 +39,9 @@ impl<F: FileSystem + Drop> Folder<F> {
         ensures failed { IfErr result (λ fault.
             self.new.failed ≡ (refused fault (folder_model F.FileSystem self.old)).failed) }
         ensures kept { OnOk result (self.new.failed ≡ self.old.failed) }
-        ensures begun { IsTrue (F.disk self.old.fs).tells → OnOk result (folder_contents F.FileSystem
-            self.new ≡ with_draft name.now (folder_contents F.FileSystem self.old)) }
+        ensures begun { IsTrue (F.disk self.old.fs).tells → OnOk result
+            (folder_contents F.FileSystem self.new
+            ≡ with_draft name.now (folder_contents F.FileSystem self.old)) }
         ensures err { IsTrue (F.disk self.old.fs).tells → IfErr result (λ fault.
             folder_contents F.FileSystem self.new
             ≡ with_refusal (refusal fault) (folder_contents F.FileSystem self.old)) }

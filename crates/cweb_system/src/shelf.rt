@@ -63,7 +63,8 @@ impl<F: FileSystem + Drop> FolderShelf<F> {
     pub fn into_bins(self, alloc: Global) -> FolderBins<F>
         ensures system { bins_system result ≡ shelf_system self }
         ensures read { bins_read result ≡ unwrap_or (shelf_read self) [] }
-        ensures empty { bins_model F.FileSystem result ≡ empty_bins F.FileSystem (shelf_system self) }
+        ensures empty { bins_model F.FileSystem result
+            ≡ empty_bins F.FileSystem (shelf_system self) }
     {
         let FolderShelf {
             fs,

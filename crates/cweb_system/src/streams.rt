@@ -1,5 +1,5 @@
 // Standard streams as sinks, and single reads and writes.
-ghost use Rattle.std.specs.Prelude.{◌≡◌, ◌≤◌, ◌<◌, ◌+◌, ◌^◌, ◌++◌, [], false, true, length, take, IfOk, OnErr};
+ghost use Rattle.std.specs.Prelude.{◌≡◌, ◌≤◌, ◌<◌, ◌+◌, ◌^◌, [], None, Some, true, length, take, IfOk, OnErr};
 ghost use Rattle.std.specs.Prelude.{IsTrue};
 ghost use Rattle.std.specs.Option.{is_some, unwrap_or};
 ghost use Rattle.std.proofs.Props.{props};
@@ -38,12 +38,12 @@ pub struct StdSink<W: Write + Drop> {
 }
 
 impl<W: Write + Drop> StdSink<W> {
-    ghost use Rattle.cweb_system.specs.inner.Streams.{sink_bytes, sink_failures, sink_is_known};
+    ghost use Rattle.cweb_files.specs.surface.Writes.{always_open};
+    ghost use Rattle.cweb_system.specs.inner.Streams.{sink_model};
 
     /// A sink without failures so far. It isn't observable.
     pub fn new(stream: W) -> Self
-        ensures failed { sink_failures result ≡ 0 }
-        ensures tells { sink_is_known result ≡ false }
+        ensures { sink_model W.Write result ≡ record { failed = 0; contents = None } }
     {
         StdSink {
             stream,
@@ -55,9 +55,13 @@ impl<W: Write + Drop> StdSink<W> {
     /// A sink over a stream whose contents are known, such as a `Vec`. It is observable.
     pub fn observable(stream: W) -> Self
         requires { is_some (W.contents stream) ≡ true }
-        ensures failed { sink_failures result ≡ 0 }
-        ensures tells { sink_is_known result ≡ true }
-        ensures bytes { sink_bytes W.Write result ≡ unwrap_or (W.contents stream) [] }
+        ensures { sink_model W.Write result ≡ record {
+              failed = 0;
+              contents = Some (record {
+                bytes = unwrap_or (W.contents stream) [];
+                beside = always_open;
+              });
+            } }
     {
         StdSink {
             stream,

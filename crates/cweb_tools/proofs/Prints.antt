@@ -111,6 +111,10 @@ prints_until {files = files} {first = first} {old = old} new' buffer' so_far fai
       contents = drafts_gone buffer' fails.prefix old.contents new'.contents (λ j. (fails.is j).contents) i;
     }
 
+pub on_err : {A E : Type 0} (r : Result A E) {P : Type 0} → P → OnErr r P
+on_err (Ok x) holds = tt
+on_err (Err e) holds = holds
+
 pub end_failed : {A E : Type 0} {files : List (List ℕ)} {first now : Expander} {printer : Printer}
     {old new : SinkModel} {buffer : List ℕ} (new' : SinkModel) (buffer' : List ℕ) (r : Result A E)
     → PrintsSoFar files first now printer old new buffer

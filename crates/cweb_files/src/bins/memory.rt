@@ -145,7 +145,8 @@ impl Bins for MemoryBins {
         requires { bins_failed self.old + 1 < 2 ^ 64 }
         ensures begun { OnOk result
             (bins_model self.new ≡ changed (with_draft name.now) (bins_model self.old)) }
-        ensures err { IfErr result (λ fault. bins_model self.new ≡ refused fault (bins_model self.old)) }
+        ensures err { IfErr result
+            (λ fault. bins_model self.new ≡ refused fault (bins_model self.old)) }
         // The only fault is `Memory`. The draft has the capacity that was set.
         ensures memory { IfErr result (λ fault. fault ≡ BinFault.Memory) }
         ensures room { OnOk result (new_draft_room self.old ≤ draft_room self.new) }

@@ -1,16 +1,10 @@
 -- What contracts know of a stream.
-use Rattle.std.specs.Prelude.{ℕ, Bool, List, []}
+use Rattle.std.specs.Prelude.{ℕ, List, []}
 use Rattle.std.specs.Option.{unwrap_or}
 use Rattle.cweb_files.specs.Sinks.{SinkModel, known}
 use Rattle.cweb_files.specs.surface.Writes.{always_open}
 use Rattle.std.specs.declared.io.traits.Write.{Ghosts as Write}
 use Rattle.cweb_system.specs.declared.streams.StdSink.{StdSink}
-
-abbrev pub sink_failures : {W : Type 0} {write : Write W} → StdSink W write → ℕ
-sink_failures sink = sink.failed
-
-abbrev pub sink_is_known : {W : Type 0} {write : Write W} → StdSink W write → Bool
-sink_is_known sink = sink.is_known
 
 abbrev pub stream_of : {W : Type 0} {write : Write W} → StdSink W write → W
 stream_of sink = sink.stream

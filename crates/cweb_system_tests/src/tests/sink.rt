@@ -1,7 +1,8 @@
 // A sink over a stream in memory, whose contents are known.
-ghost use Rattle.std.specs.Prelude.{◌≡◌, ◌++◌, [], IfOk, true};
+ghost use Rattle.std.specs.Prelude.{◌≡◌, ◌++◌, [], IfOk, Some, true};
 ghost use Rattle.std.specs.Option.{is_some, unwrap_or};
-ghost use Rattle.cweb_system.specs.inner.Streams.{sink_bytes};
+ghost use Rattle.cweb_files.specs.surface.Writes.{always_open};
+ghost use Rattle.cweb_system.specs.inner.Streams.{sink_model};
 
 use cweb_files::{Sink, SinkFault, write_all};
 use cweb_system::StdSink;
@@ -11,8 +12,13 @@ use std::process::Abort;
 /// Writes two pieces to a stream.
 fn filled<W: Write + Drop>(stream: W, first: &[u8], second: &[u8]) -> Result<StdSink<W>, SinkFault>
     requires { is_some (W.contents stream) ≡ true }
-    ensures { IfOk result (λ sink. sink_bytes W.Write sink
-        ≡ (unwrap_or (W.contents stream) [] ++ first.now) ++ second.now) }
+    ensures { IfOk result (λ sink. sink_model W.Write sink ≡ record {
+          failed = 0;
+          contents = Some (record {
+            bytes = (unwrap_or (W.contents stream) [] ++ first.now) ++ second.now;
+            beside = always_open;
+          });
+        }) }
 {
     let mut sink = StdSink::observable(stream);
     write_all(&mut sink, first)?;

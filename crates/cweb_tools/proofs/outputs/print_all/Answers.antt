@@ -1,5 +1,5 @@
 use Rattle.cweb_tools.proofs.Common.{rules, arith, common_steps, ap, SinkModel}
-use Rattle.cweb_tools.proofs.Prints.{end_failed, next_named, prints_all, prints_prefix, prints_more, prints_until}
+use Rattle.cweb_tools.proofs.Prints.{end_failed, next_named, on_err, prints_all, prints_prefix, prints_more, prints_until}
 use Rattle.cweb_tools.proofs.outputs.print_all.Goals as goal
 
 pub append-requires-in-tokens-clause-named : goal.append-requires-in-tokens-clause-named
@@ -16,7 +16,7 @@ finish-requires g c =
     omega (arith, ap (λ (sink : SinkModel). sink.failed) c.tokens.invariant.wrote, c.requires.count)
 
 pub returns-in_err-append-clause-err : goal.returns-in_err-append-clause-err
-returns-in_err-append-clause-err g c = if_failed c.from_residual.result c.from_residual.ensures.0
+returns-in_err-append-clause-err g c = on_err c.from_residual.result
     (prints_until _ _ (prints_prefix {now = c.append.new.self} c.tokens.invariant
     (record { store = c.append.ensures.store; plan = c.append.ensures.plan; valid = c.append.ensures.valid })
     c.append.ensures.setting c.append.ensures.prints) c.in_err-append.ensures.prints.wrote)
