@@ -1,5 +1,5 @@
 -- The expected plan, from the search results.
-use Rattle.cweb_out.proofs.Common.{◌≡◌, ◌<◌, ◌+◌, ℕ, Bool, true, false, not, ◌&&◌, List, [], ◌∷◌, ◌++◌, refl, sym, ◌∙◌, ap, arith, length, take, get_or, Option, Some, None, map, Ok, Err, find, list_all, list_any, take_more, NameId, Stored, cycle_from, is_good_name, output_name, output_of, start_of, false_from_ne_true}
+use Rattle.cweb_out.proofs.Common.{◌≡◌, ◌<◌, ◌+◌, ℕ, true, false, not, ◌&&◌, List, [], ◌∷◌, ◌++◌, sym, ◌∙◌, ap, length, take, get_or, Option, Some, None, map, Ok, Err, find, list_all, take_more, NameId, Stored, cycle_from, is_good_name, output_name, output_of, start_of, false_from_ne_true}
 use Rattle.std.specs.Prelude.{option_map}
 use Rattle.std.specs.List.{after_last}
 use Rattle.std.specs.Str.{IsUtf8, is_utf8}
@@ -7,12 +7,9 @@ use Rattle.std.proofs.lemmas.Str.{IsUtf8-from_is_utf8, is_utf8-from_IsUtf8}
 use Rattle.std.proofs.lemmas.List.{map-append}
 use Rattle.cweb_out.specs.Outputs.{is_control, is_slash, names_no_file}
 use Rattle.cweb_out.specs.inner.Plans.{output_in}
-use Rattle.cweb_out.specs.inner.Planning.{NamesAll, NamesOne, first_cycle, has_one, is_bad, is_endless, is_good_path}
+use Rattle.cweb_out.specs.inner.Planning.{NamesAll, NamesOne, first_cycle, is_bad, is_endless, is_good_path}
 use Rattle.cweb_out.specs.inner.Search.{SettlesList}
 use Rattle.cweb_out.specs.declared.outputs.fault.PlanFault.{PlanFault}
-use Rattle.cweb_store.specs.Parts as parts
-use Rattle.cweb_store.specs.surface.Parts as surface
-use Rattle.cweb_store.proofs.PartLemmas.{numbers-some}
 use Rattle.cweb_out.specs.declared.outputs.planned.Output.{Output}
 use Rattle.cweb_out.specs.declared.outputs.fault.PlanFault.TheVariants as fault
 use Rattle.cweb_out.proofs.Finds.{find-at}
@@ -44,20 +41,6 @@ pub cycle-found : (w : Stored) (roots : List (Option NameId)) (i : ℕ) (root d 
 cycle-found w roots i root d names l e h s =
     ap (option_map (λ o. cycle_from w (start_of w o))) (find-at (is_endless w) roots i root d l e h (ap not s.0))
     ∙ ap (λ ns. Some ns) (sym s.1)
-
-pub unnamed-one : (w : Stored) → has_one (surface.numbers_where parts.is_unnamed w.parts)
-    ≡ list_any (λ (p : parts.Part). parts.is_unnamed p.kind) w.parts
-unnamed-one w =
-    let some = numbers-some parts.is_unnamed w.parts in
-    by (surface.numbers_where parts.is_unnamed w.parts)
-    (list_any (λ (p : parts.Part). parts.is_unnamed p.kind) w.parts) some.0 some.1
-  where
-    by : (ps : List Rattle.cweb_store.specs.declared.parts.Part.Part) (b : Bool)
-        → (b ≡ true → 0 < length ps) → (0 < length ps → b ≡ true) → has_one ps ≡ b
-    by [] true f g = absurd (omega (arith, f refl))
-    by [] false f g = refl
-    by (p ∷ ps) true f g = refl
-    by (p ∷ ps) false f g = sym (g (omega arith))
 
 pub bad-utf8 : (w : Stored) (main : List ℕ) (root : Option NameId) (bytes : List ℕ)
     → bytes ≡ output_name w main root → (IsUtf8 bytes → ⊥) → is_bad w main root ≡ true

@@ -1,9 +1,8 @@
 -- Results of the functions that make a plan.
-use Rattle.std.specs.Prelude.{◌≡◌, ℕ, Bool, true, false, not, ◌&&◌, List, [], ◌∷◌, map, find, Option, Some, None}
+use Rattle.std.specs.Prelude.{◌≡◌, ℕ, Bool, true, false, not, ◌&&◌, List, map, find, Option, Some, None}
 use Rattle.std.specs.Prelude.{Result, Ok, Err, option_map}
 use Rattle.std.specs.List.{list_all, after_last}
 use Rattle.cweb_names.specs.declared.name.NameId.{NameId}
-use Rattle.cweb_store.specs.declared.parts.Part.{Part}
 use Rattle.cweb_store.specs.Calls.{Stored}
 use Rattle.cweb_out.specs.Expansion.{cycle_from, list_ends}
 use Rattle.cweb_out.specs.Outputs.{is_control, is_good_name, is_slash}
@@ -12,10 +11,6 @@ use Rattle.cweb_out.specs.inner.Plans.{output_in}
 use Rattle.cweb_out.specs.declared.outputs.planned.Output.{Output}
 use Rattle.cweb_out.specs.declared.outputs.fault.PlanFault.{PlanFault}
 use Rattle.cweb_out.specs.declared.outputs.fault.PlanFault.TheVariants as fault
-
-abbrev pub has_one : List Part → Bool
-has_one [] = false
-has_one (part ∷ parts) = true
 
 -- The conditions of a good name beside UTF-8: no control byte, and the last path part names a file.
 abbrev pub is_good_path : List ℕ → Bool

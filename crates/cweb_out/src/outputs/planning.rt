@@ -9,14 +9,14 @@ ghost use Rattle.cweb_out.specs.inner.Outputs.{IsRoot};
 ghost use Rattle.cweb_out.specs.Outputs.{has_no_program, name_spelling, output_name};
 ghost use Rattle.cweb_out.specs.Outputs.{outputs, planned};
 ghost use Rattle.cweb_out.specs.surface.Planning.{IsExpectedPlan};
-ghost use Rattle.cweb_out.specs.inner.Planning.{NamesAll, NamesOne, has_one};
+ghost use Rattle.cweb_out.specs.inner.Planning.{NamesAll, NamesOne};
 
 use crate::outputs::fault::PlanFault;
 use crate::outputs::file_name::is_good_path;
 use crate::outputs::output_list::roots;
 use crate::outputs::planned::{Output, Plan};
 use crate::outputs::search::first_cycle;
-use cweb_store::{NameId, Parts, Store};
+use cweb_store::{NameId, Store};
 use std::alloc::{AllocError, Global};
 
 /// The plan of a store, or why there is none. Faults come in this order: names that no file can have, by order of the
@@ -39,19 +39,10 @@ pub fn plan(alloc: Global, store: &Store, main: &str) -> Result<Plan, PlanFault>
     Ok(Plan { outputs, no_text })
 }
 
-fn has_one(mut parts: Parts<'_>) -> bool
-    ensures { result ≡ has_one parts.entry }
-{
-    match parts.next() {
-        Some(_) => true,
-        None => false,
-    }
-}
-
 fn has_unnamed(store: &Store) -> bool
     ensures { result ≡ list_any (λ (p : parts.Part). parts.is_unnamed p.kind) store.now.parts }
 {
-    has_one(store.unnamed())
+    store.unnamed().next().is_some()
 }
 
 fn has_no_program(store: &Store, planned: &[Output]) -> bool
