@@ -14,7 +14,7 @@ pub use Rattle.std.proofs.lemmas.List.Sums.{sum_by-append, sum_by-cons}
 pub use Rattle.std.proofs.lemmas.Option.{same_Some}
 pub use Rattle.std.specs.Borrow.{Bor}
 pub use Rattle.std.specs.List.{flat_map, list_all, list_any}
-pub use Rattle.std.specs.Prelude.{option_map}
+pub use Rattle.std.specs.Prelude.{OnErr, option_map}
 pub use Rattle.std.specs.Option.{option_copied}
 pub use Rattle.std.specs.Prelude.{None, Option, Some, IsErr, IsSome, IsTrue, Result, Ok, Err, count_by, decimal, codes}
 pub use Rattle.std.specs.Prelude.{◌==◌}

@@ -1,5 +1,5 @@
 // A sink in memory whose n-th write fails.
-ghost use Rattle.std.specs.Prelude.{◌≡◌, [], false, IfOk};
+ghost use Rattle.std.specs.Prelude.{◌≡◌, IfOk, None};
 
 use cweb_files::{Sink, SinkFault};
 use std::alloc::{AllocError, Global};

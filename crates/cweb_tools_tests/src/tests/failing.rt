@@ -1,5 +1,5 @@
 // Bins in memory that fail once, at a chosen call.
-ghost use Rattle.std.specs.Prelude.{[], false};
+ghost use Rattle.std.specs.Prelude.{None};
 
 use cweb_lines::{Sink, SinkFault};
 use cweb_out::{BinFault, Bins, MemoryBins};
