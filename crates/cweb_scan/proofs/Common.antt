@@ -143,15 +143,18 @@ pub use Rattle.cweb_scan.specs.inner.Bound.{sum_over, one, spelling_size, occurr
 pub use Rattle.cweb_scan.specs.inner.Bound.{open_size, parts_size, token_number, stored_bytes, AddsAtMost}
 pub use Rattle.cweb_scan.specs.inner.DirectiveInvariant.{in_open_part, IsTied}
 pub use Rattle.cweb_scan.specs.inner.MatchSteps.{Applies, effect_in, is_head, is_name_effect, reads_c, reads_literals}
-pub use Rattle.cweb_scan.specs.inner.MatchSteps.{IsPast, ended_as, unit_state, reads_names, starts_name, ends_in_line, needs_two}
+pub use Rattle.cweb_scan.specs.inner.MatchSteps.{IsPast, ended_as, unit_state, reads_names, starts_name}
+pub use Rattle.cweb_scan.specs.inner.MatchSteps.{ends_in_line, needs_two}
 pub use Rattle.cweb_scan.specs.inner.MatchSteps.{literals_in_part, AppliesOver, passed}
 pub use Rattle.cweb_scan.specs.inner.Plain.{TakesPlain, IsPlainC, IsPlainToken}
-pub use Rattle.cweb_scan.specs.inner.ReaderModel.{ReaderModel, OpenItem, Between, Pending, is_pending, pending_text, pending_places}
+pub use Rattle.cweb_scan.specs.inner.ReaderModel.{ReaderModel, OpenItem, Between, Pending, is_pending}
+pub use Rattle.cweb_scan.specs.inner.ReaderModel.{pending_text, pending_places}
 pub use Rattle.cweb_scan.specs.inner.ReaderModel.{with_line, cost, read_after, TakesPrefix, read_on, source_ended}
 pub use Rattle.cweb_scan.specs.inner.ReaderModel.{BeginsLine, TakesLineEnd, TakesBytes, new_reader, reader_at, gone_to}
 pub use Rattle.cweb_scan.specs.inner.ReaderModel.{holding}
 pub use Rattle.cweb_scan.specs.inner.ReaderSteps.{MakesProgress}
-pub use Rattle.cweb_scan.specs.inner.PendingItems.{is_between, item_of, IsItem, IsPending, IsStored, takes_opener, quoted_as}
+pub use Rattle.cweb_scan.specs.inner.PendingItems.{is_between, item_of, IsItem, IsPending, IsStored}
+pub use Rattle.cweb_scan.specs.inner.PendingItems.{takes_opener, quoted_as}
 pub use Rattle.cweb_scan.specs.inner.PendingItems.{PassesUnits, CanTake}
 pub use Rattle.cweb_scan.specs.inner.Room.{weight, HasItemRoom, HasPartRoom}
 pub use Rattle.cweb_scan.specs.inner.Scan.{HasTaken}

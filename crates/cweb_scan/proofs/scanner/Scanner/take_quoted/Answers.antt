@@ -1,6 +1,6 @@
 use Rattle.cweb_scan.proofs.Common.{List, ℕ, ◌++◌, ap, ◌∙◌, arith, take, body, reach, unescaped, unit_bytes, at_line_ends, emit_literal, Open, append-nil}
 use Rattle.cweb_rules.specs.inner.Looks.{look_of}
-use Rattle.cweb_scan.proofs.QuotedItems.{quoted_taken, quoted_lines, quoted_passes, emits_after}
+use Rattle.cweb_scan.proofs.QuotedItems.{quoted_taken, quoted_lines, quoted_passes}
 use Rattle.cweb_scan.proofs.scanner.Scanner.take_quoted.Goals as goal
 
 pub pass_unit-requires : goal.pass_unit-requires
@@ -34,11 +34,6 @@ pass_unit-requires-2 c = omega (
   quoted_lines c.args.opener c.args.item c.args.text.now c.reach-reached.result _
       (rw c.split_at.ensures.back at c.reach-reached.ensures.value) c.requires.lines,
 )
-
-pub emit_literal-requires : goal.emit_literal-requires
-emit_literal-requires c =
-    emits_after _ _ _ _ _ (quoted_passes _ _ _ _ _ _ _ _ _ _ _ c.in_ok-left.ensures c.in_ok-left-2.ensures
-    c.in_ok-pass_unit.ensures) c.requires.part
 
 pub returns : goal.returns
 returns c =
