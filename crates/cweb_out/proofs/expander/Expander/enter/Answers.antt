@@ -17,15 +17,7 @@ all c =
     c.requires.lower e text within c.push_reserved.ensures.items
 
 pub push_reserved-requires : goal.push_reserved-requires
-push_reserved-requires c =
-    let self = c.args.self.now in
-    omega (
-      arith,
-      self.frames.ok.0,
-      c.requires.valid.room,
-      room-above self.store.now self.frames.items c.args.name c.in-Some.id c.requires.valid.owned c.requires.lower
-          (sym c.standing.ensures.name ∙ c.in-Some.is),
-    )
+push_reserved-requires c = grind (arith, room-above)
 
 pub returns-clause-keeps : goal.returns-clause-keeps
 returns-clause-keeps c = record { store = refl; plan = refl; valid = (all c).valid }

@@ -1,4 +1,4 @@
-use Rattle.cweb_store.proofs.Common.{◌≡◌, ◌≤◌, length, sym, ◌∙◌, ap, arith, slice_get, option_map, Occurrence, occurrences_at}
+use Rattle.cweb_store.proofs.Common.{◌≡◌, ◌≤◌, length, ap, arith, occurrences_at}
 use Rattle.cweb_names.proofs.OccurrenceTableLemmas.{occurrences-count}
 use Rattle.cweb_store.proofs.StoredLemmas.{occurrence-text}
 use Rattle.cweb_store.proofs.store.Store.occurrence_text.Goals as goal
@@ -13,10 +13,4 @@ string-requires c =
     omega (arith, c.requires, count, occurrences-count ts gs few, few)
 
 pub returns : goal.returns
-returns c =
-    let ts = c.self.inside.strings in
-    let gs = c.self.inside.forms.items in
-    let os = occurrences_at ts gs in
-    let count : length os ≡ length c.args.self.now.occurrences = ap (λ v. length v.occurrences) c.self.view_is in
-    ap (λ v. option_map (λ (o : Occurrence). o.text) (slice_get v.occurrences c.args.name.0)) (sym c.self.view_is)
-    ∙ occurrence-text ts gs c.args.name.0 (omega (arith, c.requires, count)) ∙ c.string.ensures
+returns c = grind (arith, occurrence-text)

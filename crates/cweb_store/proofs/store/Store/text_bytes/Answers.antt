@@ -1,13 +1,9 @@
-use Rattle.cweb_store.proofs.Common.{◌≡◌, ◌+◌, ◌∙◌, ap, subst, arith, Stored, AreInOneList, interned_store_bytes, stored_strings}
+use Rattle.cweb_store.proofs.Common.{◌≡◌, ◌+◌, ◌∙◌, ap, arith, interned_store_bytes}
 use Rattle.cweb_store.proofs.StoredStringLemmas.{store-strings, store-bytes, bytes-few}
 use Rattle.cweb_store.proofs.store.Store.text_bytes.Goals as goal
 
 pub returns-clause-strings : goal.returns-clause-strings
-returns-clause-strings c =
-    let s = c.self.inside in
-    subst (λ (v : Stored). AreInOneList (c.text_bytes.result + c.text_bytes-2.result) (stored_strings v)) c.self.view_is
-    (store-strings c.text_bytes.result c.text_bytes-2.result s.tokens s.ranges.items s.strings s.forms.items
-    s.replaced.items c.self.invariant.whole c.text_bytes.ensures.strings c.text_bytes-2.ensures.bytes)
+returns-clause-strings c = grind (arith, store-strings)
 
 once : (c : goal.After-text_bytes-2)
     → c.text_bytes.result + c.text_bytes-2.result ≡ interned_store_bytes c.args.self.now

@@ -1,4 +1,4 @@
-use Rattle.cweb_store.proofs.Common.{◌≡◌, ◌≤◌, ◌-◌, List, filter, length, sym, subst, ◌∙◌, ap, arith, All, all_tokens, tokens_at, length-map, length-filter, count_by-le-length, ranges_from, is_wanted, wanted_in, followed, PartRange}
+use Rattle.cweb_store.proofs.Common.{◌≡◌, ◌≤◌, List, filter, length, sym, subst, ◌∙◌, ap, arith, All, all_tokens, tokens_at, length-map, length-filter, count_by-le-length, ranges_from, is_wanted, wanted_in, PartRange}
 use Rattle.cweb_names.specs.Names as spec
 use Rattle.cweb_store.specs.declared.parts.Part.{Part}
 use Rattle.cweb_store.proofs.PartLemmas.{part-ranges, tokens_at-numbers, numbers-within, numbers-ordered}
@@ -8,12 +8,7 @@ use Rattle.cweb_store.proofs.store.Store.wanted.Goals as goal
 -- The parts that the iterator visits, from the ranges and resolutions of the store.
 met : (c : goal.After-new)
     → c.new.result ≡ wanted_in c.self.inside.resolutions.items c.args.wanted c.self.inside.ranges.items
-met c =
-    let s = c.self.inside in
-    let size : c.len.result ≡ length s.ranges.items = omega (arith, c.len.ensures, s.ranges.ok.0) in
-    c.new.ensures
-    ∙ (λ i. followed (c.as_slice.ensures.value i) (c.as_slice-2.ensures.value i) (size i - c.get.ensures i))
-    ∙ c.self.invariant.linked.follow c.args.wanted
+met c = grind arith
 
 pub returns-clause-numbers : goal.returns-clause-numbers
 returns-clause-numbers c =

@@ -1,4 +1,4 @@
-use Rattle.cweb_store.proofs.Common.{◌≡◌, suc, ◌-◌, take, sym, ◌∙◌, ap, arith, filter, is_trailing, token_model, has_string}
+use Rattle.cweb_store.proofs.Common.{◌≡◌, suc, ◌-◌, arith, is_trailing, token_model}
 use Rattle.cweb_store.proofs.LayoutLemmas.{trim-next}
 use Rattle.cweb_store.proofs.LayoutStringLemmas.{trimmed-strings}
 use Rattle.cweb_store.proofs.tokens.layout.end_before.Goals as goal
@@ -42,15 +42,7 @@ returns-else-is_trailing-clause-kept c =
     )
 
 pub returns-else-is_trailing-clause-strings : goal.returns-else-is_trailing-clause-strings
-returns-else-is_trailing-clause-strings c =
-    let ts = c.args.tokens.now.tokens in
-    let from = c.args.from in
-    sym (trimmed-strings from c.args.trailing (take c.loop-end.end ts))
-    ∙ ap (filter has_string) c.loop-end.invariant.same ∙ trimmed-strings from c.args.trailing ts
+returns-else-is_trailing-clause-strings c = grind (arith, trimmed-strings)
 
 pub returns-after-loop-end-clause-strings : goal.returns-after-loop-end-clause-strings
-returns-after-loop-end-clause-strings c =
-    let ts = c.args.tokens.now.tokens in
-    let from = c.args.from in
-    sym (trimmed-strings from c.args.trailing (take c.loop-end.end ts))
-    ∙ ap (filter has_string) c.loop-end.invariant.same ∙ trimmed-strings from c.args.trailing ts
+returns-after-loop-end-clause-strings c = grind (arith, trimmed-strings)

@@ -1,18 +1,11 @@
-use Rattle.cweb_store.proofs.Common.{◌≡◌, suc, ◌-◌, take, drop, sym, ◌∙◌, ap, arith, filter, without_blank, token_model, has_string}
+use Rattle.cweb_store.proofs.Common.{◌≡◌, suc, ◌-◌, take, drop, sym, ◌∙◌, ap, arith, without_blank, token_model}
 use Rattle.cweb_store.proofs.LayoutStringLemmas.{blank-strings}
 use Rattle.cweb_store.proofs.LayoutLemmas.{blank-dropped, blank-none, drop-all}
 use Rattle.cweb_store.proofs.tokens.layout.end_before_blank.Goals as goal
 use Rattle.cweb_store.proofs.tokens.layout.end_before_blank.Goals.{else-from-end-via-then-from-end+else-is_blank, else-from-end-via-else-from-end}
 
 pub returns-then-is_blank-clause-kept : goal.returns-then-is_blank-clause-kept
-returns-then-is_blank-clause-kept c =
-    let ts = c.args.tokens.now.tokens in
-    let from = c.args.from in
-    let k = c.args.end - 1 in
-    let next : suc k ≡ c.args.end = omega (arith, c.if-from-end.true) in
-    blank-dropped from ts k (token_model c.token.result) c.token.ensures
-    (omega (arith, c.if-from-end.true)) (sym c.is_blank.ensures ∙ c.if-is_blank.true)
-    ∙ ap (λ n. without_blank (drop from (take n ts))) next
+returns-then-is_blank-clause-kept c = grind (arith, blank-dropped)
 
 pub returns-clause-kept : goal.returns-clause-kept
 returns-clause-kept c =
@@ -32,9 +25,4 @@ returns-clause-kept c =
     ]
 
 pub returns-then-is_blank-clause-strings : goal.returns-then-is_blank-clause-strings
-returns-then-is_blank-clause-strings c =
-    let ts = c.args.tokens.now.tokens in
-    let k = c.args.end - 1 in
-    let next : suc k ≡ c.args.end = omega (arith, c.if-from-end.true) in
-    blank-strings ts k (token_model c.token.result) c.token.ensures (sym c.is_blank.ensures ∙ c.if-is_blank.true)
-    ∙ ap (λ n. filter has_string (take n ts)) next
+returns-then-is_blank-clause-strings c = grind (arith, blank-strings)

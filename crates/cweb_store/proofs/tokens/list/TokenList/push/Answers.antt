@@ -5,25 +5,10 @@ use Rattle.cweb_store.proofs.TokenIndexLemmas.{index-push}
 use Rattle.cweb_store.proofs.tokens.list.TokenList.push.Goals as goal
 
 pub record_of-requires-clause-few : goal.record_of-requires-clause-few
-record_of-requires-clause-few c =
-    let s = c.self.inside in
-    omega (
-      arith,
-      records-few _ 0 (length s.places.items) s.records.items c.self.invariant.tokens.numbers,
-      length-map s.records.items (token_of_record s.strings.strings s.places.items),
-      ap (λ v. length v.tokens) c.self.view_is,
-      c.requires.few,
-    )
+record_of-requires-clause-few c = grind (arith, records-few, length-map)
 
 pub record_of-requires-clause-few_texts : goal.record_of-requires-clause-few_texts
-record_of-requires-clause-few_texts c =
-    let s = c.self.inside in
-    omega (
-      arith,
-      strings-few s.strings s.places.items s.records.items c.self.invariant.tokens,
-      ap (λ v. length v.tokens) c.self.view_is,
-      c.requires.few,
-    )
+record_of-requires-clause-few_texts c = grind (arith, strings-few)
 
 pub invariant_of-self-2 : goal.invariant_of-self-2
 invariant_of-self-2 c =
@@ -51,9 +36,4 @@ invariant_of-self-2 c =
     })
 
 pub returns-clause-ok : goal.returns-clause-ok
-returns-clause-ok c =
-    let s = c.self.inside in
-    let put = c.in_ok-record.ensures in
-    rw (c.push_reserved.ensures.items, c.in_ok-reserve.ensures.items, ← c.self.view_is)
-    (push-tokens s.strings c.record_of.new.strings s.places.items c.record_of.new.places.items s.records.items
-    (token_model c.args.token) c.in_ok-record.record c.self.invariant.tokens.numbers put.packs put.placed)
+returns-clause-ok c = grind (arith, push-tokens)
