@@ -1,18 +1,7 @@
 -- The comparison of an old line with a raw line.
-use Rattle.cweb_lines.proofs.Common.{◌≡◌, ◌+◌, ℕ, Bool, true, false, List, [], ◌∷◌, ◌∙◌, ap, arith, subst, if◌then◌else◌, bytes_eq, Line, Thing, OldSide, SoFar, Compares, Replaces, one_more, CountsLine, raw_thing, Replaced, LineAt, or-true}
+use Rattle.cweb_lines.proofs.Common.{◌≡◌, ◌+◌, ℕ, Bool, true, false, List, [], ◌∷◌, ap, arith, subst, if◌then◌else◌, bytes_eq, Line, Thing, OldSide, SoFar, Compares, Replaces, one_more, CountsLine, raw_thing, Replaced, LineAt}
 use Rattle.cweb_lines.proofs.AddedEvents.{takes_one}
 use Rattle.cweb_lines.proofs.EmittedLinesAddUp.{yields_both}
-
-compares_empty : (bytes : List ℕ) (before : Replaced) (old new : SoFar) → new ≡ old →
-    Compares bytes before (record { unequal = before.unequal; ran_out = true; ended = before.ended }) [] [] old new
-compares_empty bytes before old new same start all later r = record {
-  yields = rw same r.yields;
-  unequal = r.unequal;
-  ran_out = r.ran_out ∙ or-true before.ran_out;
-  ended = r.ended;
-  rest = r.rest;
-  things = r.things;
-}
 
 pub compares_some : (bytes raw_bytes : List ℕ) (before after : Replaced) (at : LineAt) (things things' : List Thing)
     (old new : SoFar) (t : CountsLine raw_bytes at.place old.count new.count) → things ≡ raw_thing at t.line ∷ things'

@@ -1,5 +1,5 @@
 -- The lines of an entry, and lines that begin no change.
-use Rattle.cweb_lines.proofs.Common.{◌≡◌, ◌≢◌, ◌&&◌, ℕ, Bool, true, false, List, [], ◌∷◌, ◌++◌, map, None, Some, Option, refl, sym, ◌∙◌, ap, append-nil, bytes_eq-Decides, list_any, bytes_eq, Place, Line, SourceLine, World, is_include_line, WaitingEntry, Sought, after_x, change_code, old_at, old_lines, outside, old_after, OldSide, sought, sought_after, is_change_code, followed_by, only_lines, outcome_of_events, Event, RawLine, Thing, at_entry, emitted, new_at, new_lines, passed, plain, raws, taking, took, merge, merge_end, merge_next, Code, or_parts}
+use Rattle.cweb_lines.proofs.Common.{rules, ◌≡◌, ◌≢◌, ◌&&◌, ℕ, Bool, true, false, List, [], ◌∷◌, ◌++◌, map, None, Some, Option, refl, sym, ◌∙◌, ap, append-nil, list_any, bytes_eq, Place, Line, SourceLine, World, is_include_line, WaitingEntry, Sought, after_x, change_code, old_at, old_lines, outside, old_after, OldSide, sought, sought_after, is_change_code, followed_by, only_lines, outcome_of_events, Event, RawLine, Thing, at_entry, emitted, new_at, new_lines, passed, plain, raws, taking, took, merge, merge_end, merge_next, Code, or_parts}
 use Rattle.cweb_lines.specs.declared.change.code.Code.TheVariants.{EndSide as end_side, NewSide as new_side, OldSide as old_side}
 use Rattle.cweb_lines.proofs.Merges.{state}
 use Rattle.cweb_lines.proofs.OutcomeOfEvents.{line_first, no_code}
@@ -61,11 +61,7 @@ old_splits (line ∷ further) y rest depth may_match (o ∷ old) later no_codes 
     let all = old_splits further y rest depth may_match old later parts.1 turns (cc) in
     record {
       taken = line ∷ o ∷ all.taken;
-      is = simp (
-        no_code (change_code line.line.bytes) parts.0,
-        (bytes_eq-Decides o.line.bytes line.line.bytes).1 head,
-        all.is,
-      );
+      is = search rules;
     }
 
 pub new_splits : (depth : ℕ) (begin : Place) (new : List SourceLine) (z : SourceLine) (rest : List SourceLine)

@@ -1,5 +1,5 @@
 -- The places of consecutive lines of a file.
-use Rattle.cweb_lines.proofs.Common.{◌≡◌, ◌+◌, ℕ, suc, List, [], ◌∷◌, ◌++◌, map, refl, ◌∙◌, ap, subst, arith, length, Line, SourceLine, CutLine, numbered_lines, trimmed, placed, placed_line}
+use Rattle.cweb_lines.proofs.Common.{rules, ◌≡◌, ◌+◌, ℕ, List, [], ◌∷◌, ◌++◌, map, refl, ◌∙◌, ap, subst, arith, length, Line, SourceLine, CutLine, numbered_lines, trimmed, placed, placed_line}
 use Rattle.cweb_lines.proofs.Entries.{bytes_in, lines_of}
 
 abbrev pub Inside : ℕ → ℕ → List (List ℕ) → List SourceLine → Type 0
@@ -48,8 +48,7 @@ parts file number (text ∷ first) later (line ∷ lines) inside =
       rest = p.rest;
       whole = ap (λ (ls : List SourceLine). line ∷ ls) p.whole;
       prefix_inside = λ i. head i ∷ p.prefix_inside i;
-      rest_inside = subst (λ n. Inside file n later p.rest)
-          (let same : number + 1 + length first ≡ number + suc (length first) = omega arith in same) p.rest_inside;
+      rest_inside = search rules;
     }
 
 pub record First (file number : ℕ) (text : List ℕ) (later : List (List ℕ)) (lines : List SourceLine) : Type 0 where

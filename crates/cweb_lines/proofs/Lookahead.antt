@@ -1,5 +1,5 @@
 -- Lookahead at consecutive lines in the buffer.
-use Rattle.cweb_lines.proofs.Common.{rules, ◌≡◌, ◌≤◌, ◌<◌, ◌+◌, ◌-◌, ℕ, List, [], ◌∷◌, ◌++◌, length, map, Option, None, Some, refl, sym, ◌∙◌, ap, subst, arith, append_cancel_right, length-append, length-map, map-append, slice_range, unwrap_or, IfSome, OnSome, Place, FitsLimits, FitsLimitsAt, IsAhead, LooksAhead, LooksAheadIn, WaitingEntry, BorrowsLines, line_span_at, Line, IsOneLine, SourceLine, numbered_lines, trimmed, pending_of, so_far_of, ComesNext, EmitsBufferedLines, HasRoomFor, IsStretch, Reaches, IsStretchAt, IsStretchOf, OnlyLastExceeds, line_with_newline, lines_next, top_of, IsSettled, floor_of, files_up_to, TakenCounters, LINES, Ahead, LineSpan, Stretch, MergeState, OpenSource}
+use Rattle.cweb_lines.proofs.Common.{rules, ◌≡◌, ◌≤◌, ◌<◌, ◌+◌, ◌-◌, ℕ, List, [], ◌∷◌, ◌++◌, length, map, Option, None, Some, refl, sym, ◌∙◌, ap, subst, arith, append_cancel_right, length-append, length-map, map-append, slice_range, unwrap_or, IfSome, Place, FitsLimits, FitsLimitsAt, IsAhead, LooksAhead, LooksAheadIn, WaitingEntry, BorrowsLines, line_span_at, Line, IsOneLine, SourceLine, numbered_lines, trimmed, pending_of, so_far_of, ComesNext, EmitsBufferedLines, HasRoomFor, IsStretch, Reaches, IsStretchAt, IsStretchOf, OnlyLastExceeds, line_with_newline, lines_next, top_of, IsSettled, floor_of, files_up_to, TakenCounters, LINES, Ahead, LineSpan, Stretch, MergeState, OpenSource}
 use Rattle.cweb_lines.proofs.ReportsOnlyGrow.{grows_reported, reported_emitted, reported_then}
 use Rattle.cweb_input.proofs.SourceStacks.{most_at}
 use Rattle.cweb_lines.proofs.LinesInBuffer.{few_lines, joined, numbered-append}
@@ -176,10 +176,6 @@ pub are_ahead : {R : Type 0} (run : MergeState R) (before : Ahead) (next : Optio
     → IfSome next (λ ahead. IsAhead run ahead)
 are_ahead run before None is looks = tt
 are_ahead run before (Some ahead) is looks = is_ahead run is.lines ahead is.fits (looks is.lines is.comes)
-
-pub whatever : {A : Type 0} (found : Option A) (P : Type 0) → P → OnSome found P
-whatever None P holds = tt
-whatever (Some x) P holds = holds
 
 pub borrows_lines : {R : Type 0} (old new : MergeState R) (lines : List Line) → EmitsBufferedLines old new lines
     → BorrowsLines old new

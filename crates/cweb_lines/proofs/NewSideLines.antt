@@ -1,5 +1,5 @@
 -- The new side of a change, line by line.
-use Rattle.cweb_lines.proofs.Common.{rules, subst, OnlyTakes, OnlyReports, lines_at, ◌≡◌, ℕ, false, List, [], ◌∷◌, ◌++◌, Some, None, Option, refl, sym, ◌∙◌, ap, arith, length, sameb, Place, at_place, change_code, world_in, World, Line, SourceLine, Event, NewSide, Thing, fault, new_at, new_lines, passed, raw, seek, reported, took, EmitsLines, SoFar, Stopped, change_lines, events_to_come, events_after_line, things_of, so_far_of, counters_of, opened_file_names, FirstStops, StopsFor, CountsLine, raw_thing, things_above, things_over, merge, merge_next, the_type, Code, EndedBeforeZ, WantsZ, MergeState, Change, Changing, Stack, Stop, LineAt}
+use Rattle.cweb_lines.proofs.Common.{rules, subst, OnlyTakes, OnlyReports, lines_at, ◌≡◌, ℕ, false, List, [], ◌∷◌, ◌++◌, Some, None, Option, refl, sym, ◌∙◌, ap, length, sameb, Place, at_place, change_code, world_in, World, Line, SourceLine, Event, NewSide, Thing, fault, new_at, new_lines, passed, seek, reported, took, EmitsLines, SoFar, Stopped, change_lines, events_to_come, events_after_line, so_far_of, counters_of, opened_file_names, FirstStops, StopsFor, CountsLine, things_above, things_over, merge, merge_next, the_type, Code, EndedBeforeZ, WantsZ, MergeState, Change, Changing, Stack, Stop}
 use Rattle.cweb_lines.specs.declared.change.code.Code.TheVariants.{OldSide as old_side, NewSide as new_side, EndSide as end_side}
 use Rattle.cweb_lines.proofs.AddedEvents.{takes_one}
 use Rattle.cweb_lines.proofs.EmittedLinesAddUp.{yields_both}
@@ -44,11 +44,6 @@ module _ (world : World) (change : Change) (below : List Thing) (files : ℕ) wh
       side code test = ap (λ (l : Line).
           of_side (new_at (change_code l.bytes) change.depth line lines (new_lines change.depth change.begin lines))) is
           ∙ ap (λ k. of_side (new_at k change.depth line lines (new_lines change.depth change.begin lines))) test
-
-      pub new_line : change_code bytes ≡ None → coming_new world change (line ∷ lines) below files ≡ merge world
-          (state (raw (record { source = line; depth = change.depth; may_match = false }) ∷ (new_lines change.depth
-          change.begin lines).things ++ seek ∷ below) None (new_lines change.depth change.begin lines).rest files)
-      new_line test = side None test
 
       pub new_end : change_code bytes ≡ Some end_side → coming_new world change
           (line ∷ lines) below files ≡ took line ∷ merge world (state (seek ∷ below) None lines files)
@@ -95,22 +90,9 @@ module _ {R : Type 0} (t : List ℕ → Option (List ℕ)) (l : R → List ℕ) 
   abbrev pub texts_below : List Thing
   texts_below = things_over l 0 change.below run.stack.texts []
 
-  things_new : things_of l run ≡ (new_lines change.depth change.begin (change_lines l run)).things ++ seek ∷ texts_below
-  things_new = search rules
-
   pub coming_is : events_to_come t l run ≡ coming_new (world_in t run.inputs) change (change_lines l run) texts_below
       (length (opened_file_names run.names))
   coming_is = search rules
-
-  pub coming_after_is : (at : LineAt) (source : SourceLine) → events_after_line t l run at source ≡ merge (world_in t
-      run.inputs) (state (raw_thing at source ∷ (new_lines change.depth change.begin (change_lines l run)).things
-      ++ seek
-      ∷ texts_below) None (new_lines change.depth change.begin (change_lines l run)).rest
-      (length (opened_file_names run.names)))
-  coming_after_is at source = search rules
-
-  pub below_are : things_above l 0 run.stack [] ≡ texts_below
-  below_are = ap (λ n. things_over l 0 n run.stack.texts []) (omega (arith, low))
 
 -- The events of a new line, by the contracts of the calls.
 module _ {R : Type 0} {t t' : List ℕ → Option (List ℕ)} {l l' : R → List ℕ} {run mid : MergeState R} {change : Change}

@@ -1,9 +1,8 @@
 -- Calls that may read, one after another. Each but the last has read without a fault.
-use Rattle.cweb_lines.proofs.Common.{◌≡◌, ◌++◌, ℕ, List, arith, refl, ap, subst, IsTrue, so_far_of, opened_file_names, read_failures_of, Memory, blames_memory, OnlyReports, SourceFault, MergeState, AppendsPassedLines, AreReadersKnown, Line, LineAt, Stop, Result, Ok, Err, IfErr}
+use Rattle.cweb_lines.proofs.Common.{rules, ◌≡◌, ◌++◌, ℕ, List, arith, refl, ap, subst, IsTrue, so_far_of, opened_file_names, read_failures_of, Memory, blames_memory, OnlyReports, SourceFault, MergeState, AppendsPassedLines, AreReadersKnown, Line, LineAt, Stop, Result, Ok, Err, IfErr}
 use Rattle.cweb_files.specs.declared.device.Shelf.{Ghosts as Shelf}
 use Rattle.cweb_files.specs.surface.Frames.{KeepsShelf}
 use Rattle.cweb_files.proofs.FramesCompose.{keeps_known, keeps_same, keeps_then}
-use Rattle.cweb_input.proofs.ReadersStayNamed.{blames_after}
 use Rattle.cweb_input.specs.inner.Finding.{ReadsNothing}
 use Rattle.cweb_input.specs.surface.OpenSources.{CountsReadStop}
 use Rattle.cweb_lines.specs.inner.MergeReaderNames.{BlamesReaders, KeepsReaders}
@@ -12,7 +11,7 @@ use Rattle.cweb_lines.specs.surface.MergeProgress.{KeepsReported}
 use Rattle.cweb_lines.specs.surface.MergerCalls.{KnowsReaders, StaysKnown}
 use Rattle.cweb_lines.specs.declared.merger.Merger.{Merger}
 use Rattle.cweb_lines.proofs.ReportsOnlyGrow.{reported_after, reported_halted, reported_passed, reported_same, reported_then}
-use Rattle.cweb_lines.proofs.MergeReadersStayNamed.{knows_only, knows_same}
+use Rattle.cweb_lines.proofs.MergeReadersStayNamed.{knows_only}
 
 counts_none : (result : Result (Unit {0}) Stop) (count count' : ℕ) → count' ≡ count
     → IfErr result (λ stop. stop ≡ Memory) → CountsReadStop count count' result
@@ -94,8 +93,7 @@ module _ {S R : Type 0} {shelf : Shelf S R} where
   reads_set {y = y} z stack change same reads = record {
     keeps = reads.keeps;
     failed = reads.failed;
-    readers = λ tells known. knows_same _ y z (λ i. (stack i).texts) change (λ i. (same i).names)
-        (reads.readers tells known);
+    readers = search rules;
     blamed = rw (ap (λ s. s.names) same) reads.blamed;
     still = rw same reads.still;
   }
@@ -118,7 +116,6 @@ module _ {S R : Type 0} {shelf : Shelf S R} where
       keeps = keeps_then shelf _ _ _ first.keeps then.keeps;
       failed = subst (λ n. CountsReadStop n (shelf.failed c) result) first.failed then.failed;
       readers = λ tells known. then.readers (still_tells tells) (first.readers tells known);
-      blamed = λ tells known. blames_after result _ _ _ _ (first.blamed tells known)
-          (then.blamed (still_tells tells) (first.readers tells known));
+      blamed = search rules;
       still = reported_then _ _ _ first.still then.still;
     }

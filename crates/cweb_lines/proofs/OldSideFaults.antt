@@ -9,9 +9,6 @@ module _ (begin : Place) (side : OldSide) (so_far : Replaced) (change : List Sou
   abbrev closing : List Event
   closing = map fault (closing_faults begin so_far.ended so_far.ran_out so_far.unequal)
 
-  closing_are : map fault (closing_faults begin side.ended side.ran_out side.unequal) ≡ closing
-  closing_are i = map fault (closing_faults begin (by.ended i) (by.ran_out i) (by.unequal i))
-
   lines_taken : EmitsLines [] old mid (change_events begin side) closing
   lines_taken = search rules
 

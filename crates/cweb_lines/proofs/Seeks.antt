@@ -1,5 +1,5 @@
 -- The search for an entry, line by line.
-use Rattle.cweb_lines.proofs.Common.{◌≡◌, ℕ, List, [], ◌∷◌, ◌++◌, Option, Some, None, refl, sym, ◌∙◌, ap, subst, append-nil, map, Place, Sought, sought, SourceLine, Event, took, fault, reported_faults, SoFar, EmitsLines, ReadsNext, ReportsPrefix, StopsAfterLines, Stopped, Searched, SeeksTo, LooksInPart, search_after, IsOutside, FirstStops, CountsLine, SourceFault, Stage, Done, Waiting, StopsFor, Stop, ReadFault, LineTooLong, TooMuchText, Memory}
+use Rattle.cweb_lines.proofs.Common.{rules, ◌≡◌, ℕ, List, [], ◌∷◌, ◌++◌, Option, Some, None, refl, sym, ◌∙◌, ap, subst, append-nil, map, Place, Sought, sought, SourceLine, Event, took, fault, reported_faults, SoFar, EmitsLines, ReadsNext, ReportsPrefix, StopsAfterLines, Stopped, Searched, SeeksTo, LooksInPart, search_after, IsOutside, FirstStops, CountsLine, SourceFault, Stage, Done, Waiting, StopsFor, Stop, ReadFault, LineTooLong, TooMuchText, Memory}
 use Rattle.cweb_lines.specs.inner.Seeking.{LooksAt}
 use Rattle.cweb_lines.specs.declared.change.seek.Look.TheVariants.{Entry as first_line, On as goes_on}
 use Rattle.cweb_lines.proofs.AddedEvents.{takes_one, reports, reports_some}
@@ -26,8 +26,7 @@ module _ (all : Sought) (lines : List SourceLine) (begin : Option Place) (old mi
       record {
         line = stops.line;
         later = takes.0;
-        yields = subst (λ (es : List Event). EmitsLines [] old new all.events es)
-            (ap (λ ls. (sought ls begin).events) stops.first ∙ takes.1) (rw same seeks.yields);
+        yields = search rules;
         why = rw same stops.why;
       }
 

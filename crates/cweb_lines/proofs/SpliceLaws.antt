@@ -1,5 +1,5 @@
 -- Entries that match in order splice the web.
-use Rattle.cweb_lines.proofs.Common.{◌≡◌, ◌+◌, ℕ, true, false, List, [], ◌∷◌, ◌++◌, None, sym, ◌∙◌, ap, subst, arith, length, AllByRecursion, list_any, bytes_eq, SourceLine, lines_in, cut_lines, World, is_include_line, change_code, ChangesSplice, IsPlainSplice, Splice, is_change_code, spliced, web_lines, followed_by, only_lines, placed, outcome_of_events, raws, seek, merge, or_parts}
+use Rattle.cweb_lines.proofs.Common.{rules, ◌≡◌, ◌+◌, ℕ, true, false, List, [], ◌∷◌, ◌++◌, None, sym, ◌∙◌, ap, subst, arith, length, AllByRecursion, list_any, bytes_eq, SourceLine, lines_in, cut_lines, World, is_include_line, change_code, ChangesSplice, IsPlainSplice, Splice, is_change_code, spliced, web_lines, followed_by, only_lines, placed, outcome_of_events, raws, seek, merge, or_parts}
 use Rattle.cweb_lines.specs.laws.Laws.{spliced_change_lines}
 use Rattle.cweb_lines.proofs.Merges.{state}
 use Rattle.cweb_lines.proofs.Entries.{bytes_in, finds_none, yields_alone}
@@ -34,8 +34,7 @@ web_parts number s later lines inside =
       stays_inside = a.prefix_inside;
       first = b.bytes;
       further = bytes_of 0 (number + length s.stays + 1) s.further c.prefix c.prefix_inside;
-      after_inside = subst (λ n. Inside 0 n later c.rest) (let same : number + length s.stays + 1 + length s.further
-          ≡ number + length s.stays + length s.further + 1 = omega arith in same) c.rest_inside;
+      after_inside = search rules;
     }
 
 -- The lines of a change file up to the @z of its first entry, and the lines after it.
@@ -85,9 +84,7 @@ change_parts number s later lines inside =
       new = f.prefix;
       z = g.line;
       rest = g.rest;
-      whole = a.whole ∙ ap (λ ls. a.prefix ++ ls) (b.whole ∙ ap (λ ls. b.line ∷ ls) (c.whole
-          ∙ ap (λ ls. c.line ∷ ls) (d.whole ∙ ap (λ ls. d.prefix ++ ls) (e.whole
-          ∙ ap (λ ls. e.line ∷ ls) (f.whole ∙ ap (λ ls. f.prefix ++ ls) g.whole)))));
+      whole = search rules;
       comment_is = bytes_of 1 number s.comment a.prefix a.prefix_inside;
       begin_is = b.bytes;
       first_is = c.bytes;

@@ -1,26 +1,8 @@
 -- Which device the end of a run blames.
-use Rattle.cweb_lines.proofs.Common.{rules, ◌≡◌, ◌≤◌, ◌+◌, ℕ, List, Option, None, Some, Result, Err, refl, sym, subst, IfSome, Event, SoFar, StopsReading, read_failures_of, files_named, StopsWriting, WritingStops, WritesSome, FailureCounts, LeavesDevices, KeepsStop, write_failures_of, Stop, ReadFault, LineTooLong, TooMuchText, Memory, WriteFault}
+use Rattle.cweb_lines.proofs.Common.{rules, ◌≡◌, ◌≤◌, ◌+◌, ℕ, List, Option, None, Some, Result, Err, sym, subst, IfSome, Event, SoFar, StopsReading, read_failures_of, files_named, StopsWriting, WritesSome, FailureCounts, LeavesDevices, Stop, Memory, WriteFault}
 
 pub none_before : {A : Type 0} (P : A → Type 0) {stop : Option A} → stop ≡ None → IfSome stop P
 none_before P none = subst (λ stop. IfSome stop P) (sym none) tt
-
-pub no_write_blame : (stop : Stop) → StopsReading stop → write_failures_of stop ≡ 0
-no_write_blame WriteFault reading = absurd reading
-no_write_blame stop reading = refl
-
-pub reads_or_writes : (stop : Stop) → StopsReading stop → WritingStops stop
-reads_or_writes (ReadFault file) reading = tt
-reads_or_writes (LineTooLong file) reading = tt
-reads_or_writes TooMuchText reading = tt
-reads_or_writes Memory reading = tt
-reads_or_writes stop reading = absurd reading
-
-keeps_reading : (stop : Stop) (kept : Option Stop) → StopsReading stop → kept ≡ Some stop → KeepsStop stop kept
-keeps_reading (ReadFault file) kept reading keeps = keeps
-keeps_reading (LineTooLong file) kept reading keeps = keeps
-keeps_reading TooMuchText kept reading keeps = keeps
-keeps_reading Memory kept reading keeps = keeps
-keeps_reading stop kept reading keeps = absurd reading
 
 pub blames_own : (stop : Stop) (kept : Option Stop) (files : ℕ) (before after : FailureCounts) → StopsReading stop
     → kept ≡ Some stop → files_named stop ≤ files → after.shelf ≡ before.shelf + read_failures_of stop

@@ -1,4 +1,4 @@
-use Rattle.cweb_lines.proofs.Common.{ℕ, List, [], ◌∷◌, ◌+◌, ◌-◌, ◌∙◌, drop, take, ap, sym, subst, refl, arith, length-take, slice_range, is_include_line, Reaches, begun_by, pending_in, Stretch}
+use Rattle.cweb_lines.proofs.Common.{rules, ℕ, List, [], ◌∷◌, ◌+◌, ◌-◌, ◌∙◌, drop, take, ap, sym, subst, refl, arith, length-take, slice_range, is_include_line, Reaches, pending_in, Stretch}
 use Rattle.cweb_lines.proofs.LinesInBuffer.{one_line}
 use Rattle.cweb_lines.proofs.passing.stretch.line_from.Goals as goal
 
@@ -27,8 +27,7 @@ returns-clause-line g c =
             clean = c.in-Some.ensures.before;
             short = omega (arith, size, c.if-at-gt-LINE_LENGTH.false);
             plain = ap is_include_line (sym trims) ∙ sym c.is_include_line.ensures ∙ c.if-is_include_line.false;
-            unbegun = ap (begun_by entry c.args.may_match) (sym trims) ∙ sym c.begun_at.ensures
-                ∙ c.in_default-begun_at.is;
+            unbegun = search rules;
           }),
       omega (arith, near, whole),
     )
