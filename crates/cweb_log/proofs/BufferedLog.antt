@@ -1,5 +1,5 @@
 -- Consecutive log output, buffered and written.
-use Rattle.cweb_log.proofs.Common.{◌≡◌, ◌<◌, ◌≤◌, ◌+◌, ℕ, suc, List, [], ◌++◌, length, take, drop, get_or, refl, sym, ◌∙◌, ap, append_assoc, append-nil, flat_map, take_all, Result, Ok, Err, IsErr, FailsWithin, Logs, logged, log_failed, Buffers, AppendsToLog, SinkModel, Wrote, written}
+use Rattle.cweb_log.proofs.Common.{◌≡◌, ◌<◌, ◌≤◌, ◌+◌, ℕ, suc, List, [], ◌++◌, length, take, drop, get_or, refl, sym, ◌∙◌, ap, append_assoc, append-nil, subst, flat_map, take_all, Result, Ok, Err, IsErr, FailsWithin, Logs, logged, log_failed, Buffers, AppendsToLog, SinkModel, Wrote, written}
 use Rattle.cweb_files.proofs.Appending.{fails_in, fails_then, written_none, written_then}
 use Rattle.cweb_files.proofs.JoinedParts.{flat_at, flat_more}
 
@@ -30,10 +30,10 @@ buffered_on {more = more} {before = before} {now = now} came comes = record {
 }
 
 -- A write failed within what was appended then.
-fails_on : {old more : List ℕ} {before mid after : SinkModel} {held between : List ℕ}
+fails_on : {old : List ℕ} (more : List ℕ) {before mid after : SinkModel} {held between : List ℕ}
     → Buffers old before mid held between → FailsWithin (between ++ more) mid after
     → FailsWithin (held ++ (old ++ more)) before after
-fails_on {more = more} came fails = rw (joins more came) (fails_then came.done came.is fails)
+fails_on more came fails = rw (joins more came) (fails_then came.done came.is fails)
 
 -- The pending bytes were written, and then some more.
 pub passed : {A E : Type 0} (r : Result A E) (held bytes now : List ℕ) (before mid after : SinkModel)
@@ -65,9 +65,12 @@ pending {mid = mid} came is = buffered_on came (record { done = []; whole = sym 
 pub fails_at : {X : Type 0} (f : X → List ℕ) (xs : List X) (i : ℕ) (d : X) {before mid after : SinkModel}
     {held between : List ℕ} → i < length xs → Buffers (flat_map f (take i xs)) before mid held between
     → FailsWithin (between ++ f (get_or xs i d)) mid after → FailsWithin (held ++ flat_map f xs) before after
-fails_at f xs i d {held = held} lt came fails =
-    rw (ap (λ (t : List ℕ). held ++ t) (flat_at f xs i d lt) ∙ sym (append_assoc held _ _))
-    (fails_in (flat_map f (drop (suc i) xs)) (fails_on came fails))
+fails_at f xs i d {before} {after = after} {held = held} lt came fails =
+    let first = flat_map f (take i xs) ++ f (get_or xs i d) in
+    let rest = flat_map f (drop (suc i) xs) in
+    subst (λ (t : List ℕ). FailsWithin t before after)
+    (append_assoc held first rest ∙ ap (λ (t : List ℕ). held ++ t) (sym (flat_at f xs i d lt)))
+    (fails_in rest (fails_on (f (get_or xs i d)) came fails))
 
 pub fails_if : {A E : Type 0} (r : Result A E) (more held now : List ℕ) {before after : SinkModel} → IsErr r
     → FailsWithin (held ++ more) before after → AppendsToLog more before after held now r
