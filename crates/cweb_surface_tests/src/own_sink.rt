@@ -26,9 +26,9 @@ impl ByteSink {
 
 impl Sink for ByteSink {
     ghost model = { λ sink. record {
-          failed = sink.failed;
-          contents = Some (record { bytes = sink.bytes.items; beside = always_open });
-        } };
+      failed = sink.failed;
+      contents = Some (record { bytes = sink.bytes.items; beside = always_open });
+    } };
 
     fn write(&mut self, piece: &[u8]) -> Result<usize, SinkFault> {
         let Some((first, _)) = piece.split_first() else {

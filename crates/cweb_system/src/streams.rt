@@ -56,12 +56,12 @@ impl<W: Write + Drop> StdSink<W> {
     pub fn observable(stream: W) -> Self
         requires { is_some (W.contents stream) ≡ true }
         ensures { sink_model W.Write result ≡ record {
-              failed = 0;
-              contents = Some (record {
-                bytes = unwrap_or (W.contents stream) [];
-                beside = always_open;
-              });
-            } }
+          failed = 0;
+          contents = Some (record {
+            bytes = unwrap_or (W.contents stream) [];
+            beside = always_open;
+          });
+        } }
     {
         StdSink {
             stream,

@@ -61,7 +61,6 @@ pub use Rattle.cweb_log.specs.Log.{stop_line, file_name_at}
 pub use Rattle.cweb_log.specs.inner.LogText.{items_of}
 pub use Rattle.cweb_log.specs.declared.shown.Shown.{Shown}
 pub use Rattle.cweb_log.specs.inner.Log.{start_subject, subject}
-pub use Rattle.cweb_log.specs.inner.LogWriting.{Wrote}
 pub use Rattle.cweb_log.specs.inner.WebItems.{plan_item}
 pub use Rattle.cweb_log.specs.surface.Options.{options_of}
 pub use Rattle.cweb_names.specs.declared.name.NameId.{NameId}

@@ -4,6 +4,7 @@ ghost use Rattle.std.specs.List.{flat_map};
 ghost use Rattle.cweb_lines.specs.surface.MergerCalls.{so_far};
 ghost use Rattle.cweb_scan.specs.surface.Scan.{IsScanBelow};
 ghost use Rattle.cweb_scan.specs.surface.ScannedModel.{scanned_model};
+ghost use Rattle.cweb_files.specs.surface.Writes.{Wrote};
 ghost use Rattle.cweb_log.specs.Items.{line};
 ghost use Rattle.cweb_tools.specs.inner.Tangle.{fault_count};
 ghost use Rattle.cweb_tools.specs.inner.Does.{DoesInLog, log_ending};

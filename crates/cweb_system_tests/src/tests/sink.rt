@@ -13,12 +13,12 @@ use std::process::Abort;
 fn filled<W: Write + Drop>(stream: W, first: &[u8], second: &[u8]) -> Result<StdSink<W>, SinkFault>
     requires { is_some (W.contents stream) ≡ true }
     ensures { IfOk result (λ sink. sink_model W.Write sink ≡ record {
-          failed = 0;
-          contents = Some (record {
-            bytes = (unwrap_or (W.contents stream) [] ++ first.now) ++ second.now;
-            beside = always_open;
-          });
-        }) }
+      failed = 0;
+      contents = Some (record {
+        bytes = (unwrap_or (W.contents stream) [] ++ first.now) ++ second.now;
+        beside = always_open;
+      });
+    }) }
 {
     let mut sink = StdSink::observable(stream);
     write_all(&mut sink, first)?;
