@@ -106,7 +106,8 @@ module _ (first mid : SinkModel) (room : ℕ) (old so : SoFar) (all now : List E
 -- Without buffering a write fault loses only one line.
 pub loses_line : (old new : SoFar) (all later : List Event) (before after : SinkModel) →
     FailsAmong 0 old new all later before after → LosesLine old new all later before after
-loses_line old new all later before after failed = by failed.buffered failed.some failed.within failed.yields failed.fails
+loses_line old new all later before after failed =
+    by failed.buffered failed.some failed.within failed.yields failed.fails
   where
     by : (buffered : List Line) → 0 < length buffered
         → (1 < length buffered → length (written_lines (all_but_last buffered)) < 0)

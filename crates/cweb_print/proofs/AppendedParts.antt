@@ -10,7 +10,8 @@ pub record WrittenBefore (old new : SinkModel) (text rest : List ℕ) : Type 0 w
   pub whole : text ≡ prefix ++ rest
 
 -- One more item of a list.
-pub items_then : {X : Type 0} (f : X → List ℕ) (xs : List X) (i : ℕ) (d : X) (a b : SinkModel) {c : SinkModel} → i < length xs
+pub items_then : {X : Type 0} (f : X → List ℕ) (xs : List X) (i : ℕ) (d : X) (a b : SinkModel) {c : SinkModel}
+    → i < length xs
     → b ≡ written (flat_map f (take i xs)) a → c ≡ written (f (get_or xs i d)) b
     → c ≡ written (flat_map f (take (i + 1) xs)) a
 items_then f xs i d a b lt before here =

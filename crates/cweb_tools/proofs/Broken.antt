@@ -15,7 +15,8 @@ then_on f g None = refl
 then_on f g (Some x) = refl
 
 -- The files and the draft after a change of an output's contents.
-pub files_stay : (change : SinkContents → SinkContents) → ((now : SinkContents) → (change now).beside.files ≡ now.beside.files)
+pub files_stay : (change : SinkContents → SinkContents) → ((now : SinkContents) → (change now).beside.files ≡
+    now.beside.files)
     → (out : SinkModel) → files_in (changed change out) ≡ files_in out
 files_stay change same out = map_on change _ out.contents
     ∙ (λ i. option_map (λ (now : SinkContents). same now i) out.contents)

@@ -11,7 +11,8 @@ returns-in_err-write_token-clause-prints g c =
     record {
       bytes = added (file_by s) left t;
       expected = λ ts is. print-push s left ts t is;
-      wrote = wrote_err _ _ _ _ c.from_residual.result c.from_residual.ensures.0 refl c.in_err-write_token.ensures.wrote;
+      wrote = wrote_err _ _ _ _ c.from_residual.result c.from_residual.ensures.0 refl
+          c.in_err-write_token.ensures.wrote;
     }
 
 pub returns-clause-prints : goal.returns-clause-prints

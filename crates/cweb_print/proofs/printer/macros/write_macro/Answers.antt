@@ -12,15 +12,20 @@ in_three w part =
 
 pub returns-in_err-write_chunk : goal.returns-in_err-write_chunk
 returns-in_err-write_chunk g c = record {
-  wrote = wrote_until _ (codes "#define ") _ _ _ c.from_residual.result c.from_residual.ensures.0 refl c.in_err-write_chunk.ensures.wrote;
+  wrote = wrote_until _ (codes "#define ") _ _ _ c.from_residual.result c.from_residual.ensures.0 refl
+      c.in_err-write_chunk.ensures.wrote;
 }
 
 pub returns-in_err-write_macro_tokens : goal.returns-in_err-write_macro_tokens
 returns-in_err-write_macro_tokens g c = record {
-  wrote = second_until _ _ _ _ (codes "#define ") _ (codes "\n") c.from_residual-in_err-write_macro_tokens.result c.from_residual-in_err-write_macro_tokens.ensures.0 (in_three c.args.store.now c.args.part) c.in_ok-write_chunk.ensures.wrote c.in_err-write_macro_tokens.ensures.wrote;
+  wrote = second_until _ _ _ _ (codes "#define ") _ (codes "\n") c.from_residual-in_err-write_macro_tokens.result
+      c.from_residual-in_err-write_macro_tokens.ensures.0 (in_three c.args.store.now c.args.part)
+          c.in_ok-write_chunk.ensures.wrote c.in_err-write_macro_tokens.ensures.wrote;
 }
 
 pub returns : goal.returns
 returns g c = record {
-  wrote = three_then _ _ _ _ _ (codes "#define ") _ (codes "\n") c.write_chunk-2.result (in_three c.args.store.now c.args.part) c.in_ok-write_chunk.ensures.wrote c.in_ok-write_macro_tokens.ensures.wrote c.write_chunk-2.ensures.wrote;
+  wrote = three_then _ _ _ _ _ (codes "#define ") _ (codes "\n") c.write_chunk-2.result (in_three c.args.store.now
+      c.args.part) c.in_ok-write_chunk.ensures.wrote c.in_ok-write_macro_tokens.ensures.wrote
+          c.write_chunk-2.ensures.wrote;
 }
