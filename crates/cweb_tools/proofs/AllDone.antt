@@ -1,7 +1,7 @@
 -- The devices after all acts were done.
 use Rattle.cweb_tools.proofs.Common.{◌≡◌, inl, inr, ℕ, List, [], ◌∷◌, ◌++◌, sym, ◌∙◌, ap, refl, append-nil, append_assoc, Option, None, Some, File, flat_map, line, Devices, SinkContents, SinkModel, Act, says, writes, after_act, changed, with_printed, written, PerformsActs, written_files, files_in, logged_items, prints, merges, printed_bytes, written_lines, emitted_lines}
 use Rattle.cweb_files.specs.Files.{put_file}
-use Rattle.cweb_files.proofs.Appending.{written_none, written_then}
+use Rattle.cweb_files.proofs.Appending.{written_none, written_on, written_then}
 use Rattle.std.specs.Prelude.{fold, option_map}
 use Rattle.std.proofs.lemmas.Iterator.Adapters.{option_map_id}
 use Rattle.cweb_tools.proofs.Broken.{files_stay}
@@ -34,41 +34,14 @@ log_all (says item ∷ acts) old new (inl run) = written_then (line item) (flat_
 log_all (act ∷ acts) old new (inl run) = log_all acts (after_act act old) new run.1
 
 -- The printed bytes, without a written file.
-pub printed_none : (out : SinkModel) → out ≡ changed (with_printed []) out
-printed_none out = λ i. record out { contents = all out.contents i }
-  where
-    draft_same : (draft : Option File)
-        → draft ≡ option_map (λ (draft : File). record draft { bytes = draft.bytes ++ [] }) draft
-    draft_same None = refl
-    draft_same (Some draft) = λ i. Some (record draft { bytes = sym (append-nil draft.bytes) i })
-
-    all : (contents : Option SinkContents) → contents ≡ option_map (with_printed []) contents
-    all None = refl
-    all (Some now) = λ i. Some (record now { draft = draft_same now.draft i })
-
-pub printed_on : (a b : List ℕ) (out : SinkModel)
-    → changed (with_printed b) (changed (with_printed a) out) ≡ changed (with_printed (a ++ b)) out
-printed_on a b out = λ i. record out { contents = all out.contents i }
-  where
-    on : (draft : Option File) → option_map (λ (draft : File). record draft { bytes = draft.bytes ++ b })
-        (option_map (λ (draft : File). record draft { bytes = draft.bytes ++ a }) draft)
-        ≡ option_map (λ (draft : File). record draft { bytes = draft.bytes ++ (a ++ b) }) draft
-    on None = refl
-    on (Some draft) = λ i. Some (record draft { bytes = append_assoc draft.bytes a b i })
-
-    all : (contents : Option SinkContents) → option_map (with_printed b) (option_map (with_printed a) contents)
-        ≡ option_map (with_printed (a ++ b)) contents
-    all None = refl
-    all (Some now) = λ i. Some (record now { draft = on now.draft i })
-
 pub printed_all : (acts : List Act) (old new : Devices) → written_files acts ≡ [] → PerformsActs acts None old new
-    → new.out ≡ changed (with_printed (printed_bytes acts)) old.out
-printed_all [] old new none is = ap (λ (d : Devices). d.out) is ∙ printed_none old.out
+    → new.out ≡ written (printed_bytes acts) old.out
+printed_all [] old new none is = ap (λ (d : Devices). d.out) is ∙ written_none old.out
 printed_all (act ∷ acts) old new none (inr stop) = absurd stop
 printed_all (writes name text ∷ acts) old new none (inl run) = absurd (cc)
 printed_all (merges names events ∷ acts) old new none (inl run) =
     printed_all acts (after_act (merges names events) old) new none run.1
-    ∙ printed_on (written_lines (emitted_lines events)) (printed_bytes acts) old.out
+    ∙ written_on (written_lines (emitted_lines events)) (printed_bytes acts) old.out
 printed_all (prints text ∷ acts) old new none (inl run) =
-    printed_all acts (after_act (prints text) old) new none run.1 ∙ printed_on text (printed_bytes acts) old.out
+    printed_all acts (after_act (prints text) old) new none run.1 ∙ written_on text (printed_bytes acts) old.out
 printed_all (act ∷ acts) old new none (inl run) = printed_all acts (after_act act old) new none run.1

@@ -16,7 +16,7 @@ does_all : {acts : List Act} {expected : ℕ} {old new : Devices} {status : ℕ}
 does_all {acts} {old} {new} run answered =
     record {
       files = files_all acts old new run;
-      log = ap (λ (log : SinkModel). log.bytes) (log_all acts old new run);
+      log = ap (λ (log : SinkModel). log.contents) (log_all acts old new run);
       answered = answered;
     }
 
@@ -82,7 +82,7 @@ stop_is_free : {acts : List Act} (stop : Stop) (about : List ℕ) (old mid : Dev
 stop_is_free {acts} Memory about old mid run logs free =
     let halts = halts_within acts (ending Memory about) old mid run in
     free.memory halts.done halts.later halts.act halts.whole (needs halts.act about halts.from mid halts.breaks)
-    (ap (λ (log : SinkModel). log.bytes) (runs_out acts about mid halts logs free.log))
+    (ap (λ (log : SinkModel). log.contents) (runs_out acts about mid halts logs free.log))
 stop_is_free {acts} stop about old mid run logs free =
     let halts = halts_within acts (ending stop about) old mid run in
     not_free stop (λ is. cc) (cause_of halts.act stop about halts.from mid halts.breaks

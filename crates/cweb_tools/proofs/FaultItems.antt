@@ -57,10 +57,10 @@ pub none_said : (items : List LogItem) {stream : SinkModel}
 none_said [] {stream} none = said_none
 none_said (item ∷ items) none = absurd (omega (arith, none))
 
-pub some_said : {A E : Type 0} {r : Result A E} (items : List LogItem) {old new : SinkModel} → 0 < length items
+pub some_said : {A E : Type 0} (r : Result A E) (items : List LogItem) {old new : SinkModel} → 0 < length items
     → Wrote (flat_map line items) old new r → DoesInLog (map says items) (log_ending r) old new
-some_said [] some writes = absurd (omega (arith, some))
-some_said {r} (item ∷ items) {old} {new} some writes = said_all r item items writes
+some_said r [] some writes = absurd (omega (arith, some))
+some_said r (item ∷ items) {old} {new} some writes = said_all r item items writes
 
 -- The faults of a merge were logged, and the status is 1.
 pub faults_said : {A E : Type 0} (r : Result A E) (files : List (List ℕ)) (faults : List SourceFault)

@@ -1,6 +1,6 @@
 -- The headline theorems on the web hello.w, alone in its folder: if nothing fails, the files or the output, the log and
 -- the status are these. So the premises of the headlines can be met, and what they promise is what users see.
-use Rattle.cweb_tools.proofs.Common.{◌≡◌, ◌≢◌, ℕ, List, [], ◌∷◌, ◌++◌, refl, sym, ◌∙◌, ap, subst, rules, Option, None, IsSome, codes, flat_map, File, World, world_of, Event, run_steps, started, merge, merge-run_steps, taken_lines, IsWithinLimits, Memory, LogItem, line, stop_line, OptionsModel, options_by, WebNames, web_names_by, Devices, appended, changed, with_printed, files_in, Act, logged_items, acts_status, ActsKeepLimits, written_files, RanFreely, Course, IsMergeCourse, merging, merge_course, merge_acts, merge_devices, TangleCourse, IsTangleCourse, tangle_course, tangle_files, tangle_status, tangled, printed_bytes, script, shown_by, depend_acts}
+use Rattle.cweb_tools.proofs.Common.{SinkContents, ◌≡◌, ◌≢◌, ℕ, List, [], ◌∷◌, ◌++◌, refl, sym, ◌∙◌, ap, subst, rules, Option, None, IsSome, codes, flat_map, File, World, world_of, Event, run_steps, started, merge, merge-run_steps, taken_lines, IsWithinLimits, Memory, LogItem, line, stop_line, OptionsModel, options_by, WebNames, web_names_by, Devices, appended, changed, with_printed, files_in, Act, logged_items, acts_status, ActsKeepLimits, written_files, RanFreely, Course, IsMergeCourse, merging, merge_course, merge_acts, merge_devices, TangleCourse, IsTangleCourse, tangle_course, tangle_files, tangle_status, tangled, printed_bytes, script, shown_by, depend_acts}
 use Rattle.cweb_files.specs.Files.{put_file}
 use Rattle.std.specs.Prelude.{fold, option_map}
 use Rattle.cweb_files.proofs.Appending.{appended_none, appended_on}

@@ -29,7 +29,7 @@ shelf_so (ReadFault file) about is blamed answered = record {
     blamed = blamed;
     logged = λ same. (
       flat_map line is.log.before,
-      ap (λ (log : SinkModel). log.bytes) (logs_all is.log.logs same),
+      ap (λ (log : SinkModel). log.contents) (logs_all is.log.logs same),
     );
     answered = answered;
   };

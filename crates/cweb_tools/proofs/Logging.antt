@@ -65,9 +65,9 @@ said_all (Err e) item items {old} {new} writes =
     λ shelf out. record { runs = lines_stop item items shelf out old new writes }
 
 -- One line.
-pub said : {A E : Type 0} {r : Result A E} (item : LogItem) {old new : SinkModel}
+pub said : {A E : Type 0} (r : Result A E) (item : LogItem) {old new : SinkModel}
     → Wrote (line item) old new r → DoesInLog (says item ∷ []) (log_ending r) old new
-said {r} item {old} {new} writes = said_all r item [] (rw (append-nil (line item)) writes)
+said r item {old} {new} writes = said_all r item [] (rw (append-nil (line item)) writes)
 
 -- The logged bytes, or a prefix of them, were written.
 pub logs_write : {text : List ℕ} {old new : SinkModel}
@@ -80,11 +80,11 @@ pub said_none : {stream : SinkModel} → DoesInLog [] None stream stream
 said_none = λ shelf out. does_none
 
 -- A line that is wanted.
-pub said_when : {A E : Type 0} {r : Result A E} (wanted : Bool) (item : LogItem) {old new : SinkModel}
+pub said_when : {A E : Type 0} (r : Result A E) (wanted : Bool) (item : LogItem) {old new : SinkModel}
     → wanted ≡ true → Wrote (flat_map line (item ∷ [])) old new r
     → DoesInLog (when wanted item) (log_ending r) old new
-said_when {r} true item is writes = said_all r item [] writes
-said_when false item is writes = absurd (cc)
+said_when r true item is writes = said_all r item [] writes
+said_when r false item is writes = absurd (cc)
 
 -- A line that isn't wanted.
 pub said_not : (wanted : Bool) (item : LogItem) {stream : SinkModel} → wanted ≡ false
@@ -98,9 +98,9 @@ some_by zero is = absurd (cc)
 some_by (suc n) is = omega arith
 
 -- The numbers of a nonempty list of starred sections.
-pub said_starred : {A E : Type 0} {r : Result A E} (progress : Bool) (numbers : List ℕ) {old new : SinkModel}
+pub said_starred : {A E : Type 0} (r : Result A E) (progress : Bool) (numbers : List ℕ) {old new : SinkModel}
     → progress ≡ true → 0 < length numbers
     → Wrote (flat_map line (starred numbers ∷ [])) old new r
     → DoesInLog (starred_acts progress numbers) (log_ending r) old new
-said_starred progress [] is some writes = absurd (omega (arith, some))
-said_starred progress (n ∷ numbers) is some writes = said_when progress (starred (n ∷ numbers)) is writes
+said_starred r progress [] is some writes = absurd (omega (arith, some))
+said_starred r progress (n ∷ numbers) is some writes = said_when r progress (starred (n ∷ numbers)) is writes

@@ -7,12 +7,12 @@ abbrev pub out_of : ShelfModel → SinkModel → SinkModel
 out_of shelf out = record out { contents = option_and shelf.blamed out.contents }
 
 -- What is known stays known.
-pub stays_known : {A : Type 0} {x x' : A} (tells tells' : Bool) → tells' ≡ tells
+pub stays_known : {A : Type 0} (x x' : A) (tells tells' : Bool) → tells' ≡ tells
     → is_some (known tells' x') ≡ is_some (known tells x)
-stays_known true true same = refl
-stays_known false false same = refl
-stays_known true false same = absurd (cc)
-stays_known false true same = absurd (cc)
+stays_known x x' true true same = refl
+stays_known x x' false false same = refl
+stays_known x x' true false same = absurd (cc)
+stays_known x x' false true same = absurd (cc)
 
 -- The output has this text more, if the files are known.
 pub more_known : {A : Type 0} (old new : Option A) (now now' : Option SinkContents) (text : List ℕ)
@@ -24,7 +24,7 @@ more_known (Some x) None now now' text same is = absurd (cc)
 more_known None (Some y) now now' text same is = absurd (cc)
 
 -- The output after a stop, from its failure count and its contents.
-pub out_is : (stop : Stop) (text : List ℕ) {old new : SinkModel} → new.failed ≡ old.failed + write_failures_of stop
+pub out_is : (stop : Stop) (text : List ℕ) (old new : SinkModel) → new.failed ≡ old.failed + write_failures_of stop
     → new.contents ≡ appended text old.contents → new ≡ out_after stop text old
-out_is WriteFault text more is = λ i. record { failed = more i; contents = is i }
-out_is stop text {old} same is = λ i. record { failed = (same ∙ add-zero old.failed) i; contents = is i }
+out_is WriteFault text old new more is = λ i. record { failed = more i; contents = is i }
+out_is stop text old new same is = λ i. record { failed = (same ∙ add-zero old.failed) i; contents = is i }

@@ -118,7 +118,7 @@ module _ (world : World) (names : WebNames) (found : Option Found) (changes : Op
               course = merging first all;
               can = tt;
               is = λ again. sym (begun some);
-              ends = stops_so stop first opened all prints.prefix kind read (out_is stop prints.prefix failed prints.is)
+              ends = stops_so stop first opened all prints.prefix kind read (out_is stop prints.prefix out out' failed prints.is)
                   (prints.breaks (at shelf out l)) logs answered;
             }
         | inr silent ↦
@@ -128,6 +128,6 @@ module _ (world : World) (names : WebNames) (found : Option Found) (changes : Op
               can = tt;
               is = λ some. absurd (silent some);
               ends = stops_so stop opened opened (read_by stop) prints.prefix kind read
-                  (out_is stop prints.prefix failed prints.is) (prints.breaks (at shelf out l)) logs answered;
+                  (out_is stop prints.prefix out out' failed prints.is) (prints.breaks (at shelf out l)) logs answered;
             }
       ]

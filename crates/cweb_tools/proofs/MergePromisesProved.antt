@@ -3,7 +3,8 @@ use Rattle.cweb_tools.proofs.Common.{◌≤◌, ◌≡◌, inl, inr, ℕ, ◌+�
 use Rattle.cweb_lines.proofs.EmittedLinesAddUp.{emitted-append}
 use Rattle.cweb_lines.proofs.WrittenLinesAddUp.{text_of-append}
 use Rattle.cweb_tools.specs.laws.RunEffects.{EveryMergeLeavesOutput}
-use Rattle.cweb_tools.proofs.AllDone.{printed_all, printed_none, printed_on}
+use Rattle.cweb_files.proofs.Appending.{written_none, written_on}
+use Rattle.cweb_tools.proofs.AllDone.{printed_all}
 use Rattle.cweb_tools.proofs.Courses.{merge_only}
 use Rattle.cweb_tools.proofs.Doing.{counts_all}
 use Rattle.cweb_tools.proofs.Endings.{ends_within}
@@ -29,7 +30,7 @@ nothing {old} text same = record {
   prefix = [];
   rest = text;
   whole = refl;
-  printed = ap (λ (out : SinkModel). out.contents) (same ∙ printed_none old);
+  printed = ap (λ (out : SinkModel). out.contents) (same ∙ written_none old);
 }
 
 -- More would have been printed after a prefix.
@@ -49,7 +50,7 @@ more_before text old wrote = record {
   prefix = text ++ wrote.prefix;
   rest = wrote.rest;
   whole = ap (λ (t : List ℕ). text ++ t) wrote.whole ∙ sym (append_assoc text wrote.prefix wrote.rest);
-  printed = wrote.printed ∙ ap (λ (out : SinkModel). out.contents) (printed_on text wrote.prefix old);
+  printed = wrote.printed ∙ ap (λ (out : SinkModel). out.contents) (written_on text wrote.prefix old);
 }
 
 printing_failed : {text about : List ℕ} {old new : Devices} → FailsOutput text about old new

@@ -1,6 +1,7 @@
 -- Tokens of an expander that are printed in order.
 use Rattle.cweb_tools.proofs.Common.{◌≡◌, ℕ, List, [], ◌∷◌, ◌++◌, length, sym, ◌∙◌, ap, subst, append_assoc, append-nil, All-head, Bor, All, OnErr, OnOk, Option, Some, None, refl, option_map, Result, Ok, Err, Stored, Token, IsMarkBelow, left, PrintsPrefix, Moves, PrintsToken, left_in_printer, setting_of, MarkFileIsNamed, setting, Setting, file, print, Expander, Printer, PrintsSoFar, SinkContents, SinkModel, StaysReady, changed, failing, left_in, with_printed, without_draft, written}
-use Rattle.cweb_files.specs.Sinks.{FailsWithin}
+use Rattle.cweb_files.specs.Sinks.{Beside, FailsWithin}
+use Rattle.cweb_files.specs.surface.Writes.{always_open}
 use Rattle.cweb_files.proofs.Appending.{fails_then, written_none, written_on, written_then}
 use Rattle.cweb_print.specs.surface.Printed.{EndsFile}
 use Rattle.cweb_tools.proofs.Marks.{all_back, mark_named}
@@ -50,14 +51,14 @@ prints_prefix {files = files} {first = first} {printer = printer} {old = old} {n
     }
 
 -- One more token was printed.
-pub prints_more : {files : List (List ℕ)} {first : Expander} {mid now : Expander} {printer printer' : Printer}
+pub prints_more : {A E : Type 0} (x : A) {files : List (List ℕ)} {first : Expander} {mid now : Expander} {printer printer' : Printer}
     {old new : SinkModel} (new' : SinkModel) {buffer : List ℕ} (buffer' : List ℕ) (t : Token)
     → PrintsSoFar files first mid printer old new buffer → StaysReady mid now
     → left_in mid ≡ t ∷ left mid.store.now now.frames.items → setting_of printer' ≡ setting_of printer
     → Moves (left_in_printer printer) t (left_in_printer printer')
-    → PrintsToken {A = Unit {0}} {E = Unit {0}} printer t (written buffer new) (written buffer' new') (Ok tt)
+    → PrintsToken {E = E} printer t (written buffer new) (written buffer' new') (Ok x)
     → PrintsSoFar files first now printer' old new' buffer'
-prints_more {files} {first} {mid} {now} {printer} {old = old} {new} new' {buffer} buffer' t so_far ready yields same
+prints_more x {files} {first} {mid} {now} {printer} {old = old} {new} new' {buffer} buffer' t so_far ready yields same
     moves prints =
     record {
       ready = stays_on so_far.ready ready;
@@ -94,9 +95,18 @@ drafts_gone : (a b : List ℕ) (now now' : Option SinkContents)
     → option_map (with_printed a) now' ≡ option_map (with_printed b) now
     → option_map without_draft now' ≡ option_map without_draft now
 drafts_gone a b None None is = refl
-drafts_gone a b (Some now) (Some now') is = cc
 drafts_gone a b None (Some now') is = absurd (cc)
 drafts_gone a b (Some now) None is = absurd (cc)
+drafts_gone a b (Some now) (Some now') is = ap gone (ap beside_of is)
+  where
+    beside_of : Option SinkContents → Beside
+    beside_of None = always_open
+    beside_of (Some now) = now.beside
+
+    gone : Beside → Option SinkContents
+    gone beside =
+        Some (record { bytes = []; beside = record { files = beside.files; draft = None; refused = beside.refused } })
+
 
 -- A write failed.
 pub prints_until : {files : List (List ℕ)} {first now : Expander} {printer : Printer} {old new : SinkModel}

@@ -28,11 +28,11 @@ refusal_item w main (BadName output) r is =
 refusal_item w main Memory r is = absurd (cc)
 
 -- A refusal was logged.
-pub refusal_said : {A E : Type 0} {result : Result A E} (w : Stored) (main : List ℕ) (f : PlanFault) (r : Refusal)
+pub refusal_said : {A E : Type 0} (result : Result A E) (w : Stored) (main : List ℕ) (f : PlanFault) (r : Refusal)
     (items : List LogItem) {old new : SinkModel} → refusal_in f ≡ Some r → items ≡ plan_item w main f ∷ []
     → Wrote (flat_map line items) old new result
     → DoesInLog (says (fault (refusal_message w main r)) ∷ []) (log_ending result) old new
-refusal_said {result} w main f r items {old} {new} is are writes = said_all result (fault (refusal_message w main r)) []
+refusal_said result w main f r items {old} {new} is are writes = said_all result (fault (refusal_message w main r)) []
     (subst (λ (items : List LogItem). Wrote (flat_map line items) old new result)
     (are ∙ ap (λ (item : LogItem). item ∷ []) (refusal_item w main f r is)) writes)
 
@@ -70,7 +70,7 @@ refused_ends : {A E : Type 0} (r : Result A E) (w : Stored) (files : List (List 
     (status_by count (planning w files main)) old new 1
 refused_ends r w files main targets count f why writes = λ shelf out. ends_on does_plan
     (rw (planning_refused w files main why.refusal why.expected)
-    (ends_reported r (refusal_said w main f why.refusal _ why.is_refusal refl writes) refl refl shelf out))
+    (ends_reported r (refusal_said r w main f why.refusal _ why.is_refusal refl writes) refl refl shelf out))
 
 pub unplanned_ends : {A E : Type 0} (r : Result A E) (w : Stored) (files : List (List ℕ)) (main : List ℕ)
     (targets : Targets) (count : ℕ) (f : PlanFault) {old new : SinkModel} → IsExpectedFault (out.planned w main) f

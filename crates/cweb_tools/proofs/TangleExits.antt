@@ -10,7 +10,7 @@ pub reported_last : (item : LogItem) (shelf : ShelfModel) (out : SinkModel) {l l
     → RunEnds (says item ∷ []) 1 (at shelf out l) (at shelf out l') 1
 reported_last item shelf out logs =
     let writes = logs_write logs in
-    ends_reported writes.0 (said item writes.1) refl refl shelf out
+    ends_reported writes.0 (said writes.0 item writes.1) refl refl shelf out
 
 -- The course of the shelf's files is possible for the words.
 pub can_come : (args : OptionsModel) (world : World) (found : Option Found) (changes : Option (Option Found))

@@ -31,7 +31,7 @@ done_freely acts before after run free =
     record {
       files = files_all all before after done.0;
       printed = λ none. printed_all all before after none done.0;
-      logged = ap (λ (log : SinkModel). log.bytes) (log_all all before after done.0);
+      logged = ap (λ (log : SinkModel). log.contents) (log_all all before after done.0);
       answered = done.1;
     }
 

@@ -19,12 +19,12 @@ scan_web-requires g c = (
 
 pub tangle_web-status-requires-clause-counts : goal.tangle_web-status-requires-clause-counts
 tangle_web-status-requires-clause-counts g c = record {
-  out = omega (arith, c.into_bins-bins.ensures.failed);
+  out = omega (arith, ap (λ (bins : SinkModel). bins.failed) c.into_bins-bins.ensures.empty);
   log =
       omega (
         arith,
         log_counted c.in-Ok.ensures.banner,
-        ap (g.L.Sink.model c.in-Ok-scan_web.ensures.silent).failed,
+        ap (λ log. (g.L.Sink.model log).failed) c.in-Ok-scan_web.ensures.silent,
         c.requires.count,
       );
 }

@@ -37,7 +37,7 @@ returns-clause-err g c = end_failed _ c.finish.new.buffer.bytes c.finish.result
 pub tokens-preserved : goal.tokens-preserved
 tokens-preserved g c =
     let added = c.in_ok-append.ensures in
-    prints_more _ _ _ (prints_prefix {now = c.append.new.self} c.tokens.invariant
+    prints_more _ _ _ _ (prints_prefix {now = c.append.new.self} c.tokens.invariant
     (record { store = c.append.ensures.store; plan = c.append.ensures.plan; valid = c.append.ensures.valid })
     c.append.ensures.setting c.append.ensures.prints)
     (record { store = c.next.ensures.store; plan = c.next.ensures.plan; valid = c.next.ensures.valid })

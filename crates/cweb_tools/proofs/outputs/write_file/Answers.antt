@@ -45,7 +45,7 @@ done name text bins = λ i. record bins {
 -- It was begun, and printing it failed.
 pub returns-in-Err-clause-does : goal.returns-in-Err-clause-does
 returns-in-Err-clause-does g c =
-    not_written (c.abandon_file.ensures ∙ c.in-Err.ensures.err ∙ ap (failing without_draft) c.in-Ok.ensures.begun
+    not_written (c.abandon_file.ensures.gone ∙ c.in-Err.ensures.err ∙ ap (failing without_draft) c.in-Ok.ensures.begun
     ∙ gone c.output_name.result.now (g.B.Sink.model c.args.bins.now))
 
 -- It was printed, and could not be committed.

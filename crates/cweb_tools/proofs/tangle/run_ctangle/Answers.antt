@@ -23,7 +23,7 @@ tangle_web-requires-clause-counts g c = record {
       omega (
         arith,
         log_counted c.in-Ok.ensures.banner,
-        ap (g.L.Sink.model c.in-Ok-scan_web.ensures.silent).failed,
+        ap (λ log. (g.L.Sink.model log).failed) c.in-Ok-scan_web.ensures.silent,
         c.requires.counts.sinks.log,
       );
 }

@@ -17,4 +17,4 @@ returns g c =
       c.fault_count.ensures.count,
       some,
     ) in
-    some_said (faults_of c.args.web) all c.write_web_faults.ensures
+    some_said _ (faults_of c.args.web) all c.write_web_faults.ensures

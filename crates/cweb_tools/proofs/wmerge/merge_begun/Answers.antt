@@ -23,7 +23,7 @@ returns-in-Ok g c = λ names world found changes begun.
     (λ events is i. record {
       failed = wrote.ended.3 i;
       contents = more_known old.blamed new.blamed _ _ (written_lines (emitted_lines events))
-          (stays_known tells _ wrote.keeps.tells) (λ some. ap (λ (sink : SinkModel). sink.contents)
+          (stays_known _ _ tells _ wrote.keeps.tells) (λ some. ap (λ (sink : SinkModel). sink.contents)
           ((wrote.ok (seen tells _ some)).wrote ∙ ap (λ (events : List Event). written
           (written_lines (emitted_lines events)) (g.W.Sink.model c.args.out.now)) (sym (is some)))) i;
     })
@@ -38,7 +38,8 @@ returns-in-Err g c = λ names world found changes begun.
     let tells : Bool = g.S.Shelf.tells c.args.shelf.now in
     let old = shelf_model g.S.Shelf c.args.shelf.now in
     let new = shelf_model g.S.Shelf c.write_merged_in_chunks.new.shelf in
-    let stays = stays_known tells (g.S.Shelf.tells c.write_merged_in_chunks.new.shelf) wrote.keeps.tells in
+    let stays = stays_known (g.S.Shelf.blamed c.args.shelf.now) (g.S.Shelf.blamed c.write_merged_in_chunks.new.shelf)
+    tells (g.S.Shelf.tells c.write_merged_in_chunks.new.shelf) wrote.keeps.tells in
     let left : new ≡ shelf_after stop (subject (so_far c.write_merged_in_chunks.new.merger).names stop) old =
     shelf_stopped g.S.Shelf wrote.keeps.tells stop _ blames.shelf (λ tell.
     (wrote.known tell (begun.known (some_known tells _ tell))).blamed running) in
