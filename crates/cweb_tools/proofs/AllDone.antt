@@ -1,5 +1,5 @@
 -- The devices after all acts were done.
-use Rattle.cweb_tools.proofs.Common.{◌≡◌, inl, inr, ℕ, List, [], ◌∷◌, ◌++◌, sym, ◌∙◌, ap, refl, append-nil, append_assoc, Option, None, Some, File, flat_map, line, Devices, SinkContents, SinkModel, Act, says, writes, after_act, changed, with_printed, written, PerformsActs, written_files, files_in, logged_items, prints, merges, printed_bytes, written_lines, emitted_lines}
+use Rattle.cweb_tools.proofs.Common.{◌≡◌, inl, inr, List, [], ◌∷◌, sym, ◌∙◌, ap, refl, None, File, flat_map, line, Devices, Act, says, writes, after_act, with_printed, written, PerformsActs, written_files, files_in, logged_items, prints, merges, printed_bytes, written_lines, emitted_lines}
 use Rattle.cweb_files.specs.Files.{put_file}
 use Rattle.cweb_files.proofs.Appending.{written_none, written_on, written_then}
 use Rattle.std.specs.Prelude.{fold, option_map}

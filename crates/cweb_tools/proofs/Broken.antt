@@ -1,5 +1,5 @@
 -- The devices after a stop within an act.
-use Rattle.cweb_tools.proofs.Common.{◌≡◌, inl, inr, ℕ, ◌+◌, List, [], ◌∷◌, ◌++◌, refl, sym, ◌∙◌, ap, subst, add-zero, arith, Option, Some, None, read_failures_of, bins_blame, Event, Stop, ReadFault, LineTooLong, TooMuchText, Memory, OutNotOpened, WriteFault, LogFault, Devices, SinkContents, SinkModel, ShelfModel, Act, says, reads, merges, writes, prints, FailsReading, FailsOutput, after_act, appended, blaming, changed, failing, without_file, with_printed, ending, Breaks, PerformsActs, draft_in, files_in}
+use Rattle.cweb_tools.proofs.Common.{◌≡◌, inl, inr, ℕ, ◌+◌, List, [], ◌∷◌, refl, sym, ◌∙◌, ap, subst, add-zero, arith, Option, Some, None, read_failures_of, bins_blame, Event, Stop, ReadFault, LineTooLong, TooMuchText, Memory, OutNotOpened, WriteFault, LogFault, Devices, SinkContents, SinkModel, ShelfModel, Act, says, reads, merges, writes, prints, FailsReading, FailsOutput, after_act, appended, blaming, changed, failing, without_file, with_printed, ending, Breaks, PerformsActs, draft_in, files_in}
 use Rattle.std.specs.Prelude.{option_map}
 use Rattle.std.specs.Option.{option_and_then}
 

@@ -1,5 +1,5 @@
 -- Clauses of devices, carried over to what is known of them.
-use Rattle.cweb_tools.proofs.Common.{◌≡◌, ◌+◌, ◌⊎◌, inl, inr, ℕ, List, ◌++◌, [], ◌∷◌, ◌∙◌, refl, add-zero, append-nil, IsSome, IsTrue, Option, Some, None, Stop, ReadFault, read_failures_of, blame, file_name_at, subject, SinkContents, shelf_model, changed, failing}
+use Rattle.cweb_tools.proofs.Common.{◌≡◌, ◌+◌, ◌⊎◌, inl, inr, ℕ, List, ◌++◌, [], ◌∷◌, ◌∙◌, refl, add-zero, append-nil, IsSome, IsTrue, Option, Some, None, Stop, ReadFault, read_failures_of, blame, file_name_at, subject, shelf_model}
 use Rattle.cweb_files.specs.declared.device.Shelf.{Ghosts as Shelf}
 use Rattle.cweb_files.proofs.Known.{carried, unchanged}
 use Rattle.cweb_tools.proofs.Broken.{shelf_after}

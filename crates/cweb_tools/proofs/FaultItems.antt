@@ -1,5 +1,5 @@
 -- The faults of a web as items: their number and their lines.
-use Rattle.cweb_tools.proofs.Common.{◌≡◌, ◌<◌, ◌+◌, ℕ, zero, suc, Bool, true, false, cond, List, [], ◌∷◌, ◌++◌, length, map, refl, sym, ◌∙◌, ap, arith, length-append, flat_map-append, length-map, sum_by-append, sum_by-cons, flat_map, IsErr, None, Result, Ok, Err, count_by, SourceFault, Part, is_macro, numbers_from, numbers_where, PartKind, Scanned, Wrote, LogItem, fault_count, is_fault, line, source_item, SinkModel, name_item, name_items, scan_item, says, DoesInLog, EndsInLog, acts_status, log_ending, web_of}
+use Rattle.cweb_tools.proofs.Common.{◌≡◌, ◌<◌, ◌+◌, ℕ, zero, suc, Bool, true, false, cond, List, [], ◌∷◌, ◌++◌, length, map, refl, sym, ◌∙◌, ap, arith, length-append, flat_map-append, length-map, sum_by-append, sum_by-cons, flat_map, None, Result, count_by, SourceFault, Part, is_macro, numbers_from, numbers_where, PartKind, Scanned, Wrote, LogItem, fault_count, is_fault, line, source_item, SinkModel, name_item, name_items, scan_item, says, DoesInLog, EndsInLog, acts_status, log_ending, web_of}
 use Rattle.cweb_store.specs.Faults as store
 use Rattle.cweb_tools.proofs.DoingFiles.{ends_reported}
 use Rattle.cweb_tools.proofs.Logging.{said_all, said_none}

@@ -128,10 +128,10 @@ unread_in system fs inputs args out log log' status is run =
 -- A run of `ctangle` over a new shelf, whose bins take over the file system from the shelf.
 pub tangles_in : {F H : Type 0} (system : FileSystem F H) (fs : F) (inputs : Option (List ℕ))
     (args : Option OptionsModel) (shelf shelf' : FolderShelf F H system) (bins : FolderBins F H system) (out :
-        SinkModel)
+    SinkModel)
     (log log' : SinkModel) (status : ℕ)
     → shelf_system shelf ≡ fs → shelf_failures shelf ≡ 0 → bins_model system bins ≡ empty_bins system (shelf_system
-        shelf')
+    shelf')
     → TanglePromises (world_seen system shelf inputs) args
     (at (shelf_seen system shelf) (bins_model system bins) log) (at (shelf_seen system shelf') out log') status
     → TanglesIn system fs inputs args (devices_before system fs log).out log out log' status

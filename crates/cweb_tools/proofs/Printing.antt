@@ -1,5 +1,5 @@
 -- A text that is printed to a stream, and the targets of a rule.
-use Rattle.cweb_tools.proofs.Common.{◌≡◌, ◌+◌, inl, inr, ℕ, List, [], ◌∷◌, refl, ◌∙◌, ap, codes, map, Option, Some, None, File, Stored, Output, output_file, WriteFault, FailsWithin, SinkModel, at, appended, changed, failing, with_printed, written, ending, prints, DoesInOut}
+use Rattle.cweb_tools.proofs.Common.{◌≡◌, inl, inr, ℕ, List, [], ◌∷◌, refl, ◌∙◌, ap, codes, map, Some, None, File, Stored, Output, output_file, WriteFault, FailsWithin, SinkModel, at, written, ending, prints, DoesInOut}
 use Rattle.std.specs.Prelude.{take}
 use Rattle.std.proofs.lemmas.List.{take-map}
 use Rattle.cweb_tools.specs.Depend.{among_outputs}

@@ -107,7 +107,6 @@ drafts_gone a b (Some now) (Some now') is = ap gone (ap beside_of is)
     gone beside =
         Some (record { bytes = []; beside = record { files = beside.files; draft = None; refused = beside.refused } })
 
-
 -- A write failed.
 pub prints_until : {files : List (List ℕ)} {first now : Expander} {printer : Printer} {old new : SinkModel}
     {buffer : List ℕ} (new' : SinkModel) (buffer' : List ℕ) {bytes : List ℕ}

@@ -13,7 +13,7 @@ pub returns-in_err-write_chunk-2 : goal.returns-in_err-write_chunk-2
 returns-in_err-write_chunk-2 g c = record {
   wrote = second_until _ _ _ _ c.args.first.now c.args.second.now c.args.third.now
       c.from_residual-in_err-write_chunk-2.result c.from_residual-in_err-write_chunk-2.ensures.0 refl
-          c.in_ok-write_chunk.ensures.wrote c.in_err-write_chunk-2.ensures.wrote;
+      c.in_ok-write_chunk.ensures.wrote c.in_err-write_chunk-2.ensures.wrote;
 }
 
 pub returns : goal.returns

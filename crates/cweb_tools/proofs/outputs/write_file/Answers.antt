@@ -1,4 +1,4 @@
-use Rattle.cweb_tools.proofs.Common.{◌≡◌, ◌++◌, ◌+◌, ◌∙◌, List, ℕ, None, Some, ap, inr, refl, at, changed, failing, SinkContents, SinkModel, committed, option_map, with_draft, with_printed, without_draft, without_file, written, with_file, output_name_at, file_at}
+use Rattle.cweb_tools.proofs.Common.{◌≡◌, ◌+◌, ◌∙◌, List, ℕ, None, ap, inr, refl, at, changed, failing, SinkContents, SinkModel, committed, option_map, with_draft, with_printed, without_draft, without_file, written, with_file, output_name_at, file_at}
 use Rattle.cweb_tools.proofs.Broken.{map_on}
 use Rattle.cweb_tools.proofs.DoingFiles.{file_done, not_written}
 use Rattle.cweb_tools.proofs.ReadyExpanders.{left_known, text_on}

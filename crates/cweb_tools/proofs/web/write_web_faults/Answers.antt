@@ -1,5 +1,5 @@
 use Rattle.cweb_tools.proofs.Common.{refl, scanned_model, files_of}
-use Rattle.cweb_files.proofs.Appending.{fails_then, wrote_then, wrote_until}
+use Rattle.cweb_files.proofs.Appending.{wrote_then, wrote_until}
 use Rattle.cweb_tools.proofs.FaultItems.{fault_text}
 use Rattle.cweb_tools.proofs.web.write_web_faults.Goals as goal
 

@@ -21,9 +21,9 @@ pub returns-in_err-write_placed : goal.returns-in_err-write_placed
 returns-in_err-write_placed g c = record {
   wrote = second_until _ _ _ _ (blank_where c.is_apart.result) _ _ c.from_residual-in_err-write_placed.result
       c.from_residual-in_err-write_placed.ensures.0 (in_three c.args.self.now (token_model c.args.token.now)
-          c.is_apart.result
+      c.is_apart.result
       (sym c.drops.ensures ∙ c.if-drops.false) c.is_apart.ensures) c.in_ok-write_blank.ensures.wrote
-          c.in_err-write_placed.ensures.wrote;
+      c.in_err-write_placed.ensures.wrote;
 }
 
 pub returns : goal.returns
@@ -31,5 +31,5 @@ returns g c = record {
   wrote = three_then _ _ _ _ _ (blank_where c.is_apart.result) _ _ c.write_plain.result (in_three c.args.self.now
       (token_model c.args.token.now) c.is_apart.result
       (sym c.drops.ensures ∙ c.if-drops.false) c.is_apart.ensures) c.in_ok-write_blank.ensures.wrote
-          c.in_ok-write_placed.ensures.wrote c.write_plain.ensures.wrote;
+      c.in_ok-write_placed.ensures.wrote c.write_plain.ensures.wrote;
 }

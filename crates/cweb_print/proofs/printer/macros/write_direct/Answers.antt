@@ -9,7 +9,7 @@ returns-in_err-write_blank g c = record {
       (ap (λ (is_apart : Bool). blank_where is_apart ++ continued_by (token_bytes_model c.args.direct))
       (sym (c.edge_is_apart.ensures
       ∙ ap (λ (class : Class). edge_is_apart class c.args.direct.edge) c.edge_of_class.ensures)))
-          c.in_err-write_blank.ensures.wrote;
+      c.in_err-write_blank.ensures.wrote;
 }
 
 pub returns : goal.returns

@@ -20,12 +20,12 @@ pub returns-in_err-write_macro_tokens : goal.returns-in_err-write_macro_tokens
 returns-in_err-write_macro_tokens g c = record {
   wrote = second_until _ _ _ _ (codes "#define ") _ (codes "\n") c.from_residual-in_err-write_macro_tokens.result
       c.from_residual-in_err-write_macro_tokens.ensures.0 (in_three c.args.store.now c.args.part)
-          c.in_ok-write_chunk.ensures.wrote c.in_err-write_macro_tokens.ensures.wrote;
+      c.in_ok-write_chunk.ensures.wrote c.in_err-write_macro_tokens.ensures.wrote;
 }
 
 pub returns : goal.returns
 returns g c = record {
   wrote = three_then _ _ _ _ _ (codes "#define ") _ (codes "\n") c.write_chunk-2.result (in_three c.args.store.now
       c.args.part) c.in_ok-write_chunk.ensures.wrote c.in_ok-write_macro_tokens.ensures.wrote
-          c.write_chunk-2.ensures.wrote;
+      c.write_chunk-2.ensures.wrote;
 }

@@ -9,7 +9,7 @@ returns-in_err-write_direct-clause-wrote g c =
     let l = token_bytes_model c.in-false-Some.direct in
     let is = c.direct.ensures ∙ ap (λ o. Some (option_map token_bytes_model o)) c.in-false-Some.is-1 in
     wrote_err _ _ _ _ c.from_residual.result c.from_residual.ensures.0 (sym (direct_added c.args.store.now c.args.left
-        c.args.number l c.in-false-Some.is-0
+    c.args.number l c.in-false-Some.is-0
     c.args.token_reader.now c.requires.reader is))
     c.in_err-write_direct.ensures.wrote
 

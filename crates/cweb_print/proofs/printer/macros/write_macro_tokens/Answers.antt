@@ -50,5 +50,5 @@ returns-in_err-left g c =
       wrote = second_until _ _ _ _ _ _ _ c.from_residual.result c.from_residual.ensures.0 (tokens_at (macro_by
           (replaced_in w)) ts first n c.args.part.after t c.tokens.left c.tokens.invariant.from lt
           c.requires.within (there w n within) c.tokens.invariant.left) c.tokens.invariant.wrote
-              c.in_err-left.ensures.wrote;
+          c.in_err-left.ensures.wrote;
     }

@@ -7,7 +7,7 @@ use Rattle.cweb_print.proofs.printer.macros.write_other.Goals as goal
 pub returns-in_err-write_spaced-clause-wrote : goal.returns-in_err-write_spaced-clause-wrote
 returns-in_err-write_spaced-clause-wrote g c =
     wrote_err _ _ _ _ c.from_residual.result c.from_residual.ensures.0 (ap (added (macro_by (replaced_in
-        c.args.store.now)) c.args.left)
+    c.args.store.now)) c.args.left)
     (sym (at_index c.args.store.now c.args.number (token_model c.token-token.result) c.token-token.ensures)))
     c.in_err-write_spaced.ensures.wrote
 
@@ -19,4 +19,4 @@ pub returns-clause-wrote : goal.returns-clause-wrote
 returns-clause-wrote g c =
     wrote_as _ (ap (added (macro_by (replaced_in c.args.store.now)) c.args.left)
     (sym (at_index c.args.store.now c.args.number (token_model c.token-token.result) c.token-token.ensures)))
-        c.in_ok-write_spaced.ensures.wrote
+    c.in_ok-write_spaced.ensures.wrote

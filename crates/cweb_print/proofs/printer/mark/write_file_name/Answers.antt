@@ -13,7 +13,7 @@ pub returns-in_err-write_quoted : goal.returns-in_err-write_quoted
 returns-in_err-write_quoted g c = record {
   wrote = second_until _ _ _ _ (codes " \"") (quoted c.args.name.now) (codes "\"\n")
       c.from_residual-in_err-write_quoted.result c.from_residual-in_err-write_quoted.ensures.0 refl
-          c.in_ok-write_chunk.ensures.wrote c.in_err-write_quoted.ensures.wrote;
+      c.in_ok-write_chunk.ensures.wrote c.in_err-write_quoted.ensures.wrote;
 }
 
 pub returns : goal.returns

@@ -16,5 +16,5 @@ pub returns-in_err-write_quoted_byte : goal.returns-in_err-write_quoted_byte
 returns-in_err-write_quoted_byte g c = record {
   wrote =
       items_until quoted_byte c.args.name.now c.bytes.byte-index _ _ _ _ c.from_residual.result c.bytes-test.true
-          c.from_residual.ensures.0 c.bytes.invariant.wrote c.in_err-write_quoted_byte.ensures.wrote;
+      c.from_residual.ensures.0 c.bytes.invariant.wrote c.in_err-write_quoted_byte.ensures.wrote;
 }

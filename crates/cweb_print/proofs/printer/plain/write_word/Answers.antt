@@ -7,5 +7,5 @@ pub returns-else-has_high_byte : goal.returns-else-has_high_byte
 returns-else-has_high_byte g c = record {
   wrote =
       wrote_same c.args.bytes.now (word_bytes (replaced_in c.args.store.now) c.args.bytes.now) _ _ c.write_chunk.result
-          (sym (ascii_word (replaced_in c.args.store.now) c.args.bytes.now (search rules))) c.write_chunk.ensures.wrote;
+      (sym (ascii_word (replaced_in c.args.store.now) c.args.bytes.now (search rules))) c.write_chunk.ensures.wrote;
 }

@@ -16,6 +16,6 @@ pub returns-in_err-write_word_byte : goal.returns-in_err-write_word_byte
 returns-in_err-write_word_byte g c = record {
   wrote =
       items_until (word_byte (replaced_in c.args.store.now)) c.args.bytes.now c.bytes.byte-index _ _ _ _
-          c.from_residual.result c.bytes-test.true c.from_residual.ensures.0 c.bytes.invariant.wrote
-              c.in_err-write_word_byte.ensures.wrote;
+      c.from_residual.result c.bytes-test.true c.from_residual.ensures.0 c.bytes.invariant.wrote
+      c.in_err-write_word_byte.ensures.wrote;
 }
