@@ -1,6 +1,5 @@
 // A sink of a client's own.
-ghost use Rattle.std.specs.Prelude.{◌≡◌, Some};
-ghost use Rattle.cweb_out.specs.Sinks.{always_open};
+ghost use Rattle.std.specs.Prelude.{◌≡◌, [], None, Some};
 
 use cweb_lines::{Sink, SinkFault};
 use std::alloc::Global;
@@ -27,7 +26,10 @@ impl ByteSink {
 impl Sink for ByteSink {
     ghost model = { λ sink. record {
       failed = sink.failed;
-      contents = Some (record { bytes = sink.bytes.items; beside = always_open });
+      contents = Some (record {
+        bytes = sink.bytes.items;
+        beside = record { files = []; draft = Some []; refused = None };
+      });
     } };
 
     fn write(&mut self, piece: &[u8]) -> Result<usize, SinkFault> {
