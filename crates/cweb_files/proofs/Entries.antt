@@ -1,14 +1,14 @@
 -- The contents of a memory shelf after one more entry, and the bytes that a read takes.
-use Rattle.std.proofs.Common.{◌≡◌, ◌≤◌, ◌+◌, ◌-◌, ℕ, Bool, true, false, cond, List, [], ◌∷◌, ◌++◌, Option, Some, None, refl, sym, ◌∙◌, ap, take, drop, get_or, length, ◌<◌, string_bytes, subst, arith, take-append-drop}
+use Rattle.std.proofs.Common.{◌≡◌, ◌≤◌, ◌+◌, ◌-◌, ℕ, Bool, true, false, cond, List, [], ◌∷◌, ◌++◌, Option, Some, None, refl, sym, ◌∙◌, ap, take, drop, get_or, length, ◌<◌, string_bytes, arith, take-append-drop}
 use Rattle.std.proofs.lemmas.List.{take_at, drop-drop, take_more, length-take-le, length-drop}
 use Rattle.std.proofs.lemmas.Option.{slice_get_read}
 use Rattle.std.proofs.lemmas.Slice.Eq.{bytes_eq-Decides}
-use Rattle.cweb_files.specs.Bins.{Finds}
+use Rattle.cweb_files.specs.Shelves.{Finds}
 use Rattle.cweb_files.specs.declared.memory.MemoryReader.{MemoryReader}
 use Rattle.std.specs.Prelude.{slice_get}
 use Rattle.std.specs.Str.{bytes_eq}
 use Rattle.cweb_files.specs.declared.memory.Entry.{Entry}
-use Rattle.cweb_files.specs.surface.MemoryDevices.{first_of, contents_if_named, contents_in_entries, contents_from, entry_name}
+use Rattle.cweb_files.specs.surface.MemoryDevices.{first_of, contents_if_named, contents_in_entries, contents_from, contents_read, entry_name}
 
 first_assoc : {A : Type 0} → (x y z : Option A) → first_of (first_of x y) z ≡ first_of x (first_of y z)
 first_assoc (Some x) y z = refl
@@ -67,10 +67,10 @@ rest-read entries i at n e text copied piece lt is holds copy fits =
 
 pub finds_more : (entries : List Entry) (i : ℕ) (e : Entry) (name : List ℕ) (found : Option MemoryReader)
     → i < length entries → e ≡ get_or entries i e
-    → Finds (λ r. contents_from (slice_get entries r.entry) r.at) (contents_in_entries (take i entries) name) found
+    → Finds (contents_read (contents_in_entries (take i entries)) entries) name found
     → (b : Bool) → b ≡ bytes_eq (string_bytes e.name) name
-    → Finds (λ r. contents_from (slice_get entries r.entry) r.at)
-    (contents_in_entries (take (i + 1) entries) name) (cond b (Some (record { entry = i; at = 0 })) found)
+    → Finds (contents_read (contents_in_entries (take (i + 1) entries)) entries) name
+    (cond b (Some (record { entry = i; at = 0 })) found)
 finds_more entries i e name found lt is so_far b test =
     let longer : contents_in_entries (take (i + 1) entries) name
     ≡ first_of (contents_if_named e name) (contents_in_entries (take i entries) name) =
@@ -81,18 +81,23 @@ finds_more entries i e name found lt is so_far b test =
     ≡ cond b (Some e.text.items) (contents_in_entries (take i entries) name) =
     longer ∙ ap (λ t. first_of (cond t (Some e.text.items) None) (contents_in_entries (take i entries) name)) (sym test)
     ∙ first-if b e.text.items (contents_in_entries (take i entries) name) in
-    (elim b as (λ b'.
-    (contents_in_entries (take (i + 1) entries) name
-    ≡ cond b' (Some e.text.items) (contents_in_entries (take i entries) name))
-    → Finds (λ r. contents_from (slice_get entries r.entry) r.at) (contents_in_entries (take (i + 1) entries) name)
-    (cond b' (Some (record { entry = i; at = 0 })) found)) [
-      | true ↦ λ one. one ∙ ap (λ o. Some (contents_from o 0)) (sym (slice_get-at entries i e lt is))
-      | false ↦ λ same. subst (λ t. Finds (λ r. contents_from (slice_get entries r.entry) r.at) t found)
-          (sym same) so_far
-    ]) found_one
+    finds_one b found_one test
+  where
+    here : slice_get entries i ≡ Some e
+    here = slice_get-at entries i e lt is
 
-pub opened_here : (entries : List Entry) (i : ℕ) (e : Entry) (name : List ℕ) → i < length entries
-    → e ≡ get_or entries i e → true ≡ bytes_eq (string_bytes e.name) name
-    → entry_name (slice_get entries i) ≡ name
-opened_here entries i e name lt is same = ap entry_name (slice_get-at entries i e lt is)
-    ∙ (bytes_eq-Decides (string_bytes e.name) name).0 (sym same)
+    finds_one : (b : Bool) → contents_in_entries (take (i + 1) entries) name
+        ≡ cond b (Some e.text.items) (contents_in_entries (take i entries) name)
+        → b ≡ bytes_eq (string_bytes e.name) name
+        → Finds (contents_read (contents_in_entries (take (i + 1) entries)) entries) name
+        (cond b (Some (record { entry = i; at = 0 })) found)
+    finds_one true one same = (
+      one ∙ ap (λ o. Some (contents_from o 0)) (sym here),
+      ap entry_name here ∙ (bytes_eq-Decides (string_bytes e.name) name).0 (sym same),
+    )
+    finds_one false more same = still found so_far
+      where
+        still : (found : Option MemoryReader) → Finds (contents_read (contents_in_entries (take i entries)) entries) name
+            found → Finds (contents_read (contents_in_entries (take (i + 1) entries)) entries) name found
+        still None none = more ∙ none
+        still (Some reader) some = (more ∙ some.0, some.1)

@@ -1,5 +1,5 @@
 -- Calls of devices: their results, and what they change.
-use Rattle.std.specs.Prelude.{◌≡◌, ◌+◌, ◌++◌, ℕ, List, [], ◌∷◌, Result, Ok, Err, Option, Some, None}
+use Rattle.std.specs.Prelude.{◌≡◌, ◌+◌, ℕ, Result, Ok, Err}
 use Rattle.cweb_files.specs.Files.{Refused, no_memory, no_device}
 use Rattle.cweb_files.specs.Sinks.{SinkModel, changed, failing, with_refusal}
 use Rattle.cweb_files.specs.declared.bins.BinFault.{BinFault}
@@ -9,21 +9,6 @@ use Rattle.cweb_files.specs.declared.bins.BinFault.TheVariants.{Memory, Device}
 abbrev pub CountsFailure : {A E : Type 0} → ℕ → ℕ → Result A E → Type 0
 CountsFailure before now (Ok x) = now ≡ before
 CountsFailure before now (Err e) = now ≡ before + 1
-
--- A reader that was found has the contents of the name left. None is returned only where the name has no contents.
-abbrev pub Finds : {R : Type 0} → (R → List ℕ) → Option (List ℕ) → Option R → Type 0
-Finds left text None = text ≡ None
-Finds left text (Some reader) = text ≡ Some (left reader)
-
--- A reader that was found was opened under this name.
-abbrev pub IsOpenedAs : {R : Type 0} → (R → List ℕ) → List ℕ → Option R → Type 0
-IsOpenedAs opened_as name None = Unit {0}
-IsOpenedAs opened_as name (Some reader) = opened_as reader ≡ name
-
--- A fault appends the name of its reader to the blamed names. Success leaves them unchanged.
-abbrev pub BlamesName : {A E : Type 0} → List ℕ → List (List ℕ) → List (List ℕ) → Result A E → Type 0
-BlamesName name before now (Ok x) = now ≡ before
-BlamesName name before now (Err e) = now ≡ before ++ name ∷ []
 
 -- The reason that a fault of `start_file` is recorded as.
 abbrev pub refusal : BinFault → Refused

@@ -1,5 +1,4 @@
 -- Definitions that public calls cite and the headline does not.
 pub mod MemoryBins
-pub mod Frames
 pub mod Writes
 pub mod MemoryDevices

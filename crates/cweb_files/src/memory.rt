@@ -3,7 +3,7 @@ ghost use Rattle.std.specs.Prelude.{◌≡◌, ◌≤◌, ◌+◌, ◌^◌, ◌<
 ghost use Rattle.std.specs.Prelude.{Some, vec_len, vec_capacity, string_bytes, IfOk, IfSome, OnOk};
 ghost use Rattle.std.specs.Prelude.{OnErr, IsOk, None, if◌then◌else◌};
 ghost use Rattle.std.specs.Str.{bytes_eq};
-ghost use Rattle.cweb_files.specs.Bins.{CountsFailure, Finds, IsOpenedAs};
+ghost use Rattle.cweb_files.specs.Bins.{CountsFailure};
 
 use crate::{Shelf, ShelfFault, Sink, SinkFault};
 use std::alloc::{AllocError, Global};
@@ -59,29 +59,17 @@ impl MemoryShelf {
 }
 
 impl Shelf for MemoryShelf {
-    ghost use Rattle.cweb_files.specs.surface.MemoryDevices.{IsReaderOpen, reader_name, shelf_contents};
-    ghost use Rattle.cweb_files.specs.surface.MemoryDevices.{reader_rest};
+    ghost use Rattle.cweb_files.specs.Shelves.{Observed, Finds};
+    ghost use Rattle.cweb_files.specs.surface.MemoryDevices.{IsReaderOpen, reader_name, reader_rest, shelf_model};
 
     type R = MemoryReader;
 
-    ghost tells = { λ _. true };
-
-    ghost texts = { shelf_contents };
-
-    ghost left = { reader_rest };
-
-    ghost failed = { λ _. 0 };
-
-    ghost opened_as = { reader_name };
-
-    ghost blamed = { λ _. [] };
+    ghost model = { shelf_model };
 
     fn fetch(&mut self, name: &str) -> Result<Option<MemoryReader>, AllocError>
         // It allocates nothing.
         ensures ok { IsOk result }
-        ensures found { IfOk result
-            (Finds (reader_rest self.new) (shelf_contents self.old name.now)) }
-        ensures opened { IfOk result (IsOpenedAs (reader_name self.new) name.now) }
+        ensures found { Observed (shelf_model self.old) (λ seen. IfOk result (Finds seen name.now)) }
         ensures is_open { IfOk result (λ found. IfSome found (IsReaderOpen self.new)) }
         ensures same { self.new ≡ self.old }
     {

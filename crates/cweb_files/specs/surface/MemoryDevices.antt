@@ -2,6 +2,7 @@
 use Rattle.std.specs.Prelude.{◌≡◌, ◌<◌, ℕ, List, [], ◌∷◌, Option, Some, None, if◌then◌else◌, drop, length, slice_get}
 use Rattle.std.specs.Prelude.{string_bytes, vec_capacity}
 use Rattle.std.specs.Str.{bytes_eq}
+use Rattle.cweb_files.specs.Shelves.{ShelfContents, ShelfModel}
 use Rattle.cweb_files.specs.Sinks.{SinkModel}
 use Rattle.cweb_files.specs.surface.Writes.{always_open}
 use Rattle.cweb_files.specs.declared.memory.Entry.{Entry}
@@ -30,15 +31,37 @@ abbrev pub contents_from : Option Entry → ℕ → List ℕ
 contents_from (Some entry) at = drop at entry.text.items
 contents_from None at = []
 
-abbrev pub reader_rest : MemoryShelf → MemoryReader → List ℕ
-reader_rest shelf reader = contents_from (slice_get shelf.entries.items reader.entry) reader.at
-
 abbrev pub entry_name : Option Entry → List ℕ
 entry_name (Some entry) = string_bytes entry.name
 entry_name None = []
 
+abbrev pub rest_in : List Entry → MemoryReader → List ℕ
+rest_in entries reader = contents_from (slice_get entries reader.entry) reader.at
+
+abbrev pub name_in : List Entry → MemoryReader → List ℕ
+name_in entries reader = entry_name (slice_get entries reader.entry)
+
+abbrev pub reader_rest : MemoryShelf → MemoryReader → List ℕ
+reader_rest shelf = rest_in shelf.entries.items
+
 abbrev pub reader_name : MemoryShelf → MemoryReader → List ℕ
-reader_name shelf reader = entry_name (slice_get shelf.entries.items reader.entry)
+reader_name shelf = name_in shelf.entries.items
+
+-- The contents of these names, for readers of `entries`.
+abbrev pub contents_read : (List ℕ → Option (List ℕ)) → List Entry → ShelfContents MemoryReader
+contents_read texts entries = record {
+  texts = texts;
+  left = rest_in entries;
+  opened_as = name_in entries;
+  blamed = [];
+}
+
+-- No read fails.
+abbrev pub shelf_model : MemoryShelf → ShelfModel MemoryReader
+shelf_model shelf = record {
+  failed = 0;
+  contents = Some (contents_read (shelf_contents shelf) shelf.entries.items);
+}
 
 abbrev pub IsReaderOpen : MemoryShelf → MemoryReader → Type 0
 IsReaderOpen shelf reader = reader.entry < length shelf.entries.items
