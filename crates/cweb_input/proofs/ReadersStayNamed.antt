@@ -1,21 +1,19 @@
 -- Readers stay opened under the names of their files, and what is blamed.
-use Rattle.cweb_input.proofs.Common.{◌≡◌, ◌≤◌, ◌<◌, ℕ, zero, suc, List, [], ◌∷◌, ◌++◌, Option, Some, None, sym, ◌∙◌, ap, subst, arith, length, get_or, replicate, Err, append-nil, set, Stop}
-use Rattle.std.specs.Prelude.{Result, Ok, IfErr}
+use Rattle.cweb_input.proofs.Common.{◌≡◌, ◌≤◌, ◌<◌, ℕ, zero, suc, List, [], ◌∷◌, ◌++◌, Option, Some, None, refl, sym, ◌∙◌, ap, subst, arith, length, get_or, replicate, Err, set, Stop}
+use Rattle.std.specs.Prelude.{Result, option_map, ◌+◌}
 use Rattle.std.proofs.lemmas.List.{get_or_default, get_or_append_left}
+use Rattle.std.proofs.lemmas.Option.{same_Some}
 use Rattle.cweb_files.specs.declared.place.FileId.{FileId}
-use Rattle.cweb_input.specs.surface.ReaderNames.{AreReadersNamed, BlamesFile, IsReaderNamed}
+use Rattle.cweb_input.specs.surface.ReaderNames.{AreReadersNamed, IsReaderNamed}
 use Rattle.cweb_input.specs.inner.ReaderNames.{KeepsReaderName, KeepsReaderNames}
-use Rattle.cweb_input.specs.surface.ReaderNames.{blame, name_of_file}
-use Rattle.cweb_files.specs.surface.Frames.{KeepsShelf}
-use Rattle.cweb_input.specs.inner.Source.{BlamesReader}
+use Rattle.cweb_input.specs.surface.ReaderNames.{shelf_after}
+use Rattle.cweb_input.specs.inner.Source.{after_reading}
+use Rattle.cweb_files.specs.Shelves.{Observed, ShelfContents, ShelfModel, blaming, failed_read, with_blame}
 use Rattle.cweb_input.specs.inner.OpenSources.{files_up_to, stop_for, maximum_of}
 use Rattle.cweb_input.specs.surface.OpenSources.{number_or_zero}
-use Rattle.cweb_input.specs.surface.OpenSources.{read_failures_of}
 use Rattle.cweb_input.specs.declared.source.LineFault.{LineFault}
 use Rattle.cweb_input.specs.declared.source.LineFault.TheVariants.{Read}
-use Rattle.cweb_input.specs.declared.stop.Stop.TheVariants.{ReadFault, Memory}
 use Rattle.cweb_input.specs.declared.open_source.OpenSource.{OpenSource}
-use Rattle.cweb_files.specs.declared.device.Shelf.{Ghosts as Shelf}
 use Rattle.cweb_input.proofs.SourceStacks.{most_at}
 
 module _ {R : Type 0} (opened_as : R → List ℕ) (names : List (List ℕ)) where
@@ -50,42 +48,47 @@ module _ {R : Type 0} (opened_as : R → List ℕ) (names : List (List ℕ)) whe
   change_more more slot known is = slot_more more slot known is
 
 -- A slot of the stack is replaced.
-module _ {S R : Type 0} (shelf : Shelf S R) (old new : S) (texts : List (Option (OpenSource R))) (at : ℕ)
+module _ {R A : Type 0} (old new : ShelfModel R) (result : Result A Stop) (texts : List (Option (OpenSource R))) (at : ℕ)
     (d : Option (OpenSource R)) (within : at < length texts) where
-  pub names_set : (slot : Option (OpenSource R)) → KeepsShelf shelf old new
-      → KeepsReaderName shelf old new (get_or texts at d) slot
-      → KeepsReaderNames shelf old new texts (set texts at slot)
-  names_set slot keeps named = λ tells names each. named_set (shelf.opened_as new) names texts at slot
-      (subst (λ f. AreReadersNamed f names texts) (sym (keeps.names tells)) each)
-      (named tells names (named_at (shelf.opened_as old) names texts at d within each))
+  pub names_set : (slot : Option (OpenSource R)) → KeepsReaderName old new (get_or texts at d) slot result
+      → KeepsReaderNames old new texts (set texts at slot) result
+  names_set slot named = λ seen is names each.
+      let top = named seen is names (named_at seen.opened_as names texts at d within each) in
+      (named_set seen.opened_as names texts at slot each top.0, top.1)
 
-pub blames_none : (names before now : List (List ℕ)) (stop : Stop) → read_failures_of stop ≡ 0 → now ≡ before
-    → now ≡ before ++ blame names stop
-blames_none names before now (ReadFault file) none same = absurd (omega (arith, none))
-blames_none names before now stop none same = same ∙ sym (append-nil before)
+-- Names of readers that are equal, if they are known, are blamed alike.
+module _ {R : Type 0} (shelf : ShelfModel R) (reader : R) where
+  pub blames_as : (name : List ℕ) → Observed shelf (λ seen. seen.opened_as reader ≡ name)
+      → failed_read reader shelf ≡ blaming name shelf
+  blames_as name same = ap (λ c. record { failed = shelf.failed + 1; contents = c }) (by shelf.contents refl)
+    where
+      by : (contents : Option (ShelfContents R)) → shelf.contents ≡ contents
+          → option_map (λ (now : ShelfContents R). with_blame (now.opened_as reader) now) contents
+          ≡ option_map (with_blame name) contents
+      by None is = refl
+      by (Some seen) is = ap (λ (n : List ℕ). Some (with_blame n seen)) (same seen is)
 
-pub blames_memory : {A : Type 0} (result : Result A Stop) (names before now : List (List ℕ))
-    → IfErr result (λ stop. stop ≡ Memory) → now ≡ before → BlamesFile names before now result
-blames_memory (Ok x) names before now memory same = same
-blames_memory (Err stop) names before now memory same = same
-    ∙ sym (ap (λ s. before ++ blame names s) memory ∙ append-nil before)
+  pub blames_known : (seen : ShelfContents R) → shelf.contents ≡ Some seen → (name : List ℕ)
+      → seen.opened_as reader ≡ name → failed_read reader shelf ≡ blaming name shelf
+  blames_known seen is name named = blames_as name
+      (λ other some. ap (λ (s : ShelfContents R). s.opened_as reader) (same_Some other seen (sym some ∙ is)) ∙ named)
 
-pub blames_line : (fault : LineFault) (stop : Stop) (file : FileId) (name : List ℕ)
-    (names before now : List (List ℕ)) → stop ≡ stop_for fault file → name ≡ name_of_file names file
-    → BlamesReader {A = FileId} name before now (Err fault) → now ≡ before ++ blame names stop
-blames_line Read stop file name names before now is named read = read ∙ ap (λ (n : List ℕ). before ++ n ∷ []) named
-    ∙ sym (ap (λ s. before ++ blame names s) is)
-blames_line _ stop file name names before now is named read = read
-    ∙ sym (ap (λ s. before ++ blame names s) is ∙ append-nil before)
+  -- Some name is blamed.
+  pub blames_some : (name : List ℕ) × (failed_read reader shelf ≡ blaming name shelf)
+  blames_some = by shelf.contents refl
+    where
+      by : (contents : Option (ShelfContents R)) → shelf.contents ≡ contents
+          → (name : List ℕ) × (failed_read reader shelf ≡ blaming name shelf)
+      by None is = ([], blames_as [] (λ seen some. absurd (cc)))
+      by (Some seen) is = (seen.opened_as reader, blames_known seen is (seen.opened_as reader) refl)
 
-pub stop_after : (stop : Stop) (names before mid now : List (List ℕ)) → mid ≡ before → now ≡ mid ++ blame names stop
-    → now ≡ before ++ blame names stop
-stop_after stop names before mid now is blames = blames ∙ ap (λ (b : List (List ℕ)). b ++ blame names stop) is
-
-pub blames_after : {A : Type 0} (result : Result A Stop) (names before mid now : List (List ℕ)) → mid ≡ before
-    → BlamesFile names mid now result → BlamesFile names before now result
-blames_after result names before mid now is blames = subst (λ (b : List (List ℕ)). BlamesFile names b now result) is
-    blames
+-- A fault of taking a line of this reader, as a stop.
+pub line_blames : {R : Type 0} (A : Type 0) (fault : LineFault) (stop : Stop) (file : FileId) (reader : R)
+    (old new : ShelfModel R) (name : FileId → List ℕ) → stop ≡ stop_for fault file
+    → new ≡ after_reading {A = A} reader (Err fault) old
+    → failed_read reader old ≡ blaming (name file) old → new ≡ shelf_after name stop old
+line_blames A Read stop file reader old new name is read named = read ∙ named ∙ sym (ap (λ s. shelf_after name s old) is)
+line_blames A _ stop file reader old new name is read named = read ∙ sym (ap (λ s. shelf_after name s old) is)
 
 nones : {R : Type 0} (opened_as : R → List ℕ) (names : List (List ℕ)) (n place : ℕ) → IsReaderNamed opened_as names
     (get_or (replicate n None) place None)

@@ -73,7 +73,7 @@ raws-append depth may_match (line ∷ before) following = ap (λ (ts : List Thin
     (raws-append depth may_match before following)
 
 -- The deepest source yields a line, has ended, or causes a stop.
-module _ {R : Type 0} (left left' : R → List ℕ) (same : left' ≡ left) (texts : List (Option (OpenSource R)))
+module _ {R : Type 0} (left : R → List ℕ) (texts : List (Option (OpenSource R)))
     (d slot' : Option (OpenSource R)) (depth : ℕ)
     (within : depth - 1 < length texts) (before after : TakenCountersModel) (bytes : List ℕ) (low : ℕ)
     (above : low < depth)
@@ -120,26 +120,24 @@ module _ {R : Type 0} (left left' : R → List ℕ) (same : left' ≡ left) (tex
       )
 
   pub top_taken : (at : LineAt) → at.depth ≡ number_or_zero source_depth slot → at.may_match ≡ matches_at slot
-      → number_or_zero
-      source_depth slot' ≡ number_or_zero source_depth slot → matches_at slot' ≡ matches_at slot
-      → TakesNextLine (lines_at left slot)
-      (Some at) bytes (lines_at left' slot') before after → TakesFirst (things_over left low (depth - low) texts rest)
-      (Some at) bytes (things_over left' low (depth - low) (set texts (depth - 1) slot') rest) before after
+      → number_or_zero source_depth slot' ≡ number_or_zero source_depth slot → matches_at slot' ≡ matches_at slot
+      → TakesNextLine (lines_at left slot) (Some at) bytes (lines_at left slot') before after
+      → TakesFirst (things_over left low (depth - low) texts rest)
+      (Some at) bytes (things_over left low (depth - low) (set texts (depth - 1) slot') rest) before after
   top_taken at deep_at matches deep' matches' takes = (
     takes.0,
-    top_passed (takes.0.line ∷ []) deep' matches' (takes.1 ∙ ap (λ k. takes.0.line ∷ lines_at k slot') same)
+    top_passed (takes.0.line ∷ []) deep' matches' takes.1
         ∙ (λ i. raw (record { source = takes.0.line; depth = sym deep_at i; may_match = sym matches i })
-        ∷ things_over (sym same i) low (depth - low) (set texts (depth - 1) slot') rest),
+        ∷ things_over left low (depth - low) (set texts (depth - 1) slot') rest),
   )
 
   pub top_closed : (texts' : List (Option (OpenSource R))) → texts' ≡ set texts (depth - 1) None
-      → TakesNextLine (lines_at left slot) None bytes (lines_at left' slot') before after
+      → TakesNextLine (lines_at left slot) None bytes (lines_at left slot') before after
       → TakesFirst (things_over left low
-      (depth - low) texts rest) None bytes (things_over left' low (depth - 1 - low) texts' rest) before after
+      (depth - low) texts rest) None bytes (things_over left low (depth - 1 - low) texts' rest) before after
   top_closed texts' are takes = with_lines [] takes.0
-      ∙ ap (λ l. things_over l low (depth - 1 - low) texts rest) (sym same)
-      ∙ sym (over-set left' low (depth - 1 - low) texts (depth - 1) None rest (omega arith))
-      ∙ ap (λ (ts : List (Option (OpenSource R))). things_over left' low (depth - 1 - low) ts rest) (sym are)
+      ∙ sym (over-set left low (depth - 1 - low) texts (depth - 1) None rest (omega arith))
+      ∙ ap (λ (ts : List (Option (OpenSource R))). things_over left low (depth - 1 - low) ts rest) (sym are)
 
   pub top_stops : (stop : Stop) → FirstStops stop before (lines_at left slot) →
       TopStops stop before (things_over left low (depth - low) texts rest)

@@ -1,6 +1,7 @@
 // The next line of a source, however reads split it.
-ghost use Rattle.std.specs.Prelude.{◌≡◌, ◌≤◌, ◌<◌, ◌+◌, ◌^◌, ◌++◌, [], length, take, IsTrue, IfOk};
+ghost use Rattle.std.specs.Prelude.{◌≡◌, ◌≤◌, ◌<◌, ◌+◌, ◌^◌, ◌++◌, [], length, take, IfOk};
 ghost use Rattle.std.specs.Prelude.{OnOk, IsErrOf};
+ghost use Rattle.cweb_files.specs.Shelves.{Observed};
 ghost use Rattle.cweb_input.specs.surface.Lines.{HasNoNewline};
 ghost use Rattle.cweb_input.specs.inner.Lines.{IsNewlineAt, byte_before};
 ghost use Rattle.cweb_input.specs.inner.Source.{bytes_left, TakesRawLine, IsLongerThan};
@@ -99,15 +100,15 @@ fn lines_end(bytes: &[u8]) -> usize
 
 // Reads into the buffer if it is empty.
 fn refill<S: Shelf>(shelf: &mut S, source: &mut Source<S::R>) -> Result<(), LineFault>
-    requires count { S.failed shelf.old + 1 < 2 ^ 64 }
-    ensures reads { ReadsSource S.Shelf shelf.old shelf.new source.old source.new result }
+    requires count { (S.model shelf.old).failed + 1 < 2 ^ 64 }
+    ensures reads { ReadsSource (S.model shelf.old) (S.model shelf.new) source.old source.new result }
     ensures read { IsErrOf result LineFault.TooLong → ⊥ }
     ensures needed { IsErrOf result LineFault.Read → source.old.start ≡ source.old.end }
     ensures kept { source.old.start < source.old.end → source.new ≡ source.old }
-    ensures same { IsTrue (S.tells shelf.old) →
-        OnOk result (bytes_left S.left shelf.new source.new ≡ bytes_left S.left shelf.old source.old) }
-    ensures end { IsTrue (S.tells shelf.old) →
-        OnOk result (source.new.start ≡ source.new.end → bytes_left S.left shelf.new source.new ≡ []) }
+    ensures same { Observed (S.model shelf.old) (λ seen.
+        OnOk result (bytes_left seen.left source.new ≡ bytes_left seen.left source.old)) }
+    ensures end { Observed (S.model shelf.old) (λ seen.
+        OnOk result (source.new.start ≡ source.new.end → bytes_left seen.left source.new ≡ [])) }
 {
     if source.start < source.end {
         return Ok(());
@@ -130,12 +131,12 @@ pub fn next_line<S: Shelf>(
     source: &mut Source<S::R>,
     line: &mut Vec<u8>,
 ) -> Result<LineTermination, LineFault>
-    requires { S.failed shelf.old + 1 < 2 ^ 64 }
-    ensures reads { ReadsSource S.Shelf shelf.old shelf.new source.old source.new result }
-    ensures taken { IsTrue (S.tells shelf.old) →
-        IfOk result (λ taken. TakesRawLine (bytes_left S.left shelf.old source.old) taken line.new.items
-        (bytes_left S.left shelf.new source.new)) }
-    ensures fails { FailsInLine S.Shelf shelf.old source.old result }
+    requires { (S.model shelf.old).failed + 1 < 2 ^ 64 }
+    ensures reads { ReadsSource (S.model shelf.old) (S.model shelf.new) source.old source.new result }
+    ensures taken { Observed (S.model shelf.old) (λ seen.
+        IfOk result (λ taken. TakesRawLine (bytes_left seen.left source.old) taken line.new.items
+        (bytes_left seen.left source.new))) }
+    ensures fails { FailsInLine (S.model shelf.old) source.old result }
     ensures within { length line.new.items ≤ LINE_LENGTH }
     ensures clean { OnOk result (HasNoNewline line.new.items) }
 {

@@ -1,7 +1,6 @@
 -- What a search for a file returns.
-use Rattle.std.specs.Prelude.{◌≡◌, ℕ, List, [], Option, None, Some, Result, IsTrue, IfOk, string_bytes}
-use Rattle.cweb_files.specs.surface.Frames.{KeepsShelf}
-use Rattle.cweb_files.specs.declared.device.Shelf.{Ghosts as Shelf}
+use Rattle.std.specs.Prelude.{◌≡◌, ℕ, List, [], Option, None, Some, Result, IfOk, string_bytes}
+use Rattle.cweb_files.specs.Shelves.{Observed, ShelfContents, ShelfModel}
 use Rattle.cweb_input.specs.Include.{Found}
 use Rattle.cweb_input.specs.Lines.{SourceLine, lines_in}
 use Rattle.cweb_input.specs.declared.files.find.Opening.{Opening}
@@ -29,16 +28,10 @@ abbrev pub lines_found : Option Found → List SourceLine
 lines_found None = []
 lines_found (Some found) = lines_in 1 found.1
 
--- Nothing is read: the shelf is unchanged, and no read fails.
-pub record ReadsNothing {S R : Type 0} (shelf : Shelf S R) (old new : S) : Type 0 where
-  pub keeps : KeepsShelf shelf old new
-  pub failed : shelf.failed new ≡ shelf.failed old
-  pub blamed : IsTrue (shelf.tells old) → shelf.blamed new ≡ shelf.blamed old
-
 -- A file is looked up and not read. It is the expected one, with a reader that was opened under its name, or there is
 -- none.
-pub record FindsFile {S R E : Type 0} (shelf : Shelf S R) (old new : S) (expected : Option Found)
+pub record FindsFile {R E : Type 0} (old new : ShelfModel R) (expected : ShelfContents R → Option Found)
     (result : Result (Option (Opening R)) E) : Type 0 where
-  pub reads : ReadsNothing shelf old new
-  pub found : IsTrue (shelf.tells old) → IfOk result (λ opening. found_as (shelf.left new) opening ≡ expected)
-  pub opened : IsTrue (shelf.tells old) → IfOk result (IsOpened (shelf.opened_as new))
+  pub same : new ≡ old
+  pub found : Observed old (λ seen. IfOk result (λ opening. found_as seen.left opening ≡ expected seen))
+  pub opened : Observed old (λ seen. IfOk result (IsOpened seen.opened_as))

@@ -1,15 +1,15 @@
 -- What calls that take lines promise.
 use Rattle.std.specs.Prelude.{◌≡◌, ◌≤◌, ◌<◌, ◌+◌, ℕ, List, length, Option, None, Some, Result, Ok, Err, IfOk, IfErr}
-use Rattle.std.specs.Prelude.{IfSome, OnSome, OnErr, ◌-◌, slice_set, IsTrue}
-use Rattle.cweb_files.specs.surface.Frames.{KeepsShelf}
-use Rattle.cweb_files.specs.declared.device.Shelf.{Ghosts as Shelf}
+use Rattle.std.specs.Prelude.{IfSome, OnSome, OnErr, ◌-◌, slice_set}
+use Rattle.cweb_files.specs.Shelves.{Observed, ShelfModel}
 use Rattle.cweb_input.specs.inner.OpenSources.{AreDeep, Counted, DepthAfter, NamesFiles, StaysBelow}
 use Rattle.cweb_input.specs.OpenSources.{TakenCountersModel}
-use Rattle.cweb_input.specs.surface.OpenSources.{CountsReadStop, StopsFor, StopsReading, matches_at, number_or_zero}
+use Rattle.cweb_input.specs.surface.OpenSources.{StopsFor, StopsReading, matches_at, number_or_zero}
 use Rattle.cweb_input.specs.surface.OpenSources.{lines_at, source_depth}
 use Rattle.cweb_input.specs.inner.OpenSources.{files_up_to, line_number, maximum_of, line_number_at}
 use Rattle.cweb_input.specs.inner.OpenSources.{FirstStops, NeedsRead, TakesNextLine}
-use Rattle.cweb_input.specs.inner.ReaderNames.{BlamesSource, BlamesSources, KeepsReaderName, KeepsReaderNames}
+use Rattle.cweb_input.specs.inner.ReaderNames.{KeepsReaderName, KeepsReaderNames}
+use Rattle.cweb_input.specs.surface.ReaderNames.{ReadsShelf}
 use Rattle.cweb_input.specs.surface.Counters.{counters_of}
 use Rattle.cweb_input.specs.surface.Lines.{IsOneLine}
 use Rattle.cweb_input.specs.declared.stop.Stop.{Stop}
@@ -74,29 +74,25 @@ pub record ClosesAbove {R : Type 0} (place : ℕ) (old new : Stack R)
   pub deeper : IfOk result (λ at. IfSome at (λ a. new.depth ≤ a.depth))
 
 -- The next line of a slot's source is taken.
-pub record TakesFromSlot {S R : Type 0} (shelf : Shelf S R) (old new : S) (slot slot' : Option (OpenSource R))
+pub record TakesFromSlot {R : Type 0} (old new : ShelfModel R) (slot slot' : Option (OpenSource R))
     (before after : TakenCounters) (bytes : List ℕ) (result : Result (Option LineAt) Stop) : Type 0 where
-  pub keeps : KeepsShelf shelf old new
-  pub failed : CountsReadStop (shelf.failed old) (shelf.failed new) result
+  pub reads : ReadsShelf old new result
   -- it is the first of those that are left, if there is one
-  pub taken : IsTrue (shelf.tells old) → IfOk result (λ at. TakesNextLine (lines_at (shelf.left old) slot) at bytes
-      (lines_at (shelf.left new) slot') (counters_of before) (counters_of after))
+  pub taken : Observed old (λ seen. IfOk result (λ at. TakesNextLine (lines_at seen.left slot) at bytes
+      (lines_at seen.left slot') (counters_of before) (counters_of after)))
   -- a limit that it breaks causes a stop
-  pub stops : IsTrue (shelf.tells old)
-      → IfErr result (λ stop. StopsFor (FirstStops stop (counters_of before) (lines_at (shelf.left old) slot)) stop)
+  pub stops : Observed old (λ seen. IfErr result (λ stop. StopsFor
+      (FirstStops stop (counters_of before) (lines_at seen.left slot)) stop))
   -- a read fails only if it was needed
   pub needed : IfErr result (λ stop. NeedsRead slot stop)
-  pub named : KeepsReaderName shelf old new slot slot'
-  pub blamed : BlamesSource shelf old new slot result
+  pub named : KeepsReaderName old new slot slot' result
   pub text : KeepsOpenSource slot slot' (counters_of before) (counters_of after) result
   pub answers : AnswersLine (number_or_zero files_up_to slot) (counters_of before) (counters_of after) bytes result
 
 -- A line of an open source is taken, whichever it is. The stack stays in order, and readers keep their names.
-pub record TakesFromStack {S R : Type 0} (shelf : Shelf S R) (old new : S) (stack stack' : Stack R)
+pub record TakesFromStack {R : Type 0} (old new : ShelfModel R) (stack stack' : Stack R)
     (before after : TakenCounters) (bytes : List ℕ) (result : Result (Option LineAt) Stop) : Type 0 where
-  pub keeps : KeepsShelf shelf old new
-  pub failed : CountsReadStop (shelf.failed old) (shelf.failed new) result
-  pub named : KeepsReaderNames shelf old new stack.texts stack'.texts
-  pub blamed : BlamesSources shelf old new stack.texts result
+  pub reads : ReadsShelf old new result
+  pub named : KeepsReaderNames old new stack.texts stack'.texts result
   pub order : KeepsStack stack stack' (counters_of after)
   pub answers : AnswersLine (maximum_of files_up_to stack.texts) (counters_of before) (counters_of after) bytes result

@@ -83,17 +83,16 @@ TakesFirst old (Some at) bytes new before after = (took : CountsLine bytes at.pl
     × (old ≡ raw_thing at took.line ∷ new)
 
 -- Takes a line of the deepest source, or closes that source at its end.
-abbrev pub TakesTop : {R : Type 0} → (R → List ℕ) → (R → List ℕ) → Stack R → Stack R → Option LineAt → List ℕ
-    → TakenCountersModel →
-    TakenCountersModel → Type 0
-TakesTop left left' old new at bytes before after = (low : ℕ) → low < old.depth → (rest : List Thing) →
-    TakesFirst (things_above left low old rest) at bytes (things_above left' low new rest) before after
+abbrev pub TakesTop : {R : Type 0} → (R → List ℕ) → Stack R → Stack R → Option LineAt → List ℕ → TakenCountersModel
+    → TakenCountersModel → Type 0
+TakesTop left old new at bytes before after = (low : ℕ) → low < old.depth → (rest : List Thing) →
+    TakesFirst (things_above left low old rest) at bytes (things_above left low new rest) before after
 
 -- Takes the next line of the sources from an index on, or all of them have ended.
-abbrev pub TakesAbove : {R : Type 0} → (R → List ℕ) → (R → List ℕ) → ℕ → Stack R → Stack R → Option LineAt → List ℕ →
-    TakenCountersModel → TakenCountersModel → Type 0
-TakesAbove left left' low old new at bytes before after = (rest : List Thing) →
-    TakesFirst (things_above left low old rest) at bytes (things_above left' low new rest) before after
+abbrev pub TakesAbove : {R : Type 0} → (R → List ℕ) → ℕ → Stack R → Stack R → Option LineAt → List ℕ
+    → TakenCountersModel → TakenCountersModel → Type 0
+TakesAbove left low old new at bytes before after = (rest : List Thing) →
+    TakesFirst (things_above left low old rest) at bytes (things_above left low new rest) before after
 
 -- The sources below an index are unchanged.
 abbrev pub StaysBelow : {R : Type 0} → ℕ → List (Option (OpenSource R)) → List (Option (OpenSource R)) → Type 0

@@ -1,26 +1,19 @@
--- The frames of calls on names of readers.
-use Rattle.std.specs.Prelude.{ℕ, List, Option, Result, IsTrue}
-use Rattle.cweb_files.specs.declared.device.Shelf.{Ghosts as Shelf}
+-- Readers stay opened under the names of their files, and a read fault blames one of them.
+use Rattle.std.specs.Prelude.{ℕ, List, Option, Result}
+use Rattle.cweb_files.specs.Shelves.{Observed, ShelfModel}
 use Rattle.cweb_input.specs.declared.stop.Stop.{Stop}
 use Rattle.cweb_input.specs.declared.open_source.OpenSource.{OpenSource}
-use Rattle.cweb_input.specs.surface.ReaderNames.{IsReaderNamed, AreReadersNamed, BlamesFile}
+use Rattle.cweb_input.specs.surface.ReaderNames.{IsReaderNamed, AreReadersNamed, BlamesFile, name_of_file}
 
--- The reader of a source is still opened under the name of its file.
-abbrev pub KeepsReaderName : {S R : Type 0} → Shelf S R → S → S → Option (OpenSource R) → Option (OpenSource R) → Type 0
-KeepsReaderName shelf old new slot slot' = IsTrue (shelf.tells old) → (names : List (List ℕ))
-    → IsReaderNamed (shelf.opened_as old) names slot → IsReaderNamed (shelf.opened_as new) names slot'
+-- The reader of a source is still opened under the name of its file, which a read fault blames.
+abbrev pub KeepsReaderName : {R A : Type 0} → ShelfModel R → ShelfModel R → Option (OpenSource R)
+    → Option (OpenSource R) → Result A Stop → Type 0
+KeepsReaderName old new slot slot' result = Observed old (λ seen. (names : List (List ℕ))
+    → IsReaderNamed seen.opened_as names slot
+    → IsReaderNamed seen.opened_as names slot' × BlamesFile (name_of_file names) old new result)
 
--- A read fault blames the reader of the source.
-abbrev pub BlamesSource : {S R A : Type 0} → Shelf S R → S → S → Option (OpenSource R) → Result A Stop → Type 0
-BlamesSource shelf old new slot result = IsTrue (shelf.tells old) → (names : List (List ℕ))
-    → IsReaderNamed (shelf.opened_as old) names slot → BlamesFile names (shelf.blamed old) (shelf.blamed new) result
-
-abbrev pub KeepsReaderNames : {S R : Type 0} → Shelf S R → S → S → List (Option (OpenSource R))
-    → List (Option (OpenSource R))
-    → Type 0
-KeepsReaderNames shelf old new texts texts' = IsTrue (shelf.tells old) → (names : List (List ℕ))
-    → AreReadersNamed (shelf.opened_as old) names texts → AreReadersNamed (shelf.opened_as new) names texts'
-
-abbrev pub BlamesSources : {S R A : Type 0} → Shelf S R → S → S → List (Option (OpenSource R)) → Result A Stop → Type 0
-BlamesSources shelf old new texts result = IsTrue (shelf.tells old) → (names : List (List ℕ))
-    → AreReadersNamed (shelf.opened_as old) names texts → BlamesFile names (shelf.blamed old) (shelf.blamed new) result
+abbrev pub KeepsReaderNames : {R A : Type 0} → ShelfModel R → ShelfModel R → List (Option (OpenSource R))
+    → List (Option (OpenSource R)) → Result A Stop → Type 0
+KeepsReaderNames old new texts texts' result = Observed old (λ seen. (names : List (List ℕ))
+    → AreReadersNamed seen.opened_as names texts
+    → AreReadersNamed seen.opened_as names texts' × BlamesFile (name_of_file names) old new result)

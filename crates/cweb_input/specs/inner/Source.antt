@@ -1,8 +1,7 @@
 -- What a source has left, and how taking a line changes that.
-use Rattle.std.specs.Prelude.{◌≡◌, ℕ, ◌+◌, ◌<◌, List, [], ◌∷◌, ◌++◌, length, Bool, true, false, Result, Ok, Err}
-use Rattle.std.specs.Prelude.{IsTrue, IsErrOf}
-use Rattle.cweb_files.specs.surface.Frames.{KeepsShelf}
-use Rattle.cweb_files.specs.declared.device.Shelf.{Ghosts as Shelf}
+use Rattle.std.specs.Prelude.{◌≡◌, ℕ, ◌<◌, List, [], ◌∷◌, ◌++◌, length, Bool, true, false, Result, Ok, Err}
+use Rattle.std.specs.Prelude.{IsErrOf}
+use Rattle.cweb_files.specs.Shelves.{Observed, ShelfModel, failed_read}
 use Rattle.cweb_input.specs.surface.Lines.{HasNoNewline}
 use Rattle.cweb_input.specs.declared.limits.TheConstants.{LINE_LENGTH}
 use Rattle.cweb_input.specs.declared.source.Source.{Source}
@@ -12,8 +11,8 @@ use Rattle.cweb_input.specs.declared.source.LineTermination.{LineTermination}
 use Rattle.cweb_input.specs.declared.source.LineTermination.TheVariants.{Ended, Last, Full}
 use Rattle.cweb_input.specs.surface.Source.{buffered}
 
-abbrev pub bytes_left : {S R : Type 0} → (S → R → List ℕ) → S → Source R → List ℕ
-bytes_left left shelf source = buffered source ++ left shelf source.reader.value
+abbrev pub bytes_left : {R : Type 0} → (R → List ℕ) → Source R → List ℕ
+bytes_left left source = buffered source ++ left source.reader.value
 
 -- A raw line is taken from what is left.
 abbrev pub TakesRawLine : List ℕ → LineTermination → List ℕ → List ℕ → Type 0
@@ -26,39 +25,28 @@ abbrev pub IsLongerThan : ℕ → List ℕ → Type 0
 IsLongerThan limit text = (prefix : List ℕ) × (rest : List ℕ) × (text ≡ prefix ++ rest) × HasNoNewline prefix
     × (limit < length prefix)
 
--- Only a failed read raises the failure count.
-abbrev pub CountsReadFault : {A : Type 0} → ℕ → ℕ → Result A LineFault → Type 0
-CountsReadFault before now (Err Read) = now ≡ before + 1
-CountsReadFault before now (Err TooLong) = now ≡ before
-CountsReadFault before now (Err Memory) = now ≡ before
-CountsReadFault before now (Ok x) = now ≡ before
-
 -- A line takes the buffered bytes up to a newline, or all of them.
 abbrev pub TakesFromBuffer : List ℕ → List ℕ → Bool → List ℕ → List ℕ → Type 0
 TakesFromBuffer old line true longer new = (prefix : List ℕ) × HasNoNewline prefix × (old ≡ prefix ++ 10 ∷ new)
     × (longer ≡ line ++ prefix)
 TakesFromBuffer old line false longer new = HasNoNewline old × (longer ≡ line ++ old) × (new ≡ [])
 
--- A failed read appends the name of the reader to the blamed names. Nothing else changes them.
-abbrev pub BlamesReader : {A : Type 0} → List ℕ → List (List ℕ) → List (List ℕ) → Result A LineFault → Type 0
-BlamesReader name before now (Err Read) = now ≡ before ++ name ∷ []
-BlamesReader name before now (Err TooLong) = now ≡ before
-BlamesReader name before now (Err Memory) = now ≡ before
-BlamesReader name before now (Ok x) = now ≡ before
+-- A shelf after the reader was read: a fault of reading is counted and blames it.
+abbrev pub after_reading : {R A : Type 0} → R → Result A LineFault → ShelfModel R → ShelfModel R
+after_reading reader (Err Read) shelf = failed_read reader shelf
+after_reading reader (Err TooLong) shelf = shelf
+after_reading reader (Err Memory) shelf = shelf
+after_reading reader (Ok x) shelf = shelf
 
 -- Only the reader of this source is read. It keeps its name. A failed read is counted and blames it.
-pub record ReadsSource {S R A : Type 0} (shelf : Shelf S R) (old new : S) (source source' : Source R)
+pub record ReadsSource {R A : Type 0} (old new : ShelfModel R) (source source' : Source R)
     (result : Result A LineFault) : Type 0 where
-  pub keeps : KeepsShelf shelf old new
-  pub failed : CountsReadFault (shelf.failed old) (shelf.failed new) result
-  pub opened : IsTrue (shelf.tells old)
-      → shelf.opened_as new source'.reader.value ≡ shelf.opened_as old source.reader.value
-  pub blamed : IsTrue (shelf.tells old)
-      → BlamesReader (shelf.opened_as old source.reader.value) (shelf.blamed old) (shelf.blamed new) result
+  pub shelf : new ≡ after_reading source.reader.value result old
+  pub opened : Observed old (λ seen. seen.opened_as source'.reader.value ≡ seen.opened_as source.reader.value)
 
 -- Why there is no line: a read failed, which no whole line in the buffer needed, or the next line exceeds the limit.
-pub record FailsInLine {S R A : Type 0} (shelf : Shelf S R) (old : S) (source : Source R)
+pub record FailsInLine {R A : Type 0} (shelf : ShelfModel R) (source : Source R)
     (result : Result A LineFault) : Type 0 where
   pub needed : IsErrOf result Read → HasNoNewline (buffered source)
-  pub too_long : IsTrue (shelf.tells old) → IsErrOf result TooLong
-      → IsLongerThan LINE_LENGTH (bytes_left shelf.left old source)
+  pub too_long : Observed shelf (λ seen. IsErrOf result TooLong
+      → IsLongerThan LINE_LENGTH (bytes_left seen.left source))

@@ -1,8 +1,9 @@
 // How the web, the change file and included files are found.
-ghost use Rattle.std.specs.Prelude.{◌≡◌, ◌∷◌, ◌++◌, IsTrue, IfOk, string_bytes};
+ghost use Rattle.std.specs.Prelude.{◌≡◌, ◌∷◌, ◌++◌, IfOk, string_bytes};
 ghost use Rattle.std.specs.Option.{option_copied};
 ghost use Rattle.cweb_input.specs.Include.{found_at, found_under, web_at, change_at};
-ghost use Rattle.cweb_input.specs.inner.Finding.{changes_found, FindsFile, IsChangeOpened, ReadsNothing};
+ghost use Rattle.cweb_files.specs.Shelves.{Observed};
+ghost use Rattle.cweb_input.specs.inner.Finding.{changes_found, FindsFile, IsChangeOpened};
 ghost use Rattle.cweb_input.specs.surface.Finding.{world_in};
 
 use cweb_files::Shelf;
@@ -16,8 +17,8 @@ pub struct Opening<R: Drop> {
 }
 
 fn fetch_named<S: Shelf>(shelf: &mut S, name: String) -> Result<Option<Opening<S::R>>, AllocError>
-    ensures { FindsFile S.Shelf shelf.old shelf.new
-        (found_under (S.texts shelf.old) (string_bytes name)) result }
+    ensures { FindsFile (S.model shelf.old) (S.model shelf.new)
+        (λ seen. found_under seen.texts (string_bytes name)) result }
 {
     match shelf.fetch(name.as_str())? {
         Some(reader) => Ok(Some(Opening { name, reader })),
@@ -41,8 +42,8 @@ pub fn find<S: Shelf>(
     inputs: &Option<String>,
     name: &[u8],
 ) -> Result<Option<Opening<S::R>>, AllocError>
-    ensures { FindsFile S.Shelf shelf.old shelf.new
-        (found_at (world_in (S.texts shelf.old) inputs.now) name.now) result }
+    ensures { FindsFile (S.model shelf.old) (S.model shelf.new)
+        (λ seen. found_at (world_in seen.texts inputs.now) name.now) result }
 {
     let Ok(name) = str::from_utf8(name) else {
         return Ok(None);
@@ -63,8 +64,8 @@ pub fn find_web<S: Shelf>(
     web: &str,
     second: Option<&str>,
 ) -> Result<Option<Opening<S::R>>, AllocError>
-    ensures { FindsFile S.Shelf shelf.old shelf.new
-        (web_at (S.texts shelf.old) web.now (option_copied second.entry)) result }
+    ensures { FindsFile (S.model shelf.old) (S.model shelf.new)
+        (λ seen. web_at seen.texts web.now (option_copied second.entry)) result }
 {
     let Some(opening) = fetch_named(shelf, String::from_str(alloc, web)?)? else {
         let Some(second) = second else {
@@ -81,12 +82,12 @@ pub fn find_change<S: Shelf>(
     shelf: &mut S,
     change: Option<&str>,
 ) -> Result<Option<Option<Opening<S::R>>>, AllocError>
-    ensures reads { ReadsNothing S.Shelf shelf.old shelf.new }
-    ensures opened { IsTrue (S.tells shelf.old) →
-        IfOk result (IsChangeOpened (S.opened_as shelf.new)) }
-    ensures found { IsTrue (S.tells shelf.old) →
-        IfOk result (λ opened. changes_found (S.left shelf.new) opened
-        ≡ change_at (S.texts shelf.old) (option_copied change.entry)) }
+    ensures same { S.model shelf.new ≡ S.model shelf.old }
+    ensures opened { Observed (S.model shelf.old) (λ seen.
+        IfOk result (IsChangeOpened seen.opened_as)) }
+    ensures found { Observed (S.model shelf.old) (λ seen.
+        IfOk result (λ opened. changes_found seen.left opened
+        ≡ change_at seen.texts (option_copied change.entry))) }
 {
     let Some(name) = change else {
         return Ok(Some(None));

@@ -1,6 +1,7 @@
 // The stack of open sources, the deepest last.
-ghost use Rattle.std.specs.Prelude.{◌≡◌, ◌≤◌, ◌<◌, ◌+◌, ◌-◌, ◌^◌, ℕ, ◌∷◌, replicate, IsTrue, IfOk};
+ghost use Rattle.std.specs.Prelude.{◌≡◌, ◌≤◌, ◌<◌, ◌+◌, ◌-◌, ◌^◌, ℕ, ◌∷◌, replicate, IfOk};
 ghost use Rattle.std.specs.Prelude.{IfErr, None, Some, slice_set, slice_index_or};
+ghost use Rattle.cweb_files.specs.Shelves.{Observed};
 ghost use Rattle.cweb_input.specs.inner.LineCalls.{ClosesAbove, ClosesTop, TakesFromStack};
 ghost use Rattle.cweb_input.specs.surface.Counters.{counters_of};
 ghost use Rattle.cweb_input.specs.declared.limits.TheConstants.{OPEN_FILES};
@@ -82,20 +83,19 @@ fn take_top<S: Shelf>(
     limits: &mut TakenCounters,
     line: &mut Vec<u8>,
 ) -> Result<Option<LineAt>, Stop>
-    requires count { S.failed shelf.old + 1 < 2 ^ 64 }
+    requires count { (S.model shelf.old).failed + 1 < 2 ^ 64 }
     requires some { 0 < stack.old.depth }
     requires shallow { stack.old.depth ≤ OPEN_FILES }
     requires numbers { maximum_of line_number stack.old.texts ≤ limits.old.lines }
     requires deep { AreDeep stack.old.texts }
-    ensures takes { TakesFromStack S.Shelf shelf.old shelf.new stack.old stack.new limits.old
-        limits.new line.new.items result }
-    ensures taken { IsTrue (S.tells shelf.old) →
-        IfOk result (λ at. TakesTop (S.left shelf.old)
-        (S.left shelf.new) stack.old stack.new at line.new.items (counters_of limits.old)
-        (counters_of limits.new)) }
-    ensures stops { IsTrue (S.tells shelf.old) →
-        IfErr result (λ stop. StopsFor (StopsTop (S.left shelf.old) stack.old stop
-        (counters_of limits.old)) stop) }
+    ensures takes { TakesFromStack (S.model shelf.old) (S.model shelf.new) stack.old stack.new
+        limits.old limits.new line.new.items result }
+    ensures taken { Observed (S.model shelf.old) (λ seen.
+        IfOk result (λ at. TakesTop seen.left stack.old stack.new at line.new.items
+        (counters_of limits.old) (counters_of limits.new))) }
+    ensures stops { Observed (S.model shelf.old) (λ seen.
+        IfErr result (λ stop. StopsFor (StopsTop seen.left stack.old stop
+        (counters_of limits.old)) stop)) }
     ensures closes { ClosesTop stack.old stack.new result }
     ensures needed { IfErr result (λ stop.
         NeedsRead (slice_index_or stack.old.texts (stack.old.depth - 1) None) stop) }
@@ -122,20 +122,19 @@ pub fn take_above<S: Shelf>(
     limits: &mut TakenCounters,
     line: &mut Vec<u8>,
 ) -> Result<Option<LineAt>, Stop>
-    requires count { S.failed shelf.old + 1 < 2 ^ 64 }
+    requires count { (S.model shelf.old).failed + 1 < 2 ^ 64 }
     requires low { low ≤ stack.old.depth }
     requires shallow { stack.old.depth ≤ OPEN_FILES }
     requires numbers { maximum_of line_number stack.old.texts ≤ limits.old.lines }
     requires deep { AreDeep stack.old.texts }
-    ensures takes { TakesFromStack S.Shelf shelf.old shelf.new stack.old stack.new limits.old
-        limits.new line.new.items result }
-    ensures taken { IsTrue (S.tells shelf.old) →
-        IfOk result (λ at. TakesAbove (S.left shelf.old)
-        (S.left shelf.new) low stack.old stack.new at line.new.items (counters_of limits.old)
-        (counters_of limits.new)) }
-    ensures stops { IsTrue (S.tells shelf.old) →
-        IfErr result (λ stop. StopsFor (StopsAbove (S.left shelf.old) low stack.old stop
-        (counters_of limits.old)) stop) }
+    ensures takes { TakesFromStack (S.model shelf.old) (S.model shelf.new) stack.old stack.new
+        limits.old limits.new line.new.items result }
+    ensures taken { Observed (S.model shelf.old) (λ seen.
+        IfOk result (λ at. TakesAbove seen.left low stack.old stack.new at line.new.items
+        (counters_of limits.old) (counters_of limits.new))) }
+    ensures stops { Observed (S.model shelf.old) (λ seen.
+        IfErr result (λ stop. StopsFor (StopsAbove seen.left low stack.old stop
+        (counters_of limits.old)) stop)) }
     ensures closes { ClosesAbove low stack.old stack.new result }
     ensures needed { IfErr result (λ stop. (place : ℕ)
         × NeedsRead (slice_index_or stack.old.texts place None) stop) }

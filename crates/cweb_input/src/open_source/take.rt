@@ -1,6 +1,7 @@
 // The next line of an open source, trimmed of trailing blanks.
-ghost use Rattle.std.specs.Prelude.{◌≡◌, ◌≤◌, ◌<◌, ◌+◌, ◌^◌, ℕ, length, take, IsTrue, IfOk, IfErr};
+ghost use Rattle.std.specs.Prelude.{◌≡◌, ◌≤◌, ◌<◌, ◌+◌, ◌^◌, ℕ, length, take, IfOk, IfErr};
 ghost use Rattle.std.specs.Prelude.{IfSome, OnSome, Some};
+ghost use Rattle.cweb_files.specs.Shelves.{Observed};
 ghost use Rattle.cweb_input.specs.inner.LineCalls.{TakesFromSlot};
 ghost use Rattle.cweb_input.specs.inner.Source.{bytes_left, FailsInLine, ReadsSource};
 ghost use Rattle.cweb_input.specs.inner.TrimmedLines.{TakesTrimmedOrEnds};
@@ -74,12 +75,12 @@ fn take_trimmed<S: Shelf>(
     source: &mut Source<S::R>,
     line: &mut Vec<u8>,
 ) -> Result<Option<usize>, LineFault>
-    requires count { S.failed shelf.old + 1 < 2 ^ 64 }
-    ensures reads { ReadsSource S.Shelf shelf.old shelf.new source.old source.new result }
-    ensures taken { IsTrue (S.tells shelf.old) →
-        IfOk result (λ size. TakesTrimmedOrEnds (bytes_left S.left shelf.old source.old) size line.new.items
-        (bytes_left S.left shelf.new source.new)) }
-    ensures fails { FailsInLine S.Shelf shelf.old source.old result }
+    requires count { (S.model shelf.old).failed + 1 < 2 ^ 64 }
+    ensures reads { ReadsSource (S.model shelf.old) (S.model shelf.new) source.old source.new result }
+    ensures taken { Observed (S.model shelf.old) (λ seen.
+        IfOk result (λ size. TakesTrimmedOrEnds (bytes_left seen.left source.old) size line.new.items
+        (bytes_left seen.left source.new))) }
+    ensures fails { FailsInLine (S.model shelf.old) source.old result }
     ensures line { IfOk result (λ size. OnSome size (IsOneLine line.new.items)) }
     ensures gains { IfOk result (λ size. IfSome size (λ n. length line.new.items ≤ n)) }
 {
@@ -103,9 +104,9 @@ fn take_line<S: Shelf>(
     limits: &mut TakenCounters,
     line: &mut Vec<u8>,
 ) -> Result<Option<LineAt>, Stop>
-    requires count { S.failed shelf.old + 1 < 2 ^ 64 }
+    requires count { (S.model shelf.old).failed + 1 < 2 ^ 64 }
     requires number { text.old.line ≤ limits.old.lines }
-    ensures takes { TakesFromSlot S.Shelf shelf.old shelf.new (Some text.old) (Some text.new)
+    ensures takes { TakesFromSlot (S.model shelf.old) (S.model shelf.new) (Some text.old) (Some text.new)
         limits.old limits.new line.new.items result }
     ensures names { IfErr result (λ stop. NamesFile text.old.file stop) }
 {
@@ -138,10 +139,10 @@ pub fn take_from<S: Shelf>(
     limits: &mut TakenCounters,
     line: &mut Vec<u8>,
 ) -> Result<Option<LineAt>, Stop>
-    requires count { S.failed shelf.old + 1 < 2 ^ 64 }
+    requires count { (S.model shelf.old).failed + 1 < 2 ^ 64 }
     requires number { number_or_zero line_number slot.old ≤ limits.old.lines }
-    ensures takes { TakesFromSlot S.Shelf shelf.old shelf.new slot.old slot.new limits.old
-        limits.new line.new.items result }
+    ensures takes { TakesFromSlot (S.model shelf.old) (S.model shelf.new) slot.old slot.new
+        limits.old limits.new line.new.items result }
     ensures deep { (place : ℕ) → DeepAt place slot.old →
         DeepAt place slot.new × IfOk result (λ at. IfSome at (λ a. place < a.depth)) }
 {

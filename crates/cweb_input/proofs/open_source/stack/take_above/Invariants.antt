@@ -1,9 +1,8 @@
-use Rattle.cweb_input.proofs.Common.{◌<◌, None, ◌≡◌, ◌≤◌, List, ℕ, IsTrue, counters_of}
+use Rattle.cweb_input.proofs.Common.{◌<◌, None, ◌≡◌, ◌≤◌, List, ℕ, counters_of}
 use Rattle.std.specs.Prelude.{slice_index_or}
-use Rattle.cweb_files.specs.surface.Frames.{KeepsShelf}
+use Rattle.cweb_files.specs.Shelves.{Observed}
 use Rattle.cweb_input.specs.Lines.{Thing}
 use Rattle.cweb_input.specs.surface.ReaderNames.{AreReadersNamed}
-use Rattle.cweb_input.specs.inner.ReaderNames.{KeepsReaderNames}
 use Rattle.cweb_input.specs.inner.OpenSources.{AreDeep, StaysBelow, files_up_to, line_number, maximum_of}
 use Rattle.cweb_input.specs.surface.OpenSources.{things_above}
 use Rattle.cweb_input.specs.inner.LineCalls.{KeepsNumbers}
@@ -11,12 +10,9 @@ use Rattle.cweb_input.proofs.open_source.stack.take_above.Given as goal
 
 abbrev pub invariant-texts : goal.invariant-texts
 invariant-texts g l = record {
-  keeps : KeepsShelf g.S.Shelf l.fn.shelf l.shelf;
-  failed : g.S.Shelf.failed l.shelf ≡ g.S.Shelf.failed l.fn.shelf;
-  named : KeepsReaderNames g.S.Shelf l.fn.shelf l.shelf l.fn.stack.texts l.stack.texts;
-  blamed : IsTrue (g.S.Shelf.tells l.fn.shelf) → (names : List (List ℕ))
-      → AreReadersNamed (g.S.Shelf.opened_as l.fn.shelf)
-      names l.fn.stack.texts → g.S.Shelf.blamed l.shelf ≡ g.S.Shelf.blamed l.fn.shelf;
+  unread : g.S.Shelf.model l.shelf ≡ g.S.Shelf.model l.fn.shelf;
+  named : Observed (g.S.Shelf.model l.fn.shelf) (λ seen. (names : List (List ℕ))
+      → AreReadersNamed seen.opened_as names l.fn.stack.texts → AreReadersNamed seen.opened_as names l.stack.texts);
   low : l.low ≤ l.stack.depth;
   shallow : l.stack.depth ≤ l.fn.stack.depth;
   numbers : maximum_of line_number l.stack.texts ≤ l.limits.lines;
@@ -27,9 +23,8 @@ invariant-texts g l = record {
   same : (place : ℕ) → place < l.stack.depth
       → slice_index_or l.stack.texts place None ≡ slice_index_or l.fn.stack.texts place None;
   counted : counters_of l.limits ≡ counters_of l.fn.limits;
-  things : IsTrue (g.S.Shelf.tells l.fn.shelf) → (rest : List Thing)
-      → things_above (g.S.Shelf.left l.fn.shelf) l.low l.fn.stack rest ≡ things_above
-      (g.S.Shelf.left l.shelf) l.low l.stack rest;
+  things : Observed (g.S.Shelf.model l.fn.shelf) (λ seen. (rest : List Thing)
+      → things_above seen.left l.low l.fn.stack rest ≡ things_above seen.left l.low l.stack rest);
 }
 
 abbrev pub decreases-texts : goal.decreases-texts

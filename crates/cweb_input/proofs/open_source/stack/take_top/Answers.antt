@@ -1,7 +1,9 @@
-use Rattle.cweb_input.proofs.Common.{common_steps, rules, ◌<◌, ◌-◌, length, refl, ◌∙◌, arith, None, counters_of}
+use Rattle.std.specs.Prelude.{Ok, Option}
+use Rattle.cweb_input.specs.declared.open_source.LineAt.{LineAt}
+use Rattle.cweb_input.proofs.Common.{Err, common_steps, rules, ◌<◌, ◌-◌, length, refl, ◌∙◌, arith, None, counters_of}
 use Rattle.std.proofs.lemmas.List.{get_or_default, set-set}
 use Rattle.cweb_input.specs.inner.OpenSources.{line_number, files_up_to}
-use Rattle.cweb_input.proofs.ReadersStayNamed.{named_at, names_set}
+use Rattle.cweb_input.proofs.ReadersStayNamed.{names_set}
 use Rattle.cweb_input.proofs.SourceStacks.{keeps_stack, most_read, top_taken, top_closed, top_stops, stops_map, stays_below, numbers_below, numbers_set, deep-at}
 use Rattle.cweb_input.proofs.open_source.stack.take_top.Goals as goal
 
@@ -24,21 +26,20 @@ returns-in-Err g c =
     let takes = c.in-Err.ensures.takes in
     record {
       takes = record {
-        keeps = takes.keeps;
-        failed = takes.failed;
-        named = names_set g.S.Shelf _ _ stack.texts _ slot within _ takes.keeps takes.named;
-        blamed = λ tells names each. takes.blamed tells names (named_at _ names stack.texts _ slot within each);
+        reads = takes.reads;
+        named = names_set {A = Option LineAt} (g.S.Shelf.model c.args.shelf.now) (g.S.Shelf.model c.take_from.new.shelf) (Err c.in-Err.stop) stack.texts _ slot within
+            _ takes.named;
         order = keeps_stack stack _ _ c.take_from.new.slot _ refl
             (omega (arith, c.requires.numbers, takes.answers.counted.0)) takes.text.number
             (omega (arith, takes.text.file, file)) c.requires.deep (c.in-Err.ensures.deep (stack.depth - 1)
             (deep-at 0 (stack.depth - 1) (stack.depth - 1) stack.texts slot (omega arith) within c.requires.deep)).0;
         answers = grind (arith, common_steps, file, takes.answers);
       };
-      taken = λ tells. tt;
-      stops = λ tells. stops_map c.in-Err.stop (λ first low above rest. top_stops (g.S.Shelf.left c.args.shelf.now)
-          (g.S.Shelf.left c.args.shelf.now) refl stack.texts slot c.take_from.new.slot stack.depth within
+      taken = λ seen is. tt;
+      stops = λ seen is. stops_map c.in-Err.stop (λ first low above rest. top_stops seen.left
+          stack.texts slot c.take_from.new.slot stack.depth within
           (counters_of c.args.limits.now) (counters_of c.take_from.new.limits) c.take_from.new.line.items low above rest
-          c.in-Err.stop first) (takes.stops tells);
+          c.in-Err.stop first) (takes.stops seen is);
       needed = rw (get_or_default stack.texts (stack.depth - 1) None slot within) takes.needed;
       closes = record {
         depth = search rules;
@@ -60,19 +61,18 @@ returns-in_default g c =
     let counted = rw c.in_default.is at takes.answers.counted in
     record {
       takes = record {
-        keeps = takes.keeps;
-        failed = takes.failed;
-        named = rw closed (names_set g.S.Shelf _ _ stack.texts _ slot within None takes.keeps (λ tells names each. tt));
-        blamed = λ tells names each. takes.blamed tells names (named_at _ names stack.texts _ slot within each);
+        reads = takes.reads;
+        named = rw closed (names_set {A = Option LineAt} (g.S.Shelf.model c.args.shelf.now) (g.S.Shelf.model c.take_from.new.shelf)
+            (Ok c.in-Ok.taken) stack.texts _ slot within None
+            (λ seen is names each. (tt, (takes.named seen is names each).1)));
         order = keeps_stack stack _ _ None _ closed (omega (arith, c.requires.numbers, counted.0)) (omega arith)
             (omega arith) c.requires.deep refl;
         answers = search rules;
       };
-      taken = λ tells low above rest. top_closed (g.S.Shelf.left c.args.shelf.now)
-          (g.S.Shelf.left c.take_from.new.shelf) (takes.keeps.left tells) stack.texts slot c.take_from.new.slot
+      taken = λ seen is low above rest. top_closed seen.left stack.texts slot c.take_from.new.slot
           stack.depth within (counters_of c.args.limits.now) (counters_of c.take_from.new.limits)
-          c.take_from.new.line.items low above rest _ closed (rw c.in_default.is at (takes.taken tells));
-      stops = λ tells. tt;
+          c.take_from.new.line.items low above rest _ closed (rw c.in_default.is at (takes.taken seen is));
+      stops = λ seen is. tt;
       needed = tt;
       closes = record {
         depth = search rules;
@@ -96,20 +96,18 @@ returns g c =
     (deep-at 0 (stack.depth - 1) (stack.depth - 1) stack.texts slot (omega arith) within c.requires.deep) in
     record {
       takes = record {
-        keeps = takes.keeps;
-        failed = takes.failed;
-        named = names_set g.S.Shelf _ _ stack.texts _ slot within _ takes.keeps takes.named;
-        blamed = λ tells names each. takes.blamed tells names (named_at _ names stack.texts _ slot within each);
+        reads = takes.reads;
+        named = names_set {A = Option LineAt} (g.S.Shelf.model c.args.shelf.now) (g.S.Shelf.model c.take_from.new.shelf) (Ok c.in-Ok.taken) stack.texts _ slot within
+            _ takes.named;
         order = keeps_stack stack _ _ c.take_from.new.slot _ refl (omega (arith, c.requires.numbers, counted))
             takes.text.number (omega (arith, takes.text.file, file)) c.requires.deep deep.0;
         answers = grind (arith, common_steps, file, takes.answers);
       };
-      taken = λ tells low above rest. top_taken (g.S.Shelf.left c.args.shelf.now)
-          (g.S.Shelf.left c.take_from.new.shelf) (takes.keeps.left tells) stack.texts slot
+      taken = λ seen is low above rest. top_taken seen.left stack.texts slot
           c.take_from.new.slot stack.depth within (counters_of c.args.limits.now) (counters_of c.take_from.new.limits)
           c.take_from.new.line.items low above rest c.in-Some.at level.0 level.1 takes.text.depth
-          takes.text.may_match (rw c.in-Some.is at (takes.taken tells));
-      stops = λ tells. tt;
+          takes.text.may_match (rw c.in-Some.is at (takes.taken seen is));
+      stops = λ seen is. tt;
       needed = tt;
       closes = record {
         depth = search rules;

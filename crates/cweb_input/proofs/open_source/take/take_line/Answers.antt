@@ -1,61 +1,81 @@
-use Rattle.cweb_input.proofs.Common.{rules, ◌+◌, ◌∙◌, ap, Err, bytes_left, counters_of}
-use Rattle.cweb_input.specs.surface.OpenSources.{read_failures_of}
-use Rattle.cweb_input.proofs.ReadersStayNamed.{blames_line, blames_none}
+use Rattle.cweb_input.proofs.Common.{rules, ◌≡◌, ◌+◌, ◌∙◌, ap, Err, List, ℕ, [], bytes_left, counters_of}
+use Rattle.std.specs.Prelude.{Option}
+use Rattle.cweb_files.specs.declared.place.FileId.{FileId}
+use Rattle.cweb_input.specs.surface.ReaderNames.{name_of_file, shelf_after}
+use Rattle.cweb_input.proofs.ReadersStayNamed.{blames_known, blames_some, line_blames}
 use Rattle.cweb_input.proofs.TrimmedLines.{takes_first, line_stops, line_reads, line_needs, first_passes}
 use Rattle.cweb_input.proofs.open_source.take.take_line.Goals as goal
 
 pub returns-in-Err-clause-takes : goal.returns-in-Err-clause-takes
-returns-in-Err-clause-takes g c = record {
-  keeps = c.in-Err.ensures.reads.keeps;
-  failed = search rules;
-  taken = λ tells. tt;
-  stops = λ tells. line_stops c.in-Err.fault _
-      (bytes_left g.S.Shelf.left c.args.shelf.now c.args.text.now.source) c.args.text.now.file
-      (c.args.text.now.line + 1) _ c.stop_of.ensures (λ is. c.in-Err.ensures.fails.too_long tells (ap Err is));
-  needed = line_needs c.in-Err.fault _ c.args.text.now c.stop_of.ensures
-      (λ is. c.in-Err.ensures.fails.needed (ap Err is));
-  named = λ tells names is. c.in-Err.ensures.reads.opened tells ∙ is;
-  blamed = λ tells names is. blames_line c.in-Err.fault _ c.args.text.now.file _ names _ _ c.stop_of.ensures is
-      (c.in-Err.ensures.reads.blamed tells);
-  text = search rules;
-  answers = search (rules, line_reads c.in-Err.fault _ c.args.text.now.file c.stop_of.ensures);
-}
+returns-in-Err-clause-takes g c =
+    let reads = c.in-Err.ensures.reads in
+    let reader = c.args.text.now.source.reader.value in
+    let old = g.S.Shelf.model c.args.shelf.now in
+    record {
+      reads = (
+        λ file. (blames_some old reader).0,
+        line_blames (Option ℕ) c.in-Err.fault _ c.args.text.now.file reader old _ _ c.stop_of.ensures reads.shelf
+            (blames_some old reader).1,
+      );
+      taken = λ seen is. tt;
+      stops = λ seen is. line_stops c.in-Err.fault _ (bytes_left seen.left c.args.text.now.source) c.args.text.now.file
+          (c.args.text.now.line + 1) _ c.stop_of.ensures (λ long. c.in-Err.ensures.fails.too_long seen is (ap Err long));
+      needed = line_needs c.in-Err.fault _ c.args.text.now c.stop_of.ensures
+          (λ is. c.in-Err.ensures.fails.needed (ap Err is));
+      named = λ seen is names named. (
+        reads.opened seen is ∙ named,
+        line_blames (Option ℕ) c.in-Err.fault _ c.args.text.now.file reader old _ (name_of_file names) c.stop_of.ensures
+            reads.shelf (blames_known old reader seen is _ named),
+      );
+      text = search rules;
+      answers = search (rules, line_reads c.in-Err.fault _ c.args.text.now.file c.stop_of.ensures);
+    }
 
 pub returns-in-Err-add-clause-takes : goal.returns-in-Err-add-clause-takes
-returns-in-Err-add-clause-takes g c = record {
-  keeps = c.in-Ok.ensures.reads.keeps;
-  failed = search rules;
-  taken = λ tells. tt;
-  stops = λ tells.
-      let line = rw c.in-Some.is at (c.in-Ok.ensures.taken tells) in
-      first_passes c.in-Err-add.stop line.taken (bytes_left g.S.Shelf.left c.args.shelf.now c.args.text.now.source)
-      (bytes_left g.S.Shelf.left c.take_trimmed.new.shelf c.take_trimmed.new.source) line.raw c.args.text.now.file.0
-      (c.args.text.now.line + 1) (counters_of c.args.limits.now) line.some line.takes line.short
-      c.in-Err-add.ensures.stop (rw line.size_is at c.in-Err-add.ensures.passed);
-  needed = rw c.in-Err-add.ensures.stop tt;
-  named = λ tells names is. c.in-Ok.ensures.reads.opened tells ∙ is;
-  blamed = λ tells names is. blames_none names _ _ _ (ap read_failures_of c.in-Err-add.ensures.stop)
-      (c.in-Ok.ensures.reads.blamed tells);
+returns-in-Err-add-clause-takes g c =
+    let reads = c.in-Ok.ensures.reads in
+    let same : (name : FileId → List ℕ) → g.S.Shelf.model c.take_trimmed.new.shelf
+    ≡ shelf_after name c.in-Err-add.stop (g.S.Shelf.model c.args.shelf.now) = λ name.
+    rw c.in-Err-add.ensures.stop reads.shelf in
+    record {
+      reads = (λ file. [], same _);
+      taken = λ seen is. tt;
+      stops = λ seen is.
+          let line = rw c.in-Some.is at (c.in-Ok.ensures.taken seen is) in
+          first_passes c.in-Err-add.stop line.taken (bytes_left seen.left c.args.text.now.source)
+          (bytes_left seen.left c.take_trimmed.new.source) line.raw c.args.text.now.file.0
+          (c.args.text.now.line + 1) (counters_of c.args.limits.now) line.some line.takes line.short
+          c.in-Err-add.ensures.stop (rw line.size_is at c.in-Err-add.ensures.passed);
+      needed = rw c.in-Err-add.ensures.stop tt;
+      named = λ seen is names named. (reads.opened seen is ∙ named, same _);
+      text = search rules;
+      answers = search rules;
+    }
+
+pub returns-in_default-clause-takes : goal.returns-in_default-clause-takes
+returns-in_default-clause-takes g c = record {
+  reads = (λ file. [], c.in-Ok.ensures.reads.shelf);
+  taken = search rules;
+  stops = λ seen is. tt;
+  needed = tt;
+  named = λ seen is names named. (c.in-Ok.ensures.reads.opened seen is ∙ named, c.in-Ok.ensures.reads.shelf);
   text = search rules;
   answers = search rules;
 }
 
 pub returns-clause-takes : goal.returns-clause-takes
 returns-clause-takes g c = record {
-  keeps = c.in-Ok.ensures.reads.keeps;
-  failed = search rules;
-  taken = λ tells.
-      let line = rw c.in-Some.is at (c.in-Ok.ensures.taken tells) in
-      takes_first c.take_trimmed.new.line.items line.raw
-      (bytes_left g.S.Shelf.left c.args.shelf.now c.args.text.now.source)
-      (bytes_left g.S.Shelf.left c.take_trimmed.new.shelf c.take_trimmed.new.source) c.args.text.now.file.0
+  reads = (λ file. [], c.in-Ok.ensures.reads.shelf);
+  taken = λ seen is.
+      let line = rw c.in-Some.is at (c.in-Ok.ensures.taken seen is) in
+      takes_first c.take_trimmed.new.line.items line.raw (bytes_left seen.left c.args.text.now.source)
+      (bytes_left seen.left c.take_trimmed.new.source) c.args.text.now.file.0
       (c.args.text.now.line + 1) c.args.text.now.depth c.args.text.now.may_match line.taken
       (counters_of c.args.limits.now) (counters_of c.add.new.self) line.some line.takes line.bytes_are line.short
       c.in_default-add.ensures.lines (rw line.size_is at c.in_default-add.ensures.bytes);
-  stops = λ tells. tt;
+  stops = λ seen is. tt;
   needed = tt;
-  named = λ tells names is. c.in-Ok.ensures.reads.opened tells ∙ is;
-  blamed = search rules;
+  named = λ seen is names named. (c.in-Ok.ensures.reads.opened seen is ∙ named, c.in-Ok.ensures.reads.shelf);
   text = search rules;
   answers = search rules;
 }

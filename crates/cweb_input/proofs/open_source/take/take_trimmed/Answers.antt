@@ -5,11 +5,11 @@ use Rattle.cweb_input.proofs.open_source.take.take_trimmed.Goals as goal
 pub returns : goal.returns
 returns g c = record {
   reads = search rules;
-  taken = λ tells. record {
+  taken = λ seen is. record {
     taken = c.in-Ok.taken;
     raw = c.next_line.new.line.items;
     some = c.in_default.not-Ended;
-    takes = c.in-Ok.ensures.taken tells;
+    takes = c.in-Ok.ensures.taken seen is;
     short = c.in-Ok.ensures.within;
     bytes_are = c.trim.ensures;
     size_is = omega (arith, c.len.ensures, c.next_line.new.line.ok.0, c.newline_size.ensures.value);
